@@ -1,0 +1,5 @@
+pub mod BigEndian
+pub mod Bits
+pub mod Choice
+pub mod Lists
+pub mod Table

@@ -1,0 +1,103 @@
+-- Laws of lists by their elements: what a loop fills from the front, parts, and sums.
+-- Assumes nothing.
+use mathlib.Core.Path.{_≡_, refl, ap, sym, _∙_}
+use mathlib.Core.Bool.{Bool, true, false}
+use mathlib.Core.List.{List, [], _∷_, _++_, append-assoc}
+use Prim.Native.Nat.{ℕ, zero, suc, _+_, _-_, _*_, _<_, _≤_}
+use native.Mathlib.Nat.{add-zero, zero-add, add-suc, suc-add, le-of-lt, le-of-suc-le-suc, not-suc-le-zero, add-assoc}
+use native.Mathlib.Numerals.{add-one}
+use native.Mathlib.Omega.{arith}
+use lib.Dec.{eqb}
+use lib.ListN.{length, getD, drop, take, set, length-append, length-take, length-drop}
+use lib.Seq.{drop-cons, take-suc, length-take-le, set-at, ext-getD, take-all}
+use borrow.Author.Tests.{eqb-true, eq-eqb}
+use Rattle.octets.specs.Choice.{both}
+use Rattle.octets.specs.Lists.{tabulate, sum, same, replaced}
+use Rattle.octets.proofs.Choice.{both-left, both-right, both-true}
+
+pub tabulate-length : {A : Type 0} (i n : ℕ) (f : ℕ → A) → length (tabulate i n f) ≡ n
+tabulate-length i zero f = refl
+tabulate-length i (suc n) f = ap suc (tabulate-length (suc i) n f)
+
+pub tabulate-at : {A : Type 0} (i n : ℕ) (f : ℕ → A) (k : ℕ) (d : A) → k < n → getD (tabulate i n f) k d ≡ f (i + k)
+tabulate-at i zero f k d h = absurd (not-suc-le-zero h)
+tabulate-at i (suc n) f zero d h = rw add-zero
+tabulate-at i (suc n) f (suc k) d h = tabulate-at (suc i) n f k d (le-of-suc-le-suc h) ∙ rw (suc-add, add-suc)
+
+-- what depends only on the elements tabulated
+pub tabulate-ext : {A : Type 0} (i n : ℕ) (f g : ℕ → A) → ((k : ℕ) → i ≤ k → k < i + n → f k ≡ g k) → tabulate i n f ≡ tabulate i n g
+tabulate-ext i zero f g h = refl
+tabulate-ext {A} i (suc n) f g h =
+    rw (h i (omega arith) (omega arith))
+    (ap (λ (l : List A). g i ∷ l) (tabulate-ext (suc i) n f g (λ k a b. h k (omega arith) (omega arith))))
+
+-- a list is what its elements make
+pub tabulate-self : {A : Type 0} (l : List A) (d : A) → tabulate 0 (length l) (λ i. getD l i d) ≡ l
+tabulate-self l d =
+    ext-getD d (tabulate 0 (length l) (λ i. getD l i d)) l (tabulate-length 0 (length l) (λ i. getD l i d))
+    (λ i h.
+    tabulate-at 0 (length l) (λ i. getD l i d) i d (rw tabulate-length at h)
+    ∙ rw zero-add)
+
+pub tabulate-suc : {A : Type 0} (i n : ℕ) (f : ℕ → A) (ys : List A) → tabulate i (suc n) f ++ ys ≡ tabulate i n f ++ (f (i + n) ∷ ys)
+tabulate-suc i zero f ys = rw add-zero
+tabulate-suc {A} i (suc n) f ys = rw (add-suc, ← suc-add) (ap (λ (l : List A). f i ∷ l) (tabulate-suc (suc i) n f ys))
+
+-- one turn of a loop that fills a list from the front
+pub fill-more : {A : Type 0} (f : ℕ → A) (s : List A) (d : A) (i : ℕ) → i < length s
+    → set (tabulate 0 i f ++ drop i s) i (f i) ≡ tabulate 0 (i + 1) f ++ drop (i + 1) s
+fill-more f s d i h =
+    rw (add-one, drop-cons s i d h)
+    (set-at (tabulate 0 i f) (getD s i d) (drop (suc i) s) (f i) i (tabulate-length 0 i f)
+    ∙ sym (rw zero-add at (tabulate-suc 0 i f (drop (suc i) s))))
+
+-- one turn of a loop that copies a list into another
+pub copy-more : {A : Type 0} (k z : List A) (d : A) (i : ℕ) → i < length k → i < length z
+    → set (take i k ++ drop i z) i (getD k i d) ≡ take (i + 1) k ++ drop (i + 1) z
+copy-more k z d i hk hz =
+    rw (add-one, drop-cons z i d hz, take-suc k i d hk, append-assoc)
+    (set-at (take i k) (getD z i d) (drop (suc i) z) (getD k i d) i (length-take-le i k (le-of-lt hk)))
+
+-- one element stored after p
+pub store : {A : Type 0} (p z : List A) (d : A) (k m : ℕ) (a : A) → length p ≡ k → m ≡ k + 1 → k < length z
+    → set (p ++ drop k z) k a ≡ (p ++ (a ∷ [])) ++ drop m z
+store p z d k m a e q h =
+    rw (q, add-one, drop-cons z k d h, append-assoc) (set-at p (getD z k d) (drop (suc k) z) a k e)
+
+pub sum-suc : (i n : ℕ) (f : ℕ → ℕ) → sum i (suc n) f ≡ sum i n f + f (i + n)
+sum-suc i zero f = rw (add-zero, add-zero, zero-add)
+sum-suc i (suc n) f = rw (sum-suc (suc i) n f) (rw (add-suc, suc-add) (sym (add-assoc (f i) (sum (suc i) n f) (f (suc (i + n))))))
+
+pub sum-ext : (i n : ℕ) (f g : ℕ → ℕ) → ((k : ℕ) → i ≤ k → k < i + n → f k ≡ g k) → sum i n f ≡ sum i n g
+sum-ext i zero f g h = refl
+sum-ext i (suc n) f g h =
+    rw (h i (omega arith) (omega arith))
+    (ap (λ (x : ℕ). g i + x) (sum-ext (suc i) n f g (λ k a b. h k (omega arith) (omega arith))))
+
+-- a sum of numbers each at most b is at most n times b
+pub sum-below : (i n b : ℕ) (f : ℕ → ℕ) → ((k : ℕ) → f k ≤ b) → sum i n f ≤ n * b
+sum-below i zero b f h = omega arith
+sum-below i (suc n) b f h = omega (arith, h i, sum-below (suc i) n b f h)
+
+-- the part of s from k on, as a slice `&s[k..]` has it
+pub tail-part : {A : Type 0} (k : ℕ) (s : List A) → take (length s - k) (drop k s) ≡ drop k s
+tail-part k s = take-all (length s - k) (drop k s) (omega (arith, length-drop k s))
+
+pub replaced-length : {A : Type 0} (s : List A) (at : ℕ) (t : List A) → at + length t ≤ length s → length (replaced s at t) ≡ length s
+replaced-length s at t h =
+    simp (length-append, length-take, length-drop) (omega arith)
+
+pub same-true : (a b : List ℕ) → same a b ≡ true → a ≡ b
+unfolding same
+same-true [] [] e = refl
+same-true [] (y ∷ ys) e = let z : false ≡ true = e in cc
+same-true (x ∷ xs) [] e = let z : false ≡ true = e in cc
+same-true (x ∷ xs) (y ∷ ys) e =
+    let head : x ≡ y = eqb-true x y (both-left _ _ e) in
+    let tail : xs ≡ ys = same-true xs ys (both-right _ _ e) in
+    cc
+
+pub same-refl : (a : List ℕ) → same a a ≡ true
+unfolding same
+same-refl [] = refl
+same-refl (x ∷ xs) = both-true (eq-eqb x x refl) (same-refl xs)

@@ -1,0 +1,4 @@
+pub mod BigEndian
+pub mod Bits
+pub mod Choice
+pub mod Lists

@@ -1,0 +1,32 @@
+-- Lists by their elements, and their parts. Assumes nothing.
+use mathlib.Core.Bool.{Bool, true, false}
+use mathlib.Core.List.{List, [], _∷_, _++_}
+use Prim.Native.Nat.{ℕ, zero, suc, _+_}
+use lib.Dec.{eqb}
+use lib.ListN.{length, take, drop}
+use Rattle.octets.specs.Choice.{both}
+
+-- f at the n numbers from i on
+abbrev pub tabulate : {A : Type 0} → ℕ → ℕ → (ℕ → A) → List A
+tabulate i zero f = []
+tabulate i (suc n) f = f i ∷ tabulate (suc i) n f
+
+-- the sum of f at the n numbers from i on
+abbrev pub sum : ℕ → ℕ → (ℕ → ℕ) → ℕ
+sum i zero f = 0
+sum i (suc n) f = f i + sum (suc i) n f
+
+-- the n elements of s from place `at` on
+abbrev pub part : {A : Type 0} → List A → ℕ → ℕ → List A
+part s at n = take n (drop at s)
+
+-- s with the elements of t in the places from `at` on
+abbrev pub replaced : {A : Type 0} → List A → ℕ → List A → List A
+replaced s at t = take at s ++ (t ++ drop (length t) (drop at s))
+
+-- the two lists are the same
+unfoldable pub same : List ℕ → List ℕ → Bool
+same [] [] = true
+same [] (y ∷ ys) = false
+same (x ∷ xs) [] = false
+same (x ∷ xs) (y ∷ ys) = both (eqb x y) (same xs ys)

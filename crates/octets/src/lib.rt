@@ -1,0 +1,87 @@
+// Octets: the test of a bit, and numbers in octets, the first octet highest.
+ghost use mathlib.Core.Path.{_≡_};
+ghost use Prim.Native.Nat.{_<_};
+ghost use Rattle.octets.specs.Bits.{bitOf};
+ghost use Rattle.octets.specs.BigEndian.{numberAt, octetsOf};
+
+// Bit j of x, bit 0 the lowest: the one test of a bit, for control octets and header flags.
+pub fn bit(x: u8, j: u8) -> u8
+    ensures { λ r. ⌜ r ≡ bitOf x j ⌝ }
+{
+    if 8 <= j {
+        return 0;
+    }
+    (x >> j) & 1
+}
+
+fn wide(x: u8) -> u64
+    ensures { λ r. ⌜ (r ≡ x) × (r < 256) ⌝ }
+{
+    x as u64
+}
+
+pub fn be16(b: [u8; 2]) -> u64
+    ensures { λ r. ⌜ r ≡ numberAt 2 b 0 ⌝ }
+{
+    wide(b[0]) * 256 + wide(b[1])
+}
+
+pub fn be24(b: [u8; 3]) -> u64
+    ensures { λ r. ⌜ r ≡ numberAt 3 b 0 ⌝ }
+{
+    (wide(b[0]) * 256 + wide(b[1])) * 256 + wide(b[2])
+}
+
+pub fn be32(b: [u8; 4]) -> u64
+    ensures { λ r. ⌜ r ≡ numberAt 4 b 0 ⌝ }
+{
+    ((wide(b[0]) * 256 + wide(b[1])) * 256 + wide(b[2])) * 256 + wide(b[3])
+}
+
+pub fn be48(b: [u8; 6]) -> u64
+    ensures { λ r. ⌜ r ≡ numberAt 6 b 0 ⌝ }
+{
+    ((((wide(b[0]) * 256 + wide(b[1])) * 256 + wide(b[2])) * 256 + wide(b[3])) * 256 + wide(b[4]))
+        * 256
+        + wide(b[5])
+}
+
+pub fn octets16(n: u64) -> [u8; 2]
+    ensures { λ r. ⌜ r ≡ octetsOf 2 n ⌝ }
+{
+    [(n / 256 % 256) as u8, (n % 256) as u8]
+}
+
+pub fn octets24(n: u64) -> [u8; 3]
+    ensures { λ r. ⌜ r ≡ octetsOf 3 n ⌝ }
+{
+    [
+        (n / 65536 % 256) as u8,
+        (n / 256 % 256) as u8,
+        (n % 256) as u8,
+    ]
+}
+
+pub fn octets32(n: u64) -> [u8; 4]
+    ensures { λ r. ⌜ r ≡ octetsOf 4 n ⌝ }
+{
+    [
+        (n / 16777216 % 256) as u8,
+        (n / 65536 % 256) as u8,
+        (n / 256 % 256) as u8,
+        (n % 256) as u8,
+    ]
+}
+
+pub fn octets48(n: u64) -> [u8; 6]
+    ensures { λ r. ⌜ r ≡ octetsOf 6 n ⌝ }
+{
+    [
+        (n / 1099511627776 % 256) as u8,
+        (n / 4294967296 % 256) as u8,
+        (n / 16777216 % 256) as u8,
+        (n / 65536 % 256) as u8,
+        (n / 256 % 256) as u8,
+        (n % 256) as u8,
+    ]
+}

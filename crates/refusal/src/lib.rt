@@ -1,0 +1,81 @@
+// The refusals of 01, 'When the reader says no', in the order of its table, and the number of each.
+ghost use mathlib.Core.Path.{_≡_};
+ghost use Rattle.refusal.specs.Number.{numberOf, verdictNumber};
+
+pub enum Refusal {
+    // 1: a value outside its range
+    OutOfRange,
+    // 2: LLID not registered
+    UnknownLlid,
+    // 3: LLID already registered, or twice in one call
+    RepeatedLlid,
+    // 4: seventeenth unit
+    TableFull,
+    // 5: clock not set or not acknowledged
+    ClockNotSet,
+    // 6: offer while O > A or C < A
+    OfferPending,
+    // 7: offered key equals key A, A ≥ 1
+    SameKey,
+    // 8: key message or acknowledgement that fits nothing outstanding, or clock send without capture
+    NothingOutstanding,
+    // 9: no key for that index
+    NoKey,
+    // 10: EPAM differs
+    EpamDiffers,
+    // 11: clear envelope after the first confirmed or active key
+    ClearEnvelope,
+    // 12: channel still taken
+    ChannelTaken,
+    // 13: key 2^48 ticks old
+    KeyTooOld,
+    // 14: payload no multiple of 9 or too long, output of another length, reader settings not 41 octets
+    BadLength,
+    // 15: capture directory bad
+    BadDirectory,
+    // 16: clock capture older than 390,625,000 ticks
+    CaptureTooOld,
+    // 17: tick or key number at its end
+    AtEnd,
+}
+
+// The number that a refusal returns.
+pub fn number(refusal: Refusal) -> u8
+    ensures { λ r. ⌜ r ≡ numberOf refusal ⌝ }
+{
+    match refusal {
+        Refusal::OutOfRange => 1,
+        Refusal::UnknownLlid => 2,
+        Refusal::RepeatedLlid => 3,
+        Refusal::TableFull => 4,
+        Refusal::ClockNotSet => 5,
+        Refusal::OfferPending => 6,
+        Refusal::SameKey => 7,
+        Refusal::NothingOutstanding => 8,
+        Refusal::NoKey => 9,
+        Refusal::EpamDiffers => 10,
+        Refusal::ClearEnvelope => 11,
+        Refusal::ChannelTaken => 12,
+        Refusal::KeyTooOld => 13,
+        Refusal::BadLength => 14,
+        Refusal::BadDirectory => 15,
+        Refusal::CaptureTooOld => 16,
+        Refusal::AtEnd => 17,
+    }
+}
+
+// What a call that gives nothing else decides.
+pub enum Verdict {
+    Accepted,
+    Refused(Refusal),
+}
+
+// 0 for acceptance, else the refusal's number.
+pub fn verdict_number(verdict: Verdict) -> u8
+    ensures { λ r. ⌜ r ≡ verdictNumber verdict ⌝ }
+{
+    match verdict {
+        Verdict::Accepted => 0,
+        Verdict::Refused(refusal) => number(refusal),
+    }
+}

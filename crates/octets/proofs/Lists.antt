@@ -2,17 +2,17 @@
 -- Assumes nothing.
 use mathlib.Core.Path.{_≡_, refl, ap, sym, _∙_}
 use mathlib.Core.Bool.{Bool, true, false}
-use mathlib.Core.List.{List, [], _∷_, _++_, append-assoc}
+use mathlib.Core.List.{List, [], _∷_, _++_, append-assoc, append-nil}
 use Prim.Native.Nat.{ℕ, zero, suc, _+_, _-_, _*_, _<_, _≤_}
 use native.Mathlib.Nat.{add-zero, zero-add, add-suc, suc-add, le-of-lt, le-of-suc-le-suc, not-suc-le-zero, add-assoc}
 use native.Mathlib.Numerals.{add-one}
 use native.Mathlib.Omega.{arith}
 use lib.Dec.{eqb}
-use lib.ListN.{length, getD, drop, take, set, length-append, length-take, length-drop}
-use lib.Seq.{drop-cons, take-suc, length-take-le, set-at, ext-getD, take-all}
+use lib.ListN.{length, getD, drop, take, set, length-append, length-take, length-drop, take-append-drop}
+use lib.Seq.{drop-cons, take-suc, length-take-le, set-at, ext-getD, take-all, take-at, drop-at, drop-length, drop-drop, take-add, getD-take, getD-drop}
 use borrow.Author.Tests.{eqb-true, eq-eqb}
 use Rattle.octets.specs.Choice.{both}
-use Rattle.octets.specs.Lists.{tabulate, sum, same, replaced}
+use Rattle.octets.specs.Lists.{tabulate, sum, same, written}
 use Rattle.octets.proofs.Choice.{both-left, both-right, both-true}
 
 pub tabulate-length : {A : Type 0} (i n : ℕ) (f : ℕ → A) → length (tabulate i n f) ≡ n
@@ -83,9 +83,56 @@ sum-below i (suc n) b f h = omega (arith, h i, sum-below (suc i) n b f h)
 pub tail-part : {A : Type 0} (k : ℕ) (s : List A) → take (length s - k) (drop k s) ≡ drop k s
 tail-part k s = take-all (length s - k) (drop k s) (omega (arith, length-drop k s))
 
-pub replaced-length : {A : Type 0} (s : List A) (at : ℕ) (t : List A) → at + length t ≤ length s → length (replaced s at t) ≡ length s
-replaced-length s at t h =
-    simp (length-append, length-take, length-drop) (omega arith)
+-- an element of a part
+pub part-at : {A : Type 0} (s : List A) (a n i : ℕ) (d : A) → i < n → getD (take n (drop a s)) i d ≡ getD s (a + i) d
+part-at s a n i d h = rw (getD-take n (drop a s) i d h, getD-drop a s i d)
+
+pub part-length : {A : Type 0} (s : List A) (a n : ℕ) → a + n ≤ length s → length (take n (drop a s)) ≡ n
+part-length s a n h = simp (length-take, length-drop) (omega arith)
+
+pub written-length : {A : Type 0} (t : List A) (a e : ℕ) (s : List A) → a ≤ e → e ≤ length s → e ≤ length t → length (written t a e s) ≡ length s
+written-length t a e s h k l = simp (length-append, length-take, length-drop) (omega arith)
+
+-- nothing is written yet
+pub written-none : {A : Type 0} (t : List A) (a : ℕ) (s : List A) → written t a a s ≡ s
+written-none t a s = let z : a - a ≡ 0 = omega arith in rw (z, take-append-drop)
+
+-- all is written
+pub written-all : {A : Type 0} (t s : List A) → length t ≡ length s → written t 0 (length s) s ≡ t
+written-all {A} t s h =
+    let whole : take (length s) t ≡ t = take-all (length s) t (omega arith) in
+    let z : length s - 0 ≡ length s = omega arith in
+    rw (z, whole, drop-length s, append-nil)
+
+-- what is written from b up to a, and then from a up to e, is written from b up to e
+pub written-more : {A : Type 0} (t : List A) (b a e : ℕ) (s : List A) → b ≤ a → a ≤ e → e ≤ length s → e ≤ length t
+    → written t a e (written t b a s) ≡ written t b e s
+written-more {A} t b a e s g h k l =
+    let p = take (a - b) (drop b t) in
+    let n : length (take b s ++ p) ≡ a = simp (length-append, length-take, length-drop) (omega arith) in
+    let regroup : written t b a s ≡ (take b s ++ p) ++ drop a s = sym (append-assoc (take b s) p (drop a s)) in
+    let low : take a ((take b s ++ p) ++ drop a s) ≡ take b s ++ p = take-at (take b s ++ p) (drop a s) a n in
+    let m : e ≡ a + (e - a) = omega arith in
+    let high : drop e ((take b s ++ p) ++ drop a s) ≡ drop e s =
+    ap (λ (x : ℕ). drop x ((take b s ++ p) ++ drop a s)) m
+    ∙ sym (drop-drop (e - a) a ((take b s ++ p) ++ drop a s))
+    ∙ ap (λ (x : List A). drop (e - a) x) (drop-at (take b s ++ p) (drop a s) a n)
+    ∙ drop-drop (e - a) a s
+    ∙ ap (λ (x : ℕ). drop x s) (sym m) in
+    let u : e - b ≡ (a - b) + (e - a) = omega arith in
+    let v : b + (a - b) ≡ a = omega arith in
+    let joined : take (e - b) (drop b t) ≡ p ++ take (e - a) (drop a t) =
+    ap (λ (x : ℕ). take x (drop b t)) u
+    ∙ take-add (a - b) (e - a) (drop b t)
+    ∙ ap (λ (x : List A). p ++ take (e - a) x) (drop-drop (a - b) b t ∙ ap (λ (x : ℕ). drop x t) v) in
+    rw (regroup, low, high, joined) (simp append-assoc)
+
+-- a part that was lent and has come back holding what t has there
+pub written-part : {A : Type 0} (t : List A) (a k : ℕ) (s ys : List A) → ys ≡ take k (drop a t)
+    → take a s ++ (ys ++ drop k (drop a s)) ≡ written t a (a + k) s
+written-part t a k s ys e =
+    let z : a + k - a ≡ k = omega arith in
+    rw (e, z, drop-drop)
 
 pub same-true : (a b : List ℕ) → same a b ≡ true → a ≡ b
 unfolding same

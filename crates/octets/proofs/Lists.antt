@@ -12,7 +12,7 @@ use lib.ListN.{length, getD, drop, take, set, length-append, length-take, length
 use lib.Seq.{drop-cons, take-suc, length-take-le, set-at, ext-getD, take-all, take-at, drop-at, drop-length, drop-drop, take-add, getD-take, getD-drop}
 use borrow.Author.Tests.{eqb-true, eq-eqb}
 use Rattle.octets.specs.Choice.{both}
-use Rattle.octets.specs.Lists.{tabulate, sum, same, written}
+use Rattle.octets.specs.Lists.{tabulate, sum, same, replaced, written}
 use Rattle.octets.proofs.Choice.{both-left, both-right, both-true}
 
 pub tabulate-length : {A : Type 0} (i n : ℕ) (f : ℕ → A) → length (tabulate i n f) ≡ n
@@ -82,6 +82,9 @@ sum-below i (suc n) b f h = omega (arith, h i, sum-below (suc i) n b f h)
 -- the part of s from k on, as a slice `&s[k..]` has it
 pub tail-part : {A : Type 0} (k : ℕ) (s : List A) → take (length s - k) (drop k s) ≡ drop k s
 tail-part k s = take-all (length s - k) (drop k s) (omega (arith, length-drop k s))
+
+pub replaced-length : {A : Type 0} (s : List A) (at : ℕ) (t : List A) → at + length t ≤ length s → length (replaced s at t) ≡ length s
+replaced-length s at t h = simp (length-append, length-take, length-drop) (omega arith)
 
 -- an element of a part
 pub part-at : {A : Type 0} (s : List A) (a n i : ℕ) (d : A) → i < n → getD (take n (drop a s)) i d ≡ getD s (a + i) d

@@ -3,7 +3,7 @@ use mathlib.Core.Bool.{Bool, true, false}
 use mathlib.Core.List.{List, [], _∷_, _++_}
 use Prim.Native.Nat.{ℕ, zero, suc, _+_, _-_}
 use lib.Dec.{eqb}
-use lib.ListN.{take, drop}
+use lib.ListN.{length, take, drop}
 use Rattle.octets.specs.Choice.{both}
 
 -- f at the n numbers from i on
@@ -20,7 +20,11 @@ sum i (suc n) f = f i + sum (suc i) n f
 abbrev pub part : {A : Type 0} → List A → ℕ → ℕ → List A
 part s at n = take n (drop at s)
 
--- s with the elements of t in the places from a up to e
+-- s with the elements of t in the places from `at` on
+abbrev pub replaced : {A : Type 0} → List A → ℕ → List A → List A
+replaced s at t = take at s ++ (t ++ drop (length t) (drop at s))
+
+-- s with t's own elements in the places from a up to e
 abbrev pub written : {A : Type 0} → List A → ℕ → ℕ → List A → List A
 written t a e s = take a s ++ (take (e - a) (drop a t) ++ drop e s)
 

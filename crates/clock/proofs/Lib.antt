@@ -1,0 +1,4 @@
+pub mod Ticks
+pub mod Stamping
+pub mod Loop
+pub mod Aligned

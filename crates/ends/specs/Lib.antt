@@ -1,0 +1,17 @@
+pub mod Limits
+pub mod Replies
+pub mod Timers
+pub mod Keys
+pub mod Occupancy
+pub mod Identities
+pub mod Records
+pub mod Table
+pub mod Validity
+pub mod Lift
+pub mod UnitCalls
+pub mod OltCalls
+pub mod OnuCalls
+pub mod Headers
+pub mod UnitTraffic
+pub mod OltTraffic
+pub mod OnuTraffic

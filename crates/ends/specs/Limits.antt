@@ -1,0 +1,30 @@
+-- The limits of 01 that the ends keep to; those of the clock are in crate clock. Assumes nothing.
+use Prim.Native.Nat.{ℕ, _+_, _-_, _^_}
+use Rattle.clock.specs.Ticks.{maxTick}
+
+-- a MAC is below this
+abbrev pub macTurn : ℕ
+macTurn = 2 ^ 48
+
+-- LLIDs of a unit
+abbrev pub maxLlids : ℕ
+maxLlids = 4
+
+-- units of an OLT
+abbrev pub maxUnits : ℕ
+maxUnits = 16
+
+-- ticks of a timer's interval
+abbrev pub maxInterval : ℕ
+maxInterval = 2 ^ 47
+
+abbrev pub maxKeyNumber : ℕ
+maxKeyNumber = 2 ^ 32 - 1
+
+-- EQs of a payload
+abbrev pub maxEqs : ℕ
+maxEqs = 4194303
+
+-- the latest tick from which a channel can be free: that of a longest payload at the last tick
+abbrev pub maxFree : ℕ
+maxFree = maxTick + (maxEqs + 1)

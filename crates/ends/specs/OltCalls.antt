@@ -1,0 +1,103 @@
+-- The calls of the OLT but send and receive (01, Clock; Keys; 'When the reader says no'). Each gives number, end and what is handed
+-- over together. Assumes nothing.
+use mathlib.Core.Bool.{Bool, not}
+use mathlib.Core.List.{List, _++_, map}
+use Prim.Native.Nat.{ℕ, _+_}
+use lib.Dec.{leb, ltb}
+use lib.ListN.{drop}
+use Rattle.octets.specs.Choice.{both, either}
+use Rattle.refusal.specs.Number.{verdictNumber}
+use Rattle.refusal.specs.declared.Refusal.the-variants.{OutOfRange, RepeatedLlid, TableFull, AtEnd}
+use Rattle.refusal.specs.declared.Verdict.{Verdict}
+use Rattle.refusal.specs.declared.Verdict.the-variants.{Accepted}
+use Rattle.clock.specs.Ticks.{clockTurn, maxTick, maxRoundTrip, advanced}
+use Rattle.clock.specs.declared.Stamps.{Stamps}
+use Rattle.ends.specs.Limits.{maxUnits}
+use Rattle.ends.specs.Replies.{refuseIf, None, none, Reply, reply}
+use Rattle.ends.specs.Timers.{validInterval}
+use Rattle.ends.specs.Identities.{distinct, meets, llidsOf, validMac, validIdentity}
+use Rattle.ends.specs.Records.{freshUnit, newOlt}
+use Rattle.ends.specs.Table.{registered, tableLlids, withOneMore}
+use Rattle.ends.specs.Validity.{validOlt}
+use Rattle.ends.specs.Lift.{lift}
+use Rattle.ends.specs.UnitCalls.{unitAdvanced, captureUnit, noStamps, clockSendUnit, noKeyMessage, offerUnit, retryUnit, acknowledgeUnit}
+use Rattle.ends.specs.declared.Identity.{Identity}
+use Rattle.ends.specs.declared.Shared.{Shared}
+use Rattle.ends.specs.declared.Olt.{Olt}
+use Rattle.ends.specs.declared.KeyMessage.{KeyMessage}
+use Rattle.ends.specs.declared.Acknowledgement.{Acknowledgement}
+use Rattle.ends.specs.declared.OltAnswer.{OltAnswer}
+use Rattle.ends.specs.declared.ClockSent.{ClockSent}
+use Rattle.ends.specs.declared.KeySent.{KeySent}
+
+unfoldable pub oltAnswer : Reply Olt None → OltAnswer
+oltAnswer r = record { number = verdictNumber (r .verdict); olt = r .end }
+
+unfoldable pub clockSent : Reply Olt Stamps → ClockSent
+clockSent r = record { number = verdictNumber (r .verdict); olt = r .end; message = r .handed }
+
+unfoldable pub keySent : Reply Olt KeyMessage → KeySent
+keySent r = record { number = verdictNumber (r .verdict); olt = r .end; message = r .handed }
+
+-- a fresh OLT: 1, with an end of zeros
+unfoldable pub freshOltOf : ℕ → ℕ → OltAnswer
+freshOltOf mac clock =
+    oltAnswer
+    (reply (refuseIf (not (both (validMac mac) (ltb clock clockTurn))) OutOfRange Accepted) (newOlt 0 0) none (newOlt mac clock) none)
+
+---- register: 1, 3, 4
+
+unfoldable pub validRegistration : Identity → ℕ → ℕ → Bool
+validRegistration i trip interval = both (validIdentity i) (both (leb trip maxRoundTrip) (validInterval interval))
+
+unfoldable pub registerVerdict : Olt → Identity → ℕ → ℕ → Verdict
+registerVerdict o i trip interval =
+    refuseIf (not (validRegistration i trip interval)) OutOfRange
+    (refuseIf (either (not (distinct (llidsOf i))) (meets (llidsOf i) (tableLlids (registered o)))) RepeatedLlid
+    (refuseIf (leb maxUnits (o .count)) TableFull Accepted))
+
+unfoldable pub registering : Olt → Identity → ℕ → ℕ → Reply Olt None
+registering o i trip interval =
+    reply (refuseIf (not (validOlt o)) OutOfRange (registerVerdict o i trip interval)) o none (withOneMore o (freshUnit i trip interval)) none
+
+unfoldable pub registerOf : Olt → Identity → ℕ → ℕ → OltAnswer
+registerOf o i trip interval = oltAnswer (registering o i trip interval)
+
+---- advance: 17
+
+unfoldable pub sharedAdvanced : Shared → ℕ → Shared
+sharedAdvanced s n = record { mac = s .mac; tick = s .tick + n; clock = advanced (s .clock) n; channels = s .channels }
+
+unfoldable pub oltAdvanced : Olt → ℕ → Olt
+oltAdvanced o n =
+    record {
+      shared = sharedAdvanced (o .shared) n;
+      count = o .count;
+      units = map (unitAdvanced n) (registered o) ++ drop (o .count) (o .units)
+    }
+
+unfoldable pub advanceVerdict : ℕ → ℕ → Verdict
+advanceVerdict tick n = refuseIf (ltb maxTick (tick + n)) AtEnd Accepted
+
+unfoldable pub advancingOlt : Olt → ℕ → Reply Olt None
+advancingOlt o n = reply (refuseIf (not (validOlt o)) OutOfRange (advanceVerdict (o .shared .tick) n)) o none (oltAdvanced o n) none
+
+unfoldable pub advanceOltOf : Olt → ℕ → OltAnswer
+advanceOltOf o n = oltAnswer (advancingOlt o n)
+
+---- calls on one unit: 2, then the unit's own
+
+unfoldable pub captureOf : Olt → ℕ → OltAnswer
+captureOf o llid = oltAnswer (lift o none Accepted llid captureUnit)
+
+unfoldable pub clockSendOf : Olt → ℕ → ClockSent
+clockSendOf o llid = clockSent (lift o noStamps Accepted llid clockSendUnit)
+
+unfoldable pub offerOf : Olt → ℕ → List ℕ → KeySent
+offerOf o llid key = keySent (lift o noKeyMessage Accepted llid (offerUnit llid key))
+
+unfoldable pub retryOf : Olt → ℕ → KeySent
+retryOf o llid = keySent (lift o noKeyMessage Accepted llid (retryUnit llid))
+
+unfoldable pub acknowledgeOf : Olt → ℕ → Acknowledgement → OltAnswer
+acknowledgeOf o llid a = oltAnswer (lift o none Accepted llid (acknowledgeUnit a))

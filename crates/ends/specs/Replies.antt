@@ -1,0 +1,31 @@
+-- What a call decides and leaves (01, 'When the reader says no'). Assumes nothing.
+use mathlib.Core.Bool.{Bool, true, false}
+use lib.Dec.{eqb}
+use Prim.Native.Nat.{ℕ}
+use Rattle.refusal.specs.declared.Refusal.{Refusal}
+use Rattle.refusal.specs.declared.Verdict.{Verdict}
+use Rattle.refusal.specs.declared.Verdict.the-variants.{Accepted, Refused}
+
+-- a flag is up
+abbrev pub isUp : ℕ → Bool
+isUp flag = eqb flag 1
+
+-- that refusal where its cause holds, else what follows in the order
+unfoldable pub refuseIf : Bool → Refusal → Verdict → Verdict
+refuseIf true r v = Refused r
+refuseIf false r v = v
+
+-- a call that hands over nothing hands over this
+pub data None : Type 0 where
+  none : None
+
+-- a call's verdict, the end that it leaves and what it hands over
+pub record Reply (E H : Type 0) : Type 0 where
+  pub verdict : Verdict
+  pub end : E
+  pub handed : H
+
+-- accepted: the next end, and what is handed over; refused: the end as it was, and nothing
+unfoldable pub reply : {E H : Type 0} → Verdict → E → H → E → H → Reply E H
+reply Accepted lent nothing next handed = record { verdict = Accepted; end = next; handed = handed }
+reply (Refused r) lent nothing next handed = record { verdict = Refused r; end = lent; handed = nothing }

@@ -1,0 +1,63 @@
+-- The table of an OLT's units (01, Clock: OLT calls name a unit by any of its LLIDs). Assumes nothing.
+use mathlib.Core.Bool.{Bool, true, false}
+use mathlib.Core.List.{List, [], _∷_, _++_}
+use Prim.Native.Nat.{ℕ, zero, suc, _+_}
+use lib.ListN.{take, drop, getD, set}
+use Rattle.octets.specs.Choice.{both, pick}
+use Rattle.ends.specs.Identities.{llidsOf, has}
+use Rattle.ends.specs.Records.{withChannels}
+use Rattle.ends.specs.declared.Channels.{Channels}
+use Rattle.ends.specs.declared.Unit.{Unit}
+use Rattle.ends.specs.declared.Olt.{Olt}
+use Rattle.ends.specs.declared.Found.{Found}
+use Rattle.ends.specs.declared.Found.the-variants.{At, Nowhere}
+
+-- the units in use are the first `count`
+abbrev pub registered : Olt → List Unit
+registered o = take (o .count) (o .units)
+
+-- the test holds of each
+unfoldable pub all : {A : Type 0} → (A → Bool) → List A → Bool
+all p [] = true
+all p (x ∷ xs) = both (p x) (all p xs)
+
+-- the LLIDs of all the units
+unfoldable pub tableLlids : List Unit → List ℕ
+tableLlids [] = []
+tableLlids (u ∷ us) = llidsOf (u .identity) ++ tableLlids us
+
+-- the first unit that has the LLID, its place counted from i
+unfoldable pub findFrom : ℕ → List Unit → ℕ → Found
+findFrom i [] llid = Nowhere
+findFrom i (u ∷ us) llid = pick (has (u .identity) llid) (At i) (findFrom (suc i) us llid)
+
+unfoldable pub find : Olt → ℕ → Found
+find o llid = findFrom 0 (registered o) llid
+
+-- what stands for a unit past the end of the list
+unfoldable pub pastUnit : Unit
+pastUnit =
+    record {
+      identity = record { mac = 0; llids = []; count = 0 };
+      keys =
+          record {
+            timer = record { interval = 0; count = 0; flag = 0 };
+            active = 0;
+            offered = 0;
+            slots = record { even = []; odd = [] };
+            first = record { noted = 0; tick = 0 }
+          };
+      confirmation = record { confirmed = 0; acknowledged = 0 };
+      clock = record { trip = 0; captured = 0; tick = 0; sent = 0; acknowledged = 0 }
+    }
+
+abbrev pub unitAt : Olt → ℕ → Unit
+unitAt o i = getD (o .units) i pastUnit
+
+-- one unit and the channels replaced
+unfoldable pub withUnit : Olt → ℕ → Channels → Unit → Olt
+withUnit o i c u = record { shared = withChannels (o .shared) c; count = o .count; units = set (o .units) i u }
+
+-- one unit more, in the first place that is not in use
+unfoldable pub withOneMore : Olt → Unit → Olt
+withOneMore o u = record { shared = o .shared; count = o .count + 1; units = set (o .units) (o .count) u }

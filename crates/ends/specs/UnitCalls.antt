@@ -1,0 +1,134 @@
+-- The clock and key calls of the OLT on one unit (01, Clock; Keys). Assumes nothing.
+use mathlib.Core.Bool.{Bool, true, false, not}
+use mathlib.Core.List.{List}
+use Prim.Native.Nat.{ℕ, _+_, _-_}
+use lib.Dec.{leb, ltb, eqb}
+use Rattle.octets.specs.Choice.{both, either, pick}
+use Rattle.octets.specs.Lists.{same}
+use Rattle.refusal.specs.declared.Refusal.the-variants.{ClockNotSet, OfferPending, SameKey, NothingOutstanding, CaptureTooOld, AtEnd}
+use Rattle.refusal.specs.declared.Verdict.{Verdict}
+use Rattle.refusal.specs.declared.Verdict.the-variants.{Accepted, Refused}
+use Rattle.clock.specs.Ticks.{ticksPerSecond, rewound}
+use Rattle.clock.specs.Stamping.{capturedAt}
+use Rattle.clock.specs.declared.Stamps.{Stamps}
+use Rattle.ends.specs.Limits.{maxKeyNumber}
+use Rattle.ends.specs.Replies.{isUp, refuseIf, None, none}
+use Rattle.ends.specs.Timers.{timerAdvanced}
+use Rattle.ends.specs.Keys.{noKey, keyIn, withKey}
+use Rattle.ends.specs.Records.{withKeys, withConfirmation, withClock, withTimer}
+use Rattle.ends.specs.Lift.{Outcome, outcome}
+use Rattle.ends.specs.declared.UnitKeys.{UnitKeys}
+use Rattle.ends.specs.declared.Confirmation.{Confirmation}
+use Rattle.ends.specs.declared.UnitClock.{UnitClock}
+use Rattle.ends.specs.declared.Unit.{Unit}
+use Rattle.ends.specs.declared.Shared.{Shared}
+use Rattle.ends.specs.declared.KeyMessage.{KeyMessage}
+use Rattle.ends.specs.declared.Acknowledgement.{Acknowledgement}
+
+-- an advance moves a unit's timer
+unfoldable pub unitAdvanced : ℕ → Unit → Unit
+unitAdvanced n u = withKeys u (withTimer (u .keys) (timerAdvanced (u .keys .timer) n))
+
+---- capture
+
+unfoldable pub clockCaptured : UnitClock → ℕ → UnitClock
+clockCaptured c tick = record { trip = c .trip; captured = 1; tick = tick; sent = c .sent; acknowledged = c .acknowledged }
+
+unfoldable pub captureUnit : Shared → Unit → Outcome None
+captureUnit s u = outcome s Accepted (withClock u (clockCaptured (u .clock) (s .tick))) none
+
+---- clock send: 8, 16
+
+abbrev pub noStamps : Stamps
+noStamps = record { rx = 0; tx = 0 }
+
+unfoldable pub clockSendVerdict : UnitClock → ℕ → Verdict
+clockSendVerdict c tick =
+    refuseIf (not (isUp (c .captured))) NothingOutstanding
+    (refuseIf (ltb (c .tick + ticksPerSecond) tick) CaptureTooOld Accepted)
+
+unfoldable pub clockMessageSent : UnitClock → UnitClock
+clockMessageSent c = record { trip = c .trip; captured = c .captured; tick = c .tick; sent = 1; acknowledged = c .acknowledged }
+
+-- the stamps of the capture's tick, from the clock of this one
+unfoldable pub clockMessageOf : Shared → UnitClock → Stamps
+clockMessageOf s c = capturedAt (rewound (s .clock) (s .tick - c .tick)) (c .trip)
+
+unfoldable pub clockSendUnit : Shared → Unit → Outcome Stamps
+clockSendUnit s u =
+    outcome s (clockSendVerdict (u .clock) (s .tick)) (withClock u (clockMessageSent (u .clock))) (clockMessageOf s (u .clock))
+
+---- offer: 5, 6, 7, 17
+
+abbrev pub noKeyMessage : KeyMessage
+noKeyMessage = record { llid = 0; number = 0; key = noKey }
+
+unfoldable pub offerVerdict : Unit → List ℕ → Verdict
+offerVerdict u key =
+    refuseIf (not (isUp (u .clock .acknowledged))) ClockNotSet
+    (refuseIf (either (ltb (u .keys .active) (u .keys .offered)) (ltb (u .confirmation .confirmed) (u .keys .active))) OfferPending
+    (refuseIf (both (leb 1 (u .keys .active)) (same key (keyIn (u .keys .slots) (u .keys .active)))) SameKey
+    (refuseIf (leb maxKeyNumber (u .keys .active)) AtEnd Accepted)))
+
+unfoldable pub keysOffered : UnitKeys → List ℕ → UnitKeys
+keysOffered k key =
+    record { timer = k .timer; active = k .active; offered = k .active + 1; slots = withKey (k .slots) (k .active + 1) key; first = k .first }
+
+-- a new offer starts unacknowledged
+unfoldable pub unitOffered : Unit → List ℕ → Unit
+unitOffered u key =
+    withConfirmation (withKeys u (keysOffered (u .keys) key)) (record { confirmed = u .confirmation .confirmed; acknowledged = 0 })
+
+-- the message of the outstanding offer
+unfoldable pub keyMessageOf : ℕ → UnitKeys → KeyMessage
+keyMessageOf llid k = record { llid = llid; number = k .offered; key = keyIn (k .slots) (k .offered) }
+
+unfoldable pub offerUnit : ℕ → List ℕ → Shared → Unit → Outcome KeyMessage
+offerUnit llid key s u = outcome s (offerVerdict u key) (unitOffered u key) (keyMessageOf llid (keysOffered (u .keys) key))
+
+---- retry: 8
+
+unfoldable pub retryVerdict : UnitKeys → Verdict
+retryVerdict k = refuseIf (eqb (k .offered) (k .active)) NothingOutstanding Accepted
+
+-- the unit stays as it is, the mark of an acknowledgement too
+unfoldable pub retryUnit : ℕ → Shared → Unit → Outcome KeyMessage
+retryUnit llid s u = outcome s (retryVerdict (u .keys)) u (keyMessageOf llid (u .keys))
+
+---- acknowledgement: 8
+
+abbrev pub noAcknowledgement : Acknowledgement
+noAcknowledgement = record { kind = 0; number = 0 }
+
+abbrev pub ofClock : Acknowledgement
+ofClock = record { kind = 1; number = 0 }
+
+abbrev pub ofKey : ℕ → Acknowledgement
+ofKey number = record { kind = 2; number = number }
+
+-- a clock acknowledgement needs a clock message sent
+unfoldable pub clockAcknowledgedUnit : Shared → Unit → Outcome None
+clockAcknowledgedUnit s u =
+    outcome s (refuseIf (not (isUp (u .clock .sent))) NothingOutstanding Accepted)
+    (withClock u
+    (record {
+      trip = u .clock .trip;
+      captured = u .clock .captured;
+      tick = u .clock .tick;
+      sent = u .clock .sent;
+      acknowledged = 1
+    }))
+    none
+
+-- a key acknowledgement names number O, which is 1 or more
+unfoldable pub keyAcknowledgedUnit : ℕ → Shared → Unit → Outcome None
+keyAcknowledgedUnit number s u =
+    outcome s (refuseIf (not (both (leb 1 number) (eqb number (u .keys .offered)))) NothingOutstanding Accepted)
+    (withConfirmation u (record { confirmed = u .confirmation .confirmed; acknowledged = 1 }))
+    none
+
+-- by its kind; one of neither kind fits nothing
+unfoldable pub acknowledgeUnit : Acknowledgement → Shared → Unit → Outcome None
+acknowledgeUnit a s u =
+    pick (eqb (a .kind) 1) (clockAcknowledgedUnit s u)
+    (pick (eqb (a .kind) 2) (keyAcknowledgedUnit (a .number) s u) (outcome s (Refused NothingOutstanding) u none))

@@ -1,0 +1,94 @@
+-- Send and receive of the OLT on one unit, but for the octets (01, Keys). Assumes nothing.
+use mathlib.Core.Bool.{Bool, not}
+use Prim.Native.Nat.{ℕ, _+_, _%_}
+use lib.Dec.{leb, eqb}
+use Rattle.octets.specs.Choice.{both, pick}
+use Rattle.refusal.specs.declared.Refusal.the-variants.{NoKey, EpamDiffers, ClearEnvelope, ChannelTaken, KeyTooOld}
+use Rattle.refusal.specs.declared.Verdict.{Verdict}
+use Rattle.refusal.specs.declared.Verdict.the-variants.{Accepted}
+use Rattle.clock.specs.Ticks.{epamOf}
+use Rattle.ends.specs.Replies.{isUp, refuseIf}
+use Rattle.ends.specs.Timers.{timerFallen}
+use Rattle.ends.specs.Keys.{onlyKey, notedAt, firstSend}
+use Rattle.ends.specs.Occupancy.{taken, occupied}
+use Rattle.ends.specs.Records.{withKeys, withConfirmation, withSlots, withFirst}
+use Rattle.ends.specs.Lift.{Outcome, outcome}
+use Rattle.ends.specs.Headers.{choiceVerdict, choiceAged, passageOf, sendingOf}
+use Rattle.ends.specs.declared.UnitKeys.{UnitKeys}
+use Rattle.ends.specs.declared.Unit.{Unit}
+use Rattle.ends.specs.declared.Shared.{Shared}
+use Rattle.ends.specs.declared.Header.{Header}
+use Rattle.ends.specs.declared.KeyChoice.{KeyChoice}
+use Rattle.ends.specs.declared.KeyChoice.the-variants.{Clear, Current, Next, Barred}
+use Rattle.ends.specs.declared.Passage.{Passage}
+use Rattle.ends.specs.declared.Sending.{Sending}
+
+---- send: 12, 13
+
+-- the next accepted send switches
+unfoldable pub switches : Unit → Bool
+switches u =
+    both (isUp (u .keys .timer .flag)) (both (eqb (u .keys .offered) (u .keys .active + 1)) (isUp (u .confirmation .acknowledged)))
+
+-- key O where it switches, else key A, clear while A = 0
+unfoldable pub unitSendChoice : Unit → KeyChoice
+unitSendChoice u = pick (switches u) (Next (u .keys .offered)) (pick (eqb (u .keys .active) 0) Clear (Current (u .keys .active)))
+
+unfoldable pub unitSendVerdict : Shared → Unit → ℕ → Verdict
+unitSendVerdict s u index =
+    refuseIf (taken (s .channels) index (s .tick)) ChannelTaken
+    (refuseIf (choiceAged (unitSendChoice u) (u .keys .first) (s .tick)) KeyTooOld Accepted)
+
+-- A becomes O, the flag falls, and this is the key's first send
+unfoldable pub keysSwitched : UnitKeys → ℕ → UnitKeys
+keysSwitched k tick =
+    record { timer = timerFallen (k .timer); active = k .offered; offered = k .offered; slots = k .slots; first = notedAt tick }
+
+unfoldable pub keysSent : KeyChoice → UnitKeys → ℕ → UnitKeys
+keysSent Clear k tick = k
+keysSent (Current n) k tick = withFirst k (firstSend (k .first) tick)
+keysSent (Next n) k tick = keysSwitched k tick
+keysSent (Barred r) k tick = k
+
+unfoldable pub sendUnit : ℕ → ℕ → ℕ → Shared → Unit → Outcome Sending
+sendUnit llid index eqs s u =
+    record {
+      verdict = unitSendVerdict s u index;
+      unit = withKeys u (keysSent (unitSendChoice u) (u .keys) (s .tick));
+      channels = occupied (s .channels) index (s .tick) eqs;
+      handed = sendingOf (unitSendChoice u) (u .keys .slots) (s .mac) (s .clock) index llid
+    }
+
+---- receive: 10, 11, 9
+
+-- clear while C = 0; index C mod 2 with C ≥ 1: key C; else index A mod 2 with A = C + 1: key A
+unfoldable pub unitReceiveChoice : Unit → Header → KeyChoice
+unitReceiveChoice u h =
+    pick (eqb (h .encenabled) 0) (pick (eqb (u .confirmation .confirmed) 0) Clear (Barred ClearEnvelope))
+    (pick (both (leb 1 (u .confirmation .confirmed)) (eqb (h .enckey) (u .confirmation .confirmed % 2)))
+    (Current (u .confirmation .confirmed))
+    (pick (both (eqb (u .keys .active) (u .confirmation .confirmed + 1)) (eqb (h .enckey) (u .keys .active % 2)))
+    (Next (u .keys .active))
+    (Barred NoKey)))
+
+unfoldable pub unitReceiveVerdict : Shared → Unit → Header → Verdict
+unitReceiveVerdict s u h =
+    refuseIf (not (eqb (h .epam) (epamOf (s .clock)))) EpamDiffers (choiceVerdict (unitReceiveChoice u h))
+
+-- C becomes A, and the key before A is forgotten
+unfoldable pub unitConfirmed : Unit → Unit
+unitConfirmed u =
+    withConfirmation (withKeys u (withSlots (u .keys) (onlyKey (u .keys .slots) (u .keys .active))))
+    (record { confirmed = u .keys .active; acknowledged = u .confirmation .acknowledged })
+
+unfoldable pub unitReceived : KeyChoice → Unit → Unit
+unitReceived Clear u = u
+unitReceived (Current n) u = u
+unitReceived (Next n) u = unitConfirmed u
+unitReceived (Barred r) u = u
+
+-- opened with the unit's MAC and the OLT's clock
+unfoldable pub receiveUnit : Header → Shared → Unit → Outcome Passage
+receiveUnit h s u =
+    outcome s (unitReceiveVerdict s u h) (unitReceived (unitReceiveChoice u h) u)
+    (passageOf (unitReceiveChoice u h) (u .keys .slots) (u .identity .mac) (s .clock))

@@ -1,0 +1,211 @@
+// The records of both ends and what crosses between them (01, Clock and Keys). A flag is a u8, 0 or 1. A place that is not in use
+// holds zeros: a unit's place past the count, an LLID's place past the count, the tick of a first send that was not noted or of
+// a capture that was not made, Rx while unsynced, a key that is no longer in use.
+use clock::Stamps;
+use refusal::Refusal;
+
+// The key timer of a unit.
+#[repr(C)]
+pub struct Timer {
+    pub interval: u64,
+    pub count: u64,
+    pub flag: u8,
+}
+
+// Two keys: number n is at index n mod 2.
+#[repr(C)]
+pub struct Slots {
+    pub even: [u8; 16],
+    pub odd: [u8; 16],
+}
+
+// The first send under the key in use.
+#[repr(C)]
+pub struct FirstSend {
+    pub noted: u8,
+    pub tick: u64,
+}
+
+// The tick from which each channel of an end is free.
+#[repr(C)]
+pub struct Channels {
+    pub zero: u64,
+    pub one: u64,
+}
+
+// A unit's MAC and its 1 to 4 LLIDs.
+#[repr(C)]
+pub struct Identity {
+    pub mac: u64,
+    pub llids: [u16; 4],
+    pub count: u8,
+}
+
+// What the OLT sends to a unit under: A, O, their keys and C's.
+#[repr(C)]
+pub struct UnitKeys {
+    pub timer: Timer,
+    pub active: u32,
+    pub offered: u32,
+    pub slots: Slots,
+    pub first: FirstSend,
+}
+
+// What the unit has shown: C, and whether it acknowledged O.
+#[repr(C)]
+pub struct Confirmation {
+    pub confirmed: u32,
+    pub acknowledged: u8,
+}
+
+// The OLT's side of the unit's clock. A capture's stamps are those of its tick: they are worked out where it is sent.
+#[repr(C)]
+pub struct UnitClock {
+    pub trip: u64,
+    pub captured: u8,
+    pub tick: u64,
+    pub sent: u8,
+    pub acknowledged: u8,
+}
+
+// The OLT's record of a unit.
+#[repr(C)]
+pub struct Unit {
+    pub identity: Identity,
+    pub keys: UnitKeys,
+    pub confirmation: Confirmation,
+    pub clock: UnitClock,
+}
+
+// What all units share at the OLT.
+#[repr(C)]
+pub struct Shared {
+    pub mac: u64,
+    pub tick: u64,
+    pub clock: u64,
+    pub channels: Channels,
+}
+
+#[repr(C)]
+pub struct Olt {
+    pub shared: Shared,
+    pub count: u8,
+    pub units: [Unit; 16],
+}
+
+// A unit's own keys: a, and whether a + 1 is held.
+#[repr(C)]
+pub struct OnuKeys {
+    pub active: u32,
+    pub held: u8,
+    pub slots: Slots,
+}
+
+// A unit's own clocks. `time` is LocalTime while unsynced, and Tx, whose low 32 bits are LocalTime, once synced.
+#[repr(C)]
+pub struct OnuClock {
+    pub synced: u8,
+    pub time: u64,
+    pub rx: u64,
+}
+
+#[repr(C)]
+pub struct Onu {
+    pub identity: Identity,
+    pub oltmac: u64,
+    pub tick: u64,
+    pub clock: OnuClock,
+    pub keys: OnuKeys,
+    pub first: FirstSend,
+    pub channels: Channels,
+}
+
+// A key message. A clock message is a `clock::Stamps`.
+#[repr(C)]
+pub struct KeyMessage {
+    pub llid: u16,
+    pub number: u32,
+    pub key: [u8; 16],
+}
+
+// What a unit answers: kind 1 to a clock message, kind 2 to a key message, with the key's number. Kind 0 is none.
+#[repr(C)]
+pub struct Acknowledgement {
+    pub kind: u8,
+    pub number: u32,
+}
+
+// An envelope's header, start or continuation; `index` is the channel index.
+#[repr(C)]
+pub struct Header {
+    pub index: u8,
+    pub llid: u16,
+    pub encenabled: u8,
+    pub enckey: u8,
+    pub epam: u8,
+}
+
+// Which place of the table has an LLID.
+pub enum Found {
+    At(usize),
+    Nowhere,
+}
+
+// Under which key an envelope goes.
+pub enum KeyChoice {
+    // none
+    Clear,
+    // the key in use
+    Current(u32),
+    // the key that this envelope brings into use
+    Next(u32),
+    // it does not go
+    Barred(Refusal),
+}
+
+// What an envelope is sealed or opened with, beside its channel index.
+pub struct Passage {
+    pub choice: KeyChoice,
+    pub key: [u8; 16],
+    pub mac: u64,
+    pub clock: u64,
+}
+
+// What a send decides: the header, and what the payload is sealed with.
+pub struct Sending {
+    pub header: Header,
+    pub passage: Passage,
+}
+
+#[repr(C)]
+pub struct OltAnswer {
+    pub number: u8,
+    pub olt: Olt,
+}
+
+#[repr(C)]
+pub struct ClockSent {
+    pub number: u8,
+    pub olt: Olt,
+    pub message: Stamps,
+}
+
+#[repr(C)]
+pub struct KeySent {
+    pub number: u8,
+    pub olt: Olt,
+    pub message: KeyMessage,
+}
+
+#[repr(C)]
+pub struct OnuAnswer {
+    pub number: u8,
+    pub onu: Onu,
+}
+
+#[repr(C)]
+pub struct OnuAcknowledged {
+    pub number: u8,
+    pub onu: Onu,
+    pub acknowledgement: Acknowledgement,
+}

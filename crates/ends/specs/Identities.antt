@@ -39,7 +39,7 @@ kept i =
     record {
       mac = i .mac;
       llids = tabulate 0 maxLlids (λ j. pick (ltb j (i .count)) (getD (i .llids) j 0) 0);
-      count = i .count
+      count = i .count;
     }
 
 unfoldable pub validMac : ℕ → Bool

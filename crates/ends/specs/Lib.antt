@@ -2,6 +2,7 @@ pub mod Limits
 pub mod Replies
 pub mod Timers
 pub mod Keys
+pub mod Messages
 pub mod Occupancy
 pub mod Identities
 pub mod Records

@@ -7,20 +7,21 @@ use lib.Dec.{leb, ltb}
 use lib.ListN.{drop}
 use Rattle.octets.specs.Choice.{both, either}
 use Rattle.refusal.specs.Number.{verdictNumber}
-use Rattle.refusal.specs.declared.Refusal.the-variants.{OutOfRange, RepeatedLlid, TableFull, AtEnd}
+use Rattle.refusal.specs.declared.Refusal.the-variants.{OutOfRange, RepeatedLlid, TableFull}
 use Rattle.refusal.specs.declared.Verdict.{Verdict}
 use Rattle.refusal.specs.declared.Verdict.the-variants.{Accepted}
-use Rattle.clock.specs.Ticks.{clockTurn, maxTick, maxRoundTrip, advanced}
+use Rattle.clock.specs.Ticks.{clockTurn, maxRoundTrip, advanced}
 use Rattle.clock.specs.declared.Stamps.{Stamps}
 use Rattle.ends.specs.Limits.{maxUnits}
-use Rattle.ends.specs.Replies.{refuseIf, None, none, Reply, reply}
+use Rattle.ends.specs.Replies.{refuseIf, None, none, Reply, reply, advanceVerdict}
 use Rattle.ends.specs.Timers.{validInterval}
+use Rattle.ends.specs.Messages.{noStamps, noKeyMessage}
 use Rattle.ends.specs.Identities.{distinct, meets, llidsOf, validMac, validIdentity}
 use Rattle.ends.specs.Records.{freshUnit, newOlt}
 use Rattle.ends.specs.Table.{registered, tableLlids, withOneMore}
 use Rattle.ends.specs.Validity.{validOlt}
 use Rattle.ends.specs.Lift.{lift}
-use Rattle.ends.specs.UnitCalls.{unitAdvanced, captureUnit, noStamps, clockSendUnit, noKeyMessage, offerUnit, retryUnit, acknowledgeUnit}
+use Rattle.ends.specs.UnitCalls.{unitAdvanced, captureUnit, clockSendUnit, offerUnit, retryUnit, acknowledgeUnit}
 use Rattle.ends.specs.declared.Identity.{Identity}
 use Rattle.ends.specs.declared.Shared.{Shared}
 use Rattle.ends.specs.declared.Olt.{Olt}
@@ -73,11 +74,8 @@ oltAdvanced o n =
     record {
       shared = sharedAdvanced (o .shared) n;
       count = o .count;
-      units = map (unitAdvanced n) (registered o) ++ drop (o .count) (o .units)
+      units = map (unitAdvanced n) (registered o) ++ drop (o .count) (o .units);
     }
-
-unfoldable pub advanceVerdict : ℕ → ℕ → Verdict
-advanceVerdict tick n = refuseIf (ltb maxTick (tick + n)) AtEnd Accepted
 
 unfoldable pub advancingOlt : Olt → ℕ → Reply Olt None
 advancingOlt o n = reply (refuseIf (not (validOlt o)) OutOfRange (advanceVerdict (o .shared .tick) n)) o none (oltAdvanced o n) none

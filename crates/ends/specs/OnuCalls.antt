@@ -14,13 +14,12 @@ use Rattle.clock.specs.Ticks.{clockTurn, localTurn, advanced, localAdvanced, lo
 use Rattle.clock.specs.Stamping.{raisedTo}
 use Rattle.clock.specs.declared.Stamps.{Stamps}
 use Rattle.ends.specs.Limits.{maxKeyNumber}
-use Rattle.ends.specs.Replies.{isUp, refuseIf, None, none, Reply, reply}
+use Rattle.ends.specs.Replies.{isUp, refuseIf, None, none, Reply, reply, advanceVerdict}
 use Rattle.ends.specs.Keys.{keyIn, withKey}
 use Rattle.ends.specs.Identities.{noIdentity, distinct, llidsOf, has, validMac, validIdentity}
 use Rattle.ends.specs.Records.{newOnu, withOnuClock, withOnuKeys}
 use Rattle.ends.specs.Validity.{validOnu}
-use Rattle.ends.specs.UnitCalls.{noAcknowledgement, ofClock, ofKey}
-use Rattle.ends.specs.OltCalls.{advanceVerdict}
+use Rattle.ends.specs.Messages.{noAcknowledgement, ofClock, ofKey}
 use Rattle.ends.specs.declared.Identity.{Identity}
 use Rattle.ends.specs.declared.OnuKeys.{OnuKeys}
 use Rattle.ends.specs.declared.OnuClock.{OnuClock}
@@ -66,7 +65,7 @@ onuAdvanced o n =
       clock = onuClockAdvanced (o .clock) n;
       keys = o .keys;
       first = o .first;
-      channels = o .channels
+      channels = o .channels;
     }
 
 unfoldable pub advancingOnu : Onu → ℕ → Reply Onu None

@@ -49,7 +49,7 @@ freshUnit i trip interval =
       identity = kept i;
       keys = record { timer = freshTimer interval; active = 0; offered = 0; slots = noSlots; first = notNoted };
       confirmation = record { confirmed = 0; acknowledged = 0 };
-      clock = record { trip = trip; captured = 0; tick = 0; sent = 0; acknowledged = 0 }
+      clock = record { trip = trip; captured = 0; tick = 0; sent = 0; acknowledged = 0 };
     }
 
 -- a place with no unit
@@ -76,7 +76,7 @@ withOnuClock o c =
       clock = c;
       keys = o .keys;
       first = o .first;
-      channels = o .channels
+      channels = o .channels;
     }
 
 unfoldable pub withOnuKeys : Onu → OnuKeys → Onu
@@ -88,7 +88,7 @@ withOnuKeys o k =
       clock = o .clock;
       keys = k;
       first = o .first;
-      channels = o .channels
+      channels = o .channels;
     }
 
 unfoldable pub withOnuFirst : Onu → FirstSend → Onu
@@ -100,7 +100,7 @@ withOnuFirst o f =
       clock = o .clock;
       keys = o .keys;
       first = f;
-      channels = o .channels
+      channels = o .channels;
     }
 
 unfoldable pub withOnuChannels : Onu → Channels → Onu
@@ -112,7 +112,7 @@ withOnuChannels o c =
       clock = o .clock;
       keys = o .keys;
       first = o .first;
-      channels = c
+      channels = c;
     }
 
 unfoldable pub newOnu : Identity → ℕ → ℕ → Onu
@@ -124,5 +124,5 @@ newOnu i oltmac time =
       clock = record { synced = 0; time = time; rx = 0 };
       keys = record { active = 0; held = 0; slots = noSlots };
       first = notNoted;
-      channels = freeChannels
+      channels = freeChannels;
     }

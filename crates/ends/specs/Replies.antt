@@ -1,10 +1,12 @@
 -- What a call decides and leaves (01, 'When the reader says no'). Assumes nothing.
 use mathlib.Core.Bool.{Bool, true, false}
-use lib.Dec.{eqb}
-use Prim.Native.Nat.{ℕ}
+use Prim.Native.Nat.{ℕ, _+_}
+use lib.Dec.{ltb, eqb}
 use Rattle.refusal.specs.declared.Refusal.{Refusal}
+use Rattle.refusal.specs.declared.Refusal.the-variants.{AtEnd}
 use Rattle.refusal.specs.declared.Verdict.{Verdict}
 use Rattle.refusal.specs.declared.Verdict.the-variants.{Accepted, Refused}
+use Rattle.clock.specs.Ticks.{maxTick}
 
 -- a flag is up
 abbrev pub isUp : ℕ → Bool
@@ -29,3 +31,7 @@ pub record Reply (E H : Type 0) : Type 0 where
 unfoldable pub reply : {E H : Type 0} → Verdict → E → H → E → H → Reply E H
 reply Accepted lent nothing next handed = record { verdict = Accepted; end = next; handed = handed }
 reply (Refused r) lent nothing next handed = record { verdict = Refused r; end = lent; handed = nothing }
+
+-- an advance of either end (01, Clock)
+unfoldable pub advanceVerdict : ℕ → ℕ → Verdict
+advanceVerdict tick n = refuseIf (ltb maxTick (tick + n)) AtEnd Accepted

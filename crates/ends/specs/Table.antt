@@ -45,10 +45,10 @@ pastUnit =
             active = 0;
             offered = 0;
             slots = record { even = []; odd = [] };
-            first = record { noted = 0; tick = 0 }
+            first = record { noted = 0; tick = 0 };
           };
       confirmation = record { confirmed = 0; acknowledged = 0 };
-      clock = record { trip = 0; captured = 0; tick = 0; sent = 0; acknowledged = 0 }
+      clock = record { trip = 0; captured = 0; tick = 0; sent = 0; acknowledged = 0 };
     }
 
 abbrev pub unitAt : Olt → ℕ → Unit

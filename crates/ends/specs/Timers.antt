@@ -15,7 +15,7 @@ timerAdvanced t n =
     record {
       interval = t .interval;
       count = (t .count + n) % t .interval;
-      flag = pick (leb (t .interval) (t .count + n)) 1 (t .flag)
+      flag = pick (leb (t .interval) (t .count + n)) 1 (t .flag);
     }
 
 -- the flag falls; the count goes on

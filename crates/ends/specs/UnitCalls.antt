@@ -14,7 +14,8 @@ use Rattle.clock.specs.declared.Stamps.{Stamps}
 use Rattle.ends.specs.Limits.{maxKeyNumber}
 use Rattle.ends.specs.Replies.{isUp, refuseIf, None, none}
 use Rattle.ends.specs.Timers.{timerAdvanced}
-use Rattle.ends.specs.Keys.{noKey, keyIn, withKey}
+use Rattle.ends.specs.Keys.{keyIn, withKey}
+use Rattle.ends.specs.Messages.{clockKind, keyKind}
 use Rattle.ends.specs.Records.{withKeys, withConfirmation, withClock, withTimer}
 use Rattle.ends.specs.Lift.{Outcome, outcome}
 use Rattle.ends.specs.declared.UnitKeys.{UnitKeys}
@@ -39,9 +40,6 @@ captureUnit s u = outcome s Accepted (withClock u (clockCaptured (u .clock) (s .
 
 ---- clock send: 8, 16
 
-abbrev pub noStamps : Stamps
-noStamps = record { rx = 0; tx = 0 }
-
 unfoldable pub clockSendVerdict : UnitClock → ℕ → Verdict
 clockSendVerdict c tick =
     refuseIf (not (isUp (c .captured))) NothingOutstanding
@@ -59,9 +57,6 @@ clockSendUnit s u =
     outcome s (clockSendVerdict (u .clock) (s .tick)) (withClock u (clockMessageSent (u .clock))) (clockMessageOf s (u .clock))
 
 ---- offer: 5, 6, 7, 17
-
-abbrev pub noKeyMessage : KeyMessage
-noKeyMessage = record { llid = 0; number = 0; key = noKey }
 
 unfoldable pub offerVerdict : Unit → List ℕ → Verdict
 offerVerdict u key =
@@ -97,15 +92,6 @@ retryUnit llid s u = outcome s (retryVerdict (u .keys)) u (keyMessageOf llid (u 
 
 ---- acknowledgement: 8
 
-abbrev pub noAcknowledgement : Acknowledgement
-noAcknowledgement = record { kind = 0; number = 0 }
-
-abbrev pub ofClock : Acknowledgement
-ofClock = record { kind = 1; number = 0 }
-
-abbrev pub ofKey : ℕ → Acknowledgement
-ofKey number = record { kind = 2; number = number }
-
 -- a clock acknowledgement needs a clock message sent
 unfoldable pub clockAcknowledgedUnit : Shared → Unit → Outcome None
 clockAcknowledgedUnit s u =
@@ -116,7 +102,7 @@ clockAcknowledgedUnit s u =
       captured = u .clock .captured;
       tick = u .clock .tick;
       sent = u .clock .sent;
-      acknowledged = 1
+      acknowledged = 1;
     }))
     none
 
@@ -130,5 +116,5 @@ keyAcknowledgedUnit number s u =
 -- by its kind; one of neither kind fits nothing
 unfoldable pub acknowledgeUnit : Acknowledgement → Shared → Unit → Outcome None
 acknowledgeUnit a s u =
-    pick (eqb (a .kind) 1) (clockAcknowledgedUnit s u)
-    (pick (eqb (a .kind) 2) (keyAcknowledgedUnit (a .number) s u) (outcome s (Refused NothingOutstanding) u none))
+    pick (eqb (a .kind) clockKind) (clockAcknowledgedUnit s u)
+    (pick (eqb (a .kind) keyKind) (keyAcknowledgedUnit (a .number) s u) (outcome s (Refused NothingOutstanding) u none))

@@ -56,7 +56,7 @@ sendUnit llid index eqs s u =
       verdict = unitSendVerdict s u index;
       unit = withKeys u (keysSent (unitSendChoice u) (u .keys) (s .tick));
       channels = occupied (s .channels) index (s .tick) eqs;
-      handed = sendingOf (unitSendChoice u) (u .keys .slots) (s .mac) (s .clock) index llid
+      handed = sendingOf (unitSendChoice u) (u .keys .slots) (s .mac) (s .clock) index llid;
     }
 
 ---- receive: 10, 11, 9

@@ -19,7 +19,7 @@ pub raise-aligns : (clock lag up down trip : ℕ) → lag ≤ ticksPerSecond →
 unfolding raisedTo movedBy capturedAt
 raise-aligns clock lag up down trip h e =
     let r : raiseOf (localOf (clock + lag + down + up)) (advanced clock trip) ≡ lag = rw (sym e) (raise-lag clock lag up down h) in
-    record { tx = rw r (omega arith); rx = rw r (omega arith); below = omega arith }
+    record { tx = omega arith; rx = omega arith; below = omega arith }
 
 pub aligned-moved : (clock up down : ℕ) (s : Stamps) (n : ℕ) → Aligned clock up down s → Aligned (clock + n) up down (movedBy n s)
 unfolding movedBy

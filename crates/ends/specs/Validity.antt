@@ -59,11 +59,11 @@ validOlt o =
 unfoldable pub validOnuKeys : OnuKeys → Bool
 validOnuKeys k = both (leb (k .held) 1) (either (eqb (k .held) 0) (ltb (k .active) maxKeyNumber))
 
--- unsynced: LocalTime; synced: Tx and Rx
+-- the field that both share is Tx once synced, LocalTime before
 unfoldable pub validOnuClock : OnuClock → Bool
 validOnuClock c =
     both (leb (c .synced) 1)
-    (pick (isUp (c .synced)) (both (ltb (c .time) clockTurn) (ltb (c .rx) clockTurn)) (ltb (c .time) localTurn))
+    (both (ltb (c .rx) clockTurn) (pick (isUp (c .synced)) (ltb (c .time) clockTurn) (ltb (c .time) localTurn)))
 
 unfoldable pub validOnu : Onu → Bool
 validOnu o =

@@ -3,10 +3,19 @@ use Prim.Native.Nat.{ℕ, zero, suc}
 use mathlib.Core.List.{List}
 use Rattle.octets.specs.Lists.{tabulate}
 use Rattle.gf256.specs.Field.{xTimes}
+use Rattle.gf256.specs.Substitution.{sbox}
 
 -- f at each of the 256 octets
 unfoldable pub table : (ℕ → ℕ) → List ℕ
 table f = tabulate 0 256 f
+
+-- the substitution of each octet (FIPS 197, 5.1.1)
+abbrev pub sboxTable : List ℕ
+sboxTable = table sbox
+
+-- each octet times x (FIPS 197, 4.2)
+abbrev pub doublesTable : List ℕ
+doublesTable = table xTimes
 
 -- x^n
 unfoldable pub powerOfX : ℕ → ℕ

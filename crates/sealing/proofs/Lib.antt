@@ -1,0 +1,4 @@
+pub mod Bits
+pub mod Cipher
+pub mod KeyExpansion
+pub mod Lists

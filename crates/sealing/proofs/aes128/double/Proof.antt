@@ -1,0 +1,20 @@
+-- `aes128::double` meets its contract: the entry of the lent table at an octet is the octet times x.
+-- Assumes nothing.
+use mathlib.Core.Path.{_≡_, ap, _∙_}
+use mathlib.Core.List.{List}
+use Prim.Native.Nat.{ℕ}
+use lib.ListN.{getD}
+use Rattle.gf256.specs.Field.{xTimes}
+use Rattle.gf256.proofs.Table.{table-at}
+use borrow.Author.Needs.{needs}
+use Rattle.sealing.proofs.aes128.double.Statement.{statement}
+use Rattle.sealing.proofs.aes128.double.Tie as tie
+
+element-copy-out-result : tie.Need-element-copy-out-result
+element-copy-out-result c = search needs
+
+returns : tie.Need-returns
+returns c = ap (λ (t : List ℕ). getD t (c .before .args .x) 0) (c .before .pre) ∙ table-at xTimes (c .before .args .x) (search needs)
+
+pub double-spec : {M : Type 1} → statement M
+double-spec = tie.close (tie.spec element-copy-out-result returns)

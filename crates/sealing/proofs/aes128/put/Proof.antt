@@ -1,0 +1,70 @@
+-- `aes128::put` meets its contract. The loop keeps the array at its copy of the first j octets.
+-- Assumes nothing.
+use mathlib.Core.Path.{_≡_, refl, ap, sym, _∙_}
+use mathlib.Core.List.{List}
+use Prim.Native.Nat.{ℕ, _≤_, _+_, _-_}
+use native.Mathlib.Numerals.{add-one}
+use native.Mathlib.Omega.{arith}
+use lib.ListN.{length, set, getD}
+use lib.Seq.{paste, paste-zero, paste-suc}
+use Rattle.sealing.proofs.Lists.{paste-all}
+use borrow.Author.Needs.{needs}
+use Rattle.sealing.proofs.aes128.put.Statement.{statement}
+use Rattle.sealing.proofs.aes128.put.Tie as tie
+
+abbrev Inv-loop : tie.InvT-loop
+Inv-loop w₀ at k j₀ w j = (j ≤ 16) × (length w₀ ≡ 176) × (length k ≡ 16) × (w ≡ paste w₀ at k j)
+
+abbrev μ-loop : tie.MeasureT-loop
+μ-loop w₀ at k j₀ w j = 16 - j
+
+loop-holds : tie.Need-loop-holds Inv-loop μ-loop
+loop-holds c = (search needs, c .pre .1, search needs, paste-zero (c .args .w .now) (c .args .at) (c .args .t3))
+
+array-read-w : tie.Need-array-read-w Inv-loop μ-loop
+array-read-w c = search needs
+
+add-w : tie.Need-add-w Inv-loop μ-loop
+add-w c = search needs
+
+element-write-w : tie.Need-element-write-w Inv-loop μ-loop
+element-write-w c = search needs
+
+add-j : tie.Need-add-j Inv-loop μ-loop
+add-j c = search needs
+
+loop-less : tie.Need-loop-less Inv-loop μ-loop
+loop-less c = search needs
+
+loop-again : tie.Need-loop-again Inv-loop μ-loop
+loop-again c =
+    let l = c .before .loop in
+    let a = c .before .before .args in (
+      search needs,
+      l .inv .1,
+      l .inv .2,
+      ap (λ (s : List ℕ). set s (a .at + l .j) (getD (a .t3) (l .j) 0)) (l .inv .3)
+          ∙ rw add-one (paste-suc (a .w .now) (a .at) (a .t3) (l .j) 0 (search needs) (search needs)),
+    )
+
+returns : tie.Need-returns Inv-loop μ-loop
+returns c =
+    let l = c .before .loop in
+    let a = c .before .before .args in
+    let all : l .j ≡ length (a .t3) = omega arith in
+    l .inv .3 ∙ ap (paste (a .w .now) (a .at) (a .t3)) all ∙ paste-all (a .w .now) (a .at) (a .t3)
+
+pub put-spec : {M : Type 1} → statement M
+put-spec =
+    tie.close
+    (tie.spec
+    Inv-loop
+    μ-loop
+    loop-holds
+    array-read-w
+    add-w
+    element-write-w
+    add-j
+    loop-less
+    loop-again
+    returns)

@@ -1,0 +1,2 @@
+// Sealing of payloads: the forward cipher, and what is sealed under it.
+pub mod aes128;

@@ -1,6 +1,6 @@
 -- Laws of lists by their elements: what a loop fills from the front, parts, and sums.
 -- Assumes nothing.
-use mathlib.Core.Path.{_≡_, refl, ap, sym, _∙_}
+use mathlib.Core.Path.{_≡_, refl, ap, ap₂, sym, _∙_}
 use mathlib.Core.Bool.{Bool, true, false}
 use mathlib.Core.List.{List, [], _∷_, _++_, append-assoc, append-nil}
 use Prim.Native.Nat.{ℕ, zero, suc, _+_, _-_, _*_, _<_, _≤_}
@@ -9,7 +9,7 @@ use native.Mathlib.Numerals.{add-one}
 use native.Mathlib.Omega.{arith}
 use lib.Dec.{eqb}
 use lib.ListN.{length, getD, drop, take, set, length-append, length-take, length-drop, take-append-drop}
-use lib.Seq.{drop-cons, take-suc, length-take-le, set-at, ext-getD, take-all, take-at, drop-at, drop-length, drop-drop, take-add, getD-take, getD-drop}
+use lib.Seq.{drop-cons, take-suc, length-take-le, set-at, ext-getD, take-all, take-at, drop-at, drop-length, drop-drop, take-add, getD-take, getD-drop, paste, take-length}
 use borrow.Author.Tests.{eqb-true, eq-eqb}
 use Rattle.octets.specs.Choice.{both}
 use Rattle.octets.specs.Lists.{tabulate, sum, same, replaced, written}
@@ -85,6 +85,20 @@ tail-part k s = take-all (length s - k) (drop k s) (omega (arith, length-drop k 
 
 pub replaced-length : {A : Type 0} (s : List A) (at : ℕ) (t : List A) → at + length t ≤ length s → length (replaced s at t) ≡ length s
 replaced-length s at t h = simp (length-append, length-take, length-drop) (omega arith)
+
+-- a copy of all elements of t to the places from `at` on
+pub paste-all : {A : Type 0} (s : List A) (at : ℕ) (t : List A) → paste s at t (length t) ≡ replaced s at t
+paste-all {A} s at t =
+    append-assoc (take at s) (take (length t) t) (drop (at + length t) s)
+    ∙ ap₂ (λ (a b : List A). take at s ++ (a ++ b)) (take-length t) (sym (drop-drop (length t) at s))
+
+-- the part after p, of a list that begins with p and goes on as z
+pub replaced-next : {A : Type 0} (p z t : List A) (at : ℕ) → length p ≡ at
+    → replaced (p ++ drop at z) at t ≡ (p ++ t) ++ drop (at + length t) z
+replaced-next {A} p z t at e =
+    ap₂ (λ (a b : List A). a ++ (t ++ drop (length t) b)) (take-at p (drop at z) at e) (drop-at p (drop at z) at e)
+    ∙ ap (λ (b : List A). p ++ (t ++ b)) (drop-drop (length t) at z)
+    ∙ sym (append-assoc p t (drop (at + length t) z))
 
 -- an element of a part
 pub part-at : {A : Type 0} (s : List A) (a n i : ℕ) (d : A) → i < n → getD (take n (drop a s)) i d ≡ getD s (a + i) d

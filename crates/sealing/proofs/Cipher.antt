@@ -10,7 +10,7 @@ use Rattle.gf256.specs.Substitution.{sbox}
 use Rattle.gf256.proofs.Field.{times-two, times-three}
 use Rattle.sealing.specs.Cipher.{shiftRows, mixColumn, roundKey, round, roundColumn, rounds}
 use Rattle.sealing.specs.Words.{word, xorWords}
-use Rattle.sealing.proofs.Bits.{xor-assoc}
+use Rattle.octets.proofs.Bits.{xor-assoc}
 
 -- MixColumns of one column, with the sums that serve two rows made once
 module _ (a b c d : ℕ) where

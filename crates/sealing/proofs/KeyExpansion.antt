@@ -12,7 +12,7 @@ use Rattle.octets.proofs.Lists.{tabulate-self}
 use Rattle.gf256.specs.Table.{powerOfX}
 use Rattle.sealing.specs.KeyExpansion.{constantWord, rcon, temp, nextWord, expanded, nextKey}
 use Rattle.sealing.specs.Words.{word, xorWords, rotWord, subWord}
-use Rattle.sealing.proofs.Lists.{replaced-next}
+use Rattle.octets.proofs.Lists.{replaced-next}
 
 -- a round key, from its four words
 pub key-words : (k : List ℕ) (x : ℕ) {t a b c d : List ℕ} → t ≡ xorWords (subWord (rotWord (word k 3))) (constantWord x)

@@ -1,4 +1,5 @@
-pub mod Bits
 pub mod Cipher
+pub mod CounterBlock
 pub mod KeyExpansion
-pub mod Lists
+pub mod Payload
+pub mod Seal

@@ -1,3 +1,6 @@
 pub mod Cipher
+pub mod CounterBlock
 pub mod KeyExpansion
+pub mod Payload
+pub mod Seal
 pub mod Words

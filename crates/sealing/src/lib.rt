@@ -1,2 +1,3 @@
-// Sealing of payloads: the forward cipher, and what is sealed under it.
+// AES-128 (FIPS 197), and the sealing and opening of envelope payloads with it (01, Counter block and mask).
 pub mod aes128;
+pub mod envelope;

@@ -7,7 +7,7 @@ use native.Mathlib.Numerals.{add-one}
 use native.Mathlib.Omega.{arith}
 use lib.ListN.{length, set, getD}
 use lib.Seq.{paste, paste-zero, paste-suc}
-use Rattle.sealing.proofs.Lists.{paste-all}
+use Rattle.octets.proofs.Lists.{paste-all}
 use borrow.Author.Needs.{needs}
 use Rattle.sealing.proofs.aes128.put.Statement.{statement}
 use Rattle.sealing.proofs.aes128.put.Tie as tie

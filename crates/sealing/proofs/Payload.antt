@@ -1,0 +1,139 @@
+-- Laws of sealed payloads: what the ends, the line and the capture reader cite.
+-- Assumes nothing.
+use mathlib.Core.Path.{_≡_, refl, ap, ap₂, sym, _∙_}
+use mathlib.Core.Bool.{Bool, true, false}
+use mathlib.Core.List.{List, [], _∷_, _++_}
+use Prim.Native.Nat.{ℕ, zero, suc, _+_, _-_, _*_, _/_, _%_, _<_, _≤_, _^_}
+use native.Mathlib.Nat.{mod-eq-of-lt, zero-add, not-suc-le-zero}
+use native.Mathlib.Numerals.{add-one}
+use native.Mathlib.Omega.{arith}
+use lib.Bits.{bitXor, bitAnd, and-mask, and-zero-r, xor-zero-r}
+use lib.Count.{ones}
+use lib.Dec.{eqb}
+use lib.ListN.{length, getD, take, drop}
+use lib.Seq.{ext-getD}
+use Rattle.octets.specs.Bits.{bitOf}
+use Rattle.octets.specs.Choice.{pick}
+use Rattle.octets.specs.Lists.{tabulate, sum, written}
+use Rattle.octets.proofs.Bits.{xor-twice}
+use Rattle.octets.proofs.Lists.{tabulate-length, tabulate-at, sum-ext, part-at, part-length, written-part}
+use Rattle.sealing.specs.CounterBlock.{counterBlock}
+use Rattle.sealing.specs.Payload.{eqsOf, controlOctet, cipherBlock, halfOf, masked, maskedAt, sealedOctet, sealed, countOf}
+use Rattle.sealing.specs.declared.envelope.Nonce.{Nonce}
+
+-- the mask as a factor of 0 or 255, with no branch
+pub masked-by-factor : (b k x : ℕ) → b < 2 → k < 2 ^ 8
+    → bitXor x (bitAnd k (255 * (1 - b))) ≡ pick (eqb b 1) x (bitXor x k)
+unfolding pick
+masked-by-factor zero k x h l = ap (bitXor x) (and-mask k 8 ∙ mod-eq-of-lt l)
+masked-by-factor (suc zero) k x h l = ap (bitXor x) (and-zero-r k) ∙ xor-zero-r x
+masked-by-factor (suc (suc b)) k x h l = absurd (omega arith)
+
+-- data octet j stands at place j + 1
+pub masked-data : (block : List ℕ) (half c j x : ℕ) → maskedAt block half c (j + 1) x ≡ masked c j (getD block (half + j) 0) x
+unfolding maskedAt
+masked-data block half c j x = rw add-one
+
+pub sealed-length : (w : List ℕ) (n : Nonce) (p : List ℕ) → length (sealed w n p) ≡ length p
+unfolding sealed
+sealed-length w n p = tabulate-length 0 (length p) (sealedOctet w n p)
+
+-- octet i of the list is octet i by its position
+pub sealed-at : (w : List ℕ) (n : Nonce) (p : List ℕ) (i : ℕ) → i < length p → getD (sealed w n p) i 0 ≡ sealedOctet w n p i
+unfolding sealed
+sealed-at w n p i h = tabulate-at 0 (length p) (sealedOctet w n p) i 0 h ∙ ap (sealedOctet w n p) (zero-add i)
+
+-- an octet becomes what its own place, its EQ's control octet, key and counter block make of it
+pub sealed-own : (w : List ℕ) (n : Nonce) (p q : List ℕ) (i : ℕ) → controlOctet p (i / 9) ≡ controlOctet q (i / 9) → getD p i 0 ≡ getD q i 0
+    → sealedOctet w n p i ≡ sealedOctet w n q i
+unfolding sealedOctet
+sealed-own w n p q i c x =
+    ap₂ (λ (a b : ℕ). maskedAt (cipherBlock w n (i / 9)) (halfOf (i / 9)) a (i % 9) b) c x
+
+masked-twice : (c j k x : ℕ) → masked c j k (masked c j k x) ≡ x
+unfolding masked pick
+masked-twice c j k x = by-bit (eqb (bitOf c j) 1) where
+  by-bit : (t : Bool) → pick t (pick t x (bitXor x k)) (bitXor (pick t x (bitXor x k)) k) ≡ x
+  by-bit true = refl
+  by-bit false = xor-twice x k
+
+masked-at-twice : (block : List ℕ) (half c place x : ℕ) → maskedAt block half c place (maskedAt block half c place x) ≡ x
+unfolding maskedAt
+masked-at-twice block half c zero x = refl
+masked-at-twice block half c (suc j) x = masked-twice c j (getD block (half + j) 0) x
+
+-- control octets pass
+pub sealed-control : (w : List ℕ) (n : Nonce) (p : List ℕ) (e : ℕ) → sealedOctet w n p (9 * e) ≡ controlOctet p e
+unfolding sealedOctet maskedAt
+sealed-control w n p e = let z : 9 * e % 9 ≡ 0 = omega arith in rw z
+
+-- control characters pass
+pub sealed-character : (w : List ℕ) (n : Nonce) (p : List ℕ) (e j : ℕ) → j < 8 → bitOf (controlOctet p e) j ≡ 1
+    → sealedOctet w n p (9 * e + suc j) ≡ getD p (9 * e + suc j) 0
+unfolding sealedOctet maskedAt masked pick
+sealed-character w n p e j h b =
+    let place : (9 * e + suc j) % 9 ≡ suc j = omega arith in
+    let eq : (9 * e + suc j) / 9 ≡ e = omega arith in
+    rw (place, eq, b)
+
+control-kept : (w : List ℕ) (n : Nonce) (p : List ℕ) (e : ℕ) → 9 * e < length p → controlOctet (sealed w n p) e ≡ controlOctet p e
+control-kept w n p e h = sealed-at w n p (9 * e) h ∙ sealed-control w n p e
+
+-- sealing and opening are one act: done twice, it gives the payload back
+pub sealed-twice : (w : List ℕ) (n : Nonce) (p : List ℕ) → sealed w n (sealed w n p) ≡ p
+unfolding sealedOctet
+sealed-twice w n p =
+    ext-getD 0 (sealed w n (sealed w n p)) p (sealed-length w n (sealed w n p) ∙ sealed-length w n p)
+    (λ i h. octet i (rw (sealed-length, sealed-length) at h)) where
+      once : (i : ℕ) → i < length p → sealedOctet w n (sealed w n p) i ≡ getD p i 0
+      once i h =
+          let in-range : 9 * (i / 9) < length p = omega arith in
+          rw (control-kept w n p (i / 9) in-range, sealed-at w n p i h)
+          (masked-at-twice (cipherBlock w n (i / 9)) (halfOf (i / 9)) (controlOctet p (i / 9)) (i % 9) (getD p i 0))
+
+      octet : (i : ℕ) → i < length p → getD (sealed w n (sealed w n p)) i 0 ≡ getD p i 0
+      octet i h = sealed-at w n (sealed w n p) i (rw sealed-length h) ∙ once i h
+
+-- both report one count
+pub count-sealed : (w : List ℕ) (n : Nonce) (p : List ℕ) → countOf (sealed w n p) ≡ countOf p
+unfolding countOf
+count-sealed w n p =
+    rw sealed-length
+    (sum-ext 0 (length p / 9) (λ e. 8 - ones (controlOctet (sealed w n p) e)) (λ e. 8 - ones (controlOctet p e))
+    (λ e a b. ap (λ (x : ℕ). 8 - ones x) (control-kept w n p e (omega arith))))
+
+-- the nine octets of EQ e
+pub sealed-eq : (w : List ℕ) (n : Nonce) (p : List ℕ) (e : ℕ) → 9 * e + 9 ≤ length p
+    → take 9 (drop (9 * e) (sealed w n p))
+    ≡ tabulate 0 9 (λ i. maskedAt (cipherBlock w n e) (halfOf e) (getD (take 9 (drop (9 * e) p)) 0 0) i (getD (take 9 (drop (9 * e) p)) i 0))
+unfolding sealedOctet
+sealed-eq w n p e h =
+    ext-getD 0 (take 9 (drop (9 * e) (sealed w n p))) (tabulate 0 9 f)
+    (len ∙ sym (tabulate-length 0 9 f))
+    (λ i l. octet i (rw len at l)) where
+      f : ℕ → ℕ
+      f i = maskedAt (cipherBlock w n e) (halfOf e) (getD (take 9 (drop (9 * e) p)) 0 0) i (getD (take 9 (drop (9 * e) p)) i 0)
+
+      len : length (take 9 (drop (9 * e) (sealed w n p))) ≡ 9
+      len = part-length (sealed w n p) (9 * e) 9 (rw sealed-length h)
+
+      octet : (i : ℕ) → i < 9 → getD (take 9 (drop (9 * e) (sealed w n p))) i 0 ≡ getD (tabulate 0 9 f) i 0
+      octet i l =
+          let place : (9 * e + i) % 9 ≡ i = omega arith in
+          let eq : (9 * e + i) / 9 ≡ e = omega arith in
+          let first : 9 * e + 0 ≡ 9 * e = omega arith in
+          let same : sealedOctet w n p (9 * e + i) ≡ f i =
+          rw (place, eq, part-at p (9 * e) 9 0 0 (omega arith), part-at p (9 * e) 9 i 0 l, first) in
+          let there : getD (tabulate 0 9 f) i 0 ≡ f i = rw zero-add at (tabulate-at 0 9 f i 0 l) in
+          part-at (sealed w n p) (9 * e) 9 i 0 l ∙ sealed-at w n p (9 * e + i) (omega arith) ∙ same ∙ sym there
+
+-- one EQ masked in its place is that EQ of the sealed payload
+pub eq-written : (w : List ℕ) (n : Nonce) (p out block ys : List ℕ) (a b half e : ℕ) → a ≡ 9 * e → b ≡ 9 → half ≡ halfOf e → block ≡ cipherBlock w n e
+    → a + 9 ≤ length p
+    → ys ≡ tabulate 0 9 (λ j. maskedAt block half (getD (take b (drop a p)) 0 0) j (getD (take b (drop a p)) j 0))
+    → take a out ++ (ys ++ drop b (drop a out)) ≡ written (sealed w n p) a (a + 9) out
+eq-written w n p out block ys a b half e ea eb eh ek h ey =
+    let fits : 9 * e + 9 ≤ length p = omega arith in
+    let there : ys ≡ take 9 (drop a (sealed w n p)) =
+    rw (eb, ek, eh, ea) at ey ∙ sym (sealed-eq w n p e fits) ∙ rw ea in
+    rw eb (written-part (sealed w n p) a 9 out ys there)

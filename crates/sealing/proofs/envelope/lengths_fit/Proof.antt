@@ -1,0 +1,13 @@
+-- `sealing::envelope::lengths_fit` meets its contract.
+-- Assumes nothing.
+use Rattle.octets.specs.Choice.{both}
+use Rattle.sealing.specs.Seal.{lengthsFit}
+use Rattle.sealing.proofs.envelope.lengths_fit.Statement.{statement}
+use Rattle.sealing.proofs.envelope.lengths_fit.Tie as tie
+
+returns : tie.Need-returns
+unfolding lengthsFit both
+returns c = cc
+
+pub lengths-fit-spec : {M : Type 1} → statement M
+lengths-fit-spec = tie.close (tie.spec returns)

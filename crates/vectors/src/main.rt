@@ -8,10 +8,16 @@ ghost use Prim.Native.Nat.{_<_};
 fn digit(c: u8) -> u8
     ensures { λ r. ⌜ r < 16 ⌝ }
 {
-    if b'0' <= c && c <= b'9' {
+    if c < b'0' {
+        return 0;
+    }
+    if c <= b'9' {
         return c - b'0';
     }
-    if b'a' <= c && c <= b'f' {
+    if c < b'a' {
+        return 0;
+    }
+    if c <= b'f' {
         return c - b'a' + 10;
     }
     0
@@ -39,16 +45,22 @@ fn print(b: [u8; 16]) {
     io::write_all(STDOUT_FILENO, b"\n");
 }
 
-fn print_round_keys(keys: aes128::RoundKeys) {
+fn round_key(keys: aes128::RoundKeys, n: usize) -> [u8; 16]
+    requires { ⌜ n < 11 ⌝ }
+{
     let w = keys.octets;
+    let mut k = [0u8; 16];
+    for i in 0..16usize {
+        k[i] = w[16 * n + i];
+    }
+    k
+}
+
+fn print_round_keys(keys: aes128::RoundKeys) {
     for n in 0..11usize {
         io::write_all(STDOUT_FILENO, b"FIPS 197, A.1, round key ");
         io::print_decimal(STDOUT_FILENO, n as u64);
-        let mut k = [0u8; 16];
-        for i in 0..16usize {
-            k[i] = w[16 * n + i];
-        }
-        print(k);
+        print(round_key(keys, n));
     }
 }
 

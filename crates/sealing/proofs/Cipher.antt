@@ -8,7 +8,8 @@ use lib.ListN.{getD}
 use Rattle.gf256.specs.Field.{_⊕_, _•_, xTimes}
 use Rattle.gf256.specs.Substitution.{sbox}
 use Rattle.gf256.proofs.Field.{times-two, times-three}
-use Rattle.sealing.specs.Cipher.{shiftRows, mixColumn, roundKey, round, roundColumn, rounds}
+use Rattle.sealing.specs.Cipher.{shiftRows, mixColumn, roundKey, round, rounds}
+use Rattle.sealing.specs.Steps.{roundColumn}
 use Rattle.sealing.specs.Words.{word, xorWords}
 use Rattle.octets.proofs.Bits.{xor-assoc}
 

@@ -10,7 +10,8 @@ use Rattle.octets.specs.Choice.{pick}
 use Rattle.octets.specs.Lists.{tabulate, replaced}
 use Rattle.octets.proofs.Lists.{tabulate-self}
 use Rattle.gf256.specs.Table.{powerOfX}
-use Rattle.sealing.specs.KeyExpansion.{constantWord, rcon, temp, nextWord, expanded, nextKey}
+use Rattle.sealing.specs.KeyExpansion.{constantWord, rcon, nextWord, expanded}
+use Rattle.sealing.specs.Steps.{nextKey}
 use Rattle.sealing.specs.Words.{word, xorWords, rotWord, subWord}
 use Rattle.octets.proofs.Lists.{replaced-next}
 
@@ -120,13 +121,17 @@ module _ (key z w k u : List ℕ) (n x : ℕ) (h : length key ≡ 16) (ek : k �
   before-length : length (expanded key (4 * n)) ≡ 16 * (n + 1)
   before-length = omega (arith, expanded-length key (4 * n) h)
 
-  pub turn-key : u ≡ drop (16 * (n + 1)) (expanded key (4 * (n + 1)))
+  turn-key : u ≡ drop (16 * (n + 1)) (expanded key (4 * (n + 1)))
   turn-key = sym (ap (drop (16 * (n + 1))) made-key ∙ drop-at (expanded key (4 * n)) u (16 * (n + 1)) before-length)
 
-  pub turn-schedule : replaced w (16 * (n + 1)) u ≡ expanded key (4 * (n + 1)) ++ drop (16 * (n + 1 + 1)) z
+  turn-schedule : replaced w (16 * (n + 1)) u ≡ expanded key (4 * (n + 1)) ++ drop (16 * (n + 1 + 1)) z
   turn-schedule =
       let u-length : length u ≡ 16 = ap length eu ∙ next-length k x in
       let end : 16 * (n + 1) + length u ≡ 16 * (n + 1 + 1) = omega arith in
       ap (λ (l : List ℕ). replaced l (16 * (n + 1)) u) ew
       ∙ replaced-next (expanded key (4 * n)) z u (16 * (n + 1)) before-length
       ∙ ap₂ (λ (l : List ℕ) (i : ℕ). l ++ drop i z) (sym made-key) end
+
+  pub turned : (u ≡ drop (16 * (n + 1)) (expanded key (4 * (n + 1))))
+      × (replaced w (16 * (n + 1)) u ≡ expanded key (4 * (n + 1)) ++ drop (16 * (n + 1 + 1)) z)
+  turned = (turn-key, turn-schedule)

@@ -35,11 +35,3 @@ expanded key (suc n) = expanded key n ++ nextWord (expanded key n) (Nk + n)
 -- the 44 words, four for each round key
 unfoldable pub keyExpansion : List ℕ → List ℕ
 keyExpansion key = expanded key 40
-
--- the same, four words at a time: word j of the round key after k, with x the power of x in its round constant
-abbrev pub keyWord : List ℕ → ℕ → ℕ → List ℕ
-keyWord k x zero = xorWords (word k 0) (xorWords (subWord (rotWord (word k 3))) (constantWord x))
-keyWord k x (suc j) = xorWords (word k (suc j)) (keyWord k x j)
-
-unfoldable pub nextKey : List ℕ → ℕ → List ℕ
-nextKey k x = keyWord k x 0 ++ (keyWord k x 1 ++ (keyWord k x 2 ++ keyWord k x 3))

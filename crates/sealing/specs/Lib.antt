@@ -3,4 +3,5 @@ pub mod CounterBlock
 pub mod KeyExpansion
 pub mod Payload
 pub mod Seal
+pub mod Steps
 pub mod Words

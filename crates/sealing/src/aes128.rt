@@ -9,8 +9,9 @@ ghost use Rattle.octets.specs.Lists.{tabulate, replaced};
 ghost use Rattle.gf256.specs.Field.{xTimes};
 ghost use Rattle.gf256.specs.Substitution.{sbox};
 ghost use Rattle.gf256.specs.Table.{sboxTable, doublesTable};
-ghost use Rattle.sealing.specs.Cipher.{subBytes, shiftRows, addRoundKey, round, roundColumn, lastRound, cipher};
-ghost use Rattle.sealing.specs.KeyExpansion.{constantWord, nextKey, keyExpansion};
+ghost use Rattle.sealing.specs.Cipher.{subBytes, shiftRows, addRoundKey, round, lastRound, cipher};
+ghost use Rattle.sealing.specs.KeyExpansion.{constantWord, keyExpansion};
+ghost use Rattle.sealing.specs.Steps.{roundColumn, nextKey};
 ghost use Rattle.sealing.specs.Words.{word, xorWords, rotWord, subWord};
 
 // The eleven round keys, one after the other.
@@ -32,6 +33,7 @@ fn double(table: &[u8; 256], x: u8) -> u8
     table[x as usize]
 }
 
+// Word i of 16 octets.
 fn word_of(s: [u8; 16], i: usize) -> [u8; 4]
     requires { ⌜ i < 4 ⌝ }
     ensures { λ r. ⌜ r ≡ word s i ⌝ }
@@ -40,6 +42,7 @@ fn word_of(s: [u8; 16], i: usize) -> [u8; 4]
     [s[k + 0], s[k + 1], s[k + 2], s[k + 3]]
 }
 
+// The 16 octets of four words.
 fn joined(a: [u8; 4], b: [u8; 4], c: [u8; 4], d: [u8; 4]) -> [u8; 16]
     ensures { λ r. ⌜ r ≡ word a 0 ++ (word b 0 ++ (word c 0 ++ word d 0)) ⌝ }
 {
@@ -174,6 +177,7 @@ fn last_round(subs: &[u8; 256], k: [u8; 16], s: [u8; 16]) -> [u8; 16]
     add_round_key(k, shift_rows(sub_bytes(subs, s)))
 }
 
+// Round key n.
 fn round_key(w: &[u8; 176], n: usize) -> [u8; 16]
     requires { ⌜ n < 11 ⌝ }
     ensures { λ r. ⌜ r ≡ tabulate 0 16 (λ i. getD (now (w .entry)) (16 * n + i) 0) ⌝ }
@@ -257,6 +261,7 @@ fn next_key(subs: &[u8; 256], k: [u8; 16], x: u8) -> [u8; 16]
     joined(a, b, c, d)
 }
 
+// Stores a round key from the octet `at` on.
 fn put(w: &mut [u8; 176], at: usize, k: [u8; 16])
     requires { ⌜ (at < 161) × (length (now w) ≡ 176) ⌝ }
     ensures { λ r. ⌜ now (w .exit) ≡ replaced (now (w .entry)) at k ⌝ }
@@ -266,6 +271,7 @@ fn put(w: &mut [u8; 176], at: usize, k: [u8; 16])
     }
 }
 
+// The key expansion, with the table lent.
 pub(crate) fn expand_with(subs: &[u8; 256], key: [u8; 16]) -> RoundKeys
     requires { ⌜ now subs ≡ sboxTable ⌝ }
     ensures { λ r. ⌜ r .octets ≡ keyExpansion key ⌝ }

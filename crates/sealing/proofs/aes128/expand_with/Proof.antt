@@ -1,15 +1,15 @@
 -- `aes128::expand_with` meets its contract. The loop keeps the array at the round keys made so far, and k at the last of them.
 -- Assumes nothing.
-use mathlib.Core.Path.{_≡_, refl, ap, sym, _∙_}
+use mathlib.Core.Path.{_≡_, refl, ap, _∙_}
 use mathlib.Core.List.{List, _++_, append-nil}
-use Prim.Native.Nat.{ℕ, _≤_, _<_, _+_, _*_, _-_}
+use Prim.Native.Nat.{ℕ, _≤_, _+_, _*_, _-_}
 use native.Mathlib.Nat.{zero-add}
 use native.Mathlib.Omega.{arith}
 use lib.ListN.{length, drop, replicate, getD}
 use Rattle.octets.proofs.Lists.{tabulate-at}
 use Rattle.gf256.specs.Table.{powerOfX, roundConstants}
 use Rattle.sealing.specs.KeyExpansion.{expanded, keyExpansion}
-use Rattle.sealing.proofs.KeyExpansion.{schedule-length, turn-key, turn-schedule}
+use Rattle.sealing.proofs.KeyExpansion.{schedule-length, turned}
 use borrow.Author.Needs.{needs}
 use Rattle.sealing.proofs.aes128.expand_with.Statement.{statement}
 use Rattle.sealing.proofs.aes128.expand_with.Tie as tie
@@ -55,7 +55,8 @@ put-requires-2 : tie.Need-put-requires-2 Inv-loop μ-loop
 put-requires-2 c κs =
     let at = c .before .before .before in
     let l = at .loop in
-    (search needs, schedule-length (at .before .before .before .before .args .key) (replicate 176 0) (l .w) (l .n) (l .inv .1) (omega arith) (l .inv .3))
+    let key = at .before .before .before .before .args .key in
+    (search needs, schedule-length key (replicate 176 0) (l .w) (l .n) (l .inv .1) (omega arith) (l .inv .3))
 
 add-n : tie.Need-add-n Inv-loop μ-loop
 add-n c = search needs
@@ -69,18 +70,14 @@ loop-again c =
     let at = c .before .before .before .before in
     let l = at .loop in
     let start = at .before .before .before in
+    let made = c .before .before .next-key in
     let x = getD (start .round-constants .result) (l .n) 0 in
     let power : x ≡ powerOfX (l .n) =
     ap (λ (t : List ℕ). getD t (l .n) 0) (start .round-constants .ensures)
     ∙ tabulate-at 0 10 powerOfX (l .n) 0 (search needs)
     ∙ rw zero-add in
-    let key = start .before .args .key in (
-      search needs,
-      l .inv .1,
-      turn-key key (replicate 176 0) (l .w) (l .k) (c .before .before .next-key .result) (l .n) x (l .inv .1) (l .inv .2) (l .inv .3) (c .before .before .next-key .ensures) power,
-      c .put2 .ensures
-          ∙ turn-schedule key (replicate 176 0) (l .w) (l .k) (c .before .before .next-key .result) (l .n) x (l .inv .1) (l .inv .2) (l .inv .3) (c .before .before .next-key .ensures) power,
-    )
+    let turn = turned (start .before .args .key) (replicate 176 0) (l .w) (l .k) (made .result) (l .n) x (l .inv .1) (l .inv .2) (l .inv .3) (made .ensures) power in
+    (search needs, l .inv .1, turn .0, c .put2 .ensures ∙ turn .1)
 
 returns : tie.Need-returns Inv-loop μ-loop
 unfolding keyExpansion

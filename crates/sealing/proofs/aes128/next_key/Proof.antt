@@ -53,16 +53,23 @@ joined-requires c κs = search needs
 
 returns : tie.Need-returns
 returns c =
+    let fourth = c .before in
+    let third = fourth .before .before in
+    let second = third .before .before in
+    let first = second .before .before in
+    let added = first .before .before in
     c .joined .ensures
     ∙ key-words _ _
-    (c .before .before .before .before .before .before .before .before .before .xor-words .ensures
+    (added .xor-words .ensures
     ∙ ap₂ xorWords
-    (c .before .before .before .before .before .before .before .before .before .before .before .sub-word .ensures ∙ ap subWord (c .before .before .before .before .before .before .before .before .before .before .before .before .rot-word .ensures ∙ ap rotWord (c .before .before .before .before .before .before .before .before .before .before .before .before .before .word-of .ensures)))
-    (c .before .before .before .before .before .before .before .before .before .before .constant-word .ensures))
-    (c .before .before .before .before .before .before .before .xor-words2 .ensures ∙ ap (λ (v : List ℕ). xorWords v (c .before .before .before .before .before .before .before .before .before .xor-words .result)) (c .before .before .before .before .before .before .before .before .word-of2 .ensures))
-    (c .before .before .before .before .before .xor-words3 .ensures ∙ ap (λ (v : List ℕ). xorWords v (c .before .before .before .before .before .before .before .xor-words2 .result)) (c .before .before .before .before .before .before .word-of3 .ensures))
-    (c .before .before .before .xor-words4 .ensures ∙ ap (λ (v : List ℕ). xorWords v (c .before .before .before .before .before .xor-words3 .result)) (c .before .before .before .before .word-of4 .ensures))
-    (c .before .xor-words5 .ensures ∙ ap (λ (v : List ℕ). xorWords v (c .before .before .before .xor-words4 .result)) (c .before .before .word-of5 .ensures))
+    (added .before .before .sub-word .ensures
+    ∙ ap subWord
+    (added .before .before .before .rot-word .ensures ∙ ap rotWord (added .before .before .before .before .word-of .ensures)))
+    (added .before .constant-word .ensures))
+    (first .xor-words2 .ensures ∙ ap (λ (v : List ℕ). xorWords v (added .xor-words .result)) (first .before .word-of2 .ensures))
+    (second .xor-words3 .ensures ∙ ap (λ (v : List ℕ). xorWords v (first .xor-words2 .result)) (second .before .word-of3 .ensures))
+    (third .xor-words4 .ensures ∙ ap (λ (v : List ℕ). xorWords v (second .xor-words3 .result)) (third .before .word-of4 .ensures))
+    (fourth .xor-words5 .ensures ∙ ap (λ (v : List ℕ). xorWords v (third .xor-words4 .result)) (fourth .before .word-of5 .ensures))
 
 pub next-key-spec : {M : Type 1} → statement M
 next-key-spec =

@@ -55,7 +55,16 @@ array-read-t51 : tie.Need-array-read-t51
 array-read-t51 c = search needs
 
 returns : tie.Need-returns
-returns c = column-octets _ _ (c .before .before .before .before .before .before .before .substitute .ensures) (c .before .before .before .before .before .before .substitute2 .ensures) (c .before .before .before .before .before .substitute3 .ensures) (c .before .before .before .before .substitute4 .ensures) (c .before .before .before .double .ensures) (c .before .before .double2 .ensures) (c .before .double3 .ensures) (c .double4 .ensures)
+returns c =
+    let doubled = c .before .before .before in
+    let substituted = doubled .before in
+    column-octets _ _ (substituted .before .before .before .substitute .ensures) (substituted .before .before .substitute2 .ensures)
+    (substituted .before .substitute3 .ensures)
+    (substituted .substitute4 .ensures)
+    (doubled .double .ensures)
+    (c .before .before .double2 .ensures)
+    (c .before .double3 .ensures)
+    (c .double4 .ensures)
 
 pub round-column-spec : {M : Type 1} → statement M
 round-column-spec =

@@ -1,7 +1,7 @@
 -- `aes128::round_step` meets its contract: each column of the result is made from a column of the shifted state.
 -- Assumes nothing.
 use mathlib.Core.Path.{_≡_, ap₂, _∙_}
-use Rattle.sealing.specs.Cipher.{roundColumn}
+use Rattle.sealing.specs.Steps.{roundColumn}
 use Rattle.sealing.proofs.Cipher.{round-columns}
 use borrow.Author.Needs.{needs}
 use Rattle.sealing.proofs.aes128.round_step.Statement.{statement}
@@ -51,12 +51,16 @@ joined-requires c κs = search needs
 
 returns : tie.Need-returns
 returns c =
+    let fourth = c .before in
+    let third = fourth .before .before .before in
+    let second = third .before .before .before in
+    let first = second .before .before .before in
     c .joined .ensures
-    ∙ round-columns _ _ (c .before .before .before .before .before .before .before .before .before .before .before .before .before .shift-rows .ensures)
-    (c .before .before .before .before .before .before .before .before .before .before .round-column .ensures ∙ ap₂ roundColumn (c .before .before .before .before .before .before .before .before .before .before .before .before .word-of .ensures) (c .before .before .before .before .before .before .before .before .before .before .before .word-of2 .ensures))
-    (c .before .before .before .before .before .before .before .round-column2 .ensures ∙ ap₂ roundColumn (c .before .before .before .before .before .before .before .before .before .word-of3 .ensures) (c .before .before .before .before .before .before .before .before .word-of4 .ensures))
-    (c .before .before .before .before .round-column3 .ensures ∙ ap₂ roundColumn (c .before .before .before .before .before .before .word-of5 .ensures) (c .before .before .before .before .before .word-of6 .ensures))
-    (c .before .round-column4 .ensures ∙ ap₂ roundColumn (c .before .before .before .word-of7 .ensures) (c .before .before .word-of8 .ensures))
+    ∙ round-columns _ _ (first .before .before .before .shift-rows .ensures)
+    (first .round-column .ensures ∙ ap₂ roundColumn (first .before .before .word-of .ensures) (first .before .word-of2 .ensures))
+    (second .round-column2 .ensures ∙ ap₂ roundColumn (second .before .before .word-of3 .ensures) (second .before .word-of4 .ensures))
+    (third .round-column3 .ensures ∙ ap₂ roundColumn (third .before .before .word-of5 .ensures) (third .before .word-of6 .ensures))
+    (fourth .round-column4 .ensures ∙ ap₂ roundColumn (fourth .before .before .word-of7 .ensures) (fourth .before .word-of8 .ensures))
 
 pub round-step-spec : {M : Type 1} → statement M
 round-step-spec =

@@ -32,7 +32,22 @@ joined-requires : tie.Need-joined-requires
 joined-requires c κs = search needs
 
 returns : tie.Need-returns
-returns c = rw (c .joined .ensures, c .before .sub-word4 .ensures, c .before .before .word-of4 .ensures, c .before .before .before .sub-word3 .ensures, c .before .before .before .before .word-of3 .ensures, c .before .before .before .before .before .sub-word2 .ensures, c .before .before .before .before .before .before .word-of2 .ensures, c .before .before .before .before .before .before .before .sub-word .ensures, c .before .before .before .before .before .before .before .before .word-of .ensures)
+returns c =
+    let fourth = c .before in
+    let third = fourth .before .before in
+    let second = third .before .before in
+    let first = second .before .before in
+    rw (
+      c .joined .ensures,
+      fourth .sub-word4 .ensures,
+      fourth .before .word-of4 .ensures,
+      third .sub-word3 .ensures,
+      third .before .word-of3 .ensures,
+      second .sub-word2 .ensures,
+      second .before .word-of2 .ensures,
+      first .sub-word .ensures,
+      first .before .word-of .ensures,
+    )
 
 pub sub-bytes-spec : {M : Type 1} → statement M
 sub-bytes-spec =

@@ -1,0 +1,20 @@
+-- Steps of the code that FIPS 197 does not name: a round column by column, and the key schedule 16 octets at a time. That they make
+-- up its definitions is proved. Assumes nothing.
+use mathlib.Core.List.{List, _++_}
+use Prim.Native.Nat.{ℕ, zero, suc}
+use Rattle.sealing.specs.Cipher.{mixedColumn}
+use Rattle.sealing.specs.KeyExpansion.{constantWord}
+use Rattle.sealing.specs.Words.{word, xorWords, rotWord, subWord}
+
+-- one column after a round, by the word k of its key and the column s after ShiftRows
+unfoldable pub roundColumn : List ℕ → List ℕ → List ℕ
+roundColumn k s = xorWords (mixedColumn (subWord s) 0) k
+
+-- word j of the round key after the round key k, with x the power of x in its round constant
+abbrev pub keyWord : List ℕ → ℕ → ℕ → List ℕ
+keyWord k x zero = xorWords (word k 0) (xorWords (subWord (rotWord (word k 3))) (constantWord x))
+keyWord k x (suc j) = xorWords (word k (suc j)) (keyWord k x j)
+
+-- the round key after k: four words at a time of the key schedule
+unfoldable pub nextKey : List ℕ → ℕ → List ℕ
+nextKey k x = keyWord k x 0 ++ (keyWord k x 1 ++ (keyWord k x 2 ++ keyWord k x 3))

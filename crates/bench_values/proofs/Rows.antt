@@ -1,0 +1,47 @@
+-- The bench values hold: each row computes. Assumes nothing.
+use mathlib.Core.Path.{_≡_, refl}
+use Prim.Native.Nat.{ℕ, zero, suc, _<_}
+use native.Mathlib.Omega.{arith}
+use lib.Bits.{bitXor}
+use lib.Count.{ones, onesIn}
+use Rattle.octets.specs.Bits.{bitOf}
+use Rattle.octets.specs.Choice.{both, pick}
+use Rattle.sealing.specs.CounterBlock.{counterBlock}
+use Rattle.sealing.specs.Payload.{masked, countOf}
+use Rattle.clock.specs.Stamping.{capturedAt, raiseOf, movedBy, raisedTo}
+use Rattle.ends.specs.Keys.{aged}
+use Rattle.ends.specs.Occupancy.{onZero, freeFrom, occupied, taken}
+use Rattle.ends.specs.Timers.{timerAdvanced}
+use Rattle.bench_values.specs.Rows.{Rows}
+
+xored : (j k x : ℕ) → 0 < j → j < 7 → masked 0x81 j k x ≡ bitXor x k
+unfolding masked bitOf pick
+xored zero k x h l = absurd (omega arith)
+xored (suc zero) k x h l = refl
+xored (suc (suc zero)) k x h l = refl
+xored (suc (suc (suc zero))) k x h l = refl
+xored (suc (suc (suc (suc zero)))) k x h l = refl
+xored (suc (suc (suc (suc (suc zero))))) k x h l = refl
+xored (suc (suc (suc (suc (suc (suc zero)))))) k x h l = refl
+xored (suc (suc (suc (suc (suc (suc (suc j))))))) k x h l = absurd (omega arith)
+
+pub rows-hold : Rows
+unfolding counterBlock capturedAt raiseOf movedBy raisedTo timerAdvanced pick onZero freeFrom occupied taken both aged masked bitOf countOf ones onesIn
+rows-hold =
+    record {
+      p1 = refl;
+      p2 = refl;
+      p3 = refl;
+      p4 = refl;
+      p5 = refl;
+      p6 = refl;
+      p7 = refl;
+      p8 = refl;
+      p9 = refl;
+      p10 = refl;
+      p11 = refl;
+      p12-first = λ k x. refl;
+      p12-data = xored;
+      p12-last = λ k x. refl;
+      p12-count = refl;
+    }

@@ -1,0 +1,111 @@
+-- Laws of LLIDs. Assumes nothing.
+use mathlib.Core.Path.{_≡_, refl, sym, _∙_, ap}
+use mathlib.Core.Bool.{Bool, true, false, not}
+use mathlib.Core.List.{List, [], _∷_, _++_}
+use mathlib.Core.Logic.{⊎-elim}
+use Prim.Native.Nat.{ℕ, zero, suc, _+_, _≤_, _<_}
+use native.Mathlib.Nat.{zero-add}
+use native.Mathlib.Omega.{arith}
+use lib.Dec.{leb, ltb, eqb}
+use lib.ListN.{getD}
+use borrow.Author.Tests.{eqb-true, eq-eqb, leb-true, lt-ltb, not-true}
+use Rattle.octets.specs.Choice.{both, either, pick}
+use Rattle.octets.specs.Lists.{tabulate}
+use Rattle.octets.proofs.Choice.{both-left, both-right, both-true, either-false, pick-true}
+use Rattle.octets.proofs.Lists.{tabulate-at, tabulate-ext}
+use Rattle.ends.specs.Limits.{maxLlids}
+use Rattle.ends.specs.Identities.{among, meets, distinct, noIdentity, llidsOf, has, kept, validMac, validIdentity}
+use Rattle.ends.specs.declared.Identity.{Identity}
+use Rattle.ends.proofs.Tests.{true-false, either-left, either-right, either-none, either-cases, either-assoc, not-of-false}
+
+---- lists of numbers
+
+pub among-append : (x : ℕ) (xs ys : List ℕ) → among x (xs ++ ys) ≡ either (among x xs) (among x ys)
+unfolding among either
+among-append x [] ys = refl
+among-append x (y ∷ xs) ys = ap (either (eqb y x)) (among-append x xs ys) ∙ sym (either-assoc (eqb y x) (among x xs) (among x ys))
+
+pub among-head : (x : ℕ) (xs : List ℕ) → among x (x ∷ xs) ≡ true
+unfolding among
+among-head x xs = either-left _ (eq-eqb x x refl)
+
+-- lists that do not meet have no element in common
+pub meets-apart : (xs ys : List ℕ) (x : ℕ) → meets xs ys ≡ false → among x xs ≡ true → among x ys ≡ false
+unfolding meets among
+meets-apart [] ys x m a = true-false (sym a)
+meets-apart (y ∷ xs) ys x m a =
+    ⊎-elim (λ e. ap (λ (z : ℕ). among z ys) (sym (eqb-true y x e)) ∙ either-false _ _ m .0)
+    (λ e. meets-apart xs ys x (either-false _ _ m .1) e)
+    (either-cases (eqb y x) (among x xs) a)
+
+pub apart-meets : (xs ys : List ℕ) → ((x : ℕ) → among x xs ≡ true → among x ys ≡ false) → meets xs ys ≡ false
+unfolding meets among
+apart-meets [] ys h = refl
+apart-meets (x ∷ xs) ys h =
+    either-none (h x (among-head x xs)) (apart-meets xs ys (λ z a. h z (either-right _ a)))
+
+-- what holds of one of two tests that are not both true
+pub not-both : (a b : Bool) → (a ≡ true → b ≡ false) → b ≡ true → a ≡ false
+not-both true b h e = true-false (sym e ∙ h refl)
+not-both false b h e = refl
+
+pub distinct-append : (xs ys : List ℕ) → distinct xs ≡ true → distinct ys ≡ true → ((x : ℕ) → among x xs ≡ true → among x ys ≡ false)
+    → distinct (xs ++ ys) ≡ true
+unfolding distinct among
+distinct-append [] ys d e h = e
+distinct-append (x ∷ xs) ys d e h =
+    let new : among x (xs ++ ys) ≡ false =
+    among-append x xs ys ∙ either-none (not-true _ (both-left _ _ d)) (h x (among-head x xs)) in
+    both-true (not-of-false new) (distinct-append xs ys (both-right _ _ d) e (λ z a. h z (either-right _ a)))
+
+pub distinct-left : (xs ys : List ℕ) → distinct (xs ++ ys) ≡ true → distinct xs ≡ true
+unfolding distinct
+distinct-left [] ys d = refl
+distinct-left (x ∷ xs) ys d =
+    let new = either-false _ _ (sym (among-append x xs ys) ∙ not-true _ (both-left _ _ d)) in
+    both-true (not-of-false (new .0)) (distinct-left xs ys (both-right _ _ d))
+
+pub distinct-right : (xs ys : List ℕ) → distinct (xs ++ ys) ≡ true → distinct ys ≡ true
+unfolding distinct
+distinct-right [] ys d = d
+distinct-right (x ∷ xs) ys d = distinct-right xs ys (both-right _ _ d)
+
+-- in a list with no number twice, what is in the first part is not in the second
+pub distinct-apart : (xs ys : List ℕ) (x : ℕ) → distinct (xs ++ ys) ≡ true → among x xs ≡ true → among x ys ≡ false
+unfolding distinct among
+distinct-apart [] ys x d a = true-false (sym a)
+distinct-apart (y ∷ xs) ys x d a =
+    let new = either-false _ _ (sym (among-append y xs ys) ∙ not-true _ (both-left _ _ d)) in
+    ⊎-elim (λ e. ap (λ (z : ℕ). among z ys) (sym (eqb-true y x e)) ∙ new .1)
+    (λ e. distinct-apart xs ys x (both-right _ _ d) e)
+    (either-cases (eqb y x) (among x xs) a)
+
+---- identities
+
+pub identity-valid : (i : Identity) → validIdentity i ≡ true → (1 ≤ i .count) × (i .count ≤ maxLlids)
+unfolding validIdentity
+identity-valid i e = let c = both-right _ _ e in (leb-true _ _ (both-left _ _ c), leb-true _ _ (both-right _ _ c))
+
+-- the LLIDs are kept
+pub kept-llids : (i : Identity) → i .count ≤ maxLlids → llidsOf (kept i) ≡ llidsOf i
+unfolding llidsOf kept
+kept-llids i h =
+    tabulate-ext 0 (i .count) (λ j. getD (tabulate 0 maxLlids (λ j. pick (ltb j (i .count)) (getD (i .llids) j 0) 0)) j 0) (λ j. getD (i .llids) j 0)
+    (λ k a b.
+    let below : k < i .count = omega arith in
+    tabulate-at 0 maxLlids (λ j. pick (ltb j (i .count)) (getD (i .llids) j 0) 0) k 0 (omega arith)
+    ∙ ap (λ (j : ℕ). pick (ltb j (i .count)) (getD (i .llids) j 0) 0) (zero-add k)
+    ∙ pick-true (getD (i .llids) k 0) 0 (lt-ltb k (i .count) below))
+
+pub kept-has : (i : Identity) (llid : ℕ) → i .count ≤ maxLlids → has (kept i) llid ≡ has i llid
+unfolding has
+kept-has i llid h = ap (among llid) (kept-llids i h)
+
+pub kept-valid : (i : Identity) → validIdentity (kept i) ≡ validIdentity i
+unfolding validIdentity kept
+kept-valid i = refl
+
+-- an identity of zeros has no LLID, and is not valid
+pub none-invalid : validIdentity noIdentity ≡ false
+unfolding validIdentity validMac both
+none-invalid = refl

@@ -1,0 +1,116 @@
+-- Laws of keys by number, and of first sends. Assumes nothing.
+use mathlib.Core.Path.{_≡_, refl, ap, sym, _∙_}
+use mathlib.Core.Bool.{Bool, true, false}
+use mathlib.Core.List.{List}
+use mathlib.Core.Logic.{⊎-elim}
+use Prim.Native.Nat.{ℕ, _+_, _-_, _%_, _≤_, _<_, _^_}
+use native.Mathlib.Omega.{arith}
+use lib.Dec.{leb, eqb}
+use borrow.Author.Tests.{leb-true, leb-false, eqb-true, eqb-false, le-leb, lt-leb, eq-eqb, ne-eqb}
+use Rattle.octets.specs.Choice.{both, either, pick}
+use Rattle.octets.proofs.Choice.{both-left, both-right, both-true, pick-true, pick-false}
+use Rattle.clock.specs.Ticks.{keyLife}
+use Rattle.ends.specs.Replies.{isUp}
+use Rattle.ends.specs.Keys.{noKey, keyIn, withKey, onlyKey, notNoted, notedAt, firstSend, aged, validFirst}
+use Rattle.ends.specs.declared.Slots.{Slots}
+use Rattle.ends.specs.declared.FirstSend.{FirstSend}
+use Rattle.ends.proofs.Tests.{either-left, either-right, either-cases, pick-holds}
+
+---- two slots
+
+-- numbers of one index name one slot
+pub key-index : (s : Slots) (m n : ℕ) → m % 2 ≡ n % 2 → keyIn s m ≡ keyIn s n
+unfolding keyIn
+key-index s m n e = rw e
+
+pub key-stored : (s : Slots) (n : ℕ) (key : List ℕ) → keyIn (withKey s n key) n ≡ key
+unfolding keyIn withKey pick
+key-stored s n key = by-index (eqb (n % 2) 0) where
+  by-index : (t : Bool) → pick t (pick t key (s .even)) (pick t (s .odd) key) ≡ key
+  by-index true = refl
+  by-index false = refl
+
+-- a key stored under one index leaves that of the other
+pub key-beside : (s : Slots) (m n : ℕ) (key : List ℕ) → (m % 2 ≡ n % 2 → ⊥) → keyIn (withKey s n key) m ≡ keyIn s m
+unfolding keyIn withKey pick
+key-beside s m n key h = by-index (eqb (m % 2) 0) (eqb (n % 2) 0) refl refl where
+  by-index : (t u : Bool) → eqb (m % 2) 0 ≡ t → eqb (n % 2) 0 ≡ u
+      → pick t (pick u key (s .even)) (pick u (s .odd) key) ≡ pick t (s .even) (s .odd)
+  by-index true true e f = absurd (h (eqb-true _ _ e ∙ sym (eqb-true _ _ f)))
+  by-index true false e f = refl
+  by-index false true e f = refl
+  by-index false false e f = absurd (h (omega (arith, eqb-false (m % 2) 0 e, eqb-false (n % 2) 0 f)))
+
+-- a key stored where it is
+pub key-again : (s : Slots) (n : ℕ) → withKey s n (keyIn s n) ≡ s
+unfolding keyIn withKey pick
+key-again s n = by-index (eqb (n % 2) 0) where
+  by-index : (t : Bool) → record { even = pick t (pick t (s .even) (s .odd)) (s .even); odd = pick t (s .odd) (pick t (s .even) (s .odd)) } ≡ s
+  by-index true = refl
+  by-index false = refl
+
+-- the key that is not forgotten stays
+pub only-kept : (s : Slots) (n : ℕ) → keyIn (onlyKey s n) n ≡ keyIn s n
+unfolding onlyKey
+only-kept s n = key-beside s n (n + 1) noKey (λ e. omega arith)
+
+-- nothing stands in the other place
+pub only-forgotten : (s : Slots) (n : ℕ) → keyIn (onlyKey s n) (n + 1) ≡ noKey
+unfolding onlyKey
+only-forgotten s n = key-stored s (n + 1) noKey
+
+---- first sends
+
+-- P10
+pub p10 : aged (notedAt 100) (100 + 2 ^ 48 - 1) ≡ false
+unfolding aged both
+p10 = refl
+
+-- P11
+pub p11 : aged (notedAt 100) (100 + 2 ^ 48) ≡ true
+unfolding aged both
+p11 = refl
+
+pub aged-true : (f : FirstSend) (tick : ℕ) → aged f tick ≡ true → (f .noted ≡ 1) × (f .tick + keyLife ≤ tick)
+unfolding aged
+aged-true f tick e = (eqb-true _ _ (both-left _ _ e), leb-true _ _ (both-right _ _ e))
+
+-- a key that is not too old and has had its first send is within its life
+pub aged-false : (f : FirstSend) (tick : ℕ) → f .noted ≡ 1 → aged f tick ≡ false → tick < f .tick + keyLife
+unfolding aged both
+aged-false f tick n e = leb-false (f .tick + keyLife) tick (rw n at e)
+
+-- a key that has had no send is not too old
+pub aged-none : (tick : ℕ) → aged notNoted tick ≡ false
+unfolding aged both
+aged-none tick = refl
+
+-- once noted, a first send stays
+pub first-stays : (f : FirstSend) (tick : ℕ) → f .noted ≡ 1 → firstSend f tick ≡ f
+unfolding firstSend
+first-stays f tick n = pick-true f (notedAt tick) (eq-eqb (f .noted) 1 n)
+
+pub first-noted : (f : FirstSend) (tick : ℕ) → (f .noted ≡ 1 → ⊥) → firstSend f tick ≡ notedAt tick
+unfolding firstSend
+first-noted f tick n = pick-false f (notedAt tick) (ne-eqb (f .noted) 1 n)
+
+pub first-none-valid : (tick : ℕ) → validFirst notNoted tick ≡ true
+unfolding validFirst both either
+first-none-valid tick = refl
+
+pub first-noted-valid : (tick : ℕ) → validFirst (notedAt tick) tick ≡ true
+unfolding validFirst
+first-noted-valid tick = both-true refl (either-right _ (le-leb tick tick (omega arith)))
+
+-- it stays valid at any later tick
+pub first-later-valid : (f : FirstSend) (s t : ℕ) → s ≤ t → validFirst f s ≡ true → validFirst f t ≡ true
+unfolding validFirst
+first-later-valid f s t h e =
+    both-true (both-left _ _ e)
+    (⊎-elim (λ n. either-left _ n) (λ l. either-right _ (le-leb (f .tick) t (omega (arith, leb-true (f .tick) s l))))
+    (either-cases _ _ (both-right _ _ e)))
+
+pub first-send-valid : (f : FirstSend) (tick : ℕ) → validFirst f tick ≡ true → validFirst (firstSend f tick) tick ≡ true
+unfolding firstSend
+first-send-valid f tick e =
+    pick-holds (λ (x : FirstSend). validFirst x tick ≡ true) (isUp (f .noted)) f (notedAt tick) (λ p. e) (λ p. first-noted-valid tick)

@@ -1,0 +1,108 @@
+-- Laws of channels. Assumes nothing.
+use mathlib.Core.Path.{_≡_, refl, sym, _∙_, ap}
+use mathlib.Core.Bool.{Bool, true, false}
+use Prim.Native.Nat.{ℕ, _+_, _%_, _≤_, _<_}
+use native.Mathlib.Omega.{arith}
+use lib.Dec.{leb, ltb, eqb}
+use borrow.Author.Tests.{leb-true, ltb-true, ltb-false, eqb-true, eqb-false, le-leb, lt-ltb, le-ltb}
+use Rattle.octets.specs.Choice.{both, pick}
+use Rattle.octets.proofs.Choice.{both-left, both-right, both-true, pick-true, pick-false}
+use Rattle.clock.specs.Ticks.{maxTick}
+use Rattle.ends.specs.Limits.{maxEqs, maxFree}
+use Rattle.ends.specs.Occupancy.{downstream, upstream, freeChannels, onZero, freeFrom, taken, occupied, validChannels}
+use Rattle.ends.specs.declared.Channels.{Channels}
+
+-- P8
+pub p8 : taken (occupied freeChannels 0 50 4) 0 54 ≡ true
+unfolding taken occupied freeFrom onZero pick
+p8 = refl
+
+-- P9
+pub p9 : taken (occupied freeChannels 0 50 4) 0 55 ≡ false
+unfolding taken occupied freeFrom onZero pick
+p9 = refl
+
+-- a header's own channel is free from the tick after its last EQ
+pub free-own : (c : Channels) (index tick eqs : ℕ) → freeFrom (occupied c index tick eqs) index ≡ tick + eqs + 1
+unfolding freeFrom occupied pick
+free-own c index tick eqs = by-channel (onZero index) where
+  by-channel : (t : Bool) → pick t (pick t (tick + eqs + 1) (c .zero)) (pick t (c .one) (tick + eqs + 1)) ≡ tick + eqs + 1
+  by-channel true = refl
+  by-channel false = refl
+
+-- the other channel stays as it was
+pub free-other : (c : Channels) (index other tick eqs : ℕ) → (onZero other ≡ onZero index → ⊥) → freeFrom (occupied c index tick eqs) other ≡ freeFrom c other
+unfolding freeFrom occupied pick
+free-other c index other tick eqs h = by-channel (onZero other) (onZero index) refl refl where
+  by-channel : (t u : Bool) → onZero other ≡ t → onZero index ≡ u
+      → pick t (pick u (tick + eqs + 1) (c .zero)) (pick u (c .one) (tick + eqs + 1)) ≡ pick t (c .zero) (c .one)
+  by-channel true true e f = absurd (h (e ∙ sym f))
+  by-channel true false e f = refl
+  by-channel false true e f = refl
+  by-channel false false e f = absurd (h (e ∙ sym f))
+
+-- a header at a tick keeps its channel for as many ticks more as it has EQs
+pub taken-until : (c : Channels) (index tick eqs later : ℕ) → later ≤ tick + eqs → taken (occupied c index tick eqs) index later ≡ true
+unfolding taken
+taken-until c index tick eqs later h = lt-ltb later _ (omega (arith, free-own c index tick eqs))
+
+-- and is free after
+pub free-after : (c : Channels) (index tick eqs later : ℕ) → tick + eqs + 1 ≤ later → taken (occupied c index tick eqs) index later ≡ false
+unfolding taken
+free-after c index tick eqs later h = le-ltb later _ (omega (arith, free-own c index tick eqs))
+
+pub taken-true : (c : Channels) (index tick : ℕ) → taken c index tick ≡ true → tick < freeFrom c index
+unfolding taken
+taken-true c index tick e = ltb-true tick (freeFrom c index) e
+
+pub taken-false : (c : Channels) (index tick : ℕ) → taken c index tick ≡ false → freeFrom c index ≤ tick
+unfolding taken
+taken-false c index tick e = ltb-false tick (freeFrom c index) e
+
+---- validity
+
+pub free-valid : validChannels freeChannels ≡ true
+unfolding validChannels both
+free-valid = refl
+
+-- a send of at most the most EQs, at a tick that an end counts to
+pub occupied-valid : (c : Channels) (index tick eqs : ℕ) → tick ≤ maxTick → eqs ≤ maxEqs → validChannels c ≡ true
+    → validChannels (occupied c index tick eqs) ≡ true
+unfolding validChannels occupied pick
+occupied-valid c index tick eqs h k e = by-channel (onZero index) where
+  new : leb (tick + eqs + 1) maxFree ≡ true
+  new = le-leb (tick + eqs + 1) maxFree (omega arith)
+
+  by-channel : (t : Bool) → both (leb (pick t (tick + eqs + 1) (c .zero)) maxFree) (leb (pick t (c .one) (tick + eqs + 1)) maxFree) ≡ true
+  by-channel true = both-true new (both-right _ _ e)
+  by-channel false = both-true (both-left _ _ e) new
+
+---- directions
+
+-- the channel indices of the two directions
+pub downstream-below : (index : ℕ) → downstream index ≡ true → index ≤ 1
+unfolding downstream
+downstream-below index e = leb-true index 1 e
+
+pub upstream-between : (index : ℕ) → upstream index ≡ true → (128 ≤ index) × (index ≤ 129)
+unfolding upstream
+upstream-between index e = (leb-true 128 index (both-left _ _ e), leb-true index 129 (both-right _ _ e))
+
+-- two indices of one direction on one channel are the same
+pub downstream-same : (i j : ℕ) → downstream i ≡ true → downstream j ≡ true → onZero i ≡ onZero j → i ≡ j
+unfolding onZero
+downstream-same i j d e h = by-zero (eqb (i % 128) 0) (eqb (j % 128) 0) refl refl where
+  by-zero : (t u : Bool) → eqb (i % 128) 0 ≡ t → eqb (j % 128) 0 ≡ u → i ≡ j
+  by-zero true true p q = omega (arith, downstream-below i d, downstream-below j e, eqb-true (i % 128) 0 p, eqb-true (j % 128) 0 q)
+  by-zero false false p q = omega (arith, downstream-below i d, downstream-below j e, eqb-false (i % 128) 0 p, eqb-false (j % 128) 0 q)
+  by-zero true false p q = let z : _≡_ {A = ℕ} 0 1 = cc in absurd (omega arith)
+  by-zero false true p q = let z : _≡_ {A = ℕ} 0 1 = cc in absurd (omega arith)
+
+pub upstream-same : (i j : ℕ) → upstream i ≡ true → upstream j ≡ true → onZero i ≡ onZero j → i ≡ j
+unfolding onZero
+upstream-same i j d e h = by-zero (eqb (i % 128) 0) (eqb (j % 128) 0) refl refl where
+  by-zero : (t u : Bool) → eqb (i % 128) 0 ≡ t → eqb (j % 128) 0 ≡ u → i ≡ j
+  by-zero true true p q = omega (arith, upstream-between i d, upstream-between j e, eqb-true (i % 128) 0 p, eqb-true (j % 128) 0 q)
+  by-zero false false p q = omega (arith, upstream-between i d, upstream-between j e, eqb-false (i % 128) 0 p, eqb-false (j % 128) 0 q)
+  by-zero true false p q = let z : _≡_ {A = ℕ} 0 1 = cc in absurd (omega arith)
+  by-zero false true p q = let z : _≡_ {A = ℕ} 0 1 = cc in absurd (omega arith)

@@ -1,0 +1,78 @@
+-- Laws of replies: what each verdict leaves, once for all calls. Assumes nothing.
+use mathlib.Core.Path.{_≡_, refl}
+use mathlib.Core.Bool.{Bool, true, false}
+use Prim.Native.Nat.{ℕ, _+_, _≤_}
+use native.Mathlib.Omega.{arith}
+use lib.Dec.{ltb}
+use borrow.Author.Tests.{ltb-false, le-ltb}
+use Rattle.refusal.specs.declared.Refusal.{Refusal}
+use Rattle.refusal.specs.declared.Refusal.the-variants.{AtEnd}
+use Rattle.refusal.specs.declared.Verdict.{Verdict}
+use Rattle.refusal.specs.declared.Verdict.the-variants.{Accepted, Refused}
+use Rattle.clock.specs.Ticks.{maxTick}
+use Rattle.ends.specs.Replies.{refuseIf, Reply, reply, advanceVerdict}
+
+---- the order of refusals
+
+pub refused-accepts : {P : Type 0} (r : Refusal) → Refused r ≡ Accepted → P
+refused-accepts r e = let z : _≡_ {A = ℕ} 0 1 = cc in absurd (omega arith)
+
+-- what is accepted has passed the first cause, and goes on
+pub refuse-accepted : (cause : Bool) (r : Refusal) (v : Verdict) → refuseIf cause r v ≡ Accepted → (cause ≡ false) × (v ≡ Accepted)
+unfolding refuseIf
+refuse-accepted true r v e = refused-accepts r e
+refuse-accepted false r v e = (refl, e)
+
+pub refuse-passed : (cause : Bool) (r : Refusal) (v : Verdict) → cause ≡ false → refuseIf cause r v ≡ v
+unfolding refuseIf
+refuse-passed cause r v e = rw e
+
+pub refuse-stopped : (cause : Bool) (r : Refusal) (v : Verdict) → cause ≡ true → refuseIf cause r v ≡ Refused r
+unfolding refuseIf
+refuse-stopped cause r v e = rw e
+
+---- what a verdict leaves
+
+pub reply-verdict : {E H : Type 0} (v : Verdict) (lent : E) (nothing : H) (next : E) (handed : H) → reply v lent nothing next handed .verdict ≡ v
+unfolding reply
+reply-verdict Accepted lent nothing next handed = refl
+reply-verdict (Refused r) lent nothing next handed = refl
+
+pub reply-accepted : {E H : Type 0} (v : Verdict) (lent : E) (nothing : H) (next : E) (handed : H) → v ≡ Accepted
+    → reply v lent nothing next handed ≡ record { verdict = Accepted; end = next; handed = handed }
+unfolding reply
+reply-accepted v lent nothing next handed e = rw e
+
+-- refused: the very end that was lent, and nothing
+pub reply-refused : {E H : Type 0} (v : Verdict) (lent : E) (nothing : H) (next : E) (handed : H) (r : Refusal) → v ≡ Refused r
+    → reply v lent nothing next handed ≡ record { verdict = Refused r; end = lent; handed = nothing }
+unfolding reply
+reply-refused v lent nothing next handed r e = rw e
+
+-- what holds of the lent end and, where the call accepts, of the next one holds of the end that is left
+pub reply-keeps : {E H : Type 0} (P : E → Type 0) (v : Verdict) (lent : E) (nothing : H) (next : E) (handed : H) → P lent → (v ≡ Accepted → P next)
+    → P (reply v lent nothing next handed .end)
+unfolding reply
+reply-keeps P Accepted lent nothing next handed p q = q refl
+reply-keeps P (Refused r) lent nothing next handed p q = p
+
+-- a reply that refuses is that of the lent end
+pub record Untouched {E H : Type 0} (lent : E) (nothing : H) (r : Reply E H) : Type 0 where
+  pub end : r .end ≡ lent
+  pub handed : r .handed ≡ nothing
+
+pub reply-untouched : {E H : Type 0} (v : Verdict) (lent : E) (nothing : H) (next : E) (handed : H) (r : Refusal)
+    → reply v lent nothing next handed .verdict ≡ Refused r → Untouched lent nothing (reply v lent nothing next handed)
+unfolding reply
+reply-untouched Accepted lent nothing next handed r e = let z : _≡_ {A = ℕ} 0 1 = cc in absurd (omega arith)
+reply-untouched (Refused x) lent nothing next handed r e = record { end = refl; handed = refl }
+
+---- advances
+
+pub advance-accepted : (tick n : ℕ) → advanceVerdict tick n ≡ Accepted → tick + n ≤ maxTick
+unfolding advanceVerdict
+advance-accepted tick n e = ltb-false maxTick (tick + n) (refuse-accepted _ _ _ e .0)
+
+pub advance-accepts : (tick n : ℕ) → tick + n ≤ maxTick → advanceVerdict tick n ≡ Accepted
+unfolding advanceVerdict
+advance-accepts tick n h = refuse-passed _ AtEnd Accepted (le-ltb maxTick (tick + n) h)

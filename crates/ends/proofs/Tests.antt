@@ -1,0 +1,54 @@
+-- Laws of tests that are general. Assumes nothing.
+use mathlib.Core.Path.{_≡_, refl}
+use mathlib.Core.Bool.{Bool, true, false, not}
+use mathlib.Core.Logic.{_⊎_, inl, inr}
+use Prim.Native.Nat.{ℕ}
+use native.Mathlib.Omega.{arith}
+use Rattle.octets.specs.Choice.{both, either, pick}
+
+pub true-false : {P : Type 0} → true ≡ false → P
+true-false e = let z : _≡_ {A = ℕ} 0 1 = cc in absurd (omega arith)
+
+pub either-left : {a : Bool} (b : Bool) → a ≡ true → either a b ≡ true
+unfolding either
+either-left b e = rw e
+
+pub either-right : (a : Bool) {b : Bool} → b ≡ true → either a b ≡ true
+unfolding either
+either-right true e = refl
+either-right false e = e
+
+pub either-none : {a b : Bool} → a ≡ false → b ≡ false → either a b ≡ false
+unfolding either
+either-none p q = rw (p, q)
+
+pub either-cases : (a b : Bool) → either a b ≡ true → (a ≡ true) ⊎ (b ≡ true)
+unfolding either
+either-cases true b e = inl refl
+either-cases false b e = inr e
+
+pub either-assoc : (a b c : Bool) → either (either a b) c ≡ either a (either b c)
+unfolding either
+either-assoc true b c = refl
+either-assoc false b c = refl
+
+pub both-false-left : {a : Bool} (b : Bool) → a ≡ false → both a b ≡ false
+unfolding both
+both-false-left b e = rw e
+
+pub both-false-right : (a : Bool) {b : Bool} → b ≡ false → both a b ≡ false
+unfolding both
+both-false-right true e = e
+both-false-right false e = refl
+
+pub not-of-true : {a : Bool} → a ≡ true → not a ≡ false
+not-of-true e = rw e
+
+pub not-of-false : {a : Bool} → a ≡ false → not a ≡ true
+not-of-false e = rw e
+
+-- what holds of both holds of the choice
+pub pick-holds : {A : Type 0} (P : A → Type 0) (t : Bool) (a b : A) → (t ≡ true → P a) → (t ≡ false → P b) → P (pick t a b)
+unfolding pick
+pick-holds P true a b p q = p refl
+pick-holds P false a b p q = q refl

@@ -4,3 +4,6 @@ pub mod Tests
 pub mod Keys
 pub mod Occupancy
 pub mod Identities
+pub mod Lists
+pub mod Table
+pub mod Validity

@@ -7,3 +7,4 @@ pub mod Identities
 pub mod Lists
 pub mod Table
 pub mod Validity
+pub mod Lift

@@ -1,0 +1,192 @@
+-- Laws of the lift, each once for all calls on a unit: what an accepted call leaves, what a refused one leaves, and that a call
+-- which keeps a unit valid keeps the OLT valid. Assumes nothing.
+use mathlib.Core.Path.{_≡_, refl, sym, _∙_, ap, subst}
+use mathlib.Core.Bool.{Bool, true, false, not}
+use mathlib.Core.List.{List}
+use Prim.Native.Nat.{ℕ, _≤_, _<_}
+use native.Mathlib.Omega.{arith}
+use lib.ListN.{length, getD, take, set, length-take}
+use lib.Seq.{getD-take, take-set-lt}
+use borrow.Author.Tests.{not-false}
+use Rattle.refusal.specs.declared.Refusal.{Refusal}
+use Rattle.refusal.specs.declared.Refusal.the-variants.{OutOfRange, UnknownLlid}
+use Rattle.refusal.specs.declared.Verdict.{Verdict}
+use Rattle.refusal.specs.declared.Verdict.the-variants.{Accepted, Refused}
+use Rattle.ends.specs.Replies.{refuseIf, Reply, reply}
+use Rattle.ends.specs.Identities.{distinct}
+use Rattle.ends.specs.Occupancy.{validChannels}
+use Rattle.ends.specs.Records.{withChannels}
+use Rattle.ends.specs.Table.{registered, all, tableLlids, find, pastUnit, unitAt, withUnit}
+use Rattle.ends.specs.Validity.{validUnit, validShared, validOlt}
+use Rattle.ends.specs.Lift.{Outcome, outcome, putBack, atUnit, after, lift}
+use Rattle.ends.specs.declared.Channels.{Channels}
+use Rattle.ends.specs.declared.Unit.{Unit}
+use Rattle.ends.specs.declared.Shared.{Shared}
+use Rattle.ends.specs.declared.Olt.{Olt}
+use Rattle.ends.specs.declared.Found.{Found}
+use Rattle.ends.specs.declared.Found.the-variants.{At, Nowhere}
+use Rattle.ends.proofs.Tests.{not-of-true, not-of-false}
+use Rattle.ends.proofs.Lists.{all-at, all-set}
+use Rattle.ends.proofs.Replies.{refused-accepts, refuse-accepted, refuse-passed, refuse-stopped, reply-verdict, reply-accepted, reply-refused, reply-keeps, reply-untouched, Untouched}
+use Rattle.ends.proofs.Table.{Registered, find-at, identities, SameUnits, find-same, table-same, with-other, with-same-units, with-beside, Beside}
+use Rattle.ends.proofs.Validity.{SharedInRange, shared-in-range, shared-valid, OltInRange, olt-in-range, olt-valid}
+
+module _ {H : Type 0} (o : Olt) (nothing : H) (ahead : Verdict) (llid : ℕ) (call : Shared → Unit → Outcome H) where
+  ---- where a call ends
+
+  pub lift-invalid : validOlt o ≡ false → lift o nothing ahead llid call ≡ record { verdict = Refused OutOfRange; end = o; handed = nothing }
+  unfolding lift after reply
+  lift-invalid e = rw (refuse-stopped (not (validOlt o)) OutOfRange ahead (not-of-false e))
+
+  pub lift-ahead : (r : Refusal) → validOlt o ≡ true → ahead ≡ Refused r
+      → lift o nothing ahead llid call ≡ record { verdict = Refused r; end = o; handed = nothing }
+  unfolding lift after reply
+  lift-ahead r e f = rw (refuse-passed (not (validOlt o)) OutOfRange ahead (not-of-true e), f)
+
+  pub lift-unknown : validOlt o ≡ true → ahead ≡ Accepted → find o llid ≡ Nowhere
+      → lift o nothing ahead llid call ≡ record { verdict = Refused UnknownLlid; end = o; handed = nothing }
+  unfolding lift after atUnit reply
+  lift-unknown e f n = rw (refuse-passed (not (validOlt o)) OutOfRange ahead (not-of-true e), f, n)
+
+  -- a unit is found: the call on it decides
+  pub lift-unit : (i : ℕ) → validOlt o ≡ true → ahead ≡ Accepted → find o llid ≡ At i
+      → lift o nothing ahead llid call ≡ putBack o nothing i (call (o .shared) (unitAt o i))
+  unfolding lift after atUnit
+  lift-unit i e f n = rw (refuse-passed (not (validOlt o)) OutOfRange ahead (not-of-true e), f, n)
+
+  -- what an accepted call has met, and leaves
+  pub record Lifted : Type 0 where
+    pub at : ℕ
+    pub valid : validOlt o ≡ true
+    pub passed : ahead ≡ Accepted
+    pub found : find o llid ≡ At at
+    pub accepts : call (o .shared) (unitAt o at) .verdict ≡ Accepted
+    pub verdict : lift o nothing ahead llid call .verdict ≡ Accepted
+    pub end : lift o nothing ahead llid call .end ≡ withUnit o at (call (o .shared) (unitAt o at) .channels) (call (o .shared) (unitAt o at) .unit)
+    pub handed : lift o nothing ahead llid call .handed ≡ call (o .shared) (unitAt o at) .handed
+
+  -- a call that the unit found accepts is accepted
+  pub lift-accepts : (i : ℕ) → validOlt o ≡ true → ahead ≡ Accepted → find o llid ≡ At i → call (o .shared) (unitAt o i) .verdict ≡ Accepted → Lifted
+  unfolding putBack
+  lift-accepts i e f n a =
+      let whole = lift-unit i e f n ∙ reply-accepted (call (o .shared) (unitAt o i) .verdict) o nothing _ _ a in
+      record {
+        at = i;
+        valid = e;
+        passed = f;
+        found = n;
+        accepts = a;
+        verdict = ap (λ (r : Reply Olt H). r .verdict) whole;
+        end = ap (λ (r : Reply Olt H). r .end) whole;
+        handed = ap (λ (r : Reply Olt H). r .handed) whole;
+      }
+
+  -- every call is one of these
+  pub data Ends : Type 0 where
+    accepted : Lifted → Ends
+    refused : (r : Refusal) → lift o nothing ahead llid call ≡ record { verdict = Refused r; end = o; handed = nothing } → Ends
+
+  pub lift-ends : Ends
+  unfolding putBack
+  lift-ends = by-valid (validOlt o) refl where
+    by-verdict : (i : ℕ) → validOlt o ≡ true → ahead ≡ Accepted → find o llid ≡ At i → (v : Verdict) → call (o .shared) (unitAt o i) .verdict ≡ v → Ends
+    by-verdict i e f n Accepted a = accepted (lift-accepts i e f n a)
+    by-verdict i e f n (Refused r) a = refused r (lift-unit i e f n ∙ reply-refused (call (o .shared) (unitAt o i) .verdict) o nothing _ _ r a)
+
+    by-found : validOlt o ≡ true → ahead ≡ Accepted → (x : Found) → find o llid ≡ x → Ends
+    by-found e f Nowhere n = refused UnknownLlid (lift-unknown e f n)
+    by-found e f (At i) n = by-verdict i e f n (call (o .shared) (unitAt o i) .verdict) refl
+
+    by-ahead : validOlt o ≡ true → (v : Verdict) → ahead ≡ v → Ends
+    by-ahead e Accepted f = by-found e f (find o llid) refl
+    by-ahead e (Refused r) f = refused r (lift-ahead r e f)
+
+    by-valid : (t : Bool) → validOlt o ≡ t → Ends
+    by-valid false e = refused OutOfRange (lift-invalid e)
+    by-valid true e = by-ahead e ahead refl
+
+  pub lift-accepted : lift o nothing ahead llid call .verdict ≡ Accepted → Lifted
+  lift-accepted e = by-end lift-ends where
+    by-end : Ends → Lifted
+    by-end (accepted l) = l
+    by-end (refused r f) = refused-accepts r (sym (ap (λ (x : Reply Olt H). x .verdict) f) ∙ e)
+
+  -- refused: the very OLT that was lent, and nothing
+  pub lift-untouched : (r : Refusal) → lift o nothing ahead llid call .verdict ≡ Refused r → Untouched o nothing (lift o nothing ahead llid call)
+  lift-untouched r e = by-end lift-ends where
+    by-end : Ends → Untouched o nothing (lift o nothing ahead llid call)
+    by-end (accepted l) = refused-accepts r (sym e ∙ l .verdict)
+    by-end (refused x f) =
+        record { end = ap (λ (y : Reply Olt H). y .end) f; handed = ap (λ (y : Reply Olt H). y .handed) f }
+
+  -- what holds of the OLT, and of it with the unit that an accepted call leaves, holds after the call
+  pub lift-keeps : (P : Olt → Type 0) → P o
+      → ((l : Lifted) → P (withUnit o (l .at) (call (o .shared) (unitAt o (l .at)) .channels) (call (o .shared) (unitAt o (l .at)) .unit)))
+      → P (lift o nothing ahead llid call .end)
+  lift-keeps P p q = by-end lift-ends where
+    by-end : Ends → P (lift o nothing ahead llid call .end)
+    by-end (accepted l) = subst P (sym (l .end)) (q l)
+    by-end (refused r f) = subst P (sym (ap (λ (y : Reply Olt H). y .end) f)) p
+
+---- what a call on a unit keeps
+
+-- an accepted call leaves a valid unit, of the same identity, and valid channels
+pub record Keeps {H : Type 0} (call : Shared → Unit → Outcome H) : Type 0 where
+  pub identity : (s : Shared) (u : Unit) → call s u .unit .identity ≡ u .identity
+  pub unit : (s : Shared) (u : Unit) → validUnit (s .tick) u ≡ true → call s u .verdict ≡ Accepted → validUnit (s .tick) (call s u .unit) ≡ true
+  pub channels : (s : Shared) (u : Unit) → validShared s ≡ true → validChannels (call s u .channels) ≡ true
+
+pub with-valid : (o : Olt) (i : ℕ) (c : Channels) (u : Unit) → i < o .count → u .identity ≡ unitAt o i .identity → validUnit (o .shared .tick) u ≡ true
+    → validChannels c ≡ true → validOlt o ≡ true → validOlt (withUnit o i c u) ≡ true
+unfolding withUnit withChannels
+with-valid o i c u h e v w k =
+    let r = olt-in-range o k in
+    let s = shared-in-range (o .shared) (r .shared) in
+    let same = with-same-units o i c u e in
+    olt-valid (withUnit o i c u)
+    (record {
+      count = r .count;
+      shared = shared-valid _ (record { mac = s .mac; tick = s .tick; clock = s .clock; channels = w });
+      units = rw (take-set-lt (o .count) (o .units) i u h) (all-set (validUnit (o .shared .tick)) (registered o) i u (r .units) v);
+      distinct = ap distinct (table-same (withUnit o i c u) o same) ∙ r .distinct;
+    })
+
+-- a registered unit of a valid OLT is valid
+pub unit-at-valid : (o : Olt) (llid i : ℕ) → validOlt o ≡ true → Registered o llid i → validUnit (o .shared .tick) (unitAt o i) ≡ true
+unit-at-valid o llid i v r =
+    rw (getD-take (o .count) (o .units) i pastUnit (r .used))
+    at (all-at (validUnit (o .shared .tick)) (registered o) i pastUnit (olt-in-range o v .units) (omega (arith, length-take (o .count) (o .units), r .used, r .place)))
+
+module _ {H : Type 0} (o : Olt) (nothing : H) (ahead : Verdict) (llid : ℕ) (call : Shared → Unit → Outcome H) where
+  pub lift-valid : (ahead ≡ Accepted → Keeps call) → validOlt o ≡ true → validOlt (lift o nothing ahead llid call .end) ≡ true
+  lift-valid k v =
+      lift-keeps o nothing ahead llid call (λ (p : Olt). validOlt p ≡ true) v
+      (λ l.
+      let r = find-at o llid (l .at) (l .found) in
+      let keeps = k (l .passed) in
+      with-valid o (l .at) _ _ (r .used) (keeps .identity (o .shared) (unitAt o (l .at)))
+      (keeps .unit (o .shared) (unitAt o (l .at)) (unit-at-valid o llid (l .at) v r) (l .accepts))
+      (keeps .channels (o .shared) (unitAt o (l .at)) (olt-in-range o v .shared))
+      v)
+
+  -- MAC, tick, clock and count stay, and the places
+  pub lift-beside : Beside o (lift o nothing ahead llid call .end)
+  lift-beside =
+      lift-keeps o nothing ahead llid call (Beside o) (record { mac = refl; tick = refl; clock = refl; count = refl; places = refl })
+      (λ l. with-beside o (l .at) _ _)
+
+  -- no call on a unit changes who is registered, and where
+  pub lift-same-units : ((s : Shared) (u : Unit) → call s u .unit .identity ≡ u .identity) → SameUnits (lift o nothing ahead llid call .end) o
+  lift-same-units k =
+      lift-keeps o nothing ahead llid call (λ (p : Olt). SameUnits p o) (record { count = refl; identities = refl })
+      (λ l. with-same-units o (l .at) _ _ (k (o .shared) (unitAt o (l .at))))
+
+  pub lift-find : ((s : Shared) (u : Unit) → call s u .unit .identity ≡ u .identity) → (any : ℕ)
+      → find (lift o nothing ahead llid call .end) any ≡ find o any
+  lift-find k any = find-same (lift o nothing ahead llid call .end) o any (lift-same-units k)
+
+  -- a unit in another place stays as it is
+  pub lift-others : (j : ℕ) → (find o llid ≡ At j → ⊥) → unitAt (lift o nothing ahead llid call .end) j ≡ unitAt o j
+  lift-others j h =
+      lift-keeps o nothing ahead llid call (λ (p : Olt). unitAt p j ≡ unitAt o j) refl
+      (λ l. with-other o (l .at) j _ _ (λ e. h (l .found ∙ ap At (sym e))))

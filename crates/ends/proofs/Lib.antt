@@ -8,3 +8,4 @@ pub mod Lists
 pub mod Table
 pub mod Validity
 pub mod Lift
+pub mod UnitCalls

@@ -28,7 +28,7 @@ use Rattle.ends.specs.declared.Found.the-variants.{At, Nowhere}
 use Rattle.ends.proofs.Tests.{not-of-true, not-of-false}
 use Rattle.ends.proofs.Lists.{all-at, all-set}
 use Rattle.ends.proofs.Replies.{refused-accepts, refuse-accepted, refuse-passed, refuse-stopped, reply-verdict, reply-accepted, reply-refused, reply-keeps, reply-untouched, Untouched}
-use Rattle.ends.proofs.Table.{Registered, find-at, identities, SameUnits, find-same, table-same, with-other, with-same-units, with-beside, Beside}
+use Rattle.ends.proofs.Table.{Registered, find-at, identities, SameUnits, find-same, table-same, with-unit, with-other, with-channels, with-same-units, with-beside, Beside}
 use Rattle.ends.proofs.Validity.{SharedInRange, shared-in-range, shared-valid, OltInRange, olt-in-range, olt-valid}
 
 module _ {H : Type 0} (o : Olt) (nothing : H) (ahead : Verdict) (llid : ℕ) (call : Shared → Unit → Outcome H) where
@@ -190,3 +190,14 @@ module _ {H : Type 0} (o : Olt) (nothing : H) (ahead : Verdict) (llid : ℕ) (ca
   lift-others j h =
       lift-keeps o nothing ahead llid call (λ (p : Olt). unitAt p j ≡ unitAt o j) refl
       (λ l. with-other o (l .at) j _ _ (λ e. h (l .found ∙ ap At (sym e))))
+
+  -- the unit called, and the channels, are what the call left
+  pub lift-itself : (l : Lifted o nothing ahead llid call)
+      → unitAt (lift o nothing ahead llid call .end) (l .at) ≡ call (o .shared) (unitAt o (l .at)) .unit
+  lift-itself l =
+      ap (λ (p : Olt). unitAt p (l .at)) (l .end)
+      ∙ with-unit o (l .at) _ _ (find-at o llid (l .at) (l .found) .place)
+
+  pub lift-channels : (l : Lifted o nothing ahead llid call)
+      → lift o nothing ahead llid call .end .shared .channels ≡ call (o .shared) (unitAt o (l .at)) .channels
+  lift-channels l = ap (λ (p : Olt). p .shared .channels) (l .end) ∙ with-channels o (l .at) _ _

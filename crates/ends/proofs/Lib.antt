@@ -9,3 +9,4 @@ pub mod Table
 pub mod Validity
 pub mod Lift
 pub mod UnitCalls
+pub mod UnitTraffic

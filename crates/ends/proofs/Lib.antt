@@ -10,3 +10,4 @@ pub mod Validity
 pub mod Lift
 pub mod UnitCalls
 pub mod UnitTraffic
+pub mod OltCalls

@@ -1,6 +1,6 @@
 -- Laws of the lift, each once for all calls on a unit: what an accepted call leaves, what a refused one leaves, and that a call
 -- which keeps a unit valid keeps the OLT valid. Assumes nothing.
-use mathlib.Core.Path.{_≡_, refl, sym, _∙_, ap, subst}
+use mathlib.Core.Path.{_≡_, refl, sym, _∙_, ap, ap₂, subst}
 use mathlib.Core.Bool.{Bool, true, false, not}
 use mathlib.Core.List.{List}
 use Prim.Native.Nat.{ℕ, _≤_, _<_}
@@ -28,7 +28,7 @@ use Rattle.ends.specs.declared.Found.the-variants.{At, Nowhere}
 use Rattle.ends.proofs.Tests.{not-of-true, not-of-false}
 use Rattle.ends.proofs.Lists.{all-at, all-set}
 use Rattle.ends.proofs.Replies.{refused-accepts, refuse-accepted, refuse-passed, refuse-stopped, reply-verdict, reply-accepted, reply-refused, reply-keeps, reply-untouched, Untouched}
-use Rattle.ends.proofs.Table.{Registered, find-at, identities, SameUnits, find-same, table-same, with-unit, with-other, with-channels, with-same-units, with-beside, Beside}
+use Rattle.ends.proofs.Table.{Registered, find-at, identities, SameUnits, find-same, table-same, with-unit, with-other, with-twice, with-channels, with-same-units, with-beside, Beside}
 use Rattle.ends.proofs.Validity.{SharedInRange, shared-in-range, shared-valid, OltInRange, olt-in-range, olt-valid}
 
 module _ {H : Type 0} (o : Olt) (nothing : H) (ahead : Verdict) (llid : ℕ) (call : Shared → Unit → Outcome H) where
@@ -201,3 +201,31 @@ module _ {H : Type 0} (o : Olt) (nothing : H) (ahead : Verdict) (llid : ℕ) (ca
   pub lift-channels : (l : Lifted o nothing ahead llid call)
       → lift o nothing ahead llid call .end .shared .channels ≡ call (o .shared) (unitAt o (l .at)) .channels
   lift-channels l = ap (λ (p : Olt). p .shared .channels) (l .end) ∙ with-channels o (l .at) _ _
+
+  -- a call that leaves the channels, and that a second time decides as the first: made again, by any LLID of the unit, it is
+  -- answered as the first, and leaves what the first left
+  pub lift-again : Keeps call → ((s : Shared) (u : Unit) → call s u .channels ≡ s .channels)
+      → ((s : Shared) (u : Unit) → call s (call s u .unit) ≡ call s u) → (other : ℕ) → find o other ≡ find o llid
+      → lift o nothing ahead llid call .verdict ≡ Accepted
+      → lift (lift o nothing ahead llid call .end) nothing ahead other call ≡ lift o nothing ahead llid call
+  unfolding putBack withUnit withChannels
+  lift-again keeps c again other f e =
+      let l = lift-accepted o nothing ahead llid call e in
+      let i = l .at in
+      let p = lift o nothing ahead llid call .end in
+      let x = call (o .shared) (unitAt o i) in
+      let q = withUnit o i (x .channels) (x .unit) in
+      let valid : validOlt p ≡ true = lift-valid (λ a. keeps) (l .valid) in
+      let found : find p other ≡ At i = lift-find (keeps .identity) other ∙ f ∙ l .found in
+      let shared : p .shared ≡ o .shared = ap (λ (r : Olt). r .shared) (l .end) ∙ ap (withChannels (o .shared)) (c (o .shared) (unitAt o i)) in
+      let same : call (p .shared) (unitAt p i) ≡ x =
+      ap₂ call shared (lift-itself l) ∙ again (o .shared) (unitAt o i) in
+      let second : putBack q nothing i x ≡ record { verdict = Accepted; end = q; handed = x .handed } =
+      reply-accepted (x .verdict) q nothing _ _ (l .accepts)
+      ∙ ap (λ (r : Olt). record { verdict = Accepted; end = r; handed = x .handed }) (with-twice o i (x .channels) (x .channels) (x .unit) (x .unit)) in
+      let first : lift o nothing ahead llid call ≡ record { verdict = Accepted; end = q; handed = x .handed } =
+      lift-unit o nothing ahead llid call i (l .valid) (l .passed) (l .found) ∙ reply-accepted (x .verdict) o nothing _ _ (l .accepts) in
+      lift-unit p nothing ahead other call i valid (l .passed) found
+      ∙ ap₂ (λ (r : Olt) (y : Outcome H). putBack r nothing i y) (l .end) same
+      ∙ second
+      ∙ sym first

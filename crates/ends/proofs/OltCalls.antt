@@ -10,7 +10,7 @@ use lib.Dec.{leb, ltb}
 use lib.ListN.{length, getD, take, drop, set, length-take, length-set, length-replicate}
 use lib.Seq.{set-out, take-all}
 use borrow.Author.Tests.{leb-false, leb-true, ltb-true, ltb-false, le-leb, lt-ltb, not-true, not-false}
-use Rattle.octets.specs.Choice.{both, either}
+use Rattle.octets.specs.Choice.{both, either, pick}
 use Rattle.octets.proofs.Choice.{both-left, both-right, both-true, either-false}
 use Rattle.refusal.specs.declared.Refusal.{Refusal}
 use Rattle.refusal.specs.declared.Refusal.the-variants.{OutOfRange}
@@ -23,11 +23,11 @@ use Rattle.ends.specs.Replies.{refuseIf, None, none, Reply, reply, advan
 use Rattle.ends.specs.Timers.{validInterval}
 use Rattle.ends.specs.Messages.{noStamps, noKeyMessage}
 use Rattle.ends.specs.Identities.{among, distinct, meets, llidsOf, kept, validMac, validIdentity}
-use Rattle.ends.specs.Records.{withKeys, freshUnit, noUnit, newOlt}
+use Rattle.ends.specs.Records.{withKeys, withConfirmation, withClock, freshUnit, noUnit, newOlt}
 use Rattle.ends.specs.Table.{registered, all, tableLlids, find, withOneMore}
 use Rattle.ends.specs.Validity.{validUnit, validShared, validOlt}
-use Rattle.ends.specs.Lift.{lift}
-use Rattle.ends.specs.UnitCalls.{unitAdvanced, captureUnit, clockSendUnit, offerUnit, retryUnit, acknowledgeUnit}
+use Rattle.ends.specs.Lift.{Outcome, outcome, lift}
+use Rattle.ends.specs.UnitCalls.{unitAdvanced, captureUnit, clockSendUnit, offerUnit, retryUnit, clockAcknowledgedUnit, keyAcknowledgedUnit, acknowledgeUnit}
 use Rattle.ends.specs.OltCalls.{oltAnswer, clockSent, keySent, freshOltOf, validRegistration, registerVerdict, registering, registerOf, sharedAdvanced, oltAdvanced, advancingOlt, advanceOltOf, captureOf, clockSendOf, offerOf, retryOf, acknowledgeOf}
 use Rattle.ends.specs.declared.Identity.{Identity}
 use Rattle.ends.specs.declared.Unit.{Unit}
@@ -36,15 +36,15 @@ use Rattle.ends.specs.declared.Olt.{Olt}
 use Rattle.ends.specs.declared.Acknowledgement.{Acknowledgement}
 use Rattle.ends.proofs.Tests.{true-false, not-of-true}
 use Rattle.ends.proofs.Lists.{all-append, all-map, map-twice, map-same, take-first, drop-first, length-first}
-use Rattle.ends.proofs.Replies.{refuse-accepted, refuse-passed, reply-verdict, reply-accepted, reply-keeps, reply-untouched, Untouched, advance-accepted, advance-accepts}
+use Rattle.ends.proofs.Replies.{number-accepted, refuse-accepted, refuse-passed, reply-verdict, reply-accepted, reply-keeps, reply-untouched, Untouched, advance-accepted, advance-accepts}
 use Rattle.ends.proofs.Timers.{timer-fresh-valid}
 use Rattle.ends.proofs.Keys.{first-none-valid}
 use Rattle.ends.proofs.Occupancy.{free-valid}
 use Rattle.ends.proofs.Identities.{meets-apart, not-both, distinct-append, identity-valid, kept-llids, kept-valid}
-use Rattle.ends.proofs.Table.{identityOf, llids-same, more-registered, more-places}
+use Rattle.ends.proofs.Table.{identityOf, llids-same, with-itself, more-registered, more-places}
 use Rattle.ends.proofs.Validity.{UnitInRange, unit-valid, ClockInRange, clock-valid, SharedInRange, shared-in-range, shared-valid, OltInRange, olt-in-range, olt-valid}
-use Rattle.ends.proofs.Lift.{lift-valid, lift-beside}
-use Rattle.ends.proofs.UnitCalls.{unit-sum, unit-advanced-valid, capture-keeps, clock-send-keeps, offer-keeps, retry-keeps, acknowledge-keeps}
+use Rattle.ends.proofs.Lift.{lift-keeps, lift-valid, lift-beside, lift-again}
+use Rattle.ends.proofs.UnitCalls.{unit-sum, unit-advanced-valid, capture-keeps, clock-send-keeps, offer-keeps, retry-keeps, acknowledge-keeps, acknowledged-channels, acknowledged-again}
 
 ---- fresh
 
@@ -245,3 +245,39 @@ advancing-sum o m n e =
     ∙ advancing-accepts (oltAdvanced o m) n w l
     ∙ ap (λ (p : Olt). record { verdict = Accepted; end = p; handed = none }) (olt-sum m n o)
     ∙ sym (advancing-accepts o (m + n) v (a .1))
+
+---- calls on one unit
+
+pub capture-valid : (o : Olt) (llid : ℕ) → validOlt o ≡ true → validOlt (captureOf o llid .olt) ≡ true
+unfolding captureOf oltAnswer
+capture-valid o llid v = lift-valid o none Accepted llid captureUnit (λ a. capture-keeps) v
+
+pub clock-send-valid : (o : Olt) (llid : ℕ) → validOlt o ≡ true → validOlt (clockSendOf o llid .olt) ≡ true
+unfolding clockSendOf clockSent
+clock-send-valid o llid v = lift-valid o noStamps Accepted llid clockSendUnit (λ a. clock-send-keeps) v
+
+pub offer-valid : (o : Olt) (llid : ℕ) (key : List ℕ) → validOlt o ≡ true → validOlt (offerOf o llid key .olt) ≡ true
+unfolding offerOf keySent
+offer-valid o llid key v = lift-valid o noKeyMessage Accepted llid (offerUnit llid key) (λ a. offer-keeps llid key) v
+
+pub acknowledge-valid : (o : Olt) (llid : ℕ) (a : Acknowledgement) → validOlt o ≡ true → validOlt (acknowledgeOf o llid a .olt) ≡ true
+unfolding acknowledgeOf oltAnswer
+acknowledge-valid o llid a v = lift-valid o none Accepted llid (acknowledgeUnit a) (λ p. acknowledge-keeps a) v
+
+-- a retry, accepted or not, leaves the OLT as it was
+pub retry-same : (o : Olt) (llid : ℕ) → retryOf o llid .olt ≡ o
+unfolding retryOf keySent retryUnit outcome
+retry-same o llid =
+    lift-keeps o noKeyMessage Accepted llid (retryUnit llid) (λ (p : Olt). p ≡ o) refl (λ l. with-itself o (l .at))
+
+pub retry-valid : (o : Olt) (llid : ℕ) → validOlt o ≡ true → validOlt (retryOf o llid .olt) ≡ true
+retry-valid o llid v = ap validOlt (retry-same o llid) ∙ v
+
+-- an acknowledgement repeated, by any LLID of the unit, is answered as the first, and leaves what the first left
+pub acknowledge-again : (o : Olt) (llid other : ℕ) (a : Acknowledgement) → find o other ≡ find o llid → acknowledgeOf o llid a .number ≡ 0
+    → acknowledgeOf (acknowledgeOf o llid a .olt) other a ≡ acknowledgeOf o llid a
+unfolding acknowledgeOf oltAnswer
+acknowledge-again o llid other a f e =
+    ap oltAnswer
+    (lift-again o none Accepted llid (acknowledgeUnit a) (acknowledge-keeps a) (acknowledged-channels a) (acknowledged-again a) other f
+    (number-accepted _ e))

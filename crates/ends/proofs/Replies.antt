@@ -1,12 +1,13 @@
 -- Laws of replies: what each verdict leaves, once for all calls. Assumes nothing.
-use mathlib.Core.Path.{_≡_, refl}
+use mathlib.Core.Path.{_≡_, refl, ap}
 use mathlib.Core.Bool.{Bool, true, false}
 use Prim.Native.Nat.{ℕ, _+_, _≤_}
 use native.Mathlib.Omega.{arith}
 use lib.Dec.{ltb}
 use borrow.Author.Tests.{ltb-false, le-ltb}
 use Rattle.refusal.specs.declared.Refusal.{Refusal}
-use Rattle.refusal.specs.declared.Refusal.the-variants.{AtEnd}
+use Rattle.refusal.specs.Number.{numberOf, verdictNumber}
+use Rattle.refusal.specs.declared.Refusal.the-variants.{OutOfRange, UnknownLlid, RepeatedLlid, TableFull, ClockNotSet, OfferPending, SameKey, NothingOutstanding, NoKey, EpamDiffers, ClearEnvelope, ChannelTaken, KeyTooOld, BadLength, BadDirectory, CaptureTooOld, AtEnd}
 use Rattle.refusal.specs.declared.Verdict.{Verdict}
 use Rattle.refusal.specs.declared.Verdict.the-variants.{Accepted, Refused}
 use Rattle.clock.specs.Ticks.{maxTick}
@@ -76,3 +77,36 @@ advance-accepted tick n e = ltb-false maxTick (tick + n) (refuse-accepted _ _ _ 
 pub advance-accepts : (tick n : ℕ) → tick + n ≤ maxTick → advanceVerdict tick n ≡ Accepted
 unfolding advanceVerdict
 advance-accepts tick n h = refuse-passed _ AtEnd Accepted (le-ltb maxTick (tick + n) h)
+
+---- numbers
+
+-- only acceptance has number 0
+pub number-accepted : (v : Verdict) → verdictNumber v ≡ 0 → v ≡ Accepted
+number-accepted Accepted e = refl
+number-accepted (Refused r) e = absurd (by-refusal r e) where
+  by-refusal : (r : Refusal) → numberOf r ≡ 0 → ⊥
+  by-refusal OutOfRange e = omega arith
+  by-refusal UnknownLlid e = omega arith
+  by-refusal RepeatedLlid e = omega arith
+  by-refusal TableFull e = omega arith
+  by-refusal ClockNotSet e = omega arith
+  by-refusal OfferPending e = omega arith
+  by-refusal SameKey e = omega arith
+  by-refusal NothingOutstanding e = omega arith
+  by-refusal NoKey e = omega arith
+  by-refusal EpamDiffers e = omega arith
+  by-refusal ClearEnvelope e = omega arith
+  by-refusal ChannelTaken e = omega arith
+  by-refusal KeyTooOld e = omega arith
+  by-refusal BadLength e = omega arith
+  by-refusal BadDirectory e = omega arith
+  by-refusal CaptureTooOld e = omega arith
+  by-refusal AtEnd e = omega arith
+
+-- a reply of any other number is refused
+pub number-refused : {E H : Type 0} (lent : E) (nothing : H) (r : Reply E H) → ((x : Refusal) → r .verdict ≡ Refused x → Untouched lent nothing r)
+    → (verdictNumber (r .verdict) ≡ 0 → ⊥) → Untouched lent nothing r
+number-refused lent nothing r h n = by-verdict (r .verdict) refl where
+  by-verdict : (v : Verdict) → r .verdict ≡ v → Untouched lent nothing r
+  by-verdict Accepted e = absurd (n (ap verdictNumber e))
+  by-verdict (Refused x) e = h x e

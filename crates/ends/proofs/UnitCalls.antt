@@ -233,13 +233,32 @@ key-acknowledged-keeps number =
       channels = λ s u v. stay s v;
     }
 
-pub acknowledge-keeps : (a : Acknowledgement) → Keeps (acknowledgeUnit a)
-unfolding acknowledgeUnit outcome pick
-acknowledge-keeps a = by-kind (eqb (a .kind) clockKind) (eqb (a .kind) keyKind) where
-  chosen : Bool → Bool → Shared → Unit → Outcome None
-  chosen t k s u = pick t (clockAcknowledgedUnit s u) (pick k (keyAcknowledgedUnit (a .number) s u) (outcome s (Refused NothingOutstanding) u none))
+-- an acknowledgement of either kind, or of neither
+chosen : Acknowledgement → Bool → Bool → Shared → Unit → Outcome None
+chosen a t k s u =
+    pick t (clockAcknowledgedUnit s u) (pick k (keyAcknowledgedUnit (a .number) s u) (outcome s (Refused NothingOutstanding) u none))
 
-  by-kind : (t k : Bool) → Keeps (chosen t k)
+pub acknowledge-keeps : (a : Acknowledgement) → Keeps (acknowledgeUnit a)
+unfolding acknowledgeUnit outcome pick chosen
+acknowledge-keeps a = by-kind (eqb (a .kind) clockKind) (eqb (a .kind) keyKind) where
+  by-kind : (t k : Bool) → Keeps (chosen a t k)
   by-kind true k = clock-acknowledged-keeps
   by-kind false true = key-acknowledged-keeps (a .number)
   by-kind false false = record { identity = λ s u. refl; unit = λ s u v e. v; channels = λ s u v. stay s v }
+
+pub acknowledged-channels : (a : Acknowledgement) (s : Shared) (u : Unit) → acknowledgeUnit a s u .channels ≡ s .channels
+unfolding acknowledgeUnit clockAcknowledgedUnit keyAcknowledgedUnit outcome pick chosen
+acknowledged-channels a s u = by-kind (eqb (a .kind) clockKind) (eqb (a .kind) keyKind) where
+  by-kind : (t k : Bool) → chosen a t k s u .channels ≡ s .channels
+  by-kind true k = refl
+  by-kind false true = refl
+  by-kind false false = refl
+
+-- an acknowledgement again is as the first
+pub acknowledged-again : (a : Acknowledgement) (s : Shared) (u : Unit) → acknowledgeUnit a s (acknowledgeUnit a s u .unit) ≡ acknowledgeUnit a s u
+unfolding acknowledgeUnit clockAcknowledgedUnit keyAcknowledgedUnit outcome withClock withConfirmation pick chosen
+acknowledged-again a s u = by-kind (eqb (a .kind) clockKind) (eqb (a .kind) keyKind) where
+  by-kind : (t k : Bool) → chosen a t k s (chosen a t k s u .unit) ≡ chosen a t k s u
+  by-kind true k = refl
+  by-kind false true = refl
+  by-kind false false = refl

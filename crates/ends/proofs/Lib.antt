@@ -11,3 +11,5 @@ pub mod Lift
 pub mod UnitCalls
 pub mod UnitTraffic
 pub mod OltCalls
+pub mod OltTraffic
+pub mod OnuCalls

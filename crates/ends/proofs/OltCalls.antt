@@ -36,14 +36,14 @@ use Rattle.ends.specs.declared.Olt.{Olt}
 use Rattle.ends.specs.declared.Acknowledgement.{Acknowledgement}
 use Rattle.ends.proofs.Tests.{true-false, not-of-true}
 use Rattle.ends.proofs.Lists.{all-append, all-map, map-twice, map-same, take-first, drop-first, length-first}
-use Rattle.ends.proofs.Replies.{number-accepted, refuse-accepted, refuse-passed, reply-verdict, reply-accepted, reply-keeps, reply-untouched, Untouched, advance-accepted, advance-accepts}
+use Rattle.ends.proofs.Replies.{number-accepted, number-refused, refuse-accepted, refuse-passed, reply-verdict, reply-accepted, reply-keeps, reply-untouched, Untouched, advance-accepted, advance-accepts}
 use Rattle.ends.proofs.Timers.{timer-fresh-valid}
 use Rattle.ends.proofs.Keys.{first-none-valid}
 use Rattle.ends.proofs.Occupancy.{free-valid}
 use Rattle.ends.proofs.Identities.{meets-apart, not-both, distinct-append, identity-valid, kept-llids, kept-valid}
 use Rattle.ends.proofs.Table.{identityOf, llids-same, with-itself, more-registered, more-places}
 use Rattle.ends.proofs.Validity.{UnitInRange, unit-valid, ClockInRange, clock-valid, SharedInRange, shared-in-range, shared-valid, OltInRange, olt-in-range, olt-valid}
-use Rattle.ends.proofs.Lift.{lift-keeps, lift-valid, lift-beside, lift-again}
+use Rattle.ends.proofs.Lift.{lift-keeps, lift-valid, lift-beside, lift-again, lift-untouched}
 use Rattle.ends.proofs.UnitCalls.{unit-sum, unit-advanced-valid, capture-keeps, clock-send-keeps, offer-keeps, retry-keeps, acknowledge-keeps, acknowledged-channels, acknowledged-again}
 
 ---- fresh
@@ -246,6 +246,10 @@ advancing-sum o m n e =
     ∙ ap (λ (p : Olt). record { verdict = Accepted; end = p; handed = none }) (olt-sum m n o)
     ∙ sym (advancing-accepts o (m + n) v (a .1))
 
+pub advance-olt-sum : (o : Olt) (m n : ℕ) → advanceOltOf o (m + n) .number ≡ 0 → advanceOltOf (advanceOltOf o m .olt) n ≡ advanceOltOf o (m + n)
+unfolding advanceOltOf oltAnswer
+advance-olt-sum o m n e = ap oltAnswer (advancing-sum o m n (number-accepted _ e))
+
 ---- calls on one unit
 
 pub capture-valid : (o : Olt) (llid : ℕ) → validOlt o ≡ true → validOlt (captureOf o llid .olt) ≡ true
@@ -281,3 +285,94 @@ acknowledge-again o llid other a f e =
     ap oltAnswer
     (lift-again o none Accepted llid (acknowledgeUnit a) (acknowledge-keeps a) (acknowledged-channels a) (acknowledged-again a) other f
     (number-accepted _ e))
+
+---- the places: as many after each call as before
+
+pub fresh-places : (mac clock : ℕ) → length (freshOltOf mac clock .olt .units) ≡ maxUnits
+unfolding freshOltOf oltAnswer newOlt
+fresh-places mac clock =
+    reply-keeps (λ (o : Olt). length (o .units) ≡ maxUnits) _ (newOlt 0 0) none (newOlt mac clock) none (length-replicate maxUnits noUnit)
+    (λ a. length-replicate maxUnits noUnit)
+
+pub register-places : (o : Olt) (i : Identity) (trip interval : ℕ) → length (registerOf o i trip interval .olt .units) ≡ length (o .units)
+unfolding registerOf registering oltAnswer
+register-places o i trip interval =
+    reply-keeps (λ (p : Olt). length (p .units) ≡ length (o .units)) _ o none _ none refl (λ a. more-places o (freshUnit i trip interval))
+
+pub advance-places : (o : Olt) (n : ℕ) → length (advanceOltOf o n .olt .units) ≡ length (o .units)
+unfolding advanceOltOf advancingOlt oltAnswer oltAdvanced
+advance-places o n =
+    reply-keeps (λ (p : Olt). length (p .units) ≡ length (o .units)) _ o none _ none refl
+    (λ a. length-first (unitAdvanced n) (o .count) (o .units))
+
+pub capture-places : (o : Olt) (llid : ℕ) → length (captureOf o llid .olt .units) ≡ length (o .units)
+unfolding captureOf oltAnswer
+capture-places o llid = lift-beside o none Accepted llid captureUnit .places
+
+pub clock-send-places : (o : Olt) (llid : ℕ) → length (clockSendOf o llid .olt .units) ≡ length (o .units)
+unfolding clockSendOf clockSent
+clock-send-places o llid = lift-beside o noStamps Accepted llid clockSendUnit .places
+
+pub offer-places : (o : Olt) (llid : ℕ) (key : List ℕ) → length (offerOf o llid key .olt .units) ≡ length (o .units)
+unfolding offerOf keySent
+offer-places o llid key = lift-beside o noKeyMessage Accepted llid (offerUnit llid key) .places
+
+pub retry-places : (o : Olt) (llid : ℕ) → length (retryOf o llid .olt .units) ≡ length (o .units)
+retry-places o llid = ap (λ (p : Olt). length (p .units)) (retry-same o llid)
+
+pub acknowledge-places : (o : Olt) (llid : ℕ) (a : Acknowledgement) → length (acknowledgeOf o llid a .olt .units) ≡ length (o .units)
+unfolding acknowledgeOf oltAnswer
+acknowledge-places o llid a = lift-beside o none Accepted llid (acknowledgeUnit a) .places
+
+-- with a place for each unit, the new unit is in use after an accepted registration, and those before it stay
+pub register-registered : (o : Olt) (i : Identity) (trip interval : ℕ) → length (o .units) ≡ maxUnits → registerOf o i trip interval .number ≡ 0
+    → registered (registerOf o i trip interval .olt) ≡ registered o ++ (freshUnit i trip interval ∷ [])
+unfolding registerOf registering oltAnswer
+register-registered o i trip interval h e =
+    let v = number-accepted _ e in
+    let a = sym (reply-verdict _ o none (withOneMore o (freshUnit i trip interval)) none) ∙ v in
+    let r = register-accepted o i trip interval (refuse-accepted _ _ _ a .1) in
+    ap (λ (r : Reply Olt None). registered (r .end)) (reply-accepted _ o none (withOneMore o (freshUnit i trip interval)) none a)
+    ∙ more-registered o (freshUnit i trip interval) (omega (arith, r .room))
+
+---- refused: the very OLT that was lent, and nothing
+
+pub fresh-refused : (mac clock : ℕ) → (freshOltOf mac clock .number ≡ 0 → ⊥) → freshOltOf mac clock .olt ≡ newOlt 0 0
+unfolding freshOltOf oltAnswer
+fresh-refused mac clock n = number-refused (newOlt 0 0) none _ (λ x e. reply-untouched _ (newOlt 0 0) none _ none x e) n .end
+
+pub register-refused : (o : Olt) (i : Identity) (trip interval : ℕ) → (registerOf o i trip interval .number ≡ 0 → ⊥) → registerOf o i trip interval .olt ≡ o
+unfolding registerOf registering oltAnswer
+register-refused o i trip interval n = number-refused o none _ (λ x e. reply-untouched _ o none _ none x e) n .end
+
+pub advance-olt-refused : (o : Olt) (n : ℕ) → (advanceOltOf o n .number ≡ 0 → ⊥) → advanceOltOf o n .olt ≡ o
+unfolding advanceOltOf advancingOlt oltAnswer
+advance-olt-refused o n h = number-refused o none _ (λ x e. reply-untouched _ o none _ none x e) h .end
+
+pub capture-refused : (o : Olt) (llid : ℕ) → (captureOf o llid .number ≡ 0 → ⊥) → captureOf o llid .olt ≡ o
+unfolding captureOf oltAnswer
+capture-refused o llid n = number-refused o none _ (lift-untouched o none Accepted llid captureUnit) n .end
+
+pub clock-send-refused : (o : Olt) (llid : ℕ) → (clockSendOf o llid .number ≡ 0 → ⊥)
+    → (clockSendOf o llid .olt ≡ o) × (clockSendOf o llid .message ≡ noStamps)
+unfolding clockSendOf clockSent
+clock-send-refused o llid n =
+    let u = number-refused o noStamps _ (lift-untouched o noStamps Accepted llid clockSendUnit) n in
+    (u .end, u .handed)
+
+pub offer-refused : (o : Olt) (llid : ℕ) (key : List ℕ) → (offerOf o llid key .number ≡ 0 → ⊥)
+    → (offerOf o llid key .olt ≡ o) × (offerOf o llid key .message ≡ noKeyMessage)
+unfolding offerOf keySent
+offer-refused o llid key n =
+    let u = number-refused o noKeyMessage _ (lift-untouched o noKeyMessage Accepted llid (offerUnit llid key)) n in
+    (u .end, u .handed)
+
+pub retry-refused : (o : Olt) (llid : ℕ) → (retryOf o llid .number ≡ 0 → ⊥) → (retryOf o llid .olt ≡ o) × (retryOf o llid .message ≡ noKeyMessage)
+unfolding retryOf keySent
+retry-refused o llid n =
+    let u = number-refused o noKeyMessage _ (lift-untouched o noKeyMessage Accepted llid (retryUnit llid)) n in
+    (u .end, u .handed)
+
+pub acknowledge-refused : (o : Olt) (llid : ℕ) (a : Acknowledgement) → (acknowledgeOf o llid a .number ≡ 0 → ⊥) → acknowledgeOf o llid a .olt ≡ o
+unfolding acknowledgeOf oltAnswer
+acknowledge-refused o llid a n = number-refused o none _ (lift-untouched o none Accepted llid (acknowledgeUnit a)) n .end

@@ -13,3 +13,4 @@ pub mod UnitTraffic
 pub mod OltCalls
 pub mod OltTraffic
 pub mod OnuCalls
+pub mod OnuTraffic

@@ -1,0 +1,119 @@
+-- Send and receive of the ONU: they keep it valid, and which key they choose when. Assumes nothing.
+use mathlib.Core.Path.{_≡_, refl, sym, _∙_, ap}
+use mathlib.Core.Bool.{Bool, true, false, not}
+use Prim.Native.Nat.{ℕ, _+_, _%_, _≤_, _<_}
+use native.Mathlib.Omega.{arith}
+use lib.Dec.{leb, ltb, eqb}
+use borrow.Author.Tests.{leb-true, leb-false, ltb-true, eqb-true, eqb-false, le-leb, lt-leb, eq-eqb, ne-eqb, not-false}
+use Rattle.octets.specs.Choice.{both, either, pick}
+use Rattle.octets.proofs.Choice.{both-left, both-right, both-true, either-false, pick-true, pick-false}
+use Rattle.refusal.specs.declared.Refusal.{Refusal}
+use Rattle.refusal.specs.declared.Refusal.the-variants.{OutOfRange, UnknownLlid, ClockNotSet, NoKey, EpamDiffers, ClearEnvelope, ChannelTaken, KeyTooOld, BadLength}
+use Rattle.refusal.specs.declared.Verdict.{Verdict}
+use Rattle.refusal.specs.declared.Verdict.the-variants.{Accepted, Refused}
+use Rattle.clock.specs.Ticks.{epamOf}
+use Rattle.ends.specs.Limits.{maxEqs, maxKeyNumber}
+use Rattle.ends.specs.Replies.{isUp, refuseIf, Reply}
+use Rattle.ends.specs.Keys.{onlyKey, notNoted, firstSend}
+use Rattle.ends.specs.Occupancy.{downstream, upstream, taken, occupied}
+use Rattle.ends.specs.Identities.{has}
+use Rattle.ends.specs.Records.{withOnuKeys, withOnuFirst, withOnuChannels}
+use Rattle.ends.specs.Validity.{validOnuKeys, validOnu}
+use Rattle.ends.specs.Headers.{validHeader, choiceNumber, choiceVerdict, choiceAged, noPassage, noSending}
+use Rattle.ends.specs.OnuCalls.{onuReply}
+use Rattle.ends.specs.OnuTraffic.{onuSendChoice, onuSendVerdict, onuNoted, onuSent, sendingOnu, onuReceiveChoice, onuReceiveVerdict, onuMoved, onuReceived, receivingOnu}
+use Rattle.ends.specs.declared.OnuKeys.{OnuKeys}
+use Rattle.ends.specs.declared.Onu.{Onu}
+use Rattle.ends.specs.declared.Header.{Header}
+use Rattle.ends.specs.declared.KeyChoice.{KeyChoice}
+use Rattle.ends.specs.declared.KeyChoice.the-variants.{Clear, Current, Next, Barred}
+use Rattle.ends.proofs.Tests.{true-false, either-left, either-right, either-cases}
+use Rattle.ends.proofs.Replies.{refuse-accepted, Untouched}
+use Rattle.ends.proofs.Keys.{first-send-valid, first-none-valid}
+use Rattle.ends.proofs.Occupancy.{occupied-valid}
+use Rattle.ends.proofs.Validity.{OnuInRange, onu-in-range, onu-valid}
+use Rattle.ends.proofs.OnuCalls.{onu-accepted, onu-untouched, onu-keeps}
+
+---- validity
+
+noted-valid : (choice : KeyChoice) (o : Onu) → validOnu o ≡ true → validOnu (onuNoted choice o) ≡ true
+unfolding onuNoted withOnuFirst
+noted-valid Clear o v = v
+noted-valid (Next n) o v = v
+noted-valid (Barred r) o v = v
+noted-valid (Current n) o v =
+    let r = onu-in-range o v in
+    onu-valid _
+    (record {
+      identity = r .identity;
+      distinct = r .distinct;
+      oltmac = r .oltmac;
+      tick = r .tick;
+      clock = r .clock;
+      keys = r .keys;
+      first = first-send-valid (o .first) (o .tick) (r .first);
+      channels = r .channels;
+    })
+
+pub onu-sent-valid : (o : Onu) (index eqs : ℕ) → eqs ≤ maxEqs → validOnu o ≡ true → validOnu (onuSent o index eqs) ≡ true
+unfolding onuSent withOnuChannels
+onu-sent-valid o index eqs h v =
+    let r = onu-in-range o v in
+    let q = onu-in-range (onuNoted (onuSendChoice (o .keys)) o) (noted-valid (onuSendChoice (o .keys)) o v) in
+    onu-valid (onuSent o index eqs)
+    (record {
+      identity = q .identity;
+      distinct = q .distinct;
+      oltmac = q .oltmac;
+      tick = q .tick;
+      clock = q .clock;
+      keys = q .keys;
+      first = q .first;
+      channels = occupied-valid (o .channels) index (o .tick) eqs (r .tick) h (r .channels);
+    })
+
+pub sending-onu-valid : (o : Onu) (misfit : Bool) (llid index eqs : ℕ) → (misfit ≡ false → eqs ≤ maxEqs) → validOnu o ≡ true
+    → validOnu (sendingOnu o misfit llid index eqs .end) ≡ true
+unfolding sendingOnu onuSendVerdict
+sending-onu-valid o misfit llid index eqs h v =
+    onu-keeps (λ (p : Onu). validOnu p ≡ true) o noSending _ _ _ v (λ w a. onu-sent-valid o index eqs (h (refuse-accepted _ _ _ a .0)) w)
+
+pub onu-moved-valid : (o : Onu) → validOnu o ≡ true → validOnu (onuMoved o) ≡ true
+unfolding onuMoved withOnuFirst withOnuKeys validOnuKeys either
+onu-moved-valid o v =
+    let r = onu-in-range o v in
+    onu-valid (onuMoved o)
+    (record {
+      identity = r .identity;
+      distinct = r .distinct;
+      oltmac = r .oltmac;
+      tick = r .tick;
+      clock = r .clock;
+      keys = both-true refl refl;
+      first = first-none-valid (o .tick);
+      channels = r .channels;
+    })
+
+received-valid : (choice : KeyChoice) (o : Onu) → validOnu o ≡ true → validOnu (onuReceived choice o) ≡ true
+unfolding onuReceived
+received-valid Clear o v = v
+received-valid (Current n) o v = v
+received-valid (Next n) o v = onu-moved-valid o v
+received-valid (Barred r) o v = v
+
+pub receiving-onu-valid : (o : Onu) (misfit : Bool) (h : Header) → validOnu o ≡ true → validOnu (receivingOnu o misfit h .end) ≡ true
+unfolding receivingOnu
+receiving-onu-valid o misfit h v =
+    onu-keeps (λ (p : Onu). validOnu p ≡ true) o noPassage _ _ _ v (λ w a. received-valid (onuReceiveChoice (o .keys) h) o w)
+
+---- refused: the very ONU that was lent, and nothing
+
+pub sending-onu-untouched : (o : Onu) (misfit : Bool) (llid index eqs : ℕ) (r : Refusal) → sendingOnu o misfit llid index eqs .verdict ≡ Refused r
+    → Untouched o noSending (sendingOnu o misfit llid index eqs)
+unfolding sendingOnu
+sending-onu-untouched o misfit llid index eqs r e = onu-untouched o noSending _ _ _ r e
+
+pub receiving-onu-untouched : (o : Onu) (misfit : Bool) (h : Header) (r : Refusal) → receivingOnu o misfit h .verdict ≡ Refused r
+    → Untouched o noPassage (receivingOnu o misfit h)
+unfolding receivingOnu
+receiving-onu-untouched o misfit h r e = onu-untouched o noPassage _ _ _ r e

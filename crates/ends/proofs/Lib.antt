@@ -14,3 +14,4 @@ pub mod OltCalls
 pub mod OltTraffic
 pub mod OnuCalls
 pub mod OnuTraffic
+pub mod Headers

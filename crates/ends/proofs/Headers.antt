@@ -1,0 +1,65 @@
+-- Laws of headers, and of what an envelope goes under. Assumes nothing.
+use mathlib.Core.Path.{_≡_, refl, sym, _∙_, ap}
+use mathlib.Core.Bool.{Bool, true, false}
+use mathlib.Core.List.{List}
+use Prim.Native.Nat.{ℕ, _+_, _%_, _≤_, _<_}
+use native.Mathlib.Omega.{arith}
+use lib.Dec.{leb, ltb, eqb}
+use borrow.Author.Tests.{eqb-true, eqb-false, le-leb, lt-ltb, eq-eqb, ne-eqb}
+use Rattle.octets.specs.Choice.{both, pick}
+use Rattle.octets.proofs.Choice.{both-true, pick-true, pick-false}
+use Rattle.refusal.specs.declared.Refusal.{Refusal}
+use Rattle.refusal.specs.declared.Verdict.{Verdict}
+use Rattle.refusal.specs.declared.Verdict.the-variants.{Accepted, Refused}
+use Rattle.clock.specs.Ticks.{epamTurn, epamOf}
+use Rattle.ends.specs.Keys.{noKey, keyIn, aged}
+use Rattle.ends.specs.Headers.{validHeader, choiceNumber, choiceVerdict, choiceAged, headerOf, keyFor}
+use Rattle.ends.specs.declared.Slots.{Slots}
+use Rattle.ends.specs.declared.FirstSend.{FirstSend}
+use Rattle.ends.specs.declared.KeyChoice.{KeyChoice}
+use Rattle.ends.specs.declared.KeyChoice.the-variants.{Clear, Current, Next, Barred}
+use Rattle.ends.proofs.Replies.{refused-accepts}
+
+-- a clear envelope says so
+pub header-clear : (n index llid clock : ℕ) → n ≡ 0 → headerOf n index llid clock .encenabled ≡ 0
+unfolding headerOf
+header-clear n index llid clock e = pick-true 0 1 (eq-eqb n 0 e)
+
+-- and so does a sealed one
+pub header-sealed : (n index llid clock : ℕ) → 1 ≤ n → headerOf n index llid clock .encenabled ≡ 1
+unfolding headerOf
+header-sealed n index llid clock h = pick-false 0 1 (ne-eqb n 0 (λ e. omega arith))
+
+-- every header that is made is valid
+pub header-valid : (n index llid clock : ℕ) → validHeader (headerOf n index llid clock) ≡ true
+unfolding validHeader headerOf pick
+header-valid n index llid clock = by-clear (eqb n 0) refl where
+  epam : ltb (epamOf clock) epamTurn ≡ true
+  epam = lt-ltb (epamOf clock) epamTurn (omega arith)
+
+  by-clear : (t : Bool) → eqb n 0 ≡ t → both (leb (pick t 0 1) 1) (both (leb (n % 2) (pick t 0 1)) (ltb (epamOf clock) epamTurn)) ≡ true
+  by-clear true e = both-true refl (both-true (le-leb (n % 2) 0 (omega (arith, eqb-true n 0 e))) epam)
+  by-clear false e = both-true refl (both-true (le-leb (n % 2) 1 (omega arith)) epam)
+
+-- the key of a number from 1 on is that of its index
+pub key-for : (n : ℕ) (s : Slots) → 1 ≤ n → keyFor n s ≡ keyIn s n
+unfolding keyFor
+key-for n s h = pick-false noKey (keyIn s n) (ne-eqb n 0 (λ e. omega arith))
+
+pub key-for-clear : (s : Slots) → keyFor 0 s ≡ noKey
+unfolding keyFor pick
+key-for-clear s = refl
+
+-- an envelope that is accepted is not barred
+pub choice-accepted : (c : KeyChoice) (r : Refusal) → choiceVerdict c ≡ Accepted → c ≡ Barred r → ⊥
+unfolding choiceVerdict
+choice-accepted c r e f = refused-accepts r (sym (ap choiceVerdict f) ∙ e)
+
+-- a key that comes into use is not too old
+pub aged-next : (n : ℕ) (f : FirstSend) (tick : ℕ) → choiceAged (Next n) f tick ≡ false
+unfolding choiceAged
+aged-next n f tick = refl
+
+pub aged-current : (n : ℕ) (f : FirstSend) (tick : ℕ) → choiceAged (Current n) f tick ≡ aged f tick
+unfolding choiceAged
+aged-current n f tick = refl

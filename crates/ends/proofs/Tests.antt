@@ -1,5 +1,5 @@
 -- Laws of tests that are general. Assumes nothing.
-use mathlib.Core.Path.{_≡_, refl}
+use mathlib.Core.Path.{_≡_, refl, sym}
 use mathlib.Core.Bool.{Bool, true, false, not}
 use mathlib.Core.Logic.{_⊎_, inl, inr}
 use Prim.Native.Nat.{ℕ}
@@ -40,6 +40,16 @@ pub both-false-right : (a : Bool) {b : Bool} → b ≡ false → both a b ≡ fa
 unfolding both
 both-false-right true e = e
 both-false-right false e = refl
+
+pub both-false-then : (a b : Bool) → both a b ≡ false → a ≡ true → b ≡ false
+unfolding both
+both-false-then true b e f = e
+both-false-then false b e f = true-false (sym f)
+
+pub then-both-false : (a b : Bool) → (a ≡ true → b ≡ false) → both a b ≡ false
+unfolding both
+then-both-false true b h = h refl
+then-both-false false b h = refl
 
 pub not-of-true : {a : Bool} → a ≡ true → not a ≡ false
 not-of-true e = rw e

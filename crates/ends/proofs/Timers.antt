@@ -1,11 +1,11 @@
 -- Laws of the key timer. Assumes nothing.
 use mathlib.Core.Path.{_≡_, refl, sym, _∙_, ap, ap₂}
 use mathlib.Core.Bool.{Bool, true, false}
-use Prim.Native.Nat.{ℕ, _+_, _%_, _≤_, _<_}
-use native.Mathlib.Nat.{mod-lt, mod-add-mod, mod-eq-of-lt, add-assoc}
+use Prim.Native.Nat.{ℕ, _+_, _*_, _/_, _%_, _≤_, _<_}
+use native.Mathlib.Nat.{mod-lt, mod-add-mod, mod-eq-of-lt, mod-add-div', add-mul-div-right, div-eq-of-lt, le-div-iff-mul-le, div-lt-iff-lt-mul, div-mul-le-self, add-assoc}
 use native.Mathlib.Omega.{arith}
 use lib.Dec.{leb, ltb}
-use borrow.Author.Tests.{leb-true, leb-false, ltb-true, le-leb, lt-ltb}
+use borrow.Author.Tests.{leb-true, leb-false, ltb-true, le-leb, lt-ltb, le-ltb}
 use Rattle.octets.specs.Choice.{both, pick}
 use Rattle.octets.proofs.Choice.{both-left, both-right, both-true, pick-true, pick-false, pick-same}
 use Rattle.ends.specs.Limits.{maxInterval}
@@ -97,3 +97,66 @@ pub timer-fresh-valid : (interval : ℕ) → validInterval interval ≡ true →
 unfolding validTimer freshTimer validInterval
 timer-fresh-valid interval e =
     both-true e (both-true (lt-ltb 0 interval (omega (arith, leb-true 1 interval (both-left _ _ e)))) refl)
+
+---- the timer by the ticks since registration
+
+-- the timer of a unit registered `now` ticks ago, whose flag fell last, or whose registration was, at `fall`: the flag is up if a
+-- multiple of the interval was reached since
+abbrev pub timerSince : ℕ → ℕ → ℕ → Timer
+timerSince interval now fall = record { interval = interval; count = now % interval; flag = pick (ltb (fall / interval) (now / interval)) 1 0 }
+
+pub since-fresh : (interval : ℕ) → 1 ≤ interval → freshTimer interval ≡ timerSince interval 0 0
+unfolding freshTimer
+since-fresh interval h =
+    let count : _≡_ {A = ℕ} 0 (0 % interval) = sym (mod-eq-of-lt h) in
+    let flag : _≡_ {A = ℕ} 0 (pick (ltb (0 / interval) (0 / interval)) 1 0) = sym (pick-false 1 0 (le-ltb (0 / interval) (0 / interval) (omega arith))) in
+    ap₂ (λ (x y : ℕ). record { interval = interval; count = x; flag = y }) count flag
+
+pub since-fallen : (interval now fall : ℕ) → timerFallen (timerSince interval now fall) ≡ timerSince interval now now
+unfolding timerFallen
+since-fallen interval now fall =
+    ap (λ (x : ℕ). record { interval = interval; count = now % interval; flag = x })
+    (sym (pick-false 1 0 (le-ltb (now / interval) (now / interval) (omega arith))))
+
+-- how many multiples were reached, n ticks later
+multiples : (interval now n : ℕ) → 1 ≤ interval → (now + n) / interval ≡ (now % interval + n) / interval + now / interval
+multiples interval now n h =
+    let split : now + n ≡ now % interval + n + now / interval * interval = omega (arith, mod-add-div' now interval) in
+    rw split (add-mul-div-right (now % interval + n) (now / interval) h)
+
+pub since-advanced : (interval now fall n : ℕ) → 1 ≤ interval → fall ≤ now
+    → timerAdvanced (timerSince interval now fall) n ≡ timerSince interval (now + n) fall
+unfolding timerAdvanced
+since-advanced interval now fall n h k =
+    ap₂ (λ (x y : ℕ). record { interval = interval; count = x; flag = y }) (mod-add-mod now interval n)
+    (by-reached (leb interval (now % interval + n)) refl) where
+      old : Bool
+      old = ltb (fall / interval) (now / interval)
+
+      by-reached : (t : Bool) → leb interval (now % interval + n) ≡ t → _≡_ {A = ℕ} (pick t 1 (pick old 1 0)) (pick (ltb (fall / interval) ((now + n) / interval)) 1 0)
+      by-reached true e =
+          let one : 1 * interval ≤ now % interval + n = omega (arith, leb-true interval (now % interval + n) e) in
+          let more = le-div-iff-mul-le h .1 one in
+          let before : fall / interval ≤ now / interval = le-div-iff-mul-le h .1 (omega (arith, div-mul-le-self fall interval)) in
+          let up = lt-ltb (fall / interval) ((now + n) / interval) (omega (arith, multiples interval now n h, more, before)) in
+          pick-true 1 (pick old 1 0) refl ∙ sym (pick-true 1 0 up)
+      by-reached false e =
+          let none : (now % interval + n) / interval ≡ 0 = div-eq-of-lt (leb-false _ _ e) in
+          let same : (now + n) / interval ≡ now / interval = omega (arith, multiples interval now n h, none) in
+          rw same (pick-false 1 (pick old 1 0) refl)
+
+-- the flag is up just where a multiple of the interval lies after `fall` and not after `now`
+pub since-up : (interval now fall k : ℕ) → 1 ≤ interval → fall < k * interval → k * interval ≤ now → timerSince interval now fall .flag ≡ 1
+since-up interval now fall k h a b =
+    let low : fall / interval < k = div-lt-iff-lt-mul h .1 a in
+    let high : k ≤ now / interval = le-div-iff-mul-le h .1 b in
+    pick-true 1 0 (lt-ltb (fall / interval) (now / interval) (omega arith))
+
+pub since-multiple : (interval now fall : ℕ) → 1 ≤ interval → timerSince interval now fall .flag ≡ 1
+    → (fall < now / interval * interval) × (now / interval * interval ≤ now)
+since-multiple interval now fall h e = by-up (ltb (fall / interval) (now / interval)) refl e where
+  by-up : (t : Bool) → ltb (fall / interval) (now / interval) ≡ t → _≡_ {A = ℕ} (pick t 1 0) 1 → (fall < now / interval * interval) × (now / interval * interval ≤ now)
+  by-up true f g = (div-lt-iff-lt-mul h .0 (ltb-true _ _ f), div-mul-le-self now interval)
+  by-up false f g =
+      let z : _≡_ {A = ℕ} 0 1 = sym (pick-false 1 0 refl) ∙ g in
+      absurd (omega arith)

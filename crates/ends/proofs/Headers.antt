@@ -1,23 +1,21 @@
 -- Laws of headers, and of what an envelope goes under. Assumes nothing.
 use mathlib.Core.Path.{_≡_, refl, sym, _∙_, ap}
 use mathlib.Core.Bool.{Bool, true, false}
-use mathlib.Core.List.{List}
-use Prim.Native.Nat.{ℕ, _+_, _%_, _≤_, _<_}
+use Prim.Native.Nat.{ℕ, _%_, _≤_}
 use native.Mathlib.Omega.{arith}
 use lib.Dec.{leb, ltb, eqb}
-use borrow.Author.Tests.{eqb-true, eqb-false, le-leb, lt-ltb, eq-eqb, ne-eqb}
+use borrow.Author.Tests.{eqb-true, le-leb, lt-ltb, eq-eqb, ne-eqb}
 use Rattle.octets.specs.Choice.{both, pick}
 use Rattle.octets.proofs.Choice.{both-true, pick-true, pick-false}
 use Rattle.refusal.specs.declared.Refusal.{Refusal}
-use Rattle.refusal.specs.declared.Verdict.{Verdict}
-use Rattle.refusal.specs.declared.Verdict.the-variants.{Accepted, Refused}
+use Rattle.refusal.specs.declared.Verdict.the-variants.{Accepted}
 use Rattle.clock.specs.Ticks.{epamTurn, epamOf}
 use Rattle.ends.specs.Keys.{noKey, keyIn, aged}
-use Rattle.ends.specs.Headers.{validHeader, choiceNumber, choiceVerdict, choiceAged, headerOf, keyFor}
+use Rattle.ends.specs.Headers.{validHeader, choiceVerdict, choiceAged, headerOf, keyFor}
 use Rattle.ends.specs.declared.Slots.{Slots}
 use Rattle.ends.specs.declared.FirstSend.{FirstSend}
 use Rattle.ends.specs.declared.KeyChoice.{KeyChoice}
-use Rattle.ends.specs.declared.KeyChoice.the-variants.{Clear, Current, Next, Barred}
+use Rattle.ends.specs.declared.KeyChoice.the-variants.{Current, Next, Barred}
 use Rattle.ends.proofs.Replies.{refused-accepts}
 
 -- a clear envelope says so

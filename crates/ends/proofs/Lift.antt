@@ -2,23 +2,21 @@
 -- which keeps a unit valid keeps the OLT valid. Assumes nothing.
 use mathlib.Core.Path.{_≡_, refl, sym, _∙_, ap, ap₂, subst}
 use mathlib.Core.Bool.{Bool, true, false, not}
-use mathlib.Core.List.{List}
-use Prim.Native.Nat.{ℕ, _≤_, _<_}
+use Prim.Native.Nat.{ℕ, _<_}
 use native.Mathlib.Omega.{arith}
-use lib.ListN.{length, getD, take, set, length-take}
+use lib.ListN.{length-take}
 use lib.Seq.{getD-take, take-set-lt}
-use borrow.Author.Tests.{not-false}
 use Rattle.refusal.specs.declared.Refusal.{Refusal}
 use Rattle.refusal.specs.declared.Refusal.the-variants.{OutOfRange, UnknownLlid}
 use Rattle.refusal.specs.declared.Verdict.{Verdict}
 use Rattle.refusal.specs.declared.Verdict.the-variants.{Accepted, Refused}
-use Rattle.ends.specs.Replies.{refuseIf, Reply, reply}
+use Rattle.ends.specs.Replies.{Reply, reply}
 use Rattle.ends.specs.Identities.{distinct}
 use Rattle.ends.specs.Occupancy.{validChannels}
 use Rattle.ends.specs.Records.{withChannels}
-use Rattle.ends.specs.Table.{registered, all, tableLlids, find, pastUnit, unitAt, withUnit}
+use Rattle.ends.specs.Table.{registered, find, pastUnit, unitAt, withUnit}
 use Rattle.ends.specs.Validity.{validUnit, validShared, validOlt}
-use Rattle.ends.specs.Lift.{Outcome, outcome, putBack, atUnit, after, lift}
+use Rattle.ends.specs.Lift.{Outcome, putBack, atUnit, after, lift}
 use Rattle.ends.specs.declared.Channels.{Channels}
 use Rattle.ends.specs.declared.Unit.{Unit}
 use Rattle.ends.specs.declared.Shared.{Shared}
@@ -27,9 +25,9 @@ use Rattle.ends.specs.declared.Found.{Found}
 use Rattle.ends.specs.declared.Found.the-variants.{At, Nowhere}
 use Rattle.ends.proofs.Tests.{not-of-true, not-of-false}
 use Rattle.ends.proofs.Lists.{all-at, all-set}
-use Rattle.ends.proofs.Replies.{refused-accepts, refuse-accepted, refuse-passed, refuse-stopped, reply-verdict, reply-accepted, reply-refused, reply-keeps, reply-untouched, Untouched}
+use Rattle.ends.proofs.Replies.{refused-accepts, refuse-passed, refuse-stopped, reply-accepted, reply-refused, Untouched}
 use Rattle.ends.proofs.Table.{Registered, find-at, identities, SameUnits, find-same, table-same, with-unit, with-other, with-twice, with-channels, with-same-units, with-beside, Beside}
-use Rattle.ends.proofs.Validity.{SharedInRange, shared-in-range, shared-valid, OltInRange, olt-in-range, olt-valid}
+use Rattle.ends.proofs.Validity.{shared-in-range, shared-valid, olt-in-range, olt-valid}
 
 module _ {H : Type 0} (o : Olt) (nothing : H) (ahead : Verdict) (llid : ℕ) (call : Shared → Unit → Outcome H) where
   ---- where a call ends

@@ -1,15 +1,10 @@
 -- Laws of lists that are general: a test of each element, and the first elements mapped. Assumes nothing.
-use mathlib.Core.Path.{_≡_, refl, sym, _∙_, ap, ap₂}
-use mathlib.Core.Bool.{Bool, true, false}
+use mathlib.Core.Path.{_≡_, refl, ap, ap₂}
+use mathlib.Core.Bool.{Bool, true}
 use mathlib.Core.List.{List, [], _∷_, _++_, map}
-use Prim.Native.Nat.{ℕ, zero, suc, _+_, _≤_, _<_}
+use Prim.Native.Nat.{ℕ, zero, suc, _<_}
 use native.Mathlib.Nat.{le-of-suc-le-suc, not-suc-le-zero}
-use native.Mathlib.Omega.{arith}
-use lib.Dec.{ltb}
-use lib.ListN.{length, getD, take, drop, set, length-append, length-take, length-drop, length-map}
-use lib.Seq.{take-nil, drop-nil, take-suc-set, set-out, take-all}
-use borrow.Author.Tests.{ltb-true, ltb-false}
-use Rattle.octets.specs.Choice.{both}
+use lib.ListN.{length, getD, take, drop, set}
 use Rattle.octets.proofs.Choice.{both-left, both-right, both-true}
 use Rattle.ends.specs.Table.{all}
 

@@ -1,50 +1,47 @@
 -- Laws of the OLT's calls: a valid OLT stays valid, and advances add up. Assumes nothing.
-use mathlib.Core.Path.{_≡_, refl, sym, _∙_, ap, ap₂}
-use mathlib.Core.Bool.{Bool, true, false, not}
+use mathlib.Core.Path.{_≡_, refl, sym, _∙_, ap}
+use mathlib.Core.Bool.{Bool, true, false}
 use mathlib.Core.List.{List, [], _∷_, _++_, map, append-nil, append-assoc}
-use Prim.Native.Nat.{ℕ, zero, suc, _+_, _%_, _≤_, _<_}
+use Prim.Native.Nat.{ℕ, _+_, _≤_, _<_}
 use native.Mathlib.Nat.{add-assoc}
-use native.Mathlib.Numerals.{add-one}
 use native.Mathlib.Omega.{arith}
-use lib.Dec.{leb, ltb}
-use lib.ListN.{length, getD, take, drop, set, length-take, length-set, length-replicate}
+use lib.Dec.{ltb}
+use lib.ListN.{length, take, length-replicate}
 use lib.Seq.{set-out, take-all}
-use borrow.Author.Tests.{leb-false, leb-true, ltb-true, ltb-false, le-leb, lt-ltb, not-true, not-false}
-use Rattle.octets.specs.Choice.{both, either, pick}
+use borrow.Author.Tests.{leb-false, leb-true, ltb-true, ltb-false, not-false}
+use Rattle.octets.specs.Choice.{either}
 use Rattle.octets.proofs.Choice.{both-left, both-right, both-true, either-false}
-use Rattle.refusal.specs.declared.Refusal.{Refusal}
 use Rattle.refusal.specs.declared.Refusal.the-variants.{OutOfRange}
-use Rattle.refusal.specs.declared.Verdict.{Verdict}
-use Rattle.refusal.specs.declared.Verdict.the-variants.{Accepted, Refused}
-use Rattle.clock.specs.Ticks.{maxTick, clockTurn, maxRoundTrip, advanced}
+use Rattle.refusal.specs.declared.Verdict.the-variants.{Accepted}
+use Rattle.clock.specs.Ticks.{maxTick, clockTurn, maxRoundTrip}
 use Rattle.clock.proofs.Ticks.{advanced-below, advanced-sum}
 use Rattle.ends.specs.Limits.{maxUnits, maxLlids}
-use Rattle.ends.specs.Replies.{refuseIf, None, none, Reply, reply, advanceVerdict}
+use Rattle.ends.specs.Replies.{None, none, Reply}
 use Rattle.ends.specs.Timers.{validInterval}
 use Rattle.ends.specs.Messages.{noStamps, noKeyMessage}
-use Rattle.ends.specs.Identities.{among, distinct, meets, llidsOf, kept, validMac, validIdentity}
-use Rattle.ends.specs.Records.{withKeys, withConfirmation, withClock, freshUnit, noUnit, newOlt}
+use Rattle.ends.specs.Identities.{distinct, meets, llidsOf, kept, validMac, validIdentity}
+use Rattle.ends.specs.Records.{withKeys, freshUnit, noUnit, newOlt}
 use Rattle.ends.specs.Table.{registered, all, tableLlids, find, withOneMore}
-use Rattle.ends.specs.Validity.{validUnit, validShared, validOlt}
-use Rattle.ends.specs.Lift.{Outcome, outcome, lift}
-use Rattle.ends.specs.UnitCalls.{unitAdvanced, captureUnit, clockSendUnit, offerUnit, retryUnit, clockAcknowledgedUnit, keyAcknowledgedUnit, acknowledgeUnit}
+use Rattle.ends.specs.Validity.{validUnit, validOlt}
+use Rattle.ends.specs.Lift.{outcome}
+use Rattle.ends.specs.UnitCalls.{unitAdvanced, captureUnit, clockSendUnit, offerUnit, retryUnit, acknowledgeUnit}
 use Rattle.ends.specs.OltCalls.{oltAnswer, clockSent, keySent, freshOltOf, validRegistration, registerVerdict, registering, registerOf, sharedAdvanced, oltAdvanced, advancingOlt, advanceOltOf, captureOf, clockSendOf, offerOf, retryOf, acknowledgeOf}
 use Rattle.ends.specs.declared.Identity.{Identity}
 use Rattle.ends.specs.declared.Unit.{Unit}
 use Rattle.ends.specs.declared.Shared.{Shared}
 use Rattle.ends.specs.declared.Olt.{Olt}
 use Rattle.ends.specs.declared.Acknowledgement.{Acknowledgement}
-use Rattle.ends.proofs.Tests.{true-false, not-of-true}
+use Rattle.ends.proofs.Tests.{not-of-true}
 use Rattle.ends.proofs.Lists.{all-append, all-map, map-twice, map-same, take-first, drop-first, length-first}
-use Rattle.ends.proofs.Replies.{number-accepted, number-refused, refuse-accepted, refuse-passed, reply-verdict, reply-accepted, reply-keeps, reply-untouched, Untouched, advance-accepted, advance-accepts}
+use Rattle.ends.proofs.Replies.{number-accepted, number-refused, refuse-accepted, refuse-passed, reply-verdict, reply-accepted, reply-keeps, reply-untouched, advance-accepted, advance-accepts}
 use Rattle.ends.proofs.Timers.{timer-fresh-valid}
 use Rattle.ends.proofs.Keys.{first-none-valid}
 use Rattle.ends.proofs.Occupancy.{free-valid}
 use Rattle.ends.proofs.Identities.{meets-apart, not-both, distinct-append, identity-valid, kept-llids, kept-valid}
 use Rattle.ends.proofs.Table.{identityOf, llids-same, with-itself, more-registered, more-places}
-use Rattle.ends.proofs.Validity.{UnitInRange, unit-valid, ClockInRange, clock-valid, SharedInRange, shared-in-range, shared-valid, OltInRange, olt-in-range, olt-valid}
+use Rattle.ends.proofs.Validity.{unit-valid, clock-valid, shared-in-range, shared-valid, olt-in-range, olt-valid}
 use Rattle.ends.proofs.Lift.{lift-keeps, lift-valid, lift-beside, lift-again, lift-untouched}
-use Rattle.ends.proofs.UnitCalls.{unit-sum, unit-advanced-valid, capture-keeps, clock-send-keeps, offer-keeps, retry-keeps, acknowledge-keeps, acknowledged-channels, acknowledged-again}
+use Rattle.ends.proofs.UnitCalls.{unit-sum, unit-advanced-valid, capture-keeps, clock-send-keeps, offer-keeps, acknowledge-keeps, acknowledged-channels, acknowledged-again}
 
 ---- fresh
 

@@ -2,7 +2,6 @@
 use mathlib.Core.Path.{_≡_, refl, _∙_}
 use mathlib.Core.Bool.{Bool, true, false, not}
 use Prim.Native.Nat.{ℕ, _≤_}
-use lib.ListN.{length}
 use borrow.Author.Tests.{not-false}
 use Rattle.octets.specs.Choice.{both}
 use Rattle.octets.proofs.Choice.{both-left, both-right, both-true}
@@ -15,7 +14,7 @@ use Rattle.ends.specs.Replies.{refuseIf}
 use Rattle.ends.specs.Occupancy.{downstream, upstream}
 use Rattle.ends.specs.Table.{find, unitAt}
 use Rattle.ends.specs.Validity.{validOlt}
-use Rattle.ends.specs.Lift.{outcome, lift}
+use Rattle.ends.specs.Lift.{outcome}
 use Rattle.ends.specs.Headers.{validHeader, noPassage, noSending}
 use Rattle.ends.specs.UnitTraffic.{sendUnit, receiveUnit}
 use Rattle.ends.specs.OltTraffic.{sendingOlt, receivingOlt}

@@ -1,19 +1,18 @@
 -- Laws of the ONU's calls: a valid ONU stays valid, advances add up, and messages repeated leave it. Assumes nothing.
 use mathlib.Core.Path.{_≡_, refl, sym, _∙_, ap, ap₂}
-use mathlib.Core.Bool.{Bool, true, false, not}
+use mathlib.Core.Bool.{Bool, true, false}
 use mathlib.Core.List.{List}
-use mathlib.Core.Logic.{⊎-elim}
 use Prim.Native.Nat.{ℕ, _+_, _%_, _≤_, _<_}
 use native.Mathlib.Nat.{add-assoc, mod-lt}
 use native.Mathlib.Omega.{arith}
-use lib.Dec.{leb, ltb, eqb}
-use borrow.Author.Tests.{leb-true, leb-false, ltb-true, ltb-false, eqb-true, eqb-false, le-leb, lt-ltb, eq-eqb, ne-eqb, not-false}
+use lib.Dec.{ltb}
+use borrow.Author.Tests.{ltb-true, eqb-true, eqb-false, lt-ltb, eq-eqb, ne-eqb, not-false}
 use Rattle.octets.specs.Choice.{both, either, pick}
 use Rattle.octets.specs.Lists.{same}
-use Rattle.octets.proofs.Choice.{both-left, both-right, both-true, either-false, pick-true, pick-false}
-use Rattle.octets.proofs.Lists.{same-true, same-refl}
+use Rattle.octets.proofs.Choice.{both-left, both-right, both-true, pick-true, pick-false}
+use Rattle.octets.proofs.Lists.{same-refl}
 use Rattle.refusal.specs.declared.Refusal.{Refusal}
-use Rattle.refusal.specs.declared.Refusal.the-variants.{OutOfRange, UnknownLlid, RepeatedLlid, ClockNotSet, NothingOutstanding}
+use Rattle.refusal.specs.declared.Refusal.the-variants.{OutOfRange, UnknownLlid, ClockNotSet, NothingOutstanding}
 use Rattle.refusal.specs.declared.Verdict.{Verdict}
 use Rattle.refusal.specs.declared.Verdict.the-variants.{Accepted, Refused}
 use Rattle.clock.specs.Ticks.{ticksPerSecond, maxTick, clockTurn, localTurn, advanced, localAdvanced, localOf, epamOf}
@@ -23,9 +22,9 @@ use Rattle.clock.specs.declared.Stamps.{Stamps}
 use Rattle.clock.proofs.Ticks.{advanced-below, advanced-sum, localAdvanced-sum}
 use Rattle.clock.proofs.Aligned.{raise-aligns, aligned-moved}
 use Rattle.ends.specs.Limits.{maxKeyNumber}
-use Rattle.ends.specs.Replies.{isUp, refuseIf, None, none, Reply, reply, advanceVerdict}
+use Rattle.ends.specs.Replies.{isUp, None, none, Reply}
 use Rattle.ends.specs.Keys.{keyIn, withKey, noSlots}
-use Rattle.ends.specs.Identities.{noIdentity, distinct, llidsOf, has, kept, validMac, validIdentity}
+use Rattle.ends.specs.Identities.{noIdentity, distinct, has}
 use Rattle.ends.specs.Records.{newOnu, withOnuClock, withOnuKeys}
 use Rattle.ends.specs.Validity.{validOnuKeys, validOnuClock, validOnu}
 use Rattle.ends.specs.Messages.{noAcknowledgement, ofClock, ofKey}
@@ -36,12 +35,12 @@ use Rattle.ends.specs.declared.OnuClock.{OnuClock}
 use Rattle.ends.specs.declared.Onu.{Onu}
 use Rattle.ends.specs.declared.KeyMessage.{KeyMessage}
 use Rattle.ends.specs.declared.Acknowledgement.{Acknowledgement}
-use Rattle.ends.proofs.Tests.{true-false, not-of-true, both-false-left, both-false-right, either-left, either-right, either-cases, pick-holds}
+use Rattle.ends.proofs.Tests.{not-of-true, both-false-left, both-false-right, either-left, either-right, pick-holds}
 use Rattle.ends.proofs.Replies.{number-accepted, number-refused, refuse-accepted, refuse-passed, reply-verdict, reply-accepted, reply-keeps, reply-untouched, Untouched, advance-accepted, advance-accepts}
 use Rattle.ends.proofs.Keys.{key-stored, first-none-valid, first-later-valid}
 use Rattle.ends.proofs.Occupancy.{free-valid}
 use Rattle.ends.proofs.Identities.{none-invalid, identity-valid, kept-llids, kept-valid}
-use Rattle.ends.proofs.Validity.{OnuInRange, onu-in-range, onu-valid}
+use Rattle.ends.proofs.Validity.{onu-in-range, onu-valid}
 
 ---- every call
 

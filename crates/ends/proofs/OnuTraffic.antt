@@ -1,26 +1,23 @@
 -- Send and receive of the ONU: they keep it valid, and which key they choose when. Assumes nothing.
 use mathlib.Core.Path.{_≡_, refl, sym, _∙_, ap}
-use mathlib.Core.Bool.{Bool, true, false, not}
-use Prim.Native.Nat.{ℕ, _+_, _%_, _≤_, _<_}
+use mathlib.Core.Bool.{Bool, true, false}
+use Prim.Native.Nat.{ℕ, _+_, _%_, _≤_}
 use native.Mathlib.Omega.{arith}
-use lib.Dec.{leb, ltb, eqb}
-use borrow.Author.Tests.{leb-true, leb-false, ltb-true, eqb-true, eqb-false, le-leb, lt-leb, eq-eqb, ne-eqb, not-false}
-use Rattle.octets.specs.Choice.{both, either, pick}
-use Rattle.octets.proofs.Choice.{both-left, both-right, both-true, either-false, pick-true, pick-false}
+use lib.Dec.{leb, eqb}
+use borrow.Author.Tests.{leb-true, eqb-true, eqb-false, le-leb, eq-eqb, ne-eqb, not-false}
+use Rattle.octets.specs.Choice.{both, either}
+use Rattle.octets.proofs.Choice.{both-left, both-right, both-true, pick-true, pick-false}
 use Rattle.refusal.specs.declared.Refusal.{Refusal}
-use Rattle.refusal.specs.declared.Refusal.the-variants.{OutOfRange, UnknownLlid, ClockNotSet, NoKey, EpamDiffers, ClearEnvelope, ChannelTaken, KeyTooOld, BadLength}
-use Rattle.refusal.specs.declared.Verdict.{Verdict}
+use Rattle.refusal.specs.declared.Refusal.the-variants.{OutOfRange, UnknownLlid, ClockNotSet, NoKey, EpamDiffers, ClearEnvelope, BadLength}
 use Rattle.refusal.specs.declared.Verdict.the-variants.{Accepted, Refused}
 use Rattle.clock.specs.Ticks.{epamOf}
-use Rattle.ends.specs.Limits.{maxEqs, maxKeyNumber}
-use Rattle.ends.specs.Replies.{isUp, refuseIf, Reply}
-use Rattle.ends.specs.Keys.{onlyKey, notNoted, firstSend}
-use Rattle.ends.specs.Occupancy.{downstream, upstream, taken, occupied}
+use Rattle.ends.specs.Limits.{maxEqs}
+use Rattle.ends.specs.Replies.{isUp}
+use Rattle.ends.specs.Occupancy.{downstream, upstream, taken}
 use Rattle.ends.specs.Identities.{has}
 use Rattle.ends.specs.Records.{withOnuKeys, withOnuFirst, withOnuChannels}
 use Rattle.ends.specs.Validity.{validOnuKeys, validOnu}
-use Rattle.ends.specs.Headers.{validHeader, choiceNumber, choiceVerdict, choiceAged, noPassage, noSending}
-use Rattle.ends.specs.OnuCalls.{onuReply}
+use Rattle.ends.specs.Headers.{validHeader, choiceVerdict, choiceAged, noPassage, noSending}
 use Rattle.ends.specs.OnuTraffic.{onuSendChoice, onuSendVerdict, onuNoted, onuSent, sendingOnu, onuReceiveChoice, onuReceiveVerdict, onuMoved, onuReceived, receivingOnu}
 use Rattle.ends.specs.declared.OnuKeys.{OnuKeys}
 use Rattle.ends.specs.declared.Onu.{Onu}
@@ -31,8 +28,8 @@ use Rattle.ends.proofs.Tests.{not-of-true, both-false-right, both-false
 use Rattle.ends.proofs.Replies.{refuse-accepted, refuse-passed, Untouched}
 use Rattle.ends.proofs.Keys.{first-send-valid, first-none-valid}
 use Rattle.ends.proofs.Occupancy.{occupied-valid}
-use Rattle.ends.proofs.Validity.{OnuInRange, onu-in-range, onu-valid}
-use Rattle.ends.proofs.OnuCalls.{onu-accepted, onu-untouched, onu-keeps}
+use Rattle.ends.proofs.Validity.{onu-in-range, onu-valid}
+use Rattle.ends.proofs.OnuCalls.{onu-untouched, onu-keeps}
 
 ---- validity
 

@@ -1,15 +1,14 @@
 -- Laws of the table: a unit is found by any of its LLIDs, and a unit replaced leaves all else. Assumes nothing.
 use mathlib.Core.Path.{_≡_, refl, sym, _∙_, ap, ap₂}
 use mathlib.Core.Bool.{Bool, true, false}
-use mathlib.Core.List.{List, [], _∷_, _++_, map, append-nil}
-use mathlib.Core.Logic.{⊎-elim}
+use mathlib.Core.List.{List, [], _∷_, _++_, map}
 use Prim.Native.Nat.{ℕ, zero, suc, _+_, _-_, _≤_, _<_}
 use native.Mathlib.Nat.{le-of-suc-le-suc, not-suc-le-zero, zero-add, add-zero, add-suc, suc-add}
 use native.Mathlib.Numerals.{add-one}
 use native.Mathlib.Omega.{arith}
-use lib.ListN.{length, getD, take, drop, set, length-take, length-set, length-append}
-use lib.Seq.{getD-take, getD-set-same, getD-set-other, set-getD, set-set, map-set-same, take-suc-set, length-take-le}
-use Rattle.octets.specs.Choice.{pick, either}
+use lib.ListN.{length, getD, take, length-take, length-set}
+use lib.Seq.{getD-take, getD-set-same, getD-set-other, set-getD, set-set, map-set-same, take-suc-set}
+use Rattle.octets.specs.Choice.{pick}
 use Rattle.octets.proofs.Choice.{pick-true, pick-false, either-false}
 use Rattle.ends.specs.Identities.{among, distinct, llidsOf, has}
 use Rattle.ends.specs.Records.{withChannels}
@@ -18,9 +17,8 @@ use Rattle.ends.specs.declared.Channels.{Channels}
 use Rattle.ends.specs.declared.Identity.{Identity}
 use Rattle.ends.specs.declared.Unit.{Unit}
 use Rattle.ends.specs.declared.Olt.{Olt}
-use Rattle.ends.specs.declared.Found.{Found}
 use Rattle.ends.specs.declared.Found.the-variants.{At, Nowhere}
-use Rattle.ends.proofs.Tests.{true-false, either-left, either-right, either-none}
+use Rattle.ends.proofs.Tests.{either-left, either-right, either-none}
 use Rattle.ends.proofs.Lists.{map-take}
 use Rattle.ends.proofs.Identities.{among-append, distinct-right, distinct-apart, not-both}
 

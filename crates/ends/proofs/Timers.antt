@@ -6,7 +6,7 @@ use native.Mathlib.Nat.{mod-lt, mod-add-mod, mod-eq-of-lt, mod-add-div', add-mul
 use native.Mathlib.Omega.{arith}
 use lib.Dec.{leb, ltb}
 use borrow.Author.Tests.{leb-true, leb-false, ltb-true, le-leb, lt-ltb, le-ltb}
-use Rattle.octets.specs.Choice.{both, pick}
+use Rattle.octets.specs.Choice.{pick}
 use Rattle.octets.proofs.Choice.{both-left, both-right, both-true, pick-true, pick-false, pick-same}
 use Rattle.ends.specs.Limits.{maxInterval}
 use Rattle.ends.specs.Timers.{freshTimer, timerAdvanced, timerFallen, validInterval, validTimer}

@@ -1,25 +1,23 @@
 -- The clock and key calls on one unit keep it valid and of its identity. Assumes nothing.
-use mathlib.Core.Path.{_≡_, refl, sym, _∙_, ap, ap₂}
-use mathlib.Core.Bool.{Bool, true, false, not}
+use mathlib.Core.Path.{_≡_, refl, _∙_, ap, ap₂}
+use mathlib.Core.Bool.{Bool, true, false}
 use mathlib.Core.List.{List}
 use mathlib.Core.Logic.{⊎-elim}
 use Prim.Native.Nat.{ℕ, _+_, _-_, _%_, _≤_, _<_}
 use native.Mathlib.Nat.{mod-mod}
 use native.Mathlib.Omega.{arith}
-use lib.Dec.{leb, ltb, eqb}
+use lib.Dec.{leb, eqb}
 use borrow.Author.Tests.{leb-true, leb-false, ltb-false, eqb-true, eqb-false, le-leb, not-false}
-use Rattle.octets.specs.Choice.{both, either, pick}
+use Rattle.octets.specs.Choice.{both, pick}
 use Rattle.octets.specs.Lists.{same}
-use Rattle.octets.proofs.Choice.{both-left, both-right, both-true, either-false}
+use Rattle.octets.proofs.Choice.{both-left, both-right, either-false}
 use Rattle.refusal.specs.declared.Refusal.the-variants.{NothingOutstanding}
-use Rattle.refusal.specs.declared.Verdict.{Verdict}
 use Rattle.refusal.specs.declared.Verdict.the-variants.{Accepted, Refused}
-use Rattle.clock.specs.Ticks.{ticksPerSecond, clockTurn, advanced, rewound}
+use Rattle.clock.specs.Ticks.{ticksPerSecond, clockTurn, rewound}
 use Rattle.clock.specs.Stamping.{capturedAt}
 use Rattle.clock.proofs.Ticks.{advanced-mod, rewound-at}
 use Rattle.ends.specs.Limits.{maxKeyNumber}
-use Rattle.ends.specs.Replies.{isUp, refuseIf, None, none}
-use Rattle.ends.specs.Timers.{timerAdvanced}
+use Rattle.ends.specs.Replies.{None, none}
 use Rattle.ends.specs.Keys.{keyIn}
 use Rattle.ends.specs.Messages.{clockKind, keyKind}
 use Rattle.ends.specs.Records.{withKeys, withConfirmation, withClock, withTimer}
@@ -31,11 +29,11 @@ use Rattle.ends.specs.declared.UnitClock.{UnitClock}
 use Rattle.ends.specs.declared.Unit.{Unit}
 use Rattle.ends.specs.declared.Shared.{Shared}
 use Rattle.ends.specs.declared.Acknowledgement.{Acknowledgement}
-use Rattle.ends.proofs.Tests.{either-left, either-right, either-cases, pick-holds}
+use Rattle.ends.proofs.Tests.{either-left, either-right, either-cases}
 use Rattle.ends.proofs.Replies.{refuse-accepted}
 use Rattle.ends.proofs.Timers.{timer-sum, timer-advanced-valid}
 use Rattle.ends.proofs.Keys.{first-later-valid}
-use Rattle.ends.proofs.Validity.{ClockInRange, clock-in-range, clock-valid, UnitInRange, unit-in-range, unit-valid, shared-in-range}
+use Rattle.ends.proofs.Validity.{ClockInRange, clock-in-range, clock-valid, unit-in-range, unit-valid, shared-in-range}
 use Rattle.ends.proofs.Lift.{Keeps}
 
 ---- advance

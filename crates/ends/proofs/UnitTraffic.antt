@@ -1,27 +1,22 @@
 -- Send and receive on one unit: they keep it valid, and which key they choose when. Assumes nothing.
 use mathlib.Core.Path.{_≡_, refl, sym, _∙_, ap}
-use mathlib.Core.Bool.{Bool, true, false, not}
-use Prim.Native.Nat.{ℕ, _+_, _%_, _≤_, _<_}
+use mathlib.Core.Bool.{Bool, true, false}
+use Prim.Native.Nat.{ℕ, _+_, _%_, _≤_}
 use native.Mathlib.Omega.{arith}
-use lib.Dec.{leb, ltb, eqb}
-use borrow.Author.Tests.{leb-true, leb-false, eqb-true, eqb-false, le-leb, lt-leb, eq-eqb, ne-eqb, not-false}
-use Rattle.octets.specs.Choice.{both, either, pick}
-use Rattle.octets.proofs.Choice.{both-left, both-right, both-true, either-false, pick-true, pick-false}
+use lib.Dec.{leb, eqb}
+use borrow.Author.Tests.{leb-true, eqb-true, eqb-false, le-leb, eq-eqb, ne-eqb, not-false}
+use Rattle.octets.specs.Choice.{both}
+use Rattle.octets.proofs.Choice.{both-left, both-right, both-true, pick-true, pick-false}
 use Rattle.refusal.specs.declared.Refusal.the-variants.{NoKey, EpamDiffers, ClearEnvelope, ChannelTaken, KeyTooOld}
-use Rattle.refusal.specs.declared.Verdict.{Verdict}
-use Rattle.refusal.specs.declared.Verdict.the-variants.{Accepted, Refused}
-use Rattle.clock.specs.Ticks.{maxTick, epamOf}
+use Rattle.refusal.specs.declared.Verdict.the-variants.{Accepted}
+use Rattle.clock.specs.Ticks.{epamOf}
 use Rattle.ends.specs.Limits.{maxEqs}
-use Rattle.ends.specs.Replies.{isUp, refuseIf}
-use Rattle.ends.specs.Timers.{timerFallen}
-use Rattle.ends.specs.Keys.{onlyKey, notedAt, firstSend, aged}
-use Rattle.ends.specs.Occupancy.{taken, occupied, validChannels}
+use Rattle.ends.specs.Occupancy.{taken}
 use Rattle.ends.specs.Records.{withKeys, withConfirmation, withSlots, withFirst}
-use Rattle.ends.specs.Validity.{validUnit, validShared}
-use Rattle.ends.specs.Lift.{Outcome, outcome}
-use Rattle.ends.specs.Headers.{choiceNumber, choiceVerdict, choiceAged}
+use Rattle.ends.specs.Validity.{validUnit}
+use Rattle.ends.specs.Lift.{outcome}
+use Rattle.ends.specs.Headers.{choiceVerdict, choiceAged}
 use Rattle.ends.specs.UnitTraffic.{switches, unitSendChoice, unitSendVerdict, keysSwitched, keysSent, sendUnit, unitReceiveChoice, unitReceiveVerdict, unitConfirmed, unitReceived, receiveUnit}
-use Rattle.ends.specs.declared.UnitKeys.{UnitKeys}
 use Rattle.ends.specs.declared.Unit.{Unit}
 use Rattle.ends.specs.declared.Shared.{Shared}
 use Rattle.ends.specs.declared.Header.{Header}
@@ -32,7 +27,7 @@ use Rattle.ends.proofs.Replies.{refuse-accepted, refuse-passed}
 use Rattle.ends.proofs.Timers.{timer-fallen-valid}
 use Rattle.ends.proofs.Keys.{first-send-valid, first-noted-valid}
 use Rattle.ends.proofs.Occupancy.{occupied-valid}
-use Rattle.ends.proofs.Validity.{UnitInRange, unit-in-range, unit-valid, SharedInRange, shared-in-range}
+use Rattle.ends.proofs.Validity.{unit-in-range, unit-valid, shared-in-range}
 use Rattle.ends.proofs.Lift.{Keeps}
 
 ---- validity

@@ -1,17 +1,13 @@
 -- What validity says of each record, as facts, and that the facts give it. Assumes nothing.
-use mathlib.Core.Path.{_≡_, refl, sym, _∙_, ap}
-use mathlib.Core.Bool.{Bool, true, false}
-use mathlib.Core.List.{List}
-use mathlib.Core.Logic.{⊎-elim}
+use mathlib.Core.Path.{_≡_}
+use mathlib.Core.Bool.{true}
 use Prim.Native.Nat.{ℕ, _+_, _≤_, _<_}
-use native.Mathlib.Omega.{arith}
-use lib.Dec.{leb, ltb, eqb}
+use lib.Dec.{leb, eqb}
 use borrow.Author.Tests.{leb-true, ltb-true, le-leb, lt-ltb}
-use Rattle.octets.specs.Choice.{both, either, pick}
+use Rattle.octets.specs.Choice.{either}
 use Rattle.octets.proofs.Choice.{both-left, both-right, both-true}
-use Rattle.clock.specs.Ticks.{maxTick, clockTurn, localTurn, maxRoundTrip}
-use Rattle.ends.specs.Limits.{maxUnits, maxKeyNumber}
-use Rattle.ends.specs.Replies.{isUp}
+use Rattle.clock.specs.Ticks.{maxTick, clockTurn, maxRoundTrip}
+use Rattle.ends.specs.Limits.{maxUnits}
 use Rattle.ends.specs.Timers.{validTimer}
 use Rattle.ends.specs.Keys.{validFirst}
 use Rattle.ends.specs.Occupancy.{validChannels}
@@ -22,10 +18,7 @@ use Rattle.ends.specs.declared.UnitClock.{UnitClock}
 use Rattle.ends.specs.declared.Unit.{Unit}
 use Rattle.ends.specs.declared.Shared.{Shared}
 use Rattle.ends.specs.declared.Olt.{Olt}
-use Rattle.ends.specs.declared.OnuKeys.{OnuKeys}
-use Rattle.ends.specs.declared.OnuClock.{OnuClock}
 use Rattle.ends.specs.declared.Onu.{Onu}
-use Rattle.ends.proofs.Tests.{either-left, either-right, either-cases}
 
 ---- the OLT's clock for a unit
 

@@ -11,11 +11,11 @@ use Rattle.refusal.specs.declared.Refusal.{Refusal}
 use Rattle.refusal.specs.declared.Verdict.the-variants.{Accepted}
 use Rattle.clock.specs.Ticks.{epamTurn, epamOf}
 use Rattle.ends.specs.Keys.{noKey, keyIn, aged}
-use Rattle.ends.specs.Headers.{validHeader, choiceVerdict, choiceAged, headerOf, keyFor}
+use Rattle.ends.specs.Headers.{validHeader, choiceNumber, choiceVerdict, choiceAged, headerOf, keyFor}
 use Rattle.ends.specs.declared.Slots.{Slots}
 use Rattle.ends.specs.declared.FirstSend.{FirstSend}
 use Rattle.ends.specs.declared.KeyChoice.{KeyChoice}
-use Rattle.ends.specs.declared.KeyChoice.the-variants.{Current, Next, Barred}
+use Rattle.ends.specs.declared.KeyChoice.the-variants.{Clear, Current, Next, Barred}
 use Rattle.ends.proofs.Replies.{refused-accepts}
 
 -- a clear envelope says so
@@ -61,3 +61,26 @@ aged-next n f tick = refl
 pub aged-current : (n : ℕ) (f : FirstSend) (tick : ℕ) → choiceAged (Current n) f tick ≡ aged f tick
 unfolding choiceAged
 aged-current n f tick = refl
+
+pub header-index : (n index llid clock : ℕ) → headerOf n index llid clock .enckey ≡ n % 2
+unfolding headerOf
+header-index n index llid clock = refl
+
+---- numbers
+
+-- the envelope goes, under key n
+pub record Under (n : ℕ) (c : KeyChoice) : Type 0 where
+  pub goes : choiceVerdict c ≡ Accepted
+  pub number : choiceNumber c ≡ n
+
+pub under-clear : Under 0 Clear
+unfolding choiceVerdict choiceNumber
+under-clear = record { goes = refl; number = refl }
+
+pub under-current : (n : ℕ) → Under n (Current n)
+unfolding choiceVerdict choiceNumber
+under-current n = record { goes = refl; number = refl }
+
+pub under-next : (n : ℕ) → Under n (Next n)
+unfolding choiceVerdict choiceNumber
+under-next n = record { goes = refl; number = refl }

@@ -114,3 +114,27 @@ pub first-send-valid : (f : FirstSend) (tick : ℕ) → validFirst f tick ≡ tr
 unfolding firstSend
 first-send-valid f tick e =
     pick-holds (λ (x : FirstSend). validFirst x tick ≡ true) (isUp (f .noted)) f (notedAt tick) (λ p. e) (λ p. first-noted-valid tick)
+
+-- a first send at or before the tick, less than a key's life ago
+pub record InLife (f : FirstSend) (now : ℕ) : Type 0 where
+  pub noted : f .noted ≡ 1
+  pub since : f .tick ≤ now
+  pub within : now < f .tick + keyLife
+
+pub noted-in-life : (tick : ℕ) → InLife (notedAt tick) tick
+noted-in-life tick = record { noted = refl; since = omega arith; within = omega arith }
+
+-- a send under a key that is not too old is within the key's life, and its first send is noted
+pub send-in-life : (f : FirstSend) (tick : ℕ) → validFirst f tick ≡ true → aged f tick ≡ false → InLife (firstSend f tick) tick
+unfolding firstSend validFirst
+send-in-life f tick v a =
+    pick-holds (λ (x : FirstSend). InLife x tick) (isUp (f .noted)) f (notedAt tick)
+    (λ e.
+    let n : f .noted ≡ 1 = eqb-true _ _ e in
+    record {
+      noted = n;
+      since =
+          ⊎-elim (λ z. omega (arith, eqb-true (f .noted) 0 z)) (λ l. leb-true (f .tick) tick l) (either-cases _ _ (both-right _ _ v));
+      within = aged-false f tick n a;
+    })
+    (λ e. noted-in-life tick)

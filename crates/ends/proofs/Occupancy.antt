@@ -59,6 +59,17 @@ pub taken-false : (c : Channels) (index tick : ℕ) → taken c index tick ≡ f
 unfolding taken
 taken-false c index tick e = ltb-false tick (freeFrom c index) e
 
+-- a send on a free channel makes no channel free earlier
+pub free-later : (c : Channels) (index other tick eqs : ℕ) → taken c index tick ≡ false → freeFrom c other ≤ freeFrom (occupied c index tick eqs) other
+unfolding freeFrom occupied pick
+free-later c index other tick eqs e = by-channel (onZero other) (onZero index) (taken-false c index tick e) where
+  by-channel : (t u : Bool) → pick u (c .zero) (c .one) ≤ tick
+      → pick t (c .zero) (c .one) ≤ pick t (pick u (tick + eqs + 1) (c .zero)) (pick u (c .one) (tick + eqs + 1))
+  by-channel true true h = omega arith
+  by-channel true false h = omega arith
+  by-channel false true h = omega arith
+  by-channel false false h = omega arith
+
 ---- validity
 
 pub free-valid : validChannels freeChannels ≡ true

@@ -17,19 +17,20 @@ use Rattle.ends.specs.Occupancy.{downstream, upstream, taken}
 use Rattle.ends.specs.Identities.{has}
 use Rattle.ends.specs.Records.{withOnuKeys, withOnuFirst, withOnuChannels}
 use Rattle.ends.specs.Validity.{validOnuKeys, validOnu}
-use Rattle.ends.specs.Headers.{validHeader, choiceVerdict, choiceAged, noPassage, noSending}
+use Rattle.ends.specs.Headers.{validHeader, choiceVerdict, choiceAged, noPassage, noSending, choiceNumber, headerOf}
 use Rattle.ends.specs.OnuTraffic.{onuSendChoice, onuSendVerdict, onuNoted, onuSent, sendingOnu, onuReceiveChoice, onuReceiveVerdict, onuMoved, onuReceived, receivingOnu}
 use Rattle.ends.specs.declared.OnuKeys.{OnuKeys}
 use Rattle.ends.specs.declared.Onu.{Onu}
 use Rattle.ends.specs.declared.Header.{Header}
 use Rattle.ends.specs.declared.KeyChoice.{KeyChoice}
 use Rattle.ends.specs.declared.KeyChoice.the-variants.{Clear, Current, Next, Barred}
-use Rattle.ends.proofs.Tests.{not-of-true, both-false-right, both-false-then, then-both-false}
-use Rattle.ends.proofs.Replies.{refuse-accepted, refuse-passed, Untouched}
-use Rattle.ends.proofs.Keys.{first-send-valid, first-none-valid}
-use Rattle.ends.proofs.Occupancy.{occupied-valid}
+use Rattle.ends.proofs.Tests.{not-of-true, both-false-right, both-false-then, then-both-false, true-false}
+use Rattle.ends.proofs.Replies.{refuse-accepted, refuse-passed, Untouched, refused-accepts, not-accepted}
+use Rattle.ends.proofs.Keys.{first-send-valid, first-none-valid, InLife, send-in-life}
+use Rattle.ends.proofs.Occupancy.{occupied-valid, downstream-below, upstream-between}
 use Rattle.ends.proofs.Validity.{onu-in-range, onu-valid}
-use Rattle.ends.proofs.OnuCalls.{onu-untouched, onu-keeps}
+use Rattle.ends.proofs.OnuCalls.{onu-untouched, onu-keeps, onu-accepted}
+use Rattle.ends.proofs.Headers.{header-clear, header-sealed, header-index, Under, under-clear, under-current, under-next}
 
 ---- validity
 
@@ -244,3 +245,81 @@ onu-receive-accepts o misfit h r =
     ∙ refuse-passed _ EpamDiffers _ (then-both-false _ _ (λ s. not-of-true (eq-eqb _ _ (r .epam (eqb-true _ _ s)))))
     ∙ refuse-passed _ ClockNotSet _ (then-both-false _ _ (λ s. not-of-true (eq-eqb _ _ (r .synced (eqb-true _ _ s)))))
     ∙ r .choice
+
+---- numbers
+
+-- an envelope from a unit has the number a
+pub onu-sent-number : (k : OnuKeys) → choiceNumber (onuSendChoice k) ≡ k .active
+unfolding choiceNumber
+onu-sent-number k = by-case (onu-send-case k) where
+  by-case : OnuSendCase k → choiceNumber (onuSendChoice k) ≡ k .active
+  by-case (onuPlain e a) = rw e (sym a)
+  by-case (onuSealed e a) = rw e
+
+-- sealed, it is sent within its key's life, whose first send is noted
+pub onu-sent-in-life : (o : Onu) (misfit : Bool) (llid index eqs : ℕ) → validOnu o ≡ true → onuSendVerdict o misfit llid index ≡ Accepted
+    → 1 ≤ o .keys .active → InLife (onuSent o index eqs .first) (o .tick)
+unfolding onuSent onuNoted withOnuChannels withOnuFirst choiceAged
+onu-sent-in-life o misfit llid index eqs v a n = by-case (onu-send-case (o .keys)) (onu-send-accepted o misfit llid index a .young) where
+  of : KeyChoice → Type 0
+  of c = choiceAged c (o .first) (o .tick) ≡ false → InLife (onuNoted c o .first) (o .tick)
+
+  by-case : OnuSendCase (o .keys) → of (onuSendChoice (o .keys))
+  by-case (onuPlain e z) = absurd (omega arith)
+  by-case (onuSealed e z) = rw e (λ y. send-in-life (o .first) (o .tick) (onu-in-range o v .first) y)
+
+-- an envelope to a unit has the number that a is after it
+pub onu-received-number : (o : Onu) (h : Header) → choiceVerdict (onuReceiveChoice (o .keys) h) ≡ Accepted
+    → choiceNumber (onuReceiveChoice (o .keys) h) ≡ onuReceived (onuReceiveChoice (o .keys) h) o .keys .active
+unfolding choiceVerdict choiceNumber onuReceived onuMoved withOnuFirst withOnuKeys
+onu-received-number o h a = by-case (onu-receive-case (o .keys) h) a where
+  of : KeyChoice → Type 0
+  of c = choiceVerdict c ≡ Accepted → choiceNumber c ≡ onuReceived c o .keys .active
+
+  by-case : OnuReceiveCase (o .keys) h → of (onuReceiveChoice (o .keys) h)
+  by-case (onuClear e p q) = rw e (λ v. sym q)
+  by-case (onuLate e p q) = rw e (λ v. refused-accepts ClearEnvelope v)
+  by-case (onuCurrent e p q k) = rw e (λ v. refl)
+  by-case (onuNext e p q k) = rw e (λ v. refl)
+  by-case (onuUnknown e p) = rw e (λ v. refused-accepts NoKey v)
+
+-- an envelope numbered n, a or the held a + 1, is taken as n
+pub onu-receive-numbered : (k : OnuKeys) (n index llid clock : ℕ) → k .active ≤ n → n ≤ k .active + k .held → k .held ≤ 1
+    → Under n (onuReceiveChoice k (headerOf n index llid clock))
+onu-receive-numbered k n index llid clock a b c = by-clear (eqb n 0) refl where
+  h : Header
+  h = headerOf n index llid clock
+
+  by-active : 1 ≤ n → (t : Bool) → eqb n (k .active) ≡ t → Under n (onuReceiveChoice k h)
+  by-active p true e =
+      rw (onu-receive-current k h n (header-sealed n index llid clock p) (header-index n index llid clock) p (eqb-true _ _ e)) (under-current n)
+  by-active p false e =
+      let d = eqb-false n (k .active) e in
+      let held : k .held ≡ 1 = omega arith in
+      let next : n ≡ k .active + 1 = omega arith in
+      rw (onu-receive-next k h n (header-sealed n index llid clock p) (header-index n index llid clock) held next) (under-next n)
+
+  by-clear : (t : Bool) → eqb n 0 ≡ t → Under n (onuReceiveChoice k h)
+  by-clear true e =
+      let z : n ≡ 0 = eqb-true _ _ e in
+      rw (onu-receive-clear k h (header-clear n index llid clock z) (omega arith), z) under-clear
+  by-clear false e = by-active (omega (arith, eqb-false n 0 e)) (eqb n (k .active)) refl
+
+---- overheard envelopes
+
+-- a receipt that is not accepted leaves the very ONU, and hands over nothing
+receiving-onu-not : (o : Onu) (misfit : Bool) (h : Header) → (onuReceiveVerdict o misfit h ≡ Accepted → ⊥) → Untouched o noPassage (receivingOnu o misfit h)
+unfolding receivingOnu
+receiving-onu-not o misfit h n =
+    not-accepted o noPassage (receivingOnu o misfit h) (onu-untouched o noPassage _ _ _)
+    (λ e. n (onu-accepted o noPassage _ _ _ e .1))
+
+-- an envelope for another unit, and an upstream one, are refused, with whatever buffer
+pub overheard-down : (o : Onu) (misfit : Bool) (h : Header) → has (o .identity) (h .llid) ≡ false → Untouched o noPassage (receivingOnu o misfit h)
+overheard-down o misfit h n = receiving-onu-not o misfit h (λ a. true-false (sym (onu-receive-accepted o misfit h a .has) ∙ n))
+
+pub overheard-up : (o : Onu) (misfit : Bool) (h : Header) → upstream (h .index) ≡ true → Untouched o noPassage (receivingOnu o misfit h)
+overheard-up o misfit h u =
+    receiving-onu-not o misfit h
+    (λ a.
+    omega (arith, downstream-below (h .index) (onu-receive-accepted o misfit h a .downstream), upstream-between (h .index) u))

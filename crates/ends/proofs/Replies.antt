@@ -102,10 +102,15 @@ number-accepted (Refused r) e = absurd (by-refusal r e) where
   by-refusal CaptureTooOld e = omega arith
   by-refusal AtEnd e = omega arith
 
+-- a reply that does not accept is refused
+pub not-accepted : {E H : Type 0} (lent : E) (nothing : H) (r : Reply E H) → ((x : Refusal) → r .verdict ≡ Refused x → Untouched lent nothing r)
+    → (r .verdict ≡ Accepted → ⊥) → Untouched lent nothing r
+not-accepted lent nothing r h n = by-verdict (r .verdict) refl where
+  by-verdict : (v : Verdict) → r .verdict ≡ v → Untouched lent nothing r
+  by-verdict Accepted e = absurd (n e)
+  by-verdict (Refused x) e = h x e
+
 -- a reply of any other number is refused
 pub number-refused : {E H : Type 0} (lent : E) (nothing : H) (r : Reply E H) → ((x : Refusal) → r .verdict ≡ Refused x → Untouched lent nothing r)
     → (verdictNumber (r .verdict) ≡ 0 → ⊥) → Untouched lent nothing r
-number-refused lent nothing r h n = by-verdict (r .verdict) refl where
-  by-verdict : (v : Verdict) → r .verdict ≡ v → Untouched lent nothing r
-  by-verdict Accepted e = absurd (n (ap verdictNumber e))
-  by-verdict (Refused x) e = h x e
+number-refused lent nothing r h n = not-accepted lent nothing r h (λ e. n (ap verdictNumber e))

@@ -15,7 +15,7 @@ use Rattle.ends.specs.Occupancy.{taken}
 use Rattle.ends.specs.Records.{withKeys, withConfirmation, withSlots, withFirst}
 use Rattle.ends.specs.Validity.{validUnit}
 use Rattle.ends.specs.Lift.{outcome}
-use Rattle.ends.specs.Headers.{choiceVerdict, choiceAged}
+use Rattle.ends.specs.Headers.{choiceNumber, choiceVerdict, choiceAged, headerOf}
 use Rattle.ends.specs.UnitTraffic.{switches, unitSendChoice, unitSendVerdict, keysSwitched, keysSent, sendUnit, unitReceiveChoice, unitReceiveVerdict, unitConfirmed, unitReceived, receiveUnit}
 use Rattle.ends.specs.declared.Unit.{Unit}
 use Rattle.ends.specs.declared.Shared.{Shared}
@@ -23,9 +23,10 @@ use Rattle.ends.specs.declared.Header.{Header}
 use Rattle.ends.specs.declared.KeyChoice.{KeyChoice}
 use Rattle.ends.specs.declared.KeyChoice.the-variants.{Clear, Current, Next, Barred}
 use Rattle.ends.proofs.Tests.{not-of-true, both-false-right}
-use Rattle.ends.proofs.Replies.{refuse-accepted, refuse-passed}
+use Rattle.ends.proofs.Replies.{refused-accepts, refuse-accepted, refuse-passed}
 use Rattle.ends.proofs.Timers.{timer-fallen-valid}
-use Rattle.ends.proofs.Keys.{first-send-valid, first-noted-valid}
+use Rattle.ends.proofs.Keys.{first-send-valid, first-noted-valid, InLife, noted-in-life, send-in-life}
+use Rattle.ends.proofs.Headers.{header-clear, header-sealed, header-index, Under, under-clear, under-current, under-next}
 use Rattle.ends.proofs.Occupancy.{occupied-valid}
 use Rattle.ends.proofs.Validity.{unit-in-range, unit-valid, shared-in-range}
 use Rattle.ends.proofs.Lift.{Keeps}
@@ -244,3 +245,67 @@ receive-accepted s u h e =
 pub receive-accepts : (s : Shared) (u : Unit) (h : Header) → Receives s u h → unitReceiveVerdict s u h ≡ Accepted
 unfolding unitReceiveVerdict
 receive-accepts s u h r = refuse-passed _ EpamDiffers _ (not-of-true (eq-eqb _ _ (r .epam))) ∙ r .choice
+
+---- numbers
+
+-- an envelope to a unit has the number that A is after it
+pub sent-number : (u : Unit) (tick : ℕ) → choiceNumber (unitSendChoice u) ≡ keysSent (unitSendChoice u) (u .keys) tick .active
+unfolding choiceNumber keysSent withFirst keysSwitched
+sent-number u tick = by-case (send-case u) where
+  of : KeyChoice → Type 0
+  of c = choiceNumber c ≡ keysSent c (u .keys) tick .active
+
+  by-case : SendCase u → of (unitSendChoice u)
+  by-case (switching e w) = rw e
+  by-case (plain e w a) = rw e (sym a)
+  by-case (sealed e w a) = rw e
+
+-- sealed, it is sent within its key's life, whose first send is noted
+pub sent-in-life : (s : Shared) (u : Unit) (index : ℕ) → validUnit (s .tick) u ≡ true → unitSendVerdict s u index ≡ Accepted
+    → 1 ≤ choiceNumber (unitSendChoice u) → InLife (keysSent (unitSendChoice u) (u .keys) (s .tick) .first) (s .tick)
+unfolding choiceNumber keysSent withFirst keysSwitched choiceAged
+sent-in-life s u index v a n = by-case (send-case u) (send-accepted s u index a .young) n where
+  of : KeyChoice → Type 0
+  of c = choiceAged c (u .keys .first) (s .tick) ≡ false → 1 ≤ choiceNumber c → InLife (keysSent c (u .keys) (s .tick) .first) (s .tick)
+
+  by-case : SendCase u → of (unitSendChoice u)
+  by-case (switching e w) = rw e (λ y p. noted-in-life (s .tick))
+  by-case (plain e w z) = rw e (λ y p. absurd (omega arith))
+  by-case (sealed e w z) = rw e (λ y p. send-in-life (u .keys .first) (s .tick) (unit-in-range (s .tick) u v .first) y)
+
+-- an envelope from a unit has the number that C is after it
+pub received-number : (u : Unit) (h : Header) → choiceVerdict (unitReceiveChoice u h) ≡ Accepted
+    → choiceNumber (unitReceiveChoice u h) ≡ unitReceived (unitReceiveChoice u h) u .confirmation .confirmed
+unfolding choiceVerdict choiceNumber unitReceived unitConfirmed withConfirmation
+received-number u h a = by-case (receive-case u h) a where
+  of : KeyChoice → Type 0
+  of c = choiceVerdict c ≡ Accepted → choiceNumber c ≡ unitReceived c u .confirmation .confirmed
+
+  by-case : ReceiveCase u h → of (unitReceiveChoice u h)
+  by-case (clear e p q) = rw e (λ v. sym q)
+  by-case (late e p q) = rw e (λ v. refused-accepts ClearEnvelope v)
+  by-case (current e p q k) = rw e (λ v. refl)
+  by-case (next e p q k) = rw e (λ v. refl)
+  by-case (unknown e p) = rw e (λ v. refused-accepts NoKey v)
+
+-- an envelope numbered n, from C to A, is taken as n
+pub receive-numbered : (u : Unit) (n index llid clock : ℕ) → u .confirmation .confirmed ≤ n → n ≤ u .keys .active
+    → u .keys .active ≤ u .confirmation .confirmed + 1 → Under n (unitReceiveChoice u (headerOf n index llid clock))
+receive-numbered u n index llid clock a b c = by-clear (eqb n 0) refl where
+  h : Header
+  h = headerOf n index llid clock
+
+  by-confirmed : 1 ≤ n → (t : Bool) → eqb n (u .confirmation .confirmed) ≡ t → Under n (unitReceiveChoice u h)
+  by-confirmed p true e =
+      rw (receive-current u h n (header-sealed n index llid clock p) (header-index n index llid clock) p (eqb-true _ _ e)) (under-current n)
+  by-confirmed p false e =
+      let d = eqb-false n (u .confirmation .confirmed) e in
+      let active : n ≡ u .keys .active = omega arith in
+      let next : n ≡ u .confirmation .confirmed + 1 = omega arith in
+      rw (receive-next u h n (header-sealed n index llid clock p) (header-index n index llid clock) active next) (under-next n)
+
+  by-clear : (t : Bool) → eqb n 0 ≡ t → Under n (unitReceiveChoice u h)
+  by-clear true e =
+      let z : n ≡ 0 = eqb-true _ _ e in
+      rw (receive-clear u h (header-clear n index llid clock z) (omega arith), z) under-clear
+  by-clear false e = by-confirmed (omega (arith, eqb-false n 0 e)) (eqb n (u .confirmation .confirmed)) refl

@@ -19,9 +19,9 @@ use Rattle.ends.specs.Limits.{maxUnits, maxLlids}
 use Rattle.ends.specs.Replies.{None, none, Reply}
 use Rattle.ends.specs.Timers.{validInterval}
 use Rattle.ends.specs.Messages.{noStamps, noKeyMessage}
-use Rattle.ends.specs.Identities.{distinct, meets, llidsOf, kept, validMac, validIdentity}
+use Rattle.ends.specs.Identities.{distinct, meets, llidsOf, kept, validMac, validIdentity, has}
 use Rattle.ends.specs.Records.{withKeys, freshUnit, noUnit, newOlt}
-use Rattle.ends.specs.Table.{registered, all, tableLlids, find, withOneMore}
+use Rattle.ends.specs.Table.{registered, all, tableLlids, find, withOneMore, unitAt, pastUnit}
 use Rattle.ends.specs.Validity.{validUnit, validOlt}
 use Rattle.ends.specs.Lift.{outcome}
 use Rattle.ends.specs.UnitCalls.{unitAdvanced, captureUnit, clockSendUnit, offerUnit, retryUnit, acknowledgeUnit}
@@ -32,16 +32,17 @@ use Rattle.ends.specs.declared.Shared.{Shared}
 use Rattle.ends.specs.declared.Olt.{Olt}
 use Rattle.ends.specs.declared.Acknowledgement.{Acknowledgement}
 use Rattle.ends.proofs.Tests.{not-of-true}
-use Rattle.ends.proofs.Lists.{all-append, all-map, map-twice, map-same, take-first, drop-first, length-first}
+use Rattle.ends.proofs.Lists.{all-append, all-map, map-twice, map-same, take-first, drop-first, length-first, map-first, getD-first}
 use Rattle.ends.proofs.Replies.{number-accepted, number-refused, refuse-accepted, refuse-passed, reply-verdict, reply-accepted, reply-keeps, reply-untouched, advance-accepted, advance-accepts}
 use Rattle.ends.proofs.Timers.{timer-fresh-valid}
 use Rattle.ends.proofs.Keys.{first-none-valid}
 use Rattle.ends.proofs.Occupancy.{free-valid}
-use Rattle.ends.proofs.Identities.{meets-apart, not-both, distinct-append, identity-valid, kept-llids, kept-valid}
-use Rattle.ends.proofs.Table.{identityOf, llids-same, with-itself, more-registered, more-places}
+use Rattle.ends.proofs.Identities.{meets-apart, not-both, distinct-append, identity-valid, kept-llids, kept-valid, kept-has}
+use Rattle.ends.proofs.Table.{identityOf, llids-same, with-itself, more-registered, more-places, SameUnits, Registered, find-absent, more-find-new}
 use Rattle.ends.proofs.Validity.{unit-valid, clock-valid, shared-in-range, shared-valid, olt-in-range, olt-valid}
 use Rattle.ends.proofs.Lift.{lift-keeps, lift-valid, lift-beside, lift-again, lift-untouched}
 use Rattle.ends.proofs.UnitCalls.{unit-sum, unit-advanced-valid, capture-keeps, clock-send-keeps, offer-keeps, acknowledge-keeps, acknowledged-channels, acknowledged-again}
+use Rattle.ends.specs.declared.Found.the-variants.{At, Nowhere}
 
 ---- fresh
 
@@ -191,6 +192,17 @@ unit-identity : (n : ℕ) (u : Unit) → unitAdvanced n u .identity ≡ u .ident
 unfolding unitAdvanced withKeys
 unit-identity n u = refl
 
+-- no advance changes who is registered, and where
+pub advanced-same-units : (o : Olt) (n : ℕ) → SameUnits (oltAdvanced o n) o
+unfolding oltAdvanced
+advanced-same-units o n =
+    record { count = refl; identities = map-first (unitAdvanced n) identityOf (unit-identity n) (o .count) (o .units) }
+
+-- a unit in use is advanced
+pub advanced-unit : (o : Olt) (n llid i : ℕ) → Registered o llid i → unitAt (oltAdvanced o n) i ≡ unitAdvanced n (unitAt o i)
+unfolding oltAdvanced
+advanced-unit o n llid i r = getD-first (unitAdvanced n) (o .count) (o .units) i pastUnit (r .used) (r .place)
+
 pub olt-advanced-valid : (o : Olt) (n : ℕ) → o .shared .tick + n ≤ maxTick → validOlt o ≡ true → validOlt (oltAdvanced o n) ≡ true
 unfolding oltAdvanced sharedAdvanced
 olt-advanced-valid o n h v =
@@ -331,6 +343,18 @@ register-registered o i trip interval h e =
     let r = register-accepted o i trip interval (refuse-accepted _ _ _ a .1) in
     ap (λ (r : Reply Olt None). registered (r .end)) (reply-accepted _ o none (withOneMore o (freshUnit i trip interval)) none a)
     ∙ more-registered o (freshUnit i trip interval) (omega (arith, r .room))
+
+-- it is found by each of its LLIDs, which were found nowhere before
+pub register-new : (o : Olt) (i : Identity) (trip interval llid : ℕ) → Registers o i trip interval → has i llid ≡ true → find o llid ≡ Nowhere
+unfolding has
+register-new o i trip interval llid r h = find-absent o llid (meets-apart (llidsOf i) (tableLlids (registered o)) llid (r .new) h)
+
+pub register-found : (o : Olt) (i : Identity) (trip interval llid : ℕ) → length (o .units) ≡ maxUnits → Registers o i trip interval → has i llid ≡ true
+    → find (withOneMore o (freshUnit i trip interval)) llid ≡ At (o .count)
+unfolding freshUnit
+register-found o i trip interval llid l r h =
+    more-find-new o (freshUnit i trip interval) llid (omega (arith, r .room)) (register-new o i trip interval llid r h)
+    (kept-has i llid (identity-valid i (r .identity) .1) ∙ h)
 
 ---- refused: the very OLT that was lent, and nothing
 

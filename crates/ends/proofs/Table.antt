@@ -91,6 +91,12 @@ find-own o llid i d r =
     let e : has (getD (registered o) i pastUnit .identity) llid ≡ true = rw (getD-take (o .count) (o .units) i pastUnit (r .used)) (r .has) in
     rw zero-add at (from-own 0 (registered o) llid i d (omega (arith, length-take (o .count) (o .units))) e)
 
+-- so an LLID is one unit's
+pub one-place : (o : Olt) (llid i j : ℕ) → distinct (tableLlids (registered o)) ≡ true → Registered o llid i → Registered o llid j → i ≡ j
+one-place o llid i j d r q =
+    let e : At i ≡ At j = sym (find-own o llid i d r) ∙ find-own o llid j d q in
+    cc
+
 from-nowhere : (k : ℕ) (us : List Unit) (llid : ℕ) → findFrom k us llid ≡ Nowhere → among llid (tableLlids us) ≡ false
 unfolding findFrom pick tableLlids has among
 from-nowhere k [] llid e = refl

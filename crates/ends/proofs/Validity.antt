@@ -1,13 +1,13 @@
 -- What validity says of each record, as facts, and that the facts give it. Assumes nothing.
-use mathlib.Core.Path.{_≡_}
-use mathlib.Core.Bool.{true}
+use mathlib.Core.Path.{_≡_, refl, sym, _∙_}
+use mathlib.Core.Bool.{true, Bool, false}
 use Prim.Native.Nat.{ℕ, _+_, _≤_, _<_}
-use lib.Dec.{leb, eqb}
-use borrow.Author.Tests.{leb-true, ltb-true, le-leb, lt-ltb}
-use Rattle.octets.specs.Choice.{either}
-use Rattle.octets.proofs.Choice.{both-left, both-right, both-true}
-use Rattle.clock.specs.Ticks.{maxTick, clockTurn, maxRoundTrip}
-use Rattle.ends.specs.Limits.{maxUnits}
+use lib.Dec.{leb, eqb, ltb}
+use borrow.Author.Tests.{leb-true, ltb-true, le-leb, lt-ltb, eqb-true, ne-eqb}
+use Rattle.octets.specs.Choice.{either, pick}
+use Rattle.octets.proofs.Choice.{both-left, both-right, both-true, pick-true, pick-false}
+use Rattle.clock.specs.Ticks.{maxTick, clockTurn, maxRoundTrip, localTurn}
+use Rattle.ends.specs.Limits.{maxUnits, maxKeyNumber}
 use Rattle.ends.specs.Timers.{validTimer}
 use Rattle.ends.specs.Keys.{validFirst}
 use Rattle.ends.specs.Occupancy.{validChannels}
@@ -19,6 +19,12 @@ use Rattle.ends.specs.declared.Unit.{Unit}
 use Rattle.ends.specs.declared.Shared.{Shared}
 use Rattle.ends.specs.declared.Olt.{Olt}
 use Rattle.ends.specs.declared.Onu.{Onu}
+use mathlib.Core.Logic.{⊎-elim}
+use native.Mathlib.Omega.{arith}
+use Rattle.ends.specs.Replies.{isUp}
+use Rattle.ends.specs.declared.OnuKeys.{OnuKeys}
+use Rattle.ends.specs.declared.OnuClock.{OnuClock}
+use Rattle.ends.proofs.Tests.{either-cases}
 
 ---- the OLT's clock for a unit
 
@@ -131,6 +137,42 @@ olt-in-range o e =
 pub olt-valid : (o : Olt) → OltInRange o → validOlt o ≡ true
 unfolding validOlt
 olt-valid o r = both-true (le-leb _ _ (r .count)) (both-true (r .shared) (both-true (r .units) (r .distinct)))
+
+---- the ONU's keys and clocks
+
+pub record OnuKeysInRange (k : OnuKeys) : Type 0 where
+  pub held : k .held ≤ 1
+  pub below : k .held ≡ 1 → k .active < maxKeyNumber
+
+pub onu-keys-in-range : (k : OnuKeys) → validOnuKeys k ≡ true → OnuKeysInRange k
+unfolding validOnuKeys
+onu-keys-in-range k e =
+    record {
+      held = leb-true _ _ (both-left _ _ e);
+      below = λ h.
+          ⊎-elim (λ z. absurd (omega (arith, eqb-true (k .held) 0 z))) (λ l. ltb-true (k .active) maxKeyNumber l) (either-cases _ _ (both-right _ _ e));
+    }
+
+pub record OnuClockInRange (c : OnuClock) : Type 0 where
+  pub synced : c .synced ≤ 1
+  pub rx : c .rx < clockTurn
+  pub tx : c .time < clockTurn
+  pub local : (c .synced ≡ 1 → ⊥) → c .time < localTurn
+
+pub onu-clock-in-range : (c : OnuClock) → validOnuClock c ≡ true → OnuClockInRange c
+unfolding validOnuClock
+onu-clock-in-range c e =
+    let a = both-right _ _ e in
+    let t = both-right _ _ a in
+    record {
+      synced = leb-true _ _ (both-left _ _ e);
+      rx = ltb-true _ _ (both-left _ _ a);
+      tx = by-synced (isUp (c .synced)) t;
+      local = λ n. ltb-true (c .time) localTurn (sym (pick-false _ _ (ne-eqb (c .synced) 1 n)) ∙ t);
+    } where
+      by-synced : (b : Bool) → pick b (ltb (c .time) clockTurn) (ltb (c .time) localTurn) ≡ true → c .time < clockTurn
+      by-synced true f = ltb-true (c .time) clockTurn (sym (pick-true _ _ refl) ∙ f)
+      by-synced false f = omega (arith, ltb-true (c .time) localTurn (sym (pick-false _ _ refl) ∙ f))
 
 ---- the ONU
 

@@ -1,5 +1,5 @@
 -- Laws of headers, and of what an envelope goes under. Assumes nothing.
-use mathlib.Core.Path.{_≡_, refl, sym, _∙_, ap}
+use mathlib.Core.Path.{_≡_, refl}
 use mathlib.Core.Bool.{Bool, true, false}
 use Prim.Native.Nat.{ℕ, _%_, _≤_}
 use native.Mathlib.Omega.{arith}
@@ -7,7 +7,6 @@ use lib.Dec.{leb, ltb, eqb}
 use borrow.Author.Tests.{eqb-true, le-leb, lt-ltb, eq-eqb, ne-eqb}
 use Rattle.octets.specs.Choice.{both, pick}
 use Rattle.octets.proofs.Choice.{both-true, pick-true, pick-false}
-use Rattle.refusal.specs.declared.Refusal.{Refusal}
 use Rattle.refusal.specs.declared.Verdict.the-variants.{Accepted}
 use Rattle.clock.specs.Ticks.{epamTurn, epamOf}
 use Rattle.ends.specs.Keys.{noKey, keyIn, aged}
@@ -15,8 +14,7 @@ use Rattle.ends.specs.Headers.{validHeader, choiceNumber, choiceVerdict,
 use Rattle.ends.specs.declared.Slots.{Slots}
 use Rattle.ends.specs.declared.FirstSend.{FirstSend}
 use Rattle.ends.specs.declared.KeyChoice.{KeyChoice}
-use Rattle.ends.specs.declared.KeyChoice.the-variants.{Clear, Current, Next, Barred}
-use Rattle.ends.proofs.Replies.{refused-accepts}
+use Rattle.ends.specs.declared.KeyChoice.the-variants.{Clear, Current, Next}
 
 -- a clear envelope says so
 pub header-clear : (n index llid clock : ℕ) → n ≡ 0 → headerOf n index llid clock .encenabled ≡ 0
@@ -47,11 +45,6 @@ key-for n s h = pick-false noKey (keyIn s n) (ne-eqb n 0 (λ e. omega arith))
 pub key-for-clear : (s : Slots) → keyFor 0 s ≡ noKey
 unfolding keyFor pick
 key-for-clear s = refl
-
--- an envelope that is accepted is not barred
-pub choice-accepted : (c : KeyChoice) (r : Refusal) → choiceVerdict c ≡ Accepted → c ≡ Barred r → ⊥
-unfolding choiceVerdict
-choice-accepted c r e f = refused-accepts r (sym (ap choiceVerdict f) ∙ e)
 
 -- a key that comes into use is not too old
 pub aged-next : (n : ℕ) (f : FirstSend) (tick : ℕ) → choiceAged (Next n) f tick ≡ false

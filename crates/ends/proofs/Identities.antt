@@ -1,6 +1,6 @@
 -- Laws of LLIDs. Assumes nothing.
 use mathlib.Core.Path.{_≡_, refl, sym, _∙_, ap}
-use mathlib.Core.Bool.{Bool, true, false}
+use mathlib.Core.Bool.{true, false}
 use mathlib.Core.List.{List, [], _∷_, _++_}
 use mathlib.Core.Logic.{⊎-elim}
 use Prim.Native.Nat.{ℕ, _≤_, _<_}
@@ -38,17 +38,6 @@ meets-apart (y ∷ xs) ys x m a =
     (λ e. meets-apart xs ys x (either-false _ _ m .1) e)
     (either-cases (eqb y x) (among x xs) a)
 
-pub apart-meets : (xs ys : List ℕ) → ((x : ℕ) → among x xs ≡ true → among x ys ≡ false) → meets xs ys ≡ false
-unfolding meets among
-apart-meets [] ys h = refl
-apart-meets (x ∷ xs) ys h =
-    either-none (h x (among-head x xs)) (apart-meets xs ys (λ z a. h z (either-right _ a)))
-
--- what holds of one of two tests that are not both true
-pub not-both : (a b : Bool) → (a ≡ true → b ≡ false) → b ≡ true → a ≡ false
-not-both true b h e = true-false (sym e ∙ h refl)
-not-both false b h e = refl
-
 pub distinct-append : (xs ys : List ℕ) → distinct xs ≡ true → distinct ys ≡ true → ((x : ℕ) → among x xs ≡ true → among x ys ≡ false)
     → distinct (xs ++ ys) ≡ true
 unfolding distinct among
@@ -57,13 +46,6 @@ distinct-append (x ∷ xs) ys d e h =
     let new : among x (xs ++ ys) ≡ false =
     among-append x xs ys ∙ either-none (not-true _ (both-left _ _ d)) (h x (among-head x xs)) in
     both-true (not-of-false new) (distinct-append xs ys (both-right _ _ d) e (λ z a. h z (either-right _ a)))
-
-pub distinct-left : (xs ys : List ℕ) → distinct (xs ++ ys) ≡ true → distinct xs ≡ true
-unfolding distinct
-distinct-left [] ys d = refl
-distinct-left (x ∷ xs) ys d =
-    let new = either-false _ _ (sym (among-append x xs ys) ∙ not-true _ (both-left _ _ d)) in
-    both-true (not-of-false (new .0)) (distinct-left xs ys (both-right _ _ d))
 
 pub distinct-right : (xs ys : List ℕ) → distinct (xs ++ ys) ≡ true → distinct ys ≡ true
 unfolding distinct

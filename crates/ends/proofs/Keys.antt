@@ -41,14 +41,6 @@ key-beside s m n key h = by-index (eqb (m % 2) 0) (eqb (n % 2) 0) refl refl wher
   by-index false true e f = refl
   by-index false false e f = absurd (h (omega (arith, eqb-false (m % 2) 0 e, eqb-false (n % 2) 0 f)))
 
--- a key stored where it is
-pub key-again : (s : Slots) (n : ℕ) → withKey s n (keyIn s n) ≡ s
-unfolding keyIn withKey pick
-key-again s n = by-index (eqb (n % 2) 0) where
-  by-index : (t : Bool) → record { even = pick t (pick t (s .even) (s .odd)) (s .even); odd = pick t (s .odd) (pick t (s .even) (s .odd)) } ≡ s
-  by-index true = refl
-  by-index false = refl
-
 -- the key that is not forgotten stays
 pub only-kept : (s : Slots) (n : ℕ) → keyIn (onlyKey s n) n ≡ keyIn s n
 unfolding onlyKey

@@ -32,11 +32,6 @@ unfolding all
 all-map p q f h [] e = refl
 all-map p q f h (x ∷ xs) e = both-true (h x (both-left _ _ e)) (all-map p q f h xs (both-right _ _ e))
 
-pub all-weaker : {A : Type 0} (p q : A → Bool) → ((x : A) → p x ≡ true → q x ≡ true) → (l : List A) → all p l ≡ true → all q l ≡ true
-unfolding all
-all-weaker p q h [] e = refl
-all-weaker p q h (x ∷ xs) e = both-true (h x (both-left _ _ e)) (all-weaker p q h xs (both-right _ _ e))
-
 pub map-take : {A B : Type 0} (f : A → B) (n : ℕ) (l : List A) → map f (take n l) ≡ take n (map f l)
 map-take f zero l = refl
 map-take f (suc n) [] = refl

@@ -31,13 +31,13 @@ use Rattle.ends.specs.declared.Unit.{Unit}
 use Rattle.ends.specs.declared.Shared.{Shared}
 use Rattle.ends.specs.declared.Olt.{Olt}
 use Rattle.ends.specs.declared.Acknowledgement.{Acknowledgement}
-use Rattle.ends.proofs.Tests.{not-of-true}
+use Rattle.ends.proofs.Tests.{not-both, not-of-true}
 use Rattle.ends.proofs.Lists.{all-append, all-map, map-twice, map-same, take-first, drop-first, length-first, map-first, getD-first}
 use Rattle.ends.proofs.Replies.{number-accepted, number-refused, refuse-accepted, refuse-passed, reply-verdict, reply-accepted, reply-keeps, reply-untouched, advance-accepted, advance-accepts}
 use Rattle.ends.proofs.Timers.{timer-fresh-valid}
 use Rattle.ends.proofs.Keys.{first-none-valid}
 use Rattle.ends.proofs.Occupancy.{free-valid}
-use Rattle.ends.proofs.Identities.{meets-apart, not-both, distinct-append, identity-valid, kept-llids, kept-valid, kept-has}
+use Rattle.ends.proofs.Identities.{meets-apart, distinct-append, identity-valid, kept-llids, kept-valid, kept-has}
 use Rattle.ends.proofs.Table.{identityOf, llids-same, with-itself, more-registered, more-places, SameUnits, Registered, find-absent, more-find-new}
 use Rattle.ends.proofs.Validity.{unit-valid, clock-valid, shared-in-range, shared-valid, olt-in-range, olt-valid}
 use Rattle.ends.proofs.Lift.{lift-keeps, lift-valid, lift-beside, lift-again, lift-untouched}

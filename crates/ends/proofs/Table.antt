@@ -18,9 +18,9 @@ use Rattle.ends.specs.declared.Identity.{Identity}
 use Rattle.ends.specs.declared.Unit.{Unit}
 use Rattle.ends.specs.declared.Olt.{Olt}
 use Rattle.ends.specs.declared.Found.the-variants.{At, Nowhere}
-use Rattle.ends.proofs.Tests.{either-left, either-right, either-none}
+use Rattle.ends.proofs.Tests.{not-both, either-left, either-right, either-none}
 use Rattle.ends.proofs.Lists.{map-take}
-use Rattle.ends.proofs.Identities.{among-append, distinct-right, distinct-apart, not-both}
+use Rattle.ends.proofs.Identities.{among-append, distinct-right, distinct-apart}
 
 ---- who is found
 

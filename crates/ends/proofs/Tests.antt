@@ -1,5 +1,5 @@
 -- Laws of tests that are general. Assumes nothing.
-use mathlib.Core.Path.{_≡_, refl, sym}
+use mathlib.Core.Path.{_≡_, refl, sym, _∙_}
 use mathlib.Core.Bool.{Bool, true, false, not}
 use mathlib.Core.Logic.{_⊎_, inl, inr}
 use Prim.Native.Nat.{ℕ}
@@ -50,6 +50,11 @@ pub then-both-false : (a b : Bool) → (a ≡ true → b ≡ false) → both a b
 unfolding both
 then-both-false true b h = h refl
 then-both-false false b h = refl
+
+-- of two tests that are not both true, where the second is, the first is not
+pub not-both : (a b : Bool) → (a ≡ true → b ≡ false) → b ≡ true → a ≡ false
+not-both true b h e = true-false (sym e ∙ h refl)
+not-both false b h e = refl
 
 pub not-of-true : {a : Bool} → a ≡ true → not a ≡ false
 not-of-true e = rw e

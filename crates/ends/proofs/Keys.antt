@@ -53,16 +53,6 @@ only-forgotten s n = key-stored s (n + 1) noKey
 
 ---- first sends
 
--- P10
-pub p10 : aged (notedAt 100) (100 + 2 ^ 48 - 1) ≡ false
-unfolding aged both
-p10 = refl
-
--- P11
-pub p11 : aged (notedAt 100) (100 + 2 ^ 48) ≡ true
-unfolding aged both
-p11 = refl
-
 pub aged-true : (f : FirstSend) (tick : ℕ) → aged f tick ≡ true → (f .noted ≡ 1) × (f .tick + keyLife ≤ tick)
 unfolding aged
 aged-true f tick e = (eqb-true _ _ (both-left _ _ e), leb-true _ _ (both-right _ _ e))

@@ -12,16 +12,6 @@ use Rattle.ends.specs.Limits.{maxEqs, maxFree}
 use Rattle.ends.specs.Occupancy.{downstream, upstream, freeChannels, onZero, freeFrom, taken, occupied, validChannels}
 use Rattle.ends.specs.declared.Channels.{Channels}
 
--- P8
-pub p8 : taken (occupied freeChannels 0 50 4) 0 54 ≡ true
-unfolding taken occupied freeFrom onZero pick
-p8 = refl
-
--- P9
-pub p9 : taken (occupied freeChannels 0 50 4) 0 55 ≡ false
-unfolding taken occupied freeFrom onZero pick
-p9 = refl
-
 -- a header's own channel is free from the tick after its last EQ
 pub free-own : (c : Channels) (index tick eqs : ℕ) → freeFrom (occupied c index tick eqs) index ≡ tick + eqs + 1
 unfolding freeFrom occupied pick

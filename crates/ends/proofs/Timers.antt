@@ -12,21 +12,6 @@ use Rattle.ends.specs.Limits.{maxInterval}
 use Rattle.ends.specs.Timers.{freshTimer, timerAdvanced, timerFallen, validInterval, validTimer}
 use Rattle.ends.specs.declared.Timer.{Timer}
 
--- P5
-pub p5 : timerAdvanced (record { interval = 10; count = 7; flag = 0 }) 3 ≡ record { interval = 10; count = 0; flag = 1 }
-unfolding timerAdvanced pick
-p5 = refl
-
--- P6
-pub p6 : timerAdvanced (record { interval = 10; count = 7; flag = 0 }) 2 ≡ record { interval = 10; count = 9; flag = 0 }
-unfolding timerAdvanced pick
-p6 = refl
-
--- P7
-pub p7 : timerAdvanced (record { interval = 10; count = 7; flag = 0 }) 25 ≡ record { interval = 10; count = 2; flag = 1 }
-unfolding timerAdvanced pick
-p7 = refl
-
 -- the flag after two advances is the flag after one of their sum
 flag-sum : (i c m n flag : ℕ) → pick (leb i ((c + m) % i + n)) 1 (pick (leb i (c + m)) 1 flag) ≡ pick (leb i (c + (m + n))) 1 flag
 flag-sum i c m n flag = by-first (leb i (c + m)) refl where

@@ -1,0 +1,76 @@
+-- `ends::llids::again` meets its contract: none of the LLIDs between j and k is it, so that the others decide.
+-- Assumes nothing.
+use mathlib.Core.Path.{_≡_, refl, sym, ap, _∙_}
+use mathlib.Core.Bool.{Bool}
+use Prim.Native.Nat.{ℕ, _+_, _≤_, _-_}
+use native.Mathlib.Omega.{arith}
+use lib.ListN.{getD}
+use borrow.Author.Needs.{needs}
+use Rattle.octets.specs.Lists.{tabulate}
+use Rattle.ends.specs.Identities.{among}
+use Rattle.ends.proofs.Walks.{among-hit, among-miss, among-end}
+use Rattle.ends.proofs.llids.again.Statement.{statement}
+use Rattle.ends.proofs.llids.again.Tie as tie
+
+abbrev Inv-loop : tie.InvT-loop
+Inv-loop llids j count llid k₀ k =
+    (k ≤ count)
+    × (among (getD llids j 0) (tabulate (j + 1) (count - (j + 1)) (λ i. getD llids i 0)) ≡ among llid (tabulate k (count - k) (λ i. getD llids i 0)))
+
+abbrev μ-loop : tie.MeasureT-loop
+μ-loop llids j count llid k₀ k = count - k
+
+at-requires : tie.Need-at-requires Inv-loop μ-loop
+at-requires c κs = search needs
+
+add-k : tie.Need-add-k Inv-loop μ-loop
+add-k c = omega arith
+
+loop-holds : tie.Need-loop-holds Inv-loop μ-loop
+loop-holds c = (omega arith, rw (c .at .ensures))
+
+at-requires-2 : tie.Need-at-requires-2 Inv-loop μ-loop
+at-requires-2 c κs = search needs
+
+returns : tie.Need-returns Inv-loop μ-loop
+returns c =
+    let a = c .before .before .before .before .before .args in
+    let here = c .before .before .before .loop in
+    sym (here .inv .1
+    ∙ among-hit _ (here .k) (a .count) (λ i. getD (a .llids) i 0) (omega arith) (sym (c .before .at2 .ensures) ∙ c .if1 .taken))
+
+add-k-2 : tie.Need-add-k-2 Inv-loop μ-loop
+add-k-2 c = omega arith
+
+loop-less : tie.Need-loop-less Inv-loop μ-loop
+loop-less c = omega arith
+
+loop-again : tie.Need-loop-again Inv-loop μ-loop
+loop-again c =
+    let a = c .before .before .before .before .before .args in
+    let here = c .before .before .before .loop in (
+      omega arith,
+      here .inv .1
+          ∙ among-miss _ (here .k) (a .count) (λ i. getD (a .llids) i 0) (omega arith) (λ e. c .if1 .left (c .before .at2 .ensures ∙ e)),
+    )
+
+returns-2 : tie.Need-returns-2 Inv-loop μ-loop
+returns-2 c =
+    let a = c .before .before .before .args in
+    sym (c .before .loop .inv .1 ∙ among-end _ (c .before .loop .k) (a .count) (λ i. getD (a .llids) i 0) (omega arith))
+
+pub again-spec : {M : Type 1} → statement M
+again-spec =
+    tie.close
+    (tie.spec
+    Inv-loop
+    μ-loop
+    at-requires
+    add-k
+    loop-holds
+    at-requires-2
+    returns
+    add-k-2
+    loop-less
+    loop-again
+    returns-2)

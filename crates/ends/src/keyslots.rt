@@ -1,0 +1,64 @@
+// Keys by number, the first send under one, and channels (01, Keys).
+ghost use mathlib.Core.Path.{_≡_};
+ghost use Rattle.octets.specs.Lists.{same};
+ghost use Rattle.ends.specs.Keys.{keyIn, onlyKey, validFirst, withKey};
+ghost use Rattle.ends.specs.Occupancy.{validChannels};
+use crate::Channels;
+use crate::FirstSend;
+use crate::Slots;
+
+// The latest tick from which a channel can be free.
+pub const MAX_FREE: u64 = 0x4000_0000_0040_0000;
+
+// The key kept under number n.
+pub fn key_in(slots: Slots, n: u32) -> [u8; 16]
+    ensures { λ r. ⌜ r ≡ keyIn slots n ⌝ }
+{
+    if n % 2 == 0 {
+        return slots.even;
+    }
+    slots.odd
+}
+
+pub fn with_key(slots: Slots, n: u32, key: [u8; 16]) -> Slots
+    ensures { λ r. ⌜ r ≡ withKey slots n key ⌝ }
+{
+    let even = slots.even;
+    let odd = slots.odd;
+    if n % 2 == 0 {
+        return Slots { even: key, odd };
+    }
+    Slots { even, odd: key }
+}
+
+// All but key n is wiped.
+pub fn only_key(slots: Slots, n: u32) -> Slots
+    ensures { λ r. ⌜ r ≡ onlyKey slots n ⌝ }
+{
+    with_key(slots, 1 - n % 2, [0; 16])
+}
+
+pub fn same_key(a: [u8; 16], b: [u8; 16]) -> bool
+    ensures { λ r. ⌜ r ≡ same a b ⌝ }
+{
+    let mut i: usize = 0;
+    while i < 16 {
+        if a[i] != b[i] {
+            return false;
+        }
+        i += 1;
+    }
+    true
+}
+
+pub fn valid_first(first: FirstSend, tick: u64) -> bool
+    ensures { λ r. ⌜ r ≡ validFirst first tick ⌝ }
+{
+    (first.noted <= 1) & ((first.noted == 0) | (first.tick <= tick))
+}
+
+pub fn valid_channels(channels: Channels) -> bool
+    ensures { λ r. ⌜ r ≡ validChannels channels ⌝ }
+{
+    (channels.zero <= MAX_FREE) & (channels.one <= MAX_FREE)
+}

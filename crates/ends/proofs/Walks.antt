@@ -1,17 +1,27 @@
 -- One step of a walk along a list, and its end: what the loops of this crate go by. Assumes nothing.
 use mathlib.Core.Path.{_≡_, refl, ap, sym, _∙_}
 use mathlib.Core.Bool.{Bool, true, false, not}
-use mathlib.Core.List.{List, [], _∷_, _++_}
-use Prim.Native.Nat.{ℕ, zero, suc, _+_, _-_, _<_, _≤_}
+use mathlib.Core.List.{List, [], _∷_, _++_, append-assoc, append-nil}
+use Prim.Native.Nat.{ℕ, zero, suc, _+_, _-_, _%_, _<_, _≤_}
+use native.Mathlib.Nat.{zero-add, le-of-suc-le-suc, not-suc-le-zero}
 use native.Mathlib.Numerals.{add-one}
 use native.Mathlib.Omega.{arith}
 use lib.Dec.{eqb}
-use lib.ListN.{length, getD, drop, drop-of-length-le}
-use lib.Seq.{drop-cons}
-use borrow.Author.Tests.{eq-eqb, ne-eqb}
-use Rattle.octets.specs.Choice.{both, either}
+use lib.ListN.{length, getD, set, take, drop, length-take, drop-of-length-le}
+use lib.Seq.{drop-cons, getD-take, getD-set-same, getD-set-other, take-suc-set}
+use borrow.Author.Tests.{eq-eqb, ne-eqb, eqb-true, eqb-false, leb-true}
+use Rattle.octets.specs.Choice.{both, either, pick}
 use Rattle.octets.specs.Lists.{tabulate, same}
-use Rattle.ends.specs.Identities.{among, distinct}
+use Rattle.octets.proofs.Choice.{both-left, both-right}
+use Rattle.octets.proofs.Lists.{tabulate-suc}
+use Rattle.ends.specs.Identities.{among, distinct, has, llidsOf, validIdentity}
+use Rattle.ends.specs.Table.{all, findFrom, pastUnit, tableLlids}
+use Rattle.ends.specs.Validity.{validUnit}
+use Rattle.ends.specs.declared.Unit.{Unit}
+use Rattle.ends.specs.declared.Found.{Found}
+use Rattle.ends.specs.declared.Found.the-variants.{At, Nowhere}
+
+---- along what is tabulated
 
 pub tabulate-step : {A : Type 0} (j n : ℕ) (f : ℕ → A) → j < n → tabulate j (n - j) f ≡ f j ∷ tabulate (j + 1) (n - (j + 1)) f
 tabulate-step j n f h = let e : n - j ≡ suc (n - suc j) = omega arith in rw (e, add-one)
@@ -59,3 +69,165 @@ same-miss a b i h h′ e = rw (drop-cons a i 0 h, drop-cons b i 0 h′, ne-eqb _
 pub same-end : (a b : List ℕ) (i : ℕ) → length a ≤ i → length b ≤ i → same (drop i a) (drop i b) ≡ true
 unfolding same
 same-end a b i h h′ = rw (drop-of-length-le a h, drop-of-length-le b h′)
+
+pub among-nil : (x : ℕ) → among x [] ≡ false
+unfolding among
+among-nil x = refl
+
+---- along a list
+
+pub drop-step : {A : Type 0} (l : List A) (i : ℕ) (d : A) → i < length l → drop i l ≡ getD l i d ∷ drop (i + 1) l
+drop-step l i d h = rw add-one (drop-cons l i d h)
+
+pub among-drop-hit : (x : ℕ) (l : List ℕ) (i : ℕ) → i < length l → getD l i 0 ≡ x → among x (drop i l) ≡ true
+unfolding among either
+among-drop-hit x l i h e = rw (drop-step l i 0 h, eq-eqb _ _ e)
+
+pub among-drop-miss : (x : ℕ) (l : List ℕ) (i : ℕ) → i < length l → (getD l i 0 ≡ x → ⊥) → among x (drop i l) ≡ among x (drop (i + 1) l)
+unfolding among either
+among-drop-miss x l i h e = rw (drop-step l i 0 h, ne-eqb _ _ e)
+
+pub among-drop-end : (x : ℕ) (l : List ℕ) (i : ℕ) → length l ≤ i → among x (drop i l) ≡ false
+among-drop-end x l i h = rw (drop-of-length-le l h) (among-nil x)
+
+pub distinct-drop-end : (l : List ℕ) (i : ℕ) → length l ≤ i → distinct (drop i l) ≡ true
+unfolding distinct
+distinct-drop-end l i h = rw (drop-of-length-le l h)
+
+-- a part of a list in which no number stands twice
+distinct-part : (i : ℕ) (l : List ℕ) → distinct l ≡ true → distinct (drop i l) ≡ true
+unfolding distinct
+distinct-part zero l e = e
+distinct-part (suc i) [] e = e
+distinct-part (suc i) (x ∷ xs) e = distinct-part i xs (both-right (not (among x xs)) (distinct xs) e)
+
+pub distinct-no : (i : ℕ) (l : List ℕ) → distinct (drop i l) ≡ false → distinct l ≡ false
+distinct-no i l e = by-case (distinct l) refl where
+  by-case : (t : Bool) → distinct l ≡ t → distinct l ≡ false
+  by-case true q = let z : true ≡ false = sym (distinct-part i l q) ∙ e in cc
+  by-case false q = q
+
+---- along a list from its end
+
+back : (l : List ℕ) (i : ℕ) → 0 < i → i ≤ length l → drop (i - 1) l ≡ getD l (i - 1) 0 ∷ drop i l
+back l i h k = let e : i - 1 + 1 ≡ i = omega arith in rw e at (drop-step l (i - 1) 0 (omega arith))
+
+pub distinct-back-hit : (l : List ℕ) (i : ℕ) → 0 < i → i ≤ length l → among (getD l (i - 1) 0) (drop i l) ≡ true → distinct (drop (i - 1) l) ≡ false
+unfolding distinct both
+distinct-back-hit l i h k e = rw (back l i h k, e)
+
+pub distinct-back-miss : (l : List ℕ) (i : ℕ) → 0 < i → i ≤ length l → among (getD l (i - 1) 0) (drop i l) ≡ false
+    → distinct (drop (i - 1) l) ≡ distinct (drop i l)
+unfolding distinct both
+distinct-back-miss l i h k e = rw (back l i h k, e)
+
+---- along the first n of a list
+
+pub first-step : {A : Type 0} (n : ℕ) (l : List A) (i : ℕ) (d : A) → i < n → i < length l
+    → drop i (take n l) ≡ getD l i d ∷ drop (i + 1) (take n l)
+first-step n l i d h k =
+    let low : i < length (take n l) = simp length-take (omega arith) in
+    drop-step (take n l) i d low ∙ rw (getD-take n l i d h)
+
+pub first-end : {A : Type 0} (n : ℕ) (l : List A) (i : ℕ) → n ≤ i → drop i (take n l) ≡ []
+first-end n l i h = let k : length (take n l) ≤ i = simp length-take (omega arith) in drop-of-length-le (take n l) k
+
+pub first-past : {A : Type 0} (n : ℕ) (l : List A) (i : ℕ) → length l ≤ i → drop i (take n l) ≡ []
+first-past n l i h = let k : length (take n l) ≤ i = simp length-take (omega arith) in drop-of-length-le (take n l) k
+
+pub all-hit : {A : Type 0} (p : A → Bool) (n : ℕ) (l : List A) (i : ℕ) (d : A) → i < n → i < length l → p (getD l i d) ≡ true
+    → all p (drop i (take n l)) ≡ all p (drop (i + 1) (take n l))
+unfolding all both
+all-hit p n l i d h k e = rw (first-step n l i d h k, e)
+
+pub all-miss : {A : Type 0} (p : A → Bool) (n : ℕ) (l : List A) (i : ℕ) (d : A) → i < n → i < length l → p (getD l i d) ≡ false
+    → all p (drop i (take n l)) ≡ false
+unfolding all both
+all-miss p n l i d h k e = rw (first-step n l i d h k, e)
+
+pub all-end : {A : Type 0} (p : A → Bool) (n : ℕ) (l : List A) (i : ℕ) → n ≤ i → all p (drop i (take n l)) ≡ true
+unfolding all
+all-end p n l i h = rw (first-end n l i h)
+
+-- what holds of each holds of one
+pub all-one : {A : Type 0} (p : A → Bool) (n : ℕ) (l : List A) (d : A) → all p (take n l) ≡ true → (i : ℕ) → i < n → i < length l
+    → p (getD l i d) ≡ true
+unfolding all
+all-one p zero l d e i h k = absurd (omega arith)
+all-one p (suc n) [] d e i h k = absurd (not-suc-le-zero k)
+all-one p (suc n) (x ∷ xs) d e zero h k = both-left (p x) (all p (take n xs)) e
+all-one p (suc n) (x ∷ xs) d e (suc i) h k =
+    all-one p n xs d (both-right (p x) (all p (take n xs)) e) i (le-of-suc-le-suc h) (le-of-suc-le-suc k)
+
+pub find-hit : (n : ℕ) (l : List Unit) (i : ℕ) (d : Unit) (llid : ℕ) → i < n → i < length l → has (getD l i d .identity) llid ≡ true
+    → findFrom i (drop i (take n l)) llid ≡ At i
+unfolding findFrom pick
+find-hit n l i d llid h k e = rw (first-step n l i d h k, e)
+
+pub find-miss : (n : ℕ) (l : List Unit) (i : ℕ) (d : Unit) (llid : ℕ) → i < n → i < length l → has (getD l i d .identity) llid ≡ false
+    → findFrom i (drop i (take n l)) llid ≡ findFrom (i + 1) (drop (i + 1) (take n l)) llid
+unfolding findFrom pick
+find-miss n l i d llid h k e = rw (first-step n l i d h k, e, add-one)
+
+pub find-none : (i : ℕ) (l : List Unit) (llid : ℕ) → l ≡ [] → findFrom i l llid ≡ Nowhere
+unfolding findFrom
+find-none i l llid e = rw e
+
+pub llids-step : (n : ℕ) (l : List Unit) (i : ℕ) (d : Unit) → i < n → i < length l
+    → tableLlids (drop i (take n l)) ≡ llidsOf (getD l i d .identity) ++ tableLlids (drop (i + 1) (take n l))
+unfolding tableLlids
+llids-step n l i d h k = rw (first-step n l i d h k)
+
+pub llids-end : (n : ℕ) (l : List Unit) (i : ℕ) → n ≤ i → tableLlids (drop i (take n l)) ≡ []
+unfolding tableLlids
+llids-end n l i h = rw (first-end n l i h)
+
+-- a list that grows by what is tabulated
+pub grow : (n j : ℕ) (a p : List ℕ) (f : ℕ → ℕ) → n + j < length a → take (n + j) a ≡ p ++ tabulate 0 j f
+    → take (n + (j + 1)) (set a (n + j) (f j)) ≡ p ++ tabulate 0 (j + 1) f
+grow n j a p f h e =
+    let s : n + (j + 1) ≡ suc (n + j) = omega arith in
+    let t : tabulate 0 (suc j) f ≡ tabulate 0 j f ++ (f j ∷ []) =
+    sym (append-nil (tabulate 0 (suc j) f)) ∙ rw zero-add at (tabulate-suc 0 j f []) in
+    rw (s, take-suc-set a (n + j) (f j) h, add-one, t, e, append-assoc)
+
+---- marks
+
+-- the mark of y is set: a number whose mark is 0 is not y, and its mark was 0 before
+unmarked : (marks : List ℕ) (x y : ℕ) → length marks ≡ 256 → getD (set marks (y % 256) 1) (x % 256) 0 ≡ 0
+    → (y ≡ x → ⊥) × (getD marks (x % 256) 0 ≡ 0)
+unmarked marks x y len e = by-case (eqb (x % 256) (y % 256)) refl where
+  by-case : (t : Bool) → eqb (x % 256) (y % 256) ≡ t → (y ≡ x → ⊥) × (getD marks (x % 256) 0 ≡ 0)
+  by-case true q =
+      let here : x % 256 ≡ y % 256 = eqb-true _ _ q in
+      let low : y % 256 < length marks = omega arith in
+      let z : _≡_ {A = ℕ} 1 0 = sym (getD-set-same marks (y % 256) 1 0 low) ∙ rw here at e in
+      absurd (omega arith)
+  by-case false q =
+      let other : x % 256 ≡ y % 256 → ⊥ = eqb-false _ _ q in
+      (λ w. other (ap (λ (z : ℕ). z % 256) (sym w)), sym (getD-set-other marks (y % 256) (x % 256) 1 0 other) ∙ e)
+
+-- every number from i on has left its mark: then so has the one before them, once its own is set
+pub marked : (l : List ℕ) (i : ℕ) (marks : List ℕ) → 0 < i → i ≤ length l → length marks ≡ 256
+    → ((x : ℕ) → getD marks (x % 256) 0 ≡ 0 → among x (drop i l) ≡ false)
+    → (x : ℕ) → getD (set marks (getD l (i - 1) 0 % 256) 1) (x % 256) 0 ≡ 0 → among x (drop (i - 1) l) ≡ false
+unfolding among either
+marked l i marks h k len m x e =
+    let u = unmarked marks x (getD l (i - 1) 0) len e in
+    rw (back l i h k, ne-eqb _ _ (u .0)) (m x (u .1))
+
+---- validity
+
+pub unit-few : (tick : ℕ) (u : Unit) → validUnit tick u ≡ true → u .identity .count ≤ 4
+unfolding validUnit validIdentity
+unit-few tick u e = leb-true _ _ (both-right _ _ (both-right _ _ (both-left _ _ e)))
+
+-- a registered unit has at most four LLIDs, and what stands past the table has none
+pub units-few : (tick n : ℕ) (l : List Unit) → all (validUnit tick) (take n l) ≡ true
+    → (i : ℕ) → i < n → getD l i pastUnit .identity .count ≤ 4
+unfolding all pastUnit
+units-few tick zero l e i h = absurd (not-suc-le-zero h)
+units-few tick (suc n) [] e i h = omega arith
+units-few tick (suc n) (u ∷ us) e zero h = unit-few tick u (both-left (validUnit tick u) (all (validUnit tick) (take n us)) e)
+units-few tick (suc n) (u ∷ us) e (suc i) h =
+    units-few tick n us (both-right (validUnit tick u) (all (validUnit tick) (take n us)) e) i (le-of-suc-le-suc h)

@@ -1,0 +1,87 @@
+-- `ends::check_olt::find` meets its contract: none of the first i units has the LLID, so that the others decide.
+-- Assumes nothing.
+use mathlib.Core.Path.{_≡_, refl, sym, _∙_}
+use Prim.Native.Nat.{_≤_, _-_}
+use native.Mathlib.Omega.{arith}
+use lib.ListN.{length, take, drop}
+use borrow.Author.Needs.{needs}
+use Rattle.ends.specs.Table.{findFrom, pastUnit}
+use Rattle.ends.proofs.Walks.{find-hit, find-miss, find-none, first-end, first-past}
+use Rattle.ends.proofs.check_olt.find.Statement.{statement}
+use Rattle.ends.proofs.check_olt.find.Tie as tie
+
+abbrev Inv-loop : tie.InvT-loop
+Inv-loop count llid units i₀ i = (i ≤ 16) × (findFrom 0 (take count units) llid ≡ findFrom i (drop i (take count units)) llid)
+
+abbrev μ-loop : tie.MeasureT-loop
+μ-loop count llid units i₀ i = 16 - i
+
+loop-holds : tie.Need-loop-holds Inv-loop μ-loop
+loop-holds c = (omega arith, refl)
+
+returns : tie.Need-returns Inv-loop μ-loop
+returns c =
+    let a = c .before .before .before .args in
+    let here = c .before .before .loop in
+    sym (here .inv .1 ∙ find-none (here .i) _ (a .llid) (first-end (a .count) (a .t1) (here .i) (c .if1 .taken)))
+
+mul-unit : tie.Need-mul-unit Inv-loop μ-loop
+mul-unit c = omega arith
+
+array-copy-out-unit : tie.Need-array-copy-out-unit Inv-loop μ-loop
+array-copy-out-unit c = omega arith
+
+has-requires : tie.Need-has-requires Inv-loop μ-loop
+has-requires c κs = search needs
+
+returns-2 : tie.Need-returns-2 Inv-loop μ-loop
+unfolding pastUnit
+returns-2 c =
+    let a = c .before .before .before .before .before .before .args in
+    let here = c .before .before .before .before .before .loop in
+    let len : length (a .t1) ≡ 16 = search needs in
+    sym (here .inv .1
+    ∙ find-hit (a .count) (a .t1) (here .i) pastUnit (a .llid) (c .before .before .before .if1 .left) (omega arith)
+    (sym (c .before .has .ensures) ∙ c .if2 .taken))
+
+add-i : tie.Need-add-i Inv-loop μ-loop
+add-i c = omega arith
+
+loop-less : tie.Need-loop-less Inv-loop μ-loop
+loop-less c = omega arith
+
+loop-again : tie.Need-loop-again Inv-loop μ-loop
+unfolding pastUnit
+loop-again c =
+    let a = c .before .before .before .before .before .before .args in
+    let here = c .before .before .before .before .before .loop in
+    let len : length (a .t1) ≡ 16 = search needs in (
+      omega arith,
+      here .inv .1
+          ∙ find-miss (a .count) (a .t1) (here .i) pastUnit (a .llid) (c .before .before .before .if1 .left) (omega arith)
+          (sym (c .before .has .ensures) ∙ c .if2 .left),
+    )
+
+returns-3 : tie.Need-returns-3 Inv-loop μ-loop
+returns-3 c =
+    let a = c .before .before .args in
+    let len : length (a .t1) ≡ 16 = search needs in
+    let here = c .before .loop in
+    sym (here .inv .1 ∙ find-none (here .i) _ (a .llid) (first-past (a .count) (a .t1) (here .i) (omega arith)))
+
+pub find-spec : {M : Type 1} → statement M
+find-spec =
+    tie.close
+    (tie.spec
+    Inv-loop
+    μ-loop
+    loop-holds
+    returns
+    mul-unit
+    array-copy-out-unit
+    has-requires
+    returns-2
+    add-i
+    loop-less
+    loop-again
+    returns-3)

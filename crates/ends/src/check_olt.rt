@@ -1,0 +1,229 @@
+// Whether an OLT that is lent is valid (01, 'When the reader says no': Ahead of each list comes 1).
+ghost use mathlib.Core.Path.{_≡_};
+ghost use mathlib.Core.Bool.{true, false};
+ghost use mathlib.Core.List.{_++_};
+ghost use Prim.Native.Nat.{ℕ, _+_, _≤_, _<_};
+ghost use lib.ListN.{length, getD, take, drop};
+ghost use Rattle.ends.specs.Identities.{among, distinct, llidsOf};
+ghost use Rattle.ends.specs.Timers.{validInterval, validTimer};
+ghost use Rattle.ends.specs.Table.{all, findFrom, pastUnit, tableLlids};
+ghost use Rattle.ends.specs.Validity.{validKeys, validNumbers, validOlt, validShared, validUnit, validUnitClock};
+use crate::Found;
+use crate::Identity;
+use crate::Olt;
+use crate::Shared;
+use crate::Timer;
+use crate::Unit;
+use crate::UnitClock;
+use crate::UnitKeys;
+use crate::keyslots::valid_channels;
+use crate::keyslots::valid_first;
+use crate::llids::has;
+use crate::llids::valid_identity;
+use crate::llids::valid_mac;
+use clock::CLOCK_TURN;
+
+pub const MAX_TICK: u64 = 0x4000_0000_0000_0000;
+
+pub const MAX_INTERVAL: u64 = 0x8000_0000_0000;
+
+pub const MAX_ROUND_TRIP: u64 = 1_000_000;
+
+pub fn valid_interval(interval: u64) -> bool
+    ensures { λ r. ⌜ r ≡ validInterval interval ⌝ }
+{
+    (1 <= interval) & (interval <= MAX_INTERVAL)
+}
+
+pub fn valid_timer(timer: Timer) -> bool
+    ensures { λ r. ⌜ r ≡ validTimer timer ⌝ }
+{
+    valid_interval(timer.interval) & ((timer.count < timer.interval) & (timer.flag <= 1))
+}
+
+fn valid_numbers(confirmed: u32, active: u32, offered: u32) -> bool
+    ensures { λ r. ⌜ r ≡ validNumbers confirmed active offered ⌝ }
+{
+    (confirmed <= active) & ((active <= offered) & (offered as u64 <= confirmed as u64 + 1))
+}
+
+fn valid_keys(tick: u64, keys: UnitKeys) -> bool
+    ensures { λ r. ⌜ r ≡ validKeys tick keys ⌝ }
+{
+    let timer = valid_timer(keys.timer);
+    let first = valid_first(keys.first, tick);
+    timer & first
+}
+
+fn valid_unit_clock(tick: u64, clock: UnitClock) -> bool
+    ensures { λ r. ⌜ r ≡ validUnitClock tick clock ⌝ }
+{
+    (clock.trip <= MAX_ROUND_TRIP)
+        & ((clock.captured <= 1)
+            & (((clock.captured == 0) | (clock.tick <= tick))
+                & ((clock.sent <= 1) & (clock.acknowledged <= 1))))
+}
+
+pub fn valid_unit(tick: u64, unit: Unit) -> bool
+    ensures { λ r. ⌜ r ≡ validUnit tick unit ⌝ }
+{
+    let identity = valid_identity(unit.identity);
+    let keys = valid_keys(tick, unit.keys);
+    let numbers = valid_numbers(
+        unit.confirmation.confirmed,
+        unit.keys.active,
+        unit.keys.offered,
+    );
+    let clock = valid_unit_clock(tick, unit.clock);
+    identity & (keys & (numbers & ((unit.confirmation.acknowledged <= 1) & clock)))
+}
+
+pub fn valid_shared(shared: Shared) -> bool
+    ensures { λ r. ⌜ r ≡ validShared shared ⌝ }
+{
+    let mac = valid_mac(shared.mac);
+    let channels = valid_channels(shared.channels);
+    mac & ((shared.tick <= MAX_TICK) & ((shared.clock < CLOCK_TURN) & channels))
+}
+
+fn valid_units(tick: u64, units: [Unit; 16], count: u8) -> bool
+    requires { ⌜ count ≤ 16 ⌝ }
+    ensures { λ r. ⌜ r ≡ all (validUnit tick) (take count units) ⌝ }
+{
+    let n = count as usize;
+    let mut i: usize = 0;
+    while i < n {
+        let unit = units[i];
+        if !valid_unit(tick, unit) {
+            return false;
+        }
+        i += 1;
+    }
+    true
+}
+
+// The LLIDs of a table, of which the first `count` places are in use.
+struct TableLlids {
+    list: [u16; 64],
+    count: usize,
+}
+
+fn with_llids(table: TableLlids, identity: Identity) -> TableLlids
+    requires { ⌜ table .count ≤ 60 ⌝ }
+    requires { ⌜ identity .count ≤ 4 ⌝ }
+    ensures { λ r. ⌜ (take (r .count) (r .list) ≡ take (table .count) (table .list) ++ llidsOf identity) × (r .count ≡ table .count + identity .count) ⌝ }
+{
+    let mut r = table;
+    let n = table.count;
+    let count = identity.count as usize;
+    let llids = identity.llids;
+    let mut j: usize = 0;
+    while j < count {
+        let place = n + j;
+        r.list[place] = llids[j];
+        j += 1;
+    }
+    r.count = n + count;
+    r
+}
+
+fn table_llids(units: [Unit; 16], count: u8) -> TableLlids
+    requires { ⌜ count ≤ 16 ⌝ }
+    requires { ⌜ ((i : ℕ) → i < count → getD units i pastUnit .identity .count ≤ 4) ⌝ }
+    ensures { λ r. ⌜ (take (r .count) (r .list) ≡ tableLlids (take count units)) × (r .count ≤ 64) ⌝ }
+{
+    let mut table = TableLlids {
+        list: [0; 64],
+        count: 0,
+    };
+    let n = count as usize;
+    let mut i: usize = 0;
+    while i < n {
+        let unit = units[i];
+        table = with_llids(table, unit.identity);
+        i += 1;
+    }
+    table
+}
+
+fn contains(list: &[u16], x: u16) -> bool
+    ensures { λ r. ⌜ r ≡ among x (now (list .entry)) ⌝ }
+{
+    let mut i: usize = 0;
+    while i < list.len() {
+        if list[i] == x {
+            return true;
+        }
+        i += 1;
+    }
+    false
+}
+
+// Whether x stands in the list from place i on. A mark of 0 says that it does not, and spares the search.
+fn stands(list: &[u16], i: usize, x: u16, mark: u8) -> bool
+    requires { ⌜ i ≤ length (now list) ⌝ }
+    requires { ⌜ (mark ≡ 0 → among x (drop i (now list)) ≡ false) ⌝ }
+    ensures { λ r. ⌜ r ≡ among x (drop i (now (list .entry))) ⌝ }
+{
+    if mark == 0 {
+        return false;
+    }
+    let rest = &list[i..];
+    contains(rest, x)
+}
+
+// From the last to the first, each LLID leaves a mark at its value modulo 256: only where a mark stands already are the later ones searched.
+fn all_distinct(list: &[u16]) -> bool
+    ensures { λ r. ⌜ r ≡ distinct (now (list .entry)) ⌝ }
+{
+    let mut marks = [0u8; 256];
+    let mut i: usize = list.len();
+    while 0 < i {
+        let x = list[i - 1];
+        let m = (x % 256) as usize;
+        if stands(list, i, x, marks[m]) {
+            return false;
+        }
+        marks[m] = 1;
+        i -= 1;
+    }
+    true
+}
+
+pub fn valid_olt(olt: Olt) -> bool
+    ensures { λ r. ⌜ r ≡ validOlt olt ⌝ }
+{
+    let count = olt.count;
+    if 16 < count {
+        return false;
+    }
+    if !valid_shared(olt.shared) {
+        return false;
+    }
+    let units = olt.units;
+    if !valid_units(olt.shared.tick, units, count) {
+        return false;
+    }
+    let table = table_llids(units, count);
+    let list = table.list;
+    let n = table.count;
+    all_distinct(&list[..n])
+}
+
+// Which of the first `count` units has the LLID.
+pub fn find(units: [Unit; 16], count: u8, llid: u16) -> Found
+    ensures { λ r. ⌜ r ≡ findFrom 0 (take count units) llid ⌝ }
+{
+    let mut i: usize = 0;
+    while i < 16 {
+        if count as usize <= i {
+            return Found::Nowhere;
+        }
+        let unit = units[i];
+        if has(unit.identity, llid) {
+            return Found::At(i);
+        }
+        i += 1;
+    }
+    Found::Nowhere
+}

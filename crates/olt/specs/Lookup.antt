@@ -1,0 +1,26 @@
+-- Where the unit stands that a call names, or why the call goes no further (01, 'When the reader says no': 1 for a lent end, what the
+-- call refuses ahead of 2, then 2). Assumes nothing.
+use mathlib.Core.Bool.{not}
+use Prim.Native.Nat.{ℕ}
+use Rattle.refusal.specs.declared.Refusal.the-variants.{OutOfRange, UnknownLlid}
+use Rattle.refusal.specs.declared.Verdict.{Verdict}
+use Rattle.refusal.specs.declared.Verdict.the-variants.{Accepted, Refused}
+use Rattle.ends.specs.Replies.{refuseIf}
+use Rattle.ends.specs.Table.{find}
+use Rattle.ends.specs.Validity.{validOlt}
+use Rattle.ends.specs.declared.Olt.{Olt}
+use Rattle.ends.specs.declared.Found.{Found}
+use Rattle.ends.specs.declared.Found.the-variants.{At, Nowhere}
+use Rattle.olt.specs.declared.Located.{Located}
+use Rattle.olt.specs.declared.Located.the-variants.{Place, Absent}
+
+unfoldable pub foundAt : Found → Located
+foundAt (At i) = Place i
+foundAt Nowhere = Absent UnknownLlid
+
+unfoldable pub foundAfter : Verdict → Found → Located
+foundAfter Accepted f = foundAt f
+foundAfter (Refused r) f = Absent r
+
+unfoldable pub locatedOf : Olt → Verdict → ℕ → Located
+locatedOf o ahead llid = foundAfter (refuseIf (not (validOlt o)) OutOfRange ahead) (find o llid)

@@ -1,0 +1,42 @@
+// The unit that a call names.
+ghost use mathlib.Core.Path.{_≡_};
+ghost use Prim.Native.Nat.{_<_};
+ghost use Rattle.ends.specs.Table.{withUnit};
+ghost use Rattle.olt.specs.Lookup.{locatedOf};
+use crate::Located;
+use ends::Found;
+use ends::Olt;
+use ends::Unit;
+use ends::check_olt::find;
+use ends::check_olt::valid_olt;
+use refusal::Refusal;
+use refusal::Verdict;
+
+pub fn locate(olt: Olt, ahead: Verdict, llid: u16) -> Located
+    ensures { λ r. ⌜ r ≡ locatedOf olt ahead llid ⌝ }
+{
+    if !valid_olt(olt) {
+        return Located::Absent(Refusal::OutOfRange);
+    }
+    match ahead {
+        Verdict::Refused(refusal) => Located::Absent(refusal),
+        Verdict::Accepted => {
+            let units = olt.units;
+            let found = find(units, olt.count, llid);
+            match found {
+                Found::Nowhere => Located::Absent(Refusal::UnknownLlid),
+                Found::At(i) => Located::Place(i),
+            }
+        }
+    }
+}
+
+// The end with the unit in its place.
+pub(crate) fn with_unit(olt: Olt, i: usize, unit: Unit) -> Olt
+    requires { ⌜ i < 16 ⌝ }
+    ensures { λ r. ⌜ r ≡ withUnit olt i (olt .shared .channels) unit ⌝ }
+{
+    let mut r = olt;
+    r.units[i] = unit;
+    r
+}

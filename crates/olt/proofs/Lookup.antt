@@ -5,23 +5,26 @@ use mathlib.Core.List.{List, [], _∷_}
 use Prim.Native.Nat.{ℕ, zero, suc, _+_, _<_, _≤_}
 use native.Mathlib.Omega.{arith}
 use lib.ListN.{length, take, length-take}
+use lib.Seq.{set-getD}
 use borrow.Author.Tests.{leb-true}
 use Rattle.octets.specs.Choice.{both, pick}
-use Rattle.octets.proofs.Choice.{both-left}
+use Rattle.octets.proofs.Choice.{both-left, both-right}
 use Rattle.refusal.specs.declared.Refusal.{Refusal}
 use Rattle.refusal.specs.declared.Refusal.the-variants.{OutOfRange, UnknownLlid}
 use Rattle.refusal.specs.declared.Verdict.{Verdict}
 use Rattle.refusal.specs.declared.Verdict.the-variants.{Accepted, Refused}
 use Rattle.ends.specs.Replies.{refuseIf, Reply, reply}
 use Rattle.ends.specs.Identities.{has}
-use Rattle.ends.specs.Table.{find, findFrom, unitAt, withUnit}
-use Rattle.ends.specs.Validity.{validOlt}
+use Rattle.ends.specs.Table.{find, findFrom, pastUnit, unitAt, withUnit}
+use Rattle.ends.specs.Records.{withChannels}
+use Rattle.ends.specs.Validity.{validOlt, validUnit}
 use Rattle.ends.specs.Lift.{Outcome, putBack, atUnit, after, lift}
 use Rattle.ends.specs.declared.Unit.{Unit}
 use Rattle.ends.specs.declared.Shared.{Shared}
 use Rattle.ends.specs.declared.Olt.{Olt}
 use Rattle.ends.specs.declared.Found.{Found}
 use Rattle.ends.specs.declared.Found.the-variants.{At, Nowhere}
+use Rattle.ends.proofs.Walks.{all-one}
 use Rattle.olt.specs.Lookup.{foundAt, foundAfter, locatedOf}
 use Rattle.olt.specs.declared.Located.{Located}
 use Rattle.olt.specs.declared.Located.the-variants.{Place, Absent}
@@ -46,6 +49,7 @@ pub record Stands (o : Olt) (llid i : ℕ) : Type 0 where
   pub found : find o llid ≡ At i
   pub below : i < o .count
   pub few : o .count ≤ 16
+  pub inside : i < length (o .units)
 
 stands : (o : Olt) (ahead : Verdict) (llid i : ℕ) → locatedOf o ahead llid ≡ Place i → (validOlt o ≡ true) × (find o llid ≡ At i)
 unfolding locatedOf foundAfter foundAt refuseIf
@@ -63,7 +67,13 @@ place-stands o ahead llid i e =
     let few : o .count ≤ 16 = valid-count o (s .0) in
     let low : i < 0 + length (take (o .count) (o .units)) = find-below 0 (take (o .count) (o .units)) llid i (s .1) in
     let low′ : i < o .count = omega (arith, length-take (o .count) (o .units)) in
-    record { valid = s .0; found = s .1; below = low′; few = few }
+    record { valid = s .0; found = s .1; below = low′; few = few; inside = omega (arith, length-take (o .count) (o .units)) }
+
+-- the unit that was found is valid
+pub stands-valid : (o : Olt) (llid i : ℕ) → Stands o llid i → validUnit (o .shared .tick) (unitAt o i) ≡ true
+unfolding validOlt
+stands-valid o llid i s =
+    all-one (validUnit (o .shared .tick)) (o .count) (o .units) pastUnit (both-left _ _ (both-right _ _ (both-right _ _ (s .valid)))) i (s .below) (s .inside)
 
 ---- the call
 
@@ -100,3 +110,8 @@ module _ {H : Type 0} (o : Olt) (nothing : H) (ahead : Verdict) (llid : ℕ) (ca
       }
   unfolding at-place putBack reply
   lift-accepted i e v = lift-at ∙ ap at-place e ∙ rw v
+
+-- a unit put back as it was
+pub with-same : (o : Olt) (i : ℕ) → withUnit o i (o .shared .channels) (unitAt o i) ≡ o
+unfolding withUnit withChannels
+with-same o i = rw (set-getD (o .units) i pastUnit)

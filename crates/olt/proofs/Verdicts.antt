@@ -1,0 +1,45 @@
+-- What an accepted verdict tells of the unit. Assumes nothing.
+use mathlib.Core.Path.{_≡_, refl}
+use mathlib.Core.Bool.{Bool, true, false}
+use mathlib.Core.List.{List}
+use Prim.Native.Nat.{ℕ, _<_, _≤_}
+use native.Mathlib.Omega.{arith}
+use lib.Dec.{leb, eqb}
+use borrow.Author.Tests.{leb-true, leb-false, eqb-true, not-false}
+use Rattle.octets.specs.Choice.{either}
+use Rattle.octets.proofs.Choice.{both-left, both-right}
+use Rattle.refusal.specs.declared.Refusal.{Refusal}
+use Rattle.refusal.specs.declared.Verdict.{Verdict}
+use Rattle.refusal.specs.declared.Verdict.the-variants.{Accepted, Refused}
+use Rattle.ends.specs.Limits.{maxKeyNumber}
+use Rattle.ends.specs.Replies.{refuseIf}
+use Rattle.ends.specs.Validity.{validUnit, validUnitClock}
+use Rattle.ends.specs.UnitCalls.{clockSendVerdict, offerVerdict}
+use Rattle.ends.specs.declared.Unit.{Unit}
+
+-- no cause holds where none refuses
+pub not-refused : (t : Bool) (r : Refusal) (v : Verdict) → refuseIf t r v ≡ Accepted → (t ≡ false) × (v ≡ Accepted)
+unfolding refuseIf
+not-refused true r v e = (cc, cc)
+not-refused false r v e = (refl, e)
+
+-- an offer is accepted only below the last key number
+pub offer-below : (u : Unit) (key : List ℕ) → offerVerdict u key ≡ Accepted → u .keys .active < maxKeyNumber
+unfolding offerVerdict
+offer-below u key e =
+    let a = not-refused _ _ _ e in
+    let b = not-refused _ _ _ (a .1) in
+    let d = not-refused _ _ _ (b .1) in
+    leb-false _ _ (not-refused _ _ _ (d .1) .0)
+
+up-either : (n : ℕ) (b : Bool) → n ≡ 1 → either (eqb n 0) b ≡ true → b ≡ true
+unfolding either
+up-either n b q e = rw q at e
+
+-- a clock message is accepted only for a capture that was made, at a tick not after this one
+pub capture-before : (tick : ℕ) (u : Unit) → validUnit tick u ≡ true → clockSendVerdict (u .clock) tick ≡ Accepted → u .clock .tick ≤ tick
+unfolding validUnit validUnitClock clockSendVerdict
+capture-before tick u h e =
+    let clock = both-right _ _ (both-right _ _ (both-right _ _ (both-right _ _ h))) in
+    let up : u .clock .captured ≡ 1 = eqb-true _ _ (not-false _ (not-refused _ _ _ e .0)) in
+    leb-true _ _ (up-either (u .clock .captured) (leb (u .clock .tick) tick) up (both-left _ _ (both-right _ _ (both-right _ _ clock))))

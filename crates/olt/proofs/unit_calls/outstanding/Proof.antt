@@ -1,0 +1,16 @@
+-- `olt::unit_calls::outstanding` meets its contract: the test is that of the definition.
+-- Assumes nothing.
+use Rattle.ends.specs.Replies.{refuseIf}
+use Rattle.olt.proofs.unit_calls.outstanding.Statement.{statement}
+use Rattle.olt.proofs.unit_calls.outstanding.Tie as tie
+
+returns : tie.Need-returns
+unfolding refuseIf
+returns c = cc
+
+returns-2 : tie.Need-returns-2
+unfolding refuseIf
+returns-2 c = cc
+
+pub outstanding-spec : {M : Type 1} → statement M
+outstanding-spec = tie.close (tie.spec returns returns-2)

@@ -1,0 +1,38 @@
+// Answers of the calls: a refusal gives back the end that was lent and hands over nothing.
+ghost use mathlib.Core.Path.{_≡_};
+ghost use Rattle.refusal.specs.declared.Verdict.the-variants.{Accepted, Refused};
+ghost use Rattle.ends.specs.Replies.{none, reply};
+ghost use Rattle.ends.specs.Messages.{noKeyMessage, noStamps};
+ghost use Rattle.ends.specs.OltCalls.{clockSent, keySent, oltAnswer};
+use clock::Stamps;
+use ends::ClockSent;
+use ends::KeyMessage;
+use ends::KeySent;
+use ends::Olt;
+use ends::OltAnswer;
+use refusal::Refusal;
+use refusal::number;
+
+pub(crate) fn accepted(olt: Olt) -> OltAnswer
+    ensures { λ r. ⌜ r ≡ oltAnswer (reply Accepted olt none olt none) ⌝ }
+{
+    OltAnswer { number: 0, olt }
+}
+
+pub(crate) fn refused(olt: Olt, refusal: Refusal) -> OltAnswer
+    ensures { λ r. ⌜ r ≡ oltAnswer (reply (Refused refusal) olt none olt none) ⌝ }
+{
+    OltAnswer { number: number(refusal), olt }
+}
+
+pub(crate) fn no_clock(olt: Olt, refusal: Refusal) -> ClockSent
+    ensures { λ r. ⌜ r ≡ clockSent (reply (Refused refusal) olt noStamps olt noStamps) ⌝ }
+{
+    ClockSent { number: number(refusal), olt, message: Stamps { rx: 0, tx: 0 } }
+}
+
+pub(crate) fn no_key(olt: Olt, refusal: Refusal) -> KeySent
+    ensures { λ r. ⌜ r ≡ keySent (reply (Refused refusal) olt noKeyMessage olt noKeyMessage) ⌝ }
+{
+    KeySent { number: number(refusal), olt, message: KeyMessage { llid: 0, number: 0, key: [0; 16] } }
+}

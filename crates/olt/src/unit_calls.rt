@@ -1,0 +1,188 @@
+// The clock and key calls of the OLT on one unit (01, Clock; Keys).
+ghost use mathlib.Core.Path.{_≡_};
+ghost use mathlib.Core.Bool.{not};
+ghost use Prim.Native.Nat.{_+_, _≤_, _<_};
+ghost use lib.Dec.{ltb};
+ghost use Rattle.refusal.specs.declared.Refusal.the-variants.{AtEnd, ClockNotSet, NothingOutstanding, OfferPending, SameKey};
+ghost use Rattle.refusal.specs.declared.Verdict.the-variants.{Accepted};
+ghost use Rattle.clock.specs.Ticks.{ticksPerSecond};
+ghost use Rattle.ends.specs.Limits.{maxKeyNumber};
+ghost use Rattle.ends.specs.Replies.{refuseIf};
+ghost use Rattle.ends.specs.Records.{withClock};
+ghost use Rattle.ends.specs.UnitCalls.{acknowledgeUnit, clockCaptured, clockMessageOf, clockMessageSent, clockSendVerdict, keyMessageOf, keysOffered, offerVerdict, retryVerdict, unitOffered};
+use clock::Stamps;
+use ends::Acknowledgement;
+use ends::KeyMessage;
+use ends::Shared;
+use ends::Unit;
+use ends::UnitClock;
+use ends::UnitKeys;
+use ends::keyslots::key_in;
+use ends::keyslots::same_key;
+use ends::keyslots::with_key;
+use refusal::Refusal;
+use refusal::Verdict;
+
+const TICKS_PER_SECOND: u64 = 390_625_000;
+
+const MAX_KEY_NUMBER: u32 = 0xffff_ffff;
+
+const CLOCK_KIND: u8 = 1;
+
+const KEY_KIND: u8 = 2;
+
+pub(crate) fn captured(unit: Unit, tick: u64) -> Unit
+    ensures { λ r. ⌜ r ≡ withClock unit (clockCaptured (unit .clock) tick) ⌝ }
+{
+    let mut r = unit;
+    r.clock.captured = 1;
+    r.clock.tick = tick;
+    r
+}
+
+// Whether the tick lies more than a second after the capture's, whatever they are.
+fn too_old(captured: u64, tick: u64) -> bool
+    ensures { λ r. ⌜ r ≡ ltb (captured + ticksPerSecond) tick ⌝ }
+{
+    if tick < captured {
+        return false;
+    }
+    TICKS_PER_SECOND < tick - captured
+}
+
+pub(crate) fn clock_send_verdict(clock: UnitClock, tick: u64) -> Verdict
+    ensures { λ r. ⌜ r ≡ clockSendVerdict clock tick ⌝ }
+{
+    if clock.captured != 1 {
+        return Verdict::Refused(Refusal::NothingOutstanding);
+    }
+    if too_old(clock.tick, tick) {
+        return Verdict::Refused(Refusal::CaptureTooOld);
+    }
+    Verdict::Accepted
+}
+
+// The stamps of the capture's tick.
+pub(crate) fn clock_message(shared: Shared, clock: UnitClock) -> Stamps
+    requires { ⌜ clock .tick ≤ shared .tick ⌝ }
+    ensures { λ r. ⌜ r ≡ clockMessageOf shared clock ⌝ }
+{
+    let then = clock::clock_before(shared.clock, shared.tick - clock.tick);
+    clock::captured(then, clock.trip)
+}
+
+pub(crate) fn clock_sent(unit: Unit) -> Unit
+    ensures { λ r. ⌜ r ≡ withClock unit (clockMessageSent (unit .clock)) ⌝ }
+{
+    let mut r = unit;
+    r.clock.sent = 1;
+    r
+}
+
+fn first_of(unset: bool, pending: bool, same: bool, ended: bool) -> Verdict
+    ensures { λ r. ⌜ r ≡ refuseIf unset ClockNotSet (refuseIf pending OfferPending (refuseIf same SameKey (refuseIf ended AtEnd Accepted))) ⌝ }
+{
+    if unset {
+        return Verdict::Refused(Refusal::ClockNotSet);
+    }
+    if pending {
+        return Verdict::Refused(Refusal::OfferPending);
+    }
+    if same {
+        return Verdict::Refused(Refusal::SameKey);
+    }
+    if ended {
+        return Verdict::Refused(Refusal::AtEnd);
+    }
+    Verdict::Accepted
+}
+
+pub(crate) fn offer_verdict(unit: Unit, key: [u8; 16]) -> Verdict
+    ensures { λ r. ⌜ r ≡ offerVerdict unit key ⌝ }
+{
+    let keys = unit.keys;
+    let active = keys.active;
+    let held = key_in(keys.slots, active);
+    let same = same_key(key, held);
+    let pending = (active < keys.offered) | (unit.confirmation.confirmed < active);
+    first_of(!(unit.clock.acknowledged == 1), pending, (1 <= active) & same, MAX_KEY_NUMBER <= active)
+}
+
+fn keys_offered(keys: UnitKeys, key: [u8; 16]) -> UnitKeys
+    requires { ⌜ keys .active < maxKeyNumber ⌝ }
+    ensures { λ r. ⌜ r ≡ keysOffered keys key ⌝ }
+{
+    let number = keys.active + 1;
+    let slots = with_key(keys.slots, number, key);
+    let mut r = keys;
+    r.offered = number;
+    r.slots = slots;
+    r
+}
+
+// A new offer starts unacknowledged.
+pub(crate) fn offered(unit: Unit, key: [u8; 16]) -> Unit
+    requires { ⌜ unit .keys .active < maxKeyNumber ⌝ }
+    ensures { λ r. ⌜ r ≡ unitOffered unit key ⌝ }
+{
+    let keys = keys_offered(unit.keys, key);
+    let mut r = unit;
+    r.keys = keys;
+    r.confirmation.acknowledged = 0;
+    r
+}
+
+// The message of the outstanding offer.
+pub(crate) fn key_message(llid: u16, keys: UnitKeys) -> KeyMessage
+    ensures { λ r. ⌜ r ≡ keyMessageOf llid keys ⌝ }
+{
+    let key = key_in(keys.slots, keys.offered);
+    KeyMessage { llid, number: keys.offered, key }
+}
+
+pub(crate) fn retry_verdict(keys: UnitKeys) -> Verdict
+    ensures { λ r. ⌜ r ≡ retryVerdict keys ⌝ }
+{
+    if keys.offered == keys.active {
+        return Verdict::Refused(Refusal::NothingOutstanding);
+    }
+    Verdict::Accepted
+}
+
+// 8 where nothing is outstanding.
+fn outstanding(fits: bool) -> Verdict
+    ensures { λ r. ⌜ r ≡ refuseIf (not fits) NothingOutstanding Accepted ⌝ }
+{
+    if fits {
+        return Verdict::Accepted;
+    }
+    Verdict::Refused(Refusal::NothingOutstanding)
+}
+
+pub(crate) fn acknowledge_verdict(acknowledgement: Acknowledgement, shared: Shared, unit: Unit) -> Verdict
+    ensures { λ r. ⌜ r ≡ acknowledgeUnit acknowledgement shared unit .verdict ⌝ }
+{
+    if acknowledgement.kind == CLOCK_KIND {
+        return outstanding(unit.clock.sent == 1);
+    }
+    if acknowledgement.kind == KEY_KIND {
+        let number = acknowledgement.number;
+        return outstanding((1 <= number) & (number == unit.keys.offered));
+    }
+    Verdict::Refused(Refusal::NothingOutstanding)
+}
+
+pub(crate) fn acknowledged(acknowledgement: Acknowledgement, shared: Shared, unit: Unit) -> Unit
+    ensures { λ r. ⌜ r ≡ acknowledgeUnit acknowledgement shared unit .unit ⌝ }
+{
+    let mut r = unit;
+    if acknowledgement.kind == CLOCK_KIND {
+        r.clock.acknowledged = 1;
+        return r;
+    }
+    if acknowledgement.kind == KEY_KIND {
+        r.confirmation.acknowledged = 1;
+        return r;
+    }
+    r
+}

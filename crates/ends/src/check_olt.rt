@@ -4,7 +4,7 @@ ghost use mathlib.Core.Bool.{true, false};
 ghost use mathlib.Core.List.{_++_};
 ghost use Prim.Native.Nat.{ℕ, _+_, _≤_, _<_};
 ghost use lib.ListN.{length, getD, take, drop};
-ghost use Rattle.ends.specs.Identities.{among, distinct, llidsOf};
+ghost use Rattle.ends.specs.Identities.{among, distinct, llidsOf, meets};
 ghost use Rattle.ends.specs.Timers.{validInterval, validTimer};
 ghost use Rattle.ends.specs.Table.{all, findFrom, pastUnit, tableLlids};
 ghost use Rattle.ends.specs.Validity.{validKeys, validNumbers, validOlt, validShared, validUnit, validUnitClock};
@@ -18,6 +18,7 @@ use crate::UnitClock;
 use crate::UnitKeys;
 use crate::keyslots::valid_channels;
 use crate::keyslots::valid_first;
+use crate::llids::at;
 use crate::llids::has;
 use crate::llids::valid_identity;
 use crate::llids::valid_mac;
@@ -226,4 +227,30 @@ pub fn find(units: [Unit; 16], count: u8, llid: u16) -> Found
         i += 1;
     }
     Found::Nowhere
+}
+
+fn stands_in(units: [Unit; 16], count: u8, llid: u16) -> bool
+    ensures { λ r. ⌜ r ≡ among llid (tableLlids (take count units)) ⌝ }
+{
+    let found = find(units, count, llid);
+    match found {
+        Found::At(_) => true,
+        Found::Nowhere => false,
+    }
+}
+
+// Whether one of the LLIDs is that of a registered unit.
+pub fn meets_table(units: [Unit; 16], count: u8, identity: Identity) -> bool
+    ensures { λ r. ⌜ r ≡ meets (llidsOf identity) (tableLlids (take count units)) ⌝ }
+{
+    let llids = identity.llids;
+    let n = identity.count;
+    let mut j: u8 = 0;
+    while j < n {
+        if stands_in(units, count, at(llids, j)) {
+            return true;
+        }
+        j += 1;
+    }
+    false
 }

@@ -22,7 +22,8 @@ pub fn valid_identity(identity: Identity) -> bool
     valid_mac(identity.mac) & ((1 <= identity.count) & (identity.count <= 4))
 }
 
-fn at(llids: [u16; 4], j: u8) -> u16
+// The LLID at place j.
+pub(crate) fn at(llids: [u16; 4], j: u8) -> u16
     ensures { λ r. ⌜ r ≡ getD llids j 0 ⌝ }
 {
     if j < 4 {

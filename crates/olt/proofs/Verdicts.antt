@@ -6,15 +6,20 @@ use Prim.Native.Nat.{ℕ, _<_, _≤_}
 use native.Mathlib.Omega.{arith}
 use lib.Dec.{leb, eqb}
 use borrow.Author.Tests.{leb-true, leb-false, eqb-true, not-false}
-use Rattle.octets.specs.Choice.{either}
+use Rattle.octets.specs.Choice.{either, pick}
 use Rattle.octets.proofs.Choice.{both-left, both-right}
 use Rattle.refusal.specs.declared.Refusal.{Refusal}
+use Rattle.refusal.specs.declared.Refusal.the-variants.{NothingOutstanding}
 use Rattle.refusal.specs.declared.Verdict.{Verdict}
 use Rattle.refusal.specs.declared.Verdict.the-variants.{Accepted, Refused}
 use Rattle.ends.specs.Limits.{maxKeyNumber}
-use Rattle.ends.specs.Replies.{refuseIf}
+use Rattle.ends.specs.Replies.{refuseIf, none}
+use Rattle.ends.specs.Messages.{clockKind, keyKind}
+use Rattle.ends.specs.Lift.{outcome}
 use Rattle.ends.specs.Validity.{validUnit, validUnitClock}
-use Rattle.ends.specs.UnitCalls.{clockSendVerdict, offerVerdict}
+use Rattle.ends.specs.UnitCalls.{acknowledgeUnit, clockAcknowledgedUnit, clockSendVerdict, keyAcknowledgedUnit, offerVerdict}
+use Rattle.ends.specs.declared.Acknowledgement.{Acknowledgement}
+use Rattle.ends.specs.declared.Shared.{Shared}
 use Rattle.ends.specs.declared.Unit.{Unit}
 
 -- no cause holds where none refuses
@@ -43,3 +48,14 @@ capture-before tick u h e =
     let clock = both-right _ _ (both-right _ _ (both-right _ _ (both-right _ _ h))) in
     let up : u .clock .captured ≡ 1 = eqb-true _ _ (not-false _ (not-refused _ _ _ e .0)) in
     leb-true _ _ (up-either (u .clock .captured) (leb (u .clock .tick) tick) up (both-left _ _ (both-right _ _ (both-right _ _ clock))))
+
+-- an acknowledgement leaves the channels
+pub acknowledge-channels : (a : Acknowledgement) (s : Shared) (u : Unit) → acknowledgeUnit a s u .channels ≡ s .channels
+unfolding acknowledgeUnit clockAcknowledgedUnit keyAcknowledgedUnit outcome pick
+acknowledge-channels a s u = by-kind (eqb (a .kind) clockKind) (eqb (a .kind) keyKind) where
+  by-kind : (x y : Bool)
+      → pick x (clockAcknowledgedUnit s u) (pick y (keyAcknowledgedUnit (a .number) s u) (outcome s (Refused NothingOutstanding) u none)) .channels
+      ≡ s .channels
+  by-kind true y = refl
+  by-kind false true = refl
+  by-kind false false = refl

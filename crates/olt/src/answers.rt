@@ -22,17 +22,32 @@ pub(crate) fn accepted(olt: Olt) -> OltAnswer
 pub(crate) fn refused(olt: Olt, refusal: Refusal) -> OltAnswer
     ensures { λ r. ⌜ r ≡ oltAnswer (reply (Refused refusal) olt none olt none) ⌝ }
 {
-    OltAnswer { number: number(refusal), olt }
+    OltAnswer {
+        number: number(refusal),
+        olt,
+    }
 }
 
 pub(crate) fn no_clock(olt: Olt, refusal: Refusal) -> ClockSent
     ensures { λ r. ⌜ r ≡ clockSent (reply (Refused refusal) olt noStamps olt noStamps) ⌝ }
 {
-    ClockSent { number: number(refusal), olt, message: Stamps { rx: 0, tx: 0 } }
+    ClockSent {
+        number: number(refusal),
+        olt,
+        message: Stamps { rx: 0, tx: 0 },
+    }
 }
 
 pub(crate) fn no_key(olt: Olt, refusal: Refusal) -> KeySent
     ensures { λ r. ⌜ r ≡ keySent (reply (Refused refusal) olt noKeyMessage olt noKeyMessage) ⌝ }
 {
-    KeySent { number: number(refusal), olt, message: KeyMessage { llid: 0, number: 0, key: [0; 16] } }
+    KeySent {
+        number: number(refusal),
+        olt,
+        message: KeyMessage {
+            llid: 0,
+            number: 0,
+            key: [0; 16],
+        },
+    }
 }

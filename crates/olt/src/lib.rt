@@ -1,7 +1,7 @@
 // The calls of the OLT but send and receive (01, Clock; Keys; 'When the reader says no'). Each takes the end by value and gives back
 // the number, the end and what is handed over; refused, the end is the one that was lent.
-pub mod place;
 mod answers;
+pub mod place;
 mod unit_calls;
 
 ghost use mathlib.Core.Path.{_≡_};
@@ -50,7 +50,11 @@ pub fn clock_send(olt: Olt, llid: u16) -> ClockSent
                 Verdict::Accepted => {
                     let message = unit_calls::clock_message(olt.shared, clock);
                     let next = unit_calls::clock_sent(unit);
-                    ClockSent { number: 0, olt: place::with_unit(olt, i, next), message }
+                    ClockSent {
+                        number: 0,
+                        olt: place::with_unit(olt, i, next),
+                        message,
+                    }
                 }
             }
         }
@@ -71,7 +75,11 @@ pub fn offer(olt: Olt, llid: u16, key: [u8; 16]) -> KeySent
                 Verdict::Accepted => {
                     let next = unit_calls::offered(unit, key);
                     let message = unit_calls::key_message(llid, next.keys);
-                    KeySent { number: 0, olt: place::with_unit(olt, i, next), message }
+                    KeySent {
+                        number: 0,
+                        olt: place::with_unit(olt, i, next),
+                        message,
+                    }
                 }
             }
         }
@@ -93,7 +101,11 @@ pub fn retry(olt: Olt, llid: u16) -> KeySent
                 Verdict::Refused(refusal) => answers::no_key(olt, refusal),
                 Verdict::Accepted => {
                     let message = unit_calls::key_message(llid, keys);
-                    KeySent { number: 0, olt, message }
+                    KeySent {
+                        number: 0,
+                        olt,
+                        message,
+                    }
                 }
             }
         }

@@ -105,7 +105,12 @@ pub(crate) fn offer_verdict(unit: Unit, key: [u8; 16]) -> Verdict
     let held = key_in(keys.slots, active);
     let same = same_key(key, held);
     let pending = (active < keys.offered) | (unit.confirmation.confirmed < active);
-    first_of(!(unit.clock.acknowledged == 1), pending, (1 <= active) & same, MAX_KEY_NUMBER <= active)
+    first_of(
+        !(unit.clock.acknowledged == 1),
+        pending,
+        (1 <= active) & same,
+        MAX_KEY_NUMBER <= active,
+    )
 }
 
 fn keys_offered(keys: UnitKeys, key: [u8; 16]) -> UnitKeys
@@ -137,7 +142,11 @@ pub(crate) fn key_message(llid: u16, keys: UnitKeys) -> KeyMessage
     ensures { λ r. ⌜ r ≡ keyMessageOf llid keys ⌝ }
 {
     let key = key_in(keys.slots, keys.offered);
-    KeyMessage { llid, number: keys.offered, key }
+    KeyMessage {
+        llid,
+        number: keys.offered,
+        key,
+    }
 }
 
 pub(crate) fn retry_verdict(keys: UnitKeys) -> Verdict
@@ -159,7 +168,11 @@ fn outstanding(fits: bool) -> Verdict
     Verdict::Refused(Refusal::NothingOutstanding)
 }
 
-pub(crate) fn acknowledge_verdict(acknowledgement: Acknowledgement, shared: Shared, unit: Unit) -> Verdict
+pub(crate) fn acknowledge_verdict(
+    acknowledgement: Acknowledgement,
+    shared: Shared,
+    unit: Unit,
+) -> Verdict
     ensures { λ r. ⌜ r ≡ acknowledgeUnit acknowledgement shared unit .verdict ⌝ }
 {
     if acknowledgement.kind == CLOCK_KIND {

@@ -1,57 +1,60 @@
+-- `olt::capture` meets its contract: a unit that is found is captured.
+-- Assumes nothing.
+use mathlib.Core.Path.{_≡_, refl, sym, ap, _∙_}
+use Prim.Native.Nat.{_<_}
+use native.Mathlib.Omega.{arith}
 use borrow.Author.Needs.{needs}
+use Rattle.refusal.specs.declared.Verdict.the-variants.{Accepted, Refused}
+use Rattle.ends.specs.Lift.{outcome}
+use Rattle.ends.specs.OltCalls.{captureOf, oltAnswer}
+use Rattle.ends.specs.Replies.{none, reply}
+use Rattle.ends.specs.Table.{pastUnit}
+use Rattle.ends.specs.UnitCalls.{captureUnit}
+use Rattle.olt.proofs.Lookup.{Stands, place-stands, lift-absent, lift-accepted}
 use Rattle.olt.proofs.capture.Statement.{statement}
 use Rattle.olt.proofs.capture.Tie as tie
-use Rattle.olt.proofs.capture.Reads as reads
-use Rattle.olt.proofs.capture.Lts as lts
-use Rattle.olt.proofs.answers.accepted.Reads as accepted-reads
-use Rattle.olt.proofs.answers.refused.Reads as refused-reads
-use Rattle.olt.proofs.place.locate.Reads as locate-reads
-use Rattle.olt.proofs.place.with_unit.Reads as with-unit-reads
-use Rattle.olt.proofs.unit_calls.captured.Reads as captured-reads
 
--- src/lib.rt:27:9
 locate-requires : tie.Need-locate-requires
 locate-requires c κs = search needs
 
--- src/lib.rt:29:25
 enum-known-at : tie.Need-enum-known-at
 enum-known-at c = search needs
 
--- src/lib.rt:29:37
 refused-requires : tie.Need-refused-requires
 refused-requires c κs = search needs
 
--- src/lib.rt:30:24
 enum-known-at-2 : tie.Need-enum-known-at-2
 enum-known-at-2 c = search needs
 
--- src/lib.rt:31:24
+here : (c : tie.After-known-told2) → Stands (c .before .before .before .before .args .t1) (c .before .before .before .before .args .llid) (c .before .at2 .given .0 .0)
+here c = place-stands _ _ _ _ (sym (c .before .before .before .locate .ensures) ∙ c .before .at2 .given .1)
+
 mul-unit : tie.Need-mul-unit
-mul-unit c = ?
+mul-unit c = omega (arith, here c .below, here c .few)
 
--- src/lib.rt:31:24
 element-copy-out-unit : tie.Need-element-copy-out-unit
-element-copy-out-unit c = ?
+element-copy-out-unit c = let s = here c in omega (arith, s .below, s .few)
 
--- src/lib.rt:32:17
 captured-requires : tie.Need-captured-requires
 captured-requires c κs = search needs
 
--- src/lib.rt:33:31
 with-unit-requires : tie.Need-with-unit-requires
-with-unit-requires c κs = ?
+with-unit-requires c κs = let s = here (c .before .before) in omega (arith, s .below, s .few)
 
--- src/lib.rt:33:13
 accepted-requires : tie.Need-accepted-requires
 accepted-requires c κs = search needs
 
--- src/lib.rt:24:1
 returns : tie.Need-returns
-returns c = ?
+unfolding captureOf
+returns c =
+    c .refused .ensures
+    ∙ sym (ap oltAnswer (lift-absent (c .before .before .before .before .before .args .t1) none Accepted (c .before .before .before .before .before .args .llid) captureUnit _ (sym (c .before .before .before .before .locate .ensures) ∙ c .before .before .at .given .1)))
 
--- src/lib.rt:24:1
 returns-2 : tie.Need-returns-2
-returns-2 c = ?
+unfolding captureOf oltAnswer reply captureUnit outcome pastUnit
+returns-2 c =
+    rw (c .accepted .ensures, c .before .with-unit .ensures, c .before .before .captured .ensures)
+    (sym (ap oltAnswer (lift-accepted (c .before .before .before .before .before .before .before .before .args .t1) none Accepted (c .before .before .before .before .before .before .before .before .args .llid) captureUnit _ (sym (c .before .before .before .before .before .before .before .locate .ensures) ∙ c .before .before .before .before .before .at2 .given .1) refl)))
 
 pub capture-spec : {M : Type 1} → statement M
 capture-spec =

@@ -1,78 +1,81 @@
+-- `olt::clock_send` meets its contract: the unit decides, and the stamps of its capture are handed over.
+-- Assumes nothing.
+use mathlib.Core.Path.{_≡_, sym, ap, _∙_}
+use Prim.Native.Nat.{_<_}
+use native.Mathlib.Omega.{arith}
 use borrow.Author.Needs.{needs}
+use Rattle.refusal.specs.declared.Verdict.the-variants.{Accepted, Refused}
+use Rattle.ends.specs.Lift.{outcome}
+use Rattle.ends.specs.Messages.{noStamps}
+use Rattle.ends.specs.OltCalls.{clockSendOf, clockSent}
+use Rattle.ends.specs.Table.{pastUnit}
+use Rattle.ends.specs.UnitCalls.{clockSendUnit}
+use Rattle.olt.proofs.Lookup.{Stands, place-stands, stands-valid, lift-absent, lift-refused, lift-accepted}
+use Rattle.olt.proofs.Verdicts.{capture-before}
 use Rattle.olt.proofs.clock_send.Statement.{statement}
 use Rattle.olt.proofs.clock_send.Tie as tie
-use Rattle.olt.proofs.clock_send.Reads as reads
-use Rattle.olt.proofs.clock_send.Lts as lts
-use Rattle.olt.proofs.answers.no_clock.Reads as no-clock-reads
-use Rattle.olt.proofs.place.locate.Reads as locate-reads
-use Rattle.olt.proofs.place.with_unit.Reads as with-unit-reads
-use Rattle.olt.proofs.unit_calls.clock_message.Reads as clock-message-reads
-use Rattle.olt.proofs.unit_calls.clock_send_verdict.Reads as clock-send-verdict-reads
-use Rattle.olt.proofs.unit_calls.clock_sent.Reads as clock-sent-reads
 
--- src/lib.rt:41:9
 locate-requires : tie.Need-locate-requires
 locate-requires c κs = search needs
 
--- src/lib.rt:43:25
 enum-known-at : tie.Need-enum-known-at
 enum-known-at c = search needs
 
--- src/lib.rt:43:37
 no-clock-requires : tie.Need-no-clock-requires
 no-clock-requires c κs = search needs
 
--- src/lib.rt:44:24
 enum-known-at-2 : tie.Need-enum-known-at-2
 enum-known-at-2 c = search needs
 
--- src/lib.rt:45:24
+here : (c : tie.After-known-told2) → Stands (c .before .before .before .before .args .t1) (c .before .before .before .before .args .llid) (c .before .at2 .given .0 .0)
+here c = place-stands _ _ _ _ (sym (c .before .before .before .locate .ensures) ∙ c .before .at2 .given .1)
+
 mul-unit : tie.Need-mul-unit
-mul-unit c = ?
+mul-unit c = omega (arith, here c .below, here c .few)
 
--- src/lib.rt:45:24
 element-copy-out-unit : tie.Need-element-copy-out-unit
-element-copy-out-unit c = ?
+element-copy-out-unit c = let s = here c in omega (arith, s .below, s .few)
 
--- src/lib.rt:47:17
 clock-send-verdict-requires : tie.Need-clock-send-verdict-requires
 clock-send-verdict-requires c κs = search needs
 
--- src/lib.rt:49:34
 enum-known-verdict : tie.Need-enum-known-verdict
 enum-known-verdict c = search needs
 
--- src/lib.rt:49:46
 no-clock-requires-2 : tie.Need-no-clock-requires-2
 no-clock-requires-2 c κs = search needs
 
--- src/lib.rt:51:61
 enum-told : tie.Need-enum-told
 enum-told c = search needs
 
--- src/lib.rt:51:25
 clock-message-requires : tie.Need-clock-message-requires
-clock-message-requires c κs = ?
+unfolding pastUnit
+clock-message-requires c κs =
+    capture-before _ _ (stands-valid _ _ _ (here (c .before .before .before .before .before .before))) (sym (c .before .before .before .clock-send-verdict .ensures) ∙ c .before .enum-told .given .1)
 
--- src/lib.rt:52:25
 clock-sent-requires : tie.Need-clock-sent-requires
 clock-sent-requires c κs = search needs
 
--- src/lib.rt:53:49
 with-unit-requires : tie.Need-with-unit-requires
-with-unit-requires c κs = ?
+with-unit-requires c κs = let s = here (c .before .before .before .before .before .before .before .before) in omega (arith, s .below, s .few)
 
--- src/lib.rt:38:1
 returns : tie.Need-returns
-returns c = ?
+unfolding clockSendOf
+returns c =
+    c .no-clock .ensures
+    ∙ sym (ap clockSent (lift-absent (c .before .before .before .before .before .args .t1) noStamps Accepted (c .before .before .before .before .before .args .llid) clockSendUnit _ (sym (c .before .before .before .before .locate .ensures) ∙ c .before .before .at .given .1)))
 
--- src/lib.rt:38:1
 returns-2 : tie.Need-returns-2
-returns-2 c = ?
+unfolding clockSendOf clockSendUnit outcome pastUnit
+returns-2 c =
+    c .no-clock2 .ensures
+    ∙ sym (ap clockSent (lift-refused (c .before .before .before .before .before .before .before .before .before .before .before .args .t1) noStamps Accepted (c .before .before .before .before .before .before .before .before .before .before .before .args .llid) clockSendUnit _ _ (sym (c .before .before .before .before .before .before .before .before .before .before .locate .ensures) ∙ c .before .before .before .before .before .before .before .before .at2 .given .1) (sym (c .before .before .before .before .clock-send-verdict .ensures) ∙ c .before .before .verdict .given .1)))
 
--- src/lib.rt:38:1
 returns-3 : tie.Need-returns-3
-returns-3 c = ?
+unfolding clockSendOf clockSent clockSendUnit outcome pastUnit
+returns-3 c =
+    rw (c .with-unit .ensures, c .before .clock-sent .ensures, c .before .before .clock-message .ensures)
+    (sym (ap clockSent (lift-accepted (c .before .before .before .before .before .before .before .before .before .before .before .before .before .args .t1) noStamps Accepted (c .before .before .before .before .before .before .before .before .before .before .before .before .before .args .llid) clockSendUnit _ (sym (c .before .before .before .before .before .before .before .before .before .before .before .before .locate .ensures) ∙ c .before .before .before .before .before .before .before .before .before .before .at2 .given .1) (sym (c .before .before .before .before .before .before .clock-send-verdict .ensures) ∙ c .before .before .before .before .enum-told .given .1))))
 
 pub clock-send-spec : {M : Type 1} → statement M
 clock-send-spec =

@@ -1,68 +1,72 @@
+-- `olt::retry` meets its contract: the unit decides and stays, and its key message is handed over.
+-- Assumes nothing.
+use mathlib.Core.Path.{_≡_, sym, ap, _∙_}
+use Prim.Native.Nat.{_<_}
+use native.Mathlib.Omega.{arith}
 use borrow.Author.Needs.{needs}
+use Rattle.refusal.specs.declared.Verdict.the-variants.{Accepted, Refused}
+use Rattle.ends.specs.Lift.{outcome}
+use Rattle.ends.specs.Messages.{noKeyMessage}
+use Rattle.ends.specs.OltCalls.{retryOf, keySent}
+use Rattle.ends.specs.Table.{pastUnit}
+use Rattle.ends.specs.UnitCalls.{retryUnit}
+use Rattle.olt.proofs.Lookup.{Stands, place-stands, lift-absent, lift-refused, lift-accepted, with-same}
 use Rattle.olt.proofs.retry.Statement.{statement}
 use Rattle.olt.proofs.retry.Tie as tie
-use Rattle.olt.proofs.retry.Reads as reads
-use Rattle.olt.proofs.retry.Lts as lts
-use Rattle.olt.proofs.answers.no_key.Reads as no-key-reads
-use Rattle.olt.proofs.place.locate.Reads as locate-reads
-use Rattle.olt.proofs.unit_calls.key_message.Reads as key-message-reads
-use Rattle.olt.proofs.unit_calls.retry_verdict.Reads as retry-verdict-reads
 
--- src/lib.rt:85:9
 locate-requires : tie.Need-locate-requires
 locate-requires c κs = search needs
 
--- src/lib.rt:87:25
 enum-known-at : tie.Need-enum-known-at
 enum-known-at c = search needs
 
--- src/lib.rt:87:37
 no-key-requires : tie.Need-no-key-requires
 no-key-requires c κs = search needs
 
--- src/lib.rt:88:24
 enum-known-at-2 : tie.Need-enum-known-at-2
 enum-known-at-2 c = search needs
 
--- src/lib.rt:89:24
+here : (c : tie.After-known-told2) → Stands (c .before .before .before .before .args .t1) (c .before .before .before .before .args .llid) (c .before .at2 .given .0 .0)
+here c = place-stands _ _ _ _ (sym (c .before .before .before .locate .ensures) ∙ c .before .at2 .given .1)
+
 mul-unit : tie.Need-mul-unit
-mul-unit c = ?
+mul-unit c = omega (arith, here c .below, here c .few)
 
--- src/lib.rt:89:24
 element-copy-out-unit : tie.Need-element-copy-out-unit
-element-copy-out-unit c = ?
+element-copy-out-unit c = let s = here c in omega (arith, s .below, s .few)
 
--- src/lib.rt:91:17
 retry-verdict-requires : tie.Need-retry-verdict-requires
 retry-verdict-requires c κs = search needs
 
--- src/lib.rt:93:34
 enum-known-verdict : tie.Need-enum-known-verdict
 enum-known-verdict c = search needs
 
--- src/lib.rt:93:46
 no-key-requires-2 : tie.Need-no-key-requires-2
 no-key-requires-2 c κs = search needs
 
--- src/lib.rt:95:25
 enum-told : tie.Need-enum-told
 enum-told c = search needs
 
--- src/lib.rt:95:25
 key-message-requires : tie.Need-key-message-requires
 key-message-requires c κs = search needs
 
--- src/lib.rt:82:1
 returns : tie.Need-returns
-returns c = ?
+unfolding retryOf
+returns c =
+    c .no-key .ensures
+    ∙ sym (ap keySent (lift-absent (c .before .before .before .before .before .args .t1) noKeyMessage Accepted (c .before .before .before .before .before .args .llid) (retryUnit (c .before .before .before .before .before .args .llid)) _ (sym (c .before .before .before .before .locate .ensures) ∙ c .before .before .at .given .1)))
 
--- src/lib.rt:82:1
 returns-2 : tie.Need-returns-2
-returns-2 c = ?
+unfolding retryOf retryUnit outcome pastUnit
+returns-2 c =
+    c .no-key2 .ensures
+    ∙ sym (ap keySent (lift-refused (c .before .before .before .before .before .before .before .before .before .before .before .args .t1) noKeyMessage Accepted (c .before .before .before .before .before .before .before .before .before .before .before .args .llid) (retryUnit (c .before .before .before .before .before .before .before .before .before .before .before .args .llid)) _ _ (sym (c .before .before .before .before .before .before .before .before .before .before .locate .ensures) ∙ c .before .before .before .before .before .before .before .before .at2 .given .1) (sym (c .before .before .before .before .retry-verdict .ensures) ∙ c .before .before .verdict .given .1)))
 
--- src/lib.rt:82:1
 returns-3 : tie.Need-returns-3
-returns-3 c = ?
+unfolding retryOf keySent retryUnit outcome pastUnit
+returns-3 c =
+    rw (c .key-message .ensures)
+    (sym (ap keySent (lift-accepted (c .before .before .before .before .before .before .before .before .before .before .args .t1) noKeyMessage Accepted (c .before .before .before .before .before .before .before .before .before .before .args .llid) (retryUnit (c .before .before .before .before .before .before .before .before .before .before .args .llid)) _ (sym (c .before .before .before .before .before .before .before .before .before .locate .ensures) ∙ c .before .before .before .before .before .before .before .at2 .given .1) (sym (c .before .before .before .retry-verdict .ensures) ∙ c .before .enum-told .given .1)) ∙ rw (with-same (c .before .before .before .before .before .before .before .before .before .before .args .t1))))
 
 pub retry-spec : {M : Type 1} → statement M
 retry-spec =

@@ -1,7 +1,9 @@
 // The records of both ends and what crosses between them (01, Clock and Keys). A flag is a u8, 0 or 1. A place that is not in use
 // holds zeros: a unit's place past the count, an LLID's place past the count, the tick of a first send that was not noted or of
 // a capture that was not made, Rx while unsynced, a key that is no longer in use.
+
 pub mod check_olt;
+pub mod check_onu;
 pub mod keyslots;
 pub mod llids;
 

@@ -1,0 +1,18 @@
+-- `clock_from` meets its contract: the clocks are the stamps that `raised` gives. Assumes nothing.
+use borrow.Author.Needs.{needs}
+use Rattle.ends.specs.OnuCalls.{clockFrom}
+use Rattle.onu.proofs.clock_from.Statement.{statement}
+use Rattle.onu.proofs.clock_from.Tie as tie
+
+local-of-requires : tie.Need-local-of-requires
+local-of-requires c κs = search needs
+
+raised-requires : tie.Need-raised-requires
+raised-requires c κs = search needs
+
+returns : tie.Need-returns
+unfolding clockFrom
+returns c = rw (c .raised .ensures, c .before .local-of .ensures)
+
+pub clock-from-spec : {M : Type 1} → statement M
+clock-from-spec = tie.close (tie.spec local-of-requires raised-requires returns)

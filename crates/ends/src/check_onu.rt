@@ -1,8 +1,14 @@
 // Whether a lent ONU is valid: each test is a cause of 01, 'When the reader says no' (Ahead of each list comes 1).
+ghost use mathlib.Core.Path.{_≡_};
+ghost use Rattle.ends.specs.Validity.{validOnu, validOnuKeys, validOnuClock};
+use crate::Onu;
 use crate::OnuClock;
 use crate::OnuKeys;
-ghost use mathlib.Core.Path.{_≡_};
-ghost use Rattle.ends.specs.Validity.{validOnuKeys, validOnuClock};
+use crate::keyslots::valid_channels;
+use crate::keyslots::valid_first;
+use crate::llids::distinct_llids;
+use crate::llids::valid_identity;
+use crate::llids::valid_mac;
 use clock::CLOCK_TURN;
 use clock::LOCAL_TURN;
 
@@ -19,4 +25,19 @@ pub fn valid_onu_clock(clock: OnuClock) -> bool
         return (clock.synced <= 1) & ((clock.rx < CLOCK_TURN) & (clock.time < CLOCK_TURN));
     }
     (clock.synced <= 1) & ((clock.rx < CLOCK_TURN) & (clock.time < LOCAL_TURN))
+}
+
+pub fn valid_onu(o: Onu) -> bool
+    ensures { λ r. ⌜ r ≡ validOnu o ⌝ }
+{
+    let identity = valid_identity(o.identity);
+    let distinct = distinct_llids(o.identity);
+    let mac = valid_mac(o.oltmac);
+    let clock = valid_onu_clock(o.clock);
+    let keys = valid_onu_keys(o.keys);
+    let first = valid_first(o.first, o.tick);
+    let channels = valid_channels(o.channels);
+    identity
+        & (distinct
+            & (mac & ((o.tick <= 0x4000_0000_0000_0000) & (clock & (keys & (first & channels))))))
 }

@@ -9,13 +9,17 @@ use crate::keyslots::valid_first;
 use crate::llids::distinct_llids;
 use crate::llids::valid_identity;
 use crate::llids::valid_mac;
+use crate::ticks::MAX_TICK;
+
+pub const MAX_KEY_NUMBER: u32 = 0xffff_ffff;
+
 use clock::CLOCK_TURN;
 use clock::LOCAL_TURN;
 
 pub fn valid_onu_keys(keys: OnuKeys) -> bool
     ensures { λ r. ⌜ r ≡ validOnuKeys keys ⌝ }
 {
-    (keys.held <= 1) & ((keys.held == 0) | (keys.active < 0xffff_ffff))
+    (keys.held <= 1) & ((keys.held == 0) | (keys.active < MAX_KEY_NUMBER))
 }
 
 pub fn valid_onu_clock(clock: OnuClock) -> bool
@@ -37,7 +41,5 @@ pub fn valid_onu(o: Onu) -> bool
     let keys = valid_onu_keys(o.keys);
     let first = valid_first(o.first, o.tick);
     let channels = valid_channels(o.channels);
-    identity
-        & (distinct
-            & (mac & ((o.tick <= 0x4000_0000_0000_0000) & (clock & (keys & (first & channels))))))
+    identity & (distinct & (mac & ((o.tick <= MAX_TICK) & (clock & (keys & (first & channels))))))
 }

@@ -6,6 +6,7 @@ pub mod check_olt;
 pub mod check_onu;
 pub mod keyslots;
 pub mod llids;
+pub mod ticks;
 
 use clock::Stamps;
 use refusal::Refusal;

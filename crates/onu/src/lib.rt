@@ -1,29 +1,110 @@
 // The calls of the ONU but send and receive, by value (01, Clock; Keys; 'When the reader says no').
 ghost use mathlib.Core.Path.{_≡_};
+ghost use mathlib.Core.Bool.{not};
+ghost use Rattle.refusal.specs.declared.Refusal.the-variants.{OutOfRange, UnknownLlid, ClockNotSet, NothingOutstanding};
+ghost use Rattle.refusal.specs.declared.Verdict.the-variants.{Accepted};
 ghost use Rattle.clock.specs.Ticks.{localOf};
 ghost use Rattle.clock.specs.Stamping.{raisedTo};
-ghost use Rattle.ends.specs.Replies.{advanceVerdict};
-ghost use Rattle.ends.specs.OnuCalls.{onuClockAdvanced, clockMessageVerdict, clockFrom};
+ghost use Rattle.ends.specs.Replies.{refuseIf, advanceVerdict};
+ghost use Rattle.ends.specs.Records.{newOnu};
+ghost use Rattle.ends.specs.Validity.{validOnu};
+ghost use Rattle.ends.specs.OnuCalls.{freshOnuVerdict, freshOnuOf, onuClockAdvanced, onuAdvanced, advanceOnuOf, clockMessageVerdict, clockFrom, clockMessageAt, newKey, heldKey, activeKey, keyMessageVerdict, keysTaken, keyMessageAt};
 use clock::CLOCK_TURN;
+use clock::LOCAL_TURN;
 use clock::Stamps;
+use ends::Acknowledgement;
+use ends::Channels;
+use ends::FirstSend;
+use ends::Identity;
+use ends::KeyMessage;
+use ends::Onu;
+use ends::OnuAcknowledged;
+use ends::OnuAnswer;
 use ends::OnuClock;
+use ends::OnuKeys;
+use ends::Slots;
+use ends::check_onu::MAX_KEY_NUMBER;
 use refusal::Refusal;
 use refusal::Verdict;
 
-// The highest tick that an end counts to.
-const MAX_TICK: u64 = 0x4000_0000_0000_0000;
+// The kinds of acknowledgements.
+const CLOCK_KIND: u8 = 1;
 
-// The ticks that are left are compared, not the sum: n may be any number.
-fn advance_verdict(tick: u64, n: u64) -> Verdict
-    ensures { λ r. ⌜ r ≡ advanceVerdict tick n ⌝ }
+const KEY_KIND: u8 = 2;
+
+// 1 for a lent end that is not valid, ahead of what the call refuses.
+fn judged(o: Onu, verdict: Verdict) -> Verdict
+    ensures { λ r. ⌜ r ≡ refuseIf (not (validOnu o)) OutOfRange verdict ⌝ }
 {
-    if MAX_TICK < tick {
-        return Verdict::Refused(Refusal::AtEnd);
+    if !ends::check_onu::valid_onu(o) {
+        return Verdict::Refused(Refusal::OutOfRange);
     }
-    if MAX_TICK - tick < n {
-        return Verdict::Refused(Refusal::AtEnd);
+    verdict
+}
+
+fn new_onu(identity: Identity, oltmac: u64, time: u64) -> Onu
+    ensures { λ r. ⌜ r ≡ newOnu identity oltmac time ⌝ }
+{
+    let kept = ends::llids::kept_identity(identity);
+    Onu {
+        identity: kept,
+        oltmac,
+        tick: 0,
+        clock: OnuClock {
+            synced: 0,
+            time,
+            rx: 0,
+        },
+        keys: OnuKeys {
+            active: 0,
+            held: 0,
+            slots: Slots {
+                even: [0; 16],
+                odd: [0; 16],
+            },
+        },
+        first: FirstSend { noted: 0, tick: 0 },
+        channels: Channels { zero: 0, one: 0 },
+    }
+}
+
+fn fresh_verdict(identity: Identity, oltmac: u64, time: u64) -> Verdict
+    ensures { λ r. ⌜ r ≡ freshOnuVerdict identity oltmac time ⌝ }
+{
+    let named = ends::llids::valid_identity(identity);
+    let ok = named & (ends::llids::valid_mac(oltmac) & (time < LOCAL_TURN));
+    if !ok {
+        return Verdict::Refused(Refusal::OutOfRange);
+    }
+    if !ends::llids::distinct_llids(identity) {
+        return Verdict::Refused(Refusal::RepeatedLlid);
     }
     Verdict::Accepted
+}
+
+// A fresh ONU is given its MAC and LLIDs, the OLT's MAC and LocalTime. Refused: an end of zeros.
+pub fn fresh(identity: Identity, oltmac: u64, time: u64) -> OnuAnswer
+    ensures { λ r. ⌜ r ≡ freshOnuOf identity oltmac time ⌝ }
+{
+    let verdict = fresh_verdict(identity, oltmac, time);
+    match verdict {
+        Verdict::Accepted => {
+            let onu = new_onu(identity, oltmac, time);
+            OnuAnswer { number: 0, onu }
+        }
+        Verdict::Refused(refusal) => {
+            let none = Identity {
+                mac: 0,
+                llids: [0; 4],
+                count: 0,
+            };
+            let onu = new_onu(none, 0, 0);
+            OnuAnswer {
+                number: refusal::number(refusal),
+                onu,
+            }
+        }
+    }
 }
 
 fn clock_advanced(c: OnuClock, n: u64) -> OnuClock
@@ -40,6 +121,33 @@ fn clock_advanced(c: OnuClock, n: u64) -> OnuClock
         synced: c.synced,
         time: clock::local_after(c.time, n),
         rx: c.rx,
+    }
+}
+
+fn advanced(o: Onu, n: u64) -> Onu
+    requires { ⌜ advanceVerdict (o .tick) n ≡ Accepted ⌝ }
+    ensures { λ r. ⌜ r ≡ onuAdvanced o n ⌝ }
+{
+    let clock = clock_advanced(o.clock, n);
+    let mut next = o;
+    next.tick = o.tick + n;
+    next.clock = clock;
+    next
+}
+
+pub fn advance(o: Onu, n: u64) -> OnuAnswer
+    ensures { λ r. ⌜ r ≡ advanceOnuOf o n ⌝ }
+{
+    let verdict = judged(o, ends::ticks::advance_verdict(o.tick, n));
+    match verdict {
+        Verdict::Accepted => {
+            let onu = advanced(o, n);
+            OnuAnswer { number: 0, onu }
+        }
+        Verdict::Refused(refusal) => OnuAnswer {
+            number: refusal::number(refusal),
+            onu: o,
+        },
     }
 }
 
@@ -62,5 +170,127 @@ fn clock_from(time: u64, s: Stamps) -> OnuClock
         synced: 1,
         time: raised.tx,
         rx: raised.rx,
+    }
+}
+
+pub fn clock_message(o: Onu, message: Stamps) -> OnuAcknowledged
+    ensures { λ r. ⌜ r ≡ clockMessageAt o message ⌝ }
+{
+    let verdict = judged(o, clock_message_verdict(message));
+    match verdict {
+        Verdict::Accepted => {
+            let clock = clock_from(o.clock.time, message);
+            let mut onu = o;
+            onu.clock = clock;
+            OnuAcknowledged {
+                number: 0,
+                onu,
+                acknowledgement: Acknowledgement {
+                    kind: CLOCK_KIND,
+                    number: 0,
+                },
+            }
+        }
+        Verdict::Refused(refusal) => OnuAcknowledged {
+            number: refusal::number(refusal),
+            onu: o,
+            acknowledgement: Acknowledgement { kind: 0, number: 0 },
+        },
+    }
+}
+
+// Key a + 1, and no such key is held.
+fn new_key(keys: OnuKeys, message: KeyMessage) -> bool
+    ensures { λ r. ⌜ r ≡ newKey keys message ⌝ }
+{
+    let next = keys.active as u64 + 1;
+    (keys.held == 0) & ((keys.active < MAX_KEY_NUMBER) & (message.number as u64 == next))
+}
+
+// The message of the key a + 1 that is held, again. Its index is the one that a does not have.
+fn held_key(keys: OnuKeys, message: KeyMessage) -> bool
+    ensures { λ r. ⌜ r ≡ heldKey keys message ⌝ }
+{
+    let next = keys.active as u64 + 1;
+    let key = message.key;
+    let held = ends::keyslots::key_in(keys.slots, 1 - keys.active % 2);
+    let same = ends::keyslots::same_key(key, held);
+    (keys.held == 1) & ((message.number as u64 == next) & same)
+}
+
+// Number a with its own key.
+fn active_key(keys: OnuKeys, message: KeyMessage) -> bool
+    ensures { λ r. ⌜ r ≡ activeKey keys message ⌝ }
+{
+    let key = message.key;
+    let active = ends::keyslots::key_in(keys.slots, keys.active);
+    let same = ends::keyslots::same_key(key, active);
+    (1 <= keys.active) & ((message.number == keys.active) & same)
+}
+
+fn key_message_chain(unknown: bool, unsynced: bool, misfit: bool) -> Verdict
+    ensures { λ r. ⌜ r ≡ refuseIf unknown UnknownLlid (refuseIf unsynced ClockNotSet (refuseIf misfit NothingOutstanding Accepted)) ⌝ }
+{
+    if unknown {
+        return Verdict::Refused(Refusal::UnknownLlid);
+    }
+    if unsynced {
+        return Verdict::Refused(Refusal::ClockNotSet);
+    }
+    if misfit {
+        return Verdict::Refused(Refusal::NothingOutstanding);
+    }
+    Verdict::Accepted
+}
+
+fn key_message_verdict(o: Onu, message: KeyMessage) -> Verdict
+    ensures { λ r. ⌜ r ≡ keyMessageVerdict o message ⌝ }
+{
+    let known = ends::llids::has(o.identity, message.llid);
+    let new = new_key(o.keys, message);
+    let held = held_key(o.keys, message);
+    let active = active_key(o.keys, message);
+    key_message_chain(!known, !(o.clock.synced == 1), !(new | (held | active)))
+}
+
+// A new key is kept; anything else that is accepted changes nothing.
+fn keys_taken(keys: OnuKeys, message: KeyMessage) -> OnuKeys
+    ensures { λ r. ⌜ r ≡ keysTaken keys message ⌝ }
+{
+    if new_key(keys, message) {
+        let key = message.key;
+        let slots = ends::keyslots::with_key(keys.slots, message.number, key);
+        return OnuKeys {
+            active: keys.active,
+            held: 1,
+            slots,
+        };
+    }
+    keys
+}
+
+pub fn key_message(o: Onu, message: KeyMessage) -> OnuAcknowledged
+    ensures { λ r. ⌜ r ≡ keyMessageAt o message ⌝ }
+{
+    let verdict = judged(o, key_message_verdict(o, message));
+    match verdict {
+        Verdict::Accepted => {
+            let keys = keys_taken(o.keys, message);
+            let mut onu = o;
+            onu.keys = keys;
+            OnuAcknowledged {
+                number: 0,
+                onu,
+                acknowledgement: Acknowledgement {
+                    kind: KEY_KIND,
+                    number: message.number,
+                },
+            }
+        }
+        Verdict::Refused(refusal) => OnuAcknowledged {
+            number: refusal::number(refusal),
+            onu: o,
+            acknowledgement: Acknowledgement { kind: 0, number: 0 },
+        },
     }
 }

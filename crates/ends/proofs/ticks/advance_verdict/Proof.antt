@@ -4,9 +4,9 @@ use Prim.Native.Nat.{_+_, _≤_, _<_}
 use native.Mathlib.Omega.{arith}
 use borrow.Author.Tests.{lt-ltb, le-ltb}
 use Rattle.clock.specs.Ticks.{maxTick}
 use Rattle.ends.specs.Replies.{refuseIf, advanceVerdict}
-use Rattle.onu.proofs.advance_verdict.Statement.{statement}
-use Rattle.onu.proofs.advance_verdict.Tie as tie
+use Rattle.ends.proofs.ticks.advance_verdict.Statement.{statement}
+use Rattle.ends.proofs.ticks.advance_verdict.Tie as tie
 
 returns : tie.Need-returns
 unfolding advanceVerdict refuseIf

@@ -1,0 +1,50 @@
+-- `fresh` meets its contract: what `fresh_verdict` tells is the verdict of the reply. Assumes nothing.
+use mathlib.Core.Path.{sym, _∙_}
+use borrow.Author.Needs.{needs}
+use Rattle.ends.specs.Replies.{reply}
+use Rattle.ends.specs.OnuCalls.{onuAnswer, freshOnuOf}
+use Rattle.onu.proofs.fresh.Statement.{statement}
+use Rattle.onu.proofs.fresh.Tie as tie
+
+fresh-verdict-requires : tie.Need-fresh-verdict-requires
+fresh-verdict-requires c κs = search needs
+
+enum-told : tie.Need-enum-told
+enum-told c = search needs
+
+new-onu-requires : tie.Need-new-onu-requires
+new-onu-requires c κs = search needs
+
+enum-known-verdict : tie.Need-enum-known-verdict
+enum-known-verdict c = search needs
+
+new-onu-requires-2 : tie.Need-new-onu-requires-2
+new-onu-requires-2 c κs = search needs
+
+number-requires : tie.Need-number-requires
+number-requires c κs = search needs
+
+returns : tie.Need-returns
+unfolding freshOnuOf onuAnswer reply
+returns c =
+    let e = sym (c .before .before .before .fresh-verdict .ensures) ∙ c .before .enum-told .given .1 in
+    rw (e, c .new-onu .ensures)
+
+returns-2 : tie.Need-returns-2
+unfolding freshOnuOf onuAnswer reply
+returns-2 c =
+    let e = sym (c .before .before .before .before .before .fresh-verdict .ensures) ∙ c .before .before .before .verdict .given .1 in
+    rw (e, c .before .new-onu2 .ensures, c .number .ensures)
+
+pub fresh-spec : {M : Type 1} → statement M
+fresh-spec =
+    tie.close
+    (tie.spec
+    fresh-verdict-requires
+    enum-told
+    new-onu-requires
+    enum-known-verdict
+    new-onu-requires-2
+    number-requires
+    returns
+    returns-2)

@@ -1,0 +1,30 @@
+-- `keys_taken` meets its contract: a new key has the number a + 1. Assumes nothing.
+use mathlib.Core.Path.{_≡_, sym, _∙_}
+use mathlib.Core.Bool.{true}
+use borrow.Author.Needs.{needs}
+use Rattle.octets.specs.Choice.{pick}
+use Rattle.ends.specs.OnuCalls.{keysTaken}
+use Rattle.ends.specs.OnuCalls.{newKey, keysTaken}
+use Rattle.onu.proofs.OnuCalls.{new-key-number}
+use Rattle.onu.proofs.keys_taken.Statement.{statement}
+use Rattle.onu.proofs.keys_taken.Tie as tie
+
+new-key-requires : tie.Need-new-key-requires
+new-key-requires c κs = search needs
+
+with-key-requires : tie.Need-with-key-requires
+with-key-requires c κs = search needs
+
+returns : tie.Need-returns
+unfolding keysTaken pick
+returns c =
+    let a = c .before .before .before .before .args in
+    let t : newKey (a .keys) (a .message) ≡ true = sym (c .before .before .before .new-key .ensures) ∙ c .before .before .if1 .taken in
+    rw (t, c .with-key .ensures, new-key-number _ _ t)
+
+returns-2 : tie.Need-returns-2
+unfolding keysTaken pick
+returns-2 c = rw (sym (c .before .new-key .ensures), c .if1 .left)
+
+pub keys-taken-spec : {M : Type 1} → statement M
+keys-taken-spec = tie.close (tie.spec new-key-requires with-key-requires returns returns-2)

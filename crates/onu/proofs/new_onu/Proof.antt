@@ -1,0 +1,15 @@
+-- `new_onu` meets its contract: it is the record of the definition. Assumes nothing.
+use borrow.Author.Needs.{needs}
+use Rattle.ends.specs.Records.{newOnu}
+use Rattle.onu.proofs.new_onu.Statement.{statement}
+use Rattle.onu.proofs.new_onu.Tie as tie
+
+kept-identity-requires : tie.Need-kept-identity-requires
+kept-identity-requires c κs = search needs
+
+returns : tie.Need-returns
+unfolding newOnu
+returns c = rw (c .kept-identity .ensures)
+
+pub new-onu-spec : {M : Type 1} → statement M
+new-onu-spec = tie.close (tie.spec kept-identity-requires returns)

@@ -1,10 +1,11 @@
 -- `keys_taken` meets its contract: a new key has the number a + 1. Assumes nothing.
-use mathlib.Core.Path.{_≡_, sym, _∙_}
 use mathlib.Core.Bool.{true}
+use mathlib.Core.Path.{_≡_, sym, _∙_, ap}
+use Prim.Native.Nat.{ℕ, _+_}
 use borrow.Author.Needs.{needs}
 use Rattle.octets.specs.Choice.{pick}
-use Rattle.ends.specs.OnuCalls.{keysTaken}
 use Rattle.ends.specs.OnuCalls.{newKey, keysTaken}
+use Rattle.ends.specs.Keys.{withKey}
 use Rattle.onu.proofs.OnuCalls.{new-key-number}
 use Rattle.onu.proofs.keys_taken.Statement.{statement}
 use Rattle.onu.proofs.keys_taken.Tie as tie
@@ -20,7 +21,9 @@ unfolding keysTaken pick
 returns c =
     let a = c .before .before .before .before .args in
     let t : newKey (a .keys) (a .message) ≡ true = sym (c .before .before .before .new-key .ensures) ∙ c .before .before .if1 .taken in
-    rw (t, c .with-key .ensures, new-key-number _ _ t)
+    let s : c .with-key .result ≡ withKey (a .keys .slots) (a .keys .active + 1) (a .message .key) =
+    c .with-key .ensures ∙ ap (λ (n : ℕ). withKey (a .keys .slots) n (a .message .key)) (new-key-number _ _ t) in
+    rw (t, s)
 
 returns-2 : tie.Need-returns-2
 unfolding keysTaken pick

@@ -1,4 +1,5 @@
 -- `new_key` meets its contract: its tests are those of the definition. Assumes nothing.
+use mathlib.Core.Path.{refl}
 use borrow.Author.Needs.{needs}
 use Rattle.octets.specs.Choice.{both}
 use Rattle.ends.specs.OnuCalls.{newKey}
@@ -16,7 +17,7 @@ cast-result c = search needs
 
 returns : tie.Need-returns
 unfolding newKey both
-returns c = cc
+returns c = refl
 
 pub new-key-spec : {M : Type 1} → statement M
 new-key-spec = tie.close (tie.spec cast-next add-next cast-result returns)

@@ -1,0 +1,199 @@
+-- The premises as a test that computes: a list that passes it meets them. Assumes nothing.
+use mathlib.Core.Path.{_≡_, refl, sym, _∙_, ap}
+use mathlib.Core.Bool.{Bool, true, false, not}
+use mathlib.Core.List.{List, [], _∷_}
+use Prim.Native.Nat.{ℕ, zero, suc, _+_, _%_, _<_, _≤_}
+use native.Mathlib.Nat.{not-suc-le-zero}
+use lib.Dec.{eqb, leb, ltb}
+use lib.ListN.{length, getD}
+use borrow.Author.Tests.{ltb-true, leb-true, eqb-true, eqb-false, eq-eqb, not-true}
+use Rattle.octets.specs.Choice.{both, either}
+use Rattle.octets.specs.Lists.{same}
+use Rattle.octets.proofs.Choice.{both-left, both-right}
+use Rattle.octets.proofs.Lists.{same-refl}
+use Rattle.octets.proofs.Lists.{same-true}
+use Rattle.clock.specs.Ticks.{localTurn}
+use Rattle.ends.specs.Identities.{among, has, llidsOf}
+use Rattle.ends.specs.OltCalls.{registerOf, offerOf, acknowledgeOf}
+use Rattle.ends.specs.OnuCalls.{clockMessageAt, keyMessageAt}
+use Rattle.ends.specs.Table.{all}
+use Rattle.ends.specs.declared.Identity.{Identity}
+use Rattle.ends.proofs.Lists.{all-at}
+use Rattle.ends.proofs.Tests.{true-false}
+use Rattle.traffic.specs.Sends.{onuSendOf}
+use Rattle.traffic.specs.Receipts.{oltReceiveOf, onuReceiveOf}
+use Rattle.line.specs.Setting.{Site, Setting}
+use Rattle.line.specs.History.{Envelope, Thing, clockMessage, keyMessage, envelope, leftAt, Lane}
+use Rattle.line.specs.Events.{Event, advance, register, capture, clockSend, offer, retry, sendDown, sendUp, arriveDown, arriveUp, arriveAnswer, overhear, strayClock, strayKey, strayAnswer, strayDown, strayUp}
+use Rattle.line.specs.Run.{State, step, laneAt, onuAt, thingAt, envelopeAt, answerAt, noSite, freshLane}
+use Rattle.line.specs.Premises.{Agrees, NewKey, FittingBuffer, DueDown, DueUp, DueAnswer, Overhears, Fits, Meets}
+
+---- what binds accepted calls only
+
+unfoldable pub ifAccepted : ℕ → Bool → Bool
+ifAccepted number t = either (not (eqb number 0)) t
+
+if-accepted : (number : ℕ) (t : Bool) → ifAccepted number t ≡ true → number ≡ 0 → t ≡ true
+unfolding ifAccepted either
+if-accepted number t h e = sym (ap (λ (x : Bool). either (not x) t) (eq-eqb number 0 e)) ∙ h
+
+not-accepted : (number : ℕ) → not (eqb number 0) ≡ true → number ≡ 0 → ⊥
+not-accepted number h = eqb-false number 0 (not-true (eqb number 0) h)
+
+---- each premise
+
+unfoldable pub agrees : Setting → State → ℕ → Identity → ℕ → Bool
+agrees w s u i trip =
+    both (ltb u (length (s .history .lanes)))
+    (both (not (laneAt s u .entry .registered))
+    (both (eqb (i .mac) (laneAt s u .site .identity .mac))
+    (both (same (llidsOf i) (llidsOf (laneAt s u .site .identity)))
+    (both (eqb (laneAt s u .site .oltmac) (w .mac))
+    (both (eqb (laneAt s u .site .time) ((w .first + laneAt s u .site .up) % localTurn))
+    (eqb trip (laneAt s u .site .up + laneAt s u .site .down)))))))
+
+agrees-true : (w : Setting) (s : State) (u : ℕ) (i : Identity) (trip : ℕ) → agrees w s u i trip ≡ true → Agrees w s u i trip
+unfolding agrees has
+agrees-true w s u i trip e =
+    let a = both-right _ _ e in
+    let b = both-right _ _ a in
+    let c = both-right _ _ b in
+    let d = both-right _ _ c in
+    let f = both-right _ _ d in
+    record {
+      known = ltb-true _ _ (both-left _ _ e);
+      once = not-true _ (both-left _ _ a);
+      mac = eqb-true _ _ (both-left _ _ b);
+      llids = λ x. ap (λ (l : List ℕ). among x l) (same-true _ _ (both-left _ _ c));
+      oltmac = eqb-true _ _ (both-left _ _ d);
+      time = eqb-true _ _ (both-left _ _ f);
+      delays = eqb-true _ _ (both-right _ _ f);
+    }
+
+unfoldable pub other : List ℕ → List ℕ → Bool
+other key k = not (same k key)
+
+unfoldable pub unused : List ℕ → List Lane → Bool
+unused key [] = true
+unused key (l ∷ ls) = both (all (other key) (l .keys .offers)) (unused key ls)
+
+other-true : (key k : List ℕ) → other key k ≡ true → k ≡ key → ⊥
+unfolding other
+other-true key k h e = true-false (sym (same-refl k) ∙ ap (λ (x : List ℕ). same k x) e ∙ not-true _ h)
+
+unused-at : (key : List ℕ) (ls : List Lane) → unused key ls ≡ true → (u n : ℕ)
+    → n < length (getD ls u (freshLane noSite) .keys .offers) → getD (getD ls u (freshLane noSite) .keys .offers) n [] ≡ key → ⊥
+unfolding unused freshLane
+unused-at key [] e u n h = λ _. not-suc-le-zero h
+unused-at key (l ∷ ls) e zero n h = other-true key _ (all-at (other key) (l .keys .offers) n [] (both-left _ _ e) h)
+unused-at key (l ∷ ls) e (suc u) n h = unused-at key ls (both-right _ _ e) u n h
+
+unfoldable pub fitting : Thing → List ℕ → Bool
+fitting (clockMessage m c t) out = true
+fitting (keyMessage m t) out = true
+fitting (envelope e) out = eqb (length out) (length (e .octets))
+
+fitting-true : (x : Thing) (out : List ℕ) → fitting x out ≡ true → FittingBuffer x out
+unfolding fitting
+fitting-true (clockMessage m c t) out e = tt
+fitting-true (keyMessage m t) out e = tt
+fitting-true (envelope x) out e = eqb-true _ _ e
+
+unfoldable pub dueDown : State → ℕ → ℕ → List ℕ → Bool
+dueDown s u k out =
+    both (ltb k (length (laneAt s u .transit .towards)))
+    (both (eqb (leftAt (thingAt s u k) + laneAt s u .site .down) (s .history .now)) (fitting (thingAt s u k) out))
+
+due-down-true : (s : State) (u k : ℕ) (out : List ℕ) → dueDown s u k out ≡ true → DueDown s u k out
+unfolding dueDown
+due-down-true s u k out e =
+    let a = both-right _ _ e in
+    record { some = ltb-true _ _ (both-left _ _ e); now = eqb-true _ _ (both-left _ _ a); buffer = fitting-true _ _ (both-right _ _ a) }
+
+unfoldable pub dueUp : State → ℕ → ℕ → List ℕ → Bool
+dueUp s u k out =
+    both (ltb k (length (laneAt s u .transit .from)))
+    (both (eqb (envelopeAt s u k .left + laneAt s u .site .up) (s .history .now)) (eqb (length out) (length (envelopeAt s u k .octets))))
+
+due-up-true : (s : State) (u k : ℕ) (out : List ℕ) → dueUp s u k out ≡ true → DueUp s u k out
+unfolding dueUp
+due-up-true s u k out e =
+    let a = both-right _ _ e in
+    record { some = ltb-true _ _ (both-left _ _ e); now = eqb-true _ _ (both-left _ _ a); buffer = eqb-true _ _ (both-right _ _ a) }
+
+unfoldable pub dueAnswer : State → ℕ → ℕ → ℕ → Bool
+dueAnswer s u k llid =
+    both (ltb k (length (laneAt s u .transit .answered)))
+    (both (leb (answerAt s u k .tick + laneAt s u .site .up) (s .history .now)) (has (laneAt s u .site .identity) llid))
+
+due-answer-true : (s : State) (u k llid : ℕ) → dueAnswer s u k llid ≡ true → DueAnswer s u k llid
+unfolding dueAnswer
+due-answer-true s u k llid e =
+    let a = both-right _ _ e in
+    record { some = ltb-true _ _ (both-left _ _ e); left = leb-true _ _ (both-left _ _ a); named = both-right _ _ a }
+
+unfoldable pub overhears : State → ℕ → ℕ → ℕ → Bool
+overhears s u v k =
+    both (laneAt s u .entry .registered) (both (not (eqb u v)) (ltb k (length (laneAt s v .past .sent))))
+
+overhears-true : (s : State) (u v k : ℕ) → overhears s u v k ≡ true → Overhears s u v k
+unfolding overhears
+overhears-true s u v k e =
+    let a = both-right _ _ e in
+    record { registered = both-left _ _ e; apart = eqb-false u v (not-true _ (both-left _ _ a)); some = ltb-true _ _ (both-right _ _ a) }
+
+---- an event, and a list
+
+unfoldable pub fits : Setting → State → Event → Bool
+fits w s (advance n) = true
+fits w s (register u i trip interval) = ifAccepted (registerOf (s .olt) i trip interval .number) (agrees w s u i trip)
+fits w s (capture llid) = true
+fits w s (clockSend llid) = true
+fits w s (offer llid key) = ifAccepted (offerOf (s .olt) llid key .number) (unused key (s .history .lanes))
+fits w s (retry llid) = true
+fits w s (sendDown llid index p out) = true
+fits w s (sendUp u llid index p out) =
+    ifAccepted (onuSendOf (onuAt s u) llid index p out .answer .number) (laneAt s u .entry .registered)
+fits w s (arriveDown u k out) = dueDown s u k out
+fits w s (arriveUp u k out) = dueUp s u k out
+fits w s (arriveAnswer u k llid) = dueAnswer s u k llid
+fits w s (overhear u v k out) = overhears s u v k
+fits w s (strayClock u m) = not (eqb (clockMessageAt (onuAt s u) m .number) 0)
+fits w s (strayKey u m) = not (eqb (keyMessageAt (onuAt s u) m .number) 0)
+fits w s (strayAnswer llid a) = not (eqb (acknowledgeOf (s .olt) llid a .number) 0)
+fits w s (strayDown u h p out) = not (eqb (onuReceiveOf (onuAt s u) h p out .answer .number) 0)
+fits w s (strayUp h p out) = not (eqb (oltReceiveOf (s .olt) h p out .answer .number) 0)
+
+fits-true : (w : Setting) (s : State) (e : Event) → fits w s e ≡ true → Fits w s e
+unfolding fits
+fits-true w s (advance n) h = tt
+fits-true w s (register u i trip interval) h = λ a. agrees-true w s u i trip (if-accepted _ _ h a)
+fits-true w s (capture llid) h = tt
+fits-true w s (clockSend llid) h = tt
+fits-true w s (offer llid key) h = λ a. record { unused = unused-at key (s .history .lanes) (if-accepted _ _ h a) }
+fits-true w s (retry llid) h = tt
+fits-true w s (sendDown llid index p out) h = tt
+fits-true w s (sendUp u llid index p out) h = if-accepted _ _ h
+fits-true w s (arriveDown u k out) h = due-down-true s u k out h
+fits-true w s (arriveUp u k out) h = due-up-true s u k out h
+fits-true w s (arriveAnswer u k llid) h = due-answer-true s u k llid h
+fits-true w s (overhear u v k out) h = overhears-true s u v k h
+fits-true w s (strayClock u m) h = not-accepted _ h
+fits-true w s (strayKey u m) h = not-accepted _ h
+fits-true w s (strayAnswer llid a) h = not-accepted _ h
+fits-true w s (strayDown u x p out) h = not-accepted _ h
+fits-true w s (strayUp x p out) h = not-accepted _ h
+
+unfoldable pub meets : Setting → State → List Event → Bool
+meets w s [] = true
+meets w s (e ∷ es) = both (fits w s e) (meets w (step s e) es)
+
+pub meets-true : (w : Setting) (s : State) (es : List Event) → meets w s es ≡ true → Meets w s es
+unfolding meets
+meets-true w s [] h = tt
+meets-true w s (e ∷ es) h = (fits-true w s e (both-left _ _ h), meets-true w (step s e) es (both-right _ _ h))
+
+-- to compute the test
+unfoldable pub tested : Unit {0}
+unfolding ifAccepted agrees other unused fitting dueDown dueUp dueAnswer overhears fits meets
+tested = tt

@@ -1,0 +1,83 @@
+-- What holds on the whole list (demand 3 of 01; 01, The line). Assumes nothing.
+use mathlib.Core.Path.{_≡_}
+use mathlib.Core.Bool.{Bool, true, false}
+use mathlib.Core.List.{List, List·Memᴰ}
+use Prim.Native.Nat.{ℕ, _<_, _≤_, _^_}
+use lib.Dec.{leb}
+use lib.ListN.{length}
+use Rattle.sealing.specs.CounterBlock.{counterBlock}
+use Rattle.sealing.specs.KeyExpansion.{keyExpansion}
+use Rattle.sealing.specs.Seal.{carried, countCarried}
+use Rattle.sealing.specs.declared.envelope.Nonce.{Nonce}
+use Rattle.ends.specs.Headers.{headerOf}
+use Rattle.ends.specs.Keys.{keyIn}
+use Rattle.ends.specs.Table.{unitAt}
+use Rattle.ends.specs.declared.Onu.{Onu}
+use Rattle.ends.specs.declared.Unit.{Unit}
+use Rattle.traffic.specs.Passages.{isEnciphered, nonceOf}
+use Rattle.line.specs.Setting.{Site, Setting, clockDown, clockUp}
+use Rattle.line.specs.History.{Way, downward, upward, Envelope, Arrival, Lane, keyOf}
+use Rattle.line.specs.Run.{State, laneAt, onuAt, sentAt}
+
+-- the sender's MAC and clock
+abbrev pub senderMac : Setting → Site → Way → ℕ
+senderMac w s downward = w .mac
+senderMac w s upward = s .identity .mac
+
+abbrev pub senderClock : Setting → Site → Way → ℕ → ℕ
+senderClock w s downward tick = clockDown (w .first) tick
+senderClock w s upward tick = clockUp (w .first) (s .up) tick
+
+-- what tells an envelope's counter blocks from another's
+abbrev pub nonceFor : Setting → Site → Envelope → Nonce
+nonceFor w s e =
+    record { channel = e .index; mac = senderMac w s (e .way); clock = senderClock w s (e .way) (e .left) }
+
+-- number 0 is clear; n ≥ 1 is sealed with key n
+abbrev pub isSealed : Envelope → Bool
+isSealed e = leb 1 (e .number)
+
+-- (0) an accepted send handed over what the definitions give for its number, key, MAC and clock
+pub record SentRight (w : Setting) (l : Lane) (e : Envelope) : Type 0 where
+  pub header : e .header ≡ headerOf (e .number) (e .index) (e .llid) (senderClock w (l .site) (e .way) (e .left))
+  pub octets : e .octets ≡ carried (isSealed e) (keyExpansion (keyOf (l .keys) (e .number))) (nonceFor w (l .site) e) (e .payload)
+  pub count : e .count ≡ countCarried (isSealed e) (e .payload)
+
+-- (1) an envelope that arrived was accepted, opened under its sender's key and counter block, and gave back payload and count
+pub record ArrivedRight (w : Setting) (l : Lane) (r : Arrival) : Type 0 where
+  pub sent : List·Memᴰ (r .envelope) (l .past .sent)
+  pub accepted : r .number ≡ 0
+  pub enciphered : isEnciphered (r .passage .choice) ≡ isSealed (r .envelope)
+  pub key : 1 ≤ r .envelope .number → r .passage .key ≡ keyOf (l .keys) (r .envelope .number)
+  pub nonce : 1 ≤ r .envelope .number → nonceOf (r .envelope .header .index) (r .passage) ≡ nonceFor w (l .site) (r .envelope)
+  pub payload : r .output ≡ r .envelope .payload
+  pub count : r .count ≡ r .envelope .count
+
+-- (3) both ends hold key n
+pub record Holds (l : Lane) (n : ℕ) (u : Unit) (o : Onu) : Type 0 where
+  pub active : u .keys .active ≡ n
+  pub confirmed : u .confirmation .confirmed ≡ n
+  pub unit : o .keys .active ≡ n
+  pub oltKey : keyIn (u .keys .slots) n ≡ keyOf (l .keys) n
+  pub onuKey : keyIn (o .keys .slots) n ≡ keyOf (l .keys) n
+
+-- an envelope numbered n has arrived that way
+pub record ArrivedNumbered (l : Lane) (way : Way) (n : ℕ) : Type 0 where
+  pub arrival : Arrival
+  pub among : List·Memᴰ arrival (l .past .arrived)
+  pub thatWay : arrival .envelope .way ≡ way
+  pub numbered : arrival .envelope .number ≡ n
+
+pub record Claim (w : Setting) (s : State) : Type 0 where
+  pub sent : (u : ℕ) (e : Envelope) → List·Memᴰ e (laneAt s u .past .sent) → SentRight w (laneAt s u) e
+  pub arrived : (u : ℕ) (r : Arrival) → List·Memᴰ r (laneAt s u .past .arrived) → ArrivedRight w (laneAt s u) r
+  -- (2) two sealed envelopes that share key and counter block are one
+  pub blocks : (u v i j a b : ℕ) → i < length (laneAt s u .past .sent) → j < length (laneAt s v .past .sent)
+      → 1 ≤ sentAt s u i .number → 1 ≤ sentAt s v j .number
+      → keyOf (laneAt s u .keys) (sentAt s u i .number) ≡ keyOf (laneAt s v .keys) (sentAt s v j .number)
+      → a < 2 ^ 24 → b < 2 ^ 24
+      → counterBlock (nonceFor w (laneAt s u .site) (sentAt s u i)) a ≡ counterBlock (nonceFor w (laneAt s v .site) (sentAt s v j)) b
+      → (u ≡ v) × (i ≡ j)
+  pub held : (u n : ℕ) → 1 ≤ n → laneAt s u .keys .switches ≡ n
+      → ArrivedNumbered (laneAt s u) downward n → ArrivedNumbered (laneAt s u) upward n
+      → Holds (laneAt s u) n (unitAt (s .olt) (laneAt s u .entry .place)) (onuAt s u)

@@ -1,0 +1,94 @@
+-- Demand 3 of 01 as one statement, and what it says of the list of Example. Assumes nothing.
+use mathlib.Core.Path.{_≡_}
+use mathlib.Core.List.{List, [], _∷_, map}
+use Prim.Native.Nat.{ℕ, _+_, _-_, _<_, _^_}
+use lib.ListN.{length, getD}
+use Rattle.clock.specs.Ticks.{clockTurn, localTurn}
+use Rattle.sealing.specs.CounterBlock.{counterBlock}
+use Rattle.sealing.specs.declared.envelope.Nonce.{Nonce}
+use Rattle.ends.specs.Headers.{noPassage}
+use Rattle.ends.specs.Keys.{keyIn}
+use Rattle.ends.specs.Table.{unitAt}
+use Rattle.traffic.specs.Passages.{nonceOf}
+use Rattle.line.specs.Setting.{Setting}
+use Rattle.line.specs.History.{Envelope, Arrival}
+use Rattle.line.specs.Events.{Event}
+use Rattle.line.specs.Run.{State, start, run, laneAt, onuAt, sentAt, noEnvelope}
+use Rattle.line.specs.Premises.{Fresh, Meets}
+use Rattle.line.specs.Claim.{nonceFor, Claim}
+use Rattle.line.specs.Example.{example, events, oltMac, identityA, identityB, keyFrom, payloadFrom}
+
+-- the theorem
+abbrev pub Theorem : Type 0
+Theorem = (w : Setting) (es : List Event) → Fresh w → Meets w (start w) es → Claim w (run (start w) es)
+
+---- the example
+
+abbrev pub played : State
+played = run (start example) events
+
+abbrev pub arrivalAt : State → ℕ → ℕ → Arrival
+arrivalAt s u k =
+    getD (laneAt s u .past .arrived) k (record { envelope = noEnvelope; number = 0; count = 0; output = []; passage = noPassage })
+
+abbrev pub nonce : ℕ → ℕ → ℕ → Nonce
+nonce channel mac clock = record { channel = channel; mac = mac; clock = clock }
+
+-- the kth arrival on unit u's line was accepted, opened with that key under that nonce, and gave back that payload, of whose 24 data
+-- octets 22 are enciphered
+pub record Delivered (u k : ℕ) (x : List ℕ) (n : Nonce) (p : List ℕ) : Type 0 where
+  pub some : k < length (laneAt played u .past .arrived)
+  pub accepted : arrivalAt played u k .number ≡ 0
+  pub key : arrivalAt played u k .passage .key ≡ x
+  pub nonce : nonceOf (arrivalAt played u k .envelope .header .index) (arrivalAt played u k .passage) ≡ n
+  pub payload : arrivalAt played u k .output ≡ p
+  pub count : arrivalAt played u k .count ≡ 22
+
+-- A = C = a = 2, and both ends keep that key under the number
+pub record Agreed (u place : ℕ) (key : List ℕ) : Type 0 where
+  pub active : unitAt (played .olt) place .keys .active ≡ 2
+  pub confirmed : unitAt (played .olt) place .confirmation .confirmed ≡ 2
+  pub unit : onuAt played u .keys .active ≡ 2
+  pub oltKey : keyIn (unitAt (played .olt) place .keys .slots) 2 ≡ key
+  pub onuKey : keyIn (onuAt played u .keys .slots) 2 ≡ key
+
+-- two envelopes of unit u's line have no counter block in common
+pub record Apart (u i j : ℕ) : Type 0 where
+  pub blocks : (a b : ℕ) → a < 2 ^ 24 → b < 2 ^ 24
+      → counterBlock (nonceFor example (laneAt played u .site) (sentAt played u i)) a
+      ≡ counterBlock (nonceFor example (laneAt played u .site) (sentAt played u j)) b
+      → ⊥
+
+-- what came to pass, by computing: two units, one registered after tick 0; the numbers of what was sent and of what arrived
+pub record Course : Type 0 where
+  pub registered : map (λ u. laneAt played u .entry .since) (0 ∷ 1 ∷ []) ≡ 0 ∷ 155 ∷ []
+  pub sentA : map (λ (e : Envelope). e .number) (laneAt played 0 .past .sent) ≡ 0 ∷ 0 ∷ 1 ∷ 1 ∷ 1 ∷ 1 ∷ 2 ∷ 2 ∷ []
+  pub arrivedA : map (λ (r : Arrival). r .envelope .number) (laneAt played 0 .past .arrived) ≡ 0 ∷ 0 ∷ 1 ∷ 1 ∷ 2 ∷ 2 ∷ []
+  pub sentB : map (λ (e : Envelope). e .number) (laneAt played 1 .past .sent) ≡ 1 ∷ 1 ∷ 2 ∷ 2 ∷ []
+  pub arrivedB : map (λ (r : Arrival). r .envelope .number) (laneAt played 1 .past .arrived) ≡ 1 ∷ 1 ∷ 2 ∷ 2 ∷ []
+
+-- what the theorem says of it
+pub record Shown : Type 0 where
+  -- the first unit, down and up under key 1: LocalTime wraps between the two; under key 2: the clock wraps
+  pub downA1 : Delivered 0 2 (keyFrom 16) (nonce 0x00 oltMac (clockTurn - localTurn - 35)) (payloadFrom 3)
+  pub upA1 : Delivered 0 3 (keyFrom 16) (nonce 0x81 (identityA .mac) (clockTurn - localTurn + 15)) (payloadFrom 5)
+  pub downA2 : Delivered 0 4 (keyFrom 32) (nonce 0x00 oltMac (clockTurn - 10)) (payloadFrom 6)
+  pub upA2 : Delivered 0 5 (keyFrom 32) (nonce 0x80 (identityA .mac) 40) (payloadFrom 9)
+  -- the second
+  pub downB1 : Delivered 1 0 (keyFrom 48) (nonce 0x01 oltMac (clockTurn - 10)) (payloadFrom 7)
+  pub upB1 : Delivered 1 1 (keyFrom 48) (nonce 0x80 (identityB .mac) 8) (payloadFrom 8)
+  pub downB2 : Delivered 1 2 (keyFrom 64) (nonce 0x00 oltMac 1058) (payloadFrom 10)
+  pub upB2 : Delivered 1 3 (keyFrom 64) (nonce 0x81 (identityB .mac) 1076) (payloadFrom 11)
+  -- the first two envelopes under key 1, on one channel; the first of them was lost
+  pub apart : Apart 0 2 3
+  pub agreedA : Agreed 0 0 (keyFrom 32)
+  pub agreedB : Agreed 1 1 (keyFrom 64)
+
+---- the whole
+
+pub record Demand : Type 0 where
+  pub holds : Theorem
+  pub fresh : Fresh example
+  pub meets : Meets example (start example) events
+  pub course : Course
+  pub shown : Shown

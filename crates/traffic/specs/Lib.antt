@@ -1,0 +1,3 @@
+pub mod Passages
+pub mod Sends
+pub mod Receipts

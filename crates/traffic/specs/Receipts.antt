@@ -1,0 +1,35 @@
+-- Receive at both ends: number, end, count and output together (01, Keys; 'When the reader says no': 14, 1, 2, 10, 5, 11, 9).
+-- h is the header, p the payload as it came, out the output as it was lent. Assumes nothing.
+use mathlib.Core.List.{List}
+use Prim.Native.Nat.{ℕ}
+use Rattle.refusal.specs.Number.{verdictNumber}
+use Rattle.ends.specs.Replies.{Reply}
+use Rattle.ends.specs.OltTraffic.{receivingOlt}
+use Rattle.ends.specs.OnuTraffic.{receivingOnu}
+use Rattle.ends.specs.declared.Header.{Header}
+use Rattle.ends.specs.declared.Olt.{Olt}
+use Rattle.ends.specs.declared.Onu.{Onu}
+use Rattle.ends.specs.declared.Passage.{Passage}
+use Rattle.traffic.specs.Passages.{Exchange, misfit, passed, passedCount, outputAfter}
+use Rattle.traffic.specs.declared.OltReceived.{OltReceived}
+use Rattle.traffic.specs.declared.OnuReceived.{OnuReceived}
+
+unfoldable pub oltReceived : Reply Olt Passage → ℕ → List ℕ → List ℕ → Exchange OltReceived
+oltReceived r index p out =
+    record {
+      answer = record { number = verdictNumber (r .verdict); olt = r .end; count = passedCount (r .handed) p };
+      output = outputAfter (r .verdict) (passed index (r .handed) p) out;
+    }
+
+unfoldable pub oltReceiveOf : Olt → Header → List ℕ → List ℕ → Exchange OltReceived
+oltReceiveOf o h p out = oltReceived (receivingOlt o (misfit p out) h) (h .index) p out
+
+unfoldable pub onuReceivedBy : Reply Onu Passage → ℕ → List ℕ → List ℕ → Exchange OnuReceived
+onuReceivedBy r index p out =
+    record {
+      answer = record { number = verdictNumber (r .verdict); onu = r .end; count = passedCount (r .handed) p };
+      output = outputAfter (r .verdict) (passed index (r .handed) p) out;
+    }
+
+unfoldable pub onuReceiveOf : Onu → Header → List ℕ → List ℕ → Exchange OnuReceived
+onuReceiveOf o h p out = onuReceivedBy (receivingOnu o (misfit p out) h) (h .index) p out

@@ -1,0 +1,47 @@
+-- Send at both ends: number, end, header, count and output together (01, Keys; 'When the reader says no': 14, 1, 2, 12, 13).
+-- p is the payload, out the output as it was lent. Assumes nothing.
+use mathlib.Core.List.{List}
+use Prim.Native.Nat.{ℕ}
+use Rattle.refusal.specs.Number.{verdictNumber}
+use Rattle.sealing.specs.Payload.{eqsOf}
+use Rattle.ends.specs.Replies.{Reply}
+use Rattle.ends.specs.OltTraffic.{sendingOlt}
+use Rattle.ends.specs.OnuTraffic.{sendingOnu}
+use Rattle.ends.specs.declared.Olt.{Olt}
+use Rattle.ends.specs.declared.Onu.{Onu}
+use Rattle.ends.specs.declared.Sending.{Sending}
+use Rattle.traffic.specs.Passages.{Exchange, misfit, passed, passedCount, outputAfter}
+use Rattle.traffic.specs.declared.OltSent.{OltSent}
+use Rattle.traffic.specs.declared.OnuSent.{OnuSent}
+
+unfoldable pub oltSent : Reply Olt Sending → ℕ → List ℕ → List ℕ → Exchange OltSent
+oltSent r index p out =
+    record {
+      answer =
+          record {
+            number = verdictNumber (r .verdict);
+            olt = r .end;
+            header = r .handed .header;
+            count = passedCount (r .handed .passage) p;
+          };
+      output = outputAfter (r .verdict) (passed index (r .handed .passage) p) out;
+    }
+
+unfoldable pub oltSendOf : Olt → ℕ → ℕ → List ℕ → List ℕ → Exchange OltSent
+oltSendOf o llid index p out = oltSent (sendingOlt o (misfit p out) llid index (eqsOf p)) index p out
+
+unfoldable pub onuSentBy : Reply Onu Sending → ℕ → List ℕ → List ℕ → Exchange OnuSent
+onuSentBy r index p out =
+    record {
+      answer =
+          record {
+            number = verdictNumber (r .verdict);
+            onu = r .end;
+            header = r .handed .header;
+            count = passedCount (r .handed .passage) p;
+          };
+      output = outputAfter (r .verdict) (passed index (r .handed .passage) p) out;
+    }
+
+unfoldable pub onuSendOf : Onu → ℕ → ℕ → List ℕ → List ℕ → Exchange OnuSent
+onuSendOf o llid index p out = onuSentBy (sendingOnu o (misfit p out) llid index (eqsOf p)) index p out

@@ -1,2 +1,3 @@
 pub mod Lookup
 pub mod Verdicts
+pub mod Advancing

@@ -1,6 +1,6 @@
 -- What an accepted verdict tells of the unit. Assumes nothing.
 use mathlib.Core.Path.{_≡_, refl}
-use mathlib.Core.Bool.{Bool, true, false}
+use mathlib.Core.Bool.{Bool, true, false, not}
 use mathlib.Core.List.{List}
 use Prim.Native.Nat.{ℕ, _<_, _≤_}
 use native.Mathlib.Omega.{arith}
@@ -9,16 +9,19 @@ use borrow.Author.Tests.{leb-true, leb-false, eqb-true, not-false}
 use Rattle.octets.specs.Choice.{either, pick}
 use Rattle.octets.proofs.Choice.{both-left, both-right}
 use Rattle.refusal.specs.declared.Refusal.{Refusal}
-use Rattle.refusal.specs.declared.Refusal.the-variants.{NothingOutstanding}
+use Rattle.refusal.specs.declared.Refusal.the-variants.{NothingOutstanding, OutOfRange}
 use Rattle.refusal.specs.declared.Verdict.{Verdict}
 use Rattle.refusal.specs.declared.Verdict.the-variants.{Accepted, Refused}
-use Rattle.ends.specs.Limits.{maxKeyNumber}
+use Rattle.ends.specs.Limits.{maxKeyNumber, maxUnits}
 use Rattle.ends.specs.Replies.{refuseIf, none}
 use Rattle.ends.specs.Messages.{clockKind, keyKind}
 use Rattle.ends.specs.Lift.{outcome}
-use Rattle.ends.specs.Validity.{validUnit, validUnitClock}
+use Rattle.ends.specs.Validity.{validOlt, validUnit, validUnitClock}
 use Rattle.ends.specs.UnitCalls.{acknowledgeUnit, clockAcknowledgedUnit, clockSendVerdict, keyAcknowledgedUnit, offerVerdict}
+use Rattle.ends.specs.OltCalls.{registerVerdict}
 use Rattle.ends.specs.declared.Acknowledgement.{Acknowledgement}
+use Rattle.ends.specs.declared.Identity.{Identity}
+use Rattle.ends.specs.declared.Olt.{Olt}
 use Rattle.ends.specs.declared.Shared.{Shared}
 use Rattle.ends.specs.declared.Unit.{Unit}
 
@@ -59,3 +62,13 @@ acknowledge-channels a s u = by-kind (eqb (a .kind) clockKind) (eqb (a .kind) ke
   by-kind true y = refl
   by-kind false true = refl
   by-kind false false = refl
+
+-- a registration is accepted only where a place is left
+pub register-room : (o : Olt) (i : Identity) (trip interval : ℕ)
+    → refuseIf (not (validOlt o)) OutOfRange (registerVerdict o i trip interval) ≡ Accepted → o .count < maxUnits
+unfolding registerVerdict
+register-room o i trip interval e =
+    let a = not-refused _ _ _ e in
+    let b = not-refused _ _ _ (a .1) in
+    let d = not-refused _ _ _ (b .1) in
+    leb-false _ _ (not-refused _ _ _ (d .1) .0)

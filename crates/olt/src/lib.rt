@@ -1,16 +1,23 @@
 // The calls of the OLT but send and receive (01, Clock; Keys; 'When the reader says no'). Each takes the end by value and gives back
 // the number, the end and what is handed over; refused, the end is the one that was lent.
 mod answers;
+mod making;
 pub mod place;
+mod timing;
 mod unit_calls;
 
 ghost use mathlib.Core.Path.{_≡_};
-ghost use Rattle.ends.specs.OltCalls.{acknowledgeOf, captureOf, clockSendOf, offerOf, retryOf};
+ghost use Rattle.ends.specs.OltCalls.{acknowledgeOf, advanceOltOf, captureOf, clockSendOf, freshOltOf, offerOf, registerOf, retryOf};
+use clock::CLOCK_TURN;
 use ends::Acknowledgement;
 use ends::ClockSent;
+use ends::Identity;
 use ends::KeySent;
 use ends::Olt;
 use ends::OltAnswer;
+use ends::check_olt::MAX_TICK;
+use ends::check_olt::valid_olt;
+use ends::llids::valid_mac;
 use refusal::Refusal;
 use refusal::Verdict;
 
@@ -18,6 +25,42 @@ use refusal::Verdict;
 pub enum Located {
     Place(usize),
     Absent(Refusal),
+}
+
+// A fresh OLT of that MAC and first clock. Refused, it is an end of zeros.
+pub fn fresh(mac: u64, clock: u64) -> OltAnswer
+    ensures { λ r. ⌜ r ≡ freshOltOf mac clock ⌝ }
+{
+    if valid_mac(mac) & (clock < CLOCK_TURN) {
+        return answers::accepted(making::new_olt(mac, clock));
+    }
+    answers::refused(making::new_olt(0, 0), Refusal::OutOfRange)
+}
+
+pub fn register(olt: Olt, identity: Identity, trip: u64, interval: u64) -> OltAnswer
+    ensures { λ r. ⌜ r ≡ registerOf olt identity trip interval ⌝ }
+{
+    let verdict = making::register_verdict(olt, identity, trip, interval);
+    match verdict {
+        Verdict::Refused(refusal) => answers::refused(olt, refusal),
+        Verdict::Accepted => {
+            let unit = making::fresh_unit(identity, trip, interval);
+            answers::accepted(making::with_one_more(olt, unit))
+        }
+    }
+}
+
+// Ticks, clock and the timers of all units.
+pub fn advance(olt: Olt, n: u64) -> OltAnswer
+    ensures { λ r. ⌜ r ≡ advanceOltOf olt n ⌝ }
+{
+    if !valid_olt(olt) {
+        return answers::refused(olt, Refusal::OutOfRange);
+    }
+    if MAX_TICK - olt.shared.tick < n {
+        return answers::refused(olt, Refusal::AtEnd);
+    }
+    answers::accepted(timing::advanced(olt, n))
 }
 
 // The unit's stamps are those of this tick.

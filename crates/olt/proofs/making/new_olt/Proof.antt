@@ -1,0 +1,16 @@
+-- `olt::making::new_olt` meets its contract: sixteen places with no unit.
+-- Assumes nothing.
+use borrow.Author.Needs.{needs}
+use Rattle.ends.specs.Records.{newOlt}
+use Rattle.olt.proofs.making.new_olt.Statement.{statement}
+use Rattle.olt.proofs.making.new_olt.Tie as tie
+
+no-unit-requires : tie.Need-no-unit-requires
+no-unit-requires c κs = search needs
+
+returns : tie.Need-returns
+unfolding newOlt
+returns c = rw (c .no-unit .ensures)
+
+pub new-olt-spec : {M : Type 1} → statement M
+new-olt-spec = tie.close (tie.spec no-unit-requires returns)

@@ -1,0 +1,147 @@
+// New ends and new units (01, Clock; Keys).
+ghost use mathlib.Core.Bool.{not};
+ghost use mathlib.Core.Path.{_≡_};
+ghost use Prim.Native.Nat.{_<_};
+ghost use Rattle.refusal.specs.declared.Refusal.the-variants.{OutOfRange};
+ghost use Rattle.ends.specs.Replies.{refuseIf};
+ghost use Rattle.ends.specs.Records.{freshUnit, newOlt, noUnit};
+ghost use Rattle.ends.specs.Table.{withOneMore};
+ghost use Rattle.ends.specs.Validity.{validOlt};
+ghost use Rattle.ends.specs.OltCalls.{registerVerdict, validRegistration};
+use ends::Channels;
+use ends::Confirmation;
+use ends::FirstSend;
+use ends::Identity;
+use ends::Olt;
+use ends::Shared;
+use ends::Slots;
+use ends::Timer;
+use ends::Unit;
+use ends::UnitClock;
+use ends::UnitKeys;
+use ends::check_olt::MAX_ROUND_TRIP;
+use ends::check_olt::meets_table;
+use ends::check_olt::valid_interval;
+use ends::check_olt::valid_olt;
+use ends::llids::distinct_llids;
+use ends::llids::kept_identity;
+use ends::llids::valid_identity;
+use refusal::Refusal;
+use refusal::Verdict;
+
+// The units of a full table.
+const MAX_UNITS: u8 = 16;
+
+// Numbers 0, flags down.
+pub(crate) fn fresh_unit(identity: Identity, trip: u64, interval: u64) -> Unit
+    ensures { λ r. ⌜ r ≡ freshUnit identity trip interval ⌝ }
+{
+    let kept = kept_identity(identity);
+    let timer = Timer {
+        interval,
+        count: 0,
+        flag: 0,
+    };
+    let slots = Slots {
+        even: [0; 16],
+        odd: [0; 16],
+    };
+    let first = FirstSend { noted: 0, tick: 0 };
+    let keys = UnitKeys {
+        timer,
+        active: 0,
+        offered: 0,
+        slots,
+        first,
+    };
+    let confirmation = Confirmation {
+        confirmed: 0,
+        acknowledged: 0,
+    };
+    let clock = UnitClock {
+        trip,
+        captured: 0,
+        tick: 0,
+        sent: 0,
+        acknowledged: 0,
+    };
+    Unit {
+        identity: kept,
+        keys,
+        confirmation,
+        clock,
+    }
+}
+
+fn no_unit() -> Unit
+    ensures { λ r. ⌜ r ≡ noUnit ⌝ }
+{
+    let identity = Identity {
+        mac: 0,
+        llids: [0; 4],
+        count: 0,
+    };
+    fresh_unit(identity, 0, 0)
+}
+
+pub(crate) fn new_olt(mac: u64, clock: u64) -> Olt
+    ensures { λ r. ⌜ r ≡ newOlt mac clock ⌝ }
+{
+    let channels = Channels { zero: 0, one: 0 };
+    let shared = Shared {
+        mac,
+        tick: 0,
+        clock,
+        channels,
+    };
+    let unit = no_unit();
+    let units = [unit; 16];
+    Olt {
+        shared,
+        count: 0,
+        units,
+    }
+}
+
+fn valid_registration(identity: Identity, trip: u64, interval: u64) -> bool
+    ensures { λ r. ⌜ r ≡ validRegistration identity trip interval ⌝ }
+{
+    let who = valid_identity(identity);
+    let when = valid_interval(interval);
+    who & ((trip <= MAX_ROUND_TRIP) & when)
+}
+
+// 1 for the end that is lent, then register's own 1, 3 and 4.
+pub(crate) fn register_verdict(olt: Olt, identity: Identity, trip: u64, interval: u64) -> Verdict
+    ensures { λ r. ⌜ r ≡ refuseIf (not (validOlt olt)) OutOfRange (registerVerdict olt identity trip interval) ⌝ }
+{
+    if !valid_olt(olt) {
+        return Verdict::Refused(Refusal::OutOfRange);
+    }
+    if !valid_registration(identity, trip, interval) {
+        return Verdict::Refused(Refusal::OutOfRange);
+    }
+    if !distinct_llids(identity) {
+        return Verdict::Refused(Refusal::RepeatedLlid);
+    }
+    let units = olt.units;
+    if meets_table(units, olt.count, identity) {
+        return Verdict::Refused(Refusal::RepeatedLlid);
+    }
+    if MAX_UNITS <= olt.count {
+        return Verdict::Refused(Refusal::TableFull);
+    }
+    Verdict::Accepted
+}
+
+// One unit more, in the first place that is not in use.
+pub(crate) fn with_one_more(olt: Olt, unit: Unit) -> Olt
+    requires { ⌜ olt .count < 16 ⌝ }
+    ensures { λ r. ⌜ r ≡ withOneMore olt unit ⌝ }
+{
+    let mut r = olt;
+    let place = olt.count as usize;
+    r.units[place] = unit;
+    r.count = olt.count + 1;
+    r
+}

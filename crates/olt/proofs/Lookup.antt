@@ -5,7 +5,6 @@ use mathlib.Core.List.{List, [], _∷_}
 use Prim.Native.Nat.{ℕ, zero, suc, _+_, _<_, _≤_}
 use native.Mathlib.Omega.{arith}
 use lib.ListN.{length, take, length-take}
-use lib.Seq.{set-getD}
 use borrow.Author.Tests.{leb-true}
 use Rattle.octets.specs.Choice.{both, pick}
 use Rattle.octets.proofs.Choice.{both-left, both-right}
@@ -16,7 +15,6 @@ use Rattle.refusal.specs.declared.Verdict.the-variants.{Accepted, Refused}
 use Rattle.ends.specs.Replies.{refuseIf, Reply, reply}
 use Rattle.ends.specs.Identities.{has}
 use Rattle.ends.specs.Table.{find, findFrom, pastUnit, unitAt, withUnit}
-use Rattle.ends.specs.Records.{withChannels}
 use Rattle.ends.specs.Validity.{validOlt, validUnit}
 use Rattle.ends.specs.Lift.{Outcome, putBack, atUnit, after, lift}
 use Rattle.ends.specs.declared.Unit.{Unit}
@@ -110,8 +108,3 @@ module _ {H : Type 0} (o : Olt) (nothing : H) (ahead : Verdict) (llid : ℕ) (ca
       }
   unfolding at-place putBack reply
   lift-accepted i e v = lift-at ∙ ap at-place e ∙ rw v
-
--- a unit put back as it was
-pub with-same : (o : Olt) (i : ℕ) → withUnit o i (o .shared .channels) (unitAt o i) ≡ o
-unfolding withUnit withChannels
-with-same o i = rw (set-getD (o .units) i pastUnit)

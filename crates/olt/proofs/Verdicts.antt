@@ -4,8 +4,8 @@ use mathlib.Core.Bool.{Bool, true, false, not}
 use mathlib.Core.List.{List}
 use Prim.Native.Nat.{ℕ, _<_, _≤_}
 use native.Mathlib.Omega.{arith}
-use lib.Dec.{leb, eqb}
-use borrow.Author.Tests.{leb-true, leb-false, eqb-true, not-false}
+use lib.Dec.{leb, ltb, eqb}
+use borrow.Author.Tests.{leb-true, leb-false, ltb-true, ltb-false, eqb-true, not-false}
 use Rattle.octets.specs.Choice.{either, pick}
 use Rattle.octets.proofs.Choice.{both-left, both-right}
 use Rattle.refusal.specs.declared.Refusal.{Refusal}
@@ -72,3 +72,12 @@ register-room o i trip interval e =
     let b = not-refused _ _ _ (a .1) in
     let d = not-refused _ _ _ (b .1) in
     leb-false _ _ (not-refused _ _ _ (d .1) .0)
+
+-- two tests that imply each other
+pub same-test : (a b c d : ℕ) → (a < b → c < d) → (c < d → a < b) → ltb a b ≡ ltb c d
+same-test a b c d f g = by-case (ltb a b) refl (ltb c d) refl where
+  by-case : (x : Bool) → ltb a b ≡ x → (y : Bool) → ltb c d ≡ y → x ≡ y
+  by-case true p true q = refl
+  by-case true p false q = absurd (omega (arith, f (ltb-true a b p), ltb-false c d q))
+  by-case false p true q = absurd (omega (arith, g (ltb-true c d q), ltb-false a b p))
+  by-case false p false q = refl

@@ -1,15 +1,21 @@
 // Answers of the calls: a refusal gives back the end that was lent and hands over nothing.
 ghost use mathlib.Core.Path.{_≡_};
+ghost use Prim.Native.Nat.{_<_};
 ghost use Rattle.refusal.specs.declared.Verdict.the-variants.{Accepted, Refused};
 ghost use Rattle.ends.specs.Replies.{none, reply};
 ghost use Rattle.ends.specs.Messages.{noKeyMessage, noStamps};
+ghost use Rattle.ends.specs.Table.{withUnit};
+ghost use Rattle.ends.specs.UnitCalls.{keyMessageOf};
 ghost use Rattle.ends.specs.OltCalls.{clockSent, keySent, oltAnswer};
+use crate::place::with_unit;
+use crate::unit_calls::key_message;
 use clock::Stamps;
 use ends::ClockSent;
 use ends::KeyMessage;
 use ends::KeySent;
 use ends::Olt;
 use ends::OltAnswer;
+use ends::Unit;
 use refusal::Refusal;
 use refusal::number;
 
@@ -22,13 +28,14 @@ pub(crate) fn accepted(olt: Olt) -> OltAnswer
 pub(crate) fn refused(olt: Olt, refusal: Refusal) -> OltAnswer
     ensures { λ r. ⌜ r ≡ oltAnswer (reply (Refused refusal) olt none olt none) ⌝ }
 {
+    let lent = olt;
     OltAnswer {
         number: number(refusal),
-        olt,
+        olt: lent,
     }
 }
 
-pub(crate) fn no_clock(olt: Olt, refusal: Refusal) -> ClockSent
+pub(crate) fn clock_refused(olt: Olt, refusal: Refusal) -> ClockSent
     ensures { λ r. ⌜ r ≡ clockSent (reply (Refused refusal) olt noStamps olt noStamps) ⌝ }
 {
     ClockSent {
@@ -38,7 +45,7 @@ pub(crate) fn no_clock(olt: Olt, refusal: Refusal) -> ClockSent
     }
 }
 
-pub(crate) fn no_key(olt: Olt, refusal: Refusal) -> KeySent
+pub(crate) fn key_refused(olt: Olt, refusal: Refusal) -> KeySent
     ensures { λ r. ⌜ r ≡ keySent (reply (Refused refusal) olt noKeyMessage olt noKeyMessage) ⌝ }
 {
     KeySent {
@@ -49,5 +56,18 @@ pub(crate) fn no_key(olt: Olt, refusal: Refusal) -> KeySent
             number: 0,
             key: [0; 16],
         },
+    }
+}
+
+// The unit in its place, and the message of its outstanding offer handed over.
+pub(crate) fn key_sent(olt: Olt, i: usize, unit: Unit, llid: u16) -> KeySent
+    requires { ⌜ i < 16 ⌝ }
+    ensures { λ r. ⌜ r ≡ keySent (reply Accepted olt noKeyMessage (withUnit olt i (olt .shared .channels) unit) (keyMessageOf llid (unit .keys))) ⌝ }
+{
+    let message = key_message(llid, unit.keys);
+    KeySent {
+        number: 0,
+        olt: with_unit(olt, i, unit),
+        message,
     }
 }

@@ -83,13 +83,13 @@ pub fn clock_send(olt: Olt, llid: u16) -> ClockSent
 {
     let at = place::locate(olt, Verdict::Accepted, llid);
     match at {
-        Located::Absent(refusal) => answers::no_clock(olt, refusal),
+        Located::Absent(refusal) => answers::clock_refused(olt, refusal),
         Located::Place(i) => {
             let unit = olt.units[i];
             let clock = unit.clock;
             let verdict = unit_calls::clock_send_verdict(clock, olt.shared.tick);
             match verdict {
-                Verdict::Refused(refusal) => answers::no_clock(olt, refusal),
+                Verdict::Refused(refusal) => answers::clock_refused(olt, refusal),
                 Verdict::Accepted => {
                     let message = unit_calls::clock_message(olt.shared, clock);
                     let next = unit_calls::clock_sent(unit);
@@ -109,47 +109,34 @@ pub fn offer(olt: Olt, llid: u16, key: [u8; 16]) -> KeySent
 {
     let at = place::locate(olt, Verdict::Accepted, llid);
     match at {
-        Located::Absent(refusal) => answers::no_key(olt, refusal),
+        Located::Absent(refusal) => answers::key_refused(olt, refusal),
         Located::Place(i) => {
             let unit = olt.units[i];
             let verdict = unit_calls::offer_verdict(unit, key);
             match verdict {
-                Verdict::Refused(refusal) => answers::no_key(olt, refusal),
+                Verdict::Refused(refusal) => answers::key_refused(olt, refusal),
                 Verdict::Accepted => {
                     let next = unit_calls::offered(unit, key);
-                    let message = unit_calls::key_message(llid, next.keys);
-                    KeySent {
-                        number: 0,
-                        olt: place::with_unit(olt, i, next),
-                        message,
-                    }
+                    answers::key_sent(olt, i, next, llid)
                 }
             }
         }
     }
 }
 
-// The offer's number and key again; the unit stays as it is.
+// The offer's number and key again; the unit stays as it is, the mark of its acknowledgement too.
 pub fn retry(olt: Olt, llid: u16) -> KeySent
     ensures { λ r. ⌜ r ≡ retryOf olt llid ⌝ }
 {
     let at = place::locate(olt, Verdict::Accepted, llid);
     match at {
-        Located::Absent(refusal) => answers::no_key(olt, refusal),
+        Located::Absent(refusal) => answers::key_refused(olt, refusal),
         Located::Place(i) => {
             let unit = olt.units[i];
-            let keys = unit.keys;
-            let verdict = unit_calls::retry_verdict(keys);
+            let verdict = unit_calls::retry_verdict(unit.keys);
             match verdict {
-                Verdict::Refused(refusal) => answers::no_key(olt, refusal),
-                Verdict::Accepted => {
-                    let message = unit_calls::key_message(llid, keys);
-                    KeySent {
-                        number: 0,
-                        olt,
-                        message,
-                    }
-                }
+                Verdict::Refused(refusal) => answers::key_refused(olt, refusal),
+                Verdict::Accepted => answers::key_sent(olt, i, unit, llid),
             }
         }
     }

@@ -2,7 +2,7 @@
 ghost use mathlib.Core.Bool.{true};
 ghost use mathlib.Core.List.{_++_, map};
 ghost use mathlib.Core.Path.{_≡_};
-ghost use Prim.Native.Nat.{_+_, _≤_};
+ghost use Prim.Native.Nat.{_+_, _%_, _≤_, _<_};
 ghost use lib.ListN.{drop, take};
 ghost use Rattle.clock.specs.Ticks.{maxTick};
 ghost use Rattle.ends.specs.Table.{all};
@@ -16,14 +16,22 @@ use ends::Shared;
 use ends::Timer;
 use ends::Unit;
 
+fn reduced(sum: u64, interval: u64) -> u64
+    requires { ⌜ 0 < interval ⌝ }
+    ensures { λ r. ⌜ r ≡ sum % interval ⌝ }
+{
+    sum % interval
+}
+
 fn timer_advanced(timer: Timer, n: u64) -> Timer
     requires { ⌜ validTimer timer ≡ true ⌝ }
     requires { ⌜ n ≤ maxTick ⌝ }
     ensures { λ r. ⌜ r ≡ timerAdvanced timer n ⌝ }
 {
     let sum = timer.count + n;
+    let count = reduced(sum, timer.interval);
     let mut r = timer;
-    r.count = sum % timer.interval;
+    r.count = count;
     if timer.interval <= sum {
         r.flag = 1;
         return r;

@@ -21,8 +21,8 @@ locate-requires c κs = search needs
 enum-known-at : tie.Need-enum-known-at
 enum-known-at c = search needs
 
-no-clock-requires : tie.Need-no-clock-requires
-no-clock-requires c κs = search needs
+clock-refused-requires : tie.Need-clock-refused-requires
+clock-refused-requires c κs = search needs
 
 enum-known-at-2 : tie.Need-enum-known-at-2
 enum-known-at-2 c = search needs
@@ -42,8 +42,8 @@ clock-send-verdict-requires c κs = search needs
 enum-known-verdict : tie.Need-enum-known-verdict
 enum-known-verdict c = search needs
 
-no-clock-requires-2 : tie.Need-no-clock-requires-2
-no-clock-requires-2 c κs = search needs
+clock-refused-requires-2 : tie.Need-clock-refused-requires-2
+clock-refused-requires-2 c κs = search needs
 
 enum-told : tie.Need-enum-told
 enum-told c = search needs
@@ -62,13 +62,13 @@ with-unit-requires c κs = let s = here (c .before .before .before .before .befo
 returns : tie.Need-returns
 unfolding clockSendOf
 returns c =
-    c .no-clock .ensures
+    c .clock-refused .ensures
     ∙ sym (ap clockSent (lift-absent (c .before .before .before .before .before .args .t1) noStamps Accepted (c .before .before .before .before .before .args .llid) clockSendUnit _ (sym (c .before .before .before .before .locate .ensures) ∙ c .before .before .at .given .1)))
 
 returns-2 : tie.Need-returns-2
 unfolding clockSendOf clockSendUnit outcome pastUnit
 returns-2 c =
-    c .no-clock2 .ensures
+    c .clock-refused2 .ensures
     ∙ sym (ap clockSent (lift-refused (c .before .before .before .before .before .before .before .before .before .before .before .args .t1) noStamps Accepted (c .before .before .before .before .before .before .before .before .before .before .before .args .llid) clockSendUnit _ _ (sym (c .before .before .before .before .before .before .before .before .before .before .locate .ensures) ∙ c .before .before .before .before .before .before .before .before .at2 .given .1) (sym (c .before .before .before .before .clock-send-verdict .ensures) ∙ c .before .before .verdict .given .1)))
 
 returns-3 : tie.Need-returns-3
@@ -83,13 +83,13 @@ clock-send-spec =
     (tie.spec
     locate-requires
     enum-known-at
-    no-clock-requires
+    clock-refused-requires
     enum-known-at-2
     mul-unit
     element-copy-out-unit
     clock-send-verdict-requires
     enum-known-verdict
-    no-clock-requires-2
+    clock-refused-requires-2
     enum-told
     clock-message-requires
     clock-sent-requires

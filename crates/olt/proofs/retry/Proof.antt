@@ -8,9 +8,10 @@ use Rattle.refusal.specs.declared.Verdict.the-variants.{Accepted, Refused}
 use Rattle.ends.specs.Lift.{outcome}
 use Rattle.ends.specs.Messages.{noKeyMessage}
 use Rattle.ends.specs.OltCalls.{retryOf, keySent}
+use Rattle.ends.specs.Replies.{reply}
 use Rattle.ends.specs.Table.{pastUnit}
 use Rattle.ends.specs.UnitCalls.{retryUnit}
-use Rattle.olt.proofs.Lookup.{Stands, place-stands, lift-absent, lift-refused, lift-accepted, with-same}
+use Rattle.olt.proofs.Lookup.{Stands, place-stands, lift-absent, lift-refused, lift-accepted}
 use Rattle.olt.proofs.retry.Statement.{statement}
 use Rattle.olt.proofs.retry.Tie as tie
 
@@ -20,8 +21,8 @@ locate-requires c κs = search needs
 enum-known-at : tie.Need-enum-known-at
 enum-known-at c = search needs
 
-no-key-requires : tie.Need-no-key-requires
-no-key-requires c κs = search needs
+key-refused-requires : tie.Need-key-refused-requires
+key-refused-requires c κs = search needs
 
 enum-known-at-2 : tie.Need-enum-known-at-2
 enum-known-at-2 c = search needs
@@ -41,32 +42,32 @@ retry-verdict-requires c κs = search needs
 enum-known-verdict : tie.Need-enum-known-verdict
 enum-known-verdict c = search needs
 
-no-key-requires-2 : tie.Need-no-key-requires-2
-no-key-requires-2 c κs = search needs
+key-refused-requires-2 : tie.Need-key-refused-requires-2
+key-refused-requires-2 c κs = search needs
 
 enum-told : tie.Need-enum-told
 enum-told c = search needs
 
-key-message-requires : tie.Need-key-message-requires
-key-message-requires c κs = search needs
+key-sent-requires : tie.Need-key-sent-requires
+key-sent-requires c κs = let s = here (c .before .before .before .before) in omega (arith, s .below, s .few)
 
 returns : tie.Need-returns
 unfolding retryOf
 returns c =
-    c .no-key .ensures
+    c .key-refused .ensures
     ∙ sym (ap keySent (lift-absent (c .before .before .before .before .before .args .t1) noKeyMessage Accepted (c .before .before .before .before .before .args .llid) (retryUnit (c .before .before .before .before .before .args .llid)) _ (sym (c .before .before .before .before .locate .ensures) ∙ c .before .before .at .given .1)))
 
 returns-2 : tie.Need-returns-2
 unfolding retryOf retryUnit outcome pastUnit
 returns-2 c =
-    c .no-key2 .ensures
-    ∙ sym (ap keySent (lift-refused (c .before .before .before .before .before .before .before .before .before .before .before .args .t1) noKeyMessage Accepted (c .before .before .before .before .before .before .before .before .before .before .before .args .llid) (retryUnit (c .before .before .before .before .before .before .before .before .before .before .before .args .llid)) _ _ (sym (c .before .before .before .before .before .before .before .before .before .before .locate .ensures) ∙ c .before .before .before .before .before .before .before .before .at2 .given .1) (sym (c .before .before .before .before .retry-verdict .ensures) ∙ c .before .before .verdict .given .1)))
+    c .key-refused2 .ensures
+    ∙ sym (ap keySent (lift-refused (c .before .before .before .before .before .before .before .before .before .before .args .t1) noKeyMessage Accepted (c .before .before .before .before .before .before .before .before .before .before .args .llid) (retryUnit (c .before .before .before .before .before .before .before .before .before .before .args .llid)) _ _ (sym (c .before .before .before .before .before .before .before .before .before .locate .ensures) ∙ c .before .before .before .before .before .before .before .at2 .given .1) (sym (c .before .before .before .before .retry-verdict .ensures) ∙ c .before .before .verdict .given .1)))
 
 returns-3 : tie.Need-returns-3
-unfolding retryOf keySent retryUnit outcome pastUnit
+unfolding retryOf keySent reply retryUnit outcome pastUnit
 returns-3 c =
-    rw (c .key-message .ensures)
-    (sym (ap keySent (lift-accepted (c .before .before .before .before .before .before .before .before .before .before .args .t1) noKeyMessage Accepted (c .before .before .before .before .before .before .before .before .before .before .args .llid) (retryUnit (c .before .before .before .before .before .before .before .before .before .before .args .llid)) _ (sym (c .before .before .before .before .before .before .before .before .before .locate .ensures) ∙ c .before .before .before .before .before .before .before .at2 .given .1) (sym (c .before .before .before .retry-verdict .ensures) ∙ c .before .enum-told .given .1)) ∙ rw (with-same (c .before .before .before .before .before .before .before .before .before .before .args .t1))))
+    c .key-sent .ensures
+    ∙ sym (ap keySent (lift-accepted (c .before .before .before .before .before .before .before .before .before .args .t1) noKeyMessage Accepted (c .before .before .before .before .before .before .before .before .before .args .llid) (retryUnit (c .before .before .before .before .before .before .before .before .before .args .llid)) _ (sym (c .before .before .before .before .before .before .before .before .locate .ensures) ∙ c .before .before .before .before .before .before .at2 .given .1) (sym (c .before .before .before .retry-verdict .ensures) ∙ c .before .enum-told .given .1)))
 
 pub retry-spec : {M : Type 1} → statement M
 retry-spec =
@@ -74,15 +75,15 @@ retry-spec =
     (tie.spec
     locate-requires
     enum-known-at
-    no-key-requires
+    key-refused-requires
     enum-known-at-2
     mul-unit
     element-copy-out-unit
     retry-verdict-requires
     enum-known-verdict
-    no-key-requires-2
+    key-refused-requires-2
     enum-told
-    key-message-requires
+    key-sent-requires
     returns
     returns-2
     returns-3)

@@ -2,10 +2,13 @@
 -- Assumes nothing.
 use mathlib.Core.Bool.{true}
 use mathlib.Core.Path.{_≡_, sym, _∙_}
+use Prim.Native.Nat.{_≤_, _<_}
+use native.Mathlib.Omega.{arith}
 use borrow.Author.Needs.{needs}
 use borrow.Author.Tests.{not-true, not-false, le-leb, lt-leb}
 use Rattle.octets.specs.Choice.{either}
 use Rattle.ends.specs.Identities.{distinct, llidsOf}
+use Rattle.ends.specs.Limits.{maxUnits}
 use Rattle.ends.specs.OltCalls.{registerVerdict, validRegistration}
 use Rattle.ends.specs.Replies.{refuseIf}
 use Rattle.ends.specs.Validity.{validOlt}
@@ -54,12 +57,14 @@ returns-4 c =
 returns-5 : tie.Need-returns-5
 unfolding registerVerdict refuseIf either
 returns-5 c =
-    rw (valid (c .before .before .before .before .before .before .before .before .before), ranged (c .before .before .before .before .before .before .before), apart (c .before .before .before .before .before), sym (c .before .before .before .meets-table .ensures), c .before .before .if4 .left, le-leb _ _ (c .if5 .taken))
+    let full : maxUnits ≤ c .before .before .before .before .before .before .before .before .before .before .before .args .olt .count = omega arith in
+    rw (valid (c .before .before .before .before .before .before .before .before .before), ranged (c .before .before .before .before .before .before .before), apart (c .before .before .before .before .before), sym (c .before .before .before .meets-table .ensures), c .before .before .if4 .left, le-leb _ _ full)
 
 returns-6 : tie.Need-returns-6
 unfolding registerVerdict refuseIf either
 returns-6 c =
-    rw (valid (c .before .before .before .before .before .before .before .before .before), ranged (c .before .before .before .before .before .before .before), apart (c .before .before .before .before .before), sym (c .before .before .before .meets-table .ensures), c .before .before .if4 .left, lt-leb _ _ (c .if5 .left))
+    let room : c .before .before .before .before .before .before .before .before .before .before .before .args .olt .count < maxUnits = omega arith in
+    rw (valid (c .before .before .before .before .before .before .before .before .before), ranged (c .before .before .before .before .before .before .before), apart (c .before .before .before .before .before), sym (c .before .before .before .meets-table .ensures), c .before .before .if4 .left, lt-leb _ _ room)
 
 pub register-verdict-spec : {M : Type 1} → statement M
 register-verdict-spec =

@@ -11,16 +11,16 @@ use Rattle.olt.proofs.timing.timer_advanced.Tie as tie
 add-sum : tie.Need-add-sum
 add-sum c = omega (arith, timed _ (c .before .pre .0))
 
-rem-r : tie.Need-rem-r
-rem-r c = omega (arith, timed _ (c .before .before .pre .0))
+reduced-requires : tie.Need-reduced-requires
+reduced-requires c κs = omega (arith, timed _ (c .before .pre .0))
 
 returns : tie.Need-returns
 unfolding timerAdvanced pick
-returns c = rw (le-leb _ _ (c .if1 .taken))
+returns c = rw (le-leb _ _ (c .if1 .taken), c .before .before .reduced .ensures)
 
 returns-2 : tie.Need-returns-2
 unfolding timerAdvanced pick
-returns-2 c = rw (lt-leb _ _ (c .if1 .left))
+returns-2 c = rw (lt-leb _ _ (c .if1 .left), c .before .before .reduced .ensures)
 
 pub timer-advanced-spec : {M : Type 1} → statement M
-timer-advanced-spec = tie.close (tie.spec add-sum rem-r returns returns-2)
+timer-advanced-spec = tie.close (tie.spec add-sum reduced-requires returns returns-2)

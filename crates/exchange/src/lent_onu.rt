@@ -2,34 +2,39 @@
 use crate::show;
 use crate::units;
 use clock::Stamps;
-use ends::Identity;
+use ends::KeyMessage;
 use ends::Onu;
 
 fn lent(label: &[u8], o: Onu) {
     let answer = onu::advance(o, 0);
-    show::row(label, answer.number as u64);
+    show::row(label, answer.number);
 }
 
-fn named(label: &[u8], i: Identity) {
+fn named(label: &[u8], mac: u64, first: u16, second: u16, count: u8) {
+    let identity = units::identity(mac, first, second, count);
     let mut o = units::synced();
-    o.identity = i;
+    o.identity = identity;
+    lent(label, o);
+}
+
+fn placed(label: &[u8], oltmac: u64, tick: u64) {
+    let mut o = units::synced();
+    o.oltmac = oltmac;
+    o.tick = tick;
     lent(label, o);
 }
 
 pub fn identity_rows() {
     show::section(b"lent ONU: 1");
     lent(b"as it is", units::synced());
-    named(b"MAC 2^48", units::identity(units::MAC_TURN, 5, 6, 2));
-    named(b"no LLID", units::identity(2, 5, 6, 0));
-    named(b"five LLIDs", units::identity(2, 5, 6, 5));
-    named(b"LLID twice", units::identity(2, 5, 5, 2));
-    named(b"LLID again past the count", units::identity(2, 7, 6, 2));
-    let mut peer = units::synced();
-    peer.oltmac = units::MAC_TURN;
-    lent(b"OLT MAC 2^48", peer);
-    let mut late = units::synced();
-    late.tick = 0x4000_0000_0000_0001;
-    lent(b"tick 2^62 + 1", late);
+    named(b"MAC 2^48", 0x1_0000_0000_0000, 5, 6, 2);
+    named(b"no LLID", 2, 5, 6, 0);
+    named(b"five LLIDs", 2, 5, 6, 5);
+    named(b"LLID twice", 2, 5, 5, 2);
+    named(b"LLID again past the count", 2, 7, 6, 2);
+    placed(b"OLT MAC 2^48", 0x1_0000_0000_0000, 100);
+    placed(b"tick 2^62", 1, 0x4000_0000_0000_0000);
+    placed(b"tick 2^62 + 1", 1, 0x4000_0000_0000_0001);
 }
 
 fn clocked(label: &[u8], synced: u8, time: u64, rx: u64) {
@@ -97,45 +102,52 @@ pub fn send_rows() {
     );
 }
 
-fn unsynced(label: &[u8], o: Onu) {
-    let mut u = o;
-    u.clock.synced = 0;
-    lent(label, u);
+fn keyed(label: &[u8], synced: u8, active: u32, held: u8, other: u8) {
+    let mut o = units::keyed(active, held, 17, other);
+    o.clock.synced = synced;
+    lent(label, o);
 }
 
 pub fn key_rows() {
-    lent(b"Q68 held 2", units::keyed(1, 2, 17, 34));
-    lent(b"Q5 a = 2^32 - 1", units::keyed(0xffff_ffff, 0, 17, 0));
-    lent(
-        b"Q5 a = 2^32 - 1, key a + 1 held",
-        units::keyed(0xffff_ffff, 1, 17, 34),
-    );
-    lent(
-        b"Q5 a = 2^32 - 2, key a + 1 held",
-        units::keyed(0xffff_fffe, 1, 17, 34),
-    );
-    lent(b"Q2 a = 1, no first send noted", units::keyed(1, 0, 17, 0));
-    unsynced(b"Q6 a = 1, not synced", units::keyed(1, 0, 17, 0));
-    unsynced(b"Q2 key 1 held, not synced", units::keyed(0, 1, 17, 34));
-    lent(b"Q2 equal keys in both slots", units::keyed(1, 1, 17, 17));
+    keyed(b"Q68 held 2", 1, 1, 2, 34);
+    keyed(b"Q5 a = 2^32 - 1", 1, 0xffff_ffff, 0, 0);
+    keyed(b"Q5 a = 2^32 - 1, key a + 1 held", 1, 0xffff_ffff, 1, 34);
+    keyed(b"Q5 a = 2^32 - 2, key a + 1 held", 1, 0xffff_fffe, 1, 34);
+    keyed(b"Q2 a = 1, no first send noted", 1, 1, 0, 0);
+    keyed(b"Q6 a = 1, not synced", 0, 1, 0, 0);
+    keyed(b"Q2 key 1 held, not synced", 0, 0, 1, 34);
+    keyed(b"Q2 equal keys in both slots", 1, 1, 1, 17);
+}
+
+// What a refused fresh ONU gives.
+fn zeros() -> Onu {
+    let answer = onu::fresh(units::unit(), 0x1_0000_0000_0000, 0);
+    answer.onu
 }
 
 pub fn zero_rows() {
-    let refused = onu::fresh(units::unit(), units::MAC_TURN, 0);
-    let zeros = refused.onu;
-    lent(b"Q7 ONU of zeros, advance by 0", zeros);
-    let far = onu::advance(zeros, 0xffff_ffff_ffff_ffff);
-    show::row(b"Q1 ONU of zeros, advance by 2^64 - 1", far.number as u64);
-    let clock = onu::clock_message(zeros, Stamps { rx: 0, tx: 0 });
-    show::acknowledged(
-        b"Q7 ONU of zeros, clock message",
+    show::section(b"ONU of zeros");
+    lent(b"Q7 advance by 0", zeros());
+    let far = onu::advance(zeros(), 0xffff_ffff_ffff_ffff);
+    show::row(b"Q1 advance by 2^64 - 1", far.number);
+    let clock = onu::clock_message(zeros(), Stamps { rx: 0, tx: 0 });
+    show::row1(
+        b"Q7 clock message",
         clock.number,
-        clock.acknowledgement,
+        b"kind",
+        clock.acknowledgement.kind as u64,
     );
-    let key = onu::key_message(zeros, units::message(9, 1, 17));
-    show::acknowledged(
-        b"Q1 ONU of zeros, key message",
-        key.number,
-        key.acknowledgement,
+    let key = units::key(17);
+    let message = KeyMessage {
+        llid: 9,
+        number: 1,
+        key,
+    };
+    let taken = onu::key_message(zeros(), message);
+    show::row1(
+        b"Q1 key message",
+        taken.number,
+        b"kind",
+        taken.acknowledgement.kind as u64,
     );
 }

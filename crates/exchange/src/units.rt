@@ -1,7 +1,6 @@
 // The ONU that the rows start from.
 use clock::Stamps;
 use ends::Identity;
-use ends::KeyMessage;
 use ends::Onu;
 use ends::OnuKeys;
 use ends::Slots;
@@ -10,8 +9,7 @@ pub const OLT_MAC: u64 = 0x0200_0000_0001;
 
 pub const UNIT_MAC: u64 = 0x0200_0000_0002;
 
-pub const MAC_TURN: u64 = 0x1_0000_0000_0000;
-
+// Four places, of which `count` are in use.
 pub fn identity(mac: u64, first: u16, second: u16, count: u8) -> Identity {
     Identity {
         mac,
@@ -30,23 +28,28 @@ pub fn key(octet: u8) -> [u8; 16] {
     [octet; 16]
 }
 
-pub fn message(llid: u16, number: u32, octet: u8) -> KeyMessage {
-    let key = key(octet);
-    KeyMessage { llid, number, key }
+// `own` at the index of number n, `other` at the other.
+pub fn slots(n: u32, own: u8, other: u8) -> Slots {
+    let zeros = Slots {
+        even: [0; 16],
+        odd: [0; 16],
+    };
+    let one = ends::keyslots::with_key(zeros, n, key(own));
+    ends::keyslots::with_key(one, 1 - n % 2, key(other))
 }
 
-// LocalTime 0, tick 100.
-pub fn unsynced() -> Onu {
-    let answer = onu::fresh(unit(), OLT_MAC, 0);
-    let mut o = answer.onu;
-    o.tick = 100;
-    o
+// That LocalTime, tick 0.
+pub fn fresh(time: u64) -> Onu {
+    let answer = onu::fresh(unit(), OLT_MAC, time);
+    answer.onu
 }
 
 // Tx 0, Rx 0, tick 100.
 pub fn synced() -> Onu {
-    let answer = onu::clock_message(unsynced(), Stamps { rx: 0, tx: 0 });
-    answer.onu
+    let answer = onu::clock_message(fresh(0), Stamps { rx: 0, tx: 0 });
+    let mut o = answer.onu;
+    o.tick = 100;
+    o
 }
 
 // Synced: a is `active`, the octets of its key are `own`, and `other` stands in the other slot.
@@ -60,14 +63,4 @@ pub fn keyed(active: u32, held: u8, own: u8, other: u8) -> Onu {
     let mut o = synced();
     o.keys = keys;
     o
-}
-
-// `own` at the index of number n, `other` at the other.
-pub fn slots(n: u32, own: u8, other: u8) -> Slots {
-    let zeros = Slots {
-        even: [0; 16],
-        odd: [0; 16],
-    };
-    let one = ends::keyslots::with_key(zeros, n, key(own));
-    ends::keyslots::with_key(one, 1 - n % 2, key(other))
 }

@@ -4,17 +4,16 @@ ghost use Rattle.ends.specs.Validity.{validOnu, validOnuKeys, validOnuCl
 use crate::Onu;
 use crate::OnuClock;
 use crate::OnuKeys;
+use crate::check_olt::MAX_TICK;
 use crate::keyslots::valid_channels;
 use crate::keyslots::valid_first;
 use crate::llids::distinct_llids;
 use crate::llids::valid_identity;
 use crate::llids::valid_mac;
-use crate::ticks::MAX_TICK;
-
-pub const MAX_KEY_NUMBER: u32 = 0xffff_ffff;
-
 use clock::CLOCK_TURN;
 use clock::LOCAL_TURN;
+
+pub const MAX_KEY_NUMBER: u32 = 0xffff_ffff;
 
 pub fn valid_onu_keys(keys: OnuKeys) -> bool
     ensures { λ r. ⌜ r ≡ validOnuKeys keys ⌝ }

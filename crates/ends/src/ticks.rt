@@ -1,11 +1,9 @@
 // The ticks that an end counts (01, Clock).
 ghost use mathlib.Core.Path.{_≡_};
 ghost use Rattle.ends.specs.Replies.{advanceVerdict};
+use crate::check_olt::MAX_TICK;
 use refusal::Refusal;
 use refusal::Verdict;
-
-// The highest tick that an end counts to.
-pub const MAX_TICK: u64 = 0x4000_0000_0000_0000;
 
 // The ticks that are left are compared, not the sum: n may be any number.
 pub fn advance_verdict(tick: u64, n: u64) -> Verdict

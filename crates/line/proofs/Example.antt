@@ -1,24 +1,25 @@
 -- The list of Example meets the premises, by a test that computes, and what the theorem says of it. Assumes nothing.
-use mathlib.Core.Path.{_≡_, refl, sym, _∙_, ap}
+use mathlib.Core.Path.{_≡_, refl, sym, _∙_}
 use mathlib.Core.Bool.{Bool, true, false}
 use mathlib.Core.List.{List, [], _∷_}
-use Prim.Native.Nat.{ℕ, zero, suc, _+_, _-_, _<_, _≤_, _^_}
-use native.Mathlib.Nat.{le-of-suc-le-suc, not-suc-le-zero}
+use Prim.Native.Nat.{ℕ, zero, suc, _+_, _-_, _<_}
 use native.Mathlib.Omega.{arith}
 use lib.Dec.{eqb, leb, ltb}
 use lib.ListN.{length, getD}
 use borrow.Author.Tests.{ltb-true, leb-true, eqb-true}
 use Rattle.clock.specs.Ticks.{clockTurn, localTurn}
-use Rattle.sealing.specs.Seal.{countCarried}
+use Rattle.sealing.specs.KeyExpansion.{keyExpansion}
+use Rattle.sealing.specs.Seal.{carried, countCarried}
 use Rattle.sealing.specs.declared.envelope.Nonce.{Nonce}
+use Rattle.ends.specs.Headers.{headerOf}
 use Rattle.ends.specs.OnuCalls.{freshOnuOf}
 use Rattle.line.specs.Setting.{Site}
-use Rattle.line.specs.History.{Way, downward, upward, Arrival, keyOf}
-use Rattle.line.specs.Run.{State, laneAt, onuAt, start, sentAt}
+use Rattle.line.specs.History.{Way, downward, upward, keyOf}
+use Rattle.line.specs.Run.{laneAt, start, sentAt}
 use Rattle.line.specs.Premises.{Fresh, Meets}
 use Rattle.line.specs.Claim.{isSealed, nonceFor, ArrivedNumbered, Claim}
 use Rattle.line.specs.Example.{example, oltMac, identityA, identityB, siteA, siteB, events, keyFrom, payloadFrom}
-use Rattle.line.specs.Demand.{played, arrivalAt, nonce, Delivered, Agreed, Apart, Course, Shown, Demand}
+use Rattle.line.specs.Demand.{played, arrivalAt, nonce, numberAt, numberOf, refusals, Handed, Passed, Delivered, Agreed, Apart, Course, Shown, Demand}
 use Rattle.line.proofs.Opened.{opened}
 use Rattle.line.proofs.SendSteps.{mem-at}
 use Rattle.line.proofs.Tested.{tested, meets, meets-true}
@@ -45,13 +46,21 @@ example-meets : Meets example (start example) events
 example-meets = meets-true example (start example) events example-passes
 
 course : Course
-unfolding opened
-course = record { registered = refl; sentA = refl; arrivedA = refl; sentB = refl; arrivedB = refl }
+unfolding opened numberAt numberOf refusals
+course = record { registered = refl; refused = refl; sentA = refl; arrivedA = refl; sentB = refl; arrivedB = refl }
 
 ---- what the theorem says of it: the history alone is computed
 
 nonce-is : (n : Nonce) (channel mac clock : ℕ) → n .channel ≡ channel → n .mac ≡ mac → n .clock ≡ clock → n ≡ nonce channel mac clock
 nonce-is n channel mac clock a b c = rw (sym a, sym b, sym c) refl
+
+header-is : (n n' index index' llid llid' clock clock' : ℕ) → n ≡ n' → index ≡ index' → llid ≡ llid' → clock ≡ clock'
+    → headerOf n index llid clock ≡ headerOf n' index' llid' clock'
+header-is n n' index index' llid llid' clock clock' a b c d = rw (a, b, c, d) refl
+
+carried-is : (t : Bool) (k k' : List ℕ) (n n' : Nonce) (p p' : List ℕ) → t ≡ true → k ≡ k' → n ≡ n' → p ≡ p'
+    → carried t (keyExpansion k) n p ≡ carried true (keyExpansion k') n' p'
+carried-is t k k' n n' p p' a b c d = rw (a, b, c, d) refl
 
 module _ (c : Claim example played) where
   delivered : (u k : ℕ) (key : List ℕ) (channel mac clock : ℕ) (payload : List ℕ) → ltb k (length (laneAt played u .past .arrived)) ≡ true
@@ -72,6 +81,42 @@ module _ (c : Claim example played) where
         accepted = r .accepted;
         key = r .key number ∙ hkey;
         nonce = r .nonce number ∙ nonce-is _ channel mac clock (eqb-true _ _ hchannel) (eqb-true _ _ hmac) (eqb-true _ _ hclock);
+        payload = r .payload ∙ hpayload;
+        count = r .count ∙ c .sent u (arrivalAt played u k .envelope) (r .sent) .count ∙ hcount;
+      }
+
+  handed : (u i number llid : ℕ) (key : List ℕ) (channel mac clock : ℕ) (payload : List ℕ) → ltb i (length (laneAt played u .past .sent)) ≡ true
+      → isSealed (sentAt played u i) ≡ true → sentAt played u i .number ≡ number → sentAt played u i .llid ≡ llid
+      → keyOf (laneAt played u .keys) (sentAt played u i .number) ≡ key
+      → eqb (nonceFor example (laneAt played u .site) (sentAt played u i) .channel) channel ≡ true
+      → eqb (nonceFor example (laneAt played u .site) (sentAt played u i) .mac) mac ≡ true
+      → eqb (nonceFor example (laneAt played u .site) (sentAt played u i) .clock) clock ≡ true
+      → sentAt played u i .payload ≡ payload → countCarried (isSealed (sentAt played u i)) (sentAt played u i .payload) ≡ 22
+      → Handed u i number llid key (nonce channel mac clock) payload
+  handed u i number llid key channel mac clock payload some sealed hnumber hllid hkey hchannel hmac hclock hpayload hcount =
+      let below = ltb-true _ _ some in
+      let r = c .sent u (sentAt played u i) (mem-at (laneAt played u .past .sent) i _ below) in
+      let index = eqb-true _ _ hchannel in
+      let time = eqb-true _ _ hclock in
+      record {
+        some = below;
+        header = r .header ∙ header-is _ number _ channel _ llid _ clock hnumber index hllid time;
+        octets =
+            r .octets ∙ carried-is _ _ key _ (nonce channel mac clock) _ payload sealed hkey (nonce-is _ channel mac clock index (eqb-true _ _ hmac) time) hpayload;
+        count = r .count ∙ hcount;
+      }
+
+  passed : (u k : ℕ) (payload : List ℕ) → ltb k (length (laneAt played u .past .arrived)) ≡ true
+      → isSealed (arrivalAt played u k .envelope) ≡ false → arrivalAt played u k .envelope .payload ≡ payload
+      → countCarried (isSealed (arrivalAt played u k .envelope)) (arrivalAt played u k .envelope .payload) ≡ 0
+      → Passed u k payload
+  passed u k payload some clear hpayload hcount =
+      let below = ltb-true _ _ some in
+      let r = c .arrived u (arrivalAt played u k) (mem-at (laneAt played u .past .arrived) k _ below) in
+      record {
+        some = below;
+        accepted = r .accepted;
+        clear = r .enciphered ∙ clear;
         payload = r .payload ∙ hpayload;
         count = r .count ∙ c .sent u (arrivalAt played u k .envelope) (r .sent) .count ∙ hcount;
       }
@@ -97,6 +142,24 @@ module _ (c : Claim example played) where
   apart : Apart 0 2 3
   unfolding opened
   apart = record { blocks = λ a b ha hb e. absurd (omega (arith, c .blocks 0 0 2 3 a b (ltb-true 2 8 refl) (ltb-true 3 8 refl) (leb-true 1 1 refl) (leb-true 1 1 refl) refl ha hb e .1)) }
+
+  clear-down : Passed 0 0 (payloadFrom 0)
+  unfolding opened
+  clear-down = passed 0 0 (payloadFrom 0) refl refl refl refl
+
+  clear-up : Passed 0 1 (payloadFrom 1)
+  unfolding opened
+  clear-up = passed 0 1 (payloadFrom 1) refl refl refl refl
+
+  lost-down : Handed 0 2 1 5 (keyFrom 16) (nonce 0x00 oltMac (clockTurn - localTurn - 39)) (payloadFrom 2)
+  unfolding opened
+  lost-down =
+      handed 0 2 1 5 (keyFrom 16) 0x00 oltMac (clockTurn - localTurn - 39) (payloadFrom 2) refl refl refl refl refl refl refl refl refl refl
+
+  lost-up : Handed 0 4 1 5 (keyFrom 16) (nonce 0x80 (identityA .mac) (clockTurn - localTurn + 15)) (payloadFrom 4)
+  unfolding opened
+  lost-up =
+      handed 0 4 1 5 (keyFrom 16) 0x80 (identityA .mac) (clockTurn - localTurn + 15) (payloadFrom 4) refl refl refl refl refl refl refl refl refl refl
 
   down-a1 : Delivered 0 2 (keyFrom 16) (nonce 0x00 oltMac (clockTurn - localTurn - 35)) (payloadFrom 3)
   unfolding opened
@@ -143,6 +206,10 @@ module _ (c : Claim example played) where
   shown : Shown
   shown =
       record {
+        clearDown = clear-down;
+        clearUp = clear-up;
+        lostDown = lost-down;
+        lostUp = lost-up;
         downA1 = down-a1;
         upA1 = up-a1;
         downA2 = down-a2;

@@ -1,8 +1,8 @@
 -- The premises as a test that computes: a list that passes it meets them. Assumes nothing.
-use mathlib.Core.Path.{_≡_, refl, sym, _∙_, ap}
-use mathlib.Core.Bool.{Bool, true, false, not}
+use mathlib.Core.Path.{_≡_, sym, _∙_, ap}
+use mathlib.Core.Bool.{Bool, true, not}
 use mathlib.Core.List.{List, [], _∷_}
-use Prim.Native.Nat.{ℕ, zero, suc, _+_, _%_, _<_, _≤_}
+use Prim.Native.Nat.{ℕ, zero, suc, _+_, _%_, _<_}
 use native.Mathlib.Nat.{not-suc-le-zero}
 use lib.Dec.{eqb, leb, ltb}
 use lib.ListN.{length, getD}
@@ -10,8 +10,7 @@ use borrow.Author.Tests.{ltb-true, leb-true, eqb-true, eqb-false, eq-eqb, not-tr
 use Rattle.octets.specs.Choice.{both, either}
 use Rattle.octets.specs.Lists.{same}
 use Rattle.octets.proofs.Choice.{both-left, both-right}
-use Rattle.octets.proofs.Lists.{same-refl}
-use Rattle.octets.proofs.Lists.{same-true}
+use Rattle.octets.proofs.Lists.{same-true, same-refl}
 use Rattle.clock.specs.Ticks.{localTurn}
 use Rattle.ends.specs.Identities.{among, has, llidsOf}
 use Rattle.ends.specs.OltCalls.{registerOf, offerOf, acknowledgeOf}
@@ -22,11 +21,11 @@ use Rattle.ends.proofs.Lists.{all-at}
 use Rattle.ends.proofs.Tests.{true-false}
 use Rattle.traffic.specs.Sends.{onuSendOf}
 use Rattle.traffic.specs.Receipts.{oltReceiveOf, onuReceiveOf}
-use Rattle.line.specs.Setting.{Site, Setting}
-use Rattle.line.specs.History.{Envelope, Thing, clockMessage, keyMessage, envelope, leftAt, Lane}
+use Rattle.line.specs.Setting.{Setting}
+use Rattle.line.specs.History.{Thing, clockMessage, keyMessage, envelope, leftAt, Lane}
 use Rattle.line.specs.Events.{Event, advance, register, capture, clockSend, offer, retry, sendDown, sendUp, arriveDown, arriveUp, arriveAnswer, overhear, strayClock, strayKey, strayAnswer, strayDown, strayUp}
 use Rattle.line.specs.Run.{State, step, laneAt, onuAt, thingAt, envelopeAt, answerAt, noSite, freshLane}
-use Rattle.line.specs.Premises.{Agrees, NewKey, FittingBuffer, DueDown, DueUp, DueAnswer, Overhears, Fits, Meets}
+use Rattle.line.specs.Premises.{Agrees, FittingBuffer, DueDown, DueUp, DueAnswer, Overhears, Fits, Meets}
 
 ---- what binds accepted calls only
 

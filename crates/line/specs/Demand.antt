@@ -1,19 +1,28 @@
 -- Demand 3 of 01 as one statement, and what it says of the list of Example. Assumes nothing.
 use mathlib.Core.Path.{_≡_}
-use mathlib.Core.List.{List, [], _∷_, map}
+use mathlib.Core.Bool.{true, false}
+use mathlib.Core.List.{List, [], _∷_, _++_, map}
 use Prim.Native.Nat.{ℕ, _+_, _-_, _<_, _^_}
 use lib.ListN.{length, getD}
 use Rattle.clock.specs.Ticks.{clockTurn, localTurn}
+use Rattle.octets.specs.Choice.{pick}
 use Rattle.sealing.specs.CounterBlock.{counterBlock}
+use Rattle.sealing.specs.KeyExpansion.{keyExpansion}
+use Rattle.sealing.specs.Seal.{carried}
 use Rattle.sealing.specs.declared.envelope.Nonce.{Nonce}
-use Rattle.ends.specs.Headers.{noPassage}
+use Rattle.ends.specs.Headers.{headerOf, noPassage}
 use Rattle.ends.specs.Keys.{keyIn}
+use Rattle.ends.specs.OltCalls.{registerOf, advanceOltOf, captureOf, clockSendOf, offerOf, retryOf, acknowledgeOf}
+use Rattle.ends.specs.OnuCalls.{clockMessageAt, keyMessageAt}
 use Rattle.ends.specs.Table.{unitAt}
-use Rattle.traffic.specs.Passages.{nonceOf}
+use Rattle.ends.specs.declared.Onu.{Onu}
+use Rattle.traffic.specs.Passages.{isEnciphered, nonceOf}
+use Rattle.traffic.specs.Sends.{oltSendOf, onuSendOf}
+use Rattle.traffic.specs.Receipts.{oltReceiveOf, onuReceiveOf}
 use Rattle.line.specs.Setting.{Setting}
-use Rattle.line.specs.History.{Envelope, Arrival}
-use Rattle.line.specs.Events.{Event}
-use Rattle.line.specs.Run.{State, start, run, laneAt, onuAt, sentAt, noEnvelope}
+use Rattle.line.specs.History.{Envelope, Thing, clockMessage, keyMessage, envelope, Arrival}
+use Rattle.line.specs.Events.{Event, advance, register, capture, clockSend, offer, retry, sendDown, sendUp, arriveDown, arriveUp, arriveAnswer, overhear, strayClock, strayKey, strayAnswer, strayDown, strayUp}
+use Rattle.line.specs.Run.{State, start, step, run, accepted, laneAt, onuAt, thingAt, envelopeAt, sentAt, answerAt, noEnvelope}
 use Rattle.line.specs.Premises.{Fresh, Meets}
 use Rattle.line.specs.Claim.{nonceFor, Claim}
 use Rattle.line.specs.Example.{example, events, oltMac, identityA, identityB, keyFrom, payloadFrom}
@@ -33,6 +42,22 @@ arrivalAt s u k =
 
 abbrev pub nonce : ℕ → ℕ → ℕ → Nonce
 nonce channel mac clock = record { channel = channel; mac = mac; clock = clock }
+
+-- the ith envelope of unit u's line was handed over under that number, with the header and the octets of that LLID, key, nonce and
+-- payload; of the payload's 24 data octets 22 are enciphered
+pub record Handed (u i number llid : ℕ) (x : List ℕ) (n : Nonce) (p : List ℕ) : Type 0 where
+  pub some : i < length (laneAt played u .past .sent)
+  pub header : sentAt played u i .header ≡ headerOf number (n .channel) llid (n .clock)
+  pub octets : sentAt played u i .octets ≡ carried true (keyExpansion x) n p
+  pub count : sentAt played u i .count ≡ 22
+
+-- the kth arrival on unit u's line was accepted in clear, and gave back that payload
+pub record Passed (u k : ℕ) (p : List ℕ) : Type 0 where
+  pub some : k < length (laneAt played u .past .arrived)
+  pub accepted : arrivalAt played u k .number ≡ 0
+  pub clear : isEnciphered (arrivalAt played u k .passage .choice) ≡ false
+  pub payload : arrivalAt played u k .output ≡ p
+  pub count : arrivalAt played u k .count ≡ 0
 
 -- the kth arrival on unit u's line was accepted, opened with that key under that nonce, and gave back that payload, of whose 24 data
 -- octets 22 are enciphered
@@ -59,9 +84,42 @@ pub record Apart (u i j : ℕ) : Type 0 where
       ≡ counterBlock (nonceFor example (laneAt played u .site) (sentAt played u j)) b
       → ⊥
 
--- what came to pass, by computing: two units, one registered after tick 0; the numbers of what was sent and of what arrived
+-- the number that the unit's call on what arrived returned
+unfoldable pub numberAt : Onu → List ℕ → Thing → ℕ
+numberAt o out (clockMessage m c t) = clockMessageAt o m .number
+numberAt o out (keyMessage m t) = keyMessageAt o m .number
+numberAt o out (envelope e) = onuReceiveOf o (e .header) (e .octets) out .answer .number
+
+-- the number that an event's call returned
+unfoldable pub numberOf : State → Event → ℕ
+numberOf s (advance n) = advanceOltOf (s .olt) n .number
+numberOf s (register u i trip interval) = registerOf (s .olt) i trip interval .number
+numberOf s (capture llid) = captureOf (s .olt) llid .number
+numberOf s (clockSend llid) = clockSendOf (s .olt) llid .number
+numberOf s (offer llid key) = offerOf (s .olt) llid key .number
+numberOf s (retry llid) = retryOf (s .olt) llid .number
+numberOf s (sendDown llid index p out) = oltSendOf (s .olt) llid index p out .answer .number
+numberOf s (sendUp u llid index p out) = onuSendOf (onuAt s u) llid index p out .answer .number
+numberOf s (arriveDown u k out) = numberAt (onuAt s u) out (thingAt s u k)
+numberOf s (arriveUp u k out) = oltReceiveOf (s .olt) (envelopeAt s u k .header) (envelopeAt s u k .octets) out .answer .number
+numberOf s (arriveAnswer u k llid) = acknowledgeOf (s .olt) llid (answerAt s u k .acknowledgement) .number
+numberOf s (overhear u v k out) = onuReceiveOf (onuAt s u) (sentAt s v k .header) (sentAt s v k .octets) out .answer .number
+numberOf s (strayClock u m) = clockMessageAt (onuAt s u) m .number
+numberOf s (strayKey u m) = keyMessageAt (onuAt s u) m .number
+numberOf s (strayAnswer llid a) = acknowledgeOf (s .olt) llid a .number
+numberOf s (strayDown u h p out) = onuReceiveOf (onuAt s u) h p out .answer .number
+numberOf s (strayUp h p out) = oltReceiveOf (s .olt) h p out .answer .number
+
+-- the numbers of the calls that were refused, in order
+unfoldable pub refusals : State → List Event → List ℕ
+refusals s [] = []
+refusals s (e ∷ es) = pick (accepted (numberOf s e)) [] (numberOf s e ∷ []) ++ refusals (step s e) es
+
+-- what came to pass, by computing: two units, one registered after tick 0; all calls were accepted but the late acknowledgement (8)
+-- and the overheard envelope (2); the numbers of what was sent, and of what arrived
 pub record Course : Type 0 where
   pub registered : map (λ u. laneAt played u .entry .since) (0 ∷ 1 ∷ []) ≡ 0 ∷ 155 ∷ []
+  pub refused : refusals (start example) events ≡ 8 ∷ 2 ∷ []
   pub sentA : map (λ (e : Envelope). e .number) (laneAt played 0 .past .sent) ≡ 0 ∷ 0 ∷ 1 ∷ 1 ∷ 1 ∷ 1 ∷ 2 ∷ 2 ∷ []
   pub arrivedA : map (λ (r : Arrival). r .envelope .number) (laneAt played 0 .past .arrived) ≡ 0 ∷ 0 ∷ 1 ∷ 1 ∷ 2 ∷ 2 ∷ []
   pub sentB : map (λ (e : Envelope). e .number) (laneAt played 1 .past .sent) ≡ 1 ∷ 1 ∷ 2 ∷ 2 ∷ []
@@ -69,6 +127,12 @@ pub record Course : Type 0 where
 
 -- what the theorem says of it
 pub record Shown : Type 0 where
+  -- before the first switch
+  pub clearDown : Passed 0 0 (payloadFrom 0)
+  pub clearUp : Passed 0 1 (payloadFrom 1)
+  -- under key 1 one was lost each way
+  pub lostDown : Handed 0 2 1 5 (keyFrom 16) (nonce 0x00 oltMac (clockTurn - localTurn - 39)) (payloadFrom 2)
+  pub lostUp : Handed 0 4 1 5 (keyFrom 16) (nonce 0x80 (identityA .mac) (clockTurn - localTurn + 15)) (payloadFrom 4)
   -- the first unit, down and up under key 1: LocalTime wraps between the two; under key 2: the clock wraps
   pub downA1 : Delivered 0 2 (keyFrom 16) (nonce 0x00 oltMac (clockTurn - localTurn - 35)) (payloadFrom 3)
   pub upA1 : Delivered 0 3 (keyFrom 16) (nonce 0x81 (identityA .mac) (clockTurn - localTurn + 15)) (payloadFrom 5)

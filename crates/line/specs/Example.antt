@@ -1,7 +1,7 @@
 -- A list of events on two units that shows all that the theorem speaks of: the premises can be met (01, The line).
 -- Assumes nothing.
 use mathlib.Core.List.{List, [], _∷_, _++_}
-use Prim.Native.Nat.{ℕ, _+_, _-_, _%_, _^_}
+use Prim.Native.Nat.{ℕ, _+_, _-_, _%_}
 use lib.ListN.{replicate}
 use Rattle.clock.specs.Ticks.{clockTurn, localTurn}
 use Rattle.octets.specs.Lists.{tabulate}

@@ -124,7 +124,7 @@ pub fn offer(olt: Olt, llid: u16, key: [u8; 16]) -> KeySent
     }
 }
 
-// The offer's number and key again; the unit stays as it is, the mark of its acknowledgement too.
+// The offer's number and key again.
 pub fn retry(olt: Olt, llid: u16) -> KeySent
     ensures { λ r. ⌜ r ≡ retryOf olt llid ⌝ }
 {
@@ -136,7 +136,10 @@ pub fn retry(olt: Olt, llid: u16) -> KeySent
             let verdict = unit_calls::retry_verdict(unit.keys);
             match verdict {
                 Verdict::Refused(refusal) => answers::key_refused(olt, refusal),
-                Verdict::Accepted => answers::key_sent(olt, i, unit, llid),
+                Verdict::Accepted => {
+                    let next = unit_calls::retried(unit);
+                    answers::key_sent(olt, i, next, llid)
+                }
             }
         }
     }

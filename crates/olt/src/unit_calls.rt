@@ -158,6 +158,14 @@ pub(crate) fn retry_verdict(keys: UnitKeys) -> Verdict
     Verdict::Accepted
 }
 
+// After a retry the unit is as it was, the mark of its acknowledgement too.
+pub(crate) fn retried(unit: Unit) -> Unit
+    ensures { λ r. ⌜ r ≡ unit ⌝ }
+{
+    let kept = unit;
+    kept
+}
+
 // 8 where nothing is outstanding.
 fn outstanding(fits: bool) -> Verdict
     ensures { λ r. ⌜ r ≡ refuseIf (not fits) NothingOutstanding Accepted ⌝ }

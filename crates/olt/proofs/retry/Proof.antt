@@ -27,6 +27,7 @@ key-refused-requires c κs = search needs
 enum-known-at-2 : tie.Need-enum-known-at-2
 enum-known-at-2 c = search needs
 
+-- the unit that was found
 here : (c : tie.After-known-told2) → Stands (c .before .before .before .before .args .t1) (c .before .before .before .before .args .llid) (c .before .at2 .given .0 .0)
 here c = place-stands _ _ _ _ (sym (c .before .before .before .locate .ensures) ∙ c .before .at2 .given .1)
 
@@ -48,8 +49,11 @@ key-refused-requires-2 c κs = search needs
 enum-told : tie.Need-enum-told
 enum-told c = search needs
 
+retried-requires : tie.Need-retried-requires
+retried-requires c κs = search needs
+
 key-sent-requires : tie.Need-key-sent-requires
-key-sent-requires c κs = let s = here (c .before .before .before .before) in omega (arith, s .below, s .few)
+key-sent-requires c κs = let s = here (c .before .before .before .before .before) in omega (arith, s .below, s .few)
 
 returns : tie.Need-returns
 unfolding retryOf
@@ -66,8 +70,8 @@ returns-2 c =
 returns-3 : tie.Need-returns-3
 unfolding retryOf keySent reply retryUnit outcome pastUnit
 returns-3 c =
-    c .key-sent .ensures
-    ∙ sym (ap keySent (lift-accepted (c .before .before .before .before .before .before .before .before .before .args .t1) noKeyMessage Accepted (c .before .before .before .before .before .before .before .before .before .args .llid) (retryUnit (c .before .before .before .before .before .before .before .before .before .args .llid)) _ (sym (c .before .before .before .before .before .before .before .before .locate .ensures) ∙ c .before .before .before .before .before .before .at2 .given .1) (sym (c .before .before .before .retry-verdict .ensures) ∙ c .before .enum-told .given .1)))
+    rw (c .before .retried .ensures) at (c .key-sent .ensures)
+    ∙ sym (ap keySent (lift-accepted (c .before .before .before .before .before .before .before .before .before .before .args .t1) noKeyMessage Accepted (c .before .before .before .before .before .before .before .before .before .before .args .llid) (retryUnit (c .before .before .before .before .before .before .before .before .before .before .args .llid)) _ (sym (c .before .before .before .before .before .before .before .before .before .locate .ensures) ∙ c .before .before .before .before .before .before .before .at2 .given .1) (sym (c .before .before .before .before .retry-verdict .ensures) ∙ c .before .before .enum-told .given .1)))
 
 pub retry-spec : {M : Type 1} → statement M
 retry-spec =
@@ -83,6 +87,7 @@ retry-spec =
     enum-known-verdict
     key-refused-requires-2
     enum-told
+    retried-requires
     key-sent-requires
     returns
     returns-2

@@ -40,6 +40,7 @@ fn unit_calls() {
     unit_rows::age_rows();
     unit_rows::stamp_rows();
     unit_rows::offer_rows();
+    unit_rows::last_offer_rows();
     unit_rows::retry_rows();
     unit_rows::early_rows();
     unit_rows::clock_acknowledgement_rows();

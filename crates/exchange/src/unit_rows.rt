@@ -78,6 +78,9 @@ pub fn offer_rows() {
     offer_at(b"A = 1, another key", 1, 1, 1, 1, 51);
     offer_at(b"Q27 A = 0, key of zeros", 1, 0, 0, 0, 0);
     offer_at(b"Q27 A = 2, the octets of key 1", 1, 2, 2, 2, 34);
+}
+
+pub fn last_offer_rows() {
     offer_at(
         b"A = 2^32 - 2",
         1,

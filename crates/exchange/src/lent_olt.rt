@@ -25,7 +25,7 @@ fn freed(label: &[u8], zero: u64, one: u64) {
     lent(label, o);
 }
 
-pub fn shared_rows() {
+pub(crate) fn shared_rows() {
     show::section(b"lent OLT: 1");
     lent(b"as it is", tables::with(tables::unit()));
     lent(b"sixteen units", tables::full());
@@ -78,7 +78,7 @@ fn beside(label: &[u8], count: u8, llid: u16, flag: u8) {
     lent(label, o);
 }
 
-pub fn identity_rows() {
+pub(crate) fn identity_rows() {
     named(b"unit, MAC 2^48", 0x1_0000_0000_0000, 5, 6, 2);
     named(b"unit, no LLID", 2, 5, 6, 0);
     named(b"unit, five LLIDs", 2, 5, 6, 5);
@@ -105,7 +105,7 @@ fn sent(label: &[u8], noted: u8, tick: u64) {
     lent(label, tables::with(u));
 }
 
-pub fn timer_rows() {
+pub(crate) fn timer_rows() {
     timed(b"interval 0", 0, 0, 0);
     timed(
         b"interval 2^47, count 2^47 - 1",
@@ -138,7 +138,7 @@ fn marked(label: &[u8], offer: u8, sent: u8, acknowledged: u8) {
     lent(label, tables::with(u));
 }
 
-pub fn clock_rows() {
+pub(crate) fn clock_rows() {
     clocked(b"round trip 1000000", 1_000_000, 0, 0);
     clocked(b"round trip 1000001", 1_000_001, 0, 0);
     clocked(b"capture at the tick", 250, 1, 100);
@@ -160,7 +160,7 @@ fn numbers(label: &[u8], confirmed: u32, active: u32, offered: u32, acknowledged
     lent(label, tables::with(u));
 }
 
-pub fn number_rows() {
+pub(crate) fn number_rows() {
     numbers(b"C = 2, A = 2, O = 2", 2, 2, 2, 1, 34);
     numbers(b"C = 1, A = 2, O = 2", 1, 2, 2, 1, 34);
     numbers(b"C = 2, A = 2, O = 3", 2, 2, 3, 1, 34);
@@ -189,7 +189,7 @@ fn invalid() -> Olt {
     o
 }
 
-pub fn ahead_rows() {
+pub(crate) fn ahead_rows() {
     show::section(b"lent OLT with clock 2^48");
     let far = olt::advance(invalid(), 0xffff_ffff_ffff_ffff);
     show::row(b"Q1 advance by 2^64 - 1", far.number);
@@ -203,7 +203,7 @@ pub fn ahead_rows() {
     show::row(b"Q1 acknowledgement, LLID 9", noted.number);
 }
 
-pub fn ahead_key_rows() {
+pub(crate) fn ahead_key_rows() {
     let offered = olt::offer(invalid(), 9, units::key(17));
     show::row(b"Q1 offer, LLID 9", offered.number);
     let again = olt::retry(invalid(), 9);

@@ -24,7 +24,7 @@ fn placed(label: &[u8], oltmac: u64, tick: u64) {
     lent(label, o);
 }
 
-pub fn identity_rows() {
+pub(crate) fn identity_rows() {
     show::section(b"lent ONU: 1");
     lent(b"as it is", units::synced());
     named(b"MAC 2^48", 0x1_0000_0000_0000, 5, 6, 2);
@@ -45,7 +45,7 @@ fn clocked(label: &[u8], synced: u8, time: u64, rx: u64) {
     lent(label, o);
 }
 
-pub fn clock_rows() {
+pub(crate) fn clock_rows() {
     clocked(b"Q68 synced 2", 2, 0, 0);
     clocked(b"Tx 2^48", 1, 0x1_0000_0000_0000, 0);
     clocked(b"Tx 2^48 - 1", 1, 0xffff_ffff_ffff, 0);
@@ -70,7 +70,7 @@ fn freed(label: &[u8], tick: u64, zero: u64, one: u64) {
     lent(label, o);
 }
 
-pub fn send_rows() {
+pub(crate) fn send_rows() {
     sent(b"Q68 noted 2", 2, 0);
     sent(b"first send at the tick", 1, 100);
     sent(b"first send a tick later", 1, 101);
@@ -108,7 +108,7 @@ fn keyed(label: &[u8], synced: u8, active: u32, held: u8, other: u8) {
     lent(label, o);
 }
 
-pub fn key_rows() {
+pub(crate) fn key_rows() {
     keyed(b"Q68 held 2", 1, 1, 2, 34);
     keyed(b"Q5 a = 2^32 - 1", 1, 0xffff_ffff, 0, 0);
     keyed(b"Q5 a = 2^32 - 1, key a + 1 held", 1, 0xffff_ffff, 1, 34);
@@ -125,7 +125,7 @@ fn zeros() -> Onu {
     answer.onu
 }
 
-pub fn zero_rows() {
+pub(crate) fn zero_rows() {
     show::section(b"ONU of zeros");
     lent(b"Q7 advance by 0", zeros());
     let far = onu::advance(zeros(), 0xffff_ffff_ffff_ffff);

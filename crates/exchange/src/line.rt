@@ -115,7 +115,7 @@ fn key_set(start: Line) -> Line {
     )
 }
 
-pub fn exchange() {
+pub(crate) fn exchange() {
     show::section(b"an exchange");
     let ready = key_set(clock_set(run(started(), 10)));
     let up = run(run(ready, 3289), 1);

@@ -12,7 +12,7 @@ fn fresh(label: &[u8], mac: u64, clock: u64) {
     show::end();
 }
 
-pub fn fresh_rows() {
+pub(crate) fn fresh_rows() {
     show::section(b"fresh OLT: 1");
     fresh(b"MAC 0, clock 0", 0, 0);
     fresh(
@@ -45,7 +45,7 @@ fn timed(label: &[u8], second: u16, trip: u64, interval: u64) {
     show::row1(label, answer.number, b"units", answer.olt.count as u64);
 }
 
-pub fn range_rows() {
+pub(crate) fn range_rows() {
     show::section(b"register: 1, 3, 4");
     first(b"LLIDs 5 and 6", 2, 5, 6, 2);
     first(b"MAC 2^48", 0x1_0000_0000_0000, 5, 6, 2);
@@ -83,7 +83,7 @@ fn more(label: &[u8], second: u16, interval: u64) {
     show::row1(label, answer.number, b"units", answer.olt.count as u64);
 }
 
-pub fn table_rows() {
+pub(crate) fn table_rows() {
     second(b"LLID 6 again", 3, 9, 6, 2);
     second(b"Q14 another unit of that MAC", units::UNIT_MAC, 9, 10, 2);
     let two = second(b"LLID 6 past the count", 3, 9, 6, 1);
@@ -106,7 +106,7 @@ fn advance(label: &[u8], tick: u64, n: u64) {
     show::end();
 }
 
-pub fn tick_rows() {
+pub(crate) fn tick_rows() {
     show::section(b"advance of the OLT: 17");
     advance(b"by 1", 0, 1);
     advance(b"Q29 by 2^62", 0, 0x4000_0000_0000_0000);
@@ -136,7 +136,7 @@ fn timer(label: &[u8], interval: u64, before: u64, n: u64) {
     run(label, later(tables::registered(interval), before), n);
 }
 
-pub fn timer_rows() {
+pub(crate) fn timer_rows() {
     timer(b"interval 10, by 7", 10, 0, 7);
     timer(b"P5 count 7, by 3", 10, 7, 3);
     timer(b"P6 count 7, by 2", 10, 7, 2);
@@ -166,7 +166,7 @@ fn late(label: &[u8], n: u64) {
     run(label, named.olt, n);
 }
 
-pub fn registration_rows() {
+pub(crate) fn registration_rows() {
     late(b"Q32 interval 100, by 93", 93);
     late(b"Q32 interval 100, by 100", 100);
     let answer = olt::advance(tables::full(), 107);

@@ -19,7 +19,7 @@ fn fresh_at(label: &[u8], oltmac: u64, second: u16, time: u64) {
     show::row1(label, answer.number, b"LocalTime", answer.onu.clock.time);
 }
 
-pub fn fresh_rows() {
+pub(crate) fn fresh_rows() {
     show::section(b"fresh ONU: 1, 3");
     fresh(b"LLIDs 5 and 6", 2, 5, 6, 2);
     fresh(b"MAC 2^48", 0x1_0000_0000_0000, 5, 6, 2);
@@ -49,7 +49,7 @@ fn advance(label: &[u8], tick: u64, n: u64) {
     show::end();
 }
 
-pub fn advance_rows() {
+pub(crate) fn advance_rows() {
     show::section(b"advance of the ONU: 17");
     advance(b"Q31 by 1", 0, 1);
     advance(b"Q29 by 2^62", 0, 0x4000_0000_0000_0000);
@@ -78,7 +78,7 @@ fn run(label: &[u8], o: Onu, n: u64) {
     show::end();
 }
 
-pub fn clock_rows() {
+pub(crate) fn clock_rows() {
     show::section(b"clock message: 1");
     clock(b"Rx 2^48", units::fresh(0), 0x1_0000_0000_0000, 0);
     clock(b"Tx 2^48", units::fresh(0), 0, 0x1_0000_0000_0000);
@@ -100,7 +100,7 @@ fn give(label: &[u8], o: Onu, llid: u16, number: u32, octet: u8) -> Onu {
     answer.onu
 }
 
-pub fn first_key_rows() {
+pub(crate) fn first_key_rows() {
     show::section(b"key message: 2, 5, 8");
     give(b"unsynced", units::fresh(0), 5, 1, 17);
     give(b"unsynced, LLID 9", units::fresh(0), 9, 1, 17);
@@ -116,7 +116,7 @@ pub fn first_key_rows() {
     give(b"number 2 while 1 is held", one, 5, 2, 34);
 }
 
-pub fn next_key_rows() {
+pub(crate) fn next_key_rows() {
     let o = units::keyed(1, 0, 17, 0);
     give(b"a = 1, number 1 with its own key", o, 5, 1, 17);
     give(b"a = 1, number 1 with another key", o, 5, 1, 34);
@@ -127,7 +127,7 @@ pub fn next_key_rows() {
     give(b"a = 1, 2 held, number 2 with key 1", two, 5, 2, 17);
 }
 
-pub fn last_key_rows() {
+pub(crate) fn last_key_rows() {
     give(
         b"Q17 a = 2^32 - 2, the last number",
         units::keyed(0xffff_fffe, 0, 17, 0),

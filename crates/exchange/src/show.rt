@@ -4,42 +4,42 @@ use ends::Acknowledgement;
 use ends::KeyMessage;
 use libc::STDOUT_FILENO;
 
-pub fn section(title: &[u8]) {
+pub(crate) fn section(title: &[u8]) {
     io::write_all(STDOUT_FILENO, b"-- ");
     io::write_all(STDOUT_FILENO, title);
     io::write_all(STDOUT_FILENO, b"\n");
 }
 
-pub fn begin(label: &[u8], number: u8) {
+pub(crate) fn begin(label: &[u8], number: u8) {
     io::write_all(STDOUT_FILENO, label);
     io::write_all(STDOUT_FILENO, b": ");
     io::print_decimal(STDOUT_FILENO, number as u64);
 }
 
-pub fn part(name: &[u8], value: u64) {
+pub(crate) fn part(name: &[u8], value: u64) {
     io::write_all(STDOUT_FILENO, b", ");
     io::write_all(STDOUT_FILENO, name);
     io::write_all(STDOUT_FILENO, b" ");
     io::print_decimal(STDOUT_FILENO, value);
 }
 
-pub fn end() {
+pub(crate) fn end() {
     io::write_all(STDOUT_FILENO, b"\n");
 }
 
-pub fn row(label: &[u8], number: u8) {
+pub(crate) fn row(label: &[u8], number: u8) {
     begin(label, number);
     end();
 }
 
-pub fn row1(label: &[u8], number: u8, name: &[u8], value: u64) {
+pub(crate) fn row1(label: &[u8], number: u8, name: &[u8], value: u64) {
     begin(label, number);
     part(name, value);
     end();
 }
 
 // A clock send, and what it hands over.
-pub fn clock_sent(label: &[u8], number: u8, s: Stamps) {
+pub(crate) fn clock_sent(label: &[u8], number: u8, s: Stamps) {
     begin(label, number);
     part(b"Rx", s.rx);
     part(b"Tx", s.tx);
@@ -47,7 +47,7 @@ pub fn clock_sent(label: &[u8], number: u8, s: Stamps) {
 }
 
 // What an offer or a retry hands over, with the last octet of the key.
-pub fn key_message(m: KeyMessage) {
+pub(crate) fn key_message(m: KeyMessage) {
     part(b"LLID", m.llid as u64);
     part(b"number", m.number as u64);
     let key = m.key;
@@ -55,20 +55,20 @@ pub fn key_message(m: KeyMessage) {
 }
 
 // An offer or a retry.
-pub fn key_sent(label: &[u8], number: u8, m: KeyMessage) {
+pub(crate) fn key_sent(label: &[u8], number: u8, m: KeyMessage) {
     begin(label, number);
     key_message(m);
     end();
 }
 
 // What a unit hands over.
-pub fn acknowledgement(a: Acknowledgement) {
+pub(crate) fn acknowledgement(a: Acknowledgement) {
     part(b"kind", a.kind as u64);
     part(b"number", a.number as u64);
 }
 
 // A unit's answer, where nothing else is shown.
-pub fn acknowledged(label: &[u8], number: u8, a: Acknowledgement) {
+pub(crate) fn acknowledged(label: &[u8], number: u8, a: Acknowledgement) {
     begin(label, number);
     acknowledgement(a);
     end();

@@ -6,32 +6,32 @@ use ends::Unit;
 use ends::UnitKeys;
 
 // That clock, no units.
-pub fn fresh(clock: u64) -> Olt {
+pub(crate) fn fresh(clock: u64) -> Olt {
     let answer = olt::fresh(units::OLT_MAC, clock);
     answer.olt
 }
 
 // Clock 0, and a unit with LLIDs 5 and 6, round trip 250.
-pub fn registered(interval: u64) -> Olt {
+pub(crate) fn registered(interval: u64) -> Olt {
     let answer = olt::register(fresh(0), units::unit(), 250, interval);
     answer.olt
 }
 
 // The same at tick 100, with that unit in its place.
-pub fn with(u: Unit) -> Olt {
+pub(crate) fn with(u: Unit) -> Olt {
     let mut o = registered(1000);
     o.shared.tick = 100;
     o.units[0] = u;
     o
 }
 
-pub fn unit() -> Unit {
+pub(crate) fn unit() -> Unit {
     let o = registered(1000);
     o.units[0]
 }
 
 // The unit at C, A and O, its clock sent and acknowledged. The octets of key A are 17, those in the other slot `other`.
-pub fn numbered(confirmed: u32, active: u32, offered: u32, other: u8) -> Unit {
+pub(crate) fn numbered(confirmed: u32, active: u32, offered: u32, other: u8) -> Unit {
     let slots = units::slots(active, 17, other);
     let mut u = unit();
     let timer = u.keys.timer;
@@ -82,7 +82,7 @@ fn three_quarters() -> Olt {
 }
 
 // Sixteen units of four LLIDs, 0 to 63, with interval 100.
-pub fn full() -> Olt {
+pub(crate) fn full() -> Olt {
     let thirteen = with_four(three_quarters(), 48, 49, 50, 51);
     let fourteen = with_four(thirteen, 52, 53, 54, 55);
     let fifteen = with_four(fourteen, 56, 57, 58, 59);

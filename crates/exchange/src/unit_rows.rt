@@ -22,7 +22,7 @@ fn later(o: Olt, n: u64) -> Olt {
     answer.olt
 }
 
-pub fn capture_rows() {
+pub(crate) fn capture_rows() {
     show::section(b"clock capture: 2");
     capture(b"LLID 9", tables::registered(1000), 9);
     capture(
@@ -37,7 +37,7 @@ pub fn capture_rows() {
     clock_send(b"without capture", tables::registered(1000), 5);
 }
 
-pub fn age_rows() {
+pub(crate) fn age_rows() {
     let taken = capture(b"Q25 capture", tables::registered(1000), 5);
     let sent = clock_send(b"Q25 a second after", later(taken, 390_625_000), 5);
     let old = later(clock_send(b"Q25 again", sent, 5), 1);
@@ -46,7 +46,7 @@ pub fn age_rows() {
     clock_send(b"Q25 sent at once", anew, 5);
 }
 
-pub fn stamp_rows() {
+pub(crate) fn stamp_rows() {
     let named = olt::register(tables::fresh(0xffff_ffff_fff0), units::unit(), 32, 1000);
     let taken = capture(b"P2 capture", named.olt, 5);
     clock_send(b"P2 clock send", taken, 5);
@@ -66,7 +66,7 @@ fn offer_at(label: &[u8], acknowledged: u8, confirmed: u32, active: u32, offered
     offer(label, tables::with(u), 5, octet);
 }
 
-pub fn offer_rows() {
+pub(crate) fn offer_rows() {
     show::section(b"offer: 2, 5, 6, 7, 17");
     offer(b"LLID 9", tables::registered(1000), 9, 51);
     offer(b"clock not acknowledged", tables::registered(1000), 5, 51);
@@ -80,7 +80,7 @@ pub fn offer_rows() {
     offer_at(b"Q27 A = 2, the octets of key 1", 1, 2, 2, 2, 34);
 }
 
-pub fn last_offer_rows() {
+pub(crate) fn last_offer_rows() {
     offer_at(
         b"A = 2^32 - 2",
         1,
@@ -142,7 +142,7 @@ fn offered() -> Olt {
     tables::with(tables::numbered(1, 1, 2, 34))
 }
 
-pub fn retry_rows() {
+pub(crate) fn retry_rows() {
     show::section(b"retry: 2, 8");
     retry(b"LLID 9", offered(), 9);
     retry(b"O = A = 0", tables::registered(1000), 5);
@@ -157,7 +157,7 @@ fn early(label: &[u8], llid: u16, kind: u8, number: u32) {
     acknowledge(label, tables::registered(1000), llid, kind, number);
 }
 
-pub fn early_rows() {
+pub(crate) fn early_rows() {
     show::section(b"acknowledgement: 2, 8");
     early(b"clock, LLID 9", 9, 1, 0);
     early(b"key, LLID 9", 9, 2, 1);
@@ -168,7 +168,7 @@ pub fn early_rows() {
     early(b"kind 3", 5, 3, 0);
 }
 
-pub fn clock_acknowledgement_rows() {
+pub(crate) fn clock_acknowledgement_rows() {
     let taken = capture(b"capture", tables::registered(1000), 5);
     acknowledge(b"clock, captured and not sent", taken, 5, 1, 0);
     let sent = clock_send(b"clock send", taken, 5);
@@ -192,7 +192,7 @@ fn key_at(label: &[u8], confirmed: u32, active: u32, offered: u32, number: u32) 
     );
 }
 
-pub fn key_acknowledgement_rows() {
+pub(crate) fn key_acknowledgement_rows() {
     key_at(b"O = 1, A = 0, number 0", 0, 0, 1, 0);
     key_at(b"O = 2, A = 1, number 1", 1, 1, 2, 1);
     key_at(b"O = 2, A = 1, number 3", 1, 1, 2, 3);
@@ -204,7 +204,7 @@ pub fn key_acknowledgement_rows() {
     key_at(b"Q21 O = A = 2, number 3", 2, 2, 2, 3);
 }
 
-pub fn anew_rows() {
+pub(crate) fn anew_rows() {
     let mut u = tables::numbered(1, 1, 1, 34);
     u.confirmation.acknowledged = 1;
     let anew = offer(b"a new offer starts unacknowledged", tables::with(u), 5, 51);

@@ -10,7 +10,7 @@ pub const OLT_MAC: u64 = 0x0200_0000_0001;
 pub const UNIT_MAC: u64 = 0x0200_0000_0002;
 
 // Four places, of which `count` are in use.
-pub fn identity(mac: u64, first: u16, second: u16, count: u8) -> Identity {
+pub(crate) fn identity(mac: u64, first: u16, second: u16, count: u8) -> Identity {
     Identity {
         mac,
         llids: [first, second, 7, 8],
@@ -19,17 +19,17 @@ pub fn identity(mac: u64, first: u16, second: u16, count: u8) -> Identity {
 }
 
 // LLIDs 5 and 6.
-pub fn unit() -> Identity {
+pub(crate) fn unit() -> Identity {
     identity(UNIT_MAC, 5, 6, 2)
 }
 
 // A key of sixteen equal octets.
-pub fn key(octet: u8) -> [u8; 16] {
+pub(crate) fn key(octet: u8) -> [u8; 16] {
     [octet; 16]
 }
 
 // `own` at the index of number n, `other` at the other.
-pub fn slots(n: u32, own: u8, other: u8) -> Slots {
+pub(crate) fn slots(n: u32, own: u8, other: u8) -> Slots {
     let zeros = Slots {
         even: [0; 16],
         odd: [0; 16],
@@ -39,13 +39,13 @@ pub fn slots(n: u32, own: u8, other: u8) -> Slots {
 }
 
 // That LocalTime, tick 0.
-pub fn fresh(time: u64) -> Onu {
+pub(crate) fn fresh(time: u64) -> Onu {
     let answer = onu::fresh(unit(), OLT_MAC, time);
     answer.onu
 }
 
 // Tx 0, Rx 0, tick 100.
-pub fn synced() -> Onu {
+pub(crate) fn synced() -> Onu {
     let answer = onu::clock_message(fresh(0), Stamps { rx: 0, tx: 0 });
     let mut o = answer.onu;
     o.tick = 100;
@@ -53,7 +53,7 @@ pub fn synced() -> Onu {
 }
 
 // Synced: a is `active`, the octets of its key are `own`, and `other` stands in the other slot.
-pub fn keyed(active: u32, held: u8, own: u8, other: u8) -> Onu {
+pub(crate) fn keyed(active: u32, held: u8, own: u8, other: u8) -> Onu {
     let slots = slots(active, own, other);
     let keys = OnuKeys {
         active,

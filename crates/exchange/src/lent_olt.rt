@@ -33,24 +33,24 @@ pub(crate) fn shared_rows() {
     shared(b"tick 2^62", 1, 0x4000_0000_0000_0000, 0);
     shared(b"tick 2^62 + 1", 1, 0x4000_0000_0000_0001, 0);
     shared(b"clock 2^48", 1, 0, 0x1_0000_0000_0000);
-    freed(b"Q4 tick 0, channel 0 free from 4194305", 4_194_305, 0);
+    freed(b"D4 tick 0, channel 0 free from 4194305", 4_194_305, 0);
     freed(
-        b"Q4 channel 0 free from 2^62 + 4194304",
+        b"D4 channel 0 free from 2^62 + 4194304",
         0x4000_0000_0040_0000,
         0,
     );
     freed(
-        b"Q4 channel 0 free from 2^62 + 4194305",
+        b"D4 channel 0 free from 2^62 + 4194305",
         0x4000_0000_0040_0001,
         0,
     );
     freed(
-        b"Q4 channel 1 free from 2^62 + 4194304",
+        b"D4 channel 1 free from 2^62 + 4194304",
         0,
         0x4000_0000_0040_0000,
     );
     freed(
-        b"Q4 channel 1 free from 2^62 + 4194305",
+        b"D4 channel 1 free from 2^62 + 4194305",
         0,
         0x4000_0000_0040_0001,
     );
@@ -87,7 +87,7 @@ pub(crate) fn identity_rows() {
     beside(b"two units", 2, 9, 0);
     beside(b"two units, LLID 5 at both", 2, 5, 0);
     beside(b"two units, the second's flag 2", 2, 9, 2);
-    beside(b"Q7 the same in a place past the count", 1, 5, 2);
+    beside(b"D6 the same in a place past the count", 1, 5, 2);
 }
 
 fn timed(label: &[u8], interval: u64, count: u64, flag: u8) {
@@ -114,9 +114,9 @@ pub(crate) fn timer_rows() {
         1,
     );
     timed(b"interval 2^47 + 1", 0x8000_0000_0001, 0, 0);
-    timed(b"Q68 interval 10, count 10", 10, 10, 0);
-    timed(b"Q68 flag 2", 10, 0, 2);
-    sent(b"Q68 noted 2", 2, 0);
+    timed(b"D7 interval 10, count 10", 10, 10, 0);
+    timed(b"D7 flag 2", 10, 0, 2);
+    sent(b"D7 noted 2", 2, 0);
     sent(b"first send at the tick", 1, 100);
     sent(b"first send a tick later", 1, 101);
     sent(b"no first send, its place 101", 0, 101);
@@ -144,13 +144,13 @@ pub(crate) fn clock_rows() {
     clocked(b"capture at the tick", 250, 1, 100);
     clocked(b"capture a tick later", 250, 1, 101);
     clocked(b"no capture, its place 101", 250, 0, 101);
-    clocked(b"Q68 captured 2", 250, 2, 0);
-    marked(b"Q68 acknowledged 2", 2, 0, 0);
-    marked(b"Q68 clock sent 2", 0, 2, 0);
-    marked(b"Q68 clock acknowledged 2", 0, 0, 2);
-    marked(b"Q2 clock acknowledged, never sent", 0, 0, 1);
-    marked(b"Q2 clock sent, never captured", 0, 1, 0);
-    marked(b"Q2 acknowledged with O = 0", 1, 0, 0);
+    clocked(b"D7 captured 2", 250, 2, 0);
+    marked(b"D7 acknowledged 2", 2, 0, 0);
+    marked(b"D7 clock sent 2", 0, 2, 0);
+    marked(b"D7 clock acknowledged 2", 0, 0, 2);
+    marked(b"D2 clock acknowledged, never sent", 0, 0, 1);
+    marked(b"D2 clock sent, never captured", 0, 1, 0);
+    marked(b"D2 acknowledged with O = 0", 1, 0, 0);
 }
 
 // At C, A and O, with the clock acknowledged or not and those octets beside key A.
@@ -164,7 +164,7 @@ pub(crate) fn number_rows() {
     numbers(b"C = 2, A = 2, O = 2", 2, 2, 2, 1, 34);
     numbers(b"C = 1, A = 2, O = 2", 1, 2, 2, 1, 34);
     numbers(b"C = 2, A = 2, O = 3", 2, 2, 3, 1, 34);
-    numbers(b"Q3 C = 1, A = 2, O = 3", 1, 2, 3, 1, 34);
+    numbers(b"D3 C = 1, A = 2, O = 3", 1, 2, 3, 1, 34);
     numbers(b"C = 0, A = 2, O = 2", 0, 2, 2, 1, 34);
     numbers(b"C = 3, A = 2, O = 3", 3, 2, 3, 1, 34);
     numbers(b"C = 2, A = 2, O = 4", 2, 2, 4, 1, 34);
@@ -177,9 +177,9 @@ pub(crate) fn number_rows() {
         1,
         34,
     );
-    numbers(b"Q2 O = 1, clock not acknowledged", 0, 0, 1, 0, 34);
-    numbers(b"Q2 A = 1, no first send noted", 1, 1, 1, 1, 34);
-    numbers(b"Q2 equal keys in both slots", 1, 1, 2, 1, 17);
+    numbers(b"D2 O = 1, clock not acknowledged", 0, 0, 1, 0, 34);
+    numbers(b"D2 A = 1, no first send noted", 1, 1, 1, 1, 34);
+    numbers(b"D2 equal keys in both slots", 1, 1, 2, 1, 17);
 }
 
 // Its clock is out of range.
@@ -192,20 +192,20 @@ fn invalid() -> Olt {
 pub(crate) fn ahead_rows() {
     show::section(b"lent OLT with clock 2^48");
     let far = olt::advance(invalid(), 0xffff_ffff_ffff_ffff);
-    show::row(b"Q1 advance by 2^64 - 1", far.number);
+    show::row(b"D1 advance by 2^64 - 1", far.number);
     let twice = olt::register(invalid(), units::identity(2, 5, 5, 2), 250, 1000);
-    show::row(b"Q1 register, LLID twice", twice.number);
+    show::row(b"D1 register, LLID twice", twice.number);
     let captured = olt::capture(invalid(), 9);
-    show::row(b"Q1 capture, LLID 9", captured.number);
+    show::row(b"D1 capture, LLID 9", captured.number);
     let clock = olt::clock_send(invalid(), 9);
-    show::row(b"Q1 clock send, LLID 9", clock.number);
+    show::row(b"D1 clock send, LLID 9", clock.number);
     let noted = olt::acknowledge(invalid(), 9, Acknowledgement { kind: 1, number: 0 });
-    show::row(b"Q1 acknowledgement, LLID 9", noted.number);
+    show::row(b"D1 acknowledgement, LLID 9", noted.number);
 }
 
 pub(crate) fn ahead_key_rows() {
     let offered = olt::offer(invalid(), 9, units::key(17));
-    show::row(b"Q1 offer, LLID 9", offered.number);
+    show::row(b"D1 offer, LLID 9", offered.number);
     let again = olt::retry(invalid(), 9);
-    show::row(b"Q1 retry, LLID 9", again.number);
+    show::row(b"D1 retry, LLID 9", again.number);
 }

@@ -46,13 +46,13 @@ fn clocked(label: &[u8], synced: u8, time: u64, rx: u64) {
 }
 
 pub(crate) fn clock_rows() {
-    clocked(b"Q68 synced 2", 2, 0, 0);
+    clocked(b"D7 synced 2", 2, 0, 0);
     clocked(b"Tx 2^48", 1, 0x1_0000_0000_0000, 0);
     clocked(b"Tx 2^48 - 1", 1, 0xffff_ffff_ffff, 0);
     clocked(b"Rx 2^48", 1, 0, 0x1_0000_0000_0000);
     clocked(b"Rx 2^48 - 1", 1, 0, 0xffff_ffff_ffff);
-    clocked(b"Q31 unsynced, LocalTime 2^32", 0, 0x1_0000_0000, 0);
-    clocked(b"Q31 unsynced, LocalTime 2^32 - 1", 0, 0xffff_ffff, 0);
+    clocked(b"D24 unsynced, LocalTime 2^32", 0, 0x1_0000_0000, 0);
+    clocked(b"D24 unsynced, LocalTime 2^32 - 1", 0, 0xffff_ffff, 0);
 }
 
 fn sent(label: &[u8], noted: u8, tick: u64) {
@@ -71,31 +71,31 @@ fn freed(label: &[u8], tick: u64, zero: u64, one: u64) {
 }
 
 pub(crate) fn send_rows() {
-    sent(b"Q68 noted 2", 2, 0);
+    sent(b"D7 noted 2", 2, 0);
     sent(b"first send at the tick", 1, 100);
     sent(b"first send a tick later", 1, 101);
     sent(b"no first send, its place 101", 0, 101);
-    freed(b"Q4 tick 0, channel 0 free from 4194305", 0, 4_194_305, 0);
+    freed(b"D4 tick 0, channel 0 free from 4194305", 0, 4_194_305, 0);
     freed(
-        b"Q4 channel 0 free from 2^62 + 4194304",
+        b"D4 channel 0 free from 2^62 + 4194304",
         0,
         0x4000_0000_0040_0000,
         0,
     );
     freed(
-        b"Q4 channel 0 free from 2^62 + 4194305",
+        b"D4 channel 0 free from 2^62 + 4194305",
         0,
         0x4000_0000_0040_0001,
         0,
     );
     freed(
-        b"Q4 channel 1 free from 2^62 + 4194304",
+        b"D4 channel 1 free from 2^62 + 4194304",
         0,
         0,
         0x4000_0000_0040_0000,
     );
     freed(
-        b"Q4 channel 1 free from 2^62 + 4194305",
+        b"D4 channel 1 free from 2^62 + 4194305",
         0,
         0,
         0x4000_0000_0040_0001,
@@ -109,14 +109,14 @@ fn keyed(label: &[u8], synced: u8, active: u32, held: u8, other: u8) {
 }
 
 pub(crate) fn key_rows() {
-    keyed(b"Q68 held 2", 1, 1, 2, 34);
-    keyed(b"Q5 a = 2^32 - 1", 1, 0xffff_ffff, 0, 0);
-    keyed(b"Q5 a = 2^32 - 1, key a + 1 held", 1, 0xffff_ffff, 1, 34);
-    keyed(b"Q5 a = 2^32 - 2, key a + 1 held", 1, 0xffff_fffe, 1, 34);
-    keyed(b"Q2 a = 1, no first send noted", 1, 1, 0, 0);
-    keyed(b"Q6 a = 1, not synced", 0, 1, 0, 0);
-    keyed(b"Q2 key 1 held, not synced", 0, 0, 1, 34);
-    keyed(b"Q2 equal keys in both slots", 1, 1, 1, 17);
+    keyed(b"D7 held 2", 1, 1, 2, 34);
+    keyed(b"D5 a = 2^32 - 1", 1, 0xffff_ffff, 0, 0);
+    keyed(b"D5 a = 2^32 - 1, key a + 1 held", 1, 0xffff_ffff, 1, 34);
+    keyed(b"D5 a = 2^32 - 2, key a + 1 held", 1, 0xffff_fffe, 1, 34);
+    keyed(b"D2 a = 1, no first send noted", 1, 1, 0, 0);
+    keyed(b"D2 a = 1, not synced", 0, 1, 0, 0);
+    keyed(b"D2 key 1 held, not synced", 0, 0, 1, 34);
+    keyed(b"D2 equal keys in both slots", 1, 1, 1, 17);
 }
 
 // What a refused fresh ONU gives.
@@ -127,12 +127,12 @@ fn zeros() -> Onu {
 
 pub(crate) fn zero_rows() {
     show::section(b"ONU of zeros");
-    lent(b"Q7 advance by 0", zeros());
+    lent(b"D6 advance by 0", zeros());
     let far = onu::advance(zeros(), 0xffff_ffff_ffff_ffff);
-    show::row(b"Q1 advance by 2^64 - 1", far.number);
+    show::row(b"D1 advance by 2^64 - 1", far.number);
     let clock = onu::clock_message(zeros(), Stamps { rx: 0, tx: 0 });
     show::row1(
-        b"Q7 clock message",
+        b"D6 clock message",
         clock.number,
         b"kind",
         clock.acknowledgement.kind as u64,
@@ -145,7 +145,7 @@ pub(crate) fn zero_rows() {
     };
     let taken = onu::key_message(zeros(), message);
     show::row1(
-        b"Q1 key message",
+        b"D1 key message",
         taken.number,
         b"kind",
         taken.acknowledgement.kind as u64,

@@ -1,4 +1,4 @@
-// The OLT's calls that name no unit: every refusal, and the tests of READING that show there.
+// The OLT's calls that name no unit: every refusal, and the decisions (docs/DECISIONS.md, by number) that show there.
 use crate::show;
 use crate::tables;
 use crate::units;
@@ -51,18 +51,18 @@ pub(crate) fn range_rows() {
     first(b"MAC 2^48", 0x1_0000_0000_0000, 5, 6, 2);
     first(b"no LLID", 2, 5, 6, 0);
     first(b"five LLIDs", 2, 5, 6, 5);
-    first(b"Q13 five LLIDs, one twice", 2, 5, 5, 5);
+    first(b"D13 five LLIDs, one twice", 2, 5, 5, 5);
     first(b"LLID twice", 2, 5, 5, 2);
-    first(b"Q13 LLIDs 0 and 65535", 2, 0, 65535, 2);
-    first(b"Q13 MAC 0", 0, 5, 6, 2);
-    first(b"Q13 MAC 2^48 - 1", 0xffff_ffff_ffff, 5, 6, 2);
+    first(b"D13 LLIDs 0 and 65535", 2, 0, 65535, 2);
+    first(b"D13 MAC 0", 0, 5, 6, 2);
+    first(b"D13 MAC 2^48 - 1", 0xffff_ffff_ffff, 5, 6, 2);
     timed(b"round trip 1000001", 6, 1_000_001, 1000);
     timed(b"interval 0", 6, 250, 0);
     timed(b"interval 2^47 + 1", 6, 250, 0x8000_0000_0001);
-    timed(b"Q13 LLID twice, interval 0", 5, 250, 0);
-    timed(b"Q13 round trip 0, interval 1", 6, 0, 1);
+    timed(b"D13 LLID twice, interval 0", 5, 250, 0);
+    timed(b"D13 round trip 0, interval 1", 6, 0, 1);
     timed(
-        b"Q13 round trip 1000000, interval 2^47",
+        b"D13 round trip 1000000, interval 2^47",
         6,
         1_000_000,
         0x8000_0000_0000,
@@ -85,14 +85,14 @@ fn more(label: &[u8], second: u16, interval: u64) {
 
 pub(crate) fn table_rows() {
     second(b"LLID 6 again", 3, 9, 6, 2);
-    second(b"Q14 another unit of that MAC", units::UNIT_MAC, 9, 10, 2);
+    second(b"D14 another unit of that MAC", units::UNIT_MAC, 9, 10, 2);
     let two = second(b"LLID 6 past the count", 3, 9, 6, 1);
     register(b"LLID 0 after that", two, 4, 0, 6, 1);
-    first(b"Q66 LLIDs 6 and 5", 2, 6, 5, 2);
+    first(b"D38 LLIDs 6 and 5", 2, 6, 5, 2);
     let refused = olt::fresh(0x1_0000_0000_0000, 0);
-    register(b"Q7 OLT of zeros", refused.olt, 2, 5, 6, 2);
+    register(b"D6 OLT of zeros", refused.olt, 2, 5, 6, 2);
     more(b"seventeenth", 65, 1000);
-    more(b"Q13 seventeenth, LLID 63", 63, 1000);
+    more(b"D13 seventeenth, LLID 63", 63, 1000);
     more(b"seventeenth, LLID 63, interval 0", 63, 0);
 }
 
@@ -109,11 +109,11 @@ fn advance(label: &[u8], tick: u64, n: u64) {
 pub(crate) fn tick_rows() {
     show::section(b"advance of the OLT: 17");
     advance(b"by 1", 0, 1);
-    advance(b"Q29 by 2^62", 0, 0x4000_0000_0000_0000);
-    advance(b"Q29 by 2^62 + 1", 0, 0x4000_0000_0000_0001);
-    advance(b"Q29 by 2^64 - 1", 0, 0xffff_ffff_ffff_ffff);
-    advance(b"Q29 at 2^62, by 0", 0x4000_0000_0000_0000, 0);
-    advance(b"Q29 at 2^62, by 1", 0x4000_0000_0000_0000, 1);
+    advance(b"D22 by 2^62", 0, 0x4000_0000_0000_0000);
+    advance(b"D22 by 2^62 + 1", 0, 0x4000_0000_0000_0001);
+    advance(b"D22 by 2^64 - 1", 0, 0xffff_ffff_ffff_ffff);
+    advance(b"D22 at 2^62, by 0", 0x4000_0000_0000_0000, 0);
+    advance(b"D22 at 2^62, by 1", 0x4000_0000_0000_0000, 1);
 }
 
 fn later(o: Olt, n: u64) -> Olt {
@@ -142,7 +142,7 @@ pub(crate) fn timer_rows() {
     timer(b"P6 count 7, by 2", 10, 7, 2);
     timer(b"P7 count 7, by 25", 10, 7, 25);
     timer(b"flag up, by 1", 10, 10, 1);
-    timer(b"Q29 interval 1, by 0", 1, 0, 0);
+    timer(b"D22 interval 1, by 0", 1, 0, 0);
     timer(b"interval 1, by 1", 1, 0, 1);
     timer(
         b"interval 2^47, by 2^47 - 1",
@@ -167,8 +167,8 @@ fn late(label: &[u8], n: u64) {
 }
 
 pub(crate) fn registration_rows() {
-    late(b"Q32 interval 100, by 93", 93);
-    late(b"Q32 interval 100, by 100", 100);
+    late(b"D25 interval 100, by 93", 93);
+    late(b"D25 interval 100, by 100", 100);
     let answer = olt::advance(tables::full(), 107);
     let full = answer.olt;
     let last = full.units[15];

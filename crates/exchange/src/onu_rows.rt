@@ -1,4 +1,4 @@
-// The ONU's calls: every refusal, and the tests of READING that show at a unit.
+// The ONU's calls: every refusal, and the decisions (docs/DECISIONS.md, by number) that show at a unit.
 use crate::show;
 use crate::units;
 use clock::Stamps;
@@ -25,13 +25,13 @@ pub(crate) fn fresh_rows() {
     fresh(b"MAC 2^48", 0x1_0000_0000_0000, 5, 6, 2);
     fresh(b"no LLID", 2, 5, 6, 0);
     fresh(b"five LLIDs", 2, 5, 6, 5);
-    fresh(b"Q13 five LLIDs, one twice", 2, 5, 5, 5);
+    fresh(b"D13 five LLIDs, one twice", 2, 5, 5, 5);
     fresh(b"LLID twice", 2, 5, 5, 2);
     fresh(b"LLID of the first place again in the third", 2, 7, 6, 3);
     fresh(b"the same past the count", 2, 7, 6, 2);
-    fresh(b"Q13 LLIDs 0 and 65535", 2, 0, 65535, 2);
-    fresh(b"Q13 MAC 0", 0, 5, 6, 2);
-    fresh(b"Q13 MAC 2^48 - 1", 0xffff_ffff_ffff, 5, 6, 2);
+    fresh(b"D13 LLIDs 0 and 65535", 2, 0, 65535, 2);
+    fresh(b"D13 MAC 0", 0, 5, 6, 2);
+    fresh(b"D13 MAC 2^48 - 1", 0xffff_ffff_ffff, 5, 6, 2);
     fresh_at(b"OLT MAC 2^48", 0x1_0000_0000_0000, 6, 5);
     fresh_at(b"OLT MAC 2^48 - 1", 0xffff_ffff_ffff, 6, 5);
     fresh_at(b"LocalTime 2^32", 1, 6, 0x1_0000_0000);
@@ -51,12 +51,12 @@ fn advance(label: &[u8], tick: u64, n: u64) {
 
 pub(crate) fn advance_rows() {
     show::section(b"advance of the ONU: 17");
-    advance(b"Q31 by 1", 0, 1);
-    advance(b"Q29 by 2^62", 0, 0x4000_0000_0000_0000);
-    advance(b"Q29 by 2^62 + 1", 0, 0x4000_0000_0000_0001);
-    advance(b"Q29 by 2^64 - 1", 0, 0xffff_ffff_ffff_ffff);
-    advance(b"Q29 at 2^62, by 0", 0x4000_0000_0000_0000, 0);
-    advance(b"Q29 at 2^62, by 1", 0x4000_0000_0000_0000, 1);
+    advance(b"D24 by 1", 0, 1);
+    advance(b"D22 by 2^62", 0, 0x4000_0000_0000_0000);
+    advance(b"D22 by 2^62 + 1", 0, 0x4000_0000_0000_0001);
+    advance(b"D22 by 2^64 - 1", 0, 0xffff_ffff_ffff_ffff);
+    advance(b"D22 at 2^62, by 0", 0x4000_0000_0000_0000, 0);
+    advance(b"D22 at 2^62, by 1", 0x4000_0000_0000_0000, 1);
 }
 
 // The clocks of the end too.
@@ -82,10 +82,10 @@ pub(crate) fn clock_rows() {
     show::section(b"clock message: 1");
     clock(b"Rx 2^48", units::fresh(0), 0x1_0000_0000_0000, 0);
     clock(b"Tx 2^48", units::fresh(0), 0, 0x1_0000_0000_0000);
-    clock(b"Q15 Rx 0, Tx 1000001", units::fresh(0), 0, 1_000_001);
+    clock(b"D15 Rx 0, Tx 1000001", units::fresh(0), 0, 1_000_001);
     clock(b"P3", units::fresh(0x15), 0xffff_ffff_fff0, 0x10);
     let wrapped = clock(b"P4", units::fresh(1), 0, 0xffff_ffff);
-    let again = clock(b"Q26 at a synced unit", wrapped, 100, 200);
+    let again = clock(b"D15 at a synced unit", wrapped, 100, 200);
     run(b"then advance by 2^48 - 1", again, 0xffff_ffff_ffff);
 }
 
@@ -107,11 +107,11 @@ pub(crate) fn first_key_rows() {
     let o = units::synced();
     give(b"LLID 9", o, 9, 1, 17);
     give(b"LLID 0, which stands past the count", o, 0, 1, 17);
-    give(b"Q20 number 0, key of zeros", o, 5, 0, 0);
+    give(b"D17 number 0, key of zeros", o, 5, 0, 0);
     give(b"number 2 at a = 0", o, 5, 2, 17);
     let one = give(b"number 1", o, 5, 1, 17);
-    give(b"Q18 the same by LLID 6", one, 6, 1, 17);
-    give(b"Q19 number 1, another key", one, 5, 1, 34);
+    give(b"D17 the same by LLID 6", one, 6, 1, 17);
+    give(b"D17 number 1, another key", one, 5, 1, 34);
     give(b"number 0 while 1 is held", one, 5, 0, 0);
     give(b"number 2 while 1 is held", one, 5, 2, 34);
 }
@@ -129,23 +129,23 @@ pub(crate) fn next_key_rows() {
 
 pub(crate) fn last_key_rows() {
     give(
-        b"Q17 a = 2^32 - 2, the last number",
+        b"D17 a = 2^32 - 2, the last number",
         units::keyed(0xffff_fffe, 0, 17, 0),
         5,
         0xffff_ffff,
         34,
     );
     let last = units::keyed(0xffff_ffff, 0, 17, 0);
-    give(b"Q17 a = 2^32 - 1, number 0", last, 5, 0, 34);
+    give(b"D17 a = 2^32 - 1, number 0", last, 5, 0, 34);
     give(
-        b"Q17 a = 2^32 - 1, that number with its own key",
+        b"D17 a = 2^32 - 1, that number with its own key",
         last,
         5,
         0xffff_ffff,
         17,
     );
     give(
-        b"Q17 a = 2^32 - 1, that number with another key",
+        b"D17 a = 2^32 - 1, that number with another key",
         last,
         5,
         0xffff_ffff,

@@ -1,4 +1,4 @@
-// The OLT's calls on one unit: every refusal, and the tests of READING that show there.
+// The OLT's calls on one unit: every refusal, and the decisions (docs/DECISIONS.md, by number) that show there.
 use crate::show;
 use crate::tables;
 use crate::units;
@@ -38,12 +38,12 @@ pub(crate) fn capture_rows() {
 }
 
 pub(crate) fn age_rows() {
-    let taken = capture(b"Q25 capture", tables::registered(1000), 5);
-    let sent = clock_send(b"Q25 a second after", later(taken, 390_625_000), 5);
-    let old = later(clock_send(b"Q25 again", sent, 5), 1);
-    let stays = clock_send(b"Q25 a second and a tick after", old, 5);
-    let anew = capture(b"Q25 a new capture", clock_send(b"Q25 again", stays, 5), 5);
-    clock_send(b"Q25 sent at once", anew, 5);
+    let taken = capture(b"D20 capture", tables::registered(1000), 5);
+    let sent = clock_send(b"D20 a second after", later(taken, 390_625_000), 5);
+    let old = later(clock_send(b"D20 again", sent, 5), 1);
+    let stays = clock_send(b"D20 a second and a tick after", old, 5);
+    let anew = capture(b"D20 a new capture", clock_send(b"D20 again", stays, 5), 5);
+    clock_send(b"D20 sent at once", anew, 5);
 }
 
 pub(crate) fn stamp_rows() {
@@ -76,8 +76,8 @@ pub(crate) fn offer_rows() {
     offer_at(b"C = 0, A = 1", 1, 0, 1, 1, 51);
     offer_at(b"A = 1, key A", 1, 1, 1, 1, 17);
     offer_at(b"A = 1, another key", 1, 1, 1, 1, 51);
-    offer_at(b"Q27 A = 0, key of zeros", 1, 0, 0, 0, 0);
-    offer_at(b"Q27 A = 2, the octets of key 1", 1, 2, 2, 2, 34);
+    offer_at(b"D21 A = 0, key of zeros", 1, 0, 0, 0, 0);
+    offer_at(b"D21 A = 2, the octets of key 1", 1, 2, 2, 2, 34);
 }
 
 pub(crate) fn last_offer_rows() {
@@ -90,7 +90,7 @@ pub(crate) fn last_offer_rows() {
         51,
     );
     offer_at(
-        b"Q28 A = 2^32 - 1",
+        b"D21 A = 2^32 - 1",
         1,
         0xffff_ffff,
         0xffff_ffff,
@@ -98,7 +98,7 @@ pub(crate) fn last_offer_rows() {
         51,
     );
     offer_at(
-        b"Q28 A = 2^32 - 1, key A",
+        b"D21 A = 2^32 - 1, key A",
         1,
         0xffff_ffff,
         0xffff_ffff,
@@ -108,7 +108,7 @@ pub(crate) fn last_offer_rows() {
     let mut never = tables::unit();
     never.clock.acknowledged = 1;
     offer(
-        b"Q2 clock acknowledged, never sent",
+        b"D2 clock acknowledged, never sent",
         tables::with(never),
         5,
         51,
@@ -149,8 +149,8 @@ pub(crate) fn retry_rows() {
     retry(b"O = A = 1", tables::with(tables::numbered(1, 1, 1, 34)), 5);
     retry(b"O = 2, A = 1", offered(), 5);
     retry(b"O = 2, A = 1, by LLID 6", offered(), 6);
-    let noted = acknowledge(b"Q23 acknowledgement of 2", offered(), 5, 2, 2);
-    retry(b"Q23 retry after it", noted, 5);
+    let noted = acknowledge(b"D18 acknowledgement of 2", offered(), 5, 2, 2);
+    retry(b"D18 retry after it", noted, 5);
 }
 
 fn early(label: &[u8], llid: u16, kind: u8, number: u32) {
@@ -162,8 +162,8 @@ pub(crate) fn early_rows() {
     early(b"clock, LLID 9", 9, 1, 0);
     early(b"key, LLID 9", 9, 2, 1);
     early(b"clock, none sent", 5, 1, 0);
-    early(b"Q21 key 0, none offered", 5, 2, 0);
-    early(b"Q21 key 1, none offered", 5, 2, 1);
+    early(b"D18 key 0, none offered", 5, 2, 0);
+    early(b"D18 key 1, none offered", 5, 2, 1);
     early(b"neither kind", 5, 0, 0);
     early(b"kind 3", 5, 3, 0);
 }
@@ -173,13 +173,13 @@ pub(crate) fn clock_acknowledgement_rows() {
     acknowledge(b"clock, captured and not sent", taken, 5, 1, 0);
     let sent = clock_send(b"clock send", taken, 5);
     offer(b"offer before the acknowledgement", sent, 5, 51);
-    let noted = acknowledge(b"Q16 clock, by LLID 6", sent, 6, 1, 0);
+    let noted = acknowledge(b"D16 clock, by LLID 6", sent, 6, 1, 0);
     let anew = capture(
-        b"Q24 a new capture",
+        b"D19 a new capture",
         acknowledge(b"clock again", noted, 5, 1, 0),
         5,
     );
-    offer(b"Q24 offer", anew, 5, 51);
+    offer(b"D19 offer", anew, 5, 51);
 }
 
 fn key_at(label: &[u8], confirmed: u32, active: u32, offered: u32, number: u32) {
@@ -197,11 +197,11 @@ pub(crate) fn key_acknowledgement_rows() {
     key_at(b"O = 2, A = 1, number 1", 1, 1, 2, 1);
     key_at(b"O = 2, A = 1, number 3", 1, 1, 2, 3);
     let noted = acknowledge(b"O = 2, A = 1, number 2", offered(), 5, 2, 2);
-    acknowledge(b"Q16 again, by LLID 6", noted, 6, 2, 2);
-    key_at(b"Q21 O = A = 2, number 2", 2, 2, 2, 2);
-    key_at(b"Q21 O = A = 2, C = 1, number 2", 1, 2, 2, 2);
-    key_at(b"Q21 O = A = 2, number 1", 2, 2, 2, 1);
-    key_at(b"Q21 O = A = 2, number 3", 2, 2, 2, 3);
+    acknowledge(b"D16 again, by LLID 6", noted, 6, 2, 2);
+    key_at(b"D18 O = A = 2, number 2", 2, 2, 2, 2);
+    key_at(b"D18 O = A = 2, C = 1, number 2", 1, 2, 2, 2);
+    key_at(b"D18 O = A = 2, number 1", 2, 2, 2, 1);
+    key_at(b"D18 O = A = 2, number 3", 2, 2, 2, 3);
 }
 
 pub(crate) fn anew_rows() {

@@ -2,7 +2,8 @@
 -- h is the header, p the payload as it came, out the output as it was lent. Assumes nothing.
 use mathlib.Core.List.{List}
 use Prim.Native.Nat.{ℕ}
-use Rattle.refusal.specs.Number.{verdictNumber}
+use Rattle.refusal.specs.Number.{numberOf, verdictNumber}
+use Rattle.refusal.specs.declared.Refusal.{Refusal}
 use Rattle.ends.specs.Replies.{Reply}
 use Rattle.ends.specs.OltTraffic.{receivingOlt}
 use Rattle.ends.specs.OnuTraffic.{receivingOnu}
@@ -21,6 +22,10 @@ oltReceived r index p out =
       output = outputAfter (r .verdict) (passed index (r .handed) p) out;
     }
 
+-- refused: the end as it was lent, count 0
+unfoldable pub oltNotReceived : Olt → Refusal → OltReceived
+oltNotReceived o r = record { number = numberOf r; olt = o; count = 0 }
+
 unfoldable pub oltReceiveOf : Olt → Header → List ℕ → List ℕ → Exchange OltReceived
 oltReceiveOf o h p out = oltReceived (receivingOlt o (misfit p out) h) (h .index) p out
 
@@ -30,6 +35,9 @@ onuReceivedBy r index p out =
       answer = record { number = verdictNumber (r .verdict); onu = r .end; count = passedCount (r .handed) p };
       output = outputAfter (r .verdict) (passed index (r .handed) p) out;
     }
+
+unfoldable pub onuNotReceived : Onu → Refusal → OnuReceived
+onuNotReceived o r = record { number = numberOf r; onu = o; count = 0 }
 
 unfoldable pub onuReceiveOf : Onu → Header → List ℕ → List ℕ → Exchange OnuReceived
 onuReceiveOf o h p out = onuReceivedBy (receivingOnu o (misfit p out) h) (h .index) p out

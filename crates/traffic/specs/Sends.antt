@@ -2,9 +2,11 @@
 -- p is the payload, out the output as it was lent. Assumes nothing.
 use mathlib.Core.List.{List}
 use Prim.Native.Nat.{ℕ}
-use Rattle.refusal.specs.Number.{verdictNumber}
+use Rattle.refusal.specs.Number.{numberOf, verdictNumber}
+use Rattle.refusal.specs.declared.Refusal.{Refusal}
 use Rattle.sealing.specs.Payload.{eqsOf}
 use Rattle.ends.specs.Replies.{Reply}
+use Rattle.ends.specs.Headers.{noSending}
 use Rattle.ends.specs.OltTraffic.{sendingOlt}
 use Rattle.ends.specs.OnuTraffic.{sendingOnu}
 use Rattle.ends.specs.declared.Olt.{Olt}
@@ -27,6 +29,10 @@ oltSent r index p out =
       output = outputAfter (r .verdict) (passed index (r .handed .passage) p) out;
     }
 
+-- refused: the end as it was lent, a header of zeros, count 0
+unfoldable pub oltNotSent : Olt → Refusal → OltSent
+oltNotSent o r = record { number = numberOf r; olt = o; header = noSending .header; count = 0 }
+
 unfoldable pub oltSendOf : Olt → ℕ → ℕ → List ℕ → List ℕ → Exchange OltSent
 oltSendOf o llid index p out = oltSent (sendingOlt o (misfit p out) llid index (eqsOf p)) index p out
 
@@ -42,6 +48,9 @@ onuSentBy r index p out =
           };
       output = outputAfter (r .verdict) (passed index (r .handed .passage) p) out;
     }
+
+unfoldable pub onuNotSent : Onu → Refusal → OnuSent
+onuNotSent o r = record { number = numberOf r; onu = o; header = noSending .header; count = 0 }
 
 unfoldable pub onuSendOf : Onu → ℕ → ℕ → List ℕ → List ℕ → Exchange OnuSent
 onuSendOf o llid index p out = onuSentBy (sendingOnu o (misfit p out) llid index (eqsOf p)) index p out

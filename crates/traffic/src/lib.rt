@@ -1,7 +1,19 @@
-// Send and receive at both ends, with their octets (01, Keys).
+// Send and receive at both ends, with their octets (01, Keys). Each takes the end by value and gives back the number, the end, the
+// header and the octets enciphered, and writes the output; refused, the end and the output are those that were lent.
+mod at_olt;
+mod at_onu;
+mod passing;
+
+ghost use mathlib.Core.Path.{_≡_};
+ghost use Rattle.traffic.specs.Passages.{exchange};
+ghost use Rattle.traffic.specs.Receipts.{oltReceiveOf, onuReceiveOf};
+ghost use Rattle.traffic.specs.Sends.{oltSendOf, onuSendOf};
 use ends::Header;
 use ends::Olt;
 use ends::Onu;
+use olt::Located;
+use olt::place::locate;
+use refusal::Verdict;
 
 #[repr(C)]
 pub struct OltSent {
@@ -31,4 +43,73 @@ pub struct OnuReceived {
     pub number: u8,
     pub onu: Onu,
     pub count: u64,
+}
+
+pub fn olt_send(olt: Olt, llid: u16, index: u8, payload: &[u8], output: &mut [u8]) -> OltSent
+    ensures { λ r. ⌜ exchange r (now (output .exit)) ≡ oltSendOf olt llid index (now (payload .entry)) (now (output .entry)) ⌝ }
+{
+    let ahead = at_olt::send_ahead(payload.len(), output.len(), index);
+    let at = locate(olt, ahead, llid);
+    match at {
+        Located::Absent(refusal) => at_olt::not_sent(olt, refusal),
+        Located::Place(i) => at_olt::send_at(olt, i, llid, index, payload, output),
+    }
+}
+
+pub fn olt_receive(olt: Olt, header: Header, octets: &[u8], output: &mut [u8]) -> OltReceived
+    ensures { λ r. ⌜ exchange r (now (output .exit)) ≡ oltReceiveOf olt header (now (octets .entry)) (now (output .entry)) ⌝ }
+{
+    let ahead = at_olt::receive_ahead(octets.len(), output.len(), header);
+    let at = locate(olt, ahead, header.llid);
+    match at {
+        Located::Absent(refusal) => at_olt::not_received(olt, refusal),
+        Located::Place(i) => at_olt::receive_at(olt, i, header, octets, output),
+    }
+}
+
+pub fn onu_send(onu: Onu, llid: u16, index: u8, payload: &[u8], output: &mut [u8]) -> OnuSent
+    ensures { λ r. ⌜ exchange r (now (output .exit)) ≡ onuSendOf onu llid index (now (payload .entry)) (now (output .entry)) ⌝ }
+{
+    let misfit = passing::misfit(payload.len(), output.len());
+    let verdict = at_onu::send_verdict(onu, misfit, llid, index);
+    match verdict {
+        Verdict::Refused(refusal) => at_onu::not_sent(onu, refusal),
+        Verdict::Accepted => {
+            let next = at_onu::after_send(onu, index, (payload.len() / 9) as u64);
+            let choice = at_onu::send_choice(onu.keys);
+            let mac = onu.identity.mac;
+            let time = onu.clock.time;
+            let header = passing::header_of(choice, index, llid, time);
+            let passage = passing::passage_of(choice, onu.keys.slots, mac, time);
+            let count = passing::carry(passage, index, payload, output);
+            OnuSent {
+                number: 0,
+                onu: next,
+                header,
+                count,
+            }
+        }
+    }
+}
+
+pub fn onu_receive(onu: Onu, header: Header, octets: &[u8], output: &mut [u8]) -> OnuReceived
+    ensures { λ r. ⌜ exchange r (now (output .exit)) ≡ onuReceiveOf onu header (now (octets .entry)) (now (output .entry)) ⌝ }
+{
+    let misfit = passing::misfit(octets.len(), output.len());
+    let verdict = at_onu::receive_verdict(onu, misfit, header);
+    match verdict {
+        Verdict::Refused(refusal) => at_onu::not_received(onu, refusal),
+        Verdict::Accepted => {
+            let choice = at_onu::receive_choice(onu.keys, header);
+            let next = at_onu::after_receive(choice, onu);
+            let mac = onu.oltmac;
+            let passage = passing::passage_of(choice, onu.keys.slots, mac, onu.clock.rx);
+            let count = passing::carry(passage, header.index, octets, output);
+            OnuReceived {
+                number: 0,
+                onu: next,
+                count,
+            }
+        }
+    }
 }

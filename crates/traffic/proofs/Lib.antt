@@ -1,0 +1,4 @@
+pub mod Passages
+pub mod Lookup
+pub mod Sends
+pub mod Receipts

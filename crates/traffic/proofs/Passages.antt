@@ -1,0 +1,59 @@
+-- Laws of what an end's decision makes of a payload: what a decision accepts, sealing accepts too. Assumes nothing.
+use mathlib.Core.Path.{_≡_, ap, _∙_}
+use mathlib.Core.Bool.{Bool, true, false}
+use mathlib.Core.List.{List}
+use Prim.Native.Nat.{ℕ, _≤_, _<_, _^_}
+use native.Mathlib.Omega.{arith}
+use lib.ListN.{length}
+use borrow.Author.Tests.{le-leb, lt-ltb, not-false}
+use Rattle.octets.proofs.Choice.{both-left, both-true, pick-true}
+use Rattle.refusal.specs.declared.Verdict.{Verdict}
+use Rattle.refusal.specs.declared.Verdict.the-variants.{Accepted}
+use Rattle.clock.specs.Ticks.{clockTurn}
+use Rattle.sealing.specs.Payload.{eqsOf}
+use Rattle.sealing.specs.Seal.{channelFits, nonceFits, judgeSeal, carried, countCarried, Sealing, sealingAfter, sealing, outcome, sealCount}
+use Rattle.sealing.specs.declared.envelope.Nonce.{Nonce}
+use Rattle.sealing.specs.declared.envelope.SealAnswer.{SealAnswer}
+use Rattle.sealing.proofs.Seal.{lengths-fit}
+use Rattle.ends.specs.Identities.{validMac, validIdentity}
+use Rattle.ends.specs.declared.Identity.{Identity}
+use Rattle.ends.specs.Limits.{maxEqs}
+use Rattle.ends.specs.Occupancy.{downstream, upstream}
+use Rattle.ends.proofs.Occupancy.{downstream-below, upstream-between}
+use Rattle.ends.proofs.Tests.{either-left, either-right}
+use Rattle.traffic.specs.Passages.{exchange, misfit}
+
+-- a payload whose length is not refused has at most the most EQs
+pub few-eqs : (p out : List ℕ) → misfit p out ≡ false → eqsOf p ≤ maxEqs
+unfolding misfit
+few-eqs p out f = omega (arith, lengths-fit (length p) (length out) (not-false _ f) .bounded)
+
+pub identity-mac : (i : Identity) → validIdentity i ≡ true → validMac (i .mac) ≡ true
+unfolding validIdentity
+identity-mac i e = both-left _ _ e
+
+pub judged : (p out : List ℕ) (n : Nonce) → misfit p out ≡ false → nonceFits n ≡ true → judgeSeal (length p) (length out) n ≡ Accepted
+unfolding misfit judgeSeal
+judged p out n f e = pick-true _ _ (not-false _ f) ∙ pick-true _ _ e
+
+-- what the OLT sends, and a unit receives
+pub down-fits : (n : Nonce) → downstream (n .channel) ≡ true → validMac (n .mac) ≡ true → n .clock < clockTurn → nonceFits n ≡ true
+unfolding nonceFits channelFits validMac
+down-fits n d m c =
+    both-true (either-left _ (lt-ltb (n .channel) 2 (omega (arith, downstream-below (n .channel) d)))) (both-true m (lt-ltb (n .clock) (2 ^ 48) c))
+
+-- what a unit sends, and the OLT receives
+pub up-fits : (n : Nonce) → upstream (n .channel) ≡ true → validMac (n .mac) ≡ true → n .clock < clockTurn → nonceFits n ≡ true
+unfolding nonceFits channelFits validMac
+up-fits n u m c =
+    let between = upstream-between (n .channel) u in
+    both-true (either-right _ (both-true (le-leb 128 (n .channel) (between .0)) (lt-ltb (n .channel) 130 (omega arith))))
+    (both-true m (lt-ltb (n .clock) (2 ^ 48) c))
+
+-- accepted, sealing answers with the count and writes the payload sealed or opened
+pub sealing-carried : (enciphered : Bool) (w : List ℕ) (n : Nonce) (p out : List ℕ) (a : SealAnswer) (o : List ℕ)
+    → outcome a o ≡ sealing enciphered w n p out → judgeSeal (length p) (length out) n ≡ Accepted
+    → exchange (sealCount a) o ≡ exchange (countCarried enciphered p) (carried enciphered w n p)
+unfolding sealing sealingAfter
+sealing-carried enciphered w n p out a o e j =
+    ap (λ (s : Sealing). exchange (sealCount (s .answer)) (s .output)) (e ∙ ap (λ (v : Verdict). sealingAfter v enciphered w n p out) j)

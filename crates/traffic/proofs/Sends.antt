@@ -1,0 +1,181 @@
+-- Laws of send: what each verdict makes of it. Assumes nothing.
+use mathlib.Core.Path.{_≡_, refl, sym, ap, _∙_}
+use mathlib.Core.Bool.{true, false, not}
+use mathlib.Core.List.{List}
+use Prim.Native.Nat.{ℕ, _≤_}
+use lib.ListN.{length}
+use borrow.Author.Tests.{not-false}
+use Rattle.octets.specs.Choice.{pick}
+use Rattle.refusal.specs.declared.Refusal.{Refusal}
+use Rattle.refusal.specs.declared.Refusal.the-variants.{OutOfRange}
+use Rattle.refusal.specs.declared.Verdict.{Verdict}
+use Rattle.refusal.specs.declared.Verdict.the-variants.{Accepted, Refused}
+use Rattle.clock.specs.Ticks.{maxTick}
+use Rattle.sealing.specs.Payload.{eqsOf}
+use Rattle.sealing.specs.Seal.{judgeSeal, countCarried}
+use Rattle.ends.specs.Replies.{refuseIf, Reply, reply}
+use Rattle.ends.specs.Limits.{maxEqs}
+use Rattle.ends.specs.Occupancy.{downstream, occupied}
+use Rattle.ends.specs.Records.{withKeys}
+use Rattle.ends.specs.Table.{unitAt, withUnit}
+use Rattle.ends.specs.Validity.{validOlt, validOnu}
+use Rattle.ends.specs.Lift.{putBack}
+use Rattle.ends.specs.Headers.{choiceNumber, headerOf, passageOf, sendingOf, noSending}
+use Rattle.ends.specs.UnitTraffic.{unitSendChoice, unitSendVerdict, keysSent, sendUnit}
+use Rattle.ends.specs.OltTraffic.{sendingOlt}
+use Rattle.ends.specs.OnuCalls.{onuReply}
+use Rattle.ends.specs.OnuTraffic.{onuSendChoice, onuSendVerdict, onuSent, sendingOnu}
+use Rattle.ends.specs.declared.Olt.{Olt}
+use Rattle.ends.specs.declared.Onu.{Onu}
+use Rattle.ends.specs.declared.Header.{Header}
+use Rattle.ends.specs.declared.Passage.{Passage}
+use Rattle.ends.specs.declared.Sending.{Sending}
+use Rattle.ends.proofs.Replies.{refuse-accepted, reply-accepted, reply-refused}
+use Rattle.ends.proofs.Validity.{olt-in-range, shared-in-range, onu-in-range, onu-clock-in-range}
+use Rattle.ends.proofs.Lift.{lift-unit}
+use Rattle.ends.proofs.OltTraffic.{sendAhead, sending-valid}
+use Rattle.ends.proofs.OnuTraffic.{onu-send-accepted, sending-onu-valid}
+use Rattle.olt.specs.Lookup.{locatedOf}
+use Rattle.olt.specs.declared.Located.the-variants.{Absent}
+use Rattle.olt.proofs.Lookup.{lift-absent}
+use Rattle.traffic.specs.Passages.{Exchange, exchange, misfit, isEnciphered, nonceOf, passed, passedCount, outputAfter}
+use Rattle.traffic.specs.Sends.{oltSent, oltNotSent, oltSendOf, onuSentBy, onuNotSent, onuSendOf}
+use Rattle.traffic.specs.declared.OltSent.{OltSent}
+use Rattle.traffic.specs.declared.OnuSent.{OnuSent}
+use Rattle.traffic.proofs.Lookup.{Located}
+use Rattle.traffic.proofs.Passages.{few-eqs, identity-mac, judged, down-fits, up-fits}
+
+---- the OLT
+
+olt-not-sent : (o : Olt) (r : Refusal) (index : ℕ) (p out : List ℕ)
+    → exchange (oltNotSent o r) out ≡ oltSent (record { verdict = Refused r; end = o; handed = noSending }) index p out
+unfolding oltNotSent oltSent passedCount isEnciphered countCarried pick outputAfter
+olt-not-sent o r index p out = refl
+
+olt-sent : (o : Olt) (s : Sending) (index : ℕ) (p out : List ℕ) (n : ℕ) (octets : List ℕ)
+    → exchange n octets ≡ exchange (passedCount (s .passage) p) (passed index (s .passage) p)
+    → exchange {R = OltSent} (record { number = 0; olt = o; header = s .header; count = n }) octets
+    ≡ oltSent (record { verdict = Accepted; end = o; handed = s }) index p out
+unfolding oltSent outputAfter
+olt-sent o s index p out n octets e =
+    ap (λ (x : Exchange ℕ). exchange {R = OltSent} (record { number = 0; olt = o; header = s .header; count = x .answer }) (x .output)) e
+
+module _ (o : Olt) (llid index i : ℕ) (p out : List ℕ) where
+  pub unit-send-refused : (r : Refusal) → unitSendVerdict (o .shared) (unitAt o i) index ≡ Refused r
+      → exchange (oltNotSent o r) out ≡ oltSent (putBack o noSending i (sendUnit llid index (eqsOf p) (o .shared) (unitAt o i))) index p out
+  unfolding putBack sendUnit
+  unit-send-refused r e =
+      olt-not-sent o r index p out ∙ sym (ap (λ (x : Reply Olt Sending). oltSent x index p out) (reply-refused _ o noSending _ _ r e))
+
+  pub unit-send-accepted : (next : Olt) (h : Header) (q : Passage) (n : ℕ) (octets : List ℕ)
+      → unitSendVerdict (o .shared) (unitAt o i) index ≡ Accepted
+      → next
+      ≡ withUnit o i (occupied (o .shared .channels) index (o .shared .tick) (eqsOf p))
+      (withKeys (unitAt o i) (keysSent (unitSendChoice (unitAt o i)) (unitAt o i .keys) (o .shared .tick)))
+      → h ≡ headerOf (choiceNumber (unitSendChoice (unitAt o i))) index llid (o .shared .clock)
+      → q ≡ passageOf (unitSendChoice (unitAt o i)) (unitAt o i .keys .slots) (o .shared .mac) (o .shared .clock)
+      → exchange n octets ≡ exchange (passedCount q p) (passed index q p)
+      → exchange {R = OltSent} (record { number = 0; olt = next; header = h; count = n }) octets
+      ≡ oltSent (putBack o noSending i (sendUnit llid index (eqsOf p) (o .shared) (unitAt o i))) index p out
+  unfolding putBack sendUnit sendingOf
+  unit-send-accepted next h q n octets v e f g k =
+      rw (e, f)
+      (olt-sent _ (sendingOf (unitSendChoice (unitAt o i)) (unitAt o i .keys .slots) (o .shared .mac) (o .shared .clock) index llid) index p out n octets
+      (k ∙ ap (λ (x : Passage). exchange (passedCount x p) (passed index x p)) g)
+      ∙ sym (ap (λ (x : Reply Olt Sending). oltSent x index p out) (reply-accepted _ o noSending _ _ v)))
+
+  -- what the OLT sends fits
+  pub unit-send-fits : (q : Passage) → validOlt o ≡ true → misfit p out ≡ false → downstream index ≡ true
+      → q ≡ passageOf (unitSendChoice (unitAt o i)) (unitAt o i .keys .slots) (o .shared .mac) (o .shared .clock)
+      → judgeSeal (length p) (length out) (nonceOf index q) ≡ Accepted
+  unfolding passageOf
+  unit-send-fits q v f d g =
+      let s = shared-in-range (o .shared) (olt-in-range o v .shared) in
+      judged p out (nonceOf index q) f
+      (down-fits (nonceOf index q) d (rw g (s .mac)) (rw g (s .clock)))
+
+module _ (o : Olt) (llid index : ℕ) (p out : List ℕ) where
+  pub olt-send-absent : (r : Refusal) → locatedOf o (sendAhead (misfit p out) index) llid ≡ Absent r
+      → exchange (oltNotSent o r) out ≡ oltSendOf o llid index p out
+  unfolding oltSendOf sendingOlt reply
+  olt-send-absent r e =
+      olt-not-sent o r index p out
+      ∙ sym (ap (λ (x : Reply Olt Sending). oltSent x index p out) (lift-absent o noSending (sendAhead (misfit p out) index) llid (sendUnit llid index (eqsOf p)) r e))
+
+  pub olt-send-at : (i : ℕ) → Located o (sendAhead (misfit p out) index) llid i
+      → oltSent (putBack o noSending i (sendUnit llid index (eqsOf p) (o .shared) (unitAt o i))) index p out ≡ oltSendOf o llid index p out
+  unfolding oltSendOf sendingOlt
+  olt-send-at i l =
+      sym (ap (λ (x : Reply Olt Sending). oltSent x index p out)
+      (lift-unit o noSending (sendAhead (misfit p out) index) llid (sendUnit llid index (eqsOf p)) i (l .valid) (l .passed) (l .found)))
+
+  -- what a send to the unit found has passed
+  pub send-passed : (i : ℕ) → Located o (sendAhead (misfit p out) index) llid i → (misfit p out ≡ false) × (downstream index ≡ true)
+  send-passed i l =
+      let a = refuse-accepted _ _ _ (l .passed) in
+      (a .0, not-false _ (refuse-accepted _ _ _ (a .1) .0))
+
+  -- a valid OLT stays valid
+  pub olt-send-valid : validOlt o ≡ true → validOlt (oltSendOf o llid index p out .answer .olt) ≡ true
+  unfolding oltSendOf oltSent
+  olt-send-valid v = sending-valid o (misfit p out) llid index (eqsOf p) (few-eqs p out) v
+
+---- the ONU
+
+onu-not-sent : (o : Onu) (r : Refusal) (index : ℕ) (p out : List ℕ)
+    → exchange (onuNotSent o r) out ≡ onuSentBy (record { verdict = Refused r; end = o; handed = noSending }) index p out
+unfolding onuNotSent onuSentBy passedCount isEnciphered countCarried pick outputAfter
+onu-not-sent o r index p out = refl
+
+onu-sent : (o : Onu) (s : Sending) (index : ℕ) (p out : List ℕ) (n : ℕ) (octets : List ℕ)
+    → exchange n octets ≡ exchange (passedCount (s .passage) p) (passed index (s .passage) p)
+    → exchange {R = OnuSent} (record { number = 0; onu = o; header = s .header; count = n }) octets
+    ≡ onuSentBy (record { verdict = Accepted; end = o; handed = s }) index p out
+unfolding onuSentBy outputAfter
+onu-sent o s index p out n octets e =
+    ap (λ (x : Exchange ℕ). exchange {R = OnuSent} (record { number = 0; onu = o; header = s .header; count = x .answer }) (x .output)) e
+
+module _ (o : Onu) (llid index : ℕ) (p out : List ℕ) where
+  -- the verdict, that on the lent end ahead
+  abbrev pub onuSendJudged : Verdict
+  onuSendJudged = refuseIf (not (validOnu o)) OutOfRange (onuSendVerdict o (misfit p out) llid index)
+
+  pub onu-send-refused : (r : Refusal) → onuSendJudged ≡ Refused r → exchange (onuNotSent o r) out ≡ onuSendOf o llid index p out
+  unfolding onuSendOf sendingOnu onuReply
+  onu-send-refused r e =
+      onu-not-sent o r index p out ∙ sym (ap (λ (x : Reply Onu Sending). onuSentBy x index p out) (reply-refused _ o noSending _ _ r e))
+
+  pub onu-send-done : (next : Onu) (h : Header) (q : Passage) (n : ℕ) (octets : List ℕ) → onuSendJudged ≡ Accepted
+      → next ≡ onuSent o index (eqsOf p)
+      → h ≡ headerOf (choiceNumber (onuSendChoice (o .keys))) index llid (o .clock .time)
+      → q ≡ passageOf (onuSendChoice (o .keys)) (o .keys .slots) (o .identity .mac) (o .clock .time)
+      → exchange n octets ≡ exchange (passedCount q p) (passed index q p)
+      → exchange {R = OnuSent} (record { number = 0; onu = next; header = h; count = n }) octets ≡ onuSendOf o llid index p out
+  unfolding onuSendOf sendingOnu onuReply sendingOf
+  onu-send-done next h q n octets v e f g k =
+      rw (e, f)
+      (onu-sent (onuSent o index (eqsOf p)) (sendingOf (onuSendChoice (o .keys)) (o .keys .slots) (o .identity .mac) (o .clock .time) index llid) index p out n octets
+      (k ∙ ap (λ (x : Passage). exchange (passedCount x p) (passed index x p)) g)
+      ∙ sym (ap (λ (x : Reply Onu Sending). onuSentBy x index p out) (reply-accepted _ o noSending _ _ v)))
+
+  pub onu-send-within : onuSendJudged ≡ Accepted → (o .tick ≤ maxTick) × (eqsOf p ≤ maxEqs)
+  onu-send-within v =
+      let a = refuse-accepted _ _ _ v in
+      (onu-in-range o (not-false _ (a .0)) .tick, few-eqs p out (onu-send-accepted o (misfit p out) llid index (a .1) .fits))
+
+  -- what a unit sends fits
+  pub onu-send-fits : (q : Passage) → onuSendJudged ≡ Accepted
+      → q ≡ passageOf (onuSendChoice (o .keys)) (o .keys .slots) (o .identity .mac) (o .clock .time)
+      → judgeSeal (length p) (length out) (nonceOf index q) ≡ Accepted
+  unfolding passageOf
+  onu-send-fits q v g =
+      let a = refuse-accepted _ _ _ v in
+      let r = onu-in-range o (not-false _ (a .0)) in
+      let s = onu-send-accepted o (misfit p out) llid index (a .1) in
+      judged p out (nonceOf index q) (s .fits)
+      (up-fits (nonceOf index q) (s .upstream) (rw g (identity-mac (o .identity) (r .identity))) (rw g (onu-clock-in-range (o .clock) (r .clock) .tx)))
+
+  -- a valid ONU stays valid
+  pub onu-send-valid : validOnu o ≡ true → validOnu (onuSendOf o llid index p out .answer .onu) ≡ true
+  unfolding onuSendOf onuSentBy
+  onu-send-valid v = sending-onu-valid o (misfit p out) llid index (eqsOf p) (few-eqs p out) v

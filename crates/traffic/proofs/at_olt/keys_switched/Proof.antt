@@ -1,0 +1,14 @@
+-- `traffic::at_olt::keys_switched` meets its contract: the fields are those of the definition.
+-- Assumes nothing.
+use mathlib.Core.Path.{refl}
+use Rattle.ends.specs.Timers.{timerFallen}
+use Rattle.ends.specs.UnitTraffic.{keysSwitched}
+use Rattle.traffic.proofs.at_olt.keys_switched.Statement.{statement}
+use Rattle.traffic.proofs.at_olt.keys_switched.Tie as tie
+
+returns : tie.Need-returns
+unfolding keysSwitched timerFallen
+returns c = refl
+
+pub keys-switched-spec : {M : Type 1} → statement M
+keys-switched-spec = tie.close (tie.spec returns)

@@ -1,0 +1,66 @@
+-- `traffic::at_onu::receive_choice` meets its contract: by the same tests as the definition; only a held key comes into use, so that its number fits.
+-- Assumes nothing.
+use mathlib.Core.Path.{_≡_, sym}
+use Prim.Native.Nat.{_+_, _-_, _%_}
+use borrow.Author.Tests.{eqb-true, eq-eqb, ne-eqb}
+use Rattle.octets.specs.Choice.{both, pick}
+use Rattle.octets.proofs.Choice.{both-left}
+use Rattle.ends.specs.OnuTraffic.{onuReceiveChoice}
+use Rattle.ends.proofs.Validity.{onu-keys-in-range}
+use borrow.Author.Needs.{needs}
+use native.Mathlib.Omega.{arith}
+use Rattle.traffic.proofs.at_onu.receive_choice.Statement.{statement}
+use Rattle.traffic.proofs.at_onu.receive_choice.Tie as tie
+
+returns : tie.Need-returns
+unfolding onuReceiveChoice pick
+returns c = rw (eq-eqb _ _ (c .before .if1 .taken), eq-eqb _ _ (c .if2 .taken))
+
+returns-2 : tie.Need-returns-2
+unfolding onuReceiveChoice pick
+returns-2 c = rw (eq-eqb _ _ (c .before .if1 .taken), ne-eqb _ _ (c .if2 .left))
+
+sub-other : tie.Need-sub-other
+sub-other c = search needs
+
+cast-if3 : tie.Need-cast-if3
+cast-if3 c = search needs
+
+returns-3 : tie.Need-returns-3
+unfolding onuReceiveChoice both pick
+returns-3 c = rw (ne-eqb _ _ (c .before .before .if1 .left), c .if3 .taken)
+
+cast-if4 : tie.Need-cast-if4
+cast-if4 c = search needs
+
+add-t12 : tie.Need-add-t12
+unfolding both
+add-t12 c = omega (arith, onu-keys-in-range (c .before .before .before .before .before .before .before .args .keys) (c .before .before .before .before .before .before .before .pre) .below (eqb-true _ _ (both-left _ _ (c .if4 .taken))))
+
+returns-4 : tie.Need-returns-4
+unfolding onuReceiveChoice both pick
+returns-4 c =
+    let n = c .before .before .before .before .before .before .before .args .keys .active in
+    let e : 1 - n % 2 ≡ (n + 1) % 2 = omega arith in
+    rw (ne-eqb _ _ (c .before .before .before .before .before .if1 .left), c .before .before .before .if3 .left, sym e, c .if4 .taken)
+
+returns-5 : tie.Need-returns-5
+unfolding onuReceiveChoice both pick
+returns-5 c =
+    let n = c .before .before .before .before .before .before .before .args .keys .active in
+    let e : 1 - n % 2 ≡ (n + 1) % 2 = omega arith in
+    rw (ne-eqb _ _ (c .before .before .before .before .before .if1 .left), c .before .before .before .if3 .left, sym e, c .if4 .left)
+
+pub receive-choice-spec : {M : Type 1} → statement M
+receive-choice-spec =
+    tie.close
+    (tie.spec
+    returns
+    returns-2
+    sub-other
+    cast-if3
+    returns-3
+    cast-if4
+    add-t12
+    returns-4
+    returns-5)

@@ -1,0 +1,311 @@
+// Send and receive of the OLT on the unit that they name (01, Keys; 'When the reader says no').
+ghost use mathlib.Core.Path.{_≡_};
+ghost use mathlib.Core.Bool.{not, true, false};
+ghost use Prim.Native.Nat.{_≤_, _<_};
+ghost use Rattle.refusal.specs.declared.Refusal.the-variants.{BadLength, OutOfRange};
+ghost use Rattle.refusal.specs.declared.Verdict.the-variants.{Accepted};
+ghost use Rattle.clock.specs.Ticks.{maxTick};
+ghost use Rattle.sealing.specs.Payload.{eqsOf};
+ghost use Rattle.sealing.specs.Seal.{lengthsFit};
+ghost use Rattle.octets.specs.Choice.{both};
+ghost use Rattle.ends.specs.Headers.{noPassage, noSending, validHeader};
+ghost use Rattle.ends.specs.Lift.{putBack};
+ghost use Rattle.ends.specs.Limits.{maxEqs};
+ghost use Rattle.ends.specs.Occupancy.{downstream, occupied, upstream};
+ghost use Rattle.ends.specs.Records.{withKeys};
+ghost use Rattle.ends.specs.Replies.{refuseIf};
+ghost use Rattle.ends.specs.Table.{find, unitAt, withUnit};
+ghost use Rattle.ends.specs.UnitTraffic.{keysSent, keysSwitched, receiveUnit, sendUnit, switches, unitConfirmed, unitReceiveChoice, unitReceiveVerdict, unitReceived, unitSendChoice, unitSendVerdict};
+ghost use Rattle.ends.specs.Validity.{validOlt};
+ghost use Rattle.ends.specs.declared.Found.the-variants.{At};
+ghost use Rattle.traffic.specs.Passages.{exchange, misfit};
+ghost use Rattle.traffic.specs.Receipts.{oltNotReceived, oltReceived};
+ghost use Rattle.traffic.specs.Sends.{oltNotSent, oltSent};
+use crate::OltReceived;
+use crate::OltSent;
+use crate::passing;
+use clock::epam_of;
+use ends::Channels;
+use ends::Header;
+use ends::KeyChoice;
+use ends::Olt;
+use ends::Shared;
+use ends::Unit;
+use ends::UnitKeys;
+use ends::keyslots::only_key;
+use refusal::Refusal;
+use refusal::Verdict;
+
+fn first_of(misfit: bool, wrong: bool) -> Verdict
+    ensures { λ r. ⌜ r ≡ refuseIf misfit BadLength (refuseIf wrong OutOfRange Accepted) ⌝ }
+{
+    if misfit {
+        return Verdict::Refused(Refusal::BadLength);
+    }
+    if wrong {
+        return Verdict::Refused(Refusal::OutOfRange);
+    }
+    Verdict::Accepted
+}
+
+// What a send refuses ahead of 2.
+pub(crate) fn send_ahead(n: usize, m: usize, index: u8) -> Verdict
+    ensures { λ r. ⌜ r ≡ refuseIf (not (lengthsFit n m)) BadLength (refuseIf (not (downstream index)) OutOfRange Accepted) ⌝ }
+{
+    let misfit = passing::misfit(n, m);
+    first_of(misfit, !(index <= 1))
+}
+
+// What a receipt refuses ahead of 2.
+pub(crate) fn receive_ahead(n: usize, m: usize, header: Header) -> Verdict
+    ensures { λ r. ⌜ r ≡ refuseIf (not (lengthsFit n m)) BadLength (refuseIf (not (both (upstream (header .index)) (validHeader header))) OutOfRange Accepted) ⌝ }
+{
+    let misfit = passing::misfit(n, m);
+    let index = header.index;
+    let valid = passing::valid_header(header);
+    first_of(misfit, !(((128 <= index) & (index <= 129)) & valid))
+}
+
+pub(crate) fn not_sent(olt: Olt, refusal: Refusal) -> OltSent
+    ensures { λ r. ⌜ r ≡ oltNotSent olt refusal ⌝ }
+{
+    OltSent {
+        number: refusal::number(refusal),
+        olt,
+        header: Header {
+            index: 0,
+            llid: 0,
+            encenabled: 0,
+            enckey: 0,
+            epam: 0,
+        },
+        count: 0,
+    }
+}
+
+pub(crate) fn not_received(olt: Olt, refusal: Refusal) -> OltReceived
+    ensures { λ r. ⌜ r ≡ oltNotReceived olt refusal ⌝ }
+{
+    OltReceived {
+        number: refusal::number(refusal),
+        olt,
+        count: 0,
+    }
+}
+
+// The end with the unit in its place, and the channels.
+fn with_unit(olt: Olt, i: usize, channels: Channels, unit: Unit) -> Olt
+    requires { ⌜ i < 16 ⌝ }
+    ensures { λ r. ⌜ r ≡ withUnit olt i channels unit ⌝ }
+{
+    let mut shared = olt.shared;
+    shared.channels = channels;
+    let mut r = olt;
+    r.shared = shared;
+    r.units[i] = unit;
+    r
+}
+
+// Whether the next accepted send switches.
+fn switches(unit: Unit) -> bool
+    ensures { λ r. ⌜ r ≡ switches unit ⌝ }
+{
+    let next = unit.keys.active as u64 + 1;
+    (unit.keys.timer.flag == 1)
+        & ((unit.keys.offered as u64 == next) & (unit.confirmation.acknowledged == 1))
+}
+
+fn send_choice(unit: Unit) -> KeyChoice
+    ensures { λ r. ⌜ r ≡ unitSendChoice unit ⌝ }
+{
+    if switches(unit) {
+        return KeyChoice::Next(unit.keys.offered);
+    }
+    if unit.keys.active == 0 {
+        return KeyChoice::Clear;
+    }
+    KeyChoice::Current(unit.keys.active)
+}
+
+fn send_verdict(shared: Shared, unit: Unit, index: u8) -> Verdict
+    ensures { λ r. ⌜ r ≡ unitSendVerdict shared unit index ⌝ }
+{
+    if passing::taken(shared.channels, index, shared.tick) {
+        return Verdict::Refused(Refusal::ChannelTaken);
+    }
+    let choice = send_choice(unit);
+    if passing::choice_aged(choice, unit.keys.first, shared.tick) {
+        return Verdict::Refused(Refusal::KeyTooOld);
+    }
+    Verdict::Accepted
+}
+
+fn keys_switched(keys: UnitKeys, tick: u64) -> UnitKeys
+    ensures { λ r. ⌜ r ≡ keysSwitched keys tick ⌝ }
+{
+    let mut r = keys;
+    r.timer.flag = 0;
+    r.active = keys.offered;
+    r.first.noted = 1;
+    r.first.tick = tick;
+    r
+}
+
+fn keys_sent(choice: KeyChoice, keys: UnitKeys, tick: u64) -> UnitKeys
+    ensures { λ r. ⌜ r ≡ keysSent choice keys tick ⌝ }
+{
+    match choice {
+        KeyChoice::Clear => keys,
+        KeyChoice::Current(_) => {
+            let first = passing::first_send(keys.first, tick);
+            let mut r = keys;
+            r.first = first;
+            r
+        }
+        KeyChoice::Next(_) => keys_switched(keys, tick),
+        KeyChoice::Barred(_) => keys,
+    }
+}
+
+fn unit_sent(unit: Unit, tick: u64) -> Unit
+    ensures { λ r. ⌜ r ≡ withKeys unit (keysSent (unitSendChoice unit) (unit .keys) tick) ⌝ }
+{
+    let keys = keys_sent(send_choice(unit), unit.keys, tick);
+    let mut r = unit;
+    r.keys = keys;
+    r
+}
+
+// The end that a send leaves, where it is accepted.
+fn after_send(olt: Olt, i: usize, unit: Unit, index: u8, eqs: u64) -> Olt
+    requires { ⌜ i < 16 ⌝ }
+    requires { ⌜ olt .shared .tick ≤ maxTick ⌝ }
+    requires { ⌜ eqs ≤ maxEqs ⌝ }
+    ensures { λ r. ⌜ r ≡ withUnit olt i (occupied (olt .shared .channels) index (olt .shared .tick) eqs) (withKeys unit (keysSent (unitSendChoice unit) (unit .keys) (olt .shared .tick))) ⌝ }
+{
+    let channels = passing::occupied(olt.shared.channels, index, olt.shared.tick, eqs);
+    let next = unit_sent(unit, olt.shared.tick);
+    with_unit(olt, i, channels, next)
+}
+
+pub(crate) fn send_at(
+    olt: Olt,
+    i: usize,
+    llid: u16,
+    index: u8,
+    payload: &[u8],
+    output: &mut [u8],
+) -> OltSent
+    requires { ⌜ validOlt olt ≡ true ⌝ }
+    requires { ⌜ find olt llid ≡ At i ⌝ }
+    requires { ⌜ misfit (now payload) (now output) ≡ false ⌝ }
+    requires { ⌜ downstream index ≡ true ⌝ }
+    ensures { λ r. ⌜ exchange r (now (output .exit)) ≡ oltSent (putBack olt noSending i (sendUnit llid index (eqsOf (now (payload .entry))) (olt .shared) (unitAt olt i))) index (now (payload .entry)) (now (output .entry)) ⌝ }
+{
+    let unit = olt.units[i];
+    let shared = olt.shared;
+    let next = after_send(olt, i, unit, index, (payload.len() / 9) as u64);
+    let verdict = send_verdict(shared, unit, index);
+    match verdict {
+        Verdict::Refused(refusal) => not_sent(olt, refusal),
+        Verdict::Accepted => {
+            let choice = send_choice(unit);
+            let header = passing::header_of(choice, index, llid, shared.clock);
+            let passage = passing::passage_of(choice, unit.keys.slots, shared.mac, shared.clock);
+            let count = passing::carry(passage, index, payload, output);
+            OltSent {
+                number: 0,
+                olt: next,
+                header,
+                count,
+            }
+        }
+    }
+}
+
+fn receive_choice(unit: Unit, header: Header) -> KeyChoice
+    ensures { λ r. ⌜ r ≡ unitReceiveChoice unit header ⌝ }
+{
+    let confirmed = unit.confirmation.confirmed;
+    let active = unit.keys.active;
+    if header.encenabled == 0 {
+        if confirmed == 0 {
+            return KeyChoice::Clear;
+        }
+        return KeyChoice::Barred(Refusal::ClearEnvelope);
+    }
+    let next = confirmed as u64 + 1;
+    if (1 <= confirmed) & (header.enckey as u32 == confirmed % 2) {
+        return KeyChoice::Current(confirmed);
+    }
+    if (active as u64 == next) & (header.enckey as u32 == active % 2) {
+        return KeyChoice::Next(active);
+    }
+    KeyChoice::Barred(Refusal::NoKey)
+}
+
+fn receive_verdict(shared: Shared, unit: Unit, header: Header) -> Verdict
+    ensures { λ r. ⌜ r ≡ unitReceiveVerdict shared unit header ⌝ }
+{
+    let epam = epam_of(shared.clock);
+    if header.epam != epam {
+        return Verdict::Refused(Refusal::EpamDiffers);
+    }
+    passing::choice_verdict(receive_choice(unit, header))
+}
+
+// C becomes A, and the key before A is wiped.
+fn confirmed(unit: Unit) -> Unit
+    ensures { λ r. ⌜ r ≡ unitConfirmed unit ⌝ }
+{
+    let mut keys = unit.keys;
+    keys.slots = only_key(unit.keys.slots, unit.keys.active);
+    let mut r = unit;
+    r.keys = keys;
+    r.confirmation.confirmed = unit.keys.active;
+    r
+}
+
+fn unit_received(choice: KeyChoice, unit: Unit) -> Unit
+    ensures { λ r. ⌜ r ≡ unitReceived choice unit ⌝ }
+{
+    match choice {
+        KeyChoice::Clear => unit,
+        KeyChoice::Current(_) => unit,
+        KeyChoice::Next(_) => confirmed(unit),
+        KeyChoice::Barred(_) => unit,
+    }
+}
+
+pub(crate) fn receive_at(
+    olt: Olt,
+    i: usize,
+    header: Header,
+    octets: &[u8],
+    output: &mut [u8],
+) -> OltReceived
+    requires { ⌜ validOlt olt ≡ true ⌝ }
+    requires { ⌜ find olt (header .llid) ≡ At i ⌝ }
+    requires { ⌜ misfit (now octets) (now output) ≡ false ⌝ }
+    requires { ⌜ upstream (header .index) ≡ true ⌝ }
+    ensures { λ r. ⌜ exchange r (now (output .exit)) ≡ oltReceived (putBack olt noPassage i (receiveUnit header (olt .shared) (unitAt olt i))) (header .index) (now (octets .entry)) (now (output .entry)) ⌝ }
+{
+    let unit = olt.units[i];
+    let shared = olt.shared;
+    let choice = receive_choice(unit, header);
+    let next = with_unit(olt, i, shared.channels, unit_received(choice, unit));
+    let verdict = receive_verdict(shared, unit, header);
+    match verdict {
+        Verdict::Refused(refusal) => not_received(olt, refusal),
+        Verdict::Accepted => {
+            let mac = unit.identity.mac;
+            let passage = passing::passage_of(choice, unit.keys.slots, mac, shared.clock);
+            let count = passing::carry(passage, header.index, octets, output);
+            OltReceived {
+                number: 0,
+                olt: next,
+                count,
+            }
+        }
+    }
+}

@@ -1,0 +1,237 @@
+// Send and receive of the ONU (01, Keys; 'When the reader says no').
+ghost use mathlib.Core.Path.{_≡_};
+ghost use mathlib.Core.Bool.{not, true};
+ghost use Prim.Native.Nat.{ℕ, _≤_, _<_};
+ghost use Rattle.refusal.specs.declared.Refusal.the-variants.{BadLength, ChannelTaken, ClockNotSet, EpamDiffers, KeyTooOld, OutOfRange, UnknownLlid};
+ghost use Rattle.refusal.specs.declared.Verdict.the-variants.{Accepted};
+ghost use Rattle.clock.specs.Ticks.{maxTick};
+ghost use Rattle.ends.specs.Limits.{maxEqs, maxKeyNumber};
+ghost use Rattle.ends.specs.OnuTraffic.{onuMoved, onuNoted, onuReceiveChoice, onuReceiveVerdict, onuReceived, onuSendChoice, onuSendVerdict, onuSent};
+ghost use Rattle.ends.specs.Replies.{refuseIf};
+ghost use Rattle.ends.specs.Validity.{validOnu, validOnuKeys};
+ghost use Rattle.ends.specs.declared.KeyChoice.the-variants.{Next};
+ghost use Rattle.traffic.specs.Receipts.{onuNotReceived};
+ghost use Rattle.traffic.specs.Sends.{onuNotSent};
+use crate::OnuReceived;
+use crate::OnuSent;
+use crate::passing;
+use clock::epam_of;
+use ends::FirstSend;
+use ends::Header;
+use ends::KeyChoice;
+use ends::Onu;
+use ends::OnuKeys;
+use ends::check_onu::valid_onu;
+use ends::keyslots::only_key;
+use ends::llids::has;
+use refusal::Refusal;
+use refusal::Verdict;
+
+pub(crate) fn not_sent(onu: Onu, refusal: Refusal) -> OnuSent
+    ensures { λ r. ⌜ r ≡ onuNotSent onu refusal ⌝ }
+{
+    OnuSent {
+        number: refusal::number(refusal),
+        onu,
+        header: Header {
+            index: 0,
+            llid: 0,
+            encenabled: 0,
+            enckey: 0,
+            epam: 0,
+        },
+        count: 0,
+    }
+}
+
+pub(crate) fn not_received(onu: Onu, refusal: Refusal) -> OnuReceived
+    ensures { λ r. ⌜ r ≡ onuNotReceived onu refusal ⌝ }
+{
+    OnuReceived {
+        number: refusal::number(refusal),
+        onu,
+        count: 0,
+    }
+}
+
+pub(crate) fn send_choice(keys: OnuKeys) -> KeyChoice
+    ensures { λ r. ⌜ r ≡ onuSendChoice keys ⌝ }
+{
+    if keys.active == 0 {
+        return KeyChoice::Clear;
+    }
+    KeyChoice::Current(keys.active)
+}
+
+fn send_chain(misfit: bool, wrong: bool, unknown: bool, busy: bool, old: bool) -> Verdict
+    ensures { λ r. ⌜ r ≡ refuseIf misfit BadLength (refuseIf wrong OutOfRange (refuseIf unknown UnknownLlid (refuseIf busy ChannelTaken (refuseIf old KeyTooOld Accepted)))) ⌝ }
+{
+    if misfit {
+        return Verdict::Refused(Refusal::BadLength);
+    }
+    if wrong {
+        return Verdict::Refused(Refusal::OutOfRange);
+    }
+    if unknown {
+        return Verdict::Refused(Refusal::UnknownLlid);
+    }
+    if busy {
+        return Verdict::Refused(Refusal::ChannelTaken);
+    }
+    if old {
+        return Verdict::Refused(Refusal::KeyTooOld);
+    }
+    Verdict::Accepted
+}
+
+// 1 for a lent end that is not valid, then what the send refuses.
+pub(crate) fn send_verdict(onu: Onu, misfit: bool, llid: u16, index: u8) -> Verdict
+    ensures { λ r. ⌜ r ≡ refuseIf (not (validOnu onu)) OutOfRange (onuSendVerdict onu misfit llid index) ⌝ }
+{
+    if !valid_onu(onu) {
+        return Verdict::Refused(Refusal::OutOfRange);
+    }
+    let known = has(onu.identity, llid);
+    let busy = passing::taken(onu.channels, index, onu.tick);
+    let choice = send_choice(onu.keys);
+    let old = passing::choice_aged(choice, onu.first, onu.tick);
+    send_chain(
+        misfit,
+        !((128 <= index) & (index <= 129)),
+        !known,
+        busy,
+        old,
+    )
+}
+
+fn noted(choice: KeyChoice, onu: Onu) -> Onu
+    ensures { λ r. ⌜ r ≡ onuNoted choice onu ⌝ }
+{
+    match choice {
+        KeyChoice::Clear => onu,
+        KeyChoice::Current(_) => {
+            let first = passing::first_send(onu.first, onu.tick);
+            let mut r = onu;
+            r.first = first;
+            r
+        }
+        KeyChoice::Next(_) => onu,
+        KeyChoice::Barred(_) => onu,
+    }
+}
+
+// The end that a send leaves, where it is accepted.
+pub(crate) fn after_send(onu: Onu, index: u8, eqs: u64) -> Onu
+    requires { ⌜ onu .tick ≤ maxTick ⌝ }
+    requires { ⌜ eqs ≤ maxEqs ⌝ }
+    ensures { λ r. ⌜ r ≡ onuSent onu index eqs ⌝ }
+{
+    let channels = passing::occupied(onu.channels, index, onu.tick, eqs);
+    let mut r = noted(send_choice(onu.keys), onu);
+    r.channels = channels;
+    r
+}
+
+// The index of key a + 1 is the one that a does not have.
+pub(crate) fn receive_choice(keys: OnuKeys, header: Header) -> KeyChoice
+    requires { ⌜ validOnuKeys keys ≡ true ⌝ }
+    ensures { λ r. ⌜ r ≡ onuReceiveChoice keys header ⌝ }
+{
+    let active = keys.active;
+    if header.encenabled == 0 {
+        if active == 0 {
+            return KeyChoice::Clear;
+        }
+        return KeyChoice::Barred(Refusal::ClearEnvelope);
+    }
+    let other = 1 - active % 2;
+    if (1 <= active) & (header.enckey as u32 == active % 2) {
+        return KeyChoice::Current(active);
+    }
+    if (keys.held == 1) & (header.enckey as u32 == other) {
+        return KeyChoice::Next(active + 1);
+    }
+    KeyChoice::Barred(Refusal::NoKey)
+}
+
+fn receive_chain(
+    misfit: bool,
+    wrong: bool,
+    unknown: bool,
+    off: bool,
+    unset: bool,
+    rest: Verdict,
+) -> Verdict
+    ensures { λ r. ⌜ r ≡ refuseIf misfit BadLength (refuseIf wrong OutOfRange (refuseIf unknown UnknownLlid (refuseIf off EpamDiffers (refuseIf unset ClockNotSet rest)))) ⌝ }
+{
+    if misfit {
+        return Verdict::Refused(Refusal::BadLength);
+    }
+    if wrong {
+        return Verdict::Refused(Refusal::OutOfRange);
+    }
+    if unknown {
+        return Verdict::Refused(Refusal::UnknownLlid);
+    }
+    if off {
+        return Verdict::Refused(Refusal::EpamDiffers);
+    }
+    if unset {
+        return Verdict::Refused(Refusal::ClockNotSet);
+    }
+    rest
+}
+
+// 1 for a lent end that is not valid, then what the receipt refuses.
+pub(crate) fn receive_verdict(onu: Onu, misfit: bool, header: Header) -> Verdict
+    ensures { λ r. ⌜ r ≡ refuseIf (not (validOnu onu)) OutOfRange (onuReceiveVerdict onu misfit header) ⌝ }
+{
+    if !valid_onu(onu) {
+        return Verdict::Refused(Refusal::OutOfRange);
+    }
+    let valid = passing::valid_header(header);
+    let known = has(onu.identity, header.llid);
+    let epam = epam_of(onu.clock.rx);
+    let synced = onu.clock.synced == 1;
+    let rest = passing::choice_verdict(receive_choice(onu.keys, header));
+    receive_chain(
+        misfit,
+        !((header.index <= 1) & valid),
+        !known,
+        synced & !(header.epam == epam),
+        (header.encenabled == 1) & !synced,
+        rest,
+    )
+}
+
+// The key a + 1 comes into use: the old one is wiped, and the new one has had no send.
+fn moved(onu: Onu) -> Onu
+    requires { ⌜ onu .keys .active < maxKeyNumber ⌝ }
+    ensures { λ r. ⌜ r ≡ onuMoved onu ⌝ }
+{
+    let active = onu.keys.active + 1;
+    let slots = only_key(onu.keys.slots, active);
+    let keys = OnuKeys {
+        active,
+        held: 0,
+        slots,
+    };
+    let first = FirstSend { noted: 0, tick: 0 };
+    let mut r = onu;
+    r.keys = keys;
+    r.first = first;
+    r
+}
+
+// The end that a receipt leaves, where it is accepted.
+pub(crate) fn after_receive(choice: KeyChoice, onu: Onu) -> Onu
+    requires { ⌜ ((n : ℕ) → choice ≡ Next n → onu .keys .active < maxKeyNumber) ⌝ }
+    ensures { λ r. ⌜ r ≡ onuReceived choice onu ⌝ }
+{
+    match choice {
+        KeyChoice::Clear => onu,
+        KeyChoice::Current(_) => onu,
+        KeyChoice::Next(_) => moved(onu),
+        KeyChoice::Barred(_) => onu,
+    }
+}

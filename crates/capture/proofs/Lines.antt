@@ -1,0 +1,95 @@
+-- Laws of lines that grow by pieces of text. Assumes nothing.
+use mathlib.Core.Path.{_≡_, refl, sym, ap, _∙_}
+use mathlib.Core.Bool.{Bool, true, false}
+use mathlib.Core.List.{List, [], _∷_, _++_, append-assoc, append-nil}
+use Prim.Native.Nat.{ℕ, zero, suc, _+_, _≤_, _<_}
+use native.Mathlib.Nat.{add-zero, zero-add}
+use native.Mathlib.Numerals.{add-one}
+use native.Mathlib.Omega.{arith}
+use lib.Dec.{ltb}
+use lib.ListN.{length, getD, take, set, length-append}
+use lib.Seq.{take-suc, take-suc-set}
+use Rattle.octets.specs.Choice.{pick}
+use Rattle.refusal.specs.declared.Refusal.{Refusal}
+use Rattle.refusal.specs.Number.{numberOf}
+use Rattle.capture.specs.declared.header.Header.{Header}
+use Rattle.capture.specs.declared.header.RecordVerdict.{RecordVerdict}
+use Rattle.capture.specs.declared.header.RecordVerdict.the-variants.{Clear, Sealed}
+use Rattle.capture.specs.declared.listing.Line.{Line}
+use Rattle.capture.specs.Record.{headerOf}
+use Rattle.capture.specs.Directory.{recordOf}
+use Rattle.capture.specs.Opening.{verdictOf}
+use Rattle.capture.specs.Listing.{decimalOf, refusedText, resultText, rowHead, rowTail, rowOf, rowsFrom}
+use Rattle.capture.specs.Duties.{textOf, Grown}
+
+-- one piece after the other
+pub both-grown : {l m n : Line} {p q : List ℕ} → Grown l m p → Grown m n q → Grown l n (p ++ q)
+both-grown {l} {m} {n} {p} {q} a b =
+    record { text = b .text ∙ rw (a .text) (append-assoc (textOf l) p q); used = omega (arith, a .used, b .used, length-append p q) }
+
+-- the same piece, written otherwise
+pub grown-as : {l m : Line} {p q : List ℕ} → Grown l m p → p ≡ q → Grown l m q
+grown-as a e = rw e at a
+
+few-digits : (t u v : Bool) (a b c d : List ℕ) → length a ≤ 4 → length b ≤ 4 → length c ≤ 4 → length d ≤ 4
+    → length (pick t a (pick u b (pick v c d))) ≤ 4
+unfolding pick
+few-digits true u v a b c d p q r s = p
+few-digits false true v a b c d p q r s = q
+few-digits false false true a b c d p q r s = r
+few-digits false false false a b c d p q r s = s
+
+-- how long the pieces of a row can be
+pub decimal-few : (n : ℕ) → length (decimalOf n) ≤ 4
+unfolding decimalOf
+decimal-few n = few-digits (ltb n 10) (ltb n 100) (ltb n 1000) _ _ _ _ (omega arith) (omega arith) (omega arith) (omega arith)
+
+pub refused-few : (r : Refusal) → length (refusedText r) ≤ 12
+unfolding refusedText
+refused-few r = omega (arith, decimal-few (numberOf r))
+
+pub result-few : (v : RecordVerdict) → length (resultText v) ≤ 12
+unfolding resultText
+result-few Clear = omega arith
+result-few (Sealed i t) = omega arith
+result-few (RecordVerdict.Refused r) = refused-few r
+
+pub head-few : (k : ℕ) (h : Header) → length (rowHead k h) ≤ 13
+unfolding rowHead
+head-few k h = simp length-append (omega (arith, decimal-few k))
+
+pub tail-few : (h : Header) (v : RecordVerdict) → length (rowTail h v) ≤ 20
+unfolding rowTail
+tail-few h v = simp length-append (omega (arith, decimal-few (h .eqs), result-few v))
+
+-- the pieces of a row's end, as they are written and as the row has them
+pub tail-pieces : (x y : ℕ) (d r : List ℕ) → x ≡ y
+    → ((((x ∷ 32 ∷ []) ++ d) ++ (32 ∷ [])) ++ r) ++ (10 ∷ []) ≡ y ∷ 32 ∷ (d ++ (32 ∷ (r ++ (10 ∷ []))))
+tail-pieces x y d r e =
+    rw e (ap (λ (t : List ℕ). y ∷ 32 ∷ t) (append-assoc (d ++ (32 ∷ [])) r (10 ∷ []) ∙ append-assoc d (32 ∷ []) (r ++ (10 ∷ []))))
+
+-- one turn of a loop that writes a piece behind the first `at` elements
+pub append-more : (s t piece : List ℕ) (at j : ℕ) → at + j < length t → j < length piece → take (at + j) t ≡ take at s ++ take j piece
+    → take (at + (j + 1)) (set t (at + j) (getD piece j 0)) ≡ take at s ++ take (j + 1) piece
+append-more s t piece at j h l e =
+    let n : at + (j + 1) ≡ suc (at + j) = omega arith in
+    rw (n, take-suc-set t (at + j) (getD piece j 0) h, add-one, take-suc piece j 0 l, e) (append-assoc (take at s) (take j piece) (getD piece j 0 ∷ []))
+
+-- the row of record i
+abbrev rowAt : List ℕ → List ℕ → ℕ → List ℕ
+rowAt s b i = rowOf (i + 1) (headerOf (recordOf b i)) (verdictOf s (recordOf b i))
+
+rows-more : (s b : List ℕ) (j i : ℕ) → rowsFrom s b j (suc i) ≡ rowsFrom s b j i ++ rowAt s b (j + i)
+unfolding rowsFrom
+rows-more s b j zero = rw (append-nil, add-zero)
+rows-more s b j (suc i) =
+    let e : suc j + i ≡ j + suc i = omega arith in
+    rw append-assoc (ap (λ (t : List ℕ). rowAt s b j ++ t) (rows-more s b (suc j) i ∙ ap (λ (k : ℕ). rowsFrom s b (suc j) i ++ rowAt s b k) e))
+
+-- one turn of the loop over the rows
+pub one-row : (s b front : List ℕ) (i : ℕ) → (front ++ rowsFrom s b 0 i) ++ rowAt s b i ≡ front ++ rowsFrom s b 0 (i + 1)
+one-row s b front i =
+    let more : rowsFrom s b 0 (suc i) ≡ rowsFrom s b 0 i ++ rowAt s b i =
+    rows-more s b 0 i ∙ ap (λ (k : ℕ). rowsFrom s b 0 i ++ rowAt s b k) (zero-add i) in
+    append-assoc front (rowsFrom s b 0 i) (rowAt s b i)
+    ∙ ap (λ (t : List ℕ). front ++ t) (sym more ∙ ap (λ (k : ℕ). rowsFrom s b 0 k) (sym (add-one i)))

@@ -1,0 +1,117 @@
+-- Laws of the pairs of a directory: what the tests on a pair say of its verdict. Assumes nothing.
+use mathlib.Core.Path.{_≡_, refl, sym, _∙_}
+use mathlib.Core.Bool.{Bool, true, false, not}
+use mathlib.Core.List.{List}
+use Prim.Native.Nat.{ℕ, zero, suc, _+_, _-_, _*_, _≤_, _<_}
+use native.Mathlib.Numerals.{add-one}
+use native.Mathlib.Omega.{arith}
+use lib.Dec.{leb, ltb, eqb}
+use lib.ListN.{length}
+use borrow.Author.Tests.{leb-true, eqb-true, eq-eqb, ne-eqb}
+use Rattle.octets.specs.Choice.{both, either, pick}
+use Rattle.octets.proofs.Choice.{both-left, both-right}
+use Rattle.capture.specs.declared.directory.Pair.{Pair}
+use Rattle.capture.specs.declared.directory.Pair.the-variants.{Fits, OffChain, OffLength}
+use Rattle.capture.specs.declared.directory.Directory.{Directory}
+use Rattle.capture.specs.declared.directory.Directory.the-variants.{Good, BadSize, BadChain, BadLength}
+use Rattle.capture.specs.Record.{sized}
+use Rattle.capture.specs.Directory.{mostOctets, mostRecords, countOf, offsetOf, lengthOf, endOf, dueOf, recordOf, endFits, chained, pairOf, sizeFits, withPair, pairsFrom}
+
+pub end-within : (last : Bool) (end size : ℕ) → endFits last end size ≡ true → end ≤ size
+unfolding endFits
+end-within true end size e = let q = eqb-true end size e in omega arith
+end-within false end size e = leb-true end size e
+
+-- the end of pair i suits the block
+abbrev pub ends : List ℕ → ℕ → Bool
+ends b i = endFits (eqb (i + 1) (countOf b)) (endOf b i) (length b)
+
+pub pair-off-due : (b : List ℕ) (i : ℕ) → (offsetOf b i ≡ dueOf b i → ⊥) → OffChain ≡ pairOf b i
+unfolding pairOf chained both pick
+pair-off-due b i h = rw (ne-eqb (offsetOf b i) (dueOf b i) h)
+
+pub pair-off-end : (b : List ℕ) (i : ℕ) → offsetOf b i ≡ dueOf b i → ends b i ≡ false → OffChain ≡ pairOf b i
+unfolding pairOf chained both pick
+pair-off-end b i h e = rw (eq-eqb (offsetOf b i) (dueOf b i) h, e)
+
+pub pair-chained : (b : List ℕ) (i : ℕ) → offsetOf b i ≡ dueOf b i → ends b i ≡ true → pick (sized (recordOf b i)) Fits OffLength ≡ pairOf b i
+unfolding pairOf chained both pick
+pair-chained b i h e = rw (eq-eqb (offsetOf b i) (dueOf b i) h, e)
+
+-- what a pair that fits says of its record
+pub record Within (b : List ℕ) (i : ℕ) : Type 0 where
+  pub place : offsetOf b i ≡ dueOf b i
+  pub inside : endOf b i ≤ length b
+  pub last : i + 1 ≡ countOf b → endOf b i ≡ length b
+  pub sizes : sized (recordOf b i) ≡ true
+
+fits-both : (t u : Bool) → pick t (pick u Fits OffLength) OffChain ≡ Fits → (t ≡ true) × (u ≡ true)
+unfolding pick
+fits-both true true e = (refl, refl)
+fits-both true false e = (refl, cc)
+fits-both false u e = (cc, cc)
+
+end-at : (last : Bool) (end size : ℕ) → endFits last end size ≡ true → last ≡ true → end ≡ size
+unfolding endFits
+end-at true end size e l = eqb-true end size e
+end-at false end size e l = let z : false ≡ true = l in cc
+
+pub pair-fits : (b : List ℕ) (i : ℕ) → pairOf b i ≡ Fits → Within b i
+unfolding pairOf chained
+pair-fits b i e =
+    let f = fits-both (chained b i) (sized (recordOf b i)) e in
+    let t : ends b i ≡ true = both-right _ _ (f .0) in
+    record {
+      place = eqb-true _ _ (both-left _ _ (f .0));
+      inside = end-within _ _ _ t;
+      last = λ l. end-at _ _ _ t (eq-eqb (i + 1) (countOf b) l);
+      sizes = f .1;
+    }
+
+-- what a block of the right size holds
+pub record Sizes (b : List ℕ) : Type 0 where
+  pub some : 2 ≤ length b
+  pub most : length b ≤ mostOctets
+  pub few : countOf b ≤ mostRecords
+  pub pairs : 2 + 8 * countOf b ≤ length b
+  pub alone : countOf b ≡ 0 → length b ≡ 2
+
+no-count : (n m : ℕ) → either (not (eqb n 0)) (eqb m 2) ≡ true → n ≡ 0 → m ≡ 2
+unfolding either
+no-count n m e z = eqb-true m 2 (rw (eq-eqb n 0 z) at e)
+
+pub size-fits : (b : List ℕ) → sizeFits b ≡ true → Sizes b
+unfolding sizeFits
+size-fits b e =
+    let l = both-left _ _ e in
+    let r = both-right _ _ e in
+    let q = both-right _ _ r in
+    record {
+      some = leb-true _ _ (both-left _ _ l);
+      most = leb-true _ _ (both-right _ _ l);
+      few = leb-true _ _ (both-left _ _ r);
+      pairs = leb-true _ _ (both-left _ _ q);
+      alone = no-count (countOf b) (length b) (both-right _ _ q);
+    }
+
+-- one turn of the loop over the pairs
+pub pairs-at : (b : List ℕ) (n i : ℕ) → i < n → pairsFrom b i (n - i) ≡ withPair (pairOf b i) (i + 1) (pairsFrom b (i + 1) (n - (i + 1)))
+unfolding pairsFrom
+pairs-at b n i h = let e : n - i ≡ suc (n - suc i) = omega arith in rw (e, add-one)
+
+pub pairs-end : (b : List ℕ) (n i : ℕ) → n ≤ i → pairsFrom b i (n - i) ≡ Good i
+unfolding pairsFrom
+pairs-end b n i h = let e : n - i ≡ 0 = omega arith in rw e
+
+pub due-next : (b : List ℕ) (i : ℕ) → dueOf b (i + 1) ≡ endOf b i
+unfolding dueOf
+due-next b i = rw add-one
+
+-- behind a pair that fits, the next record is due at its end
+pub next-due : (b : List ℕ) (i due l : ℕ) → pairOf b i ≡ Fits → due ≡ dueOf b i → l ≡ lengthOf b i → (due + l ≡ dueOf b (i + 1)) × (due + l ≤ length b)
+unfolding endOf
+next-due b i due l f p q =
+    let w = pair-fits b i f in
+    let n = due-next b i in
+    let e : due + l ≡ offsetOf b i + lengthOf b i = rw (q, p, ← w .place) in
+    (e ∙ sym n, omega (arith, w .inside))

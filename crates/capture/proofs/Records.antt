@@ -1,0 +1,126 @@
+-- Laws of the records of a good directory: where they stand and how long they are. Assumes nothing.
+use mathlib.Core.Path.{_≡_, refl, sym, ap, _∙_}
+use mathlib.Core.Bool.{Bool, true, false}
+use mathlib.Core.List.{List, [], _∷_, _++_}
+use Prim.Native.Nat.{ℕ, zero, suc, _+_, _-_, _*_, _≤_, _<_}
+use native.Mathlib.Nat.{zero-add, sub-zero, suc-sub-suc, le-of-suc-le-suc}
+use native.Mathlib.Omega.{arith}
+use lib.Dec.{leb}
+use lib.ListN.{length, take, drop, length-take, length-drop}
+use lib.Seq.{drop-drop, take-nil}
+use borrow.Author.Tests.{leb-true, leb-false, eqb-true}
+use Rattle.octets.specs.Choice.{both, pick}
+use Rattle.octets.specs.Lists.{part}
+use Rattle.octets.proofs.Choice.{both-left, both-right}
+use Rattle.octets.proofs.Lists.{part-length}
+use Rattle.refusal.specs.declared.Refusal.{Refusal}
+use Rattle.refusal.specs.declared.Refusal.the-variants.{OutOfRange}
+use Rattle.refusal.specs.declared.Verdict.the-variants.{Accepted, Refused}
+use Rattle.capture.specs.declared.directory.Pair.{Pair}
+use Rattle.capture.specs.declared.directory.Pair.the-variants.{Fits, OffChain, OffLength}
+use Rattle.capture.specs.declared.directory.Directory.{Directory}
+use Rattle.capture.specs.declared.directory.Directory.the-variants.{Good, BadSize, BadChain, BadLength}
+use Rattle.capture.specs.Record.{headerOf, payloadOf, sized}
+use Rattle.capture.specs.Directory.{countOf, offsetOf, lengthOf, endOf, dueOf, recordOf, pairOf, sizeFits, withPair, pairsFrom, directoryOf}
+use Rattle.capture.specs.Duties.{Placed}
+use Rattle.capture.specs.Payload.{recordAsked, payloadVerdict}
+use Rattle.capture.proofs.Pairs.{Sizes, size-fits, Within, pair-fits}
+
+-- what a good directory of n records says of its block
+pub record Records (b : List ℕ) (n : ℕ) : Type 0 where
+  pub count : n ≡ countOf b
+  pub right : sizeFits b ≡ true
+  pub sizes : Sizes b
+  pub fit : (i : ℕ) → i < n → pairOf b i ≡ Fits
+
+good-pair : (p : Pair) (k : ℕ) (d : Directory) (n : ℕ) → withPair p k d ≡ Good n → (p ≡ Fits) × (d ≡ Good n)
+unfolding withPair
+good-pair Fits k d n e = (refl, e)
+good-pair OffChain k d n e = (cc, cc)
+good-pair OffLength k d n e = (cc, cc)
+
+-- what holds of the pair at i and of all behind it
+from-first : (b : List ℕ) (i m j : ℕ) (t : Bool) → pairOf b i ≡ Fits → ((k : ℕ) → suc i ≤ k → k < suc i + m → pairOf b k ≡ Fits)
+    → leb (suc i) j ≡ t → i ≤ j → j < i + suc m → pairOf b j ≡ Fits
+from-first b i m j true f r t l h = r j (leb-true _ _ t) (omega arith)
+from-first b i m j false f r t l h = let e : j ≡ i = omega (arith, leb-false (suc i) j t) in rw e f
+
+good-pairs : (b : List ℕ) (i m n : ℕ) → pairsFrom b i m ≡ Good n
+    → (n ≡ i + m) × ((j : ℕ) → i ≤ j → j < i + m → pairOf b j ≡ Fits)
+unfolding pairsFrom
+good-pairs b i zero n e = let z : i ≡ n = cc in (omega arith, λ j l h. absurd (omega arith))
+good-pairs b i (suc m) n e =
+    let g = good-pair (pairOf b i) (suc i) (pairsFrom b (suc i) m) n e in
+    let r = good-pairs b (suc i) m n (g .1) in
+    (omega (arith, r .0), λ j l h. from-first b i m j (leb (suc i) j) (g .0) (r .1) refl l h)
+
+good-size : (t : Bool) (d : Directory) (n : ℕ) → pick t d BadSize ≡ Good n → (t ≡ true) × (d ≡ Good n)
+unfolding pick
+good-size true d n e = (refl, e)
+good-size false d n e = (cc, cc)
+
+pub good : (b : List ℕ) (n : ℕ) → directoryOf b ≡ Good n → Records b n
+unfolding directoryOf
+good b n e =
+    let s = good-size (sizeFits b) (pairsFrom b 0 (countOf b)) n e in
+    let p = good-pairs b 0 (countOf b) n (s .1) in
+    record { count = p .0 ∙ zero-add (countOf b); right = s .0; sizes = size-fits b (s .0); fit = λ i h. p .1 i (omega arith) (omega (arith, p .0)) }
+
+-- where record i stands, and what its length is
+pub placed : (b : List ℕ) (n i : ℕ) → Records b n → i < n → Placed b i
+unfolding sized recordOf endOf
+placed b n i r h =
+    let w = pair-fits b i (r .fit i h) in
+    let l = part-length b (offsetOf b i) (lengthOf b i) (w .inside) in
+    let q = eqb-true _ _ (both-right _ _ (w .sizes)) in
+    record { pair = omega (arith, r .sizes .pairs, r .count); inside = w .inside; octets = l; size = sym l ∙ q } where
+      part-length : (s : List ℕ) (at k : ℕ) → at + k ≤ length s → length (part s at k) ≡ k
+      part-length s at k h = simp (length-take, length-drop) (omega arith)
+
+-- a part without its first elements
+pub drop-part : (s : List ℕ) (at k m : ℕ) → m ≤ k → drop m (part s at k) ≡ part s (at + m) (at + k - (at + m))
+drop-part s at k m h =
+    let e : at + k - (at + m) ≡ k - m = omega arith in
+    rw (e, ← drop-drop m at s) (drop-take m k (drop at s) h) where
+      drop-take : (m k : ℕ) (l : List ℕ) → m ≤ k → drop m (take k l) ≡ take (k - m) (drop m l)
+      drop-take zero k l h = rw sub-zero
+      drop-take (suc m) zero l h = absurd (omega arith)
+      drop-take (suc m) (suc k) [] h = sym (take-nil (suc k - suc m))
+      drop-take (suc m) (suc k) (x ∷ l) h = rw suc-sub-suc (drop-take m k l (le-of-suc-le-suc h))
+
+-- an accepted number is that of a record
+pub record Asked (b : List ℕ) (k : ℕ) : Type 0 where
+  pub count : ℕ
+  pub records : Records b count
+  pub first : 1 ≤ k
+  pub last : k ≤ count
+
+in-range : (t : Bool) → pick t Accepted (Refused OutOfRange) ≡ Accepted → t ≡ true
+unfolding pick
+in-range true e = refl
+in-range false e = cc
+
+never : (r : Refusal) → Refused r ≡ Accepted → ⊥
+never r e = let z : _≡_ {A = ℕ} 0 1 = cc in omega arith
+
+by-directory : (b : List ℕ) (k : ℕ) (d : Directory) → directoryOf b ≡ d → recordAsked d k ≡ Accepted → Asked b k
+by-directory b k (Good n) q e =
+    let t = in-range (both (leb 1 k) (leb k n)) e in
+    record { count = n; records = good b n q; first = leb-true _ _ (both-left _ _ t); last = leb-true _ _ (both-right _ _ t) }
+by-directory b k BadSize q e = absurd (never _ e)
+by-directory b k (BadChain i) q e = absurd (never _ e)
+by-directory b k (BadLength i) q e = absurd (never _ e)
+
+pub asked-for : (b : List ℕ) (k : ℕ) → payloadVerdict b k ≡ Accepted → Asked b k
+unfolding payloadVerdict
+asked-for b k e = by-directory b k (directoryOf b) refl e
+
+-- the records end where the block does
+pub records-end : (b : List ℕ) (n : ℕ) → Records b n → dueOf b n ≡ length b
+unfolding dueOf
+records-end b zero r = omega (arith, r .count, r .sizes .alone (sym (r .count)))
+records-end b (suc m) r = pair-fits b m (r .fit m (omega arith)) .last (omega (arith, r .count))
+
+-- a part is no longer than the whole
+pub part-below : (s : List ℕ) (at k : ℕ) → length (part s at k) ≤ length s
+part-below s at k = simp (length-take, length-drop) (omega arith)

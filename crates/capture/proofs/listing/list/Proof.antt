@@ -1,0 +1,36 @@
+-- `capture::listing::list` meets its contract: the heading, then what stands behind it.
+-- Assumes nothing.
+use mathlib.Core.Path.{_≡_, sym, ap, _∙_}
+use mathlib.Core.List.{List, _++_}
+use Prim.Native.Nat.{ℕ, _+_, _≤_}
+use native.Mathlib.Omega.{arith}
+use lib.ListN.{length, take}
+use lib.Seq.{length-take-le}
+use denote.Ref.{now}
+use Rattle.capture.specs.Opening.{openVerdict}
+use Rattle.capture.specs.Listing.{bodyOf, listingOf}
+use borrow.Author.Needs.{needs}
+use Rattle.capture.proofs.listing.list.Statement.{statement}
+use Rattle.capture.proofs.listing.list.Tie as tie
+
+slice-aggregate-append : tie.Need-slice-aggregate-append
+slice-aggregate-append c = search needs
+
+append-requires : tie.Need-append-requires
+append-requires c κs = search needs
+
+put-body-requires : tie.Need-put-body-requires
+put-body-requires c κs = search needs
+
+returns : tie.Need-returns
+unfolding listingOf
+returns c =
+    let a = c .before .before .before .before .before .before .before .before .before .args in
+    let rest = bodyOf (now (a .settings)) (now (a .block)) (openVerdict (now (a .settings)) (now (a .block)) (length (now (a .block)))) in
+    let within : c .put-body .result ≤ length (c .put-body .last .1 .1 .0) = omega (arith, c .put-body .ensures .0, c .before .before .append .ensures .0) in (
+      (within, sym (length-take-le _ _ within)),
+      c .put-body .ensures .1 ∙ ap (λ (t : List ℕ). t ++ rest) (c .before .before .append .ensures .1),
+    )
+
+pub list-spec : {M : Type 1} → statement M
+list-spec = tie.close (tie.spec slice-aggregate-append append-requires put-body-requires returns)

@@ -1,0 +1,86 @@
+-- `capture::listing::put_body` meets its contract: the number of a refused call, the rows of an accepted one.
+-- Assumes nothing.
+use mathlib.Core.Path.{_≡_, sym, ap, _∙_}
+use mathlib.Core.List.{List, _++_}
+use Prim.Native.Nat.{ℕ, _+_, _≤_}
+use native.Mathlib.Omega.{arith}
+use lib.ListN.{length, take}
+use denote.Ref.{now}
+use Rattle.refusal.specs.declared.Verdict.the-variants.{Accepted}
+use Rattle.capture.specs.declared.directory.Directory.the-variants.{Good}
+use Rattle.capture.specs.Opening.{openVerdict}
+use Rattle.capture.specs.Listing.{bodyOf}
+use Rattle.capture.proofs.Records.{good}
+use Rattle.capture.proofs.Openings.{Callable, callable}
+use Rattle.capture.proofs.Lines.{both-grown, refused-few}
+use borrow.Author.Needs.{needs}
+use Rattle.capture.proofs.listing.put_body.Statement.{statement}
+use Rattle.capture.proofs.listing.put_body.Tie as tie
+
+judge-call-requires : tie.Need-judge-call-requires
+judge-call-requires c κs = search needs
+
+enum-known-refusal : tie.Need-enum-known-refusal
+enum-known-refusal c = search needs
+
+refused-requires : tie.Need-refused-requires
+refused-requires c κs = search needs
+
+push-requires : tie.Need-push-requires
+push-requires c κs = omega (arith, c .refused .ensures .used, refused-few (c .before .before .before .refusal .given .0 .0))
+
+put-line-requires : tie.Need-put-line-requires
+put-line-requires c κs = (omega (arith, c .push .ensures .used, c .before .refused .ensures .used, refused-few (c .before .before .before .before .refusal .given .0 .0)), omega arith)
+
+enum-told : tie.Need-enum-told
+enum-told c = search needs
+
+can-call : (c : tie.After-enum-told)
+    → Callable (now (c .before .before .before .before .before .before .args .settings)) (now (c .before .before .before .before .before .before .args .block)) (length (now (c .before .before .before .before .before .before .args .block)))
+can-call c = callable _ _ _ (sym (c .before .before .judge-call .ensures) ∙ c .enum-told .given .1)
+
+count-requires : tie.Need-count-requires
+count-requires c κs = good _ _ (can-call (c .before) .good) .sizes .some
+
+put-rows-requires : tie.Need-put-rows-requires
+put-rows-requires c κs =
+    let x = can-call (c .before .before) in
+    (x .settings, (x .good ∙ ap Good (sym (c .count .ensures .0)), omega arith))
+
+same-length : tie.Need-same-length
+same-length c = search needs
+
+returns : tie.Need-returns
+unfolding bodyOf
+returns c =
+    let g = c .before .before .before .before .before .before .before .before .before .before .before .before .before in
+    let e = sym (c .before .before .before .before .before .before .before .before .before .judge-call .ensures) ∙ c .before .before .before .before .before .before .before .refusal .given .1 in (
+      omega (arith, c .before .before .put-line .ensures .0),
+      c .before .before .put-line .ensures .1 ∙ rw e (ap (λ (t : List ℕ). take (g .args .at) (now (g .args .text)) ++ t) (both-grown (c .before .before .before .before .refused .ensures) (c .before .before .before .push .ensures) .text)),
+    )
+
+same-length-2 : tie.Need-same-length-2
+same-length-2 c = search needs
+
+returns-2 : tie.Need-returns-2
+unfolding bodyOf
+returns-2 c =
+    let e = sym (c .before .before .before .before .before .before .before .judge-call .ensures) ∙ c .before .before .before .before .before .enum-told .given .1 in
+    (c .before .before .put-rows .ensures .0, c .before .before .put-rows .ensures .1 ∙ rw (e, c .before .before .before .count .ensures .0))
+
+pub put-body-spec : {M : Type 1} → statement M
+put-body-spec =
+    tie.close
+    (tie.spec
+    judge-call-requires
+    enum-known-refusal
+    refused-requires
+    push-requires
+    put-line-requires
+    enum-told
+    count-requires
+    put-rows-requires
+    same-length
+    returns
+    same-length-2
+    returns-2)

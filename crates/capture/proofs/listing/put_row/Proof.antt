@@ -1,0 +1,63 @@
+-- `capture::listing::put_row` meets its contract: the row of the record's header and verdict is appended.
+-- Assumes nothing.
+use mathlib.Core.Path.{_≡_, sym, ap, _∙_}
+use mathlib.Core.List.{List, _++_}
+use Prim.Native.Nat.{ℕ, _+_, _<_}
+use native.Mathlib.Omega.{arith}
+use lib.ListN.{take}
+use denote.Ref.{now}
+use Rattle.capture.specs.declared.header.Header.{Header}
+use Rattle.capture.specs.Opening.{verdictOf}
+use borrow.Author.Needs.{needs}
+use Rattle.capture.proofs.listing.put_row.Statement.{statement}
+use Rattle.capture.proofs.listing.put_row.Tie as tie
+
+header-of-requires : tie.Need-header-of-requires
+header-of-requires c κs = search needs
+
+presence-requires : tie.Need-presence-requires
+presence-requires c κs = search needs
+
+llid-requires : tie.Need-llid-requires
+llid-requires c κs = search needs
+
+judge-requires : tie.Need-judge-requires
+judge-requires c κs = search needs
+
+add-row : tie.Need-add-row
+add-row c = search needs
+
+row-requires : tie.Need-row-requires
+row-requires c κs =
+    let g = c .before .before .before .before .before .before .before .before in
+    (omega arith, omega (arith, ap (λ (h : Header). h .eqs) (c .before .before .before .before .header-of .ensures), g .pre .1 .0 .size, g .pre .1 .0 .inside))
+
+put-line-requires : tie.Need-put-line-requires
+put-line-requires c κs = search needs
+
+same-length : tie.Need-same-length
+same-length c = search needs
+
+returns : tie.Need-returns
+unfolding verdictOf
+returns c =
+    let g = c .before .before .before .before .before .before .before .before .before .before .before .before in (
+      c .before .before .put-line .ensures .0,
+      c .before .before .put-line .ensures .1
+          ∙ ap (λ (t : List ℕ). take (g .args .at) (now (g .args .text)) ++ t)
+          (c .before .before .before .row .ensures .0 ∙ rw (c .before .before .before .before .before .judge .ensures, c .before .before .before .before .before .before .before .before .header-of .ensures, c .before .before .before .before .before .before .before .presence .ensures, c .before .before .before .before .before .before .llid .ensures)),
+    )
+
+pub put-row-spec : {M : Type 1} → statement M
+put-row-spec =
+    tie.close
+    (tie.spec
+    header-of-requires
+    presence-requires
+    llid-requires
+    judge-requires
+    add-row
+    row-requires
+    put-line-requires
+    same-length
+    returns)

@@ -1,0 +1,90 @@
+-- `capture::verdict::ask` meets its contract: each verdict on the way is a clause of `verdictAsked`.
+-- Assumes nothing.
+use mathlib.Core.Path.{_≡_, sym, _∙_}
+use Prim.Native.Nat.{ℕ, _-_}
+use native.Mathlib.Omega.{arith}
+use lib.ListN.{length}
+use borrow.Author.Needs.{needs}
+use denote.Ref.{now}
+use Rattle.capture.specs.Verdict.{verdictAsked}
+use Rattle.capture.specs.Duties.{Placed}
+use Rattle.capture.proofs.Records.{Asked, asked-for, placed}
+use Rattle.capture.proofs.Verdicts.{settings-octets}
+use Rattle.capture.proofs.verdict.ask.Statement.{statement}
+use Rattle.capture.proofs.verdict.ask.Tie as tie
+
+verdict-requires : tie.Need-verdict-requires
+verdict-requires c κs = search needs
+
+enum-known-refusal : tie.Need-enum-known-refusal
+enum-known-refusal c = search needs
+
+returns : tie.Need-returns
+unfolding verdictAsked
+returns c = rw (← c .before .before .before .verdict .ensures, c .before .refusal .given .1)
+
+enum-told : tie.Need-enum-told
+enum-told c = search needs
+
+verdict-requires-2 : tie.Need-verdict-requires-2
+verdict-requires-2 c κs = search needs
+
+enum-known-refusal-2 : tie.Need-enum-known-refusal-2
+enum-known-refusal-2 c = search needs
+
+enum-told-2 : tie.Need-enum-told-2
+enum-told-2 c = search needs
+
+right-settings : (c : tie.After-enum-told) → length (now (c .before .before .before .before .before .args .settings)) ≡ 41
+right-settings c = settings-octets _ (sym (c .before .before .verdict .ensures) ∙ c .enum-told .given .1)
+
+is-asked : (c : tie.After-enum-told2)
+    → Asked (now (c .before .before .before .before .before .before .before .before .args .block)) (c .before .before .before .before .before .before .before .before .args .k)
+is-asked c = asked-for _ _ (sym (c .before .before .verdict2 .ensures) ∙ c .enum-told2 .given .1)
+
+presence-requires : tie.Need-presence-requires
+presence-requires c κs = right-settings (c .before .before .before)
+
+llid-requires : tie.Need-llid-requires
+llid-requires c κs = right-settings (c .before .before .before .before)
+
+sub-header-of : tie.Need-sub-header-of
+sub-header-of c = is-asked (c .before .before) .first
+
+header-of-requires : tie.Need-header-of-requires
+header-of-requires c κs =
+    let a = is-asked (c .before .before) in
+    placed _ (a .count) _ (a .records) (omega (arith, a .first, a .last))
+
+judge-requires : tie.Need-judge-requires
+judge-requires c κs = search needs
+
+returns-2 : tie.Need-returns-2
+unfolding verdictAsked
+returns-2 c =
+    rw (← c .before .before .before .before .before .before .verdict .ensures, c .before .before .before .before .enum-told .given .1, ← c .before .before .before .verdict2 .ensures, c .before .refusal2 .given .1)
+
+returns-3 : tie.Need-returns-3
+unfolding verdictAsked
+returns-3 c =
+    rw (← c .before .before .before .before .before .before .before .before .before .verdict .ensures, c .before .before .before .before .before .before .before .enum-told .given .1, ← c .before .before .before .before .before .before .verdict2 .ensures, c .before .before .before .before .enum-told2 .given .1)
+    (c .judge .ensures ∙ rw (c .before .header-of .ensures, c .before .before .before .presence .ensures, c .before .before .llid .ensures))
+
+pub ask-spec : {M : Type 1} → statement M
+ask-spec =
+    tie.close
+    (tie.spec
+    verdict-requires
+    enum-known-refusal
+    returns
+    enum-told
+    verdict-requires-2
+    enum-known-refusal-2
+    enum-told-2
+    presence-requires
+    llid-requires
+    sub-header-of
+    header-of-requires
+    judge-requires
+    returns-2
+    returns-3)

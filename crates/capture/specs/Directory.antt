@@ -1,0 +1,86 @@
+-- The directory of a capture block b (01, Capture block). Pair i and record i have i others before them, so 01's pair
+-- k and record k are pair and record k - 1 here. Assumes nothing.
+use mathlib.Core.Bool.{Bool, true, false, not}
+use mathlib.Core.List.{List}
+use Prim.Native.Nat.{ℕ, zero, suc, _+_, _*_}
+use lib.Dec.{leb, ltb, eqb}
+use lib.ListN.{length}
+use Rattle.octets.specs.BigEndian.{numberAt}
+use Rattle.octets.specs.Choice.{both, either, pick}
+use Rattle.octets.specs.Lists.{part}
+use Rattle.refusal.specs.declared.Refusal.the-variants.{BadDirectory}
+use Rattle.refusal.specs.declared.Verdict.{Verdict}
+use Rattle.refusal.specs.declared.Verdict.the-variants.{Accepted, Refused}
+use Rattle.capture.specs.declared.directory.Pair.{Pair}
+use Rattle.capture.specs.declared.directory.Pair.the-variants.{Fits, OffChain, OffLength}
+use Rattle.capture.specs.declared.directory.Directory.{Directory}
+use Rattle.capture.specs.declared.directory.Directory.the-variants.{Good, BadSize, BadChain, BadLength}
+use Rattle.capture.specs.Record.{sized}
+
+abbrev pub mostOctets : ℕ
+mostOctets = 65536
+
+abbrev pub mostRecords : ℕ
+mostRecords = 256
+
+unfoldable pub countOf : List ℕ → ℕ
+countOf b = numberAt 2 b 0
+
+unfoldable pub offsetOf : List ℕ → ℕ → ℕ
+offsetOf b i = numberAt 4 b (2 + 8 * i)
+
+unfoldable pub lengthOf : List ℕ → ℕ → ℕ
+lengthOf b i = numberAt 4 b (2 + 8 * i + 4)
+
+-- where record i ends
+unfoldable pub endOf : List ℕ → ℕ → ℕ
+endOf b i = offsetOf b i + lengthOf b i
+
+-- where record i is to start: the first behind the directory, each next where the previous ends
+unfoldable pub dueOf : List ℕ → ℕ → ℕ
+dueOf b zero = 2 + 8 * countOf b
+dueOf b (suc i) = endOf b i
+
+unfoldable pub recordOf : List ℕ → ℕ → List ℕ
+recordOf b i = part b (offsetOf b i) (lengthOf b i)
+
+-- a record ends within the block, the last at the block's end
+unfoldable pub endFits : Bool → ℕ → ℕ → Bool
+endFits true end size = eqb end size
+endFits false end size = leb end size
+
+-- pair i stands in the chain of offsets
+unfoldable pub chained : List ℕ → ℕ → Bool
+chained b i = both (eqb (offsetOf b i) (dueOf b i)) (endFits (eqb (i + 1) (countOf b)) (endOf b i) (length b))
+
+-- the chain first, then the length against the record's EQs
+unfoldable pub pairOf : List ℕ → ℕ → Pair
+pairOf b i = pick (chained b i) (pick (sized (recordOf b i)) Fits OffLength) OffChain
+
+-- the block and its count are within their bounds, the pairs are all there, and a block without records is the count alone
+unfoldable pub sizeFits : List ℕ → Bool
+sizeFits b =
+    both (both (leb 2 (length b)) (leb (length b) mostOctets))
+    (both (leb (countOf b) mostRecords)
+    (both (leb (2 + 8 * countOf b) (length b)) (either (not (eqb (countOf b) 0)) (eqb (length b) 2))))
+
+-- what the pair with this number, counted from 1, makes of the verdict on the pairs behind it
+unfoldable pub withPair : Pair → ℕ → Directory → Directory
+withPair Fits k rest = rest
+withPair OffChain k rest = BadChain k
+withPair OffLength k rest = BadLength k
+
+-- the first pair that does not fit, of the m from pair i on
+unfoldable pub pairsFrom : List ℕ → ℕ → ℕ → Directory
+pairsFrom b i zero = Good i
+pairsFrom b i (suc m) = withPair (pairOf b i) (suc i) (pairsFrom b (suc i) m)
+
+unfoldable pub directoryOf : List ℕ → Directory
+directoryOf b = pick (sizeFits b) (pairsFrom b 0 (countOf b)) BadSize
+
+-- any break of the directory is refused alike
+abbrev pub verdictOn : Directory → Verdict
+verdictOn (Good n) = Accepted
+verdictOn BadSize = Refused BadDirectory
+verdictOn (BadChain k) = Refused BadDirectory
+verdictOn (BadLength k) = Refused BadDirectory

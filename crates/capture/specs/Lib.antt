@@ -1,0 +1,9 @@
+pub mod Settings
+pub mod Record
+pub mod Directory
+pub mod Payload
+pub mod Verdict
+pub mod Opening
+pub mod Claims
+pub mod Listing
+pub mod Duties

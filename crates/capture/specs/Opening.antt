@@ -1,0 +1,101 @@
+-- Opening a capture block b under the settings s (01, Capture block). Assumes nothing.
+use mathlib.Core.List.{List, [], _++_}
+use Prim.Native.Nat.{ℕ, zero, suc, _+_, _*_, _/_}
+use lib.Dec.{eqb}
+use lib.ListN.{length, take, set, replicate}
+use Rattle.octets.specs.Choice.{pick}
+use Rattle.octets.specs.Lists.{sum}
+use Rattle.refusal.specs.declared.Refusal.the-variants.{BadLength}
+use Rattle.refusal.specs.declared.Verdict.{Verdict}
+use Rattle.refusal.specs.declared.Verdict.the-variants.{Accepted, Refused}
+use Rattle.refusal.specs.Number.{numberOf}
+use Rattle.sealing.specs.declared.envelope.Nonce.{Nonce}
+use Rattle.sealing.specs.KeyExpansion.{keyExpansion}
+use Rattle.sealing.specs.Payload.{sealed}
+use Rattle.sealing.specs.Payload.{countOf as countEnciphered}
+use Rattle.capture.specs.declared.header.Header.{Header}
+use Rattle.capture.specs.declared.header.RecordVerdict.{RecordVerdict}
+use Rattle.capture.specs.declared.header.RecordVerdict.the-variants.{Clear, Sealed}
+use Rattle.capture.specs.declared.opening.OpenAnswer.{OpenAnswer}
+use Rattle.capture.specs.declared.opening.OpenAnswer.the-variants.{Done, Denied}
+use Rattle.capture.specs.Settings.{presenceOf, keyPresent, keyOf, macOf, llidOf, settingsVerdict}
+use Rattle.capture.specs.Record.{headerOctets, headerOf, payloadOf}
+use Rattle.capture.specs.Directory.{countOf, recordOf, verdictOn, directoryOf}
+use Rattle.capture.specs.Verdict.{recordVerdict}
+
+-- the verdict on a record, whose own octets are r
+unfoldable pub verdictOf : List ℕ → List ℕ → RecordVerdict
+verdictOf s r = recordVerdict (presenceOf s) (llidOf s) (headerOf r)
+
+-- what the counter blocks of a record with the header h are made of, at the clock t
+abbrev pub nonceOf : List ℕ → Header → ℕ → Nonce
+nonceOf s h t = record { channel = h .channel; mac = macOf s; clock = t }
+
+-- an opened record has bits 0 and 1 of its flags, at place 4, cleared
+abbrev pub cleared : List ℕ → List ℕ
+cleared r = set r 4 (headerOf r .flags / 4 * 4)
+
+-- a record as the verdict has it written: refused and clear ones are copied unchanged
+unfoldable pub writtenAs : List ℕ → List ℕ → RecordVerdict → List ℕ
+writtenAs s r (Sealed i t) = take headerOctets (cleared r) ++ sealed (keyExpansion (keyOf s i)) (nonceOf s (headerOf r) t) (payloadOf r)
+writtenAs s r Clear = r
+writtenAs s r (RecordVerdict.Refused c) = r
+
+unfoldable pub countAs : List ℕ → RecordVerdict → ℕ
+countAs r (Sealed i t) = countEnciphered (payloadOf r)
+countAs r Clear = 0
+countAs r (RecordVerdict.Refused c) = 0
+
+unfoldable pub openedRecord : List ℕ → List ℕ → List ℕ
+openedRecord s r = writtenAs s r (verdictOf s r)
+
+unfoldable pub recordCount : List ℕ → List ℕ → ℕ
+recordCount s r = countAs r (verdictOf s r)
+
+-- the m records from record i on, each opened by itself
+unfoldable pub openedFrom : List ℕ → List ℕ → ℕ → ℕ → List ℕ
+openedFrom s b i zero = []
+openedFrom s b i (suc m) = openedRecord s (recordOf b i) ++ openedFrom s b (suc i) m
+
+-- the directory stays, and the records follow it
+unfoldable pub openedBlock : List ℕ → List ℕ → List ℕ
+openedBlock s b = take (2 + 8 * countOf b) b ++ openedFrom s b 0 (countOf b)
+
+-- the sum over the records
+unfoldable pub blockCount : List ℕ → List ℕ → ℕ
+blockCount s b = sum 0 (countOf b) (λ i. recordCount s (recordOf b i))
+
+abbrev pub andThen : Verdict → Verdict → Verdict
+andThen Accepted v = v
+andThen (Verdict.Refused r) v = Verdict.Refused r
+
+-- 14, 1, 15
+unfoldable pub openVerdict : List ℕ → List ℕ → ℕ → Verdict
+openVerdict s b outputOctets =
+    pick (eqb outputOctets (length b)) (andThen (settingsVerdict s) (verdictOn (directoryOf b))) (Verdict.Refused BadLength)
+
+-- what the call answers, and what its output then holds
+pub record Opening : Type 0 where
+  pub answer : OpenAnswer
+  pub output : List ℕ
+
+unfoldable pub openingAfter : Verdict → List ℕ → List ℕ → List ℕ → Opening
+openingAfter Accepted s b out = record { answer = Done (blockCount s b); output = openedBlock s b }
+openingAfter (Verdict.Refused r) s b out = record { answer = Denied r; output = out }
+
+-- out is the output as it was lent
+unfoldable pub opening : List ℕ → List ℕ → List ℕ → Opening
+opening s b out = openingAfter (openVerdict s b (length out)) s b out
+
+-- an answer with the output
+abbrev pub outcome : OpenAnswer → List ℕ → Opening
+outcome a o = record { answer = a; output = o }
+
+-- the paper's number of an answer, and its count
+abbrev pub openNumber : OpenAnswer → ℕ
+openNumber (Done count) = 0
+openNumber (Denied r) = numberOf r
+
+abbrev pub openCount : OpenAnswer → ℕ
+openCount (Done count) = count
+openCount (Denied r) = 0

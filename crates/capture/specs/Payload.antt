@@ -1,0 +1,30 @@
+-- The payload of the record with number k, from 1, of a capture block b (01, Capture block). Assumes nothing.
+use mathlib.Core.List.{List, []}
+use Prim.Native.Nat.{ℕ, _-_}
+use lib.Dec.{leb}
+use Rattle.octets.specs.Choice.{both, pick}
+use Rattle.refusal.specs.declared.Refusal.the-variants.{OutOfRange}
+use Rattle.refusal.specs.declared.Verdict.{Verdict}
+use Rattle.refusal.specs.declared.Verdict.the-variants.{Accepted, Refused}
+use Rattle.capture.specs.declared.directory.Directory.{Directory}
+use Rattle.capture.specs.declared.directory.Directory.the-variants.{Good, BadSize, BadChain, BadLength}
+use Rattle.capture.specs.Record.{payloadOf}
+use Rattle.capture.specs.Directory.{recordOf, verdictOn, directoryOf}
+
+-- 15, then 1 for k outside 1 to n
+abbrev pub recordAsked : Directory → ℕ → Verdict
+recordAsked (Good n) k = pick (both (leb 1 k) (leb k n)) Accepted (Refused OutOfRange)
+recordAsked BadSize k = verdictOn BadSize
+recordAsked (BadChain i) k = verdictOn (BadChain i)
+recordAsked (BadLength i) k = verdictOn (BadLength i)
+
+unfoldable pub payloadVerdict : List ℕ → ℕ → Verdict
+payloadVerdict b k = recordAsked (directoryOf b) k
+
+-- what is asked for, or nothing where that is refused
+abbrev pub unlessRefused : Verdict → List ℕ → List ℕ
+unlessRefused Accepted l = l
+unlessRefused (Refused r) l = []
+
+unfoldable pub payloadPart : List ℕ → ℕ → List ℕ
+payloadPart b k = unlessRefused (payloadVerdict b k) (payloadOf (recordOf b (k - 1)))

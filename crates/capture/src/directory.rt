@@ -1,0 +1,142 @@
+// The directory of a capture block: a count, and for each record a pair of its offset and its length.
+ghost use mathlib.Core.Path.{_≡_};
+ghost use Prim.Native.Nat.{ℕ, _+_, _*_, _^_, _≤_, _<_};
+ghost use lib.ListN.{length};
+ghost use Rattle.capture.specs.Record.{sized};
+ghost use Rattle.capture.specs.Directory.{countOf, offsetOf, lengthOf, dueOf, recordOf, endFits, pairOf, sizeFits, directoryOf, verdictOn};
+ghost use Rattle.capture.specs.Duties.{Due};
+use crate::fields::number16;
+use crate::fields::number32;
+use refusal::Refusal;
+use refusal::Verdict;
+
+// What a pair is found to be.
+pub enum Pair {
+    Fits,
+    // its offset is not the one that the chain gives, or it does not end where it may
+    OffChain,
+    // its length does not suit the EQs of its record
+    OffLength,
+}
+
+// What a directory is found to be. Pairs count from 1.
+pub enum Directory {
+    // so many records
+    Good(usize),
+    // the block or its count is out of bounds, or the block is shorter than its directory
+    BadSize,
+    // the first pair that does not fit is off the chain
+    BadChain(usize),
+    // the first pair that does not fit is off its record's length
+    BadLength(usize),
+}
+
+// Whether a record is as long as its EQs say.
+fn is_sized(r: &[u8]) -> bool
+    ensures { λ q. ⌜ q ≡ sized (now (r .entry)) ⌝ }
+{
+    if r.len() < 16 {
+        return false;
+    }
+    r.len() as u64 == 16 + 9 * number32(r, 12)
+}
+
+// The count of records, in the first two octets.
+pub(crate) fn count(block: &[u8]) -> usize
+    requires { ⌜ 2 ≤ length (now block) ⌝ }
+    ensures { λ r. ⌜ (r ≡ countOf (now (block .entry))) × (r < 65536) ⌝ }
+{
+    number16(block, 0) as usize
+}
+
+pub(crate) fn offset(block: &[u8], i: usize) -> usize
+    requires { ⌜ 2 + 8 * (i + 1) ≤ length (now block) ⌝ }
+    ensures { λ r. ⌜ (r ≡ offsetOf (now (block .entry)) i) × (r < 2 ^ 32) ⌝ }
+{
+    number32(block, 2 + 8 * i) as usize
+}
+
+pub(crate) fn length_of(block: &[u8], i: usize) -> usize
+    requires { ⌜ 2 + 8 * (i + 1) ≤ length (now block) ⌝ }
+    ensures { λ r. ⌜ (r ≡ lengthOf (now (block .entry)) i) × (r < 2 ^ 32) ⌝ }
+{
+    number32(block, 2 + 8 * i + 4) as usize
+}
+
+// Whether a record may end at `to` in a block of `size` octets.
+fn ends_right(is_last: bool, to: usize, size: usize) -> bool
+    ensures { λ r. ⌜ r ≡ endFits «is_last» to size ⌝ }
+{
+    if is_last { to == size } else { to <= size }
+}
+
+// The verdict on pair i of n, whose record is due at `due`.
+fn judge(block: &[u8], n: usize, i: usize, due: usize) -> Pair
+    requires { ⌜ Due (now block) n i due ⌝ }
+    ensures { λ r. ⌜ r ≡ pairOf (now (block .entry)) i ⌝ }
+{
+    let from = offset(block, i);
+    let to = from + length_of(block, i);
+    if from != due {
+        return Pair::OffChain;
+    }
+    if !ends_right(i + 1 == n, to, block.len()) {
+        return Pair::OffChain;
+    }
+    if is_sized(&block[from..to]) {
+        Pair::Fits
+    } else {
+        Pair::OffLength
+    }
+}
+
+// Whether the block and its count are within their bounds, and the pairs are all there.
+fn is_size_right(block: &[u8]) -> bool
+    ensures { λ r. ⌜ r ≡ sizeFits (now (block .entry)) ⌝ }
+{
+    if block.len() < 2 {
+        return false;
+    }
+    if 65536 < block.len() {
+        return false;
+    }
+    let n = count(block);
+    if 256 < n {
+        return false;
+    }
+    (2 + 8 * n <= block.len()) & ((n != 0) | (block.len() == 2))
+}
+
+// What the directory of a block is found to be: bounds first, then pair by pair, each read once.
+pub fn check(block: &[u8]) -> Directory
+    ensures { λ r. ⌜ r ≡ directoryOf (now (block .entry)) ⌝ }
+{
+    if !is_size_right(block) {
+        return Directory::BadSize;
+    }
+    let n = count(block);
+    let mut due = 2 + 8 * n;
+    let mut i = 0;
+    while i < n {
+        match judge(block, n, i, due) {
+            Pair::Fits => {}
+            Pair::OffChain => return Directory::BadChain(i + 1),
+            Pair::OffLength => return Directory::BadLength(i + 1),
+        }
+        due += length_of(block, i);
+        i += 1;
+    }
+    Directory::Good(n)
+}
+
+// The refusal that a directory earns: 15 for any break of it.
+pub fn verdict(directory: Directory) -> Verdict
+    ensures { λ r. ⌜ r ≡ verdictOn directory ⌝ }
+{
+    match directory {
+        Directory::Good(_) => Verdict::Accepted,
+        Directory::BadSize => Verdict::Refused(Refusal::BadDirectory),
+        Directory::BadChain(_) => Verdict::Refused(Refusal::BadDirectory),
+        Directory::BadLength(_) => Verdict::Refused(Refusal::BadDirectory),
+    }
+}

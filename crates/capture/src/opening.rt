@@ -1,0 +1,196 @@
+// Opening a capture block into an output of the same length.
+ghost use mathlib.Core.Path.{_≡_};
+ghost use mathlib.Core.Bool.{true};
+ghost use mathlib.Core.List.{_++_};
+ghost use Prim.Native.Nat.{_+_, _-_, _*_, _%_, _≤_, _<_};
+ghost use lib.ListN.{length, take, drop};
+ghost use lib.Dec.{eqb};
+ghost use Rattle.octets.specs.Choice.{pick};
+ghost use Rattle.octets.specs.Lists.{part, replaced};
+ghost use Rattle.sealing.specs.Payload.{sealed};
+ghost use Rattle.sealing.specs.Payload.{countOf as countEnciphered};
+ghost use Rattle.sealing.specs.Seal.{nonceFits};
+ghost use Rattle.sealing.specs.KeyExpansion.{keyExpansion};
+ghost use Rattle.capture.specs.Settings.{presenceOf, keyPresent, keyOf};
+ghost use Rattle.capture.specs.Directory.{offsetOf, endOf, recordOf};
+ghost use Rattle.capture.specs.Opening.{openedRecord, recordCount, openedBlock, blockCount, openVerdict, opening, outcome, openNumber, openCount};
+ghost use Rattle.capture.specs.Claims.{OpenedIfAccepted};
+ghost use Rattle.capture.specs.Duties.{Expanded, Ready, Copied};
+use crate::directory::check;
+use crate::directory::count;
+use crate::directory::length_of;
+use crate::directory::offset;
+use crate::directory::verdict;
+use crate::header::RecordVerdict;
+use crate::header::judge;
+use crate::header::read;
+use crate::settings::key;
+use crate::settings::llid;
+use crate::settings::mac;
+use crate::settings::presence;
+use refusal::Refusal;
+use refusal::Verdict;
+use sealing::aes128::RoundKeys;
+use sealing::aes128::expand_key;
+use sealing::envelope::Nonce;
+use sealing::envelope::SealAnswer;
+use sealing::envelope::seal_expanded;
+
+pub enum OpenAnswer {
+    // the octets deciphered
+    Done(u64),
+    Denied(Refusal),
+}
+
+// The two keys of the settings, expanded.
+pub struct Keys {
+    pub first: RoundKeys,
+    pub second: RoundKeys,
+}
+
+// The opening step, lent the part of the output from the payload's offset on.
+fn open_part(
+    keys: RoundKeys,
+    nonce: Nonce,
+    block: &[u8],
+    output: &mut [u8],
+    from: usize,
+    to: usize,
+) -> u64
+    requires { ⌜ (from ≤ to) × (to ≤ length (now block)) ⌝ }
+    requires { ⌜ length (now output) ≡ length (now block) ⌝ }
+    requires { ⌜ (to - from) % 9 ≡ 0 ⌝ }
+    requires { ⌜ to - from ≤ 65536 ⌝ }
+    requires { ⌜ nonceFits nonce ≡ true ⌝ }
+    ensures { λ r. ⌜ r ≡ countEnciphered (part (now (block .entry)) from (to - from)) ⌝ }
+    ensures { λ _. ⌜ now (output .exit) ≡ replaced (now (output .entry)) from (sealed (keys .octets) nonce (part (now (block .entry)) from (to - from))) ⌝ }
+{
+    let input = &block[from..to];
+    match seal_expanded(true, keys, nonce, input, &mut output[from..to]) {
+        SealAnswer::Done(count) => count,
+        SealAnswer::Denied(_) => 0,
+    }
+}
+
+fn key_for(keys: Keys, index: u8) -> RoundKeys
+    ensures { λ r. ⌜ r ≡ pick (eqb index 0) (keys .first) (keys .second) ⌝ }
+{
+    if index == 0 { keys.first } else { keys.second }
+}
+
+// Opens record i, which has i others before it, and counts its octets; a clear or refused record stays as it is.
+fn open_record(settings: &[u8], keys: Keys, block: &[u8], output: &mut [u8], i: usize) -> u64
+    requires { ⌜ Ready (now settings) keys (now block) (now output) i ⌝ }
+    ensures { λ r. ⌜ r ≡ recordCount (now (settings .entry)) (recordOf (now (block .entry)) i) ⌝ }
+    ensures { λ _. ⌜ now (output .exit) ≡ take (offsetOf (now (block .entry)) i) (now (output .entry)) ++ (openedRecord (now (settings .entry)) (recordOf (now (block .entry)) i) ++ drop (endOf (now (block .entry)) i) (now (block .entry))) ⌝ }
+{
+    let from = offset(block, i);
+    let to = from + length_of(block, i);
+    let h = read(&block[from..to]);
+    match judge(presence(settings), llid(settings), h) {
+        RecordVerdict::Clear => 0,
+        RecordVerdict::Refused(_) => 0,
+        RecordVerdict::Sealed(index, clock) => {
+            let nonce = Nonce {
+                channel: h.channel,
+                mac: mac(settings),
+                clock,
+            };
+            output[from + 4] = h.flags / 4 * 4;
+            open_part(key_for(keys, index), nonce, block, output, from + 16, to)
+        }
+    }
+}
+
+// Opens the n records of an output that is a copy of the block, and counts their octets.
+fn open_records(settings: &[u8], keys: Keys, block: &[u8], output: &mut [u8], n: usize) -> u64
+    requires { ⌜ Copied (now settings) keys (now block) (now output) n ⌝ }
+    ensures { λ r. ⌜ r ≡ blockCount (now (settings .entry)) (now (block .entry)) ⌝ }
+    ensures { λ _. ⌜ now (output .exit) ≡ openedBlock (now (settings .entry)) (now (block .entry)) ⌝ }
+{
+    let mut total: u64 = 0;
+    let mut i = 0;
+    while i < n {
+        total += open_record(settings, keys, block, output, i);
+        i += 1;
+    }
+    total
+}
+
+// Key i of the settings, expanded where it is present.
+fn expand(settings: &[u8], i: u8) -> RoundKeys
+    requires { ⌜ (length (now settings) ≡ 41) × (i < 2) ⌝ }
+    ensures { λ r. ⌜ (keyPresent (presenceOf (now (settings .entry))) i ≡ true → r .octets ≡ keyExpansion (keyOf (now (settings .entry)) i)) ⌝ }
+{
+    if octets::bit(presence(settings), i) != 1 {
+        return RoundKeys { octets: [0u8; 176] };
+    }
+    expand_key(key(settings, i as usize))
+}
+
+fn expand_keys(settings: &[u8]) -> Keys
+    requires { ⌜ length (now settings) ≡ 41 ⌝ }
+    ensures { λ r. ⌜ Expanded (now (settings .entry)) r ⌝ }
+{
+    let first = expand(settings, 0);
+    let second = expand(settings, 1);
+    Keys { first, second }
+}
+
+fn copy(block: &[u8], output: &mut [u8])
+    requires { ⌜ length (now output) ≡ length (now block) ⌝ }
+    ensures { λ _. ⌜ now (output .exit) ≡ now (block .entry) ⌝ }
+{
+    for i in 0..block.len() {
+        output[i] = block[i];
+    }
+}
+
+// The verdict on the call, for an output of `size` octets.
+pub(crate) fn judge_call(settings: &[u8], block: &[u8], size: usize) -> Verdict
+    ensures { λ r. ⌜ r ≡ openVerdict (now (settings .entry)) (now (block .entry)) size ⌝ }
+{
+    if size != block.len() {
+        return Verdict::Refused(Refusal::BadLength);
+    }
+    match crate::settings::verdict(settings) {
+        Verdict::Refused(refusal) => Verdict::Refused(refusal),
+        Verdict::Accepted => verdict(check(block)),
+    }
+}
+
+// Opens a block into an output of its length. Each present key is expanded once.
+pub fn open(settings: &[u8], block: &[u8], output: &mut [u8]) -> OpenAnswer
+    ensures { λ r. ⌜ outcome r (now (output .exit)) ≡ opening (now (settings .entry)) (now (block .entry)) (now (output .entry)) ⌝ }
+    ensures { λ _. ⌜ OpenedIfAccepted (now (settings .entry)) (now (block .entry)) (length (now (output .entry))) ⌝ }
+{
+    match judge_call(settings, block, output.len()) {
+        Verdict::Refused(refusal) => OpenAnswer::Denied(refusal),
+        Verdict::Accepted => {
+            let keys = expand_keys(settings);
+            let n = count(block);
+            copy(block, output);
+            OpenAnswer::Done(open_records(settings, keys, block, output, n))
+        }
+    }
+}
+
+// 0, or the refusal's number.
+pub fn number(answer: OpenAnswer) -> u8
+    ensures { λ r. ⌜ r ≡ openNumber answer ⌝ }
+{
+    match answer {
+        OpenAnswer::Done(_) => 0,
+        OpenAnswer::Denied(refusal) => refusal::number(refusal),
+    }
+}
+
+// The octets deciphered, 0 where the call was refused.
+pub fn octets_opened(answer: OpenAnswer) -> u64
+    ensures { λ r. ⌜ r ≡ openCount answer ⌝ }
+{
+    match answer {
+        OpenAnswer::Done(total) => total,
+        OpenAnswer::Denied(_) => 0,
+    }
+}

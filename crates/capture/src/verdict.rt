@@ -1,0 +1,40 @@
+// The verdict on a record that is asked for by its number, from 1.
+ghost use mathlib.Core.Path.{_≡_};
+ghost use Rattle.capture.specs.Record.{headerOf};
+ghost use Rattle.capture.specs.Directory.{recordOf};
+ghost use Rattle.capture.specs.Verdict.{verdictAsked};
+ghost use Rattle.capture.specs.Duties.{Placed};
+use crate::directory::length_of;
+use crate::directory::offset;
+use crate::header::Header;
+use crate::header::RecordVerdict;
+use crate::header::judge;
+use crate::header::read;
+use refusal::Verdict;
+
+// The header of record i, which has i others before it.
+pub(crate) fn header_of(block: &[u8], i: usize) -> Header
+    requires { ⌜ Placed (now block) i ⌝ }
+    ensures { λ h. ⌜ h ≡ headerOf (recordOf (now (block .entry)) i) ⌝ }
+{
+    let from = offset(block, i);
+    let to = from + length_of(block, i);
+    read(&block[from..to])
+}
+
+// The verdict on record k. The refusals of the call itself come first.
+pub fn ask(settings: &[u8], block: &[u8], k: usize) -> RecordVerdict
+    ensures { λ r. ⌜ r ≡ verdictAsked (now (settings .entry)) (now (block .entry)) k ⌝ }
+{
+    if let Verdict::Refused(refusal) = crate::settings::verdict(settings) {
+        return RecordVerdict::Refused(refusal);
+    }
+    match crate::payload::verdict(block, k) {
+        Verdict::Refused(refusal) => RecordVerdict::Refused(refusal),
+        Verdict::Accepted => {
+            let presence = crate::settings::presence(settings);
+            let llid = crate::settings::llid(settings);
+            judge(presence, llid, header_of(block, k - 1))
+        }
+    }
+}

@@ -1,0 +1,46 @@
+-- `captures::fill` is safe and ends: as many octets are read as there is room for.
+-- Assumes nothing.
+use mathlib.Core.Path.{_≡_, sym}
+use mathlib.Core.List.{_++_}
+use Prim.Native.Nat.{_≤_}
+use native.Mathlib.Omega.{arith}
+use lib.ListN.{length, take, drop, length-append}
+use lib.Seq.{length-take-le}
+use denote.Ref.{now}
+use borrow.Author.Needs.{needs}
+use Rattle.captures.proofs.fill.Statement.{statement}
+use Rattle.captures.proofs.fill.Tie as tie
+
+least-requires : tie.Need-least-requires
+least-requires c κs = search needs
+
+slice-relend-prefix-read-full : tie.Need-slice-relend-prefix-read-full
+slice-relend-prefix-read-full c = search needs
+
+slice-aggregate-read-full : tie.Need-slice-aggregate-read-full
+slice-aggregate-read-full c = sym (length-take-le _ (now (c .before .before .before .args .space)) (c .before .least .ensures .1))
+
+read-full-requires : tie.Need-read-full-requires
+read-full-requires c κs = search needs
+
+same-length : tie.Need-same-length
+same-length c = search needs
+
+returns : tie.Need-returns
+returns c =
+    let r = c .before .before .read-full .ensures .0 in
+    let t = c .before .before .read-full .last .1 .0 in
+    let rest = drop (c .before .before .before .before .least .result) (now (c .before .before .before .before .before .before .args .space)) in
+    let within : c .before .before .read-full .result ≤ length (t ++ rest) = omega (arith, r, length-append t rest) in
+    (within, sym (length-take-le _ (t ++ rest) within))
+
+pub fill-spec : {M : Type 1} → statement M
+fill-spec =
+    tie.close
+    (tie.spec
+    least-requires
+    slice-relend-prefix-read-full
+    slice-aggregate-read-full
+    read-full-requires
+    same-length
+    returns)

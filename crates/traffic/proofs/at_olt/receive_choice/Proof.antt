@@ -9,11 +9,11 @@ use Rattle.traffic.proofs.at_olt.receive_choice.Tie as tie
 
 returns : tie.Need-returns
 unfolding unitReceiveChoice pick
-returns c = rw (eq-eqb _ _ (c .before .if1 .taken), eq-eqb _ _ (c .if2 .taken))
+returns c = rw (eq-eqb _ _ (c .before .if1 .taken), eq-eqb (c .before .before .before .args .unit .confirmation .confirmed) 0 (c .if2 .taken))
 
 returns-2 : tie.Need-returns-2
 unfolding unitReceiveChoice pick
-returns-2 c = rw (eq-eqb _ _ (c .before .if1 .taken), ne-eqb _ _ (c .if2 .left))
+returns-2 c = rw (eq-eqb _ _ (c .before .if1 .taken), ne-eqb (c .before .before .before .args .unit .confirmation .confirmed) 0 (c .if2 .left))
 
 cast-next : tie.Need-cast-next
 cast-next c = search needs

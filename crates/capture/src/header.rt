@@ -65,11 +65,10 @@ pub fn is_well_formed(h: Header) -> bool
 pub fn check_epam(clock: u64, epam: u8) -> Epam
     ensures { λ r. ⌜ r ≡ epamCheck clock epam ⌝ }
 {
-    if epam as u64 == clock % 64 {
-        Epam::Agrees(clock)
-    } else {
-        Epam::Differs
+    if epam as u64 != clock % 64 {
+        return Epam::Differs;
     }
+    Epam::Agrees(clock)
 }
 
 // The verdict on a record whose clock is known: enciphered, it needs its key.

@@ -1,5 +1,5 @@
 #!/usr/bin/env python3
-"""What the program `traffic_play` must print: two ends of its own, written from documents 01 and READING alone.
+"""What the program `traffic_play` must print: two ends of its own, written from document 01 and the decisions on it (docs/DECISIONS.md).
 
 usage: tools/traffic.py > crates/traffic_play/stdout
 Shares no code with the engine; AES-128 is that of the Python package `cryptography`.
@@ -423,7 +423,7 @@ def exchange():
     section("an exchange")
     line = Line(TURN - 4000)
     row("register unit 1", line.olt.register(MAC_ONE, [5, 6], 250, 5000))
-    line.down("Q53 to unit 2, not registered", 9, 0x00)
+    line.down("D51 to unit 2, not registered", 9, 0x00)
     line.advance(10)
     row("register unit 2", line.olt.register(MAC_TWO, [9], 100, 3000))
     # the clocks
@@ -464,7 +464,7 @@ def exchange():
     line.acknowledge("the same again", 6, ack)
     # unit 2 switches to key 1; the switching envelope is lost
     line.advance(1949)
-    clear = line.down("Q33 acknowledged, flag down: clear, to unit 2", 9, 0x00)
+    clear = line.down("D25 acknowledged, flag down: clear, to unit 2", 9, 0x00)
     line.advance(1)
     line.down("flag up, channel taken", 9, 0x00)
     line.down("to unit 2, which switches; lost", 9, 0x01)
@@ -474,16 +474,16 @@ def exchange():
     line.at_unit("unit 2 takes the clear one", 2, clear)
     clear = line.up("clear, from unit 2", 2, 9, 0x80)
     line.advance(5)
-    line.at_unit("Q51 unit 1 overhears", 1, sealed)
-    onu_receive("Q67 unit 2, output of 18 octets", line.onu[2], sealed[0], sealed[1], LENT[:18])
+    line.at_unit("D49 unit 1 overhears", 1, sealed)
+    onu_receive("D52 unit 2, output of 18 octets", line.onu[2], sealed[0], sealed[1], LENT[:18])
     line.at_unit("unit 2 takes the sealed one", 2, sealed)
     line.up("from unit 2, lost", 2, 9, 0x81)
     line.advance(4)
     sealed = line.up("from unit 2 again", 2, 9, 0x81)
     line.advance(51)
-    line.at_olt("Q39 the OLT takes the clear one", clear)
+    line.at_olt("D44 the OLT takes the clear one", clear)
     line.advance(9)
-    line.at_unit("Q51 unit 1 overhears", 1, sealed)
+    line.at_unit("D49 unit 1 overhears", 1, sealed)
     line.at_olt("the OLT takes the sealed one", sealed)
     # key 2 of unit 2
     message = line.offer("offer to unit 2", 9, 68)
@@ -520,13 +520,13 @@ def exchange():
     sealed = line.down("to unit 1, which switches", 5, 0x01)
     line.advance(150)
     line.at_unit("unit 1 takes it", 1, sealed)
-    line.key_message("Q49 the retry at unit 1", 1, message)
+    line.key_message("D48 the retry at unit 1", 1, message)
     sealed = line.up("from unit 1", 1, 5, 0x80)
     line.advance(100)
     line.at_olt("the OLT takes it", sealed)
-    line.acknowledge("Q21 a late acknowledgement of key 2", 5, late)
-    line.acknowledge("Q21 of key 1", 5, (2, 1))
-    line.acknowledge("Q21 of key 3", 5, (2, 3))
+    line.acknowledge("D18 a late acknowledgement of key 2", 5, late)
+    line.acknowledge("D18 of key 1", 5, (2, 1))
+    line.acknowledge("D18 of key 3", 5, (2, 3))
     for unit, llid in ((1, 5), (2, 9)):
         u, o = line.olt.find(llid), line.onu[unit]
         print(f"unit {unit}: A {u.A}, C {u.C}, a {o.a}, key {u.keys[u.A].hex()} {o.keys[o.a].hex()}")
@@ -576,35 +576,35 @@ def later(o, n):
 
 def lengths(send, name, o, *bad):
     """The rows of 14; `bad` is what would be refused next."""
-    send("Q41 10 octets", o, *name, PAYLOAD[:10], LENT[:10])
-    send("Q41 27 octets, output of 18", o, *name, PAYLOAD, LENT[:18])
-    send("Q41 18 octets, output of 27", o, *name, PAYLOAD[:18], LENT)
-    send("Q41 10 octets, out of range, LLID 7", o, *bad, PAYLOAD[:10], LENT[:10])
+    send("D46 10 octets", o, *name, PAYLOAD[:10], LENT[:10])
+    send("D46 27 octets, output of 18", o, *name, PAYLOAD, LENT[:18])
+    send("D46 18 octets, output of 27", o, *name, PAYLOAD[:18], LENT)
+    send("D46 10 octets, out of range, LLID 7", o, *bad, PAYLOAD[:10], LENT[:10])
 
 
 def at_channels(send, make, llid, index):
-    """Q4, Q36: the tick from which a channel is free; `index` is that of channel 0."""
+    """D4, D26: the tick from which a channel is free; `index` is that of channel 0."""
     send("channel 0 taken", taken(make(), 101), llid, index)
     send("channel 0 taken, LLID 7", taken(make(), 101), 7, index)
     send("channel 0 taken, on channel 1", taken(make(), 101), llid, index + 1)
     send("channel 1 taken, on channel 1", taken(make(), 0, 101), llid, index + 1)
     send("channel 0 free from this tick", taken(make(), 100), llid, index)
-    send("Q4 free from 4194405", taken(make(), 4194405), llid, index)
-    send("Q4 free from 2^62 + 4194304", taken(make(), LAST + 4194304), llid, index)
-    send("Q4 free from 2^62 + 4194305", taken(make(), LAST + 4194305), llid, index)
+    send("D4 free from 4194405", taken(make(), 4194405), llid, index)
+    send("D4 free from 2^62 + 4194304", taken(make(), LAST + 4194304), llid, index)
+    send("D4 free from 2^62 + 4194305", taken(make(), LAST + 4194305), llid, index)
 
 
 def keeping(send, make, index):
-    """P8, P9, Q36: how long a header keeps its channel."""
+    """P8, P9, D26: how long a header keeps its channel."""
     o = make()
     o.tick = 50
     send("P8 at 50, 4 EQs", o, 5, index, eqs(0, 0, 0, 0), b"\xaa" * 36)
     send("P8 at 54", later(o, 4), 5, index)
     send("P9 at 55", later(o, 1), 5, index)
     o = make()
-    send("Q36 0 EQs", o, 5, index, b"", b"")
-    send("Q36 in its tick", o, 5, index)
-    send("Q36 a tick later", later(o, 1), 5, index)
+    send("D26 0 EQs", o, 5, index, b"", b"")
+    send("D26 in its tick", o, 5, index)
+    send("D26 a tick later", later(o, 1), 5, index)
 
 
 def olt_send_rows():
@@ -613,7 +613,7 @@ def olt_send_rows():
     olt_send("under key 2, by LLID 6 on channel 1", olt_at(2, 2, 2), 6, 0x01)
     lengths(olt_send, (5, 0x00), olt_at(1, 1, 1), 7, 0x80)
     for index in (0x80, 0x81, 0x02, 0x7F, 0x82, 0xFF):
-        olt_send(f"Q10 index {index:02x}", olt_at(1, 1, 1), 5, index)
+        olt_send(f"D10 index {index:02x}", olt_at(1, 1, 1), 5, index)
     olt_send("index 02, LLID 7", olt_at(1, 1, 1), 7, 0x02)
     olt_send("LLID 7", olt_at(1, 1, 1), 7, 0x00)
     olt_send("LLID 0, which stands past the count", olt_at(1, 1, 1), 0, 0x00)
@@ -624,16 +624,16 @@ def olt_channel_rows():
     at_channels(olt_send, lambda: olt_at(1, 1, 1), 5, 0x00)
     keeping(olt_send, lambda: olt_at(1, 1, 1), 0x00)
     o = olt_at(0, 0, 0)
-    olt_send("Q36 a clear one", o, 5, 0x00)
-    olt_send("Q36 in its tick", o, 5, 0x00)
+    olt_send("D26 a clear one", o, 5, 0x00)
+    olt_send("D26 in its tick", o, 5, 0x00)
     o = olt_at(1, 1, 1)
     o.register(MAC_TWO, [9], 100, 3000)
-    olt_send("Q36 two units, to the first", o, 5, 0x00)
-    olt_send("Q36 to the second", o, 9, 0x00)
-    olt_send("Q36 to the second on channel 1", o, 9, 0x01)
+    olt_send("D26 two units, to the first", o, 5, 0x00)
+    olt_send("D26 to the second", o, 9, 0x00)
+    olt_send("D26 to the second on channel 1", o, 9, 0x01)
     o = olt_at(1, 1, 1)
-    olt_receive("Q36 a receipt", o, (0x80, 5, 1, 1, 1))
-    olt_send("Q36 in its tick", o, 5, 0x00)
+    olt_receive("D26 a receipt", o, (0x80, 5, 1, 1, 1))
+    olt_send("D26 in its tick", o, 5, 0x00)
 
 
 def olt_age_rows():
@@ -643,25 +643,25 @@ def olt_age_rows():
     olt_send("P11 at 100 + 2^48", first(olt_at(1, 1, 1), 100, end), 5, 0x00)
     o = first(olt_at(1, 1, 1), 0, end)
     o.units[0].first = (0, 0)
-    olt_send("Q2 none noted", o, 5, 0x00)
-    olt_send("Q34 offered, flag up, not acknowledged", first(olt_at(1, 1, 2, 1, 0), 100, end), 5, 0x00)
-    olt_send("Q34 offered, acknowledged, flag down", first(olt_at(1, 1, 2, 0, 1), 100, end), 5, 0x00)
-    olt_send("Q34 offered, acknowledged, flag up", first(olt_at(1, 1, 2, 1, 1), 100, end), 5, 0x00)
-    olt_send("Q34 channel taken", taken(first(olt_at(1, 1, 1), 100, end), end + 1), 5, 0x00)
+    olt_send("D2 none noted", o, 5, 0x00)
+    olt_send("D40 offered, flag up, not acknowledged", first(olt_at(1, 1, 2, 1, 0), 100, end), 5, 0x00)
+    olt_send("D40 offered, acknowledged, flag down", first(olt_at(1, 1, 2, 0, 1), 100, end), 5, 0x00)
+    olt_send("D40 offered, acknowledged, flag up", first(olt_at(1, 1, 2, 1, 1), 100, end), 5, 0x00)
+    olt_send("D40 channel taken", taken(first(olt_at(1, 1, 1), 100, end), end + 1), 5, 0x00)
     o = olt_at(0, 0, 0)
     o.tick = LAST
-    olt_send("Q35 clear at 2^62", o, 5, 0x00)
+    olt_send("D41 clear at 2^62", o, 5, 0x00)
 
 
 def switch_rows():
     section("switch")
-    olt_send("Q33 key 1 acknowledged, flag down", olt_at(0, 0, 1, 0, 1), 5, 0x00)
+    olt_send("D25 key 1 acknowledged, flag down", olt_at(0, 0, 1, 0, 1), 5, 0x00)
     olt_send("key 1 offered, flag up, not acknowledged", olt_at(0, 0, 1, 1, 0), 5, 0x00)
     olt_send("O = A = 1, flag up", olt_at(1, 1, 1, 1, 1), 5, 0x00)
-    olt_send("Q34 key 1 acknowledged, flag up, channel taken", taken(olt_at(0, 0, 1, 1, 1), 101), 5, 0x00)
+    olt_send("D40 key 1 acknowledged, flag up, channel taken", taken(olt_at(0, 0, 1, 1, 1), 101), 5, 0x00)
     o = olt_at(0, 0, 1, 1, 1)
-    olt_send("Q35 key 1 acknowledged, flag up", o, 5, 0x00)
-    olt_send("Q35 7 ticks later", later(o, 7), 5, 0x00)
+    olt_send("D41 key 1 acknowledged, flag up", o, 5, 0x00)
+    olt_send("D41 7 ticks later", later(o, 7), 5, 0x00)
     olt_send("key 2 acknowledged, flag up", olt_at(1, 1, 2, 1, 1), 5, 0x01)
     last = 2**32 - 1
     olt_send("key 2^32 - 1 acknowledged, flag up", olt_at(last - 1, last - 1, last, 1, 1), 5, 0x00)
@@ -670,23 +670,23 @@ def switch_rows():
 def timer_rows():
     o = olt_at(1, 1, 2, 0, 1)
     o.units[0].interval = 100
-    olt_send("Q32 interval 100, at 107", later(o, 107), 5, 0x00)
+    olt_send("D25 interval 100, at 107", later(o, 107), 5, 0x00)
     for n in (92, 1):
-        print(f"Q32 advance by {n}: {o.advance(n)}" + olt_text(o, 5))
+        print(f"D25 advance by {n}: {o.advance(n)}" + olt_text(o, 5))
 
 
 def retry_rows():
     o = olt_at(1, 1, 1, 1, 0)
     number, message = o.offer(5, key(34))
-    message_row("Q23 offer", number, message)
-    row("Q23 acknowledgement", o.acknowledge(6, (2, 2)))
+    message_row("D18 offer", number, message)
+    row("D18 acknowledgement", o.acknowledge(6, (2, 2)))
     number, message = o.retry(5)
-    message_row("Q23 retry", number, message)
-    olt_send("Q23 send", o, 5, 0x00)
+    message_row("D18 retry", number, message)
+    olt_send("D18 send", o, 5, 0x00)
     number, message = o.retry(5)
     message_row("retry", number, message)
     for n in (2, 1, 3):
-        row(f"Q21 acknowledgement of {n}", o.acknowledge(5, (2, n)))
+        row(f"D18 acknowledgement of {n}", o.acknowledge(5, (2, n)))
 
 
 def olt_receive_rows():
@@ -696,56 +696,56 @@ def olt_receive_rows():
     olt_receive("by LLID 6 on channel 1", olt_at(1, 1, 1), (0x81, 6, 1, 1, 1))
     lengths(olt_receive, (good,), olt_at(1, 1, 1), (0x00, 7, 1, 1, 1))
     for index in (0x00, 0x01, 0x02, 0x7F, 0x82, 0xFF):
-        olt_receive(f"Q10 index {index:02x}", olt_at(1, 1, 1), (index, 5, 1, 1, 1))
-    olt_receive("Q41 EncEnabled 2", olt_at(1, 1, 1), (0x80, 5, 2, 1, 1))
-    olt_receive("Q41 EncKey 2", olt_at(1, 1, 1), (0x80, 5, 1, 2, 1))
+        olt_receive(f"D10 index {index:02x}", olt_at(1, 1, 1), (index, 5, 1, 1, 1))
+    olt_receive("D46 EncEnabled 2", olt_at(1, 1, 1), (0x80, 5, 2, 1, 1))
+    olt_receive("D46 EncKey 2", olt_at(1, 1, 1), (0x80, 5, 1, 2, 1))
     olt_receive("EncKey 1 with EncEnabled 0", olt_at(0, 0, 0), (0x80, 5, 0, 1, 1))
-    olt_receive("Q8 EPAM 64", olt_at(1, 1, 1), (0x80, 5, 1, 1, 64))
-    olt_receive("Q8 EPAM 65, the clock's low seven bits", olt_at(1, 1, 1), (0x80, 5, 1, 1, 65))
+    olt_receive("D8 EPAM 64", olt_at(1, 1, 1), (0x80, 5, 1, 1, 64))
+    olt_receive("D8 EPAM 65, the clock's low seven bits", olt_at(1, 1, 1), (0x80, 5, 1, 1, 65))
     olt_receive("EPAM 64, LLID 7", olt_at(1, 1, 1), (0x80, 7, 1, 1, 64))
     olt_receive("LLID 7", olt_at(1, 1, 1), (0x80, 7, 1, 1, 1))
     olt_receive("LLID 7, EPAM 2", olt_at(1, 1, 1), (0x80, 7, 1, 1, 2))
     olt_receive("EPAM 2", olt_at(1, 1, 1), (0x80, 5, 1, 1, 2))
-    olt_receive("Q37 EPAM 2, clear, C = 0", olt_at(0, 0, 0), (0x80, 5, 0, 0, 2))
-    olt_receive("Q37 EPAM 2, clear, C = 1", olt_at(1, 1, 1), (0x80, 5, 0, 0, 2))
-    olt_receive("Q37 EPAM 2, no key", olt_at(1, 1, 1), (0x80, 5, 1, 0, 2))
+    olt_receive("D42 EPAM 2, clear, C = 0", olt_at(0, 0, 0), (0x80, 5, 0, 0, 2))
+    olt_receive("D42 EPAM 2, clear, C = 1", olt_at(1, 1, 1), (0x80, 5, 0, 0, 2))
+    olt_receive("D42 EPAM 2, no key", olt_at(1, 1, 1), (0x80, 5, 1, 0, 2))
 
 
 def olt_key_rows():
     section("keys at the OLT: 11, 9")
-    for name, numbers in (("C = A = O = 0", (0, 0, 0)), ("Q40 O = 1, acknowledged", (0, 0, 1, 1, 1)), ("Q39 Q40 C = 0, A = 1", (0, 1, 1)),
-                          ("C = A = 1", (1, 1, 1)), ("Q40 C = A = 1, O = 2", (1, 1, 2, 1, 1)), ("C = 1, A = 2", (1, 2, 2)), ("C = A = 2", (2, 2, 2))):
+    for name, numbers in (("C = A = O = 0", (0, 0, 0)), ("D45 O = 1, acknowledged", (0, 0, 1, 1, 1)), ("D44 D45 C = 0, A = 1", (0, 1, 1)),
+                          ("C = A = 1", (1, 1, 1)), ("D45 C = A = 1, O = 2", (1, 1, 2, 1, 1)), ("C = 1, A = 2", (1, 2, 2)), ("C = A = 2", (2, 2, 2))):
         olt_receive(f"{name}, clear", olt_at(*numbers), (0x80, 5, 0, 0, 1))
         olt_receive(f"{name}, index 0", olt_at(*numbers), (0x80, 5, 1, 0, 1))
         olt_receive(f"{name}, index 1", olt_at(*numbers), (0x80, 5, 1, 1, 1))
     o = olt_at(1, 2, 2)
-    olt_receive("Q12 C = 1, A = 2, index 0", o, (0x80, 5, 1, 0, 1))
-    print(f"Q12 slots: {o.units[0].keys[2].hex()} {o.units[0].keys.get(1, bytes(16)).hex()}")
-    olt_receive("Q12 then index 1", o, (0x80, 5, 1, 1, 1))
+    olt_receive("D12 C = 1, A = 2, index 0", o, (0x80, 5, 1, 0, 1))
+    print(f"D12 slots: {o.units[0].keys[2].hex()} {o.units[0].keys.get(1, bytes(16)).hex()}")
+    olt_receive("D12 then index 1", o, (0x80, 5, 1, 1, 1))
 
 
 def olt_lent_rows():
     section("lent OLT: 1")
     o = olt_at(1, 1, 1)
     o.clock = TURN
-    olt_send("Q1 clock 2^48, send of 10 octets", o, 5, 0x00, PAYLOAD[:10], LENT[:10])
-    olt_receive("Q1 clock 2^48, receipt of 10 octets", o, (0x80, 5, 1, 1, 0), PAYLOAD[:10], LENT[:10])
+    olt_send("D1 clock 2^48, send of 10 octets", o, 5, 0x00, PAYLOAD[:10], LENT[:10])
+    olt_receive("D1 clock 2^48, receipt of 10 octets", o, (0x80, 5, 1, 1, 0), PAYLOAD[:10], LENT[:10])
     o = olt_at(1, 2, 3, 1, 1)
-    olt_send("Q3 A = 2, C = 1, O = 3, send", o, 5, 0x00)
-    olt_receive("Q3 A = 2, C = 1, O = 3, receipt", o, (0x80, 5, 1, 0, 1))
+    olt_send("D3 A = 2, C = 1, O = 3, send", o, 5, 0x00)
+    olt_receive("D3 A = 2, C = 1, O = 3, receipt", o, (0x80, 5, 1, 0, 1))
     o = olt_at(1, 1, 1, 2)
-    olt_send("Q68 flag 2, send", o, 5, 0x00)
-    olt_receive("Q68 flag 2, receipt", o, (0x80, 5, 1, 1, 1))
+    olt_send("D39 flag 2, send", o, 5, 0x00)
+    olt_receive("D39 flag 2, receipt", o, (0x80, 5, 1, 1, 1))
     o = first(olt_at(1, 1, 1), 101, 100)
     olt_send("first send a tick later, send", o, 5, 0x00)
     olt_receive("first send a tick later, receipt", o, (0x80, 5, 1, 1, 1))
     o = Olt(0, 0)
-    olt_send("Q7 OLT of zeros, send", o, 5, 0x00)
-    olt_receive("Q7 OLT of zeros, receipt", o, (0x80, 5, 0, 0, 0))
+    olt_send("D6 OLT of zeros, send", o, 5, 0x00)
+    olt_receive("D6 OLT of zeros, receipt", o, (0x80, 5, 0, 0, 0))
 
 
 def stuck_rows():
-    section("Q52: C = 0, A = 1, first send at 100, 2^48 ticks later")
+    section("D50: C = 0, A = 1, first send at 100, 2^48 ticks later")
     o = first(olt_at(0, 1, 1), 100, 100 + LIFE)
     olt_send("send", o, 5, 0x00)
     row("offer", o.offer(5, key(34))[0])
@@ -760,14 +760,14 @@ def onu_send_rows():
     onu_send("under key 1, key 2 held", onu_at(1, 1), 5, 0x80)
     lengths(onu_send, (5, 0x80), onu_at(1, 0), 7, 0x00)
     for index in (0x00, 0x01, 0x02, 0x7F, 0x82, 0xFF):
-        onu_send(f"Q10 index {index:02x}", onu_at(1, 0), 5, index)
+        onu_send(f"D10 index {index:02x}", onu_at(1, 0), 5, index)
     onu_send("index 02, LLID 7", onu_at(1, 0), 7, 0x02)
     onu_send("LLID 7", onu_at(1, 0), 7, 0x80)
     onu_send("LLID 0, which stands past the count", onu_at(1, 0), 0, 0x80)
     onu_send("a = 0", onu_at(0, 0), 5, 0x80)
     onu_send("a = 0, key 1 held", onu_at(0, 1), 5, 0x80)
     onu_send("unsynced", unsynced(onu_at(0, 0)), 5, 0x80)
-    onu_send("Q6 a = 1, unsynced", unsynced(onu_at(1, 0)), 5, 0x80)
+    onu_send("D2 a = 1, unsynced", unsynced(onu_at(1, 0)), 5, 0x80)
 
 
 def onu_channel_rows():
@@ -775,11 +775,11 @@ def onu_channel_rows():
     at_channels(onu_send, lambda: onu_at(1, 0), 5, 0x80)
     keeping(onu_send, lambda: onu_at(1, 0), 0x80)
     o = onu_at(0, 0)
-    onu_send("Q36 a clear one", o, 5, 0x80)
-    onu_send("Q36 in its tick", o, 6, 0x80)
+    onu_send("D26 a clear one", o, 5, 0x80)
+    onu_send("D26 in its tick", o, 6, 0x80)
     o = onu_at(1, 0)
-    onu_receive("Q36 a receipt", o, (0x00, 5, 1, 1, 7))
-    onu_send("Q36 in its tick", o, 5, 0x80)
+    onu_receive("D26 a receipt", o, (0x00, 5, 1, 1, 7))
+    onu_send("D26 in its tick", o, 5, 0x80)
 
 
 def onu_age_rows():
@@ -787,15 +787,15 @@ def onu_age_rows():
     end = 100 + LIFE
     onu_send("P10 at 100 + 2^48 - 1", first(onu_at(1, 0), 100, end - 1), 5, 0x80)
     onu_send("P11 at 100 + 2^48", first(onu_at(1, 0), 100, end), 5, 0x80)
-    onu_send("Q34 channel taken", taken(first(onu_at(1, 0), 100, end), end + 1), 5, 0x80)
+    onu_send("D40 channel taken", taken(first(onu_at(1, 0), 100, end), end + 1), 5, 0x80)
     o = first(onu_at(2, 1), 100, end)
-    onu_send("Q35 under key 2", o, 5, 0x80)
-    onu_receive("Q35 key 3 comes into use", o, (0x00, 5, 1, 1, 7))
-    onu_send("Q35 under key 3", o, 5, 0x80)
-    onu_send("Q35 7 ticks later", later(o, 7), 5, 0x80)
+    onu_send("D41 under key 2", o, 5, 0x80)
+    onu_receive("D41 key 3 comes into use", o, (0x00, 5, 1, 1, 7))
+    onu_send("D41 under key 3", o, 5, 0x80)
+    onu_send("D41 7 ticks later", later(o, 7), 5, 0x80)
     o = onu_at(0, 0)
     o.tick = LAST
-    onu_send("Q35 clear at 2^62", o, 5, 0x80)
+    onu_send("D41 clear at 2^62", o, 5, 0x80)
 
 
 def onu_receive_rows():
@@ -805,34 +805,34 @@ def onu_receive_rows():
     onu_receive("by LLID 6 on channel 1", onu_at(1, 0), (0x01, 6, 1, 1, 7))
     lengths(onu_receive, (good,), onu_at(1, 0), (0x80, 7, 1, 1, 7))
     for index in (0x80, 0x81, 0x02, 0x7F, 0x82, 0xFF):
-        onu_receive(f"Q10 index {index:02x}", onu_at(1, 0), (index, 5, 1, 1, 7))
-    onu_receive("Q41 EncEnabled 2", onu_at(1, 0), (0x00, 5, 2, 1, 7))
-    onu_receive("Q41 EncKey 2", onu_at(1, 0), (0x00, 5, 1, 2, 7))
+        onu_receive(f"D10 index {index:02x}", onu_at(1, 0), (index, 5, 1, 1, 7))
+    onu_receive("D46 EncEnabled 2", onu_at(1, 0), (0x00, 5, 2, 1, 7))
+    onu_receive("D46 EncKey 2", onu_at(1, 0), (0x00, 5, 1, 2, 7))
     onu_receive("EncKey 1 with EncEnabled 0", onu_at(0, 0), (0x00, 5, 0, 1, 7))
-    onu_receive("Q8 EPAM 64", onu_at(1, 0), (0x00, 5, 1, 1, 64))
+    onu_receive("D8 EPAM 64", onu_at(1, 0), (0x00, 5, 1, 1, 64))
     onu_receive("LLID 7", onu_at(1, 0), (0x00, 7, 1, 1, 7))
     onu_receive("LLID 7, EPAM 8", onu_at(1, 0), (0x00, 7, 1, 1, 8))
     onu_receive("EPAM 8", onu_at(1, 0), (0x00, 5, 1, 1, 8))
-    onu_receive("Q37 EPAM 1, LocalTime's", onu_at(1, 0), (0x00, 5, 1, 1, 1))
-    onu_receive("Q37 EPAM 8, clear, a = 0", onu_at(0, 0), (0x00, 5, 0, 0, 8))
-    onu_receive("Q37 EPAM 8, clear, a = 1", onu_at(1, 0), (0x00, 5, 0, 0, 8))
-    onu_receive("Q37 EPAM 8, no key", onu_at(1, 0), (0x00, 5, 1, 0, 8))
+    onu_receive("D42 EPAM 1, LocalTime's", onu_at(1, 0), (0x00, 5, 1, 1, 1))
+    onu_receive("D42 EPAM 8, clear, a = 0", onu_at(0, 0), (0x00, 5, 0, 0, 8))
+    onu_receive("D42 EPAM 8, clear, a = 1", onu_at(1, 0), (0x00, 5, 0, 0, 8))
+    onu_receive("D42 EPAM 8, no key", onu_at(1, 0), (0x00, 5, 1, 0, 8))
 
 
 def unsynced_rows():
     section("unsynced ONU")
-    onu_receive("Q8 clear, EPAM 64", unsynced(onu_at(0, 0)), (0x00, 5, 0, 0, 64))
-    onu_receive("Q8 clear, EPAM 63", unsynced(onu_at(0, 0)), (0x00, 5, 0, 0, 63))
+    onu_receive("D8 clear, EPAM 64", unsynced(onu_at(0, 0)), (0x00, 5, 0, 0, 64))
+    onu_receive("D8 clear, EPAM 63", unsynced(onu_at(0, 0)), (0x00, 5, 0, 0, 63))
     onu_receive("EncEnabled 1", unsynced(onu_at(0, 0)), (0x00, 5, 1, 1, 7))
     onu_receive("EncEnabled 1, LLID 7", unsynced(onu_at(0, 0)), (0x00, 7, 1, 1, 7))
-    onu_receive("Q6 a = 1, EncEnabled 1", unsynced(onu_at(1, 0)), (0x00, 5, 1, 1, 7))
-    onu_receive("Q6 a = 1, clear", unsynced(onu_at(1, 0)), (0x00, 5, 0, 0, 7))
+    onu_receive("D2 a = 1, EncEnabled 1", unsynced(onu_at(1, 0)), (0x00, 5, 1, 1, 7))
+    onu_receive("D2 a = 1, clear", unsynced(onu_at(1, 0)), (0x00, 5, 0, 0, 7))
 
 
 def onu_key_rows():
     section("keys at the ONU: 11, 9")
     last = 2**32 - 1
-    for name, numbers in (("a = 0", (0, 0)), ("Q38 a = 0, key 1 held", (0, 1)), ("a = 1", (1, 0)), ("a = 1, key 2 held", (1, 1)),
+    for name, numbers in (("a = 0", (0, 0)), ("D43 a = 0, key 1 held", (0, 1)), ("a = 1", (1, 0)), ("a = 1, key 2 held", (1, 1)),
                           ("a = 2", (2, 0)), ("a = 2^32 - 2, the last key held", (last - 1, 1)), ("a = 2^32 - 1", (last, 0))):
         onu_receive(f"{name}, clear", onu_at(*numbers), (0x00, 5, 0, 0, 7))
         onu_receive(f"{name}, index 0", onu_at(*numbers), (0x00, 5, 1, 0, 7))
@@ -847,34 +847,34 @@ def onu_lent_rows():
     section("lent ONU: 1")
     o = onu_at(1, 0)
     o.rx = TURN
-    onu_send("Q1 Rx 2^48, send of 10 octets", o, 5, 0x80, PAYLOAD[:10], LENT[:10])
-    onu_receive("Q1 Rx 2^48, receipt of 10 octets", o, (0x00, 5, 1, 1, 0), PAYLOAD[:10], LENT[:10])
+    onu_send("D1 Rx 2^48, send of 10 octets", o, 5, 0x80, PAYLOAD[:10], LENT[:10])
+    onu_receive("D1 Rx 2^48, receipt of 10 octets", o, (0x00, 5, 1, 1, 0), PAYLOAD[:10], LENT[:10])
     o = onu_at(2**32 - 1, 1)
-    onu_send("Q5 a = 2^32 - 1, another key held, send", o, 5, 0x80)
-    onu_receive("Q5 a = 2^32 - 1, another key held, receipt", o, (0x00, 5, 1, 0, 7))
+    onu_send("D5 a = 2^32 - 1, another key held, send", o, 5, 0x80)
+    onu_receive("D5 a = 2^32 - 1, another key held, receipt", o, (0x00, 5, 1, 0, 7))
     o = onu_at(0, 0)
     o.synced, o.time = 0, LOCAL
-    onu_send("Q31 unsynced, LocalTime 2^32, send", o, 5, 0x80)
-    onu_receive("Q31 unsynced, LocalTime 2^32, receipt", o, (0x00, 5, 0, 0, 7))
+    onu_send("D24 unsynced, LocalTime 2^32, send", o, 5, 0x80)
+    onu_receive("D24 unsynced, LocalTime 2^32, receipt", o, (0x00, 5, 0, 0, 7))
     o = onu_at(1, 2)
-    onu_send("Q68 held 2, send", o, 5, 0x80)
-    onu_receive("Q68 held 2, receipt", o, (0x00, 5, 1, 1, 7))
+    onu_send("D39 held 2, send", o, 5, 0x80)
+    onu_receive("D39 held 2, receipt", o, (0x00, 5, 1, 1, 7))
     o = Onu(0, [], 0, 0)
-    onu_send("Q7 ONU of zeros, send", o, 0, 0x80)
-    onu_receive("Q7 ONU of zeros, receipt", o, (0x00, 0, 0, 0, 0))
+    onu_send("D6 ONU of zeros, send", o, 0, 0x80)
+    onu_receive("D6 ONU of zeros, receipt", o, (0x00, 0, 0, 0, 0))
 
 
 def mask_rows():
     section("the mask")
-    onu_send("Q43 control octets 01, 80, 81", onu_at(1, 0), 5, 0x80, eqs(0x01, 0x80, 0x81))
-    onu_send("Q43 control octets ff, 00, ff", onu_at(1, 0), 5, 0x80, eqs(0xFF, 0x00, 0xFF))
+    onu_send("D27 control octets 01, 80, 81", onu_at(1, 0), 5, 0x80, eqs(0x01, 0x80, 0x81))
+    onu_send("D27 control octets ff, 00, ff", onu_at(1, 0), 5, 0x80, eqs(0xFF, 0x00, 0xFF))
     for control in (0x81, 0x01, 0x80):
-        name = "P12" if control == 0x81 else "Q43"
+        name = "P12" if control == 0x81 else "D27"
         olt_send(f"{name} one EQ, control octet {control:02x}", olt_at(1, 1, 1), 5, 0x00, eqs(control), LENT[:9])
 
 
 def order_rows():
-    section("Q45: channel 1 ahead of channel 0, delays 0")
+    section("D47: channel 1 ahead of channel 0, delays 0")
     olt, onu = Olt(OLT_MAC, 1000), Onu(MAC_ONE, [5, 6], OLT_MAC, 1000)
     olt.register(MAC_ONE, [5, 6], 0, 1)
     for end in (olt, onu):

@@ -47,7 +47,7 @@ fn register(label: &[u8], start: Line, identity: Identity, trip: u64, interval: 
 // Unit 2 is registered at tick 10.
 fn registered() -> Line {
     let one = register(b"register unit 1", fresh(), values::unit_one(), 250, 5000);
-    let none = line::down(b"Q53 to unit 2, not registered", one, 9, 0x00);
+    let none = line::down(b"D51 to unit 2, not registered", one, 9, 0x00);
     let waited = line::advance(none.line, 10);
     register(b"register unit 2", waited, values::unit_two(), 100, 3000)
 }
@@ -132,7 +132,7 @@ fn retries(start: Line) -> Line {
 // Unit 2 switches to key 1. The switching envelope is lost, the next goes after a clear one.
 fn first_switch(start: Line) -> Pair {
     let clear = line::down(
-        b"Q33 acknowledged, flag down: clear, to unit 2",
+        b"D25 acknowledged, flag down: clear, to unit 2",
         line::advance(start, 1949),
         9,
         0x00,
@@ -153,7 +153,7 @@ fn short_output(start: Line, envelope: Envelope) -> Line {
     let octets = envelope.octets;
     let mut output = [0xaau8; 18];
     let answer = calls::onu_receive_of(
-        b"Q67 unit 2, output of 18 octets",
+        b"D52 unit 2, output of 18 octets",
         start.two,
         envelope.header,
         &octets,
@@ -168,7 +168,7 @@ fn at_second_unit(start: Pair) -> Pair {
     let taken = line::at_unit(b"unit 2 takes the clear one", came, 2, start.clear);
     let clear = line::up(b"clear, from unit 2", taken, 2, 9, 0x80);
     let arrived = line::advance(clear.line, 5);
-    let overheard = line::at_unit(b"Q51 unit 1 overhears", arrived, 1, start.sealed);
+    let overheard = line::at_unit(b"D49 unit 1 overhears", arrived, 1, start.sealed);
     let short = short_output(overheard, start.sealed);
     let opened = line::at_unit(b"unit 2 takes the sealed one", short, 2, start.sealed);
     let lost = line::up(b"from unit 2, lost", opened, 2, 9, 0x81);
@@ -185,9 +185,9 @@ fn at_second_unit(start: Pair) -> Pair {
 // Both arrive at the OLT: the sealed one confirms key 1.
 fn confirmed(start: Pair) -> Line {
     let came = line::advance(start.line, 51);
-    let taken = line::at_olt(b"Q39 the OLT takes the clear one", came, start.clear);
+    let taken = line::at_olt(b"D44 the OLT takes the clear one", came, start.clear);
     let arrived = line::advance(taken, 9);
-    let overheard = line::at_unit(b"Q51 unit 1 overhears", arrived, 1, start.sealed);
+    let overheard = line::at_unit(b"D49 unit 1 overhears", arrived, 1, start.sealed);
     line::at_olt(b"the OLT takes the sealed one", overheard, start.sealed)
 }
 
@@ -264,7 +264,7 @@ fn second_switch_of_one(start: Line) -> Line {
     let sent = line::down(b"to unit 1, which switches", again.line, 5, 0x01);
     let arrived = line::advance(sent.line, 150);
     let opened = line::at_unit(b"unit 1 takes it", arrived, 1, sent.envelope);
-    let kept = line::key_message(b"Q49 the retry at unit 1", opened, 1, again.message);
+    let kept = line::key_message(b"D48 the retry at unit 1", opened, 1, again.message);
     let reply = line::up(b"from unit 1", kept.line, 1, 5, 0x80);
     line::at_olt(
         b"the OLT takes it",
@@ -274,12 +274,12 @@ fn second_switch_of_one(start: Line) -> Line {
 }
 
 fn acknowledged(start: Line, late: Acknowledgement) -> Line {
-    let two = line::acknowledge(b"Q21 a late acknowledgement of key 2", start, 5, late);
+    let two = line::acknowledge(b"D18 a late acknowledgement of key 2", start, 5, late);
     let one = Acknowledgement { kind: 2, number: 1 };
     let three = Acknowledgement { kind: 2, number: 3 };
     line::acknowledge(
-        b"Q21 of key 3",
-        line::acknowledge(b"Q21 of key 1", two, 5, one),
+        b"D18 of key 3",
+        line::acknowledge(b"D18 of key 1", two, 5, one),
         5,
         three,
     )

@@ -11,7 +11,7 @@ fn olt_ten(o: Olt, header: Header) {
     let payload = [0u8; 10];
     let mut output = [0xaau8; 10];
     calls::olt_send_of(
-        b"Q1 clock 2^48, send of 10 octets",
+        b"D1 clock 2^48, send of 10 octets",
         o,
         5,
         0x00,
@@ -19,7 +19,7 @@ fn olt_ten(o: Olt, header: Header) {
         &mut output,
     );
     calls::olt_receive_of(
-        b"Q1 clock 2^48, receipt of 10 octets",
+        b"D1 clock 2^48, receipt of 10 octets",
         o,
         header,
         &payload,
@@ -38,14 +38,14 @@ pub(crate) fn olt_rows() {
     fast.shared.clock = 0x1_0000_0000_0000;
     olt_ten(fast, values::header(0x80, 5, 1, 1, 0));
     olt_lent(
-        b"Q3 A = 2, C = 1, O = 3, send",
-        b"Q3 A = 2, C = 1, O = 3, receipt",
+        b"D3 A = 2, C = 1, O = 3, send",
+        b"D3 A = 2, C = 1, O = 3, receipt",
         ready::marked(ready::olt(1, 2, 3), 1, 1),
         0,
     );
     olt_lent(
-        b"Q68 flag 2, send",
-        b"Q68 flag 2, receipt",
+        b"D39 flag 2, send",
+        b"D39 flag 2, receipt",
         ready::marked(ready::olt(1, 1, 1), 2, 0),
         1,
     );
@@ -56,16 +56,16 @@ pub(crate) fn olt_rows() {
         1,
     );
     let refused = olt::fresh(0x1_0000_0000_0000, 0);
-    let zeros = calls::olt_send(b"Q7 OLT of zeros, send", refused.olt, 5, 0x00);
+    let zeros = calls::olt_send(b"D6 OLT of zeros, send", refused.olt, 5, 0x00);
     let header = values::header(0x80, 5, 0, 0, 0);
-    calls::olt_receive(b"Q7 OLT of zeros, receipt", zeros, header);
+    calls::olt_receive(b"D6 OLT of zeros, receipt", zeros, header);
 }
 
 fn onu_ten(o: Onu, header: Header) {
     let payload = [0u8; 10];
     let mut output = [0xaau8; 10];
     calls::onu_send_of(
-        b"Q1 Rx 2^48, send of 10 octets",
+        b"D1 Rx 2^48, send of 10 octets",
         o,
         5,
         0x80,
@@ -73,7 +73,7 @@ fn onu_ten(o: Onu, header: Header) {
         &mut output,
     );
     calls::onu_receive_of(
-        b"Q1 Rx 2^48, receipt of 10 octets",
+        b"D1 Rx 2^48, receipt of 10 octets",
         o,
         header,
         &payload,
@@ -92,8 +92,8 @@ pub(crate) fn onu_rows() {
     fast.clock.rx = 0x1_0000_0000_0000;
     onu_ten(fast, values::header(0x00, 5, 1, 1, 0));
     onu_lent(
-        b"Q5 a = 2^32 - 1, another key held, send",
-        b"Q5 a = 2^32 - 1, another key held, receipt",
+        b"D5 a = 2^32 - 1, another key held, send",
+        b"D5 a = 2^32 - 1, another key held, receipt",
         ready::onu(0xffff_ffff, 1),
         values::header(0x00, 5, 1, 0, 7),
     );
@@ -101,19 +101,19 @@ pub(crate) fn onu_rows() {
     late.clock.synced = 0;
     late.clock.time = 0x1_0000_0000;
     onu_lent(
-        b"Q31 unsynced, LocalTime 2^32, send",
-        b"Q31 unsynced, LocalTime 2^32, receipt",
+        b"D24 unsynced, LocalTime 2^32, send",
+        b"D24 unsynced, LocalTime 2^32, receipt",
         late,
         values::header(0x00, 5, 0, 0, 7),
     );
     onu_lent(
-        b"Q68 held 2, send",
-        b"Q68 held 2, receipt",
+        b"D39 held 2, send",
+        b"D39 held 2, receipt",
         ready::onu(1, 2),
         values::header(0x00, 5, 1, 1, 7),
     );
     let refused = onu::fresh(values::unit_one(), 0x1_0000_0000_0000, 0);
-    let zeros = calls::onu_send(b"Q7 ONU of zeros, send", refused.onu, 0, 0x80);
+    let zeros = calls::onu_send(b"D6 ONU of zeros, send", refused.onu, 0, 0x80);
     let header = values::header(0x00, 0, 0, 0, 0);
-    calls::onu_receive(b"Q7 ONU of zeros, receipt", zeros, header);
+    calls::onu_receive(b"D6 ONU of zeros, receipt", zeros, header);
 }

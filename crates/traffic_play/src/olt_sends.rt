@@ -42,16 +42,16 @@ pub(crate) fn refusal_rows() {
         6,
         0x01,
     );
-    ten(b"Q41 10 octets", 5, 0x00);
-    shorter(b"Q41 27 octets, output of 18");
-    longer(b"Q41 18 octets, output of 27");
-    ten(b"Q41 10 octets, out of range, LLID 7", 7, 0x80);
-    send(b"Q10 index 80", one(), 5, 0x80);
-    send(b"Q10 index 81", one(), 5, 0x81);
-    send(b"Q10 index 02", one(), 5, 0x02);
-    send(b"Q10 index 7f", one(), 5, 0x7f);
-    send(b"Q10 index 82", one(), 5, 0x82);
-    send(b"Q10 index ff", one(), 5, 0xff);
+    ten(b"D46 10 octets", 5, 0x00);
+    shorter(b"D46 27 octets, output of 18");
+    longer(b"D46 18 octets, output of 27");
+    ten(b"D46 10 octets, out of range, LLID 7", 7, 0x80);
+    send(b"D10 index 80", one(), 5, 0x80);
+    send(b"D10 index 81", one(), 5, 0x81);
+    send(b"D10 index 02", one(), 5, 0x02);
+    send(b"D10 index 7f", one(), 5, 0x7f);
+    send(b"D10 index 82", one(), 5, 0x82);
+    send(b"D10 index ff", one(), 5, 0xff);
     send(b"index 02, LLID 7", one(), 7, 0x02);
     send(b"LLID 7", one(), 7, 0x00);
     send(b"LLID 0, which stands past the count", one(), 0, 0x00);
@@ -68,16 +68,16 @@ pub(crate) fn channel_rows() {
     freed(b"channel 0 taken, on channel 1", 101, 0, 5, 0x01);
     freed(b"channel 1 taken, on channel 1", 0, 101, 5, 0x01);
     freed(b"channel 0 free from this tick", 100, 0, 5, 0x00);
-    freed(b"Q4 free from 4194405", 4_194_405, 0, 5, 0x00);
+    freed(b"D4 free from 4194405", 4_194_405, 0, 5, 0x00);
     freed(
-        b"Q4 free from 2^62 + 4194304",
+        b"D4 free from 2^62 + 4194304",
         0x4000_0000_0040_0000,
         0,
         5,
         0x00,
     );
     freed(
-        b"Q4 free from 2^62 + 4194305",
+        b"D4 free from 2^62 + 4194305",
         0x4000_0000_0040_0001,
         0,
         5,
@@ -105,21 +105,21 @@ pub(crate) fn keeping_rows() {
     let kept = ready::later(four_eqs(b"P8 at 50, 4 EQs", early), 4);
     let refused = calls::olt_send(b"P8 at 54", kept, 5, 0x00);
     send(b"P9 at 55", ready::later(refused, 1), 5, 0x00);
-    let empty = no_eqs(b"Q36 0 EQs", one());
-    let again = calls::olt_send(b"Q36 in its tick", empty, 5, 0x00);
-    send(b"Q36 a tick later", ready::later(again, 1), 5, 0x00);
-    let clear = calls::olt_send(b"Q36 a clear one", ready::olt(0, 0, 0), 5, 0x00);
-    send(b"Q36 in its tick", clear, 5, 0x00);
+    let empty = no_eqs(b"D26 0 EQs", one());
+    let again = calls::olt_send(b"D26 in its tick", empty, 5, 0x00);
+    send(b"D26 a tick later", ready::later(again, 1), 5, 0x00);
+    let clear = calls::olt_send(b"D26 a clear one", ready::olt(0, 0, 0), 5, 0x00);
+    send(b"D26 in its tick", clear, 5, 0x00);
 }
 
 pub(crate) fn sharing_rows() {
     let named = olt::register(one(), values::unit_two(), 100, 3000);
-    let first = calls::olt_send(b"Q36 two units, to the first", named.olt, 5, 0x00);
-    let second = calls::olt_send(b"Q36 to the second", first, 9, 0x00);
-    send(b"Q36 to the second on channel 1", second, 9, 0x01);
+    let first = calls::olt_send(b"D26 two units, to the first", named.olt, 5, 0x00);
+    let second = calls::olt_send(b"D26 to the second", first, 9, 0x00);
+    send(b"D26 to the second on channel 1", second, 9, 0x01);
     let header = values::header(0x80, 5, 1, 1, 1);
-    let received = calls::olt_receive(b"Q36 a receipt", one(), header);
-    send(b"Q36 in its tick", received, 5, 0x00);
+    let received = calls::olt_receive(b"D26 a receipt", one(), header);
+    send(b"D26 in its tick", received, 5, 0x00);
 }
 
 // 2^48 ticks after a first send at 100, the offer's flag and mark as given.
@@ -135,20 +135,20 @@ pub(crate) fn age_rows() {
     old(b"P11 at 100 + 2^48", 1, 0, 0);
     let mut never = one();
     never.shared.tick = 0x1_0000_0000_0064;
-    send(b"Q2 none noted", never, 5, 0x00);
-    old(b"Q34 offered, flag up, not acknowledged", 2, 1, 0);
-    old(b"Q34 offered, acknowledged, flag down", 2, 0, 1);
-    old(b"Q34 offered, acknowledged, flag up", 2, 1, 1);
+    send(b"D2 none noted", never, 5, 0x00);
+    old(b"D40 offered, flag up, not acknowledged", 2, 1, 0);
+    old(b"D40 offered, acknowledged, flag down", 2, 0, 1);
+    old(b"D40 offered, acknowledged, flag up", 2, 1, 1);
     let aged = ready::sent(one(), 100, 0x1_0000_0000_0064);
     send(
-        b"Q34 channel taken",
+        b"D40 channel taken",
         ready::free(aged, 0x1_0000_0000_0065, 0),
         5,
         0x00,
     );
     let mut last = ready::olt(0, 0, 0);
     last.shared.tick = 0x4000_0000_0000_0000;
-    send(b"Q35 clear at 2^62", last, 5, 0x00);
+    send(b"D41 clear at 2^62", last, 5, 0x00);
 }
 
 // C = A, at that offer, flag and mark.
@@ -159,7 +159,7 @@ fn at(active: u32, offered: u32, flag: u8, acknowledged: u8) -> Olt {
 pub(crate) fn switch_rows() {
     show::section(b"switch");
     send(
-        b"Q33 key 1 acknowledged, flag down",
+        b"D25 key 1 acknowledged, flag down",
         at(0, 1, 0, 1),
         5,
         0x00,
@@ -173,13 +173,13 @@ pub(crate) fn switch_rows() {
     send(b"O = A = 1, flag up", at(1, 1, 1, 1), 5, 0x00);
     let taken = ready::free(at(0, 1, 1, 1), 101, 0);
     send(
-        b"Q34 key 1 acknowledged, flag up, channel taken",
+        b"D40 key 1 acknowledged, flag up, channel taken",
         taken,
         5,
         0x00,
     );
-    let switched = calls::olt_send(b"Q35 key 1 acknowledged, flag up", at(0, 1, 1, 1), 5, 0x00);
-    send(b"Q35 7 ticks later", ready::later(switched, 7), 5, 0x00);
+    let switched = calls::olt_send(b"D41 key 1 acknowledged, flag up", at(0, 1, 1, 1), 5, 0x00);
+    send(b"D41 7 ticks later", ready::later(switched, 7), 5, 0x00);
     send(b"key 2 acknowledged, flag up", at(1, 2, 1, 1), 5, 0x01);
     send(
         b"key 2^32 - 1 acknowledged, flag up",
@@ -203,9 +203,9 @@ pub(crate) fn timer_rows() {
     u.keys.timer.interval = 100;
     o.units[0] = u;
     let due = ready::later(o, 107);
-    let switched = calls::olt_send(b"Q32 interval 100, at 107", due, 5, 0x00);
-    let before = run(b"Q32 advance by 92", switched, 92);
-    run(b"Q32 advance by 1", before, 1);
+    let switched = calls::olt_send(b"D25 interval 100, at 107", due, 5, 0x00);
+    let before = run(b"D25 advance by 92", switched, 92);
+    run(b"D25 advance by 1", before, 1);
 }
 
 fn acknowledge(label: &[u8], o: Olt, llid: u16, number: u32) -> Olt {
@@ -216,21 +216,21 @@ fn acknowledge(label: &[u8], o: Olt, llid: u16, number: u32) -> Olt {
 
 pub(crate) fn retry_rows() {
     let offered = olt::offer(at(1, 1, 1, 0), 5, values::key(34));
-    show::key_message(b"Q23 offer", offered.number, offered.message);
-    let noted = acknowledge(b"Q23 acknowledgement", offered.olt, 6, 2);
+    show::key_message(b"D18 offer", offered.number, offered.message);
+    let noted = acknowledge(b"D18 acknowledgement", offered.olt, 6, 2);
     let again = olt::retry(noted, 5);
-    show::key_message(b"Q23 retry", again.number, again.message);
-    let switched = calls::olt_send(b"Q23 send", again.olt, 5, 0x00);
+    show::key_message(b"D18 retry", again.number, again.message);
+    let switched = calls::olt_send(b"D18 send", again.olt, 5, 0x00);
     let none = olt::retry(switched, 5);
     show::key_message(b"retry", none.number, none.message);
-    let two = acknowledge(b"Q21 acknowledgement of 2", none.olt, 5, 2);
-    let one = acknowledge(b"Q21 acknowledgement of 1", two, 5, 1);
-    acknowledge(b"Q21 acknowledgement of 3", one, 5, 3);
+    let two = acknowledge(b"D18 acknowledgement of 2", none.olt, 5, 2);
+    let one = acknowledge(b"D18 acknowledgement of 1", two, 5, 1);
+    acknowledge(b"D18 acknowledgement of 3", one, 5, 3);
 }
 
 // Nothing under key 1 has come for 2^48 ticks.
 pub(crate) fn stuck_rows() {
-    show::section(b"Q52: C = 0, A = 1, first send at 100, 2^48 ticks later");
+    show::section(b"D50: C = 0, A = 1, first send at 100, 2^48 ticks later");
     let o = ready::sent(ready::olt(0, 1, 1), 100, 0x1_0000_0000_0064);
     send(b"send", o, 5, 0x00);
     let offered = olt::offer(o, 5, values::key(34));

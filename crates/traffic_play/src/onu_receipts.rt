@@ -49,19 +49,19 @@ pub(crate) fn length_rows() {
         one(),
         values::header(0x01, 6, 1, 1, 7),
     );
-    ten(b"Q41 10 octets", good());
-    shorter(b"Q41 27 octets, output of 18");
-    longer(b"Q41 18 octets, output of 27");
+    ten(b"D46 10 octets", good());
+    shorter(b"D46 27 octets, output of 18");
+    longer(b"D46 18 octets, output of 27");
     ten(
-        b"Q41 10 octets, out of range, LLID 7",
+        b"D46 10 octets, out of range, LLID 7",
         values::header(0x80, 7, 1, 1, 7),
     );
-    indexed(b"Q10 index 80", 0x80);
-    indexed(b"Q10 index 81", 0x81);
-    indexed(b"Q10 index 02", 0x02);
-    indexed(b"Q10 index 7f", 0x7f);
-    indexed(b"Q10 index 82", 0x82);
-    indexed(b"Q10 index ff", 0xff);
+    indexed(b"D10 index 80", 0x80);
+    indexed(b"D10 index 81", 0x81);
+    indexed(b"D10 index 02", 0x02);
+    indexed(b"D10 index 7f", 0x7f);
+    indexed(b"D10 index 82", 0x82);
+    indexed(b"D10 index ff", 0xff);
 }
 
 fn headed(label: &[u8], o: Onu, llid: u16, encenabled: u8, enckey: u8, epam: u8) {
@@ -73,29 +73,29 @@ fn headed(label: &[u8], o: Onu, llid: u16, encenabled: u8, enckey: u8, epam: u8)
 }
 
 pub(crate) fn header_rows() {
-    headed(b"Q41 EncEnabled 2", one(), 5, 2, 1, 7);
-    headed(b"Q41 EncKey 2", one(), 5, 1, 2, 7);
+    headed(b"D46 EncEnabled 2", one(), 5, 2, 1, 7);
+    headed(b"D46 EncKey 2", one(), 5, 1, 2, 7);
     headed(b"EncKey 1 with EncEnabled 0", ready::onu(0, 0), 5, 0, 1, 7);
-    headed(b"Q8 EPAM 64", one(), 5, 1, 1, 64);
+    headed(b"D8 EPAM 64", one(), 5, 1, 1, 64);
     headed(b"LLID 7", one(), 7, 1, 1, 7);
     headed(b"LLID 7, EPAM 8", one(), 7, 1, 1, 8);
     headed(b"EPAM 8", one(), 5, 1, 1, 8);
-    headed(b"Q37 EPAM 1, LocalTime's", one(), 5, 1, 1, 1);
-    headed(b"Q37 EPAM 8, clear, a = 0", ready::onu(0, 0), 5, 0, 0, 8);
-    headed(b"Q37 EPAM 8, clear, a = 1", one(), 5, 0, 0, 8);
-    headed(b"Q37 EPAM 8, no key", one(), 5, 1, 0, 8);
+    headed(b"D42 EPAM 1, LocalTime's", one(), 5, 1, 1, 1);
+    headed(b"D42 EPAM 8, clear, a = 0", ready::onu(0, 0), 5, 0, 0, 8);
+    headed(b"D42 EPAM 8, clear, a = 1", one(), 5, 0, 0, 8);
+    headed(b"D42 EPAM 8, no key", one(), 5, 1, 0, 8);
 }
 
 pub(crate) fn unsynced_rows() {
     show::section(b"unsynced ONU");
     let o = ready::unsynced(0, 0);
-    headed(b"Q8 clear, EPAM 64", o, 5, 0, 0, 64);
-    headed(b"Q8 clear, EPAM 63", o, 5, 0, 0, 63);
+    headed(b"D8 clear, EPAM 64", o, 5, 0, 0, 64);
+    headed(b"D8 clear, EPAM 63", o, 5, 0, 0, 63);
     headed(b"EncEnabled 1", o, 5, 1, 1, 7);
     headed(b"EncEnabled 1, LLID 7", o, 7, 1, 1, 7);
     let keyed = ready::unsynced(1, 0);
-    headed(b"Q6 a = 1, EncEnabled 1", keyed, 5, 1, 1, 7);
-    headed(b"Q6 a = 1, clear", keyed, 5, 0, 0, 7);
+    headed(b"D2 a = 1, EncEnabled 1", keyed, 5, 1, 1, 7);
+    headed(b"D2 a = 1, clear", keyed, 5, 0, 0, 7);
 }
 
 fn clear(label: &[u8], active: u32, held: u8) {
@@ -111,9 +111,9 @@ pub(crate) fn first_key_rows() {
     clear(b"a = 0, clear", 0, 0);
     sealed(b"a = 0, index 0", 0, 0, 0);
     sealed(b"a = 0, index 1", 0, 0, 1);
-    clear(b"Q38 a = 0, key 1 held, clear", 0, 1);
-    sealed(b"Q38 a = 0, key 1 held, index 0", 0, 1, 0);
-    sealed(b"Q38 a = 0, key 1 held, index 1", 0, 1, 1);
+    clear(b"D43 a = 0, key 1 held, clear", 0, 1);
+    sealed(b"D43 a = 0, key 1 held, index 0", 0, 1, 0);
+    sealed(b"D43 a = 0, key 1 held, index 1", 0, 1, 1);
     clear(b"a = 1, clear", 1, 0);
     sealed(b"a = 1, index 0", 1, 0, 0);
     sealed(b"a = 1, index 1", 1, 0, 1);

@@ -43,16 +43,16 @@ pub(crate) fn refusal_rows() {
         0x81,
     );
     send(b"under key 1, key 2 held", ready::onu(1, 1), 5, 0x80);
-    ten(b"Q41 10 octets", 5, 0x80);
-    shorter(b"Q41 27 octets, output of 18");
-    longer(b"Q41 18 octets, output of 27");
-    ten(b"Q41 10 octets, out of range, LLID 7", 7, 0x00);
-    send(b"Q10 index 00", one(), 5, 0x00);
-    send(b"Q10 index 01", one(), 5, 0x01);
-    send(b"Q10 index 02", one(), 5, 0x02);
-    send(b"Q10 index 7f", one(), 5, 0x7f);
-    send(b"Q10 index 82", one(), 5, 0x82);
-    send(b"Q10 index ff", one(), 5, 0xff);
+    ten(b"D46 10 octets", 5, 0x80);
+    shorter(b"D46 27 octets, output of 18");
+    longer(b"D46 18 octets, output of 27");
+    ten(b"D46 10 octets, out of range, LLID 7", 7, 0x00);
+    send(b"D10 index 00", one(), 5, 0x00);
+    send(b"D10 index 01", one(), 5, 0x01);
+    send(b"D10 index 02", one(), 5, 0x02);
+    send(b"D10 index 7f", one(), 5, 0x7f);
+    send(b"D10 index 82", one(), 5, 0x82);
+    send(b"D10 index ff", one(), 5, 0xff);
     send(b"index 02, LLID 7", one(), 7, 0x02);
     send(b"LLID 7", one(), 7, 0x80);
     send(b"LLID 0, which stands past the count", one(), 0, 0x80);
@@ -62,7 +62,7 @@ pub(crate) fn clear_rows() {
     send(b"a = 0", ready::onu(0, 0), 5, 0x80);
     send(b"a = 0, key 1 held", ready::onu(0, 1), 5, 0x80);
     send(b"unsynced", ready::unsynced(0, 0), 5, 0x80);
-    send(b"Q6 a = 1, unsynced", ready::unsynced(1, 0), 5, 0x80);
+    send(b"D2 a = 1, unsynced", ready::unsynced(1, 0), 5, 0x80);
 }
 
 fn freed(label: &[u8], zero: u64, one_from: u64, llid: u16, index: u8) {
@@ -76,16 +76,16 @@ pub(crate) fn channel_rows() {
     freed(b"channel 0 taken, on channel 1", 101, 0, 5, 0x81);
     freed(b"channel 1 taken, on channel 1", 0, 101, 5, 0x81);
     freed(b"channel 0 free from this tick", 100, 0, 5, 0x80);
-    freed(b"Q4 free from 4194405", 4_194_405, 0, 5, 0x80);
+    freed(b"D4 free from 4194405", 4_194_405, 0, 5, 0x80);
     freed(
-        b"Q4 free from 2^62 + 4194304",
+        b"D4 free from 2^62 + 4194304",
         0x4000_0000_0040_0000,
         0,
         5,
         0x80,
     );
     freed(
-        b"Q4 free from 2^62 + 4194305",
+        b"D4 free from 2^62 + 4194305",
         0x4000_0000_0040_0001,
         0,
         5,
@@ -113,14 +113,14 @@ pub(crate) fn keeping_rows() {
     let kept = ready::onu_later(four_eqs(b"P8 at 50, 4 EQs", early), 4);
     let refused = calls::onu_send(b"P8 at 54", kept, 5, 0x80);
     send(b"P9 at 55", ready::onu_later(refused, 1), 5, 0x80);
-    let empty = no_eqs(b"Q36 0 EQs", one());
-    let again = calls::onu_send(b"Q36 in its tick", empty, 5, 0x80);
-    send(b"Q36 a tick later", ready::onu_later(again, 1), 5, 0x80);
-    let clear = calls::onu_send(b"Q36 a clear one", ready::onu(0, 0), 5, 0x80);
-    send(b"Q36 in its tick", clear, 6, 0x80);
+    let empty = no_eqs(b"D26 0 EQs", one());
+    let again = calls::onu_send(b"D26 in its tick", empty, 5, 0x80);
+    send(b"D26 a tick later", ready::onu_later(again, 1), 5, 0x80);
+    let clear = calls::onu_send(b"D26 a clear one", ready::onu(0, 0), 5, 0x80);
+    send(b"D26 in its tick", clear, 6, 0x80);
     let header = values::header(0x00, 5, 1, 1, 7);
-    let received = calls::onu_receive(b"Q36 a receipt", one(), header);
-    send(b"Q36 in its tick", received, 5, 0x80);
+    let received = calls::onu_receive(b"D26 a receipt", one(), header);
+    send(b"D26 in its tick", received, 5, 0x80);
 }
 
 // At that tick after a first send at 100.
@@ -143,16 +143,16 @@ pub(crate) fn age_rows() {
         0x80,
     );
     let taken = ready::onu_free(old(one(), 0x1_0000_0000_0064), 0x1_0000_0000_0065, 0);
-    send(b"Q34 channel taken", taken, 5, 0x80);
+    send(b"D40 channel taken", taken, 5, 0x80);
     let two = old(ready::onu(2, 1), 0x1_0000_0000_0064);
-    let refused = calls::onu_send(b"Q35 under key 2", two, 5, 0x80);
+    let refused = calls::onu_send(b"D41 under key 2", two, 5, 0x80);
     let header = values::header(0x00, 5, 1, 1, 7);
-    let three = calls::onu_receive(b"Q35 key 3 comes into use", refused, header);
-    let sent = calls::onu_send(b"Q35 under key 3", three, 5, 0x80);
-    send(b"Q35 7 ticks later", ready::onu_later(sent, 7), 5, 0x80);
+    let three = calls::onu_receive(b"D41 key 3 comes into use", refused, header);
+    let sent = calls::onu_send(b"D41 under key 3", three, 5, 0x80);
+    send(b"D41 7 ticks later", ready::onu_later(sent, 7), 5, 0x80);
     let mut last = ready::onu(0, 0);
     last.tick = 0x4000_0000_0000_0000;
-    send(b"Q35 clear at 2^62", last, 5, 0x80);
+    send(b"D41 clear at 2^62", last, 5, 0x80);
 }
 
 fn masked(label: &[u8], payload: [u8; 27]) {
@@ -169,15 +169,15 @@ fn masked_one(label: &[u8], o: Olt, control: u8) {
 pub(crate) fn mask_rows() {
     show::section(b"the mask");
     masked(
-        b"Q43 control octets 01, 80, 81",
+        b"D27 control octets 01, 80, 81",
         values::eqs(0x01, 0x80, 0x81),
     );
     masked(
-        b"Q43 control octets ff, 00, ff",
+        b"D27 control octets ff, 00, ff",
         values::eqs(0xff, 0x00, 0xff),
     );
     let o = ready::olt(1, 1, 1);
     masked_one(b"P12 one EQ, control octet 81", o, 0x81);
-    masked_one(b"Q43 one EQ, control octet 01", o, 0x01);
-    masked_one(b"Q43 one EQ, control octet 80", o, 0x80);
+    masked_one(b"D27 one EQ, control octet 01", o, 0x01);
+    masked_one(b"D27 one EQ, control octet 80", o, 0x80);
 }

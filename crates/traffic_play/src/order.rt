@@ -43,7 +43,7 @@ fn keyed() -> Ends {
 }
 
 pub(crate) fn rows() {
-    show::section(b"Q45: channel 1 ahead of channel 0, delays 0");
+    show::section(b"D47: channel 1 ahead of channel 0, delays 0");
     let start = keyed();
     let zero = calls::from_olt(b"clear on channel 0", start.olt, 5, 0x00);
     let noted = olt::acknowledge(zero.olt, 5, start.acknowledgement);

@@ -1,8 +1,8 @@
 -- Laws of the records of a good directory: where they stand and how long they are. Assumes nothing.
-use mathlib.Core.Path.{_≡_, refl, sym, ap, _∙_}
+use mathlib.Core.Path.{_≡_, refl, sym, _∙_}
 use mathlib.Core.Bool.{Bool, true, false}
-use mathlib.Core.List.{List, [], _∷_, _++_}
-use Prim.Native.Nat.{ℕ, zero, suc, _+_, _-_, _*_, _≤_, _<_}
+use mathlib.Core.List.{List, [], _∷_}
+use Prim.Native.Nat.{ℕ, zero, suc, _+_, _-_, _≤_, _<_}
 use native.Mathlib.Nat.{zero-add, sub-zero, suc-sub-suc, le-of-suc-le-suc}
 use native.Mathlib.Omega.{arith}
 use lib.Dec.{leb}
@@ -20,11 +20,11 @@ use Rattle.capture.specs.declared.directory.Pair.{Pair}
 use Rattle.capture.specs.declared.directory.Pair.the-variants.{Fits, OffChain, OffLength}
 use Rattle.capture.specs.declared.directory.Directory.{Directory}
 use Rattle.capture.specs.declared.directory.Directory.the-variants.{Good, BadSize, BadChain, BadLength}
-use Rattle.capture.specs.Record.{headerOf, payloadOf, sized}
+use Rattle.capture.specs.Record.{sized}
 use Rattle.capture.specs.Directory.{countOf, offsetOf, lengthOf, endOf, dueOf, recordOf, pairOf, sizeFits, withPair, pairsFrom, directoryOf}
 use Rattle.capture.specs.Duties.{Placed}
 use Rattle.capture.specs.Payload.{recordAsked, payloadVerdict}
-use Rattle.capture.proofs.Pairs.{Sizes, size-fits, Within, pair-fits}
+use Rattle.capture.proofs.Pairs.{Sizes, size-fits, pair-fits}
 
 -- what a good directory of n records says of its block
 pub record Records (b : List ℕ) (n : ℕ) : Type 0 where

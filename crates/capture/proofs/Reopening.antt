@@ -1,21 +1,20 @@
 -- Laws of an opened block: each record stands in its place, and opened again it stays as it is. Assumes nothing.
 use mathlib.Core.Path.{_≡_, refl, sym, ap, _∙_}
-use mathlib.Core.Bool.{Bool, true, false}
-use mathlib.Core.List.{List, [], _∷_, _++_, append-assoc, append-nil}
-use Prim.Native.Nat.{ℕ, zero, suc, _+_, _-_, _*_, _/_, _%_, _≤_, _<_}
-use native.Mathlib.Nat.{add-zero, zero-add, add-suc, suc-add, add-assoc}
+use mathlib.Core.Bool.{true}
+use mathlib.Core.List.{List, _++_, append-assoc}
+use Prim.Native.Nat.{ℕ, zero, suc, _+_, _-_, _*_, _/_, _≤_, _<_}
+use native.Mathlib.Nat.{add-zero, zero-add, add-suc, suc-add}
 use native.Mathlib.Numerals.{add-one}
 use native.Mathlib.Omega.{arith}
-use lib.Dec.{eqb, ltb}
-use lib.ListN.{length, take, drop, set, getD, length-append, length-take, length-set, List·getD-append}
-use lib.Seq.{take-at, drop-at, take-append-le, take-append-seam, getD-take, getD-set-same, getD-set-other, length-take-le}
+use lib.ListN.{length, take, set, getD, length-append, length-take, length-set, List·getD-append}
+use lib.Seq.{take-at, drop-at, getD-take, getD-set-same, getD-set-other, length-take-le}
 use borrow.Author.Tests.{ltb-true, eq-eqb}
 use Rattle.octets.specs.BigEndian.{numberAt}
 use Rattle.octets.specs.Bits.{bitOf}
-use Rattle.octets.specs.Choice.{both, either, pick}
+use Rattle.octets.specs.Choice.{both}
 use Rattle.octets.specs.Lists.{part, sum}
 use Rattle.octets.proofs.BigEndian.{number-same}
-use Rattle.octets.proofs.Choice.{both-left, both-right, both-true, pick-true, pick-false}
+use Rattle.octets.proofs.Choice.{both-left, both-right, both-true, pick-true}
 use Rattle.octets.proofs.Lists.{sum-ext}
 use Rattle.refusal.specs.declared.Verdict.the-variants.{Accepted}
 use Rattle.sealing.specs.KeyExpansion.{keyExpansion}
@@ -28,15 +27,14 @@ use Rattle.capture.specs.declared.directory.Directory.the-variants.{Good
 use Rattle.capture.specs.declared.opening.OpenAnswer.the-variants.{Done}
 use Rattle.capture.specs.Settings.{keyOf, presenceOf, llidOf, settingsVerdict}
 use Rattle.capture.specs.Record.{headerOf, payloadOf, sized}
-use Rattle.capture.specs.Directory.{countOf, offsetOf, lengthOf, endOf, dueOf, recordOf, endFits, chained, pairOf, sizeFits, withPair, pairsFrom, directoryOf, verdictOn}
-use Rattle.capture.specs.Verdict.{flagsFit, headerFits, isEnciphered, epamCheck, keyVerdict, recordVerdict}
+use Rattle.capture.specs.Directory.{countOf, offsetOf, lengthOf, endOf, dueOf, recordOf, chained, pairOf, sizeFits, withPair, pairsFrom, directoryOf}
+use Rattle.capture.specs.Verdict.{flagsFit, headerFits, epamCheck, recordVerdict}
 use Rattle.capture.specs.Opening.{verdictOf, nonceOf, cleared, writtenAs, openedRecord, recordCount, openedFrom, openedBlock, blockCount, openVerdict, opening, outcome}
 use Rattle.capture.specs.Claims.{Opened}
-use Rattle.capture.specs.Duties.{Placed}
-use Rattle.capture.proofs.Pairs.{Sizes, pair-fits, due-next}
+use Rattle.capture.proofs.Pairs.{pair-fits, due-next}
 use Rattle.capture.proofs.Records.{Records, good, placed, records-end}
 use Rattle.capture.proofs.Verdicts.{Openable, openable, own-llid, is-clear}
-use Rattle.capture.proofs.Openings.{upTo, none-opened, up-to-next, opened-length, clear-record, refused-record, Callable, callable, opening-done}
+use Rattle.capture.proofs.Openings.{upTo, none-opened, up-to-next, opened-length, clear-record, refused-record, callable, opening-done}
 
 -- ---- each record in its place
 from-split : (s b : List ℕ) (j m k : ℕ) → openedFrom s b j (m + k) ≡ openedFrom s b j m ++ openedFrom s b (j + m) k

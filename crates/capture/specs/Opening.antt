@@ -2,7 +2,7 @@
 use mathlib.Core.List.{List, [], _++_}
 use Prim.Native.Nat.{ℕ, zero, suc, _+_, _*_, _/_}
 use lib.Dec.{eqb}
-use lib.ListN.{length, take, set, replicate}
+use lib.ListN.{length, take, set}
 use Rattle.octets.specs.Choice.{pick}
 use Rattle.octets.specs.Lists.{sum}
 use Rattle.refusal.specs.declared.Refusal.the-variants.{BadLength}
@@ -18,7 +18,7 @@ use Rattle.capture.specs.declared.header.RecordVerdict.{RecordVerdict}
 use Rattle.capture.specs.declared.header.RecordVerdict.the-variants.{Clear, Sealed}
 use Rattle.capture.specs.declared.opening.OpenAnswer.{OpenAnswer}
 use Rattle.capture.specs.declared.opening.OpenAnswer.the-variants.{Done, Denied}
-use Rattle.capture.specs.Settings.{presenceOf, keyPresent, keyOf, macOf, llidOf, settingsVerdict}
+use Rattle.capture.specs.Settings.{presenceOf, keyOf, macOf, llidOf, settingsVerdict}
 use Rattle.capture.specs.Record.{headerOctets, headerOf, payloadOf}
 use Rattle.capture.specs.Directory.{countOf, recordOf, verdictOn, directoryOf}
 use Rattle.capture.specs.Verdict.{recordVerdict}

@@ -6,7 +6,7 @@ use lib.Dec.{ltb, eqb}
 use lib.ListN.{length, getD}
 use Rattle.octets.specs.BigEndian.{numberAt}
 use Rattle.octets.specs.Bits.{bitOf}
-use Rattle.octets.specs.Choice.{both, pick}
+use Rattle.octets.specs.Choice.{pick}
 use Rattle.octets.specs.Lists.{part}
 use Rattle.refusal.specs.declared.Refusal.the-variants.{OutOfRange, BadLength}
 use Rattle.refusal.specs.declared.Verdict.{Verdict}

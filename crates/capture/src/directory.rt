@@ -1,14 +1,19 @@
 // The directory of a capture block: a count, and for each record a pair of its offset and its length.
 ghost use mathlib.Core.Path.{_≡_};
-ghost use Prim.Native.Nat.{ℕ, _+_, _*_, _^_, _≤_, _<_};
+ghost use Prim.Native.Nat.{_+_, _*_, _^_, _≤_, _<_};
 ghost use lib.ListN.{length};
 ghost use Rattle.capture.specs.Record.{sized};
-ghost use Rattle.capture.specs.Directory.{countOf, offsetOf, lengthOf, dueOf, recordOf, endFits, pairOf, sizeFits, directoryOf, verdictOn};
+ghost use Rattle.capture.specs.Directory.{countOf, offsetOf, lengthOf, endFits, pairOf, sizeFits, directoryOf, verdictOn};
 ghost use Rattle.capture.specs.Duties.{Due};
 use crate::fields::number16;
 use crate::fields::number32;
+use crate::header::HEADER_OCTETS;
 use refusal::Refusal;
 use refusal::Verdict;
+
+const MOST_OCTETS: usize = 65536;
+
+const MOST_RECORDS: usize = 256;
 
 // What a pair is found to be.
 pub enum Pair {
@@ -35,7 +40,7 @@ pub enum Directory {
 fn is_sized(r: &[u8]) -> bool
     ensures { λ q. ⌜ q ≡ sized (now (r .entry)) ⌝ }
 {
-    if r.len() < 16 {
+    if r.len() < HEADER_OCTETS {
         return false;
     }
     r.len() as u64 == 16 + 9 * number32(r, 12)
@@ -97,17 +102,17 @@ fn is_size_right(block: &[u8]) -> bool
     if block.len() < 2 {
         return false;
     }
-    if 65536 < block.len() {
+    if MOST_OCTETS < block.len() {
         return false;
     }
     let n = count(block);
-    if 256 < n {
+    if MOST_RECORDS < n {
         return false;
     }
     (2 + 8 * n <= block.len()) & ((n != 0) | (block.len() == 2))
 }
 
-// What the directory of a block is found to be: bounds first, then pair by pair, each read once.
+// What the directory of a block is found to be: bounds first, then pair by pair, in one pass.
 pub fn check(block: &[u8]) -> Directory
     ensures { λ r. ⌜ r ≡ directoryOf (now (block .entry)) ⌝ }
 {

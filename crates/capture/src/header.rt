@@ -9,6 +9,11 @@ use crate::fields::number32;
 use crate::fields::number48;
 use refusal::Refusal;
 
+// The octets of a record ahead of its payload, and the place of the flags among them.
+pub const HEADER_OCTETS: usize = 16;
+
+pub(crate) const FLAGS: usize = 4;
+
 pub struct Header {
     // 0 ESH, 1 ECH
     pub kind: u8,
@@ -45,7 +50,7 @@ pub(crate) fn read(r: &[u8]) -> Header
         kind: r[0],
         channel: r[1],
         llid: number16(r, 2),
-        flags: r[4],
+        flags: r[FLAGS],
         epam: r[5],
         clock: number48(r, 6),
         eqs: number32(r, 12),

@@ -1,6 +1,6 @@
 // The listing of a capture block: a heading, and a row for each record.
 ghost use mathlib.Core.Path.{_≡_};
-ghost use mathlib.Core.List.{List, [], _∷_, _++_};
+ghost use mathlib.Core.List.{[], _∷_, _++_};
 ghost use Prim.Native.Nat.{_+_, _*_, _≤_, _<_};
 ghost use lib.ListN.{length, take};
 ghost use Rattle.capture.specs.Listing.{glyphOf, digits, decimalOf, keyOctet, refusedText, resultText, rowHead, rowTail, rowOf, rowsFrom, bodyOf, listingOf};
@@ -20,8 +20,11 @@ use crate::verdict::header_of;
 use refusal::Refusal;
 use refusal::Verdict;
 
+// Room for the heading and 256 lines of 40 octets.
+pub const LISTING_OCTETS: usize = 10266;
+
 // A line being written, and how much of it is.
-pub struct Line {
+struct Line {
     pub octets: [u8; 40],
     pub used: usize,
 }
@@ -228,7 +231,7 @@ fn put_body(settings: &[u8], block: &[u8], text: &mut [u8], at: usize) -> usize
 }
 
 // Lists a block: the heading, then the rows, or the number of the call's refusal. Gives the length of the text.
-pub fn list(settings: &[u8], block: &[u8], text: &mut [u8; 10266]) -> usize
+pub fn list(settings: &[u8], block: &[u8], text: &mut [u8; LISTING_OCTETS]) -> usize
     ensures { λ r. ⌜ (r ≤ length (now (text .exit))) × (r ≡ length (take r (now (text .exit)))) ⌝ }
     ensures { λ r. ⌜ take r (now (text .exit)) ≡ listingOf (now (settings .entry)) (now (block .entry)) ⌝ }
 {

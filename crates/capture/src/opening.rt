@@ -21,6 +21,8 @@ use crate::directory::count;
 use crate::directory::length_of;
 use crate::directory::offset;
 use crate::directory::verdict;
+use crate::header::FLAGS;
+use crate::header::HEADER_OCTETS;
 use crate::header::RecordVerdict;
 use crate::header::judge;
 use crate::header::read;
@@ -43,7 +45,7 @@ pub enum OpenAnswer {
 }
 
 // The two keys of the settings, expanded.
-pub struct Keys {
+struct Keys {
     pub first: RoundKeys,
     pub second: RoundKeys,
 }
@@ -96,8 +98,9 @@ fn open_record(settings: &[u8], keys: Keys, block: &[u8], output: &mut [u8], i: 
                 mac: mac(settings),
                 clock,
             };
-            output[from + 4] = h.flags / 4 * 4;
-            open_part(key_for(keys, index), nonce, block, output, from + 16, to)
+            output[from + FLAGS] = h.flags / 4 * 4;
+            let start = from + HEADER_OCTETS;
+            open_part(key_for(keys, index), nonce, block, output, start, to)
         }
     }
 }

@@ -5,6 +5,7 @@ use crate::directory::Directory;
 use crate::directory::check;
 use crate::directory::length_of;
 use crate::directory::offset;
+use crate::header::HEADER_OCTETS;
 use refusal::Refusal;
 use refusal::Verdict;
 
@@ -41,7 +42,7 @@ pub fn part(block: &[u8], k: usize) -> &[u8]
         Verdict::Accepted => {
             let i = k - 1;
             let offset = offset(block, i);
-            let from = offset + 16;
+            let from = offset + HEADER_OCTETS;
             let to = offset + length_of(block, i);
             &block[from..to]
         }

@@ -3,6 +3,7 @@
 ghost use mathlib.Core.Path.{_≡_};
 ghost use Prim.Native.Nat.{_≤_, _<_};
 ghost use lib.ListN.{length, take};
+use capture::listing::LISTING_OCTETS;
 
 fn least(a: usize, b: usize) -> usize
     ensures { λ r. ⌜ (r ≤ a) × (r ≤ b) ⌝ }
@@ -36,7 +37,7 @@ fn print_sum(s: &[u8]) {
 }
 
 fn print_listing(settings: &[u8], block: &[u8]) {
-    let mut text = [0u8; 10266];
+    let mut text = [0u8; LISTING_OCTETS];
     let n = capture::listing::list(settings, block, &mut text);
     io::write_all(1, &text[..n]);
 }

@@ -1,7 +1,9 @@
 // The reader program: settings, then a capture block on standard input, raw octets; the listing on standard output.
 
+use capture::listing::LISTING_OCTETS;
+
 fn write_listing(settings: &[u8], block: &[u8]) {
-    let mut text = [0u8; 10266];
+    let mut text = [0u8; LISTING_OCTETS];
     let n = capture::listing::list(settings, block, &mut text);
     io::write_all(1, &text[..n]);
 }

@@ -1,18 +1,16 @@
 -- `capture::directory::check` meets its contract. The loop's invariant: the next record is due at `due`, and the
 -- verdict on the whole directory is that on the pairs from i on.
 -- Assumes nothing.
-use mathlib.Core.Path.{_≡_, refl, sym, ap, _∙_}
-use Prim.Native.Nat.{ℕ, _+_, _*_, _-_, _≤_}
+use mathlib.Core.Path.{_≡_, sym, ap, _∙_}
+use Prim.Native.Nat.{_+_, _-_, _≤_}
 use native.Mathlib.Omega.{arith}
 use lib.ListN.{length}
 use borrow.Author.Needs.{needs}
 use borrow.Author.Tests.{not-true, not-false}
 use denote.Ref.{now}
-use Rattle.octets.specs.Choice.{pick}
 use Rattle.octets.proofs.Choice.{pick-true, pick-false}
-use Rattle.capture.specs.declared.directory.Pair.the-variants.{Fits, OffChain, OffLength}
 use Rattle.capture.specs.declared.directory.Directory.the-variants.{Good}
-use Rattle.capture.specs.Directory.{countOf, dueOf, endOf, pairOf, withPair, pairsFrom, directoryOf}
+use Rattle.capture.specs.Directory.{dueOf, withPair, pairsFrom, directoryOf}
 use Rattle.capture.proofs.Pairs.{Sizes, size-fits, pairs-at, pairs-end, next-due}
 use Rattle.capture.proofs.directory.check.Statement.{statement}
 use Rattle.capture.proofs.directory.check.Tie as tie

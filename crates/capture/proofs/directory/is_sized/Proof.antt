@@ -1,6 +1,5 @@
 -- `capture::directory::is_sized` meets its contract: the two tests of `sized`, one after the other.
 -- Assumes nothing.
-use mathlib.Core.Path.{_≡_, sym}
 use borrow.Author.Needs.{needs}
 use borrow.Author.Tests.{lt-leb, le-leb}
 use Rattle.octets.specs.Choice.{both}

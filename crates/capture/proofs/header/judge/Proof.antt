@@ -1,6 +1,6 @@
 -- `capture::header::judge` meets its contract: the tests of `recordVerdict`, one after the other.
 -- Assumes nothing.
-use mathlib.Core.Path.{_≡_, sym, _∙_}
+use mathlib.Core.Path.{sym, _∙_}
 use borrow.Author.Needs.{needs}
 use borrow.Author.Tests.{not-true, not-false}
 use Rattle.capture.proofs.Verdicts.{malformed, other-llid, own-llid}

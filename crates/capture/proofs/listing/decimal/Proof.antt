@@ -1,6 +1,6 @@
 -- `capture::listing::decimal` meets its contract: the number of digits by the tests of `decimalOf`, each digit by its place.
 -- Assumes nothing.
-use mathlib.Core.Path.{_≡_, sym, _∙_}
+use mathlib.Core.Path.{sym, _∙_}
 use native.Mathlib.Nat.{div-one}
 use borrow.Author.Tests.{lt-ltb, le-ltb}
 use Rattle.octets.proofs.Choice.{pick-true, pick-false}

@@ -1,6 +1,6 @@
 -- `capture::listing::key_octet` meets its contract: its test is that of `keyOctet`.
 -- Assumes nothing.
-use mathlib.Core.Path.{_≡_, sym, _∙_}
+use mathlib.Core.Path.{sym, _∙_}
 use native.Mathlib.Omega.{arith}
 use borrow.Author.Tests.{eq-eqb, ne-eqb}
 use Rattle.octets.proofs.Bits.{bit-below}

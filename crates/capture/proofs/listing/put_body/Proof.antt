@@ -1,14 +1,12 @@
 -- `capture::listing::put_body` meets its contract: the number of a refused call, the rows of an accepted one.
 -- Assumes nothing.
-use mathlib.Core.Path.{_≡_, sym, ap, _∙_}
+use mathlib.Core.Path.{sym, ap, _∙_}
 use mathlib.Core.List.{List, _++_}
-use Prim.Native.Nat.{ℕ, _+_, _≤_}
+use Prim.Native.Nat.{ℕ, _+_}
 use native.Mathlib.Omega.{arith}
 use lib.ListN.{length, take}
 use denote.Ref.{now}
-use Rattle.refusal.specs.declared.Verdict.the-variants.{Accepted}
 use Rattle.capture.specs.declared.directory.Directory.the-variants.{Good}
-use Rattle.capture.specs.Opening.{openVerdict}
 use Rattle.capture.specs.Listing.{bodyOf}
 use Rattle.capture.proofs.Records.{good}
 use Rattle.capture.proofs.Openings.{Callable, callable}

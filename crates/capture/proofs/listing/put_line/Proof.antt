@@ -1,9 +1,8 @@
 -- `capture::listing::put_line` meets its contract: the line's own octets are appended.
 -- Assumes nothing.
-use mathlib.Core.Path.{_≡_, sym, _∙_}
-use Prim.Native.Nat.{ℕ, _+_, _≤_}
+use mathlib.Core.Path.{_≡_, sym}
 use native.Mathlib.Omega.{arith}
-use lib.ListN.{length, take}
+use lib.ListN.{length}
 use lib.Seq.{length-take-le}
 use Rattle.capture.specs.Duties.{textOf}
 use borrow.Author.Needs.{needs}

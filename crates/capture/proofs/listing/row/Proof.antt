@@ -1,6 +1,5 @@
 -- `capture::listing::row` meets its contract: head and tail on an empty line.
 -- Assumes nothing.
-use mathlib.Core.Path.{_≡_, sym, _∙_}
 use native.Mathlib.Omega.{arith}
 use Rattle.capture.specs.Listing.{rowOf}
 use Rattle.capture.proofs.Lines.{both-grown, head-few, tail-few}

@@ -1,6 +1,5 @@
 -- `capture::listing::row_head` meets its contract: the pieces in their order.
 -- Assumes nothing.
-use mathlib.Core.Path.{_≡_}
 use mathlib.Core.List.{append-assoc}
 use native.Mathlib.Omega.{arith}
 use Rattle.capture.specs.Listing.{rowHead}

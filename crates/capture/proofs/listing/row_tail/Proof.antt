@@ -1,6 +1,5 @@
 -- `capture::listing::row_tail` meets its contract: the pieces in their order.
 -- Assumes nothing.
-use mathlib.Core.Path.{_≡_}
 use native.Mathlib.Omega.{arith}
 use Rattle.capture.specs.Listing.{decimalOf, resultText, rowTail}
 use Rattle.capture.proofs.Lines.{both-grown, grown-as, decimal-few, result-few, tail-pieces}

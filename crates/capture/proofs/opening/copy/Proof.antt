@@ -8,7 +8,7 @@ use lib.ListN.{length-set}
 use lib.Seq.{take-length, drop-length}
 use mathlib.Core.List.{_++_}
 use mathlib.Core.List.{append-nil}
-use mathlib.Core.Path.{_≡_, sym}
+use mathlib.Core.Path.{_≡_}
 use mathlib.Core.Path.{refl}
 use native.Mathlib.Omega.{arith}
 use Rattle.capture.proofs.opening.copy.Statement.{statement}

@@ -1,6 +1,6 @@
 -- `capture::opening::expand` meets its contract: its test is the presence of the key.
 -- Assumes nothing.
-use mathlib.Core.Path.{_≡_, sym, _∙_}
+use mathlib.Core.Path.{_∙_}
 use borrow.Author.Needs.{needs}
 use borrow.Author.Tests.{eqb-true}
 use Rattle.capture.specs.Settings.{keyPresent}

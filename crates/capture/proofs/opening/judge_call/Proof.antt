@@ -1,6 +1,6 @@
 -- `capture::opening::judge_call` meets its contract: the verdicts of `openVerdict`, one after the other.
 -- Assumes nothing.
-use mathlib.Core.Path.{_≡_, sym, _∙_}
+use mathlib.Core.Path.{sym, _∙_}
 use borrow.Author.Needs.{needs}
 use borrow.Author.Tests.{eq-eqb, ne-eqb}
 use Rattle.octets.proofs.Choice.{pick-true, pick-false}

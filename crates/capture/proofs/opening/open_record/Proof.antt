@@ -1,21 +1,20 @@
 -- `capture::opening::open_record` meets its contract: what was read is the record's header, its verdict is that of the
 -- definition, and the output is kept or opened in place accordingly.
 -- Assumes nothing.
-use mathlib.Core.Path.{_≡_, refl, sym, ap, _∙_}
-use mathlib.Core.List.{List}
-use Prim.Native.Nat.{ℕ, _+_, _-_, _*_, _<_, _≤_}
+use mathlib.Core.Path.{_≡_, sym, ap, _∙_}
+use Prim.Native.Nat.{_-_}
 use native.Mathlib.Nat.{add-sub-cancel-left}
 use native.Mathlib.Omega.{arith}
 use borrow.Author.Needs.{needs}
 use denote.Ref.{now}
-use lib.ListN.{length, length-set}
+use lib.ListN.{length-set}
 use Rattle.octets.proofs.Bits.{bit-below}
 use Rattle.sealing.specs.declared.aes128.RoundKeys.{RoundKeys}
 use Rattle.capture.specs.declared.header.Header.{Header}
 use Rattle.capture.specs.declared.header.RecordVerdict.the-variants.{Sealed}
 use Rattle.capture.specs.Settings.{presenceOf, llidOf}
 use Rattle.capture.specs.Record.{headerOf}
-use Rattle.capture.specs.Directory.{offsetOf, lengthOf, recordOf}
+use Rattle.capture.specs.Directory.{recordOf}
 use Rattle.capture.specs.Verdict.{encKey, headerFits}
 use Rattle.capture.specs.Opening.{verdictOf}
 use Rattle.capture.proofs.Verdicts.{Openable, openable}
@@ -88,11 +87,11 @@ add-output c = search needs
 slice-write-output : tie.Need-slice-write-output
 slice-write-output c = search needs
 
+add-start : tie.Need-add-start
+add-start c = search needs
+
 key-for-requires : tie.Need-key-for-requires
 key-for-requires c κs = search needs
-
-add-open-part : tie.Need-add-open-part
-add-open-part c = search needs
 
 abbrev start : tie.After-index → tie.Start
 start c = c .before .before .before .before .before .before .before .before .before .before .before .before
@@ -179,8 +178,8 @@ open-record-spec =
     mul-output
     add-output
     slice-write-output
+    add-start
     key-for-requires
-    add-open-part
     open-part-requires
     returns
     returns-2

@@ -2,19 +2,15 @@
 -- of the output is the block's, and the total is theirs.
 -- Assumes nothing.
 use mathlib.Core.Path.{_≡_, refl, sym, ap, _∙_}
-use mathlib.Core.List.{List, [], _++_, append-nil}
-use Prim.Native.Nat.{ℕ, _+_, _-_, _*_, _≤_, _<_}
-use native.Mathlib.Nat.{add-zero}
+use mathlib.Core.List.{_++_}
+use Prim.Native.Nat.{_+_, _-_, _≤_}
 use native.Mathlib.Omega.{arith}
-use lib.ListN.{length, take, drop}
-use lib.Seq.{take-at, drop-at}
+use lib.ListN.{length, drop}
 use borrow.Author.Needs.{needs}
 use denote.Ref.{now}
 use Rattle.octets.specs.Lists.{sum}
-use Rattle.octets.proofs.Lists.{sum-suc}
-use Rattle.capture.specs.Directory.{countOf, offsetOf, lengthOf, endOf, dueOf, recordOf}
-use Rattle.capture.specs.Opening.{openedRecord, recordCount, openedFrom, openedBlock, blockCount}
-use Rattle.capture.specs.Duties.{Placed, Ready, Copied}
+use Rattle.capture.specs.Directory.{dueOf, recordOf}
+use Rattle.capture.specs.Opening.{recordCount, blockCount}
 use Rattle.capture.proofs.Records.{good, placed}
 use Rattle.capture.proofs.Openings.{upTo, none-opened, still-block, one-opened, all-opened, total-below, one-below, one-more}
 use Rattle.capture.proofs.opening.open_records.Statement.{statement}

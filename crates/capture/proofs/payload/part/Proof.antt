@@ -1,14 +1,14 @@
 -- `capture::payload::part` meets its contract: an accepted number is that of a record, whose pair gives the bounds.
 -- Assumes nothing.
-use mathlib.Core.Path.{_≡_, sym, _∙_}
-use Prim.Native.Nat.{ℕ, _+_, _-_, _*_, _≤_, _<_}
+use mathlib.Core.Path.{sym, _∙_}
+use Prim.Native.Nat.{_-_, _≤_}
 use native.Mathlib.Omega.{arith}
 use borrow.Author.Needs.{needs}
 use denote.Ref.{now}
 use Rattle.octets.specs.Lists.{part}
 use Rattle.capture.specs.Record.{payloadOf}
 use Rattle.capture.specs.Directory.{offsetOf, lengthOf, recordOf}
-use Rattle.capture.specs.Payload.{payloadPart, unlessRefused}
+use Rattle.capture.specs.Payload.{payloadPart}
 use Rattle.capture.specs.Duties.{Placed}
 use Rattle.capture.proofs.Records.{Asked, asked-for, placed, drop-part}
 use Rattle.capture.proofs.payload.part.Statement.{statement}

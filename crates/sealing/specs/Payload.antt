@@ -30,7 +30,7 @@ cipherBlock w n e = cipher w (counterBlock n (e / 2))
 abbrev pub halfOf : ℕ → ℕ
 halfOf e = 8 * (e % 2)
 
--- data octet x at place j of an EQ with the control octet c: a control character, where bit j is set, passes
+-- data octet x at place j under the control octet c and the cipher octet k: a control character, where bit j is set, passes
 unfoldable pub masked : ℕ → ℕ → ℕ → ℕ → ℕ
 masked c j k x = pick (eqb (bitOf c j) 1) x (bitXor x k)
 

@@ -41,7 +41,7 @@ choiceAged (Current n) f tick = aged f tick
 choiceAged (Next n) f tick = false
 choiceAged (Barred r) f tick = false
 
--- the header of an envelope numbered n
+-- the header of an envelope numbered n, at the sender's clock (01, Keys: EPAM, of LocalTime if unsynced)
 unfoldable pub headerOf : ℕ → ℕ → ℕ → ℕ → Header
 headerOf n index llid clock =
     record { index = index; llid = llid; encenabled = pick (eqb n 0) 0 1; enckey = n % 2; epam = epamOf clock }

@@ -47,7 +47,7 @@ onuNoted (Barred r) o = o
 unfoldable pub onuSent : Onu → ℕ → ℕ → Onu
 onuSent o index eqs = withOnuChannels (onuNoted (onuSendChoice (o .keys)) o) (occupied (o .channels) index (o .tick) eqs)
 
--- sealed with the unit's own MAC and its Tx clock
+-- sealed with the unit's own MAC and its Tx clock, in whose place `time` is LocalTime while the unit is unsynced
 unfoldable pub sendingOnu : Onu → Bool → ℕ → ℕ → ℕ → Reply Onu Sending
 sendingOnu o misfit llid index eqs =
     onuReply o noSending (onuSendVerdict o misfit llid index) (onuSent o index eqs)

@@ -1,4 +1,4 @@
--- Records with a part replaced, and records new and empty. Assumes nothing.
+-- Records with a part replaced, and records new and empty (01, Clock: fresh ends, registering). Assumes nothing.
 use mathlib.Core.List.{List, []}
 use Prim.Native.Nat.{ℕ, _+_}
 use lib.ListN.{replicate}

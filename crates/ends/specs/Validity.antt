@@ -59,7 +59,7 @@ validOlt o =
 unfoldable pub validOnuKeys : OnuKeys → Bool
 validOnuKeys k = both (leb (k .held) 1) (either (eqb (k .held) 0) (ltb (k .active) maxKeyNumber))
 
--- the field that both share is Tx once synced, LocalTime before
+-- Tx and LocalTime share the field `time`: it is Tx, of 48 bits, once synced, and LocalTime, of 32, before
 unfoldable pub validOnuClock : OnuClock → Bool
 validOnuClock c =
     both (leb (c .synced) 1)

@@ -1,5 +1,5 @@
--- A list of events on two units that shows all that the theorem speaks of: the premises can be met (01, The line).
--- Assumes nothing.
+-- A list of events on two units that meets the premises (01, The line): clear and sealed envelopes each way, losses, a retry,
+-- repeated and late acknowledgements, an overheard envelope and two switches for each unit. Assumes nothing.
 use mathlib.Core.List.{List, [], _∷_, _++_}
 use Prim.Native.Nat.{ℕ, _+_, _-_, _%_}
 use lib.ListN.{replicate}

@@ -1,5 +1,5 @@
--- What has come to pass on each unit's line, from the calls and their answers alone: no field of an end's record is read here.
--- Assumes nothing.
+-- What has come to pass on each unit's line, from the calls and their answers alone: no field of an end's record is read here
+-- (01, The line). Assumes nothing.
 use mathlib.Core.Bool.{Bool, true, false}
 use mathlib.Core.List.{List, [], _∷_, _++_}
 use Prim.Native.Nat.{ℕ, suc, _+_, _-_, _/_}

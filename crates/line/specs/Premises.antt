@@ -1,5 +1,5 @@
--- What a list must keep to (01, The line), in the paper's order. Each premise binds accepted calls and arrivals only.
--- Assumes nothing.
+-- What a list must keep to (01, The line), in the paper's order. A call of an end is bound only where it is accepted; an arrival,
+-- an overheard receipt and any other receipt by what makes it one. Assumes nothing.
 use mathlib.Core.Path.{_≡_}
 use mathlib.Core.Bool.{Bool, true, false}
 use mathlib.Core.List.{List, [], _∷_}
@@ -23,7 +23,7 @@ pub record Fresh (w : Setting) : Type 0 where
   pub onus : (u : ℕ) (s : Site) → u < length (w .sites) → freshOnuOf (getD (w .sites) u s .identity) (getD (w .sites) u s .oltmac) (getD (w .sites) u s .time) .number ≡ 0
 
 -- an accepted registration: the ends agree on MACs and LLIDs, LocalTime is the low half of the OLT's clock plus the delay up, and
--- the delays add up to the round trip
+-- the delays add up to the round trip. That the unit was not registered before follows, since its LLIDs would be refused 3
 pub record Agrees (w : Setting) (s : State) (u : ℕ) (i : Identity) (trip : ℕ) : Type 0 where
   pub known : u < length (s .history .lanes)
   pub once : laneAt s u .entry .registered ≡ false

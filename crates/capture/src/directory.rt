@@ -28,7 +28,7 @@ pub enum Pair {
 pub enum Directory {
     // so many records
     Good(usize),
-    // the block or its count is out of bounds, or the block is shorter than its directory
+    // the block or its count is out of bounds, the block is shorter than its directory, or an empty one has octets left
     BadSize,
     // the first pair that does not fit is off the chain
     BadChain(usize),
@@ -95,7 +95,7 @@ fn judge(block: &[u8], n: usize, i: usize, due: usize) -> Pair
     }
 }
 
-// Whether the block and its count are within their bounds, and the pairs are all there.
+// Whether the block and its count are within their bounds, the pairs are all there, and an empty block is two octets.
 fn is_size_right(block: &[u8]) -> bool
     ensures { λ r. ⌜ r ≡ sizeFits (now (block .entry)) ⌝ }
 {

@@ -9,9 +9,13 @@ use Rattle.octets.specs.Choice.{both, pick}
 use Rattle.sealing.specs.CounterBlock.{counterBlock}
 use Rattle.sealing.specs.Payload.{masked, countOf}
 use Rattle.clock.specs.Stamping.{capturedAt, raiseOf, movedBy, raisedTo}
+use Rattle.ends.specs.Replies.{refuseIf}
 use Rattle.ends.specs.Keys.{aged}
 use Rattle.ends.specs.Occupancy.{onZero, freeFrom, occupied, taken}
-use Rattle.ends.specs.Timers.{timerAdvanced}
+use Rattle.ends.specs.Records.{freshUnit, withKeys}
+use Rattle.ends.specs.Timers.{timerAdvanced, freshTimer}
+use Rattle.ends.specs.Headers.{choiceAged}
+use Rattle.ends.specs.UnitTraffic.{switches, unitSendChoice, unitSendVerdict}
 use Rattle.bench_values.specs.Rows.{Rows}
 
 xored : (j k x : ℕ) → 0 < j → j < 7 → masked 0x81 j k x ≡ bitXor x k
@@ -26,7 +30,7 @@ xored (suc (suc (suc (suc (suc (suc zero)))))) k x h l = refl
 xored (suc (suc (suc (suc (suc (suc (suc j))))))) k x h l = absurd (omega arith)
 
 pub rows-hold : Rows
-unfolding counterBlock capturedAt raiseOf movedBy raisedTo timerAdvanced pick onZero freeFrom occupied taken both aged masked bitOf countOf ones onesIn
+unfolding counterBlock capturedAt raiseOf movedBy raisedTo timerAdvanced pick onZero freeFrom occupied taken both aged refuseIf freshUnit withKeys freshTimer choiceAged switches unitSendChoice unitSendVerdict masked bitOf countOf ones onesIn
 rows-hold =
     record {
       p1 = refl;

@@ -1,6 +1,5 @@
 -- The bench values of 01, one row each, in the paper's order. Assumes nothing.
 use mathlib.Core.Path.{_≡_}
-use mathlib.Core.Bool.{Bool, true, false}
 use mathlib.Core.List.{List, [], _∷_}
 use Prim.Native.Nat.{ℕ, _+_, _-_, _^_, _<_}
 use lib.Bits.{bitXor}
@@ -9,18 +8,36 @@ use Rattle.sealing.specs.CounterBlock.{counterBlock}
 use Rattle.sealing.specs.Payload.{masked, countOf}
 use Rattle.clock.specs.Stamping.{capturedAt, raisedTo}
 use Rattle.clock.specs.declared.Stamps.{Stamps}
-use Rattle.ends.specs.Keys.{aged, notedAt}
-use Rattle.ends.specs.Occupancy.{occupied, freeChannels, taken}
-use Rattle.ends.specs.Timers.{timerAdvanced}
+use Rattle.refusal.specs.Number.{verdictNumber}
+use Rattle.ends.specs.Identities.{noIdentity}
+use Rattle.ends.specs.Keys.{noSlots, notedAt}
+use Rattle.ends.specs.Occupancy.{occupied, freeChannels}
+use Rattle.ends.specs.Records.{freshUnit, withKeys}
+use Rattle.ends.specs.Timers.{timerAdvanced, freshTimer}
+use Rattle.ends.specs.UnitTraffic.{unitSendVerdict}
 use Rattle.ends.specs.declared.Timer.{Timer}
 
 -- the timer of P5 to P7
 abbrev pub timer : ℕ → ℕ → Timer
 timer count flag = record { interval = 10; count = count; flag = flag }
 
--- the ends' first use of a key in P10 and P11
+-- the number of an OLT's send on channel 0 at a tick, after a header at 50 with 4 EQs
+abbrev pub sendAt : ℕ → ℕ
+sendAt tick =
+    verdictNumber
+    (unitSendVerdict (record { mac = 0; tick = tick; clock = 0; channels = occupied freeChannels 0 50 4 })
+    (freshUnit noIdentity 0 1) 0)
+
+-- the first use of a key in P10 and P11, and the number of an OLT's send under it at a tick
 abbrev pub firstUse : ℕ
 firstUse = 100
+
+abbrev pub sendUnder : ℕ → ℕ
+sendUnder tick =
+    verdictNumber
+    (unitSendVerdict (record { mac = 0; tick = tick; clock = 0; channels = freeChannels })
+    (withKeys (freshUnit noIdentity 0 1)
+    (record { timer = freshTimer 1; active = 1; offered = 1; slots = noSlots; first = notedAt firstUse })) 0)
 
 pub record Rows : Type 0 where
   -- index 80 hex, MAC 02-00-00-00-00-01, clock 41 hex, block 2
@@ -37,11 +54,11 @@ pub record Rows : Type 0 where
   pub p6 : timerAdvanced (timer 7 0) 2 ≡ timer 9 0
   pub p7 : timerAdvanced (timer 7 0) 25 ≡ timer 2 1
   -- header at 50 with 4 EQs: 54 and 55
-  pub p8 : taken (occupied freeChannels 0 50 4) 0 54 ≡ true
-  pub p9 : taken (occupied freeChannels 0 50 4) 0 55 ≡ false
+  pub p8 : sendAt 54 ≡ 12
+  pub p9 : sendAt 55 ≡ 0
   -- first use at 100
-  pub p10 : aged (notedAt firstUse) (firstUse + 2 ^ 48 - 1) ≡ false
-  pub p11 : aged (notedAt firstUse) (firstUse + 2 ^ 48) ≡ true
+  pub p10 : sendUnder (firstUse + 2 ^ 48 - 1) ≡ 0
+  pub p11 : sendUnder (firstUse + 2 ^ 48) ≡ 13
   -- control 81 hex: octets 1 to 6 are XORed, count 6
   pub p12-first : (k x : ℕ) → masked 0x81 0 k x ≡ x
   pub p12-data : (j k x : ℕ) → 0 < j → j < 7 → masked 0x81 j k x ≡ bitXor x k

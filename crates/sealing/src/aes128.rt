@@ -15,6 +15,7 @@ ghost use Rattle.sealing.specs.Steps.{roundColumn, nextKey};
 ghost use Rattle.sealing.specs.Words.{word, xorWords, rotWord, subWord};
 
 // The eleven round keys, one after the other.
+#[repr(C)]
 pub struct RoundKeys {
     pub octets: [u8; 176],
 }

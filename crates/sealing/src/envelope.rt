@@ -18,6 +18,7 @@ use refusal::Refusal;
 use refusal::Verdict;
 
 // Channel index, sender's MAC and cipher clock at the header: what tells one envelope's counter blocks from another's.
+#[repr(C)]
 pub struct Nonce {
     pub channel: u8,
     pub mac: u64,
@@ -157,7 +158,8 @@ fn nonce_fits(nonce: Nonce) -> bool
         & ((nonce.mac < 0x1_0000_0000_0000) & (nonce.clock < 0x1_0000_0000_0000))
 }
 
-fn lengths_fit(n: usize, m: usize) -> bool
+// Whether n octets are a payload, and an output of m has as many.
+pub fn lengths_fit(n: usize, m: usize) -> bool
     ensures { λ r. ⌜ r ≡ lengthsFit n m ⌝ }
 {
     (n % 9 == 0) & ((n <= 37_748_727) & (m == n))

@@ -15,15 +15,18 @@ use Rattle.octets.proofs.Choice.{both-left, both-right}
 use Rattle.octets.proofs.Lists.{part-length}
 use Rattle.refusal.specs.declared.Refusal.{Refusal}
 use Rattle.refusal.specs.declared.Refusal.the-variants.{OutOfRange}
+use Rattle.refusal.specs.declared.Verdict.{Verdict}
 use Rattle.refusal.specs.declared.Verdict.the-variants.{Accepted, Refused}
 use Rattle.capture.specs.declared.directory.Pair.{Pair}
 use Rattle.capture.specs.declared.directory.Pair.the-variants.{Fits, OffChain, OffLength}
 use Rattle.capture.specs.declared.directory.Directory.{Directory}
 use Rattle.capture.specs.declared.directory.Directory.the-variants.{Good, BadSize, BadChain, BadLength}
-use Rattle.capture.specs.Record.{sized}
+use Rattle.capture.specs.declared.payload.Bounds.{Bounds}
+use Rattle.capture.specs.declared.payload.Bounds.the-variants.{Within, Absent}
+use Rattle.capture.specs.Record.{payloadOf, sized}
 use Rattle.capture.specs.Directory.{countOf, offsetOf, lengthOf, endOf, dueOf, recordOf, pairOf, sizeFits, withPair, pairsFrom, directoryOf}
 use Rattle.capture.specs.Duties.{Placed}
-use Rattle.capture.specs.Payload.{recordAsked, payloadVerdict}
+use Rattle.capture.specs.Payload.{recordAsked, payloadVerdict, boundsOf, boundsAfter, payloadBounds, unlessRefused, payloadPart}
 use Rattle.capture.proofs.Pairs.{Sizes, size-fits, pair-fits}
 
 -- what a good directory of n records says of its block
@@ -114,6 +117,39 @@ by-directory b k (BadLength i) q e = absurd (never _ e)
 pub asked-for : (b : List ℕ) (k : ℕ) → payloadVerdict b k ≡ Accepted → Asked b k
 unfolding payloadVerdict
 asked-for b k e = by-directory b k (directoryOf b) refl e
+
+-- where the payload of an accepted number lies
+pub record Bounded (b : List ℕ) (k from n : ℕ) : Type 0 where
+  pub inside : from + n ≤ length b
+  pub octets : part b from n ≡ payloadPart b k
+
+bounded-by : (b : List ℕ) (k from n : ℕ) (v : Verdict) → payloadVerdict b k ≡ v → boundsAfter v (boundsOf b (k - 1)) ≡ Within from n
+    → (from + n ≤ length b) × (part b from n ≡ unlessRefused v (payloadOf (recordOf b (k - 1))))
+unfolding boundsOf payloadOf recordOf
+bounded-by b k from n Accepted q e =
+    let i = k - 1 in
+    let a = asked-for b k q in
+    let p = placed b (a .count) i (a .records) (omega (arith, a .first, a .last)) in
+    let f : from ≡ offsetOf b i + 16 = cc in
+    let m : n ≡ offsetOf b i + lengthOf b i - (offsetOf b i + 16) = let l : n ≡ lengthOf b i - 16 = cc in omega arith in
+    let h : 16 ≤ lengthOf b i = omega (arith, p .size) in
+    (omega (arith, p .inside), rw (f, m) (sym (drop-part b (offsetOf b i) (lengthOf b i) 16 h)))
+bounded-by b k from n (Refused r) q e = let z : _≡_ {A = ℕ} 0 1 = cc in absurd (omega arith)
+
+pub bounded : (b : List ℕ) (k from n : ℕ) → payloadBounds b k ≡ Within from n → Bounded b k from n
+unfolding payloadBounds payloadPart
+bounded b k from n e =
+    let q = bounded-by b k from n (payloadVerdict b k) refl e in
+    record { inside = q .0; octets = q .1 }
+
+absent-by : (b : List ℕ) (i : ℕ) (l : List ℕ) (r : Refusal) (v : Verdict) → boundsAfter v (boundsOf b i) ≡ Absent r → unlessRefused v l ≡ []
+unfolding boundsOf
+absent-by b i l r Accepted e = let z : _≡_ {A = ℕ} 0 1 = cc in absurd (omega arith)
+absent-by b i l r (Refused s) e = refl
+
+pub absent : (b : List ℕ) (k : ℕ) (r : Refusal) → payloadBounds b k ≡ Absent r → payloadPart b k ≡ []
+unfolding payloadBounds payloadPart
+absent b k r e = absent-by b (k - 1) _ r (payloadVerdict b k) e
 
 -- the records end where the block does
 pub records-end : (b : List ℕ) (n : ℕ) → Records b n → dueOf b n ≡ length b

@@ -1,6 +1,6 @@
 // The payload of a record, as a part of the caller's block. Records count from 1.
 ghost use mathlib.Core.Path.{_≡_};
-ghost use Rattle.capture.specs.Payload.{recordAsked, payloadVerdict, payloadPart};
+ghost use Rattle.capture.specs.Payload.{recordAsked, payloadVerdict, payloadBounds, payloadPart};
 use crate::directory::Directory;
 use crate::directory::check;
 use crate::directory::length_of;
@@ -8,6 +8,13 @@ use crate::directory::offset;
 use crate::header::HEADER_OCTETS;
 use refusal::Refusal;
 use refusal::Verdict;
+
+// Where a payload lies in its block.
+pub enum Bounds {
+    // from this offset on, for so many octets
+    Within(usize, usize),
+    Absent(Refusal),
+}
 
 // Whether a directory has a record with number k.
 fn asked(directory: Directory, k: usize) -> Verdict
@@ -34,18 +41,31 @@ pub fn verdict(block: &[u8], k: usize) -> Verdict
     asked(check(block), k)
 }
 
-// The payload of record k as a part of the block, empty where it is refused.
-pub fn part(block: &[u8], k: usize) -> &[u8]
-    ensures { λ r. ⌜ now r ≡ payloadPart (now (block .entry)) k ⌝ }
+// Where the payload of record k lies in the block.
+pub fn locate(block: &[u8], k: usize) -> Bounds
+    ensures { λ r. ⌜ r ≡ payloadBounds (now (block .entry)) k ⌝ }
 {
     match verdict(block, k) {
         Verdict::Accepted => {
             let i = k - 1;
             let offset = offset(block, i);
             let from = offset + HEADER_OCTETS;
-            let to = offset + length_of(block, i);
+            let octets = length_of(block, i) - HEADER_OCTETS;
+            Bounds::Within(from, octets)
+        }
+        Verdict::Refused(refusal) => Bounds::Absent(refusal),
+    }
+}
+
+// The payload of record k as a part of the block, empty where it is refused.
+pub fn part(block: &[u8], k: usize) -> &[u8]
+    ensures { λ r. ⌜ now r ≡ payloadPart (now (block .entry)) k ⌝ }
+{
+    match locate(block, k) {
+        Bounds::Within(from, octets) => {
+            let to = from + octets;
             &block[from..to]
         }
-        Verdict::Refused(_) => &block[0..0],
+        Bounds::Absent(_) => &block[0..0],
     }
 }

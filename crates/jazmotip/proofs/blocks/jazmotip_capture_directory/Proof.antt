@@ -1,0 +1,19 @@
+-- `jazmotip::blocks::jazmotip_capture_directory` meets its contract by those of its two steps.
+-- Assumes nothing.
+use mathlib.Core.Path.{_∙_}
+use borrow.Author.Needs.{needs}
+use Rattle.jazmotip.proofs.blocks.jazmotip_capture_directory.Statement.{statement}
+use Rattle.jazmotip.proofs.blocks.jazmotip_capture_directory.Tie as tie
+
+check-requires : tie.Need-check-requires
+check-requires c κs = search needs
+
+directory-in-numbers-requires : tie.Need-directory-in-numbers-requires
+directory-in-numbers-requires c κs = search needs
+
+returns : tie.Need-returns
+returns c = c .directory-in-numbers .ensures ∙ rw (c .before .check .ensures)
+
+pub jazmotip-capture-directory-spec : {M : Type 1} → statement M
+jazmotip-capture-directory-spec =
+    tie.close (tie.spec check-requires directory-in-numbers-requires returns)

@@ -1,0 +1,26 @@
+-- `jazmotip::blocks::jazmotip_capture_payload` meets its contract by those of its two steps; the bounds name the payload.
+-- Assumes nothing.
+use mathlib.Core.Path.{_≡_, _∙_}
+use denote.Ref.{now}
+use Rattle.capture.specs.Payload.{payloadBounds}
+use Rattle.jazmotip.specs.Blocks.{blockPart}
+use Rattle.jazmotip.proofs.Parts.{part-named}
+use borrow.Author.Needs.{needs}
+use Rattle.jazmotip.proofs.blocks.jazmotip_capture_payload.Statement.{statement}
+use Rattle.jazmotip.proofs.blocks.jazmotip_capture_payload.Tie as tie
+
+locate-requires : tie.Need-locate-requires
+locate-requires c κs = search needs
+
+part-in-numbers-requires : tie.Need-part-in-numbers-requires
+part-in-numbers-requires c κs = search needs
+
+returns : tie.Need-returns
+returns c =
+    let a = c .before .before .before .args in
+    let e : c .part-in-numbers .result ≡ blockPart (payloadBounds (now (a .block)) (a .k)) = c .part-in-numbers .ensures ∙ rw (c .before .locate .ensures) in
+    (e, rw e (part-named (now (a .block)) (a .k)))
+
+pub jazmotip-capture-payload-spec : {M : Type 1} → statement M
+jazmotip-capture-payload-spec =
+    tie.close (tie.spec locate-requires part-in-numbers-requires returns)

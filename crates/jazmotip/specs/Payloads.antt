@@ -1,0 +1,30 @@
+-- Sealing with EncEnabled as a number, and its answer in numbers (01, Counter block and mask; When the reader says no: 14, 1).
+-- Assumes nothing.
+use mathlib.Core.Bool.{true, false}
+use mathlib.Core.List.{List}
+use Prim.Native.Nat.{ℕ, zero, suc}
+use lib.ListN.{length}
+use Rattle.octets.specs.Choice.{pick}
+use Rattle.refusal.specs.declared.Refusal.the-variants.{OutOfRange, BadLength}
+use Rattle.sealing.specs.declared.envelope.Nonce.{Nonce}
+use Rattle.sealing.specs.declared.envelope.SealAnswer.{SealAnswer}
+use Rattle.sealing.specs.declared.envelope.SealAnswer.the-variants.{Denied}
+use Rattle.sealing.specs.Seal.{Sealing, lengthsFit, sealing, outcome, sealNumber, sealCount}
+use Rattle.traffic.specs.Passages.{Exchange, exchange}
+use Rattle.jazmotip.specs.declared.payloads.PayloadAnswer.{PayloadAnswer}
+
+-- a flag above 1 is a value outside its range: 14, then 1
+unfoldable pub flagDenied : ℕ → ℕ → SealAnswer
+flagDenied n m = Denied (pick (lengthsFit n m) OutOfRange BadLength)
+
+-- EncEnabled 0 and 1 are the clear and the enciphered envelope of `sealing`
+unfoldable pub sealingBy : ℕ → List ℕ → Nonce → List ℕ → List ℕ → Sealing
+sealingBy zero w n p out = sealing false w n p out
+sealingBy (suc zero) w n p out = sealing true w n p out
+sealingBy (suc (suc more)) w n p out = outcome (flagDenied (length p) (length out)) out
+
+abbrev pub payloadAnswer : SealAnswer → PayloadAnswer
+payloadAnswer a = record { number = sealNumber a; count = sealCount a }
+
+abbrev pub inNumbers : Sealing → Exchange PayloadAnswer
+inNumbers s = exchange (payloadAnswer (s .answer)) (s .output)

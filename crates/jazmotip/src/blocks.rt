@@ -1,0 +1,191 @@
+// The capture reader (01, Capture block). What its calls decide is numbers here, and a payload is an offset and a length in the
+// caller's block, since a part of it can't be returned to C.
+ghost use mathlib.Core.Path.{_≡_};
+ghost use Prim.Native.Nat.{_≤_};
+ghost use lib.ListN.{length, take};
+ghost use Rattle.octets.specs.Lists.{part};
+ghost use Rattle.capture.specs.Directory.{directoryOf};
+ghost use Rattle.capture.specs.Verdict.{verdictAsked};
+ghost use Rattle.capture.specs.Payload.{payloadBounds, payloadPart};
+ghost use Rattle.capture.specs.Opening.{opening};
+ghost use Rattle.capture.specs.Claims.{OpenedIfAccepted};
+ghost use Rattle.capture.specs.Listing.{listingOf};
+ghost use Rattle.traffic.specs.Passages.{exchange};
+ghost use Rattle.jazmotip.specs.Blocks.{blockDirectory, blockVerdict, blockPart, openedInNumbers};
+use super::payloads::PayloadAnswer;
+use capture::directory::Directory;
+use capture::directory::check;
+use capture::directory::verdict;
+use capture::header::RecordVerdict;
+use capture::listing::LISTING_OCTETS;
+use capture::listing::list;
+use capture::opening::octets_opened;
+use capture::opening::open;
+use capture::payload::Bounds;
+use capture::payload::locate;
+use capture::verdict::ask;
+use refusal::verdict_number;
+
+// What is wrong with a directory.
+const NO_FAULT: u8 = 0;
+
+const SIZE_FAULT: u8 = 1;
+
+const CHAIN_FAULT: u8 = 2;
+
+const LENGTH_FAULT: u8 = 3;
+
+#[repr(C)]
+pub struct BlockDirectory {
+    pub number: u8,
+    pub fault: u8,
+    // of a good directory, else 0
+    pub records: usize,
+    // the first that does not fit, from 1, else 0
+    pub pair: usize,
+}
+
+// Where a record is to be opened, EncEnabled is 1 and its key index and clock follow; else all three are 0.
+#[repr(C)]
+pub struct BlockVerdict {
+    pub number: u8,
+    pub encenabled: u8,
+    pub enckey: u8,
+    pub clock: u64,
+}
+
+// A refused payload is at 0, for no octets.
+#[repr(C)]
+pub struct BlockPart {
+    pub number: u8,
+    pub offset: usize,
+    pub length: usize,
+}
+
+fn directory_in_numbers(directory: Directory) -> BlockDirectory
+    ensures { λ r. ⌜ r ≡ blockDirectory directory ⌝ }
+{
+    let number = verdict_number(verdict(directory));
+    match directory {
+        Directory::Good(n) => BlockDirectory {
+            number,
+            fault: NO_FAULT,
+            records: n,
+            pair: 0,
+        },
+        Directory::BadSize => BlockDirectory {
+            number,
+            fault: SIZE_FAULT,
+            records: 0,
+            pair: 0,
+        },
+        Directory::BadChain(k) => BlockDirectory {
+            number,
+            fault: CHAIN_FAULT,
+            records: 0,
+            pair: k,
+        },
+        Directory::BadLength(k) => BlockDirectory {
+            number,
+            fault: LENGTH_FAULT,
+            records: 0,
+            pair: k,
+        },
+    }
+}
+
+fn verdict_in_numbers(verdict: RecordVerdict) -> BlockVerdict
+    ensures { λ r. ⌜ r ≡ blockVerdict verdict ⌝ }
+{
+    let number = capture::header::number(verdict);
+    match verdict {
+        RecordVerdict::Clear => BlockVerdict {
+            number,
+            encenabled: 0,
+            enckey: 0,
+            clock: 0,
+        },
+        RecordVerdict::Sealed(index, clock) => BlockVerdict {
+            number,
+            encenabled: 1,
+            enckey: index,
+            clock,
+        },
+        RecordVerdict::Refused(_) => BlockVerdict {
+            number,
+            encenabled: 0,
+            enckey: 0,
+            clock: 0,
+        },
+    }
+}
+
+fn part_in_numbers(bounds: Bounds) -> BlockPart
+    ensures { λ r. ⌜ r ≡ blockPart bounds ⌝ }
+{
+    match bounds {
+        Bounds::Within(from, octets) => BlockPart {
+            number: 0,
+            offset: from,
+            length: octets,
+        },
+        Bounds::Absent(refusal) => BlockPart {
+            number: refusal::number(refusal),
+            offset: 0,
+            length: 0,
+        },
+    }
+}
+
+#[no_mangle]
+pub extern "C" fn jazmotip_capture_directory(block: &[u8]) -> BlockDirectory
+    ensures { λ r. ⌜ r ≡ blockDirectory (directoryOf (now (block .entry))) ⌝ }
+{
+    directory_in_numbers(check(block))
+}
+
+// The verdict on record k, from 1. The refusals of the call itself come first.
+#[no_mangle]
+pub extern "C" fn jazmotip_capture_verdict(settings: &[u8], block: &[u8], k: usize) -> BlockVerdict
+    ensures { λ r. ⌜ r ≡ blockVerdict (verdictAsked (now (settings .entry)) (now (block .entry)) k) ⌝ }
+{
+    verdict_in_numbers(ask(settings, block, k))
+}
+
+// Where the payload of record k, from 1, lies in the block.
+#[no_mangle]
+pub extern "C" fn jazmotip_capture_payload(block: &[u8], k: usize) -> BlockPart
+    ensures { λ r. ⌜ r ≡ blockPart (payloadBounds (now (block .entry)) k) ⌝ }
+    ensures { λ r. ⌜ part (now (block .entry)) (r .offset) (r .length) ≡ payloadPart (now (block .entry)) k ⌝ }
+{
+    part_in_numbers(locate(block, k))
+}
+
+#[no_mangle]
+pub extern "C" fn jazmotip_capture_open(
+    settings: &[u8],
+    block: &[u8],
+    output: &mut [u8],
+) -> PayloadAnswer
+    ensures { λ r. ⌜ exchange r (now (output .exit)) ≡ openedInNumbers (opening (now (settings .entry)) (now (block .entry)) (now (output .entry))) ⌝ }
+    ensures { λ _. ⌜ OpenedIfAccepted (now (settings .entry)) (now (block .entry)) (length (now (output .entry))) ⌝ }
+{
+    let answer = open(settings, block, output);
+    PayloadAnswer {
+        number: capture::opening::number(answer),
+        count: octets_opened(answer),
+    }
+}
+
+// Lists a block, and gives the length of the text.
+#[no_mangle]
+pub extern "C" fn jazmotip_capture_list(
+    settings: &[u8],
+    block: &[u8],
+    text: &mut [u8; LISTING_OCTETS],
+) -> usize
+    ensures { λ r. ⌜ (r ≤ length (now (text .exit))) × (r ≡ length (take r (now (text .exit)))) ⌝ }
+    ensures { λ r. ⌜ take r (now (text .exit)) ≡ listingOf (now (settings .entry)) (now (block .entry)) ⌝ }
+{
+    list(settings, block, text)
+}

@@ -1,0 +1,93 @@
+// Sealing and opening of payloads (01, Counter block and mask). EncEnabled is a number here, and an answer a number and a count.
+ghost use mathlib.Core.Path.{_≡_};
+ghost use Rattle.sealing.specs.KeyExpansion.{keyExpansion};
+ghost use Rattle.sealing.specs.Payload.{countOf};
+ghost use Rattle.traffic.specs.Passages.{exchange};
+ghost use Rattle.jazmotip.specs.Payloads.{payloadAnswer, flagDenied, sealingBy, inNumbers};
+use refusal::Refusal;
+use sealing::aes128::RoundKeys;
+use sealing::aes128::expand_key;
+use sealing::envelope::Nonce;
+use sealing::envelope::SealAnswer;
+use sealing::envelope::count;
+use sealing::envelope::lengths_fit;
+use sealing::envelope::seal;
+use sealing::envelope::seal_count;
+use sealing::envelope::seal_expanded;
+use sealing::envelope::seal_number;
+
+#[repr(C)]
+pub struct PayloadAnswer {
+    // 0, or the refusal's number
+    pub number: u8,
+    // the octets enciphered or deciphered, 0 where the call was refused
+    pub count: u64,
+}
+
+fn numbered(answer: SealAnswer) -> PayloadAnswer
+    ensures { λ r. ⌜ r ≡ payloadAnswer answer ⌝ }
+{
+    PayloadAnswer {
+        number: seal_number(answer),
+        count: seal_count(answer),
+    }
+}
+
+// EncEnabled is above 1: the lengths come first.
+fn deny_flag(n: usize, m: usize) -> SealAnswer
+    ensures { λ r. ⌜ r ≡ flagDenied n m ⌝ }
+{
+    if lengths_fit(n, m) {
+        return SealAnswer::Denied(Refusal::OutOfRange);
+    }
+    SealAnswer::Denied(Refusal::BadLength)
+}
+
+#[no_mangle]
+pub extern "C" fn jazmotip_expand_key(key: &[u8; 16]) -> RoundKeys
+    ensures { λ r. ⌜ r .octets ≡ keyExpansion (now (key .entry)) ⌝ }
+{
+    expand_key(*key)
+}
+
+#[no_mangle]
+pub extern "C" fn jazmotip_seal(
+    encenabled: u8,
+    key: &[u8; 16],
+    nonce: Nonce,
+    input: &[u8],
+    output: &mut [u8],
+) -> PayloadAnswer
+    ensures { λ r. ⌜ exchange r (now (output .exit)) ≡ inNumbers (sealingBy encenabled (keyExpansion (now (key .entry))) nonce (now (input .entry)) (now (output .entry))) ⌝ }
+{
+    if 1 < encenabled {
+        return numbered(deny_flag(input.len(), output.len()));
+    }
+    let answer = seal(encenabled == 1, *key, nonce, input, output);
+    numbered(answer)
+}
+
+// The same under a key that was expanded before.
+#[no_mangle]
+pub extern "C" fn jazmotip_seal_expanded(
+    encenabled: u8,
+    keys: RoundKeys,
+    nonce: Nonce,
+    input: &[u8],
+    output: &mut [u8],
+) -> PayloadAnswer
+    ensures { λ r. ⌜ exchange r (now (output .exit)) ≡ inNumbers (sealingBy encenabled (keys .octets) nonce (now (input .entry)) (now (output .entry))) ⌝ }
+{
+    if 1 < encenabled {
+        return numbered(deny_flag(input.len(), output.len()));
+    }
+    let answer = seal_expanded(encenabled == 1, keys, nonce, input, output);
+    numbered(answer)
+}
+
+#[no_mangle]
+pub extern "C" fn jazmotip_count(payload: &[u8]) -> u64
+    ensures { λ r. ⌜ r ≡ countOf (now (payload .entry)) ⌝ }
+{
+    count(payload)
+}

@@ -1,5 +1,4 @@
 -- What the calls on a capture block decide, in numbers (01, Capture block). Assumes nothing.
-use Prim.Native.Nat.{ℕ}
 use Rattle.refusal.specs.Number.{numberOf, verdictNumber}
 use Rattle.capture.specs.declared.directory.Directory.{Directory}
 use Rattle.capture.specs.declared.directory.Directory.the-variants.{Good, BadSize, BadChain, BadLength}

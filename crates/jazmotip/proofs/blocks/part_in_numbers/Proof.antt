@@ -14,10 +14,10 @@ number-requires : tie.Need-number-requires
 number-requires c κs = search needs
 
 returns : tie.Need-returns
-returns c = cc
+returns c = rw (c .before .bounds .given .1)
 
 returns-2 : tie.Need-returns-2
-returns-2 c = cc
+returns-2 c = rw (c .number .ensures, c .before .before .bounds2 .given .1)
 
 pub part-in-numbers-spec : {M : Type 1} → statement M
 part-in-numbers-spec =

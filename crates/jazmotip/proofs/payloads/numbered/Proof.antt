@@ -11,7 +11,7 @@ seal-count-requires : tie.Need-seal-count-requires
 seal-count-requires c κs = search needs
 
 returns : tie.Need-returns
-returns c = cc
+returns c = rw (c .before .seal-number .ensures, c .seal-count .ensures)
 
 pub numbered-spec : {M : Type 1} → statement M
 numbered-spec = tie.close (tie.spec seal-number-requires seal-count-requires returns)

@@ -1,4 +1,7 @@
-// The engine for C: every call under one prefix, each equal to the same definition as the call of the crate that it stands for. A
-// slice crosses as a pointer and then a length, an array as a pointer, a struct in C's layout.
-mod blocks;
-mod payloads;
+// The library that firmware links, from C or Rust: every call of both ends, of sealing and of the capture reader, under one prefix. Each
+// has the contract of the call that it stands for. A slice crosses as a pointer and a length, an array as a pointer, a struct in C's
+// layout.
+pub mod at_olt;
+pub mod at_onu;
+pub mod blocks;
+pub mod payloads;

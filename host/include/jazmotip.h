@@ -1,0 +1,532 @@
+/*
+ * jazmotip.h: the Jazmotip link engine, for firmware in C.
+ *
+ * Seals and opens the payloads of SIEPON.4 envelopes (AES-128 in counter mode under the control mask), plays either end of a
+ * 25G/50G EPON line, and opens capture blocks. Link with libjazmotip.a; nothing else is needed, not even a C library beyond the
+ * memcpy and memset that compilers take for granted. x86-64, System V calling convention.
+ *
+ * What holds of every call
+ *   - It ends, and asks nothing of the values handed to it: whatever is malformed, untimely, unknown or too long is refused by a
+ *     number from the table below, and 0 is acceptance. It is proved, not tested, that each answer is the one its definition gives;
+ *     docs/PROMISES.md names the definitions.
+ *   - A refusal changes nothing. The end comes back exactly as it was lent, a lent output keeps every octet, the count is 0, and
+ *     what would have been handed over (message, header, acknowledgement) is zeros.
+ *   - No heap, no globals that are written, no locks: calls on different ends and buffers may run at the same time.
+ *
+ * What the caller owes, as for any C function
+ *   - A pointer with a length points to that many octets that may be read, and written for an output. With length 0 it may be any
+ *     pointer but NULL.
+ *   - An output overlaps nothing else that is lent in the same call. No length is above PTRDIFF_MAX.
+ *
+ * Who owns what
+ *   - The caller owns all memory. The engine keeps no pointer after a call returns.
+ *   - An end, a jazmotip_olt or a jazmotip_onu, is a plain value. A call takes it by value and answers with the next one: store
+ *     that, and use no older copy, since sending twice from one copy would use a counter block twice. Only the two advances
+ *     write in place. An end may be copied, compared field by field, or kept over a restart; it holds keys, so wipe what you
+ *     leave behind.
+ *
+ *         jazmotip_olt_answer a = jazmotip_olt_register(olt, identity, trip, interval);
+ *         olt = a.olt;                        // right for acceptance and refusal alike
+ *         if (a.number != JAZMOTIP_ACCEPTED) { ... }
+ *
+ * Units: one tick is one EQT, 2.56 ns. One EQ is nine octets: a control octet, then eight data octets.
+ */
+#ifndef JAZMOTIP_H
+#define JAZMOTIP_H
+
+#include <stddef.h>
+#include <stdint.h>
+
+#ifdef __cplusplus
+extern "C" {
+#endif
+
+/* ---------------------------------------------------------------------------------------------------------------- Numbers
+ * What a call answers with. Where several causes hold, the first in the call's own order is given; each call lists its order. */
+enum {
+    JAZMOTIP_ACCEPTED = 0,
+    JAZMOTIP_OUT_OF_RANGE = 1,        /* a value outside its range, or a lent end that no call could have made */
+    JAZMOTIP_UNKNOWN_LLID = 2,        /* LLID not registered */
+    JAZMOTIP_REPEATED_LLID = 3,       /* LLID already registered, or twice in one call */
+    JAZMOTIP_TABLE_FULL = 4,          /* seventeenth unit */
+    JAZMOTIP_CLOCK_NOT_SET = 5,       /* clock not set, or not acknowledged */
+    JAZMOTIP_OFFER_PENDING = 6,       /* an offer while one is under way or the last key is not confirmed */
+    JAZMOTIP_SAME_KEY = 7,            /* the offered key is the active one */
+    JAZMOTIP_NOTHING_OUTSTANDING = 8, /* key message or acknowledgement that fits nothing; clock send without capture */
+    JAZMOTIP_NO_KEY = 9,              /* no key for that index */
+    JAZMOTIP_EPAM_DIFFERS = 10,       /* EPAM is not the low six bits of the receiver's clock */
+    JAZMOTIP_CLEAR_ENVELOPE = 11,     /* clear envelope after the first confirmed or active key */
+    JAZMOTIP_CHANNEL_TAKEN = 12,      /* channel still taken by the envelope before */
+    JAZMOTIP_KEY_TOO_OLD = 13,        /* 2^48 ticks since the first send under the key */
+    JAZMOTIP_BAD_LENGTH = 14,         /* payload no multiple of 9 or too long; output of another length; settings not 41 octets */
+    JAZMOTIP_BAD_DIRECTORY = 15,      /* capture directory bad */
+    JAZMOTIP_CAPTURE_TOO_OLD = 16,    /* clock capture older than a second */
+    JAZMOTIP_AT_END = 17              /* tick or key number at its end */
+};
+
+/* ----------------------------------------------------------------------------------------------------------------- Limits */
+#define JAZMOTIP_EQ_OCTETS 9u                /* octets of an EQ */
+#define JAZMOTIP_MAX_EQS 4194303u            /* EQs of a payload, at most: 37,748,727 octets */
+#define JAZMOTIP_KEY_OCTETS 16u              /* AES-128 */
+#define JAZMOTIP_UNITS 16u                   /* units of an OLT, at most */
+#define JAZMOTIP_LLIDS 4u                    /* LLIDs of a unit, at most; at least 1 */
+#define JAZMOTIP_SECOND 390625000u           /* ticks of a second; a capture may be sent up to then */
+#define JAZMOTIP_MAX_TRIP 1000000u           /* ticks of a round trip, at most */
+#define JAZMOTIP_MAX_INTERVAL (UINT64_C(1) << 47) /* ticks of a key timer, at most; at least 1 */
+#define JAZMOTIP_MAX_TICK (UINT64_C(1) << 62)     /* ticks that an end counts, at most: over 370 years */
+#define JAZMOTIP_CLOCK_TURN (UINT64_C(1) << 48)   /* clocks and MACs are below this */
+#define JAZMOTIP_SETTINGS_OCTETS 41u         /* settings of the capture reader */
+#define JAZMOTIP_BLOCK_OCTETS 65536u         /* octets of a capture block, at most */
+#define JAZMOTIP_RECORDS 256u                /* records of a capture block, at most */
+#define JAZMOTIP_LISTING_OCTETS 10266u       /* the buffer that a listing needs */
+
+/* ------------------------------------------------------------------------------------------------------------------- Ends
+ * A flag is 0 or 1. A place that is not in use holds zeros. Read any field; write none but in a struct that you hand over as an
+ * argument: an end with a field outside its rules is refused with 1 by every call. */
+
+typedef struct jazmotip_timer {
+    uint64_t interval; /* 1 to JAZMOTIP_MAX_INTERVAL ticks */
+    uint64_t count;    /* ticks since the last turn, below interval */
+    uint8_t flag;      /* up from a turn until the next switch */
+} jazmotip_timer;
+
+/* Two keys: key number n is at index n mod 2. */
+typedef struct jazmotip_slots {
+    uint8_t even[16];
+    uint8_t odd[16];
+} jazmotip_slots;
+
+/* The first send under the key in use. */
+typedef struct jazmotip_first_send {
+    uint8_t noted;
+    uint64_t tick;
+} jazmotip_first_send;
+
+/* The tick from which each channel is free. */
+typedef struct jazmotip_channels {
+    uint64_t zero;
+    uint64_t one;
+} jazmotip_channels;
+
+/* A unit's MAC, below 2^48, and its 1 to 4 LLIDs, any 16-bit codes; places past the count are ignored on the way in. */
+typedef struct jazmotip_identity {
+    uint64_t mac;
+    uint16_t llids[4];
+    uint8_t count;
+} jazmotip_identity;
+
+/* What the OLT sends to a unit under. */
+typedef struct jazmotip_unit_keys {
+    jazmotip_timer timer;
+    uint32_t active;  /* A; 0 before the first key */
+    uint32_t offered; /* O: A or A + 1 */
+    jazmotip_slots slots;
+    jazmotip_first_send first;
+} jazmotip_unit_keys;
+
+/* What the unit has shown. */
+typedef struct jazmotip_confirmation {
+    uint32_t confirmed;   /* C: A or A - 1 */
+    uint8_t acknowledged; /* whether O was acknowledged */
+} jazmotip_confirmation;
+
+/* The OLT's side of a unit's clock. */
+typedef struct jazmotip_unit_clock {
+    uint64_t trip; /* round trip, ticks */
+    uint8_t captured;
+    uint64_t tick; /* of the capture */
+    uint8_t sent;
+    uint8_t acknowledged;
+} jazmotip_unit_clock;
+
+typedef struct jazmotip_unit {
+    jazmotip_identity identity;
+    jazmotip_unit_keys keys;
+    jazmotip_confirmation confirmation;
+    jazmotip_unit_clock clock;
+} jazmotip_unit;
+
+/* What all units share at the OLT. */
+typedef struct jazmotip_shared {
+    uint64_t mac;
+    uint64_t tick;  /* ticks since fresh */
+    uint64_t clock; /* cipher clock, below 2^48 */
+    jazmotip_channels channels;
+} jazmotip_shared;
+
+/* The head end. */
+typedef struct jazmotip_olt {
+    jazmotip_shared shared;
+    uint8_t count; /* units registered */
+    jazmotip_unit units[16];
+} jazmotip_olt;
+
+/* A unit's own keys. */
+typedef struct jazmotip_onu_keys {
+    uint32_t active; /* a; 0 before the first key */
+    uint8_t held;    /* whether key a + 1 is held */
+    jazmotip_slots slots;
+} jazmotip_onu_keys;
+
+/* A unit's own clocks. */
+typedef struct jazmotip_onu_clock {
+    uint8_t synced; /* whether a clock message was accepted */
+    uint64_t time;  /* LocalTime, below 2^32, while unsynced; the Tx clock, whose low 32 bits are LocalTime, once synced */
+    uint64_t rx;    /* the Rx clock; 0 while unsynced */
+} jazmotip_onu_clock;
+
+/* The subscriber unit. */
+typedef struct jazmotip_onu {
+    jazmotip_identity identity;
+    uint64_t oltmac;
+    uint64_t tick;
+    jazmotip_onu_clock clock;
+    jazmotip_onu_keys keys;
+    jazmotip_first_send first;
+    jazmotip_channels channels;
+} jazmotip_onu;
+
+/* --------------------------------------------------------------------------------------- What the host carries on the line */
+
+/* A clock message: the OLT's clock at the capture, and that clock plus the round trip. */
+typedef struct jazmotip_stamps {
+    uint64_t rx;
+    uint64_t tx;
+} jazmotip_stamps;
+
+typedef struct jazmotip_key_message {
+    uint16_t llid;
+    uint32_t number;
+    uint8_t key[16];
+} jazmotip_key_message;
+
+/* What a unit answers. */
+typedef struct jazmotip_acknowledgement {
+    uint8_t kind;    /* 1 to a clock message, 2 to a key message, 0 none */
+    uint32_t number; /* the key's number, 0 to a clock message */
+} jazmotip_acknowledgement;
+
+/* An envelope's header, start (ESH) or continuation (ECH). */
+typedef struct jazmotip_header {
+    uint8_t index;      /* channel index: 0x00, 0x01 downstream, 0x80, 0x81 upstream */
+    uint16_t llid;
+    uint8_t encenabled;
+    uint8_t enckey;     /* the key's number mod 2 */
+    uint8_t epam;       /* the low six bits of the sender's clock */
+} jazmotip_header;
+
+/* ---------------------------------------------------------------------------------------------------------------- Answers */
+
+typedef struct jazmotip_olt_answer {
+    uint8_t number;
+    jazmotip_olt olt;
+} jazmotip_olt_answer;
+
+typedef struct jazmotip_clock_sent {
+    uint8_t number;
+    jazmotip_olt olt;
+    jazmotip_stamps message;
+} jazmotip_clock_sent;
+
+typedef struct jazmotip_key_sent {
+    uint8_t number;
+    jazmotip_olt olt;
+    jazmotip_key_message message;
+} jazmotip_key_sent;
+
+typedef struct jazmotip_olt_sent {
+    uint8_t number;
+    jazmotip_olt olt;
+    jazmotip_header header;
+    uint64_t count; /* octets enciphered, 0 for a clear envelope */
+} jazmotip_olt_sent;
+
+typedef struct jazmotip_olt_received {
+    uint8_t number;
+    jazmotip_olt olt;
+    uint64_t count;
+} jazmotip_olt_received;
+
+typedef struct jazmotip_onu_answer {
+    uint8_t number;
+    jazmotip_onu onu;
+} jazmotip_onu_answer;
+
+typedef struct jazmotip_onu_acknowledged {
+    uint8_t number;
+    jazmotip_onu onu;
+    jazmotip_acknowledgement acknowledgement;
+} jazmotip_onu_acknowledged;
+
+typedef struct jazmotip_onu_sent {
+    uint8_t number;
+    jazmotip_onu onu;
+    jazmotip_header header;
+    uint64_t count;
+} jazmotip_onu_sent;
+
+typedef struct jazmotip_onu_received {
+    uint8_t number;
+    jazmotip_onu onu;
+    uint64_t count;
+} jazmotip_onu_received;
+
+/* ------------------------------------------------------------------------------------------------------- Calls of the OLT
+ * A unit is named by any of its LLIDs. Ahead of each order below stands 1 for an end that no call could have made. */
+
+/* A head end with no units. Refused (1: MAC or clock not below 2^48), the end is zeros. */
+jazmotip_olt_answer jazmotip_olt_fresh(uint64_t mac, uint64_t clock);
+
+/* Registers a unit: MAC and LLIDs, round trip, key timer. Order: 1, 3, 4. */
+jazmotip_olt_answer jazmotip_olt_register(jazmotip_olt olt, jazmotip_identity identity, uint64_t trip, uint64_t interval);
+
+/* Moves ticks, clock and timers on by n, in place, and gives the number. Order: 17. */
+uint8_t jazmotip_olt_advance(jazmotip_olt *olt, uint64_t n);
+
+/* Captures the clock for a unit; it stays until the next capture. Order: 2. */
+jazmotip_olt_answer jazmotip_olt_capture(jazmotip_olt olt, uint16_t llid);
+
+/* Hands over the clock message of the capture, any number of times within a second. Order: 2, 8, 16. */
+jazmotip_clock_sent jazmotip_olt_clock_send(jazmotip_olt olt, uint16_t llid);
+
+/* Offers a new key and hands over its message. Keys must come from a good random source: the engine only compares the key with
+ * the active one. Order: 2, 5, 6, 7, 17. */
+jazmotip_key_sent jazmotip_olt_offer(jazmotip_olt olt, uint16_t llid, const uint8_t key[16]);
+
+/* Hands over the key message of the outstanding offer again. Order: 2, 8. */
+jazmotip_key_sent jazmotip_olt_retry(jazmotip_olt olt, uint16_t llid);
+
+/* Takes in a unit's acknowledgement. Order: 2, 8. */
+jazmotip_olt_answer jazmotip_olt_acknowledge(jazmotip_olt olt, uint16_t llid, jazmotip_acknowledgement acknowledgement);
+
+/* Seals a payload for a unit into output, of the same length, and hands over its header. With the timer's flag up and the offer
+ * acknowledged this is the envelope that switches keys. Index 0x00 or 0x01. The channel is taken for as many ticks as EQs.
+ * Order: 14, 1, 2, 12, 13. */
+jazmotip_olt_sent jazmotip_olt_send(jazmotip_olt olt, uint16_t llid, uint8_t index, const uint8_t *payload, size_t payload_length,
+                                    uint8_t *output, size_t output_length);
+
+/* Opens an envelope from a unit into output, of the same length. Order: 14, 1, 2, 10, 11, 9. */
+jazmotip_olt_received jazmotip_olt_receive(jazmotip_olt olt, jazmotip_header header, const uint8_t *octets, size_t octets_length,
+                                           uint8_t *output, size_t output_length);
+
+/* ------------------------------------------------------------------------------------------------------- Calls of the ONU */
+
+/* A unit that is not synced yet: its identity, the OLT's MAC and LocalTime, below 2^32. Refused (1, 3), the end is zeros. */
+jazmotip_onu_answer jazmotip_onu_fresh(jazmotip_identity identity, uint64_t oltmac, uint64_t time);
+
+/* Moves ticks and clocks on by n, in place, and gives the number. Order: 17. */
+uint8_t jazmotip_onu_advance(jazmotip_onu *onu, uint64_t n);
+
+/* Sets the clocks by a clock message and hands over the acknowledgement. Order: 1. */
+jazmotip_onu_acknowledged jazmotip_onu_clock_message(jazmotip_onu onu, jazmotip_stamps message);
+
+/* Takes a key message and hands over the acknowledgement. Order: 2, 5, 8. */
+jazmotip_onu_acknowledged jazmotip_onu_key_message(jazmotip_onu onu, jazmotip_key_message message);
+
+/* Seals a payload for the head end into output, of the same length, and hands over its header. Index 0x80 or 0x81.
+ * Order: 14, 1, 2, 12, 13. */
+jazmotip_onu_sent jazmotip_onu_send(jazmotip_onu onu, uint16_t llid, uint8_t index, const uint8_t *payload, size_t payload_length,
+                                    uint8_t *output, size_t output_length);
+
+/* Opens an envelope from the head end into output, of the same length. An envelope under the next key makes that key the active
+ * one. Order: 14, 1, 2, 10 (not while unsynced), 5 (sealed ones only), 11, 9. */
+jazmotip_onu_received jazmotip_onu_receive(jazmotip_onu onu, jazmotip_header header, const uint8_t *octets, size_t octets_length,
+                                           uint8_t *output, size_t output_length);
+
+/* -------------------------------------------------------------------------------------------------- Payloads on their own
+ * For a host that keeps clocks and keys itself. The ends above do all this. */
+
+/* What tells one envelope's counter blocks from another's. Never use one twice under one key. */
+typedef struct jazmotip_nonce {
+    uint8_t channel; /* channel index: 0x00, 0x01, 0x80 or 0x81 */
+    uint64_t mac;    /* the sender's, below 2^48 */
+    uint64_t clock;  /* the sender's cipher clock at the header, below 2^48 */
+} jazmotip_nonce;
+
+/* The eleven round keys of AES-128, 16 octets each. */
+typedef struct jazmotip_round_keys {
+    uint8_t octets[176];
+} jazmotip_round_keys;
+
+typedef struct jazmotip_payload_answer {
+    uint8_t number;
+    uint64_t count; /* octets enciphered or deciphered */
+} jazmotip_payload_answer;
+
+/* Seals input into output, of the same length, or opens it: the two are one act. encenabled 1 enciphers; 0 copies, with count 0.
+ * Order: 14, 1. */
+jazmotip_payload_answer jazmotip_seal(uint8_t encenabled, const uint8_t key[16], jazmotip_nonce nonce, const uint8_t *input,
+                                      size_t input_length, uint8_t *output, size_t output_length);
+
+/* The same under a key that was expanded once, for many short envelopes. */
+jazmotip_payload_answer jazmotip_seal_expanded(uint8_t encenabled, jazmotip_round_keys keys, jazmotip_nonce nonce,
+                                               const uint8_t *input, size_t input_length, uint8_t *output, size_t output_length);
+
+jazmotip_round_keys jazmotip_expand_key(const uint8_t key[16]);
+
+/* The octets that sealing a payload enciphers: over all whole EQs, eight minus the ones in the control octet. */
+uint64_t jazmotip_count(const uint8_t *payload, size_t payload_length);
+
+/* --------------------------------------------------------------------------------------------------------- Capture blocks
+ * Settings are 41 octets: presence (bit 0 key 0, bit 1 key 1), key 0 (16), key 1 (16), the sender's MAC (6), LLID (2). Records and
+ * pairs count from 1. */
+
+typedef struct jazmotip_block_directory {
+    uint8_t number; /* 0 or 15 */
+    uint8_t fault;  /* 0 none; 1 sizes; 2 a pair off the chain of offsets; 3 a pair off its record's length */
+    size_t records; /* how many, 0 if refused */
+    size_t pair;    /* the first bad pair, for faults 2 and 3; else 0 */
+} jazmotip_block_directory;
+
+typedef struct jazmotip_block_verdict {
+    uint8_t number;
+    uint8_t encenabled; /* 1 where opening deciphers the record; then enckey and clock are what it uses, else 0 */
+    uint8_t enckey;
+    uint64_t clock;
+} jazmotip_block_verdict;
+
+typedef struct jazmotip_block_part {
+    uint8_t number;
+    size_t offset; /* the payload is block[offset] to block[offset + length - 1] */
+    size_t length;
+} jazmotip_block_part;
+
+/* What the directory of a block is found to be. */
+jazmotip_block_directory jazmotip_capture_directory(const uint8_t *block, size_t block_length);
+
+/* Whether opening opens record k. Order: 14 and 1 for the settings, 15, 1 for k, then the record's own 1, 2, 10, 9. */
+jazmotip_block_verdict jazmotip_capture_verdict(const uint8_t *settings, size_t settings_length, const uint8_t *block,
+                                                size_t block_length, size_t k);
+
+/* Where the payload of record k lies, opened or not. Order: 15, 1. Refused, offset and length are 0. */
+jazmotip_block_part jazmotip_capture_payload(const uint8_t *block, size_t block_length, size_t k);
+
+/* Opens every record that can be into output, of the block's length; the others are copied. Opened records have their flags
+ * cleared. The count is the sum over opened records. Order: 14, 1, 15. */
+jazmotip_payload_answer jazmotip_capture_open(const uint8_t *settings, size_t settings_length, const uint8_t *block,
+                                              size_t block_length, uint8_t *output, size_t output_length);
+
+/* Writes the listing of a block, plain ASCII lines with no 0 at the end, and gives its length; text past it is free. A refused
+ * call is the heading and a line such as "refused 15". */
+size_t jazmotip_capture_list(const uint8_t *settings, size_t settings_length, const uint8_t *block, size_t block_length,
+                             uint8_t text[JAZMOTIP_LISTING_OCTETS]);
+
+/* ----------------------------------------------------------------------------------------------------------------- Layout
+ * The archive's layout is the C layout of these structs on x86-64; a compiler that lays them out otherwise stops here. */
+#if defined(__cplusplus)
+#define JAZMOTIP_LAYOUT(condition) static_assert(condition, #condition)
+#else
+#define JAZMOTIP_LAYOUT(condition) _Static_assert(condition, #condition)
+#endif
+
+JAZMOTIP_LAYOUT(sizeof(jazmotip_timer) == 24);
+JAZMOTIP_LAYOUT(offsetof(jazmotip_timer, count) == 8);
+JAZMOTIP_LAYOUT(offsetof(jazmotip_timer, flag) == 16);
+JAZMOTIP_LAYOUT(sizeof(jazmotip_slots) == 32);
+JAZMOTIP_LAYOUT(offsetof(jazmotip_slots, odd) == 16);
+JAZMOTIP_LAYOUT(sizeof(jazmotip_first_send) == 16);
+JAZMOTIP_LAYOUT(offsetof(jazmotip_first_send, tick) == 8);
+JAZMOTIP_LAYOUT(sizeof(jazmotip_channels) == 16);
+JAZMOTIP_LAYOUT(offsetof(jazmotip_channels, one) == 8);
+JAZMOTIP_LAYOUT(sizeof(jazmotip_identity) == 24);
+JAZMOTIP_LAYOUT(offsetof(jazmotip_identity, llids) == 8);
+JAZMOTIP_LAYOUT(offsetof(jazmotip_identity, count) == 16);
+JAZMOTIP_LAYOUT(sizeof(jazmotip_unit_keys) == 80);
+JAZMOTIP_LAYOUT(offsetof(jazmotip_unit_keys, active) == 24);
+JAZMOTIP_LAYOUT(offsetof(jazmotip_unit_keys, offered) == 28);
+JAZMOTIP_LAYOUT(offsetof(jazmotip_unit_keys, slots) == 32);
+JAZMOTIP_LAYOUT(offsetof(jazmotip_unit_keys, first) == 64);
+JAZMOTIP_LAYOUT(sizeof(jazmotip_confirmation) == 8);
+JAZMOTIP_LAYOUT(offsetof(jazmotip_confirmation, acknowledged) == 4);
+JAZMOTIP_LAYOUT(sizeof(jazmotip_unit_clock) == 32);
+JAZMOTIP_LAYOUT(offsetof(jazmotip_unit_clock, captured) == 8);
+JAZMOTIP_LAYOUT(offsetof(jazmotip_unit_clock, tick) == 16);
+JAZMOTIP_LAYOUT(offsetof(jazmotip_unit_clock, sent) == 24);
+JAZMOTIP_LAYOUT(offsetof(jazmotip_unit_clock, acknowledged) == 25);
+JAZMOTIP_LAYOUT(sizeof(jazmotip_unit) == 144);
+JAZMOTIP_LAYOUT(offsetof(jazmotip_unit, keys) == 24);
+JAZMOTIP_LAYOUT(offsetof(jazmotip_unit, confirmation) == 104);
+JAZMOTIP_LAYOUT(offsetof(jazmotip_unit, clock) == 112);
+JAZMOTIP_LAYOUT(sizeof(jazmotip_shared) == 40);
+JAZMOTIP_LAYOUT(offsetof(jazmotip_shared, tick) == 8);
+JAZMOTIP_LAYOUT(offsetof(jazmotip_shared, clock) == 16);
+JAZMOTIP_LAYOUT(offsetof(jazmotip_shared, channels) == 24);
+JAZMOTIP_LAYOUT(sizeof(jazmotip_olt) == 2352);
+JAZMOTIP_LAYOUT(offsetof(jazmotip_olt, count) == 40);
+JAZMOTIP_LAYOUT(offsetof(jazmotip_olt, units) == 48);
+JAZMOTIP_LAYOUT(sizeof(jazmotip_onu_keys) == 40);
+JAZMOTIP_LAYOUT(offsetof(jazmotip_onu_keys, held) == 4);
+JAZMOTIP_LAYOUT(offsetof(jazmotip_onu_keys, slots) == 5);
+JAZMOTIP_LAYOUT(sizeof(jazmotip_onu_clock) == 24);
+JAZMOTIP_LAYOUT(offsetof(jazmotip_onu_clock, time) == 8);
+JAZMOTIP_LAYOUT(offsetof(jazmotip_onu_clock, rx) == 16);
+JAZMOTIP_LAYOUT(sizeof(jazmotip_onu) == 136);
+JAZMOTIP_LAYOUT(offsetof(jazmotip_onu, oltmac) == 24);
+JAZMOTIP_LAYOUT(offsetof(jazmotip_onu, tick) == 32);
+JAZMOTIP_LAYOUT(offsetof(jazmotip_onu, clock) == 40);
+JAZMOTIP_LAYOUT(offsetof(jazmotip_onu, keys) == 64);
+JAZMOTIP_LAYOUT(offsetof(jazmotip_onu, first) == 104);
+JAZMOTIP_LAYOUT(offsetof(jazmotip_onu, channels) == 120);
+JAZMOTIP_LAYOUT(sizeof(jazmotip_stamps) == 16);
+JAZMOTIP_LAYOUT(offsetof(jazmotip_stamps, tx) == 8);
+JAZMOTIP_LAYOUT(sizeof(jazmotip_key_message) == 24);
+JAZMOTIP_LAYOUT(offsetof(jazmotip_key_message, number) == 4);
+JAZMOTIP_LAYOUT(offsetof(jazmotip_key_message, key) == 8);
+JAZMOTIP_LAYOUT(sizeof(jazmotip_acknowledgement) == 8);
+JAZMOTIP_LAYOUT(offsetof(jazmotip_acknowledgement, number) == 4);
+JAZMOTIP_LAYOUT(sizeof(jazmotip_header) == 8);
+JAZMOTIP_LAYOUT(offsetof(jazmotip_header, llid) == 2);
+JAZMOTIP_LAYOUT(offsetof(jazmotip_header, encenabled) == 4);
+JAZMOTIP_LAYOUT(offsetof(jazmotip_header, enckey) == 5);
+JAZMOTIP_LAYOUT(offsetof(jazmotip_header, epam) == 6);
+JAZMOTIP_LAYOUT(sizeof(jazmotip_olt_answer) == 2360);
+JAZMOTIP_LAYOUT(offsetof(jazmotip_olt_answer, olt) == 8);
+JAZMOTIP_LAYOUT(sizeof(jazmotip_clock_sent) == 2376);
+JAZMOTIP_LAYOUT(offsetof(jazmotip_clock_sent, olt) == 8);
+JAZMOTIP_LAYOUT(offsetof(jazmotip_clock_sent, message) == 2360);
+JAZMOTIP_LAYOUT(sizeof(jazmotip_key_sent) == 2384);
+JAZMOTIP_LAYOUT(offsetof(jazmotip_key_sent, olt) == 8);
+JAZMOTIP_LAYOUT(offsetof(jazmotip_key_sent, message) == 2360);
+JAZMOTIP_LAYOUT(sizeof(jazmotip_olt_sent) == 2376);
+JAZMOTIP_LAYOUT(offsetof(jazmotip_olt_sent, olt) == 8);
+JAZMOTIP_LAYOUT(offsetof(jazmotip_olt_sent, header) == 2360);
+JAZMOTIP_LAYOUT(offsetof(jazmotip_olt_sent, count) == 2368);
+JAZMOTIP_LAYOUT(sizeof(jazmotip_olt_received) == 2368);
+JAZMOTIP_LAYOUT(offsetof(jazmotip_olt_received, olt) == 8);
+JAZMOTIP_LAYOUT(offsetof(jazmotip_olt_received, count) == 2360);
+JAZMOTIP_LAYOUT(sizeof(jazmotip_onu_answer) == 144);
+JAZMOTIP_LAYOUT(offsetof(jazmotip_onu_answer, onu) == 8);
+JAZMOTIP_LAYOUT(sizeof(jazmotip_onu_acknowledged) == 152);
+JAZMOTIP_LAYOUT(offsetof(jazmotip_onu_acknowledged, onu) == 8);
+JAZMOTIP_LAYOUT(offsetof(jazmotip_onu_acknowledged, acknowledgement) == 144);
+JAZMOTIP_LAYOUT(sizeof(jazmotip_onu_sent) == 160);
+JAZMOTIP_LAYOUT(offsetof(jazmotip_onu_sent, onu) == 8);
+JAZMOTIP_LAYOUT(offsetof(jazmotip_onu_sent, header) == 144);
+JAZMOTIP_LAYOUT(offsetof(jazmotip_onu_sent, count) == 152);
+JAZMOTIP_LAYOUT(sizeof(jazmotip_onu_received) == 152);
+JAZMOTIP_LAYOUT(offsetof(jazmotip_onu_received, onu) == 8);
+JAZMOTIP_LAYOUT(offsetof(jazmotip_onu_received, count) == 144);
+JAZMOTIP_LAYOUT(sizeof(jazmotip_nonce) == 24);
+JAZMOTIP_LAYOUT(offsetof(jazmotip_nonce, mac) == 8);
+JAZMOTIP_LAYOUT(offsetof(jazmotip_nonce, clock) == 16);
+JAZMOTIP_LAYOUT(sizeof(jazmotip_round_keys) == 176);
+JAZMOTIP_LAYOUT(sizeof(jazmotip_payload_answer) == 16);
+JAZMOTIP_LAYOUT(offsetof(jazmotip_payload_answer, count) == 8);
+JAZMOTIP_LAYOUT(sizeof(jazmotip_block_directory) == 24);
+JAZMOTIP_LAYOUT(offsetof(jazmotip_block_directory, fault) == 1);
+JAZMOTIP_LAYOUT(offsetof(jazmotip_block_directory, records) == 8);
+JAZMOTIP_LAYOUT(offsetof(jazmotip_block_directory, pair) == 16);
+JAZMOTIP_LAYOUT(sizeof(jazmotip_block_verdict) == 16);
+JAZMOTIP_LAYOUT(offsetof(jazmotip_block_verdict, encenabled) == 1);
+JAZMOTIP_LAYOUT(offsetof(jazmotip_block_verdict, enckey) == 2);
+JAZMOTIP_LAYOUT(offsetof(jazmotip_block_verdict, clock) == 8);
+JAZMOTIP_LAYOUT(sizeof(jazmotip_block_part) == 24);
+JAZMOTIP_LAYOUT(offsetof(jazmotip_block_part, offset) == 8);
+JAZMOTIP_LAYOUT(offsetof(jazmotip_block_part, length) == 16);
+#undef JAZMOTIP_LAYOUT
+
+#ifdef __cplusplus
+}
+#endif
+
+#endif

@@ -1,0 +1,145 @@
+//! The calls of the C header, one function each: values and slices in, the answer's record out, refusals by number.
+//!
+//! For a host that wants the records as they cross. [`Olt`], [`Onu`], [`RoundKeys`] and [`capture`](crate::capture) say the same
+//! with `Result`.
+
+// Every block marked unsafe here lends slices and arrays for the time of one call: they are valid for their lengths, and `&mut`
+// keeps an output apart from what is read. The engine asks nothing else of its caller.
+
+use crate::raw;
+use crate::records::*;
+use crate::LISTING_OCTETS;
+
+pub fn olt_fresh(mac: u64, clock: u64) -> OltAnswer {
+    unsafe { raw::jazmotip_olt_fresh(mac, clock) }
+}
+
+/// Order of refusals: 1, 3, 4. Here and below, 1 for an invalid end stands ahead of the order.
+pub fn olt_register(olt: Olt, identity: Identity, trip: u64, interval: u64) -> OltAnswer {
+    unsafe { raw::jazmotip_olt_register(olt, identity, trip, interval) }
+}
+
+/// Order of refusals: 17.
+pub fn olt_advance(olt: &mut Olt, n: u64) -> u8 {
+    unsafe { raw::jazmotip_olt_advance(olt, n) }
+}
+
+/// Order of refusals: 2.
+pub fn olt_capture(olt: Olt, llid: u16) -> OltAnswer {
+    unsafe { raw::jazmotip_olt_capture(olt, llid) }
+}
+
+/// Order of refusals: 2, 8, 16.
+pub fn olt_clock_send(olt: Olt, llid: u16) -> ClockSent {
+    unsafe { raw::jazmotip_olt_clock_send(olt, llid) }
+}
+
+/// Order of refusals: 2, 5, 6, 7, 17.
+pub fn olt_offer(olt: Olt, llid: u16, key: &[u8; 16]) -> KeySent {
+    unsafe { raw::jazmotip_olt_offer(olt, llid, key.as_ptr()) }
+}
+
+/// Order of refusals: 2, 8.
+pub fn olt_retry(olt: Olt, llid: u16) -> KeySent {
+    unsafe { raw::jazmotip_olt_retry(olt, llid) }
+}
+
+/// Order of refusals: 2, 8.
+pub fn olt_acknowledge(olt: Olt, llid: u16, acknowledgement: Acknowledgement) -> OltAnswer {
+    unsafe { raw::jazmotip_olt_acknowledge(olt, llid, acknowledgement) }
+}
+
+/// Order of refusals: 14, 1, 2, 12, 13.
+pub fn olt_send(olt: Olt, llid: u16, index: u8, payload: &[u8], output: &mut [u8]) -> OltSent {
+    unsafe { raw::jazmotip_olt_send(olt, llid, index, payload.as_ptr(), payload.len(), output.as_mut_ptr(), output.len()) }
+}
+
+/// Order of refusals: 14, 1, 2, 10, 11, 9.
+pub fn olt_receive(olt: Olt, header: Header, octets: &[u8], output: &mut [u8]) -> OltReceived {
+    unsafe { raw::jazmotip_olt_receive(olt, header, octets.as_ptr(), octets.len(), output.as_mut_ptr(), output.len()) }
+}
+
+pub fn onu_fresh(identity: Identity, oltmac: u64, time: u64) -> OnuAnswer {
+    unsafe { raw::jazmotip_onu_fresh(identity, oltmac, time) }
+}
+
+/// Order of refusals: 17.
+pub fn onu_advance(onu: &mut Onu, n: u64) -> u8 {
+    unsafe { raw::jazmotip_onu_advance(onu, n) }
+}
+
+/// Order of refusals: 1.
+pub fn onu_clock_message(onu: Onu, message: Stamps) -> OnuAcknowledged {
+    unsafe { raw::jazmotip_onu_clock_message(onu, message) }
+}
+
+/// Order of refusals: 2, 5, 8.
+pub fn onu_key_message(onu: Onu, message: KeyMessage) -> OnuAcknowledged {
+    unsafe { raw::jazmotip_onu_key_message(onu, message) }
+}
+
+/// Order of refusals: 14, 1, 2, 12, 13.
+pub fn onu_send(onu: Onu, llid: u16, index: u8, payload: &[u8], output: &mut [u8]) -> OnuSent {
+    unsafe { raw::jazmotip_onu_send(onu, llid, index, payload.as_ptr(), payload.len(), output.as_mut_ptr(), output.len()) }
+}
+
+/// Order of refusals: 14, 1, 2, 10 (not while unsynced), 5 (sealed ones only), 11, 9.
+pub fn onu_receive(onu: Onu, header: Header, octets: &[u8], output: &mut [u8]) -> OnuReceived {
+    unsafe { raw::jazmotip_onu_receive(onu, header, octets.as_ptr(), octets.len(), output.as_mut_ptr(), output.len()) }
+}
+
+pub fn expand_key(key: &[u8; 16]) -> RoundKeys {
+    unsafe { raw::jazmotip_expand_key(key.as_ptr()) }
+}
+
+/// Seals, or opens what was sealed; `encenabled` 0 copies, with count 0. Order of refusals: 14, 1.
+pub fn seal(encenabled: u8, key: &[u8; 16], nonce: Nonce, input: &[u8], output: &mut [u8]) -> PayloadAnswer {
+    unsafe {
+        raw::jazmotip_seal(encenabled, key.as_ptr(), nonce, input.as_ptr(), input.len(), output.as_mut_ptr(), output.len())
+    }
+}
+
+/// [`seal`] under a key that was expanded once.
+pub fn seal_expanded(encenabled: u8, keys: RoundKeys, nonce: Nonce, input: &[u8], output: &mut [u8]) -> PayloadAnswer {
+    unsafe {
+        raw::jazmotip_seal_expanded(encenabled, keys, nonce, input.as_ptr(), input.len(), output.as_mut_ptr(), output.len())
+    }
+}
+
+/// The octets that sealing a payload enciphers: over all whole EQs, eight minus the ones in the control octet.
+pub fn count(payload: &[u8]) -> u64 {
+    unsafe { raw::jazmotip_count(payload.as_ptr(), payload.len()) }
+}
+
+pub fn capture_directory(block: &[u8]) -> BlockDirectory {
+    unsafe { raw::jazmotip_capture_directory(block.as_ptr(), block.len()) }
+}
+
+/// Order of refusals: 14 and 1 for the settings, 15, 1 for `k`, then the record's own 1, 2, 10, 9.
+pub fn capture_verdict(settings: &[u8], block: &[u8], k: usize) -> BlockVerdict {
+    unsafe { raw::jazmotip_capture_verdict(settings.as_ptr(), settings.len(), block.as_ptr(), block.len(), k) }
+}
+
+/// Order of refusals: 15, 1.
+pub fn capture_payload(block: &[u8], k: usize) -> BlockPart {
+    unsafe { raw::jazmotip_capture_payload(block.as_ptr(), block.len(), k) }
+}
+
+/// Order of refusals: 14, 1, 15.
+pub fn capture_open(settings: &[u8], block: &[u8], output: &mut [u8]) -> PayloadAnswer {
+    unsafe {
+        raw::jazmotip_capture_open(
+            settings.as_ptr(),
+            settings.len(),
+            block.as_ptr(),
+            block.len(),
+            output.as_mut_ptr(),
+            output.len(),
+        )
+    }
+}
+
+/// Gives the length of the listing; `text` past it is free.
+pub fn capture_list(settings: &[u8], block: &[u8], text: &mut [u8; LISTING_OCTETS]) -> usize {
+    unsafe { raw::jazmotip_capture_list(settings.as_ptr(), settings.len(), block.as_ptr(), block.len(), text.as_mut_ptr()) }
+}

@@ -1,0 +1,147 @@
+//! Both ends of the line with `Result`: an accepted call moves the end on in place, a refused one leaves it as it was.
+
+use crate::calls;
+use crate::records::*;
+use crate::refusal::Refusal;
+
+/// An envelope that a send handed over; its octets are in the output.
+#[derive(Clone, Copy, Debug, PartialEq, Eq)]
+pub struct Sent {
+    pub header: Header,
+    /// Octets enciphered, 0 for a clear envelope.
+    pub count: u64,
+}
+
+impl Identity {
+    /// A unit's MAC and its LLIDs. More than four LLIDs keep their count, which the engine refuses as out of range.
+    pub fn new(mac: u64, llids: &[u16]) -> Identity {
+        let mut places = [0; 4];
+        places.iter_mut().zip(llids).for_each(|(place, llid)| *place = *llid);
+        Identity { mac, llids: places, count: u8::try_from(llids.len()).unwrap_or(u8::MAX) }
+    }
+}
+
+impl Olt {
+    /// A head end with no units: its MAC and first clock, both below 2^48.
+    pub fn fresh(mac: u64, clock: u64) -> Result<Olt, Refusal> {
+        let answer = calls::olt_fresh(mac, clock);
+        Refusal::verdict(answer.number).map(|()| answer.olt)
+    }
+
+    /// Registers a unit: who it is, its round trip (up to 1,000,000 ticks) and the interval of its key timer.
+    pub fn register(&mut self, identity: Identity, trip: u64, interval: u64) -> Result<(), Refusal> {
+        let answer = calls::olt_register(*self, identity, trip, interval);
+        *self = answer.olt;
+        Refusal::verdict(answer.number)
+    }
+
+    /// Moves ticks, clock and timers on by `n`.
+    pub fn advance(&mut self, n: u64) -> Result<(), Refusal> {
+        Refusal::verdict(calls::olt_advance(self, n))
+    }
+
+    /// Captures the clock for a unit, named by any of its LLIDs.
+    pub fn capture(&mut self, llid: u16) -> Result<(), Refusal> {
+        let answer = calls::olt_capture(*self, llid);
+        *self = answer.olt;
+        Refusal::verdict(answer.number)
+    }
+
+    /// Hands over the clock message of the capture, any number of times within a second.
+    pub fn clock_send(&mut self, llid: u16) -> Result<Stamps, Refusal> {
+        let answer = calls::olt_clock_send(*self, llid);
+        *self = answer.olt;
+        Refusal::verdict(answer.number).map(|()| answer.message)
+    }
+
+    /// Offers a new key, from a good random source, and hands over its message.
+    pub fn offer(&mut self, llid: u16, key: &[u8; 16]) -> Result<KeyMessage, Refusal> {
+        let answer = calls::olt_offer(*self, llid, key);
+        *self = answer.olt;
+        Refusal::verdict(answer.number).map(|()| answer.message)
+    }
+
+    /// Hands over the key message of the outstanding offer again.
+    pub fn retry(&mut self, llid: u16) -> Result<KeyMessage, Refusal> {
+        let answer = calls::olt_retry(*self, llid);
+        *self = answer.olt;
+        Refusal::verdict(answer.number).map(|()| answer.message)
+    }
+
+    /// Takes in a unit's acknowledgement.
+    pub fn acknowledge(&mut self, llid: u16, acknowledgement: Acknowledgement) -> Result<(), Refusal> {
+        let answer = calls::olt_acknowledge(*self, llid, acknowledgement);
+        *self = answer.olt;
+        Refusal::verdict(answer.number)
+    }
+
+    /// Seals a payload for a unit into `output`, of the same length. Index 00 or 01 hex. With the timer's flag up and the offer
+    /// acknowledged this is the envelope that switches keys.
+    pub fn send(&mut self, llid: u16, index: u8, payload: &[u8], output: &mut [u8]) -> Result<Sent, Refusal> {
+        let answer = calls::olt_send(*self, llid, index, payload, output);
+        *self = answer.olt;
+        Refusal::verdict(answer.number).map(|()| Sent { header: answer.header, count: answer.count })
+    }
+
+    /// Opens an envelope from a unit into `output`, of the same length; gives the octets deciphered.
+    pub fn receive(&mut self, header: Header, octets: &[u8], output: &mut [u8]) -> Result<u64, Refusal> {
+        let answer = calls::olt_receive(*self, header, octets, output);
+        *self = answer.olt;
+        Refusal::verdict(answer.number).map(|()| answer.count)
+    }
+}
+
+impl Onu {
+    /// A unit that is not synced yet: who it is, the OLT's MAC and LocalTime, below 2^32.
+    pub fn fresh(identity: Identity, oltmac: u64, time: u64) -> Result<Onu, Refusal> {
+        let answer = calls::onu_fresh(identity, oltmac, time);
+        Refusal::verdict(answer.number).map(|()| answer.onu)
+    }
+
+    /// Moves ticks and clocks on by `n`.
+    pub fn advance(&mut self, n: u64) -> Result<(), Refusal> {
+        Refusal::verdict(calls::onu_advance(self, n))
+    }
+
+    /// Sets the clocks by a clock message and hands over the acknowledgement.
+    pub fn clock_message(&mut self, message: Stamps) -> Result<Acknowledgement, Refusal> {
+        let answer = calls::onu_clock_message(*self, message);
+        *self = answer.onu;
+        Refusal::verdict(answer.number).map(|()| answer.acknowledgement)
+    }
+
+    /// Takes a key message and hands over the acknowledgement.
+    pub fn key_message(&mut self, message: KeyMessage) -> Result<Acknowledgement, Refusal> {
+        let answer = calls::onu_key_message(*self, message);
+        *self = answer.onu;
+        Refusal::verdict(answer.number).map(|()| answer.acknowledgement)
+    }
+
+    /// Seals a payload for the head end into `output`, of the same length. Index 80 or 81 hex.
+    pub fn send(&mut self, llid: u16, index: u8, payload: &[u8], output: &mut [u8]) -> Result<Sent, Refusal> {
+        let answer = calls::onu_send(*self, llid, index, payload, output);
+        *self = answer.onu;
+        Refusal::verdict(answer.number).map(|()| Sent { header: answer.header, count: answer.count })
+    }
+
+    /// Opens an envelope from the head end into `output`, of the same length; gives the octets deciphered. An envelope under the
+    /// next key makes that key the active one.
+    pub fn receive(&mut self, header: Header, octets: &[u8], output: &mut [u8]) -> Result<u64, Refusal> {
+        let answer = calls::onu_receive(*self, header, octets, output);
+        *self = answer.onu;
+        Refusal::verdict(answer.number).map(|()| answer.count)
+    }
+}
+
+/// For a host that keeps clocks and keys itself.
+impl RoundKeys {
+    pub fn expand(key: &[u8; 16]) -> RoundKeys {
+        calls::expand_key(key)
+    }
+
+    /// Seals `input` into `output`, of the same length, or opens it: the two are one act. Gives the octets enciphered.
+    pub fn seal(&self, nonce: Nonce, input: &[u8], output: &mut [u8]) -> Result<u64, Refusal> {
+        let answer = calls::seal_expanded(1, *self, nonce, input, output);
+        Refusal::verdict(answer.number).map(|()| answer.count)
+    }
+}

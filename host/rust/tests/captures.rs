@@ -1,0 +1,329 @@
+//! Capture blocks (01, Capture block): directory, verdicts, payload bounds, opening and listing, on sound and damaged blocks.
+
+use crate::random::{cases, Random};
+use crate::reference::capture::{self, Fault};
+use jazmotip::{calls, BlockDirectory, BlockPart, BlockVerdict, PayloadAnswer, LISTING_OCTETS};
+use std::collections::BTreeMap;
+
+/// How often each number was answered, by call; for a record, by its verdict.
+#[derive(Default)]
+struct Seen {
+    numbers: BTreeMap<(&'static str, u8), u64>,
+    faults: [u64; 4],
+}
+
+impl Seen {
+    fn note(&mut self, call: &'static str, number: u8) {
+        *self.numbers.entry((call, number)).or_default() += 1;
+    }
+
+    #[track_caller]
+    fn at_least(&self, call: &'static str, number: u8, least: u64) {
+        let seen = self.numbers.get(&(call, number)).copied().unwrap_or(0);
+        assert!(seen >= least, "{call} gave {number} {seen} times, wanted {least}");
+    }
+}
+
+fn push(octets: &mut Vec<u8>, number: u64, width: usize) {
+    octets.extend_from_slice(&number.to_be_bytes()[8 - width..]);
+}
+
+/// Settings with the keys that `presence` names.
+fn settings(random: &mut Random, presence: u8) -> Vec<u8> {
+    let mut octets = vec![presence];
+    octets.extend(random.octets(38));
+    push(&mut octets, random.pick(&[0, 5, 0xFFFF]), 2);
+    octets
+}
+
+/// A record that mostly fits the settings; its odd values are those of a mechanic's trouble.
+fn record(random: &mut Random, settings: &[u8], eqs: usize) -> Vec<u8> {
+    let clock = random.clock();
+    let rare = |random: &mut Random, usual: u8| if random.once_in(25) { random.next() as u8 } else { usual };
+    let kind = random.below(2) as u8;
+    let index = random.pick(&[0x00, 0x01, 0x80, 0x81]);
+    let flags = random.pick(&[0, 1, 1, 3, 3]);
+    let mut octets = vec![rare(random, kind), rare(random, index)];
+    octets.extend(if random.once_in(10) { random.octets(2) } else { settings.get(39..41).unwrap_or(&[0, 5]).to_vec() });
+    octets.push(match random.below(25) {
+        0 => 2,
+        1 => 4 | flags,
+        _ => rare(random, flags),
+    });
+    let epam = (clock % 64) as u8;
+    octets.push(match random.below(25) {
+        0 => epam ^ 1,
+        1 => epam | 0x40,
+        _ => rare(random, epam),
+    });
+    push(&mut octets, clock, 6);
+    push(&mut octets, eqs as u64, 4);
+    octets.extend(random.payload(eqs));
+    octets
+}
+
+/// A block of these records, its directory right.
+fn block(records: &[Vec<u8>]) -> Vec<u8> {
+    let mut octets = Vec::new();
+    push(&mut octets, records.len() as u64, 2);
+    let mut offset = 2 + 8 * records.len();
+    for record in records {
+        push(&mut octets, offset as u64, 4);
+        push(&mut octets, record.len() as u64, 4);
+        offset += record.len();
+    }
+    octets.extend(records.concat());
+    octets
+}
+
+fn random_block(random: &mut Random, settings: &[u8], records: usize, most_eqs: u64) -> Vec<u8> {
+    let records: Vec<_> = (0..records)
+        .map(|_| {
+            let eqs = random.below(most_eqs + 1) as usize;
+            record(random, settings, eqs)
+        })
+        .collect();
+    block(&records)
+}
+
+fn check_opening(random: &mut Random, seen: &mut Seen, settings: &[u8], block: &[u8], output: usize) {
+    let mut lent = random.lent(output);
+    let answer = calls::capture_open(settings, block, lent.part());
+    seen.note("open", answer.number);
+    match capture::open(settings, block, output) {
+        Ok((octets, count)) => {
+            assert_eq!(answer, PayloadAnswer { number: 0, count });
+            lent.check(Some(&octets));
+        }
+        Err(number) => {
+            assert_eq!(answer, PayloadAnswer { number, count: 0 });
+            lent.check(None);
+        }
+    }
+}
+
+fn check_record(seen: &mut Seen, settings: &[u8], block: &[u8], k: usize) {
+    let verdict = match capture::verdict(settings, block, k) {
+        Ok(None) => BlockVerdict::default(),
+        Ok(Some((enckey, clock))) => BlockVerdict { number: 0, encenabled: 1, enckey, clock },
+        Err(number) => BlockVerdict { number, ..BlockVerdict::default() },
+    };
+    assert_eq!(calls::capture_verdict(settings, block, k), verdict, "verdict on record {k}");
+    seen.note("verdict", verdict.number);
+    let part = match capture::part(block, k) {
+        Ok(range) => BlockPart { number: 0, offset: range.start, length: range.len() },
+        Err(number) => BlockPart { number, ..BlockPart::default() },
+    };
+    assert_eq!(calls::capture_payload(block, k), part, "payload of record {k}");
+    seen.note("payload", part.number);
+}
+
+/// Every call on one block.
+fn check(random: &mut Random, seen: &mut Seen, settings: &[u8], block: &[u8]) {
+    let directory = match capture::directory(block) {
+        Ok(records) => BlockDirectory { number: 0, fault: 0, records: records.len(), pair: 0 },
+        Err(Fault::Sizes) => BlockDirectory { number: 15, fault: 1, records: 0, pair: 0 },
+        Err(Fault::Chain(pair)) => BlockDirectory { number: 15, fault: 2, records: 0, pair },
+        Err(Fault::Length(pair)) => BlockDirectory { number: 15, fault: 3, records: 0, pair },
+    };
+    assert_eq!(calls::capture_directory(block), directory);
+    seen.faults[usize::from(directory.fault)] += 1;
+    let n = directory.records;
+    let mut asked = vec![0, 1, n, n + 1, usize::MAX, random.below(300) as usize];
+    if random.once_in(4) {
+        asked.extend(2..n);
+    }
+    for k in asked {
+        check_record(seen, settings, block, k);
+    }
+    check_opening(random, seen, settings, block, block.len());
+    if random.once_in(8) {
+        let off = random.pick(&[1, 9, 16]);
+        check_opening(random, seen, settings, block, block.len() + off);
+        check_opening(random, seen, settings, block, block.len().saturating_sub(off));
+    }
+    check_listing(settings, block);
+}
+
+fn check_listing(settings: &[u8], block: &[u8]) {
+    let mut text = [b'?'; LISTING_OCTETS];
+    let length = calls::capture_list(settings, block, &mut text);
+    let listing = String::from_utf8_lossy(&text[..length]);
+    assert_eq!(listing, capture::listing(settings, block));
+}
+
+#[test]
+fn sound_blocks() {
+    let mut seen = Seen::default();
+    let all = cases(400, |random| {
+        let presence = random.below(4) as u8;
+        let settings = settings(random, presence);
+        let records = random.pick(&[0, 1, 2, 3, 10, 40]) + random.below(3) as usize;
+        let most_eqs = random.pick(&[0, 3, 20, 60]);
+        let block = random_block(random, &settings, records, most_eqs);
+        check(random, &mut seen, &settings, &block);
+    });
+    if all {
+        for number in [0, 1, 2, 9, 10] {
+            seen.at_least("verdict", number, 40);
+        }
+        seen.at_least("open", 0, 400);
+    }
+}
+
+#[test]
+fn full_blocks() {
+    let mut seen = Seen::default();
+    cases(6, |random| {
+        let settings = settings(random, 3);
+        // 256 records, and the longest of all
+        let full = random_block(random, &settings, 256, 10);
+        check(random, &mut seen, &settings, &full);
+        for k in 0..=257 {
+            check_record(&mut seen, &settings, &full, k);
+        }
+        let two = [record(random, &settings, 7000), record(random, &settings, 276)];
+        let longest = block(&two);
+        assert_eq!((longest.len(), calls::capture_directory(&longest).number), (65_534, 0));
+        check(random, &mut seen, &settings, &longest);
+        // sizes alone: 65,537 octets, and 257 records
+        let too_long = block(&[record(random, &settings, 7279)]);
+        assert_eq!((too_long.len(), calls::capture_directory(&too_long).fault), (65_537, 1));
+        check(random, &mut seen, &settings, &too_long);
+        let too_many = random_block(random, &settings, 257, 2);
+        assert_eq!(calls::capture_directory(&too_many).fault, 1);
+        check(random, &mut seen, &settings, &too_many);
+        let octets = random.octets(65_536);
+        check(random, &mut seen, &settings, &octets);
+    });
+}
+
+#[test]
+fn damaged_directories() {
+    let mut seen = Seen::default();
+    let all = cases(40, |random| {
+        let settings = settings(random, 3);
+        let records = random.within(1, 9) as usize;
+        let most_eqs = random.pick(&[0, 2, 12]);
+        let sound = random_block(random, &settings, records, most_eqs);
+        // each octet of the directory
+        for place in 0..2 + 8 * records {
+            for change in [1, 0xFF, random.within(1, 255) as u8] {
+                let mut damaged = sound.clone();
+                damaged[place] = damaged[place].wrapping_add(change);
+                check(random, &mut seen, &settings, &damaged);
+            }
+        }
+        // each record's EQs, up to 2^32 - 1
+        for record in capture::directory(&sound).expect("sound") {
+            for eqs in [record.eqs + 1, record.eqs.wrapping_sub(1), 0xFFFF_FFFF, 0x1C71_C71C, 1 << 31] {
+                let mut damaged = sound.clone();
+                damaged[record.offset + 12..record.offset + 16].copy_from_slice(&(eqs as u32).to_be_bytes());
+                check(random, &mut seen, &settings, &damaged);
+            }
+        }
+        // cut short and drawn out
+        for cut in 0..sound.len().min(60) {
+            check(random, &mut seen, &settings, &sound[..cut]);
+            check(random, &mut seen, &settings, &sound[..sound.len() - cut]);
+        }
+        for more in 1..4 {
+            let longer = [sound.clone(), random.octets(more)].concat();
+            check(random, &mut seen, &settings, &longer);
+        }
+    });
+    for octets in 0..4 {
+        check(&mut Random::new(1), &mut seen, &[0; 41], &vec![0; octets]);
+    }
+    if all {
+        assert!(seen.faults.iter().all(|&times| times >= 500), "faults {:?}", seen.faults);
+        seen.at_least("open", 15, 2000);
+        seen.at_least("open", 14, 500);
+    }
+}
+
+#[test]
+fn pairs_changed_together() {
+    cases(400, |random| {
+        let mut seen = Seen::default();
+        let settings = settings(random, 3);
+        let records = random.within(2, 6) as usize;
+        let mut damaged = random_block(random, &settings, records, 3);
+        // an octet moved from one pair's length to the next one's offset, or any two entries exchanged
+        let entry = |k: usize| 2 + 8 * k..10 + 8 * k;
+        let (a, b) = (random.below(records as u64) as usize, random.below(records as u64) as usize);
+        match random.below(3) {
+            0 => {
+                let (first, second) = (damaged[entry(a)].to_vec(), damaged[entry(b)].to_vec());
+                damaged[entry(a)].copy_from_slice(&second);
+                damaged[entry(b)].copy_from_slice(&first);
+            }
+            1 => {
+                damaged[2 + 8 * a + 7] = damaged[2 + 8 * a + 7].wrapping_add(9);
+                damaged[2 + 8 * b + 3] = damaged[2 + 8 * b + 3].wrapping_add(9);
+            }
+            _ => {
+                let k = a.min(records - 2);
+                damaged[2 + 8 * k + 7] = damaged[2 + 8 * k + 7].wrapping_add(9);
+                damaged[2 + 8 * (k + 1) + 3] = damaged[2 + 8 * (k + 1) + 3].wrapping_add(9);
+                damaged[2 + 8 * (k + 1) + 7] = damaged[2 + 8 * (k + 1) + 7].wrapping_sub(9);
+            }
+        }
+        check(random, &mut seen, &settings, &damaged);
+    });
+}
+
+#[test]
+fn damaged_settings() {
+    let mut seen = Seen::default();
+    cases(12, |random| {
+        let good = settings(random, 3);
+        let sound = random_block(random, &good, 4, 3);
+        let unsound = [sound.clone(), vec![0]].concat();
+        for presence in 0..=255 {
+            let settings = [&[presence], &good[1..]].concat();
+            check(random, &mut seen, &settings, &sound);
+            check(random, &mut seen, &settings, &unsound);
+        }
+        for length in (0..80).filter(|&length| length != 41) {
+            let settings = random.octets(length);
+            check(random, &mut seen, &settings, &sound);
+            check(random, &mut seen, &settings, &unsound);
+        }
+    });
+}
+
+#[test]
+fn random_octets() {
+    let mut seen = Seen::default();
+    cases(3000, |random| {
+        let settings = settings(random, 1);
+        let length = random.below(80) as usize;
+        let mut octets = random.octets(length);
+        if let Some(top) = octets.first_mut() {
+            *top = 0;
+        }
+        if let Some(count) = octets.get_mut(1) {
+            *count %= 4;
+        }
+        check(random, &mut seen, &settings, &octets);
+    });
+}
+
+/// The listing of 01's own example, and what the records of it are.
+#[test]
+fn the_listing_of_document_01() {
+    let mut settings = vec![0; 33];
+    settings.extend([2, 0, 0, 0, 0, 1, 0, 5]);
+    let mut block = vec![0, 2, 0, 0, 0, 0x12, 0, 0, 0, 0x10, 0, 0, 0, 0x22, 0, 0, 0, 0x10];
+    block.extend([0, 0, 0, 5, 0, 1, 0, 0, 0, 0, 0, 0x41, 0, 0, 0, 0]);
+    block.extend([0, 0, 0, 5, 1, 2, 0, 0, 0, 0, 0, 0x42, 0, 0, 0, 0]);
+    let mut text = [0; LISTING_OCTETS];
+    let listing = jazmotip::capture::list(&settings, &block, &mut text);
+    assert_eq!(listing, "no llid ch key eqs result\n1 0005 00 - 0 open\n2 0005 00 0 0 refused 9\n");
+    assert_eq!(jazmotip::capture::records(&block), Ok(2));
+    assert_eq!(jazmotip::capture::verdict(&settings, &block, 1), Ok(None));
+    assert_eq!(jazmotip::capture::verdict(&settings, &block, 2), Err(jazmotip::Refusal::NoKey));
+    assert_eq!(jazmotip::capture::payload(&block, 2), Ok(&[][..]));
+    assert_eq!(jazmotip::capture::open(&settings, &block, &mut [0; 50]), Ok(0));
+}

@@ -1,0 +1,12 @@
+//! `libjazmotip.a` against an implementation of its own (`reference`). A test that draws its cases prints the seed of the case that
+//! fails; `JAZMOTIP_SEED=<seed>` runs that case alone, `JAZMOTIP_CASES=<n>` runs n times as many.
+
+mod c_exchange;
+mod captures;
+mod lent;
+mod line;
+mod pairs;
+mod random;
+mod reference;
+mod sealing;
+mod values;

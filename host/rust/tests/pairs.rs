@@ -1,0 +1,259 @@
+//! An end twice: the engine's record and the reference. Each call goes to both, and number, record, message, header, count and
+//! output are compared.
+
+use crate::random::Random;
+use crate::reference::olt::Olt;
+use crate::reference::onu::Onu;
+use crate::reference::records::End;
+use crate::reference::{Envelope, Identity, Key, Opened, Reply};
+use jazmotip::{calls, Acknowledgement, Header, KeyMessage, Stamps};
+use std::collections::BTreeMap;
+
+/// How often each call gave each number, and how often what was of note came about.
+#[derive(Default)]
+pub struct Tally {
+    pub numbers: BTreeMap<(&'static str, u8), u64>,
+    pub events: BTreeMap<&'static str, u64>,
+}
+
+impl Tally {
+    pub fn event(&mut self, event: &'static str) {
+        *self.events.entry(event).or_default() += 1;
+    }
+
+    /// How often a number was given, by any call.
+    pub fn refusals(&self, number: u8) -> u64 {
+        self.numbers.iter().filter(|((_, given), _)| *given == number).map(|(_, times)| times).sum()
+    }
+}
+
+pub struct Pair<E: End> {
+    pub record: E::Record,
+    /// Missing where the record is invalid.
+    pub model: Option<E>,
+    /// Whether the record came from calls alone. Another may hold anything in places that are not in use, and is compared by what
+    /// it is read as.
+    exact: bool,
+}
+
+impl<E: End> Pair<E> {
+    /// A record as it is found.
+    pub fn lent(record: E::Record) -> Pair<E> {
+        Pair { record, model: E::lent(&record), exact: false }
+    }
+
+    /// The reference's end, and the record that it gives.
+    pub fn of(model: E) -> Pair<E> {
+        Pair { record: model.record(), model: Some(model), exact: true }
+    }
+
+    /// The reference of an end that calls made: it is valid.
+    pub fn sound(&self) -> &E {
+        self.model.as_ref().expect("a valid end")
+    }
+
+    fn judge<T>(&mut self, call: impl FnOnce(&mut E) -> Reply<T>) -> Reply<T> {
+        self.model.as_mut().map_or(Err(1), call)
+    }
+
+    #[track_caller]
+    fn settle<T>(&mut self, tally: &mut Tally, call: &'static str, number: u8, after: E::Record, expected: &Reply<T>) {
+        *tally.numbers.entry((call, number)).or_default() += 1;
+        assert_eq!(number, expected.as_ref().err().copied().unwrap_or(0), "number of {call}");
+        if number != 0 {
+            assert!(after == self.record, "{call}, refused {number}, changed the end\n{:?}\n{after:?}", self.record);
+        }
+        match &self.model {
+            Some(model) if self.exact => {
+                assert!(after == model.record(), "{call}: ends differ\n{after:?}\n{:?}", model.record());
+            }
+            model => assert!(E::lent(&after) == *model, "{call}: ends differ\n{after:?}\n{model:?}"),
+        }
+        self.record = after;
+    }
+}
+
+impl Pair<Olt> {
+    pub fn fresh(tally: &mut Tally, mac: u64, clock: u64) -> Option<Pair<Olt>> {
+        let answer = calls::olt_fresh(mac, clock);
+        *tally.numbers.entry(("olt_fresh", answer.number)).or_default() += 1;
+        match Olt::fresh(mac, clock) {
+            Ok(model) => {
+                assert_eq!((answer.number, answer.olt), (0, model.record()));
+                Some(Pair::of(model))
+            }
+            Err(number) => {
+                assert_eq!((answer.number, answer.olt), (number, jazmotip::Olt::default()));
+                None
+            }
+        }
+    }
+
+    pub fn register(&mut self, tally: &mut Tally, identity: jazmotip::Identity, trip: u64, interval: u64) -> Reply<()> {
+        let answer = calls::olt_register(self.record, identity, trip, interval);
+        let expected = self.judge(|olt| olt.register(Identity::of(&identity), trip, interval));
+        self.settle(tally, "olt_register", answer.number, answer.olt, &expected);
+        expected
+    }
+
+    pub fn advance(&mut self, tally: &mut Tally, n: u64) -> Reply<()> {
+        let mut after = self.record;
+        let number = calls::olt_advance(&mut after, n);
+        let expected = self.judge(|olt| olt.advance(n));
+        self.settle(tally, "olt_advance", number, after, &expected);
+        expected
+    }
+
+    pub fn capture(&mut self, tally: &mut Tally, llid: u16) -> Reply<()> {
+        let answer = calls::olt_capture(self.record, llid);
+        let expected = self.judge(|olt| olt.capture(llid));
+        self.settle(tally, "olt_capture", answer.number, answer.olt, &expected);
+        expected
+    }
+
+    pub fn clock_send(&mut self, tally: &mut Tally, llid: u16) -> Reply<Stamps> {
+        let answer = calls::olt_clock_send(self.record, llid);
+        let expected = self.judge(|olt| olt.clock_send(llid));
+        assert_eq!(answer.message, expected.unwrap_or_default());
+        self.settle(tally, "olt_clock_send", answer.number, answer.olt, &expected);
+        expected
+    }
+
+    pub fn offer(&mut self, tally: &mut Tally, llid: u16, key: &Key) -> Reply<KeyMessage> {
+        let answer = calls::olt_offer(self.record, llid, key);
+        let expected = self.judge(|olt| olt.offer(llid, key));
+        assert_eq!(answer.message, expected.unwrap_or_default());
+        self.settle(tally, "olt_offer", answer.number, answer.olt, &expected);
+        expected
+    }
+
+    pub fn retry(&mut self, tally: &mut Tally, llid: u16) -> Reply<KeyMessage> {
+        let answer = calls::olt_retry(self.record, llid);
+        let expected = self.judge(|olt| olt.retry(llid));
+        assert_eq!(answer.message, expected.unwrap_or_default());
+        self.settle(tally, "olt_retry", answer.number, answer.olt, &expected);
+        expected
+    }
+
+    pub fn acknowledge(&mut self, tally: &mut Tally, llid: u16, acknowledgement: Acknowledgement) -> Reply<()> {
+        let answer = calls::olt_acknowledge(self.record, llid, acknowledgement);
+        let expected = self.judge(|olt| olt.acknowledge(llid, acknowledgement));
+        self.settle(tally, "olt_acknowledge", answer.number, answer.olt, &expected);
+        expected
+    }
+
+    pub fn send(
+        &mut self,
+        tally: &mut Tally,
+        random: &mut Random,
+        llid: u16,
+        index: u8,
+        payload: &[u8],
+        output: usize,
+    ) -> Reply<Envelope> {
+        let mut lent = random.lent(output);
+        let answer = calls::olt_send(self.record, llid, index, payload, lent.part());
+        let expected = self.judge(|olt| olt.send(llid, index, payload, output));
+        lent.check(expected.as_ref().ok().map(|envelope| &envelope.octets[..]));
+        let header = expected.as_ref().map_or(Header::default(), |envelope| envelope.header);
+        let count = expected.as_ref().map_or(0, |envelope| envelope.count);
+        assert_eq!((answer.header, answer.count), (header, count));
+        self.settle(tally, "olt_send", answer.number, answer.olt, &expected);
+        expected
+    }
+
+    pub fn receive(
+        &mut self,
+        tally: &mut Tally,
+        random: &mut Random,
+        header: Header,
+        octets: &[u8],
+        output: usize,
+    ) -> Reply<Opened> {
+        let mut lent = random.lent(output);
+        let answer = calls::olt_receive(self.record, header, octets, lent.part());
+        let expected = self.judge(|olt| olt.receive(&header, octets, output));
+        lent.check(expected.as_ref().ok().map(|opened| &opened.octets[..]));
+        assert_eq!(answer.count, expected.as_ref().map_or(0, |opened| opened.count));
+        self.settle(tally, "olt_receive", answer.number, answer.olt, &expected);
+        expected
+    }
+}
+
+impl Pair<Onu> {
+    pub fn fresh(tally: &mut Tally, identity: jazmotip::Identity, oltmac: u64, time: u64) -> Option<Pair<Onu>> {
+        let answer = calls::onu_fresh(identity, oltmac, time);
+        *tally.numbers.entry(("onu_fresh", answer.number)).or_default() += 1;
+        match Onu::fresh(Identity::of(&identity), oltmac, time) {
+            Ok(model) => {
+                assert_eq!((answer.number, answer.onu), (0, model.record()));
+                Some(Pair::of(model))
+            }
+            Err(number) => {
+                assert_eq!((answer.number, answer.onu), (number, jazmotip::Onu::default()));
+                None
+            }
+        }
+    }
+
+    pub fn advance(&mut self, tally: &mut Tally, n: u64) -> Reply<()> {
+        let mut after = self.record;
+        let number = calls::onu_advance(&mut after, n);
+        let expected = self.judge(|onu| onu.advance(n));
+        self.settle(tally, "onu_advance", number, after, &expected);
+        expected
+    }
+
+    pub fn clock_message(&mut self, tally: &mut Tally, message: Stamps) -> Reply<Acknowledgement> {
+        let answer = calls::onu_clock_message(self.record, message);
+        let expected = self.judge(|onu| onu.clock_message(message));
+        assert_eq!(answer.acknowledgement, expected.unwrap_or_default());
+        self.settle(tally, "onu_clock_message", answer.number, answer.onu, &expected);
+        expected
+    }
+
+    pub fn key_message(&mut self, tally: &mut Tally, message: KeyMessage) -> Reply<Acknowledgement> {
+        let answer = calls::onu_key_message(self.record, message);
+        let expected = self.judge(|onu| onu.key_message(message));
+        assert_eq!(answer.acknowledgement, expected.unwrap_or_default());
+        self.settle(tally, "onu_key_message", answer.number, answer.onu, &expected);
+        expected
+    }
+
+    pub fn send(
+        &mut self,
+        tally: &mut Tally,
+        random: &mut Random,
+        llid: u16,
+        index: u8,
+        payload: &[u8],
+        output: usize,
+    ) -> Reply<Envelope> {
+        let mut lent = random.lent(output);
+        let answer = calls::onu_send(self.record, llid, index, payload, lent.part());
+        let expected = self.judge(|onu| onu.send(llid, index, payload, output));
+        lent.check(expected.as_ref().ok().map(|envelope| &envelope.octets[..]));
+        let header = expected.as_ref().map_or(Header::default(), |envelope| envelope.header);
+        let count = expected.as_ref().map_or(0, |envelope| envelope.count);
+        assert_eq!((answer.header, answer.count), (header, count));
+        self.settle(tally, "onu_send", answer.number, answer.onu, &expected);
+        expected
+    }
+
+    pub fn receive(
+        &mut self,
+        tally: &mut Tally,
+        random: &mut Random,
+        header: Header,
+        octets: &[u8],
+        output: usize,
+    ) -> Reply<Opened> {
+        let mut lent = random.lent(output);
+        let answer = calls::onu_receive(self.record, header, octets, lent.part());
+        let expected = self.judge(|onu| onu.receive(&header, octets, output));
+        lent.check(expected.as_ref().ok().map(|opened| &opened.octets[..]));
+        assert_eq!(answer.count, expected.as_ref().map_or(0, |opened| opened.count));
+        self.settle(tally, "onu_receive", answer.number, answer.onu, &expected);
+        expected
+    }
+}

@@ -1,0 +1,155 @@
+//! The capture reader (01, Capture block). What is wrong with a directory is told as 02, C-11 has it: sizes, then pair by pair the
+//! chain before the length.
+
+use super::{payload, refuse_if, Key, Reply, CLOCK};
+use std::fmt::Write;
+use std::ops::Range;
+
+#[derive(Clone, Copy, Debug, PartialEq, Eq)]
+pub enum Fault {
+    Sizes,
+    /// The first such pair, from 1.
+    Chain(usize),
+    Length(usize),
+}
+
+#[derive(Clone, Debug)]
+pub struct Record {
+    pub kind: u8,
+    pub index: u8,
+    pub llid: u16,
+    pub flags: u8,
+    pub epam: u8,
+    pub clock: u64,
+    pub eqs: u64,
+    /// Where the record starts, and where its payload lies.
+    pub offset: usize,
+    pub payload: Range<usize>,
+}
+
+fn number(octets: &[u8]) -> u64 {
+    octets.iter().fold(0, |sum, &octet| sum << 8 | u64::from(octet))
+}
+
+/// The records of a block, in order.
+pub fn directory(block: &[u8]) -> Result<Vec<Record>, Fault> {
+    if block.len() < 2 || block.len() > 65_536 {
+        return Err(Fault::Sizes);
+    }
+    let n = number(&block[..2]) as usize;
+    if n > 256 || block.len() < 2 + 8 * n || (n == 0 && block.len() != 2) {
+        return Err(Fault::Sizes);
+    }
+    let mut next = 2 + 8 * n;
+    let mut records = Vec::new();
+    for pair in 1..=n {
+        let entry = &block[2 + 8 * (pair - 1)..][..8];
+        let (offset, length) = (number(&entry[..4]) as usize, number(&entry[4..]) as usize);
+        let end = offset + length;
+        if offset != next || end > block.len() || (pair == n && end != block.len()) {
+            return Err(Fault::Chain(pair));
+        }
+        let record = &block[offset..end];
+        if length < 16 || length as u64 != 16 + 9 * number(&record[12..16]) {
+            return Err(Fault::Length(pair));
+        }
+        records.push(Record {
+            kind: record[0],
+            index: record[1],
+            llid: number(&record[2..4]) as u16,
+            flags: record[4],
+            epam: record[5],
+            clock: number(&record[6..12]),
+            eqs: number(&record[12..16]),
+            offset,
+            payload: offset + 16..end,
+        });
+        next = end;
+    }
+    Ok(records)
+}
+
+pub struct Settings {
+    pub keys: [Option<Key>; 2],
+    pub mac: u64,
+    pub llid: u16,
+}
+
+pub fn settings(octets: &[u8]) -> Reply<Settings> {
+    refuse_if(octets.len() != 41, 14)?;
+    refuse_if(octets[0] & 0b1111_1100 != 0, 1)?;
+    let key = |i: usize| (octets[0] >> i & 1 == 1).then(|| octets[1 + 16 * i..][..16].try_into().expect("16 octets"));
+    Ok(Settings { keys: [key(0), key(1)], mac: number(&octets[33..39]), llid: number(&octets[39..41]) as u16 })
+}
+
+/// What opening does with a record: `None` leaves it, being clear; else the index of the key and the key.
+pub fn judge(settings: &Settings, record: &Record) -> Reply<Option<(u8, Key)>> {
+    let index_known = record.index & 0b0111_1110 == 0;
+    let (enabled, enckey) = (record.flags & 1, record.flags >> 1 & 1);
+    refuse_if(record.kind > 1 || !index_known || record.flags > 3 || enckey > enabled, 1)?;
+    refuse_if(record.llid != settings.llid, 2)?;
+    refuse_if(u64::from(record.epam) != record.clock % 64, 10)?;
+    match enabled {
+        0 => Ok(None),
+        _ => settings.keys[usize::from(enckey)].ok_or(9).map(|key| Some((enckey, key))),
+    }
+}
+
+/// The verdict on record `k`, asked for alone.
+pub fn verdict(octets: &[u8], block: &[u8], k: usize) -> Reply<Option<(u8, u64)>> {
+    let settings = settings(octets)?;
+    let records = directory(block).map_err(|_| 15)?;
+    refuse_if(k < 1 || k > records.len(), 1)?;
+    let record = &records[k - 1];
+    Ok(judge(&settings, record)?.map(|(enckey, _)| (enckey, record.clock)))
+}
+
+/// The payload of record `k`, as bounds in the block.
+pub fn part(block: &[u8], k: usize) -> Reply<Range<usize>> {
+    let records = directory(block).map_err(|_| 15)?;
+    refuse_if(k < 1 || k > records.len(), 1)?;
+    Ok(records[k - 1].payload.clone())
+}
+
+/// The block with every record opened that can be, and the octets deciphered.
+pub fn open(octets: &[u8], block: &[u8], output: usize) -> Reply<(Vec<u8>, u64)> {
+    refuse_if(octets.len() != 41 || output != block.len(), 14)?;
+    let settings = settings(octets)?;
+    let records = directory(block).map_err(|_| 15)?;
+    let mut out = block.to_vec();
+    let mut total = 0;
+    for record in records {
+        if let Ok(Some((_, key))) = judge(&settings, &record) {
+            let sealed = &block[record.payload.clone()];
+            let (opened, count) = payload::pass(&key, record.index, settings.mac, record.clock % CLOCK, sealed);
+            out[record.payload].copy_from_slice(&opened);
+            out[record.offset + 4] &= 0b1111_1100;
+            total += count;
+        }
+    }
+    Ok((out, total))
+}
+
+/// What the reader program prints.
+pub fn listing(octets: &[u8], block: &[u8]) -> String {
+    let mut text = String::from("no llid ch key eqs result\n");
+    let read = settings(octets).and_then(|settings| Ok((settings, directory(block).map_err(|_| 15)?)));
+    match read {
+        Err(refusal) => writeln!(text, "refused {refusal}").expect("text"),
+        Ok((settings, records)) => {
+            for (i, record) in records.iter().enumerate() {
+                let key = match record.flags & 1 {
+                    0 => "-".to_string(),
+                    _ => (record.flags >> 1 & 1).to_string(),
+                };
+                let result = match judge(&settings, record) {
+                    Ok(_) => "open".to_string(),
+                    Err(refusal) => format!("refused {refusal}"),
+                };
+                let (llid, index, eqs) = (record.llid, record.index, record.eqs);
+                writeln!(text, "{} {llid:04x} {index:02x} {key} {eqs} {result}", i + 1).expect("text");
+            }
+        }
+    }
+    text
+}

@@ -1,0 +1,122 @@
+//! The ONU (01, Clock; Keys; When the reader says no). Every call checks in the order of its list, then changes.
+
+use super::*;
+use jazmotip::{Acknowledgement, Header, KeyMessage, Stamps};
+use std::collections::BTreeMap;
+
+#[derive(Clone, Debug, PartialEq, Eq)]
+pub struct Onu {
+    pub identity: Identity,
+    pub olt_mac: u64,
+    pub tick: u64,
+    pub local_time: u32,
+    /// The Rx and Tx clocks, once a clock message was taken.
+    pub clocks: Option<Stamps>,
+    /// a.
+    pub active: u64,
+    /// The keys of a and a + 1.
+    pub keys: BTreeMap<u64, Key>,
+    pub first_send: Option<u64>,
+    pub channels: Channels,
+}
+
+impl Onu {
+    pub fn fresh(identity: Identity, olt_mac: u64, local_time: u64) -> Reply<Onu> {
+        refuse_if(!identity.in_range() || olt_mac >= CLOCK || local_time >= 1 << 32, 1)?;
+        refuse_if(repeats(identity.llids.iter().copied()), 3)?;
+        Ok(Onu {
+            identity,
+            olt_mac,
+            tick: 0,
+            local_time: local_time as u32,
+            clocks: None,
+            active: 0,
+            keys: BTreeMap::new(),
+            first_send: None,
+            channels: Channels { free_from: [0, 0] },
+        })
+    }
+
+    pub fn advance(&mut self, n: u64) -> Reply<()> {
+        refuse_if(u128::from(self.tick) + u128::from(n) > u128::from(LAST_TICK), 17)?;
+        self.tick += n;
+        self.local_time = self.local_time.wrapping_add(n as u32);
+        if let Some(clocks) = &mut self.clocks {
+            clocks.rx = (clocks.rx + n) % CLOCK;
+            clocks.tx = (clocks.tx + n) % CLOCK;
+        }
+        Ok(())
+    }
+
+    pub fn clock_message(&mut self, message: Stamps) -> Reply<Acknowledgement> {
+        refuse_if(message.rx >= CLOCK || message.tx >= CLOCK, 1)?;
+        // 000's loop raises both by one until the low 32 bits of Tx equal LocalTime: this many times
+        let raise = (u64::from(self.local_time) + (1 << 32) - message.tx % (1 << 32)) % (1 << 32);
+        self.clocks = Some(Stamps { rx: (message.rx + raise) % CLOCK, tx: (message.tx + raise) % CLOCK });
+        Ok(Acknowledgement { kind: 1, number: 0 })
+    }
+
+    pub fn key_message(&mut self, message: KeyMessage) -> Reply<Acknowledgement> {
+        refuse_if(!self.identity.llids.contains(&message.llid), 2)?;
+        refuse_if(self.clocks.is_none(), 5)?;
+        let number = u64::from(message.number);
+        match self.keys.get(&number) {
+            Some(key) => refuse_if(*key != message.key, 8)?,
+            None => {
+                refuse_if(number != self.active + 1, 8)?;
+                self.keys.insert(number, message.key);
+            }
+        }
+        Ok(Acknowledgement { kind: 2, number: message.number })
+    }
+
+    /// The Tx clock, or LocalTime if unsynced.
+    fn sender_clock(&self) -> u64 {
+        self.clocks.map_or(u64::from(self.local_time), |clocks| clocks.tx)
+    }
+
+    pub fn send(&mut self, llid: u16, index: u8, payload: &[u8], output: usize) -> Reply<Envelope> {
+        payload::check_lengths(payload.len(), output)?;
+        refuse_if(index != 0x80 && index != 0x81, 1)?;
+        refuse_if(!self.identity.llids.contains(&llid), 2)?;
+        refuse_if(self.channels.is_taken(index, self.tick), 12)?;
+        let clock = self.sender_clock();
+        let epam = (clock % 64) as u8;
+        let envelope = if self.active == 0 {
+            let header = Header { index, llid, encenabled: 0, enckey: 0, epam };
+            Envelope { header, octets: payload.to_vec(), count: 0, sealed_under: None }
+        } else {
+            let first = self.first_send.unwrap_or(self.tick);
+            refuse_if(self.tick - first >= KEY_LIFE, 13)?;
+            self.first_send = Some(first);
+            let key = self.keys[&self.active];
+            let (octets, count) = payload::pass(&key, index, self.identity.mac, clock, payload);
+            let header = Header { index, llid, encenabled: 1, enckey: (self.active % 2) as u8, epam };
+            Envelope { header, octets, count, sealed_under: Some((key, self.identity.mac, clock)) }
+        };
+        self.channels.take(index, self.tick, payload.len() / 9);
+        Ok(envelope)
+    }
+
+    pub fn receive(&mut self, header: &Header, octets: &[u8], output: usize) -> Reply<Opened> {
+        payload::check_lengths(octets.len(), output)?;
+        refuse_if(header_out_of_range(header, 0x00), 1)?;
+        refuse_if(!self.identity.llids.contains(&header.llid), 2)?;
+        refuse_if(self.clocks.is_some_and(|clocks| u64::from(header.epam) != clocks.rx % 64), 10)?;
+        if header.encenabled == 0 {
+            refuse_if(self.active >= 1, 11)?;
+            return Ok(Opened { octets: octets.to_vec(), count: 0 });
+        }
+        let clocks = self.clocks.ok_or(5)?;
+        // the key in use and the next have different indices; there is no key 0
+        let number = self.active + u64::from(self.active % 2 != u64::from(header.enckey));
+        let key = *self.keys.get(&number).ok_or(9)?;
+        let (octets, count) = payload::pass(&key, header.index, self.olt_mac, clocks.rx, octets);
+        if number > self.active {
+            self.keys.remove(&self.active);
+            self.active = number;
+            self.first_send = None;
+        }
+        Ok(Opened { octets, count })
+    }
+}

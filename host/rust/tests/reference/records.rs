@@ -1,0 +1,218 @@
+//! The reference's ends as records of the C boundary, and back. A place that is not in use holds zeros. Reading is where a lent end
+//! is judged (01: "Ahead of each list comes 1 for a lent end with ..."): an invalid one has no reading.
+
+use super::olt::{Capture, Olt, Unit};
+use super::onu::Onu;
+use super::*;
+use jazmotip::Stamps;
+
+/// An end of the reference that crosses as a record.
+pub trait End: Clone + PartialEq + std::fmt::Debug {
+    type Record: Copy + PartialEq + std::fmt::Debug;
+
+    fn record(&self) -> Self::Record;
+
+    /// What a record is read as, if it is valid.
+    fn lent(record: &Self::Record) -> Option<Self>;
+}
+
+/// The last tick that a channel can be free from: a longest payload at the last tick.
+const LAST_FREE: u64 = LAST_TICK + 4_194_304;
+
+fn flag(octet: u8) -> Option<bool> {
+    match octet {
+        0 => Some(false),
+        1 => Some(true),
+        _ => None,
+    }
+}
+
+fn within(number: u64, least: u64, most: u64) -> Option<u64> {
+    (least..=most).contains(&number).then_some(number)
+}
+
+impl Identity {
+    /// The identity of a call's argument; a count above four is kept as that many LLIDs, so that it is out of range.
+    pub fn of(record: &jazmotip::Identity) -> Identity {
+        let llids = (0..usize::from(record.count)).map(|i| record.llids.get(i).copied().unwrap_or(0)).collect();
+        Identity { mac: record.mac, llids }
+    }
+
+    fn record(&self) -> jazmotip::Identity {
+        jazmotip::Identity::new(self.mac, &self.llids)
+    }
+
+    fn lent(record: &jazmotip::Identity) -> Option<Identity> {
+        Some(Identity::of(record)).filter(|identity| identity.in_range())
+    }
+}
+
+impl Channels {
+    fn record(&self) -> jazmotip::Channels {
+        jazmotip::Channels { zero: self.free_from[0], one: self.free_from[1] }
+    }
+
+    fn lent(record: &jazmotip::Channels) -> Option<Channels> {
+        Some(Channels { free_from: [within(record.zero, 0, LAST_FREE)?, within(record.one, 0, LAST_FREE)?] })
+    }
+}
+
+fn first_record(first: Option<u64>) -> jazmotip::FirstSend {
+    jazmotip::FirstSend { noted: u8::from(first.is_some()), tick: first.unwrap_or(0) }
+}
+
+fn first_lent(record: &jazmotip::FirstSend, now: u64) -> Option<Option<u64>> {
+    match flag(record.noted)? {
+        false => Some(None),
+        true => within(record.tick, 0, now).map(Some),
+    }
+}
+
+/// Keys by number, from their places by index.
+fn keys_lent(slots: &jazmotip::Slots, numbers: impl Iterator<Item = u64>) -> std::collections::BTreeMap<u64, Key> {
+    numbers.filter(|&n| n >= 1).map(|n| (n, if n % 2 == 0 { slots.even } else { slots.odd })).collect()
+}
+
+fn keys_record(keys: &std::collections::BTreeMap<u64, Key>) -> jazmotip::Slots {
+    let of_index = |index| keys.iter().find(|(number, _)| *number % 2 == index).map_or([0; 16], |(_, key)| *key);
+    jazmotip::Slots { even: of_index(0), odd: of_index(1) }
+}
+
+impl Unit {
+    fn record(&self) -> jazmotip::Unit {
+        jazmotip::Unit {
+            identity: self.identity.record(),
+            keys: jazmotip::UnitKeys {
+                timer: jazmotip::Timer { interval: self.interval, count: self.count, flag: u8::from(self.flag) },
+                active: self.active as u32,
+                offered: self.offered as u32,
+                slots: keys_record(&self.keys),
+                first: first_record(self.first_send),
+            },
+            confirmation: jazmotip::Confirmation {
+                confirmed: self.confirmed as u32,
+                acknowledged: u8::from(self.offer_acknowledged),
+            },
+            clock: jazmotip::UnitClock {
+                trip: self.round_trip,
+                captured: u8::from(self.capture.is_some()),
+                tick: self.capture.as_ref().map_or(0, |capture| capture.tick),
+                sent: u8::from(self.clock_sent),
+                acknowledged: u8::from(self.clock_acknowledged),
+            },
+        }
+    }
+
+    fn lent(record: &jazmotip::Unit, tick: u64, clock: u64) -> Option<Unit> {
+        let round_trip = within(record.clock.trip, 0, 1_000_000)?;
+        let interval = within(record.keys.timer.interval, 1, 1 << 47)?;
+        let active = u64::from(record.keys.active);
+        let offered = u64::from(record.keys.offered);
+        let confirmed = u64::from(record.confirmation.confirmed);
+        let numbers_fit = (active == confirmed && (offered == active || offered == active + 1))
+            || (active == confirmed + 1 && offered == active);
+        let capture = match flag(record.clock.captured)? {
+            false => None,
+            true => {
+                let age = tick - within(record.clock.tick, 0, tick)?;
+                let rx = (clock + CLOCK - age % CLOCK) % CLOCK;
+                Some(Capture { tick: record.clock.tick, stamps: Stamps { rx, tx: (rx + round_trip) % CLOCK } })
+            }
+        };
+        numbers_fit.then_some(())?;
+        Some(Unit {
+            identity: Identity::lent(&record.identity)?,
+            round_trip,
+            interval,
+            count: within(record.keys.timer.count, 0, interval - 1)?,
+            flag: flag(record.keys.timer.flag)?,
+            active,
+            confirmed,
+            offered,
+            keys: keys_lent(&record.keys.slots, confirmed..=offered),
+            offer_acknowledged: flag(record.confirmation.acknowledged)?,
+            first_send: first_lent(&record.keys.first, tick)?,
+            capture,
+            clock_sent: flag(record.clock.sent)?,
+            clock_acknowledged: flag(record.clock.acknowledged)?,
+        })
+    }
+}
+
+impl End for Olt {
+    type Record = jazmotip::Olt;
+
+    fn record(&self) -> jazmotip::Olt {
+        let mut units = [jazmotip::Unit::default(); 16];
+        units.iter_mut().zip(&self.units).for_each(|(place, unit)| *place = unit.record());
+        jazmotip::Olt {
+            shared: jazmotip::Shared { mac: self.mac, tick: self.tick, clock: self.clock, channels: self.channels.record() },
+            count: self.units.len() as u8,
+            units,
+        }
+    }
+
+    fn lent(record: &jazmotip::Olt) -> Option<Olt> {
+        let tick = within(record.shared.tick, 0, LAST_TICK)?;
+        let clock = within(record.shared.clock, 0, CLOCK - 1)?;
+        let places = record.units.get(..usize::from(record.count))?;
+        let units: Vec<Unit> = places.iter().map(|unit| Unit::lent(unit, tick, clock)).collect::<Option<_>>()?;
+        let twice = repeats(units.iter().flat_map(|unit| unit.identity.llids.iter().copied()));
+        (!twice).then_some(())?;
+        Some(Olt {
+            mac: within(record.shared.mac, 0, CLOCK - 1)?,
+            tick,
+            clock,
+            channels: Channels::lent(&record.shared.channels)?,
+            units,
+        })
+    }
+}
+
+impl End for Onu {
+    type Record = jazmotip::Onu;
+
+    fn record(&self) -> jazmotip::Onu {
+        let clock = match self.clocks {
+            None => jazmotip::OnuClock { synced: 0, time: u64::from(self.local_time), rx: 0 },
+            Some(clocks) => jazmotip::OnuClock { synced: 1, time: clocks.tx, rx: clocks.rx },
+        };
+        jazmotip::Onu {
+            identity: self.identity.record(),
+            oltmac: self.olt_mac,
+            tick: self.tick,
+            clock,
+            keys: jazmotip::OnuKeys {
+                active: self.active as u32,
+                held: u8::from(self.keys.contains_key(&(self.active + 1))),
+                slots: keys_record(&self.keys),
+            },
+            first: first_record(self.first_send),
+            channels: self.channels.record(),
+        }
+    }
+
+    fn lent(record: &jazmotip::Onu) -> Option<Onu> {
+        let tick = within(record.tick, 0, LAST_TICK)?;
+        let rx = within(record.clock.rx, 0, CLOCK - 1)?;
+        let clocks = match flag(record.clock.synced)? {
+            false => within(record.clock.time, 0, (1 << 32) - 1).map(|_| None)?,
+            true => Some(Stamps { rx, tx: within(record.clock.time, 0, CLOCK - 1)? }),
+        };
+        let active = u64::from(record.keys.active);
+        let reach = within(active + u64::from(flag(record.keys.held)?), 0, u64::from(u32::MAX))?;
+        let identity = Identity::lent(&record.identity)?;
+        (!repeats(identity.llids.iter().copied())).then_some(())?;
+        Some(Onu {
+            identity,
+            olt_mac: within(record.oltmac, 0, CLOCK - 1)?,
+            tick,
+            local_time: record.clock.time as u32,
+            clocks,
+            active,
+            keys: keys_lent(&record.keys.slots, active..=reach),
+            first_send: first_lent(&record.first, tick)?,
+            channels: Channels::lent(&record.channels)?,
+        })
+    }
+}

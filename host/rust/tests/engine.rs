@@ -1,7 +1,7 @@
 //! `libjazmotip.a` against an implementation of its own (`reference`). A test that draws its cases prints the seed of the case that
 //! fails; `JAZMOTIP_SEED=<seed>` runs that case alone, `JAZMOTIP_CASES=<n>` runs n times as many.
 
-mod c_exchange;
+mod c_programs;
 mod captures;
 mod lent;
 mod line;

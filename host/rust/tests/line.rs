@@ -663,6 +663,9 @@ impl<'a> World<'a> {
         }
         let highest = unit.keys.keys().chain(onu.keys.keys()).max().expect("a key");
         let up = (u64::from(u32::MAX) - highest).saturating_sub(self.random.below(6)) & !1;
+        if up == 0 {
+            return;
+        }
         let lifted = |keys: &std::collections::BTreeMap<u64, Key>| keys.iter().map(|(n, key)| (n + up, *key)).collect();
         unit.keys = lifted(&unit.keys);
         onu.keys = lifted(&onu.keys);
@@ -790,7 +793,7 @@ fn check_reach(tally: &Tally, least: impl IntoIterator<Item = (&'static str, u64
 #[test]
 fn lists_of_the_line() {
     let mut tally = Tally::default();
-    if lists(Kind::Line, 300, 2500, &mut tally) {
+    if lists(Kind::Line, 600, 2500, &mut tally) {
         check_reach(&tally, LEAST.into_iter().chain(LEAST_ARRIVED));
     }
 }
@@ -798,7 +801,7 @@ fn lists_of_the_line() {
 #[test]
 fn wild_lists() {
     let mut tally = Tally::default();
-    if lists(Kind::Wild, 300, 2500, &mut tally) {
+    if lists(Kind::Wild, 600, 2500, &mut tally) {
         check_reach(&tally, LEAST);
     }
 }

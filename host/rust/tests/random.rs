@@ -1,5 +1,7 @@
 //! Drawn cases: a small generator (splitmix64), and the seeds that the tests run with.
 
+use std::ops::Range;
+
 /// splitmix64.
 #[derive(Clone)]
 pub struct Random(u64);
@@ -84,32 +86,31 @@ impl Random {
 
     /// An output to be lent.
     pub fn lent(&mut self, length: usize) -> Lent {
-        let octets = self.octets(length + 2 * MARGIN);
-        Lent { before: octets.clone(), octets }
+        let margin = self.within(16, 31) as usize;
+        let octets = self.octets(length + 2 * margin);
+        Lent { part: margin..margin + length, before: octets.clone(), octets }
     }
 }
 
-const MARGIN: usize = 24;
-
-/// An output of random octets, lent out of the middle of a larger buffer.
+/// An output of random octets, lent out of the middle of a larger buffer, at any alignment.
 pub struct Lent {
+    part: Range<usize>,
     before: Vec<u8>,
     octets: Vec<u8>,
 }
 
 impl Lent {
     pub fn part(&mut self) -> &mut [u8] {
-        let end = self.octets.len() - MARGIN;
-        &mut self.octets[MARGIN..end]
+        &mut self.octets[self.part.clone()]
     }
 
     /// The lent part holds what is expected, or with nothing expected what it held; octets around it stay.
     #[track_caller]
     pub fn check(&self, expected: Option<&[u8]>) {
-        let end = self.octets.len() - MARGIN;
-        let expected = expected.unwrap_or(&self.before[MARGIN..end]);
-        assert!(self.octets[MARGIN..end] == *expected, "output differs");
-        assert_eq!(self.octets[..MARGIN], self.before[..MARGIN], "octets ahead of the output");
+        let Range { start, end } = self.part;
+        let expected = expected.unwrap_or(&self.before[start..end]);
+        assert!(self.octets[start..end] == *expected, "output differs");
+        assert_eq!(self.octets[..start], self.before[..start], "octets ahead of the output");
         assert_eq!(self.octets[end..], self.before[end..], "octets behind the output");
     }
 }

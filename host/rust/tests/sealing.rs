@@ -162,16 +162,12 @@ fn the_largest_payload_and_one_more() {
         let (key, nonce) = (random.key(), nonce(random));
         let input = random.payload(MAX_EQS + 1);
         let largest = &input[..9 * MAX_EQS];
-        let (expected, count) = payload::seal(1, &Schedule::new(&key), nonce, largest, largest.len()).expect("accepted");
-        let mut lent = random.lent(largest.len());
-        let answer = calls::seal(1, &key, nonce, largest, lent.part());
-        assert_eq!(answer, PayloadAnswer { number: 0, count });
-        assert_eq!(calls::count(largest), count);
-        lent.check(Some(&expected));
-        let mut lent = random.lent(input.len());
-        assert_eq!(calls::seal(1, &key, nonce, &input, lent.part()), PayloadAnswer { number: 14, count: 0 });
-        lent.check(None);
-        assert_eq!(calls::seal(0, &key, nonce, &input, lent.part()), PayloadAnswer { number: 14, count: 0 });
-        lent.check(None);
+        let answer = check(random, 1, &key, nonce, largest, largest.len());
+        assert_eq!(answer, PayloadAnswer { number: 0, count: payload::count(largest) });
+        assert_eq!(calls::count(largest), answer.count);
+        for encenabled in 0..=2 {
+            let answer = check(random, encenabled, &key, nonce, &input, input.len());
+            assert_eq!(answer, PayloadAnswer { number: 14, count: 0 });
+        }
     });
 }

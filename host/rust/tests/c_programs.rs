@@ -1,0 +1,94 @@
+//! The C programs of `host/c`, compiled against the header and the archive, and run. The header itself checks the layout of every
+//! struct. `exchange` must print `exchange.stdout`; what `capture` must print is the reference's.
+
+use crate::captures::{random_block, settings};
+use crate::random::cases;
+use crate::reference::capture::{self, Fault};
+use std::fmt::Write as _;
+use std::io::Write as _;
+use std::path::{Path, PathBuf};
+use std::process::{Command, Stdio};
+
+fn host() -> PathBuf {
+    Path::new(env!("CARGO_MANIFEST_DIR")).join("..")
+}
+
+/// Compiles a program with gcc, or what CC names.
+fn compiled(name: &str, level: &str) -> PathBuf {
+    let program = Path::new(env!("CARGO_TARGET_TMPDIR")).join(format!("{name}{level}"));
+    let compiler = std::env::var("CC").unwrap_or_else(|_| "gcc".to_string());
+    let compiled = Command::new(&compiler)
+        .args(["-std=c11", "-Wall", "-Wextra", "-Werror", "-pedantic", level, "-I"])
+        .arg(host().join("include"))
+        .arg(host().join(format!("c/{name}.c")))
+        .arg(env!("JAZMOTIP_ARCHIVE"))
+        .arg("-o")
+        .arg(&program)
+        .output()
+        .unwrap_or_else(|error| panic!("{compiler}: {error}"));
+    assert!(compiled.status.success(), "{}", String::from_utf8_lossy(&compiled.stderr));
+    program
+}
+
+/// What a program prints for an input.
+fn printed(program: &Path, input: &[u8]) -> String {
+    let mut run = Command::new(program).stdin(Stdio::piped()).stdout(Stdio::piped()).spawn().expect("the program starts");
+    run.stdin.take().expect("its input").write_all(input).expect("the input is read");
+    let done = run.wait_with_output().expect("the program ends");
+    let text = String::from_utf8(done.stdout).expect("plain text");
+    assert!(done.status.success(), "{text}");
+    text
+}
+
+#[test]
+fn exchange_plays_to_the_second_switch() {
+    let expected = std::fs::read_to_string(host().join("c/exchange.stdout")).expect("the expected output");
+    for level in ["-O0", "-O2"] {
+        assert_eq!(printed(&compiled("exchange", level), &[]), expected, "{level}");
+    }
+}
+
+/// What `capture` must print.
+fn capture_text(settings: &[u8], block: &[u8]) -> String {
+    let mut text = capture::listing(settings, block);
+    let (records, directory) = match capture::directory(block) {
+        Ok(records) => (records.len(), format!("directory 0 fault 0 records {} pair 0", records.len())),
+        Err(Fault::Sizes) => (0, "directory 15 fault 1 records 0 pair 0".to_string()),
+        Err(Fault::Chain(pair)) => (0, format!("directory 15 fault 2 records 0 pair {pair}")),
+        Err(Fault::Length(pair)) => (0, format!("directory 15 fault 3 records 0 pair {pair}")),
+    };
+    let (number, count) = match capture::open(settings, block, block.len()) {
+        Ok((_, count)) => (0, count),
+        Err(number) => (number, 0),
+    };
+    writeln!(text, "{directory}\nopen {number} count {count}").expect("text");
+    for k in 1..=records {
+        let (verdict, seals) = match capture::verdict(settings, block, k) {
+            Ok(None) => ("0 key 0 0 clock 0".to_string(), ""),
+            Ok(Some((enckey, clock))) => (format!("0 key 1 {enckey} clock {clock}"), ", seals back"),
+            Err(number) => (format!("{number} key 0 0 clock 0"), ""),
+        };
+        let part = capture::part(block, k).expect("a record");
+        writeln!(text, "record {k}: {verdict} payload 0 {} {}{seals}", part.start, part.len()).expect("text");
+    }
+    text
+}
+
+#[test]
+fn capture_opens_and_seals_back() {
+    let program = compiled("capture", "-O2");
+    let sample = std::fs::read(host().join("../samples/line.capture")).expect("the sample");
+    let (settings_of, block_of) = sample.split_at(41);
+    assert_eq!(printed(&program, &sample), capture_text(settings_of, block_of));
+    assert_eq!(printed(&program, &sample[..40]), capture_text(&sample[..40], &[]));
+    cases(40, |random| {
+        let settings = settings(random, 3);
+        let records = random.within(1, 12) as usize;
+        let mut block = random_block(random, &settings, records, 30);
+        if random.once_in(3) {
+            let place = random.below(2 + 8 * records as u64) as usize;
+            block[place] = block[place].wrapping_add(1);
+        }
+        assert_eq!(printed(&program, &[&settings[..], &block].concat()), capture_text(&settings, &block));
+    });
+}

@@ -1,7 +1,7 @@
 //! An end twice: the engine's record and the reference. Each call goes to both, and number, record, message, header, count and
 //! output are compared.
 
-use crate::random::Random;
+use crate::random::{Lent, Random};
 use crate::reference::olt::Olt;
 use crate::reference::onu::Onu;
 use crate::reference::records::End;
@@ -71,6 +71,22 @@ impl<E: End> Pair<E> {
         }
         self.record = after;
     }
+}
+
+#[track_caller]
+fn check_sent(lent: &Lent, header: Header, count: u64, expected: &Reply<Envelope>) {
+    let (octets, wanted) = match expected {
+        Ok(envelope) => (Some(&envelope.octets[..]), (envelope.header, envelope.count)),
+        Err(_) => (None, (Header::default(), 0)),
+    };
+    lent.check(octets);
+    assert_eq!((header, count), wanted);
+}
+
+#[track_caller]
+fn check_received(lent: &Lent, count: u64, expected: &Reply<Opened>) {
+    lent.check(expected.as_ref().ok().map(|opened| &opened.octets[..]));
+    assert_eq!(count, expected.as_ref().map_or(0, |opened| opened.count));
 }
 
 impl Pair<Olt> {
@@ -154,10 +170,7 @@ impl Pair<Olt> {
         let mut lent = random.lent(output);
         let answer = calls::olt_send(self.record, llid, index, payload, lent.part());
         let expected = self.judge(|olt| olt.send(llid, index, payload, output));
-        lent.check(expected.as_ref().ok().map(|envelope| &envelope.octets[..]));
-        let header = expected.as_ref().map_or(Header::default(), |envelope| envelope.header);
-        let count = expected.as_ref().map_or(0, |envelope| envelope.count);
-        assert_eq!((answer.header, answer.count), (header, count));
+        check_sent(&lent, answer.header, answer.count, &expected);
         self.settle(tally, "olt_send", answer.number, answer.olt, &expected);
         expected
     }
@@ -173,8 +186,7 @@ impl Pair<Olt> {
         let mut lent = random.lent(output);
         let answer = calls::olt_receive(self.record, header, octets, lent.part());
         let expected = self.judge(|olt| olt.receive(&header, octets, output));
-        lent.check(expected.as_ref().ok().map(|opened| &opened.octets[..]));
-        assert_eq!(answer.count, expected.as_ref().map_or(0, |opened| opened.count));
+        check_received(&lent, answer.count, &expected);
         self.settle(tally, "olt_receive", answer.number, answer.olt, &expected);
         expected
     }
@@ -232,10 +244,7 @@ impl Pair<Onu> {
         let mut lent = random.lent(output);
         let answer = calls::onu_send(self.record, llid, index, payload, lent.part());
         let expected = self.judge(|onu| onu.send(llid, index, payload, output));
-        lent.check(expected.as_ref().ok().map(|envelope| &envelope.octets[..]));
-        let header = expected.as_ref().map_or(Header::default(), |envelope| envelope.header);
-        let count = expected.as_ref().map_or(0, |envelope| envelope.count);
-        assert_eq!((answer.header, answer.count), (header, count));
+        check_sent(&lent, answer.header, answer.count, &expected);
         self.settle(tally, "onu_send", answer.number, answer.onu, &expected);
         expected
     }
@@ -251,8 +260,7 @@ impl Pair<Onu> {
         let mut lent = random.lent(output);
         let answer = calls::onu_receive(self.record, header, octets, lent.part());
         let expected = self.judge(|onu| onu.receive(&header, octets, output));
-        lent.check(expected.as_ref().ok().map(|opened| &opened.octets[..]));
-        assert_eq!(answer.count, expected.as_ref().map_or(0, |opened| opened.count));
+        check_received(&lent, answer.count, &expected);
         self.settle(tally, "onu_receive", answer.number, answer.onu, &expected);
         expected
     }

@@ -27,7 +27,7 @@ use Rattle.line.specs.Claim.{senderMac, senderClock, nonceFor, Holds, Ar
 use Rattle.line.proofs.Invariant.{Joined, Common, Invariant}
 use Rattle.line.proofs.Alive.{Alive, sent-alive, arrived-alive}
 use Rattle.line.proofs.Past.{sent-most}
-use Rattle.line.proofs.SendSteps.{mem-at}
+use Rattle.line.proofs.Envelopes.{mem-at}
 
 ---- (2) counter blocks
 

@@ -220,17 +220,6 @@ clock-arrives w sh now l u o k x m c t common j h e d =
 
 ---- the unit itself
 
--- nothing of the lane but its site matters
-pub common-moved : (w : Setting) (now : ℕ) (l l' : Lane) (o : Onu) → l .site ≡ l' .site → Common w now l o → Common w now l' o
-common-moved w now l l' o e c =
-    record {
-      valid = c .valid;
-      tick = c .tick;
-      mac = rw e at (c .mac);
-      llids = rw e at (c .llids);
-      oltmac = rw e at (c .oltmac);
-    }
-
 pub common-clock-keeps : (w : Setting) (now : ℕ) (l : Lane) (o : Onu) (m : Stamps) → Common w now l o
     → Common w now l (clockMessageAt o m .onu)
 unfolding clockMessageAt clockMessageTo onuAcknowledged onuSynced withOnuClock

@@ -21,9 +21,9 @@ use Rattle.line.specs.Claim.{isSealed, nonceFor, ArrivedNumbered, Claim}
 use Rattle.line.specs.Example.{example, oltMac, identityA, identityB, siteA, siteB, events, keyFrom, payloadFrom}
 use Rattle.line.specs.Demand.{played, arrivalAt, nonce, numberAt, numberOf, refusals, Handed, Passed, Delivered, Agreed, Apart, Course, Shown, Demand}
 use Rattle.line.proofs.Opened.{opened}
-use Rattle.line.proofs.SendSteps.{mem-at}
 use Rattle.line.proofs.Tested.{tested, meets, meets-true}
 use Rattle.line.proofs.Theorem.{line-holds}
+use Rattle.line.proofs.Envelopes.{mem-at}
 
 ---- the premises
 

@@ -2,7 +2,7 @@
 use mathlib.Core.Path.{_≡_, refl, sym, subst}
 use mathlib.Core.List.{List, [], _∷_, _++_, List·Memᴰ·append-cases, List·Memᴰ·eq-of-singleton}
 use mathlib.Core.Logic.{⊎-elim}
-use Prim.Native.Nat.{ℕ, suc, _+_, _≤_}
+use Prim.Native.Nat.{ℕ, suc, _≤_}
 use native.Mathlib.Omega.{arith}
 use Rattle.ends.specs.Messages.{keyKind}
 use Rattle.ends.specs.declared.Acknowledgement.{Acknowledgement}
@@ -13,7 +13,7 @@ use Rattle.ends.specs.declared.Shared.{Shared}
 use Rattle.ends.specs.declared.Unit.{Unit}
 use Rattle.line.specs.Setting.{Setting}
 use Rattle.line.specs.History.{Thing, Answered, Transit, Lane, laneWith, leaving, laneLeaving, laneTaken, laneAnswered}
-use Rattle.line.proofs.Invariant.{reachOf, Answers, Towards, From, Joined}
+use Rattle.line.proofs.Invariant.{reachOf, Answers, Towards, From, Joined, Common}
 use Rattle.line.proofs.Queues.{Knows, towards-moved, towards-dropped, from-moved}
 use Rattle.line.proofs.Past.{passing-moved, sent-most}
 
@@ -80,3 +80,14 @@ module _ (w : Setting) (sh : Shared) (now : ℕ) (l : Lane) (u : Unit) (o : Onu)
       transit-replaced _ j
       (answers-more now (o .keys) (o .clock) (l .transit .answered) (record { acknowledgement = a; tick = now }) synced held (j .answers)) (j .towards)
       (j .from)
+
+-- nothing of the lane but its site matters
+pub common-moved : (w : Setting) (now : ℕ) (l l' : Lane) (o : Onu) → l .site ≡ l' .site → Common w now l o → Common w now l' o
+common-moved w now l l' o e c =
+    record {
+      valid = c .valid;
+      tick = c .tick;
+      mac = rw e at (c .mac);
+      llids = rw e at (c .llids);
+      oltmac = rw e at (c .oltmac);
+    }

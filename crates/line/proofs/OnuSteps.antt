@@ -34,10 +34,13 @@ use Rattle.line.specs.Run.{State, noSite, freshLane, laneAt, onuAt, acce
 use Rattle.line.specs.Premises.{FittingBuffer, DueDown, Fits}
 use Rattle.line.proofs.Invariant.{Joined, Common, Standing, LaneRight, Invariant}
 use Rattle.line.proofs.Alive.{Alive, registered-alive, towards-alive, sent-alive, llid-apart}
-use Rattle.line.proofs.ClockSteps.{clock-arrives, common-moved, common-clock-keeps}
+use Rattle.line.proofs.ClockSteps.{clock-arrives, common-clock-keeps}
 use Rattle.line.proofs.KeySteps.{key-arrives}
-use Rattle.line.proofs.SendSteps.{mem-at, send-up-keeps, send-common}
-use Rattle.line.proofs.ReceiptSteps.{arrive-down, receive-common, overheard-leaves}
+use Rattle.line.proofs.Frames.{common-moved}
+use Rattle.line.proofs.Envelopes.{mem-at}
+use Rattle.line.proofs.SendUpSteps.{send-up-keeps, send-common}
+use Rattle.line.proofs.ReceiptDownSteps.{arrive-down, receive-common}
+use Rattle.line.proofs.OverheardSteps.{overheard-leaves}
 
 ---- one unit replaced
 

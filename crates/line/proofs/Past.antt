@@ -1,14 +1,16 @@
 -- Laws of what has been: it holds for every lane that knows more keys and sends. Assumes nothing.
 use mathlib.Core.Path.{_≡_, refl, _∙_, ap, subst}
 use mathlib.Core.Bool.{Bool, true, false}
-use mathlib.Core.List.{List, List·Memᴰ}
+use mathlib.Core.List.{List, List·Memᴰ, [], _∷_, _++_}
 use Prim.Native.Nat.{ℕ, _≤_}
 use native.Mathlib.Omega.{arith}
+use lib.ListN.{length}
 use borrow.Author.Tests.{leb-true}
 use Rattle.octets.specs.Choice.{pick}
 use Rattle.sealing.specs.KeyExpansion.{keyExpansion}
-use Rattle.sealing.specs.Seal.{carried}
+use Rattle.sealing.specs.Seal.{carried, lengthsFit}
 use Rattle.sealing.specs.declared.envelope.Nonce.{Nonce}
+use Rattle.ends.specs.Identities.{has}
 use Rattle.ends.specs.declared.Channels.{Channels}
 use Rattle.ends.specs.declared.Onu.{Onu}
 use Rattle.ends.specs.declared.Unit.{Unit}
@@ -17,6 +19,7 @@ use Rattle.line.specs.History.{Way, downward, upward, Envelope, Arrival,
 use Rattle.line.specs.Claim.{SentRight, ArrivedRight, isSealed, nonceFor}
 use Rattle.line.proofs.Invariant.{Spending, Passing}
 use Rattle.line.proofs.Queues.{Knows}
+use Rattle.line.proofs.Envelopes.{each-more}
 
 -- a clear envelope carries its payload, whatever the key
 carried-same : (t : Bool) (k k' : List ℕ) (n : Nonce) (p : List ℕ) → (t ≡ true → k ≡ k') → carried t (keyExpansion k) n p ≡ carried t (keyExpansion k') n p
@@ -72,3 +75,48 @@ sent-most l down u o s h e m = by-way (e .way) refl where
   by-way : (x : Way) → e .way ≡ x → e .number ≤ u .keys .active
   by-way downward f = s .downs e m f .1 .most
   by-way upward f = omega (arith, s .ups e m f .1 .most)
+
+---- one more
+
+-- one send more
+pub passing-sent : (w : Setting) (l m : Lane) (e : Envelope) (confirmed active : ℕ) → ((top : ℕ) → Knows l m top)
+    → m .past .sent ≡ l .past .sent ++ (e ∷ []) → m .past .arrived ≡ l .past .arrived
+    → SentRight w m e → has (l .site .identity) (e .llid) ≡ true → lengthsFit (length (e .payload)) (length (e .payload)) ≡ true
+    → Passing w l confirmed active → Passing w m confirmed active
+passing-sent w l m e confirmed active k t a right named fits p =
+    record {
+      sent = λ x h.
+          each-more (SentRight w m) (l .past .sent) e (λ y g. sent-carried w l m (y .number) (k (y .number)) y (omega arith) (p .sent y g)) right x (rw t at h);
+      named = λ x h.
+          rw (k 0 .site)
+          at (each-more (λ (y : Envelope). has (l .site .identity) (y .llid) ≡ true) (l .past .sent) e (p .named) named x (rw t at h));
+      fits = λ x h.
+          each-more (λ (y : Envelope). lengthsFit (length (y .payload)) (length (y .payload)) ≡ true) (l .past .sent) e (p .fits) fits x
+          (rw t at h);
+      arrived = λ r h.
+          arrived-carried w l m (r .envelope .number) (k (r .envelope .number)) r (omega arith) (p .arrived r (rw a at h));
+      down = λ r h. p .down r (rw a at h);
+      up = λ r h. p .up r (rw a at h);
+    }
+
+-- one arrival more
+pub passing-arrived : (w : Setting) (l m : Lane) (r : Arrival) (confirmed confirmed' active active' : ℕ) → ((top : ℕ) → Knows l m top)
+    → m .past .sent ≡ l .past .sent → m .past .arrived ≡ l .past .arrived ++ (r ∷ []) → confirmed ≤ confirmed' → active ≤ active'
+    → ArrivedRight w l r → (r .envelope .way ≡ downward → r .envelope .number ≤ active') → (r .envelope .way ≡ upward → r .envelope .number ≤ confirmed')
+    → Passing w l confirmed active → Passing w m confirmed' active'
+passing-arrived w l m r confirmed confirmed' active active' k s t c a right down up p =
+    record {
+      sent = λ x h. sent-carried w l m (x .number) (k (x .number)) x (omega arith) (p .sent x (rw s at h));
+      named = λ x h. rw (k 0 .site) at (p .named x (rw s at h));
+      fits = λ x h. p .fits x (rw s at h);
+      arrived = λ x h.
+          each-more (ArrivedRight w m) (l .past .arrived) r (λ y g. carry y (p .arrived y g)) (carry r right) x (rw t at h);
+      down = λ x h.
+          each-more (λ (y : Arrival). y .envelope .way ≡ downward → y .envelope .number ≤ active') (l .past .arrived) r
+          (λ y g q. let was = p .down y g q in omega (arith, was)) down x (rw t at h);
+      up = λ x h.
+          each-more (λ (y : Arrival). y .envelope .way ≡ upward → y .envelope .number ≤ confirmed') (l .past .arrived) r
+          (λ y g q. let was = p .up y g q in omega (arith, was)) up x (rw t at h);
+    } where
+      carry : (y : Arrival) → ArrivedRight w l y → ArrivedRight w m y
+      carry y g = arrived-carried w l m (y .envelope .number) (k (y .envelope .number)) y (omega arith) g

@@ -33,8 +33,8 @@ use Rattle.line.specs.History.{Entry, Keys, Lane, due, laneRegistered}
 use Rattle.line.specs.Events.{register}
 use Rattle.line.specs.Run.{State, laneAt, onuAt, noSite, freshLane, noted, step}
 use Rattle.line.specs.Premises.{Agrees, Fits}
-use Rattle.line.proofs.ClockSteps.{common-moved}
 use Rattle.line.proofs.Invariant.{flagOf, Timing, Idle, Joined, Standing, LaneRight, Invariant}
+use Rattle.line.proofs.Frames.{common-moved}
 
 -- nothing is in an empty list
 none-in : {A P : Type 0} (l : List A) (x : A) → l ≡ [] → List·Memᴰ x l → P

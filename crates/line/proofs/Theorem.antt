@@ -9,9 +9,11 @@ use Rattle.line.proofs.Invariant.{Invariant}
 use Rattle.line.proofs.StartSteps.{start-right}
 use Rattle.line.proofs.AdvanceSteps.{advance-right}
 use Rattle.line.proofs.RegisterSteps.{register-right}
-use Rattle.line.proofs.OltSteps.{capture-right, clock-send-right, offer-right, retry-right, send-down-right, arrive-up-right, answer-right, stray-answer-right, stray-up-right}
+use Rattle.line.proofs.OltSteps.{capture-right, clock-send-right, retry-right, send-down-right, answer-right, stray-answer-right, stray-up-right}
 use Rattle.line.proofs.OnuSteps.{send-up-right, arrive-down-right, overhear-right, stray-clock-right, stray-key-right, stray-down-right}
 use Rattle.line.proofs.Claims.{claim-holds}
+use Rattle.line.proofs.OfferSteps.{offer-right}
+use Rattle.line.proofs.ArrivalSteps.{arrive-up-right}
 
 pub step-right : (w : Setting) (s : State) (e : Event) → Invariant w s → Fits w s e → Invariant w (step s e)
 step-right w s (advance n) v f = advance-right w s n v

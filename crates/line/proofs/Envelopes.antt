@@ -1,0 +1,133 @@
+-- What an envelope carries under the key and counter block of its number, and what the end that opens it gives back.
+-- Assumes nothing.
+use mathlib.Core.Path.{_≡_, refl, sym, _∙_, ap, ap₂, subst}
+use mathlib.Core.Bool.{Bool, true, false}
+use mathlib.Core.List.{List, [], _∷_, _++_, List·Memᴰ, List·Memᴰ·head, List·Memᴰ·tail, List·Memᴰ·append-cases, List·Memᴰ·eq-of-singleton}
+use mathlib.Core.Logic.{⊎-elim}
+use Prim.Native.Nat.{ℕ, zero, suc, _<_, _≤_}
+use native.Mathlib.Nat.{le-of-suc-le-suc, not-suc-le-zero}
+use native.Mathlib.Omega.{arith}
+use lib.Dec.{leb}
+use lib.ListN.{length, getD}
+use borrow.Author.Tests.{leb-true, eq-eqb, not-false}
+use Rattle.octets.specs.Choice.{pick}
+use Rattle.octets.proofs.Choice.{both-left, both-right, both-true}
+use Rattle.sealing.specs.KeyExpansion.{keyExpansion}
+use Rattle.sealing.specs.Payload.{eqsOf}
+use Rattle.sealing.specs.Seal.{lengthsFit, carried, countCarried}
+use Rattle.sealing.specs.declared.envelope.Nonce.{Nonce}
+use Rattle.sealing.proofs.Seal.{lengths-fit}
+use Rattle.sealing.proofs.Payload.{sealed-length, sealed-twice, count-sealed}
+use Rattle.ends.specs.Limits.{maxEqs}
+use Rattle.ends.specs.declared.Passage.{Passage}
+use Rattle.ends.proofs.Tests.{not-of-true}
+use Rattle.traffic.specs.Passages.{misfit, isEnciphered, nonceOf, passed, passedCount}
+use Rattle.line.specs.Setting.{Setting}
+use Rattle.line.specs.History.{downward, upward, Envelope, Lane, keyOf, Arrival}
+use Rattle.line.specs.Claim.{SentRight, nonceFor, isSealed, ArrivedRight}
+
+---- lists of envelopes
+
+pub mem-at : {A : Type 0} (l : List A) (i : ℕ) (d : A) → i < length l → List·Memᴰ (getD l i d) l
+mem-at [] i d h = absurd (not-suc-le-zero h)
+mem-at (x ∷ xs) zero d h = List·Memᴰ·head refl
+mem-at (x ∷ xs) (suc i) d h = List·Memᴰ·tail (mem-at xs i d (le-of-suc-le-suc h))
+
+-- what holds of each, and of one more
+pub each-more : {A : Type 0} (P : A → Type 0) (l : List A) (a : A) → ((x : A) → List·Memᴰ x l → P x) → P a
+    → (x : A) → List·Memᴰ x (l ++ (a ∷ [])) → P x
+each-more P l a old new x m =
+    ⊎-elim (λ (k : List·Memᴰ x l). old x k) (λ k. subst P (sym (List·Memᴰ·eq-of-singleton k)) new) (List·Memᴰ·append-cases l m)
+
+pub ways-apart : {P : Type 0} → downward ≡ upward → P
+ways-apart e = let z : _≡_ {A = ℕ} 0 1 = cc in absurd (omega arith)
+
+---- what is carried
+
+-- under the key and counter block of number n, clear for 0
+pub passed-as : (index : ℕ) (q : Passage) (n : ℕ) (key : List ℕ) (nonce : Nonce) (p : List ℕ) → isEnciphered (q .choice) ≡ leb 1 n
+    → (1 ≤ n → q .key ≡ key) → (1 ≤ n → nonceOf index q ≡ nonce)
+    → passed index q p ≡ carried (leb 1 n) (keyExpansion key) nonce p
+unfolding passed carried pick
+passed-as index q n key nonce p s k c = by-number (leb 1 n) refl where
+  by-number : (t : Bool) → leb 1 n ≡ t → passed index q p ≡ carried t (keyExpansion key) nonce p
+  by-number true e = let h = leb-true 1 n e in rw (s ∙ e, k h, c h)
+  by-number false e = rw (s ∙ e)
+
+pub count-as : (q : Passage) (n : ℕ) (p : List ℕ) → isEnciphered (q .choice) ≡ leb 1 n → passedCount q p ≡ countCarried (leb 1 n) p
+unfolding passedCount
+count-as q n p s = rw s
+
+carried-length : (t : Bool) (w : List ℕ) (n : Nonce) (p : List ℕ) → length (carried t w n p) ≡ length p
+unfolding carried pick
+carried-length true w n p = sealed-length w n p
+carried-length false w n p = refl
+
+carried-twice : (t : Bool) (w : List ℕ) (n : Nonce) (p : List ℕ) → carried t w n (carried t w n p) ≡ p
+unfolding carried pick
+carried-twice true w n p = sealed-twice w n p
+carried-twice false w n p = refl
+
+count-carried : (t : Bool) (w : List ℕ) (n : Nonce) (p : List ℕ) → countCarried t (carried t w n p) ≡ countCarried t p
+unfolding carried countCarried pick
+count-carried true w n p = count-sealed w n p
+count-carried false w n p = refl
+
+---- lengths
+
+pub fits-alone : (p out : List ℕ) → misfit p out ≡ false → lengthsFit (length p) (length p) ≡ true
+unfolding misfit lengthsFit
+fits-alone p out e =
+    let fit = not-false _ e in
+    both-true (both-left _ _ fit) (both-true (both-left _ _ (both-right _ _ fit)) (eq-eqb (length p) (length p) refl))
+
+-- a buffer as long as what was sent fits
+pub octets-fit : (w : Setting) (l : Lane) (e : Envelope) (out : List ℕ) → SentRight w l e
+    → lengthsFit (length (e .payload)) (length (e .payload)) ≡ true → length out ≡ length (e .octets) → misfit (e .octets) out ≡ false
+unfolding misfit
+octets-fit w l e out r f h =
+    let same : length (e .octets) ≡ length (e .payload) = ap length (r .octets) ∙ carried-length (isSealed e) _ _ (e .payload) in
+    not-of-true (ap₂ lengthsFit same (h ∙ same) ∙ f)
+
+pub eqs-most : (p out : List ℕ) → misfit p out ≡ false → eqsOf p ≤ maxEqs
+unfolding misfit
+eqs-most p out e = let f = lengths-fit (length p) (length out) (not-false _ e) in omega (arith, f .bounded)
+
+---- what is given back
+
+-- an accepted receipt of the envelope, opened with q
+abbrev pub arrivalOf : Envelope → Passage → Arrival
+arrivalOf e q =
+    record {
+      envelope = e;
+      number = 0;
+      count = passedCount q (e .octets);
+      output = passed (e .header .index) q (e .octets);
+      passage = q;
+    }
+
+-- opened with the key and counter block of its number
+pub record Opens (w : Setting) (l : Lane) (e : Envelope) (q : Passage) : Type 0 where
+  pub enciphered : isEnciphered (q .choice) ≡ isSealed e
+  pub key : 1 ≤ e .number → q .key ≡ keyOf (l .keys) (e .number)
+  pub nonce : 1 ≤ e .number → nonceOf (e .header .index) q ≡ nonceFor w (l .site) e
+
+pub opens-right : (w : Setting) (l : Lane) (e : Envelope) (q : Passage) → List·Memᴰ e (l .past .sent) → SentRight w l e → Opens w l e q
+    → ArrivedRight w l (arrivalOf e q)
+opens-right w l e q m r h =
+    record {
+      sent = m;
+      accepted = refl;
+      enciphered = h .enciphered;
+      key = h .key;
+      nonce = h .nonce;
+      payload =
+          passed-as (e .header .index) q (e .number) (keyOf (l .keys) (e .number)) (nonceFor w (l .site) e) (e .octets) (h .enciphered) (h .key) (h .nonce)
+          ∙ ap (carried (isSealed e) (keyExpansion (keyOf (l .keys) (e .number))) (nonceFor w (l .site) e)) (r .octets)
+          ∙ carried-twice (isSealed e) (keyExpansion (keyOf (l .keys) (e .number))) (nonceFor w (l .site) e) (e .payload);
+      count =
+          count-as q (e .number) (e .octets) (h .enciphered)
+          ∙ ap (countCarried (isSealed e)) (r .octets)
+          ∙ count-carried (isSealed e) (keyExpansion (keyOf (l .keys) (e .number))) (nonceFor w (l .site) e) (e .payload)
+          ∙ sym (r .count);
+    }

@@ -1,0 +1,220 @@
+-- A send of a unit keeps the invariant of its lane. Assumes nothing.
+use mathlib.Core.Path.{_≡_, refl, sym, _∙_, ap, subst}
+use mathlib.Core.Bool.{Bool, true, false}
+use mathlib.Core.List.{List, [], _∷_, List·Memᴰ·head, Memᴰ·append-left, Memᴰ·append-right}
+use Prim.Native.Nat.{ℕ, _<_, _≤_}
+use native.Mathlib.Omega.{arith}
+use lib.Dec.{eqb, leb}
+use lib.ListN.{length}
+use borrow.Author.Tests.{eqb-true, eqb-false}
+use Rattle.refusal.specs.declared.Verdict.the-variants.{Accepted}
+use Rattle.clock.specs.Ticks.{epamOf}
+use Rattle.sealing.specs.Payload.{eqsOf}
+use Rattle.sealing.specs.Seal.{lengthsFit}
+use Rattle.ends.specs.Headers.{headerOf, keyFor, passageOf, sendingOf, noSending}
+use Rattle.ends.specs.Identities.{has}
+use Rattle.ends.specs.Occupancy.{downstream, upstream, freeFrom, occupied}
+use Rattle.ends.specs.OnuTraffic.{onuSendChoice, onuSendVerdict, onuSent, sendingOnu}
+use Rattle.ends.specs.Records.{withOnuFirst, withOnuChannels}
+use Rattle.ends.specs.Replies.{Reply}
+use Rattle.ends.specs.Validity.{validOnu}
+use Rattle.ends.specs.declared.Channels.{Channels}
+use Rattle.ends.specs.declared.FirstSend.{FirstSend}
+use Rattle.ends.specs.declared.Onu.{Onu}
+use Rattle.ends.specs.declared.OnuClock.{OnuClock}
+use Rattle.ends.specs.declared.Sending.{Sending}
+use Rattle.ends.specs.declared.Shared.{Shared}
+use Rattle.ends.specs.declared.Unit.{Unit}
+use Rattle.ends.specs.declared.UnitClock.{UnitClock}
+use Rattle.ends.proofs.Headers.{key-for}
+use Rattle.ends.proofs.Occupancy.{free-own, taken-false}
+use Rattle.ends.proofs.OnuCalls.{onu-accepted, onu-accepts, onu-keeps}
+use Rattle.ends.proofs.OnuTraffic.{onu-send-accepted, onu-sent-valid}
+use Rattle.ends.proofs.Replies.{number-accepted, refuse-accepted}
+use Rattle.ends.proofs.Validity.{onu-in-range}
+use Rattle.traffic.specs.Passages.{misfit, isEnciphered, passed, passedCount, outputAfter}
+use Rattle.traffic.specs.Sends.{onuSentBy, onuSendOf}
+use Rattle.line.specs.Setting.{Site, Setting, clockUp}
+use Rattle.line.specs.History.{downward, upward, Envelope, Lane, keyOf, laneWith, sending, laneSentUp}
+use Rattle.line.specs.Run.{envelopeOf}
+use Rattle.line.specs.Claim.{SentRight}
+use Rattle.line.proofs.Invariant.{Clocks, Spent, Joined, Common}
+use Rattle.line.proofs.Queues.{Knows, towards-moved, from-moved, from-envelope}
+use Rattle.line.proofs.Past.{sent-carried, passing-sent}
+use Rattle.line.proofs.Frames.{common-moved}
+use Rattle.line.proofs.Envelopes.{each-more, ways-apart, passed-as, count-as, fits-alone, eqs-most}
+use Rattle.line.proofs.Spending.{Renewed, free-rises, spent-kept, spent-new, apart-new, spaced-more}
+use Rattle.line.proofs.SendChoices.{chosen-up}
+
+---- its header
+
+-- EPAM of a unit's clock, synced or not: LocalTime has the clock's low six bits
+pub epam-up : (first now captured : ℕ) (s : Site) (c : UnitClock) (o : OnuClock) → Clocks first now s captured c o
+    → epamOf (o .time) ≡ epamOf (clockUp first (s .up) now)
+epam-up first now captured s c o k = by-synced (eqb (o .synced) 1) refl where
+  by-synced : (t : Bool) → eqb (o .synced) 1 ≡ t → epamOf (o .time) ≡ epamOf (clockUp first (s .up) now)
+  by-synced true e = let a = k .synced (eqb-true _ _ e) in ap epamOf (a .tx)
+  by-synced false e =
+      let none : o .synced ≡ 0 = omega (arith, k .flag, eqb-false (o .synced) 1 e) in
+      let time = k .unsynced none in
+      omega (arith, time)
+
+-- the header of an envelope has no more of the clock than EPAM
+pub header-epam : (n index llid c d : ℕ) → epamOf c ≡ epamOf d → headerOf n index llid c ≡ headerOf n index llid d
+unfolding headerOf
+header-epam n index llid c d e = rw e
+
+---- its lane
+
+module _ (w : Setting) (sh : Shared) (now : ℕ) (l : Lane) (u : Unit) (o : Onu) (j : Joined w sh now l u o) where
+  -- an envelope that left the unit, and first send and channels after it
+  sent-up-joined : (f : FirstSend) (c : Channels) (e : Envelope) → e .number ≡ o .keys .active
+      → Renewed (o .first) f (o .keys .active) (e .number) now
+      → e .way ≡ upward → e .left ≡ now → upstream (e .index) ≡ true → has (l .site .identity) (e .llid) ≡ true
+      → lengthsFit (length (e .payload)) (length (e .payload)) ≡ true → SentRight w l e
+      → freeFrom (o .channels) (e .index) ≤ now → ((i : ℕ) → freeFrom (o .channels) i ≤ freeFrom c i) → now < freeFrom c (e .index)
+      → Joined w sh now (laneSentUp e l) u (withOnuChannels (withOnuFirst o f) c)
+  unfolding laneSentUp laneWith sending withOnuChannels withOnuFirst
+  sent-up-joined f c e number r way left up named fits right free rises after =
+      let n = j .numbers in
+      let m = laneSentUp e l in
+      let knows : (top : ℕ) → Knows l m top =
+      λ top. record { site = refl; sent = λ x i. Memᴰ·append-left (e ∷ []) i; keys = λ x p q. refl } in
+      record {
+        mac = j .mac;
+        llids = j .llids;
+        oltmac = j .oltmac;
+        numbers = j .numbers;
+        stored = j .stored;
+        timing = j .timing;
+        clocks = j .clocks;
+        answers = j .answers;
+        towards =
+            towards-moved (w .first) l m (o .keys .active) (u .keys .active) (u .keys .offered) (l .transit .towards) (knows (u .keys .offered))
+            (j .towards);
+        from =
+            from-envelope m (u .confirmation .confirmed) (o .keys .active) (l .transit .from) e (n .low)
+            (record {
+              above = omega (arith, number);
+              most = omega (arith, number);
+              sent = Memᴰ·append-right (l .past .sent) (List·Memᴰ·head refl);
+              thatWay = way;
+              named = named;
+            })
+            (from-moved l m 0 (u .confirmation .confirmed) (o .keys .active) (l .transit .from) (knows 0) (j .from));
+        spending =
+            record {
+              downs =
+                  each-more (λ (x : Envelope). x .way ≡ downward → (downstream (x .index) ≡ true) × Spent (sh .channels) (u .keys .first) (u .keys .active) x)
+                  (l .past .sent) e (j .spending .downs) (λ q. ways-apart (sym q ∙ way));
+              ups =
+                  each-more (λ (x : Envelope). x .way ≡ upward → (upstream (x .index) ≡ true) × Spent c f (o .keys .active) x) (l .past .sent) e
+                  (λ x i q.
+                  let was = j .spending .ups x i q in (
+                    was .0,
+                    rw (← number) (spent-kept (o .channels) c (o .first) f (o .keys .active) (e .number) now x r (rises (x .index)) (was .1)),
+                  ))
+                  (λ q. (up, rw (← number) (spent-new c (o .first) f (o .keys .active) (e .number) now e r refl left after)));
+              spaced =
+                  spaced-more (l .past .sent) e
+                  (λ x i.
+                  apart-new (o .channels) (o .first) f (o .keys .active) now x e r left free (λ q. j .spending .ups x i (q ∙ way) .1))
+                  (j .spending .spaced);
+            };
+        passing =
+            passing-sent w l m e (u .confirmation .confirmed) (o .keys .active) knows refl refl
+            (sent-carried w l m (e .number) (knows (e .number)) e (omega arith) right) named fits (j .passing);
+      }
+
+-- the envelope of a unit's send
+abbrev pub envelopeUp : Lane → ℕ → ℕ → ℕ → List ℕ → Sending → Envelope
+envelopeUp l now llid index p s =
+    envelopeOf upward now llid index p (s .header) (passed index (s .passage) p) (passedCount (s .passage) p) (l .keys .number)
+
+module _ (w : Setting) (sh : Shared) (now : ℕ) (l : Lane) (u : Unit) (o : Onu) (llid index : ℕ) (p out : List ℕ) where
+  sent-up-right : Common w now l o → Joined w sh now l u o
+      → SentRight w l (envelopeUp l now llid index p (sendingOf (onuSendChoice (o .keys)) (o .keys .slots) (o .identity .mac) (o .clock .time) index llid))
+  unfolding envelopeOf sendingOf passageOf
+  sent-up-right c j =
+      let h = chosen-up o (onu-in-range o (c .valid) .first) in
+      let n = j .numbers in
+      let passage = passageOf (onuSendChoice (o .keys)) (o .keys .slots) (o .identity .mac) (o .clock .time) in
+      let sealed : isEnciphered (onuSendChoice (o .keys)) ≡ leb 1 (l .keys .number) = h .enciphered ∙ ap (leb 1) (n .last) in
+      record {
+        header =
+            ap (λ (x : ℕ). headerOf x index llid (o .clock .time)) (h .chosen ∙ n .last)
+            ∙ header-epam (l .keys .number) index llid (o .clock .time) (clockUp (w .first) (l .site .up) now)
+            (epam-up (w .first) now (l .captured) (l .site) (u .clock) (o .clock) (j .clocks));
+        octets =
+            passed-as index passage (l .keys .number) (keyOf (l .keys) (l .keys .number)) _ p sealed
+            (λ some.
+            ap (λ (x : ℕ). keyFor x (o .keys .slots)) (h .chosen ∙ n .last)
+            ∙ key-for (l .keys .number) (o .keys .slots) some
+            ∙ j .stored .onu (l .keys .number) some (omega (arith, n .last)) (omega (arith, n .last)))
+            (λ some.
+            let a = j .clocks .synced (j .answers .keyed (omega (arith, n .last))) in
+            rw (c .mac, a .tx));
+        count = count-as passage (l .keys .number) p sealed;
+      }
+
+  -- the lane of the unit that sends
+  pub send-up-keeps : Common w now l o → Joined w sh now l u o → onuSendOf o llid index p out .answer .number ≡ 0
+      → Joined w sh now
+      (laneSentUp
+      (envelopeOf upward now llid index p (onuSendOf o llid index p out .answer .header) (onuSendOf o llid index p out .output)
+      (onuSendOf o llid index p out .answer .count) (l .keys .number))
+      l)
+      u (onuSendOf o llid index p out .answer .onu)
+  unfolding onuSendOf onuSentBy sendingOnu onuSent outputAfter envelopeOf
+  send-up-keeps c j a =
+      let eqs = eqsOf p in
+      let verdict = onuSendVerdict o (misfit p out) llid index in
+      let next = onuSent o index eqs in
+      let handed = sendingOf (onuSendChoice (o .keys)) (o .keys .slots) (o .identity .mac) (o .clock .time) index llid in
+      let accepts : verdict ≡ Accepted = onu-accepted o noSending verdict next handed (number-accepted _ a) .1 in
+      let met = onu-send-accepted o (misfit p out) llid index accepts in
+      let h = chosen-up o (onu-in-range o (c .valid) .first) in
+      let n = j .numbers in
+      let after = occupied (o .channels) index (o .tick) eqs in
+      let free : freeFrom (o .channels) index ≤ o .tick = taken-false (o .channels) index (o .tick) (met .free) in
+      let renewed : Renewed (o .first) (h .first) (o .keys .active) (l .keys .number) now =
+      subst (λ (x : ℕ). Renewed (o .first) (h .first) (o .keys .active) x now) (n .last)
+      (subst (λ (x : ℕ). Renewed (o .first) (h .first) (o .keys .active) (o .keys .active) x) (c .tick) (h .renewed (met .young))) in
+      let joined : Joined w sh now (laneSentUp (envelopeUp l now llid index p handed) l) u next =
+      subst (λ (x : Onu). Joined w sh now (laneSentUp (envelopeUp l now llid index p handed) l) u (withOnuChannels x after)) (sym (h .noted))
+      (sent-up-joined w sh now l u o j (h .first) after (envelopeUp l now llid index p handed) (sym (n .last)) renewed refl refl
+      (met .upstream) (sym (c .llids llid) ∙ met .has) (fits-alone p out (met .fits)) (sent-up-right c j) (omega (arith, free, c .tick))
+      (free-rises (o .channels) index (o .tick) eqs free)
+      (omega (arith, free-own (o .channels) index (o .tick) eqs, c .tick))) in
+      subst
+      (λ (x : Reply Onu Sending).
+      Joined w sh now
+      (laneSentUp
+      (envelopeOf upward now llid index p (onuSentBy x index p out .answer .header) (onuSentBy x index p out .output)
+      (onuSentBy x index p out .answer .count) (l .keys .number))
+      l)
+      u (onuSentBy x index p out .answer .onu))
+      (sym (onu-accepts o noSending verdict next handed (c .valid) accepts)) joined
+
+---- the unit itself
+
+sent-common : (w : Setting) (now : ℕ) (m : Lane) (o : Onu) (index eqs : ℕ) → Common w now m o → validOnu (onuSent o index eqs) ≡ true
+    → Common w now m (onuSent o index eqs)
+unfolding onuSent withOnuChannels withOnuFirst
+sent-common w now m o index eqs k v =
+    let h = chosen-up o (onu-in-range o (k .valid) .first) in
+    let is : onuSent o index eqs ≡ withOnuChannels (withOnuFirst o (h .first)) (occupied (o .channels) index (o .tick) eqs) =
+    ap (λ (x : Onu). withOnuChannels x (occupied (o .channels) index (o .tick) eqs)) (h .noted) in
+    subst (Common w now m) (sym is)
+    (record { valid = subst (λ (x : Onu). validOnu x ≡ true) is v; tick = k .tick; mac = k .mac; llids = k .llids; oltmac = k .oltmac })
+
+-- it stays valid, at its tick, and who it is
+pub send-common : (w : Setting) (now : ℕ) (l m : Lane) (o : Onu) (llid index : ℕ) (p out : List ℕ) → l .site ≡ m .site → Common w now l o
+    → Common w now m (onuSendOf o llid index p out .answer .onu)
+unfolding onuSendOf onuSentBy sendingOnu onuSendVerdict
+send-common w now l m o llid index p out s c =
+    let kept = common-moved w now l m o s c in
+    onu-keeps (Common w now m) o noSending _ _ _ kept
+    (λ v a. sent kept (onu-sent-valid o index (eqsOf p) (eqs-most p out (refuse-accepted _ _ _ a .0)) v)) where
+      sent : Common w now m o → validOnu (onuSent o index (eqsOf p)) ≡ true → Common w now m (onuSent o index (eqsOf p))
+      sent k v = sent-common w now m o index (eqsOf p) k v

@@ -1,0 +1,128 @@
+-- First sends and channels: what a send makes of them, that earlier sends stay spent, and that two sends under one number on one
+-- channel index are apart. Assumes nothing.
+use mathlib.Core.Path.{_≡_, refl, _∙_}
+use mathlib.Core.Bool.{Bool, true, false}
+use mathlib.Core.List.{List, [], _∷_, _++_, List·Memᴰ}
+use mathlib.Core.Logic.{⊎-elim}
+use Prim.Native.Nat.{ℕ, _+_, _<_, _≤_}
+use native.Mathlib.Omega.{arith}
+use lib.Dec.{ltb}
+use lib.ListN.{length, getD, length-append, List·getD-append}
+use lib.Seq.{getD-at}
+use borrow.Author.Tests.{leb-true, ltb-true, ltb-false, eqb-true, eqb-false}
+use Rattle.octets.specs.Choice.{pick}
+use Rattle.octets.proofs.Choice.{both-right}
+use Rattle.clock.specs.Ticks.{keyLife}
+use Rattle.ends.specs.Keys.{notedAt, firstSend, aged, validFirst}
+use Rattle.ends.specs.Occupancy.{onZero, freeFrom, occupied}
+use Rattle.ends.specs.Replies.{isUp}
+use Rattle.ends.specs.declared.Channels.{Channels}
+use Rattle.ends.specs.declared.FirstSend.{FirstSend}
+use Rattle.ends.proofs.Keys.{aged-false, first-stays, first-noted}
+use Rattle.ends.proofs.Tests.{either-cases}
+use Rattle.line.specs.History.{Envelope}
+use Rattle.line.specs.Run.{noEnvelope}
+use Rattle.line.proofs.Invariant.{Spent, Spaced}
+use Rattle.line.proofs.Envelopes.{mem-at}
+
+---- first sends
+
+-- what a send under number at the tick now makes of the first send under current
+pub record Renewed (first next : FirstSend) (current number now : ℕ) : Type 0 where
+  pub most : current ≤ number
+  pub new : 1 ≤ number → (next .noted ≡ 1) × (next .tick ≤ now)
+  pub old : 1 ≤ number → number ≡ current → first .noted ≡ 1 → (next ≡ first) × (now < first .tick + keyLife)
+
+-- a send under the key in use, which is not too old
+pub renewed-current : (f : FirstSend) (n now : ℕ) → validFirst f now ≡ true → aged f now ≡ false → Renewed f (firstSend f now) n n now
+unfolding validFirst
+renewed-current f n now v a = by-noted (isUp (f .noted)) refl where
+  by-noted : (t : Bool) → isUp (f .noted) ≡ t → Renewed f (firstSend f now) n n now
+  by-noted true e =
+      let one : f .noted ≡ 1 = eqb-true (f .noted) 1 e in
+      let late : f .tick ≤ now =
+      ⊎-elim (λ z. absurd (omega (arith, eqb-true (f .noted) 0 z))) (λ z. leb-true (f .tick) now z) (either-cases _ _ (both-right _ _ v)) in
+      rw (first-stays f now one)
+      (record { most = omega arith; new = λ h. (one, late); old = λ p h g. (refl, aged-false f now one a) })
+  by-noted false e =
+      let none : f .noted ≡ 1 → ⊥ = eqb-false (f .noted) 1 e in
+      rw (first-noted f now none)
+      (record { most = omega arith; new = λ h. (refl, omega arith); old = λ p h g. absurd (none g) })
+
+-- a send under a new key
+pub renewed-next : (f : FirstSend) (current number now : ℕ) → current < number → Renewed f (notedAt now) current number now
+renewed-next f current number now h =
+    record { most = omega arith; new = λ g. (refl, omega arith); old = λ p e g. absurd (omega arith) }
+
+-- a clear send
+pub renewed-clear : (f : FirstSend) (now : ℕ) → Renewed f f 0 0 now
+renewed-clear f now = record { most = omega arith; new = λ g. absurd (omega arith); old = λ p e g. absurd (omega arith) }
+
+---- channels
+
+-- a channel that was free is free from later on
+pub free-rises : (c : Channels) (index tick eqs : ℕ) → freeFrom c index ≤ tick → (i : ℕ) → freeFrom c i ≤ freeFrom (occupied c index tick eqs) i
+unfolding freeFrom occupied pick
+free-rises c index tick eqs h i = by-channel (onZero i) (onZero index) refl refl where
+  by-channel : (t u : Bool) → onZero i ≡ t → onZero index ≡ u
+      → pick t (c .zero) (c .one) ≤ pick t (pick u (tick + eqs + 1) (c .zero)) (pick u (c .one) (tick + eqs + 1))
+  by-channel true true e f = let g : c .zero ≤ tick = rw f at h in omega arith
+  by-channel true false e f = omega arith
+  by-channel false true e f = omega arith
+  by-channel false false e f = let g : c .one ≤ tick = rw f at h in omega arith
+
+---- sends that are spent
+
+-- earlier sends of that way
+pub spent-kept : (c d : Channels) (first next : FirstSend) (current number now : ℕ) (e : Envelope) → Renewed first next current number now
+    → freeFrom c (e .index) ≤ freeFrom d (e .index) → Spent c first current e → Spent d next number e
+spent-kept c d first next current number now e r h s =
+    record {
+      most = omega (arith, s .most, r .most);
+      passed = omega (arith, s .passed);
+      noted = λ p q.
+          let same : number ≡ current = omega (arith, s .most, r .most) in
+          let was = s .noted p (q ∙ same) in
+          rw (r .old (omega arith) same (was .0) .0) was;
+    }
+
+-- the send itself
+pub spent-new : (d : Channels) (first next : FirstSend) (current number now : ℕ) (e : Envelope) → Renewed first next current number now
+    → e .number ≡ number → e .left ≡ now → now < freeFrom d (e .index) → Spent d next number e
+spent-new d first next current number now e r n t h =
+    record { most = omega arith; passed = omega arith; noted = λ p q. rw t (r .new (omega arith)) }
+
+---- sends under one number on one channel index
+
+abbrev Apart : Envelope → Envelope → Type 0
+Apart x y =
+    x .way ≡ y .way → 1 ≤ x .number → x .number ≡ y .number → x .index ≡ y .index
+    → (x .left < y .left) × (y .left < x .left + keyLife)
+
+-- the channel was free, and the key not too old
+pub apart-new : (c : Channels) (first next : FirstSend) (current now : ℕ) (x e : Envelope) → Renewed first next current (e .number) now
+    → e .left ≡ now → freeFrom c (e .index) ≤ now → (x .way ≡ e .way → Spent c first current x) → Apart x e
+apart-new c first next current now x e r t h spent way p n i =
+    let s = spent way in
+    let same : e .number ≡ current = omega (arith, s .most, r .most) in
+    let was = s .noted p (n ∙ same) in
+    let young = r .old (omega arith) same (was .0) .1 in
+    let before : x .left < freeFrom c (e .index) = rw i at (s .passed) in
+    (omega (arith, before, h, t), omega (arith, young, was .1, t))
+
+pub spaced-more : (sent : List Envelope) (e : Envelope) → ((x : Envelope) → List·Memᴰ x sent → Apart x e) → Spaced sent → Spaced (sent ++ (e ∷ []))
+spaced-more sent e new s = record { apart = apart } where
+  apart : (i j : ℕ) → i < j → j < length (sent ++ (e ∷ [])) → Apart (getD (sent ++ (e ∷ [])) i noEnvelope) (getD (sent ++ (e ∷ [])) j noEnvelope)
+  apart i j h g = by-place (ltb j (length sent)) refl where
+    within : j < length sent + 1
+    within = rw (length-append sent (e ∷ [])) at g
+
+    by-place : (t : Bool) → ltb j (length sent) ≡ t → Apart (getD (sent ++ (e ∷ [])) i noEnvelope) (getD (sent ++ (e ∷ [])) j noEnvelope)
+    by-place true q =
+        let l = ltb-true j (length sent) q in
+        rw (List·getD-append sent (e ∷ []) noEnvelope j l, List·getD-append sent (e ∷ []) noEnvelope i (omega arith)) (s .apart i j h l)
+    by-place false q =
+        let l = ltb-false j (length sent) q in
+        let last : length sent ≡ j = omega (arith, within) in
+        rw (getD-at sent e [] noEnvelope j last, List·getD-append sent (e ∷ []) noEnvelope i (omega (arith, within)))
+        (new (getD sent i noEnvelope) (mem-at sent i noEnvelope (omega (arith, within))))

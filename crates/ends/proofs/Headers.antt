@@ -55,6 +55,11 @@ pub aged-current : (n : ℕ) (f : FirstSend) (tick : ℕ) → choiceAged (Curren
 unfolding choiceAged
 aged-current n f tick = refl
 
+-- of the clock a header has no more than EPAM
+pub header-epam : (n index llid c d : ℕ) → epamOf c ≡ epamOf d → headerOf n index llid c ≡ headerOf n index llid d
+unfolding headerOf
+header-epam n index llid c d e = rw e
+
 pub header-index : (n index llid clock : ℕ) → headerOf n index llid clock .enckey ≡ n % 2
 unfolding headerOf
 header-index n index llid clock = refl

@@ -25,7 +25,8 @@ use Rattle.ends.proofs.Tests.{not-of-true}
 use Rattle.ends.proofs.Replies.{refuse-accepted, refuse-passed, Untouched}
 use Rattle.ends.proofs.Table.{Beside}
 use Rattle.ends.proofs.Lift.{Lifted, lift-accepts, lift-accepted, lift-untouched, lift-valid, lift-beside}
-use Rattle.ends.proofs.UnitTraffic.{send-keeps, receive-keeps, Sends, send-accepted, Receives, receive-accepted, receive-accepts}
+use Rattle.ends.proofs.UnitTraffic.{send-keeps, receive-keeps}
+use Rattle.ends.proofs.UnitChoices.{Sends, send-accepted, Receives, receive-accepted, receive-accepts}
 
 -- a payload whose length is not refused has at most the most EQs
 pub sending-valid : (o : Olt) (misfit : Bool) (llid index eqs : ℕ) → (misfit ≡ false → eqs ≤ maxEqs) → validOlt o ≡ true

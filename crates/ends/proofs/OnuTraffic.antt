@@ -1,36 +1,30 @@
--- Send and receive of the ONU: they keep it valid, and which key they choose when. Assumes nothing.
-use mathlib.Core.Path.{_≡_, refl, sym, _∙_, ap}
+-- Send and receive of the ONU keep it valid, and leave it where they are refused. Assumes nothing.
+use mathlib.Core.Path.{_≡_, refl, sym, _∙_}
 use mathlib.Core.Bool.{Bool, true, false}
-use Prim.Native.Nat.{ℕ, _+_, _%_, _≤_}
+use Prim.Native.Nat.{ℕ, _≤_}
 use native.Mathlib.Omega.{arith}
-use lib.Dec.{leb, eqb}
-use borrow.Author.Tests.{leb-true, eqb-true, eqb-false, le-leb, eq-eqb, ne-eqb, not-false}
-use Rattle.octets.specs.Choice.{both, either}
-use Rattle.octets.proofs.Choice.{both-left, both-right, both-true, pick-true, pick-false}
+use Rattle.octets.specs.Choice.{either}
+use Rattle.octets.proofs.Choice.{both-true}
 use Rattle.refusal.specs.declared.Refusal.{Refusal}
-use Rattle.refusal.specs.declared.Refusal.the-variants.{OutOfRange, UnknownLlid, ClockNotSet, NoKey, EpamDiffers, ClearEnvelope, BadLength}
 use Rattle.refusal.specs.declared.Verdict.the-variants.{Accepted, Refused}
-use Rattle.clock.specs.Ticks.{epamOf}
 use Rattle.ends.specs.Limits.{maxEqs}
-use Rattle.ends.specs.Replies.{isUp}
-use Rattle.ends.specs.Occupancy.{downstream, upstream, taken}
+use Rattle.ends.specs.Occupancy.{upstream}
 use Rattle.ends.specs.Identities.{has}
 use Rattle.ends.specs.Records.{withOnuKeys, withOnuFirst, withOnuChannels}
 use Rattle.ends.specs.Validity.{validOnuKeys, validOnu}
-use Rattle.ends.specs.Headers.{validHeader, choiceVerdict, choiceAged, noPassage, noSending, choiceNumber, headerOf}
+use Rattle.ends.specs.Headers.{noPassage, noSending}
 use Rattle.ends.specs.OnuTraffic.{onuSendChoice, onuSendVerdict, onuNoted, onuSent, sendingOnu, onuReceiveChoice, onuReceiveVerdict, onuMoved, onuReceived, receivingOnu}
-use Rattle.ends.specs.declared.OnuKeys.{OnuKeys}
 use Rattle.ends.specs.declared.Onu.{Onu}
 use Rattle.ends.specs.declared.Header.{Header}
 use Rattle.ends.specs.declared.KeyChoice.{KeyChoice}
 use Rattle.ends.specs.declared.KeyChoice.the-variants.{Clear, Current, Next, Barred}
-use Rattle.ends.proofs.Tests.{not-of-true, both-false-right, both-false-then, then-both-false, true-false}
-use Rattle.ends.proofs.Replies.{refuse-accepted, refuse-passed, Untouched, refused-accepts, not-accepted}
-use Rattle.ends.proofs.Keys.{first-send-valid, first-none-valid, InLife, send-in-life}
+use Rattle.ends.proofs.Tests.{true-false}
+use Rattle.ends.proofs.Replies.{refuse-accepted, Untouched, not-accepted}
+use Rattle.ends.proofs.Keys.{first-send-valid, first-none-valid}
 use Rattle.ends.proofs.Occupancy.{occupied-valid, downstream-below, upstream-between}
 use Rattle.ends.proofs.Validity.{onu-in-range, onu-valid}
 use Rattle.ends.proofs.OnuCalls.{onu-untouched, onu-keeps, onu-accepted}
-use Rattle.ends.proofs.Headers.{header-clear, header-sealed, header-index, Under, under-clear, under-current, under-next}
+use Rattle.ends.proofs.OnuChoices.{onu-receive-accepted}
 
 ---- validity
 
@@ -115,195 +109,6 @@ pub receiving-onu-untouched : (o : Onu) (misfit : Bool) (h : Header) (r : Refusa
     → Untouched o noPassage (receivingOnu o misfit h)
 unfolding receivingOnu
 receiving-onu-untouched o misfit h r e = onu-untouched o noPassage _ _ _ r e
-
----- which key a send goes under
-
--- key a, clear while a = 0
-pub data OnuSendCase (k : OnuKeys) : Type 0 where
-  onuPlain : onuSendChoice k ≡ Clear → k .active ≡ 0 → OnuSendCase k
-  onuSealed : onuSendChoice k ≡ Current (k .active) → 1 ≤ k .active → OnuSendCase k
-
-pub onu-send-case : (k : OnuKeys) → OnuSendCase k
-unfolding onuSendChoice
-onu-send-case k = by-active (eqb (k .active) 0) refl where
-  by-active : (t : Bool) → eqb (k .active) 0 ≡ t → OnuSendCase k
-  by-active true e = onuPlain (pick-true _ _ e) (eqb-true _ _ e)
-  by-active false e = onuSealed (pick-false _ _ e) (omega (arith, eqb-false (k .active) 0 e))
-
-pub record OnuSends (o : Onu) (misfit : Bool) (llid index : ℕ) : Type 0 where
-  pub fits : misfit ≡ false
-  pub upstream : upstream index ≡ true
-  pub has : has (o .identity) llid ≡ true
-  pub free : taken (o .channels) index (o .tick) ≡ false
-  pub young : choiceAged (onuSendChoice (o .keys)) (o .first) (o .tick) ≡ false
-
-pub onu-send-accepted : (o : Onu) (misfit : Bool) (llid index : ℕ) → onuSendVerdict o misfit llid index ≡ Accepted → OnuSends o misfit llid index
-unfolding onuSendVerdict
-onu-send-accepted o misfit llid index e =
-    let a = refuse-accepted _ _ _ e in
-    let b = refuse-accepted _ _ _ (a .1) in
-    let c = refuse-accepted _ _ _ (b .1) in
-    let d = refuse-accepted _ _ _ (c .1) in
-    record {
-      fits = a .0;
-      upstream = not-false _ (b .0);
-      has = not-false _ (c .0);
-      free = d .0;
-      young = refuse-accepted _ _ _ (d .1) .0;
-    }
-
----- which key a receipt goes under
-
--- clear while a = 0; index a mod 2 with a ≥ 1: key a; the other index: key a + 1 if held
-pub data OnuReceiveCase (k : OnuKeys) (h : Header) : Type 0 where
-  onuClear : onuReceiveChoice k h ≡ Clear → h .encenabled ≡ 0 → k .active ≡ 0 → OnuReceiveCase k h
-  onuLate : onuReceiveChoice k h ≡ Barred ClearEnvelope → h .encenabled ≡ 0 → 1 ≤ k .active → OnuReceiveCase k h
-  onuCurrent : onuReceiveChoice k h ≡ Current (k .active) → (h .encenabled ≡ 0 → ⊥) → 1 ≤ k .active → h .enckey ≡ k .active % 2
-      → OnuReceiveCase k h
-  onuNext : onuReceiveChoice k h ≡ Next (k .active + 1) → (h .encenabled ≡ 0 → ⊥) → k .held ≡ 1 → h .enckey ≡ (k .active + 1) % 2
-      → OnuReceiveCase k h
-  onuUnknown : onuReceiveChoice k h ≡ Barred NoKey → (h .encenabled ≡ 0 → ⊥) → OnuReceiveCase k h
-
-pub onu-receive-case : (k : OnuKeys) (h : Header) → OnuReceiveCase k h
-unfolding onuReceiveChoice
-onu-receive-case k h = by-clear (eqb (h .encenabled) 0) refl where
-  by-active : eqb (h .encenabled) 0 ≡ true → (t : Bool) → eqb (k .active) 0 ≡ t → OnuReceiveCase k h
-  by-active e true f = onuClear (pick-true _ _ e ∙ pick-true _ _ f) (eqb-true _ _ e) (eqb-true _ _ f)
-  by-active e false f = onuLate (pick-true _ _ e ∙ pick-false _ _ f) (eqb-true _ _ e) (omega (arith, eqb-false (k .active) 0 f))
-
-  by-next : eqb (h .encenabled) 0 ≡ false → both (leb 1 (k .active)) (eqb (h .enckey) (k .active % 2)) ≡ false
-      → (t : Bool) → both (isUp (k .held)) (eqb (h .enckey) ((k .active + 1) % 2)) ≡ t → OnuReceiveCase k h
-  by-next e f true g =
-      onuNext (pick-false _ _ e ∙ pick-false _ _ f ∙ pick-true _ _ g) (eqb-false _ _ e) (eqb-true _ _ (both-left _ _ g)) (eqb-true _ _ (both-right _ _ g))
-  by-next e f false g = onuUnknown (pick-false _ _ e ∙ pick-false _ _ f ∙ pick-false _ _ g) (eqb-false _ _ e)
-
-  by-current : eqb (h .encenabled) 0 ≡ false → (t : Bool) → both (leb 1 (k .active)) (eqb (h .enckey) (k .active % 2)) ≡ t → OnuReceiveCase k h
-  by-current e true f =
-      onuCurrent (pick-false _ _ e ∙ pick-true _ _ f) (eqb-false _ _ e) (leb-true _ _ (both-left _ _ f)) (eqb-true _ _ (both-right _ _ f))
-  by-current e false f = by-next e f (both (isUp (k .held)) (eqb (h .enckey) ((k .active + 1) % 2))) refl
-
-  by-clear : (t : Bool) → eqb (h .encenabled) 0 ≡ t → OnuReceiveCase k h
-  by-clear true e = by-active e (eqb (k .active) 0) refl
-  by-clear false e = by-current e (both (leb 1 (k .active)) (eqb (h .enckey) (k .active % 2))) refl
-
--- an envelope's header by its number: 0 is clear, a is the key in use, and the held a + 1 comes into use
-pub onu-receive-clear : (k : OnuKeys) (h : Header) → h .encenabled ≡ 0 → k .active ≡ 0 → onuReceiveChoice k h ≡ Clear
-unfolding onuReceiveChoice
-onu-receive-clear k h e c = pick-true _ _ (eq-eqb _ _ e) ∙ pick-true _ _ (eq-eqb _ _ c)
-
-pub onu-receive-current : (k : OnuKeys) (h : Header) (n : ℕ) → h .encenabled ≡ 1 → h .enckey ≡ n % 2 → 1 ≤ n → n ≡ k .active
-    → onuReceiveChoice k h ≡ Current n
-unfolding onuReceiveChoice
-onu-receive-current k h n e f p c =
-    pick-false _ _ (ne-eqb (h .encenabled) 0 (λ z. omega arith))
-    ∙ pick-true _ _ (both-true (le-leb 1 (k .active) (omega arith)) (eq-eqb _ _ (f ∙ ap (λ (x : ℕ). x % 2) c)))
-    ∙ ap Current (sym c)
-
-pub onu-receive-next : (k : OnuKeys) (h : Header) (n : ℕ) → h .encenabled ≡ 1 → h .enckey ≡ n % 2 → k .held ≡ 1 → n ≡ k .active + 1
-    → onuReceiveChoice k h ≡ Next n
-unfolding onuReceiveChoice
-onu-receive-next k h n e f p c =
-    pick-false _ _ (ne-eqb (h .encenabled) 0 (λ z. omega arith))
-    ∙ pick-false _ _ (both-false-right _ (ne-eqb (h .enckey) (k .active % 2) (λ z. omega arith)))
-    ∙ pick-true _ _ (both-true (eq-eqb _ _ p) (eq-eqb _ _ (f ∙ ap (λ (x : ℕ). x % 2) c)))
-    ∙ ap Next (sym c)
-
-pub record OnuReceives (o : Onu) (misfit : Bool) (h : Header) : Type 0 where
-  pub fits : misfit ≡ false
-  pub downstream : downstream (h .index) ≡ true
-  pub header : validHeader h ≡ true
-  pub has : has (o .identity) (h .llid) ≡ true
-  pub epam : o .clock .synced ≡ 1 → h .epam ≡ epamOf (o .clock .rx)
-  pub synced : h .encenabled ≡ 1 → o .clock .synced ≡ 1
-  pub choice : choiceVerdict (onuReceiveChoice (o .keys) h) ≡ Accepted
-
-pub onu-receive-accepted : (o : Onu) (misfit : Bool) (h : Header) → onuReceiveVerdict o misfit h ≡ Accepted → OnuReceives o misfit h
-unfolding onuReceiveVerdict
-onu-receive-accepted o misfit h e =
-    let a = refuse-accepted _ _ _ e in
-    let b = refuse-accepted _ _ _ (a .1) in
-    let v = not-false _ (b .0) in
-    let c = refuse-accepted _ _ _ (b .1) in
-    let d = refuse-accepted _ _ _ (c .1) in
-    let f = refuse-accepted _ _ _ (d .1) in
-    record {
-      fits = a .0;
-      downstream = both-left _ _ v;
-      header = both-right _ _ v;
-      has = not-false _ (c .0);
-      epam = λ s. eqb-true _ _ (not-false _ (both-false-then _ _ (d .0) (eq-eqb _ _ s)));
-      synced = λ s. eqb-true _ _ (not-false _ (both-false-then _ _ (f .0) (eq-eqb _ _ s)));
-      choice = f .1;
-    }
-
-pub onu-receive-accepts : (o : Onu) (misfit : Bool) (h : Header) → OnuReceives o misfit h → onuReceiveVerdict o misfit h ≡ Accepted
-unfolding onuReceiveVerdict
-onu-receive-accepts o misfit h r =
-    refuse-passed _ BadLength _ (r .fits)
-    ∙ refuse-passed _ OutOfRange _ (not-of-true (both-true (r .downstream) (r .header)))
-    ∙ refuse-passed _ UnknownLlid _ (not-of-true (r .has))
-    ∙ refuse-passed _ EpamDiffers _ (then-both-false _ _ (λ s. not-of-true (eq-eqb _ _ (r .epam (eqb-true _ _ s)))))
-    ∙ refuse-passed _ ClockNotSet _ (then-both-false _ _ (λ s. not-of-true (eq-eqb _ _ (r .synced (eqb-true _ _ s)))))
-    ∙ r .choice
-
----- numbers
-
--- an envelope from a unit has the number a
-pub onu-sent-number : (k : OnuKeys) → choiceNumber (onuSendChoice k) ≡ k .active
-unfolding choiceNumber
-onu-sent-number k = by-case (onu-send-case k) where
-  by-case : OnuSendCase k → choiceNumber (onuSendChoice k) ≡ k .active
-  by-case (onuPlain e a) = rw e (sym a)
-  by-case (onuSealed e a) = rw e
-
--- sealed, it is sent within its key's life, whose first send is noted
-pub onu-sent-in-life : (o : Onu) (misfit : Bool) (llid index eqs : ℕ) → validOnu o ≡ true → onuSendVerdict o misfit llid index ≡ Accepted
-    → 1 ≤ o .keys .active → InLife (onuSent o index eqs .first) (o .tick)
-unfolding onuSent onuNoted withOnuChannels withOnuFirst choiceAged
-onu-sent-in-life o misfit llid index eqs v a n = by-case (onu-send-case (o .keys)) (onu-send-accepted o misfit llid index a .young) where
-  of : KeyChoice → Type 0
-  of c = choiceAged c (o .first) (o .tick) ≡ false → InLife (onuNoted c o .first) (o .tick)
-
-  by-case : OnuSendCase (o .keys) → of (onuSendChoice (o .keys))
-  by-case (onuPlain e z) = absurd (omega arith)
-  by-case (onuSealed e z) = rw e (λ y. send-in-life (o .first) (o .tick) (onu-in-range o v .first) y)
-
--- an envelope to a unit has the number that a is after it
-pub onu-received-number : (o : Onu) (h : Header) → choiceVerdict (onuReceiveChoice (o .keys) h) ≡ Accepted
-    → choiceNumber (onuReceiveChoice (o .keys) h) ≡ onuReceived (onuReceiveChoice (o .keys) h) o .keys .active
-unfolding choiceVerdict choiceNumber onuReceived onuMoved withOnuFirst withOnuKeys
-onu-received-number o h a = by-case (onu-receive-case (o .keys) h) a where
-  of : KeyChoice → Type 0
-  of c = choiceVerdict c ≡ Accepted → choiceNumber c ≡ onuReceived c o .keys .active
-
-  by-case : OnuReceiveCase (o .keys) h → of (onuReceiveChoice (o .keys) h)
-  by-case (onuClear e p q) = rw e (λ v. sym q)
-  by-case (onuLate e p q) = rw e (λ v. refused-accepts ClearEnvelope v)
-  by-case (onuCurrent e p q k) = rw e (λ v. refl)
-  by-case (onuNext e p q k) = rw e (λ v. refl)
-  by-case (onuUnknown e p) = rw e (λ v. refused-accepts NoKey v)
-
--- an envelope numbered n, a or the held a + 1, is taken as n
-pub onu-receive-numbered : (k : OnuKeys) (n index llid clock : ℕ) → k .active ≤ n → n ≤ k .active + k .held → k .held ≤ 1
-    → Under n (onuReceiveChoice k (headerOf n index llid clock))
-onu-receive-numbered k n index llid clock a b c = by-clear (eqb n 0) refl where
-  h : Header
-  h = headerOf n index llid clock
-
-  by-active : 1 ≤ n → (t : Bool) → eqb n (k .active) ≡ t → Under n (onuReceiveChoice k h)
-  by-active p true e =
-      rw (onu-receive-current k h n (header-sealed n index llid clock p) (header-index n index llid clock) p (eqb-true _ _ e)) (under-current n)
-  by-active p false e =
-      let d = eqb-false n (k .active) e in
-      let held : k .held ≡ 1 = omega arith in
-      let next : n ≡ k .active + 1 = omega arith in
-      rw (onu-receive-next k h n (header-sealed n index llid clock p) (header-index n index llid clock) held next) (under-next n)
-
-  by-clear : (t : Bool) → eqb n 0 ≡ t → Under n (onuReceiveChoice k h)
-  by-clear true e =
-      let z : n ≡ 0 = eqb-true _ _ e in
-      rw (onu-receive-clear k h (header-clear n index llid clock z) (omega arith), z) under-clear
-  by-clear false e = by-active (omega (arith, eqb-false n 0 e)) (eqb n (k .active)) refl
 
 ---- overheard envelopes
 

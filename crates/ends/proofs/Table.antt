@@ -97,10 +97,14 @@ one-place o llid i j d r q =
     let e : At i ≡ At j = sym (find-own o llid i d r) ∙ find-own o llid j d q in
     cc
 
-from-nowhere : (k : ℕ) (us : List Unit) (llid : ℕ) → findFrom k us llid ≡ Nowhere → among llid (tableLlids us) ≡ false
+-- an LLID that is found is one of the table's, and one that is found nowhere is not
+pub among-found : (k : ℕ) (us : List Unit) (llid i : ℕ) → findFrom k us llid ≡ At i → among llid (tableLlids us) ≡ true
+among-found k us llid i e = let m = from-at k us llid i e in table-among us llid (i - k) (omega (arith, m .low, m .high)) (m .has)
+
+pub among-nowhere : (k : ℕ) (us : List Unit) (llid : ℕ) → findFrom k us llid ≡ Nowhere → among llid (tableLlids us) ≡ false
 unfolding findFrom pick tableLlids has among
-from-nowhere k [] llid e = refl
-from-nowhere k (u ∷ us) llid e = by-head (has (u .identity) llid) refl (from-nowhere (suc k) us llid) e where
+among-nowhere k [] llid e = refl
+among-nowhere k (u ∷ us) llid e = by-head (has (u .identity) llid) refl (among-nowhere (suc k) us llid) e where
   by-head : (t : Bool) → has (u .identity) llid ≡ t → (findFrom (suc k) us llid ≡ Nowhere → among llid (tableLlids us) ≡ false)
       → pick t (At k) (findFrom (suc k) us llid) ≡ Nowhere → among llid (llidsOf (u .identity) ++ tableLlids us) ≡ false
   by-head true h more f = let z : _≡_ {A = ℕ} 0 1 = cc in absurd (omega arith)
@@ -116,7 +120,7 @@ from-absent k (u ∷ us) llid e =
 -- an LLID is found nowhere just where no unit has it
 pub find-nowhere : (o : Olt) (llid : ℕ) → find o llid ≡ Nowhere → among llid (tableLlids (registered o)) ≡ false
 unfolding find
-find-nowhere o llid e = from-nowhere 0 (registered o) llid e
+find-nowhere o llid e = among-nowhere 0 (registered o) llid e
 
 pub find-absent : (o : Olt) (llid : ℕ) → among llid (tableLlids (registered o)) ≡ false → find o llid ≡ Nowhere
 unfolding find

@@ -10,7 +10,7 @@ use lib.Dec.{leb, eqb}
 use borrow.Author.Tests.{leb-true, leb-false, ltb-false, eqb-true, eqb-false, le-leb, not-false}
 use Rattle.octets.specs.Choice.{both, pick}
 use Rattle.octets.specs.Lists.{same}
-use Rattle.octets.proofs.Choice.{both-left, both-right, either-false}
+use Rattle.octets.proofs.Choice.{both-left, both-right, either-false, pick-false}
 use Rattle.refusal.specs.declared.Refusal.the-variants.{NothingOutstanding}
 use Rattle.refusal.specs.declared.Verdict.the-variants.{Accepted, Refused}
 use Rattle.clock.specs.Ticks.{ticksPerSecond, clockTurn, rewound}
@@ -233,6 +233,21 @@ key-acknowledged-keeps number =
           });
       channels = λ s u v. stay s v;
     }
+
+---- acknowledgements by kind
+
+pub key-kind : (a : Acknowledgement) (s : Shared) (u : Unit) → a .kind ≡ keyKind → acknowledgeUnit a s u ≡ keyAcknowledgedUnit (a .number) s u
+unfolding acknowledgeUnit pick
+key-kind a s u e = rw e
+
+pub clock-kind : (a : Acknowledgement) (s : Shared) (u : Unit) → a .kind ≡ clockKind → acknowledgeUnit a s u ≡ clockAcknowledgedUnit s u
+unfolding acknowledgeUnit pick
+clock-kind a s u e = rw e
+
+pub no-kind : (a : Acknowledgement) (s : Shared) (u : Unit) → eqb (a .kind) clockKind ≡ false → eqb (a .kind) keyKind ≡ false
+    → acknowledgeUnit a s u ≡ outcome s (Refused NothingOutstanding) u none
+unfolding acknowledgeUnit
+no-kind a s u e f = pick-false _ _ e ∙ pick-false _ _ f
 
 -- an acknowledgement of either kind, or of neither
 chosen : Acknowledgement → Bool → Bool → Shared → Unit → Outcome None

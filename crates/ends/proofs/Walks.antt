@@ -18,7 +18,6 @@ use Rattle.ends.specs.Identities.{among, distinct, has, llidsOf, meets, 
 use Rattle.ends.specs.Table.{all, findFrom, pastUnit, tableLlids}
 use Rattle.ends.specs.Validity.{validUnit}
 use Rattle.ends.specs.declared.Unit.{Unit}
-use Rattle.ends.specs.declared.Found.{Found}
 use Rattle.ends.specs.declared.Found.the-variants.{At, Nowhere}
 
 ---- along what is tabulated
@@ -190,36 +189,6 @@ grow n j a p f h e =
     let t : tabulate 0 (suc j) f ≡ tabulate 0 j f ++ (f j ∷ []) =
     sym (append-nil (tabulate 0 (suc j) f)) ∙ rw zero-add at (tabulate-suc 0 j f []) in
     rw (s, take-suc-set a (n + j) (f j) h, add-one, t, e, append-assoc)
-
-among-append : (x : ℕ) (a b : List ℕ) → among x (a ++ b) ≡ either (among x a) (among x b)
-unfolding among either
-among-append x [] b = refl
-among-append x (y ∷ a) b = by-case (eqb y x) (among-append x a b) where
-  by-case : (t : Bool) → among x (a ++ b) ≡ either (among x a) (among x b)
-      → either t (among x (a ++ b)) ≡ either (either t (among x a)) (among x b)
-  by-case true e = refl
-  by-case false e = e
-
--- a unit is found where the LLID is one of the table's
-pub among-found : (i : ℕ) (l : List Unit) (llid k : ℕ) → findFrom i l llid ≡ At k → among llid (tableLlids l) ≡ true
-unfolding findFrom tableLlids has pick either
-among-found i [] llid k e = cc
-among-found i (u ∷ us) llid k e =
-    among-append llid (llidsOf (u .identity)) (tableLlids us) ∙ by-case (among llid (llidsOf (u .identity))) e (among-found (suc i) us llid k) where
-      by-case : (t : Bool) → pick t (At i) (findFrom (suc i) us llid) ≡ At k → (findFrom (suc i) us llid ≡ At k → among llid (tableLlids us) ≡ true)
-          → either t (among llid (tableLlids us)) ≡ true
-      by-case true q more = refl
-      by-case false q more = more q
-
-pub among-nowhere : (i : ℕ) (l : List Unit) (llid : ℕ) → findFrom i l llid ≡ Nowhere → among llid (tableLlids l) ≡ false
-unfolding findFrom tableLlids has pick either
-among-nowhere i [] llid e = among-nil llid
-among-nowhere i (u ∷ us) llid e =
-    among-append llid (llidsOf (u .identity)) (tableLlids us) ∙ by-case (among llid (llidsOf (u .identity))) e (among-nowhere (suc i) us llid) where
-      by-case : (t : Bool) → pick t (At i) (findFrom (suc i) us llid) ≡ Nowhere → (findFrom (suc i) us llid ≡ Nowhere → among llid (tableLlids us) ≡ false)
-          → either t (among llid (tableLlids us)) ≡ false
-      by-case true q more = cc
-      by-case false q more = more q
 
 pub meets-hit : (l : List ℕ) (j n : ℕ) (f : ℕ → ℕ) → j < n → among (f j) l ≡ true → meets (tabulate j (n - j) f) l ≡ true
 unfolding meets either

@@ -135,7 +135,12 @@ pub struct KeyMessage {
     pub key: [u8; 16],
 }
 
-// What a unit answers: kind 1 to a clock message, kind 2 to a key message, with the key's number. Kind 0 is none.
+// The kinds of acknowledgements: of a clock message, and of a key message.
+pub const CLOCK_KIND: u8 = 1;
+
+pub const KEY_KIND: u8 = 2;
+
+// What a unit answers: its kind, with the key's number to a key message. Kind 0 is none.
 #[repr(C)]
 pub struct Acknowledgement {
     pub kind: u8,

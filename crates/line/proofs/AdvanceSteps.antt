@@ -33,8 +33,10 @@ use Rattle.ends.specs.declared.UnitClock.{UnitClock}
 use Rattle.ends.proofs.Lists.{length-first, getD-first}
 use Rattle.ends.proofs.Replies.{number-accepted, advance-accepted, advance-accepts}
 use Rattle.ends.proofs.Validity.{olt-in-range}
-use Rattle.ends.proofs.OltCalls.{olt-advanced-valid, advancing-accepted, advancing-accepts, advance-olt-refused}
-use Rattle.ends.proofs.OnuCalls.{onu-accepted, onu-accepts, onu-advanced-valid, advance-onu-refused}
+use Rattle.ends.proofs.OltCalls.{advance-olt-refused}
+use Rattle.ends.proofs.OnuCalls.{onu-accepted, onu-accepts, advance-onu-refused}
+use Rattle.ends.proofs.OltAdvance.{olt-advanced-valid, advancing-accepted, advancing-accepts}
+use Rattle.ends.proofs.OnuAdvance.{onu-advanced-valid}
 use Rattle.line.specs.Setting.{Site, Setting}
 use Rattle.line.specs.History.{Answered, Entry, Keys, Lane, due}
 use Rattle.line.specs.Events.{advance}

@@ -7,14 +7,13 @@ use native.Mathlib.Omega.{arith}
 use lib.Dec.{eqb}
 use lib.ListN.{length}
 use borrow.Author.Tests.{eqb-true, eq-eqb, ne-eqb}
-use Rattle.octets.specs.Choice.{pick}
 use Rattle.octets.proofs.Choice.{both-true, pick-true, pick-false}
 use Rattle.refusal.specs.declared.Refusal.the-variants.{NothingOutstanding}
-use Rattle.refusal.specs.declared.Verdict.the-variants.{Accepted, Refused}
+use Rattle.refusal.specs.declared.Verdict.the-variants.{Accepted}
 use Rattle.ends.specs.Lift.{Outcome, outcome}
 use Rattle.ends.specs.Messages.{clockKind, keyKind}
 use Rattle.ends.specs.Records.{withConfirmation, withClock}
-use Rattle.ends.specs.Replies.{None, none}
+use Rattle.ends.specs.Replies.{None}
 use Rattle.ends.specs.UnitCalls.{keyAcknowledgedUnit, clockAcknowledgedUnit, acknowledgeUnit}
 use Rattle.ends.specs.declared.Acknowledgement.{Acknowledgement}
 use Rattle.ends.specs.declared.Onu.{Onu}
@@ -22,29 +21,15 @@ use Rattle.ends.specs.declared.Shared.{Shared}
 use Rattle.ends.specs.declared.Unit.{Unit}
 use Rattle.ends.proofs.Replies.{refused-accepts}
 use Rattle.ends.proofs.Tests.{both-false-left}
-use Rattle.ends.proofs.UnitCalls.{key-acknowledged-accepted}
+use Rattle.ends.proofs.UnitCalls.{key-acknowledged-accepted, key-kind, clock-kind, no-kind}
 use Rattle.line.specs.Setting.{Setting}
 use Rattle.line.specs.History.{Answered, Lane, due, laneWith, laneAcknowledged}
 use Rattle.line.proofs.Invariant.{reachOf, Joined, AtTick}
 use Rattle.line.proofs.Queues.{Knows, towards-moved, from-moved}
 use Rattle.line.proofs.Past.{passing-moved, sent-most}
 
----- by kind
+---- the mark of the last offer
 
-key-kind : (a : Acknowledgement) (s : Shared) (u : Unit) → a .kind ≡ keyKind → acknowledgeUnit a s u ≡ keyAcknowledgedUnit (a .number) s u
-unfolding acknowledgeUnit pick
-key-kind a s u e = rw e
-
-clock-kind : (a : Acknowledgement) (s : Shared) (u : Unit) → a .kind ≡ clockKind → acknowledgeUnit a s u ≡ clockAcknowledgedUnit s u
-unfolding acknowledgeUnit pick
-clock-kind a s u e = rw e
-
-no-kind : (a : Acknowledgement) (s : Shared) (u : Unit) → eqb (a .kind) clockKind ≡ false → eqb (a .kind) keyKind ≡ false
-    → acknowledgeUnit a s u ≡ outcome s (Refused NothingOutstanding) u none
-unfolding acknowledgeUnit
-no-kind a s u e f = pick-false _ _ e ∙ pick-false _ _ f
-
--- the lane whose last offer has that mark
 markedLane : Lane → Bool → Lane
 markedLane l b =
     laneWith l
@@ -62,7 +47,7 @@ unfolding laneAcknowledged laneWith markedLane
 lane-unmarked a l e =
     ap (markedLane l) (pick-false true (l .keys .acknowledged) (both-false-left _ (ne-eqb (a .kind) keyKind (λ f. omega arith))))
 
----- of a key
+---- what is handed over
 
 module _ (w : Setting) (sh : Shared) (now : ℕ) (l : Lane) (u : Unit) (o : Onu) where
   -- one that the unit handed over: the unit is synced, and holds the key that it names

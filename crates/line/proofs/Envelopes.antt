@@ -13,12 +13,9 @@ use borrow.Author.Tests.{leb-true, eq-eqb, not-false}
 use Rattle.octets.specs.Choice.{pick}
 use Rattle.octets.proofs.Choice.{both-left, both-right, both-true}
 use Rattle.sealing.specs.KeyExpansion.{keyExpansion}
-use Rattle.sealing.specs.Payload.{eqsOf}
 use Rattle.sealing.specs.Seal.{lengthsFit, carried, countCarried}
 use Rattle.sealing.specs.declared.envelope.Nonce.{Nonce}
-use Rattle.sealing.proofs.Seal.{lengths-fit}
 use Rattle.sealing.proofs.Payload.{sealed-length, sealed-twice, count-sealed}
-use Rattle.ends.specs.Limits.{maxEqs}
 use Rattle.ends.specs.declared.Passage.{Passage}
 use Rattle.ends.proofs.Tests.{not-of-true}
 use Rattle.traffic.specs.Passages.{misfit, isEnciphered, nonceOf, passed, passedCount}
@@ -88,10 +85,6 @@ unfolding misfit
 octets-fit w l e out r f h =
     let same : length (e .octets) ≡ length (e .payload) = ap length (r .octets) ∙ carried-length (isSealed e) _ _ (e .payload) in
     not-of-true (ap₂ lengthsFit same (h ∙ same) ∙ f)
-
-pub eqs-most : (p out : List ℕ) → misfit p out ≡ false → eqsOf p ≤ maxEqs
-unfolding misfit
-eqs-most p out e = let f = lengths-fit (length p) (length out) (not-false _ e) in omega (arith, f .bounded)
 
 ---- what is given back
 

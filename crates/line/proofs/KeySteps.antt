@@ -27,10 +27,11 @@ use Rattle.ends.specs.declared.Shared.{Shared}
 use Rattle.ends.specs.declared.Slots.{Slots}
 use Rattle.ends.specs.declared.Unit.{Unit}
 use Rattle.ends.proofs.Keys.{key-stored, key-beside}
-use Rattle.ends.proofs.OnuCalls.{TakesKey, key-message-met, key-message-taken, key-message-refused, withHeld, taken-new, taken-other}
+use Rattle.ends.proofs.OnuCalls.{key-message-refused}
 use Rattle.ends.proofs.Replies.{number-accepted}
 use Rattle.ends.proofs.Tests.{true-false, either-cases}
 use Rattle.ends.proofs.UnitCalls.{offer-accepted, retry-accepted}
+use Rattle.ends.proofs.KeyMessages.{TakesKey, key-message-met, key-message-taken, withHeld, taken-new, taken-other}
 use Rattle.line.specs.Setting.{Setting}
 use Rattle.line.specs.History.{Thing, keyMessage, Keys, Lane, keyOf, due, laneWith, leaving, laneLeaving, laneOffered, laneTaken, laneAnswered}
 use Rattle.line.proofs.Invariant.{reachOf, Joined, Common, AtTick}

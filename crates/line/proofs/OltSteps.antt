@@ -29,6 +29,7 @@ use Rattle.ends.proofs.OltTraffic.{sendAhead, sending-valid, receiving-untouche
 use Rattle.traffic.specs.Passages.{misfit}
 use Rattle.traffic.specs.Receipts.{oltReceived, oltReceiveOf}
 use Rattle.traffic.specs.Sends.{oltSent, oltSendOf}
+use Rattle.traffic.proofs.Passages.{few-eqs}
 use Rattle.line.specs.Setting.{Setting}
 use Rattle.line.specs.History.{downward, Envelope, clockMessage, keyMessage, Lane, numberDown, laneWith, laneCaptured, laneLeaving, laneAcknowledged, laneSentDown}
 use Rattle.line.specs.Events.{capture, clockSend, retry, sendDown, arriveAnswer, strayAnswer, strayUp}
@@ -38,7 +39,7 @@ use Rattle.line.proofs.Invariant.{Joined, Invariant}
 use Rattle.line.proofs.ClockSteps.{capture-keeps, clock-send-keeps}
 use Rattle.line.proofs.KeySteps.{retry-keeps}
 use Rattle.line.proofs.AnswerSteps.{answer-keeps}
-use Rattle.line.proofs.Envelopes.{mem-at, eqs-most}
+use Rattle.line.proofs.Envelopes.{mem-at}
 use Rattle.line.proofs.SendDownSteps.{send-down-keeps, send-channels, envelope-down-is}
 use Rattle.line.proofs.Places.{held-once, held-found, busy-held, at-once}
 use Rattle.line.proofs.LiftSteps.{keys-named, call-right}
@@ -132,7 +133,7 @@ send-down-right w s llid index p out i fits =
     λ l. laneSentDown now (envelopeOf downward now llid index p (r .answer .header) (r .output) (r .answer .count) (numberDown l now)) l in
     call-right w s noSending (sendAhead (misfit p out) index) llid call f i
     (record {
-      valid = sending-valid (s .olt) (misfit p out) llid index (eqsOf p) (eqs-most p out) (i .valid);
+      valid = sending-valid (s .olt) (misfit p out) llid index (eqsOf p) (few-eqs p out) (i .valid);
       rises = λ u a k. send-channels llid index (eqsOf p) sh u a k;
       site = λ l. refl;
       entry = λ l. refl;

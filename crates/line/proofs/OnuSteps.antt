@@ -20,11 +20,12 @@ use Rattle.ends.specs.declared.Header.{Header}
 use Rattle.ends.specs.declared.KeyMessage.{KeyMessage}
 use Rattle.ends.specs.declared.Onu.{Onu}
 use Rattle.ends.specs.declared.OnuAcknowledged.{OnuAcknowledged}
-use Rattle.ends.proofs.OnuCalls.{onu-keeps, keys-taken-valid, keys-replaced-valid, clock-message-refused, key-message-refused}
+use Rattle.ends.proofs.OnuCalls.{onu-keeps, clock-message-refused, key-message-refused}
 use Rattle.ends.proofs.OnuTraffic.{sending-onu-untouched, receiving-onu-untouched}
 use Rattle.ends.proofs.Replies.{number-refused}
 use Rattle.ends.proofs.Tests.{pick-holds}
 use Rattle.ends.proofs.Validity.{onu-in-range}
+use Rattle.ends.proofs.KeyMessages.{keys-taken-valid, keys-replaced-valid}
 use Rattle.traffic.specs.Receipts.{onuReceivedBy, onuReceiveOf}
 use Rattle.traffic.specs.Sends.{onuSentBy, onuSendOf}
 use Rattle.line.specs.Setting.{Setting}

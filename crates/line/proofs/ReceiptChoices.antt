@@ -22,8 +22,8 @@ use Rattle.ends.specs.declared.Slots.{Slots}
 use Rattle.ends.specs.declared.Unit.{Unit}
 use Rattle.ends.proofs.Headers.{header-clear, header-sealed}
 use Rattle.ends.proofs.Keys.{only-kept}
-use Rattle.ends.proofs.OnuTraffic.{onu-receive-clear, onu-receive-current, onu-receive-next}
-use Rattle.ends.proofs.UnitTraffic.{receive-clear, receive-current, receive-next}
+use Rattle.ends.proofs.OnuChoices.{onu-receive-clear, onu-receive-current, onu-receive-next}
+use Rattle.ends.proofs.UnitChoices.{receive-clear, receive-current, receive-next}
 use Rattle.traffic.specs.Passages.{isEnciphered}
 use Rattle.line.proofs.Invariant.{reachOf}
 

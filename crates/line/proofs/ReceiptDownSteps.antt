@@ -26,7 +26,8 @@ use Rattle.ends.specs.declared.Shared.{Shared}
 use Rattle.ends.specs.declared.Unit.{Unit}
 use Rattle.ends.proofs.Headers.{header-clear, header-valid, key-for}
 use Rattle.ends.proofs.OnuCalls.{onu-accepts, onu-keeps}
-use Rattle.ends.proofs.OnuTraffic.{onu-moved-valid, OnuReceives, onu-receive-accepts}
+use Rattle.ends.proofs.OnuTraffic.{onu-moved-valid}
+use Rattle.ends.proofs.OnuChoices.{OnuReceives, onu-receive-accepts}
 use Rattle.traffic.specs.Passages.{misfit, outputAfter}
 use Rattle.traffic.specs.Receipts.{onuReceivedBy, onuReceiveOf}
 use Rattle.line.specs.Setting.{Setting, clockDown}

@@ -21,7 +21,7 @@ use Rattle.ends.specs.declared.Passage.{Passage}
 use Rattle.ends.specs.declared.Shared.{Shared}
 use Rattle.ends.specs.declared.Unit.{Unit}
 use Rattle.ends.proofs.Headers.{header-valid, key-for}
-use Rattle.ends.proofs.UnitTraffic.{Receives}
+use Rattle.ends.proofs.UnitChoices.{Receives}
 use Rattle.traffic.specs.Passages.{misfit, outputAfter}
 use Rattle.traffic.specs.Receipts.{oltReceived, oltReceiveOf}
 use Rattle.line.specs.Setting.{Setting, clockUp}

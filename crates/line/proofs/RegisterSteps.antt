@@ -27,7 +27,8 @@ use Rattle.ends.specs.declared.Unit.{Unit}
 use Rattle.ends.proofs.Tests.{true-false}
 use Rattle.ends.proofs.Replies.{number-accepted, refuse-accepted, reply-verdict, reply-accepted}
 use Rattle.ends.proofs.Table.{more-unit, more-other, more-places}
-use Rattle.ends.proofs.OltCalls.{Registers, register-accepted, registered-valid, register-refused}
+use Rattle.ends.proofs.OltCalls.{register-refused}
+use Rattle.ends.proofs.Registration.{Registers, register-accepted, registered-valid}
 use Rattle.line.specs.Setting.{Setting}
 use Rattle.line.specs.History.{Entry, Keys, Lane, due, laneRegistered}
 use Rattle.line.specs.Events.{register}

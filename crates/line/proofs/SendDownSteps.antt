@@ -25,7 +25,7 @@ use Rattle.ends.specs.declared.Shared.{Shared}
 use Rattle.ends.specs.declared.Unit.{Unit}
 use Rattle.ends.specs.declared.UnitKeys.{UnitKeys}
 use Rattle.ends.proofs.Headers.{key-for}
-use Rattle.ends.proofs.Occupancy.{free-own, taken-false}
+use Rattle.ends.proofs.Occupancy.{free-own, taken-false, free-later}
 use Rattle.ends.proofs.Replies.{refuse-accepted}
 use Rattle.traffic.specs.Passages.{misfit, passed, passedCount, outputAfter}
 use Rattle.traffic.specs.Sends.{oltSent, oltSendOf}
@@ -37,7 +37,7 @@ use Rattle.line.proofs.Invariant.{reachOf, Spent, Joined, AtTick}
 use Rattle.line.proofs.Queues.{Knows, towards-carried, towards-envelope, from-carried}
 use Rattle.line.proofs.Past.{sent-carried, passing-sent}
 use Rattle.line.proofs.Envelopes.{each-more, ways-apart, passed-as, count-as, fits-alone}
-use Rattle.line.proofs.Spending.{Renewed, free-rises, spent-kept, spent-new, apart-new, spaced-more}
+use Rattle.line.proofs.Spending.{Renewed, spent-kept, spent-new, apart-new, spaced-more}
 use Rattle.line.proofs.SendChoices.{Chosen, chosen-down, unit-first}
 
 ---- the lane of the unit
@@ -161,7 +161,7 @@ module _ (w : Setting) (sh : Shared) (now : ℕ) (l : Lane) (u : Unit) (o : Onu)
       (occupied (sh .channels) index (sh .tick) eqs) (envelopeDown l now llid index p (sendUnit llid index eqs sh u .handed))
       h (h .renewed (rw (t .tick) at (second .0))) refl refl down named (fits-alone p out fit) (sent-down-right t j v)
       (omega (arith, free, t .tick))
-      (free-rises (sh .channels) index (sh .tick) eqs free)
+      (λ i. free-later (sh .channels) index i (sh .tick) eqs (first .0))
       (omega (arith, free-own (sh .channels) index (sh .tick) eqs, t .tick))
 
 ---- the envelope of an accepted send
@@ -208,8 +208,7 @@ channels-keep w sh now l u o c rises j =
 pub send-channels : (llid index eqs : ℕ) (sh : Shared) (u : Unit) → sendUnit llid index eqs sh u .verdict ≡ Accepted
     → (i : ℕ) → freeFrom (sh .channels) i ≤ freeFrom (sendUnit llid index eqs sh u .channels) i
 unfolding sendUnit unitSendVerdict
-send-channels llid index eqs sh u a =
-    free-rises (sh .channels) index (sh .tick) eqs (taken-false (sh .channels) index (sh .tick) (refuse-accepted _ _ _ a .0))
+send-channels llid index eqs sh u a i = free-later (sh .channels) index i (sh .tick) eqs (refuse-accepted _ _ _ a .0)
 
 -- the OLT's part is at its tick still
 pub channels-at-tick : (w : Setting) (now : ℕ) (sh : Shared) (c : Channels) → AtTick w now sh → AtTick w now (withChannels sh c)

@@ -26,14 +26,16 @@ use Rattle.ends.specs.declared.Sending.{Sending}
 use Rattle.ends.specs.declared.Shared.{Shared}
 use Rattle.ends.specs.declared.Unit.{Unit}
 use Rattle.ends.specs.declared.UnitClock.{UnitClock}
-use Rattle.ends.proofs.Headers.{key-for}
-use Rattle.ends.proofs.Occupancy.{free-own, taken-false}
+use Rattle.ends.proofs.Headers.{key-for, header-epam}
+use Rattle.ends.proofs.Occupancy.{free-own, taken-false, free-later}
 use Rattle.ends.proofs.OnuCalls.{onu-accepted, onu-accepts, onu-keeps}
-use Rattle.ends.proofs.OnuTraffic.{onu-send-accepted, onu-sent-valid}
+use Rattle.ends.proofs.OnuChoices.{onu-send-accepted}
+use Rattle.ends.proofs.OnuTraffic.{onu-sent-valid}
 use Rattle.ends.proofs.Replies.{number-accepted, refuse-accepted}
 use Rattle.ends.proofs.Validity.{onu-in-range}
 use Rattle.traffic.specs.Passages.{misfit, isEnciphered, passed, passedCount, outputAfter}
 use Rattle.traffic.specs.Sends.{onuSentBy, onuSendOf}
+use Rattle.traffic.proofs.Passages.{few-eqs}
 use Rattle.line.specs.Setting.{Site, Setting, clockUp}
 use Rattle.line.specs.History.{downward, upward, Envelope, Lane, keyOf, laneWith, sending, laneSentUp}
 use Rattle.line.specs.Run.{envelopeOf}
@@ -42,8 +44,8 @@ use Rattle.line.proofs.Invariant.{Clocks, Spent, Joined, Common}
 use Rattle.line.proofs.Queues.{Knows, towards-moved, from-moved, from-envelope}
 use Rattle.line.proofs.Past.{sent-carried, passing-sent}
 use Rattle.line.proofs.Frames.{common-moved}
-use Rattle.line.proofs.Envelopes.{each-more, ways-apart, passed-as, count-as, fits-alone, eqs-most}
-use Rattle.line.proofs.Spending.{Renewed, free-rises, spent-kept, spent-new, apart-new, spaced-more}
+use Rattle.line.proofs.Envelopes.{each-more, ways-apart, passed-as, count-as, fits-alone}
+use Rattle.line.proofs.Spending.{Renewed, spent-kept, spent-new, apart-new, spaced-more}
 use Rattle.line.proofs.SendChoices.{chosen-up}
 
 ---- its header
@@ -58,11 +60,6 @@ epam-up first now captured s c o k = by-synced (eqb (o .synced) 1) refl where
       let none : o .synced ≡ 0 = omega (arith, k .flag, eqb-false (o .synced) 1 e) in
       let time = k .unsynced none in
       omega (arith, time)
-
--- the header of an envelope has no more of the clock than EPAM
-pub header-epam : (n index llid c d : ℕ) → epamOf c ≡ epamOf d → headerOf n index llid c ≡ headerOf n index llid d
-unfolding headerOf
-header-epam n index llid c d e = rw e
 
 ---- its lane
 
@@ -184,7 +181,7 @@ module _ (w : Setting) (sh : Shared) (now : ℕ) (l : Lane) (u : Unit) (o : Onu)
       subst (λ (x : Onu). Joined w sh now (laneSentUp (envelopeUp l now llid index p handed) l) u (withOnuChannels x after)) (sym (h .noted))
       (sent-up-joined w sh now l u o j (h .first) after (envelopeUp l now llid index p handed) (sym (n .last)) renewed refl refl
       (met .upstream) (sym (c .llids llid) ∙ met .has) (fits-alone p out (met .fits)) (sent-up-right c j) (omega (arith, free, c .tick))
-      (free-rises (o .channels) index (o .tick) eqs free)
+      (λ i. free-later (o .channels) index i (o .tick) eqs (met .free))
       (omega (arith, free-own (o .channels) index (o .tick) eqs, c .tick))) in
       subst
       (λ (x : Reply Onu Sending).
@@ -215,6 +212,6 @@ unfolding onuSendOf onuSentBy sendingOnu onuSendVerdict
 send-common w now l m o llid index p out s c =
     let kept = common-moved w now l m o s c in
     onu-keeps (Common w now m) o noSending _ _ _ kept
-    (λ v a. sent kept (onu-sent-valid o index (eqsOf p) (eqs-most p out (refuse-accepted _ _ _ a .0)) v)) where
+    (λ v a. sent kept (onu-sent-valid o index (eqsOf p) (few-eqs p out (refuse-accepted _ _ _ a .0)) v)) where
       sent : Common w now m o → validOnu (onuSent o index (eqsOf p)) ≡ true → Common w now m (onuSent o index (eqsOf p))
       sent k v = sent-common w now m o index (eqsOf p) k v

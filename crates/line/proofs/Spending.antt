@@ -10,11 +10,10 @@ use lib.Dec.{ltb}
 use lib.ListN.{length, getD, length-append, List·getD-append}
 use lib.Seq.{getD-at}
 use borrow.Author.Tests.{leb-true, ltb-true, ltb-false, eqb-true, eqb-false}
-use Rattle.octets.specs.Choice.{pick}
 use Rattle.octets.proofs.Choice.{both-right}
 use Rattle.clock.specs.Ticks.{keyLife}
 use Rattle.ends.specs.Keys.{notedAt, firstSend, aged, validFirst}
-use Rattle.ends.specs.Occupancy.{onZero, freeFrom, occupied}
+use Rattle.ends.specs.Occupancy.{freeFrom}
 use Rattle.ends.specs.Replies.{isUp}
 use Rattle.ends.specs.declared.Channels.{Channels}
 use Rattle.ends.specs.declared.FirstSend.{FirstSend}
@@ -57,21 +56,6 @@ renewed-next f current number now h =
 -- a clear send
 pub renewed-clear : (f : FirstSend) (now : ℕ) → Renewed f f 0 0 now
 renewed-clear f now = record { most = omega arith; new = λ g. absurd (omega arith); old = λ p e g. absurd (omega arith) }
-
----- channels
-
--- a channel that was free is free from later on
-pub free-rises : (c : Channels) (index tick eqs : ℕ) → freeFrom c index ≤ tick → (i : ℕ) → freeFrom c i ≤ freeFrom (occupied c index tick eqs) i
-unfolding freeFrom occupied pick
-free-rises c index tick eqs h i = by-channel (onZero i) (onZero index) refl refl where
-  by-channel : (t u : Bool) → onZero i ≡ t → onZero index ≡ u
-      → pick t (c .zero) (c .one) ≤ pick t (pick u (tick + eqs + 1) (c .zero)) (pick u (c .one) (tick + eqs + 1))
-  by-channel true true e f = let g : c .zero ≤ tick = rw f at h in omega arith
-  by-channel true false e f = omega arith
-  by-channel false true e f = omega arith
-  by-channel false false e f = let g : c .one ≤ tick = rw f at h in omega arith
-
----- sends that are spent
 
 -- earlier sends of that way
 pub spent-kept : (c d : Channels) (first next : FirstSend) (current number now : ℕ) (e : Envelope) → Renewed first next current number now

@@ -1,21 +1,21 @@
 -- The walk of an advance along the table. Assumes nothing.
-use mathlib.Core.Path.{_≡_, refl, ap, sym, _∙_}
-use mathlib.Core.Bool.{Bool, true, false}
+use mathlib.Core.Path.{_≡_, refl, ap}
+use mathlib.Core.Bool.{Bool, true}
 use mathlib.Core.List.{List, [], _∷_, _++_, map}
-use Prim.Native.Nat.{ℕ, zero, suc, _+_, _<_, _≤_}
+use Prim.Native.Nat.{ℕ, zero, suc, _<_, _≤_}
 use native.Mathlib.Nat.{le-of-suc-le-suc, not-suc-le-zero}
 use lib.ListN.{length, getD, set, take, drop}
 use borrow.Author.Tests.{leb-true, ltb-true}
-use Rattle.octets.specs.Choice.{both}
 use Rattle.octets.proofs.Choice.{both-left, both-right, both-true}
 use Rattle.clock.specs.Ticks.{maxTick}
 use Rattle.ends.specs.Limits.{maxInterval}
 use Rattle.ends.specs.Timers.{validInterval, validTimer}
 use Rattle.ends.specs.Table.{all}
-use Rattle.ends.specs.Validity.{validKeys, validOlt, validShared, validUnit}
+use Rattle.ends.specs.Validity.{validOlt, validUnit}
 use Rattle.ends.specs.declared.Timer.{Timer}
 use Rattle.ends.specs.declared.Unit.{Unit}
 use Rattle.ends.specs.declared.Olt.{Olt}
+use Rattle.ends.proofs.Validity.{olt-in-range, shared-in-range, unit-in-range}
 
 module _ {A : Type 0} (f : A → A) where
   -- the next element is still the old one
@@ -49,20 +49,12 @@ timed t e =
     record { some = leb-true _ _ (both-left _ _ i); most = leb-true _ _ (both-right _ _ i); within = ltb-true _ _ (both-left _ _ (both-right _ _ e)) }
 
 unit-timed : (tick : ℕ) (u : Unit) → validUnit tick u ≡ true → validTimer (u .keys .timer) ≡ true
-unfolding validUnit validKeys
-unit-timed tick u e = both-left _ _ (both-left _ _ (both-right _ _ e))
+unit-timed tick u e = unit-in-range tick u e .timer
 
 -- the timers of a valid end
 pub units-timed : (o : Olt) → validOlt o ≡ true → all (λ (u : Unit). validTimer (u .keys .timer)) (take (o .count) (o .units)) ≡ true
-unfolding validOlt
 units-timed o e =
-    all-weaker (validUnit (o .shared .tick)) (λ (u : Unit). validTimer (u .keys .timer)) (unit-timed (o .shared .tick)) _
-    (both-left _ _ (both-right _ _ (both-right _ _ e)))
-
-pub olt-count : (o : Olt) → validOlt o ≡ true → o .count ≤ 16
-unfolding validOlt
-olt-count o e = leb-true _ _ (both-left _ _ e)
+    all-weaker (validUnit (o .shared .tick)) (λ (u : Unit). validTimer (u .keys .timer)) (unit-timed (o .shared .tick)) _ (olt-in-range o e .units)
 
 pub olt-tick : (o : Olt) → validOlt o ≡ true → o .shared .tick ≤ maxTick
-unfolding validOlt validShared
-olt-tick o e = leb-true _ _ (both-left _ _ (both-right _ _ (both-left _ _ (both-right _ _ e))))
+olt-tick o e = shared-in-range (o .shared) (olt-in-range o e .shared) .tick

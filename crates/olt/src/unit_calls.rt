@@ -12,6 +12,8 @@ ghost use Rattle.ends.specs.Records.{withClock};
 ghost use Rattle.ends.specs.UnitCalls.{acknowledgeUnit, clockCaptured, clockMessageOf, clockMessageSent, clockSendVerdict, keyMessageOf, keysOffered, offerVerdict, retryVerdict, unitOffered};
 use clock::Stamps;
 use ends::Acknowledgement;
+use ends::CLOCK_KIND;
+use ends::KEY_KIND;
 use ends::KeyMessage;
 use ends::Shared;
 use ends::Unit;
@@ -26,10 +28,6 @@ use refusal::Verdict;
 const TICKS_PER_SECOND: u64 = 390_625_000;
 
 const MAX_KEY_NUMBER: u32 = 0xffff_ffff;
-
-const CLOCK_KIND: u8 = 1;
-
-const KEY_KIND: u8 = 2;
 
 pub(crate) fn captured(unit: Unit, tick: u64) -> Unit
     ensures { λ r. ⌜ r ≡ withClock unit (clockCaptured (unit .clock) tick) ⌝ }

@@ -13,9 +13,11 @@ use clock::CLOCK_TURN;
 use clock::LOCAL_TURN;
 use clock::Stamps;
 use ends::Acknowledgement;
+use ends::CLOCK_KIND;
 use ends::Channels;
 use ends::FirstSend;
 use ends::Identity;
+use ends::KEY_KIND;
 use ends::KeyMessage;
 use ends::Onu;
 use ends::OnuAcknowledged;
@@ -26,11 +28,6 @@ use ends::Slots;
 use ends::check_onu::MAX_KEY_NUMBER;
 use refusal::Refusal;
 use refusal::Verdict;
-
-// The kinds of acknowledgements.
-const CLOCK_KIND: u8 = 1;
-
-const KEY_KIND: u8 = 2;
 
 // 1 for a lent end that is not valid, ahead of what the call refuses.
 fn judged(o: Onu, verdict: Verdict) -> Verdict

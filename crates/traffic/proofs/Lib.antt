@@ -1,4 +1,3 @@
 pub mod Passages
-pub mod Lookup
 pub mod Sends
 pub mod Receipts

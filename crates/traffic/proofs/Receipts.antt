@@ -35,15 +35,15 @@ use Rattle.ends.proofs.Table.{find-at}
 use Rattle.ends.proofs.Validity.{olt-in-range, shared-in-range, unit-in-range, onu-in-range, onu-clock-in-range, onu-keys-in-range}
 use Rattle.ends.proofs.Lift.{lift-unit, unit-at-valid}
 use Rattle.ends.proofs.OltTraffic.{receiveAhead, receiving-valid}
-use Rattle.ends.proofs.OnuTraffic.{OnuReceiveCase, onuClear, onuLate, onuCurrent, onuNext, onuUnknown, onu-receive-case, onu-receive-accepted, receiving-onu-valid}
+use Rattle.ends.proofs.OnuTraffic.{receiving-onu-valid}
+use Rattle.ends.proofs.OnuChoices.{OnuReceiveCase, onuClear, onuLate, onuCurrent, onuNext, onuUnknown, onu-receive-case, onu-receive-accepted}
 use Rattle.olt.specs.Lookup.{locatedOf}
 use Rattle.olt.specs.declared.Located.the-variants.{Absent}
-use Rattle.olt.proofs.Lookup.{lift-absent}
+use Rattle.olt.proofs.Lookup.{lift-absent, Reaches}
 use Rattle.traffic.specs.Passages.{Exchange, exchange, misfit, isEnciphered, nonceOf, passed, passedCount, outputAfter}
 use Rattle.traffic.specs.Receipts.{oltReceived, oltNotReceived, oltReceiveOf, onuReceivedBy, onuNotReceived, onuReceiveOf}
 use Rattle.traffic.specs.declared.OltReceived.{OltReceived}
 use Rattle.traffic.specs.declared.OnuReceived.{OnuReceived}
-use Rattle.traffic.proofs.Lookup.{Located}
 use Rattle.traffic.proofs.Passages.{identity-mac, judged, down-fits, up-fits}
 
 ---- the OLT
@@ -100,7 +100,7 @@ module _ (o : Olt) (h : Header) (p out : List ℕ) where
       olt-not-received o r (h .index) p out
       ∙ sym (ap (λ (x : Reply Olt Passage). oltReceived x (h .index) p out) (lift-absent o noPassage (receiveAhead (misfit p out) h) (h .llid) (receiveUnit h) r e))
 
-  pub olt-receive-at : (i : ℕ) → Located o (receiveAhead (misfit p out) h) (h .llid) i
+  pub olt-receive-at : (i : ℕ) → Reaches o (receiveAhead (misfit p out) h) (h .llid) i
       → oltReceived (putBack o noPassage i (receiveUnit h (o .shared) (unitAt o i))) (h .index) p out ≡ oltReceiveOf o h p out
   unfolding oltReceiveOf receivingOlt
   olt-receive-at i l =
@@ -108,7 +108,7 @@ module _ (o : Olt) (h : Header) (p out : List ℕ) where
       (lift-unit o noPassage (receiveAhead (misfit p out) h) (h .llid) (receiveUnit h) i (l .valid) (l .passed) (l .found)))
 
   -- what a receipt from the unit found has passed
-  pub receive-passed : (i : ℕ) → Located o (receiveAhead (misfit p out) h) (h .llid) i → (misfit p out ≡ false) × (upstream (h .index) ≡ true)
+  pub receive-passed : (i : ℕ) → Reaches o (receiveAhead (misfit p out) h) (h .llid) i → (misfit p out ≡ false) × (upstream (h .index) ≡ true)
   receive-passed i l =
       let a = refuse-accepted _ _ _ (l .passed) in
       (a .0, both-left _ _ (not-false _ (refuse-accepted _ _ _ (a .1) .0)))

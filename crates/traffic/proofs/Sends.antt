@@ -34,15 +34,15 @@ use Rattle.ends.proofs.Replies.{refuse-accepted, reply-accepted, reply-refused}
 use Rattle.ends.proofs.Validity.{olt-in-range, shared-in-range, onu-in-range, onu-clock-in-range}
 use Rattle.ends.proofs.Lift.{lift-unit}
 use Rattle.ends.proofs.OltTraffic.{sendAhead, sending-valid}
-use Rattle.ends.proofs.OnuTraffic.{onu-send-accepted, sending-onu-valid}
+use Rattle.ends.proofs.OnuTraffic.{sending-onu-valid}
+use Rattle.ends.proofs.OnuChoices.{onu-send-accepted}
 use Rattle.olt.specs.Lookup.{locatedOf}
 use Rattle.olt.specs.declared.Located.the-variants.{Absent}
-use Rattle.olt.proofs.Lookup.{lift-absent}
+use Rattle.olt.proofs.Lookup.{lift-absent, Reaches}
 use Rattle.traffic.specs.Passages.{Exchange, exchange, misfit, isEnciphered, nonceOf, passed, passedCount, outputAfter}
 use Rattle.traffic.specs.Sends.{oltSent, oltNotSent, oltSendOf, onuSentBy, onuNotSent, onuSendOf}
 use Rattle.traffic.specs.declared.OltSent.{OltSent}
 use Rattle.traffic.specs.declared.OnuSent.{OnuSent}
-use Rattle.traffic.proofs.Lookup.{Located}
 use Rattle.traffic.proofs.Passages.{few-eqs, identity-mac, judged, down-fits, up-fits}
 
 ---- the OLT
@@ -102,7 +102,7 @@ module _ (o : Olt) (llid index : ℕ) (p out : List ℕ) where
       olt-not-sent o r index p out
       ∙ sym (ap (λ (x : Reply Olt Sending). oltSent x index p out) (lift-absent o noSending (sendAhead (misfit p out) index) llid (sendUnit llid index (eqsOf p)) r e))
 
-  pub olt-send-at : (i : ℕ) → Located o (sendAhead (misfit p out) index) llid i
+  pub olt-send-at : (i : ℕ) → Reaches o (sendAhead (misfit p out) index) llid i
       → oltSent (putBack o noSending i (sendUnit llid index (eqsOf p) (o .shared) (unitAt o i))) index p out ≡ oltSendOf o llid index p out
   unfolding oltSendOf sendingOlt
   olt-send-at i l =
@@ -110,7 +110,7 @@ module _ (o : Olt) (llid index : ℕ) (p out : List ℕ) where
       (lift-unit o noSending (sendAhead (misfit p out) index) llid (sendUnit llid index (eqsOf p)) i (l .valid) (l .passed) (l .found)))
 
   -- what a send to the unit found has passed
-  pub send-passed : (i : ℕ) → Located o (sendAhead (misfit p out) index) llid i → (misfit p out ≡ false) × (downstream index ≡ true)
+  pub send-passed : (i : ℕ) → Reaches o (sendAhead (misfit p out) index) llid i → (misfit p out ≡ false) × (downstream index ≡ true)
   send-passed i l =
       let a = refuse-accepted _ _ _ (l .passed) in
       (a .0, not-false _ (refuse-accepted _ _ _ (a .1) .0))

@@ -15,7 +15,7 @@ ghost use Rattle.ends.specs.Occupancy.{downstream, occupied, upstream};
 ghost use Rattle.ends.specs.Records.{withKeys};
 ghost use Rattle.ends.specs.Replies.{refuseIf};
 ghost use Rattle.ends.specs.Table.{find, unitAt, withUnit};
-ghost use Rattle.ends.specs.UnitTraffic.{keysSent, keysSwitched, receiveUnit, sendUnit, switches, unitConfirmed, unitReceiveChoice, unitReceiveVerdict, unitReceived, unitSendChoice, unitSendVerdict};
+ghost use Rattle.ends.specs.UnitTraffic.{keysSent, receiveUnit, sendUnit, unitSendChoice};
 ghost use Rattle.ends.specs.Validity.{validOlt};
 ghost use Rattle.ends.specs.declared.Found.the-variants.{At};
 ghost use Rattle.traffic.specs.Passages.{exchange, misfit};
@@ -23,16 +23,12 @@ ghost use Rattle.traffic.specs.Receipts.{oltNotReceived, oltReceived};
 ghost use Rattle.traffic.specs.Sends.{oltNotSent, oltSent};
 use crate::OltReceived;
 use crate::OltSent;
+use crate::on_unit;
 use crate::passing;
-use clock::epam_of;
 use ends::Channels;
 use ends::Header;
-use ends::KeyChoice;
 use ends::Olt;
-use ends::Shared;
 use ends::Unit;
-use ends::UnitKeys;
-use ends::keyslots::only_key;
 use refusal::Refusal;
 use refusal::Verdict;
 
@@ -106,76 +102,6 @@ fn with_unit(olt: Olt, i: usize, channels: Channels, unit: Unit) -> Olt
     r
 }
 
-// Whether the next accepted send switches.
-fn switches(unit: Unit) -> bool
-    ensures { λ r. ⌜ r ≡ switches unit ⌝ }
-{
-    let next = unit.keys.active as u64 + 1;
-    (unit.keys.timer.flag == 1)
-        & ((unit.keys.offered as u64 == next) & (unit.confirmation.acknowledged == 1))
-}
-
-fn send_choice(unit: Unit) -> KeyChoice
-    ensures { λ r. ⌜ r ≡ unitSendChoice unit ⌝ }
-{
-    if switches(unit) {
-        return KeyChoice::Next(unit.keys.offered);
-    }
-    if unit.keys.active == 0 {
-        return KeyChoice::Clear;
-    }
-    KeyChoice::Current(unit.keys.active)
-}
-
-fn send_verdict(shared: Shared, unit: Unit, index: u8) -> Verdict
-    ensures { λ r. ⌜ r ≡ unitSendVerdict shared unit index ⌝ }
-{
-    if passing::taken(shared.channels, index, shared.tick) {
-        return Verdict::Refused(Refusal::ChannelTaken);
-    }
-    let choice = send_choice(unit);
-    if passing::choice_aged(choice, unit.keys.first, shared.tick) {
-        return Verdict::Refused(Refusal::KeyTooOld);
-    }
-    Verdict::Accepted
-}
-
-fn keys_switched(keys: UnitKeys, tick: u64) -> UnitKeys
-    ensures { λ r. ⌜ r ≡ keysSwitched keys tick ⌝ }
-{
-    let mut r = keys;
-    r.timer.flag = 0;
-    r.active = keys.offered;
-    r.first.noted = 1;
-    r.first.tick = tick;
-    r
-}
-
-fn keys_sent(choice: KeyChoice, keys: UnitKeys, tick: u64) -> UnitKeys
-    ensures { λ r. ⌜ r ≡ keysSent choice keys tick ⌝ }
-{
-    match choice {
-        KeyChoice::Clear => keys,
-        KeyChoice::Current(_) => {
-            let first = passing::first_send(keys.first, tick);
-            let mut r = keys;
-            r.first = first;
-            r
-        }
-        KeyChoice::Next(_) => keys_switched(keys, tick),
-        KeyChoice::Barred(_) => keys,
-    }
-}
-
-fn unit_sent(unit: Unit, tick: u64) -> Unit
-    ensures { λ r. ⌜ r ≡ withKeys unit (keysSent (unitSendChoice unit) (unit .keys) tick) ⌝ }
-{
-    let keys = keys_sent(send_choice(unit), unit.keys, tick);
-    let mut r = unit;
-    r.keys = keys;
-    r
-}
-
 // The end that a send leaves, where it is accepted.
 fn after_send(olt: Olt, i: usize, unit: Unit, index: u8, eqs: u64) -> Olt
     requires { ⌜ i < 16 ⌝ }
@@ -184,7 +110,7 @@ fn after_send(olt: Olt, i: usize, unit: Unit, index: u8, eqs: u64) -> Olt
     ensures { λ r. ⌜ r ≡ withUnit olt i (occupied (olt .shared .channels) index (olt .shared .tick) eqs) (withKeys unit (keysSent (unitSendChoice unit) (unit .keys) (olt .shared .tick))) ⌝ }
 {
     let channels = passing::occupied(olt.shared.channels, index, olt.shared.tick, eqs);
-    let next = unit_sent(unit, olt.shared.tick);
+    let next = on_unit::unit_sent(unit, olt.shared.tick);
     with_unit(olt, i, channels, next)
 }
 
@@ -205,11 +131,11 @@ pub(crate) fn send_at(
     let unit = olt.units[i];
     let shared = olt.shared;
     let next = after_send(olt, i, unit, index, (payload.len() / 9) as u64);
-    let verdict = send_verdict(shared, unit, index);
+    let verdict = on_unit::send_verdict(shared, unit, index);
     match verdict {
         Verdict::Refused(refusal) => not_sent(olt, refusal),
         Verdict::Accepted => {
-            let choice = send_choice(unit);
+            let choice = on_unit::send_choice(unit);
             let header = passing::header_of(choice, index, llid, shared.clock);
             let passage = passing::passage_of(choice, unit.keys.slots, shared.mac, shared.clock);
             let count = passing::carry(passage, index, payload, output);
@@ -220,60 +146,6 @@ pub(crate) fn send_at(
                 count,
             }
         }
-    }
-}
-
-fn receive_choice(unit: Unit, header: Header) -> KeyChoice
-    ensures { λ r. ⌜ r ≡ unitReceiveChoice unit header ⌝ }
-{
-    let confirmed = unit.confirmation.confirmed;
-    let active = unit.keys.active;
-    if header.encenabled == 0 {
-        if confirmed == 0 {
-            return KeyChoice::Clear;
-        }
-        return KeyChoice::Barred(Refusal::ClearEnvelope);
-    }
-    let next = confirmed as u64 + 1;
-    if (1 <= confirmed) & (header.enckey as u32 == confirmed % 2) {
-        return KeyChoice::Current(confirmed);
-    }
-    if (active as u64 == next) & (header.enckey as u32 == active % 2) {
-        return KeyChoice::Next(active);
-    }
-    KeyChoice::Barred(Refusal::NoKey)
-}
-
-fn receive_verdict(shared: Shared, unit: Unit, header: Header) -> Verdict
-    ensures { λ r. ⌜ r ≡ unitReceiveVerdict shared unit header ⌝ }
-{
-    let epam = epam_of(shared.clock);
-    if header.epam != epam {
-        return Verdict::Refused(Refusal::EpamDiffers);
-    }
-    passing::choice_verdict(receive_choice(unit, header))
-}
-
-// C becomes A, and the key before A is wiped.
-fn confirmed(unit: Unit) -> Unit
-    ensures { λ r. ⌜ r ≡ unitConfirmed unit ⌝ }
-{
-    let mut keys = unit.keys;
-    keys.slots = only_key(unit.keys.slots, unit.keys.active);
-    let mut r = unit;
-    r.keys = keys;
-    r.confirmation.confirmed = unit.keys.active;
-    r
-}
-
-fn unit_received(choice: KeyChoice, unit: Unit) -> Unit
-    ensures { λ r. ⌜ r ≡ unitReceived choice unit ⌝ }
-{
-    match choice {
-        KeyChoice::Clear => unit,
-        KeyChoice::Current(_) => unit,
-        KeyChoice::Next(_) => confirmed(unit),
-        KeyChoice::Barred(_) => unit,
     }
 }
 
@@ -292,9 +164,14 @@ pub(crate) fn receive_at(
 {
     let unit = olt.units[i];
     let shared = olt.shared;
-    let choice = receive_choice(unit, header);
-    let next = with_unit(olt, i, shared.channels, unit_received(choice, unit));
-    let verdict = receive_verdict(shared, unit, header);
+    let choice = on_unit::receive_choice(unit, header);
+    let next = with_unit(
+        olt,
+        i,
+        shared.channels,
+        on_unit::unit_received(choice, unit),
+    );
+    let verdict = on_unit::receive_verdict(shared, unit, header);
     match verdict {
         Verdict::Refused(refusal) => not_received(olt, refusal),
         Verdict::Accepted => {

@@ -2,6 +2,7 @@
 // header and the octets enciphered, and writes the output; refused, the end and the output are those that were lent.
 mod at_olt;
 mod at_onu;
+mod on_unit;
 mod passing;
 
 ghost use mathlib.Core.Path.{_≡_};

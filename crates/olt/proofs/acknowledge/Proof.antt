@@ -10,8 +10,8 @@ use Rattle.ends.specs.OltCalls.{acknowledgeOf, oltAnswer}
 use Rattle.ends.specs.Replies.{none, reply}
 use Rattle.ends.specs.Table.{pastUnit}
 use Rattle.ends.specs.UnitCalls.{acknowledgeUnit}
+use Rattle.ends.proofs.UnitCalls.{acknowledged-channels}
 use Rattle.olt.proofs.Lookup.{Stands, place-stands, lift-absent, lift-refused, lift-accepted}
-use Rattle.olt.proofs.Verdicts.{acknowledge-channels}
 use Rattle.olt.proofs.acknowledge.Statement.{statement}
 use Rattle.olt.proofs.acknowledge.Tie as tie
 
@@ -74,7 +74,7 @@ unfolding acknowledgeOf oltAnswer reply pastUnit
 returns-3 c =
     let e = lift-accepted (c .before .before .before .before .before .before .before .before .before .before .before .before .before .args .t1) none Accepted (c .before .before .before .before .before .before .before .before .before .before .before .before .before .args .llid) (acknowledgeUnit (c .before .before .before .before .before .before .before .before .before .before .before .before .before .args .acknowledgement)) _ (sym (c .before .before .before .before .before .before .before .before .before .before .before .before .locate .ensures) ∙ c .before .before .before .before .before .before .before .before .before .before .at2 .given .1) (sym (c .before .before .before .before .before .before .acknowledge-verdict .ensures) ∙ c .before .before .before .before .enum-told .given .1) in
     rw (c .accepted .ensures, c .before .with-unit .ensures, c .before .before .acknowledged .ensures)
-    (sym (ap oltAnswer e ∙ rw (acknowledge-channels (c .before .before .before .before .before .before .before .before .before .before .before .before .before .args .acknowledgement))))
+    (sym (ap oltAnswer e ∙ rw (acknowledged-channels (c .before .before .before .before .before .before .before .before .before .before .before .before .before .args .acknowledgement))))
 
 pub acknowledge-spec : {M : Type 1} → statement M
 acknowledge-spec =

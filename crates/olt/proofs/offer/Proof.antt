@@ -12,8 +12,8 @@ use Rattle.ends.specs.Records.{withKeys, withConfirmation}
 use Rattle.ends.specs.Replies.{reply}
 use Rattle.ends.specs.Table.{pastUnit}
 use Rattle.ends.specs.UnitCalls.{offerUnit, unitOffered}
+use Rattle.ends.proofs.UnitCalls.{offer-accepted}
 use Rattle.olt.proofs.Lookup.{Stands, place-stands, lift-absent, lift-refused, lift-accepted}
-use Rattle.olt.proofs.Verdicts.{offer-below}
 use Rattle.olt.proofs.offer.Statement.{statement}
 use Rattle.olt.proofs.offer.Tie as tie
 
@@ -52,7 +52,7 @@ enum-told c = search needs
 
 offered-requires : tie.Need-offered-requires
 unfolding pastUnit
-offered-requires c κs = offer-below _ _ (sym (c .before .before .offer-verdict .ensures) ∙ c .enum-told .given .1)
+offered-requires c κs = offer-accepted _ _ (sym (c .before .before .offer-verdict .ensures) ∙ c .enum-told .given .1) .below
 
 key-sent-requires : tie.Need-key-sent-requires
 key-sent-requires c κs = let s = here (c .before .before .before .before .before) in omega (arith, s .below, s .few)

@@ -2,8 +2,8 @@
 -- Assumes nothing.
 use mathlib.Core.Path.{sym, _∙_}
 use borrow.Author.Needs.{needs}
-use Rattle.ends.proofs.Walks.{among-found, among-nowhere}
 use Rattle.ends.proofs.check_olt.stands_in.Statement.{statement}
+use Rattle.ends.proofs.Table.{among-found, among-nowhere}
 use Rattle.ends.proofs.check_olt.stands_in.Tie as tie
 
 find-requires : tie.Need-find-requires

@@ -3,7 +3,8 @@
 use native.Mathlib.Omega.{arith}
 use borrow.Author.Needs.{needs}
 use Rattle.ends.specs.OltCalls.{oltAdvanced}
-use Rattle.olt.proofs.Advancing.{olt-count, units-timed}
+use Rattle.ends.proofs.Validity.{olt-in-range}
+use Rattle.olt.proofs.Advancing.{units-timed}
 use Rattle.olt.proofs.timing.advanced.Statement.{statement}
 use Rattle.olt.proofs.timing.advanced.Tie as tie
 
@@ -11,7 +12,7 @@ shared-advanced-requires : tie.Need-shared-advanced-requires
 shared-advanced-requires c κs = search needs
 
 units-advanced-requires : tie.Need-units-advanced-requires
-units-advanced-requires c κs = (olt-count _ (c .before .before .pre .0), (units-timed _ (c .before .before .pre .0), omega arith))
+units-advanced-requires c κs = (olt-in-range _ (c .before .before .pre .0) .count, (units-timed _ (c .before .before .pre .0), omega arith))
 
 returns : tie.Need-returns
 unfolding oltAdvanced

@@ -1,9 +1,9 @@
--- `traffic::at_olt::unit_sent` meets its contract: only the keys change.
+-- `traffic::on_unit::unit_sent` meets its contract: only the keys change.
 -- Assumes nothing.
 use Rattle.ends.specs.Records.{withKeys}
 use borrow.Author.Needs.{needs}
-use Rattle.traffic.proofs.at_olt.unit_sent.Statement.{statement}
-use Rattle.traffic.proofs.at_olt.unit_sent.Tie as tie
+use Rattle.traffic.proofs.on_unit.unit_sent.Statement.{statement}
+use Rattle.traffic.proofs.on_unit.unit_sent.Tie as tie
 
 send-choice-requires : tie.Need-send-choice-requires
 send-choice-requires c κs = search needs

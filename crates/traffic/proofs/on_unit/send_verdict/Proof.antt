@@ -1,11 +1,11 @@
--- `traffic::at_olt::send_verdict` meets its contract: the causes are those of the definition, in its order.
+-- `traffic::on_unit::send_verdict` meets its contract: the causes are those of the definition, in its order.
 -- Assumes nothing.
 use mathlib.Core.Path.{sym}
 use Rattle.ends.specs.Replies.{refuseIf}
 use Rattle.ends.specs.UnitTraffic.{unitSendVerdict}
 use borrow.Author.Needs.{needs}
-use Rattle.traffic.proofs.at_olt.send_verdict.Statement.{statement}
-use Rattle.traffic.proofs.at_olt.send_verdict.Tie as tie
+use Rattle.traffic.proofs.on_unit.send_verdict.Statement.{statement}
+use Rattle.traffic.proofs.on_unit.send_verdict.Tie as tie
 
 taken-requires : tie.Need-taken-requires
 taken-requires c κs = search needs

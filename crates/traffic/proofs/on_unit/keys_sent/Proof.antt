@@ -1,10 +1,10 @@
--- `traffic::at_olt::keys_sent` meets its contract: by the choice.
+-- `traffic::on_unit::keys_sent` meets its contract: by the choice.
 -- Assumes nothing.
 use Rattle.ends.specs.Records.{withFirst}
 use Rattle.ends.specs.UnitTraffic.{keysSent}
 use borrow.Author.Needs.{needs}
-use Rattle.traffic.proofs.at_olt.keys_sent.Statement.{statement}
-use Rattle.traffic.proofs.at_olt.keys_sent.Tie as tie
+use Rattle.traffic.proofs.on_unit.keys_sent.Statement.{statement}
+use Rattle.traffic.proofs.on_unit.keys_sent.Tie as tie
 
 enum-told : tie.Need-enum-told
 enum-told c = search needs

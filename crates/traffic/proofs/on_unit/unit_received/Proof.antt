@@ -1,9 +1,9 @@
--- `traffic::at_olt::unit_received` meets its contract: by the choice.
+-- `traffic::on_unit::unit_received` meets its contract: by the choice.
 -- Assumes nothing.
 use Rattle.ends.specs.UnitTraffic.{unitReceived}
 use borrow.Author.Needs.{needs}
-use Rattle.traffic.proofs.at_olt.unit_received.Statement.{statement}
-use Rattle.traffic.proofs.at_olt.unit_received.Tie as tie
+use Rattle.traffic.proofs.on_unit.unit_received.Statement.{statement}
+use Rattle.traffic.proofs.on_unit.unit_received.Tie as tie
 
 enum-told : tie.Need-enum-told
 enum-told c = search needs

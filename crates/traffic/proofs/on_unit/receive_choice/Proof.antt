@@ -1,11 +1,11 @@
--- `traffic::at_olt::receive_choice` meets its contract: by the same tests as the definition.
+-- `traffic::on_unit::receive_choice` meets its contract: by the same tests as the definition.
 -- Assumes nothing.
 use borrow.Author.Tests.{eq-eqb, ne-eqb}
 use Rattle.octets.specs.Choice.{both, pick}
 use Rattle.ends.specs.UnitTraffic.{unitReceiveChoice}
 use borrow.Author.Needs.{needs}
-use Rattle.traffic.proofs.at_olt.receive_choice.Statement.{statement}
-use Rattle.traffic.proofs.at_olt.receive_choice.Tie as tie
+use Rattle.traffic.proofs.on_unit.receive_choice.Statement.{statement}
+use Rattle.traffic.proofs.on_unit.receive_choice.Tie as tie
 
 returns : tie.Need-returns
 unfolding unitReceiveChoice pick

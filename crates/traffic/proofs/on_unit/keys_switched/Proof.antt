@@ -1,10 +1,10 @@
--- `traffic::at_olt::keys_switched` meets its contract: the fields are those of the definition.
+-- `traffic::on_unit::keys_switched` meets its contract: the fields are those of the definition.
 -- Assumes nothing.
 use mathlib.Core.Path.{refl}
 use Rattle.ends.specs.Timers.{timerFallen}
 use Rattle.ends.specs.UnitTraffic.{keysSwitched}
-use Rattle.traffic.proofs.at_olt.keys_switched.Statement.{statement}
-use Rattle.traffic.proofs.at_olt.keys_switched.Tie as tie
+use Rattle.traffic.proofs.on_unit.keys_switched.Statement.{statement}
+use Rattle.traffic.proofs.on_unit.keys_switched.Tie as tie
 
 returns : tie.Need-returns
 unfolding keysSwitched timerFallen

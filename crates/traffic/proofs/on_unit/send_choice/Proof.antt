@@ -1,12 +1,12 @@
--- `traffic::at_olt::send_choice` meets its contract: by the same tests as the definition.
+-- `traffic::on_unit::send_choice` meets its contract: by the same tests as the definition.
 -- Assumes nothing.
 use mathlib.Core.Path.{sym}
 use borrow.Author.Tests.{eq-eqb, ne-eqb}
 use Rattle.octets.specs.Choice.{pick}
 use Rattle.ends.specs.UnitTraffic.{unitSendChoice}
 use borrow.Author.Needs.{needs}
-use Rattle.traffic.proofs.at_olt.send_choice.Statement.{statement}
-use Rattle.traffic.proofs.at_olt.send_choice.Tie as tie
+use Rattle.traffic.proofs.on_unit.send_choice.Statement.{statement}
+use Rattle.traffic.proofs.on_unit.send_choice.Tie as tie
 
 switches-requires : tie.Need-switches-requires
 switches-requires c κs = search needs

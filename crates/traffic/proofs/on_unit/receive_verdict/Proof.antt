@@ -1,4 +1,4 @@
--- `traffic::at_olt::receive_verdict` meets its contract: EPAM, then the choice.
+-- `traffic::on_unit::receive_verdict` meets its contract: EPAM, then the choice.
 -- Assumes nothing.
 use mathlib.Core.Path.{sym, ap, _∙_}
 use borrow.Author.Tests.{eq-eqb, ne-eqb}
@@ -6,8 +6,8 @@ use Rattle.ends.specs.Replies.{refuseIf}
 use Rattle.ends.specs.Headers.{choiceVerdict}
 use Rattle.ends.specs.UnitTraffic.{unitReceiveVerdict}
 use borrow.Author.Needs.{needs}
-use Rattle.traffic.proofs.at_olt.receive_verdict.Statement.{statement}
-use Rattle.traffic.proofs.at_olt.receive_verdict.Tie as tie
+use Rattle.traffic.proofs.on_unit.receive_verdict.Statement.{statement}
+use Rattle.traffic.proofs.on_unit.receive_verdict.Tie as tie
 
 epam-of-requires : tie.Need-epam-of-requires
 epam-of-requires c κs = search needs

@@ -1,10 +1,10 @@
--- `traffic::at_olt::confirmed` meets its contract: C and the keys are those of the definition.
+-- `traffic::on_unit::confirmed` meets its contract: C and the keys are those of the definition.
 -- Assumes nothing.
 use Rattle.ends.specs.Records.{withKeys, withSlots, withConfirmation}
 use Rattle.ends.specs.UnitTraffic.{unitConfirmed}
 use borrow.Author.Needs.{needs}
-use Rattle.traffic.proofs.at_olt.confirmed.Statement.{statement}
-use Rattle.traffic.proofs.at_olt.confirmed.Tie as tie
+use Rattle.traffic.proofs.on_unit.confirmed.Statement.{statement}
+use Rattle.traffic.proofs.on_unit.confirmed.Tie as tie
 
 only-key-requires : tie.Need-only-key-requires
 only-key-requires c κs = search needs

@@ -1,11 +1,11 @@
--- `traffic::at_olt::switches` meets its contract: the tests are those of the definition.
+-- `traffic::on_unit::switches` meets its contract: the tests are those of the definition.
 -- Assumes nothing.
 use mathlib.Core.Path.{refl}
 use Rattle.octets.specs.Choice.{both}
 use Rattle.ends.specs.UnitTraffic.{switches}
 use borrow.Author.Needs.{needs}
-use Rattle.traffic.proofs.at_olt.switches.Statement.{statement}
-use Rattle.traffic.proofs.at_olt.switches.Tie as tie
+use Rattle.traffic.proofs.on_unit.switches.Statement.{statement}
+use Rattle.traffic.proofs.on_unit.switches.Tie as tie
 
 cast-next : tie.Need-cast-next
 cast-next c = search needs

@@ -1,0 +1,138 @@
+// Send and receive of the OLT on the record of one unit: the key that is chosen, the verdict, and the record after (01, Keys).
+ghost use mathlib.Core.Path.{_≡_};
+ghost use Rattle.ends.specs.Records.{withKeys};
+ghost use Rattle.ends.specs.UnitTraffic.{keysSent, keysSwitched, switches, unitConfirmed, unitReceiveChoice, unitReceiveVerdict, unitReceived, unitSendChoice, unitSendVerdict};
+use crate::passing;
+use clock::epam_of;
+use ends::Header;
+use ends::KeyChoice;
+use ends::Shared;
+use ends::Unit;
+use ends::UnitKeys;
+use ends::keyslots::only_key;
+use refusal::Refusal;
+use refusal::Verdict;
+
+// Whether the next accepted send switches.
+fn switches(unit: Unit) -> bool
+    ensures { λ r. ⌜ r ≡ switches unit ⌝ }
+{
+    let next = unit.keys.active as u64 + 1;
+    (unit.keys.timer.flag == 1)
+        & ((unit.keys.offered as u64 == next) & (unit.confirmation.acknowledged == 1))
+}
+
+pub(crate) fn send_choice(unit: Unit) -> KeyChoice
+    ensures { λ r. ⌜ r ≡ unitSendChoice unit ⌝ }
+{
+    if switches(unit) {
+        return KeyChoice::Next(unit.keys.offered);
+    }
+    if unit.keys.active == 0 {
+        return KeyChoice::Clear;
+    }
+    KeyChoice::Current(unit.keys.active)
+}
+
+pub(crate) fn send_verdict(shared: Shared, unit: Unit, index: u8) -> Verdict
+    ensures { λ r. ⌜ r ≡ unitSendVerdict shared unit index ⌝ }
+{
+    if passing::taken(shared.channels, index, shared.tick) {
+        return Verdict::Refused(Refusal::ChannelTaken);
+    }
+    let choice = send_choice(unit);
+    if passing::choice_aged(choice, unit.keys.first, shared.tick) {
+        return Verdict::Refused(Refusal::KeyTooOld);
+    }
+    Verdict::Accepted
+}
+
+fn keys_switched(keys: UnitKeys, tick: u64) -> UnitKeys
+    ensures { λ r. ⌜ r ≡ keysSwitched keys tick ⌝ }
+{
+    let mut r = keys;
+    r.timer.flag = 0;
+    r.active = keys.offered;
+    r.first.noted = 1;
+    r.first.tick = tick;
+    r
+}
+
+fn keys_sent(choice: KeyChoice, keys: UnitKeys, tick: u64) -> UnitKeys
+    ensures { λ r. ⌜ r ≡ keysSent choice keys tick ⌝ }
+{
+    match choice {
+        KeyChoice::Clear => keys,
+        KeyChoice::Current(_) => {
+            let first = passing::first_send(keys.first, tick);
+            let mut r = keys;
+            r.first = first;
+            r
+        }
+        KeyChoice::Next(_) => keys_switched(keys, tick),
+        KeyChoice::Barred(_) => keys,
+    }
+}
+
+pub(crate) fn unit_sent(unit: Unit, tick: u64) -> Unit
+    ensures { λ r. ⌜ r ≡ withKeys unit (keysSent (unitSendChoice unit) (unit .keys) tick) ⌝ }
+{
+    let keys = keys_sent(send_choice(unit), unit.keys, tick);
+    let mut r = unit;
+    r.keys = keys;
+    r
+}
+
+pub(crate) fn receive_choice(unit: Unit, header: Header) -> KeyChoice
+    ensures { λ r. ⌜ r ≡ unitReceiveChoice unit header ⌝ }
+{
+    let confirmed = unit.confirmation.confirmed;
+    let active = unit.keys.active;
+    if header.encenabled == 0 {
+        if confirmed == 0 {
+            return KeyChoice::Clear;
+        }
+        return KeyChoice::Barred(Refusal::ClearEnvelope);
+    }
+    let next = confirmed as u64 + 1;
+    if (1 <= confirmed) & (header.enckey as u32 == confirmed % 2) {
+        return KeyChoice::Current(confirmed);
+    }
+    if (active as u64 == next) & (header.enckey as u32 == active % 2) {
+        return KeyChoice::Next(active);
+    }
+    KeyChoice::Barred(Refusal::NoKey)
+}
+
+pub(crate) fn receive_verdict(shared: Shared, unit: Unit, header: Header) -> Verdict
+    ensures { λ r. ⌜ r ≡ unitReceiveVerdict shared unit header ⌝ }
+{
+    let epam = epam_of(shared.clock);
+    if header.epam != epam {
+        return Verdict::Refused(Refusal::EpamDiffers);
+    }
+    passing::choice_verdict(receive_choice(unit, header))
+}
+
+// C becomes A, and the key before A is wiped.
+fn confirmed(unit: Unit) -> Unit
+    ensures { λ r. ⌜ r ≡ unitConfirmed unit ⌝ }
+{
+    let mut keys = unit.keys;
+    keys.slots = only_key(unit.keys.slots, unit.keys.active);
+    let mut r = unit;
+    r.keys = keys;
+    r.confirmation.confirmed = unit.keys.active;
+    r
+}
+
+pub(crate) fn unit_received(choice: KeyChoice, unit: Unit) -> Unit
+    ensures { λ r. ⌜ r ≡ unitReceived choice unit ⌝ }
+{
+    match choice {
+        KeyChoice::Clear => unit,
+        KeyChoice::Current(_) => unit,
+        KeyChoice::Next(_) => confirmed(unit),
+        KeyChoice::Barred(_) => unit,
+    }
+}

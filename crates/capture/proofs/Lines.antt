@@ -2,25 +2,24 @@
 use mathlib.Core.Path.{_≡_, sym, ap, _∙_}
 use mathlib.Core.Bool.{Bool, true, false}
 use mathlib.Core.List.{List, [], _∷_, _++_, append-assoc, append-nil}
-use Prim.Native.Nat.{ℕ, zero, suc, _+_, _≤_, _<_}
+use Prim.Native.Nat.{ℕ, zero, suc, _+_, _≤_}
 use native.Mathlib.Nat.{add-zero, zero-add}
 use native.Mathlib.Numerals.{add-one}
 use native.Mathlib.Omega.{arith}
 use lib.Dec.{ltb}
-use lib.ListN.{length, getD, take, set, length-append}
-use lib.Seq.{take-suc, take-suc-set}
+use lib.ListN.{length, length-append}
 use Rattle.octets.specs.Choice.{pick}
-use Rattle.refusal.specs.declared.Refusal.{Refusal}
 use Rattle.refusal.specs.Number.{numberOf}
-use Rattle.capture.specs.declared.header.Header.{Header}
-use Rattle.capture.specs.declared.header.RecordVerdict.{RecordVerdict}
-use Rattle.capture.specs.declared.header.RecordVerdict.the-variants.{Clear, Sealed}
-use Rattle.capture.specs.declared.listing.Line.{Line}
+use Rattle.refusal.specs.declared.Refusal.{Refusal}
 use Rattle.capture.specs.Record.{headerOf}
 use Rattle.capture.specs.Directory.{recordOf}
 use Rattle.capture.specs.Opening.{verdictOf}
 use Rattle.capture.specs.Listing.{decimalOf, refusedText, resultText, rowHead, rowTail, rowOf, rowsFrom}
 use Rattle.capture.specs.Duties.{textOf, Grown}
+use Rattle.capture.specs.declared.header.Header.{Header}
+use Rattle.capture.specs.declared.header.RecordVerdict.{RecordVerdict}
+use Rattle.capture.specs.declared.header.RecordVerdict.the-variants.{Clear, Sealed}
+use Rattle.capture.specs.declared.listing.Line.{Line}
 
 -- one piece after the other
 pub both-grown : {l m n : Line} {p q : List ℕ} → Grown l m p → Grown m n q → Grown l n (p ++ q)
@@ -67,13 +66,6 @@ pub tail-pieces : (x y : ℕ) (d r : List ℕ) → x ≡ y
     → ((((x ∷ 32 ∷ []) ++ d) ++ (32 ∷ [])) ++ r) ++ (10 ∷ []) ≡ y ∷ 32 ∷ (d ++ (32 ∷ (r ++ (10 ∷ []))))
 tail-pieces x y d r e =
     rw e (ap (λ (t : List ℕ). y ∷ 32 ∷ t) (append-assoc (d ++ (32 ∷ [])) r (10 ∷ []) ∙ append-assoc d (32 ∷ []) (r ++ (10 ∷ []))))
-
--- one turn of a loop that writes a piece behind the first `at` elements
-pub append-more : (s t piece : List ℕ) (at j : ℕ) → at + j < length t → j < length piece → take (at + j) t ≡ take at s ++ take j piece
-    → take (at + (j + 1)) (set t (at + j) (getD piece j 0)) ≡ take at s ++ take (j + 1) piece
-append-more s t piece at j h l e =
-    let n : at + (j + 1) ≡ suc (at + j) = omega arith in
-    rw (n, take-suc-set t (at + j) (getD piece j 0) h, add-one, take-suc piece j 0 l, e) (append-assoc (take at s) (take j piece) (getD piece j 0 ∷ []))
 
 -- the row of record i
 abbrev rowAt : List ℕ → List ℕ → ℕ → List ℕ

@@ -1,7 +1,7 @@
 -- Laws of opening: what the sealing call does for a record, and how the opened records make up the output.
 -- Assumes nothing.
 use mathlib.Core.Path.{_≡_, refl, sym, ap, _∙_}
-use mathlib.Core.Bool.{Bool, true, false}
+use mathlib.Core.Bool.{true}
 use mathlib.Core.List.{List, _++_, append-assoc, append-nil}
 use Prim.Native.Nat.{ℕ, zero, suc, _+_, _-_, _*_, _/_, _%_, _^_, _≤_, _<_}
 use native.Mathlib.Nat.{add-zero, zero-add, add-suc, suc-add}
@@ -14,8 +14,9 @@ use lib.Dec.{eqb}
 use borrow.Author.Tests.{eq-eqb, eqb-true, le-leb, lt-ltb}
 use Rattle.octets.specs.Choice.{pick}
 use Rattle.octets.specs.Lists.{part, replaced, sum}
-use Rattle.octets.proofs.Lists.{sum-below, sum-suc, part-length}
-use Rattle.octets.proofs.Choice.{both-left, both-right, both-true, pick-true}
+use Rattle.octets.specs.Eqs.{maxEqs}
+use Rattle.octets.proofs.Lists.{sum-below, sum-suc, part-length, part-below, drop-part}
+use Rattle.octets.proofs.Choice.{both-left, both-right, both-true, pick-true, pick-first}
 use Rattle.refusal.specs.declared.Refusal.{Refusal}
 use Rattle.refusal.specs.declared.Verdict.{Verdict}
 use Rattle.refusal.specs.declared.Verdict.the-variants.{Accepted}
@@ -24,7 +25,7 @@ use Rattle.sealing.specs.declared.envelope.SealAnswer.{SealAnswer}
 use Rattle.sealing.specs.declared.envelope.SealAnswer.the-variants.{Done}
 use Rattle.sealing.specs.Payload.{controlOctet, sealed}
 use Rattle.sealing.specs.Payload.{countOf as countEnciphered}
-use Rattle.sealing.specs.Seal.{maxEqs, lengthsFit, nonceFits, judgeSeal, sealing, Sealing}
+use Rattle.sealing.specs.Seal.{lengthsFit, nonceFits, judgeSeal, sealing, Sealing}
 use Rattle.sealing.specs.Seal.{outcome as sealOutcome}
 use Rattle.sealing.specs.KeyExpansion.{keyExpansion}
 use Rattle.sealing.proofs.Payload.{sealed-length}
@@ -45,7 +46,7 @@ use Rattle.capture.specs.Verdict.{headerFits}
 use Rattle.capture.specs.Duties.{Placed, Expanded}
 use Rattle.capture.proofs.Verdicts.{settings-octets}
 use Rattle.capture.proofs.Pairs.{pair-fits, due-next}
-use Rattle.capture.proofs.Records.{Records, good, placed, records-end, part-below, drop-part}
+use Rattle.capture.proofs.Records.{Records, good, placed, records-end}
 
 -- a record's payload is accepted for opening
 pub seal-accepted : (n m : ℕ) (nonce : Nonce) → n % 9 ≡ 0 → n ≤ 65536 → m ≡ n → nonceFits nonce ≡ true → judgeSeal n m nonce ≡ Accepted
@@ -227,11 +228,6 @@ then-both : (u v : Verdict) → andThen u v ≡ Accepted → (u ≡ Accepted) ×
 then-both Accepted v e = (refl, e)
 then-both (Verdict.Refused r) v e = (e, cc)
 
-pick-accepted : (t : Bool) (v : Verdict) (r : Refusal) → pick t v (Verdict.Refused r) ≡ Accepted → (t ≡ true) × (v ≡ Accepted)
-unfolding pick
-pick-accepted true v r e = (refl, e)
-pick-accepted false v r e = (cc, cc)
-
 counted : (b : List ℕ) (d : Directory) → directoryOf b ≡ d → verdictOn d ≡ Accepted → directoryOf b ≡ Good (countOf b)
 counted b (Good n) q e = q ∙ ap Good (good b n q .count)
 counted b BadSize q e = cc
@@ -241,7 +237,7 @@ counted b (BadLength k) q e = cc
 pub callable : (s b : List ℕ) (m : ℕ) → openVerdict s b m ≡ Accepted → Callable s b m
 unfolding openVerdict
 callable s b m e =
-    let p = pick-accepted (eqb m (length b)) _ Refusal.BadLength e in
+    let p = pick-first (eqb m (length b)) _ (Verdict.Refused Refusal.BadLength) Accepted (λ z. cc) e in
     let q = then-both (settingsVerdict s) (verdictOn (directoryOf b)) (p .1) in
     record {
       size = eqb-true _ _ (p .0);

@@ -1,5 +1,5 @@
 -- Laws of the pairs of a directory: what the tests on a pair say of its verdict. Assumes nothing.
-use mathlib.Core.Path.{_≡_, refl, sym, _∙_}
+use mathlib.Core.Path.{_≡_, sym, _∙_}
 use mathlib.Core.Bool.{Bool, true, false, not}
 use mathlib.Core.List.{List}
 use Prim.Native.Nat.{ℕ, suc, _+_, _-_, _*_, _≤_, _<_}
@@ -9,11 +9,11 @@ use lib.Dec.{eqb}
 use lib.ListN.{length}
 use borrow.Author.Tests.{leb-true, eqb-true, eq-eqb, ne-eqb}
 use Rattle.octets.specs.Choice.{both, either, pick}
-use Rattle.octets.proofs.Choice.{both-left, both-right}
-use Rattle.capture.specs.declared.directory.Pair.the-variants.{Fits, OffChain, OffLength}
-use Rattle.capture.specs.declared.directory.Directory.the-variants.{Good}
+use Rattle.octets.proofs.Choice.{both-left, both-right, pick-first}
 use Rattle.capture.specs.Record.{sized}
 use Rattle.capture.specs.Directory.{mostOctets, mostRecords, countOf, offsetOf, lengthOf, endOf, dueOf, recordOf, endFits, chained, pairOf, sizeFits, withPair, pairsFrom}
+use Rattle.capture.specs.declared.directory.Pair.the-variants.{Fits, OffChain, OffLength}
+use Rattle.capture.specs.declared.directory.Directory.the-variants.{Good}
 
 pub end-within : (last : Bool) (end size : ℕ) → endFits last end size ≡ true → end ≤ size
 unfolding endFits
@@ -43,12 +43,6 @@ pub record Within (b : List ℕ) (i : ℕ) : Type 0 where
   pub last : i + 1 ≡ countOf b → endOf b i ≡ length b
   pub sizes : sized (recordOf b i) ≡ true
 
-fits-both : (t u : Bool) → pick t (pick u Fits OffLength) OffChain ≡ Fits → (t ≡ true) × (u ≡ true)
-unfolding pick
-fits-both true true e = (refl, refl)
-fits-both true false e = (refl, cc)
-fits-both false u e = (cc, cc)
-
 end-at : (last : Bool) (end size : ℕ) → endFits last end size ≡ true → last ≡ true → end ≡ size
 unfolding endFits
 end-at true end size e l = eqb-true end size e
@@ -57,13 +51,14 @@ end-at false end size e l = let z : false ≡ true = l in cc
 pub pair-fits : (b : List ℕ) (i : ℕ) → pairOf b i ≡ Fits → Within b i
 unfolding pairOf chained
 pair-fits b i e =
-    let f = fits-both (chained b i) (sized (recordOf b i)) e in
+    let f = pick-first (chained b i) _ OffChain Fits (λ z. cc) e in
+    let s = pick-first (sized (recordOf b i)) Fits OffLength Fits (λ z. cc) (f .1) in
     let t : ends b i ≡ true = both-right _ _ (f .0) in
     record {
       place = eqb-true _ _ (both-left _ _ (f .0));
       inside = end-within _ _ _ t;
       last = λ l. end-at _ _ _ t (eq-eqb (i + 1) (countOf b) l);
-      sizes = f .1;
+      sizes = s .0;
     }
 
 -- what a block of the right size holds

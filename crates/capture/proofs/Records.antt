@@ -1,32 +1,30 @@
 -- Laws of the records of a good directory: where they stand and how long they are. Assumes nothing.
 use mathlib.Core.Path.{_≡_, refl, sym, _∙_}
 use mathlib.Core.Bool.{Bool, true, false}
-use mathlib.Core.List.{List, [], _∷_}
-use Prim.Native.Nat.{ℕ, zero, suc, _+_, _-_, _≤_, _<_}
-use native.Mathlib.Nat.{zero-add, sub-zero, suc-sub-suc, le-of-suc-le-suc}
+use mathlib.Core.List.{List}
+use Prim.Native.Nat.{ℕ, zero, suc, _+_, _≤_, _<_}
+use native.Mathlib.Nat.{zero-add}
 use native.Mathlib.Omega.{arith}
 use lib.Dec.{leb}
-use lib.ListN.{length, take, drop, length-take, length-drop}
-use lib.Seq.{drop-drop, take-nil}
+use lib.ListN.{length}
 use borrow.Author.Tests.{leb-true, leb-false, eqb-true}
-use Rattle.octets.specs.Choice.{both, pick}
-use Rattle.octets.specs.Lists.{part}
-use Rattle.octets.proofs.Choice.{both-left, both-right}
-use Rattle.octets.proofs.Lists.{part-length}
+use Rattle.octets.specs.Choice.{both}
+use Rattle.octets.proofs.Choice.{both-left, both-right, pick-first}
+use Rattle.octets.proofs.Lists.{part-length, drop-part}
 use Rattle.refusal.specs.declared.Refusal.{Refusal}
 use Rattle.refusal.specs.declared.Refusal.the-variants.{OutOfRange}
 use Rattle.refusal.specs.declared.Verdict.{Verdict}
 use Rattle.refusal.specs.declared.Verdict.the-variants.{Accepted, Refused}
+use Rattle.capture.specs.Record.{payloadOf, sized}
+use Rattle.capture.specs.Directory.{countOf, offsetOf, lengthOf, endOf, dueOf, recordOf, pairOf, sizeFits, withPair, pairsFrom, directoryOf}
+use Rattle.capture.specs.Duties.{Placed}
+use Rattle.capture.specs.Payload.{recordAsked, payloadVerdict, boundsOf, boundsAfter, payloadBounds, unlessRefused, payloadPart}
 use Rattle.capture.specs.declared.directory.Pair.{Pair}
 use Rattle.capture.specs.declared.directory.Pair.the-variants.{Fits, OffChain, OffLength}
 use Rattle.capture.specs.declared.directory.Directory.{Directory}
 use Rattle.capture.specs.declared.directory.Directory.the-variants.{Good, BadSize, BadChain, BadLength}
 use Rattle.capture.specs.declared.payload.Bounds.{Bounds}
 use Rattle.capture.specs.declared.payload.Bounds.the-variants.{Within, Absent}
-use Rattle.capture.specs.Record.{payloadOf, sized}
-use Rattle.capture.specs.Directory.{countOf, offsetOf, lengthOf, endOf, dueOf, recordOf, pairOf, sizeFits, withPair, pairsFrom, directoryOf}
-use Rattle.capture.specs.Duties.{Placed}
-use Rattle.capture.specs.Payload.{recordAsked, payloadVerdict, boundsOf, boundsAfter, payloadBounds, unlessRefused, payloadPart}
 use Rattle.capture.proofs.Pairs.{Sizes, size-fits, pair-fits}
 
 -- what a good directory of n records says of its block
@@ -57,15 +55,10 @@ good-pairs b i (suc m) n e =
     let r = good-pairs b (suc i) m n (g .1) in
     (omega (arith, r .0), λ j l h. from-first b i m j (leb (suc i) j) (g .0) (r .1) refl l h)
 
-good-size : (t : Bool) (d : Directory) (n : ℕ) → pick t d BadSize ≡ Good n → (t ≡ true) × (d ≡ Good n)
-unfolding pick
-good-size true d n e = (refl, e)
-good-size false d n e = (cc, cc)
-
 pub good : (b : List ℕ) (n : ℕ) → directoryOf b ≡ Good n → Records b n
 unfolding directoryOf
 good b n e =
-    let s = good-size (sizeFits b) (pairsFrom b 0 (countOf b)) n e in
+    let s = pick-first (sizeFits b) (pairsFrom b 0 (countOf b)) BadSize (Good n) (λ z. cc) e in
     let p = good-pairs b 0 (countOf b) n (s .1) in
     record { count = p .0 ∙ zero-add (countOf b); right = s .0; sizes = size-fits b (s .0); fit = λ i h. p .1 i (omega arith) (omega (arith, p .0)) }
 
@@ -76,20 +69,7 @@ placed b n i r h =
     let w = pair-fits b i (r .fit i h) in
     let l = part-length b (offsetOf b i) (lengthOf b i) (w .inside) in
     let q = eqb-true _ _ (both-right _ _ (w .sizes)) in
-    record { pair = omega (arith, r .sizes .pairs, r .count); inside = w .inside; octets = l; size = sym l ∙ q } where
-      part-length : (s : List ℕ) (at k : ℕ) → at + k ≤ length s → length (part s at k) ≡ k
-      part-length s at k h = simp (length-take, length-drop) (omega arith)
-
--- a part without its first elements
-pub drop-part : (s : List ℕ) (at k m : ℕ) → m ≤ k → drop m (part s at k) ≡ part s (at + m) (at + k - (at + m))
-drop-part s at k m h =
-    let e : at + k - (at + m) ≡ k - m = omega arith in
-    rw (e, ← drop-drop m at s) (drop-take m k (drop at s) h) where
-      drop-take : (m k : ℕ) (l : List ℕ) → m ≤ k → drop m (take k l) ≡ take (k - m) (drop m l)
-      drop-take zero k l h = rw sub-zero
-      drop-take (suc m) zero l h = absurd (omega arith)
-      drop-take (suc m) (suc k) [] h = sym (take-nil (suc k - suc m))
-      drop-take (suc m) (suc k) (x ∷ l) h = rw suc-sub-suc (drop-take m k l (le-of-suc-le-suc h))
+    record { pair = omega (arith, r .sizes .pairs, r .count); inside = w .inside; octets = l; size = sym l ∙ q }
 
 -- an accepted number is that of a record
 pub record Asked (b : List ℕ) (k : ℕ) : Type 0 where
@@ -98,17 +78,12 @@ pub record Asked (b : List ℕ) (k : ℕ) : Type 0 where
   pub first : 1 ≤ k
   pub last : k ≤ count
 
-in-range : (t : Bool) → pick t Accepted (Refused OutOfRange) ≡ Accepted → t ≡ true
-unfolding pick
-in-range true e = refl
-in-range false e = cc
-
 never : (r : Refusal) → Refused r ≡ Accepted → ⊥
 never r e = let z : _≡_ {A = ℕ} 0 1 = cc in omega arith
 
 by-directory : (b : List ℕ) (k : ℕ) (d : Directory) → directoryOf b ≡ d → recordAsked d k ≡ Accepted → Asked b k
 by-directory b k (Good n) q e =
-    let t = in-range (both (leb 1 k) (leb k n)) e in
+    let t = pick-first (both (leb 1 k) (leb k n)) Accepted (Refused OutOfRange) Accepted (λ z. cc) e .0 in
     record { count = n; records = good b n q; first = leb-true _ _ (both-left _ _ t); last = leb-true _ _ (both-right _ _ t) }
 by-directory b k BadSize q e = absurd (never _ e)
 by-directory b k (BadChain i) q e = absurd (never _ e)
@@ -156,7 +131,3 @@ pub records-end : (b : List ℕ) (n : ℕ) → Records b n → dueOf b n ≡ len
 unfolding dueOf
 records-end b zero r = omega (arith, r .count, r .sizes .alone (sym (r .count)))
 records-end b (suc m) r = pair-fits b m (r .fit m (omega arith)) .last (omega (arith, r .count))
-
--- a part is no longer than the whole
-pub part-below : (s : List ℕ) (at k : ℕ) → length (part s at k) ≤ length s
-part-below s at k = simp (length-take, length-drop) (omega arith)

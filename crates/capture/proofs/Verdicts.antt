@@ -3,23 +3,21 @@ use mathlib.Core.Path.{_≡_, refl, sym, _∙_}
 use mathlib.Core.Bool.{Bool, true, false}
 use mathlib.Core.List.{List}
 use Prim.Native.Nat.{ℕ, _%_}
-use lib.Dec.{eqb, ltb}
+use lib.Dec.{eqb}
 use lib.ListN.{length}
 use borrow.Author.Tests.{eq-eqb, ne-eqb, eqb-true}
 use Rattle.octets.specs.Bits.{bitOf}
 use Rattle.octets.specs.Choice.{pick}
-use Rattle.octets.proofs.Choice.{pick-true, pick-false}
-use Rattle.refusal.specs.declared.Refusal.{Refusal}
+use Rattle.octets.proofs.Choice.{pick-true, pick-false, pick-first}
 use Rattle.refusal.specs.declared.Refusal.the-variants.{OutOfRange, UnknownLlid, NoKey, BadLength}
 use Rattle.refusal.specs.declared.Verdict.{Verdict}
 use Rattle.refusal.specs.declared.Verdict.the-variants.{Accepted}
+use Rattle.capture.specs.Settings.{settingsOctets, keyPresent, settingsVerdict}
+use Rattle.capture.specs.Verdict.{headerFits, isEnciphered, encKey, epamCheck, keyVerdict, inOrder, recordVerdict}
 use Rattle.capture.specs.declared.header.Header.{Header}
 use Rattle.capture.specs.declared.header.Epam.{Epam}
 use Rattle.capture.specs.declared.header.Epam.the-variants.{Agrees, Differs}
-use Rattle.capture.specs.declared.header.RecordVerdict.{RecordVerdict}
 use Rattle.capture.specs.declared.header.RecordVerdict.the-variants.{Clear, Sealed, Refused}
-use Rattle.capture.specs.Settings.{settingsOctets, presenceOf, keyPresent, settingsVerdict}
-use Rattle.capture.specs.Verdict.{headerFits, isEnciphered, encKey, epamCheck, keyVerdict, inOrder, recordVerdict}
 
 module _ (presence llid : ℕ) (h : Header) where
   pub malformed : headerFits h ≡ false → Refused OutOfRange ≡ recordVerdict presence llid h
@@ -47,26 +45,10 @@ module _ (presence : ℕ) (h : Header) (epam : Epam) (t : ℕ) (e : epam ≡ Agr
   unfolding keyVerdict isEnciphered encKey keyPresent
   is-sealed q p = rw e (sym (pick-true _ _ (eq-eqb _ _ q) ∙ pick-true _ _ (eq-eqb _ _ p)))
 
-fits-length : (t u : Bool) → pick t (pick u Accepted (Verdict.Refused OutOfRange)) (Verdict.Refused BadLength) ≡ Accepted → (t ≡ true) × (u ≡ true)
-unfolding pick
-fits-length true true e = (refl, refl)
-fits-length true false e = (refl, cc)
-fits-length false u e = (cc, cc)
-
 -- settings that are accepted have their length
 pub settings-octets : (s : List ℕ) → settingsVerdict s ≡ Accepted → length s ≡ settingsOctets
 unfolding settingsVerdict
-settings-octets s e = eqb-true _ _ (fits-length (eqb (length s) settingsOctets) (ltb (presenceOf s) 4) e .0)
-
-unless-refused : (b : Bool) (v : RecordVerdict) (r : Refusal) (i t : ℕ) → pick b v (Refused r) ≡ Sealed i t → (b ≡ true) × (v ≡ Sealed i t)
-unfolding pick
-unless-refused true v r i t e = (refl, e)
-unless-refused false v r i t e = (cc, cc)
-
-unless-clear : (b : Bool) (v : RecordVerdict) (i t : ℕ) → pick b v Clear ≡ Sealed i t → (b ≡ true) × (v ≡ Sealed i t)
-unfolding pick
-unless-clear true v i t e = (refl, e)
-unless-clear false v i t e = (cc, cc)
+settings-octets s e = eqb-true _ _ (pick-first (eqb (length s) settingsOctets) _ (Verdict.Refused BadLength) Accepted (λ z. cc) e .0)
 
 unless-differs : (presence : ℕ) (h : Header) (b : Bool) (clock i t : ℕ) → keyVerdict presence h (pick b (Agrees clock) Differs) ≡ Sealed i t
     → (b ≡ true) × (keyVerdict presence h (Agrees clock) ≡ Sealed i t)
@@ -90,11 +72,11 @@ pub record Openable (presence llid : ℕ) (h : Header) (i t : ℕ) : Type 0 wher
 pub openable : (presence llid : ℕ) (h : Header) (i t : ℕ) → recordVerdict presence llid h ≡ Sealed i t → Openable presence llid h i t
 unfolding recordVerdict inOrder keyVerdict epamCheck
 openable presence llid h i t e =
-    let a = unless-refused (headerFits h) _ OutOfRange i t e in
-    let b = unless-refused (eqb (h .llid) llid) _ UnknownLlid i t (a .1) in
+    let a = pick-first (headerFits h) _ (Refused OutOfRange) (Sealed i t) (λ z. cc) e in
+    let b = pick-first (eqb (h .llid) llid) _ (Refused UnknownLlid) (Sealed i t) (λ z. cc) (a .1) in
     let c = unless-differs presence h (eqb (h .epam) (h .clock % 64)) (h .clock) i t (b .1) in
-    let d = unless-clear (isEnciphered h) _ i t (c .1) in
-    let f = unless-refused (keyPresent presence (encKey h)) _ NoKey i t (d .1) in
+    let d = pick-first (isEnciphered h) _ Clear (Sealed i t) (λ z. cc) (c .1) in
+    let f = pick-first (keyPresent presence (encKey h)) _ (Refused NoKey) (Sealed i t) (λ z. cc) (d .1) in
     let g = sealed-same (encKey h) i (h .clock) t (f .1) in
     record {
       fits = a .0;

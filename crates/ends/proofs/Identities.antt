@@ -11,12 +11,11 @@ use lib.ListN.{getD}
 use borrow.Author.Tests.{eqb-true, eq-eqb, leb-true, lt-ltb, not-true}
 use Rattle.octets.specs.Choice.{both, either, pick}
 use Rattle.octets.specs.Lists.{tabulate}
-use Rattle.octets.proofs.Choice.{both-left, both-right, both-true, either-false, pick-true}
+use Rattle.octets.proofs.Choice.{both-left, both-right, both-true, either-false, pick-true, true-false, either-left, either-right, either-none, either-cases, either-assoc, not-of-false}
 use Rattle.octets.proofs.Lists.{tabulate-at, tabulate-ext}
 use Rattle.ends.specs.Limits.{maxLlids}
 use Rattle.ends.specs.Identities.{among, meets, distinct, noIdentity, llidsOf, has, kept, validMac, validIdentity}
 use Rattle.ends.specs.declared.Identity.{Identity}
-use Rattle.ends.proofs.Tests.{true-false, either-left, either-right, either-none, either-cases, either-assoc, not-of-false}
 
 ---- lists of numbers
 

@@ -8,7 +8,7 @@ use native.Mathlib.Omega.{arith}
 use borrow.Author.Tests.{ltb-true, eqb-true, lt-ltb, eq-eqb, ne-eqb, not-false}
 use Rattle.octets.specs.Choice.{either}
 use Rattle.octets.specs.Lists.{same}
-use Rattle.octets.proofs.Choice.{both-left, both-right, both-true, pick-true, pick-false}
+use Rattle.octets.proofs.Choice.{both-left, both-right, both-true, pick-true, pick-false, not-of-true, both-false-left, both-false-right, either-left, either-right, pick-holds}
 use Rattle.octets.proofs.Lists.{same-refl}
 use Rattle.refusal.specs.declared.Refusal.the-variants.{UnknownLlid, ClockNotSet, NothingOutstanding}
 use Rattle.refusal.specs.declared.Verdict.the-variants.{Accepted}
@@ -24,7 +24,6 @@ use Rattle.ends.specs.declared.OnuKeys.{OnuKeys}
 use Rattle.ends.specs.declared.Onu.{Onu}
 use Rattle.ends.specs.declared.KeyMessage.{KeyMessage}
 use Rattle.ends.specs.declared.Acknowledgement.{Acknowledgement}
-use Rattle.ends.proofs.Tests.{not-of-true, both-false-left, both-false-right, either-left, either-right, pick-holds}
 use Rattle.ends.proofs.Replies.{number-accepted, refuse-accepted, refuse-passed}
 use Rattle.ends.proofs.Keys.{key-stored}
 use Rattle.ends.proofs.Validity.{onu-in-range, onu-valid}

@@ -3,7 +3,6 @@ pub mod Identities
 pub mod KeyMessages
 pub mod Keys
 pub mod Lift
-pub mod Lists
 pub mod Occupancy
 pub mod OltAdvance
 pub mod OltCalls
@@ -15,7 +14,6 @@ pub mod OnuTraffic
 pub mod Registration
 pub mod Replies
 pub mod Table
-pub mod Tests
 pub mod Timers
 pub mod UnitCalls
 pub mod UnitChoices

@@ -6,6 +6,8 @@ use Prim.Native.Nat.{ℕ, _<_}
 use native.Mathlib.Omega.{arith}
 use lib.ListN.{length-take}
 use lib.Seq.{getD-take, take-set-lt}
+use Rattle.octets.proofs.Choice.{not-of-true, not-of-false}
+use Rattle.octets.proofs.Tests.{all-at, all-set}
 use Rattle.refusal.specs.declared.Refusal.{Refusal}
 use Rattle.refusal.specs.declared.Refusal.the-variants.{OutOfRange, UnknownLlid}
 use Rattle.refusal.specs.declared.Verdict.{Verdict}
@@ -23,8 +25,6 @@ use Rattle.ends.specs.declared.Shared.{Shared}
 use Rattle.ends.specs.declared.Olt.{Olt}
 use Rattle.ends.specs.declared.Found.{Found}
 use Rattle.ends.specs.declared.Found.the-variants.{At, Nowhere}
-use Rattle.ends.proofs.Tests.{not-of-true, not-of-false}
-use Rattle.ends.proofs.Lists.{all-at, all-set}
 use Rattle.ends.proofs.Replies.{refused-accepts, refuse-passed, refuse-stopped, reply-accepted, reply-refused, Untouched}
 use Rattle.ends.proofs.Table.{Registered, find-at, identities, SameUnits, find-same, table-same, with-unit, with-other, with-twice, with-channels, with-same-units, with-beside, Beside}
 use Rattle.ends.proofs.Validity.{shared-in-range, shared-valid, olt-in-range, olt-valid}

@@ -6,9 +6,10 @@ use native.Mathlib.Omega.{arith}
 use lib.Dec.{leb, eqb}
 use borrow.Author.Tests.{leb-true, ltb-true, ltb-false, eqb-true, eqb-false, le-leb, lt-ltb, le-ltb}
 use Rattle.octets.specs.Choice.{both, pick}
+use Rattle.octets.specs.Eqs.{maxEqs}
 use Rattle.octets.proofs.Choice.{both-left, both-right, both-true}
 use Rattle.clock.specs.Ticks.{maxTick}
-use Rattle.ends.specs.Limits.{maxEqs, maxFree}
+use Rattle.ends.specs.Limits.{maxFree}
 use Rattle.ends.specs.Occupancy.{downstream, upstream, freeChannels, onZero, freeFrom, taken, occupied, validChannels}
 use Rattle.ends.specs.declared.Channels.{Channels}
 

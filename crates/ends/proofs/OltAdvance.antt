@@ -6,6 +6,9 @@ use Prim.Native.Nat.{ℕ, _+_, _≤_}
 use native.Mathlib.Nat.{add-assoc}
 use native.Mathlib.Omega.{arith}
 use borrow.Author.Tests.{not-false}
+use Rattle.octets.proofs.Choice.{not-of-true}
+use Rattle.octets.proofs.Tests.{all-map}
+use Rattle.octets.proofs.Maps.{map-twice, map-same, take-first, drop-first, map-first, getD-first}
 use Rattle.refusal.specs.declared.Refusal.the-variants.{OutOfRange}
 use Rattle.refusal.specs.declared.Verdict.the-variants.{Accepted}
 use Rattle.clock.specs.Ticks.{maxTick}
@@ -19,8 +22,6 @@ use Rattle.ends.specs.OltCalls.{oltAnswer, sharedAdvanced, oltAdvanced, 
 use Rattle.ends.specs.declared.Unit.{Unit}
 use Rattle.ends.specs.declared.Shared.{Shared}
 use Rattle.ends.specs.declared.Olt.{Olt}
-use Rattle.ends.proofs.Tests.{not-of-true}
-use Rattle.ends.proofs.Lists.{all-map, map-twice, map-same, take-first, drop-first, map-first, getD-first}
 use Rattle.ends.proofs.Replies.{number-accepted, refuse-accepted, refuse-passed, reply-verdict, reply-accepted, reply-keeps, advance-accepted, advance-accepts}
 use Rattle.ends.proofs.Table.{identityOf, llids-same, SameUnits, Registered}
 use Rattle.ends.proofs.Validity.{shared-in-range, shared-valid, olt-in-range, olt-valid}

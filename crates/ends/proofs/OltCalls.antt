@@ -6,7 +6,9 @@ use Prim.Native.Nat.{ℕ, _<_}
 use native.Mathlib.Omega.{arith}
 use lib.ListN.{length, length-replicate}
 use borrow.Author.Tests.{ltb-true, not-false}
+use Rattle.octets.specs.Lists.{all}
 use Rattle.octets.proofs.Choice.{both-left, both-right}
+use Rattle.octets.proofs.Maps.{length-first}
 use Rattle.refusal.specs.declared.Verdict.the-variants.{Accepted}
 use Rattle.clock.specs.Ticks.{clockTurn}
 use Rattle.ends.specs.Limits.{maxUnits}
@@ -14,7 +16,7 @@ use Rattle.ends.specs.Replies.{none}
 use Rattle.ends.specs.Messages.{noStamps, noKeyMessage}
 use Rattle.ends.specs.Identities.{distinct, validMac}
 use Rattle.ends.specs.Records.{freshUnit, noUnit, newOlt}
-use Rattle.ends.specs.Table.{all, tableLlids, find}
+use Rattle.ends.specs.Table.{tableLlids, find}
 use Rattle.ends.specs.Validity.{validOlt}
 use Rattle.ends.specs.Lift.{outcome}
 use Rattle.ends.specs.UnitCalls.{unitAdvanced, captureUnit, clockSendUnit, offerUnit, retryUnit, acknowledgeUnit}
@@ -22,7 +24,6 @@ use Rattle.ends.specs.OltCalls.{oltAnswer, clockSent, keySent, freshOltO
 use Rattle.ends.specs.declared.Identity.{Identity}
 use Rattle.ends.specs.declared.Olt.{Olt}
 use Rattle.ends.specs.declared.Acknowledgement.{Acknowledgement}
-use Rattle.ends.proofs.Lists.{length-first}
 use Rattle.ends.proofs.Replies.{number-accepted, number-refused, refuse-accepted, reply-keeps, reply-untouched}
 use Rattle.ends.proofs.Occupancy.{free-valid}
 use Rattle.ends.proofs.Table.{with-itself, more-places}

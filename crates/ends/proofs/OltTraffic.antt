@@ -4,12 +4,12 @@ use mathlib.Core.Bool.{Bool, true, false, not}
 use Prim.Native.Nat.{ℕ, _≤_}
 use borrow.Author.Tests.{not-false}
 use Rattle.octets.specs.Choice.{both}
-use Rattle.octets.proofs.Choice.{both-left, both-right, both-true}
+use Rattle.octets.specs.Eqs.{maxEqs}
+use Rattle.octets.proofs.Choice.{both-left, both-right, both-true, not-of-true}
 use Rattle.refusal.specs.declared.Refusal.{Refusal}
 use Rattle.refusal.specs.declared.Refusal.the-variants.{OutOfRange, BadLength}
 use Rattle.refusal.specs.declared.Verdict.{Verdict}
 use Rattle.refusal.specs.declared.Verdict.the-variants.{Accepted, Refused}
-use Rattle.ends.specs.Limits.{maxEqs}
 use Rattle.ends.specs.Replies.{refuseIf}
 use Rattle.ends.specs.Occupancy.{downstream, upstream}
 use Rattle.ends.specs.Table.{find, unitAt}
@@ -21,7 +21,6 @@ use Rattle.ends.specs.OltTraffic.{sendingOlt, receivingOlt}
 use Rattle.ends.specs.declared.Olt.{Olt}
 use Rattle.ends.specs.declared.Header.{Header}
 use Rattle.ends.specs.declared.Found.the-variants.{At}
-use Rattle.ends.proofs.Tests.{not-of-true}
 use Rattle.ends.proofs.Replies.{refuse-accepted, refuse-passed, Untouched}
 use Rattle.ends.proofs.Table.{Beside}
 use Rattle.ends.proofs.Lift.{Lifted, lift-accepts, lift-accepted, lift-untouched, lift-valid, lift-beside}

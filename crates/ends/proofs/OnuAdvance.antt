@@ -6,7 +6,7 @@ use native.Mathlib.Nat.{add-assoc, mod-lt}
 use native.Mathlib.Omega.{arith}
 use borrow.Author.Tests.{lt-ltb}
 use Rattle.octets.specs.Choice.{pick}
-use Rattle.octets.proofs.Choice.{both-left, both-right, both-true, pick-true, pick-false}
+use Rattle.octets.proofs.Choice.{both-left, both-right, both-true, pick-true, pick-false, pick-holds}
 use Rattle.refusal.specs.declared.Verdict.the-variants.{Accepted}
 use Rattle.clock.specs.Ticks.{maxTick, localTurn, advanced, localAdvanced}
 use Rattle.clock.proofs.Ticks.{advanced-below, advanced-sum, localAdvanced-sum}
@@ -15,7 +15,6 @@ use Rattle.ends.specs.Validity.{validOnuClock, validOnu}
 use Rattle.ends.specs.OnuCalls.{onuAnswer, onuClockAdvanced, onuAdvanced, advancingOnu, advanceOnuOf}
 use Rattle.ends.specs.declared.OnuClock.{OnuClock}
 use Rattle.ends.specs.declared.Onu.{Onu}
-use Rattle.ends.proofs.Tests.{pick-holds}
 use Rattle.ends.proofs.Replies.{number-accepted, advance-accepted, advance-accepts}
 use Rattle.ends.proofs.Keys.{first-later-valid}
 use Rattle.ends.proofs.Validity.{onu-in-range, onu-valid}

@@ -6,7 +6,7 @@ use native.Mathlib.Omega.{arith}
 use lib.Dec.{ltb}
 use borrow.Author.Tests.{ltb-true, lt-ltb, not-false}
 use Rattle.octets.specs.Choice.{both, either, pick}
-use Rattle.octets.proofs.Choice.{both-left, both-right, both-true}
+use Rattle.octets.proofs.Choice.{both-left, both-right, both-true, not-of-true, both-false-left}
 use Rattle.refusal.specs.declared.Refusal.{Refusal}
 use Rattle.refusal.specs.declared.Refusal.the-variants.{OutOfRange}
 use Rattle.refusal.specs.declared.Verdict.{Verdict}
@@ -25,7 +25,6 @@ use Rattle.ends.specs.OnuCalls.{onuAnswer, onuAcknowledged, onuReply, fr
 use Rattle.ends.specs.declared.Identity.{Identity}
 use Rattle.ends.specs.declared.Onu.{Onu}
 use Rattle.ends.specs.declared.KeyMessage.{KeyMessage}
-use Rattle.ends.proofs.Tests.{not-of-true, both-false-left}
 use Rattle.ends.proofs.Replies.{number-accepted, number-refused, refuse-accepted, refuse-passed, reply-verdict, reply-accepted, reply-keeps, reply-untouched, Untouched}
 use Rattle.ends.proofs.Keys.{first-none-valid}
 use Rattle.ends.proofs.Occupancy.{free-valid}

@@ -4,10 +4,10 @@ use mathlib.Core.Bool.{Bool, true, false}
 use Prim.Native.Nat.{ℕ, _≤_}
 use native.Mathlib.Omega.{arith}
 use Rattle.octets.specs.Choice.{either}
-use Rattle.octets.proofs.Choice.{both-true}
+use Rattle.octets.specs.Eqs.{maxEqs}
+use Rattle.octets.proofs.Choice.{both-true, true-false}
 use Rattle.refusal.specs.declared.Refusal.{Refusal}
 use Rattle.refusal.specs.declared.Verdict.the-variants.{Accepted, Refused}
-use Rattle.ends.specs.Limits.{maxEqs}
 use Rattle.ends.specs.Occupancy.{upstream}
 use Rattle.ends.specs.Identities.{has}
 use Rattle.ends.specs.Records.{withOnuKeys, withOnuFirst, withOnuChannels}
@@ -18,7 +18,6 @@ use Rattle.ends.specs.declared.Onu.{Onu}
 use Rattle.ends.specs.declared.Header.{Header}
 use Rattle.ends.specs.declared.KeyChoice.{KeyChoice}
 use Rattle.ends.specs.declared.KeyChoice.the-variants.{Clear, Current, Next, Barred}
-use Rattle.ends.proofs.Tests.{true-false}
 use Rattle.ends.proofs.Replies.{refuse-accepted, Untouched, not-accepted}
 use Rattle.ends.proofs.Keys.{first-send-valid, first-none-valid}
 use Rattle.ends.proofs.Occupancy.{occupied-valid, downstream-below, upstream-between}

@@ -9,7 +9,9 @@ use lib.ListN.{length, take}
 use lib.Seq.{set-out, take-all}
 use borrow.Author.Tests.{leb-false, leb-true, ltb-true, ltb-false, not-false}
 use Rattle.octets.specs.Choice.{either}
-use Rattle.octets.proofs.Choice.{both-left, both-right, both-true, either-false}
+use Rattle.octets.specs.Lists.{all}
+use Rattle.octets.proofs.Choice.{both-left, both-right, both-true, either-false, not-both}
+use Rattle.octets.proofs.Tests.{all-append}
 use Rattle.refusal.specs.declared.Verdict.the-variants.{Accepted}
 use Rattle.clock.specs.Ticks.{maxRoundTrip}
 use Rattle.ends.specs.Limits.{maxUnits, maxLlids}
@@ -17,15 +19,13 @@ use Rattle.ends.specs.Replies.{None, none, Reply}
 use Rattle.ends.specs.Timers.{validInterval}
 use Rattle.ends.specs.Identities.{distinct, meets, llidsOf, kept, validIdentity, has}
 use Rattle.ends.specs.Records.{freshUnit}
-use Rattle.ends.specs.Table.{registered, all, tableLlids, find, withOneMore}
+use Rattle.ends.specs.Table.{registered, tableLlids, find, withOneMore}
 use Rattle.ends.specs.Validity.{validUnit, validOlt}
 use Rattle.ends.specs.OltCalls.{oltAnswer, validRegistration, registerVerdict, registering, registerOf}
 use Rattle.ends.specs.declared.Identity.{Identity}
 use Rattle.ends.specs.declared.Unit.{Unit}
 use Rattle.ends.specs.declared.Olt.{Olt}
 use Rattle.ends.specs.declared.Found.the-variants.{At, Nowhere}
-use Rattle.ends.proofs.Tests.{not-both}
-use Rattle.ends.proofs.Lists.{all-append}
 use Rattle.ends.proofs.Replies.{number-accepted, refuse-accepted, reply-verdict, reply-accepted, reply-keeps}
 use Rattle.ends.proofs.Timers.{timer-fresh-valid}
 use Rattle.ends.proofs.Keys.{first-none-valid}

@@ -9,7 +9,8 @@ use native.Mathlib.Omega.{arith}
 use lib.ListN.{length, getD, take, length-take, length-set}
 use lib.Seq.{getD-take, getD-set-same, getD-set-other, set-getD, set-set, map-set-same, take-suc-set}
 use Rattle.octets.specs.Choice.{pick}
-use Rattle.octets.proofs.Choice.{pick-true, pick-false, either-false}
+use Rattle.octets.proofs.Choice.{pick-true, pick-false, either-false, not-both, either-left, either-right, either-none}
+use Rattle.octets.proofs.Maps.{map-take}
 use Rattle.ends.specs.Identities.{among, distinct, llidsOf, has}
 use Rattle.ends.specs.Records.{withChannels}
 use Rattle.ends.specs.Table.{registered, tableLlids, findFrom, find, pastUnit, unitAt, withUnit, withOneMore}
@@ -18,8 +19,6 @@ use Rattle.ends.specs.declared.Identity.{Identity}
 use Rattle.ends.specs.declared.Unit.{Unit}
 use Rattle.ends.specs.declared.Olt.{Olt}
 use Rattle.ends.specs.declared.Found.the-variants.{At, Nowhere}
-use Rattle.ends.proofs.Tests.{not-both, either-left, either-right, either-none}
-use Rattle.ends.proofs.Lists.{map-take}
 use Rattle.ends.proofs.Identities.{among-append, distinct-right, distinct-apart}
 
 ---- who is found

@@ -10,7 +10,7 @@ use lib.Dec.{leb, eqb}
 use borrow.Author.Tests.{leb-true, leb-false, ltb-false, eqb-true, eqb-false, le-leb, not-false}
 use Rattle.octets.specs.Choice.{both, pick}
 use Rattle.octets.specs.Lists.{same}
-use Rattle.octets.proofs.Choice.{both-left, both-right, either-false, pick-false}
+use Rattle.octets.proofs.Choice.{both-left, both-right, either-false, pick-false, either-left, either-right, either-cases}
 use Rattle.refusal.specs.declared.Refusal.the-variants.{NothingOutstanding}
 use Rattle.refusal.specs.declared.Verdict.the-variants.{Accepted, Refused}
 use Rattle.clock.specs.Ticks.{ticksPerSecond, clockTurn, rewound}
@@ -29,7 +29,6 @@ use Rattle.ends.specs.declared.UnitClock.{UnitClock}
 use Rattle.ends.specs.declared.Unit.{Unit}
 use Rattle.ends.specs.declared.Shared.{Shared}
 use Rattle.ends.specs.declared.Acknowledgement.{Acknowledgement}
-use Rattle.ends.proofs.Tests.{either-left, either-right, either-cases}
 use Rattle.ends.proofs.Replies.{refuse-accepted}
 use Rattle.ends.proofs.Timers.{timer-sum, timer-advanced-valid}
 use Rattle.ends.proofs.Keys.{first-later-valid}

@@ -6,7 +6,7 @@ use native.Mathlib.Omega.{arith}
 use lib.Dec.{leb, eqb}
 use borrow.Author.Tests.{leb-true, eqb-true, eqb-false, le-leb, eq-eqb, ne-eqb, not-false}
 use Rattle.octets.specs.Choice.{both}
-use Rattle.octets.proofs.Choice.{both-left, both-right, both-true, pick-true, pick-false}
+use Rattle.octets.proofs.Choice.{both-left, both-right, both-true, pick-true, pick-false, not-of-true, both-false-right}
 use Rattle.refusal.specs.declared.Refusal.the-variants.{NoKey, EpamDiffers, ClearEnvelope, ChannelTaken, KeyTooOld}
 use Rattle.refusal.specs.declared.Verdict.the-variants.{Accepted}
 use Rattle.clock.specs.Ticks.{epamOf}
@@ -20,7 +20,6 @@ use Rattle.ends.specs.declared.Shared.{Shared}
 use Rattle.ends.specs.declared.Header.{Header}
 use Rattle.ends.specs.declared.KeyChoice.{KeyChoice}
 use Rattle.ends.specs.declared.KeyChoice.the-variants.{Clear, Current, Next, Barred}
-use Rattle.ends.proofs.Tests.{not-of-true, both-false-right}
 use Rattle.ends.proofs.Replies.{refused-accepts, refuse-accepted, refuse-passed}
 use Rattle.ends.proofs.Keys.{InLife, noted-in-life, send-in-life}
 use Rattle.ends.proofs.Headers.{header-clear, header-sealed, header-index, Under, under-clear, under-current, under-next}

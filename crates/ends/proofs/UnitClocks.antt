@@ -3,6 +3,7 @@ use mathlib.Core.Path.{_≡_}
 use Prim.Native.Nat.{ℕ, _+_, _%_, _≤_}
 use native.Mathlib.Omega.{arith}
 use borrow.Author.Tests.{eqb-true, eqb-false}
+use Rattle.octets.proofs.Choice.{pick-holds}
 use Rattle.clock.specs.Ticks.{ticksPerSecond, clockTurn, localOf, epamOf}
 use Rattle.clock.specs.Stamping.{capturedAt, movedBy, raisedTo}
 use Rattle.clock.specs.Aligned.{Aligned}
@@ -10,7 +11,6 @@ use Rattle.clock.proofs.Aligned.{raise-aligns, aligned-moved}
 use Rattle.ends.specs.Replies.{isUp}
 use Rattle.ends.specs.OnuCalls.{onuClockAdvanced, clockFrom}
 use Rattle.ends.specs.declared.OnuClock.{OnuClock}
-use Rattle.ends.proofs.Tests.{pick-holds}
 
 -- LocalTime is the OLT's clock plus the delay up; once synced, both clocks are where they should be
 pub record OnTime (clock up down : ℕ) (c : OnuClock) : Type 0 where

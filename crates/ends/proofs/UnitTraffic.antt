@@ -3,7 +3,7 @@ use mathlib.Core.Path.{_≡_, refl}
 use mathlib.Core.Bool.{true}
 use Prim.Native.Nat.{ℕ, _≤_}
 use native.Mathlib.Omega.{arith}
-use Rattle.ends.specs.Limits.{maxEqs}
+use Rattle.octets.specs.Eqs.{maxEqs}
 use Rattle.ends.specs.Records.{withKeys, withConfirmation, withSlots, withFirst}
 use Rattle.ends.specs.Validity.{validUnit}
 use Rattle.ends.specs.Lift.{outcome}

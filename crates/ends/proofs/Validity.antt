@@ -5,14 +5,14 @@ use Prim.Native.Nat.{ℕ, _+_, _≤_, _<_}
 use lib.Dec.{leb, eqb, ltb}
 use borrow.Author.Tests.{leb-true, ltb-true, le-leb, lt-ltb, eqb-true, ne-eqb}
 use Rattle.octets.specs.Choice.{either, pick}
-use Rattle.octets.proofs.Choice.{both-left, both-right, both-true, pick-true, pick-false}
+use Rattle.octets.proofs.Choice.{both-left, both-right, both-true, pick-true, pick-false, either-cases}
 use Rattle.clock.specs.Ticks.{maxTick, clockTurn, maxRoundTrip, localTurn}
 use Rattle.ends.specs.Limits.{maxUnits, maxKeyNumber}
 use Rattle.ends.specs.Timers.{validTimer}
 use Rattle.ends.specs.Keys.{validFirst}
 use Rattle.ends.specs.Occupancy.{validChannels}
 use Rattle.ends.specs.Identities.{distinct, llidsOf, validMac, validIdentity}
-use Rattle.ends.specs.Table.{registered, all, tableLlids}
+use Rattle.ends.specs.Table.{registered, tableLlids}
 use Rattle.ends.specs.Validity.{validNumbers, validKeys, validUnitClock, validUnit, validShared, validOlt, validOnuKeys, validOnuClock, validOnu}
 use Rattle.ends.specs.declared.UnitClock.{UnitClock}
 use Rattle.ends.specs.declared.Unit.{Unit}
@@ -21,10 +21,10 @@ use Rattle.ends.specs.declared.Olt.{Olt}
 use Rattle.ends.specs.declared.Onu.{Onu}
 use mathlib.Core.Logic.{⊎-elim}
 use native.Mathlib.Omega.{arith}
+use Rattle.octets.specs.Lists.{all}
 use Rattle.ends.specs.Replies.{isUp}
 use Rattle.ends.specs.declared.OnuKeys.{OnuKeys}
 use Rattle.ends.specs.declared.OnuClock.{OnuClock}
-use Rattle.ends.proofs.Tests.{either-cases}
 
 ---- the OLT's clock for a unit
 

@@ -1,32 +1,26 @@
--- One step of a walk along a list, and its end: what the loops of this crate go by. Assumes nothing.
+-- One step of a walk along LLIDs and units, and its end: what the loops of this crate go by. Assumes nothing.
 use mathlib.Core.Path.{_≡_, refl, ap, sym, _∙_}
 use mathlib.Core.Bool.{Bool, true, false, not}
-use mathlib.Core.List.{List, [], _∷_, _++_, append-assoc, append-nil}
+use mathlib.Core.List.{List, [], _∷_, _++_}
 use Prim.Native.Nat.{ℕ, zero, suc, _+_, _-_, _%_, _<_, _≤_}
-use native.Mathlib.Nat.{zero-add, le-of-suc-le-suc, not-suc-le-zero}
+use native.Mathlib.Nat.{le-of-suc-le-suc, not-suc-le-zero}
 use native.Mathlib.Numerals.{add-one}
 use native.Mathlib.Omega.{arith}
 use lib.Dec.{eqb}
-use lib.ListN.{length, getD, set, take, drop, length-take, drop-of-length-le}
-use lib.Seq.{drop-cons, getD-take, getD-set-same, getD-set-other, take-suc-set}
+use lib.ListN.{length, getD, set, take, drop, drop-of-length-le}
+use lib.Seq.{getD-set-same, getD-set-other}
 use borrow.Author.Tests.{eq-eqb, ne-eqb, eqb-true, eqb-false, leb-true}
 use Rattle.octets.specs.Choice.{both, either, pick}
-use Rattle.octets.specs.Lists.{tabulate, same}
+use Rattle.octets.specs.Lists.{tabulate, all}
 use Rattle.octets.proofs.Choice.{both-left, both-right}
-use Rattle.octets.proofs.Lists.{tabulate-suc}
+use Rattle.octets.proofs.Steps.{tabulate-step, tabulate-end, drop-step, drop-back, first-step, first-end}
 use Rattle.ends.specs.Identities.{among, distinct, has, llidsOf, meets, validIdentity}
-use Rattle.ends.specs.Table.{all, findFrom, pastUnit, tableLlids}
+use Rattle.ends.specs.Table.{findFrom, pastUnit, tableLlids}
 use Rattle.ends.specs.Validity.{validUnit}
 use Rattle.ends.specs.declared.Unit.{Unit}
 use Rattle.ends.specs.declared.Found.the-variants.{At, Nowhere}
 
 ---- along what is tabulated
-
-pub tabulate-step : {A : Type 0} (j n : ℕ) (f : ℕ → A) → j < n → tabulate j (n - j) f ≡ f j ∷ tabulate (j + 1) (n - (j + 1)) f
-tabulate-step j n f h = let e : n - j ≡ suc (n - suc j) = omega arith in rw (e, add-one)
-
-pub tabulate-end : {A : Type 0} (j n : ℕ) (f : ℕ → A) → n ≤ j → tabulate j (n - j) f ≡ []
-tabulate-end j n f h = let e : n - j ≡ 0 = omega arith in rw e
 
 pub among-hit : (x j n : ℕ) (f : ℕ → ℕ) → j < n → f j ≡ x → among x (tabulate j (n - j) f) ≡ true
 unfolding among either
@@ -55,28 +49,11 @@ pub distinct-end : (j n : ℕ) (f : ℕ → ℕ) → n ≤ j → distinct (tabul
 unfolding distinct
 distinct-end j n f h = rw (tabulate-end j n f h)
 
-pub same-hit : (a b : List ℕ) (i : ℕ) → i < length a → i < length b → getD a i 0 ≡ getD b i 0
-    → same (drop i a) (drop i b) ≡ same (drop (i + 1) a) (drop (i + 1) b)
-unfolding same both
-same-hit a b i h h′ e = rw (drop-cons a i 0 h, drop-cons b i 0 h′, add-one, eq-eqb _ _ e)
-
-pub same-miss : (a b : List ℕ) (i : ℕ) → i < length a → i < length b → (getD a i 0 ≡ getD b i 0 → ⊥)
-    → same (drop i a) (drop i b) ≡ false
-unfolding same both
-same-miss a b i h h′ e = rw (drop-cons a i 0 h, drop-cons b i 0 h′, ne-eqb _ _ e)
-
-pub same-end : (a b : List ℕ) (i : ℕ) → length a ≤ i → length b ≤ i → same (drop i a) (drop i b) ≡ true
-unfolding same
-same-end a b i h h′ = rw (drop-of-length-le a h, drop-of-length-le b h′)
-
 pub among-nil : (x : ℕ) → among x [] ≡ false
 unfolding among
 among-nil x = refl
 
 ---- along a list
-
-pub drop-step : {A : Type 0} (l : List A) (i : ℕ) (d : A) → i < length l → drop i l ≡ getD l i d ∷ drop (i + 1) l
-drop-step l i d h = rw add-one (drop-cons l i d h)
 
 pub among-drop-hit : (x : ℕ) (l : List ℕ) (i : ℕ) → i < length l → getD l i 0 ≡ x → among x (drop i l) ≡ true
 unfolding among either
@@ -108,55 +85,16 @@ distinct-no i l e = by-case (distinct l) refl where
 
 ---- along a list from its end
 
-back : (l : List ℕ) (i : ℕ) → 0 < i → i ≤ length l → drop (i - 1) l ≡ getD l (i - 1) 0 ∷ drop i l
-back l i h k = let e : i - 1 + 1 ≡ i = omega arith in rw e at (drop-step l (i - 1) 0 (omega arith))
-
 pub distinct-back-hit : (l : List ℕ) (i : ℕ) → 0 < i → i ≤ length l → among (getD l (i - 1) 0) (drop i l) ≡ true → distinct (drop (i - 1) l) ≡ false
 unfolding distinct both
-distinct-back-hit l i h k e = rw (back l i h k, e)
+distinct-back-hit l i h k e = rw (drop-back l i h k, e)
 
 pub distinct-back-miss : (l : List ℕ) (i : ℕ) → 0 < i → i ≤ length l → among (getD l (i - 1) 0) (drop i l) ≡ false
     → distinct (drop (i - 1) l) ≡ distinct (drop i l)
 unfolding distinct both
-distinct-back-miss l i h k e = rw (back l i h k, e)
+distinct-back-miss l i h k e = rw (drop-back l i h k, e)
 
 ---- along the first n of a list
-
-pub first-step : {A : Type 0} (n : ℕ) (l : List A) (i : ℕ) (d : A) → i < n → i < length l
-    → drop i (take n l) ≡ getD l i d ∷ drop (i + 1) (take n l)
-first-step n l i d h k =
-    let low : i < length (take n l) = simp length-take (omega arith) in
-    drop-step (take n l) i d low ∙ rw (getD-take n l i d h)
-
-pub first-end : {A : Type 0} (n : ℕ) (l : List A) (i : ℕ) → n ≤ i → drop i (take n l) ≡ []
-first-end n l i h = let k : length (take n l) ≤ i = simp length-take (omega arith) in drop-of-length-le (take n l) k
-
-pub first-past : {A : Type 0} (n : ℕ) (l : List A) (i : ℕ) → length l ≤ i → drop i (take n l) ≡ []
-first-past n l i h = let k : length (take n l) ≤ i = simp length-take (omega arith) in drop-of-length-le (take n l) k
-
-pub all-hit : {A : Type 0} (p : A → Bool) (n : ℕ) (l : List A) (i : ℕ) (d : A) → i < n → i < length l → p (getD l i d) ≡ true
-    → all p (drop i (take n l)) ≡ all p (drop (i + 1) (take n l))
-unfolding all both
-all-hit p n l i d h k e = rw (first-step n l i d h k, e)
-
-pub all-miss : {A : Type 0} (p : A → Bool) (n : ℕ) (l : List A) (i : ℕ) (d : A) → i < n → i < length l → p (getD l i d) ≡ false
-    → all p (drop i (take n l)) ≡ false
-unfolding all both
-all-miss p n l i d h k e = rw (first-step n l i d h k, e)
-
-pub all-end : {A : Type 0} (p : A → Bool) (n : ℕ) (l : List A) (i : ℕ) → n ≤ i → all p (drop i (take n l)) ≡ true
-unfolding all
-all-end p n l i h = rw (first-end n l i h)
-
--- what holds of each holds of one
-pub all-one : {A : Type 0} (p : A → Bool) (n : ℕ) (l : List A) (d : A) → all p (take n l) ≡ true → (i : ℕ) → i < n → i < length l
-    → p (getD l i d) ≡ true
-unfolding all
-all-one p zero l d e i h k = absurd (omega arith)
-all-one p (suc n) [] d e i h k = absurd (not-suc-le-zero k)
-all-one p (suc n) (x ∷ xs) d e zero h k = both-left (p x) (all p (take n xs)) e
-all-one p (suc n) (x ∷ xs) d e (suc i) h k =
-    all-one p n xs d (both-right (p x) (all p (take n xs)) e) i (le-of-suc-le-suc h) (le-of-suc-le-suc k)
 
 pub find-hit : (n : ℕ) (l : List Unit) (i : ℕ) (d : Unit) (llid : ℕ) → i < n → i < length l → has (getD l i d .identity) llid ≡ true
     → findFrom i (drop i (take n l)) llid ≡ At i
@@ -180,15 +118,6 @@ llids-step n l i d h k = rw (first-step n l i d h k)
 pub llids-end : (n : ℕ) (l : List Unit) (i : ℕ) → n ≤ i → tableLlids (drop i (take n l)) ≡ []
 unfolding tableLlids
 llids-end n l i h = rw (first-end n l i h)
-
--- a list that grows by what is tabulated
-pub grow : (n j : ℕ) (a p : List ℕ) (f : ℕ → ℕ) → n + j < length a → take (n + j) a ≡ p ++ tabulate 0 j f
-    → take (n + (j + 1)) (set a (n + j) (f j)) ≡ p ++ tabulate 0 (j + 1) f
-grow n j a p f h e =
-    let s : n + (j + 1) ≡ suc (n + j) = omega arith in
-    let t : tabulate 0 (suc j) f ≡ tabulate 0 j f ++ (f j ∷ []) =
-    sym (append-nil (tabulate 0 (suc j) f)) ∙ rw zero-add at (tabulate-suc 0 j f []) in
-    rw (s, take-suc-set a (n + j) (f j) h, add-one, t, e, append-assoc)
 
 pub meets-hit : (l : List ℕ) (j n : ℕ) (f : ℕ → ℕ) → j < n → among (f j) l ≡ true → meets (tabulate j (n - j) f) l ≡ true
 unfolding meets either
@@ -226,7 +155,7 @@ pub marked : (l : List ℕ) (i : ℕ) (marks : List ℕ) → 0 < i → i ≤ len
 unfolding among either
 marked l i marks h k len m x e =
     let u = unmarked marks x (getD l (i - 1) 0) len e in
-    rw (back l i h k, ne-eqb _ _ (u .0)) (m x (u .1))
+    rw (drop-back l i h k, ne-eqb _ _ (u .0)) (m x (u .1))
 
 ---- validity
 

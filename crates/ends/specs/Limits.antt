@@ -1,5 +1,6 @@
 -- The limits of 01 that the ends keep to; those of the clock are in crate clock. Assumes nothing.
 use Prim.Native.Nat.{ℕ, _+_, _-_, _^_}
+use Rattle.octets.specs.Eqs.{maxEqs}
 use Rattle.clock.specs.Ticks.{maxTick}
 
 -- a MAC is below this
@@ -20,10 +21,6 @@ maxInterval = 2 ^ 47
 
 abbrev pub maxKeyNumber : ℕ
 maxKeyNumber = 2 ^ 32 - 1
-
--- EQs of a payload
-abbrev pub maxEqs : ℕ
-maxEqs = 4194303
 
 -- the latest tick from which a channel can be free: that of a longest payload at the last tick
 abbrev pub maxFree : ℕ

@@ -1,9 +1,8 @@
 -- The table of an OLT's units (01, Clock: OLT calls name a unit by any of its LLIDs). Assumes nothing.
-use mathlib.Core.Bool.{Bool, true, false}
 use mathlib.Core.List.{List, [], _∷_, _++_}
-use Prim.Native.Nat.{ℕ, zero, suc, _+_}
-use lib.ListN.{take, drop, getD, set}
-use Rattle.octets.specs.Choice.{both, pick}
+use Prim.Native.Nat.{ℕ, suc, _+_}
+use lib.ListN.{take, getD, set}
+use Rattle.octets.specs.Choice.{pick}
 use Rattle.ends.specs.Identities.{llidsOf, has}
 use Rattle.ends.specs.Records.{withChannels}
 use Rattle.ends.specs.declared.Channels.{Channels}
@@ -15,11 +14,6 @@ use Rattle.ends.specs.declared.Found.the-variants.{At, Nowhere}
 -- the units in use are the first `count`
 abbrev pub registered : Olt → List Unit
 registered o = take (o .count) (o .units)
-
--- the test holds of each
-unfoldable pub all : {A : Type 0} → (A → Bool) → List A → Bool
-all p [] = true
-all p (x ∷ xs) = both (p x) (all p xs)
 
 -- the LLIDs of all the units
 unfoldable pub tableLlids : List Unit → List ℕ

@@ -5,6 +5,7 @@ use mathlib.Core.List.{List}
 use Prim.Native.Nat.{ℕ, _+_}
 use lib.Dec.{leb, ltb, eqb}
 use Rattle.octets.specs.Choice.{both, either, pick}
+use Rattle.octets.specs.Lists.{all}
 use Rattle.clock.specs.Ticks.{maxTick, clockTurn, localTurn, maxRoundTrip}
 use Rattle.ends.specs.Limits.{maxUnits, maxKeyNumber}
 use Rattle.ends.specs.Replies.{isUp}
@@ -12,7 +13,7 @@ use Rattle.ends.specs.Timers.{validTimer}
 use Rattle.ends.specs.Keys.{validFirst}
 use Rattle.ends.specs.Occupancy.{validChannels}
 use Rattle.ends.specs.Identities.{distinct, llidsOf, validMac, validIdentity}
-use Rattle.ends.specs.Table.{registered, all, tableLlids}
+use Rattle.ends.specs.Table.{registered, tableLlids}
 use Rattle.ends.specs.declared.UnitKeys.{UnitKeys}
 use Rattle.ends.specs.declared.Confirmation.{Confirmation}
 use Rattle.ends.specs.declared.UnitClock.{UnitClock}

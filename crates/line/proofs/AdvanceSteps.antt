@@ -1,15 +1,16 @@
 -- An advance of all ends keeps what holds of the OLT and of each unit, registered or not. Assumes nothing.
 use mathlib.Core.Path.{_≡_, refl, sym, _∙_, ap}
 use mathlib.Core.Bool.{Bool, true, false}
-use mathlib.Core.List.{List, [], _∷_, map}
-use Prim.Native.Nat.{ℕ, zero, suc, _+_, _-_, _*_, _/_, _%_, _<_, _≤_}
-use native.Mathlib.Nat.{le-of-suc-le-suc, not-suc-le-zero, add-assoc, mod-add-mod, div-add-mod', div-mul-le-self, mul-add-div-right, div-eq-of-lt, le-div-iff-mul-le}
+use mathlib.Core.List.{List}
+use Prim.Native.Nat.{ℕ, _+_, _-_, _*_, _/_, _%_, _<_, _≤_}
+use native.Mathlib.Nat.{add-assoc, mod-add-mod, div-add-mod', div-mul-le-self, mul-add-div-right, div-eq-of-lt, le-div-iff-mul-le}
 use native.Mathlib.Omega.{arith}
 use lib.Dec.{leb, ltb}
-use lib.ListN.{length, getD, length-map}
+use lib.ListN.{length, length-map}
 use borrow.Author.Tests.{leb-true, leb-false, lt-ltb, eqb-true, eqb-false, ne-eqb}
 use Rattle.octets.specs.Choice.{pick}
 use Rattle.octets.proofs.Choice.{pick-true, pick-false}
+use Rattle.octets.proofs.Maps.{length-first, getD-first, map-at}
 use Rattle.clock.specs.Ticks.{maxTick, localTurn, advanced, localAdvanced}
 use Rattle.clock.specs.Stamping.{movedBy}
 use Rattle.clock.proofs.Aligned.{aligned-moved}
@@ -30,7 +31,6 @@ use Rattle.ends.specs.declared.Shared.{Shared}
 use Rattle.ends.specs.declared.Timer.{Timer}
 use Rattle.ends.specs.declared.Unit.{Unit}
 use Rattle.ends.specs.declared.UnitClock.{UnitClock}
-use Rattle.ends.proofs.Lists.{length-first, getD-first}
 use Rattle.ends.proofs.Replies.{number-accepted, advance-accepted, advance-accepts}
 use Rattle.ends.proofs.Validity.{olt-in-range}
 use Rattle.ends.proofs.OltCalls.{advance-olt-refused}
@@ -235,11 +235,6 @@ lane-advanced w t now n l o k h r =
     (record { common = common-advance-keeps w now n l o h c; standing = standing-advanced (l .entry .registered) w t now n l o k (r .standing) })
 
 ---- the whole
-
-map-at : {A B : Type 0} (f : A → B) (l : List A) (u : ℕ) (d : A) (e : B) → u < length l → getD (map f l) u e ≡ f (getD l u d)
-map-at f [] u d e h = absurd (not-suc-le-zero h)
-map-at f (x ∷ l) zero d e h = refl
-map-at f (x ∷ l) (suc u) d e h = map-at f l u d e (le-of-suc-le-suc h)
 
 -- the OLT is valid and in range: it advances, and so do all
 advanced-right : (w : Setting) (s : State) (n : ℕ) → s .olt .shared .tick + n ≤ maxTick → Invariant w s → Invariant w (advancing s n)

@@ -7,16 +7,15 @@ use native.Mathlib.Omega.{arith}
 use lib.Dec.{ltb}
 use lib.ListN.{length, List·getD-eq-default}
 use borrow.Author.Tests.{ltb-true, ltb-false}
+use Rattle.octets.proofs.Choice.{true-false}
 use Rattle.ends.specs.Identities.{has}
 use Rattle.ends.specs.Table.{find, unitAt}
 use Rattle.ends.specs.declared.Found.the-variants.{At}
-use Rattle.ends.proofs.Table.{find-own}
-use Rattle.ends.proofs.Tests.{true-false}
-use Rattle.ends.proofs.Validity.{olt-in-range}
 use Rattle.line.specs.Setting.{Setting}
 use Rattle.line.specs.History.{Envelope, Arrival, Lane}
 use Rattle.line.specs.Run.{State, noSite, freshLane, laneAt, onuAt}
 use Rattle.line.proofs.Invariant.{Idle, Joined, Common, Standing, Invariant}
+use Rattle.line.proofs.Places.{held-found, at-once}
 
 -- a registered unit, and that its ends are in step
 pub record Alive (w : Setting) (s : State) (u : ℕ) : Type 0 where
@@ -84,12 +83,7 @@ module _ (w : Setting) (s : State) (u : ℕ) (v : Invariant w s) where
 -- registered units that have one LLID are one
 pub llid-apart : (w : Setting) (s : State) (u x llid : ℕ) → Invariant w s → Alive w s u → Alive w s x → has (laneAt s u .site .identity) llid ≡ true
     → has (laneAt s x .site .identity) llid ≡ true → u ≡ x
-llid-apart w s u x llid v a b e f = v .apart u x (a .known) (b .known) (a .registered) (b .registered) (one-place _ _ (sym (found u a e) ∙ found x b f)) where
-  found : (y : ℕ) → Alive w s y → has (laneAt s y .site .identity) llid ≡ true → find (s .olt) llid ≡ At (laneAt s y .entry .place)
-  found y c h =
-      let range = olt-in-range (s .olt) (v .valid) in
-      find-own (s .olt) llid (laneAt s y .entry .place) (range .distinct)
-      (record { used = c .used; place = omega (arith, c .used, range .count, v .places); has = c .joined .llids llid ∙ h })
-
-  one-place : (i j : ℕ) → At i ≡ At j → i ≡ j
-  one-place i j e = cc
+llid-apart w s u x llid v a b e f =
+    v .apart u x (a .known) (b .known) (a .registered) (b .registered) (at-once _ _ (sym (found u a e) ∙ found x b f)) where
+      found : (y : ℕ) → Alive w s y → has (laneAt s y .site .identity) llid ≡ true → find (s .olt) llid ≡ At (laneAt s y .entry .place)
+      found y c h = held-found w s (laneAt s y .entry .place) y llid v (record { known = c .known; registered = c .registered; place = refl }) h

@@ -7,7 +7,7 @@ use native.Mathlib.Omega.{arith}
 use lib.Dec.{eqb}
 use lib.ListN.{length}
 use borrow.Author.Tests.{eqb-true, eq-eqb, ne-eqb}
-use Rattle.octets.proofs.Choice.{both-true, pick-true, pick-false}
+use Rattle.octets.proofs.Choice.{both-true, pick-true, pick-false, both-false-left}
 use Rattle.refusal.specs.declared.Refusal.the-variants.{NothingOutstanding}
 use Rattle.refusal.specs.declared.Verdict.the-variants.{Accepted}
 use Rattle.ends.specs.Lift.{Outcome, outcome}
@@ -20,7 +20,6 @@ use Rattle.ends.specs.declared.Onu.{Onu}
 use Rattle.ends.specs.declared.Shared.{Shared}
 use Rattle.ends.specs.declared.Unit.{Unit}
 use Rattle.ends.proofs.Replies.{refused-accepts}
-use Rattle.ends.proofs.Tests.{both-false-left}
 use Rattle.ends.proofs.UnitCalls.{key-acknowledged-accepted, key-kind, clock-kind, no-kind}
 use Rattle.line.specs.Setting.{Setting}
 use Rattle.line.specs.History.{Answered, Lane, due, laneWith, laneAcknowledged}

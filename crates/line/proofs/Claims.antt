@@ -9,6 +9,7 @@ use lib.Dec.{ltb}
 use lib.ListN.{length, getD}
 use borrow.Author.Tests.{ltb-true, ltb-false}
 use Rattle.octets.proofs.Choice.{both-left}
+use Rattle.octets.proofs.Members.{mem-at}
 use Rattle.clock.specs.Ticks.{clockTurn}
 use Rattle.clock.proofs.Ticks.{clocks-differ}
 use Rattle.sealing.specs.CounterBlock.{counterBlock}
@@ -27,7 +28,6 @@ use Rattle.line.specs.Claim.{senderMac, senderClock, nonceFor, Holds, Ar
 use Rattle.line.proofs.Invariant.{Joined, Common, Invariant}
 use Rattle.line.proofs.Alive.{Alive, sent-alive, arrived-alive}
 use Rattle.line.proofs.Past.{sent-most}
-use Rattle.line.proofs.Envelopes.{mem-at}
 
 ---- (2) counter blocks
 

@@ -7,7 +7,7 @@ use native.Mathlib.Omega.{arith}
 use lib.Dec.{eqb}
 use lib.ListN.{length, getD}
 use borrow.Author.Tests.{eqb-true, eqb-false, lt-ltb}
-use Rattle.octets.proofs.Choice.{both-true}
+use Rattle.octets.proofs.Choice.{both-true, not-of-true}
 use Rattle.refusal.specs.declared.Refusal.the-variants.{OutOfRange}
 use Rattle.refusal.specs.declared.Verdict.the-variants.{Accepted}
 use Rattle.clock.specs.Ticks.{ticksPerSecond, clockTurn, localOf}
@@ -29,7 +29,6 @@ use Rattle.ends.specs.declared.OnuClock.{OnuClock}
 use Rattle.ends.specs.declared.Shared.{Shared}
 use Rattle.ends.specs.declared.Unit.{Unit}
 use Rattle.ends.specs.declared.UnitClock.{UnitClock}
-use Rattle.ends.proofs.Tests.{not-of-true}
 use Rattle.ends.proofs.Replies.{refuse-passed}
 use Rattle.ends.proofs.UnitCalls.{ClockSends, clock-send-accepted}
 use Rattle.ends.proofs.OnuCalls.{onu-accepts, onu-keeps, onu-synced-valid}

@@ -1,41 +1,26 @@
 -- What an envelope carries under the key and counter block of its number, and what the end that opens it gives back.
 -- Assumes nothing.
-use mathlib.Core.Path.{_≡_, refl, sym, _∙_, ap, ap₂, subst}
+use mathlib.Core.Path.{_≡_, refl, sym, _∙_, ap, ap₂}
 use mathlib.Core.Bool.{Bool, true, false}
-use mathlib.Core.List.{List, [], _∷_, _++_, List·Memᴰ, List·Memᴰ·head, List·Memᴰ·tail, List·Memᴰ·append-cases, List·Memᴰ·eq-of-singleton}
-use mathlib.Core.Logic.{⊎-elim}
-use Prim.Native.Nat.{ℕ, zero, suc, _<_, _≤_}
-use native.Mathlib.Nat.{le-of-suc-le-suc, not-suc-le-zero}
+use mathlib.Core.List.{List, List·Memᴰ}
+use Prim.Native.Nat.{ℕ, _≤_}
 use native.Mathlib.Omega.{arith}
 use lib.Dec.{leb}
-use lib.ListN.{length, getD}
+use lib.ListN.{length}
 use borrow.Author.Tests.{leb-true, eq-eqb, not-false}
 use Rattle.octets.specs.Choice.{pick}
-use Rattle.octets.proofs.Choice.{both-left, both-right, both-true}
+use Rattle.octets.proofs.Choice.{both-left, both-right, both-true, not-of-true}
 use Rattle.sealing.specs.KeyExpansion.{keyExpansion}
 use Rattle.sealing.specs.Seal.{lengthsFit, carried, countCarried}
 use Rattle.sealing.specs.declared.envelope.Nonce.{Nonce}
-use Rattle.sealing.proofs.Payload.{sealed-length, sealed-twice, count-sealed}
+use Rattle.sealing.proofs.Seal.{carried-length, carried-twice, count-carried}
 use Rattle.ends.specs.declared.Passage.{Passage}
-use Rattle.ends.proofs.Tests.{not-of-true}
 use Rattle.traffic.specs.Passages.{misfit, isEnciphered, nonceOf, passed, passedCount}
 use Rattle.line.specs.Setting.{Setting}
 use Rattle.line.specs.History.{downward, upward, Envelope, Lane, keyOf, Arrival}
 use Rattle.line.specs.Claim.{SentRight, nonceFor, isSealed, ArrivedRight}
 
----- lists of envelopes
-
-pub mem-at : {A : Type 0} (l : List A) (i : ℕ) (d : A) → i < length l → List·Memᴰ (getD l i d) l
-mem-at [] i d h = absurd (not-suc-le-zero h)
-mem-at (x ∷ xs) zero d h = List·Memᴰ·head refl
-mem-at (x ∷ xs) (suc i) d h = List·Memᴰ·tail (mem-at xs i d (le-of-suc-le-suc h))
-
--- what holds of each, and of one more
-pub each-more : {A : Type 0} (P : A → Type 0) (l : List A) (a : A) → ((x : A) → List·Memᴰ x l → P x) → P a
-    → (x : A) → List·Memᴰ x (l ++ (a ∷ [])) → P x
-each-more P l a old new x m =
-    ⊎-elim (λ (k : List·Memᴰ x l). old x k) (λ k. subst P (sym (List·Memᴰ·eq-of-singleton k)) new) (List·Memᴰ·append-cases l m)
-
+-- an envelope goes one way
 pub ways-apart : {P : Type 0} → downward ≡ upward → P
 ways-apart e = let z : _≡_ {A = ℕ} 0 1 = cc in absurd (omega arith)
 
@@ -54,21 +39,6 @@ passed-as index q n key nonce p s k c = by-number (leb 1 n) refl where
 pub count-as : (q : Passage) (n : ℕ) (p : List ℕ) → isEnciphered (q .choice) ≡ leb 1 n → passedCount q p ≡ countCarried (leb 1 n) p
 unfolding passedCount
 count-as q n p s = rw s
-
-carried-length : (t : Bool) (w : List ℕ) (n : Nonce) (p : List ℕ) → length (carried t w n p) ≡ length p
-unfolding carried pick
-carried-length true w n p = sealed-length w n p
-carried-length false w n p = refl
-
-carried-twice : (t : Bool) (w : List ℕ) (n : Nonce) (p : List ℕ) → carried t w n (carried t w n p) ≡ p
-unfolding carried pick
-carried-twice true w n p = sealed-twice w n p
-carried-twice false w n p = refl
-
-count-carried : (t : Bool) (w : List ℕ) (n : Nonce) (p : List ℕ) → countCarried t (carried t w n p) ≡ countCarried t p
-unfolding carried countCarried pick
-count-carried true w n p = count-sealed w n p
-count-carried false w n p = refl
 
 ---- lengths
 

@@ -7,6 +7,7 @@ use native.Mathlib.Omega.{arith}
 use lib.Dec.{eqb, leb, ltb}
 use lib.ListN.{length, getD}
 use borrow.Author.Tests.{ltb-true, leb-true, eqb-true}
+use Rattle.octets.proofs.Members.{mem-at}
 use Rattle.clock.specs.Ticks.{clockTurn, localTurn}
 use Rattle.sealing.specs.KeyExpansion.{keyExpansion}
 use Rattle.sealing.specs.Seal.{carried, countCarried}
@@ -23,7 +24,6 @@ use Rattle.line.specs.Demand.{played, arrivalAt, nonce, numberAt, number
 use Rattle.line.proofs.Opened.{opened}
 use Rattle.line.proofs.Tested.{tested, meets, meets-true}
 use Rattle.line.proofs.Theorem.{line-holds}
-use Rattle.line.proofs.Envelopes.{mem-at}
 
 ---- the premises
 

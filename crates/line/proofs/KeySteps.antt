@@ -10,7 +10,7 @@ use lib.ListN.{length, getD, length-append, List·getD-append}
 use lib.Seq.{getD-at}
 use borrow.Author.Tests.{eqb-true, eqb-false}
 use Rattle.octets.specs.Choice.{either}
-use Rattle.octets.proofs.Choice.{both-left, both-right}
+use Rattle.octets.proofs.Choice.{both-left, both-right, true-false, either-cases}
 use Rattle.refusal.specs.declared.Verdict.the-variants.{Accepted}
 use Rattle.ends.specs.Identities.{has}
 use Rattle.ends.specs.Keys.{keyIn, withKey}
@@ -29,7 +29,6 @@ use Rattle.ends.specs.declared.Unit.{Unit}
 use Rattle.ends.proofs.Keys.{key-stored, key-beside}
 use Rattle.ends.proofs.OnuCalls.{key-message-refused}
 use Rattle.ends.proofs.Replies.{number-accepted}
-use Rattle.ends.proofs.Tests.{true-false, either-cases}
 use Rattle.ends.proofs.UnitCalls.{offer-accepted, retry-accepted}
 use Rattle.ends.proofs.KeyMessages.{TakesKey, key-message-met, key-message-taken, withHeld, taken-new, taken-other}
 use Rattle.line.specs.Setting.{Setting}

@@ -2,15 +2,16 @@
 -- a unit to the OLT. Assumes nothing.
 use mathlib.Core.Path.{_≡_, refl, sym, _∙_, ap, subst}
 use mathlib.Core.Bool.{Bool, true, false}
-use mathlib.Core.List.{List, [], _∷_, map}
-use Prim.Native.Nat.{ℕ, zero, suc, _<_, _≤_}
+use mathlib.Core.List.{List, map}
+use Prim.Native.Nat.{ℕ, _<_, _≤_}
 use native.Mathlib.Omega.{arith}
 use lib.Dec.{eqb}
-use lib.ListN.{length, getD, set, length-map, length-set}
+use lib.ListN.{length, set, length-map, length-set}
 use lib.Seq.{getD-set-same, getD-set-other}
 use borrow.Author.Tests.{eqb-true, eqb-false, ne-eqb}
 use Rattle.octets.specs.Choice.{both, pick}
-use Rattle.octets.proofs.Choice.{both-true, pick-true, pick-false}
+use Rattle.octets.proofs.Choice.{both-true, pick-true, pick-false, true-false}
+use Rattle.octets.proofs.Maps.{map-fixed, map-always}
 use Rattle.refusal.specs.Number.{verdictNumber}
 use Rattle.refusal.specs.declared.Verdict.{Verdict}
 use Rattle.refusal.specs.declared.Verdict.the-variants.{Accepted, Refused}
@@ -26,7 +27,6 @@ use Rattle.ends.specs.declared.Olt.{Olt}
 use Rattle.ends.specs.declared.Onu.{Onu}
 use Rattle.ends.specs.declared.Shared.{Shared}
 use Rattle.ends.specs.declared.Unit.{Unit}
-use Rattle.ends.proofs.Tests.{true-false}
 use Rattle.ends.proofs.Replies.{number-accepted, refused-accepts}
 use Rattle.ends.proofs.Table.{find-at, with-unit, with-other, with-beside}
 use Rattle.ends.proofs.Validity.{olt-in-range}
@@ -147,15 +147,6 @@ told-for w s p u c x l i h valid rises site entry offers j =
     }
 
 ---- a call lifted from a unit
-
-map-fixed : {A : Type 0} (g : A → A) (l : List A) → ((x : A) → g x ≡ x) → map g l ≡ l
-map-fixed g [] h = refl
-map-fixed g (x ∷ l) h = rw (h x, map-fixed g l h)
-
-map-always : {A : Type 0} (g : A → A) (l : List A) (u : ℕ) (d : A) → g d ≡ d → getD (map g l) u d ≡ g (getD l u d)
-map-always g [] u d e = sym e
-map-always g (x ∷ l) zero d e = refl
-map-always g (x ∷ l) (suc u) d e = map-always g l u d e
 
 -- the lane named, and any other
 named-own : (llid : ℕ) (f : Lane → Lane) (l : Lane) → l .entry .registered ≡ true → has (l .site .identity) llid ≡ true → named llid f l ≡ f l

@@ -6,6 +6,7 @@ use Prim.Native.Nat.{ℕ}
 use native.Mathlib.Omega.{arith}
 use lib.ListN.{length}
 use borrow.Author.Tests.{not-false}
+use Rattle.octets.proofs.Members.{mem-at}
 use Rattle.refusal.specs.declared.Verdict.the-variants.{Accepted}
 use Rattle.sealing.specs.Payload.{eqsOf}
 use Rattle.ends.specs.Records.{withChannels}
@@ -39,7 +40,6 @@ use Rattle.line.proofs.Invariant.{Joined, Invariant}
 use Rattle.line.proofs.ClockSteps.{capture-keeps, clock-send-keeps}
 use Rattle.line.proofs.KeySteps.{retry-keeps}
 use Rattle.line.proofs.AnswerSteps.{answer-keeps}
-use Rattle.line.proofs.Envelopes.{mem-at}
 use Rattle.line.proofs.SendDownSteps.{send-down-keeps, send-channels, envelope-down-is}
 use Rattle.line.proofs.Places.{held-once, held-found, busy-held, at-once}
 use Rattle.line.proofs.LiftSteps.{keys-named, call-right}

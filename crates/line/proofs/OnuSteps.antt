@@ -9,6 +9,8 @@ use lib.Dec.{eqb}
 use lib.ListN.{length, getD, set, length-set, List·getD-map}
 use lib.Seq.{getD-set-same, getD-set-other, set-getD, map-set-same}
 use borrow.Author.Tests.{eqb-true, eqb-false}
+use Rattle.octets.proofs.Choice.{pick-holds}
+use Rattle.octets.proofs.Members.{mem-at}
 use Rattle.clock.specs.declared.Stamps.{Stamps}
 use Rattle.ends.specs.Headers.{noPassage, noSending}
 use Rattle.ends.specs.Identities.{noIdentity, has}
@@ -23,7 +25,6 @@ use Rattle.ends.specs.declared.OnuAcknowledged.{OnuAcknowledged}
 use Rattle.ends.proofs.OnuCalls.{onu-keeps, clock-message-refused, key-message-refused}
 use Rattle.ends.proofs.OnuTraffic.{sending-onu-untouched, receiving-onu-untouched}
 use Rattle.ends.proofs.Replies.{number-refused}
-use Rattle.ends.proofs.Tests.{pick-holds}
 use Rattle.ends.proofs.Validity.{onu-in-range}
 use Rattle.ends.proofs.KeyMessages.{keys-taken-valid, keys-replaced-valid}
 use Rattle.traffic.specs.Receipts.{onuReceivedBy, onuReceiveOf}
@@ -38,7 +39,6 @@ use Rattle.line.proofs.Alive.{Alive, registered-alive, towards-alive, s
 use Rattle.line.proofs.ClockSteps.{clock-arrives, common-clock-keeps}
 use Rattle.line.proofs.KeySteps.{key-arrives}
 use Rattle.line.proofs.Frames.{common-moved}
-use Rattle.line.proofs.Envelopes.{mem-at}
 use Rattle.line.proofs.SendUpSteps.{send-up-keeps, send-common}
 use Rattle.line.proofs.ReceiptDownSteps.{arrive-down, receive-common}
 use Rattle.line.proofs.OverheardSteps.{overheard-leaves}

@@ -1,7 +1,7 @@
 -- What a call computes with: every definition but those of the cipher's octets. Assumes nothing.
 use lib.Count.{ones}
 use Rattle.octets.specs.Choice.{both, either, pick}
-use Rattle.octets.specs.Lists.{same}
+use Rattle.octets.specs.Lists.{same, all}
 use Rattle.clock.specs.Stamping.{capturedAt, raiseOf, movedBy, raisedTo}
 use Rattle.sealing.specs.Payload.{sealed, countOf}
 use Rattle.sealing.specs.Seal.{lengthsFit, carried, countCarried}
@@ -16,7 +16,7 @@ use Rattle.ends.specs.OnuCalls.{onuAnswer, onuAcknowledged, onuReply, freshOnuV
 use Rattle.ends.specs.OnuTraffic.{onuSendChoice, onuSendVerdict, onuNoted, onuSent, sendingOnu, onuReceiveChoice, onuReceiveVerdict, onuMoved, onuReceived, receivingOnu}
 use Rattle.ends.specs.Records.{withKeys, withConfirmation, withClock, withTimer, withSlots, withFirst, noUnit, withChannels, newOlt, withOnuClock, withOnuKeys, withOnuFirst, withOnuChannels, newOnu}
 use Rattle.ends.specs.Replies.{refuseIf, reply, advanceVerdict}
-use Rattle.ends.specs.Table.{all, tableLlids, findFrom, find, pastUnit, withUnit, withOneMore}
+use Rattle.ends.specs.Table.{tableLlids, findFrom, find, pastUnit, withUnit, withOneMore}
 use Rattle.ends.specs.Timers.{freshTimer, timerAdvanced, timerFallen, validInterval, validTimer}
 use Rattle.ends.specs.UnitCalls.{unitAdvanced, clockCaptured, captureUnit, clockSendVerdict, clockMessageSent, clockMessageOf, clockSendUnit, offerVerdict, keysOffered, unitOffered, keyMessageOf, offerUnit, retryVerdict, retryUnit, clockAcknowledgedUnit, keyAcknowledgedUnit, acknowledgeUnit}
 use Rattle.ends.specs.UnitTraffic.{switches, unitSendChoice, unitSendVerdict, keysSwitched, keysSent, sendUnit, unitReceiveChoice, unitReceiveVerdict, unitConfirmed, unitReceived, receiveUnit}

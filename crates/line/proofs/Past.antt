@@ -7,6 +7,7 @@ use native.Mathlib.Omega.{arith}
 use lib.ListN.{length}
 use borrow.Author.Tests.{leb-true}
 use Rattle.octets.specs.Choice.{pick}
+use Rattle.octets.proofs.Members.{each-more}
 use Rattle.sealing.specs.KeyExpansion.{keyExpansion}
 use Rattle.sealing.specs.Seal.{carried, lengthsFit}
 use Rattle.sealing.specs.declared.envelope.Nonce.{Nonce}
@@ -19,7 +20,6 @@ use Rattle.line.specs.History.{Way, downward, upward, Envelope, Arrival,
 use Rattle.line.specs.Claim.{SentRight, ArrivedRight, isSealed, nonceFor}
 use Rattle.line.proofs.Invariant.{Spending, Passing}
 use Rattle.line.proofs.Queues.{Knows}
-use Rattle.line.proofs.Envelopes.{each-more}
 
 -- a clear envelope carries its payload, whatever the key
 carried-same : (t : Bool) (k k' : List ℕ) (n : Nonce) (p : List ℕ) → (t ≡ true → k ≡ k') → carried t (keyExpansion k) n p ≡ carried t (keyExpansion k') n p

@@ -1,30 +1,29 @@
 -- A registration joins the OLT's fresh record of a unit with a unit to which nothing has happened but advances. Assumes nothing.
 use mathlib.Core.Path.{_≡_, refl, sym, _∙_, ap, subst}
 use mathlib.Core.Bool.{true, Bool, false}
-use mathlib.Core.List.{List, [], List·Memᴰ, List·Memᴰ·not-nil}
 use Prim.Native.Nat.{ℕ, _+_, _-_, _/_, _%_, _≤_, _<_}
 use native.Mathlib.Nat.{zero-mod}
 use native.Mathlib.Omega.{arith}
 use lib.ListN.{length, set, length-set}
+use lib.Dec.{eqb}
+use lib.Seq.{getD-set-same, getD-set-other, set-getD}
 use borrow.Author.Tests.{leb-true, le-ltb, eqb-true, eqb-false}
-use Rattle.octets.proofs.Choice.{both-left}
+use Rattle.octets.specs.Choice.{pick}
+use Rattle.octets.proofs.Choice.{both-left, true-false}
+use Rattle.octets.proofs.Members.{none-in}
 use Rattle.clock.specs.Ticks.{localTurn}
 use Rattle.ends.specs.Identities.{has, kept, validIdentity}
 use Rattle.ends.specs.Records.{freshUnit}
 use Rattle.ends.specs.Timers.{freshTimer, validInterval}
 use Rattle.ends.specs.OltCalls.{oltAnswer, registering, registerOf}
+use Rattle.ends.specs.Replies.{none}
+use Rattle.ends.specs.Table.{unitAt, withOneMore}
 use Rattle.ends.specs.declared.Identity.{Identity}
 use Rattle.ends.specs.declared.Onu.{Onu}
 use Rattle.ends.specs.declared.Shared.{Shared}
-use Rattle.ends.proofs.Identities.{identity-valid, kept-has}
-use lib.Dec.{eqb}
-use lib.Seq.{getD-set-same, getD-set-other, set-getD}
-use Rattle.octets.specs.Choice.{pick}
-use Rattle.ends.specs.Replies.{none}
-use Rattle.ends.specs.Table.{unitAt, withOneMore}
 use Rattle.ends.specs.declared.Olt.{Olt}
 use Rattle.ends.specs.declared.Unit.{Unit}
-use Rattle.ends.proofs.Tests.{true-false}
+use Rattle.ends.proofs.Identities.{identity-valid, kept-has}
 use Rattle.ends.proofs.Replies.{number-accepted, refuse-accepted, reply-verdict, reply-accepted}
 use Rattle.ends.proofs.Table.{more-unit, more-other, more-places}
 use Rattle.ends.proofs.OltCalls.{register-refused}
@@ -36,10 +35,6 @@ use Rattle.line.specs.Run.{State, laneAt, onuAt, noSite, freshLane, note
 use Rattle.line.specs.Premises.{Agrees, Fits}
 use Rattle.line.proofs.Invariant.{flagOf, Timing, Idle, Joined, Standing, LaneRight, Invariant}
 use Rattle.line.proofs.Frames.{common-moved}
-
--- nothing is in an empty list
-none-in : {A P : Type 0} (l : List A) (x : A) → l ≡ [] → List·Memᴰ x l → P
-none-in {A} l x e m = absurd (List·Memᴰ·not-nil (rw e at m))
 
 timing-fresh : (r : Entry) (k : Keys) (now : ℕ) → r .since ≡ now → k .switched ≡ now → 1 ≤ r .interval
     → Timing r k now (freshTimer (r .interval))

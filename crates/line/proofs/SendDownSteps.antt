@@ -6,6 +6,7 @@ use Prim.Native.Nat.{ℕ, _<_, _≤_}
 use native.Mathlib.Omega.{arith}
 use lib.ListN.{length}
 use Rattle.octets.specs.Choice.{pick}
+use Rattle.octets.proofs.Members.{each-more}
 use Rattle.refusal.specs.declared.Verdict.the-variants.{Accepted}
 use Rattle.sealing.specs.Payload.{eqsOf}
 use Rattle.sealing.specs.Seal.{lengthsFit}
@@ -36,7 +37,7 @@ use Rattle.line.specs.Claim.{SentRight}
 use Rattle.line.proofs.Invariant.{reachOf, Spent, Joined, AtTick}
 use Rattle.line.proofs.Queues.{Knows, towards-carried, towards-envelope, from-carried}
 use Rattle.line.proofs.Past.{sent-carried, passing-sent}
-use Rattle.line.proofs.Envelopes.{each-more, ways-apart, passed-as, count-as, fits-alone}
+use Rattle.line.proofs.Envelopes.{ways-apart, passed-as, count-as, fits-alone}
 use Rattle.line.proofs.Spending.{Renewed, spent-kept, spent-new, apart-new, spaced-more}
 use Rattle.line.proofs.SendChoices.{Chosen, chosen-down, unit-first}
 

@@ -7,6 +7,7 @@ use native.Mathlib.Omega.{arith}
 use lib.Dec.{eqb, leb}
 use lib.ListN.{length}
 use borrow.Author.Tests.{eqb-true, eqb-false}
+use Rattle.octets.proofs.Members.{each-more}
 use Rattle.refusal.specs.declared.Verdict.the-variants.{Accepted}
 use Rattle.clock.specs.Ticks.{epamOf}
 use Rattle.sealing.specs.Payload.{eqsOf}
@@ -44,7 +45,7 @@ use Rattle.line.proofs.Invariant.{Clocks, Spent, Joined, Common}
 use Rattle.line.proofs.Queues.{Knows, towards-moved, from-moved, from-envelope}
 use Rattle.line.proofs.Past.{sent-carried, passing-sent}
 use Rattle.line.proofs.Frames.{common-moved}
-use Rattle.line.proofs.Envelopes.{each-more, ways-apart, passed-as, count-as, fits-alone}
+use Rattle.line.proofs.Envelopes.{ways-apart, passed-as, count-as, fits-alone}
 use Rattle.line.proofs.Spending.{Renewed, spent-kept, spent-new, apart-new, spaced-more}
 use Rattle.line.proofs.SendChoices.{chosen-up}
 

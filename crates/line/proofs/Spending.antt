@@ -10,7 +10,8 @@ use lib.Dec.{ltb}
 use lib.ListN.{length, getD, length-append, List·getD-append}
 use lib.Seq.{getD-at}
 use borrow.Author.Tests.{leb-true, ltb-true, ltb-false, eqb-true, eqb-false}
-use Rattle.octets.proofs.Choice.{both-right}
+use Rattle.octets.proofs.Choice.{both-right, either-cases}
+use Rattle.octets.proofs.Members.{mem-at}
 use Rattle.clock.specs.Ticks.{keyLife}
 use Rattle.ends.specs.Keys.{notedAt, firstSend, aged, validFirst}
 use Rattle.ends.specs.Occupancy.{freeFrom}
@@ -18,11 +19,9 @@ use Rattle.ends.specs.Replies.{isUp}
 use Rattle.ends.specs.declared.Channels.{Channels}
 use Rattle.ends.specs.declared.FirstSend.{FirstSend}
 use Rattle.ends.proofs.Keys.{aged-false, first-stays, first-noted}
-use Rattle.ends.proofs.Tests.{either-cases}
 use Rattle.line.specs.History.{Envelope}
 use Rattle.line.specs.Run.{noEnvelope}
 use Rattle.line.proofs.Invariant.{Spent, Spaced}
-use Rattle.line.proofs.Envelopes.{mem-at}
 
 ---- first sends
 

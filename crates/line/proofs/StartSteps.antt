@@ -7,7 +7,7 @@ use native.Mathlib.Nat.{le-of-suc-le-suc, not-suc-le-zero}
 use native.Mathlib.Omega.{arith}
 use lib.ListN.{length, getD, length-map}
 use borrow.Author.Tests.{ltb-true, not-false}
-use Rattle.octets.proofs.Choice.{both-left, both-right}
+use Rattle.octets.proofs.Choice.{both-left, both-right, true-false}
 use Rattle.refusal.specs.declared.Verdict.the-variants.{Accepted}
 use Rattle.clock.specs.Ticks.{clockTurn, localTurn}
 use Rattle.ends.specs.Replies.{None, none, Reply}
@@ -18,7 +18,6 @@ use Rattle.ends.specs.OnuCalls.{onuAnswer, freshOnuVerdict, freshOnuOf}
 use Rattle.ends.specs.declared.Identity.{Identity}
 use Rattle.ends.specs.declared.Olt.{Olt}
 use Rattle.ends.specs.declared.Onu.{Onu}
-use Rattle.ends.proofs.Tests.{true-false}
 use Rattle.ends.proofs.Identities.{identity-valid, kept-has}
 use Rattle.ends.proofs.Replies.{number-accepted, refuse-accepted, reply-verdict, reply-accepted}
 use Rattle.ends.proofs.OltCalls.{fresh-valid, fresh-places}

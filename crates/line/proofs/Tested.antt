@@ -8,17 +8,15 @@ use lib.Dec.{eqb, leb, ltb}
 use lib.ListN.{length, getD}
 use borrow.Author.Tests.{ltb-true, leb-true, eqb-true, eqb-false, eq-eqb, not-true}
 use Rattle.octets.specs.Choice.{both, either}
-use Rattle.octets.specs.Lists.{same}
-use Rattle.octets.proofs.Choice.{both-left, both-right}
+use Rattle.octets.specs.Lists.{same, all}
+use Rattle.octets.proofs.Choice.{both-left, both-right, true-false}
 use Rattle.octets.proofs.Lists.{same-true, same-refl}
+use Rattle.octets.proofs.Tests.{all-at}
 use Rattle.clock.specs.Ticks.{localTurn}
 use Rattle.ends.specs.Identities.{among, has, llidsOf}
 use Rattle.ends.specs.OltCalls.{registerOf, offerOf, acknowledgeOf}
 use Rattle.ends.specs.OnuCalls.{clockMessageAt, keyMessageAt}
-use Rattle.ends.specs.Table.{all}
 use Rattle.ends.specs.declared.Identity.{Identity}
-use Rattle.ends.proofs.Lists.{all-at}
-use Rattle.ends.proofs.Tests.{true-false}
 use Rattle.traffic.specs.Sends.{onuSendOf}
 use Rattle.traffic.specs.Receipts.{oltReceiveOf, onuReceiveOf}
 use Rattle.line.specs.Setting.{Setting}

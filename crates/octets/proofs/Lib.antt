@@ -2,4 +2,8 @@ pub mod BigEndian
 pub mod Bits
 pub mod Choice
 pub mod Lists
+pub mod Maps
+pub mod Members
+pub mod Steps
 pub mod Table
+pub mod Tests

@@ -1,18 +1,16 @@
 -- Laws of lists by their elements: what a loop fills from the front, parts, and sums.
 -- Assumes nothing.
 use mathlib.Core.Path.{_≡_, refl, ap, ap₂, sym, _∙_}
-use mathlib.Core.Bool.{Bool, true, false}
+use mathlib.Core.Bool.{true, false}
 use mathlib.Core.List.{List, [], _∷_, _++_, append-assoc, append-nil}
 use Prim.Native.Nat.{ℕ, zero, suc, _+_, _-_, _*_, _<_, _≤_}
-use native.Mathlib.Nat.{add-zero, zero-add, add-suc, suc-add, le-of-lt, le-of-suc-le-suc, not-suc-le-zero, add-assoc}
+use native.Mathlib.Nat.{add-zero, zero-add, add-suc, suc-add, le-of-lt, le-of-suc-le-suc, not-suc-le-zero, add-assoc, sub-zero, suc-sub-suc}
 use native.Mathlib.Numerals.{add-one}
 use native.Mathlib.Omega.{arith}
-use lib.Dec.{eqb}
 use lib.ListN.{length, getD, drop, take, set, length-append, length-take, length-drop, take-append-drop}
-use lib.Seq.{drop-cons, take-suc, length-take-le, set-at, ext-getD, take-all, take-at, drop-at, drop-length, drop-drop, take-add, getD-take, getD-drop, paste, take-length}
+use lib.Seq.{drop-cons, take-suc, length-take-le, set-at, ext-getD, take-all, take-at, drop-at, drop-length, drop-drop, take-add, getD-take, getD-drop, paste, take-length, take-nil}
 use borrow.Author.Tests.{eqb-true, eq-eqb}
-use Rattle.octets.specs.Choice.{both}
-use Rattle.octets.specs.Lists.{tabulate, sum, same, replaced, written}
+use Rattle.octets.specs.Lists.{tabulate, sum, same, replaced, written, part}
 use Rattle.octets.proofs.Choice.{both-left, both-right, both-true}
 
 pub tabulate-length : {A : Type 0} (i n : ℕ) (f : ℕ → A) → length (tabulate i n f) ≡ n
@@ -165,3 +163,18 @@ pub same-refl : (a : List ℕ) → same a a ≡ true
 unfolding same
 same-refl [] = refl
 same-refl (x ∷ xs) = both-true (eq-eqb x x refl) (same-refl xs)
+
+-- a part without its first elements
+pub drop-part : (s : List ℕ) (at k m : ℕ) → m ≤ k → drop m (part s at k) ≡ part s (at + m) (at + k - (at + m))
+drop-part s at k m h =
+    let e : at + k - (at + m) ≡ k - m = omega arith in
+    rw (e, ← drop-drop m at s) (drop-take m k (drop at s) h) where
+      drop-take : (m k : ℕ) (l : List ℕ) → m ≤ k → drop m (take k l) ≡ take (k - m) (drop m l)
+      drop-take zero k l h = rw sub-zero
+      drop-take (suc m) zero l h = absurd (omega arith)
+      drop-take (suc m) (suc k) [] h = sym (take-nil (suc k - suc m))
+      drop-take (suc m) (suc k) (x ∷ l) h = rw suc-sub-suc (drop-take m k l (le-of-suc-le-suc h))
+
+-- a part is no longer than the whole
+pub part-below : (s : List ℕ) (at k : ℕ) → length (part s at k) ≤ length s
+part-below s at k = simp (length-take, length-drop) (omega arith)

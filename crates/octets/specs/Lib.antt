@@ -1,4 +1,5 @@
 pub mod BigEndian
 pub mod Bits
 pub mod Choice
+pub mod Eqs
 pub mod Lists

@@ -5,7 +5,7 @@ ghost use mathlib.Core.Path.{_≡_};
 ghost use Prim.Native.Nat.{_+_, _%_, _≤_, _<_};
 ghost use lib.ListN.{drop, take};
 ghost use Rattle.clock.specs.Ticks.{maxTick};
-ghost use Rattle.ends.specs.Table.{all};
+ghost use Rattle.octets.specs.Lists.{all};
 ghost use Rattle.ends.specs.Timers.{timerAdvanced, validTimer};
 ghost use Rattle.ends.specs.UnitCalls.{unitAdvanced};
 ghost use Rattle.ends.specs.declared.Unit.{Unit};

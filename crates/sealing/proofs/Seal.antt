@@ -2,21 +2,20 @@
 use mathlib.Core.Path.{_≡_, refl}
 use mathlib.Core.Bool.{Bool, true, false}
 use mathlib.Core.List.{List}
-use Prim.Native.Nat.{ℕ, _*_, _%_, _≤_, _<_, _^_}
-use native.Mathlib.Omega.{arith}
-use lib.Dec.{eqb, leb}
+use Prim.Native.Nat.{ℕ, _*_, _%_, _≤_}
 use lib.ListN.{length}
-use borrow.Author.Tests.{eqb-true, leb-true, ltb-true}
-use Rattle.octets.specs.Choice.{both, pick}
-use Rattle.octets.proofs.Choice.{both-left, both-right}
-use Rattle.refusal.specs.declared.Verdict.{Verdict}
+use borrow.Author.Tests.{eqb-true, leb-true}
+use Rattle.octets.specs.Choice.{pick}
+use Rattle.octets.specs.Eqs.{maxEqs}
+use Rattle.octets.proofs.Choice.{both-left, both-right, pick-first}
 use Rattle.refusal.specs.declared.Verdict.the-variants.{Accepted, Refused}
 use Rattle.refusal.specs.declared.Refusal.{Refusal}
 use Rattle.refusal.specs.declared.Refusal.the-variants.{OutOfRange, BadLength}
 use Rattle.sealing.specs.Payload.{sealed, countOf}
-use Rattle.sealing.specs.Seal.{maxEqs, lengthsFit, channelFits, nonceFits, judgeSeal, carried, countCarried, sealingAfter, sealing, outcome}
+use Rattle.sealing.specs.Seal.{lengthsFit, nonceFits, judgeSeal, carried, countCarried, sealingAfter, sealing, outcome}
 use Rattle.sealing.specs.declared.envelope.SealAnswer.the-variants.{Done, Denied}
 use Rattle.sealing.specs.declared.envelope.Nonce.{Nonce}
+use Rattle.sealing.proofs.Payload.{sealed-length, sealed-twice, count-sealed}
 
 -- the lengths of an accepted call
 pub record Lengths (n m : ℕ) : Type 0 where
@@ -32,12 +31,10 @@ lengths-fit n m e =
 
 -- what acceptance tells
 pub accepted : (n m : ℕ) (nonce : Nonce) → judgeSeal n m nonce ≡ Accepted → (lengthsFit n m ≡ true) × (nonceFits nonce ≡ true)
-unfolding judgeSeal pick
-accepted n m nonce e = by-tests (lengthsFit n m) (nonceFits nonce) e where
-  by-tests : (a b : Bool) → pick a (pick b Accepted (Refused OutOfRange)) (Refused BadLength) ≡ Accepted → (a ≡ true) × (b ≡ true)
-  by-tests true true e = (refl, refl)
-  by-tests true false e = (cc, cc)
-  by-tests false b e = (cc, cc)
+unfolding judgeSeal
+accepted n m nonce e =
+    let a = pick-first (lengthsFit n m) _ (Refused BadLength) Accepted (λ z. cc) e in
+    (a .0, pick-first (nonceFits nonce) Accepted (Refused OutOfRange) Accepted (λ z. cc) (a .1) .0)
 
 module _ (w : List ℕ) (n : Nonce) (p out : List ℕ) where
   -- refused: the number, and the output as it was
@@ -55,3 +52,20 @@ module _ (w : List ℕ) (n : Nonce) (p out : List ℕ) where
       → outcome (Done 0) p ≡ sealing enciphered w n p out
   unfolding sealing sealingAfter carried countCarried pick
   sealing-clear enciphered b e = rw (e, b)
+
+---- what an envelope carries
+
+pub carried-length : (t : Bool) (w : List ℕ) (n : Nonce) (p : List ℕ) → length (carried t w n p) ≡ length p
+unfolding carried pick
+carried-length true w n p = sealed-length w n p
+carried-length false w n p = refl
+
+pub carried-twice : (t : Bool) (w : List ℕ) (n : Nonce) (p : List ℕ) → carried t w n (carried t w n p) ≡ p
+unfolding carried pick
+carried-twice true w n p = sealed-twice w n p
+carried-twice false w n p = refl
+
+pub count-carried : (t : Bool) (w : List ℕ) (n : Nonce) (p : List ℕ) → countCarried t (carried t w n p) ≡ countCarried t p
+unfolding carried countCarried pick
+count-carried true w n p = count-sealed w n p
+count-carried false w n p = refl

@@ -1,22 +1,19 @@
 -- The call that seals or opens a payload (01, Counter block and mask, When the reader says no: 14, 1). Assumes nothing.
-use mathlib.Core.Bool.{Bool, true, false}
+use mathlib.Core.Bool.{Bool}
 use mathlib.Core.List.{List}
 use Prim.Native.Nat.{ℕ, _*_, _%_, _^_}
 use lib.Dec.{eqb, leb, ltb}
 use lib.ListN.{length}
 use Rattle.octets.specs.Choice.{both, either, pick}
-use Rattle.refusal.specs.declared.Refusal.{Refusal}
+use Rattle.octets.specs.Eqs.{maxEqs}
+use Rattle.refusal.specs.Number.{numberOf}
 use Rattle.refusal.specs.declared.Refusal.the-variants.{OutOfRange, BadLength}
 use Rattle.refusal.specs.declared.Verdict.{Verdict}
 use Rattle.refusal.specs.declared.Verdict.the-variants.{Accepted, Refused}
-use Rattle.refusal.specs.Number.{numberOf}
 use Rattle.sealing.specs.Payload.{sealed, countOf}
 use Rattle.sealing.specs.declared.envelope.Nonce.{Nonce}
 use Rattle.sealing.specs.declared.envelope.SealAnswer.{SealAnswer}
 use Rattle.sealing.specs.declared.envelope.SealAnswer.the-variants.{Done, Denied}
-
-abbrev pub maxEqs : ℕ
-maxEqs = 4194303
 
 -- n octets are a payload of 0 to 4,194,303 EQs, and the output has as many
 unfoldable pub lengthsFit : ℕ → ℕ → Bool

@@ -17,6 +17,9 @@ use octets::bit;
 use refusal::Refusal;
 use refusal::Verdict;
 
+// The longest payload, 4,194,303 EQs of nine octets.
+const MAX_OCTETS: usize = 37_748_727;
+
 // Channel index, sender's MAC and cipher clock at the header: what tells one envelope's counter blocks from another's.
 #[repr(C)]
 pub struct Nonce {
@@ -162,7 +165,7 @@ fn nonce_fits(nonce: Nonce) -> bool
 pub fn lengths_fit(n: usize, m: usize) -> bool
     ensures { λ r. ⌜ r ≡ lengthsFit n m ⌝ }
 {
-    (n % 9 == 0) & ((n <= 37_748_727) & (m == n))
+    (n % 9 == 0) & ((n <= MAX_OCTETS) & (m == n))
 }
 
 fn judge(n: usize, m: usize, nonce: Nonce) -> Verdict

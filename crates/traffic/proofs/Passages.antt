@@ -6,7 +6,8 @@ use Prim.Native.Nat.{ℕ, _≤_, _<_, _^_}
 use native.Mathlib.Omega.{arith}
 use lib.ListN.{length}
 use borrow.Author.Tests.{le-leb, lt-ltb, not-false}
-use Rattle.octets.proofs.Choice.{both-left, both-true, pick-true}
+use Rattle.octets.specs.Eqs.{maxEqs}
+use Rattle.octets.proofs.Choice.{both-left, both-true, pick-true, either-left, either-right}
 use Rattle.refusal.specs.declared.Verdict.{Verdict}
 use Rattle.refusal.specs.declared.Verdict.the-variants.{Accepted}
 use Rattle.clock.specs.Ticks.{clockTurn}
@@ -17,10 +18,8 @@ use Rattle.sealing.specs.declared.envelope.SealAnswer.{SealAnswer}
 use Rattle.sealing.proofs.Seal.{lengths-fit}
 use Rattle.ends.specs.Identities.{validMac, validIdentity}
 use Rattle.ends.specs.declared.Identity.{Identity}
-use Rattle.ends.specs.Limits.{maxEqs}
 use Rattle.ends.specs.Occupancy.{downstream, upstream}
 use Rattle.ends.proofs.Occupancy.{downstream-below, upstream-between}
-use Rattle.ends.proofs.Tests.{either-left, either-right}
 use Rattle.traffic.specs.Passages.{exchange, misfit}
 
 -- a payload whose length is not refused has at most the most EQs

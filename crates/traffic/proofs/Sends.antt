@@ -6,6 +6,7 @@ use Prim.Native.Nat.{ℕ, _≤_}
 use lib.ListN.{length}
 use borrow.Author.Tests.{not-false}
 use Rattle.octets.specs.Choice.{pick}
+use Rattle.octets.specs.Eqs.{maxEqs}
 use Rattle.refusal.specs.declared.Refusal.{Refusal}
 use Rattle.refusal.specs.declared.Refusal.the-variants.{OutOfRange}
 use Rattle.refusal.specs.declared.Verdict.{Verdict}
@@ -14,7 +15,6 @@ use Rattle.clock.specs.Ticks.{maxTick}
 use Rattle.sealing.specs.Payload.{eqsOf}
 use Rattle.sealing.specs.Seal.{judgeSeal, countCarried}
 use Rattle.ends.specs.Replies.{refuseIf, Reply, reply}
-use Rattle.ends.specs.Limits.{maxEqs}
 use Rattle.ends.specs.Occupancy.{downstream, occupied}
 use Rattle.ends.specs.Records.{withKeys}
 use Rattle.ends.specs.Table.{unitAt, withUnit}

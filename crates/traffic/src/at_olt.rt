@@ -10,7 +10,7 @@ ghost use Rattle.sealing.specs.Seal.{lengthsFit};
 ghost use Rattle.octets.specs.Choice.{both};
 ghost use Rattle.ends.specs.Headers.{noPassage, noSending, validHeader};
 ghost use Rattle.ends.specs.Lift.{putBack};
-ghost use Rattle.ends.specs.Limits.{maxEqs};
+ghost use Rattle.octets.specs.Eqs.{maxEqs};
 ghost use Rattle.ends.specs.Occupancy.{downstream, occupied, upstream};
 ghost use Rattle.ends.specs.Records.{withKeys};
 ghost use Rattle.ends.specs.Replies.{refuseIf};

@@ -8,7 +8,7 @@ ghost use Rattle.clock.specs.Ticks.{maxTick};
 ghost use Rattle.sealing.specs.Seal.{judgeSeal, lengthsFit};
 ghost use Rattle.ends.specs.Headers.{choiceAged, choiceNumber, choiceVerdict, headerOf, keyFor, passageOf, validHeader};
 ghost use Rattle.ends.specs.Keys.{aged, firstSend};
-ghost use Rattle.ends.specs.Limits.{maxEqs};
+ghost use Rattle.octets.specs.Eqs.{maxEqs};
 ghost use Rattle.ends.specs.Occupancy.{occupied, taken};
 ghost use Rattle.traffic.specs.Passages.{exchange, isEnciphered, nonceOf, passed, passedCount};
 use clock::epam_of;
@@ -21,11 +21,9 @@ use ends::Slots;
 use ends::keyslots::key_in;
 use refusal::Verdict;
 use sealing::envelope::Nonce;
+use sealing::envelope::lengths_fit;
 use sealing::envelope::seal;
 use sealing::envelope::seal_count;
-
-// The longest payload, 4,194,303 EQs of nine octets.
-const MAX_OCTETS: usize = 37_748_727;
 
 // Sends under a key stop this many ticks after its first.
 const KEY_LIFE: u64 = 0x1_0000_0000_0000;
@@ -39,7 +37,7 @@ const EPAM_TURN: u8 = 64;
 pub(crate) fn misfit(n: usize, m: usize) -> bool
     ensures { λ r. ⌜ r ≡ not (lengthsFit n m) ⌝ }
 {
-    !((n % 9 == 0) & ((n <= MAX_OCTETS) & (m == n)))
+    !lengths_fit(n, m)
 }
 
 pub(crate) fn valid_header(header: Header) -> bool

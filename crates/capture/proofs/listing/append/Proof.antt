@@ -9,7 +9,7 @@ use native.Mathlib.Omega.{arith}
 use lib.ListN.{length, take, length-set}
 use lib.Seq.{take-length}
 use borrow.Author.Needs.{needs}
-use Rattle.capture.proofs.Lines.{append-more}
+use Rattle.octets.proofs.Steps.{append-more}
 use Rattle.capture.proofs.listing.append.Statement.{statement}
 use Rattle.capture.proofs.listing.append.Tie as tie
 

@@ -5,8 +5,9 @@ use Prim.Native.Nat.{_≤_, _-_}
 use native.Mathlib.Omega.{arith}
 use lib.ListN.{length, take, drop}
 use borrow.Author.Needs.{needs}
+use Rattle.octets.proofs.Steps.{first-end, first-past}
 use Rattle.ends.specs.Table.{findFrom, pastUnit}
-use Rattle.ends.proofs.Walks.{find-hit, find-miss, find-none, first-end, first-past}
+use Rattle.ends.proofs.Walks.{find-hit, find-miss, find-none}
 use Rattle.ends.proofs.check_olt.find.Statement.{statement}
 use Rattle.ends.proofs.check_olt.find.Tie as tie
 

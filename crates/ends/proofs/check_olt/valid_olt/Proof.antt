@@ -9,8 +9,9 @@ use lib.Seq.{length-take-le}
 use borrow.Author.Needs.{needs}
 use borrow.Author.Tests.{le-leb, lt-leb, not-true, not-false}
 use Rattle.octets.specs.Choice.{both}
+use Rattle.octets.specs.Lists.{all}
 use Rattle.ends.specs.Identities.{distinct}
-use Rattle.ends.specs.Table.{all, tableLlids}
+use Rattle.ends.specs.Table.{tableLlids}
 use Rattle.ends.specs.Validity.{validOlt, validShared, validUnit}
 use Rattle.ends.proofs.Walks.{units-few}
 use Rattle.ends.proofs.check_olt.valid_olt.Statement.{statement}

@@ -6,9 +6,10 @@ use native.Mathlib.Omega.{arith}
 use lib.ListN.{length, take, drop}
 use borrow.Author.Needs.{needs}
 use borrow.Author.Tests.{not-true, not-false}
-use Rattle.ends.specs.Table.{all, pastUnit}
+use Rattle.octets.specs.Lists.{all}
+use Rattle.octets.proofs.Steps.{all-hit, all-miss, all-end}
+use Rattle.ends.specs.Table.{pastUnit}
 use Rattle.ends.specs.Validity.{validUnit}
-use Rattle.ends.proofs.Walks.{all-hit, all-miss, all-end}
 use Rattle.ends.proofs.check_olt.valid_units.Statement.{statement}
 use Rattle.ends.proofs.check_olt.valid_units.Tie as tie
 

@@ -8,8 +8,8 @@ use native.Mathlib.Omega.{arith}
 use lib.ListN.{length, take, getD, length-set}
 use borrow.Author.Needs.{needs}
 use Rattle.octets.specs.Lists.{tabulate}
+use Rattle.octets.proofs.Steps.{grow}
 use Rattle.ends.specs.Identities.{llidsOf}
-use Rattle.ends.proofs.Walks.{grow}
 use Rattle.ends.proofs.check_olt.with_llids.Statement.{statement}
 use Rattle.ends.proofs.check_olt.with_llids.Tie as tie
 

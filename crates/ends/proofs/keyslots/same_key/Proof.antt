@@ -6,7 +6,7 @@ use native.Mathlib.Omega.{arith}
 use lib.ListN.{length, drop}
 use borrow.Author.Needs.{needs}
 use Rattle.octets.specs.Lists.{same}
-use Rattle.ends.proofs.Walks.{same-hit, same-miss, same-end}
+use Rattle.octets.proofs.Steps.{same-hit, same-miss, same-end}
 use Rattle.ends.proofs.keyslots.same_key.Statement.{statement}
 use Rattle.ends.proofs.keyslots.same_key.Tie as tie
 

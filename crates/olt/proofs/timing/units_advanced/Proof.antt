@@ -8,12 +8,12 @@ use native.Mathlib.Numerals.{add-one}
 use native.Mathlib.Omega.{arith}
 use lib.ListN.{length, take, drop, getD}
 use borrow.Author.Needs.{needs}
+use Rattle.octets.proofs.Tests.{all-one}
+use Rattle.octets.proofs.Maps.{first-at, first-more}
 use Rattle.ends.specs.Table.{pastUnit}
 use Rattle.ends.specs.Timers.{validTimer}
 use Rattle.ends.specs.UnitCalls.{unitAdvanced}
 use Rattle.ends.specs.declared.Unit.{Unit}
-use Rattle.ends.proofs.Walks.{all-one}
-use Rattle.olt.proofs.Advancing.{first-at, first-more}
 use Rattle.olt.proofs.timing.units_advanced.Statement.{statement}
 use Rattle.olt.proofs.timing.units_advanced.Tie as tie
 

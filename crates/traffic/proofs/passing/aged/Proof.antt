@@ -8,8 +8,8 @@ use borrow.Author.Tests.{leb-true, leb-false, le-leb, lt-leb}
 use Rattle.octets.specs.Choice.{both}
 use Rattle.clock.specs.Ticks.{keyLife}
 use Rattle.ends.specs.Keys.{aged}
-use Rattle.ends.proofs.Tests.{both-false-right}
 use native.Mathlib.Omega.{arith}
+use Rattle.octets.proofs.Choice.{both-false-right}
 use Rattle.traffic.proofs.passing.aged.Statement.{statement}
 use Rattle.traffic.proofs.passing.aged.Tie as tie
 

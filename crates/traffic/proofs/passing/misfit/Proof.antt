@@ -1,14 +1,16 @@
--- `traffic::passing::misfit` meets its contract: the test is that of the definition.
+-- `traffic::passing::misfit` meets its contract: sealing has the test.
 -- Assumes nothing.
-use mathlib.Core.Path.{refl}
-use Rattle.octets.specs.Choice.{both}
-use Rattle.sealing.specs.Seal.{lengthsFit}
+use mathlib.Core.Path.{ap}
+use mathlib.Core.Bool.{not}
+use borrow.Author.Needs.{needs}
 use Rattle.traffic.proofs.passing.misfit.Statement.{statement}
 use Rattle.traffic.proofs.passing.misfit.Tie as tie
 
+lengths-fit-requires : tie.Need-lengths-fit-requires
+lengths-fit-requires c κs = search needs
+
 returns : tie.Need-returns
-unfolding lengthsFit both
-returns c = refl
+returns c = ap not (c .lengths-fit .ensures)
 
 pub misfit-spec : {M : Type 1} → statement M
-misfit-spec = tie.close (tie.spec returns)
+misfit-spec = tie.close (tie.spec lengths-fit-requires returns)

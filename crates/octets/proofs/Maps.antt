@@ -1,36 +1,25 @@
--- Laws of lists that are general: a test of each element, and the first elements mapped. Assumes nothing.
-use mathlib.Core.Path.{_≡_, refl, ap, ap₂}
-use mathlib.Core.Bool.{Bool, true}
-use mathlib.Core.List.{List, [], _∷_, _++_, map}
+-- Laws of lists that are mapped, all their elements or the first alone. Assumes nothing.
+use mathlib.Core.Path.{_≡_, refl, sym, ap, ap₂}
+use mathlib.Core.List.{List, [], _∷_, map, _++_}
 use Prim.Native.Nat.{ℕ, zero, suc, _<_}
 use native.Mathlib.Nat.{le-of-suc-le-suc, not-suc-le-zero}
-use lib.ListN.{length, getD, take, drop, set}
-use Rattle.octets.proofs.Choice.{both-left, both-right, both-true}
-use Rattle.ends.specs.Table.{all}
+use lib.ListN.{length, getD, set, take, drop}
 
-module _ {A : Type 0} (p : A → Bool) where
-  pub all-at : (l : List A) (i : ℕ) (d : A) → all p l ≡ true → i < length l → p (getD l i d) ≡ true
-  unfolding all
-  all-at [] i d e h = absurd (not-suc-le-zero h)
-  all-at (x ∷ xs) zero d e h = both-left _ _ e
-  all-at (x ∷ xs) (suc i) d e h = all-at xs i d (both-right _ _ e) (le-of-suc-le-suc h)
+---- all elements
 
-  pub all-append : (l m : List A) → all p l ≡ true → all p m ≡ true → all p (l ++ m) ≡ true
-  unfolding all
-  all-append [] m e f = f
-  all-append (x ∷ xs) m e f = both-true (both-left _ _ e) (all-append xs m (both-right _ _ e) f)
+pub map-at : {A B : Type 0} (f : A → B) (l : List A) (u : ℕ) (d : A) (e : B) → u < length l → getD (map f l) u e ≡ f (getD l u d)
+map-at f [] u d e h = absurd (not-suc-le-zero h)
+map-at f (x ∷ l) zero d e h = refl
+map-at f (x ∷ l) (suc u) d e h = map-at f l u d e (le-of-suc-le-suc h)
 
-  pub all-set : (l : List A) (i : ℕ) (a : A) → all p l ≡ true → p a ≡ true → all p (set l i a) ≡ true
-  unfolding all
-  all-set [] i a e h = refl
-  all-set (x ∷ xs) zero a e h = both-true h (both-right _ _ e)
-  all-set (x ∷ xs) (suc i) a e h = both-true (both-left _ _ e) (all-set xs i a (both-right _ _ e) h)
+pub map-fixed : {A : Type 0} (g : A → A) (l : List A) → ((x : A) → g x ≡ x) → map g l ≡ l
+map-fixed g [] h = refl
+map-fixed g (x ∷ l) h = rw (h x, map-fixed g l h)
 
-pub all-map : {A B : Type 0} (p : A → Bool) (q : B → Bool) (f : A → B) → ((x : A) → p x ≡ true → q (f x) ≡ true)
-    → (l : List A) → all p l ≡ true → all q (map f l) ≡ true
-unfolding all
-all-map p q f h [] e = refl
-all-map p q f h (x ∷ xs) e = both-true (h x (both-left _ _ e)) (all-map p q f h xs (both-right _ _ e))
+pub map-always : {A : Type 0} (g : A → A) (l : List A) (u : ℕ) (d : A) → g d ≡ d → getD (map g l) u d ≡ g (getD l u d)
+map-always g [] u d e = sym e
+map-always g (x ∷ l) zero d e = refl
+map-always g (x ∷ l) (suc u) d e = map-always g l u d e
 
 pub map-take : {A B : Type 0} (f : A → B) (n : ℕ) (l : List A) → map f (take n l) ≡ take n (map f l)
 map-take f zero l = refl
@@ -44,6 +33,8 @@ map-twice {A} f g h e (x ∷ xs) = ap₂ (λ (y : A) (ys : List A). y ∷ ys) (e
 pub map-same : {A B : Type 0} (f : A → A) (g : A → B) → ((x : A) → g (f x) ≡ g x) → (l : List A) → map g (map f l) ≡ map g l
 map-same f g e [] = refl
 map-same {A} {B} f g e (x ∷ xs) = ap₂ (λ (y : B) (ys : List B). y ∷ ys) (e x) (map-same f g e xs)
+
+---- the first elements
 
 -- the first n of a list whose first n are mapped
 pub take-first : {A : Type 0} (f : A → A) (n : ℕ) (l : List A) → take n (map f (take n l) ++ drop n l) ≡ map f (take n l)
@@ -75,3 +66,16 @@ pub map-first : {A B : Type 0} (f : A → A) (g : A → B) → ((x : A) → g (f
 map-first f g e zero l = refl
 map-first f g e (suc n) [] = refl
 map-first {A} {B} f g e (suc n) (x ∷ xs) = ap₂ (λ (y : B) (ys : List B). y ∷ ys) (e x) (map-first f g e n xs)
+
+module _ {A : Type 0} (f : A → A) where
+  -- the next element is still the old one
+  pub first-at : (i : ℕ) (l : List A) (d : A) → getD (map f (take i l) ++ drop i l) i d ≡ getD l i d
+  first-at zero l d = refl
+  first-at (suc i) [] d = refl
+  first-at (suc i) (x ∷ xs) d = first-at i xs d
+
+  pub first-more : (i : ℕ) (l : List A) (d : A) → i < length l
+      → set (map f (take i l) ++ drop i l) i (f (getD l i d)) ≡ map f (take (suc i) l) ++ drop (suc i) l
+  first-more i [] d h = absurd (not-suc-le-zero h)
+  first-more zero (x ∷ xs) d h = refl
+  first-more (suc i) (x ∷ xs) d h = ap (λ (l : List A). f x ∷ l) (first-more i xs d (le-of-suc-le-suc h))

@@ -38,6 +38,11 @@ encKey h = bitOf (h .flags) 1
 unfoldable pub epamCheck : ℕ → ℕ → Epam
 epamCheck clock epam = pick (eqb epam (clock % 64)) (Agrees clock) Differs
 
+-- the paper's number for what EPAM shows
+abbrev pub epamNumber : Epam → ℕ
+epamNumber (Agrees t) = 0
+epamNumber Differs = numberOf EpamDiffers
+
 -- what is left to judge once the clock is known: the key of an enciphered record
 unfoldable pub keyVerdict : ℕ → Header → Epam → RecordVerdict
 keyVerdict presence h Differs = Refused EpamDiffers

@@ -20,7 +20,7 @@ use Rattle.ends.specs.Table.{registered, find, pastUnit, unitAt, withUni
 use Rattle.ends.specs.Validity.{validUnit, validShared, validOlt}
 use Rattle.ends.specs.Lift.{Outcome, putBack, atUnit, after, lift}
 use Rattle.ends.specs.declared.Channels.{Channels}
-use Rattle.ends.specs.declared.Unit.{Unit}
+use Rattle.ends.specs.declared.UnitRecord.{UnitRecord}
 use Rattle.ends.specs.declared.Shared.{Shared}
 use Rattle.ends.specs.declared.Olt.{Olt}
 use Rattle.ends.specs.declared.Found.{Found}
@@ -29,7 +29,7 @@ use Rattle.ends.proofs.Replies.{refused-accepts, refuse-passed, refuse-
 use Rattle.ends.proofs.Table.{Registered, find-at, identities, SameUnits, find-same, table-same, with-unit, with-other, with-twice, with-channels, with-same-units, with-beside, Beside}
 use Rattle.ends.proofs.Validity.{shared-in-range, shared-valid, olt-in-range, olt-valid}
 
-module _ {H : Type 0} (o : Olt) (nothing : H) (ahead : Verdict) (llid : ℕ) (call : Shared → Unit → Outcome H) where
+module _ {H : Type 0} (o : Olt) (nothing : H) (ahead : Verdict) (llid : ℕ) (call : Shared → UnitRecord → Outcome H) where
   ---- where a call ends
 
   pub lift-invalid : validOlt o ≡ false → lift o nothing ahead llid call ≡ record { verdict = Refused OutOfRange; end = o; handed = nothing }
@@ -129,12 +129,12 @@ module _ {H : Type 0} (o : Olt) (nothing : H) (ahead : Verdict) (llid : ℕ) (ca
 ---- what a call on a unit keeps
 
 -- an accepted call leaves a valid unit, of the same identity, and valid channels
-pub record Keeps {H : Type 0} (call : Shared → Unit → Outcome H) : Type 0 where
-  pub identity : (s : Shared) (u : Unit) → call s u .unit .identity ≡ u .identity
-  pub unit : (s : Shared) (u : Unit) → validUnit (s .tick) u ≡ true → call s u .verdict ≡ Accepted → validUnit (s .tick) (call s u .unit) ≡ true
-  pub channels : (s : Shared) (u : Unit) → validShared s ≡ true → validChannels (call s u .channels) ≡ true
+pub record Keeps {H : Type 0} (call : Shared → UnitRecord → Outcome H) : Type 0 where
+  pub identity : (s : Shared) (u : UnitRecord) → call s u .unit .identity ≡ u .identity
+  pub unit : (s : Shared) (u : UnitRecord) → validUnit (s .tick) u ≡ true → call s u .verdict ≡ Accepted → validUnit (s .tick) (call s u .unit) ≡ true
+  pub channels : (s : Shared) (u : UnitRecord) → validShared s ≡ true → validChannels (call s u .channels) ≡ true
 
-pub with-valid : (o : Olt) (i : ℕ) (c : Channels) (u : Unit) → i < o .count → u .identity ≡ unitAt o i .identity → validUnit (o .shared .tick) u ≡ true
+pub with-valid : (o : Olt) (i : ℕ) (c : Channels) (u : UnitRecord) → i < o .count → u .identity ≡ unitAt o i .identity → validUnit (o .shared .tick) u ≡ true
     → validChannels c ≡ true → validOlt o ≡ true → validOlt (withUnit o i c u) ≡ true
 unfolding withUnit withChannels
 with-valid o i c u h e v w k =
@@ -155,7 +155,7 @@ unit-at-valid o llid i v r =
     rw (getD-take (o .count) (o .units) i pastUnit (r .used))
     at (all-at (validUnit (o .shared .tick)) (registered o) i pastUnit (olt-in-range o v .units) (omega (arith, length-take (o .count) (o .units), r .used, r .place)))
 
-module _ {H : Type 0} (o : Olt) (nothing : H) (ahead : Verdict) (llid : ℕ) (call : Shared → Unit → Outcome H) where
+module _ {H : Type 0} (o : Olt) (nothing : H) (ahead : Verdict) (llid : ℕ) (call : Shared → UnitRecord → Outcome H) where
   pub lift-valid : (ahead ≡ Accepted → Keeps call) → validOlt o ≡ true → validOlt (lift o nothing ahead llid call .end) ≡ true
   lift-valid k v =
       lift-keeps o nothing ahead llid call (λ (p : Olt). validOlt p ≡ true) v
@@ -174,12 +174,12 @@ module _ {H : Type 0} (o : Olt) (nothing : H) (ahead : Verdict) (llid : ℕ) (ca
       (λ l. with-beside o (l .at) _ _)
 
   -- no call on a unit changes who is registered, and where
-  pub lift-same-units : ((s : Shared) (u : Unit) → call s u .unit .identity ≡ u .identity) → SameUnits (lift o nothing ahead llid call .end) o
+  pub lift-same-units : ((s : Shared) (u : UnitRecord) → call s u .unit .identity ≡ u .identity) → SameUnits (lift o nothing ahead llid call .end) o
   lift-same-units k =
       lift-keeps o nothing ahead llid call (λ (p : Olt). SameUnits p o) (record { count = refl; identities = refl })
       (λ l. with-same-units o (l .at) _ _ (k (o .shared) (unitAt o (l .at))))
 
-  pub lift-find : ((s : Shared) (u : Unit) → call s u .unit .identity ≡ u .identity) → (any : ℕ)
+  pub lift-find : ((s : Shared) (u : UnitRecord) → call s u .unit .identity ≡ u .identity) → (any : ℕ)
       → find (lift o nothing ahead llid call .end) any ≡ find o any
   lift-find k any = find-same (lift o nothing ahead llid call .end) o any (lift-same-units k)
 
@@ -202,8 +202,8 @@ module _ {H : Type 0} (o : Olt) (nothing : H) (ahead : Verdict) (llid : ℕ) (ca
 
   -- a call that leaves the channels, and that a second time decides as the first: made again, by any LLID of the unit, it is
   -- answered as the first, and leaves what the first left
-  pub lift-again : Keeps call → ((s : Shared) (u : Unit) → call s u .channels ≡ s .channels)
-      → ((s : Shared) (u : Unit) → call s (call s u .unit) ≡ call s u) → (other : ℕ) → find o other ≡ find o llid
+  pub lift-again : Keeps call → ((s : Shared) (u : UnitRecord) → call s u .channels ≡ s .channels)
+      → ((s : Shared) (u : UnitRecord) → call s (call s u .unit) ≡ call s u) → (other : ℕ) → find o other ≡ find o llid
       → lift o nothing ahead llid call .verdict ≡ Accepted
       → lift (lift o nothing ahead llid call .end) nothing ahead other call ≡ lift o nothing ahead llid call
   unfolding putBack withUnit withChannels

@@ -15,7 +15,7 @@ use Rattle.octets.proofs.Tests.{all-append}
 use Rattle.refusal.specs.declared.Verdict.the-variants.{Accepted}
 use Rattle.clock.specs.Ticks.{maxRoundTrip}
 use Rattle.ends.specs.Limits.{maxUnits, maxLlids}
-use Rattle.ends.specs.Replies.{None, none, Reply}
+use Rattle.ends.specs.Replies.{Nothing, nothing, Reply}
 use Rattle.ends.specs.Timers.{validInterval}
 use Rattle.ends.specs.Identities.{distinct, meets, llidsOf, kept, validIdentity, has}
 use Rattle.ends.specs.Records.{freshUnit}
@@ -23,7 +23,7 @@ use Rattle.ends.specs.Table.{registered, tableLlids, find, withOneMore}
 use Rattle.ends.specs.Validity.{validUnit, validOlt}
 use Rattle.ends.specs.OltCalls.{oltAnswer, validRegistration, registerVerdict, registering, registerOf}
 use Rattle.ends.specs.declared.Identity.{Identity}
-use Rattle.ends.specs.declared.Unit.{Unit}
+use Rattle.ends.specs.declared.UnitRecord.{UnitRecord}
 use Rattle.ends.specs.declared.Olt.{Olt}
 use Rattle.ends.specs.declared.Found.the-variants.{At, Nowhere}
 use Rattle.ends.proofs.Replies.{number-accepted, refuse-accepted, reply-verdict, reply-accepted, reply-keeps}
@@ -78,7 +78,7 @@ fresh-unit-valid tick i trip interval v t n =
     })
 
 -- what the places in use have after a registration: the new unit too, if there was a place
-more-cases : (P : List Unit → Type 0) (o : Olt) (u : Unit) → P (registered o) → P (registered o ++ (u ∷ [])) → P (registered (withOneMore o u))
+more-cases : (P : List UnitRecord → Type 0) (o : Olt) (u : UnitRecord) → P (registered o) → P (registered o ++ (u ∷ [])) → P (registered (withOneMore o u))
 unfolding withOneMore
 more-cases P o u p q = by-room (ltb (o .count) (length (o .units))) refl where
   by-room : (t : Bool) → ltb (o .count) (length (o .units)) ≡ t → P (registered (withOneMore o u))
@@ -89,7 +89,7 @@ more-cases P o u p q = by-room (ltb (o .count) (length (o .units))) refl where
       let more : take (o .count + 1) (o .units) ≡ o .units = take-all (o .count + 1) (o .units) (omega arith) in
       rw (set-out (o .units) (o .count) u h, more) (rw whole at p)
 
-llids-append : (us vs : List Unit) → tableLlids (us ++ vs) ≡ tableLlids us ++ tableLlids vs
+llids-append : (us vs : List UnitRecord) → tableLlids (us ++ vs) ≡ tableLlids us ++ tableLlids vs
 unfolding tableLlids
 llids-append [] vs = refl
 llids-append (u ∷ us) vs = rw (llids-append us vs) (sym (append-assoc (llidsOf (u .identity)) (tableLlids us) (tableLlids vs)))
@@ -117,15 +117,15 @@ registered-valid o i trip interval r v =
       count = omega (arith, r .room);
       shared = k .shared;
       units =
-          more-cases (λ (us : List Unit). all (validUnit (o .shared .tick)) us ≡ true) o u (k .units)
+          more-cases (λ (us : List UnitRecord). all (validUnit (o .shared .tick)) us ≡ true) o u (k .units)
           (all-append (validUnit (o .shared .tick)) (registered o) (u ∷ []) (k .units) (both-true valid refl));
-      distinct = more-cases (λ (us : List Unit). distinct (tableLlids us) ≡ true) o u (k .distinct) (ap distinct llids ∙ apart);
+      distinct = more-cases (λ (us : List UnitRecord). distinct (tableLlids us) ≡ true) o u (k .distinct) (ap distinct llids ∙ apart);
     })
 
 pub register-valid : (o : Olt) (i : Identity) (trip interval : ℕ) → validOlt o ≡ true → validOlt (registerOf o i trip interval .olt) ≡ true
 unfolding registerOf registering oltAnswer
 register-valid o i trip interval v =
-    reply-keeps (λ (p : Olt). validOlt p ≡ true) _ o none _ none v
+    reply-keeps (λ (p : Olt). validOlt p ≡ true) _ o nothing _ nothing v
     (λ a. registered-valid o i trip interval (register-accepted o i trip interval (refuse-accepted _ _ _ a .1)) v)
 
 ---- who is found
@@ -136,9 +136,9 @@ pub register-registered : (o : Olt) (i : Identity) (trip interval : ℕ) → len
 unfolding registerOf registering oltAnswer
 register-registered o i trip interval h e =
     let v = number-accepted _ e in
-    let a = sym (reply-verdict _ o none (withOneMore o (freshUnit i trip interval)) none) ∙ v in
+    let a = sym (reply-verdict _ o nothing (withOneMore o (freshUnit i trip interval)) nothing) ∙ v in
     let r = register-accepted o i trip interval (refuse-accepted _ _ _ a .1) in
-    ap (λ (r : Reply Olt None). registered (r .end)) (reply-accepted _ o none (withOneMore o (freshUnit i trip interval)) none a)
+    ap (λ (r : Reply Olt Nothing). registered (r .end)) (reply-accepted _ o nothing (withOneMore o (freshUnit i trip interval)) nothing a)
     ∙ more-registered o (freshUnit i trip interval) (omega (arith, r .room))
 
 -- it is found by each of its LLIDs, which were found nowhere before

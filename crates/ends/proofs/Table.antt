@@ -16,7 +16,7 @@ use Rattle.ends.specs.Records.{withChannels}
 use Rattle.ends.specs.Table.{registered, tableLlids, findFrom, find, pastUnit, unitAt, withUnit, withOneMore}
 use Rattle.ends.specs.declared.Channels.{Channels}
 use Rattle.ends.specs.declared.Identity.{Identity}
-use Rattle.ends.specs.declared.Unit.{Unit}
+use Rattle.ends.specs.declared.UnitRecord.{UnitRecord}
 use Rattle.ends.specs.declared.Olt.{Olt}
 use Rattle.ends.specs.declared.Found.the-variants.{At, Nowhere}
 use Rattle.ends.proofs.Identities.{among-append, distinct-right, distinct-apart}
@@ -24,12 +24,12 @@ use Rattle.ends.proofs.Identities.{among-append, distinct-right, distin
 ---- who is found
 
 -- place i of the units listed from place k on has the LLID
-record Among (k : ℕ) (us : List Unit) (llid i : ℕ) : Type 0 where
+record Among (k : ℕ) (us : List UnitRecord) (llid i : ℕ) : Type 0 where
   low : k ≤ i
   high : i < k + length us
   has : has (getD us (i - k) pastUnit .identity) llid ≡ true
 
-from-at : (k : ℕ) (us : List Unit) (llid i : ℕ) → findFrom k us llid ≡ At i → Among k us llid i
+from-at : (k : ℕ) (us : List UnitRecord) (llid i : ℕ) → findFrom k us llid ≡ At i → Among k us llid i
 unfolding findFrom pick
 from-at k [] llid i e = let z : _≡_ {A = ℕ} 0 1 = cc in absurd (omega arith)
 from-at k (u ∷ us) llid i e = by-head (has (u .identity) llid) refl (from-at (suc k) us llid i) e where
@@ -64,14 +64,14 @@ find-at o llid i e =
     }
 
 -- the LLIDs of a unit are among the table's
-table-among : (us : List Unit) (llid i : ℕ) → i < length us → has (getD us i pastUnit .identity) llid ≡ true → among llid (tableLlids us) ≡ true
+table-among : (us : List UnitRecord) (llid i : ℕ) → i < length us → has (getD us i pastUnit .identity) llid ≡ true → among llid (tableLlids us) ≡ true
 unfolding tableLlids has
 table-among [] llid i h e = absurd (not-suc-le-zero h)
 table-among (u ∷ us) llid zero h e = among-append llid (llidsOf (u .identity)) (tableLlids us) ∙ either-left _ e
 table-among (u ∷ us) llid (suc i) h e =
     among-append llid (llidsOf (u .identity)) (tableLlids us) ∙ either-right _ (table-among us llid i (le-of-suc-le-suc h) e)
 
-from-own : (k : ℕ) (us : List Unit) (llid i : ℕ) → distinct (tableLlids us) ≡ true → i < length us → has (getD us i pastUnit .identity) llid ≡ true
+from-own : (k : ℕ) (us : List UnitRecord) (llid i : ℕ) → distinct (tableLlids us) ≡ true → i < length us → has (getD us i pastUnit .identity) llid ≡ true
     → findFrom k us llid ≡ At (k + i)
 unfolding findFrom tableLlids has
 from-own k [] llid i d h e = absurd (not-suc-le-zero h)
@@ -97,10 +97,10 @@ one-place o llid i j d r q =
     cc
 
 -- an LLID that is found is one of the table's, and one that is found nowhere is not
-pub among-found : (k : ℕ) (us : List Unit) (llid i : ℕ) → findFrom k us llid ≡ At i → among llid (tableLlids us) ≡ true
+pub among-found : (k : ℕ) (us : List UnitRecord) (llid i : ℕ) → findFrom k us llid ≡ At i → among llid (tableLlids us) ≡ true
 among-found k us llid i e = let m = from-at k us llid i e in table-among us llid (i - k) (omega (arith, m .low, m .high)) (m .has)
 
-pub among-nowhere : (k : ℕ) (us : List Unit) (llid : ℕ) → findFrom k us llid ≡ Nowhere → among llid (tableLlids us) ≡ false
+pub among-nowhere : (k : ℕ) (us : List UnitRecord) (llid : ℕ) → findFrom k us llid ≡ Nowhere → among llid (tableLlids us) ≡ false
 unfolding findFrom pick tableLlids has among
 among-nowhere k [] llid e = refl
 among-nowhere k (u ∷ us) llid e = by-head (has (u .identity) llid) refl (among-nowhere (suc k) us llid) e where
@@ -109,7 +109,7 @@ among-nowhere k (u ∷ us) llid e = by-head (has (u .identity) llid) refl (among
   by-head true h more f = let z : _≡_ {A = ℕ} 0 1 = cc in absurd (omega arith)
   by-head false h more f = among-append llid (llidsOf (u .identity)) (tableLlids us) ∙ either-none h (more f)
 
-from-absent : (k : ℕ) (us : List Unit) (llid : ℕ) → among llid (tableLlids us) ≡ false → findFrom k us llid ≡ Nowhere
+from-absent : (k : ℕ) (us : List UnitRecord) (llid : ℕ) → among llid (tableLlids us) ≡ false → findFrom k us llid ≡ Nowhere
 unfolding findFrom tableLlids has
 from-absent k [] llid e = refl
 from-absent k (u ∷ us) llid e =
@@ -127,13 +127,13 @@ find-absent o llid e = from-absent 0 (registered o) llid e
 
 ---- the table goes by the identities alone
 
-abbrev pub identityOf : Unit → Identity
+abbrev pub identityOf : UnitRecord → Identity
 identityOf u = u .identity
 
 abbrev pub identities : Olt → List Identity
 identities o = map identityOf (o .units)
 
-from-same : (k : ℕ) (us vs : List Unit) (llid : ℕ) → map identityOf us ≡ map identityOf vs → findFrom k us llid ≡ findFrom k vs llid
+from-same : (k : ℕ) (us vs : List UnitRecord) (llid : ℕ) → map identityOf us ≡ map identityOf vs → findFrom k us llid ≡ findFrom k vs llid
 unfolding findFrom
 from-same k [] [] llid e = refl
 from-same k [] (v ∷ vs) llid e = let z : _≡_ {A = ℕ} 0 1 = cc in absurd (omega arith)
@@ -143,7 +143,7 @@ from-same k (u ∷ us) (v ∷ vs) llid e =
     let tail : map identityOf us ≡ map identityOf vs = cc in
     rw (head, from-same (suc k) us vs llid tail)
 
-pub llids-same : (us vs : List Unit) → map identityOf us ≡ map identityOf vs → tableLlids us ≡ tableLlids vs
+pub llids-same : (us vs : List UnitRecord) → map identityOf us ≡ map identityOf vs → tableLlids us ≡ tableLlids vs
 unfolding tableLlids
 llids-same [] [] e = refl
 llids-same [] (v ∷ vs) e = let z : _≡_ {A = ℕ} 0 1 = cc in absurd (omega arith)
@@ -172,11 +172,11 @@ table-same o p s = llids-same (registered o) (registered p) (registered-same o p
 
 ---- one unit replaced
 
-pub with-unit : (o : Olt) (i : ℕ) (c : Channels) (u : Unit) → i < length (o .units) → unitAt (withUnit o i c u) i ≡ u
+pub with-unit : (o : Olt) (i : ℕ) (c : Channels) (u : UnitRecord) → i < length (o .units) → unitAt (withUnit o i c u) i ≡ u
 unfolding withUnit
 with-unit o i c u h = getD-set-same (o .units) i u pastUnit h
 
-pub with-other : (o : Olt) (i j : ℕ) (c : Channels) (u : Unit) → (j ≡ i → ⊥) → unitAt (withUnit o i c u) j ≡ unitAt o j
+pub with-other : (o : Olt) (i j : ℕ) (c : Channels) (u : UnitRecord) → (j ≡ i → ⊥) → unitAt (withUnit o i c u) j ≡ unitAt o j
 unfolding withUnit
 with-other o i j c u h = getD-set-other (o .units) i j u pastUnit h
 
@@ -188,15 +188,15 @@ pub record Beside (o p : Olt) : Type 0 where
   pub count : p .count ≡ o .count
   pub places : length (p .units) ≡ length (o .units)
 
-pub with-beside : (o : Olt) (i : ℕ) (c : Channels) (u : Unit) → Beside o (withUnit o i c u)
+pub with-beside : (o : Olt) (i : ℕ) (c : Channels) (u : UnitRecord) → Beside o (withUnit o i c u)
 unfolding withUnit withChannels
 with-beside o i c u = record { mac = refl; tick = refl; clock = refl; count = refl; places = length-set (o .units) i u }
 
-pub with-channels : (o : Olt) (i : ℕ) (c : Channels) (u : Unit) → withUnit o i c u .shared .channels ≡ c
+pub with-channels : (o : Olt) (i : ℕ) (c : Channels) (u : UnitRecord) → withUnit o i c u .shared .channels ≡ c
 unfolding withUnit withChannels
 with-channels o i c u = refl
 
-pub with-same-units : (o : Olt) (i : ℕ) (c : Channels) (u : Unit) → u .identity ≡ unitAt o i .identity → SameUnits (withUnit o i c u) o
+pub with-same-units : (o : Olt) (i : ℕ) (c : Channels) (u : UnitRecord) → u .identity ≡ unitAt o i .identity → SameUnits (withUnit o i c u) o
 unfolding withUnit
 with-same-units o i c u e = record { count = refl; identities = map-set-same identityOf (o .units) i u pastUnit e }
 
@@ -206,17 +206,17 @@ unfolding withUnit withChannels
 with-itself o i = rw (set-getD (o .units) i pastUnit)
 
 -- the later of two stays
-pub with-twice : (o : Olt) (i : ℕ) (c d : Channels) (u v : Unit) → withUnit (withUnit o i c u) i d v ≡ withUnit o i d v
+pub with-twice : (o : Olt) (i : ℕ) (c d : Channels) (u v : UnitRecord) → withUnit (withUnit o i c u) i d v ≡ withUnit o i d v
 unfolding withUnit withChannels
 with-twice o i c d u v = rw (set-set (o .units) i u v)
 
 ---- one unit more
 
-pub more-registered : (o : Olt) (u : Unit) → o .count < length (o .units) → registered (withOneMore o u) ≡ registered o ++ (u ∷ [])
+pub more-registered : (o : Olt) (u : UnitRecord) → o .count < length (o .units) → registered (withOneMore o u) ≡ registered o ++ (u ∷ [])
 unfolding withOneMore
 more-registered o u h = rw (add-one, take-suc-set (o .units) (o .count) u h)
 
-from-append : (k : ℕ) (us vs : List Unit) (llid i : ℕ) → findFrom k us llid ≡ At i → findFrom k (us ++ vs) llid ≡ At i
+from-append : (k : ℕ) (us vs : List UnitRecord) (llid i : ℕ) → findFrom k us llid ≡ At i → findFrom k (us ++ vs) llid ≡ At i
 unfolding findFrom pick
 from-append k [] vs llid i e = let z : _≡_ {A = ℕ} 0 1 = cc in absurd (omega arith)
 from-append k (u ∷ us) vs llid i e = by-head (has (u .identity) llid) (from-append (suc k) us vs llid i) e where
@@ -225,7 +225,7 @@ from-append k (u ∷ us) vs llid i e = by-head (has (u .identity) llid) (from-ap
   by-head true more f = f
   by-head false more f = more f
 
-from-past : (k : ℕ) (us vs : List Unit) (llid : ℕ) → findFrom k us llid ≡ Nowhere → findFrom k (us ++ vs) llid ≡ findFrom (k + length us) vs llid
+from-past : (k : ℕ) (us vs : List UnitRecord) (llid : ℕ) → findFrom k us llid ≡ Nowhere → findFrom k (us ++ vs) llid ≡ findFrom (k + length us) vs llid
 unfolding findFrom pick
 from-past k [] vs llid e = rw add-zero
 from-past k (u ∷ us) vs llid e = by-head (has (u .identity) llid) (from-past (suc k) us vs llid) e where
@@ -236,12 +236,12 @@ from-past k (u ∷ us) vs llid e = by-head (has (u .identity) llid) (from-past (
   by-head false more f = more f ∙ ap (λ (n : ℕ). findFrom n vs llid) (rw (suc-add, add-suc))
 
 -- who was found is found where it was
-pub more-find : (o : Olt) (u : Unit) (llid i : ℕ) → o .count < length (o .units) → find o llid ≡ At i → find (withOneMore o u) llid ≡ At i
+pub more-find : (o : Olt) (u : UnitRecord) (llid i : ℕ) → o .count < length (o .units) → find o llid ≡ At i → find (withOneMore o u) llid ≡ At i
 unfolding find
 more-find o u llid i h e = rw (more-registered o u h) (from-append 0 (registered o) (u ∷ []) llid i e)
 
 -- the new unit is found in its place by each of its LLIDs that no other has
-pub more-find-new : (o : Olt) (u : Unit) (llid : ℕ) → o .count < length (o .units) → find o llid ≡ Nowhere → has (u .identity) llid ≡ true
+pub more-find-new : (o : Olt) (u : UnitRecord) (llid : ℕ) → o .count < length (o .units) → find o llid ≡ Nowhere → has (u .identity) llid ≡ true
     → find (withOneMore o u) llid ≡ At (o .count)
 unfolding find findFrom
 more-find-new o u llid h e f =
@@ -249,19 +249,19 @@ more-find-new o u llid h e f =
     rw (more-registered o u h) (from-past 0 (registered o) (u ∷ []) llid e ∙ pick-true _ _ f ∙ ap At n)
 
 -- and no other LLID is
-pub more-find-none : (o : Olt) (u : Unit) (llid : ℕ) → o .count < length (o .units) → find o llid ≡ Nowhere → has (u .identity) llid ≡ false
+pub more-find-none : (o : Olt) (u : UnitRecord) (llid : ℕ) → o .count < length (o .units) → find o llid ≡ Nowhere → has (u .identity) llid ≡ false
     → find (withOneMore o u) llid ≡ Nowhere
 unfolding find findFrom
 more-find-none o u llid h e f = rw (more-registered o u h) (from-past 0 (registered o) (u ∷ []) llid e ∙ pick-false _ _ f)
 
-pub more-unit : (o : Olt) (u : Unit) → o .count < length (o .units) → unitAt (withOneMore o u) (o .count) ≡ u
+pub more-unit : (o : Olt) (u : UnitRecord) → o .count < length (o .units) → unitAt (withOneMore o u) (o .count) ≡ u
 unfolding withOneMore
 more-unit o u h = getD-set-same (o .units) (o .count) u pastUnit h
 
-pub more-other : (o : Olt) (u : Unit) (j : ℕ) → (j ≡ o .count → ⊥) → unitAt (withOneMore o u) j ≡ unitAt o j
+pub more-other : (o : Olt) (u : UnitRecord) (j : ℕ) → (j ≡ o .count → ⊥) → unitAt (withOneMore o u) j ≡ unitAt o j
 unfolding withOneMore
 more-other o u j h = getD-set-other (o .units) (o .count) j u pastUnit h
 
-pub more-places : (o : Olt) (u : Unit) → length (withOneMore o u .units) ≡ length (o .units)
+pub more-places : (o : Olt) (u : UnitRecord) → length (withOneMore o u .units) ≡ length (o .units)
 unfolding withOneMore
 more-places o u = length-set (o .units) (o .count) u

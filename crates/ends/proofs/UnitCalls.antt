@@ -17,7 +17,7 @@ use Rattle.clock.specs.Ticks.{ticksPerSecond, clockTurn, rewound}
 use Rattle.clock.specs.Stamping.{capturedAt}
 use Rattle.clock.proofs.Ticks.{advanced-mod, rewound-at}
 use Rattle.ends.specs.Limits.{maxKeyNumber}
-use Rattle.ends.specs.Replies.{None, none}
+use Rattle.ends.specs.Replies.{Nothing, nothing}
 use Rattle.ends.specs.Keys.{keyIn}
 use Rattle.ends.specs.Messages.{clockKind, keyKind}
 use Rattle.ends.specs.Records.{withKeys, withConfirmation, withClock, withTimer}
@@ -26,7 +26,7 @@ use Rattle.ends.specs.Occupancy.{validChannels}
 use Rattle.ends.specs.Lift.{Outcome, outcome}
 use Rattle.ends.specs.UnitCalls.{unitAdvanced, clockCaptured, captureUnit, clockSendVerdict, clockMessageSent, clockMessageOf, clockSendUnit, offerVerdict, keysOffered, unitOffered, offerUnit, retryVerdict, retryUnit, clockAcknowledgedUnit, keyAcknowledgedUnit, acknowledgeUnit}
 use Rattle.ends.specs.declared.UnitClock.{UnitClock}
-use Rattle.ends.specs.declared.Unit.{Unit}
+use Rattle.ends.specs.declared.UnitRecord.{UnitRecord}
 use Rattle.ends.specs.declared.Shared.{Shared}
 use Rattle.ends.specs.declared.Acknowledgement.{Acknowledgement}
 use Rattle.ends.proofs.Replies.{refuse-accepted}
@@ -38,7 +38,7 @@ use Rattle.ends.proofs.Lift.{Keeps}
 ---- advance
 
 -- an advance by m and then one by n are an advance by m + n
-pub unit-sum : (m n : ℕ) (u : Unit) → unitAdvanced n (unitAdvanced m u) ≡ unitAdvanced (m + n) u
+pub unit-sum : (m n : ℕ) (u : UnitRecord) → unitAdvanced n (unitAdvanced m u) ≡ unitAdvanced (m + n) u
 unfolding unitAdvanced withKeys withTimer
 unit-sum m n u = rw (timer-sum m n (u .keys .timer))
 
@@ -55,7 +55,7 @@ clock-later tick later c h e =
       acknowledged = r .acknowledged;
     })
 
-pub unit-advanced-valid : (tick n : ℕ) (u : Unit) → validUnit tick u ≡ true → validUnit (tick + n) (unitAdvanced n u) ≡ true
+pub unit-advanced-valid : (tick n : ℕ) (u : UnitRecord) → validUnit tick u ≡ true → validUnit (tick + n) (unitAdvanced n u) ≡ true
 unfolding unitAdvanced withKeys withTimer
 unit-advanced-valid tick n u e =
     let r = unit-in-range tick u e in
@@ -74,7 +74,7 @@ unit-advanced-valid tick n u e =
 ---- calls that leave the channels
 
 -- a unit whose clock alone is replaced by one in range
-clock-replaced : (tick : ℕ) (u : Unit) (c : UnitClock) → ClockInRange tick c → validUnit tick u ≡ true → validUnit tick (withClock u c) ≡ true
+clock-replaced : (tick : ℕ) (u : UnitRecord) (c : UnitClock) → ClockInRange tick c → validUnit tick u ≡ true → validUnit tick (withClock u c) ≡ true
 unfolding withClock
 clock-replaced tick u c k e =
     let r = unit-in-range tick u e in
@@ -133,14 +133,14 @@ clock-send-accepted c tick e =
     let b = refuse-accepted _ _ _ (a .1) in
     record { captured = eqb-true _ _ (not-false _ (a .0)); soon = ltb-false _ _ (b .0) }
 
-pub record Offers (u : Unit) (key : List ℕ) : Type 0 where
+pub record Offers (u : UnitRecord) (key : List ℕ) : Type 0 where
   pub set : u .clock .acknowledged ≡ 1
   pub settled : u .keys .offered ≤ u .keys .active
   pub confirmed : u .keys .active ≤ u .confirmation .confirmed
   pub new : both (leb 1 (u .keys .active)) (same key (keyIn (u .keys .slots) (u .keys .active))) ≡ false
   pub below : u .keys .active < maxKeyNumber
 
-pub offer-accepted : (u : Unit) (key : List ℕ) → offerVerdict u key ≡ Accepted → Offers u key
+pub offer-accepted : (u : UnitRecord) (key : List ℕ) → offerVerdict u key ≡ Accepted → Offers u key
 unfolding offerVerdict
 offer-accepted u key e =
     let a = refuse-accepted _ _ _ e in
@@ -156,18 +156,18 @@ offer-accepted u key e =
       below = leb-false _ _ (d .0);
     }
 
-pub retry-accepted : (u : Unit) → retryVerdict (u .keys) ≡ Accepted → u .keys .offered ≡ u .keys .active → ⊥
+pub retry-accepted : (u : UnitRecord) → retryVerdict (u .keys) ≡ Accepted → u .keys .offered ≡ u .keys .active → ⊥
 unfolding retryVerdict
 retry-accepted u e = eqb-false _ _ (refuse-accepted _ _ _ e .0)
 
-pub key-acknowledged-accepted : (number : ℕ) (s : Shared) (u : Unit) → keyAcknowledgedUnit number s u .verdict ≡ Accepted
+pub key-acknowledged-accepted : (number : ℕ) (s : Shared) (u : UnitRecord) → keyAcknowledgedUnit number s u .verdict ≡ Accepted
     → (1 ≤ number) × (number ≡ u .keys .offered)
 unfolding keyAcknowledgedUnit outcome
 key-acknowledged-accepted number s u e =
     let a = not-false _ (refuse-accepted _ _ _ e .0) in
     (leb-true _ _ (both-left _ _ a), eqb-true _ _ (both-right _ _ a))
 
-pub clock-acknowledged-accepted : (s : Shared) (u : Unit) → clockAcknowledgedUnit s u .verdict ≡ Accepted → u .clock .sent ≡ 1
+pub clock-acknowledged-accepted : (s : Shared) (u : UnitRecord) → clockAcknowledgedUnit s u .verdict ≡ Accepted → u .clock .sent ≡ 1
 unfolding clockAcknowledgedUnit outcome
 clock-acknowledged-accepted s u e = eqb-true _ _ (not-false _ (refuse-accepted _ _ _ e .0))
 
@@ -235,23 +235,23 @@ key-acknowledged-keeps number =
 
 ---- acknowledgements by kind
 
-pub key-kind : (a : Acknowledgement) (s : Shared) (u : Unit) → a .kind ≡ keyKind → acknowledgeUnit a s u ≡ keyAcknowledgedUnit (a .number) s u
+pub key-kind : (a : Acknowledgement) (s : Shared) (u : UnitRecord) → a .kind ≡ keyKind → acknowledgeUnit a s u ≡ keyAcknowledgedUnit (a .number) s u
 unfolding acknowledgeUnit pick
 key-kind a s u e = rw e
 
-pub clock-kind : (a : Acknowledgement) (s : Shared) (u : Unit) → a .kind ≡ clockKind → acknowledgeUnit a s u ≡ clockAcknowledgedUnit s u
+pub clock-kind : (a : Acknowledgement) (s : Shared) (u : UnitRecord) → a .kind ≡ clockKind → acknowledgeUnit a s u ≡ clockAcknowledgedUnit s u
 unfolding acknowledgeUnit pick
 clock-kind a s u e = rw e
 
-pub no-kind : (a : Acknowledgement) (s : Shared) (u : Unit) → eqb (a .kind) clockKind ≡ false → eqb (a .kind) keyKind ≡ false
-    → acknowledgeUnit a s u ≡ outcome s (Refused NothingOutstanding) u none
+pub no-kind : (a : Acknowledgement) (s : Shared) (u : UnitRecord) → eqb (a .kind) clockKind ≡ false → eqb (a .kind) keyKind ≡ false
+    → acknowledgeUnit a s u ≡ outcome s (Refused NothingOutstanding) u nothing
 unfolding acknowledgeUnit
 no-kind a s u e f = pick-false _ _ e ∙ pick-false _ _ f
 
 -- an acknowledgement of either kind, or of neither
-chosen : Acknowledgement → Bool → Bool → Shared → Unit → Outcome None
+chosen : Acknowledgement → Bool → Bool → Shared → UnitRecord → Outcome Nothing
 chosen a t k s u =
-    pick t (clockAcknowledgedUnit s u) (pick k (keyAcknowledgedUnit (a .number) s u) (outcome s (Refused NothingOutstanding) u none))
+    pick t (clockAcknowledgedUnit s u) (pick k (keyAcknowledgedUnit (a .number) s u) (outcome s (Refused NothingOutstanding) u nothing))
 
 pub acknowledge-keeps : (a : Acknowledgement) → Keeps (acknowledgeUnit a)
 unfolding acknowledgeUnit outcome pick chosen
@@ -261,7 +261,7 @@ acknowledge-keeps a = by-kind (eqb (a .kind) clockKind) (eqb (a .kind) keyKind) 
   by-kind false true = key-acknowledged-keeps (a .number)
   by-kind false false = record { identity = λ s u. refl; unit = λ s u v e. v; channels = λ s u v. stay s v }
 
-pub acknowledged-channels : (a : Acknowledgement) (s : Shared) (u : Unit) → acknowledgeUnit a s u .channels ≡ s .channels
+pub acknowledged-channels : (a : Acknowledgement) (s : Shared) (u : UnitRecord) → acknowledgeUnit a s u .channels ≡ s .channels
 unfolding acknowledgeUnit clockAcknowledgedUnit keyAcknowledgedUnit outcome pick chosen
 acknowledged-channels a s u = by-kind (eqb (a .kind) clockKind) (eqb (a .kind) keyKind) where
   by-kind : (t k : Bool) → chosen a t k s u .channels ≡ s .channels
@@ -270,7 +270,7 @@ acknowledged-channels a s u = by-kind (eqb (a .kind) clockKind) (eqb (a .kind) k
   by-kind false false = refl
 
 -- an acknowledgement again is as the first
-pub acknowledged-again : (a : Acknowledgement) (s : Shared) (u : Unit) → acknowledgeUnit a s (acknowledgeUnit a s u .unit) ≡ acknowledgeUnit a s u
+pub acknowledged-again : (a : Acknowledgement) (s : Shared) (u : UnitRecord) → acknowledgeUnit a s (acknowledgeUnit a s u .unit) ≡ acknowledgeUnit a s u
 unfolding acknowledgeUnit clockAcknowledgedUnit keyAcknowledgedUnit outcome withClock withConfirmation pick chosen
 acknowledged-again a s u = by-kind (eqb (a .kind) clockKind) (eqb (a .kind) keyKind) where
   by-kind : (t k : Bool) → chosen a t k s (chosen a t k s u .unit) ≡ chosen a t k s u

@@ -8,7 +8,7 @@ use Rattle.ends.specs.Records.{withKeys, withConfirmation, withSlots, wi
 use Rattle.ends.specs.Validity.{validUnit}
 use Rattle.ends.specs.Lift.{outcome}
 use Rattle.ends.specs.UnitTraffic.{unitSendChoice, keysSwitched, keysSent, sendUnit, unitReceiveChoice, unitConfirmed, unitReceived, receiveUnit}
-use Rattle.ends.specs.declared.Unit.{Unit}
+use Rattle.ends.specs.declared.UnitRecord.{UnitRecord}
 use Rattle.ends.specs.declared.Header.{Header}
 use Rattle.ends.specs.declared.KeyChoice.{KeyChoice}
 use Rattle.ends.specs.declared.KeyChoice.the-variants.{Clear, Current, Next, Barred}
@@ -19,7 +19,7 @@ use Rattle.ends.proofs.Validity.{unit-in-range, unit-valid, shared-in-r
 use Rattle.ends.proofs.Lift.{Keeps}
 
 -- whatever the choice, the keys after a send are in range
-sent-valid : (choice : KeyChoice) (tick : ℕ) (u : Unit) → validUnit tick u ≡ true → validUnit tick (withKeys u (keysSent choice (u .keys) tick)) ≡ true
+sent-valid : (choice : KeyChoice) (tick : ℕ) (u : UnitRecord) → validUnit tick u ≡ true → validUnit tick (withKeys u (keysSent choice (u .keys) tick)) ≡ true
 unfolding withKeys keysSent withFirst keysSwitched
 sent-valid Clear tick u v = v
 sent-valid (Barred r) tick u v = v
@@ -61,7 +61,7 @@ send-keeps llid index eqs h =
           occupied-valid (s .channels) index (s .tick) eqs (r .tick) h (r .channels);
     }
 
-received-valid : (choice : KeyChoice) (tick : ℕ) (u : Unit) → validUnit tick u ≡ true → validUnit tick (unitReceived choice u) ≡ true
+received-valid : (choice : KeyChoice) (tick : ℕ) (u : UnitRecord) → validUnit tick u ≡ true → validUnit tick (unitReceived choice u) ≡ true
 unfolding unitReceived unitConfirmed withKeys withSlots withConfirmation
 received-valid Clear tick u v = v
 received-valid (Current n) tick u v = v
@@ -80,7 +80,7 @@ received-valid (Next n) tick u v =
       clock = r .clock;
     })
 
-received-identity : (choice : KeyChoice) (u : Unit) → unitReceived choice u .identity ≡ u .identity
+received-identity : (choice : KeyChoice) (u : UnitRecord) → unitReceived choice u .identity ≡ u .identity
 unfolding unitReceived unitConfirmed withKeys withSlots withConfirmation
 received-identity Clear u = refl
 received-identity (Current n) u = refl

@@ -15,7 +15,7 @@ use Rattle.ends.specs.Identities.{distinct, llidsOf, validMac, validIden
 use Rattle.ends.specs.Table.{registered, tableLlids}
 use Rattle.ends.specs.Validity.{validNumbers, validKeys, validUnitClock, validUnit, validShared, validOlt, validOnuKeys, validOnuClock, validOnu}
 use Rattle.ends.specs.declared.UnitClock.{UnitClock}
-use Rattle.ends.specs.declared.Unit.{Unit}
+use Rattle.ends.specs.declared.UnitRecord.{UnitRecord}
 use Rattle.ends.specs.declared.Shared.{Shared}
 use Rattle.ends.specs.declared.Olt.{Olt}
 use Rattle.ends.specs.declared.Onu.{Onu}
@@ -58,7 +58,7 @@ clock-valid tick c r =
 
 ---- a unit
 
-pub record UnitInRange (tick : ℕ) (u : Unit) : Type 0 where
+pub record UnitInRange (tick : ℕ) (u : UnitRecord) : Type 0 where
   pub identity : validIdentity (u .identity) ≡ true
   pub timer : validTimer (u .keys .timer) ≡ true
   pub first : validFirst (u .keys .first) tick ≡ true
@@ -68,7 +68,7 @@ pub record UnitInRange (tick : ℕ) (u : Unit) : Type 0 where
   pub acknowledged : u .confirmation .acknowledged ≤ 1
   pub clock : validUnitClock tick (u .clock) ≡ true
 
-pub unit-in-range : (tick : ℕ) (u : Unit) → validUnit tick u ≡ true → UnitInRange tick u
+pub unit-in-range : (tick : ℕ) (u : UnitRecord) → validUnit tick u ≡ true → UnitInRange tick u
 unfolding validUnit validKeys validNumbers
 unit-in-range tick u e =
     let a = both-right _ _ e in
@@ -87,7 +87,7 @@ unit-in-range tick u e =
       clock = both-right _ _ c;
     }
 
-pub unit-valid : (tick : ℕ) (u : Unit) → UnitInRange tick u → validUnit tick u ≡ true
+pub unit-valid : (tick : ℕ) (u : UnitRecord) → UnitInRange tick u → validUnit tick u ≡ true
 unfolding validUnit validKeys validNumbers
 unit-valid tick u r =
     both-true (r .identity)

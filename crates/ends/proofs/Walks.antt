@@ -17,7 +17,7 @@ use Rattle.octets.proofs.Steps.{tabulate-step, tabulate-end, drop-step, drop-ba
 use Rattle.ends.specs.Identities.{among, distinct, has, llidsOf, meets, validIdentity}
 use Rattle.ends.specs.Table.{findFrom, pastUnit, tableLlids}
 use Rattle.ends.specs.Validity.{validUnit}
-use Rattle.ends.specs.declared.Unit.{Unit}
+use Rattle.ends.specs.declared.UnitRecord.{UnitRecord}
 use Rattle.ends.specs.declared.Found.the-variants.{At, Nowhere}
 
 ---- along what is tabulated
@@ -96,26 +96,26 @@ distinct-back-miss l i h k e = rw (drop-back l i h k, e)
 
 ---- along the first n of a list
 
-pub find-hit : (n : ℕ) (l : List Unit) (i : ℕ) (d : Unit) (llid : ℕ) → i < n → i < length l → has (getD l i d .identity) llid ≡ true
+pub find-hit : (n : ℕ) (l : List UnitRecord) (i : ℕ) (d : UnitRecord) (llid : ℕ) → i < n → i < length l → has (getD l i d .identity) llid ≡ true
     → findFrom i (drop i (take n l)) llid ≡ At i
 unfolding findFrom pick
 find-hit n l i d llid h k e = rw (first-step n l i d h k, e)
 
-pub find-miss : (n : ℕ) (l : List Unit) (i : ℕ) (d : Unit) (llid : ℕ) → i < n → i < length l → has (getD l i d .identity) llid ≡ false
+pub find-miss : (n : ℕ) (l : List UnitRecord) (i : ℕ) (d : UnitRecord) (llid : ℕ) → i < n → i < length l → has (getD l i d .identity) llid ≡ false
     → findFrom i (drop i (take n l)) llid ≡ findFrom (i + 1) (drop (i + 1) (take n l)) llid
 unfolding findFrom pick
 find-miss n l i d llid h k e = rw (first-step n l i d h k, e, add-one)
 
-pub find-none : (i : ℕ) (l : List Unit) (llid : ℕ) → l ≡ [] → findFrom i l llid ≡ Nowhere
+pub find-none : (i : ℕ) (l : List UnitRecord) (llid : ℕ) → l ≡ [] → findFrom i l llid ≡ Nowhere
 unfolding findFrom
 find-none i l llid e = rw e
 
-pub llids-step : (n : ℕ) (l : List Unit) (i : ℕ) (d : Unit) → i < n → i < length l
+pub llids-step : (n : ℕ) (l : List UnitRecord) (i : ℕ) (d : UnitRecord) → i < n → i < length l
     → tableLlids (drop i (take n l)) ≡ llidsOf (getD l i d .identity) ++ tableLlids (drop (i + 1) (take n l))
 unfolding tableLlids
 llids-step n l i d h k = rw (first-step n l i d h k)
 
-pub llids-end : (n : ℕ) (l : List Unit) (i : ℕ) → n ≤ i → tableLlids (drop i (take n l)) ≡ []
+pub llids-end : (n : ℕ) (l : List UnitRecord) (i : ℕ) → n ≤ i → tableLlids (drop i (take n l)) ≡ []
 unfolding tableLlids
 llids-end n l i h = rw (first-end n l i h)
 
@@ -159,12 +159,12 @@ marked l i marks h k len m x e =
 
 ---- validity
 
-pub unit-few : (tick : ℕ) (u : Unit) → validUnit tick u ≡ true → u .identity .count ≤ 4
+pub unit-few : (tick : ℕ) (u : UnitRecord) → validUnit tick u ≡ true → u .identity .count ≤ 4
 unfolding validUnit validIdentity
 unit-few tick u e = leb-true _ _ (both-right _ _ (both-right _ _ (both-left _ _ e)))
 
 -- a registered unit has at most four LLIDs, and what stands past the table has none
-pub units-few : (tick n : ℕ) (l : List Unit) → all (validUnit tick) (take n l) ≡ true
+pub units-few : (tick n : ℕ) (l : List UnitRecord) → all (validUnit tick) (take n l) ≡ true
     → (i : ℕ) → i < n → getD l i pastUnit .identity .count ≤ 4
 unfolding all pastUnit
 units-few tick zero l e i h = absurd (not-suc-le-zero h)

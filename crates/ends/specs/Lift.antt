@@ -9,7 +9,7 @@ use Rattle.ends.specs.Replies.{refuseIf, Reply, reply}
 use Rattle.ends.specs.Table.{find, unitAt, withUnit}
 use Rattle.ends.specs.Validity.{validOlt}
 use Rattle.ends.specs.declared.Channels.{Channels}
-use Rattle.ends.specs.declared.Unit.{Unit}
+use Rattle.ends.specs.declared.UnitRecord.{UnitRecord}
 use Rattle.ends.specs.declared.Shared.{Shared}
 use Rattle.ends.specs.declared.Olt.{Olt}
 use Rattle.ends.specs.declared.Found.{Found}
@@ -18,19 +18,19 @@ use Rattle.ends.specs.declared.Found.the-variants.{At, Nowhere}
 -- a call on one unit: its verdict and, where that accepts, the unit and the channels after it and what it hands over
 pub record Outcome (H : Type 0) : Type 0 where
   pub verdict : Verdict
-  pub unit : Unit
+  pub unit : UnitRecord
   pub channels : Channels
   pub handed : H
 
 -- a call that leaves the channels
-unfoldable pub outcome : {H : Type 0} → Shared → Verdict → Unit → H → Outcome H
+unfoldable pub outcome : {H : Type 0} → Shared → Verdict → UnitRecord → H → Outcome H
 outcome s v u handed = record { verdict = v; unit = u; channels = s .channels; handed = handed }
 
 -- what the call on one unit decided, at place i of the table
 unfoldable pub putBack : {H : Type 0} → Olt → H → ℕ → Outcome H → Reply Olt H
 putBack o nothing i c = reply (c .verdict) o nothing (withUnit o i (c .channels) (c .unit)) (c .handed)
 
-unfoldable pub atUnit : {H : Type 0} → Olt → H → (Shared → Unit → Outcome H) → Found → Reply Olt H
+unfoldable pub atUnit : {H : Type 0} → Olt → H → (Shared → UnitRecord → Outcome H) → Found → Reply Olt H
 atUnit o nothing call Nowhere = reply (Refused UnknownLlid) o nothing o nothing
 atUnit o nothing call (At i) = putBack o nothing i (call (o .shared) (unitAt o i))
 
@@ -40,5 +40,5 @@ after Accepted o nothing r = r
 after (Refused x) o nothing r = reply (Refused x) o nothing o nothing
 
 -- 1 for a lent end that is not valid, then what the call refuses ahead of 2, then 2, then what the unit decides
-unfoldable pub lift : {H : Type 0} → Olt → H → Verdict → ℕ → (Shared → Unit → Outcome H) → Reply Olt H
+unfoldable pub lift : {H : Type 0} → Olt → H → Verdict → ℕ → (Shared → UnitRecord → Outcome H) → Reply Olt H
 lift o nothing ahead llid call = after (refuseIf (not (validOlt o)) OutOfRange ahead) o nothing (atUnit o nothing call (find o llid))

@@ -15,7 +15,7 @@ use Rattle.ends.specs.declared.Identity.{Identity}
 use Rattle.ends.specs.declared.UnitKeys.{UnitKeys}
 use Rattle.ends.specs.declared.Confirmation.{Confirmation}
 use Rattle.ends.specs.declared.UnitClock.{UnitClock}
-use Rattle.ends.specs.declared.Unit.{Unit}
+use Rattle.ends.specs.declared.UnitRecord.{UnitRecord}
 use Rattle.ends.specs.declared.Shared.{Shared}
 use Rattle.ends.specs.declared.Olt.{Olt}
 use Rattle.ends.specs.declared.OnuKeys.{OnuKeys}
@@ -24,13 +24,13 @@ use Rattle.ends.specs.declared.Onu.{Onu}
 
 ---- a unit at the OLT
 
-unfoldable pub withKeys : Unit → UnitKeys → Unit
+unfoldable pub withKeys : UnitRecord → UnitKeys → UnitRecord
 withKeys u k = record { identity = u .identity; keys = k; confirmation = u .confirmation; clock = u .clock }
 
-unfoldable pub withConfirmation : Unit → Confirmation → Unit
+unfoldable pub withConfirmation : UnitRecord → Confirmation → UnitRecord
 withConfirmation u c = record { identity = u .identity; keys = u .keys; confirmation = c; clock = u .clock }
 
-unfoldable pub withClock : Unit → UnitClock → Unit
+unfoldable pub withClock : UnitRecord → UnitClock → UnitRecord
 withClock u c = record { identity = u .identity; keys = u .keys; confirmation = u .confirmation; clock = c }
 
 unfoldable pub withTimer : UnitKeys → Timer → UnitKeys
@@ -43,7 +43,7 @@ unfoldable pub withFirst : UnitKeys → FirstSend → UnitKeys
 withFirst k f = record { timer = k .timer; active = k .active; offered = k .offered; slots = k .slots; first = f }
 
 -- numbers 0, flags down
-unfoldable pub freshUnit : Identity → ℕ → ℕ → Unit
+unfoldable pub freshUnit : Identity → ℕ → ℕ → UnitRecord
 freshUnit i trip interval =
     record {
       identity = kept i;
@@ -53,7 +53,7 @@ freshUnit i trip interval =
     }
 
 -- a place with no unit
-unfoldable pub noUnit : Unit
+unfoldable pub noUnit : UnitRecord
 noUnit = freshUnit noIdentity 0 0
 
 ---- the OLT

@@ -3,33 +3,40 @@ use mathlib.Core.List.{List, [], _∷_, _++_}
 use Prim.Native.Nat.{ℕ, suc, _+_}
 use lib.ListN.{take, getD, set}
 use Rattle.octets.specs.Choice.{pick}
+use Rattle.refusal.specs.Number.{numberOf}
+use Rattle.refusal.specs.declared.Refusal.the-variants.{UnknownLlid}
 use Rattle.ends.specs.Identities.{llidsOf, has}
 use Rattle.ends.specs.Records.{withChannels}
 use Rattle.ends.specs.declared.Channels.{Channels}
-use Rattle.ends.specs.declared.Unit.{Unit}
+use Rattle.ends.specs.declared.UnitRecord.{UnitRecord}
 use Rattle.ends.specs.declared.Olt.{Olt}
 use Rattle.ends.specs.declared.Found.{Found}
 use Rattle.ends.specs.declared.Found.the-variants.{At, Nowhere}
 
 -- the units in use are the first `count`
-abbrev pub registered : Olt → List Unit
+abbrev pub registered : Olt → List UnitRecord
 registered o = take (o .count) (o .units)
 
 -- the LLIDs of all the units
-unfoldable pub tableLlids : List Unit → List ℕ
+unfoldable pub tableLlids : List UnitRecord → List ℕ
 tableLlids [] = []
 tableLlids (u ∷ us) = llidsOf (u .identity) ++ tableLlids us
 
 -- the first unit that has the LLID, its place counted from i
-unfoldable pub findFrom : ℕ → List Unit → ℕ → Found
+unfoldable pub findFrom : ℕ → List UnitRecord → ℕ → Found
 findFrom i [] llid = Nowhere
 findFrom i (u ∷ us) llid = pick (has (u .identity) llid) (At i) (findFrom (suc i) us llid)
 
 unfoldable pub find : Olt → ℕ → Found
 find o llid = findFrom 0 (registered o) llid
 
+-- the paper's number for what is found
+abbrev pub foundNumber : Found → ℕ
+foundNumber (At i) = 0
+foundNumber Nowhere = numberOf UnknownLlid
+
 -- what stands for a unit past the end of the list
-unfoldable pub pastUnit : Unit
+unfoldable pub pastUnit : UnitRecord
 pastUnit =
     record {
       identity = record { mac = 0; llids = []; count = 0 };
@@ -45,13 +52,13 @@ pastUnit =
       clock = record { trip = 0; captured = 0; tick = 0; sent = 0; acknowledged = 0 };
     }
 
-abbrev pub unitAt : Olt → ℕ → Unit
+abbrev pub unitAt : Olt → ℕ → UnitRecord
 unitAt o i = getD (o .units) i pastUnit
 
 -- one unit and the channels replaced
-unfoldable pub withUnit : Olt → ℕ → Channels → Unit → Olt
+unfoldable pub withUnit : Olt → ℕ → Channels → UnitRecord → Olt
 withUnit o i c u = record { shared = withChannels (o .shared) c; count = o .count; units = set (o .units) i u }
 
 -- one unit more, in the first place that is not in use
-unfoldable pub withOneMore : Olt → Unit → Olt
+unfoldable pub withOneMore : Olt → UnitRecord → Olt
 withOneMore o u = record { shared = o .shared; count = o .count + 1; units = set (o .units) (o .count) u }

@@ -12,7 +12,7 @@ use Rattle.clock.specs.Ticks.{ticksPerSecond, rewound}
 use Rattle.clock.specs.Stamping.{capturedAt}
 use Rattle.clock.specs.declared.Stamps.{Stamps}
 use Rattle.ends.specs.Limits.{maxKeyNumber}
-use Rattle.ends.specs.Replies.{isUp, refuseIf, None, none}
+use Rattle.ends.specs.Replies.{isUp, refuseIf, Nothing, nothing}
 use Rattle.ends.specs.Timers.{timerAdvanced}
 use Rattle.ends.specs.Keys.{keyIn, withKey}
 use Rattle.ends.specs.Messages.{clockKind, keyKind}
@@ -21,13 +21,13 @@ use Rattle.ends.specs.Lift.{Outcome, outcome}
 use Rattle.ends.specs.declared.UnitKeys.{UnitKeys}
 use Rattle.ends.specs.declared.Confirmation.{Confirmation}
 use Rattle.ends.specs.declared.UnitClock.{UnitClock}
-use Rattle.ends.specs.declared.Unit.{Unit}
+use Rattle.ends.specs.declared.UnitRecord.{UnitRecord}
 use Rattle.ends.specs.declared.Shared.{Shared}
 use Rattle.ends.specs.declared.KeyMessage.{KeyMessage}
 use Rattle.ends.specs.declared.Acknowledgement.{Acknowledgement}
 
 -- an advance moves a unit's timer
-unfoldable pub unitAdvanced : ℕ → Unit → Unit
+unfoldable pub unitAdvanced : ℕ → UnitRecord → UnitRecord
 unitAdvanced n u = withKeys u (withTimer (u .keys) (timerAdvanced (u .keys .timer) n))
 
 ---- capture
@@ -35,8 +35,8 @@ unitAdvanced n u = withKeys u (withTimer (u .keys) (timerAdvanced (u .keys .time
 unfoldable pub clockCaptured : UnitClock → ℕ → UnitClock
 clockCaptured c tick = record { trip = c .trip; captured = 1; tick = tick; sent = c .sent; acknowledged = c .acknowledged }
 
-unfoldable pub captureUnit : Shared → Unit → Outcome None
-captureUnit s u = outcome s Accepted (withClock u (clockCaptured (u .clock) (s .tick))) none
+unfoldable pub captureUnit : Shared → UnitRecord → Outcome Nothing
+captureUnit s u = outcome s Accepted (withClock u (clockCaptured (u .clock) (s .tick))) nothing
 
 ---- clock send: 8, 16
 
@@ -52,13 +52,13 @@ clockMessageSent c = record { trip = c .trip; captured = c .captured; tick = c .
 unfoldable pub clockMessageOf : Shared → UnitClock → Stamps
 clockMessageOf s c = capturedAt (rewound (s .clock) (s .tick - c .tick)) (c .trip)
 
-unfoldable pub clockSendUnit : Shared → Unit → Outcome Stamps
+unfoldable pub clockSendUnit : Shared → UnitRecord → Outcome Stamps
 clockSendUnit s u =
     outcome s (clockSendVerdict (u .clock) (s .tick)) (withClock u (clockMessageSent (u .clock))) (clockMessageOf s (u .clock))
 
 ---- offer: 5, 6, 7, 17
 
-unfoldable pub offerVerdict : Unit → List ℕ → Verdict
+unfoldable pub offerVerdict : UnitRecord → List ℕ → Verdict
 offerVerdict u key =
     refuseIf (not (isUp (u .clock .acknowledged))) ClockNotSet
     (refuseIf (either (ltb (u .keys .active) (u .keys .offered)) (ltb (u .confirmation .confirmed) (u .keys .active))) OfferPending
@@ -70,7 +70,7 @@ keysOffered k key =
     record { timer = k .timer; active = k .active; offered = k .active + 1; slots = withKey (k .slots) (k .active + 1) key; first = k .first }
 
 -- a new offer starts unacknowledged
-unfoldable pub unitOffered : Unit → List ℕ → Unit
+unfoldable pub unitOffered : UnitRecord → List ℕ → UnitRecord
 unitOffered u key =
     withConfirmation (withKeys u (keysOffered (u .keys) key)) (record { confirmed = u .confirmation .confirmed; acknowledged = 0 })
 
@@ -78,7 +78,7 @@ unitOffered u key =
 unfoldable pub keyMessageOf : ℕ → UnitKeys → KeyMessage
 keyMessageOf llid k = record { llid = llid; number = k .offered; key = keyIn (k .slots) (k .offered) }
 
-unfoldable pub offerUnit : ℕ → List ℕ → Shared → Unit → Outcome KeyMessage
+unfoldable pub offerUnit : ℕ → List ℕ → Shared → UnitRecord → Outcome KeyMessage
 offerUnit llid key s u = outcome s (offerVerdict u key) (unitOffered u key) (keyMessageOf llid (keysOffered (u .keys) key))
 
 ---- retry: 8
@@ -87,13 +87,13 @@ unfoldable pub retryVerdict : UnitKeys → Verdict
 retryVerdict k = refuseIf (eqb (k .offered) (k .active)) NothingOutstanding Accepted
 
 -- the unit stays as it is, the mark of an acknowledgement too
-unfoldable pub retryUnit : ℕ → Shared → Unit → Outcome KeyMessage
+unfoldable pub retryUnit : ℕ → Shared → UnitRecord → Outcome KeyMessage
 retryUnit llid s u = outcome s (retryVerdict (u .keys)) u (keyMessageOf llid (u .keys))
 
 ---- acknowledgement: 8
 
 -- a clock acknowledgement needs a clock message sent
-unfoldable pub clockAcknowledgedUnit : Shared → Unit → Outcome None
+unfoldable pub clockAcknowledgedUnit : Shared → UnitRecord → Outcome Nothing
 clockAcknowledgedUnit s u =
     outcome s (refuseIf (not (isUp (u .clock .sent))) NothingOutstanding Accepted)
     (withClock u
@@ -104,17 +104,17 @@ clockAcknowledgedUnit s u =
       sent = u .clock .sent;
       acknowledged = 1;
     }))
-    none
+    nothing
 
 -- a key acknowledgement names number O, which is 1 or more
-unfoldable pub keyAcknowledgedUnit : ℕ → Shared → Unit → Outcome None
+unfoldable pub keyAcknowledgedUnit : ℕ → Shared → UnitRecord → Outcome Nothing
 keyAcknowledgedUnit number s u =
     outcome s (refuseIf (not (both (leb 1 number) (eqb number (u .keys .offered)))) NothingOutstanding Accepted)
     (withConfirmation u (record { confirmed = u .confirmation .confirmed; acknowledged = 1 }))
-    none
+    nothing
 
 -- by its kind; one of neither kind fits nothing
-unfoldable pub acknowledgeUnit : Acknowledgement → Shared → Unit → Outcome None
+unfoldable pub acknowledgeUnit : Acknowledgement → Shared → UnitRecord → Outcome Nothing
 acknowledgeUnit a s u =
     pick (eqb (a .kind) clockKind) (clockAcknowledgedUnit s u)
-    (pick (eqb (a .kind) keyKind) (keyAcknowledgedUnit (a .number) s u) (outcome s (Refused NothingOutstanding) u none))
+    (pick (eqb (a .kind) keyKind) (keyAcknowledgedUnit (a .number) s u) (outcome s (Refused NothingOutstanding) u nothing))

@@ -15,7 +15,7 @@ use Rattle.ends.specs.Records.{withKeys, withConfirmation, withSlots, wi
 use Rattle.ends.specs.Lift.{Outcome, outcome}
 use Rattle.ends.specs.Headers.{choiceVerdict, choiceAged, passageOf, sendingOf}
 use Rattle.ends.specs.declared.UnitKeys.{UnitKeys}
-use Rattle.ends.specs.declared.Unit.{Unit}
+use Rattle.ends.specs.declared.UnitRecord.{UnitRecord}
 use Rattle.ends.specs.declared.Shared.{Shared}
 use Rattle.ends.specs.declared.Header.{Header}
 use Rattle.ends.specs.declared.KeyChoice.{KeyChoice}
@@ -26,15 +26,15 @@ use Rattle.ends.specs.declared.Sending.{Sending}
 ---- send: 12, 13
 
 -- the next accepted send switches
-unfoldable pub switches : Unit → Bool
+unfoldable pub switches : UnitRecord → Bool
 switches u =
     both (isUp (u .keys .timer .flag)) (both (eqb (u .keys .offered) (u .keys .active + 1)) (isUp (u .confirmation .acknowledged)))
 
 -- key O where it switches, else key A, clear while A = 0
-unfoldable pub unitSendChoice : Unit → KeyChoice
+unfoldable pub unitSendChoice : UnitRecord → KeyChoice
 unitSendChoice u = pick (switches u) (Next (u .keys .offered)) (pick (eqb (u .keys .active) 0) Clear (Current (u .keys .active)))
 
-unfoldable pub unitSendVerdict : Shared → Unit → ℕ → Verdict
+unfoldable pub unitSendVerdict : Shared → UnitRecord → ℕ → Verdict
 unitSendVerdict s u index =
     refuseIf (taken (s .channels) index (s .tick)) ChannelTaken
     (refuseIf (choiceAged (unitSendChoice u) (u .keys .first) (s .tick)) KeyTooOld Accepted)
@@ -50,7 +50,7 @@ keysSent (Current n) k tick = withFirst k (firstSend (k .first) tick)
 keysSent (Next n) k tick = keysSwitched k tick
 keysSent (Barred r) k tick = k
 
-unfoldable pub sendUnit : ℕ → ℕ → ℕ → Shared → Unit → Outcome Sending
+unfoldable pub sendUnit : ℕ → ℕ → ℕ → Shared → UnitRecord → Outcome Sending
 sendUnit llid index eqs s u =
     record {
       verdict = unitSendVerdict s u index;
@@ -62,7 +62,7 @@ sendUnit llid index eqs s u =
 ---- receive: 10, 11, 9
 
 -- clear while C = 0; index C mod 2 with C ≥ 1: key C; else index A mod 2 with A = C + 1: key A
-unfoldable pub unitReceiveChoice : Unit → Header → KeyChoice
+unfoldable pub unitReceiveChoice : UnitRecord → Header → KeyChoice
 unitReceiveChoice u h =
     pick (eqb (h .encenabled) 0) (pick (eqb (u .confirmation .confirmed) 0) Clear (Barred ClearEnvelope))
     (pick (both (leb 1 (u .confirmation .confirmed)) (eqb (h .enckey) (u .confirmation .confirmed % 2)))
@@ -71,24 +71,24 @@ unitReceiveChoice u h =
     (Next (u .keys .active))
     (Barred NoKey)))
 
-unfoldable pub unitReceiveVerdict : Shared → Unit → Header → Verdict
+unfoldable pub unitReceiveVerdict : Shared → UnitRecord → Header → Verdict
 unitReceiveVerdict s u h =
     refuseIf (not (eqb (h .epam) (epamOf (s .clock)))) EpamDiffers (choiceVerdict (unitReceiveChoice u h))
 
 -- C becomes A, and the key before A is forgotten
-unfoldable pub unitConfirmed : Unit → Unit
+unfoldable pub unitConfirmed : UnitRecord → UnitRecord
 unitConfirmed u =
     withConfirmation (withKeys u (withSlots (u .keys) (onlyKey (u .keys .slots) (u .keys .active))))
     (record { confirmed = u .keys .active; acknowledged = u .confirmation .acknowledged })
 
-unfoldable pub unitReceived : KeyChoice → Unit → Unit
+unfoldable pub unitReceived : KeyChoice → UnitRecord → UnitRecord
 unitReceived Clear u = u
 unitReceived (Current n) u = u
 unitReceived (Next n) u = unitConfirmed u
 unitReceived (Barred r) u = u
 
 -- opened with the unit's MAC and the OLT's clock
-unfoldable pub receiveUnit : Header → Shared → Unit → Outcome Passage
+unfoldable pub receiveUnit : Header → Shared → UnitRecord → Outcome Passage
 receiveUnit h s u =
     outcome s (unitReceiveVerdict s u h) (unitReceived (unitReceiveChoice u h) u)
     (passageOf (unitReceiveChoice u h) (u .keys .slots) (u .identity .mac) (s .clock))

@@ -17,7 +17,7 @@ use Rattle.ends.specs.Table.{registered, tableLlids}
 use Rattle.ends.specs.declared.UnitKeys.{UnitKeys}
 use Rattle.ends.specs.declared.Confirmation.{Confirmation}
 use Rattle.ends.specs.declared.UnitClock.{UnitClock}
-use Rattle.ends.specs.declared.Unit.{Unit}
+use Rattle.ends.specs.declared.UnitRecord.{UnitRecord}
 use Rattle.ends.specs.declared.Shared.{Shared}
 use Rattle.ends.specs.declared.Olt.{Olt}
 use Rattle.ends.specs.declared.OnuKeys.{OnuKeys}
@@ -38,7 +38,7 @@ validUnitClock tick c =
     (both (either (eqb (c .captured) 0) (leb (c .tick) tick))
     (both (leb (c .sent) 1) (leb (c .acknowledged) 1))))
 
-unfoldable pub validUnit : ℕ → Unit → Bool
+unfoldable pub validUnit : ℕ → UnitRecord → Bool
 validUnit tick u =
     both (validIdentity (u .identity))
     (both (validKeys tick (u .keys))

@@ -14,9 +14,9 @@ use crate::Identity;
 use crate::Olt;
 use crate::Shared;
 use crate::Timer;
-use crate::Unit;
 use crate::UnitClock;
 use crate::UnitKeys;
+use crate::UnitRecord;
 use crate::keyslots::valid_channels;
 use crate::keyslots::valid_first;
 use crate::llids::at;
@@ -66,7 +66,7 @@ fn valid_unit_clock(tick: u64, clock: UnitClock) -> bool
                 & ((clock.sent <= 1) & (clock.acknowledged <= 1))))
 }
 
-pub fn valid_unit(tick: u64, unit: Unit) -> bool
+pub fn valid_unit(tick: u64, unit: UnitRecord) -> bool
     ensures { λ r. ⌜ r ≡ validUnit tick unit ⌝ }
 {
     let identity = valid_identity(unit.identity);
@@ -88,7 +88,7 @@ pub fn valid_shared(shared: Shared) -> bool
     mac & ((shared.tick <= MAX_TICK) & ((shared.clock < CLOCK_TURN) & channels))
 }
 
-fn valid_units(tick: u64, units: [Unit; 16], count: u8) -> bool
+fn valid_units(tick: u64, units: [UnitRecord; 16], count: u8) -> bool
     requires { ⌜ count ≤ 16 ⌝ }
     ensures { λ r. ⌜ r ≡ all (validUnit tick) (take count units) ⌝ }
 {
@@ -129,7 +129,7 @@ fn with_llids(table: TableLlids, identity: Identity) -> TableLlids
     r
 }
 
-fn table_llids(units: [Unit; 16], count: u8) -> TableLlids
+fn table_llids(units: [UnitRecord; 16], count: u8) -> TableLlids
     requires { ⌜ count ≤ 16 ⌝ }
     requires { ⌜ ((i : ℕ) → i < count → getD units i pastUnit .identity .count ≤ 4) ⌝ }
     ensures { λ r. ⌜ (take (r .count) (r .list) ≡ tableLlids (take count units)) × (r .count ≤ 64) ⌝ }
@@ -213,7 +213,7 @@ pub fn valid_olt(olt: Olt) -> bool
 }
 
 // Which of the first `count` units has the LLID.
-pub fn find(units: [Unit; 16], count: u8, llid: u16) -> Found
+pub fn find(units: [UnitRecord; 16], count: u8, llid: u16) -> Found
     ensures { λ r. ⌜ r ≡ findFrom 0 (take count units) llid ⌝ }
 {
     let mut i: usize = 0;
@@ -230,7 +230,7 @@ pub fn find(units: [Unit; 16], count: u8, llid: u16) -> Found
     Found::Nowhere
 }
 
-fn stands_in(units: [Unit; 16], count: u8, llid: u16) -> bool
+fn stands_in(units: [UnitRecord; 16], count: u8, llid: u16) -> bool
     ensures { λ r. ⌜ r ≡ among llid (tableLlids (take count units)) ⌝ }
 {
     let found = find(units, count, llid);
@@ -241,7 +241,7 @@ fn stands_in(units: [Unit; 16], count: u8, llid: u16) -> bool
 }
 
 // Whether one of the LLIDs is that of a registered unit.
-pub fn meets_table(units: [Unit; 16], count: u8, identity: Identity) -> bool
+pub fn meets_table(units: [UnitRecord; 16], count: u8, identity: Identity) -> bool
     ensures { λ r. ⌜ r ≡ meets (llidsOf identity) (tableLlids (take count units)) ⌝ }
 {
     let llids = identity.llids;

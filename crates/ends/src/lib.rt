@@ -77,7 +77,7 @@ pub struct UnitClock {
 
 // The OLT's record of a unit.
 #[repr(C)]
-pub struct Unit {
+pub struct UnitRecord {
     pub identity: Identity,
     pub keys: UnitKeys,
     pub confirmation: Confirmation,
@@ -97,7 +97,7 @@ pub struct Shared {
 pub struct Olt {
     pub shared: Shared,
     pub count: u8,
-    pub units: [Unit; 16],
+    pub units: [UnitRecord; 16],
 }
 
 // A unit's own keys: a, and whether a + 1 is held.

@@ -2,8 +2,8 @@
 use crate::units;
 use ends::Identity;
 use ends::Olt;
-use ends::Unit;
 use ends::UnitKeys;
+use ends::UnitRecord;
 
 // That clock, no units.
 pub(crate) fn fresh(clock: u64) -> Olt {
@@ -18,20 +18,20 @@ pub(crate) fn registered(interval: u64) -> Olt {
 }
 
 // The same at tick 100, with that unit in its place.
-pub(crate) fn with(u: Unit) -> Olt {
+pub(crate) fn with(u: UnitRecord) -> Olt {
     let mut o = registered(1000);
     o.shared.tick = 100;
     o.units[0] = u;
     o
 }
 
-pub(crate) fn unit() -> Unit {
+pub(crate) fn unit() -> UnitRecord {
     let o = registered(1000);
     o.units[0]
 }
 
 // The unit at C, A and O, its clock sent and acknowledged. The octets of key A are 17, those in the other slot `other`.
-pub(crate) fn numbered(confirmed: u32, active: u32, offered: u32, other: u8) -> Unit {
+pub(crate) fn numbered(confirmed: u32, active: u32, offered: u32, other: u8) -> UnitRecord {
     let slots = units::slots(active, 17, other);
     let mut u = unit();
     let timer = u.keys.timer;

@@ -14,7 +14,7 @@ use Rattle.octets.proofs.Maps.{length-first, getD-first, map-at}
 use Rattle.clock.specs.Ticks.{maxTick, localTurn, advanced, localAdvanced}
 use Rattle.clock.specs.Stamping.{movedBy}
 use Rattle.clock.proofs.Aligned.{aligned-moved}
-use Rattle.ends.specs.Replies.{isUp, None, none, Reply, advanceVerdict}
+use Rattle.ends.specs.Replies.{isUp, Nothing, nothing, Reply, advanceVerdict}
 use Rattle.ends.specs.Identities.{noIdentity}
 use Rattle.ends.specs.Records.{withKeys, withTimer, newOnu}
 use Rattle.ends.specs.Timers.{timerAdvanced}
@@ -29,7 +29,7 @@ use Rattle.ends.specs.declared.OnuClock.{OnuClock}
 use Rattle.ends.specs.declared.OnuKeys.{OnuKeys}
 use Rattle.ends.specs.declared.Shared.{Shared}
 use Rattle.ends.specs.declared.Timer.{Timer}
-use Rattle.ends.specs.declared.Unit.{Unit}
+use Rattle.ends.specs.declared.UnitRecord.{UnitRecord}
 use Rattle.ends.specs.declared.UnitClock.{UnitClock}
 use Rattle.ends.proofs.Replies.{number-accepted, advance-accepted, advance-accepts}
 use Rattle.ends.proofs.Validity.{olt-in-range}
@@ -144,7 +144,7 @@ pub at-tick-advanced : (w : Setting) (now n : ℕ) (sh : Shared) → AtTick w no
 unfolding sharedAdvanced
 at-tick-advanced w now n sh t = record { mac = t .mac; tick = ap (λ (x : ℕ). x + n) (t .tick); clock = omega (arith, t .clock) }
 
-pub advance-keeps : (w : Setting) (sh : Shared) (now n : ℕ) (l : Lane) (u : Unit) (o : Onu) → Joined w sh now l u o
+pub advance-keeps : (w : Setting) (sh : Shared) (now n : ℕ) (l : Lane) (u : UnitRecord) (o : Onu) → Joined w sh now l u o
     → Joined w (sharedAdvanced sh n) (now + n) l (unitAdvanced n u) (onuAdvanced o n)
 unfolding sharedAdvanced unitAdvanced withKeys withTimer onuAdvanced
 advance-keeps w sh now n l u o j =
@@ -202,14 +202,14 @@ common-advance-keeps w now n l o h c =
 pub onu-advances : (o : Onu) (n : ℕ) → validOnu o ≡ true → o .tick + n ≤ maxTick → advanceOnuOf o n .onu ≡ onuAdvanced o n
 unfolding advanceOnuOf advancingOnu onuAnswer
 onu-advances o n v h =
-    ap (λ (r : Reply Onu None). r .end) (onu-accepts o none (advanceVerdict (o .tick) n) (onuAdvanced o n) none v (advance-accepts (o .tick) n h))
+    ap (λ (r : Reply Onu Nothing). r .end) (onu-accepts o nothing (advanceVerdict (o .tick) n) (onuAdvanced o n) nothing v (advance-accepts (o .tick) n h))
 
 -- and past it, it stays
 pub onu-stays : (o : Onu) (n : ℕ) → maxTick < o .tick + n → advanceOnuOf o n .onu ≡ o
 unfolding advanceOnuOf advancingOnu onuAnswer
 onu-stays o n h =
     advance-onu-refused o n
-    (λ e. omega (arith, advance-accepted (o .tick) n (onu-accepted o none (advanceVerdict (o .tick) n) (onuAdvanced o n) none (number-accepted _ e) .1)))
+    (λ e. omega (arith, advance-accepted (o .tick) n (onu-accepted o nothing (advanceVerdict (o .tick) n) (onuAdvanced o n) nothing (number-accepted _ e) .1)))
 
 -- the unit at a place in use
 pub advanced-unit : (t : Olt) (n i : ℕ) → i < t .count → i < length (t .units) → unitAt (oltAdvanced t n) i ≡ unitAdvanced n (unitAt t i)

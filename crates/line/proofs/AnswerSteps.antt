@@ -13,12 +13,12 @@ use Rattle.refusal.specs.declared.Verdict.the-variants.{Accepted}
 use Rattle.ends.specs.Lift.{Outcome, outcome}
 use Rattle.ends.specs.Messages.{clockKind, keyKind}
 use Rattle.ends.specs.Records.{withConfirmation, withClock}
-use Rattle.ends.specs.Replies.{None}
+use Rattle.ends.specs.Replies.{Nothing}
 use Rattle.ends.specs.UnitCalls.{keyAcknowledgedUnit, clockAcknowledgedUnit, acknowledgeUnit}
 use Rattle.ends.specs.declared.Acknowledgement.{Acknowledgement}
 use Rattle.ends.specs.declared.Onu.{Onu}
 use Rattle.ends.specs.declared.Shared.{Shared}
-use Rattle.ends.specs.declared.Unit.{Unit}
+use Rattle.ends.specs.declared.UnitRecord.{UnitRecord}
 use Rattle.ends.proofs.Replies.{refused-accepts}
 use Rattle.ends.proofs.UnitCalls.{key-acknowledged-accepted, key-kind, clock-kind, no-kind}
 use Rattle.line.specs.Setting.{Setting}
@@ -48,7 +48,7 @@ lane-unmarked a l e =
 
 ---- what is handed over
 
-module _ (w : Setting) (sh : Shared) (now : ℕ) (l : Lane) (u : Unit) (o : Onu) where
+module _ (w : Setting) (sh : Shared) (now : ℕ) (l : Lane) (u : UnitRecord) (o : Onu) where
   -- one that the unit handed over: the unit is synced, and holds the key that it names
   handed-over : (a : Acknowledgement) (x : Answered) → Joined w sh now l u o → List·Memᴰ x (l .transit .answered) → x .acknowledgement ≡ a
       → (o .clock .synced ≡ 1) × (a .kind ≡ keyKind → a .number ≤ reachOf (o .keys))
@@ -107,7 +107,7 @@ module _ (w : Setting) (sh : Shared) (now : ℕ) (l : Lane) (u : Unit) (o : Onu)
   unfolding keyAcknowledgedUnit outcome
   key-answer-keeps a x at j kind m e accepted =
       let same = key-kind a sh u kind in
-      let last = key-acknowledged-accepted (a .number) sh u (sym (ap (λ (c : Outcome None). c .verdict) same) ∙ accepted) .1 in
+      let last = key-acknowledged-accepted (a .number) sh u (sym (ap (λ (c : Outcome Nothing). c .verdict) same) ∙ accepted) .1 in
       rw (same, lane-marked a l kind (last ∙ j .numbers .listed)) (marked-keeps j (rw last at (handed-over a x j m e .1 kind)))
 
   -- the unit of an accepted clock acknowledgement is synced
@@ -153,4 +153,4 @@ module _ (w : Setting) (sh : Shared) (now : ℕ) (l : Lane) (u : Unit) (o : Onu)
         → Joined w sh now (laneAcknowledged a l) (acknowledgeUnit a sh u .unit) o
     by-kind true t p q = clock-answer-keeps a x at j (eqb-true _ _ p) m e accepted
     by-kind false true p q = key-answer-keeps a x at j (eqb-true _ _ q) m e accepted
-    by-kind false false p q = refused-accepts NothingOutstanding (sym (ap (λ (c : Outcome None). c .verdict) (no-kind a sh u p q)) ∙ accepted)
+    by-kind false false p q = refused-accepts NothingOutstanding (sym (ap (λ (c : Outcome Nothing). c .verdict) (no-kind a sh u p q)) ∙ accepted)

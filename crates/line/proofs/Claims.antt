@@ -18,7 +18,7 @@ use Rattle.ends.specs.Identities.{validMac, validIdentity}
 use Rattle.ends.specs.Table.{unitAt}
 use Rattle.ends.specs.declared.Onu.{Onu}
 use Rattle.ends.specs.declared.Shared.{Shared}
-use Rattle.ends.specs.declared.Unit.{Unit}
+use Rattle.ends.specs.declared.UnitRecord.{UnitRecord}
 use Rattle.ends.proofs.Occupancy.{downstream-below, upstream-between}
 use Rattle.ends.proofs.Validity.{shared-in-range, olt-in-range, onu-in-range}
 use Rattle.line.specs.Setting.{Site, Setting}
@@ -53,7 +53,7 @@ sender-clock-below w s downward tick = mod-lt (w .first + tick) (omega arith)
 sender-clock-below w s upward tick = mod-lt (w .first + tick + s .up) (omega arith)
 
 -- of two sends of a unit or to it under one key, the later has another channel index or clock
-later-differs : (w : Setting) (sh : Shared) (now : ℕ) (l : Lane) (u : Unit) (o : Onu) → Joined w sh now l u o → (i j : ℕ) → i < j
+later-differs : (w : Setting) (sh : Shared) (now : ℕ) (l : Lane) (u : UnitRecord) (o : Onu) → Joined w sh now l u o → (i j : ℕ) → i < j
     → j < length (l .past .sent) → 1 ≤ getD (l .past .sent) i noEnvelope .number
     → getD (l .past .sent) i noEnvelope .number ≡ getD (l .past .sent) j noEnvelope .number
     → getD (l .past .sent) i noEnvelope .index ≡ getD (l .past .sent) j noEnvelope .index
@@ -87,7 +87,7 @@ later-differs w sh now l u o jn i j before below sealed number index clock =
       by upward downward p q e =
           absurd (omega (arith, index, downstream-below (second .index) (jn .spending .downs second at-j q .0), upstream-between (first .index) (jn .spending .ups first at-i p .0) .0))
 
-one-send : (w : Setting) (sh : Shared) (now : ℕ) (l : Lane) (u : Unit) (o : Onu) → Joined w sh now l u o
+one-send : (w : Setting) (sh : Shared) (now : ℕ) (l : Lane) (u : UnitRecord) (o : Onu) → Joined w sh now l u o
     → w .mac < 2 ^ 48 → l .site .identity .mac < 2 ^ 48 → (i j a b : ℕ) → i < length (l .past .sent)
     → j < length (l .past .sent) → 1 ≤ getD (l .past .sent) i noEnvelope .number
     → getD (l .past .sent) i noEnvelope .number ≡ getD (l .past .sent) j noEnvelope .number → a < 2 ^ 24 → b < 2 ^ 24

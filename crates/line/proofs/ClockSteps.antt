@@ -27,7 +27,7 @@ use Rattle.ends.specs.declared.Onu.{Onu}
 use Rattle.ends.specs.declared.OnuAcknowledged.{OnuAcknowledged}
 use Rattle.ends.specs.declared.OnuClock.{OnuClock}
 use Rattle.ends.specs.declared.Shared.{Shared}
-use Rattle.ends.specs.declared.Unit.{Unit}
+use Rattle.ends.specs.declared.UnitRecord.{UnitRecord}
 use Rattle.ends.specs.declared.UnitClock.{UnitClock}
 use Rattle.ends.proofs.Replies.{refuse-passed}
 use Rattle.ends.proofs.UnitCalls.{ClockSends, clock-send-accepted}
@@ -42,7 +42,7 @@ use Rattle.line.proofs.Frames.{leaving-keeps, taken-keeps, answered-kee
 ---- clocks
 
 -- only clocks and the capture are replaced, and a synced unit stays synced
-clocks-replaced : (w : Setting) (sh : Shared) (now : ℕ) (l : Lane) (u : Unit) (o : Onu) (captured : ℕ) (c : UnitClock) (d : OnuClock)
+clocks-replaced : (w : Setting) (sh : Shared) (now : ℕ) (l : Lane) (u : UnitRecord) (o : Onu) (captured : ℕ) (c : UnitClock) (d : OnuClock)
     → Joined w sh now l u o → Clocks (w .first) now (l .site) captured c d → (o .clock .synced ≡ 1 → d .synced ≡ 1)
     → Joined w sh now (laneCaptured captured l) (withClock u c) (withOnuClock o d)
 unfolding laneCaptured withClock withOnuClock
@@ -72,7 +72,7 @@ clocks-replaced w sh now l u o captured c d j k synced =
 
 ---- capture
 
-pub capture-keeps : (w : Setting) (sh : Shared) (now : ℕ) (l : Lane) (u : Unit) (o : Onu) → AtTick w now sh → Joined w sh now l u o
+pub capture-keeps : (w : Setting) (sh : Shared) (now : ℕ) (l : Lane) (u : UnitRecord) (o : Onu) → AtTick w now sh → Joined w sh now l u o
     → Joined w sh now (laneCaptured now l) (captureUnit sh u .unit) o
 unfolding captureUnit outcome clockCaptured withOnuClock
 capture-keeps w sh now l u o t j =
@@ -102,7 +102,7 @@ sent-right w sh now s captured c o t k h =
       young = omega (arith, t .tick, p .0, h .soon);
     }
 
-pub clock-send-keeps : (w : Setting) (sh : Shared) (now : ℕ) (l : Lane) (u : Unit) (o : Onu) → AtTick w now sh → Joined w sh now l u o
+pub clock-send-keeps : (w : Setting) (sh : Shared) (now : ℕ) (l : Lane) (u : UnitRecord) (o : Onu) → AtTick w now sh → Joined w sh now l u o
     → clockSendUnit sh u .verdict ≡ Accepted
     → Joined w sh now (laneLeaving (clockMessage (clockSendUnit sh u .handed) (l .captured) now) l) (clockSendUnit sh u .unit) o
 unfolding clockSendUnit outcome clockMessageSent laneCaptured withClock withOnuClock
@@ -185,14 +185,14 @@ clocks-taken first now s captured c o x k a =
     }
 
 -- what is under way is right
-clock-under-way : (w : Setting) (sh : Shared) (now : ℕ) (l : Lane) (u : Unit) (o : Onu) (k : ℕ) (x : Thing) (m : Stamps) (c t : ℕ)
+clock-under-way : (w : Setting) (sh : Shared) (now : ℕ) (l : Lane) (u : UnitRecord) (o : Onu) (k : ℕ) (x : Thing) (m : Stamps) (c t : ℕ)
     → Joined w sh now l u o → k < length (l .transit .towards) → getD (l .transit .towards) k x ≡ clockMessage m c t
     → ClockRight (w .first) (l .site) m c t
 clock-under-way w sh now l u o k x m c t j h e =
     towards-taken (w .first) l (o .keys .active) (u .keys .active) (u .keys .offered) (l .transit .towards) k x (clockMessage m c t) h e (j .towards) .0
 
 -- the kth of what is under way is a clock message: the unit is synced, and answers
-pub clock-taken : (w : Setting) (sh : Shared) (now : ℕ) (l : Lane) (u : Unit) (o : Onu) (k : ℕ) (x : Thing) (m : Stamps) (c t : ℕ)
+pub clock-taken : (w : Setting) (sh : Shared) (now : ℕ) (l : Lane) (u : UnitRecord) (o : Onu) (k : ℕ) (x : Thing) (m : Stamps) (c t : ℕ)
     → Joined w sh now l u o → k < length (l .transit .towards) → getD (l .transit .towards) k x ≡ clockMessage m c t
     → t + l .site .down ≡ now → Joined w sh now (laneAnswered ofClock now (laneTaken k l)) u (onuSynced o m)
 unfolding onuSynced clockFrom laneCaptured laneTaken laneWith withClock withOnuClock
@@ -207,7 +207,7 @@ clock-taken w sh now l u o k x m c t j h e d =
     answered-keeps w sh now (laneTaken k l) u (onuSynced o m) ofClock synced refl (λ z. absurd (omega arith))
 
 -- a message that arrives: in fact it is never refused
-pub clock-arrives : (w : Setting) (sh : Shared) (now : ℕ) (l : Lane) (u : Unit) (o : Onu) (k : ℕ) (x : Thing) (m : Stamps) (c t : ℕ)
+pub clock-arrives : (w : Setting) (sh : Shared) (now : ℕ) (l : Lane) (u : UnitRecord) (o : Onu) (k : ℕ) (x : Thing) (m : Stamps) (c t : ℕ)
     → Common w now l o → Joined w sh now l u o → k < length (l .transit .towards) → getD (l .transit .towards) k x ≡ clockMessage m c t
     → t + l .site .down ≡ now
     → (clockMessageAt o m .number ≡ 0

@@ -10,7 +10,7 @@ use Rattle.ends.specs.declared.Onu.{Onu}
 use Rattle.ends.specs.declared.OnuClock.{OnuClock}
 use Rattle.ends.specs.declared.OnuKeys.{OnuKeys}
 use Rattle.ends.specs.declared.Shared.{Shared}
-use Rattle.ends.specs.declared.Unit.{Unit}
+use Rattle.ends.specs.declared.UnitRecord.{UnitRecord}
 use Rattle.line.specs.Setting.{Setting}
 use Rattle.line.specs.History.{Thing, Answered, Transit, Lane, laneWith, leaving, laneLeaving, laneTaken, laneAnswered}
 use Rattle.line.proofs.Invariant.{reachOf, Answers, Towards, From, Joined, Common}
@@ -31,7 +31,7 @@ answers-more now k c answered x synced held a =
           (List·Memᴰ·append-cases answered m);
     }
 
-module _ (w : Setting) (sh : Shared) (now : ℕ) (l : Lane) (u : Unit) (o : Onu) where
+module _ (w : Setting) (sh : Shared) (now : ℕ) (l : Lane) (u : UnitRecord) (o : Onu) where
   -- only what is under way changes
   pub transit-replaced : (t : Transit) → Joined w sh now l u o → Answers now (o .keys) (o .clock) (t .answered)
       → Towards (w .first) l (o .keys .active) (u .keys .active) (u .keys .offered) (t .towards)

@@ -29,7 +29,7 @@ use Rattle.ends.specs.declared.OnuKeys.{OnuKeys}
 use Rattle.ends.specs.declared.Shared.{Shared}
 use Rattle.ends.specs.declared.Slots.{Slots}
 use Rattle.ends.specs.declared.Timer.{Timer}
-use Rattle.ends.specs.declared.Unit.{Unit}
+use Rattle.ends.specs.declared.UnitRecord.{UnitRecord}
 use Rattle.ends.specs.declared.UnitClock.{UnitClock}
 use Rattle.line.specs.Setting.{Site, Setting}
 use Rattle.line.specs.History.{Way, downward, upward, Envelope, Thing, clockMessage, keyMessage, envelope, Answered, Arrival, Entry, Keys, Lane, keyOf, due}
@@ -142,7 +142,7 @@ pub record Spaced (sent : List Envelope) : Type 0 where
       → (getD sent i noEnvelope .left < getD sent j noEnvelope .left)
       × (getD sent j noEnvelope .left < getD sent i noEnvelope .left + keyLife)
 
-pub record Spending (l : Lane) (down : Channels) (u : Unit) (o : Onu) : Type 0 where
+pub record Spending (l : Lane) (down : Channels) (u : UnitRecord) (o : Onu) : Type 0 where
   pub downs : (e : Envelope) → List·Memᴰ e (l .past .sent) → e .way ≡ downward
       → (downstream (e .index) ≡ true) × Spent down (u .keys .first) (u .keys .active) e
   pub ups : (e : Envelope) → List·Memᴰ e (l .past .sent) → e .way ≡ upward
@@ -178,7 +178,7 @@ pub record Idle (now : ℕ) (l : Lane) (o : Onu) : Type 0 where
   pub arrived : l .past .arrived ≡ []
 
 -- a registered unit, with the OLT's record of it
-pub record Joined (w : Setting) (sh : Shared) (now : ℕ) (l : Lane) (u : Unit) (o : Onu) : Type 0 where
+pub record Joined (w : Setting) (sh : Shared) (now : ℕ) (l : Lane) (u : UnitRecord) (o : Onu) : Type 0 where
   pub mac : u .identity .mac ≡ l .site .identity .mac
   pub llids : (x : ℕ) → has (u .identity) x ≡ has (l .site .identity) x
   pub oltmac : l .site .oltmac ≡ w .mac

@@ -25,7 +25,7 @@ use Rattle.ends.specs.declared.KeyMessage.{KeyMessage}
 use Rattle.ends.specs.declared.Onu.{Onu}
 use Rattle.ends.specs.declared.Shared.{Shared}
 use Rattle.ends.specs.declared.Slots.{Slots}
-use Rattle.ends.specs.declared.Unit.{Unit}
+use Rattle.ends.specs.declared.UnitRecord.{UnitRecord}
 use Rattle.ends.proofs.Keys.{key-stored, key-beside}
 use Rattle.ends.proofs.OnuCalls.{key-message-refused}
 use Rattle.ends.proofs.Replies.{number-accepted}
@@ -60,7 +60,7 @@ next-stored s a key f new old n h g k = by-test (eqb n a) refl where
       let same : n ≡ a + 1 = omega (arith, eqb-false n a e) in
       rw same (key-stored s (a + 1) key ∙ new)
 
-module _ (w : Setting) (sh : Shared) (now : ℕ) (l : Lane) (u : Unit) (o : Onu) where
+module _ (w : Setting) (sh : Shared) (now : ℕ) (l : Lane) (u : UnitRecord) (o : Onu) where
   ---- offer
 
   pub offer-keeps : (llid : ℕ) (key : List ℕ) → AtTick w now sh → Joined w sh now l u o → has (l .site .identity) llid ≡ true

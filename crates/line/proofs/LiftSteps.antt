@@ -26,7 +26,7 @@ use Rattle.ends.specs.declared.Found.the-variants.{At}
 use Rattle.ends.specs.declared.Olt.{Olt}
 use Rattle.ends.specs.declared.Onu.{Onu}
 use Rattle.ends.specs.declared.Shared.{Shared}
-use Rattle.ends.specs.declared.Unit.{Unit}
+use Rattle.ends.specs.declared.UnitRecord.{UnitRecord}
 use Rattle.ends.proofs.Replies.{number-accepted, refused-accepts}
 use Rattle.ends.proofs.Table.{find-at, with-unit, with-other, with-beside}
 use Rattle.ends.proofs.Validity.{olt-in-range}
@@ -42,7 +42,7 @@ use Rattle.line.proofs.Places.{laneOf, KeysApart, keys-stay, Held, held
 ---- the record of one unit replaced
 
 -- what a call that replaces the record in place p, and the channels, makes of the lanes
-pub record Replaces (w : Setting) (s : State) (p : ℕ) (c : Channels) (x : Unit) (lanes : List Lane) : Type 0 where
+pub record Replaces (w : Setting) (s : State) (p : ℕ) (c : Channels) (x : UnitRecord) (lanes : List Lane) : Type 0 where
   pub valid : validOlt (withUnit (s .olt) p c x) ≡ true
   pub used : p < s .olt .count
   pub place : p < length (s .olt .units)
@@ -54,7 +54,7 @@ pub record Replaces (w : Setting) (s : State) (p : ℕ) (c : Channels) (x : Unit
   pub others : (u : ℕ) → (Held s p u → ⊥) → laneOf lanes u ≡ laneAt s u
   pub keys : KeysApart lanes
 
-standing-own : (b : Bool) (w : Setting) (t : Olt) (p : ℕ) (c : Channels) (x : Unit) (now : ℕ) (l : Lane) (o : Onu) → b ≡ true → l .entry .place ≡ p
+standing-own : (b : Bool) (w : Setting) (t : Olt) (p : ℕ) (c : Channels) (x : UnitRecord) (now : ℕ) (l : Lane) (o : Onu) → b ≡ true → l .entry .place ≡ p
     → p < t .count → p < length (t .units) → Joined w (withChannels (t .shared) c) now l x o → Standing b w (withUnit t p c x) now l o
 unfolding withUnit
 standing-own false w t p c x now l o e f h k j = true-false (sym e)
@@ -62,7 +62,7 @@ standing-own true w t p c x now l o e f h k j =
     let same : unitAt (withUnit t p c x) (l .entry .place) ≡ x = ap (unitAt (withUnit t p c x)) f ∙ with-unit t p c x k in
     (omega (arith, f, h), rw same j)
 
-standing-others : (b : Bool) (w : Setting) (t : Olt) (p : ℕ) (c : Channels) (x : Unit) (now : ℕ) (l : Lane) (o : Onu)
+standing-others : (b : Bool) (w : Setting) (t : Olt) (p : ℕ) (c : Channels) (x : UnitRecord) (now : ℕ) (l : Lane) (o : Onu)
     → (b ≡ true → l .entry .place ≡ p → ⊥) → ((k : ℕ) → freeFrom (t .shared .channels) k ≤ freeFrom c k) → Standing b w t now l o
     → Standing b w (withUnit t p c x) now l o
 unfolding withUnit
@@ -71,7 +71,7 @@ standing-others true w t p c x now l o n rises s =
     let place = l .entry .place in
     (s .0, rw (with-other t p place c x (n refl)) (channels-keep w (t .shared) now l (unitAt t place) o c rises (s .1)))
 
-module _ (w : Setting) (s : State) (p : ℕ) (c : Channels) (x : Unit) (lanes : List Lane) (i : Invariant w s) (r : Replaces w s p c x lanes) where
+module _ (w : Setting) (s : State) (p : ℕ) (c : Channels) (x : UnitRecord) (lanes : List Lane) (i : Invariant w s) (r : Replaces w s p c x lanes) where
   replaced-lane : (u : ℕ) → u < length (s .history .lanes)
       → LaneRight w (withUnit (s .olt) p c x) (s .history .now) (laneOf lanes u) (onuAt s u)
   replaced-lane u h = by-registered (laneAt s u .entry .registered) refl where
@@ -124,7 +124,7 @@ module _ (w : Setting) (s : State) (p : ℕ) (c : Channels) (x : Unit) (lanes : 
 ---- of which the lane is told
 
 -- what a call on the unit in place p makes of the lanes, of which that unit's is told
-pub told-for : (w : Setting) (s : State) (p u : ℕ) (c : Channels) (x : Unit) (l : Lane) → Invariant w s → Held s p u
+pub told-for : (w : Setting) (s : State) (p u : ℕ) (c : Channels) (x : UnitRecord) (l : Lane) → Invariant w s → Held s p u
     → validOlt (withUnit (s .olt) p c x) ≡ true → ((k : ℕ) → freeFrom (s .olt .shared .channels) k ≤ freeFrom c k)
     → l .site ≡ laneAt s u .site → l .entry ≡ laneAt s u .entry → l .keys .offers ≡ laneAt s u .keys .offers
     → Joined w (withChannels (s .olt .shared) c) (s .history .now) l x (onuAt s u) → Replaces w s p c x (set (s .history .lanes) u l)
@@ -180,9 +180,9 @@ refused-number : (v : Verdict) → (v ≡ Accepted → ⊥) → eqb (verdictNumb
 refused-number v n = ne-eqb (verdictNumber v) 0 (λ e. n (number-accepted v e))
 
 -- what a call on a unit makes of the lane of that unit
-pub record Tells {H : Type 0} (w : Setting) (s : State) (nothing : H) (ahead : Verdict) (llid : ℕ) (call : Shared → Unit → Outcome H) (f : Lane → Lane) : Type 0 where
+pub record Tells {H : Type 0} (w : Setting) (s : State) (nothing : H) (ahead : Verdict) (llid : ℕ) (call : Shared → UnitRecord → Outcome H) (f : Lane → Lane) : Type 0 where
   pub valid : validOlt (lift (s .olt) nothing ahead llid call .end) ≡ true
-  pub rises : (u : Unit) → call (s .olt .shared) u .verdict ≡ Accepted → (k : ℕ)
+  pub rises : (u : UnitRecord) → call (s .olt .shared) u .verdict ≡ Accepted → (k : ℕ)
       → freeFrom (s .olt .shared .channels) k ≤ freeFrom (call (s .olt .shared) u .channels) k
   pub site : (l : Lane) → f l .site ≡ l .site
   pub entry : (l : Lane) → f l .entry ≡ l .entry
@@ -192,7 +192,7 @@ pub record Tells {H : Type 0} (w : Setting) (s : State) (nothing : H) (ahead : V
       (call (s .olt .shared) (unitAt (s .olt) (l .at)) .unit) (onuAt s u)
   pub keys : Lifted (s .olt) nothing ahead llid call → KeysApart (map (named llid f) (s .history .lanes))
 
-module _ {H : Type 0} (w : Setting) (s : State) (nothing : H) (ahead : Verdict) (llid : ℕ) (call : Shared → Unit → Outcome H) (f : Lane → Lane)
+module _ {H : Type 0} (w : Setting) (s : State) (nothing : H) (ahead : Verdict) (llid : ℕ) (call : Shared → UnitRecord → Outcome H) (f : Lane → Lane)
     (i : Invariant w s) (t : Tells w s nothing ahead llid call f) where
   -- a lane that is not that of the place found is not named
   not-named : (p u : ℕ) → find (s .olt) llid ≡ At p → (Held s p u → ⊥) → named llid f (laneAt s u) ≡ laneAt s u

@@ -9,7 +9,7 @@ use Rattle.ends.specs.Occupancy.{upstream}
 use Rattle.ends.specs.declared.Header.{Header}
 use Rattle.ends.specs.declared.Onu.{Onu}
 use Rattle.ends.specs.declared.Shared.{Shared}
-use Rattle.ends.specs.declared.Unit.{Unit}
+use Rattle.ends.specs.declared.UnitRecord.{UnitRecord}
 use Rattle.ends.proofs.OnuTraffic.{overheard-down, overheard-up}
 use Rattle.traffic.specs.Passages.{misfit}
 use Rattle.traffic.specs.Receipts.{onuReceivedBy, onuReceiveOf}
@@ -19,7 +19,7 @@ use Rattle.line.specs.Claim.{SentRight}
 use Rattle.line.proofs.Invariant.{Joined}
 
 -- what another lane sent, either way, where the unit does not have its LLID
-pub overheard-leaves : (w : Setting) (sh : Shared) (now : ℕ) (l : Lane) (u : Unit) (other o : Onu) (e : Envelope) (out : List ℕ)
+pub overheard-leaves : (w : Setting) (sh : Shared) (now : ℕ) (l : Lane) (u : UnitRecord) (other o : Onu) (e : Envelope) (out : List ℕ)
     → Joined w sh now l u other → List·Memᴰ e (l .past .sent) → has (o .identity) (e .llid) ≡ false
     → onuReceiveOf o (e .header) (e .octets) out .answer .onu ≡ o
 unfolding onuReceiveOf onuReceivedBy headerOf

@@ -14,7 +14,7 @@ use Rattle.sealing.specs.declared.envelope.Nonce.{Nonce}
 use Rattle.ends.specs.Identities.{has}
 use Rattle.ends.specs.declared.Channels.{Channels}
 use Rattle.ends.specs.declared.Onu.{Onu}
-use Rattle.ends.specs.declared.Unit.{Unit}
+use Rattle.ends.specs.declared.UnitRecord.{UnitRecord}
 use Rattle.line.specs.Setting.{Site, Setting}
 use Rattle.line.specs.History.{Way, downward, upward, Envelope, Arrival, Past, Lane, keyOf}
 use Rattle.line.specs.Claim.{SentRight, ArrivedRight, isSealed, nonceFor}
@@ -69,7 +69,7 @@ module _ (w : Setting) (l l' : Lane) (top : ℕ) (k : Knows l l' top) where
       }
 
 -- no send is numbered above A
-pub sent-most : (l : Lane) (down : Channels) (u : Unit) (o : Onu) → Spending l down u o → o .keys .active ≤ u .keys .active → (e : Envelope)
+pub sent-most : (l : Lane) (down : Channels) (u : UnitRecord) (o : Onu) → Spending l down u o → o .keys .active ≤ u .keys .active → (e : Envelope)
     → List·Memᴰ e (l .past .sent) → e .number ≤ u .keys .active
 sent-most l down u o s h e m = by-way (e .way) refl where
   by-way : (x : Way) → e .way ≡ x → e .number ≤ u .keys .active

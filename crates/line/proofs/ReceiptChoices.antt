@@ -19,7 +19,7 @@ use Rattle.ends.specs.declared.KeyChoice.the-variants.{Clear, Current, Next}
 use Rattle.ends.specs.declared.Onu.{Onu}
 use Rattle.ends.specs.declared.OnuKeys.{OnuKeys}
 use Rattle.ends.specs.declared.Slots.{Slots}
-use Rattle.ends.specs.declared.Unit.{Unit}
+use Rattle.ends.specs.declared.UnitRecord.{UnitRecord}
 use Rattle.ends.proofs.Headers.{header-clear, header-sealed}
 use Rattle.ends.proofs.Keys.{only-kept}
 use Rattle.ends.proofs.OnuChoices.{onu-receive-clear, onu-receive-current, onu-receive-next}
@@ -128,12 +128,12 @@ taken-down o h n index llid clock e low high flag = by-number (eqb n 0) (eqb n (
 ---- at the OLT
 
 -- a unit of which C is n, and whose keys are those slots
-abbrev pub confirmedAt : Unit → Slots → ℕ → Unit
+abbrev pub confirmedAt : UnitRecord → Slots → ℕ → UnitRecord
 confirmedAt u slots n =
     withConfirmation (withKeys u (withSlots (u .keys) slots)) (record { confirmed = n; acknowledged = u .confirmation .acknowledged })
 
 -- what a receipt under number n makes of the OLT's record of the unit
-pub record TakenUp (u : Unit) (choice : KeyChoice) (n : ℕ) : Type 0 where
+pub record TakenUp (u : UnitRecord) (choice : KeyChoice) (n : ℕ) : Type 0 where
   pub accepts : choiceVerdict choice ≡ Accepted
   pub chosen : choiceNumber choice ≡ n
   pub enciphered : isEnciphered choice ≡ leb 1 n
@@ -141,11 +141,11 @@ pub record TakenUp (u : Unit) (choice : KeyChoice) (n : ℕ) : Type 0 where
   pub after : unitReceived choice u ≡ confirmedAt u slots n
   pub stored : (m : ℕ) → n ≤ m → m ≤ u .keys .offered → keyIn slots m ≡ keyIn (u .keys .slots) m
 
-same-confirmed : (u : Unit) (n : ℕ) → n ≡ u .confirmation .confirmed → u ≡ confirmedAt u (u .keys .slots) n
+same-confirmed : (u : UnitRecord) (n : ℕ) → n ≡ u .confirmation .confirmed → u ≡ confirmedAt u (u .keys .slots) n
 unfolding withConfirmation withKeys withSlots
 same-confirmed u n e = sym (ap (λ (x : ℕ). confirmedAt u (u .keys .slots) x) e)
 
-confirmed-clear : (u : Unit) (n : ℕ) → n ≡ 0 → n ≡ u .confirmation .confirmed → TakenUp u Clear n
+confirmed-clear : (u : UnitRecord) (n : ℕ) → n ≡ 0 → n ≡ u .confirmation .confirmed → TakenUp u Clear n
 unfolding choiceVerdict choiceNumber isEnciphered unitReceived
 confirmed-clear u n z e =
     record {
@@ -157,7 +157,7 @@ confirmed-clear u n z e =
       stored = λ m p q. refl;
     }
 
-confirmed-current : (u : Unit) (n : ℕ) → 1 ≤ n → n ≡ u .confirmation .confirmed → TakenUp u (Current n) n
+confirmed-current : (u : UnitRecord) (n : ℕ) → 1 ≤ n → n ≡ u .confirmation .confirmed → TakenUp u (Current n) n
 unfolding choiceVerdict choiceNumber isEnciphered unitReceived
 confirmed-current u n h e =
     record {
@@ -170,7 +170,7 @@ confirmed-current u n h e =
     }
 
 -- A is confirmed
-confirmed-next : (u : Unit) (n : ℕ) → 1 ≤ n → n ≡ u .keys .active → u .keys .offered ≤ n → TakenUp u (Next n) n
+confirmed-next : (u : UnitRecord) (n : ℕ) → 1 ≤ n → n ≡ u .keys .active → u .keys .offered ≤ n → TakenUp u (Next n) n
 unfolding choiceVerdict choiceNumber isEnciphered unitReceived unitConfirmed
 confirmed-next u n h e f =
     record {
@@ -184,7 +184,7 @@ confirmed-next u n h e f =
           rw same (only-kept (u .keys .slots) (u .keys .active));
     }
 
-pub taken-up : (u : Unit) (h : Header) (n index llid clock : ℕ) → h ≡ headerOf n index llid clock → u .confirmation .confirmed ≤ n → n ≤ u .keys .active
+pub taken-up : (u : UnitRecord) (h : Header) (n index llid clock : ℕ) → h ≡ headerOf n index llid clock → u .confirmation .confirmed ≤ n → n ≤ u .keys .active
     → u .keys .active ≤ u .keys .offered → u .keys .offered ≤ u .confirmation .confirmed + 1 → TakenUp u (unitReceiveChoice u h) n
 unfolding headerOf
 taken-up u h n index llid clock e low high mid top = by-number (eqb n 0) (eqb n (u .confirmation .confirmed)) refl refl where

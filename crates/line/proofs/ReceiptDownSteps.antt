@@ -23,7 +23,7 @@ use Rattle.ends.specs.declared.KeyChoice.the-variants.{Clear, Current, Next, Ba
 use Rattle.ends.specs.declared.Onu.{Onu}
 use Rattle.ends.specs.declared.Passage.{Passage}
 use Rattle.ends.specs.declared.Shared.{Shared}
-use Rattle.ends.specs.declared.Unit.{Unit}
+use Rattle.ends.specs.declared.UnitRecord.{UnitRecord}
 use Rattle.ends.proofs.Headers.{header-clear, header-valid, key-for}
 use Rattle.ends.proofs.OnuCalls.{onu-accepts, onu-keeps}
 use Rattle.ends.proofs.OnuTraffic.{onu-moved-valid}
@@ -43,7 +43,7 @@ use Rattle.line.proofs.ReceiptChoices.{TakenDown, taken-down}
 
 ---- its lane
 
-module _ (w : Setting) (sh : Shared) (now : ℕ) (l : Lane) (u : Unit) (o : Onu) (j : Joined w sh now l u o) where
+module _ (w : Setting) (sh : Shared) (now : ℕ) (l : Lane) (u : UnitRecord) (o : Onu) (j : Joined w sh now l u o) where
   -- the unit's keys and first send after an arrival
   arrived-down-joined : (choice : KeyChoice) (k : ℕ) (r : Arrival) (t : TakenDown o choice (r .envelope .number))
       → Under (l .site .identity) (l .past .sent) downward (o .keys .active) (u .keys .active) (r .envelope)
@@ -133,7 +133,7 @@ arrivalDown o e out =
       passage = receivingOnu o (misfit (e .octets) out) (e .header) .handed;
     }
 
-module _ (w : Setting) (sh : Shared) (now : ℕ) (l : Lane) (u : Unit) (o : Onu) (c : Common w now l o) (j : Joined w sh now l u o) (k : ℕ) (d : Thing)
+module _ (w : Setting) (sh : Shared) (now : ℕ) (l : Lane) (u : UnitRecord) (o : Onu) (c : Common w now l o) (j : Joined w sh now l u o) (k : ℕ) (d : Thing)
     (e : Envelope) (out : List ℕ) (some : k < length (l .transit .towards)) (is : getD (l .transit .towards) k d ≡ envelope e)
     (due : e .left + l .site .down ≡ now) (buffer : length out ≡ length (e .octets)) where
   queue-down : Under (l .site .identity) (l .past .sent) downward (o .keys .active) (u .keys .active) e

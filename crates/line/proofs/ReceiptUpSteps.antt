@@ -19,7 +19,7 @@ use Rattle.ends.specs.declared.KeyChoice.{KeyChoice}
 use Rattle.ends.specs.declared.Onu.{Onu}
 use Rattle.ends.specs.declared.Passage.{Passage}
 use Rattle.ends.specs.declared.Shared.{Shared}
-use Rattle.ends.specs.declared.Unit.{Unit}
+use Rattle.ends.specs.declared.UnitRecord.{UnitRecord}
 use Rattle.ends.proofs.Headers.{header-valid, key-for}
 use Rattle.ends.proofs.UnitChoices.{Receives}
 use Rattle.traffic.specs.Passages.{misfit, outputAfter}
@@ -36,7 +36,7 @@ use Rattle.line.proofs.ReceiptChoices.{confirmedAt, TakenUp, taken-up}
 
 ---- its lane
 
-module _ (w : Setting) (sh : Shared) (now : ℕ) (l : Lane) (u : Unit) (o : Onu) (j : Joined w sh now l u o) where
+module _ (w : Setting) (sh : Shared) (now : ℕ) (l : Lane) (u : UnitRecord) (o : Onu) (j : Joined w sh now l u o) where
   -- the unit's keys and confirmation after an arrival
   arrived-up-joined : (choice : KeyChoice) (k : ℕ) (r : Arrival) (t : TakenUp u choice (r .envelope .number))
       → Under (l .site .identity) (l .past .sent) upward (u .confirmation .confirmed) (o .keys .active) (r .envelope)
@@ -85,7 +85,7 @@ module _ (w : Setting) (sh : Shared) (now : ℕ) (l : Lane) (u : Unit) (o : Onu)
 
 ---- its receipt
 
-module _ (w : Setting) (sh : Shared) (now : ℕ) (l : Lane) (u : Unit) (o : Onu) (at : AtTick w now sh) (j : Joined w sh now l u o) (k : ℕ)
+module _ (w : Setting) (sh : Shared) (now : ℕ) (l : Lane) (u : UnitRecord) (o : Onu) (at : AtTick w now sh) (j : Joined w sh now l u o) (k : ℕ)
     (d e : Envelope) (some : k < length (l .transit .from)) (is : getD (l .transit .from) k d ≡ e) (due : e .left + l .site .up ≡ now) where
   queue-up : Under (l .site .identity) (l .past .sent) upward (u .confirmation .confirmed) (o .keys .active) e
       × From l (e .number) (o .keys .active) (drop (suc k) (l .transit .from))
@@ -158,7 +158,7 @@ module _ (w : Setting) (sh : Shared) (now : ℕ) (l : Lane) (u : Unit) (o : Onu)
   arrive-up =
       let t = chosen-at-olt in
       let q = receiveUnit (e .header) sh u .handed in
-      subst (λ (x : Unit). Joined w sh now (laneArrivedUp k (arrivalOf e q) l) x o) (sym (t .after))
+      subst (λ (x : UnitRecord). Joined w sh now (laneArrivedUp k (arrivalOf e q) l) x o) (sym (t .after))
       (arrived-up-joined w sh now l u o j (unitReceiveChoice u (e .header)) k (arrivalOf e q) t (queue-up .0) (queue-up .1)
       (opens-right w l e q (queue-up .0 .sent) right-up opens-up))
 

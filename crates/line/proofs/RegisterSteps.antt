@@ -16,13 +16,13 @@ use Rattle.ends.specs.Identities.{has, kept, validIdentity}
 use Rattle.ends.specs.Records.{freshUnit}
 use Rattle.ends.specs.Timers.{freshTimer, validInterval}
 use Rattle.ends.specs.OltCalls.{oltAnswer, registering, registerOf}
-use Rattle.ends.specs.Replies.{none}
+use Rattle.ends.specs.Replies.{nothing}
 use Rattle.ends.specs.Table.{unitAt, withOneMore}
 use Rattle.ends.specs.declared.Identity.{Identity}
 use Rattle.ends.specs.declared.Onu.{Onu}
 use Rattle.ends.specs.declared.Shared.{Shared}
 use Rattle.ends.specs.declared.Olt.{Olt}
-use Rattle.ends.specs.declared.Unit.{Unit}
+use Rattle.ends.specs.declared.UnitRecord.{UnitRecord}
 use Rattle.ends.proofs.Identities.{identity-valid, kept-has}
 use Rattle.ends.proofs.Replies.{number-accepted, refuse-accepted, reply-verdict, reply-accepted}
 use Rattle.ends.proofs.Table.{more-unit, more-other, more-places}
@@ -125,13 +125,13 @@ register-made : (o : Olt) (i : Identity) (trip interval : ℕ) → registerOf o 
     → (registerOf o i trip interval ≡ record { number = 0; olt = withOneMore o (freshUnit i trip interval) }) × Registers o i trip interval
 unfolding registerOf registering oltAnswer
 register-made o i trip interval e =
-    let a = sym (reply-verdict _ o none (withOneMore o (freshUnit i trip interval)) none) ∙ number-accepted _ e in (
-      ap oltAnswer (reply-accepted _ o none (withOneMore o (freshUnit i trip interval)) none a),
+    let a = sym (reply-verdict _ o nothing (withOneMore o (freshUnit i trip interval)) nothing) ∙ number-accepted _ e in (
+      ap oltAnswer (reply-accepted _ o nothing (withOneMore o (freshUnit i trip interval)) nothing a),
       register-accepted o i trip interval (refuse-accepted _ _ _ a .1),
     )
 
 -- a lane of before stands as it stood
-standing-before : (b : Bool) (w : Setting) (t : Olt) (x : Unit) (now : ℕ) (l : Lane) (o : Onu) → Standing b w t now l o
+standing-before : (b : Bool) (w : Setting) (t : Olt) (x : UnitRecord) (now : ℕ) (l : Lane) (o : Onu) → Standing b w t now l o
     → Standing b w (withOneMore t x) now l o
 unfolding withOneMore
 standing-before false w t x now l o s = s

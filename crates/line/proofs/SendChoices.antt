@@ -23,7 +23,7 @@ use Rattle.ends.specs.declared.KeyChoice.the-variants.{Clear, Current, Next}
 use Rattle.ends.specs.declared.Onu.{Onu}
 use Rattle.ends.specs.declared.Shared.{Shared}
 use Rattle.ends.specs.declared.Timer.{Timer}
-use Rattle.ends.specs.declared.Unit.{Unit}
+use Rattle.ends.specs.declared.UnitRecord.{UnitRecord}
 use Rattle.ends.specs.declared.UnitKeys.{UnitKeys}
 use Rattle.traffic.specs.Passages.{isEnciphered}
 use Rattle.line.specs.Setting.{Setting}
@@ -93,7 +93,7 @@ pub record Chosen (r : Entry) (now reach : ℕ) (old new : UnitKeys) (choice : K
   pub timing : (k : Keys) → k .switched ≡ switched → Timing r k now (new .timer)
   pub renewed : choiceAged choice (old .first) now ≡ false → Renewed (old .first) (new .first) (old .active) number now
 
-module _ (w : Setting) (sh : Shared) (now : ℕ) (l : Lane) (u : Unit) (o : Onu) (j : Joined w sh now l u o) where
+module _ (w : Setting) (sh : Shared) (now : ℕ) (l : Lane) (u : UnitRecord) (o : Onu) (j : Joined w sh now l u o) where
   -- the record and the list agree on when a send is a switch
   pub switches-listed : switches u ≡ switching l now
   unfolding switches switching
@@ -168,7 +168,7 @@ module _ (w : Setting) (sh : Shared) (now : ℕ) (l : Lane) (u : Unit) (o : Onu)
   chosen-down tick e v = rw (e, switches-listed) (chosen-by (rw e at v) (switching l now) (eqb (u .keys .active) 0) refl refl)
 
 -- the first send of a valid unit is not later than the tick
-pub unit-first : (tick : ℕ) (u : Unit) → validUnit tick u ≡ true → validFirst (u .keys .first) tick ≡ true
+pub unit-first : (tick : ℕ) (u : UnitRecord) → validUnit tick u ≡ true → validFirst (u .keys .first) tick ≡ true
 unfolding validUnit validKeys
 unit-first tick u v = both-right _ _ (both-left _ _ (both-right _ _ v))
 

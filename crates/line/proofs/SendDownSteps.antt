@@ -23,7 +23,7 @@ use Rattle.ends.specs.declared.Olt.{Olt}
 use Rattle.ends.specs.declared.Onu.{Onu}
 use Rattle.ends.specs.declared.Sending.{Sending}
 use Rattle.ends.specs.declared.Shared.{Shared}
-use Rattle.ends.specs.declared.Unit.{Unit}
+use Rattle.ends.specs.declared.UnitRecord.{UnitRecord}
 use Rattle.ends.specs.declared.UnitKeys.{UnitKeys}
 use Rattle.ends.proofs.Headers.{key-for}
 use Rattle.ends.proofs.Occupancy.{free-own, taken-false, free-later}
@@ -43,7 +43,7 @@ use Rattle.line.proofs.SendChoices.{Chosen, chosen-down, unit-first}
 
 ---- the lane of the unit
 
-module _ (w : Setting) (sh : Shared) (now : ℕ) (l : Lane) (u : Unit) (o : Onu) (j : Joined w sh now l u o) where
+module _ (w : Setting) (sh : Shared) (now : ℕ) (l : Lane) (u : UnitRecord) (o : Onu) (j : Joined w sh now l u o) where
   -- an envelope that left for the unit, and keys and channels after it
   sent-down-joined : (k : UnitKeys) (choice : KeyChoice) (c : Channels) (e : Envelope)
       → Chosen (l .entry) now (reachOf (o .keys)) (u .keys) k choice (e .number) (pick (switching l now) now (l .keys .switched))
@@ -127,7 +127,7 @@ abbrev pub envelopeDown : Lane → ℕ → ℕ → ℕ → List ℕ → Sending 
 envelopeDown l now llid index p s =
     envelopeOf downward now llid index p (s .header) (passed index (s .passage) p) (passedCount (s .passage) p) (numberDown l now)
 
-module _ (w : Setting) (sh : Shared) (now : ℕ) (l : Lane) (u : Unit) (o : Onu) (llid index eqs : ℕ) (p out : List ℕ) where
+module _ (w : Setting) (sh : Shared) (now : ℕ) (l : Lane) (u : UnitRecord) (o : Onu) (llid index eqs : ℕ) (p out : List ℕ) where
   sent-down-right : AtTick w now sh → Joined w sh now l u o → validUnit (sh .tick) u ≡ true
       → SentRight w l (envelopeDown l now llid index p (sendUnit llid index eqs sh u .handed))
   unfolding envelopeOf sendUnit sendingOf passageOf
@@ -178,7 +178,7 @@ envelope-down-is o l now llid index p out s a h = rw (a, h)
 ---- other lanes
 
 -- a send of the OLT leaves the other lanes, since its channels are free from no earlier
-pub channels-keep : (w : Setting) (sh : Shared) (now : ℕ) (l : Lane) (u : Unit) (o : Onu) (c : Channels)
+pub channels-keep : (w : Setting) (sh : Shared) (now : ℕ) (l : Lane) (u : UnitRecord) (o : Onu) (c : Channels)
     → ((i : ℕ) → freeFrom (sh .channels) i ≤ freeFrom c i) → Joined w sh now l u o → Joined w (withChannels sh c) now l u o
 unfolding withChannels
 channels-keep w sh now l u o c rises j =
@@ -206,7 +206,7 @@ channels-keep w sh now l u o c rises j =
     }
 
 -- the channels after an accepted send
-pub send-channels : (llid index eqs : ℕ) (sh : Shared) (u : Unit) → sendUnit llid index eqs sh u .verdict ≡ Accepted
+pub send-channels : (llid index eqs : ℕ) (sh : Shared) (u : UnitRecord) → sendUnit llid index eqs sh u .verdict ≡ Accepted
     → (i : ℕ) → freeFrom (sh .channels) i ≤ freeFrom (sendUnit llid index eqs sh u .channels) i
 unfolding sendUnit unitSendVerdict
 send-channels llid index eqs sh u a i = free-later (sh .channels) index i (sh .tick) eqs (refuse-accepted _ _ _ a .0)

@@ -25,7 +25,7 @@ use Rattle.ends.specs.declared.Onu.{Onu}
 use Rattle.ends.specs.declared.OnuClock.{OnuClock}
 use Rattle.ends.specs.declared.Sending.{Sending}
 use Rattle.ends.specs.declared.Shared.{Shared}
-use Rattle.ends.specs.declared.Unit.{Unit}
+use Rattle.ends.specs.declared.UnitRecord.{UnitRecord}
 use Rattle.ends.specs.declared.UnitClock.{UnitClock}
 use Rattle.ends.proofs.Headers.{key-for, header-epam}
 use Rattle.ends.proofs.Occupancy.{free-own, taken-false, free-later}
@@ -64,7 +64,7 @@ epam-up first now captured s c o k = by-synced (eqb (o .synced) 1) refl where
 
 ---- its lane
 
-module _ (w : Setting) (sh : Shared) (now : ℕ) (l : Lane) (u : Unit) (o : Onu) (j : Joined w sh now l u o) where
+module _ (w : Setting) (sh : Shared) (now : ℕ) (l : Lane) (u : UnitRecord) (o : Onu) (j : Joined w sh now l u o) where
   -- an envelope that left the unit, and first send and channels after it
   sent-up-joined : (f : FirstSend) (c : Channels) (e : Envelope) → e .number ≡ o .keys .active
       → Renewed (o .first) f (o .keys .active) (e .number) now
@@ -129,7 +129,7 @@ abbrev pub envelopeUp : Lane → ℕ → ℕ → ℕ → List ℕ → Sending �
 envelopeUp l now llid index p s =
     envelopeOf upward now llid index p (s .header) (passed index (s .passage) p) (passedCount (s .passage) p) (l .keys .number)
 
-module _ (w : Setting) (sh : Shared) (now : ℕ) (l : Lane) (u : Unit) (o : Onu) (llid index : ℕ) (p out : List ℕ) where
+module _ (w : Setting) (sh : Shared) (now : ℕ) (l : Lane) (u : UnitRecord) (o : Onu) (llid index : ℕ) (p out : List ℕ) where
   sent-up-right : Common w now l o → Joined w sh now l u o
       → SentRight w l (envelopeUp l now llid index p (sendingOf (onuSendChoice (o .keys)) (o .keys .slots) (o .identity .mac) (o .clock .time) index llid))
   unfolding envelopeOf sendingOf passageOf

@@ -13,7 +13,7 @@ use Rattle.ends.specs.Headers.{headerOf}
 use Rattle.ends.specs.Keys.{keyIn}
 use Rattle.ends.specs.Table.{unitAt}
 use Rattle.ends.specs.declared.Onu.{Onu}
-use Rattle.ends.specs.declared.Unit.{Unit}
+use Rattle.ends.specs.declared.UnitRecord.{UnitRecord}
 use Rattle.traffic.specs.Passages.{isEnciphered, nonceOf}
 use Rattle.line.specs.Setting.{Site, Setting, clockDown, clockUp}
 use Rattle.line.specs.History.{Way, downward, upward, Envelope, Arrival, Lane, keyOf}
@@ -54,7 +54,7 @@ pub record ArrivedRight (w : Setting) (l : Lane) (r : Arrival) : Type 0 where
   pub count : r .count ≡ r .envelope .count
 
 -- (3) both ends hold key n
-pub record Holds (l : Lane) (n : ℕ) (u : Unit) (o : Onu) : Type 0 where
+pub record Holds (l : Lane) (n : ℕ) (u : UnitRecord) (o : Onu) : Type 0 where
   pub active : u .keys .active ≡ n
   pub confirmed : u .confirmation .confirmed ≡ n
   pub unit : o .keys .active ≡ n

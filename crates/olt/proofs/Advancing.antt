@@ -12,7 +12,7 @@ use Rattle.ends.specs.Limits.{maxInterval}
 use Rattle.ends.specs.Timers.{validInterval, validTimer}
 use Rattle.ends.specs.Validity.{validOlt, validUnit}
 use Rattle.ends.specs.declared.Timer.{Timer}
-use Rattle.ends.specs.declared.Unit.{Unit}
+use Rattle.ends.specs.declared.UnitRecord.{UnitRecord}
 use Rattle.ends.specs.declared.Olt.{Olt}
 use Rattle.ends.proofs.Validity.{olt-in-range, shared-in-range, unit-in-range}
 
@@ -28,13 +28,13 @@ timed t e =
     let i = both-left _ _ e in
     record { some = leb-true _ _ (both-left _ _ i); most = leb-true _ _ (both-right _ _ i); within = ltb-true _ _ (both-left _ _ (both-right _ _ e)) }
 
-unit-timed : (tick : ℕ) (u : Unit) → validUnit tick u ≡ true → validTimer (u .keys .timer) ≡ true
+unit-timed : (tick : ℕ) (u : UnitRecord) → validUnit tick u ≡ true → validTimer (u .keys .timer) ≡ true
 unit-timed tick u e = unit-in-range tick u e .timer
 
 -- the timers of a valid end
-pub units-timed : (o : Olt) → validOlt o ≡ true → all (λ (u : Unit). validTimer (u .keys .timer)) (take (o .count) (o .units)) ≡ true
+pub units-timed : (o : Olt) → validOlt o ≡ true → all (λ (u : UnitRecord). validTimer (u .keys .timer)) (take (o .count) (o .units)) ≡ true
 units-timed o e =
-    all-weaker (validUnit (o .shared .tick)) (λ (u : Unit). validTimer (u .keys .timer)) (unit-timed (o .shared .tick)) _ (olt-in-range o e .units)
+    all-weaker (validUnit (o .shared .tick)) (λ (u : UnitRecord). validTimer (u .keys .timer)) (unit-timed (o .shared .tick)) _ (olt-in-range o e .units)
 
 pub olt-tick : (o : Olt) → validOlt o ≡ true → o .shared .tick ≤ maxTick
 olt-tick o e = shared-in-range (o .shared) (olt-in-range o e .shared) .tick

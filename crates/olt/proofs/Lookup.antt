@@ -11,7 +11,7 @@ use Rattle.ends.specs.Replies.{refuseIf, Reply, reply}
 use Rattle.ends.specs.Table.{find, unitAt, withUnit}
 use Rattle.ends.specs.Validity.{validOlt, validUnit}
 use Rattle.ends.specs.Lift.{Outcome, putBack, atUnit, after, lift}
-use Rattle.ends.specs.declared.Unit.{Unit}
+use Rattle.ends.specs.declared.UnitRecord.{UnitRecord}
 use Rattle.ends.specs.declared.Shared.{Shared}
 use Rattle.ends.specs.declared.Olt.{Olt}
 use Rattle.ends.specs.declared.Found.{Found}
@@ -61,7 +61,7 @@ stands-valid o llid i s = unit-at-valid o llid i (s .valid) (find-at o llid i (s
 
 ---- the call
 
-module _ {H : Type 0} (o : Olt) (nothing : H) (ahead : Verdict) (llid : ℕ) (call : Shared → Unit → Outcome H) where
+module _ {H : Type 0} (o : Olt) (nothing : H) (ahead : Verdict) (llid : ℕ) (call : Shared → UnitRecord → Outcome H) where
   at-place : Located → Reply Olt H
   at-place (Place i) = putBack o nothing i (call (o .shared) (unitAt o i))
   at-place (Absent r) = reply (Refused r) o nothing o nothing

@@ -15,7 +15,7 @@ use Rattle.ends.specs.UnitCalls.{clockSendVerdict}
 use Rattle.ends.specs.OltCalls.{registerVerdict}
 use Rattle.ends.specs.declared.Identity.{Identity}
 use Rattle.ends.specs.declared.Olt.{Olt}
-use Rattle.ends.specs.declared.Unit.{Unit}
+use Rattle.ends.specs.declared.UnitRecord.{UnitRecord}
 use Rattle.ends.proofs.Replies.{refuse-accepted}
 use Rattle.ends.proofs.Validity.{clock-in-range, unit-in-range}
 use Rattle.ends.proofs.UnitCalls.{clock-send-accepted}
@@ -26,7 +26,7 @@ unfolding either
 up-either n b q e = rw q at e
 
 -- a clock message is accepted only for a capture that was made, at a tick not after this one
-pub capture-before : (tick : ℕ) (u : Unit) → validUnit tick u ≡ true → clockSendVerdict (u .clock) tick ≡ Accepted → u .clock .tick ≤ tick
+pub capture-before : (tick : ℕ) (u : UnitRecord) → validUnit tick u ≡ true → clockSendVerdict (u .clock) tick ≡ Accepted → u .clock .tick ≤ tick
 capture-before tick u h e =
     let clock = clock-in-range tick (u .clock) (unit-in-range tick u h .clock) in
     leb-true _ _ (up-either (u .clock .captured) (leb (u .clock .tick) tick) (clock-send-accepted (u .clock) tick e .captured) (clock .since))

@@ -2,6 +2,7 @@
 -- call refuses ahead of 2, then 2). Assumes nothing.
 use mathlib.Core.Bool.{not}
 use Prim.Native.Nat.{ℕ}
+use Rattle.refusal.specs.Number.{numberOf}
 use Rattle.refusal.specs.declared.Refusal.the-variants.{OutOfRange, UnknownLlid}
 use Rattle.refusal.specs.declared.Verdict.{Verdict}
 use Rattle.refusal.specs.declared.Verdict.the-variants.{Accepted, Refused}
@@ -24,3 +25,8 @@ foundAfter (Refused r) f = Absent r
 
 unfoldable pub locatedOf : Olt → Verdict → ℕ → Located
 locatedOf o ahead llid = foundAfter (refuseIf (not (validOlt o)) OutOfRange ahead) (find o llid)
+
+-- the paper's number for a place
+abbrev pub locatedNumber : Located → ℕ
+locatedNumber (Place i) = 0
+locatedNumber (Absent r) = numberOf r

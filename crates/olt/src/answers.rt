@@ -15,7 +15,7 @@ use ends::KeyMessage;
 use ends::KeySent;
 use ends::Olt;
 use ends::OltAnswer;
-use ends::Unit;
+use ends::UnitRecord;
 use refusal::Refusal;
 use refusal::number;
 
@@ -60,7 +60,7 @@ pub(crate) fn key_refused(olt: Olt, refusal: Refusal) -> KeySent
 }
 
 // The unit in its place, and the message of its outstanding offer handed over.
-pub(crate) fn key_sent(olt: Olt, i: usize, unit: Unit, llid: u16) -> KeySent
+pub(crate) fn key_sent(olt: Olt, i: usize, unit: UnitRecord, llid: u16) -> KeySent
     requires { ⌜ i < 16 ⌝ }
     ensures { λ r. ⌜ r ≡ keySent (reply Accepted olt noKeyMessage (withUnit olt i (olt .shared .channels) unit) (keyMessageOf llid (unit .keys))) ⌝ }
 {

@@ -16,9 +16,9 @@ use ends::Olt;
 use ends::Shared;
 use ends::Slots;
 use ends::Timer;
-use ends::Unit;
 use ends::UnitClock;
 use ends::UnitKeys;
+use ends::UnitRecord;
 use ends::check_olt::MAX_ROUND_TRIP;
 use ends::check_olt::meets_table;
 use ends::check_olt::valid_interval;
@@ -33,7 +33,7 @@ use refusal::Verdict;
 const MAX_UNITS: u8 = 16;
 
 // Numbers 0, flags down.
-pub(crate) fn fresh_unit(identity: Identity, trip: u64, interval: u64) -> Unit
+pub(crate) fn fresh_unit(identity: Identity, trip: u64, interval: u64) -> UnitRecord
     ensures { λ r. ⌜ r ≡ freshUnit identity trip interval ⌝ }
 {
     let kept = kept_identity(identity);
@@ -65,7 +65,7 @@ pub(crate) fn fresh_unit(identity: Identity, trip: u64, interval: u64) -> Unit
         sent: 0,
         acknowledged: 0,
     };
-    Unit {
+    UnitRecord {
         identity: kept,
         keys,
         confirmation,
@@ -73,7 +73,7 @@ pub(crate) fn fresh_unit(identity: Identity, trip: u64, interval: u64) -> Unit
     }
 }
 
-fn no_unit() -> Unit
+fn no_unit() -> UnitRecord
     ensures { λ r. ⌜ r ≡ noUnit ⌝ }
 {
     let identity = Identity {
@@ -135,7 +135,7 @@ pub(crate) fn register_verdict(olt: Olt, identity: Identity, trip: u64, interval
 }
 
 // One unit more, in the first place that is not in use.
-pub(crate) fn with_one_more(olt: Olt, unit: Unit) -> Olt
+pub(crate) fn with_one_more(olt: Olt, unit: UnitRecord) -> Olt
     requires { ⌜ olt .count < 16 ⌝ }
     ensures { λ r. ⌜ r ≡ withOneMore olt unit ⌝ }
 {

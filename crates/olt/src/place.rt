@@ -6,7 +6,7 @@ ghost use Rattle.olt.specs.Lookup.{locatedOf};
 use crate::Located;
 use ends::Found;
 use ends::Olt;
-use ends::Unit;
+use ends::UnitRecord;
 use ends::check_olt::find;
 use ends::check_olt::valid_olt;
 use refusal::Refusal;
@@ -32,7 +32,7 @@ pub fn locate(olt: Olt, ahead: Verdict, llid: u16) -> Located
 }
 
 // The end with the unit in its place.
-pub(crate) fn with_unit(olt: Olt, i: usize, unit: Unit) -> Olt
+pub(crate) fn with_unit(olt: Olt, i: usize, unit: UnitRecord) -> Olt
     requires { ⌜ i < 16 ⌝ }
     ensures { λ r. ⌜ r ≡ withUnit olt i (olt .shared .channels) unit ⌝ }
 {

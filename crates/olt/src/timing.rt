@@ -8,13 +8,13 @@ ghost use Rattle.clock.specs.Ticks.{maxTick};
 ghost use Rattle.octets.specs.Lists.{all};
 ghost use Rattle.ends.specs.Timers.{timerAdvanced, validTimer};
 ghost use Rattle.ends.specs.UnitCalls.{unitAdvanced};
-ghost use Rattle.ends.specs.declared.Unit.{Unit};
+ghost use Rattle.ends.specs.declared.UnitRecord.{UnitRecord};
 ghost use Rattle.ends.specs.OltCalls.{oltAdvanced, sharedAdvanced};
 ghost use Rattle.ends.specs.Validity.{validOlt};
 use ends::Olt;
 use ends::Shared;
 use ends::Timer;
-use ends::Unit;
+use ends::UnitRecord;
 
 fn reduced(sum: u64, interval: u64) -> u64
     requires { ⌜ 0 < interval ⌝ }
@@ -39,7 +39,7 @@ fn timer_advanced(timer: Timer, n: u64) -> Timer
     r
 }
 
-fn unit_advanced(unit: Unit, n: u64) -> Unit
+fn unit_advanced(unit: UnitRecord, n: u64) -> UnitRecord
     requires { ⌜ validTimer (unit .keys .timer) ≡ true ⌝ }
     requires { ⌜ n ≤ maxTick ⌝ }
     ensures { λ r. ⌜ r ≡ unitAdvanced n unit ⌝ }
@@ -52,9 +52,9 @@ fn unit_advanced(unit: Unit, n: u64) -> Unit
     r
 }
 
-fn units_advanced(units: [Unit; 16], count: u8, n: u64) -> [Unit; 16]
+fn units_advanced(units: [UnitRecord; 16], count: u8, n: u64) -> [UnitRecord; 16]
     requires { ⌜ count ≤ 16 ⌝ }
-    requires { ⌜ all (λ (u : Unit). validTimer (u .keys .timer)) (take count units) ≡ true ⌝ }
+    requires { ⌜ all (λ (u : UnitRecord). validTimer (u .keys .timer)) (take count units) ≡ true ⌝ }
     requires { ⌜ n ≤ maxTick ⌝ }
     ensures { λ r. ⌜ r ≡ map (unitAdvanced n) (take count units) ++ drop count units ⌝ }
 {

@@ -16,9 +16,9 @@ use ends::CLOCK_KIND;
 use ends::KEY_KIND;
 use ends::KeyMessage;
 use ends::Shared;
-use ends::Unit;
 use ends::UnitClock;
 use ends::UnitKeys;
+use ends::UnitRecord;
 use ends::keyslots::key_in;
 use ends::keyslots::same_key;
 use ends::keyslots::with_key;
@@ -29,7 +29,7 @@ const TICKS_PER_SECOND: u64 = 390_625_000;
 
 const MAX_KEY_NUMBER: u32 = 0xffff_ffff;
 
-pub(crate) fn captured(unit: Unit, tick: u64) -> Unit
+pub(crate) fn captured(unit: UnitRecord, tick: u64) -> UnitRecord
     ensures { λ r. ⌜ r ≡ withClock unit (clockCaptured (unit .clock) tick) ⌝ }
 {
     let mut r = unit;
@@ -69,7 +69,7 @@ pub(crate) fn clock_message(shared: Shared, clock: UnitClock) -> Stamps
     clock::captured(then, clock.trip)
 }
 
-pub(crate) fn clock_sent(unit: Unit) -> Unit
+pub(crate) fn clock_sent(unit: UnitRecord) -> UnitRecord
     ensures { λ r. ⌜ r ≡ withClock unit (clockMessageSent (unit .clock)) ⌝ }
 {
     let mut r = unit;
@@ -95,7 +95,7 @@ fn first_of(unset: bool, pending: bool, same: bool, ended: bool) -> Verdict
     Verdict::Accepted
 }
 
-pub(crate) fn offer_verdict(unit: Unit, key: [u8; 16]) -> Verdict
+pub(crate) fn offer_verdict(unit: UnitRecord, key: [u8; 16]) -> Verdict
     ensures { λ r. ⌜ r ≡ offerVerdict unit key ⌝ }
 {
     let keys = unit.keys;
@@ -124,7 +124,7 @@ fn keys_offered(keys: UnitKeys, key: [u8; 16]) -> UnitKeys
 }
 
 // A new offer starts unacknowledged.
-pub(crate) fn offered(unit: Unit, key: [u8; 16]) -> Unit
+pub(crate) fn offered(unit: UnitRecord, key: [u8; 16]) -> UnitRecord
     requires { ⌜ unit .keys .active < maxKeyNumber ⌝ }
     ensures { λ r. ⌜ r ≡ unitOffered unit key ⌝ }
 {
@@ -157,7 +157,7 @@ pub(crate) fn retry_verdict(keys: UnitKeys) -> Verdict
 }
 
 // After a retry the unit is as it was, the mark of its acknowledgement too.
-pub(crate) fn retried(unit: Unit) -> Unit
+pub(crate) fn retried(unit: UnitRecord) -> UnitRecord
     ensures { λ r. ⌜ r ≡ unit ⌝ }
 {
     let kept = unit;
@@ -177,7 +177,7 @@ fn outstanding(fits: bool) -> Verdict
 pub(crate) fn acknowledge_verdict(
     acknowledgement: Acknowledgement,
     shared: Shared,
-    unit: Unit,
+    unit: UnitRecord,
 ) -> Verdict
     ensures { λ r. ⌜ r ≡ acknowledgeUnit acknowledgement shared unit .verdict ⌝ }
 {
@@ -191,7 +191,11 @@ pub(crate) fn acknowledge_verdict(
     Verdict::Refused(Refusal::NothingOutstanding)
 }
 
-pub(crate) fn acknowledged(acknowledgement: Acknowledgement, shared: Shared, unit: Unit) -> Unit
+pub(crate) fn acknowledged(
+    acknowledgement: Acknowledgement,
+    shared: Shared,
+    unit: UnitRecord,
+) -> UnitRecord
     ensures { λ r. ⌜ r ≡ acknowledgeUnit acknowledgement shared unit .unit ⌝ }
 {
     let mut r = unit;

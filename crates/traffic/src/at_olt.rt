@@ -28,7 +28,7 @@ use crate::passing;
 use ends::Channels;
 use ends::Header;
 use ends::Olt;
-use ends::Unit;
+use ends::UnitRecord;
 use refusal::Refusal;
 use refusal::Verdict;
 
@@ -90,7 +90,7 @@ pub(crate) fn not_received(olt: Olt, refusal: Refusal) -> OltReceived
 }
 
 // The end with the unit in its place, and the channels.
-fn with_unit(olt: Olt, i: usize, channels: Channels, unit: Unit) -> Olt
+fn with_unit(olt: Olt, i: usize, channels: Channels, unit: UnitRecord) -> Olt
     requires { ⌜ i < 16 ⌝ }
     ensures { λ r. ⌜ r ≡ withUnit olt i channels unit ⌝ }
 {
@@ -103,7 +103,7 @@ fn with_unit(olt: Olt, i: usize, channels: Channels, unit: Unit) -> Olt
 }
 
 // The end that a send leaves, where it is accepted.
-fn after_send(olt: Olt, i: usize, unit: Unit, index: u8, eqs: u64) -> Olt
+fn after_send(olt: Olt, i: usize, unit: UnitRecord, index: u8, eqs: u64) -> Olt
     requires { ⌜ i < 16 ⌝ }
     requires { ⌜ olt .shared .tick ≤ maxTick ⌝ }
     requires { ⌜ eqs ≤ maxEqs ⌝ }

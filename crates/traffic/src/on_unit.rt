@@ -7,14 +7,14 @@ use clock::epam_of;
 use ends::Header;
 use ends::KeyChoice;
 use ends::Shared;
-use ends::Unit;
 use ends::UnitKeys;
+use ends::UnitRecord;
 use ends::keyslots::only_key;
 use refusal::Refusal;
 use refusal::Verdict;
 
 // Whether the next accepted send switches.
-fn switches(unit: Unit) -> bool
+fn switches(unit: UnitRecord) -> bool
     ensures { λ r. ⌜ r ≡ switches unit ⌝ }
 {
     let next = unit.keys.active as u64 + 1;
@@ -22,7 +22,7 @@ fn switches(unit: Unit) -> bool
         & ((unit.keys.offered as u64 == next) & (unit.confirmation.acknowledged == 1))
 }
 
-pub(crate) fn send_choice(unit: Unit) -> KeyChoice
+pub(crate) fn send_choice(unit: UnitRecord) -> KeyChoice
     ensures { λ r. ⌜ r ≡ unitSendChoice unit ⌝ }
 {
     if switches(unit) {
@@ -34,7 +34,7 @@ pub(crate) fn send_choice(unit: Unit) -> KeyChoice
     KeyChoice::Current(unit.keys.active)
 }
 
-pub(crate) fn send_verdict(shared: Shared, unit: Unit, index: u8) -> Verdict
+pub(crate) fn send_verdict(shared: Shared, unit: UnitRecord, index: u8) -> Verdict
     ensures { λ r. ⌜ r ≡ unitSendVerdict shared unit index ⌝ }
 {
     if passing::taken(shared.channels, index, shared.tick) {
@@ -74,7 +74,7 @@ fn keys_sent(choice: KeyChoice, keys: UnitKeys, tick: u64) -> UnitKeys
     }
 }
 
-pub(crate) fn unit_sent(unit: Unit, tick: u64) -> Unit
+pub(crate) fn unit_sent(unit: UnitRecord, tick: u64) -> UnitRecord
     ensures { λ r. ⌜ r ≡ withKeys unit (keysSent (unitSendChoice unit) (unit .keys) tick) ⌝ }
 {
     let keys = keys_sent(send_choice(unit), unit.keys, tick);
@@ -83,7 +83,7 @@ pub(crate) fn unit_sent(unit: Unit, tick: u64) -> Unit
     r
 }
 
-pub(crate) fn receive_choice(unit: Unit, header: Header) -> KeyChoice
+pub(crate) fn receive_choice(unit: UnitRecord, header: Header) -> KeyChoice
     ensures { λ r. ⌜ r ≡ unitReceiveChoice unit header ⌝ }
 {
     let confirmed = unit.confirmation.confirmed;
@@ -104,7 +104,7 @@ pub(crate) fn receive_choice(unit: Unit, header: Header) -> KeyChoice
     KeyChoice::Barred(Refusal::NoKey)
 }
 
-pub(crate) fn receive_verdict(shared: Shared, unit: Unit, header: Header) -> Verdict
+pub(crate) fn receive_verdict(shared: Shared, unit: UnitRecord, header: Header) -> Verdict
     ensures { λ r. ⌜ r ≡ unitReceiveVerdict shared unit header ⌝ }
 {
     let epam = epam_of(shared.clock);
@@ -115,7 +115,7 @@ pub(crate) fn receive_verdict(shared: Shared, unit: Unit, header: Header) -> Ver
 }
 
 // C becomes A, and the key before A is wiped.
-fn confirmed(unit: Unit) -> Unit
+fn confirmed(unit: UnitRecord) -> UnitRecord
     ensures { λ r. ⌜ r ≡ unitConfirmed unit ⌝ }
 {
     let mut keys = unit.keys;
@@ -126,7 +126,7 @@ fn confirmed(unit: Unit) -> Unit
     r
 }
 
-pub(crate) fn unit_received(choice: KeyChoice, unit: Unit) -> Unit
+pub(crate) fn unit_received(choice: KeyChoice, unit: UnitRecord) -> UnitRecord
     ensures { λ r. ⌜ r ≡ unitReceived choice unit ⌝ }
 {
     match choice {

@@ -11,7 +11,7 @@ use crate::values;
 use ends::Acknowledgement;
 use ends::Identity;
 use ends::Onu;
-use ends::Unit;
+use ends::UnitRecord;
 
 // Two envelopes under way.
 struct Pair {
@@ -285,7 +285,7 @@ fn acknowledged(start: Line, late: Acknowledgement) -> Line {
     )
 }
 
-fn both_hold(label: &[u8], u: Unit, o: Onu) {
+fn both_hold(label: &[u8], u: UnitRecord, o: Onu) {
     show::part(label, u.keys.active as u64);
     show::part(b", C ", u.confirmation.confirmed as u64);
     show::part(b", a ", o.keys.active as u64);

@@ -7,7 +7,7 @@ use ends::KeyMessage;
 use ends::Olt;
 use ends::Onu;
 use ends::Slots;
-use ends::Unit;
+use ends::UnitRecord;
 use libc::STDOUT_FILENO;
 
 pub(crate) fn section(title: &[u8]) {
@@ -82,7 +82,7 @@ fn channels(c: Channels) {
 }
 
 // LLID 9 is that of the second unit.
-fn unit_of(o: Olt, llid: u16) -> Unit {
+fn unit_of(o: Olt, llid: u16) -> UnitRecord {
     if llid == 9 {
         return o.units[1];
     }

@@ -13,7 +13,7 @@ use Rattle.octets.proofs.Maps.{first-at, first-more}
 use Rattle.ends.specs.Table.{pastUnit}
 use Rattle.ends.specs.Timers.{validTimer}
 use Rattle.ends.specs.UnitCalls.{unitAdvanced}
-use Rattle.ends.specs.declared.Unit.{Unit}
+use Rattle.ends.specs.declared.UnitRecord.{UnitRecord}
 use Rattle.olt.proofs.timing.units_advanced.Statement.{statement}
 use Rattle.olt.proofs.timing.units_advanced.Tie as tie
 
@@ -39,9 +39,9 @@ unit-advanced-requires c κs =
     let here = c .before .before .loop in
     let len : length (a .units) ≡ 16 = search needs in
     let old : getD (here .r) (here .i) pastUnit ≡ getD (a .units) (here .i) pastUnit =
-    ap (λ (l : List Unit). getD l (here .i) pastUnit) (here .inv .1) ∙ first-at (unitAdvanced (a .n)) (here .i) (a .units) pastUnit in (
-      ap (λ (u : Unit). validTimer (u .keys .timer)) old
-          ∙ all-one (λ (u : Unit). validTimer (u .keys .timer)) (a .count) (a .units) pastUnit (c .before .before .before .pre .1 .0) (here .i) (omega arith) (omega arith),
+    ap (λ (l : List UnitRecord). getD l (here .i) pastUnit) (here .inv .1) ∙ first-at (unitAdvanced (a .n)) (here .i) (a .units) pastUnit in (
+      ap (λ (u : UnitRecord). validTimer (u .keys .timer)) old
+          ∙ all-one (λ (u : UnitRecord). validTimer (u .keys .timer)) (a .count) (a .units) pastUnit (c .before .before .before .pre .1 .0) (here .i) (omega arith) (omega arith),
       omega arith,
     )
 

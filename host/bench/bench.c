@@ -1,0 +1,268 @@
+/*
+ * bench.c: what sealing and each call of the archive cost, as tables in Markdown.
+ */
+#include "bytecipher.h"
+#include "calls.h"
+#include "jazmotip.h"
+#include "measure.h"
+#include "openssl.h"
+#include "work.h"
+
+#include <stdio.h>
+#include <stdlib.h>
+#include <string.h>
+
+/* -------------------------------------------------------------------------------------------------------------- Contestants */
+
+static const jazmotip_nonce nonce = {WORK_CHANNEL, WORK_MAC, WORK_CLOCK};
+static const struct bytecipher_nonce c_nonce = {WORK_CHANNEL, WORK_MAC, WORK_CLOCK};
+static jazmotip_round_keys expanded;
+static const struct openssl *openssl;
+
+static uint64_t engine_count, c_count;
+
+static void engine_seal(void *work)
+{
+    struct work *w = work;
+    engine_count = jazmotip_seal(1, work_key, nonce, w->input, w->length, w->output, w->length).count;
+}
+
+static void engine_seal_expanded(void *work)
+{
+    struct work *w = work;
+    engine_count = jazmotip_seal_expanded(1, expanded, nonce, w->input, w->length, w->output, w->length).count;
+}
+
+static void engine_open(void *work)
+{
+    struct work *w = work;
+    engine_count = jazmotip_capture_open(work_settings, 41, w->input, w->length, w->output, w->length).count;
+}
+
+static void c_seal(void *work)
+{
+    struct work *w = work;
+    c_count = bytecipher_seal(work_key, c_nonce, w->input, w->length, w->output, w->length).count;
+}
+
+static void c_seal_expanded(void *work)
+{
+    struct work *w = work;
+    c_count = bytecipher_seal_expanded(expanded.octets, c_nonce, w->input, w->length, w->output, w->length).count;
+}
+
+static void c_open(void *work)
+{
+    struct work *w = work;
+    uint8_t keys[2][176];
+    bytecipher_expand(work_settings + 1, keys[0]);
+    bytecipher_expand(work_settings + 17, keys[1]);
+    c_count = bytecipher_open_block(bytecipher_seal_eqs, keys[0], keys[1], work_settings, 41, w->input, w->length, w->output,
+                                    w->length).count;
+}
+
+/* ----------------------------------------------------------------------------------------------------------------- Equality */
+
+static uint64_t hash_after(void (*here)(void *), struct work *w)
+{
+    memset(w->output, 0, w->length);
+    here(w);
+    return work_hash(w->output, w->length);
+}
+
+static void same(uint64_t a, uint64_t b, const struct work *w, const char *what)
+{
+    if (a != b) {
+        fprintf(stderr, "%s and the engine differ on %zu EQs in %zu records\n", what, w->eqs, w->records);
+        exit(1);
+    }
+}
+
+/* Every contestant makes the engine's octets and count of every work. */
+static void check_works(void)
+{
+    for (int i = 0; i < WORKS; i++) {
+        struct work *w = &works[i];
+        int block = w->records > 0;
+        uint64_t engine = hash_after(block ? engine_open : engine_seal, w);
+        same(hash_after(block ? c_open : c_seal, w), engine, w, "the C cipher");
+        same(c_count, engine_count, w, "the C cipher's count");
+        if (!block) {
+            same(hash_after(engine_seal_expanded, w), engine, w, "the expanded key");
+            same(hash_after(c_seal_expanded, w), engine, w, "the C cipher's expanded key");
+            same(jazmotip_count(w->input, w->length), engine_count, w, "count");
+        }
+        if (openssl != NULL) {
+            same(hash_after(openssl->seal, w), engine, w, "OpenSSL");
+            same(openssl->bare_hash(w), engine, w, "OpenSSL without AES instructions");
+        }
+    }
+}
+
+/* ------------------------------------------------------------------------------------------------------------------ Sealing */
+
+enum { ENGINE, C, BARE, OPENSSL, ENGINE_EXPANDED, C_EXPANDED, CONTESTANTS };
+
+static struct rounds rounds[WORKS];
+
+static int is_largest(const struct work *w)
+{
+    return w->eqs == JAZMOTIP_MAX_EQS;
+}
+
+static void measure_work(int i)
+{
+    struct work *w = &works[i];
+    int block = w->records > 0, expanding = !block && !is_largest(w);
+    struct contestant all[CONTESTANTS] = {
+        [ENGINE] = {.here = block ? engine_open : engine_seal, .job = w},
+        [C] = {.here = block ? c_open : c_seal, .job = w},
+        [BARE] = {.there = openssl != NULL ? openssl->bare_seal : NULL, .job = w},
+        [OPENSSL] = {.here = openssl != NULL ? openssl->seal : NULL, .job = w},
+        [ENGINE_EXPANDED] = {.here = expanding ? engine_seal_expanded : NULL, .job = w},
+        [C_EXPANDED] = {.here = expanding ? c_seal_expanded : NULL, .job = w},
+    };
+    measure_rounds(&rounds[i], all, CONTESTANTS, is_largest(w) ? 15 : 151, 1e6);
+}
+
+static const char *name_of(int i)
+{
+    static const char *const blocks[WORKS] = {
+        [WORKS_PAYLOADS] = "block: 253 records of 8 EQs, one of 4,580",
+        [WORKS_PAYLOADS + 1] = "block: 254 records of 26 EQs",
+        [WORKS_PAYLOADS + 2] = "block: 1 record of 7,278 EQs",
+    };
+    return blocks[i] != NULL ? blocks[i] : measure_commas((double)works[i].eqs);
+}
+
+static double megabytes(const struct work *w, struct spread cost)
+{
+    return (double)w->length / cost.median * 1e3;
+}
+
+static void print_rate(int i, int k)
+{
+    printf(" %s |", measure_commas(megabytes(&works[i], measure_cost(&rounds[i], k))));
+}
+
+static void print_ratio(int i, int k, int of)
+{
+    struct spread s = measure_ratio(&rounds[i], k, of);
+    printf(" **%.2f** (%.2f to %.2f) |", s.median, s.low, s.high);
+}
+
+static void print_sealing(void)
+{
+    printf("| EQs | octets | engine, ns a call | ns an EQ | MB/s | C, MB/s | engine of C |");
+    if (openssl != NULL)
+        printf(" OpenSSL without AES instructions, MB/s | engine of it | OpenSSL with them, MB/s | engine of it |");
+    printf("\n|---|---:|---:|---:|---:|---:|---:|%s\n", openssl != NULL ? "---:|---:|---:|---:|" : "");
+    for (int i = 0; i < WORKS; i++) {
+        double ns = measure_cost(&rounds[i], ENGINE).median;
+        printf("| %s | %s | %s | %.1f |", name_of(i), measure_commas((double)works[i].length), measure_commas(ns),
+               ns / (double)works[i].eqs);
+        print_rate(i, ENGINE);
+        print_rate(i, C);
+        print_ratio(i, ENGINE, C);
+        if (openssl != NULL) {
+            print_rate(i, BARE);
+            print_ratio(i, ENGINE, BARE);
+            print_rate(i, OPENSSL);
+            print_ratio(i, ENGINE, OPENSSL);
+        }
+        printf("\n");
+    }
+    printf("\n| EQs, the key expanded before | engine, ns a call | MB/s | C, MB/s | engine of C |\n|---|---:|---:|---:|---:|\n");
+    for (int i = 0; i < WORKS_PAYLOADS && !is_largest(&works[i]); i++) {
+        printf("| %s | %s |", name_of(i), measure_commas(measure_cost(&rounds[i], ENGINE_EXPANDED).median));
+        print_rate(i, ENGINE_EXPANDED);
+        print_rate(i, C_EXPANDED);
+        print_ratio(i, ENGINE_EXPANDED, C_EXPANDED);
+        printf("\n");
+    }
+    printf("\n");
+}
+
+/* What OpenSSL's cipher does without the mask, and whether its AES instructions were off when they should be. */
+static void print_stream(void)
+{
+    struct work *w = &works[4];
+    static struct rounds streams;
+    const struct contestant both[] = {{.there = openssl->bare_stream, .job = w}, {.here = openssl->stream, .job = w}};
+    measure_rounds(&streams, both, 2, 101, 1e6);
+    printf("OpenSSL's key stream alone for %s EQs, with no mask: %s MB/s without AES instructions, %s MB/s with them%s.\n\n",
+           name_of(4), measure_commas(megabytes(w, measure_cost(&streams, 0))),
+           measure_commas(megabytes(w, measure_cost(&streams, 1))),
+           measure_ratio(&streams, 1, 0).median >= 1.5 ? "" : "; no drop: this processor has none, or OpenSSL kept them");
+}
+
+/* The engine on 64 EQs and more, in turn. Gives the most that an EQ costs, as a part of what it costs at 64. */
+static double print_flatness(void)
+{
+    enum { FROM = 2, SIZES = WORKS_PAYLOADS - FROM };
+    static struct rounds flat;
+    struct contestant sizes[SIZES];
+    double most = 0;
+    for (int k = 0; k < SIZES; k++)
+        sizes[k] = (struct contestant){.here = engine_seal, .job = &works[FROM + k]};
+    measure_rounds(&flat, sizes, SIZES, 11, 3e7);
+    printf("| EQs | ns an EQ | of the cost at 64 EQs |\n|---:|---:|---:|\n");
+    for (int k = 0; k < SIZES; k++) {
+        double eqs = (double)works[FROM + k].eqs, scale = 64 / eqs;
+        struct spread s = measure_ratio(&flat, 0, k);
+        printf("| %s | %.1f | %.2f (%.2f to %.2f) |\n", name_of(FROM + k), measure_cost(&flat, k).median / eqs, s.median * scale,
+               s.low * scale, s.high * scale);
+        most = s.median * scale > most ? s.median * scale : most;
+    }
+    printf("\n");
+    return most;
+}
+
+static void print_goals(double flatness)
+{
+    double least = measure_ratio(&rounds[3], ENGINE, C).median, eight = measure_ratio(&rounds[1], ENGINE, C).median;
+    for (int i = 4; i < WORKS; i++) {
+        double ratio = measure_ratio(&rounds[i], ENGINE, C).median;
+        least = ratio < least ? ratio : least;
+    }
+    printf("| Goal | measured | |\n|---|---:|---|\n");
+    printf("| at least 0.95 of the C cipher at 1,500 EQs and up, and on capture blocks | %.2f at least | %s |\n", least,
+           least >= 0.95 ? "met" : "missed");
+    printf("| no slower than the C cipher at 8 EQs, key set-up included | %.2f | %s |\n", eight, eight >= 1 ? "met" : "missed");
+    printf("| cost of an EQ flat, within a twentieth, from 64 EQs to 4,194,303 | %.2f at most | %s |\n\n", flatness,
+           flatness <= 1.05 ? "met" : "missed");
+}
+
+static void print_method(void)
+{
+    printf("%s.\n\n", openssl != NULL ? openssl->version : "OpenSSL's headers are not on this machine: no column for it");
+    printf("Contestants take turns in rounds on one processor; a figure is the median over the rounds, by processor time, and\n"
+           "beside a ratio stand its lowest and highest tenth. MB are 10^6 octets of payload, control octets too. Key set-up is in\n"
+           "every figure but where the key was expanded before. C is the same byte-table cipher (bytecipher.c)%s.\n"
+           "All contestants' octets were compared and are equal. Stack is what a call writes below its caller's: what is handed\n"
+           "over by value counts, the answer does not.\n\n",
+           openssl != NULL ? "; OpenSSL makes\nthe key stream in bulk (AES-128-CTR), and the mask of bytecipher.c follows" : "");
+}
+
+int main(int argc, char **argv)
+{
+    measure_pin();
+    works_make();
+    if (argc > 1 && strcmp(argv[1], OPENSSL_BARE) == 0)
+        return openssl_bare_main();
+    openssl = openssl_start(argv[0]);
+    expanded = jazmotip_expand_key(work_key);
+    check_works();
+    print_method();
+    for (int i = 0; i < WORKS; i++)
+        measure_work(i);
+    print_sealing();
+    if (openssl != NULL) {
+        print_stream();
+        openssl->stop();
+    }
+    double flatness = print_flatness();
+    calls_print();
+    print_goals(flatness);
+    return 0;
+}

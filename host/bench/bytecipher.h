@@ -1,0 +1,51 @@
+/*
+ * bytecipher.h: the engine's sealing with the same byte-table cipher, written anew in C, to be measured against.
+ */
+#ifndef BYTECIPHER_H
+#define BYTECIPHER_H
+
+#include <stddef.h>
+#include <stdint.h>
+
+struct bytecipher_nonce {
+    uint8_t channel;
+    uint64_t mac;
+    uint64_t clock;
+};
+
+struct bytecipher_answer {
+    uint8_t number; /* 0, or the refusal's */
+    uint64_t count; /* octets enciphered */
+};
+
+/* The eleven round keys of a key. */
+void bytecipher_expand(const uint8_t key[16], uint8_t round_keys[176]);
+
+/* Counter block 0 of an envelope. */
+void bytecipher_counter(struct bytecipher_nonce nonce, uint8_t block[16]);
+
+/* Masks EQs with a key stream of eight octets for each, and gives the octets enciphered. */
+uint64_t bytecipher_mask(const uint8_t *stream, const uint8_t *input, uint8_t *output, size_t eqs);
+
+/* Seals or opens input into output; order of refusals 14, 1. */
+struct bytecipher_answer bytecipher_seal(const uint8_t key[16], struct bytecipher_nonce nonce, const uint8_t *input,
+                                         size_t input_length, uint8_t *output, size_t output_length);
+
+/* The same under a key that was expanded before. */
+struct bytecipher_answer bytecipher_seal_expanded(const uint8_t round_keys[176], struct bytecipher_nonce nonce,
+                                                  const uint8_t *input, size_t input_length, uint8_t *output,
+                                                  size_t output_length);
+
+/* Seals or opens whole EQs under a key that is set up, and gives the octets enciphered. */
+typedef uint64_t bytecipher_sealer(const void *key, struct bytecipher_nonce nonce, const uint8_t *input, uint8_t *output,
+                                   size_t eqs);
+
+/* Opens a capture block into output, of the block's length, with two keys that are set up; order of refusals 14, 1, 15. */
+struct bytecipher_answer bytecipher_open_block(bytecipher_sealer *seal, const void *key0, const void *key1,
+                                               const uint8_t *settings, size_t settings_length, const uint8_t *block,
+                                               size_t block_length, uint8_t *output, size_t output_length);
+
+/* A sealer on 176 octets of round keys. */
+bytecipher_sealer bytecipher_seal_eqs;
+
+#endif

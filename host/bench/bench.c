@@ -237,8 +237,8 @@ static void print_method(void)
 {
     printf("%s.\n\n", openssl != NULL ? openssl->version : "OpenSSL's headers are not on this machine: no column for it");
     printf("Contestants take turns in rounds on one processor; a figure is the median over the rounds, by processor time, and\n"
-           "beside a ratio stand its lowest and highest tenth. MB are 10^6 octets of payload, control octets too. Key set-up is in\n"
-           "every figure but where the key was expanded before. C is the same byte-table cipher (bytecipher.c)%s.\n"
+           "beside a ratio stand its lowest and highest tenth. MB are 10^6 octets of payload, control octets too. Key set-up is\n"
+           "in every figure but where the key was expanded before. C is the same byte-table cipher (bytecipher.c)%s.\n"
            "All contestants' octets were compared and are equal. Stack is what a call writes below its caller's: what is handed\n"
            "over by value counts, the answer does not.\n\n",
            openssl != NULL ? "; OpenSSL makes\nthe key stream in bulk (AES-128-CTR), and the mask of bytecipher.c follows" : "");

@@ -13,7 +13,7 @@ use Rattle.refusal.specs.declared.Refusal.the-variants.{OutOfRange}
 use Rattle.refusal.specs.declared.Verdict.the-variants.{Accepted}
 use Rattle.clock.specs.Ticks.{maxTick}
 use Rattle.clock.proofs.Ticks.{advanced-below, advanced-sum}
-use Rattle.ends.specs.Replies.{Nothing, nothing, Reply}
+use Rattle.ends.specs.Replies.{Silence, silent, Reply}
 use Rattle.ends.specs.Records.{withKeys}
 use Rattle.ends.specs.Table.{registered, tableLlids, unitAt, pastUnit}
 use Rattle.ends.specs.Validity.{validUnit, validOlt}
@@ -83,21 +83,21 @@ olt-advanced-valid o n h v =
 pub advance-olt-valid : (o : Olt) (n : ℕ) → validOlt o ≡ true → validOlt (advanceOltOf o n .olt) ≡ true
 unfolding advanceOltOf advancingOlt oltAnswer
 advance-olt-valid o n v =
-    reply-keeps (λ (p : Olt). validOlt p ≡ true) _ o nothing _ nothing v
+    reply-keeps (λ (p : Olt). validOlt p ≡ true) _ o silent _ silent v
     (λ a. olt-advanced-valid o n (advance-accepted (o .shared .tick) n (refuse-accepted _ _ _ a .1)) v)
 
 -- what is accepted of an advance
 pub advancing-accepted : (o : Olt) (n : ℕ) → advancingOlt o n .verdict ≡ Accepted → (validOlt o ≡ true) × (o .shared .tick + n ≤ maxTick)
 unfolding advancingOlt
 advancing-accepted o n e =
-    let a = refuse-accepted _ _ _ (sym (reply-verdict _ o nothing (oltAdvanced o n) nothing) ∙ e) in
+    let a = refuse-accepted _ _ _ (sym (reply-verdict _ o silent (oltAdvanced o n) silent) ∙ e) in
     (not-false _ (a .0), advance-accepted (o .shared .tick) n (a .1))
 
 pub advancing-accepts : (o : Olt) (n : ℕ) → validOlt o ≡ true → o .shared .tick + n ≤ maxTick
-    → advancingOlt o n ≡ record { verdict = Accepted; end = oltAdvanced o n; handed = nothing }
+    → advancingOlt o n ≡ record { verdict = Accepted; end = oltAdvanced o n; handed = silent }
 unfolding advancingOlt
 advancing-accepts o n v h =
-    reply-accepted _ o nothing (oltAdvanced o n) nothing (refuse-passed _ OutOfRange _ (not-of-true v) ∙ advance-accepts (o .shared .tick) n h)
+    reply-accepted _ o silent (oltAdvanced o n) silent (refuse-passed _ OutOfRange _ (not-of-true v) ∙ advance-accepts (o .shared .tick) n h)
 
 -- whenever the sum is accepted, an advance by m and then one by n give the whole reply of an advance by m + n
 pub advancing-sum : (o : Olt) (m n : ℕ) → advancingOlt o (m + n) .verdict ≡ Accepted → advancingOlt (advancingOlt o m .end) n ≡ advancingOlt o (m + n)
@@ -106,12 +106,12 @@ advancing-sum o m n e =
     let a = advancing-accepted o (m + n) e in
     let v = a .0 in
     let h : o .shared .tick + m ≤ maxTick = omega (arith, a .1) in
-    let first : advancingOlt o m .end ≡ oltAdvanced o m = ap (λ (r : Reply Olt Nothing). r .end) (advancing-accepts o m v h) in
+    let first : advancingOlt o m .end ≡ oltAdvanced o m = ap (λ (r : Reply Olt Silence). r .end) (advancing-accepts o m v h) in
     let w = olt-advanced-valid o m h v in
     let l : oltAdvanced o m .shared .tick + n ≤ maxTick = omega (arith, a .1) in
     ap (λ (p : Olt). advancingOlt p n) first
     ∙ advancing-accepts (oltAdvanced o m) n w l
-    ∙ ap (λ (p : Olt). record { verdict = Accepted; end = p; handed = nothing }) (olt-sum m n o)
+    ∙ ap (λ (p : Olt). record { verdict = Accepted; end = p; handed = silent }) (olt-sum m n o)
     ∙ sym (advancing-accepts o (m + n) v (a .1))
 
 pub advance-olt-sum : (o : Olt) (m n : ℕ) → advanceOltOf o (m + n) .number ≡ 0 → advanceOltOf (advanceOltOf o m .olt) n ≡ advanceOltOf o (m + n)

@@ -12,7 +12,7 @@ use Rattle.octets.proofs.Maps.{length-first}
 use Rattle.refusal.specs.declared.Verdict.the-variants.{Accepted}
 use Rattle.clock.specs.Ticks.{clockTurn}
 use Rattle.ends.specs.Limits.{maxUnits}
-use Rattle.ends.specs.Replies.{nothing}
+use Rattle.ends.specs.Replies.{silent}
 use Rattle.ends.specs.Messages.{noStamps, noKeyMessage}
 use Rattle.ends.specs.Identities.{distinct, validMac}
 use Rattle.ends.specs.Records.{freshUnit, noUnit, newOlt}
@@ -53,7 +53,7 @@ zeros-valid = new-olt-valid 0 0 refl (omega arith)
 pub fresh-valid : (mac clock : ℕ) → validOlt (freshOltOf mac clock .olt) ≡ true
 unfolding freshOltOf oltAnswer
 fresh-valid mac clock =
-    reply-keeps (λ (o : Olt). validOlt o ≡ true) _ (newOlt 0 0) nothing (newOlt mac clock) nothing zeros-valid
+    reply-keeps (λ (o : Olt). validOlt o ≡ true) _ (newOlt 0 0) silent (newOlt mac clock) silent zeros-valid
     (λ a.
     let b = not-false _ (refuse-accepted _ _ _ a .0) in
     new-olt-valid mac clock (both-left _ _ b) (ltb-true _ _ (both-right _ _ b)))
@@ -62,7 +62,7 @@ fresh-valid mac clock =
 
 pub capture-valid : (o : Olt) (llid : ℕ) → validOlt o ≡ true → validOlt (captureOf o llid .olt) ≡ true
 unfolding captureOf oltAnswer
-capture-valid o llid v = lift-valid o nothing Accepted llid captureUnit (λ a. capture-keeps) v
+capture-valid o llid v = lift-valid o silent Accepted llid captureUnit (λ a. capture-keeps) v
 
 pub clock-send-valid : (o : Olt) (llid : ℕ) → validOlt o ≡ true → validOlt (clockSendOf o llid .olt) ≡ true
 unfolding clockSendOf clockSent
@@ -74,7 +74,7 @@ offer-valid o llid key v = lift-valid o noKeyMessage Accepted llid (offerUnit ll
 
 pub acknowledge-valid : (o : Olt) (llid : ℕ) (a : Acknowledgement) → validOlt o ≡ true → validOlt (acknowledgeOf o llid a .olt) ≡ true
 unfolding acknowledgeOf oltAnswer
-acknowledge-valid o llid a v = lift-valid o nothing Accepted llid (acknowledgeUnit a) (λ p. acknowledge-keeps a) v
+acknowledge-valid o llid a v = lift-valid o silent Accepted llid (acknowledgeUnit a) (λ p. acknowledge-keeps a) v
 
 -- a retry, accepted or not, leaves the OLT as it was
 pub retry-same : (o : Olt) (llid : ℕ) → retryOf o llid .olt ≡ o
@@ -91,7 +91,7 @@ pub acknowledge-again : (o : Olt) (llid other : ℕ) (a : Acknowledgement) → f
 unfolding acknowledgeOf oltAnswer
 acknowledge-again o llid other a f e =
     ap oltAnswer
-    (lift-again o nothing Accepted llid (acknowledgeUnit a) (acknowledge-keeps a) (acknowledged-channels a) (acknowledged-again a) other f
+    (lift-again o silent Accepted llid (acknowledgeUnit a) (acknowledge-keeps a) (acknowledged-channels a) (acknowledged-again a) other f
     (number-accepted _ e))
 
 ---- the places: as many after each call as before
@@ -99,23 +99,23 @@ acknowledge-again o llid other a f e =
 pub fresh-places : (mac clock : ℕ) → length (freshOltOf mac clock .olt .units) ≡ maxUnits
 unfolding freshOltOf oltAnswer newOlt
 fresh-places mac clock =
-    reply-keeps (λ (o : Olt). length (o .units) ≡ maxUnits) _ (newOlt 0 0) nothing (newOlt mac clock) nothing (length-replicate maxUnits noUnit)
+    reply-keeps (λ (o : Olt). length (o .units) ≡ maxUnits) _ (newOlt 0 0) silent (newOlt mac clock) silent (length-replicate maxUnits noUnit)
     (λ a. length-replicate maxUnits noUnit)
 
 pub register-places : (o : Olt) (i : Identity) (trip interval : ℕ) → length (registerOf o i trip interval .olt .units) ≡ length (o .units)
 unfolding registerOf registering oltAnswer
 register-places o i trip interval =
-    reply-keeps (λ (p : Olt). length (p .units) ≡ length (o .units)) _ o nothing _ nothing refl (λ a. more-places o (freshUnit i trip interval))
+    reply-keeps (λ (p : Olt). length (p .units) ≡ length (o .units)) _ o silent _ silent refl (λ a. more-places o (freshUnit i trip interval))
 
 pub advance-places : (o : Olt) (n : ℕ) → length (advanceOltOf o n .olt .units) ≡ length (o .units)
 unfolding advanceOltOf advancingOlt oltAnswer oltAdvanced
 advance-places o n =
-    reply-keeps (λ (p : Olt). length (p .units) ≡ length (o .units)) _ o nothing _ nothing refl
+    reply-keeps (λ (p : Olt). length (p .units) ≡ length (o .units)) _ o silent _ silent refl
     (λ a. length-first (unitAdvanced n) (o .count) (o .units))
 
 pub capture-places : (o : Olt) (llid : ℕ) → length (captureOf o llid .olt .units) ≡ length (o .units)
 unfolding captureOf oltAnswer
-capture-places o llid = lift-beside o nothing Accepted llid captureUnit .places
+capture-places o llid = lift-beside o silent Accepted llid captureUnit .places
 
 pub clock-send-places : (o : Olt) (llid : ℕ) → length (clockSendOf o llid .olt .units) ≡ length (o .units)
 unfolding clockSendOf clockSent
@@ -130,25 +130,25 @@ retry-places o llid = ap (λ (p : Olt). length (p .units)) (retry-same o llid)
 
 pub acknowledge-places : (o : Olt) (llid : ℕ) (a : Acknowledgement) → length (acknowledgeOf o llid a .olt .units) ≡ length (o .units)
 unfolding acknowledgeOf oltAnswer
-acknowledge-places o llid a = lift-beside o nothing Accepted llid (acknowledgeUnit a) .places
+acknowledge-places o llid a = lift-beside o silent Accepted llid (acknowledgeUnit a) .places
 
 ---- refused: the very OLT that was lent, and nothing
 
 pub fresh-refused : (mac clock : ℕ) → (freshOltOf mac clock .number ≡ 0 → ⊥) → freshOltOf mac clock .olt ≡ newOlt 0 0
 unfolding freshOltOf oltAnswer
-fresh-refused mac clock n = number-refused (newOlt 0 0) nothing _ (λ x e. reply-untouched _ (newOlt 0 0) nothing _ nothing x e) n .end
+fresh-refused mac clock n = number-refused (newOlt 0 0) silent _ (λ x e. reply-untouched _ (newOlt 0 0) silent _ silent x e) n .end
 
 pub register-refused : (o : Olt) (i : Identity) (trip interval : ℕ) → (registerOf o i trip interval .number ≡ 0 → ⊥) → registerOf o i trip interval .olt ≡ o
 unfolding registerOf registering oltAnswer
-register-refused o i trip interval n = number-refused o nothing _ (λ x e. reply-untouched _ o nothing _ nothing x e) n .end
+register-refused o i trip interval n = number-refused o silent _ (λ x e. reply-untouched _ o silent _ silent x e) n .end
 
 pub advance-olt-refused : (o : Olt) (n : ℕ) → (advanceOltOf o n .number ≡ 0 → ⊥) → advanceOltOf o n .olt ≡ o
 unfolding advanceOltOf advancingOlt oltAnswer
-advance-olt-refused o n h = number-refused o nothing _ (λ x e. reply-untouched _ o nothing _ nothing x e) h .end
+advance-olt-refused o n h = number-refused o silent _ (λ x e. reply-untouched _ o silent _ silent x e) h .end
 
 pub capture-refused : (o : Olt) (llid : ℕ) → (captureOf o llid .number ≡ 0 → ⊥) → captureOf o llid .olt ≡ o
 unfolding captureOf oltAnswer
-capture-refused o llid n = number-refused o nothing _ (lift-untouched o nothing Accepted llid captureUnit) n .end
+capture-refused o llid n = number-refused o silent _ (lift-untouched o silent Accepted llid captureUnit) n .end
 
 pub clock-send-refused : (o : Olt) (llid : ℕ) → (clockSendOf o llid .number ≡ 0 → ⊥)
     → (clockSendOf o llid .olt ≡ o) × (clockSendOf o llid .message ≡ noStamps)
@@ -172,4 +172,4 @@ retry-refused o llid n =
 
 pub acknowledge-refused : (o : Olt) (llid : ℕ) (a : Acknowledgement) → (acknowledgeOf o llid a .number ≡ 0 → ⊥) → acknowledgeOf o llid a .olt ≡ o
 unfolding acknowledgeOf oltAnswer
-acknowledge-refused o llid a n = number-refused o nothing _ (lift-untouched o nothing Accepted llid (acknowledgeUnit a)) n .end
+acknowledge-refused o llid a n = number-refused o silent _ (lift-untouched o silent Accepted llid (acknowledgeUnit a)) n .end

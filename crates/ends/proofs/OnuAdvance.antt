@@ -10,7 +10,7 @@ use Rattle.octets.proofs.Choice.{both-left, both-right, both-true, pick-true, p
 use Rattle.refusal.specs.declared.Verdict.the-variants.{Accepted}
 use Rattle.clock.specs.Ticks.{maxTick, localTurn, advanced, localAdvanced}
 use Rattle.clock.proofs.Ticks.{advanced-below, advanced-sum, localAdvanced-sum}
-use Rattle.ends.specs.Replies.{isUp, Nothing, nothing, Reply}
+use Rattle.ends.specs.Replies.{isUp, Silence, silent, Reply}
 use Rattle.ends.specs.Validity.{validOnuClock, validOnu}
 use Rattle.ends.specs.OnuCalls.{onuAnswer, onuClockAdvanced, onuAdvanced, advancingOnu, advanceOnuOf}
 use Rattle.ends.specs.declared.OnuClock.{OnuClock}
@@ -70,22 +70,22 @@ onu-advanced-valid o n h v =
 pub advance-onu-valid : (o : Onu) (n : ℕ) → validOnu o ≡ true → validOnu (advanceOnuOf o n .onu) ≡ true
 unfolding advanceOnuOf advancingOnu onuAnswer
 advance-onu-valid o n v =
-    onu-keeps (λ (p : Onu). validOnu p ≡ true) o nothing _ _ nothing v (λ w a. onu-advanced-valid o n (advance-accepted (o .tick) n a) w)
+    onu-keeps (λ (p : Onu). validOnu p ≡ true) o silent _ _ silent v (λ w a. onu-advanced-valid o n (advance-accepted (o .tick) n a) w)
 
 -- whenever the sum is accepted, an advance by m and then one by n give the whole reply of an advance by m + n
 pub advancing-onu-sum : (o : Onu) (m n : ℕ) → advancingOnu o (m + n) .verdict ≡ Accepted → advancingOnu (advancingOnu o m .end) n ≡ advancingOnu o (m + n)
 unfolding advancingOnu onuAdvanced
 advancing-onu-sum o m n e =
-    let a = onu-accepted o nothing _ _ nothing e in
+    let a = onu-accepted o silent _ _ silent e in
     let v = a .0 in
     let h : o .tick + (m + n) ≤ maxTick = advance-accepted (o .tick) (m + n) (a .1) in
     let k : o .tick + m ≤ maxTick = omega arith in
     let first : advancingOnu o m .end ≡ onuAdvanced o m =
-    ap (λ (r : Reply Onu Nothing). r .end) (onu-accepts o nothing _ (onuAdvanced o m) nothing v (advance-accepts (o .tick) m k)) in
+    ap (λ (r : Reply Onu Silence). r .end) (onu-accepts o silent _ (onuAdvanced o m) silent v (advance-accepts (o .tick) m k)) in
     ap (λ (p : Onu). advancingOnu p n) first
-    ∙ onu-accepts (onuAdvanced o m) nothing _ _ nothing (onu-advanced-valid o m k v) (advance-accepts (onuAdvanced o m .tick) n (omega arith))
-    ∙ ap (λ (p : Onu). record { verdict = Accepted; end = p; handed = nothing }) (onu-sum m n o)
-    ∙ sym (onu-accepts o nothing _ (onuAdvanced o (m + n)) nothing v (a .1))
+    ∙ onu-accepts (onuAdvanced o m) silent _ _ silent (onu-advanced-valid o m k v) (advance-accepts (onuAdvanced o m .tick) n (omega arith))
+    ∙ ap (λ (p : Onu). record { verdict = Accepted; end = p; handed = silent }) (onu-sum m n o)
+    ∙ sym (onu-accepts o silent _ (onuAdvanced o (m + n)) silent v (a .1))
 
 pub advance-onu-sum : (o : Onu) (m n : ℕ) → advanceOnuOf o (m + n) .number ≡ 0 → advanceOnuOf (advanceOnuOf o m .onu) n ≡ advanceOnuOf o (m + n)
 unfolding advanceOnuOf onuAnswer

@@ -15,7 +15,7 @@ use Rattle.clock.specs.Ticks.{clockTurn, localTurn, localOf}
 use Rattle.clock.specs.Stamping.{raiseOf, movedBy, raisedTo}
 use Rattle.clock.specs.declared.Stamps.{Stamps}
 use Rattle.clock.proofs.Ticks.{advanced-below}
-use Rattle.ends.specs.Replies.{Nothing, nothing, Reply}
+use Rattle.ends.specs.Replies.{Silence, silent, Reply}
 use Rattle.ends.specs.Keys.{noSlots}
 use Rattle.ends.specs.Identities.{noIdentity, distinct}
 use Rattle.ends.specs.Records.{newOnu, withOnuClock}
@@ -94,15 +94,15 @@ zeros-invalid = both-false-left _ (kept-valid noIdentity ∙ none-invalid)
 pub fresh-onu-valid : (i : Identity) (oltmac time : ℕ) → freshOnuOf i oltmac time .number ≡ 0 → validOnu (freshOnuOf i oltmac time .onu) ≡ true
 unfolding freshOnuOf onuAnswer
 fresh-onu-valid i oltmac time e =
-    let a = sym (reply-verdict _ (newOnu noIdentity 0 0) nothing (newOnu i oltmac time) nothing) ∙ number-accepted _ e in
-    ap (λ (r : Reply Onu Nothing). validOnu (r .end)) (reply-accepted _ (newOnu noIdentity 0 0) nothing (newOnu i oltmac time) nothing a)
+    let a = sym (reply-verdict _ (newOnu noIdentity 0 0) silent (newOnu i oltmac time) silent) ∙ number-accepted _ e in
+    ap (λ (r : Reply Onu Silence). validOnu (r .end)) (reply-accepted _ (newOnu noIdentity 0 0) silent (newOnu i oltmac time) silent a)
     ∙ new-onu-valid i oltmac time a
 
 pub fresh-onu-refused : (i : Identity) (oltmac time : ℕ) → (freshOnuOf i oltmac time .number ≡ 0 → ⊥)
     → freshOnuOf i oltmac time .onu ≡ newOnu noIdentity 0 0
 unfolding freshOnuOf onuAnswer
 fresh-onu-refused i oltmac time n =
-    number-refused (newOnu noIdentity 0 0) nothing _ (λ x e. reply-untouched _ (newOnu noIdentity 0 0) nothing _ nothing x e) n .end
+    number-refused (newOnu noIdentity 0 0) silent _ (λ x e. reply-untouched _ (newOnu noIdentity 0 0) silent _ silent x e) n .end
 
 ---- clock message
 
@@ -143,7 +143,7 @@ clock-message-valid o s v =
 
 pub advance-onu-refused : (o : Onu) (n : ℕ) → (advanceOnuOf o n .number ≡ 0 → ⊥) → advanceOnuOf o n .onu ≡ o
 unfolding advanceOnuOf advancingOnu onuAnswer
-advance-onu-refused o n h = number-refused o nothing _ (onu-untouched o nothing _ _ nothing) h .end
+advance-onu-refused o n h = number-refused o silent _ (onu-untouched o silent _ _ silent) h .end
 
 pub clock-message-refused : (o : Onu) (s : Stamps) → (clockMessageAt o s .number ≡ 0 → ⊥)
     → (clockMessageAt o s .onu ≡ o) × (clockMessageAt o s .acknowledgement ≡ noAcknowledgement)

@@ -15,7 +15,7 @@ use Rattle.octets.proofs.Tests.{all-append}
 use Rattle.refusal.specs.declared.Verdict.the-variants.{Accepted}
 use Rattle.clock.specs.Ticks.{maxRoundTrip}
 use Rattle.ends.specs.Limits.{maxUnits, maxLlids}
-use Rattle.ends.specs.Replies.{Nothing, nothing, Reply}
+use Rattle.ends.specs.Replies.{Silence, silent, Reply}
 use Rattle.ends.specs.Timers.{validInterval}
 use Rattle.ends.specs.Identities.{distinct, meets, llidsOf, kept, validIdentity, has}
 use Rattle.ends.specs.Records.{freshUnit}
@@ -125,7 +125,7 @@ registered-valid o i trip interval r v =
 pub register-valid : (o : Olt) (i : Identity) (trip interval : ℕ) → validOlt o ≡ true → validOlt (registerOf o i trip interval .olt) ≡ true
 unfolding registerOf registering oltAnswer
 register-valid o i trip interval v =
-    reply-keeps (λ (p : Olt). validOlt p ≡ true) _ o nothing _ nothing v
+    reply-keeps (λ (p : Olt). validOlt p ≡ true) _ o silent _ silent v
     (λ a. registered-valid o i trip interval (register-accepted o i trip interval (refuse-accepted _ _ _ a .1)) v)
 
 ---- who is found
@@ -136,9 +136,9 @@ pub register-registered : (o : Olt) (i : Identity) (trip interval : ℕ) → len
 unfolding registerOf registering oltAnswer
 register-registered o i trip interval h e =
     let v = number-accepted _ e in
-    let a = sym (reply-verdict _ o nothing (withOneMore o (freshUnit i trip interval)) nothing) ∙ v in
+    let a = sym (reply-verdict _ o silent (withOneMore o (freshUnit i trip interval)) silent) ∙ v in
     let r = register-accepted o i trip interval (refuse-accepted _ _ _ a .1) in
-    ap (λ (r : Reply Olt Nothing). registered (r .end)) (reply-accepted _ o nothing (withOneMore o (freshUnit i trip interval)) nothing a)
+    ap (λ (r : Reply Olt Silence). registered (r .end)) (reply-accepted _ o silent (withOneMore o (freshUnit i trip interval)) silent a)
     ∙ more-registered o (freshUnit i trip interval) (omega (arith, r .room))
 
 -- it is found by each of its LLIDs, which were found nowhere before

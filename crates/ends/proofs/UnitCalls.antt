@@ -17,7 +17,7 @@ use Rattle.clock.specs.Ticks.{ticksPerSecond, clockTurn, rewound}
 use Rattle.clock.specs.Stamping.{capturedAt}
 use Rattle.clock.proofs.Ticks.{advanced-mod, rewound-at}
 use Rattle.ends.specs.Limits.{maxKeyNumber}
-use Rattle.ends.specs.Replies.{Nothing, nothing}
+use Rattle.ends.specs.Replies.{Silence, silent}
 use Rattle.ends.specs.Keys.{keyIn}
 use Rattle.ends.specs.Messages.{clockKind, keyKind}
 use Rattle.ends.specs.Records.{withKeys, withConfirmation, withClock, withTimer}
@@ -244,14 +244,14 @@ unfolding acknowledgeUnit pick
 clock-kind a s u e = rw e
 
 pub no-kind : (a : Acknowledgement) (s : Shared) (u : UnitRecord) → eqb (a .kind) clockKind ≡ false → eqb (a .kind) keyKind ≡ false
-    → acknowledgeUnit a s u ≡ outcome s (Refused NothingOutstanding) u nothing
+    → acknowledgeUnit a s u ≡ outcome s (Refused NothingOutstanding) u silent
 unfolding acknowledgeUnit
 no-kind a s u e f = pick-false _ _ e ∙ pick-false _ _ f
 
 -- an acknowledgement of either kind, or of neither
-chosen : Acknowledgement → Bool → Bool → Shared → UnitRecord → Outcome Nothing
+chosen : Acknowledgement → Bool → Bool → Shared → UnitRecord → Outcome Silence
 chosen a t k s u =
-    pick t (clockAcknowledgedUnit s u) (pick k (keyAcknowledgedUnit (a .number) s u) (outcome s (Refused NothingOutstanding) u nothing))
+    pick t (clockAcknowledgedUnit s u) (pick k (keyAcknowledgedUnit (a .number) s u) (outcome s (Refused NothingOutstanding) u silent))
 
 pub acknowledge-keeps : (a : Acknowledgement) → Keeps (acknowledgeUnit a)
 unfolding acknowledgeUnit outcome pick chosen

@@ -13,7 +13,7 @@ use Rattle.refusal.specs.declared.Verdict.the-variants.{Accepted}
 use Rattle.clock.specs.Ticks.{clockTurn, maxRoundTrip, advanced}
 use Rattle.clock.specs.declared.Stamps.{Stamps}
 use Rattle.ends.specs.Limits.{maxUnits}
-use Rattle.ends.specs.Replies.{refuseIf, Nothing, nothing, Reply, reply, advanceVerdict}
+use Rattle.ends.specs.Replies.{refuseIf, Silence, silent, Reply, reply, advanceVerdict}
 use Rattle.ends.specs.Timers.{validInterval}
 use Rattle.ends.specs.Messages.{noStamps, noKeyMessage}
 use Rattle.ends.specs.Identities.{distinct, meets, llidsOf, validMac, validIdentity}
@@ -31,7 +31,7 @@ use Rattle.ends.specs.declared.OltAnswer.{OltAnswer}
 use Rattle.ends.specs.declared.ClockSent.{ClockSent}
 use Rattle.ends.specs.declared.KeySent.{KeySent}
 
-unfoldable pub oltAnswer : Reply Olt Nothing → OltAnswer
+unfoldable pub oltAnswer : Reply Olt Silence → OltAnswer
 oltAnswer r = record { number = verdictNumber (r .verdict); olt = r .end }
 
 unfoldable pub clockSent : Reply Olt Stamps → ClockSent
@@ -44,7 +44,7 @@ keySent r = record { number = verdictNumber (r .verdict); olt = r .end; message 
 unfoldable pub freshOltOf : ℕ → ℕ → OltAnswer
 freshOltOf mac clock =
     oltAnswer
-    (reply (refuseIf (not (both (validMac mac) (ltb clock clockTurn))) OutOfRange Accepted) (newOlt 0 0) nothing (newOlt mac clock) nothing)
+    (reply (refuseIf (not (both (validMac mac) (ltb clock clockTurn))) OutOfRange Accepted) (newOlt 0 0) silent (newOlt mac clock) silent)
 
 ---- register: 1, 3, 4
 
@@ -57,9 +57,9 @@ registerVerdict o i trip interval =
     (refuseIf (either (not (distinct (llidsOf i))) (meets (llidsOf i) (tableLlids (registered o)))) RepeatedLlid
     (refuseIf (leb maxUnits (o .count)) TableFull Accepted))
 
-unfoldable pub registering : Olt → Identity → ℕ → ℕ → Reply Olt Nothing
+unfoldable pub registering : Olt → Identity → ℕ → ℕ → Reply Olt Silence
 registering o i trip interval =
-    reply (refuseIf (not (validOlt o)) OutOfRange (registerVerdict o i trip interval)) o nothing (withOneMore o (freshUnit i trip interval)) nothing
+    reply (refuseIf (not (validOlt o)) OutOfRange (registerVerdict o i trip interval)) o silent (withOneMore o (freshUnit i trip interval)) silent
 
 unfoldable pub registerOf : Olt → Identity → ℕ → ℕ → OltAnswer
 registerOf o i trip interval = oltAnswer (registering o i trip interval)
@@ -77,8 +77,8 @@ oltAdvanced o n =
       units = map (unitAdvanced n) (registered o) ++ drop (o .count) (o .units);
     }
 
-unfoldable pub advancingOlt : Olt → ℕ → Reply Olt Nothing
-advancingOlt o n = reply (refuseIf (not (validOlt o)) OutOfRange (advanceVerdict (o .shared .tick) n)) o nothing (oltAdvanced o n) nothing
+unfoldable pub advancingOlt : Olt → ℕ → Reply Olt Silence
+advancingOlt o n = reply (refuseIf (not (validOlt o)) OutOfRange (advanceVerdict (o .shared .tick) n)) o silent (oltAdvanced o n) silent
 
 unfoldable pub advanceOltOf : Olt → ℕ → OltAnswer
 advanceOltOf o n = oltAnswer (advancingOlt o n)
@@ -86,7 +86,7 @@ advanceOltOf o n = oltAnswer (advancingOlt o n)
 ---- calls on one unit: 2, then the unit's own
 
 unfoldable pub captureOf : Olt → ℕ → OltAnswer
-captureOf o llid = oltAnswer (lift o nothing Accepted llid captureUnit)
+captureOf o llid = oltAnswer (lift o silent Accepted llid captureUnit)
 
 unfoldable pub clockSendOf : Olt → ℕ → ClockSent
 clockSendOf o llid = clockSent (lift o noStamps Accepted llid clockSendUnit)
@@ -98,4 +98,4 @@ unfoldable pub retryOf : Olt → ℕ → KeySent
 retryOf o llid = keySent (lift o noKeyMessage Accepted llid (retryUnit llid))
 
 unfoldable pub acknowledgeOf : Olt → ℕ → Acknowledgement → OltAnswer
-acknowledgeOf o llid a = oltAnswer (lift o nothing Accepted llid (acknowledgeUnit a))
+acknowledgeOf o llid a = oltAnswer (lift o silent Accepted llid (acknowledgeUnit a))

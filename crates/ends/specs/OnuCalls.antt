@@ -14,7 +14,7 @@ use Rattle.clock.specs.Ticks.{clockTurn, localTurn, advanced, localAdvanced, lo
 use Rattle.clock.specs.Stamping.{raisedTo}
 use Rattle.clock.specs.declared.Stamps.{Stamps}
 use Rattle.ends.specs.Limits.{maxKeyNumber}
-use Rattle.ends.specs.Replies.{isUp, refuseIf, Nothing, nothing, Reply, reply, advanceVerdict}
+use Rattle.ends.specs.Replies.{isUp, refuseIf, Silence, silent, Reply, reply, advanceVerdict}
 use Rattle.ends.specs.Keys.{keyIn, withKey}
 use Rattle.ends.specs.Identities.{noIdentity, distinct, llidsOf, has, validMac, validIdentity}
 use Rattle.ends.specs.Records.{newOnu, withOnuClock, withOnuKeys}
@@ -29,7 +29,7 @@ use Rattle.ends.specs.declared.Acknowledgement.{Acknowledgement}
 use Rattle.ends.specs.declared.OnuAnswer.{OnuAnswer}
 use Rattle.ends.specs.declared.OnuAcknowledged.{OnuAcknowledged}
 
-unfoldable pub onuAnswer : Reply Onu Nothing → OnuAnswer
+unfoldable pub onuAnswer : Reply Onu Silence → OnuAnswer
 onuAnswer r = record { number = verdictNumber (r .verdict); onu = r .end }
 
 unfoldable pub onuAcknowledged : Reply Onu Acknowledgement → OnuAcknowledged
@@ -47,7 +47,7 @@ freshOnuVerdict i oltmac time =
     (refuseIf (not (distinct (llidsOf i))) RepeatedLlid Accepted)
 
 unfoldable pub freshOnuOf : Identity → ℕ → ℕ → OnuAnswer
-freshOnuOf i oltmac time = onuAnswer (reply (freshOnuVerdict i oltmac time) (newOnu noIdentity 0 0) nothing (newOnu i oltmac time) nothing)
+freshOnuOf i oltmac time = onuAnswer (reply (freshOnuVerdict i oltmac time) (newOnu noIdentity 0 0) silent (newOnu i oltmac time) silent)
 
 ---- advance: 17
 
@@ -68,8 +68,8 @@ onuAdvanced o n =
       channels = o .channels;
     }
 
-unfoldable pub advancingOnu : Onu → ℕ → Reply Onu Nothing
-advancingOnu o n = onuReply o nothing (advanceVerdict (o .tick) n) (onuAdvanced o n) nothing
+unfoldable pub advancingOnu : Onu → ℕ → Reply Onu Silence
+advancingOnu o n = onuReply o silent (advanceVerdict (o .tick) n) (onuAdvanced o n) silent
 
 unfoldable pub advanceOnuOf : Onu → ℕ → OnuAnswer
 advanceOnuOf o n = onuAnswer (advancingOnu o n)

@@ -18,8 +18,8 @@ refuseIf true r v = Refused r
 refuseIf false r v = v
 
 -- a call that hands over nothing hands over this
-pub data Nothing : Type 0 where
-  nothing : Nothing
+pub data Silence : Type 0 where
+  silent : Silence
 
 -- a call's verdict, the end that it leaves and what it hands over
 pub record Reply (E H : Type 0) : Type 0 where

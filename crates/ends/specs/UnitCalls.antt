@@ -12,7 +12,7 @@ use Rattle.clock.specs.Ticks.{ticksPerSecond, rewound}
 use Rattle.clock.specs.Stamping.{capturedAt}
 use Rattle.clock.specs.declared.Stamps.{Stamps}
 use Rattle.ends.specs.Limits.{maxKeyNumber}
-use Rattle.ends.specs.Replies.{isUp, refuseIf, Nothing, nothing}
+use Rattle.ends.specs.Replies.{isUp, refuseIf, Silence, silent}
 use Rattle.ends.specs.Timers.{timerAdvanced}
 use Rattle.ends.specs.Keys.{keyIn, withKey}
 use Rattle.ends.specs.Messages.{clockKind, keyKind}
@@ -35,8 +35,8 @@ unitAdvanced n u = withKeys u (withTimer (u .keys) (timerAdvanced (u .keys .time
 unfoldable pub clockCaptured : UnitClock → ℕ → UnitClock
 clockCaptured c tick = record { trip = c .trip; captured = 1; tick = tick; sent = c .sent; acknowledged = c .acknowledged }
 
-unfoldable pub captureUnit : Shared → UnitRecord → Outcome Nothing
-captureUnit s u = outcome s Accepted (withClock u (clockCaptured (u .clock) (s .tick))) nothing
+unfoldable pub captureUnit : Shared → UnitRecord → Outcome Silence
+captureUnit s u = outcome s Accepted (withClock u (clockCaptured (u .clock) (s .tick))) silent
 
 ---- clock send: 8, 16
 
@@ -93,7 +93,7 @@ retryUnit llid s u = outcome s (retryVerdict (u .keys)) u (keyMessageOf llid (u 
 ---- acknowledgement: 8
 
 -- a clock acknowledgement needs a clock message sent
-unfoldable pub clockAcknowledgedUnit : Shared → UnitRecord → Outcome Nothing
+unfoldable pub clockAcknowledgedUnit : Shared → UnitRecord → Outcome Silence
 clockAcknowledgedUnit s u =
     outcome s (refuseIf (not (isUp (u .clock .sent))) NothingOutstanding Accepted)
     (withClock u
@@ -104,17 +104,17 @@ clockAcknowledgedUnit s u =
       sent = u .clock .sent;
       acknowledged = 1;
     }))
-    nothing
+    silent
 
 -- a key acknowledgement names number O, which is 1 or more
-unfoldable pub keyAcknowledgedUnit : ℕ → Shared → UnitRecord → Outcome Nothing
+unfoldable pub keyAcknowledgedUnit : ℕ → Shared → UnitRecord → Outcome Silence
 keyAcknowledgedUnit number s u =
     outcome s (refuseIf (not (both (leb 1 number) (eqb number (u .keys .offered)))) NothingOutstanding Accepted)
     (withConfirmation u (record { confirmed = u .confirmation .confirmed; acknowledged = 1 }))
-    nothing
+    silent
 
 -- by its kind; one of neither kind fits nothing
-unfoldable pub acknowledgeUnit : Acknowledgement → Shared → UnitRecord → Outcome Nothing
+unfoldable pub acknowledgeUnit : Acknowledgement → Shared → UnitRecord → Outcome Silence
 acknowledgeUnit a s u =
     pick (eqb (a .kind) clockKind) (clockAcknowledgedUnit s u)
-    (pick (eqb (a .kind) keyKind) (keyAcknowledgedUnit (a .number) s u) (outcome s (Refused NothingOutstanding) u nothing))
+    (pick (eqb (a .kind) keyKind) (keyAcknowledgedUnit (a .number) s u) (outcome s (Refused NothingOutstanding) u silent))

@@ -14,7 +14,7 @@ use Rattle.octets.proofs.Maps.{length-first, getD-first, map-at}
 use Rattle.clock.specs.Ticks.{maxTick, localTurn, advanced, localAdvanced}
 use Rattle.clock.specs.Stamping.{movedBy}
 use Rattle.clock.proofs.Aligned.{aligned-moved}
-use Rattle.ends.specs.Replies.{isUp, Nothing, nothing, Reply, advanceVerdict}
+use Rattle.ends.specs.Replies.{isUp, Silence, silent, Reply, advanceVerdict}
 use Rattle.ends.specs.Identities.{noIdentity}
 use Rattle.ends.specs.Records.{withKeys, withTimer, newOnu}
 use Rattle.ends.specs.Timers.{timerAdvanced}
@@ -202,14 +202,14 @@ common-advance-keeps w now n l o h c =
 pub onu-advances : (o : Onu) (n : ℕ) → validOnu o ≡ true → o .tick + n ≤ maxTick → advanceOnuOf o n .onu ≡ onuAdvanced o n
 unfolding advanceOnuOf advancingOnu onuAnswer
 onu-advances o n v h =
-    ap (λ (r : Reply Onu Nothing). r .end) (onu-accepts o nothing (advanceVerdict (o .tick) n) (onuAdvanced o n) nothing v (advance-accepts (o .tick) n h))
+    ap (λ (r : Reply Onu Silence). r .end) (onu-accepts o silent (advanceVerdict (o .tick) n) (onuAdvanced o n) silent v (advance-accepts (o .tick) n h))
 
 -- and past it, it stays
 pub onu-stays : (o : Onu) (n : ℕ) → maxTick < o .tick + n → advanceOnuOf o n .onu ≡ o
 unfolding advanceOnuOf advancingOnu onuAnswer
 onu-stays o n h =
     advance-onu-refused o n
-    (λ e. omega (arith, advance-accepted (o .tick) n (onu-accepted o nothing (advanceVerdict (o .tick) n) (onuAdvanced o n) nothing (number-accepted _ e) .1)))
+    (λ e. omega (arith, advance-accepted (o .tick) n (onu-accepted o silent (advanceVerdict (o .tick) n) (onuAdvanced o n) silent (number-accepted _ e) .1)))
 
 -- the unit at a place in use
 pub advanced-unit : (t : Olt) (n i : ℕ) → i < t .count → i < length (t .units) → unitAt (oltAdvanced t n) i ≡ unitAdvanced n (unitAt t i)

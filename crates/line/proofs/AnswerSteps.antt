@@ -13,7 +13,7 @@ use Rattle.refusal.specs.declared.Verdict.the-variants.{Accepted}
 use Rattle.ends.specs.Lift.{Outcome, outcome}
 use Rattle.ends.specs.Messages.{clockKind, keyKind}
 use Rattle.ends.specs.Records.{withConfirmation, withClock}
-use Rattle.ends.specs.Replies.{Nothing}
+use Rattle.ends.specs.Replies.{Silence}
 use Rattle.ends.specs.UnitCalls.{keyAcknowledgedUnit, clockAcknowledgedUnit, acknowledgeUnit}
 use Rattle.ends.specs.declared.Acknowledgement.{Acknowledgement}
 use Rattle.ends.specs.declared.Onu.{Onu}
@@ -107,7 +107,7 @@ module _ (w : Setting) (sh : Shared) (now : ℕ) (l : Lane) (u : UnitRecord) (o 
   unfolding keyAcknowledgedUnit outcome
   key-answer-keeps a x at j kind m e accepted =
       let same = key-kind a sh u kind in
-      let last = key-acknowledged-accepted (a .number) sh u (sym (ap (λ (c : Outcome Nothing). c .verdict) same) ∙ accepted) .1 in
+      let last = key-acknowledged-accepted (a .number) sh u (sym (ap (λ (c : Outcome Silence). c .verdict) same) ∙ accepted) .1 in
       rw (same, lane-marked a l kind (last ∙ j .numbers .listed)) (marked-keeps j (rw last at (handed-over a x j m e .1 kind)))
 
   -- the unit of an accepted clock acknowledgement is synced
@@ -153,4 +153,4 @@ module _ (w : Setting) (sh : Shared) (now : ℕ) (l : Lane) (u : UnitRecord) (o 
         → Joined w sh now (laneAcknowledged a l) (acknowledgeUnit a sh u .unit) o
     by-kind true t p q = clock-answer-keeps a x at j (eqb-true _ _ p) m e accepted
     by-kind false true p q = key-answer-keeps a x at j (eqb-true _ _ q) m e accepted
-    by-kind false false p q = refused-accepts NothingOutstanding (sym (ap (λ (c : Outcome Nothing). c .verdict) (no-kind a sh u p q)) ∙ accepted)
+    by-kind false false p q = refused-accepts NothingOutstanding (sym (ap (λ (c : Outcome Silence). c .verdict) (no-kind a sh u p q)) ∙ accepted)

@@ -10,7 +10,7 @@ use Rattle.octets.proofs.Members.{mem-at}
 use Rattle.refusal.specs.declared.Verdict.the-variants.{Accepted}
 use Rattle.sealing.specs.Payload.{eqsOf}
 use Rattle.ends.specs.Records.{withChannels}
-use Rattle.ends.specs.Replies.{nothing}
+use Rattle.ends.specs.Replies.{silent}
 use Rattle.ends.specs.Table.{unitAt}
 use Rattle.ends.specs.Lift.{outcome, lift}
 use Rattle.ends.specs.Headers.{noPassage, noSending}
@@ -49,7 +49,7 @@ use Rattle.line.proofs.LiftSteps.{keys-named, call-right}
 pub capture-right : (w : Setting) (s : State) (llid : ℕ) → Invariant w s → Fits w s (capture llid) → Invariant w (step s (capture llid))
 unfolding step captureOf oltAnswer captureUnit outcome withChannels laneCaptured
 capture-right w s llid i fits =
-    call-right w s nothing Accepted llid captureUnit (laneCaptured (s .history .now)) i
+    call-right w s silent Accepted llid captureUnit (laneCaptured (s .history .now)) i
     (record {
       valid = capture-valid (s .olt) llid (i .valid);
       rises = λ u a k. omega arith;
@@ -103,7 +103,7 @@ answer-right w s u k llid i d =
     let a = answerAt s u k .acknowledgement in
     let held = busy-held w s (λ (l : Lane). length (l .transit .answered)) u k i refl (λ o h. ap length (h .answered)) (d .some) in
     let found = held-found w s (laneAt s u .entry .place) u llid i held (d .named) in
-    call-right w s nothing Accepted llid (acknowledgeUnit a) (laneAcknowledged a) i
+    call-right w s silent Accepted llid (acknowledgeUnit a) (laneAcknowledged a) i
     (record {
       valid = acknowledge-valid (s .olt) llid a (i .valid);
       rises = λ x y n. rw (acknowledged-channels a (s .olt .shared) x) (omega arith);

@@ -16,7 +16,7 @@ use Rattle.ends.specs.Identities.{has, kept, validIdentity}
 use Rattle.ends.specs.Records.{freshUnit}
 use Rattle.ends.specs.Timers.{freshTimer, validInterval}
 use Rattle.ends.specs.OltCalls.{oltAnswer, registering, registerOf}
-use Rattle.ends.specs.Replies.{nothing}
+use Rattle.ends.specs.Replies.{silent}
 use Rattle.ends.specs.Table.{unitAt, withOneMore}
 use Rattle.ends.specs.declared.Identity.{Identity}
 use Rattle.ends.specs.declared.Onu.{Onu}
@@ -125,8 +125,8 @@ register-made : (o : Olt) (i : Identity) (trip interval : ℕ) → registerOf o 
     → (registerOf o i trip interval ≡ record { number = 0; olt = withOneMore o (freshUnit i trip interval) }) × Registers o i trip interval
 unfolding registerOf registering oltAnswer
 register-made o i trip interval e =
-    let a = sym (reply-verdict _ o nothing (withOneMore o (freshUnit i trip interval)) nothing) ∙ number-accepted _ e in (
-      ap oltAnswer (reply-accepted _ o nothing (withOneMore o (freshUnit i trip interval)) nothing a),
+    let a = sym (reply-verdict _ o silent (withOneMore o (freshUnit i trip interval)) silent) ∙ number-accepted _ e in (
+      ap oltAnswer (reply-accepted _ o silent (withOneMore o (freshUnit i trip interval)) silent a),
       register-accepted o i trip interval (refuse-accepted _ _ _ a .1),
     )
 

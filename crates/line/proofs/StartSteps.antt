@@ -10,7 +10,7 @@ use borrow.Author.Tests.{ltb-true, not-false}
 use Rattle.octets.proofs.Choice.{both-left, both-right, true-false}
 use Rattle.refusal.specs.declared.Verdict.the-variants.{Accepted}
 use Rattle.clock.specs.Ticks.{clockTurn, localTurn}
-use Rattle.ends.specs.Replies.{Nothing, nothing, Reply}
+use Rattle.ends.specs.Replies.{Silence, silent, Reply}
 use Rattle.ends.specs.Identities.{kept, noIdentity, validIdentity}
 use Rattle.ends.specs.Records.{newOlt, newOnu}
 use Rattle.ends.specs.OltCalls.{oltAnswer, freshOltOf}
@@ -38,9 +38,9 @@ pub record OltMade (mac clock : ℕ) : Type 0 where
 pub olt-made : (mac clock : ℕ) → freshOltOf mac clock .number ≡ 0 → OltMade mac clock
 unfolding freshOltOf oltAnswer
 olt-made mac clock e =
-    let a = sym (reply-verdict _ (newOlt 0 0) nothing (newOlt mac clock) nothing) ∙ number-accepted _ e in
+    let a = sym (reply-verdict _ (newOlt 0 0) silent (newOlt mac clock) silent) ∙ number-accepted _ e in
     record {
-      made = ap (λ (r : Reply Olt Nothing). r .end) (reply-accepted _ (newOlt 0 0) nothing (newOlt mac clock) nothing a);
+      made = ap (λ (r : Reply Olt Silence). r .end) (reply-accepted _ (newOlt 0 0) silent (newOlt mac clock) silent a);
       below = ltb-true _ _ (both-right _ _ (not-false _ (refuse-accepted _ _ _ a .0)));
     }
 
@@ -65,10 +65,10 @@ pub record OnuMade (i : Identity) (oltmac time : ℕ) : Type 0 where
 pub onu-made : (i : Identity) (oltmac time : ℕ) → freshOnuOf i oltmac time .number ≡ 0 → OnuMade i oltmac time
 unfolding freshOnuOf onuAnswer freshOnuVerdict
 onu-made i oltmac time e =
-    let a = sym (reply-verdict (freshOnuVerdict i oltmac time) (newOnu noIdentity 0 0) nothing (newOnu i oltmac time) nothing) ∙ number-accepted _ e in
+    let a = sym (reply-verdict (freshOnuVerdict i oltmac time) (newOnu noIdentity 0 0) silent (newOnu i oltmac time) silent) ∙ number-accepted _ e in
     let v = not-false _ (refuse-accepted _ _ _ a .0) in
     record {
-      made = ap (λ (r : Reply Onu Nothing). r .end) (reply-accepted _ (newOnu noIdentity 0 0) nothing (newOnu i oltmac time) nothing a);
+      made = ap (λ (r : Reply Onu Silence). r .end) (reply-accepted _ (newOnu noIdentity 0 0) silent (newOnu i oltmac time) silent a);
       accepted = a;
       identity = both-left _ _ v;
       below = ltb-true _ _ (both-right _ _ (both-right _ _ v));
@@ -143,5 +143,5 @@ start-right w f =
       paired = length-map (w .sites) freshUnit ∙ sym (length-map (w .sites) freshLane);
       lane = λ u h. lanes-right w (start w .olt) (w .sites) u (newOnu noIdentity 0 0) (f .onus) h;
       apart = λ u v h k a b e. true-false (sym a ∙ unregistered u);
-      keys = λ u v m n h k e. absurd (omega (arith, h, nothing u));
+      keys = λ u v m n h k e. absurd (omega (arith, h, silent u));
     }

@@ -7,7 +7,7 @@ use borrow.Author.Needs.{needs}
 use Rattle.refusal.specs.declared.Verdict.the-variants.{Accepted, Refused}
 use Rattle.ends.specs.Lift.{outcome}
 use Rattle.ends.specs.OltCalls.{acknowledgeOf, oltAnswer}
-use Rattle.ends.specs.Replies.{nothing, reply}
+use Rattle.ends.specs.Replies.{silent, reply}
 use Rattle.ends.specs.Table.{pastUnit}
 use Rattle.ends.specs.UnitCalls.{acknowledgeUnit}
 use Rattle.ends.proofs.UnitCalls.{acknowledged-channels}
@@ -61,18 +61,18 @@ returns : tie.Need-returns
 unfolding acknowledgeOf
 returns c =
     c .refused .ensures
-    ∙ sym (ap oltAnswer (lift-absent (c .before .before .before .before .before .args .t1) nothing Accepted (c .before .before .before .before .before .args .llid) (acknowledgeUnit (c .before .before .before .before .before .args .acknowledgement)) _ (sym (c .before .before .before .before .locate .ensures) ∙ c .before .before .at .given .1)))
+    ∙ sym (ap oltAnswer (lift-absent (c .before .before .before .before .before .args .t1) silent Accepted (c .before .before .before .before .before .args .llid) (acknowledgeUnit (c .before .before .before .before .before .args .acknowledgement)) _ (sym (c .before .before .before .before .locate .ensures) ∙ c .before .before .at .given .1)))
 
 returns-2 : tie.Need-returns-2
 unfolding acknowledgeOf pastUnit
 returns-2 c =
     c .refused2 .ensures
-    ∙ sym (ap oltAnswer (lift-refused (c .before .before .before .before .before .before .before .before .before .before .before .args .t1) nothing Accepted (c .before .before .before .before .before .before .before .before .before .before .before .args .llid) (acknowledgeUnit (c .before .before .before .before .before .before .before .before .before .before .before .args .acknowledgement)) _ _ (sym (c .before .before .before .before .before .before .before .before .before .before .locate .ensures) ∙ c .before .before .before .before .before .before .before .before .at2 .given .1) (sym (c .before .before .before .before .acknowledge-verdict .ensures) ∙ c .before .before .verdict .given .1)))
+    ∙ sym (ap oltAnswer (lift-refused (c .before .before .before .before .before .before .before .before .before .before .before .args .t1) silent Accepted (c .before .before .before .before .before .before .before .before .before .before .before .args .llid) (acknowledgeUnit (c .before .before .before .before .before .before .before .before .before .before .before .args .acknowledgement)) _ _ (sym (c .before .before .before .before .before .before .before .before .before .before .locate .ensures) ∙ c .before .before .before .before .before .before .before .before .at2 .given .1) (sym (c .before .before .before .before .acknowledge-verdict .ensures) ∙ c .before .before .verdict .given .1)))
 
 returns-3 : tie.Need-returns-3
 unfolding acknowledgeOf oltAnswer reply pastUnit
 returns-3 c =
-    let e = lift-accepted (c .before .before .before .before .before .before .before .before .before .before .before .before .before .args .t1) nothing Accepted (c .before .before .before .before .before .before .before .before .before .before .before .before .before .args .llid) (acknowledgeUnit (c .before .before .before .before .before .before .before .before .before .before .before .before .before .args .acknowledgement)) _ (sym (c .before .before .before .before .before .before .before .before .before .before .before .before .locate .ensures) ∙ c .before .before .before .before .before .before .before .before .before .before .at2 .given .1) (sym (c .before .before .before .before .before .before .acknowledge-verdict .ensures) ∙ c .before .before .before .before .enum-told .given .1) in
+    let e = lift-accepted (c .before .before .before .before .before .before .before .before .before .before .before .before .before .args .t1) silent Accepted (c .before .before .before .before .before .before .before .before .before .before .before .before .before .args .llid) (acknowledgeUnit (c .before .before .before .before .before .before .before .before .before .before .before .before .before .args .acknowledgement)) _ (sym (c .before .before .before .before .before .before .before .before .before .before .before .before .locate .ensures) ∙ c .before .before .before .before .before .before .before .before .before .before .at2 .given .1) (sym (c .before .before .before .before .before .before .acknowledge-verdict .ensures) ∙ c .before .before .before .before .enum-told .given .1) in
     rw (c .accepted .ensures, c .before .with-unit .ensures, c .before .before .acknowledged .ensures)
     (sym (ap oltAnswer e ∙ rw (acknowledged-channels (c .before .before .before .before .before .before .before .before .before .before .before .before .before .args .acknowledgement))))
 

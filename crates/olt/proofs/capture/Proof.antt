@@ -7,7 +7,7 @@ use borrow.Author.Needs.{needs}
 use Rattle.refusal.specs.declared.Verdict.the-variants.{Accepted, Refused}
 use Rattle.ends.specs.Lift.{outcome}
 use Rattle.ends.specs.OltCalls.{captureOf, oltAnswer}
-use Rattle.ends.specs.Replies.{nothing, reply}
+use Rattle.ends.specs.Replies.{silent, reply}
 use Rattle.ends.specs.Table.{pastUnit}
 use Rattle.ends.specs.UnitCalls.{captureUnit}
 use Rattle.olt.proofs.Lookup.{Stands, place-stands, lift-absent, lift-accepted}
@@ -48,13 +48,13 @@ returns : tie.Need-returns
 unfolding captureOf
 returns c =
     c .refused .ensures
-    ∙ sym (ap oltAnswer (lift-absent (c .before .before .before .before .before .args .t1) nothing Accepted (c .before .before .before .before .before .args .llid) captureUnit _ (sym (c .before .before .before .before .locate .ensures) ∙ c .before .before .at .given .1)))
+    ∙ sym (ap oltAnswer (lift-absent (c .before .before .before .before .before .args .t1) silent Accepted (c .before .before .before .before .before .args .llid) captureUnit _ (sym (c .before .before .before .before .locate .ensures) ∙ c .before .before .at .given .1)))
 
 returns-2 : tie.Need-returns-2
 unfolding captureOf oltAnswer reply captureUnit outcome pastUnit
 returns-2 c =
     rw (c .accepted .ensures, c .before .with-unit .ensures, c .before .before .captured .ensures)
-    (sym (ap oltAnswer (lift-accepted (c .before .before .before .before .before .before .before .before .args .t1) nothing Accepted (c .before .before .before .before .before .before .before .before .args .llid) captureUnit _ (sym (c .before .before .before .before .before .before .before .locate .ensures) ∙ c .before .before .before .before .before .at2 .given .1) refl)))
+    (sym (ap oltAnswer (lift-accepted (c .before .before .before .before .before .before .before .before .args .t1) silent Accepted (c .before .before .before .before .before .before .before .before .args .llid) captureUnit _ (sym (c .before .before .before .before .before .before .before .locate .ensures) ∙ c .before .before .before .before .before .at2 .given .1) refl)))
 
 pub capture-spec : {M : Type 1} → statement M
 capture-spec =

@@ -1,29 +1,31 @@
 -- Send and receive of the ONU keep it valid, and leave it where they are refused. Assumes nothing.
-use mathlib.Core.Path.{_≡_, refl, sym, _∙_}
+use mathlib.Core.Path.{_≡_, refl}
 use mathlib.Core.Bool.{Bool, true, false}
 use Prim.Native.Nat.{ℕ, _≤_}
 use native.Mathlib.Omega.{arith}
-use Rattle.octets.specs.Choice.{either}
+use borrow.Author.Tests.{lt-leb}
+use Rattle.octets.specs.Choice.{both, either}
 use Rattle.octets.specs.Eqs.{maxEqs}
-use Rattle.octets.proofs.Choice.{both-true, true-false}
+use Rattle.octets.proofs.Choice.{both-true}
 use Rattle.refusal.specs.declared.Refusal.{Refusal}
-use Rattle.refusal.specs.declared.Verdict.the-variants.{Accepted, Refused}
-use Rattle.ends.specs.Occupancy.{upstream}
+use Rattle.refusal.specs.declared.Refusal.the-variants.{OutOfRange, UnknownLlid, BadLength}
+use Rattle.refusal.specs.declared.Verdict.the-variants.{Refused}
+use Rattle.ends.specs.Replies.{refuseIf}
+use Rattle.ends.specs.Occupancy.{downstream, upstream}
 use Rattle.ends.specs.Identities.{has}
 use Rattle.ends.specs.Records.{withOnuKeys, withOnuFirst, withOnuChannels}
 use Rattle.ends.specs.Validity.{validOnuKeys, validOnu}
-use Rattle.ends.specs.Headers.{noPassage, noSending}
+use Rattle.ends.specs.Headers.{validHeader, noPassage, noSending}
 use Rattle.ends.specs.OnuTraffic.{onuSendChoice, onuSendVerdict, onuNoted, onuSent, sendingOnu, onuReceiveChoice, onuReceiveVerdict, onuMoved, onuReceived, receivingOnu}
 use Rattle.ends.specs.declared.Onu.{Onu}
 use Rattle.ends.specs.declared.Header.{Header}
 use Rattle.ends.specs.declared.KeyChoice.{KeyChoice}
 use Rattle.ends.specs.declared.KeyChoice.the-variants.{Clear, Current, Next, Barred}
-use Rattle.ends.proofs.Replies.{refuse-accepted, Untouched, not-accepted}
+use Rattle.ends.proofs.Replies.{refuse-accepted, Untouched}
 use Rattle.ends.proofs.Keys.{first-send-valid, first-none-valid}
-use Rattle.ends.proofs.Occupancy.{occupied-valid, downstream-below, upstream-between}
+use Rattle.ends.proofs.Occupancy.{occupied-valid, upstream-between}
 use Rattle.ends.proofs.Validity.{onu-in-range, onu-valid}
-use Rattle.ends.proofs.OnuCalls.{onu-untouched, onu-keeps, onu-accepted}
-use Rattle.ends.proofs.OnuChoices.{onu-receive-accepted}
+use Rattle.ends.proofs.OnuCalls.{onu-untouched, onu-keeps}
 
 ---- validity
 
@@ -111,19 +113,13 @@ receiving-onu-untouched o misfit h r e = onu-untouched o noPassage _ _ _ r e
 
 ---- overheard envelopes
 
--- a receipt that is not accepted leaves the very ONU, and hands over nothing
-receiving-onu-not : (o : Onu) (misfit : Bool) (h : Header) → (onuReceiveVerdict o misfit h ≡ Accepted → ⊥) → Untouched o noPassage (receivingOnu o misfit h)
-unfolding receivingOnu
-receiving-onu-not o misfit h n =
-    not-accepted o noPassage (receivingOnu o misfit h) (onu-untouched o noPassage _ _ _)
-    (λ e. n (onu-accepted o noPassage _ _ _ e .1))
+-- an envelope for another unit is refused 2 and an upstream one 1, after 14
+pub overheard-down : (o : Onu) (misfit : Bool) (h : Header) → downstream (h .index) ≡ true → validHeader h ≡ true → has (o .identity) (h .llid) ≡ false
+    → onuReceiveVerdict o misfit h ≡ refuseIf misfit BadLength (Refused UnknownLlid)
+unfolding onuReceiveVerdict refuseIf both
+overheard-down o misfit h d v n = rw (d, v, n)
 
--- an envelope for another unit, and an upstream one, are refused, with whatever buffer
-pub overheard-down : (o : Onu) (misfit : Bool) (h : Header) → has (o .identity) (h .llid) ≡ false → Untouched o noPassage (receivingOnu o misfit h)
-overheard-down o misfit h n = receiving-onu-not o misfit h (λ a. true-false (sym (onu-receive-accepted o misfit h a .has) ∙ n))
-
-pub overheard-up : (o : Onu) (misfit : Bool) (h : Header) → upstream (h .index) ≡ true → Untouched o noPassage (receivingOnu o misfit h)
-overheard-up o misfit h u =
-    receiving-onu-not o misfit h
-    (λ a.
-    omega (arith, downstream-below (h .index) (onu-receive-accepted o misfit h a .downstream), upstream-between (h .index) u))
+pub overheard-up : (o : Onu) (misfit : Bool) (h : Header) → upstream (h .index) ≡ true
+    → onuReceiveVerdict o misfit h ≡ refuseIf misfit BadLength (Refused OutOfRange)
+unfolding onuReceiveVerdict refuseIf both downstream
+overheard-up o misfit h u = rw (lt-leb (h .index) 1 (omega (arith, upstream-between (h .index) u .0)))

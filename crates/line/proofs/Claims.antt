@@ -28,6 +28,7 @@ use Rattle.line.specs.Claim.{senderMac, senderClock, nonceFor, Holds, Ar
 use Rattle.line.proofs.Invariant.{Joined, Common, Invariant}
 use Rattle.line.proofs.Alive.{Alive, sent-alive, arrived-alive}
 use Rattle.line.proofs.Past.{sent-most}
+use Rattle.line.proofs.OverheardSteps.{overheard-refused}
 
 ---- (2) counter blocks
 
@@ -171,4 +172,5 @@ claim-holds w s inv =
       arrived = λ u r m. arrived-alive w s u inv r m .joined .passing .arrived r m;
       blocks = blocks-differ w s inv;
       held = both-hold w s inv;
+      overheard = overheard-refused w s inv;
     }

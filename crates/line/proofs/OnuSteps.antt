@@ -10,10 +10,9 @@ use lib.ListN.{length, getD, set, length-set, List·getD-map}
 use lib.Seq.{getD-set-same, getD-set-other, set-getD, map-set-same}
 use borrow.Author.Tests.{eqb-true, eqb-false}
 use Rattle.octets.proofs.Choice.{pick-holds}
-use Rattle.octets.proofs.Members.{mem-at}
 use Rattle.clock.specs.declared.Stamps.{Stamps}
 use Rattle.ends.specs.Headers.{noPassage, noSending}
-use Rattle.ends.specs.Identities.{noIdentity, has}
+use Rattle.ends.specs.Identities.{noIdentity}
 use Rattle.ends.specs.Messages.{noAcknowledgement, ofKey}
 use Rattle.ends.specs.OnuCalls.{onuAcknowledged, clockMessageAt, keyMessageVerdict, keysTaken, keyMessageTo, keyMessageAt}
 use Rattle.ends.specs.Records.{newOnu, withOnuKeys}
@@ -27,21 +26,23 @@ use Rattle.ends.proofs.OnuTraffic.{sending-onu-untouched, receiving-onu-untouch
 use Rattle.ends.proofs.Replies.{number-refused}
 use Rattle.ends.proofs.Validity.{onu-in-range}
 use Rattle.ends.proofs.KeyMessages.{keys-taken-valid, keys-replaced-valid}
-use Rattle.traffic.specs.Receipts.{onuReceivedBy, onuReceiveOf}
+use Rattle.traffic.specs.Passages.{Exchange}
+use Rattle.traffic.specs.Receipts.{onuReceivedBy, onuNotReceived, onuReceiveOf}
 use Rattle.traffic.specs.Sends.{onuSentBy, onuSendOf}
+use Rattle.traffic.specs.declared.OnuReceived.{OnuReceived}
 use Rattle.line.specs.Setting.{Setting}
 use Rattle.line.specs.History.{Thing, clockMessage, keyMessage, envelope, Entry, Lane, leftAt, laneWith, laneSentUp, laneTaken, laneAnswered, laneArrivedDown}
 use Rattle.line.specs.Events.{sendUp, arriveDown, overhear, strayClock, strayKey, strayDown}
-use Rattle.line.specs.Run.{State, noSite, freshLane, laneAt, onuAt, accepted, noted, withLanes, atOnu, sendingUp, messageArriving, receiptDown, envelopeArriving, thingArriving, noEnvelope, thingAt, sentAt, unitAfter, step}
+use Rattle.line.specs.Run.{State, noSite, freshLane, laneAt, onuAt, accepted, noted, withLanes, atOnu, sendingUp, messageArriving, receiptDown, envelopeArriving, thingArriving, noEnvelope, thingAt, unitAfter, step}
 use Rattle.line.specs.Premises.{FittingBuffer, DueDown, Fits}
 use Rattle.line.proofs.Invariant.{Joined, Common, Standing, LaneRight, Invariant}
-use Rattle.line.proofs.Alive.{Alive, registered-alive, towards-alive, sent-alive, llid-apart}
+use Rattle.line.proofs.Alive.{Alive, registered-alive, towards-alive}
 use Rattle.line.proofs.ClockSteps.{clock-arrives, common-clock-keeps}
 use Rattle.line.proofs.KeySteps.{key-arrives}
 use Rattle.line.proofs.Frames.{common-moved}
 use Rattle.line.proofs.SendUpSteps.{send-up-keeps, send-common}
 use Rattle.line.proofs.ReceiptDownSteps.{arrive-down, receive-common}
-use Rattle.line.proofs.OverheardSteps.{overheard-leaves}
+use Rattle.line.proofs.OverheardSteps.{overheard-refused}
 
 ---- one unit replaced
 
@@ -231,21 +232,9 @@ arrive-down-right w s u k out v d = thing-right w s u k out v d (thingAt s u k) 
 -- another unit's envelope, sent to it or by it
 pub overhear-right : (w : Setting) (s : State) (u other k : ℕ) (out : List ℕ) → Invariant w s → Fits w s (overhear u other k out)
     → Invariant w (step s (overhear u other k out))
-unfolding step
+unfolding step onuNotReceived
 overhear-right w s u other k out v h =
-    let r = registered-alive w s u v (h .registered) in
-    let e = sentAt s other k in
-    let m = mem-at (laneAt s other .past .sent) k noEnvelope (h .some) in
-    let q = sent-alive w s other v e m in
-    let strange : has (onuAt s u .identity) (e .llid) ≡ false =
-    not-true-false _ (λ t.
-    h .apart (llid-apart w s u other (e .llid) v r q (sym (r .common .llids (e .llid)) ∙ t) (q .joined .passing .named e m))) in
-    unit-after-right w s u _
-    (overheard-leaves w (s .olt .shared) (s .history .now) (laneAt s other) (unitAt (s .olt) (laneAt s other .entry .place)) (onuAt s other) (onuAt s u) e out
-    (q .joined) m strange) v where
-      not-true-false : (b : Bool) → (b ≡ true → ⊥) → b ≡ false
-      not-true-false true n = absurd (n refl)
-      not-true-false false n = refl
+    unit-after-right w s u _ (ap (λ (x : Exchange OnuReceived). x .answer .onu) (overheard-refused w s v u other k out h)) v
 
 ---- any other receipt, which is refused
 

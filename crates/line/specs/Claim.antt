@@ -5,6 +5,8 @@ use mathlib.Core.List.{List, List·Memᴰ}
 use Prim.Native.Nat.{ℕ, _<_, _≤_, _^_}
 use lib.Dec.{leb}
 use lib.ListN.{length}
+use Rattle.refusal.specs.declared.Refusal.{Refusal}
+use Rattle.refusal.specs.declared.Refusal.the-variants.{OutOfRange, UnknownLlid, BadLength}
 use Rattle.sealing.specs.CounterBlock.{counterBlock}
 use Rattle.sealing.specs.KeyExpansion.{keyExpansion}
 use Rattle.sealing.specs.Seal.{carried, countCarried}
@@ -14,10 +16,12 @@ use Rattle.ends.specs.Keys.{keyIn}
 use Rattle.ends.specs.Table.{unitAt}
 use Rattle.ends.specs.declared.Onu.{Onu}
 use Rattle.ends.specs.declared.UnitRecord.{UnitRecord}
-use Rattle.traffic.specs.Passages.{isEnciphered, nonceOf}
+use Rattle.traffic.specs.Passages.{exchange, misfit, isEnciphered, nonceOf}
+use Rattle.traffic.specs.Receipts.{onuNotReceived}
 use Rattle.line.specs.Setting.{Site, Setting, clockDown, clockUp}
 use Rattle.line.specs.History.{Way, downward, upward, Envelope, Arrival, Lane, keyOf}
-use Rattle.line.specs.Run.{State, laneAt, onuAt, sentAt}
+use Rattle.line.specs.Run.{State, laneAt, onuAt, sentAt, overhearing}
+use Rattle.line.specs.Premises.{Overhears}
 
 -- the sender's MAC and clock
 abbrev pub senderMac : Setting → Site → Way → ℕ
@@ -68,6 +72,13 @@ pub record ArrivedNumbered (l : Lane) (way : Way) (n : ℕ) : Type 0 where
   pub thatWay : arrival .envelope .way ≡ way
   pub numbered : arrival .envelope .number ≡ n
 
+-- (4) what an overheard envelope is refused for: a buffer that does not fit, else downstream an LLID of another unit, upstream its
+-- direction
+abbrev pub overheardFor : Bool → Way → Refusal
+overheardFor true way = BadLength
+overheardFor false downward = UnknownLlid
+overheardFor false upward = OutOfRange
+
 pub record Claim (w : Setting) (s : State) : Type 0 where
   pub sent : (u : ℕ) (e : Envelope) → List·Memᴰ e (laneAt s u .past .sent) → SentRight w (laneAt s u) e
   pub arrived : (u : ℕ) (r : Arrival) → List·Memᴰ r (laneAt s u .past .arrived) → ArrivedRight w (laneAt s u) r
@@ -81,3 +92,7 @@ pub record Claim (w : Setting) (s : State) : Type 0 where
   pub held : (u n : ℕ) → 1 ≤ n → laneAt s u .keys .switches ≡ n
       → ArrivedNumbered (laneAt s u) downward n → ArrivedNumbered (laneAt s u) upward n
       → Holds (laneAt s u) n (unitAt (s .olt) (laneAt s u .entry .place)) (onuAt s u)
+  -- (4) what another registered unit overhears is refused, with count 0, and leaves that unit and its buffer as they were
+  pub overheard : (u v k : ℕ) (out : List ℕ) → Overhears s u v k
+      → overhearing s u v k out
+      ≡ exchange (onuNotReceived (onuAt s u) (overheardFor (misfit (sentAt s v k .octets) out) (sentAt s v k .way))) out

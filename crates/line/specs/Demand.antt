@@ -22,7 +22,7 @@ use Rattle.traffic.specs.Receipts.{oltReceiveOf, onuReceiveOf}
 use Rattle.line.specs.Setting.{Setting}
 use Rattle.line.specs.History.{Envelope, Thing, clockMessage, keyMessage, envelope, Arrival}
 use Rattle.line.specs.Events.{Event, advance, register, capture, clockSend, offer, retry, sendDown, sendUp, arriveDown, arriveUp, arriveAnswer, overhear, strayClock, strayKey, strayAnswer, strayDown, strayUp}
-use Rattle.line.specs.Run.{State, start, step, run, accepted, laneAt, onuAt, thingAt, envelopeAt, sentAt, answerAt, noEnvelope}
+use Rattle.line.specs.Run.{State, start, step, run, accepted, laneAt, onuAt, thingAt, envelopeAt, sentAt, overhearing, answerAt, noEnvelope}
 use Rattle.line.specs.Premises.{Fresh, Meets}
 use Rattle.line.specs.Claim.{nonceFor, Claim}
 use Rattle.line.specs.Example.{example, events, oltMac, identityA, identityB, keyFrom, payloadFrom}
@@ -103,7 +103,7 @@ numberOf s (sendUp u llid index p out) = onuSendOf (onuAt s u) llid index p out 
 numberOf s (arriveDown u k out) = numberAt (onuAt s u) out (thingAt s u k)
 numberOf s (arriveUp u k out) = oltReceiveOf (s .olt) (envelopeAt s u k .header) (envelopeAt s u k .octets) out .answer .number
 numberOf s (arriveAnswer u k llid) = acknowledgeOf (s .olt) llid (answerAt s u k .acknowledgement) .number
-numberOf s (overhear u v k out) = onuReceiveOf (onuAt s u) (sentAt s v k .header) (sentAt s v k .octets) out .answer .number
+numberOf s (overhear u v k out) = overhearing s u v k out .answer .number
 numberOf s (strayClock u m) = clockMessageAt (onuAt s u) m .number
 numberOf s (strayKey u m) = keyMessageAt (onuAt s u) m .number
 numberOf s (strayAnswer llid a) = acknowledgeOf (s .olt) llid a .number

@@ -15,7 +15,8 @@
 --   Claim     (0) every accepted send, arrived or lost, handed over the header, octets and count of its number, key, MAC and clock;
 --             (1) every envelope that arrived was accepted, opened under that key and counter block, and gave back its payload and
 --             count; (2) two sealed envelopes that share a key and a counter block are one; (3) where the switches are n and an
---             envelope numbered n has arrived each way, both ends hold key n as A, C and a
+--             envelope numbered n has arrived each way, both ends hold key n as A, C and a; (4) what another registered unit
+--             overhears is refused, 14 for its buffer, else 2 downstream and 1 upstream, and leaves unit and buffer as they were
 --   Example   a list on two units that meets the premises
 --   Demand    the theorem as one statement, and what it says of the example
 pub mod Setting

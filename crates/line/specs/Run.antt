@@ -23,6 +23,7 @@ use Rattle.traffic.specs.Passages.{Exchange, misfit}
 use Rattle.traffic.specs.Sends.{oltSendOf, onuSendOf}
 use Rattle.traffic.specs.Receipts.{oltReceiveOf, onuReceiveOf}
 use Rattle.traffic.specs.declared.OltSent.{OltSent}
+use Rattle.traffic.specs.declared.OnuReceived.{OnuReceived}
 use Rattle.traffic.specs.declared.OnuSent.{OnuSent}
 use Rattle.line.specs.Setting.{Site, Setting}
 use Rattle.line.specs.History.{Way, downward, upward, Envelope, Thing, clockMessage, keyMessage, envelope, Answered, Arrival, Lane, History, numberDown, laneRegistered, laneCaptured, laneLeaving, laneOffered, laneAcknowledged, laneSentDown, laneSentUp, laneTaken, laneAnswered, laneArrivedDown, laneArrivedUp}
@@ -217,6 +218,10 @@ envelopeAt s u k = getD (laneAt s u .transit .from) k noEnvelope
 abbrev pub sentAt : State → ℕ → ℕ → Envelope
 sentAt s u k = getD (laneAt s u .past .sent) k noEnvelope
 
+-- a unit's receipt of the kth envelope that was sent to or by another
+abbrev pub overhearing : State → ℕ → ℕ → ℕ → List ℕ → Exchange OnuReceived
+overhearing s u other k out = onuReceiveOf (onuAt s u) (sentAt s other k .header) (sentAt s other k .octets) out
+
 abbrev pub answerAt : State → ℕ → ℕ → Answered
 answerAt s u k = getD (laneAt s u .transit .answered) k (record { acknowledgement = record { kind = 0; number = 0 }; tick = 0 })
 
@@ -259,8 +264,7 @@ step s (sendUp u llid index p out) = sendingUp s u llid index p (onuSendOf (onuA
 step s (arriveDown u k out) = thingArriving s u k out (thingAt s u k)
 step s (arriveUp u k out) = arrivingUp s u k (envelopeAt s u k) out
 step s (arriveAnswer u k llid) = answering s llid (answerAt s u k .acknowledgement)
-step s (overhear u other k out) =
-    unitAfter s u (onuReceiveOf (onuAt s u) (sentAt s other k .header) (sentAt s other k .octets) out .answer .onu)
+step s (overhear u other k out) = unitAfter s u (overhearing s u other k out .answer .onu)
 step s (strayClock u m) = unitAfter s u (clockMessageAt (onuAt s u) m .onu)
 step s (strayKey u m) = unitAfter s u (keyMessageAt (onuAt s u) m .onu)
 step s (strayAnswer llid a) = oltAfter s (acknowledgeOf (s .olt) llid a .olt)

@@ -1,0 +1,100 @@
+// The calls of the capture reader, each with its line.
+use crate::show;
+use crate::values;
+use capture::listing::LISTING_OCTETS;
+use jazmotip::blocks::jazmotip_capture_directory;
+use jazmotip::blocks::jazmotip_capture_list;
+use jazmotip::blocks::jazmotip_capture_open;
+use jazmotip::blocks::jazmotip_capture_payload;
+use jazmotip::blocks::jazmotip_capture_verdict;
+use libc::STDOUT_FILENO;
+
+fn directory(block: &[u8]) {
+    let answer = jazmotip_capture_directory(block);
+    show::begin(b"capture_directory", answer.number);
+    show::part(b", fault ", answer.fault as u64);
+    show::part(b", records ", answer.records as u64);
+    show::part(b", pair ", answer.pair as u64);
+    show::end();
+}
+
+fn verdict(settings: &[u8], block: &[u8], k: usize) {
+    let answer = jazmotip_capture_verdict(settings, block, k);
+    show::begin(b"capture_verdict", answer.number);
+    show::part(b", EncEnabled ", answer.encenabled as u64);
+    show::part(b", EncKey ", answer.enckey as u64);
+    show::hex(b", clock ", answer.clock, 12);
+    show::end();
+}
+
+fn payload(block: &[u8], k: usize) {
+    let answer = jazmotip_capture_payload(block, k);
+    show::begin(b"capture_payload", answer.number);
+    show::part(b", offset ", answer.offset as u64);
+    show::part(b", length ", answer.length as u64);
+    show::end();
+}
+
+fn open(settings: &[u8], block: &[u8]) {
+    let mut output = [0xaau8; 59];
+    let answer = jazmotip_capture_open(settings, block, &mut output);
+    show::begin(b"capture_open", answer.number);
+    show::passed(answer.count, &output);
+}
+
+fn list(settings: &[u8], block: &[u8]) {
+    let mut text = [0u8; LISTING_OCTETS];
+    let n = jazmotip_capture_list(settings, block, &mut text);
+    show::name(b"capture_list");
+    show::part(b": ", n as u64);
+    show::end();
+    io::write_all(STDOUT_FILENO, &text[..n]);
+}
+
+fn directory_of(first: u8, length: u8, second: u8, eqs: u8) {
+    let block = values::block(first, length, second, eqs);
+    directory(&block);
+}
+
+// The whole; no block; pairs 1 and 2 off the chain, and off the length.
+fn directories() {
+    directory_of(18, 16, 34, 1);
+    directory(b"");
+    directory_of(19, 16, 34, 1);
+    directory_of(18, 16, 35, 1);
+    directory_of(18, 17, 35, 1);
+    directory_of(18, 16, 34, 2);
+}
+
+// Clear, to be opened, no such record.
+fn verdicts(settings: &[u8], block: &[u8]) {
+    verdict(settings, block, 1);
+    verdict(settings, block, 2);
+    verdict(settings, block, 3);
+}
+
+fn payloads(block: &[u8]) {
+    payload(block, 1);
+    payload(block, 2);
+    payload(block, 3);
+}
+
+pub(crate) fn play() {
+    directories();
+    let keyless = values::settings(1);
+    let settings = values::settings(3);
+    let block = values::block(18, 16, 34, 1);
+    verdicts(&settings, &block);
+    verdict(&keyless, &block, 2);
+    payloads(&block);
+    payload(b"", 1);
+    open(&settings, &block);
+    open(b"", &block);
+}
+
+// 01's example.
+pub(crate) fn example() {
+    let settings = values::example_settings();
+    let block = values::example();
+    list(&settings, &block);
+}

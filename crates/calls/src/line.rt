@@ -1,0 +1,102 @@
+// An OLT and one unit, 150 ticks apart downwards and 100 upwards: both are set up, set the clock, bring key 1 into use and send both ways,
+// clear and sealed. The OLT's clock passes 2^48 on the way.
+use crate::olt_calls;
+use crate::onu_calls;
+use crate::values;
+use ends::Olt;
+use ends::Onu;
+
+struct Line {
+    pub olt: Olt,
+    pub onu: Onu,
+}
+
+fn ends_of(olt: Olt, onu: Onu) -> Line {
+    Line { olt, onu }
+}
+
+fn advance(l: Line, n: u64) -> Line {
+    let olt = olt_calls::advance(l.olt, n);
+    let onu = onu_calls::advance(l.onu, n);
+    ends_of(olt, onu)
+}
+
+// Interval 1000; the second registration is refused.
+fn olt_start() -> Olt {
+    let olt = olt_calls::fresh(values::OLT_MAC, 0xffff_ffff_fc18);
+    let named = olt_calls::register(olt, 1000);
+    olt_calls::register(named, 1000)
+}
+
+fn start() -> Line {
+    let olt = olt_start();
+    let onu = onu_calls::fresh(values::OLT_MAC, 0xffff_fc7c);
+    ends_of(olt, onu)
+}
+
+fn down(l: Line, llid: u16, index: u8) -> Line {
+    let sent = olt_calls::send(l.olt, llid, index);
+    let there = advance(ends_of(sent.olt, l.onu), 150);
+    let onu = onu_calls::receive(there.onu, sent.envelope);
+    ends_of(there.olt, onu)
+}
+
+fn up(l: Line, llid: u16, index: u8) -> Line {
+    let sent = onu_calls::send(l.onu, llid, index);
+    let there = advance(ends_of(l.olt, sent.onu), 100);
+    let olt = olt_calls::receive(there.olt, sent.envelope);
+    ends_of(olt, there.onu)
+}
+
+// Captured, sent 40 ticks later, and acknowledged.
+fn set_clock(l: Line) -> Line {
+    let captured = olt_calls::capture(l.olt, 5);
+    let later = advance(ends_of(captured, l.onu), 40);
+    let sent = olt_calls::clock_send(later.olt, 6);
+    let there = advance(ends_of(sent.olt, later.onu), 150);
+    let set = onu_calls::clock_message(there.onu, sent.message);
+    let back = advance(ends_of(there.olt, set.onu), 100);
+    let olt = olt_calls::acknowledge(back.olt, 5, set.acknowledgement);
+    ends_of(olt, back.onu)
+}
+
+// The offer is lost, the retry arrives and is acknowledged.
+fn give_key(l: Line) -> Line {
+    let lost = olt_calls::offer(l.olt, 5);
+    let sent = olt_calls::retry(lost.olt, 6);
+    let there = advance(ends_of(sent.olt, l.onu), 150);
+    let taken = onu_calls::key_message(there.onu, sent.message);
+    let back = advance(ends_of(there.olt, taken.onu), 100);
+    let olt = olt_calls::acknowledge(back.olt, 6, taken.acknowledgement);
+    ends_of(olt, back.onu)
+}
+
+// The timer is up: the OLT switches, and the unit follows.
+fn switch(l: Line) -> Line {
+    let up_to = advance(l, 1000);
+    up(down(up_to, 5, 0x01), 6, 0x81)
+}
+
+// Each call that can be refused at what it is lent, and the end of ticks.
+fn olt_refusals(olt: Olt) {
+    let none = olt_calls::capture(olt, 9);
+    let fits = olt_calls::retry(none, 5);
+    let sent = olt_calls::send(fits.olt, 9, 0x00);
+    let taken = olt_calls::receive(sent.olt, sent.envelope);
+    olt_calls::advance(taken, 0x4000_0000_0000_0000);
+}
+
+fn onu_refusals(onu: Onu) {
+    let sent = onu_calls::send(onu, 9, 0x80);
+    let taken = onu_calls::receive(sent.onu, sent.envelope);
+    onu_calls::advance(taken, 0x4000_0000_0000_0000);
+}
+
+pub(crate) fn play() {
+    let clear = up(down(start(), 5, 0x00), 5, 0x80);
+    let done = switch(give_key(set_clock(clear)));
+    olt_refusals(done.olt);
+    onu_refusals(done.onu);
+    olt_calls::fresh(0x1_0000_0000_0000, 0);
+    onu_calls::fresh(values::OLT_MAC, 0x1_0000_0000);
+}

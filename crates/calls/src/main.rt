@@ -1,0 +1,16 @@
+// Plays every exported call of the library that firmware links, a line for each: its number and what it handed over. What it must print
+// is made by tools/calls.py.
+mod block_calls;
+mod line;
+mod olt_calls;
+mod onu_calls;
+mod payload_calls;
+mod show;
+mod values;
+
+fn main() {
+    line::play();
+    payload_calls::play();
+    block_calls::play();
+    block_calls::example();
+}

@@ -1,0 +1,201 @@
+#!/usr/bin/env python3
+"""What the program `calls` must print: every exported call, played on the ends of tools/traffic.py and the reader of tools/capture_cases.py.
+
+usage: tools/calls.py > crates/calls/stdout
+Shares no code with the engine. What those two do not give, the faults of a directory and the refusals of a fresh end, is written here
+from document 01.
+"""
+import capture_cases as reader
+import traffic
+from traffic import LENT, LOCAL, PAYLOAD, TURN, MAC_ONE, OLT_MAC
+
+KEY = bytes.fromhex("2b7e151628aed2a6abf7158809cf4f3c")
+
+
+def show(call, number, rest=""):
+    print(f"jazmotip_{call}: {number}{rest}")
+
+
+def passed(count, octets):
+    return f", count {count}, octets {octets.hex()}"
+
+
+# ---- both ends: 150 ticks down, 100 up, the OLT's clock 1000 ticks before its turn
+
+class Line:
+    def __init__(self):
+        self.olt, self.onu = traffic.Olt(OLT_MAC, TURN - 1000), traffic.Onu(MAC_ONE, [5, 6], OLT_MAC, (TURN - 900) % LOCAL)
+        show("olt_fresh", 0)
+        for _ in range(2):
+            show("olt_register", self.olt.register(MAC_ONE, [5, 6], 250, 1000))
+        show("onu_fresh", 0)
+
+    def olt_advance(self, n):
+        number = self.olt.advance(n)
+        show("olt_advance", number, f", tick {self.olt.tick}, clock {self.olt.clock:012x}")
+
+    def onu_advance(self, n):
+        number = self.onu.advance(n)
+        show("onu_advance", number, f", tick {self.onu.tick}, Rx {self.onu.rx:012x}, Tx {self.onu.time:012x}")
+
+    def advance(self, n):
+        self.olt_advance(n)
+        self.onu_advance(n)
+
+    def send(self, end, llid, index):
+        number, header, count, octets = getattr(self, end).send(llid, index, PAYLOAD, LENT)
+        i, l, e, k, p = header
+        show(f"{end}_send", number, f", header {i:02x} {l:04x} {e} {k} {p:02x}" + passed(count, octets))
+        return header, octets
+
+    def receive(self, end, envelope):
+        number, count, octets = getattr(self, end).receive(*envelope, LENT)
+        show(f"{end}_receive", number, passed(count, octets))
+
+    def down(self, llid, index):
+        envelope = self.send("olt", llid, index)
+        self.advance(150)
+        self.receive("onu", envelope)
+
+    def up(self, llid, index):
+        envelope = self.send("onu", llid, index)
+        self.advance(100)
+        self.receive("olt", envelope)
+
+    def clock(self):
+        show("olt_capture", self.olt.capture(5))
+        self.advance(40)
+        number, stamps = self.olt.clock_send(6)
+        show("olt_clock_send", number, f", Rx {stamps[0]:012x}, Tx {stamps[1]:012x}")
+        self.advance(150)
+        number, ack = self.onu.clock_message(stamps)
+        show("onu_clock_message", number, f", Rx {self.onu.rx:012x}, Tx {self.onu.time:012x}, kind {ack[0]}, key {ack[1]}")
+        self.advance(100)
+        show("olt_acknowledge", self.olt.acknowledge(5, ack))
+
+    def offered(self, call, number, message):
+        show(call, number, f", LLID {message[0]}, key {message[1]}, octets {message[2].hex()}")
+        return message
+
+    def key(self):
+        self.offered("olt_offer", *self.olt.offer(5, KEY))
+        message = self.offered("olt_retry", *self.olt.retry(6))
+        self.advance(150)
+        number, ack = self.onu.key_message(message)
+        show("onu_key_message", number, f", kind {ack[0]}, key {ack[1]}")
+        self.advance(100)
+        show("olt_acknowledge", self.olt.acknowledge(6, ack))
+
+    def refusals(self):
+        show("olt_capture", self.olt.capture(9))
+        self.offered("olt_retry", *self.olt.retry(5))
+        self.receive("olt", self.send("olt", 9, 0x00))
+        self.olt_advance(2**62)
+        self.receive("onu", self.send("onu", 9, 0x80))
+        self.onu_advance(2**62)
+
+
+def ends():
+    line = Line()
+    line.down(5, 0x00)
+    line.up(5, 0x80)
+    line.clock()
+    line.key()
+    line.advance(1000)
+    line.down(5, 0x01)
+    line.up(6, 0x81)
+    line.refusals()
+    # a MAC of 2^48, a LocalTime of 2^32
+    show("olt_fresh", 1)
+    show("onu_fresh", 1)
+
+
+# ---- payloads
+
+def payloads():
+    print(f"jazmotip_expand_key: {b''.join(reader.expanded(KEY)).hex()}")
+    sealed, count = traffic.seal(KEY, 0x81, OLT_MAC, 0x41, PAYLOAD)
+    for call in ("seal", "seal_expanded"):
+        show(call, 0, passed(0, PAYLOAD))
+        show(call, 0, passed(count, sealed))
+        show(call, 1, passed(0, LENT))
+    print(f"jazmotip_count: {count}")
+
+
+# ---- capture blocks
+
+CLEAR, ONE = reader.record(), reader.captured(reader.quanta(1))
+
+
+def directory(block):
+    """The fault, 1 for the size, 2 for the chain, 3 for a length, and the first bad pair."""
+    good = reader.directory(block)
+    if good is not None:
+        return 0, 0, len(good), 0
+    count = int.from_bytes(block[:2], "big")
+    if not 2 <= len(block) <= 65536 or count > 256 or 2 + 8 * count > len(block) or count == 0:
+        return 15, 1, 0, 0
+    due = 2 + 8 * count
+    for k in range(1, count + 1):
+        offset, length = (int.from_bytes(block[8 * k - 6 + i : 8 * k - 2 + i], "big") for i in (0, 4))
+        end = offset + length
+        if offset != due or end > len(block) or k == count and end != len(block):
+            return 15, 2, 0, k
+        if length < 16 or length != 16 + 9 * int.from_bytes(block[offset + 12 : offset + 16], "big"):
+            return 15, 3, 0, k
+        due = end
+
+
+def directory_row(block):
+    number, fault, records, pair = directory(block)
+    show("capture_directory", number, f", fault {fault}, records {records}, pair {pair}")
+
+
+def verdict_row(settings, block, k):
+    pairs, enabled, enckey, clock = reader.directory(block), 0, 0, 0
+    if 1 <= k <= len(pairs):
+        offset, length = pairs[k - 1]
+        record = block[offset : offset + length]
+        number = reader.record_number(settings, record)
+        if number == 0 and record[4] & 1:
+            enabled, enckey, clock = 1, record[4] >> 1, int.from_bytes(record[6:12], "big")
+    else:
+        number = 1
+    show("capture_verdict", number, f", EncEnabled {enabled}, EncKey {enckey}, clock {clock:012x}")
+
+
+def payload_row(block, k):
+    number, octets = reader.payload(block, k)
+    offset = 0 if number else reader.directory(block)[k - 1][0] + 16
+    show("capture_payload", number, f", offset {offset}, length {len(octets)}")
+
+
+def open_row(settings, block):
+    number, count, octets = reader.opened(settings, block, b"\xaa" * 59)
+    show("capture_open", number, passed(count, octets))
+
+
+def blocks():
+    settings, good = reader.settings(3), reader.block(CLEAR, ONE)
+    directory_row(good)
+    directory_row(b"")
+    directory_row(reader.block(CLEAR, ONE, pairs=[(19, 16), (34, 25)]))
+    directory_row(reader.block(CLEAR, ONE, pairs=[(18, 16), (35, 25)]))
+    directory_row(reader.block(CLEAR, ONE, pairs=[(18, 17), (35, 25)]))
+    directory_row(reader.block(CLEAR, reader.captured(reader.quanta(1), eqs=2)))
+    for k in (1, 2, 3):
+        verdict_row(settings, good, k)
+    verdict_row(reader.settings(1), good, 2)
+    for k in (1, 2, 3):
+        payload_row(good, k)
+    payload_row(b"", 1)
+    open_row(settings, good)
+    open_row(b"", good)
+    text = reader.listing(*reader.PAPER)
+    print(f"jazmotip_capture_list: {len(text)}\n{text}", end="")
+
+
+if __name__ == "__main__":
+    ends()
+    payloads()
+    blocks()

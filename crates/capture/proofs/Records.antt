@@ -1,14 +1,15 @@
 -- Laws of the records of a good directory: where they stand and how long they are. Assumes nothing.
 use mathlib.Core.Path.{_≡_, refl, sym, _∙_}
 use mathlib.Core.Bool.{Bool, true, false}
-use mathlib.Core.List.{List}
-use Prim.Native.Nat.{ℕ, zero, suc, _+_, _≤_, _<_}
+use mathlib.Core.List.{List, []}
+use Prim.Native.Nat.{ℕ, zero, suc, _+_, _-_, _≤_, _<_}
 use native.Mathlib.Nat.{zero-add}
 use native.Mathlib.Omega.{arith}
 use lib.Dec.{leb}
 use lib.ListN.{length}
 use borrow.Author.Tests.{leb-true, leb-false, eqb-true}
 use Rattle.octets.specs.Choice.{both}
+use Rattle.octets.specs.Lists.{part}
 use Rattle.octets.proofs.Choice.{both-left, both-right, pick-first}
 use Rattle.octets.proofs.Lists.{part-length, drop-part}
 use Rattle.refusal.specs.declared.Refusal.{Refusal}

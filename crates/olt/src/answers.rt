@@ -2,7 +2,7 @@
 ghost use mathlib.Core.Path.{_≡_};
 ghost use Prim.Native.Nat.{_<_};
 ghost use Rattle.refusal.specs.declared.Verdict.the-variants.{Accepted, Refused};
-ghost use Rattle.ends.specs.Replies.{none, reply};
+ghost use Rattle.ends.specs.Replies.{silent, reply};
 ghost use Rattle.ends.specs.Messages.{noKeyMessage, noStamps};
 ghost use Rattle.ends.specs.Table.{withUnit};
 ghost use Rattle.ends.specs.UnitCalls.{keyMessageOf};
@@ -20,13 +20,13 @@ use refusal::Refusal;
 use refusal::number;
 
 pub(crate) fn accepted(olt: Olt) -> OltAnswer
-    ensures { λ r. ⌜ r ≡ oltAnswer (reply Accepted olt none olt none) ⌝ }
+    ensures { λ r. ⌜ r ≡ oltAnswer (reply Accepted olt silent olt silent) ⌝ }
 {
     OltAnswer { number: 0, olt }
 }
 
 pub(crate) fn refused(olt: Olt, refusal: Refusal) -> OltAnswer
-    ensures { λ r. ⌜ r ≡ oltAnswer (reply (Refused refusal) olt none olt none) ⌝ }
+    ensures { λ r. ⌜ r ≡ oltAnswer (reply (Refused refusal) olt silent olt silent) ⌝ }
 {
     let lent = olt;
     OltAnswer {

@@ -13,11 +13,11 @@ KEY = bytes.fromhex("2b7e151628aed2a6abf7158809cf4f3c")
 
 
 def show(call, number, rest=""):
-    print(f"jazmotip_{call}: {number}{rest}")
+    print(f"jazmotip_{call} {number}{rest}")
 
 
 def passed(count, octets):
-    return f", count {count}, octets {octets.hex()}"
+    return f" {count} {octets.hex()}"
 
 
 # ---- both ends: 150 ticks down, 100 up, the OLT's clock 1000 ticks before its turn
@@ -32,11 +32,11 @@ class Line:
 
     def olt_advance(self, n):
         number = self.olt.advance(n)
-        show("olt_advance", number, f", tick {self.olt.tick}, clock {self.olt.clock:012x}")
+        show("olt_advance", number, f" {self.olt.tick} {self.olt.clock:012x}")
 
     def onu_advance(self, n):
         number = self.onu.advance(n)
-        show("onu_advance", number, f", tick {self.onu.tick}, Rx {self.onu.rx:012x}, Tx {self.onu.time:012x}")
+        show("onu_advance", number, f" {self.onu.tick} {self.onu.rx:012x} {self.onu.time:012x}")
 
     def advance(self, n):
         self.olt_advance(n)
@@ -45,7 +45,7 @@ class Line:
     def send(self, end, llid, index):
         number, header, count, octets = getattr(self, end).send(llid, index, PAYLOAD, LENT)
         i, l, e, k, p = header
-        show(f"{end}_send", number, f", header {i:02x} {l:04x} {e} {k} {p:02x}" + passed(count, octets))
+        show(f"{end}_send", number, f" {i:02x} {l:04x} {e} {k} {p:02x}" + passed(count, octets))
         return header, octets
 
     def receive(self, end, envelope):
@@ -66,15 +66,15 @@ class Line:
         show("olt_capture", self.olt.capture(5))
         self.advance(40)
         number, stamps = self.olt.clock_send(6)
-        show("olt_clock_send", number, f", Rx {stamps[0]:012x}, Tx {stamps[1]:012x}")
+        show("olt_clock_send", number, f" {stamps[0]:012x} {stamps[1]:012x}")
         self.advance(150)
         number, ack = self.onu.clock_message(stamps)
-        show("onu_clock_message", number, f", Rx {self.onu.rx:012x}, Tx {self.onu.time:012x}, kind {ack[0]}, key {ack[1]}")
+        show("onu_clock_message", number, f" {self.onu.rx:012x} {self.onu.time:012x} {ack[0]} {ack[1]}")
         self.advance(100)
         show("olt_acknowledge", self.olt.acknowledge(5, ack))
 
     def offered(self, call, number, message):
-        show(call, number, f", LLID {message[0]}, key {message[1]}, octets {message[2].hex()}")
+        show(call, number, f" {message[0]} {message[1]} {message[2].hex()}")
         return message
 
     def key(self):
@@ -82,7 +82,7 @@ class Line:
         message = self.offered("olt_retry", *self.olt.retry(6))
         self.advance(150)
         number, ack = self.onu.key_message(message)
-        show("onu_key_message", number, f", kind {ack[0]}, key {ack[1]}")
+        show("onu_key_message", number, f" {ack[0]} {ack[1]}")
         self.advance(100)
         show("olt_acknowledge", self.olt.acknowledge(6, ack))
 
@@ -113,13 +113,13 @@ def ends():
 # ---- payloads
 
 def payloads():
-    print(f"jazmotip_expand_key: {b''.join(reader.expanded(KEY)).hex()}")
+    print(f"jazmotip_expand_key {b''.join(reader.expanded(KEY)).hex()}")
     sealed, count = traffic.seal(KEY, 0x81, OLT_MAC, 0x41, PAYLOAD)
     for call in ("seal", "seal_expanded"):
         show(call, 0, passed(0, PAYLOAD))
         show(call, 0, passed(count, sealed))
         show(call, 1, passed(0, LENT))
-    print(f"jazmotip_count: {count}")
+    print(f"jazmotip_count {count}")
 
 
 # ---- capture blocks
@@ -148,7 +148,7 @@ def directory(block):
 
 def directory_row(block):
     number, fault, records, pair = directory(block)
-    show("capture_directory", number, f", fault {fault}, records {records}, pair {pair}")
+    show("capture_directory", number, f" {fault} {records} {pair}")
 
 
 def verdict_row(settings, block, k):
@@ -161,13 +161,13 @@ def verdict_row(settings, block, k):
             enabled, enckey, clock = 1, record[4] >> 1, int.from_bytes(record[6:12], "big")
     else:
         number = 1
-    show("capture_verdict", number, f", EncEnabled {enabled}, EncKey {enckey}, clock {clock:012x}")
+    show("capture_verdict", number, f" {enabled} {enckey} {clock:012x}")
 
 
 def payload_row(block, k):
     number, octets = reader.payload(block, k)
     offset = 0 if number else reader.directory(block)[k - 1][0] + 16
-    show("capture_payload", number, f", offset {offset}, length {len(octets)}")
+    show("capture_payload", number, f" {offset} {len(octets)}")
 
 
 def open_row(settings, block):
@@ -185,14 +185,14 @@ def blocks():
     directory_row(reader.block(CLEAR, reader.captured(reader.quanta(1), eqs=2)))
     for k in (1, 2, 3):
         verdict_row(settings, good, k)
-    verdict_row(reader.settings(1), good, 2)
     for k in (1, 2, 3):
         payload_row(good, k)
     payload_row(b"", 1)
     open_row(settings, good)
     open_row(b"", good)
+    verdict_row(reader.settings(1), good, 2)
     text = reader.listing(*reader.PAPER)
-    print(f"jazmotip_capture_list: {len(text)}\n{text}", end="")
+    print(f"jazmotip_capture_list {len(text)}\n{text}", end="")
 
 
 if __name__ == "__main__":

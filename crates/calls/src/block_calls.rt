@@ -12,26 +12,26 @@ use libc::STDOUT_FILENO;
 fn directory(block: &[u8]) {
     let answer = jazmotip_capture_directory(block);
     show::begin(b"capture_directory", answer.number);
-    show::part(b", fault ", answer.fault as u64);
-    show::part(b", records ", answer.records as u64);
-    show::part(b", pair ", answer.pair as u64);
+    show::octet(answer.fault);
+    show::decimal(answer.records as u64);
+    show::decimal(answer.pair as u64);
     show::end();
 }
 
 fn verdict(settings: &[u8], block: &[u8], k: usize) {
     let answer = jazmotip_capture_verdict(settings, block, k);
     show::begin(b"capture_verdict", answer.number);
-    show::part(b", EncEnabled ", answer.encenabled as u64);
-    show::part(b", EncKey ", answer.enckey as u64);
-    show::hex(b", clock ", answer.clock, 12);
+    show::octet(answer.encenabled);
+    show::octet(answer.enckey);
+    show::hex(answer.clock, 12);
     show::end();
 }
 
 fn payload(block: &[u8], k: usize) {
     let answer = jazmotip_capture_payload(block, k);
     show::begin(b"capture_payload", answer.number);
-    show::part(b", offset ", answer.offset as u64);
-    show::part(b", length ", answer.length as u64);
+    show::decimal(answer.offset as u64);
+    show::decimal(answer.length as u64);
     show::end();
 }
 
@@ -46,7 +46,7 @@ fn list(settings: &[u8], block: &[u8]) {
     let mut text = [0u8; LISTING_OCTETS];
     let n = jazmotip_capture_list(settings, block, &mut text);
     show::name(b"capture_list");
-    show::part(b": ", n as u64);
+    show::decimal(n as u64);
     show::end();
     io::write_all(STDOUT_FILENO, &text[..n]);
 }
@@ -77,24 +77,38 @@ fn payloads(block: &[u8]) {
     payload(block, 1);
     payload(block, 2);
     payload(block, 3);
+    payload(b"", 1);
+}
+
+fn openings(settings: &[u8], block: &[u8]) {
+    open(settings, block);
+    open(b"", block);
+}
+
+fn records(block: &[u8]) {
+    let settings = values::settings(3);
+    verdicts(&settings, block);
+    payloads(block);
+    openings(&settings, block);
+}
+
+// Key 1 is absent.
+fn absent(block: &[u8]) {
+    let settings = values::settings(1);
+    verdict(&settings, block, 2);
+}
+
+// 01's example.
+fn example() {
+    let settings = values::example_settings();
+    let block = values::example();
+    list(&settings, &block);
 }
 
 pub(crate) fn play() {
     directories();
-    let keyless = values::settings(1);
-    let settings = values::settings(3);
     let block = values::block(18, 16, 34, 1);
-    verdicts(&settings, &block);
-    verdict(&keyless, &block, 2);
-    payloads(&block);
-    payload(b"", 1);
-    open(&settings, &block);
-    open(b"", &block);
-}
-
-// 01's example.
-pub(crate) fn example() {
-    let settings = values::example_settings();
-    let block = values::example();
-    list(&settings, &block);
+    records(&block);
+    absent(&block);
+    example();
 }

@@ -3,6 +3,8 @@
 use crate::olt_calls;
 use crate::onu_calls;
 use crate::values;
+use clock::Stamps;
+use ends::KeyMessage;
 use ends::Olt;
 use ends::Onu;
 
@@ -48,55 +50,71 @@ fn up(l: Line, llid: u16, index: u8) -> Line {
     ends_of(olt, there.onu)
 }
 
-// Captured, sent 40 ticks later, and acknowledged.
+// The unit takes the clock message, and the OLT its acknowledgement.
+fn take_clock(l: Line, message: Stamps) -> Line {
+    let set = onu_calls::clock_message(l.onu, message);
+    let there = advance(ends_of(l.olt, set.onu), 100);
+    let olt = olt_calls::acknowledge(there.olt, 5, set.acknowledgement);
+    ends_of(olt, there.onu)
+}
+
+// Captured, and sent 40 ticks later.
 fn set_clock(l: Line) -> Line {
     let captured = olt_calls::capture(l.olt, 5);
     let later = advance(ends_of(captured, l.onu), 40);
     let sent = olt_calls::clock_send(later.olt, 6);
     let there = advance(ends_of(sent.olt, later.onu), 150);
-    let set = onu_calls::clock_message(there.onu, sent.message);
-    let back = advance(ends_of(there.olt, set.onu), 100);
-    let olt = olt_calls::acknowledge(back.olt, 5, set.acknowledgement);
-    ends_of(olt, back.onu)
+    take_clock(there, sent.message)
 }
 
-// The offer is lost, the retry arrives and is acknowledged.
+fn take_key(l: Line, message: KeyMessage) -> Line {
+    let taken = onu_calls::key_message(l.onu, message);
+    let there = advance(ends_of(l.olt, taken.onu), 100);
+    let olt = olt_calls::acknowledge(there.olt, 6, taken.acknowledgement);
+    ends_of(olt, there.onu)
+}
+
+// The offer is lost, the retry arrives.
 fn give_key(l: Line) -> Line {
     let lost = olt_calls::offer(l.olt, 5);
     let sent = olt_calls::retry(lost.olt, 6);
     let there = advance(ends_of(sent.olt, l.onu), 150);
-    let taken = onu_calls::key_message(there.onu, sent.message);
-    let back = advance(ends_of(there.olt, taken.onu), 100);
-    let olt = olt_calls::acknowledge(back.olt, 6, taken.acknowledgement);
-    ends_of(olt, back.onu)
+    take_key(there, sent.message)
+}
+
+// Clear, there and back.
+fn clear() -> Line {
+    up(down(start(), 5, 0x00), 5, 0x80)
 }
 
 // The timer is up: the OLT switches, and the unit follows.
 fn switch(l: Line) -> Line {
-    let up_to = advance(l, 1000);
-    up(down(up_to, 5, 0x01), 6, 0x81)
+    up(down(advance(l, 1000), 5, 0x01), 6, 0x81)
 }
 
-// Each call that can be refused at what it is lent, and the end of ticks.
+// LLID 9 is no unit's, nothing is offered, and ticks end at 2^62.
 fn olt_refusals(olt: Olt) {
-    let none = olt_calls::capture(olt, 9);
-    let fits = olt_calls::retry(none, 5);
-    let sent = olt_calls::send(fits.olt, 9, 0x00);
-    let taken = olt_calls::receive(sent.olt, sent.envelope);
-    olt_calls::advance(taken, 0x4000_0000_0000_0000);
+    let same = olt_calls::retry(olt_calls::capture(olt, 9), 5);
+    let sent = olt_calls::send(same.olt, 9, 0x00);
+    let received = olt_calls::receive(sent.olt, sent.envelope);
+    olt_calls::advance(received, 0x4000_0000_0000_0000);
 }
 
 fn onu_refusals(onu: Onu) {
     let sent = onu_calls::send(onu, 9, 0x80);
-    let taken = onu_calls::receive(sent.onu, sent.envelope);
-    onu_calls::advance(taken, 0x4000_0000_0000_0000);
+    let received = onu_calls::receive(sent.onu, sent.envelope);
+    onu_calls::advance(received, 0x4000_0000_0000_0000);
+}
+
+// A MAC of 2^48, a LocalTime of 2^32.
+fn fresh_refusals() {
+    olt_calls::fresh(0x1_0000_0000_0000, 0);
+    onu_calls::fresh(values::OLT_MAC, 0x1_0000_0000);
 }
 
 pub(crate) fn play() {
-    let clear = up(down(start(), 5, 0x00), 5, 0x80);
-    let done = switch(give_key(set_clock(clear)));
+    let done = switch(give_key(set_clock(clear())));
     olt_refusals(done.olt);
     onu_refusals(done.onu);
-    olt_calls::fresh(0x1_0000_0000_0000, 0);
-    onu_calls::fresh(values::OLT_MAC, 0x1_0000_0000);
+    fresh_refusals();
 }

@@ -12,5 +12,4 @@ fn main() {
     line::play();
     payload_calls::play();
     block_calls::play();
-    block_calls::example();
 }

@@ -51,8 +51,8 @@ fn advanced(olt: Olt, n: u64) -> OltAnswer {
 pub(crate) fn advance(olt: Olt, n: u64) -> Olt {
     let answer = advanced(olt, n);
     show::begin(b"olt_advance", answer.number);
-    show::part(b", tick ", answer.olt.shared.tick);
-    show::hex(b", clock ", answer.olt.shared.clock, 12);
+    show::decimal(answer.olt.shared.tick);
+    show::hex(answer.olt.shared.clock, 12);
     show::end();
     answer.olt
 }
@@ -74,13 +74,15 @@ pub(crate) fn clock_send(olt: Olt, llid: u16) -> ClockSent {
 pub(crate) fn offer(olt: Olt, llid: u16) -> KeySent {
     let key = values::key();
     let answer = jazmotip_olt_offer(olt, llid, &key);
-    show::key_message(b"olt_offer", answer.number, answer.message);
+    show::begin(b"olt_offer", answer.number);
+    show::key_message(answer.message);
     answer
 }
 
 pub(crate) fn retry(olt: Olt, llid: u16) -> KeySent {
     let answer = jazmotip_olt_retry(olt, llid);
-    show::key_message(b"olt_retry", answer.number, answer.message);
+    show::begin(b"olt_retry", answer.number);
+    show::key_message(answer.message);
     answer
 }
 

@@ -36,7 +36,7 @@ fn advanced(onu: Onu, n: u64) -> OnuAnswer {
 pub(crate) fn advance(onu: Onu, n: u64) -> Onu {
     let answer = advanced(onu, n);
     show::begin(b"onu_advance", answer.number);
-    show::part(b", tick ", answer.onu.tick);
+    show::decimal(answer.onu.tick);
     show::stamps(answer.onu.clock.rx, answer.onu.clock.time);
     show::end();
     answer.onu

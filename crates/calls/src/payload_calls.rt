@@ -12,7 +12,7 @@ fn expand() -> RoundKeys {
     let keys = jazmotip_expand_key(&key);
     let octets = keys.octets;
     show::name(b"expand_key");
-    show::octets(b": ", &octets);
+    show::octets(&octets);
     keys
 }
 
@@ -36,7 +36,7 @@ fn seal_expanded(encenabled: u8, keys: RoundKeys) {
 fn count() {
     let payload = values::payload();
     show::name(b"count");
-    show::part(b": ", jazmotip_count(&payload));
+    show::decimal(jazmotip_count(&payload));
     show::end();
 }
 

@@ -44,8 +44,8 @@ pub(crate) fn olt_rows() {
         0,
     );
     olt_lent(
-        b"D39 flag 2, send",
-        b"D39 flag 2, receipt",
+        b"D7 flag 2, send",
+        b"D7 flag 2, receipt",
         ready::marked(ready::olt(1, 1, 1), 2, 0),
         1,
     );
@@ -107,8 +107,8 @@ pub(crate) fn onu_rows() {
         values::header(0x00, 5, 0, 0, 7),
     );
     onu_lent(
-        b"D39 held 2, send",
-        b"D39 held 2, receipt",
+        b"D7 held 2, send",
+        b"D7 held 2, receipt",
         ready::onu(1, 2),
         values::header(0x00, 5, 1, 1, 7),
     );

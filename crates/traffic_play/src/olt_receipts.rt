@@ -74,8 +74,8 @@ fn headed(label: &[u8], n: u32, llid: u16, encenabled: u8, enckey: u8, epam: u8)
 }
 
 pub(crate) fn header_rows() {
-    headed(b"D46 EncEnabled 2", 1, 5, 2, 1, 1);
-    headed(b"D46 EncKey 2", 1, 5, 1, 2, 1);
+    headed(b"D39 EncEnabled 2", 1, 5, 2, 1, 1);
+    headed(b"D39 EncKey 2", 1, 5, 1, 2, 1);
     headed(b"EncKey 1 with EncEnabled 0", 0, 5, 0, 1, 1);
     headed(b"D8 EPAM 64", 1, 5, 1, 1, 64);
     headed(b"D8 EPAM 65, the clock's low seven bits", 1, 5, 1, 1, 65);

@@ -73,8 +73,8 @@ fn headed(label: &[u8], o: Onu, llid: u16, encenabled: u8, enckey: u8, epam: u8)
 }
 
 pub(crate) fn header_rows() {
-    headed(b"D46 EncEnabled 2", one(), 5, 2, 1, 7);
-    headed(b"D46 EncKey 2", one(), 5, 1, 2, 7);
+    headed(b"D39 EncEnabled 2", one(), 5, 2, 1, 7);
+    headed(b"D39 EncKey 2", one(), 5, 1, 2, 7);
     headed(b"EncKey 1 with EncEnabled 0", ready::onu(0, 0), 5, 0, 1, 7);
     headed(b"D8 EPAM 64", one(), 5, 1, 1, 64);
     headed(b"LLID 7", one(), 7, 1, 1, 7);

@@ -1,15 +1,14 @@
--- Laws of the cipher's steps: a round column by column, and the rounds one by one. Assumes nothing.
+-- Laws of the cipher's steps: a round column by column, and the rounds by three. Assumes nothing.
 use mathlib.Core.Path.{_≡_, refl, ap, ap₂, sym, _∙_}
 use mathlib.Core.List.{List, [], _∷_, _++_}
-use Prim.Native.Nat.{ℕ, zero, suc, _+_, _-_, _≤_}
-use native.Mathlib.Omega.{arith}
+use Prim.Native.Nat.{ℕ}
 use lib.Bits.{xor-comm}
 use lib.ListN.{getD}
 use Rattle.gf256.specs.Field.{_⊕_, _•_, xTimes}
 use Rattle.gf256.specs.Substitution.{sbox}
 use Rattle.gf256.proofs.Field.{times-two, times-three}
-use Rattle.sealing.specs.Cipher.{shiftRows, mixColumn, roundKey, round, rounds}
-use Rattle.sealing.specs.Steps.{roundColumn}
+use Rattle.sealing.specs.Cipher.{mixColumn, roundKey, round, rounds}
+use Rattle.sealing.specs.Steps.{shiftedColumn, roundColumn}
 use Rattle.sealing.specs.Words.{word, xorWords}
 use Rattle.octets.proofs.Bits.{xor-assoc}
 
@@ -50,18 +49,18 @@ column-octets k s {a} {b} {c} {d} ea eb ec ed ea₂ eb₂ ec₂ ed₂ =
     rw (ea₂, eb₂, ec₂, ed₂) (ap (λ (m : List ℕ). xorWords m k) (mixed-sums a b c d) ∙ rw (ea, eb, ec, ed))
 
 -- a round, from its four columns
-pub round-columns : (k s : List ℕ) {t a b c d : List ℕ} → t ≡ shiftRows s
-    → a ≡ roundColumn (word k 0) (word t 0) → b ≡ roundColumn (word k 1) (word t 1)
-    → c ≡ roundColumn (word k 2) (word t 2) → d ≡ roundColumn (word k 3) (word t 3)
+pub round-columns : (k s : List ℕ) {a b c d : List ℕ}
+    → a ≡ roundColumn (word k 0) (shiftedColumn s 0) → b ≡ roundColumn (word k 1) (shiftedColumn s 1)
+    → c ≡ roundColumn (word k 2) (shiftedColumn s 2) → d ≡ roundColumn (word k 3) (shiftedColumn s 3)
     → word a 0 ++ (word b 0 ++ (word c 0 ++ word d 0)) ≡ round k s
 unfolding round roundColumn
-round-columns k s et ea eb ec ed = rw (ea, eb, ec, ed, et)
+round-columns k s ea eb ec ed = rw (ea, eb, ec, ed)
 
--- one round more
-pub rounds-more : (w s : List ℕ) (n : ℕ) → 1 ≤ n → rounds w (n + 1 - 1) s ≡ round (roundKey w n) (rounds w (n - 1) s)
+-- the nine rounds, three at a time
+pub rounds-by-three : (w s₀ : List ℕ) {s₃ s₆ s₉ : List ℕ}
+    → s₃ ≡ round (roundKey w 3) (round (roundKey w 2) (round (roundKey w 1) s₀))
+    → s₆ ≡ round (roundKey w 6) (round (roundKey w 5) (round (roundKey w 4) s₃))
+    → s₉ ≡ round (roundKey w 9) (round (roundKey w 8) (round (roundKey w 7) s₆))
+    → s₉ ≡ rounds w 9 s₀
 unfolding rounds
-rounds-more w s zero h = absurd (omega arith)
-rounds-more w s (suc m) h =
-    let now : suc m + 1 - 1 ≡ suc m = omega arith in
-    let before : suc m - 1 ≡ m = omega arith in
-    rw (now, before)
+rounds-by-three w s₀ e₃ e₆ e₉ = rw (e₉, e₆, e₃)

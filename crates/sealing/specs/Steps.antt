@@ -1,10 +1,16 @@
 -- Steps of the code that FIPS 197 does not name: a round column by column, and the key schedule 16 octets at a time. That they make
 -- up its definitions is proved. Assumes nothing.
 use mathlib.Core.List.{List, _++_}
-use Prim.Native.Nat.{ℕ, zero, suc}
+use Prim.Native.Nat.{ℕ, zero, suc, _+_, _*_, _%_}
+use lib.ListN.{getD}
+use Rattle.octets.specs.Lists.{tabulate}
 use Rattle.sealing.specs.Cipher.{mixedColumn}
 use Rattle.sealing.specs.KeyExpansion.{constantWord}
 use Rattle.sealing.specs.Words.{word, xorWords, rotWord, subWord}
+
+-- column i % 4 of a state after ShiftRows
+abbrev pub shiftedColumn : List ℕ → ℕ → List ℕ
+shiftedColumn s i = tabulate 0 4 (λ j. getD s ((4 * i + 5 * j) % 16) 0)
 
 -- one column after a round, by the word k of its key and the column s after ShiftRows
 unfoldable pub roundColumn : List ℕ → List ℕ → List ℕ

@@ -1,6 +1,6 @@
-// The forward cipher of AES-128 (FIPS 197). The tables are bound once by the caller and lent, a round takes its key as 16 octets
-// and makes a column of the state in one go, and the key is expanded by 16 octets at a time: so the loop over the rounds runs in
-// registers.
+// The forward cipher of AES-128 (FIPS 197). The tables are bound once by the caller and lent, and the key is expanded by 16 octets
+// at a time. The nine full rounds are written out column by column, in three parts with one caller each: so the compiler makes
+// one run of code of them, where a loop over the rounds would keep the state in memory.
 ghost use mathlib.Core.Path.{_≡_};
 ghost use mathlib.Core.List.{_++_};
 ghost use Prim.Native.Nat.{_<_, _+_, _*_};
@@ -9,9 +9,9 @@ ghost use Rattle.octets.specs.Lists.{tabulate, replaced};
 ghost use Rattle.gf256.specs.Field.{xTimes};
 ghost use Rattle.gf256.specs.Substitution.{sbox};
 ghost use Rattle.gf256.specs.Table.{sboxTable, doublesTable};
-ghost use Rattle.sealing.specs.Cipher.{subBytes, shiftRows, addRoundKey, round, lastRound, cipher};
+ghost use Rattle.sealing.specs.Cipher.{subBytes, shiftRows, addRoundKey, roundKey, round, lastRound, cipher};
 ghost use Rattle.sealing.specs.KeyExpansion.{constantWord, keyExpansion};
-ghost use Rattle.sealing.specs.Steps.{roundColumn, nextKey};
+ghost use Rattle.sealing.specs.Steps.{shiftedColumn, roundColumn, nextKey};
 ghost use Rattle.sealing.specs.Words.{word, xorWords, rotWord, subWord};
 
 // The eleven round keys, one after the other.
@@ -113,15 +113,23 @@ fn shift_rows(s: [u8; 16]) -> [u8; 16]
     ]
 }
 
-// SubBytes, MixColumns and AddRoundKey for one column. The sums of two octets that serve two rows are made once.
-fn round_column<'a>(subs: &'a [u8; 256], doubles: &'a [u8; 256], k: [u8; 4], s: [u8; 4]) -> [u8; 4]
-    requires { ⌜ (now subs ≡ sboxTable) × (now doubles ≡ doublesTable) ⌝ }
-    ensures { λ r. ⌜ r ≡ roundColumn k s ⌝ }
+// Column i % 4 after the round whose key holds word i of the key schedule w, from the state s before that round: SubBytes,
+// ShiftRows, MixColumns and AddRoundKey. The sums of two octets that serve two rows are made once.
+fn round_column<'a>(
+    subs: &'a [u8; 256],
+    doubles: &'a [u8; 256],
+    w: &'a [u8; 176],
+    s: &'a [u8; 16],
+    i: usize,
+) -> [u8; 4]
+    requires { ⌜ (now subs ≡ sboxTable) × (now doubles ≡ doublesTable) × (i < 44) ⌝ }
+    ensures { λ r. ⌜ r ≡ roundColumn (word (now (w .entry)) i) (shiftedColumn (now (s .entry)) i) ⌝ }
 {
-    let a = substitute(subs, s[0]);
-    let b = substitute(subs, s[1]);
-    let c = substitute(subs, s[2]);
-    let d = substitute(subs, s[3]);
+    let k = 4 * i;
+    let a = substitute(subs, s[(k + 0) % 16]);
+    let b = substitute(subs, s[(k + 5) % 16]);
+    let c = substitute(subs, s[(k + 10) % 16]);
+    let d = substitute(subs, s[(k + 15) % 16]);
     let a2 = double(doubles, a);
     let b2 = double(doubles, b);
     let c2 = double(doubles, c);
@@ -129,23 +137,11 @@ fn round_column<'a>(subs: &'a [u8; 256], doubles: &'a [u8; 256], k: [u8; 4], s: 
     let ab = a ^ b;
     let cd = c ^ d;
     [
-        a2 ^ (b ^ b2) ^ cd ^ k[0],
-        a ^ b2 ^ c2 ^ cd ^ k[1],
-        ab ^ c2 ^ (d ^ d2) ^ k[2],
-        a2 ^ ab ^ c ^ d2 ^ k[3],
+        a2 ^ (b ^ b2) ^ cd ^ w[k + 0],
+        a ^ b2 ^ c2 ^ cd ^ w[k + 1],
+        ab ^ c2 ^ (d ^ d2) ^ w[k + 2],
+        a2 ^ ab ^ c ^ d2 ^ w[k + 3],
     ]
-}
-
-fn round_step<'a>(subs: &'a [u8; 256], doubles: &'a [u8; 256], k: [u8; 16], s: [u8; 16]) -> [u8; 16]
-    requires { ⌜ (now subs ≡ sboxTable) × (now doubles ≡ doublesTable) ⌝ }
-    ensures { λ r. ⌜ r ≡ round k s ⌝ }
-{
-    let t = shift_rows(s);
-    let a = round_column(subs, doubles, word_of(k, 0), word_of(t, 0));
-    let b = round_column(subs, doubles, word_of(k, 1), word_of(t, 1));
-    let c = round_column(subs, doubles, word_of(k, 2), word_of(t, 2));
-    let d = round_column(subs, doubles, word_of(k, 3), word_of(t, 3));
-    joined(a, b, c, d)
 }
 
 fn add_round_key(k: [u8; 16], s: [u8; 16]) -> [u8; 16]
@@ -204,6 +200,87 @@ fn round_key(w: &[u8; 176], n: usize) -> [u8; 16]
     ]
 }
 
+// The rounds 1 to 3.
+fn rounds_to_3<'a>(
+    subs: &'a [u8; 256],
+    doubles: &'a [u8; 256],
+    w: &'a [u8; 176],
+    s: [u8; 16],
+) -> [u8; 16]
+    requires { ⌜ (now subs ≡ sboxTable) × (now doubles ≡ doublesTable) ⌝ }
+    ensures { λ r. ⌜ r ≡ round (roundKey (now (w .entry)) 3) (round (roundKey (now (w .entry)) 2) (round (roundKey (now (w .entry)) 1) s)) ⌝ }
+{
+    let a1 = round_column(subs, doubles, w, &s, 4);
+    let b1 = round_column(subs, doubles, w, &s, 5);
+    let c1 = round_column(subs, doubles, w, &s, 6);
+    let d1 = round_column(subs, doubles, w, &s, 7);
+    let s1 = joined(a1, b1, c1, d1);
+    let a2 = round_column(subs, doubles, w, &s1, 8);
+    let b2 = round_column(subs, doubles, w, &s1, 9);
+    let c2 = round_column(subs, doubles, w, &s1, 10);
+    let d2 = round_column(subs, doubles, w, &s1, 11);
+    let s2 = joined(a2, b2, c2, d2);
+    let a3 = round_column(subs, doubles, w, &s2, 12);
+    let b3 = round_column(subs, doubles, w, &s2, 13);
+    let c3 = round_column(subs, doubles, w, &s2, 14);
+    let d3 = round_column(subs, doubles, w, &s2, 15);
+    joined(a3, b3, c3, d3)
+}
+
+// The rounds 4 to 6, from the state after the third.
+fn rounds_to_6<'a>(
+    subs: &'a [u8; 256],
+    doubles: &'a [u8; 256],
+    w: &'a [u8; 176],
+    s: [u8; 16],
+) -> [u8; 16]
+    requires { ⌜ (now subs ≡ sboxTable) × (now doubles ≡ doublesTable) ⌝ }
+    ensures { λ r. ⌜ r ≡ round (roundKey (now (w .entry)) 6) (round (roundKey (now (w .entry)) 5) (round (roundKey (now (w .entry)) 4) s)) ⌝ }
+{
+    let a4 = round_column(subs, doubles, w, &s, 16);
+    let b4 = round_column(subs, doubles, w, &s, 17);
+    let c4 = round_column(subs, doubles, w, &s, 18);
+    let d4 = round_column(subs, doubles, w, &s, 19);
+    let s4 = joined(a4, b4, c4, d4);
+    let a5 = round_column(subs, doubles, w, &s4, 20);
+    let b5 = round_column(subs, doubles, w, &s4, 21);
+    let c5 = round_column(subs, doubles, w, &s4, 22);
+    let d5 = round_column(subs, doubles, w, &s4, 23);
+    let s5 = joined(a5, b5, c5, d5);
+    let a6 = round_column(subs, doubles, w, &s5, 24);
+    let b6 = round_column(subs, doubles, w, &s5, 25);
+    let c6 = round_column(subs, doubles, w, &s5, 26);
+    let d6 = round_column(subs, doubles, w, &s5, 27);
+    joined(a6, b6, c6, d6)
+}
+
+// The rounds 7 to 9, from the state after the sixth.
+fn rounds_to_9<'a>(
+    subs: &'a [u8; 256],
+    doubles: &'a [u8; 256],
+    w: &'a [u8; 176],
+    s: [u8; 16],
+) -> [u8; 16]
+    requires { ⌜ (now subs ≡ sboxTable) × (now doubles ≡ doublesTable) ⌝ }
+    ensures { λ r. ⌜ r ≡ round (roundKey (now (w .entry)) 9) (round (roundKey (now (w .entry)) 8) (round (roundKey (now (w .entry)) 7) s)) ⌝ }
+{
+    let a7 = round_column(subs, doubles, w, &s, 28);
+    let b7 = round_column(subs, doubles, w, &s, 29);
+    let c7 = round_column(subs, doubles, w, &s, 30);
+    let d7 = round_column(subs, doubles, w, &s, 31);
+    let s7 = joined(a7, b7, c7, d7);
+    let a8 = round_column(subs, doubles, w, &s7, 32);
+    let b8 = round_column(subs, doubles, w, &s7, 33);
+    let c8 = round_column(subs, doubles, w, &s7, 34);
+    let d8 = round_column(subs, doubles, w, &s7, 35);
+    let s8 = joined(a8, b8, c8, d8);
+    let a9 = round_column(subs, doubles, w, &s8, 36);
+    let b9 = round_column(subs, doubles, w, &s8, 37);
+    let c9 = round_column(subs, doubles, w, &s8, 38);
+    let d9 = round_column(subs, doubles, w, &s8, 39);
+    joined(a9, b9, c9, d9)
+}
+
 // The cipher, with both tables lent: for a loop over blocks.
 pub(crate) fn encrypt_with<'a>(
     subs: &'a [u8; 256],
@@ -215,12 +292,11 @@ pub(crate) fn encrypt_with<'a>(
     ensures { λ r. ⌜ r ≡ cipher (keys .octets) block ⌝ }
 {
     let w = keys.octets;
-    let mut t = add_round_key(round_key(&w, 0), block);
-    for n in 1..10usize {
-        let u = round_step(subs, doubles, round_key(&w, n), t);
-        t = u;
-    }
-    last_round(subs, round_key(&w, 10), t)
+    let s0 = add_round_key(round_key(&w, 0), block);
+    let s3 = rounds_to_3(subs, doubles, &w, s0);
+    let s6 = rounds_to_6(subs, doubles, &w, s3);
+    let s9 = rounds_to_9(subs, doubles, &w, s6);
+    last_round(subs, round_key(&w, 10), s9)
 }
 
 pub fn encrypt_block(keys: RoundKeys, block: [u8; 16]) -> [u8; 16]

@@ -6,26 +6,41 @@ use borrow.Author.Needs.{needs}
 use Rattle.sealing.proofs.aes128.round_column.Statement.{statement}
 use Rattle.sealing.proofs.aes128.round_column.Tie as tie
 
-array-read-substitute : tie.Need-array-read-substitute
-array-read-substitute c = search needs
+mul-k : tie.Need-mul-k
+mul-k c = search needs
+
+add-substitute : tie.Need-add-substitute
+add-substitute c = search needs
+
+element-copy-out-substitute : tie.Need-element-copy-out-substitute
+element-copy-out-substitute c = search needs
 
 substitute-requires : tie.Need-substitute-requires
 substitute-requires c κs = search needs
 
-array-read-substitute-2 : tie.Need-array-read-substitute-2
-array-read-substitute-2 c = search needs
+add-substitute-2 : tie.Need-add-substitute-2
+add-substitute-2 c = search needs
+
+element-copy-out-substitute-2 : tie.Need-element-copy-out-substitute-2
+element-copy-out-substitute-2 c = search needs
 
 substitute-requires-2 : tie.Need-substitute-requires-2
 substitute-requires-2 c κs = search needs
 
-array-read-substitute-3 : tie.Need-array-read-substitute-3
-array-read-substitute-3 c = search needs
+add-substitute-3 : tie.Need-add-substitute-3
+add-substitute-3 c = search needs
+
+element-copy-out-substitute-3 : tie.Need-element-copy-out-substitute-3
+element-copy-out-substitute-3 c = search needs
 
 substitute-requires-3 : tie.Need-substitute-requires-3
 substitute-requires-3 c κs = search needs
 
-array-read-substitute-4 : tie.Need-array-read-substitute-4
-array-read-substitute-4 c = search needs
+add-substitute-4 : tie.Need-add-substitute-4
+add-substitute-4 c = search needs
+
+element-copy-out-substitute-4 : tie.Need-element-copy-out-substitute-4
+element-copy-out-substitute-4 c = search needs
 
 substitute-requires-4 : tie.Need-substitute-requires-4
 substitute-requires-4 c κs = search needs
@@ -42,48 +57,70 @@ double-requires-3 c κs = search needs
 double-requires-4 : tie.Need-double-requires-4
 double-requires-4 c κs = search needs
 
-array-read-t30 : tie.Need-array-read-t30
-array-read-t30 c = search needs
+add-t17 : tie.Need-add-t17
+add-t17 c = search needs
 
-array-read-t37 : tie.Need-array-read-t37
-array-read-t37 c = search needs
+element-copy-out-t32 : tie.Need-element-copy-out-t32
+element-copy-out-t32 c = search needs
 
-array-read-t44 : tie.Need-array-read-t44
-array-read-t44 c = search needs
+add-t18 : tie.Need-add-t18
+add-t18 c = search needs
 
-array-read-t51 : tie.Need-array-read-t51
-array-read-t51 c = search needs
+element-copy-out-t39 : tie.Need-element-copy-out-t39
+element-copy-out-t39 c = search needs
+
+add-t44 : tie.Need-add-t44
+add-t44 c = search needs
+
+element-copy-out-t47 : tie.Need-element-copy-out-t47
+element-copy-out-t47 c = search needs
+
+add-t52 : tie.Need-add-t52
+add-t52 c = search needs
+
+element-copy-out-t55 : tie.Need-element-copy-out-t55
+element-copy-out-t55 c = search needs
 
 returns : tie.Need-returns
 returns c =
-    let doubled = c .before .before .before in
-    let substituted = doubled .before in
-    column-octets _ _ (substituted .before .before .before .substitute .ensures) (substituted .before .before .substitute2 .ensures)
-    (substituted .before .substitute3 .ensures)
+    let doubled = c .before .before .before .before in
+    let substituted = doubled .before .before .before .before in
+    column-octets _ _ (substituted .before .before .before .before .before .before .substitute .ensures)
+    (substituted .before .before .before .before .substitute2 .ensures)
+    (substituted .before .before .substitute3 .ensures)
     (substituted .substitute4 .ensures)
-    (doubled .double .ensures)
-    (c .before .before .double2 .ensures)
-    (c .before .double3 .ensures)
-    (c .double4 .ensures)
+    (doubled .before .before .before .double .ensures)
+    (doubled .before .before .double2 .ensures)
+    (doubled .before .double3 .ensures)
+    (doubled .double4 .ensures)
 
 pub round-column-spec : {M : Type 1} → statement M
 round-column-spec =
     tie.close
     (tie.spec
-    array-read-substitute
+    mul-k
+    add-substitute
+    element-copy-out-substitute
     substitute-requires
-    array-read-substitute-2
+    add-substitute-2
+    element-copy-out-substitute-2
     substitute-requires-2
-    array-read-substitute-3
+    add-substitute-3
+    element-copy-out-substitute-3
     substitute-requires-3
-    array-read-substitute-4
+    add-substitute-4
+    element-copy-out-substitute-4
     substitute-requires-4
     double-requires
     double-requires-2
     double-requires-3
     double-requires-4
-    array-read-t30
-    array-read-t37
-    array-read-t44
-    array-read-t51
+    add-t17
+    element-copy-out-t32
+    add-t18
+    element-copy-out-t39
+    add-t44
+    element-copy-out-t47
+    add-t52
+    element-copy-out-t55
     returns)

@@ -89,10 +89,12 @@ class Line:
     def refusals(self):
         show("olt_capture", self.olt.capture(9))
         self.offered("olt_retry", *self.olt.retry(5))
-        self.receive("olt", self.send("olt", 9, 0x00))
         self.olt_advance(2**62)
-        self.receive("onu", self.send("onu", 9, 0x80))
+        # a MAC of 2^48
+        show("olt_fresh", 1)
+        self.send("onu", 9, 0x80)
         self.onu_advance(2**62)
+        show("onu_fresh", 1)
 
 
 def ends():
@@ -105,9 +107,6 @@ def ends():
     line.down(5, 0x01)
     line.up(6, 0x81)
     line.refusals()
-    # a MAC of 2^48, a LocalTime of 2^32
-    show("olt_fresh", 1)
-    show("onu_fresh", 1)
 
 
 # ---- payloads
@@ -178,7 +177,6 @@ def open_row(settings, block):
 def blocks():
     settings, good = reader.settings(3), reader.block(CLEAR, ONE)
     directory_row(good)
-    directory_row(b"")
     directory_row(reader.block(CLEAR, ONE, pairs=[(19, 16), (34, 25)]))
     directory_row(reader.block(CLEAR, ONE, pairs=[(18, 16), (35, 25)]))
     directory_row(reader.block(CLEAR, ONE, pairs=[(18, 17), (35, 25)]))
@@ -187,10 +185,7 @@ def blocks():
         verdict_row(settings, good, k)
     for k in (1, 2, 3):
         payload_row(good, k)
-    payload_row(b"", 1)
     open_row(settings, good)
-    open_row(b"", good)
-    verdict_row(reader.settings(1), good, 2)
     text = reader.listing(*reader.PAPER)
     print(f"jazmotip_capture_list {len(text)}\n{text}", end="")
 

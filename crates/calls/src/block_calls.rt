@@ -56,46 +56,30 @@ fn directory_of(first: u8, length: u8, second: u8, eqs: u8) {
     directory(&block);
 }
 
-// The whole; no block; pairs 1 and 2 off the chain, and off the length.
+// Good; pairs 1 and 2 off the chain, and off the length.
 fn directories() {
     directory_of(18, 16, 34, 1);
-    directory(b"");
     directory_of(19, 16, 34, 1);
     directory_of(18, 16, 35, 1);
     directory_of(18, 17, 35, 1);
     directory_of(18, 16, 34, 2);
 }
 
-// Clear, to be opened, no such record.
-fn verdicts(settings: &[u8], block: &[u8]) {
+// Record 1 is clear, record 2 is to be opened, and there is no record 3.
+fn records(settings: &[u8], block: &[u8]) {
     verdict(settings, block, 1);
     verdict(settings, block, 2);
     verdict(settings, block, 3);
-}
-
-fn payloads(block: &[u8]) {
     payload(block, 1);
     payload(block, 2);
     payload(block, 3);
-    payload(b"", 1);
-}
-
-fn openings(settings: &[u8], block: &[u8]) {
     open(settings, block);
-    open(b"", block);
 }
 
-fn records(block: &[u8]) {
-    let settings = values::settings(3);
-    verdicts(&settings, block);
-    payloads(block);
-    openings(&settings, block);
-}
-
-// Key 1 is absent.
-fn absent(block: &[u8]) {
-    let settings = values::settings(1);
-    verdict(&settings, block, 2);
+fn two_records() {
+    let settings = values::settings();
+    let block = values::block(18, 16, 34, 1);
+    records(&settings, &block);
 }
 
 // 01's example.
@@ -107,8 +91,6 @@ fn example() {
 
 pub(crate) fn play() {
     directories();
-    let block = values::block(18, 16, 34, 1);
-    records(&block);
-    absent(&block);
+    two_records();
     example();
 }

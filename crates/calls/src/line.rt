@@ -37,16 +37,18 @@ fn start() -> Line {
 }
 
 fn down(l: Line, llid: u16, index: u8) -> Line {
-    let sent = olt_calls::send(l.olt, llid, index);
+    let mut octets = values::lent();
+    let sent = olt_calls::send(l.olt, llid, index, &mut octets);
     let there = advance(ends_of(sent.olt, l.onu), 150);
-    let onu = onu_calls::receive(there.onu, sent.envelope);
+    let onu = onu_calls::receive(there.onu, sent.header, &octets);
     ends_of(there.olt, onu)
 }
 
 fn up(l: Line, llid: u16, index: u8) -> Line {
-    let sent = onu_calls::send(l.onu, llid, index);
+    let mut octets = values::lent();
+    let sent = onu_calls::send(l.onu, llid, index, &mut octets);
     let there = advance(ends_of(l.olt, sent.onu), 100);
-    let olt = olt_calls::receive(there.olt, sent.envelope);
+    let olt = olt_calls::receive(there.olt, sent.header, &octets);
     ends_of(olt, there.onu)
 }
 
@@ -94,27 +96,21 @@ fn switch(l: Line) -> Line {
 
 // LLID 9 is no unit's, nothing is offered, and ticks end at 2^62.
 fn olt_refusals(olt: Olt) {
-    let same = olt_calls::retry(olt_calls::capture(olt, 9), 5);
-    let sent = olt_calls::send(same.olt, 9, 0x00);
-    let received = olt_calls::receive(sent.olt, sent.envelope);
-    olt_calls::advance(received, 0x4000_0000_0000_0000);
+    olt_calls::capture(olt, 9);
+    olt_calls::retry(olt, 5);
+    olt_calls::advance(olt, 0x4000_0000_0000_0000);
+    olt_calls::fresh(0x1_0000_0000_0000, 0);
 }
 
 fn onu_refusals(onu: Onu) {
-    let sent = onu_calls::send(onu, 9, 0x80);
-    let received = onu_calls::receive(sent.onu, sent.envelope);
-    onu_calls::advance(received, 0x4000_0000_0000_0000);
-}
-
-// A MAC of 2^48, a LocalTime of 2^32.
-fn fresh_refusals() {
-    olt_calls::fresh(0x1_0000_0000_0000, 0);
-    onu_calls::fresh(values::OLT_MAC, 0x1_0000_0000);
+    let mut octets = values::lent();
+    onu_calls::send(onu, 9, 0x80, &mut octets);
+    onu_calls::advance(onu, 0x4000_0000_0000_0000);
+    onu_calls::fresh(0x1_0000_0000_0000, 0);
 }
 
 pub(crate) fn play() {
     let done = switch(give_key(set_clock(clear())));
     olt_refusals(done.olt);
     onu_refusals(done.onu);
-    fresh_refusals();
 }

@@ -17,17 +17,7 @@ use jazmotip::at_olt::jazmotip_olt_receive;
 use jazmotip::at_olt::jazmotip_olt_register;
 use jazmotip::at_olt::jazmotip_olt_retry;
 use jazmotip::at_olt::jazmotip_olt_send;
-
-pub struct Envelope {
-    pub header: Header,
-    pub octets: [u8; 27],
-}
-
-// The end after a send, and what it handed over.
-pub struct FromOlt {
-    pub olt: Olt,
-    pub envelope: Envelope,
-}
+use traffic::OltSent;
 
 pub(crate) fn fresh(mac: u64, clock: u64) -> Olt {
     let answer = jazmotip_olt_fresh(mac, clock);
@@ -92,25 +82,18 @@ pub(crate) fn acknowledge(olt: Olt, llid: u16, acknowledgement: Acknowledgement)
     answer.olt
 }
 
-pub(crate) fn send(olt: Olt, llid: u16, index: u8) -> FromOlt {
+pub(crate) fn send(olt: Olt, llid: u16, index: u8, output: &mut [u8]) -> OltSent {
     let payload = values::payload();
-    let mut octets = values::lent();
-    let answer = jazmotip_olt_send(olt, llid, index, &payload, &mut octets);
-    let next = answer.olt;
-    let header = answer.header;
+    let answer = jazmotip_olt_send(olt, llid, index, &payload, output);
     show::begin(b"olt_send", answer.number);
-    show::header(header);
-    show::passed(answer.count, &octets);
-    FromOlt {
-        olt: next,
-        envelope: Envelope { header, octets },
-    }
+    show::header(answer.header);
+    show::passed(answer.count, output);
+    answer
 }
 
-pub(crate) fn receive(olt: Olt, envelope: Envelope) -> Olt {
-    let octets = envelope.octets;
+pub(crate) fn receive(olt: Olt, header: Header, octets: &[u8]) -> Olt {
     let mut output = values::lent();
-    let answer = jazmotip_olt_receive(olt, envelope.header, &octets, &mut output);
+    let answer = jazmotip_olt_receive(olt, header, octets, &mut output);
     show::begin(b"olt_receive", answer.number);
     show::passed(answer.count, &output);
     answer.olt

@@ -1,8 +1,8 @@
 // The calls of the ONU, each with its line.
-use crate::olt_calls::Envelope;
 use crate::show;
 use crate::values;
 use clock::Stamps;
+use ends::Header;
 use ends::KeyMessage;
 use ends::Onu;
 use ends::OnuAcknowledged;
@@ -13,12 +13,7 @@ use jazmotip::at_onu::jazmotip_onu_fresh;
 use jazmotip::at_onu::jazmotip_onu_key_message;
 use jazmotip::at_onu::jazmotip_onu_receive;
 use jazmotip::at_onu::jazmotip_onu_send;
-
-// The end after a send, and what it handed over.
-pub struct FromOnu {
-    pub onu: Onu,
-    pub envelope: Envelope,
-}
+use traffic::OnuSent;
 
 pub(crate) fn fresh(mac: u64, time: u64) -> Onu {
     let answer = jazmotip_onu_fresh(values::unit(), mac, time);
@@ -57,25 +52,18 @@ pub(crate) fn key_message(onu: Onu, message: KeyMessage) -> OnuAcknowledged {
     answer
 }
 
-pub(crate) fn send(onu: Onu, llid: u16, index: u8) -> FromOnu {
+pub(crate) fn send(onu: Onu, llid: u16, index: u8, output: &mut [u8]) -> OnuSent {
     let payload = values::payload();
-    let mut octets = values::lent();
-    let answer = jazmotip_onu_send(onu, llid, index, &payload, &mut octets);
-    let next = answer.onu;
-    let header = answer.header;
+    let answer = jazmotip_onu_send(onu, llid, index, &payload, output);
     show::begin(b"onu_send", answer.number);
-    show::header(header);
-    show::passed(answer.count, &octets);
-    FromOnu {
-        onu: next,
-        envelope: Envelope { header, octets },
-    }
+    show::header(answer.header);
+    show::passed(answer.count, output);
+    answer
 }
 
-pub(crate) fn receive(onu: Onu, envelope: Envelope) -> Onu {
-    let octets = envelope.octets;
+pub(crate) fn receive(onu: Onu, header: Header, octets: &[u8]) -> Onu {
     let mut output = values::lent();
-    let answer = jazmotip_onu_receive(onu, envelope.header, &octets, &mut output);
+    let answer = jazmotip_onu_receive(onu, header, octets, &mut output);
     show::begin(b"onu_receive", answer.number);
     show::passed(answer.count, &output);
     answer.onu

@@ -80,10 +80,10 @@ pub(crate) fn nonce() -> Nonce {
     }
 }
 
-// Two keys, of which that of index 1 is the one above where `presence` is 3, the OLT's MAC and LLID 5.
-pub(crate) fn settings(presence: u8) -> [u8; 41] {
+// Two keys, of which 1 is the one above, the OLT's MAC and LLID 5.
+pub(crate) fn settings() -> [u8; 41] {
     [
-        presence,
+        3,
         0,
         1,
         2,

@@ -143,5 +143,5 @@ start-right w f =
       paired = length-map (w .sites) freshUnit ∙ sym (length-map (w .sites) freshLane);
       lane = λ u h. lanes-right w (start w .olt) (w .sites) u (newOnu noIdentity 0 0) (f .onus) h;
       apart = λ u v h k a b e. true-false (sym a ∙ unregistered u);
-      keys = λ u v m n h k e. absurd (omega (arith, h, silent u));
+      keys = λ u v m n h k e. absurd (omega (arith, h, none u));
     }

@@ -29,6 +29,7 @@ struct scene {
     jazmotip_header downstream;
     const struct work *eight; /* a payload of 8 EQs */
     const struct work *work;  /* a payload or a capture block, for the calls that take no end */
+    uint8_t number;           /* what a call that names a unit answers: 0, or 2 in an empty table */
     uint8_t refused;          /* not 0 once a call was answered with another number than it should be */
 };
 
@@ -48,20 +49,20 @@ static const uint8_t second_key[16] = {1};
 CALL(olt_fresh, jazmotip_olt_answer, jazmotip_olt_fresh(OLT_MAC, 0), 0)
 CALL(olt_register, jazmotip_olt_answer, jazmotip_olt_register(s->one_less, s->identity, 100, INTERVAL), 0)
 CALL(olt_register_full, jazmotip_olt_answer, jazmotip_olt_register(s->steady, s->stranger, 100, INTERVAL), 4)
-CALL(olt_capture, jazmotip_olt_answer, jazmotip_olt_capture(s->steady, s->llid), 0)
-CALL(olt_clock_send, jazmotip_clock_sent, jazmotip_olt_clock_send(s->captured, s->llid), 0)
-CALL(olt_offer, jazmotip_key_sent, jazmotip_olt_offer(s->steady, s->llid, second_key), 0)
-CALL(olt_retry, jazmotip_key_sent, jazmotip_olt_retry(s->offered, s->llid), 0)
+CALL(olt_capture, jazmotip_olt_answer, jazmotip_olt_capture(s->steady, s->llid), s->number)
+CALL(olt_clock_send, jazmotip_clock_sent, jazmotip_olt_clock_send(s->captured, s->llid), s->number)
+CALL(olt_offer, jazmotip_key_sent, jazmotip_olt_offer(s->steady, s->llid, second_key), s->number)
+CALL(olt_retry, jazmotip_key_sent, jazmotip_olt_retry(s->offered, s->llid), s->number)
 CALL(olt_acknowledge, jazmotip_olt_answer,
-     jazmotip_olt_acknowledge(s->offered, s->llid, ((jazmotip_acknowledgement){2, 1})), 0)
+     jazmotip_olt_acknowledge(s->offered, s->llid, ((jazmotip_acknowledgement){2, 1})), s->number)
 CALL(olt_send_0, jazmotip_olt_sent,
-     jazmotip_olt_send(s->steady, s->llid, 0, s->eight->input, 0, s->eight->output, 0), 0)
+     jazmotip_olt_send(s->steady, s->llid, 0, s->eight->input, 0, s->eight->output, 0), s->number)
 CALL(olt_send_8, jazmotip_olt_sent,
-     jazmotip_olt_send(s->steady, s->llid, 0, s->eight->input, 72, s->eight->output, 72), 0)
+     jazmotip_olt_send(s->steady, s->llid, 0, s->eight->input, 72, s->eight->output, 72), s->number)
 CALL(olt_receive_0, jazmotip_olt_received,
-     jazmotip_olt_receive(s->steady, s->upstream, s->eight->input, 0, s->eight->output, 0), 0)
+     jazmotip_olt_receive(s->steady, s->upstream, s->eight->input, 0, s->eight->output, 0), s->number)
 CALL(olt_receive_8, jazmotip_olt_received,
-     jazmotip_olt_receive(s->steady, s->upstream, s->eight->input, 72, s->eight->output, 72), 0)
+     jazmotip_olt_receive(s->steady, s->upstream, s->eight->input, 72, s->eight->output, 72), s->number)
 
 static void olt_advance(void *job)
 {
@@ -215,6 +216,19 @@ static void make_scene(struct scene *s, int units, int llids, int stride)
     join_onu(s);
 }
 
+/* A table without units: a unit can be registered, and every call that names one is refused. */
+static void make_empty_scene(struct scene *s)
+{
+    jazmotip_olt olt;
+    STEP(olt, jazmotip_olt_answer, jazmotip_olt_fresh(OLT_MAC, 0));
+    s->one_less = s->captured = s->offered = s->steady = s->advancing = olt;
+    s->identity = identity_of(0, 1, 1);
+    s->llid = s->identity.llids[0];
+    s->upstream = (jazmotip_header){0x80, s->llid, 1, 1, 0};
+    s->eight = &works[1];
+    s->number = JAZMOTIP_UNKNOWN_LLID;
+}
+
 /* ------------------------------------------------------------------------------------------------------------------ Tables */
 
 /* A call on several scenes in turn: the ns of each, and the deepest stack. NULL where a call has no such scene. */
@@ -258,9 +272,9 @@ static void print_rows(const struct row *rows, int n, struct scene *const *scene
 
 static void print_ends(void)
 {
-    static struct scene one, full, worst;
-    struct scene *const tables[] = {&one, &full, &worst}, *const no_table[] = {&one, NULL, NULL},
-                 *const full_tables[] = {NULL, &full, &worst}, *const units[] = {&one, &full};
+    static struct scene empty, one, full, worst;
+    struct scene *const tables[] = {&empty, &one, &full, &worst}, *const no_table[] = {&empty, NULL, NULL, NULL},
+                 *const full_tables[] = {NULL, NULL, &full, &worst}, *const units[] = {&one, &full};
     static const struct row olt[] = {
         {"register the table's last unit", olt_register},
         {"advance", olt_advance},
@@ -284,14 +298,15 @@ static void print_ends(void)
         {"receive, 0 EQs", onu_receive_0},
         {"receive, 8 EQs", onu_receive_8},
     };
+    make_empty_scene(&empty);
     make_scene(&one, 1, 1, 1);
     make_scene(&full, 16, 4, 1);
     make_scene(&worst, 16, 4, 256);
-    printf("| OLT call, ns | 1 unit, 1 LLID | 16 units of 4 LLIDs | the same, LLIDs alike modulo 256 | stack, octets |\n"
-           "|---|---:|---:|---:|---:|\n");
-    print_row("fresh", olt_fresh, no_table, 3);
-    print_row("register one unit more, refused 4", olt_register_full, full_tables, 3);
-    print_rows(ROWS(olt), tables, 3);
+    printf("| OLT call, ns | empty table, units unknown | 1 unit, 1 LLID | 16 units of 4 LLIDs |"
+           " the same, LLIDs alike modulo 256 | stack, octets |\n|---|---:|---:|---:|---:|---:|\n");
+    print_row("fresh", olt_fresh, no_table, 4);
+    print_row("register one unit more, refused 4", olt_register_full, full_tables, 4);
+    print_rows(ROWS(olt), tables, 4);
     printf("\n| ONU call, ns | 1 LLID | 4 LLIDs | stack, octets |\n|---|---:|---:|---:|\n");
     print_rows(ROWS(onu), units, 2);
     printf("\n");

@@ -1,10 +1,11 @@
 #!/usr/bin/env python3
-"""What the program `exchange` must print: both ends without send and receive, written from document 01 and the decisions on it
-(docs/DECISIONS.md).
+"""What the program `exchange` must print: its script, played on both ends without send and receive, which are written from document 01
+and the decisions on it (docs/DECISIONS.md).
 
-usage: tools/exchange.py > crates/exchange/stdout
+usage: tools/exchange.py < crates/exchange/stdin > crates/exchange/stdout
 Shares no code with the engine. Python 3, standard library.
 """
+import sys
 from copy import deepcopy
 
 TURN, LOCAL, LAST, SECOND = 2**48, 2**32, 2**62, 390625000
@@ -49,7 +50,8 @@ class Unit:
 
 class Olt:
     def __init__(self, mac=0, clock=0):
-        self.mac, self.clock, self.tick, self.free, self.units, self.count = mac, clock, 0, [0, 0], [], 0
+        self.mac, self.clock, self.tick, self.free, self.count = mac, clock, 0, [0, 0], 0
+        self.units = [Unit(Named(0, 0, 0, 0, 0, 0), 0, 0) for _ in range(16)]
 
     def valid(self):
         if self.count > 16:
@@ -75,7 +77,7 @@ class Olt:
             return 4
         kept = deepcopy(named)
         kept.places = kept.llids() + [0] * (4 - kept.count)
-        self.units[self.count:] = [Unit(kept, trip, interval)]
+        self.units[self.count] = Unit(kept, trip, interval)
         self.count += 1
         return 0
 
@@ -205,26 +207,16 @@ def fresh_onu(named, oltmac, time):
     return 0, Onu(kept, oltmac, time)
 
 
-# ---- rows
+# ---- the script: its grammar stands at the top of crates/exchange/src/script.rt, its words in at_olt.rt, at_onu.rt and shown.rt
 
-def section(title):
-    print(f"-- {title}")
-
-
-def row(label, number, *parts):
-    print(f"{label}: {number}" + "".join(f", {name} {value}" for name, value in parts))
-
-
-def stamps(s):
-    return ("Rx", s[0]), ("Tx", s[1])
-
-
-def message(m):
-    return ("LLID", m[0]), ("number", m[1]), ("octet", m[2][15])
-
-
-def answer(a):
-    return ("kind", a[0]), ("number", a[1])
+def number(text):
+    """Decimal, or a power of 2, with another added or taken away."""
+    for sign in "+-":
+        if sign in text:
+            left, right = text.split(sign)
+            return (number(left) + (1 if sign == "+" else -1) * number(right)) % 2**64
+    base, _, exponent = text.partition("^")
+    return int(base) ** int(exponent) if exponent else int(base)
 
 
 def key(octet):
@@ -234,536 +226,158 @@ def key(octet):
 UNIT = Named(UNIT_MAC, 5, 6)
 
 
-# ---- an exchange
-
-def exchange():
-    section("an exchange")
-    number, o = fresh_olt(OLT_MAC, 0xffffffffff00)
-    row("fresh OLT", number)
-    number, n = fresh_onu(UNIT, OLT_MAC, 0xffffff64)
-    row("fresh ONU", number)
-    row("register", o.register(UNIT, 250, 5000))
-
-    def advance(ticks):
-        row("advance of the OLT", o.advance(ticks), ("tick", o.tick))
-        row("advance of the ONU", n.advance(ticks), ("tick", n.tick))
-
-    def run(ticks):
-        advance(ticks)
-        row("timer, flag", o.units[0].flag, ("count", o.units[0].count))
-
-    def clocks(label, number):
-        row(label, number, ("OLT clock", o.clock), ("Tx", n.time), ("Rx", n.rx))
-
-    run(10)
-    row("capture", o.capture(5))
-    advance(1000)
-    number, sent = o.clock_send(5)
-    row("clock send", number, *stamps(sent))
-    advance(150)
-    number, taken = n.clock_message(sent)
-    clocks("clock message", number)
-    advance(100)
-    row("clock acknowledgement", o.acknowledge(6, taken))
-    number, lost = o.offer(6, key(17))
-    row("offer, whose message is lost", number, *message(lost))
-    advance(200)
-    number, again = o.retry(5)
-    row("retry", number, *message(again))
-    advance(150)
-    number, taken = n.key_message(again)
-    row("key message", number, *answer(taken))
-    advance(100)
-    row("key acknowledgement", o.acknowledge(5, taken))
-    run(3289)
-    run(1)
-    run(10002)
-    clocks("clocks", 0)
-
-
-# ---- the OLT's calls that name no unit
-
-def olt_with(interval=1000, clock=0, trip=250):
-    o = Olt(OLT_MAC, clock)
-    o.register(UNIT, trip, interval)
-    return o
-
-
-def full():
-    o = Olt(OLT_MAC, 0)
-    for i in range(0, 64, 4):
-        o.register(Named(3, i, i + 1, i + 2, i + 3, 4), 0, 100)
-    return o
-
-
-def fresh_olt_rows():
-    section("fresh OLT: 1")
-    for label, mac, clock in (("MAC 0, clock 0", 0, 0), ("MAC 2^48 - 1, clock 2^48 - 1", 2**48 - 1, 2**48 - 1),
-                              ("MAC 2^48", 2**48, 5), ("clock 2^48", 5, 2**48)):
-        number, o = fresh_olt(mac, clock)
-        row(label, number, ("MAC", o.mac), ("clock", o.clock))
-
-
-def register_rows():
-    def register(label, o, named, trip=250, interval=1000):
-        row(label, o.register(named, trip, interval), ("units", o.count))
-        return o
-
-    def first(label, mac=2, one=5, two=6, count=2, trip=250, interval=1000):
-        register(label, Olt(OLT_MAC, 0), Named(mac, one, two, count=count), trip, interval)
-
-    section("register: 1, 3, 4")
-    first("LLIDs 5 and 6")
-    first("MAC 2^48", mac=2**48)
-    first("no LLID", count=0)
-    first("five LLIDs", count=5)
-    first("D13 five LLIDs, one twice", two=5, count=5)
-    first("LLID twice", two=5)
-    first("D13 LLIDs 0 and 65535", one=0, two=65535)
-    first("D13 MAC 0", mac=0)
-    first("D13 MAC 2^48 - 1", mac=2**48 - 1)
-    first("round trip 1000001", trip=1000001)
-    first("interval 0", interval=0)
-    first("interval 2^47 + 1", interval=2**47 + 1)
-    first("D13 LLID twice, interval 0", two=5, interval=0)
-    first("D13 round trip 0, interval 1", trip=0, interval=1)
-    first("D13 round trip 1000000, interval 2^47", trip=1000000, interval=2**47)
-    register("LLID 6 again", olt_with(), Named(3, 9, 6))
-    register("D14 another unit of that MAC", olt_with(), Named(UNIT_MAC, 9, 10))
-    two = register("LLID 6 past the count", olt_with(), Named(3, 9, 6, count=1))
-    register("LLID 0 after that", two, Named(4, 0, 6, count=1))
-    first("D38 LLIDs 6 and 5", one=6, two=5)
-    register("D6 OLT of zeros", fresh_olt(2**48, 0)[1], Named(2, 5, 6))
-    register("seventeenth", full(), Named(2, 64, 65))
-    register("D13 seventeenth, LLID 63", full(), Named(2, 64, 63))
-    register("seventeenth, LLID 63, interval 0", full(), Named(2, 64, 63), interval=0)
-
-
-def olt_advance_rows():
-    def advance(label, tick, n):
-        o = Olt(OLT_MAC, 2**48 - 1)
-        o.tick = tick
-        row(label, o.advance(n), ("tick", o.tick), ("clock", o.clock))
-
-    def timer(label, interval, before, n):
-        o = olt_with(interval)
-        o.advance(before)
-        row(label, o.advance(n), ("count", o.units[0].count), ("flag", o.units[0].flag))
-
-    def late(label, n):
-        o = Olt(OLT_MAC, 0)
-        o.advance(7)
-        o.register(UNIT, 250, 100)
-        row(label, o.advance(n), ("count", o.units[0].count), ("flag", o.units[0].flag))
-
-    section("advance of the OLT: 17")
-    advance("by 1", 0, 1)
-    advance("D22 by 2^62", 0, 2**62)
-    advance("D22 by 2^62 + 1", 0, 2**62 + 1)
-    advance("D22 by 2^64 - 1", 0, 2**64 - 1)
-    advance("D22 at 2^62, by 0", 2**62, 0)
-    advance("D22 at 2^62, by 1", 2**62, 1)
-    timer("interval 10, by 7", 10, 0, 7)
-    timer("P5 count 7, by 3", 10, 7, 3)
-    timer("P6 count 7, by 2", 10, 7, 2)
-    timer("P7 count 7, by 25", 10, 7, 25)
-    timer("flag up, by 1", 10, 10, 1)
-    timer("D22 interval 1, by 0", 1, 0, 0)
-    timer("interval 1, by 1", 1, 0, 1)
-    timer("interval 2^47, by 2^47 - 1", 2**47, 0, 2**47 - 1)
-    timer("interval 2^47, by 2^47", 2**47, 0, 2**47)
-    timer("interval 3, by 2^62", 3, 0, 2**62)
-    late("D25 interval 100, by 93", 93)
-    late("D25 interval 100, by 100", 100)
-    o = full()
-    number = o.advance(107)
-    row("the sixteenth of interval 100, by 107", number, ("count", o.units[15].count), ("flag", o.units[15].flag))
-
-
-# ---- the OLT's calls on one unit; each takes a copy, so that an end can be used again
-
-def capture(label, o, llid):
-    o = deepcopy(o)
-    row(label, o.capture(llid))
-    return o
-
-
-def clock_send(label, o, llid):
-    o = deepcopy(o)
-    number, sent = o.clock_send(llid)
-    row(label, number, *stamps(sent))
-    return o
-
-
-def offer(label, o, llid, octet):
-    o = deepcopy(o)
-    number, sent = o.offer(llid, key(octet))
-    row(label, number, *message(sent))
-    return o
-
-
-def retry(label, o, llid):
-    o = deepcopy(o)
-    number, sent = o.retry(llid)
-    row(label, number, *message(sent), ("acknowledged", o.units[0].mark))
-
-
-def acknowledge(label, o, llid, kind, about):
-    o = deepcopy(o)
-    row(label, o.acknowledge(llid, (kind, about)), ("acknowledged", o.units[0].mark))
-    return o
-
-
-def later(o, n):
-    o = deepcopy(o)
-    o.advance(n)
-    return o
-
-
-def olt_at(confirmed, active, offered, other=34, clocked=1):
-    """Tick 100, the unit at C, A and O: the octets of key A are 17, those at the other index `other`."""
-    o = olt_with()
-    o.tick, u = 100, o.units[0]
-    u.C, u.A, u.O, u.sent, u.clocked = confirmed, active, offered, 1, clocked
-    u.keys[active % 2], u.keys[1 - active % 2] = key(17), key(other)
-    return o
-
-
-def clock_send_rows():
-    section("clock capture: 2")
-    capture("LLID 9", olt_with(), 9)
-    capture("LLID 0, which stands past the count", olt_with(), 0)
-    taken = capture("LLID 6", olt_with(), 6)
-    section("clock send: 2, 8, 16")
-    clock_send("LLID 9", taken, 9)
-    clock_send("by the other LLID", taken, 5)
-    clock_send("without capture", olt_with(), 5)
-    taken = capture("D20 capture", olt_with(), 5)
-    sent = clock_send("D20 a second after", later(taken, SECOND), 5)
-    old = later(clock_send("D20 again", sent, 5), 1)
-    stays = clock_send("D20 a second and a tick after", old, 5)
-    anew = capture("D20 a new capture", clock_send("D20 again", stays, 5), 5)
-    clock_send("D20 sent at once", anew, 5)
-    taken = capture("P2 capture", olt_with(clock=0xfffffffffff0, trip=32), 5)
-    clock_send("P2 clock send", taken, 5)
-    clock_send("P2 a tick later", later(taken, 1), 5)
-
-
-def offer_rows():
-    section("offer: 2, 5, 6, 7, 17")
-    offer("LLID 9", olt_with(), 9, 51)
-    offer("clock not acknowledged", olt_with(), 5, 51)
-    offer("clock not acknowledged, O = 1", olt_at(0, 0, 1, clocked=0), 5, 51)
-    offer("O = 1, A = 0", olt_at(0, 0, 1), 5, 51)
-    offer("O = 2, A = 1, key A", olt_at(1, 1, 2), 5, 17)
-    offer("C = 0, A = 1", olt_at(0, 1, 1), 5, 51)
-    offer("A = 1, key A", olt_at(1, 1, 1), 5, 17)
-    offer("A = 1, another key", olt_at(1, 1, 1), 5, 51)
-    offer("D21 A = 0, key of zeros", olt_at(0, 0, 0), 5, 0)
-    offer("D21 A = 2, the octets of key 1", olt_at(2, 2, 2), 5, 34)
-    offer("A = 2^32 - 2", olt_at(TOP - 1, TOP - 1, TOP - 1), 5, 51)
-    offer("D21 A = 2^32 - 1", olt_at(TOP, TOP, TOP), 5, 51)
-    offer("D21 A = 2^32 - 1, key A", olt_at(TOP, TOP, TOP), 5, 17)
-    never = olt_with()
-    never.tick, never.units[0].clocked = 100, 1
-    offer("D2 clock acknowledged, never sent", never, 5, 51)
-
-
-def retry_rows():
-    section("retry: 2, 8")
-    retry("LLID 9", olt_at(1, 1, 2), 9)
-    retry("O = A = 0", olt_with(), 5)
-    retry("O = A = 1", olt_at(1, 1, 1), 5)
-    retry("O = 2, A = 1", olt_at(1, 1, 2), 5)
-    retry("O = 2, A = 1, by LLID 6", olt_at(1, 1, 2), 6)
-    noted = acknowledge("D18 acknowledgement of 2", olt_at(1, 1, 2), 5, 2, 2)
-    retry("D18 retry after it", noted, 5)
-
-
-def acknowledge_rows():
-    section("acknowledgement: 2, 8")
-    for label, llid, kind, about in (("clock, LLID 9", 9, 1, 0), ("key, LLID 9", 9, 2, 1), ("clock, none sent", 5, 1, 0),
-                                     ("D18 key 0, none offered", 5, 2, 0), ("D18 key 1, none offered", 5, 2, 1),
-                                     ("neither kind", 5, 0, 0), ("kind 3", 5, 3, 0)):
-        acknowledge(label, olt_with(), llid, kind, about)
-    taken = capture("capture", olt_with(), 5)
-    acknowledge("clock, captured and not sent", taken, 5, 1, 0)
-    sent = clock_send("clock send", taken, 5)
-    offer("offer before the acknowledgement", sent, 5, 51)
-    noted = acknowledge("D16 clock, by LLID 6", sent, 6, 1, 0)
-    anew = capture("D19 a new capture", acknowledge("clock again", noted, 5, 1, 0), 5)
-    offer("D19 offer", anew, 5, 51)
-    acknowledge("O = 1, A = 0, number 0", olt_at(0, 0, 1), 5, 2, 0)
-    acknowledge("O = 2, A = 1, number 1", olt_at(1, 1, 2), 5, 2, 1)
-    acknowledge("O = 2, A = 1, number 3", olt_at(1, 1, 2), 5, 2, 3)
-    noted = acknowledge("O = 2, A = 1, number 2", olt_at(1, 1, 2), 5, 2, 2)
-    acknowledge("D16 again, by LLID 6", noted, 6, 2, 2)
-    acknowledge("D18 O = A = 2, number 2", olt_at(2, 2, 2), 5, 2, 2)
-    acknowledge("D18 O = A = 2, C = 1, number 2", olt_at(1, 2, 2), 5, 2, 2)
-    acknowledge("D18 O = A = 2, number 1", olt_at(2, 2, 2), 5, 2, 1)
-    acknowledge("D18 O = A = 2, number 3", olt_at(2, 2, 2), 5, 2, 3)
-    marked = olt_at(1, 1, 1)
-    marked.units[0].mark = 1
-    anew = offer("a new offer starts unacknowledged", marked, 5, 51)
-    acknowledge("number 1 after it", anew, 5, 2, 1)
-    acknowledge("number 2 after it", anew, 5, 2, 2)
-
-
-# ---- lent OLTs
-
-def lent_olt_rows():
-    def lent(label, o):
-        row(label, o.advance(0))
-
-    def shared(label, **fields):
-        o = olt_with()
-        vars(o).update(fields)
-        lent(label, o)
-
-    def unit(label, o=None, **fields):
-        if o is None:
-            o = olt_with()
-            o.tick = 100
-        vars(o.units[0]).update(fields)
-        lent(label, o)
-
-    def beside(label, count, llid, flag):
-        o = olt_with()
-        o.tick, second = 100, Unit(Named(2, llid, 10), 250, 1000)
-        second.flag = flag
-        o.units.append(second)
-        o.count = count
-        lent(label, o)
-
-    section("lent OLT: 1")
-    unit("as it is")
-    lent("sixteen units", full())
-    shared("MAC 2^48", mac=2**48)
-    shared("tick 2^62", tick=2**62)
-    shared("tick 2^62 + 1", tick=2**62 + 1)
-    shared("clock 2^48", clock=2**48)
-    shared("D4 tick 0, channel 0 free from 4194305", free=[4194305, 0])
-    for channel in (0, 1):
-        for more in (4194304, 4194305):
-            free = [0, 0]
-            free[channel] = 2**62 + more
-            shared(f"D4 channel {channel} free from 2^62 + {more}", free=free)
-    many = full()
-    many.count = 17
-    lent("seventeen units", many)
-    unit("unit, MAC 2^48", named=Named(2**48, 5, 6))
-    unit("unit, no LLID", named=Named(2, 5, 6, count=0))
-    unit("unit, five LLIDs", named=Named(2, 5, 6, count=5))
-    unit("unit, LLID twice", named=Named(2, 5, 5))
-    unit("unit, LLID again past the count", named=Named(2, 7, 6))
-    beside("two units", 2, 9, 0)
-    beside("two units, LLID 5 at both", 2, 5, 0)
-    beside("two units, the second's flag 2", 2, 9, 2)
-    beside("D6 the same in a place past the count", 1, 5, 2)
-    unit("interval 0", interval=0)
-    unit("interval 2^47, count 2^47 - 1", interval=2**47, count=2**47 - 1, flag=1)
-    unit("interval 2^47 + 1", interval=2**47 + 1)
-    unit("D7 interval 10, count 10", interval=10, count=10)
-    unit("D7 flag 2", interval=10, flag=2)
-    unit("D7 noted 2", olt_at(1, 1, 1), noted=2)
-    unit("first send at the tick", olt_at(1, 1, 1), noted=1, first=100)
-    unit("first send a tick later", olt_at(1, 1, 1), noted=1, first=101)
-    unit("no first send, its place 101", olt_at(1, 1, 1), noted=0, first=101)
-    unit("round trip 1000000", trip=1000000)
-    unit("round trip 1000001", trip=1000001)
-    unit("capture at the tick", captured=1, capture=100)
-    unit("capture a tick later", captured=1, capture=101)
-    unit("no capture, its place 101", capture=101)
-    unit("D7 captured 2", captured=2)
-    unit("D7 acknowledged 2", mark=2)
-    unit("D7 clock sent 2", sent=2)
-    unit("D7 clock acknowledged 2", clocked=2)
-    unit("D2 clock acknowledged, never sent", clocked=1)
-    unit("D2 clock sent, never captured", sent=1)
-    unit("D2 acknowledged with O = 0", mark=1)
-    for label, c, a, o in (("C = 2, A = 2, O = 2", 2, 2, 2), ("C = 1, A = 2, O = 2", 1, 2, 2), ("C = 2, A = 2, O = 3", 2, 2, 3),
-                           ("D3 C = 1, A = 2, O = 3", 1, 2, 3), ("C = 0, A = 2, O = 2", 0, 2, 2), ("C = 3, A = 2, O = 3", 3, 2, 3),
-                           ("C = 2, A = 2, O = 4", 2, 2, 4), ("C = 2, A = 2, O = 1", 2, 2, 1), ("C = A = O = 2^32 - 1", TOP, TOP, TOP)):
-        lent(label, olt_at(c, a, o))
-    lent("D2 O = 1, clock not acknowledged", olt_at(0, 0, 1, clocked=0))
-    lent("D2 A = 1, no first send noted", olt_at(1, 1, 1))
-    lent("D2 equal keys in both slots", olt_at(1, 1, 2, other=17))
-
-    def invalid():
-        o = olt_with()
-        o.clock = 2**48
-        return o
-
-    section("lent OLT with clock 2^48")
-    row("D1 advance by 2^64 - 1", invalid().advance(2**64 - 1))
-    row("D1 register, LLID twice", invalid().register(Named(2, 5, 5), 250, 1000))
-    row("D1 capture, LLID 9", invalid().capture(9))
-    row("D1 clock send, LLID 9", invalid().clock_send(9)[0])
-    row("D1 acknowledgement, LLID 9", invalid().acknowledge(9, (1, 0)))
-    row("D1 offer, LLID 9", invalid().offer(9, key(17))[0])
-    row("D1 retry, LLID 9", invalid().retry(9)[0])
-
-
-# ---- the ONU's calls
-
-def onu_synced():
-    o = fresh_onu(UNIT, OLT_MAC, 0)[1]
-    o.clock_message((0, 0))
-    o.tick = 100
-    return o
-
-
-def onu_at(active, held=0, own=17, other=0):
-    o = onu_synced()
-    o.a, o.held = active, held
-    o.keys[active % 2], o.keys[1 - active % 2] = key(own), key(other)
-    return o
-
-
-def fresh_onu_rows():
-    def fresh(label, mac, one, two, count):
-        number, o = fresh_onu(Named(mac, one, two, count=count), 1, 0)
-        row(label, number, ("MAC", o.named.mac), ("LLIDs", o.named.count))
-
-    def timed(label, oltmac, two, time):
-        number, o = fresh_onu(Named(2, 5, two), oltmac, time)
-        row(label, number, ("LocalTime", o.time))
-
-    section("fresh ONU: 1, 3")
-    fresh("LLIDs 5 and 6", 2, 5, 6, 2)
-    fresh("MAC 2^48", 2**48, 5, 6, 2)
-    fresh("no LLID", 2, 5, 6, 0)
-    fresh("five LLIDs", 2, 5, 6, 5)
-    fresh("D13 five LLIDs, one twice", 2, 5, 5, 5)
-    fresh("LLID twice", 2, 5, 5, 2)
-    fresh("LLID of the first place again in the third", 2, 7, 6, 3)
-    fresh("the same past the count", 2, 7, 6, 2)
-    fresh("D13 LLIDs 0 and 65535", 2, 0, 65535, 2)
-    fresh("D13 MAC 0", 0, 5, 6, 2)
-    fresh("D13 MAC 2^48 - 1", 2**48 - 1, 5, 6, 2)
-    timed("OLT MAC 2^48", 2**48, 6, 5)
-    timed("OLT MAC 2^48 - 1", 2**48 - 1, 6, 5)
-    timed("LocalTime 2^32", 1, 6, 2**32)
-    timed("LocalTime 2^32, LLID twice", 1, 5, 2**32)
-    timed("LocalTime 2^32 - 1", 1, 6, 2**32 - 1)
-
-
-def onu_advance_rows():
-    section("advance of the ONU: 17")
-    for label, tick, n in (("D24 by 1", 0, 1), ("D22 by 2^62", 0, 2**62), ("D22 by 2^62 + 1", 0, 2**62 + 1),
-                           ("D22 by 2^64 - 1", 0, 2**64 - 1), ("D22 at 2^62, by 0", 2**62, 0), ("D22 at 2^62, by 1", 2**62, 1)):
-        o = fresh_onu(UNIT, OLT_MAC, 2**32 - 1)[1]
-        o.tick = tick
-        row(label, o.advance(n), ("tick", o.tick), ("LocalTime", o.time))
-
-
-def clock_message_rows():
-    def clock(label, o, rx, tx):
-        o = deepcopy(o)
-        number, taken = o.clock_message((rx, tx))
-        row(label, number, *answer(taken), ("Rx", o.rx), ("Tx", o.time))
-        return o
-
-    def at(time):
-        return fresh_onu(UNIT, OLT_MAC, time)[1]
-
-    section("clock message: 1")
-    clock("Rx 2^48", at(0), 2**48, 0)
-    clock("Tx 2^48", at(0), 0, 2**48)
-    clock("D15 Rx 0, Tx 1000001", at(0), 0, 1000001)
-    clock("P3", at(0x15), 0xfffffffffff0, 0x10)
-    wrapped = clock("P4", at(1), 0, 0xffffffff)
-    again = clock("D15 at a synced unit", wrapped, 100, 200)
-    number = again.advance(2**48 - 1)
-    row("then advance by 2^48 - 1", number, ("Rx", again.rx), ("Tx", again.time))
-
-
-def key_message_rows():
-    def give(label, o, llid, number, octet):
-        o = deepcopy(o)
-        result, taken = o.key_message((llid, number, key(octet)))
-        row(label, result, *answer(taken), ("held", o.held))
-        return o
-
-    section("key message: 2, 5, 8")
-    unsynced, o = fresh_onu(UNIT, OLT_MAC, 0)[1], onu_synced()
-    give("unsynced", unsynced, 5, 1, 17)
-    give("unsynced, LLID 9", unsynced, 9, 1, 17)
-    give("LLID 9", o, 9, 1, 17)
-    give("LLID 0, which stands past the count", o, 0, 1, 17)
-    give("D17 number 0, key of zeros", o, 5, 0, 0)
-    give("number 2 at a = 0", o, 5, 2, 17)
-    one = give("number 1", o, 5, 1, 17)
-    give("D17 the same by LLID 6", one, 6, 1, 17)
-    give("D17 number 1, another key", one, 5, 1, 34)
-    give("number 0 while 1 is held", one, 5, 0, 0)
-    give("number 2 while 1 is held", one, 5, 2, 34)
-    o = onu_at(1)
-    give("a = 1, number 1 with its own key", o, 5, 1, 17)
-    give("a = 1, number 1 with another key", o, 5, 1, 34)
-    give("a = 1, number 3", o, 5, 3, 34)
-    two = give("a = 1, number 2", o, 5, 2, 34)
-    give("a = 1, 2 held, number 1 with its own key", two, 5, 1, 17)
-    give("a = 1, 2 held, number 2 again", two, 5, 2, 34)
-    give("a = 1, 2 held, number 2 with key 1", two, 5, 2, 17)
-    give("D17 a = 2^32 - 2, the last number", onu_at(TOP - 1), 5, TOP, 34)
-    give("D17 a = 2^32 - 1, number 0", onu_at(TOP), 5, 0, 34)
-    give("D17 a = 2^32 - 1, that number with its own key", onu_at(TOP), 5, TOP, 17)
-    give("D17 a = 2^32 - 1, that number with another key", onu_at(TOP), 5, TOP, 34)
-
-
-# ---- lent ONUs
-
-def lent_onu_rows():
-    def lent(label, o=None, **fields):
-        o = o or onu_synced()
-        vars(o).update(fields)
-        row(label, o.advance(0))
-
-    section("lent ONU: 1")
-    lent("as it is")
-    lent("MAC 2^48", named=Named(2**48, 5, 6))
-    lent("no LLID", named=Named(2, 5, 6, count=0))
-    lent("five LLIDs", named=Named(2, 5, 6, count=5))
-    lent("LLID twice", named=Named(2, 5, 5))
-    lent("LLID again past the count", named=Named(2, 7, 6))
-    lent("OLT MAC 2^48", oltmac=2**48)
-    lent("tick 2^62", tick=2**62)
-    lent("tick 2^62 + 1", tick=2**62 + 1)
-    lent("D7 synced 2", synced=2)
-    lent("Tx 2^48", time=2**48)
-    lent("Tx 2^48 - 1", time=2**48 - 1)
-    lent("Rx 2^48", rx=2**48)
-    lent("Rx 2^48 - 1", rx=2**48 - 1)
-    lent("D24 unsynced, LocalTime 2^32", synced=0, time=2**32)
-    lent("D24 unsynced, LocalTime 2^32 - 1", synced=0, time=2**32 - 1)
-    lent("D7 noted 2", onu_at(1), noted=2)
-    lent("first send at the tick", onu_at(1), noted=1, first=100)
-    lent("first send a tick later", onu_at(1), noted=1, first=101)
-    lent("no first send, its place 101", onu_at(1), first=101)
-    lent("D4 tick 0, channel 0 free from 4194305", tick=0, free=[4194305, 0])
-    for channel in (0, 1):
-        for more in (4194304, 4194305):
-            free = [0, 0]
-            free[channel] = 2**62 + more
-            lent(f"D4 channel {channel} free from 2^62 + {more}", tick=0, free=free)
-    lent("D7 held 2", onu_at(1, 2, other=34))
-    lent("D5 a = 2^32 - 1", onu_at(TOP))
-    lent("D5 a = 2^32 - 1, key a + 1 held", onu_at(TOP, 1, other=34))
-    lent("D5 a = 2^32 - 2, key a + 1 held", onu_at(TOP - 1, 1, other=34))
-    lent("D2 a = 1, no first send noted", onu_at(1))
-    lent("D2 a = 1, not synced", onu_at(1), synced=0)
-    lent("D2 key 1 held, not synced", onu_at(0, 1, other=34), synced=0)
-    lent("D2 equal keys in both slots", onu_at(1, 1, other=17))
-    section("ONU of zeros")
-    row("D6 advance by 0", Onu().advance(0))
-    row("D1 advance by 2^64 - 1", Onu().advance(2**64 - 1))
-    number, taken = Onu().clock_message((0, 0))
-    row("D6 clock message", number, ("kind", taken[0]))
-    number, taken = Onu().key_message((9, 1, key(17)))
-    row("D1 key message", number, ("kind", taken[0]))
-
-
-for rows in (exchange, fresh_olt_rows, register_rows, olt_advance_rows, clock_send_rows, offer_rows, retry_rows, acknowledge_rows,
-             lent_olt_rows, fresh_onu_rows, onu_advance_rows, clock_message_rows, key_message_rows, lent_onu_rows):
-    rows()
+class Play:
+    """Both ends, what is under way, the number of the last call, and the unit that is spoken of."""
+
+    def __init__(self):
+        self.olt, self.onu = fresh_olt(OLT_MAC, 0)[1], fresh_onu(UNIT, OLT_MAC, 0)[1]
+        self.side, self.place, self.number = "olt", 0, 0
+        self.stamps, self.message, self.acknowledgement = NO_STAMPS, NO_MESSAGE, NO_ANSWER
+
+    def unit(self):
+        return self.olt.units[self.place]
+
+    # the words at the OLT
+
+    def olt_one(self, interval):
+        self.olt = fresh_olt(OLT_MAC, 0)[1]
+        self.number = self.olt.register(UNIT, 250, interval)
+
+    def olt_keyed(self, confirmed, active, offered, other):
+        self.olt_one(1000)
+        self.olt.tick, u = 100, self.olt.units[0]
+        u.C, u.A, u.O, u.sent, u.clocked = confirmed, active, offered, 1, 1
+        u.keys[active % 2], u.keys[1 - active % 2] = key(17), key(other)
+
+    def olt_full(self):
+        self.olt = fresh_olt(OLT_MAC, 0)[1]
+        for n in range(16):
+            self.number = self.olt.register(Named(3, 4 * n, 4 * n + 1, 4 * n + 2, 4 * n + 3, 4), 0, 100)
+
+    def at_olt(self, word, n):
+        o = self.olt
+        if word == "unit":
+            self.place = n[0]
+        elif word == "timer":
+            self.number = o.units[0].flag
+        elif word == "fresh":
+            self.number, self.olt = fresh_olt(n[0], n[1])
+        elif word == "new":
+            self.number, self.olt = fresh_olt(OLT_MAC, n[0])
+        elif word == "one":
+            self.olt_one(n[0])
+        elif word == "keyed":
+            self.olt_keyed(*n[:4])
+        elif word == "full":
+            self.olt_full()
+        elif word == "identity":
+            self.unit().named, self.number = Named(n[0], n[1], n[2], count=n[3]), 0
+        elif word == "register":
+            self.number = o.register(Named(n[0], n[1], n[2], count=n[3]), n[4], n[5])
+        elif word == "advance":
+            self.number = o.advance(n[0])
+        elif word == "capture":
+            self.number = o.capture(n[0])
+        elif word == "clock_send":
+            self.number, self.stamps = o.clock_send(n[0])
+        elif word == "offer":
+            self.number, self.message = o.offer(n[0], key(n[1]))
+        elif word == "retry":
+            self.number, self.message = o.retry(n[0])
+        elif word == "acknowledge":
+            self.number = o.acknowledge(n[0], (n[1], n[2]))
+        elif word == "arrive":
+            self.number = o.acknowledge(n[0], self.acknowledgement)
+        else:
+            sys.exit(f"no word of the OLT: {word}")
+
+    def olt_field(self, name, value):
+        o, u = self.olt, self.unit()
+        if name in ("channel0", "channel1"):
+            o.free[int(name[-1])] = value
+        elif name in ("mac", "tick", "clock"):
+            setattr(o, name, value)
+        elif name == "units":
+            o.count = value
+        else:
+            setattr(u, {"marked": "mark", "captured_at": "capture"}.get(name, name), value)
+
+    # the words at the ONU
+
+    def onu_synced(self):
+        self.onu = fresh_onu(UNIT, OLT_MAC, 0)[1]
+        self.onu.clock_message((0, 0))
+        self.onu.tick, self.number = 100, 0
+
+    def at_onu(self, word, n):
+        o = self.onu
+        if word == "fresh":
+            self.number, self.onu = fresh_onu(Named(n[0], n[1], n[2], count=n[3]), n[4], n[5])
+        elif word == "new":
+            self.number, self.onu = fresh_onu(UNIT, OLT_MAC, n[0])
+        elif word == "synced":
+            self.onu_synced()
+        elif word == "keyed":
+            self.onu_synced()
+            self.onu.a, self.onu.held = n[0], n[1]
+            self.onu.keys[n[0] % 2], self.onu.keys[1 - n[0] % 2] = key(17), key(n[2])
+        elif word == "identity":
+            o.named, self.number = Named(n[0], n[1], n[2], count=n[3]), 0
+        elif word == "advance":
+            self.number = o.advance(n[0])
+        elif word == "clock_message":
+            self.number, self.acknowledgement = o.clock_message((n[0], n[1]))
+        elif word == "clock_arrives":
+            self.number, self.acknowledgement = o.clock_message(self.stamps)
+        elif word == "key_message":
+            self.number, self.acknowledgement = o.key_message((n[0], n[1], key(n[2])))
+        elif word == "key_arrives":
+            self.number, self.acknowledgement = o.key_message(self.message)
+        else:
+            sys.exit(f"no word of the ONU: {word}")
+
+    def onu_field(self, name, value):
+        if name in ("channel0", "channel1"):
+            self.onu.free[int(name[-1])] = value
+        else:
+            setattr(self.onu, {"olt_mac": "oltmac"}.get(name, name), value)
+
+    def command(self, word, numbers):
+        if word in ("olt", "onu"):
+            self.side, self.place = word, 0
+        elif "=" in word:
+            name, value = word.split("=")
+            (self.olt_field if self.side == "olt" else self.onu_field)(name, number(value))
+            self.number = 0
+        else:
+            padded = numbers + [0] * (6 - len(numbers))
+            (self.at_olt if self.side == "olt" else self.at_onu)(word, padded)
+
+    def shown(self, name):
+        o, u, unit = self.olt, self.onu, self.unit()
+        at_olt = {"MAC": o.mac, "tick": o.tick, "clock": o.clock, "units": o.count, "count": unit.count, "flag": unit.flag,
+                  "acknowledged": unit.mark, "Rx": self.stamps[0], "Tx": self.stamps[1], "LLID": self.message[0],
+                  "number": self.message[1], "octet": self.message[2][15]}
+        at_onu = {"MAC": u.named.mac, "LLIDs": u.named.count, "tick": u.tick, "Rx": u.rx, "held": u.held, "Tx": u.time,
+                  "LocalTime": u.time, "kind": self.acknowledgement[0], "number": self.acknowledgement[1], "OLT_clock": o.clock}
+        return (at_olt if self.side == "olt" else at_onu)[name]
+
+    def row(self, label, played, shown):
+        words = played.split()
+        for k, word in enumerate(words):
+            if not word[0].isdigit():
+                numbers = []
+                while k + 1 + len(numbers) < len(words) and words[k + 1 + len(numbers)][0].isdigit():
+                    numbers.append(number(words[k + 1 + len(numbers)]))
+                self.command(word, numbers)
+        parts = "".join(f", {name.replace('_', ' ', 1)} {self.shown(name)}" for name in shown.split())
+        print(f"{label}: {self.number}{parts}")
+
+
+play = Play()
+for line in sys.stdin.read().splitlines():
+    label, bar, rest = line.partition(" | ")
+    if bar:
+        play.row(label, *rest.split(":"))
+    elif line and not line.startswith("#"):
+        print(line)

@@ -1,13 +1,11 @@
 -- The bench values of 01, one row each, in the paper's order. Assumes nothing.
 use mathlib.Core.Path.{_≡_}
-use mathlib.Core.List.{List, [], _∷_}
+use mathlib.Core.List.{[], _∷_}
 use Prim.Native.Nat.{ℕ, _+_, _-_, _^_, _<_}
 use lib.Bits.{bitXor}
-use lib.ListN.{getD}
 use Rattle.sealing.specs.CounterBlock.{counterBlock}
 use Rattle.sealing.specs.Payload.{masked, countOf}
 use Rattle.clock.specs.Stamping.{capturedAt, raisedTo}
-use Rattle.clock.specs.declared.Stamps.{Stamps}
 use Rattle.refusal.specs.Number.{verdictNumber}
 use Rattle.ends.specs.Identities.{noIdentity}
 use Rattle.ends.specs.Keys.{noSlots, notedAt}

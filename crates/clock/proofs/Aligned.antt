@@ -1,8 +1,8 @@
 -- A message captured at most a second before it was sent aligns the unit's clocks, and they stay aligned. Assumes nothing.
-use mathlib.Core.Path.{_≡_, refl, sym, _∙_, ap}
-use Prim.Native.Nat.{ℕ, zero, suc, _+_, _-_, _%_, _≤_, _<_, _^_}
+use mathlib.Core.Path.{_≡_, sym}
+use Prim.Native.Nat.{ℕ, _+_, _-_, _≤_}
 use native.Mathlib.Omega.{arith}
-use Rattle.clock.specs.Ticks.{ticksPerSecond, clockTurn, localTurn, advanced, localOf}
+use Rattle.clock.specs.Ticks.{ticksPerSecond, advanced, localOf}
 use Rattle.clock.specs.Stamping.{capturedAt, raiseOf, movedBy, raisedTo}
 use Rattle.clock.specs.Aligned.{Aligned}
 use Rattle.clock.specs.declared.Stamps.{Stamps}

@@ -1,9 +1,9 @@
 -- Laws of the cipher clock. Assumes nothing.
-use mathlib.Core.Path.{_≡_, refl}
-use Prim.Native.Nat.{ℕ, _+_, _-_, _%_, _≤_, _<_, _^_}
+use mathlib.Core.Path.{_≡_}
+use Prim.Native.Nat.{ℕ, _+_, _-_, _%_, _≤_, _<_}
 use native.Mathlib.Nat.{mod-add-mod, mod-lt}
 use native.Mathlib.Omega.{arith}
-use Rattle.clock.specs.Ticks.{clockTurn, localTurn, keyLife, advanced, rewound, localAdvanced, localOf}
+use Rattle.clock.specs.Ticks.{clockTurn, keyLife, advanced, rewound, localAdvanced}
 
 pub advanced-below : (clock n : ℕ) → advanced clock n < clockTurn
 advanced-below clock n = mod-lt (clock + n) (omega arith)
@@ -19,21 +19,9 @@ advanced-sum clock m n = omega arith
 pub localAdvanced-sum : (time m n : ℕ) → localAdvanced (localAdvanced time m) n ≡ localAdvanced time (m + n)
 localAdvanced-sum time m n = omega arith
 
--- the low 32 bits of a clock are those of the number that it is reduced from
-pub local-mod : (x : ℕ) → localOf (x % clockTurn) ≡ localOf x
-local-mod x = omega arith
-
--- the low half of a clock runs as LocalTime does
-pub local-advanced : (clock n : ℕ) → localOf (advanced clock n) ≡ localAdvanced (localOf clock) n
-local-advanced clock n = omega arith
-
 -- a clock at tick `now`, taken back to tick `at`, is the clock of that tick
 pub rewound-at : (first now at : ℕ) → at ≤ now → rewound ((first + now) % clockTurn) (now - at) ≡ (first + at) % clockTurn
 rewound-at first now at h = omega arith
-
--- taken back and let run again, a clock is where it was
-pub rewound-advanced : (clock n : ℕ) → advanced (rewound clock n) n ≡ clock % clockTurn
-rewound-advanced clock n = omega arith
 
 -- clocks of different ticks within a key's life differ
 pub clocks-differ : (first from s t : ℕ) → from ≤ s → s < t → t < from + keyLife → (first + s) % clockTurn ≡ (first + t) % clockTurn → ⊥

@@ -7,14 +7,10 @@ use lib.Dec.{leb, ltb, eqb}
 use borrow.Author.Tests.{eqb-true, le-leb, lt-ltb, eq-eqb, ne-eqb}
 use Rattle.octets.specs.Choice.{both, pick}
 use Rattle.octets.proofs.Choice.{both-true, pick-true, pick-false}
-use Rattle.refusal.specs.declared.Verdict.the-variants.{Accepted}
 use Rattle.clock.specs.Ticks.{epamTurn, epamOf}
-use Rattle.ends.specs.Keys.{noKey, keyIn, aged}
-use Rattle.ends.specs.Headers.{validHeader, choiceNumber, choiceVerdict, choiceAged, headerOf, keyFor}
+use Rattle.ends.specs.Keys.{noKey, keyIn}
+use Rattle.ends.specs.Headers.{validHeader, headerOf, keyFor}
 use Rattle.ends.specs.declared.Slots.{Slots}
-use Rattle.ends.specs.declared.FirstSend.{FirstSend}
-use Rattle.ends.specs.declared.KeyChoice.{KeyChoice}
-use Rattle.ends.specs.declared.KeyChoice.the-variants.{Clear, Current, Next}
 
 -- a clear envelope says so
 pub header-clear : (n index llid clock : ℕ) → n ≡ 0 → headerOf n index llid clock .encenabled ≡ 0
@@ -42,43 +38,7 @@ pub key-for : (n : ℕ) (s : Slots) → 1 ≤ n → keyFor n s ≡ keyIn s n
 unfolding keyFor
 key-for n s h = pick-false noKey (keyIn s n) (ne-eqb n 0 (λ e. omega arith))
 
-pub key-for-clear : (s : Slots) → keyFor 0 s ≡ noKey
-unfolding keyFor pick
-key-for-clear s = refl
-
--- a key that comes into use is not too old
-pub aged-next : (n : ℕ) (f : FirstSend) (tick : ℕ) → choiceAged (Next n) f tick ≡ false
-unfolding choiceAged
-aged-next n f tick = refl
-
-pub aged-current : (n : ℕ) (f : FirstSend) (tick : ℕ) → choiceAged (Current n) f tick ≡ aged f tick
-unfolding choiceAged
-aged-current n f tick = refl
-
 -- of the clock a header has no more than EPAM
 pub header-epam : (n index llid c d : ℕ) → epamOf c ≡ epamOf d → headerOf n index llid c ≡ headerOf n index llid d
 unfolding headerOf
 header-epam n index llid c d e = rw e
-
-pub header-index : (n index llid clock : ℕ) → headerOf n index llid clock .enckey ≡ n % 2
-unfolding headerOf
-header-index n index llid clock = refl
-
----- numbers
-
--- the envelope goes, under key n
-pub record Under (n : ℕ) (c : KeyChoice) : Type 0 where
-  pub goes : choiceVerdict c ≡ Accepted
-  pub number : choiceNumber c ≡ n
-
-pub under-clear : Under 0 Clear
-unfolding choiceVerdict choiceNumber
-under-clear = record { goes = refl; number = refl }
-
-pub under-current : (n : ℕ) → Under n (Current n)
-unfolding choiceVerdict choiceNumber
-under-current n = record { goes = refl; number = refl }
-
-pub under-next : (n : ℕ) → Under n (Next n)
-unfolding choiceVerdict choiceNumber
-under-next n = record { goes = refl; number = refl }

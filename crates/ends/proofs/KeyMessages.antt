@@ -4,11 +4,10 @@ use mathlib.Core.Path.{_≡_, refl, sym, _∙_, ap, ap₂}
 use mathlib.Core.Bool.{Bool, true, false}
 use mathlib.Core.List.{List}
 use Prim.Native.Nat.{ℕ, _+_, _<_}
-use native.Mathlib.Omega.{arith}
-use borrow.Author.Tests.{ltb-true, eqb-true, lt-ltb, eq-eqb, ne-eqb, not-false}
+use borrow.Author.Tests.{ltb-true, eqb-true, lt-ltb, eq-eqb, not-false}
 use Rattle.octets.specs.Choice.{either}
 use Rattle.octets.specs.Lists.{same}
-use Rattle.octets.proofs.Choice.{both-left, both-right, both-true, pick-true, pick-false, not-of-true, both-false-left, both-false-right, either-left, either-right, pick-holds}
+use Rattle.octets.proofs.Choice.{both-left, both-right, both-true, pick-true, pick-false, not-of-true, both-false-left, either-left, either-right, pick-holds}
 use Rattle.octets.proofs.Lists.{same-refl}
 use Rattle.refusal.specs.declared.Refusal.the-variants.{UnknownLlid, ClockNotSet, NothingOutstanding}
 use Rattle.refusal.specs.declared.Verdict.the-variants.{Accepted}
@@ -100,25 +99,7 @@ key-message-valid o m v =
     onu-keeps (λ (p : Onu). validOnu p ≡ true) o noAcknowledgement _ _ (ofKey (m .number)) v
     (λ w a. keys-replaced-valid o _ (keys-taken-valid (o .keys) m (onu-in-range o w .keys)) w)
 
----- messages that leave the ONU as it was
-
--- a key message that brings no new key, accepted or not
-pub key-message-same : (o : Onu) (m : KeyMessage) → newKey (o .keys) m ≡ false → keyMessageAt o m .onu ≡ o
-unfolding keyMessageAt keyMessageTo onuAcknowledged keysTaken withOnuKeys
-key-message-same o m e =
-    onu-keeps (λ (p : Onu). p ≡ o) o noAcknowledgement _ _ (ofKey (m .number)) refl
-    (λ w a. ap (withOnuKeys o) (pick-false _ (o .keys) e))
-
--- number a, with its own key or another
-pub key-message-active : (o : Onu) (m : KeyMessage) → m .number ≡ o .keys .active → keyMessageAt o m .onu ≡ o
-unfolding newKey
-key-message-active o m e =
-    key-message-same o m (both-false-right _ (both-false-right _ (ne-eqb (m .number) (o .keys .active + 1) (λ f. omega arith))))
-
--- any message while key a + 1 is held
-pub key-message-held : (o : Onu) (m : KeyMessage) → o .keys .held ≡ 1 → keyMessageAt o m .onu ≡ o
-unfolding newKey
-key-message-held o m e = key-message-same o m (both-false-left _ (ne-eqb (o .keys .held) 0 (λ f. omega arith)))
+---- a message repeated
 
 -- the same number and key, by any LLID of the unit
 pub record SameMessage (o : Onu) (m n : KeyMessage) : Type 0 where

@@ -3,7 +3,7 @@ use mathlib.Core.Path.{_≡_, refl, sym, _∙_}
 use mathlib.Core.Bool.{Bool, true, false}
 use mathlib.Core.List.{List}
 use mathlib.Core.Logic.{⊎-elim}
-use Prim.Native.Nat.{ℕ, _+_, _-_, _%_, _≤_, _<_, _^_}
+use Prim.Native.Nat.{ℕ, _+_, _-_, _%_, _≤_, _<_}
 use native.Mathlib.Omega.{arith}
 use lib.Dec.{eqb}
 use borrow.Author.Tests.{leb-true, leb-false, eqb-true, eqb-false, le-leb, eq-eqb, ne-eqb}
@@ -52,19 +52,10 @@ only-forgotten s n = key-stored s (n + 1) noKey
 
 ---- first sends
 
-pub aged-true : (f : FirstSend) (tick : ℕ) → aged f tick ≡ true → (f .noted ≡ 1) × (f .tick + keyLife ≤ tick)
-unfolding aged
-aged-true f tick e = (eqb-true _ _ (both-left _ _ e), leb-true _ _ (both-right _ _ e))
-
 -- a key that is not too old and has had its first send is within its life
 pub aged-false : (f : FirstSend) (tick : ℕ) → f .noted ≡ 1 → aged f tick ≡ false → tick < f .tick + keyLife
 unfolding aged both
 aged-false f tick n e = leb-false (f .tick + keyLife) tick (rw n at e)
-
--- a key that has had no send is not too old
-pub aged-none : (tick : ℕ) → aged notNoted tick ≡ false
-unfolding aged both
-aged-none tick = refl
 
 -- once noted, a first send stays
 pub first-stays : (f : FirstSend) (tick : ℕ) → f .noted ≡ 1 → firstSend f tick ≡ f
@@ -95,27 +86,3 @@ pub first-send-valid : (f : FirstSend) (tick : ℕ) → validFirst f tick ≡ tr
 unfolding firstSend
 first-send-valid f tick e =
     pick-holds (λ (x : FirstSend). validFirst x tick ≡ true) (isUp (f .noted)) f (notedAt tick) (λ p. e) (λ p. first-noted-valid tick)
-
--- a first send at or before the tick, less than a key's life ago
-pub record InLife (f : FirstSend) (now : ℕ) : Type 0 where
-  pub noted : f .noted ≡ 1
-  pub since : f .tick ≤ now
-  pub within : now < f .tick + keyLife
-
-pub noted-in-life : (tick : ℕ) → InLife (notedAt tick) tick
-noted-in-life tick = record { noted = refl; since = omega arith; within = omega arith }
-
--- a send under a key that is not too old is within the key's life, and its first send is noted
-pub send-in-life : (f : FirstSend) (tick : ℕ) → validFirst f tick ≡ true → aged f tick ≡ false → InLife (firstSend f tick) tick
-unfolding firstSend validFirst
-send-in-life f tick v a =
-    pick-holds (λ (x : FirstSend). InLife x tick) (isUp (f .noted)) f (notedAt tick)
-    (λ e.
-    let n : f .noted ≡ 1 = eqb-true _ _ e in
-    record {
-      noted = n;
-      since =
-          ⊎-elim (λ z. omega (arith, eqb-true (f .noted) 0 z)) (λ l. leb-true (f .tick) tick l) (either-cases _ _ (both-right _ _ v));
-      within = aged-false f tick n a;
-    })
-    (λ e. noted-in-life tick)

@@ -17,7 +17,6 @@ pub mod Table
 pub mod Timers
 pub mod UnitCalls
 pub mod UnitChoices
-pub mod UnitClocks
 pub mod UnitTraffic
 pub mod Validity
 pub mod Walks

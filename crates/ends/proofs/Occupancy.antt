@@ -1,10 +1,10 @@
 -- Laws of channels. Assumes nothing.
-use mathlib.Core.Path.{_≡_, refl, sym, _∙_}
+use mathlib.Core.Path.{_≡_, refl}
 use mathlib.Core.Bool.{Bool, true, false}
-use Prim.Native.Nat.{ℕ, _+_, _%_, _≤_, _<_}
+use Prim.Native.Nat.{ℕ, _+_, _≤_}
 use native.Mathlib.Omega.{arith}
-use lib.Dec.{leb, eqb}
-use borrow.Author.Tests.{leb-true, ltb-true, ltb-false, eqb-true, eqb-false, le-leb, lt-ltb, le-ltb}
+use lib.Dec.{leb}
+use borrow.Author.Tests.{leb-true, ltb-false, le-leb, lt-ltb, le-ltb}
 use Rattle.octets.specs.Choice.{both, pick}
 use Rattle.octets.specs.Eqs.{maxEqs}
 use Rattle.octets.proofs.Choice.{both-left, both-right, both-true}
@@ -21,17 +21,6 @@ free-own c index tick eqs = by-channel (onZero index) where
   by-channel true = refl
   by-channel false = refl
 
--- the other channel stays as it was
-pub free-other : (c : Channels) (index other tick eqs : ℕ) → (onZero other ≡ onZero index → ⊥) → freeFrom (occupied c index tick eqs) other ≡ freeFrom c other
-unfolding freeFrom occupied pick
-free-other c index other tick eqs h = by-channel (onZero other) (onZero index) refl refl where
-  by-channel : (t u : Bool) → onZero other ≡ t → onZero index ≡ u
-      → pick t (pick u (tick + eqs + 1) (c .zero)) (pick u (c .one) (tick + eqs + 1)) ≡ pick t (c .zero) (c .one)
-  by-channel true true e f = absurd (h (e ∙ sym f))
-  by-channel true false e f = refl
-  by-channel false true e f = refl
-  by-channel false false e f = absurd (h (e ∙ sym f))
-
 -- a header at a tick keeps its channel for as many ticks more as it has EQs
 pub taken-until : (c : Channels) (index tick eqs later : ℕ) → later ≤ tick + eqs → taken (occupied c index tick eqs) index later ≡ true
 unfolding taken
@@ -41,10 +30,6 @@ taken-until c index tick eqs later h = lt-ltb later _ (omega (arith, free-own c 
 pub free-after : (c : Channels) (index tick eqs later : ℕ) → tick + eqs + 1 ≤ later → taken (occupied c index tick eqs) index later ≡ false
 unfolding taken
 free-after c index tick eqs later h = le-ltb later _ (omega (arith, free-own c index tick eqs))
-
-pub taken-true : (c : Channels) (index tick : ℕ) → taken c index tick ≡ true → tick < freeFrom c index
-unfolding taken
-taken-true c index tick e = ltb-true tick (freeFrom c index) e
 
 pub taken-false : (c : Channels) (index tick : ℕ) → taken c index tick ≡ false → freeFrom c index ≤ tick
 unfolding taken
@@ -89,22 +74,3 @@ downstream-below index e = leb-true index 1 e
 pub upstream-between : (index : ℕ) → upstream index ≡ true → (128 ≤ index) × (index ≤ 129)
 unfolding upstream
 upstream-between index e = (leb-true 128 index (both-left _ _ e), leb-true index 129 (both-right _ _ e))
-
--- two indices of one direction on one channel are the same
-pub downstream-same : (i j : ℕ) → downstream i ≡ true → downstream j ≡ true → onZero i ≡ onZero j → i ≡ j
-unfolding onZero
-downstream-same i j d e h = by-zero (eqb (i % 128) 0) (eqb (j % 128) 0) refl refl where
-  by-zero : (t u : Bool) → eqb (i % 128) 0 ≡ t → eqb (j % 128) 0 ≡ u → i ≡ j
-  by-zero true true p q = omega (arith, downstream-below i d, downstream-below j e, eqb-true (i % 128) 0 p, eqb-true (j % 128) 0 q)
-  by-zero false false p q = omega (arith, downstream-below i d, downstream-below j e, eqb-false (i % 128) 0 p, eqb-false (j % 128) 0 q)
-  by-zero true false p q = let z : _≡_ {A = ℕ} 0 1 = cc in absurd (omega arith)
-  by-zero false true p q = let z : _≡_ {A = ℕ} 0 1 = cc in absurd (omega arith)
-
-pub upstream-same : (i j : ℕ) → upstream i ≡ true → upstream j ≡ true → onZero i ≡ onZero j → i ≡ j
-unfolding onZero
-upstream-same i j d e h = by-zero (eqb (i % 128) 0) (eqb (j % 128) 0) refl refl where
-  by-zero : (t u : Bool) → eqb (i % 128) 0 ≡ t → eqb (j % 128) 0 ≡ u → i ≡ j
-  by-zero true true p q = omega (arith, upstream-between i d, upstream-between j e, eqb-true (i % 128) 0 p, eqb-true (j % 128) 0 q)
-  by-zero false false p q = omega (arith, upstream-between i d, upstream-between j e, eqb-false (i % 128) 0 p, eqb-false (j % 128) 0 q)
-  by-zero true false p q = let z : _≡_ {A = ℕ} 0 1 = cc in absurd (omega arith)
-  by-zero false true p q = let z : _≡_ {A = ℕ} 0 1 = cc in absurd (omega arith)

@@ -8,7 +8,7 @@ use native.Mathlib.Omega.{arith}
 use borrow.Author.Tests.{not-false}
 use Rattle.octets.proofs.Choice.{not-of-true}
 use Rattle.octets.proofs.Tests.{all-map}
-use Rattle.octets.proofs.Maps.{map-twice, map-same, take-first, drop-first, map-first, getD-first}
+use Rattle.octets.proofs.Maps.{map-twice, map-same, take-first, drop-first, getD-first}
 use Rattle.refusal.specs.declared.Refusal.the-variants.{OutOfRange}
 use Rattle.refusal.specs.declared.Verdict.the-variants.{Accepted}
 use Rattle.clock.specs.Ticks.{maxTick}
@@ -23,7 +23,7 @@ use Rattle.ends.specs.declared.UnitRecord.{UnitRecord}
 use Rattle.ends.specs.declared.Shared.{Shared}
 use Rattle.ends.specs.declared.Olt.{Olt}
 use Rattle.ends.proofs.Replies.{number-accepted, refuse-accepted, refuse-passed, reply-verdict, reply-accepted, reply-keeps, advance-accepted, advance-accepts}
-use Rattle.ends.proofs.Table.{identityOf, llids-same, SameUnits, Registered}
+use Rattle.ends.proofs.Table.{identityOf, llids-same, Registered}
 use Rattle.ends.proofs.Validity.{shared-in-range, shared-valid, olt-in-range, olt-valid}
 use Rattle.ends.proofs.UnitCalls.{unit-sum, unit-advanced-valid}
 
@@ -42,20 +42,9 @@ olt-sum m n o =
       map-twice (unitAdvanced m) (unitAdvanced n) (unitAdvanced (m + n)) (unit-sum m n) (registered o),
     )
 
--- the advanced units are those in use
-pub advanced-registered : (o : Olt) (n : ℕ) → registered (oltAdvanced o n) ≡ map (unitAdvanced n) (registered o)
-unfolding oltAdvanced
-advanced-registered o n = take-first (unitAdvanced n) (o .count) (o .units)
-
 unit-identity : (n : ℕ) (u : UnitRecord) → unitAdvanced n u .identity ≡ u .identity
 unfolding unitAdvanced withKeys
 unit-identity n u = refl
-
--- no advance changes who is registered, and where
-pub advanced-same-units : (o : Olt) (n : ℕ) → SameUnits (oltAdvanced o n) o
-unfolding oltAdvanced
-advanced-same-units o n =
-    record { count = refl; identities = map-first (unitAdvanced n) identityOf (unit-identity n) (o .count) (o .units) }
 
 -- a unit in use is advanced
 pub advanced-unit : (o : Olt) (n llid i : ℕ) → Registered o llid i → unitAt (oltAdvanced o n) i ≡ unitAdvanced n (unitAt o i)

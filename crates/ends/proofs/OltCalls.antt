@@ -8,27 +8,26 @@ use lib.ListN.{length, length-replicate}
 use borrow.Author.Tests.{ltb-true, not-false}
 use Rattle.octets.specs.Lists.{all}
 use Rattle.octets.proofs.Choice.{both-left, both-right}
-use Rattle.octets.proofs.Maps.{length-first}
 use Rattle.refusal.specs.declared.Verdict.the-variants.{Accepted}
 use Rattle.clock.specs.Ticks.{clockTurn}
 use Rattle.ends.specs.Limits.{maxUnits}
 use Rattle.ends.specs.Replies.{silent}
 use Rattle.ends.specs.Messages.{noStamps, noKeyMessage}
 use Rattle.ends.specs.Identities.{distinct, validMac}
-use Rattle.ends.specs.Records.{freshUnit, noUnit, newOlt}
+use Rattle.ends.specs.Records.{noUnit, newOlt}
 use Rattle.ends.specs.Table.{tableLlids, find}
 use Rattle.ends.specs.Validity.{validOlt}
 use Rattle.ends.specs.Lift.{outcome}
-use Rattle.ends.specs.UnitCalls.{unitAdvanced, captureUnit, clockSendUnit, offerUnit, retryUnit, acknowledgeUnit}
-use Rattle.ends.specs.OltCalls.{oltAnswer, clockSent, keySent, freshOltOf, registering, registerOf, oltAdvanced, advancingOlt, advanceOltOf, captureOf, clockSendOf, offerOf, retryOf, acknowledgeOf}
+use Rattle.ends.specs.UnitCalls.{captureUnit, clockSendUnit, offerUnit, retryUnit, acknowledgeUnit}
+use Rattle.ends.specs.OltCalls.{oltAnswer, clockSent, keySent, freshOltOf, registering, registerOf, advancingOlt, advanceOltOf, captureOf, clockSendOf, offerOf, retryOf, acknowledgeOf}
 use Rattle.ends.specs.declared.Identity.{Identity}
 use Rattle.ends.specs.declared.Olt.{Olt}
 use Rattle.ends.specs.declared.Acknowledgement.{Acknowledgement}
 use Rattle.ends.proofs.Replies.{number-accepted, number-refused, refuse-accepted, reply-keeps, reply-untouched}
 use Rattle.ends.proofs.Occupancy.{free-valid}
-use Rattle.ends.proofs.Table.{with-itself, more-places}
+use Rattle.ends.proofs.Table.{with-itself}
 use Rattle.ends.proofs.Validity.{shared-valid, olt-valid}
-use Rattle.ends.proofs.Lift.{lift-keeps, lift-valid, lift-beside, lift-again, lift-untouched}
+use Rattle.ends.proofs.Lift.{lift-keeps, lift-valid, lift-again, lift-untouched}
 use Rattle.ends.proofs.UnitCalls.{capture-keeps, clock-send-keeps, offer-keeps, acknowledge-keeps, acknowledged-channels, acknowledged-again}
 
 ---- fresh
@@ -94,43 +93,13 @@ acknowledge-again o llid other a f e =
     (lift-again o silent Accepted llid (acknowledgeUnit a) (acknowledge-keeps a) (acknowledged-channels a) (acknowledged-again a) other f
     (number-accepted _ e))
 
----- the places: as many after each call as before
+---- the places
 
 pub fresh-places : (mac clock : ℕ) → length (freshOltOf mac clock .olt .units) ≡ maxUnits
 unfolding freshOltOf oltAnswer newOlt
 fresh-places mac clock =
     reply-keeps (λ (o : Olt). length (o .units) ≡ maxUnits) _ (newOlt 0 0) silent (newOlt mac clock) silent (length-replicate maxUnits noUnit)
     (λ a. length-replicate maxUnits noUnit)
-
-pub register-places : (o : Olt) (i : Identity) (trip interval : ℕ) → length (registerOf o i trip interval .olt .units) ≡ length (o .units)
-unfolding registerOf registering oltAnswer
-register-places o i trip interval =
-    reply-keeps (λ (p : Olt). length (p .units) ≡ length (o .units)) _ o silent _ silent refl (λ a. more-places o (freshUnit i trip interval))
-
-pub advance-places : (o : Olt) (n : ℕ) → length (advanceOltOf o n .olt .units) ≡ length (o .units)
-unfolding advanceOltOf advancingOlt oltAnswer oltAdvanced
-advance-places o n =
-    reply-keeps (λ (p : Olt). length (p .units) ≡ length (o .units)) _ o silent _ silent refl
-    (λ a. length-first (unitAdvanced n) (o .count) (o .units))
-
-pub capture-places : (o : Olt) (llid : ℕ) → length (captureOf o llid .olt .units) ≡ length (o .units)
-unfolding captureOf oltAnswer
-capture-places o llid = lift-beside o silent Accepted llid captureUnit .places
-
-pub clock-send-places : (o : Olt) (llid : ℕ) → length (clockSendOf o llid .olt .units) ≡ length (o .units)
-unfolding clockSendOf clockSent
-clock-send-places o llid = lift-beside o noStamps Accepted llid clockSendUnit .places
-
-pub offer-places : (o : Olt) (llid : ℕ) (key : List ℕ) → length (offerOf o llid key .olt .units) ≡ length (o .units)
-unfolding offerOf keySent
-offer-places o llid key = lift-beside o noKeyMessage Accepted llid (offerUnit llid key) .places
-
-pub retry-places : (o : Olt) (llid : ℕ) → length (retryOf o llid .olt .units) ≡ length (o .units)
-retry-places o llid = ap (λ (p : Olt). length (p .units)) (retry-same o llid)
-
-pub acknowledge-places : (o : Olt) (llid : ℕ) (a : Acknowledgement) → length (acknowledgeOf o llid a .olt .units) ≡ length (o .units)
-unfolding acknowledgeOf oltAnswer
-acknowledge-places o llid a = lift-beside o silent Accepted llid (acknowledgeUnit a) .places
 
 ---- refused: the very OLT that was lent, and nothing
 

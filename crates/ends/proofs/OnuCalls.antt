@@ -1,17 +1,17 @@
 -- Laws of the ONU's calls: a valid ONU stays valid, and a refused call leaves it. Assumes nothing.
 use mathlib.Core.Path.{_≡_, refl, sym, _∙_, ap}
 use mathlib.Core.Bool.{true, false}
-use Prim.Native.Nat.{ℕ, _<_}
+use Prim.Native.Nat.{ℕ}
 use native.Mathlib.Omega.{arith}
 use lib.Dec.{ltb}
-use borrow.Author.Tests.{ltb-true, lt-ltb, not-false}
+use borrow.Author.Tests.{lt-ltb, not-false}
 use Rattle.octets.specs.Choice.{both, either, pick}
 use Rattle.octets.proofs.Choice.{both-left, both-right, both-true, not-of-true, both-false-left}
 use Rattle.refusal.specs.declared.Refusal.{Refusal}
 use Rattle.refusal.specs.declared.Refusal.the-variants.{OutOfRange}
 use Rattle.refusal.specs.declared.Verdict.{Verdict}
 use Rattle.refusal.specs.declared.Verdict.the-variants.{Accepted, Refused}
-use Rattle.clock.specs.Ticks.{clockTurn, localTurn, localOf}
+use Rattle.clock.specs.Ticks.{localTurn, localOf}
 use Rattle.clock.specs.Stamping.{raiseOf, movedBy, raisedTo}
 use Rattle.clock.specs.declared.Stamps.{Stamps}
 use Rattle.clock.proofs.Ticks.{advanced-below}
@@ -21,7 +21,7 @@ use Rattle.ends.specs.Identities.{noIdentity, distinct}
 use Rattle.ends.specs.Records.{newOnu, withOnuClock}
 use Rattle.ends.specs.Validity.{validOnuKeys, validOnuClock, validOnu}
 use Rattle.ends.specs.Messages.{noAcknowledgement, ofClock, ofKey}
-use Rattle.ends.specs.OnuCalls.{onuAnswer, onuAcknowledged, onuReply, freshOnuVerdict, freshOnuOf, advancingOnu, advanceOnuOf, clockMessageVerdict, clockFrom, onuSynced, clockMessageTo, clockMessageAt, keyMessageTo, keyMessageAt}
+use Rattle.ends.specs.OnuCalls.{onuAnswer, onuAcknowledged, onuReply, freshOnuVerdict, freshOnuOf, advancingOnu, advanceOnuOf, clockFrom, onuSynced, clockMessageTo, clockMessageAt, keyMessageTo, keyMessageAt}
 use Rattle.ends.specs.declared.Identity.{Identity}
 use Rattle.ends.specs.declared.Onu.{Onu}
 use Rattle.ends.specs.declared.KeyMessage.{KeyMessage}
@@ -105,12 +105,6 @@ fresh-onu-refused i oltmac time n =
     number-refused (newOnu noIdentity 0 0) silent _ (λ x e. reply-untouched _ (newOnu noIdentity 0 0) silent _ silent x e) n .end
 
 ---- clock message
-
-pub clock-message-accepted : (s : Stamps) → clockMessageVerdict s ≡ Accepted → (s .rx < clockTurn) × (s .tx < clockTurn)
-unfolding clockMessageVerdict
-clock-message-accepted s e =
-    let a = not-false _ (refuse-accepted _ _ _ e .0) in
-    (ltb-true _ _ (both-left _ _ a), ltb-true _ _ (both-right _ _ a))
 
 clock-from-valid : (time : ℕ) (s : Stamps) → validOnuClock (clockFrom (raisedTo time s)) ≡ true
 unfolding validOnuClock clockFrom raisedTo movedBy pick

@@ -1,4 +1,4 @@
--- Which key the ONU chooses for a send and for a receipt, and the number that goes with it. Assumes nothing.
+-- What an accepted send and receipt of the ONU have met, and which key a receipt goes under. Assumes nothing.
 use mathlib.Core.Path.{_≡_, refl, sym, _∙_, ap}
 use mathlib.Core.Bool.{Bool, true, false}
 use Prim.Native.Nat.{ℕ, _+_, _%_, _≤_}
@@ -13,33 +13,15 @@ use Rattle.clock.specs.Ticks.{epamOf}
 use Rattle.ends.specs.Replies.{isUp}
 use Rattle.ends.specs.Occupancy.{downstream, upstream, taken}
 use Rattle.ends.specs.Identities.{has}
-use Rattle.ends.specs.Records.{withOnuKeys, withOnuFirst, withOnuChannels}
-use Rattle.ends.specs.Validity.{validOnu}
-use Rattle.ends.specs.Headers.{validHeader, choiceVerdict, choiceAged, choiceNumber, headerOf}
-use Rattle.ends.specs.OnuTraffic.{onuSendChoice, onuSendVerdict, onuNoted, onuSent, onuReceiveChoice, onuReceiveVerdict, onuMoved, onuReceived}
+use Rattle.ends.specs.Headers.{validHeader, choiceVerdict, choiceAged}
+use Rattle.ends.specs.OnuTraffic.{onuSendChoice, onuSendVerdict, onuReceiveChoice, onuReceiveVerdict}
 use Rattle.ends.specs.declared.OnuKeys.{OnuKeys}
 use Rattle.ends.specs.declared.Onu.{Onu}
 use Rattle.ends.specs.declared.Header.{Header}
-use Rattle.ends.specs.declared.KeyChoice.{KeyChoice}
 use Rattle.ends.specs.declared.KeyChoice.the-variants.{Clear, Current, Next, Barred}
-use Rattle.ends.proofs.Replies.{refuse-accepted, refuse-passed, refused-accepts}
-use Rattle.ends.proofs.Keys.{InLife, send-in-life}
-use Rattle.ends.proofs.Validity.{onu-in-range}
-use Rattle.ends.proofs.Headers.{header-clear, header-sealed, header-index, Under, under-clear, under-current, under-next}
+use Rattle.ends.proofs.Replies.{refuse-accepted, refuse-passed}
 
 ---- which key a send goes under
-
--- key a, clear while a = 0
-pub data OnuSendCase (k : OnuKeys) : Type 0 where
-  onuPlain : onuSendChoice k ≡ Clear → k .active ≡ 0 → OnuSendCase k
-  onuSealed : onuSendChoice k ≡ Current (k .active) → 1 ≤ k .active → OnuSendCase k
-
-pub onu-send-case : (k : OnuKeys) → OnuSendCase k
-unfolding onuSendChoice
-onu-send-case k = by-active (eqb (k .active) 0) refl where
-  by-active : (t : Bool) → eqb (k .active) 0 ≡ t → OnuSendCase k
-  by-active true e = onuPlain (pick-true _ _ e) (eqb-true _ _ e)
-  by-active false e = onuSealed (pick-false _ _ e) (omega (arith, eqb-false (k .active) 0 e))
 
 pub record OnuSends (o : Onu) (misfit : Bool) (llid index : ℕ) : Type 0 where
   pub fits : misfit ≡ false
@@ -156,62 +138,3 @@ onu-receive-accepts o misfit h r =
     ∙ refuse-passed _ EpamDiffers _ (then-both-false _ _ (λ s. not-of-true (eq-eqb _ _ (r .epam (eqb-true _ _ s)))))
     ∙ refuse-passed _ ClockNotSet _ (then-both-false _ _ (λ s. not-of-true (eq-eqb _ _ (r .synced (eqb-true _ _ s)))))
     ∙ r .choice
-
----- numbers
-
--- an envelope from a unit has the number a
-pub onu-sent-number : (k : OnuKeys) → choiceNumber (onuSendChoice k) ≡ k .active
-unfolding choiceNumber
-onu-sent-number k = by-case (onu-send-case k) where
-  by-case : OnuSendCase k → choiceNumber (onuSendChoice k) ≡ k .active
-  by-case (onuPlain e a) = rw e (sym a)
-  by-case (onuSealed e a) = rw e
-
--- sealed, it is sent within its key's life, whose first send is noted
-pub onu-sent-in-life : (o : Onu) (misfit : Bool) (llid index eqs : ℕ) → validOnu o ≡ true → onuSendVerdict o misfit llid index ≡ Accepted
-    → 1 ≤ o .keys .active → InLife (onuSent o index eqs .first) (o .tick)
-unfolding onuSent onuNoted withOnuChannels withOnuFirst choiceAged
-onu-sent-in-life o misfit llid index eqs v a n = by-case (onu-send-case (o .keys)) (onu-send-accepted o misfit llid index a .young) where
-  of : KeyChoice → Type 0
-  of c = choiceAged c (o .first) (o .tick) ≡ false → InLife (onuNoted c o .first) (o .tick)
-
-  by-case : OnuSendCase (o .keys) → of (onuSendChoice (o .keys))
-  by-case (onuPlain e z) = absurd (omega arith)
-  by-case (onuSealed e z) = rw e (λ y. send-in-life (o .first) (o .tick) (onu-in-range o v .first) y)
-
--- an envelope to a unit has the number that a is after it
-pub onu-received-number : (o : Onu) (h : Header) → choiceVerdict (onuReceiveChoice (o .keys) h) ≡ Accepted
-    → choiceNumber (onuReceiveChoice (o .keys) h) ≡ onuReceived (onuReceiveChoice (o .keys) h) o .keys .active
-unfolding choiceVerdict choiceNumber onuReceived onuMoved withOnuFirst withOnuKeys
-onu-received-number o h a = by-case (onu-receive-case (o .keys) h) a where
-  of : KeyChoice → Type 0
-  of c = choiceVerdict c ≡ Accepted → choiceNumber c ≡ onuReceived c o .keys .active
-
-  by-case : OnuReceiveCase (o .keys) h → of (onuReceiveChoice (o .keys) h)
-  by-case (onuClear e p q) = rw e (λ v. sym q)
-  by-case (onuLate e p q) = rw e (λ v. refused-accepts ClearEnvelope v)
-  by-case (onuCurrent e p q k) = rw e (λ v. refl)
-  by-case (onuNext e p q k) = rw e (λ v. refl)
-  by-case (onuUnknown e p) = rw e (λ v. refused-accepts NoKey v)
-
--- an envelope numbered n, a or the held a + 1, is taken as n
-pub onu-receive-numbered : (k : OnuKeys) (n index llid clock : ℕ) → k .active ≤ n → n ≤ k .active + k .held → k .held ≤ 1
-    → Under n (onuReceiveChoice k (headerOf n index llid clock))
-onu-receive-numbered k n index llid clock a b c = by-clear (eqb n 0) refl where
-  h : Header
-  h = headerOf n index llid clock
-
-  by-active : 1 ≤ n → (t : Bool) → eqb n (k .active) ≡ t → Under n (onuReceiveChoice k h)
-  by-active p true e =
-      rw (onu-receive-current k h n (header-sealed n index llid clock p) (header-index n index llid clock) p (eqb-true _ _ e)) (under-current n)
-  by-active p false e =
-      let d = eqb-false n (k .active) e in
-      let held : k .held ≡ 1 = omega arith in
-      let next : n ≡ k .active + 1 = omega arith in
-      rw (onu-receive-next k h n (header-sealed n index llid clock p) (header-index n index llid clock) held next) (under-next n)
-
-  by-clear : (t : Bool) → eqb n 0 ≡ t → Under n (onuReceiveChoice k h)
-  by-clear true e =
-      let z : n ≡ 0 = eqb-true _ _ e in
-      rw (onu-receive-clear k h (header-clear n index llid clock z) (omega arith), z) under-clear
-  by-clear false e = by-active (omega (arith, eqb-false n 0 e)) (eqb n (k .active)) refl

@@ -15,22 +15,21 @@ use Rattle.octets.proofs.Tests.{all-append}
 use Rattle.refusal.specs.declared.Verdict.the-variants.{Accepted}
 use Rattle.clock.specs.Ticks.{maxRoundTrip}
 use Rattle.ends.specs.Limits.{maxUnits, maxLlids}
-use Rattle.ends.specs.Replies.{Silence, silent, Reply}
+use Rattle.ends.specs.Replies.{silent}
 use Rattle.ends.specs.Timers.{validInterval}
-use Rattle.ends.specs.Identities.{distinct, meets, llidsOf, kept, validIdentity, has}
+use Rattle.ends.specs.Identities.{distinct, meets, llidsOf, kept, validIdentity}
 use Rattle.ends.specs.Records.{freshUnit}
-use Rattle.ends.specs.Table.{registered, tableLlids, find, withOneMore}
+use Rattle.ends.specs.Table.{registered, tableLlids, withOneMore}
 use Rattle.ends.specs.Validity.{validUnit, validOlt}
 use Rattle.ends.specs.OltCalls.{oltAnswer, validRegistration, registerVerdict, registering, registerOf}
 use Rattle.ends.specs.declared.Identity.{Identity}
 use Rattle.ends.specs.declared.UnitRecord.{UnitRecord}
 use Rattle.ends.specs.declared.Olt.{Olt}
-use Rattle.ends.specs.declared.Found.the-variants.{At, Nowhere}
-use Rattle.ends.proofs.Replies.{number-accepted, refuse-accepted, reply-verdict, reply-accepted, reply-keeps}
+use Rattle.ends.proofs.Replies.{refuse-accepted, reply-keeps}
 use Rattle.ends.proofs.Timers.{timer-fresh-valid}
 use Rattle.ends.proofs.Keys.{first-none-valid}
-use Rattle.ends.proofs.Identities.{meets-apart, distinct-append, identity-valid, kept-llids, kept-valid, kept-has}
-use Rattle.ends.proofs.Table.{more-registered, find-absent, more-find-new}
+use Rattle.ends.proofs.Identities.{meets-apart, distinct-append, identity-valid, kept-llids, kept-valid}
+use Rattle.ends.proofs.Table.{more-registered}
 use Rattle.ends.proofs.Validity.{unit-valid, clock-valid, olt-in-range, olt-valid}
 
 ---- validity
@@ -127,28 +126,3 @@ unfolding registerOf registering oltAnswer
 register-valid o i trip interval v =
     reply-keeps (λ (p : Olt). validOlt p ≡ true) _ o silent _ silent v
     (λ a. registered-valid o i trip interval (register-accepted o i trip interval (refuse-accepted _ _ _ a .1)) v)
-
----- who is found
-
--- with a place for each unit, the new unit is in use after an accepted registration, and those before it stay
-pub register-registered : (o : Olt) (i : Identity) (trip interval : ℕ) → length (o .units) ≡ maxUnits → registerOf o i trip interval .number ≡ 0
-    → registered (registerOf o i trip interval .olt) ≡ registered o ++ (freshUnit i trip interval ∷ [])
-unfolding registerOf registering oltAnswer
-register-registered o i trip interval h e =
-    let v = number-accepted _ e in
-    let a = sym (reply-verdict _ o silent (withOneMore o (freshUnit i trip interval)) silent) ∙ v in
-    let r = register-accepted o i trip interval (refuse-accepted _ _ _ a .1) in
-    ap (λ (r : Reply Olt Silence). registered (r .end)) (reply-accepted _ o silent (withOneMore o (freshUnit i trip interval)) silent a)
-    ∙ more-registered o (freshUnit i trip interval) (omega (arith, r .room))
-
--- it is found by each of its LLIDs, which were found nowhere before
-pub register-new : (o : Olt) (i : Identity) (trip interval llid : ℕ) → Registers o i trip interval → has i llid ≡ true → find o llid ≡ Nowhere
-unfolding has
-register-new o i trip interval llid r h = find-absent o llid (meets-apart (llidsOf i) (tableLlids (registered o)) llid (r .new) h)
-
-pub register-found : (o : Olt) (i : Identity) (trip interval llid : ℕ) → length (o .units) ≡ maxUnits → Registers o i trip interval → has i llid ≡ true
-    → find (withOneMore o (freshUnit i trip interval)) llid ≡ At (o .count)
-unfolding freshUnit
-register-found o i trip interval llid l r h =
-    more-find-new o (freshUnit i trip interval) llid (omega (arith, r .room)) (register-new o i trip interval llid r h)
-    (kept-has i llid (identity-valid i (r .identity) .1) ∙ h)

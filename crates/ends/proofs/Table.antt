@@ -90,12 +90,6 @@ find-own o llid i d r =
     let e : has (getD (registered o) i pastUnit .identity) llid ≡ true = rw (getD-take (o .count) (o .units) i pastUnit (r .used)) (r .has) in
     rw zero-add at (from-own 0 (registered o) llid i d (omega (arith, length-take (o .count) (o .units))) e)
 
--- so an LLID is one unit's
-pub one-place : (o : Olt) (llid i j : ℕ) → distinct (tableLlids (registered o)) ≡ true → Registered o llid i → Registered o llid j → i ≡ j
-one-place o llid i j d r q =
-    let e : At i ≡ At j = sym (find-own o llid i d r) ∙ find-own o llid j d q in
-    cc
-
 -- an LLID that is found is one of the table's, and one that is found nowhere is not
 pub among-found : (k : ℕ) (us : List UnitRecord) (llid i : ℕ) → findFrom k us llid ≡ At i → among llid (tableLlids us) ≡ true
 among-found k us llid i e = let m = from-at k us llid i e in table-among us llid (i - k) (omega (arith, m .low, m .high)) (m .has)
@@ -115,15 +109,6 @@ from-absent k [] llid e = refl
 from-absent k (u ∷ us) llid e =
     let a = either-false _ _ (sym (among-append llid (llidsOf (u .identity)) (tableLlids us)) ∙ e) in
     pick-false _ _ (a .0) ∙ from-absent (suc k) us llid (a .1)
-
--- an LLID is found nowhere just where no unit has it
-pub find-nowhere : (o : Olt) (llid : ℕ) → find o llid ≡ Nowhere → among llid (tableLlids (registered o)) ≡ false
-unfolding find
-find-nowhere o llid e = among-nowhere 0 (registered o) llid e
-
-pub find-absent : (o : Olt) (llid : ℕ) → among llid (tableLlids (registered o)) ≡ false → find o llid ≡ Nowhere
-unfolding find
-find-absent o llid e = from-absent 0 (registered o) llid e
 
 ---- the table goes by the identities alone
 
@@ -234,25 +219,6 @@ from-past k (u ∷ us) vs llid e = by-head (has (u .identity) llid) (from-past (
       → pick t (At k) (findFrom (suc k) (us ++ vs) llid) ≡ findFrom (k + suc (length us)) vs llid
   by-head true more f = let z : _≡_ {A = ℕ} 0 1 = cc in absurd (omega arith)
   by-head false more f = more f ∙ ap (λ (n : ℕ). findFrom n vs llid) (rw (suc-add, add-suc))
-
--- who was found is found where it was
-pub more-find : (o : Olt) (u : UnitRecord) (llid i : ℕ) → o .count < length (o .units) → find o llid ≡ At i → find (withOneMore o u) llid ≡ At i
-unfolding find
-more-find o u llid i h e = rw (more-registered o u h) (from-append 0 (registered o) (u ∷ []) llid i e)
-
--- the new unit is found in its place by each of its LLIDs that no other has
-pub more-find-new : (o : Olt) (u : UnitRecord) (llid : ℕ) → o .count < length (o .units) → find o llid ≡ Nowhere → has (u .identity) llid ≡ true
-    → find (withOneMore o u) llid ≡ At (o .count)
-unfolding find findFrom
-more-find-new o u llid h e f =
-    let n : 0 + length (registered o) ≡ o .count = omega (arith, length-take (o .count) (o .units)) in
-    rw (more-registered o u h) (from-past 0 (registered o) (u ∷ []) llid e ∙ pick-true _ _ f ∙ ap At n)
-
--- and no other LLID is
-pub more-find-none : (o : Olt) (u : UnitRecord) (llid : ℕ) → o .count < length (o .units) → find o llid ≡ Nowhere → has (u .identity) llid ≡ false
-    → find (withOneMore o u) llid ≡ Nowhere
-unfolding find findFrom
-more-find-none o u llid h e f = rw (more-registered o u h) (from-past 0 (registered o) (u ∷ []) llid e ∙ pick-false _ _ f)
 
 pub more-unit : (o : Olt) (u : UnitRecord) → o .count < length (o .units) → unitAt (withOneMore o u) (o .count) ≡ u
 unfolding withOneMore

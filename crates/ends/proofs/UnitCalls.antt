@@ -1,10 +1,9 @@
 -- The clock and key calls on one unit keep it valid and of its identity. Assumes nothing.
-use mathlib.Core.Path.{_≡_, refl, _∙_, ap, ap₂}
+use mathlib.Core.Path.{_≡_, refl, _∙_}
 use mathlib.Core.Bool.{Bool, true, false}
 use mathlib.Core.List.{List}
 use mathlib.Core.Logic.{⊎-elim}
-use Prim.Native.Nat.{ℕ, _+_, _-_, _%_, _≤_, _<_}
-use native.Mathlib.Nat.{mod-mod}
+use Prim.Native.Nat.{ℕ, _+_, _-_, _≤_, _<_}
 use native.Mathlib.Omega.{arith}
 use lib.Dec.{leb, eqb}
 use borrow.Author.Tests.{leb-true, leb-false, ltb-false, eqb-true, eqb-false, le-leb, not-false}
@@ -13,9 +12,7 @@ use Rattle.octets.specs.Lists.{same}
 use Rattle.octets.proofs.Choice.{both-left, both-right, either-false, pick-false, either-left, either-right, either-cases}
 use Rattle.refusal.specs.declared.Refusal.the-variants.{NothingOutstanding}
 use Rattle.refusal.specs.declared.Verdict.the-variants.{Accepted, Refused}
-use Rattle.clock.specs.Ticks.{ticksPerSecond, clockTurn, rewound}
-use Rattle.clock.specs.Stamping.{capturedAt}
-use Rattle.clock.proofs.Ticks.{advanced-mod, rewound-at}
+use Rattle.clock.specs.Ticks.{ticksPerSecond}
 use Rattle.ends.specs.Limits.{maxKeyNumber}
 use Rattle.ends.specs.Replies.{Silence, silent}
 use Rattle.ends.specs.Keys.{keyIn}
@@ -24,7 +21,7 @@ use Rattle.ends.specs.Records.{withKeys, withConfirmation, withClock, wi
 use Rattle.ends.specs.Validity.{validUnitClock, validUnit, validShared}
 use Rattle.ends.specs.Occupancy.{validChannels}
 use Rattle.ends.specs.Lift.{Outcome, outcome}
-use Rattle.ends.specs.UnitCalls.{unitAdvanced, clockCaptured, captureUnit, clockSendVerdict, clockMessageSent, clockMessageOf, clockSendUnit, offerVerdict, keysOffered, unitOffered, offerUnit, retryVerdict, retryUnit, clockAcknowledgedUnit, keyAcknowledgedUnit, acknowledgeUnit}
+use Rattle.ends.specs.UnitCalls.{unitAdvanced, clockCaptured, captureUnit, clockSendVerdict, clockMessageSent, clockSendUnit, offerVerdict, keysOffered, unitOffered, offerUnit, retryVerdict, retryUnit, clockAcknowledgedUnit, keyAcknowledgedUnit, acknowledgeUnit}
 use Rattle.ends.specs.declared.UnitClock.{UnitClock}
 use Rattle.ends.specs.declared.UnitRecord.{UnitRecord}
 use Rattle.ends.specs.declared.Shared.{Shared}
@@ -167,10 +164,6 @@ key-acknowledged-accepted number s u e =
     let a = not-false _ (refuse-accepted _ _ _ e .0) in
     (leb-true _ _ (both-left _ _ a), eqb-true _ _ (both-right _ _ a))
 
-pub clock-acknowledged-accepted : (s : Shared) (u : UnitRecord) → clockAcknowledgedUnit s u .verdict ≡ Accepted → u .clock .sent ≡ 1
-unfolding clockAcknowledgedUnit outcome
-clock-acknowledged-accepted s u e = eqb-true _ _ (not-false _ (refuse-accepted _ _ _ e .0))
-
 ---- keys
 
 pub offer-keeps : (llid : ℕ) (key : List ℕ) → Keeps (offerUnit llid key)
@@ -277,15 +270,3 @@ acknowledged-again a s u = by-kind (eqb (a .kind) clockKind) (eqb (a .kind) keyK
   by-kind true k = refl
   by-kind false true = refl
   by-kind false false = refl
-
----- the stamps of a clock message
-
--- where the OLT's clock is its first plus its ticks, the message has the stamps of the capture's tick
-pub message-stamps : (first : ℕ) (s : Shared) (c : UnitClock) → s .clock ≡ (first + s .tick) % clockTurn → c .tick ≤ s .tick
-    → clockMessageOf s c ≡ capturedAt (first + c .tick) (c .trip)
-unfolding clockMessageOf capturedAt
-message-stamps first s c e h =
-    let back : rewound (s .clock) (s .tick - c .tick) ≡ (first + c .tick) % clockTurn =
-    ap (λ (x : ℕ). rewound x (s .tick - c .tick)) e ∙ rewound-at first (s .tick) (c .tick) h in
-    ap (λ (x : ℕ). capturedAt x (c .trip)) back
-    ∙ ap₂ (λ (x y : ℕ). record { rx = x; tx = y }) (mod-mod (first + c .tick) clockTurn) (advanced-mod (first + c .tick) (c .trip))

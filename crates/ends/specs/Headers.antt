@@ -1,10 +1,9 @@
 -- Headers, and what an envelope goes under (01, Keys; The line). Assumes nothing.
-use mathlib.Core.Bool.{Bool, true, false}
+use mathlib.Core.Bool.{Bool, false}
 use mathlib.Core.List.{List}
 use Prim.Native.Nat.{ℕ, _%_}
 use lib.Dec.{leb, ltb, eqb}
 use Rattle.octets.specs.Choice.{both, pick}
-use Rattle.refusal.specs.declared.Refusal.{Refusal}
 use Rattle.refusal.specs.declared.Verdict.{Verdict}
 use Rattle.refusal.specs.declared.Verdict.the-variants.{Accepted, Refused}
 use Rattle.clock.specs.Ticks.{epamTurn, epamOf}

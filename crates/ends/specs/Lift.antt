@@ -1,6 +1,6 @@
 -- From a call on one unit to the same call on the OLT: the unit is found by its LLID, the call is made, and the unit is put back
 -- (01, Clock: OLT calls name a unit by any of its LLIDs). Assumes nothing.
-use mathlib.Core.Bool.{Bool, not}
+use mathlib.Core.Bool.{not}
 use Prim.Native.Nat.{ℕ}
 use Rattle.refusal.specs.declared.Refusal.the-variants.{OutOfRange, UnknownLlid}
 use Rattle.refusal.specs.declared.Verdict.{Verdict}

@@ -4,7 +4,6 @@ use mathlib.Core.Bool.{Bool, not}
 use Prim.Native.Nat.{ℕ}
 use Rattle.octets.specs.Choice.{both}
 use Rattle.refusal.specs.declared.Refusal.the-variants.{OutOfRange, BadLength}
-use Rattle.refusal.specs.declared.Verdict.{Verdict}
 use Rattle.refusal.specs.declared.Verdict.the-variants.{Accepted}
 use Rattle.ends.specs.Replies.{refuseIf, Reply}
 use Rattle.ends.specs.Occupancy.{downstream, upstream}

@@ -1,8 +1,7 @@
 -- The calls of the ONU but send and receive (01, Clock; Keys; 'When the reader says no'). Each gives number, end and what is handed
 -- over together. Assumes nothing.
 use mathlib.Core.Bool.{Bool, not}
-use mathlib.Core.List.{List}
-use Prim.Native.Nat.{ℕ, _+_, _%_}
+use Prim.Native.Nat.{ℕ, _+_}
 use lib.Dec.{leb, ltb, eqb}
 use Rattle.octets.specs.Choice.{both, either, pick}
 use Rattle.octets.specs.Lists.{same}

@@ -1,6 +1,5 @@
 -- Records with a part replaced, and records new and empty (01, Clock: fresh ends, registering). Assumes nothing.
-use mathlib.Core.List.{List, []}
-use Prim.Native.Nat.{ℕ, _+_}
+use Prim.Native.Nat.{ℕ}
 use lib.ListN.{replicate}
 use Rattle.ends.specs.Limits.{maxUnits}
 use Rattle.ends.specs.Timers.{freshTimer}

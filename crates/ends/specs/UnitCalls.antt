@@ -1,5 +1,5 @@
 -- The clock and key calls of the OLT on one unit (01, Clock; Keys). Assumes nothing.
-use mathlib.Core.Bool.{Bool, true, false, not}
+use mathlib.Core.Bool.{not}
 use mathlib.Core.List.{List}
 use Prim.Native.Nat.{ℕ, _+_, _-_}
 use lib.Dec.{leb, ltb, eqb}
@@ -19,7 +19,6 @@ use Rattle.ends.specs.Messages.{clockKind, keyKind}
 use Rattle.ends.specs.Records.{withKeys, withConfirmation, withClock, withTimer}
 use Rattle.ends.specs.Lift.{Outcome, outcome}
 use Rattle.ends.specs.declared.UnitKeys.{UnitKeys}
-use Rattle.ends.specs.declared.Confirmation.{Confirmation}
 use Rattle.ends.specs.declared.UnitClock.{UnitClock}
 use Rattle.ends.specs.declared.UnitRecord.{UnitRecord}
 use Rattle.ends.specs.declared.Shared.{Shared}

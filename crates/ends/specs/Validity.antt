@@ -1,7 +1,6 @@
 -- When a lent end is valid (01, 'When the reader says no': Ahead of each list comes 1). Each line is a cause of that sentence, and
 -- there is no other; a place that is not in use is no field of the end. Assumes nothing.
 use mathlib.Core.Bool.{Bool}
-use mathlib.Core.List.{List}
 use Prim.Native.Nat.{ℕ, _+_}
 use lib.Dec.{leb, ltb, eqb}
 use Rattle.octets.specs.Choice.{both, either, pick}
@@ -15,7 +14,6 @@ use Rattle.ends.specs.Occupancy.{validChannels}
 use Rattle.ends.specs.Identities.{distinct, llidsOf, validMac, validIdentity}
 use Rattle.ends.specs.Table.{registered, tableLlids}
 use Rattle.ends.specs.declared.UnitKeys.{UnitKeys}
-use Rattle.ends.specs.declared.Confirmation.{Confirmation}
 use Rattle.ends.specs.declared.UnitClock.{UnitClock}
 use Rattle.ends.specs.declared.UnitRecord.{UnitRecord}
 use Rattle.ends.specs.declared.Shared.{Shared}

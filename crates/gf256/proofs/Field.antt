@@ -1,18 +1,17 @@
 -- Laws of GF(2^8): products by 2 and by 3, and the inverse. Assumes nothing.
 use mathlib.Core.Path.{_≡_, refl, ap, sym, _∙_}
 use mathlib.Core.Bool.{Bool}
-use mathlib.Core.List.{List}
 use Prim.Native.Nat.{ℕ, zero, suc, _<_}
 use native.Mathlib.Nat.{zero-mul, one-mul}
 use native.Mathlib.Numerals.{one-add}
 use native.Mathlib.Omega.{arith}
-use lib.Bits.{bitXor, xor-zero-l, xor-zero-r}
+use lib.Bits.{xor-zero-l, xor-zero-r}
 use lib.Dec.{T, eqb, eqb→eq}
 use lib.ListN.{getD}
 use Rattle.octets.specs.Bits.{bitOf}
 use Rattle.octets.specs.Choice.{pick}
 use Rattle.octets.specs.Lists.{tabulate}
-use Rattle.octets.proofs.Lists.{tabulate-length, tabulate-at}
+use Rattle.octets.proofs.Lists.{tabulate-at}
 use Rattle.octets.proofs.Table.{at, every}
 use Rattle.gf256.specs.Field.{_⊕_, modulus, xTimes, terms, _•_, square, evenPower, inverse, Inverts}
 

@@ -25,10 +25,6 @@ tabulated f t n e passes =
     eqb→eq (getD t k 0) (f k) (at (follows f) t passes k h)
     ∙ sym (tabulate-at 0 n f k 0 (rw e at h) ∙ rw zero-add))
 
-pub table-length : (f : ℕ → ℕ) → length (table f) ≡ 256
-unfolding table
-table-length f = tabulate-length 0 256 f
-
 pub table-at : (f : ℕ → ℕ) (x : ℕ) → x < 256 → getD (table f) x 0 ≡ f x
 unfolding table
 table-at f x h = tabulate-at 0 256 f x 0 h ∙ rw zero-add

@@ -20,7 +20,7 @@ use Rattle.line.specs.Run.{laneAt, start, sentAt}
 use Rattle.line.specs.Premises.{Fresh, Meets}
 use Rattle.line.specs.Claim.{isSealed, nonceFor, ArrivedNumbered, Claim}
 use Rattle.line.specs.Example.{example, oltMac, identityA, identityB, siteA, siteB, events, keyFrom, payloadFrom}
-use Rattle.line.specs.Demand.{played, arrivalAt, nonce, numberAt, numberOf, refusals, Handed, Passed, Delivered, Agreed, Apart, Course, Shown, Demand}
+use Rattle.line.specs.Demand.{played, arrivalAt, nonce, arrivalNumber, callNumber, refusals, Handed, Passed, Delivered, Agreed, Apart, Course, Shown, Demand}
 use Rattle.line.proofs.Opened.{opened}
 use Rattle.line.proofs.Tested.{tested, meets, meets-true}
 use Rattle.line.proofs.Theorem.{line-holds}
@@ -46,7 +46,7 @@ example-meets : Meets example (start example) events
 example-meets = meets-true example (start example) events example-passes
 
 course : Course
-unfolding opened numberAt numberOf refusals
+unfolding opened arrivalNumber callNumber refusals
 course = record { registered = refl; refused = refl; sentA = refl; arrivedA = refl; sentB = refl; arrivedB = refl }
 
 ---- what the theorem says of it: the history alone is computed

@@ -4,9 +4,8 @@
 use mathlib.Core.Path.{_≡_}
 use mathlib.Core.Bool.{Bool, true, false}
 use mathlib.Core.List.{List, [], _∷_, List·Memᴰ}
-use Prim.Native.Nat.{ℕ, _+_, _-_, _%_, _<_, _≤_, _^_}
+use Prim.Native.Nat.{ℕ, _+_, _-_, _%_, _<_, _≤_}
 use lib.ListN.{length, getD}
-use Rattle.octets.specs.Choice.{pick}
 use Rattle.clock.specs.Ticks.{clockTurn, localTurn, ticksPerSecond, keyLife}
 use Rattle.clock.specs.Stamping.{capturedAt}
 use Rattle.clock.specs.Aligned.{Aligned}

@@ -31,7 +31,7 @@ use Rattle.ends.proofs.Registration.{Registers, register-accepted, registered-v
 use Rattle.line.specs.Setting.{Setting}
 use Rattle.line.specs.History.{Entry, Keys, Lane, due, laneRegistered}
 use Rattle.line.specs.Events.{register}
-use Rattle.line.specs.Run.{State, laneAt, onuAt, noSite, freshLane, noted, step}
+use Rattle.line.specs.Run.{State, laneAt, onuAt, noSite, freshLane, noted, entering, step}
 use Rattle.line.specs.Premises.{Agrees, Fits}
 use Rattle.line.proofs.Invariant.{flagOf, Timing, Idle, Joined, Standing, LaneRight, Invariant}
 use Rattle.line.proofs.Frames.{common-moved}
@@ -241,7 +241,7 @@ module _ (w : Setting) (s : State) (u : ℕ) (i : Identity) (trip interval : ℕ
 
 pub register-right : (w : Setting) (s : State) (u : ℕ) (i : Identity) (trip interval : ℕ) → Invariant w s → Fits w s (register u i trip interval)
     → Invariant w (step s (register u i trip interval))
-unfolding step Rattle.line.specs.Run.registering noted pick
+unfolding step entering noted pick
 register-right w s u i trip interval v f = by-number (eqb (registerOf (s .olt) i trip interval .number) 0) refl where
   by-number : (t : Bool) → eqb (registerOf (s .olt) i trip interval .number) 0 ≡ t → Invariant w (step s (register u i trip interval))
   by-number true e =

@@ -24,7 +24,7 @@ use Rattle.ends.proofs.OltCalls.{fresh-valid, fresh-places}
 use Rattle.ends.proofs.OnuCalls.{new-onu-valid}
 use Rattle.line.specs.Setting.{Site, Setting}
 use Rattle.line.specs.History.{Lane}
-use Rattle.line.specs.Run.{laneAt, noSite, freshLane, freshUnit, start}
+use Rattle.line.specs.Run.{laneAt, noSite, freshLane, freshOnu, start}
 use Rattle.line.specs.Premises.{Fresh}
 use Rattle.line.proofs.Invariant.{Idle, Common, LaneRight, AtTick, Invariant}
 
@@ -74,8 +74,8 @@ onu-made i oltmac time e =
       below = ltb-true _ _ (both-right _ _ (both-right _ _ v));
     }
 
-pub fresh-common : (w : Setting) (s : Site) → freshOnuOf (s .identity) (s .oltmac) (s .time) .number ≡ 0 → Common w 0 (freshLane s) (freshUnit s)
-unfolding freshLane freshUnit newOnu kept
+pub fresh-common : (w : Setting) (s : Site) → freshOnuOf (s .identity) (s .oltmac) (s .time) .number ≡ 0 → Common w 0 (freshLane s) (freshOnu s)
+unfolding freshLane freshOnu newOnu kept
 fresh-common w s e =
     let m = onu-made (s .identity) (s .oltmac) (s .time) e in
     rw (m .made)
@@ -87,8 +87,8 @@ fresh-common w s e =
       oltmac = refl;
     })
 
-pub fresh-idle : (s : Site) → freshOnuOf (s .identity) (s .oltmac) (s .time) .number ≡ 0 → Idle 0 (freshLane s) (freshUnit s)
-unfolding freshLane freshUnit newOnu
+pub fresh-idle : (s : Site) → freshOnuOf (s .identity) (s .oltmac) (s .time) .number ≡ 0 → Idle 0 (freshLane s) (freshOnu s)
+unfolding freshLane freshOnu newOnu
 fresh-idle s e =
     let m = onu-made (s .identity) (s .oltmac) (s .time) e in
     rw (m .made)
@@ -109,7 +109,7 @@ fresh-idle s e =
     })
 
 fresh-lane-right : (w : Setting) (t : Olt) (s : Site) → freshOnuOf (s .identity) (s .oltmac) (s .time) .number ≡ 0
-    → LaneRight w t 0 (freshLane s) (freshUnit s)
+    → LaneRight w t 0 (freshLane s) (freshOnu s)
 unfolding freshLane
 fresh-lane-right w t s e = record { common = fresh-common w s e; standing = fresh-idle s e }
 
@@ -123,7 +123,7 @@ lane-fresh P (s ∷ sites) (suc u) p = lane-fresh P sites u p
 
 lanes-right : (w : Setting) (t : Olt) (sites : List Site) (u : ℕ) (d : Onu)
     → ((v : ℕ) (s : Site) → v < length sites → freshOnuOf (getD sites v s .identity) (getD sites v s .oltmac) (getD sites v s .time) .number ≡ 0)
-    → u < length (map freshLane sites) → LaneRight w t 0 (getD (map freshLane sites) u (freshLane noSite)) (getD (map freshUnit sites) u d)
+    → u < length (map freshLane sites) → LaneRight w t 0 (getD (map freshLane sites) u (freshLane noSite)) (getD (map freshOnu sites) u d)
 lanes-right w t [] u d f h = absurd (not-suc-le-zero h)
 lanes-right w t (s ∷ sites) zero d f h = fresh-lane-right w t s (f zero s (omega arith))
 lanes-right w t (s ∷ sites) (suc u) d f h = lanes-right w t sites u d (λ v x k. f (suc v) x (omega (arith, k))) (le-of-suc-le-suc h)
@@ -140,7 +140,7 @@ start-right w f =
       places = fresh-places (w .mac) (w .first);
       count = fresh-count (w .mac) (w .first) (f .olt);
       shared = fresh-at-tick w (f .olt);
-      paired = length-map (w .sites) freshUnit ∙ sym (length-map (w .sites) freshLane);
+      paired = length-map (w .sites) freshOnu ∙ sym (length-map (w .sites) freshLane);
       lane = λ u h. lanes-right w (start w .olt) (w .sites) u (newOnu noIdentity 0 0) (f .onus) h;
       apart = λ u v h k a b e. true-false (sym a ∙ unregistered u);
       keys = λ u v m n h k e. absurd (omega (arith, h, none u));

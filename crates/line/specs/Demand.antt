@@ -85,35 +85,35 @@ pub record Apart (u i j : ℕ) : Type 0 where
       → ⊥
 
 -- the number that the unit's call on what arrived returned
-unfoldable pub numberAt : Onu → List ℕ → Thing → ℕ
-numberAt o out (clockMessage m c t) = clockMessageAt o m .number
-numberAt o out (keyMessage m t) = keyMessageAt o m .number
-numberAt o out (envelope e) = onuReceiveOf o (e .header) (e .octets) out .answer .number
+unfoldable pub arrivalNumber : Onu → List ℕ → Thing → ℕ
+arrivalNumber o out (clockMessage m c t) = clockMessageAt o m .number
+arrivalNumber o out (keyMessage m t) = keyMessageAt o m .number
+arrivalNumber o out (envelope e) = onuReceiveOf o (e .header) (e .octets) out .answer .number
 
 -- the number that an event's call returned
-unfoldable pub numberOf : State → Event → ℕ
-numberOf s (advance n) = advanceOltOf (s .olt) n .number
-numberOf s (register u i trip interval) = registerOf (s .olt) i trip interval .number
-numberOf s (capture llid) = captureOf (s .olt) llid .number
-numberOf s (clockSend llid) = clockSendOf (s .olt) llid .number
-numberOf s (offer llid key) = offerOf (s .olt) llid key .number
-numberOf s (retry llid) = retryOf (s .olt) llid .number
-numberOf s (sendDown llid index p out) = oltSendOf (s .olt) llid index p out .answer .number
-numberOf s (sendUp u llid index p out) = onuSendOf (onuAt s u) llid index p out .answer .number
-numberOf s (arriveDown u k out) = numberAt (onuAt s u) out (thingAt s u k)
-numberOf s (arriveUp u k out) = oltReceiveOf (s .olt) (envelopeAt s u k .header) (envelopeAt s u k .octets) out .answer .number
-numberOf s (arriveAnswer u k llid) = acknowledgeOf (s .olt) llid (answerAt s u k .acknowledgement) .number
-numberOf s (overhear u v k out) = overhearing s u v k out .answer .number
-numberOf s (strayClock u m) = clockMessageAt (onuAt s u) m .number
-numberOf s (strayKey u m) = keyMessageAt (onuAt s u) m .number
-numberOf s (strayAnswer llid a) = acknowledgeOf (s .olt) llid a .number
-numberOf s (strayDown u h p out) = onuReceiveOf (onuAt s u) h p out .answer .number
-numberOf s (strayUp h p out) = oltReceiveOf (s .olt) h p out .answer .number
+unfoldable pub callNumber : State → Event → ℕ
+callNumber s (advance n) = advanceOltOf (s .olt) n .number
+callNumber s (register u i trip interval) = registerOf (s .olt) i trip interval .number
+callNumber s (capture llid) = captureOf (s .olt) llid .number
+callNumber s (clockSend llid) = clockSendOf (s .olt) llid .number
+callNumber s (offer llid key) = offerOf (s .olt) llid key .number
+callNumber s (retry llid) = retryOf (s .olt) llid .number
+callNumber s (sendDown llid index p out) = oltSendOf (s .olt) llid index p out .answer .number
+callNumber s (sendUp u llid index p out) = onuSendOf (onuAt s u) llid index p out .answer .number
+callNumber s (arriveDown u k out) = arrivalNumber (onuAt s u) out (thingAt s u k)
+callNumber s (arriveUp u k out) = oltReceiveOf (s .olt) (envelopeAt s u k .header) (envelopeAt s u k .octets) out .answer .number
+callNumber s (arriveAnswer u k llid) = acknowledgeOf (s .olt) llid (answerAt s u k .acknowledgement) .number
+callNumber s (overhear u v k out) = overhearing s u v k out .answer .number
+callNumber s (strayClock u m) = clockMessageAt (onuAt s u) m .number
+callNumber s (strayKey u m) = keyMessageAt (onuAt s u) m .number
+callNumber s (strayAnswer llid a) = acknowledgeOf (s .olt) llid a .number
+callNumber s (strayDown u h p out) = onuReceiveOf (onuAt s u) h p out .answer .number
+callNumber s (strayUp h p out) = oltReceiveOf (s .olt) h p out .answer .number
 
 -- the numbers of the calls that were refused, in order
 unfoldable pub refusals : State → List Event → List ℕ
 refusals s [] = []
-refusals s (e ∷ es) = pick (accepted (numberOf s e)) [] (numberOf s e ∷ []) ++ refusals (step s e) es
+refusals s (e ∷ es) = pick (accepted (callNumber s e)) [] (callNumber s e ∷ []) ++ refusals (step s e) es
 
 -- what came to pass, by computing: two units, one registered after tick 0; all calls were accepted but the late acknowledgement (8)
 -- and the overheard envelope (2); the numbers of what was sent, and of what arrived

@@ -1,7 +1,7 @@
 -- What a list must keep to (01, The line), in the paper's order. A call of an end is bound only where it is accepted; an arrival,
 -- an overheard receipt and any other receipt by what makes it one. Assumes nothing.
 use mathlib.Core.Path.{_≡_}
-use mathlib.Core.Bool.{Bool, true, false}
+use mathlib.Core.Bool.{true, false}
 use mathlib.Core.List.{List, [], _∷_}
 use Prim.Native.Nat.{ℕ, _+_, _%_, _<_, _≤_}
 use lib.ListN.{length, getD}
@@ -13,9 +13,9 @@ use Rattle.ends.specs.declared.Identity.{Identity}
 use Rattle.traffic.specs.Sends.{onuSendOf}
 use Rattle.traffic.specs.Receipts.{oltReceiveOf, onuReceiveOf}
 use Rattle.line.specs.Setting.{Site, Setting}
-use Rattle.line.specs.History.{Envelope, Thing, clockMessage, keyMessage, envelope, leftAt}
+use Rattle.line.specs.History.{Thing, clockMessage, keyMessage, envelope, leftAt}
 use Rattle.line.specs.Events.{Event, advance, register, capture, clockSend, offer, retry, sendDown, sendUp, arriveDown, arriveUp, arriveAnswer, overhear, strayClock, strayKey, strayAnswer, strayDown, strayUp}
-use Rattle.line.specs.Run.{State, step, laneAt, onuAt, thingAt, envelopeAt, sentAt, answerAt}
+use Rattle.line.specs.Run.{State, step, laneAt, onuAt, thingAt, envelopeAt, answerAt}
 
 -- "from fresh ends": the OLT and every unit were made
 pub record Fresh (w : Setting) : Type 0 where

@@ -1,10 +1,10 @@
 -- How a list of events runs: each event is the definition of its call, on the ends as the last call left them, and what it adds
 -- to the history. Assumes nothing.
-use mathlib.Core.Bool.{Bool, true, false}
+use mathlib.Core.Bool.{Bool, false}
 use mathlib.Core.List.{List, [], _∷_, map}
 use Prim.Native.Nat.{ℕ, _+_}
 use lib.Dec.{eqb}
-use lib.ListN.{length, getD, set}
+use lib.ListN.{getD, set}
 use Rattle.octets.specs.Choice.{both, pick}
 use Rattle.ends.specs.Identities.{has, noIdentity}
 use Rattle.ends.specs.Records.{newOnu}
@@ -48,14 +48,14 @@ freshLane s =
       past = record { sent = []; arrived = [] };
     }
 
-unfoldable pub freshUnit : Site → Onu
-freshUnit s = freshOnuOf (s .identity) (s .oltmac) (s .time) .onu
+unfoldable pub freshOnu : Site → Onu
+freshOnu s = freshOnuOf (s .identity) (s .oltmac) (s .time) .onu
 
 unfoldable pub start : Setting → State
 start w =
     record {
       olt = freshOltOf (w .mac) (w .first) .olt;
-      onus = map freshUnit (w .sites);
+      onus = map freshOnu (w .sites);
       history = record { now = 0; registrations = 0; lanes = map freshLane (w .sites) };
     }
 
@@ -122,8 +122,8 @@ advancing s n =
           };
     }
 
-unfoldable pub registering : State → ℕ → ℕ → ℕ → Olt → State
-registering s u interval number o =
+unfoldable pub entering : State → ℕ → ℕ → ℕ → Olt → State
+entering s u interval number o =
     record {
       olt = o;
       onus = s .onus;
@@ -253,7 +253,7 @@ oltAfter s o = record { olt = o; onus = s .onus; history = s .history }
 unfoldable pub step : State → Event → State
 step s (advance n) = advancing s n
 step s (register u i trip interval) =
-    registering s u interval (registerOf (s .olt) i trip interval .number) (registerOf (s .olt) i trip interval .olt)
+    entering s u interval (registerOf (s .olt) i trip interval .number) (registerOf (s .olt) i trip interval .olt)
 step s (capture llid) =
     atOlt s (captureOf (s .olt) llid .olt) (captureOf (s .olt) llid .number) llid (laneCaptured (s .history .now))
 step s (clockSend llid) = clockSending s llid (clockSendOf (s .olt) llid)

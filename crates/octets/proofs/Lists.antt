@@ -56,12 +56,6 @@ copy-more k z d i hk hz =
     rw (add-one, drop-cons z i d hz, take-suc k i d hk, append-assoc)
     (set-at (take i k) (getD z i d) (drop (suc i) z) (getD k i d) i (length-take-le i k (le-of-lt hk)))
 
--- one element stored after p
-pub store : {A : Type 0} (p z : List A) (d : A) (k m : ℕ) (a : A) → length p ≡ k → m ≡ k + 1 → k < length z
-    → set (p ++ drop k z) k a ≡ (p ++ (a ∷ [])) ++ drop m z
-store p z d k m a e q h =
-    rw (q, add-one, drop-cons z k d h, append-assoc) (set-at p (getD z k d) (drop (suc k) z) a k e)
-
 pub sum-suc : (i n : ℕ) (f : ℕ → ℕ) → sum i (suc n) f ≡ sum i n f + f (i + n)
 sum-suc i zero f = rw (add-zero, add-zero, zero-add)
 sum-suc i (suc n) f = rw (sum-suc (suc i) n f) (rw (add-suc, suc-add) (sym (add-assoc (f i) (sum (suc i) n f) (f (suc (i + n))))))
@@ -80,9 +74,6 @@ sum-below i (suc n) b f h = omega (arith, h i, sum-below (suc i) n b f h)
 -- the part of s from k on, as a slice `&s[k..]` has it
 pub tail-part : {A : Type 0} (k : ℕ) (s : List A) → take (length s - k) (drop k s) ≡ drop k s
 tail-part k s = take-all (length s - k) (drop k s) (omega (arith, length-drop k s))
-
-pub replaced-length : {A : Type 0} (s : List A) (at : ℕ) (t : List A) → at + length t ≤ length s → length (replaced s at t) ≡ length s
-replaced-length s at t h = simp (length-append, length-take, length-drop) (omega arith)
 
 -- a copy of all elements of t to the places from `at` on
 pub paste-all : {A : Type 0} (s : List A) (at : ℕ) (t : List A) → paste s at t (length t) ≡ replaced s at t

@@ -26,12 +26,6 @@ pub fn be16(b: [u8; 2]) -> u64
     wide(b[0]) * 256 + wide(b[1])
 }
 
-pub fn be24(b: [u8; 3]) -> u64
-    ensures { λ r. ⌜ r ≡ numberAt 3 b 0 ⌝ }
-{
-    (wide(b[0]) * 256 + wide(b[1])) * 256 + wide(b[2])
-}
-
 pub fn be32(b: [u8; 4]) -> u64
     ensures { λ r. ⌜ r ≡ numberAt 4 b 0 ⌝ }
 {
@@ -46,27 +40,10 @@ pub fn be48(b: [u8; 6]) -> u64
         + wide(b[5])
 }
 
-pub fn octets16(n: u64) -> [u8; 2]
-    ensures { λ r. ⌜ r ≡ octetsOf 2 n ⌝ }
-{
-    [(n / 256 % 256) as u8, (n % 256) as u8]
-}
-
 pub fn octets24(n: u64) -> [u8; 3]
     ensures { λ r. ⌜ r ≡ octetsOf 3 n ⌝ }
 {
     [
-        (n / 65536 % 256) as u8,
-        (n / 256 % 256) as u8,
-        (n % 256) as u8,
-    ]
-}
-
-pub fn octets32(n: u64) -> [u8; 4]
-    ensures { λ r. ⌜ r ≡ octetsOf 4 n ⌝ }
-{
-    [
-        (n / 16777216 % 256) as u8,
         (n / 65536 % 256) as u8,
         (n / 256 % 256) as u8,
         (n % 256) as u8,

@@ -1,8 +1,7 @@
 -- `octets::bit` meets its contract: a bit past the octet is 0, and the mask 1 takes what is left modulo 2.
 -- Assumes nothing.
-use mathlib.Core.Path.{_≡_, sym}
-use Prim.Native.Nat.{_%_, _<_, _^_}
-use native.Mathlib.Nat.{div-eq-of-lt, lt-of-lt-of-le, zero-mod}
+use Prim.Native.Nat.{_<_, _^_}
+use native.Mathlib.Nat.{div-eq-of-lt, lt-of-lt-of-le}
 use lib.Bits.{and-mask}
 use lib.Pow.{pow-mono}
 use borrow.Author.Needs.{needs}

@@ -1,7 +1,7 @@
 -- `ends::check_olt::all_distinct` meets its contract: no number stands twice from i on, and each of them has left its mark.
 -- Assumes nothing.
 use mathlib.Core.Bool.{true, false}
-use mathlib.Core.Path.{_≡_, refl, sym, ap, _∙_}
+use mathlib.Core.Path.{_≡_, refl, sym, _∙_}
 use Prim.Native.Nat.{ℕ, _≤_, _<_, _-_, _%_}
 use native.Mathlib.Omega.{arith}
 use lib.ListN.{length, drop, getD, length-set}

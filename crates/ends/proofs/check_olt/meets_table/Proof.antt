@@ -1,12 +1,12 @@
 -- `ends::check_olt::meets_table` meets its contract: none of the first j LLIDs stands in the table, so that the others decide.
 -- Assumes nothing.
-use mathlib.Core.Path.{_≡_, refl, sym, ap, _∙_}
-use Prim.Native.Nat.{ℕ, _≤_, _-_}
+use mathlib.Core.Path.{_≡_, sym, _∙_}
+use Prim.Native.Nat.{_≤_, _-_}
 use native.Mathlib.Omega.{arith}
 use lib.ListN.{getD, take}
 use borrow.Author.Needs.{needs}
 use Rattle.octets.specs.Lists.{tabulate}
-use Rattle.ends.specs.Identities.{among, meets, llidsOf}
+use Rattle.ends.specs.Identities.{meets, llidsOf}
 use Rattle.ends.specs.Table.{tableLlids}
 use Rattle.ends.proofs.Walks.{meets-hit, meets-miss, meets-end}
 use Rattle.ends.proofs.check_olt.meets_table.Statement.{statement}

@@ -1,7 +1,7 @@
 -- `ends::check_olt::stands` meets its contract: what the mark says, or what the search finds in the part from i on.
 -- Assumes nothing.
 use mathlib.Core.List.{List}
-use mathlib.Core.Path.{_≡_, sym, ap, _∙_}
+use mathlib.Core.Path.{sym, ap, _∙_}
 use Prim.Native.Nat.{ℕ}
 use borrow.Author.Needs.{needs}
 use Rattle.octets.proofs.Lists.{tail-part}

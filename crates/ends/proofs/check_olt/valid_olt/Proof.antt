@@ -2,7 +2,7 @@
 -- Assumes nothing.
 use mathlib.Core.Bool.{true}
 use mathlib.Core.Path.{_≡_, sym, ap, _∙_}
-use Prim.Native.Nat.{_≤_, _<_}
+use Prim.Native.Nat.{_≤_}
 use native.Mathlib.Omega.{arith}
 use lib.ListN.{length, take}
 use lib.Seq.{length-take-le}
@@ -11,7 +11,6 @@ use borrow.Author.Tests.{le-leb, lt-leb, not-true, not-false}
 use Rattle.octets.specs.Choice.{both}
 use Rattle.octets.specs.Lists.{all}
 use Rattle.ends.specs.Identities.{distinct}
-use Rattle.ends.specs.Table.{tableLlids}
 use Rattle.ends.specs.Validity.{validOlt, validShared, validUnit}
 use Rattle.ends.proofs.Walks.{units-few}
 use Rattle.ends.proofs.check_olt.valid_olt.Statement.{statement}

@@ -4,7 +4,6 @@ use mathlib.Core.Path.{_≡_, sym, _∙_}
 use Prim.Native.Nat.{_≤_, _-_}
 use native.Mathlib.Omega.{arith}
 use lib.ListN.{getD}
-use borrow.Author.Needs.{needs}
 use Rattle.octets.specs.Lists.{tabulate}
 use Rattle.ends.specs.Identities.{distinct, llidsOf}
 use Rattle.ends.proofs.Walks.{distinct-hit, distinct-miss, distinct-end}

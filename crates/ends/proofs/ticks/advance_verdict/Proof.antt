@@ -1,5 +1,4 @@
 -- `advance_verdict` meets its contract: a tick above the last one, or more ticks than are left, is a sum above it. Assumes nothing.
-use mathlib.Core.Path.{_≡_}
 use Prim.Native.Nat.{_+_, _≤_, _<_}
 use native.Mathlib.Omega.{arith}
 use borrow.Author.Tests.{lt-ltb, le-ltb}

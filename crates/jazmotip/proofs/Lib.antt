@@ -1,3 +1,4 @@
+pub mod End
 pub mod Flags
-pub mod Parts
 pub mod InPlace
+pub mod Parts

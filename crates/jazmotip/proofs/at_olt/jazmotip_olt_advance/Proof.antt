@@ -9,7 +9,8 @@ use Rattle.ends.proofs.Olt.Laws.{lowers, the-laws, the-plain}
 use Rattle.ends.proofs.OltAnswer as answer
 use Rattle.olt.proofs.advance.Met as by-value
 use Rattle.olt.proofs.advance.Symbol as callee
-use Rattle.jazmotip.proofs.InPlace.{End, Known, advances}
+use Rattle.jazmotip.proofs.End.{End}
+use Rattle.jazmotip.proofs.InPlace.{Known, advances}
 use Rattle.jazmotip.proofs.at_olt.jazmotip_olt_advance as in-place
 use Rattle.jazmotip.proofs.at_olt.jazmotip_olt_advance.Code as code
 use Rattle.jazmotip.proofs.at_olt.jazmotip_olt_advance.Key.{name}

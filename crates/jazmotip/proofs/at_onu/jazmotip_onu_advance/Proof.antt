@@ -9,7 +9,8 @@ use Rattle.ends.proofs.Onu.Laws.{lowers, the-laws, the-plain}
 use Rattle.ends.proofs.OnuAnswer as answer
 use Rattle.onu.proofs.advance.Met as by-value
 use Rattle.onu.proofs.advance.Symbol as callee
-use Rattle.jazmotip.proofs.InPlace.{End, Known, advances}
+use Rattle.jazmotip.proofs.End.{End}
+use Rattle.jazmotip.proofs.InPlace.{Known, advances}
 use Rattle.jazmotip.proofs.at_onu.jazmotip_onu_advance as in-place
 use Rattle.jazmotip.proofs.at_onu.jazmotip_onu_advance.Code as code
 use Rattle.jazmotip.proofs.at_onu.jazmotip_onu_advance.Key.{name}

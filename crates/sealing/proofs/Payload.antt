@@ -2,9 +2,9 @@
 -- Assumes nothing.
 use mathlib.Core.Path.{_≡_, refl, ap, ap₂, sym, _∙_}
 use mathlib.Core.Bool.{Bool, true, false}
-use mathlib.Core.List.{List, [], _∷_, _++_}
+use mathlib.Core.List.{List, _∷_}
 use Prim.Native.Nat.{ℕ, zero, suc, _+_, _-_, _*_, _/_, _%_, _<_, _≤_, _^_}
-use native.Mathlib.Nat.{mod-eq-of-lt, zero-add, not-suc-le-zero}
+use native.Mathlib.Nat.{mod-eq-of-lt, zero-add}
 use native.Mathlib.Numerals.{add-one}
 use native.Mathlib.Omega.{arith}
 use lib.Bits.{bitXor, bitAnd, and-mask, and-zero-r, xor-zero-r}
@@ -14,11 +14,10 @@ use lib.ListN.{length, getD, take, drop}
 use lib.Seq.{ext-getD}
 use Rattle.octets.specs.Bits.{bitOf}
 use Rattle.octets.specs.Choice.{pick}
-use Rattle.octets.specs.Lists.{tabulate, sum, written}
+use Rattle.octets.specs.Lists.{tabulate, replaced, written}
 use Rattle.octets.proofs.Bits.{xor-twice}
 use Rattle.octets.proofs.Lists.{tabulate-length, tabulate-at, sum-ext, part-at, part-length, written-part}
-use Rattle.sealing.specs.CounterBlock.{counterBlock}
-use Rattle.sealing.specs.Payload.{eqsOf, controlOctet, cipherBlock, halfOf, masked, maskedAt, sealedOctet, sealed, countOf}
+use Rattle.sealing.specs.Payload.{controlOctet, cipherBlock, halfOf, masked, maskedAt, maskedEq, sealedOctet, sealed, countOf}
 use Rattle.sealing.specs.declared.envelope.Nonce.{Nonce}
 
 -- the mask as a factor of 0 or 255, with no branch
@@ -28,11 +27,6 @@ unfolding pick
 masked-by-factor zero k x h l = ap (bitXor x) (and-mask k 8 ∙ mod-eq-of-lt l)
 masked-by-factor (suc zero) k x h l = ap (bitXor x) (and-zero-r k) ∙ xor-zero-r x
 masked-by-factor (suc (suc b)) k x h l = absurd (omega arith)
-
--- data octet j stands at place j + 1
-pub masked-data : (block : List ℕ) (half c j x : ℕ) → maskedAt block half c (j + 1) x ≡ masked c j (getD block (half + j) 0) x
-unfolding maskedAt
-masked-data block half c j x = rw add-one
 
 pub sealed-length : (w : List ℕ) (n : Nonce) (p : List ℕ) → length (sealed w n p) ≡ length p
 unfolding sealed
@@ -104,36 +98,28 @@ count-sealed w n p =
 
 -- the nine octets of EQ e
 pub sealed-eq : (w : List ℕ) (n : Nonce) (p : List ℕ) (e : ℕ) → 9 * e + 9 ≤ length p
-    → take 9 (drop (9 * e) (sealed w n p))
-    ≡ tabulate 0 9 (λ i. maskedAt (cipherBlock w n e) (halfOf e) (getD (take 9 (drop (9 * e) p)) 0 0) i (getD (take 9 (drop (9 * e) p)) i 0))
-unfolding sealedOctet
+    → maskedEq (cipherBlock w n e) (halfOf e) p (9 * e) ≡ take 9 (drop (9 * e) (sealed w n p))
+unfolding sealedOctet maskedAt
 sealed-eq w n p e h =
-    ext-getD 0 (take 9 (drop (9 * e) (sealed w n p))) (tabulate 0 9 f)
-    (len ∙ sym (tabulate-length 0 9 f))
-    (λ i l. octet i (rw len at l)) where
-      f : ℕ → ℕ
-      f i = maskedAt (cipherBlock w n e) (halfOf e) (getD (take 9 (drop (9 * e) p)) 0 0) i (getD (take 9 (drop (9 * e) p)) i 0)
+    ext-getD 0 _ (take 9 (drop (9 * e) (sealed w n p))) (sym (part-length (sealed w n p) (9 * e) 9 (rw sealed-length h))) octet where
+      dataOctet : ℕ → ℕ
+      dataOctet j = masked (controlOctet p e) j (getD (cipherBlock w n e) (halfOf e + j) 0) (getD p (9 * e + (j + 1)) 0)
 
-      len : length (take 9 (drop (9 * e) (sealed w n p))) ≡ 9
-      len = part-length (sealed w n p) (9 * e) 9 (rw sealed-length h)
+      there : (i : ℕ) → i < 9 → getD (take 9 (drop (9 * e) (sealed w n p))) i 0 ≡ sealedOctet w n p (9 * e + i)
+      there i l = part-at (sealed w n p) (9 * e) 9 i 0 l ∙ sealed-at w n p (9 * e + i) (omega arith)
 
-      octet : (i : ℕ) → i < 9 → getD (take 9 (drop (9 * e) (sealed w n p))) i 0 ≡ getD (tabulate 0 9 f) i 0
-      octet i l =
-          let place : (9 * e + i) % 9 ≡ i = omega arith in
-          let eq : (9 * e + i) / 9 ≡ e = omega arith in
-          let first : 9 * e + 0 ≡ 9 * e = omega arith in
-          let same : sealedOctet w n p (9 * e + i) ≡ f i =
-          rw (place, eq, part-at p (9 * e) 9 0 0 (omega arith), part-at p (9 * e) 9 i 0 l, first) in
-          let there : getD (tabulate 0 9 f) i 0 ≡ f i = rw zero-add at (tabulate-at 0 9 f i 0 l) in
-          part-at (sealed w n p) (9 * e) 9 i 0 l ∙ sealed-at w n p (9 * e + i) (omega arith) ∙ same ∙ sym there
+      octet : (i : ℕ) → i < 9 → getD (controlOctet p e ∷ tabulate 0 8 dataOctet) i 0 ≡ getD (take 9 (drop (9 * e) (sealed w n p))) i 0
+      octet zero l = let start : 9 * e + 0 ≡ 9 * e = omega arith in sym (there 0 l ∙ rw start (sealed-control w n p e))
+      octet (suc j) l =
+          let place : (9 * e + suc j) % 9 ≡ suc j = omega arith in
+          let eq : (9 * e + suc j) / 9 ≡ e = omega arith in
+          let same : sealedOctet w n p (9 * e + suc j) ≡ dataOctet j = rw (place, eq, add-one) in
+          let here : getD (tabulate 0 8 dataOctet) j 0 ≡ dataOctet j = rw zero-add at (tabulate-at 0 8 dataOctet j 0 (omega arith)) in
+          here ∙ sym (there (suc j) l ∙ same)
 
 -- one EQ masked in its place is that EQ of the sealed payload
-pub eq-written : (w : List ℕ) (n : Nonce) (p out block ys : List ℕ) (a b half e : ℕ) → a ≡ 9 * e → b ≡ 9 → half ≡ halfOf e → block ≡ cipherBlock w n e
-    → a + 9 ≤ length p
-    → ys ≡ tabulate 0 9 (λ j. maskedAt block half (getD (take b (drop a p)) 0 0) j (getD (take b (drop a p)) j 0))
-    → take a out ++ (ys ++ drop b (drop a out)) ≡ written (sealed w n p) a (a + 9) out
-eq-written w n p out block ys a b half e ea eb eh ek h ey =
+pub eq-written : (w : List ℕ) (n : Nonce) (p out block : List ℕ) (at half e : ℕ) → at ≡ 9 * e → half ≡ halfOf e → block ≡ cipherBlock w n e
+    → at + 9 ≤ length p → replaced out at (maskedEq block half p at) ≡ written (sealed w n p) at (at + 9) out
+eq-written w n p out block at half e ea eh ek h =
     let fits : 9 * e + 9 ≤ length p = omega arith in
-    let there : ys ≡ take 9 (drop a (sealed w n p)) =
-    rw (eb, ek, eh, ea) at ey ∙ sym (sealed-eq w n p e fits) ∙ rw ea in
-    rw eb (written-part (sealed w n p) a 9 out ys there)
+    rw (ek, eh, ea) (written-part (sealed w n p) (9 * e) 9 out _ (sealed-eq w n p e fits))

@@ -1,7 +1,7 @@
 -- The payload of an envelope under the control mask (01, Counter block and mask; 001, 11.3.5). Sealing and opening are
 -- one act. w is the expanded key.
 -- Assumes nothing.
-use mathlib.Core.List.{List}
+use mathlib.Core.List.{List, _∷_}
 use Prim.Native.Nat.{ℕ, zero, suc, _+_, _-_, _*_, _/_, _%_}
 use lib.Bits.{bitXor}
 use lib.Count.{ones}
@@ -38,6 +38,10 @@ masked c j k x = pick (eqb (bitOf c j) 1) x (bitXor x k)
 unfoldable pub maskedAt : List ℕ → ℕ → ℕ → ℕ → ℕ → ℕ
 maskedAt block half c zero x = x
 maskedAt block half c (suc j) x = masked c j (getD block (half + j) 0) x
+
+-- the EQ that starts at octet `at` of p: its control octet passes, and its data octets are masked
+abbrev pub maskedEq : List ℕ → ℕ → List ℕ → ℕ → List ℕ
+maskedEq block half p at = getD p at 0 ∷ tabulate 0 8 (λ j. masked (getD p at 0) j (getD block (half + j) 0) (getD p (at + (j + 1)) 0))
 
 -- octet i of the payload, sealed or opened
 unfoldable pub sealedOctet : List ℕ → Nonce → List ℕ → ℕ → ℕ

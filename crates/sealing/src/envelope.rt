@@ -1,14 +1,12 @@
 // Sealing and opening of an envelope's payload: one act (01, Counter block and mask).
 ghost use mathlib.Core.Path.{_≡_};
-ghost use mathlib.Core.List.{_++_};
-ghost use Prim.Native.Nat.{_+_, _-_, _*_, _/_, _%_, _≤_, _<_, min};
-ghost use lib.Count.{ones};
-ghost use lib.ListN.{length, getD};
-ghost use Rattle.octets.specs.Lists.{tabulate, written};
+ghost use Prim.Native.Nat.{_+_, _*_, _%_, _≤_, _<_, min};
+ghost use lib.ListN.{length};
+ghost use Rattle.octets.specs.Lists.{replaced, written};
 ghost use Rattle.gf256.specs.Table.{sboxTable, doublesTable};
 ghost use Rattle.sealing.specs.CounterBlock.{counterBlock};
 ghost use Rattle.sealing.specs.KeyExpansion.{keyExpansion};
-ghost use Rattle.sealing.specs.Payload.{masked, maskedAt, sealed, countOf};
+ghost use Rattle.sealing.specs.Payload.{masked, maskedEq, sealed, countOf};
 ghost use Rattle.sealing.specs.Seal.{sealing, outcome, judgeSeal, lengthsFit, nonceFits, sealNumber, sealCount};
 use super::aes128::RoundKeys;
 use super::aes128::encrypt_with;
@@ -68,18 +66,18 @@ fn mask(control: u8, j: u8, key: u8, octet: u8) -> u8
     octet ^ (key & (255 * (1 - bit(control, j))))
 }
 
-// One EQ under the half of a cipher block that starts at `half`.
-fn mask_eq(input: &[u8], output: &mut [u8], block: [u8; 16], half: usize)
-    requires { ⌜ length (now input) ≡ 9 ⌝ }
-    requires { ⌜ length (now output) ≡ 9 ⌝ }
+// The EQ that starts at `at`, under the half of a cipher block that starts at `half`.
+fn mask_eq(input: &[u8], output: &mut [u8], block: [u8; 16], at: usize, half: usize)
+    requires { ⌜ length (now output) ≡ length (now input) ⌝ }
+    requires { ⌜ at + 9 ≤ length (now input) ⌝ }
     requires { ⌜ half ≤ 8 ⌝ }
-    ensures { λ _. ⌜ now (output .exit) ≡ tabulate 0 9 (λ i. maskedAt block half (getD (now (input .entry)) 0 0) i (getD (now (input .entry)) i 0)) ⌝ }
+    ensures { λ _. ⌜ now (output .exit) ≡ replaced (now (output .entry)) at (maskedEq block half (now (input .entry)) at) ⌝ }
 {
-    let control = input[0];
-    output[0] = control;
+    let control = input[at];
     for j in 0..8usize {
-        output[j + 1] = mask(control, j as u8, block[half + j], input[j + 1]);
+        output[at + (j + 1)] = mask(control, j as u8, block[half + j], input[at + (j + 1)]);
     }
+    output[at] = control;
 }
 
 // The one or two EQs that cipher block `i` serves.
@@ -100,14 +98,9 @@ fn seal_block<'a>(
 {
     let block = encrypt_with(subs, doubles, keys, counter_block(nonce, i as u64));
     let at = 18 * i;
-    mask_eq(&input[at..at + 9], &mut output[at..at + 9], block, 0);
+    mask_eq(input, output, block, at, 0);
     if at + 9 < input.len() {
-        mask_eq(
-            &input[at + 9..at + 18],
-            &mut output[at + 9..at + 18],
-            block,
-            8,
-        );
+        mask_eq(input, output, block, at + 9, 8);
     }
 }
 

@@ -31,6 +31,8 @@ pub const MAX_INTERVAL: u64 = 0x8000_0000_0000;
 
 pub const MAX_ROUND_TRIP: u64 = 1_000_000;
 
+pub const MAX_KEY_NUMBER: u32 = 0xffff_ffff;
+
 pub fn valid_interval(interval: u64) -> bool
     ensures { λ r. ⌜ r ≡ validInterval interval ⌝ }
 {

@@ -4,6 +4,7 @@ ghost use Rattle.ends.specs.Validity.{validOnu, validOnuKeys, validOnuCl
 use crate::Onu;
 use crate::OnuClock;
 use crate::OnuKeys;
+use crate::check_olt::MAX_KEY_NUMBER;
 use crate::check_olt::MAX_TICK;
 use crate::keyslots::valid_channels;
 use crate::keyslots::valid_first;
@@ -12,8 +13,6 @@ use crate::llids::valid_identity;
 use crate::llids::valid_mac;
 use clock::CLOCK_TURN;
 use clock::LOCAL_TURN;
-
-pub const MAX_KEY_NUMBER: u32 = 0xffff_ffff;
 
 pub fn valid_onu_keys(keys: OnuKeys) -> bool
     ensures { λ r. ⌜ r ≡ validOnuKeys keys ⌝ }

@@ -1,15 +1,16 @@
 -- What the place of a unit, or the want of one, makes of a call on it. Assumes nothing.
 use mathlib.Core.Path.{_≡_, refl, ap, _∙_}
 use mathlib.Core.Bool.{Bool, true, false, not}
-use Prim.Native.Nat.{ℕ, _<_, _≤_}
-use lib.ListN.{length}
+use Prim.Native.Nat.{ℕ, _<_}
+use native.Mathlib.Omega.{arith}
 use Rattle.refusal.specs.declared.Refusal.{Refusal}
 use Rattle.refusal.specs.declared.Refusal.the-variants.{OutOfRange}
 use Rattle.refusal.specs.declared.Verdict.{Verdict}
 use Rattle.refusal.specs.declared.Verdict.the-variants.{Accepted, Refused}
+use Rattle.ends.specs.Limits.{maxUnits}
 use Rattle.ends.specs.Replies.{refuseIf, Reply, reply}
 use Rattle.ends.specs.Table.{find, unitAt, withUnit}
-use Rattle.ends.specs.Validity.{validOlt, validUnit}
+use Rattle.ends.specs.Validity.{validOlt}
 use Rattle.ends.specs.Lift.{Outcome, putBack, atUnit, after, lift}
 use Rattle.ends.specs.declared.UnitRecord.{UnitRecord}
 use Rattle.ends.specs.declared.Shared.{Shared}
@@ -18,7 +19,6 @@ use Rattle.ends.specs.declared.Found.{Found}
 use Rattle.ends.specs.declared.Found.the-variants.{At, Nowhere}
 use Rattle.ends.proofs.Table.{find-at}
 use Rattle.ends.proofs.Validity.{olt-in-range}
-use Rattle.ends.proofs.Lift.{unit-at-valid}
 use Rattle.olt.specs.Lookup.{foundAt, foundAfter, locatedOf}
 use Rattle.olt.specs.declared.Located.{Located}
 use Rattle.olt.specs.declared.Located.the-variants.{Place, Absent}
@@ -41,23 +41,14 @@ reaches o ahead llid i e =
       by-valid true (Refused r) f q = ((refl, cc), cc)
       by-valid false v f q = ((cc, cc), cc)
 
--- the end is valid and its unit i was found
-pub record Stands (o : Olt) (llid i : ℕ) : Type 0 where
-  pub valid : validOlt o ≡ true
-  pub found : find o llid ≡ At i
-  pub below : i < o .count
-  pub few : o .count ≤ 16
-  pub inside : i < length (o .units)
+-- the place of a unit is one of the table's
+pub found-below : (o : Olt) (llid i : ℕ) → validOlt o ≡ true → find o llid ≡ At i → i < maxUnits
+found-below o llid i v f =
+    let few = olt-in-range o v .count in
+    omega (arith, find-at o llid i f .used)
 
-pub place-stands : (o : Olt) (ahead : Verdict) (llid i : ℕ) → locatedOf o ahead llid ≡ Place i → Stands o llid i
-place-stands o ahead llid i e =
-    let s = reaches o ahead llid i e in
-    let r = find-at o llid i (s .found) in
-    record { valid = s .valid; found = s .found; below = r .used; few = olt-in-range o (s .valid) .count; inside = r .place }
-
--- the unit that was found is valid
-pub stands-valid : (o : Olt) (llid i : ℕ) → Stands o llid i → validUnit (o .shared .tick) (unitAt o i) ≡ true
-stands-valid o llid i s = unit-at-valid o llid i (s .valid) (find-at o llid i (s .found))
+pub place-below : (o : Olt) (ahead : Verdict) (llid i : ℕ) → locatedOf o ahead llid ≡ Place i → i < maxUnits
+place-below o ahead llid i e = let r = reaches o ahead llid i e in found-below o llid i (r .valid) (r .found)
 
 ---- the call
 
@@ -80,10 +71,14 @@ module _ {H : Type 0} (o : Olt) (nothing : H) (ahead : Verdict) (llid : ℕ) (ca
   unfolding at-place
   lift-absent r e = lift-at ∙ ap at-place e
 
+  pub lift-place : (i : ℕ) → locatedOf o ahead llid ≡ Place i → lift o nothing ahead llid call ≡ putBack o nothing i (call (o .shared) (unitAt o i))
+  unfolding at-place
+  lift-place i e = lift-at ∙ ap at-place e
+
   pub lift-refused : (i : ℕ) (r : Refusal) → locatedOf o ahead llid ≡ Place i → call (o .shared) (unitAt o i) .verdict ≡ Refused r
       → lift o nothing ahead llid call ≡ reply (Refused r) o nothing o nothing
-  unfolding at-place putBack reply
-  lift-refused i r e v = lift-at ∙ ap at-place e ∙ rw v
+  unfolding putBack reply
+  lift-refused i r e v = lift-place i e ∙ rw v
 
   pub lift-accepted : (i : ℕ) → locatedOf o ahead llid ≡ Place i → call (o .shared) (unitAt o i) .verdict ≡ Accepted
       → lift o nothing ahead llid call
@@ -92,5 +87,5 @@ module _ {H : Type 0} (o : Olt) (nothing : H) (ahead : Verdict) (llid : ℕ) (ca
         end = withUnit o i (call (o .shared) (unitAt o i) .channels) (call (o .shared) (unitAt o i) .unit);
         handed = call (o .shared) (unitAt o i) .handed;
       }
-  unfolding at-place putBack reply
-  lift-accepted i e v = lift-at ∙ ap at-place e ∙ rw v
+  unfolding putBack reply
+  lift-accepted i e v = lift-place i e ∙ rw v

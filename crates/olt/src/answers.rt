@@ -8,7 +8,6 @@ ghost use Rattle.ends.specs.Table.{withUnit};
 ghost use Rattle.ends.specs.UnitCalls.{keyMessageOf};
 ghost use Rattle.ends.specs.OltCalls.{clockSent, keySent, oltAnswer};
 use crate::place::with_unit;
-use crate::unit_calls::key_message;
 use clock::Stamps;
 use ends::ClockSent;
 use ends::KeyMessage;
@@ -17,7 +16,9 @@ use ends::Olt;
 use ends::OltAnswer;
 use ends::UnitRecord;
 use refusal::Refusal;
+use refusal::Verdict;
 use refusal::number;
+use unit::calls::key_message;
 
 pub(crate) fn accepted(olt: Olt) -> OltAnswer
     ensures { λ r. ⌜ r ≡ oltAnswer (reply Accepted olt silent olt silent) ⌝ }
@@ -28,10 +29,18 @@ pub(crate) fn accepted(olt: Olt) -> OltAnswer
 pub(crate) fn refused(olt: Olt, refusal: Refusal) -> OltAnswer
     ensures { λ r. ⌜ r ≡ oltAnswer (reply (Refused refusal) olt silent olt silent) ⌝ }
 {
-    let lent = olt;
-    OltAnswer {
-        number: number(refusal),
-        olt: lent,
+    let number = number(refusal);
+    OltAnswer { number, olt }
+}
+
+// The unit in its place, where the verdict accepts.
+pub(crate) fn put_back(olt: Olt, i: usize, verdict: Verdict, unit: UnitRecord) -> OltAnswer
+    requires { ⌜ i < 16 ⌝ }
+    ensures { λ r. ⌜ r ≡ oltAnswer (reply verdict olt silent (withUnit olt i (olt .shared .channels) unit) silent) ⌝ }
+{
+    match verdict {
+        Verdict::Refused(refusal) => refused(olt, refusal),
+        Verdict::Accepted => accepted(with_unit(olt, i, unit)),
     }
 }
 
@@ -42,6 +51,27 @@ pub(crate) fn clock_refused(olt: Olt, refusal: Refusal) -> ClockSent
         number: number(refusal),
         olt,
         message: Stamps { rx: 0, tx: 0 },
+    }
+}
+
+// The unit in its place and the stamps handed over, where the verdict accepts.
+pub(crate) fn clock_sent(
+    olt: Olt,
+    i: usize,
+    verdict: Verdict,
+    unit: UnitRecord,
+    message: Stamps,
+) -> ClockSent
+    requires { ⌜ i < 16 ⌝ }
+    ensures { λ r. ⌜ r ≡ clockSent (reply verdict olt noStamps (withUnit olt i (olt .shared .channels) unit) message) ⌝ }
+{
+    match verdict {
+        Verdict::Refused(refusal) => clock_refused(olt, refusal),
+        Verdict::Accepted => ClockSent {
+            number: 0,
+            olt: with_unit(olt, i, unit),
+            message,
+        },
     }
 }
 

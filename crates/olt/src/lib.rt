@@ -2,9 +2,9 @@
 // the number, the end and what is handed over; refused, the end is the one that was lent.
 mod answers;
 mod making;
+mod offering;
 pub mod place;
 mod timing;
-mod unit_calls;
 
 ghost use mathlib.Core.Path.{_≡_};
 ghost use Rattle.ends.specs.OltCalls.{acknowledgeOf, advanceOltOf, captureOf, clockSendOf, freshOltOf, offerOf, registerOf, retryOf};
@@ -20,6 +20,7 @@ use ends::check_olt::valid_olt;
 use ends::llids::valid_mac;
 use refusal::Refusal;
 use refusal::Verdict;
+use unit::calls;
 
 // Where the unit stands that a call names, or why the call goes no further.
 pub enum Located {
@@ -71,8 +72,8 @@ pub fn capture(olt: Olt, llid: u16) -> OltAnswer
     match at {
         Located::Absent(refusal) => answers::refused(olt, refusal),
         Located::Place(i) => {
-            let unit = olt.units[i];
-            let next = unit_calls::captured(unit, olt.shared.tick);
+            let unit = place::unit_at(olt, i);
+            let next = calls::captured(unit, olt.shared.tick);
             answers::accepted(place::with_unit(olt, i, next))
         }
     }
@@ -85,21 +86,11 @@ pub fn clock_send(olt: Olt, llid: u16) -> ClockSent
     match at {
         Located::Absent(refusal) => answers::clock_refused(olt, refusal),
         Located::Place(i) => {
-            let unit = olt.units[i];
-            let clock = unit.clock;
-            let verdict = unit_calls::clock_send_verdict(clock, olt.shared.tick);
-            match verdict {
-                Verdict::Refused(refusal) => answers::clock_refused(olt, refusal),
-                Verdict::Accepted => {
-                    let message = unit_calls::clock_message(olt.shared, clock);
-                    let next = unit_calls::clock_sent(unit);
-                    ClockSent {
-                        number: 0,
-                        olt: place::with_unit(olt, i, next),
-                        message,
-                    }
-                }
-            }
+            let unit = place::unit_at(olt, i);
+            let verdict = calls::clock_send_verdict(unit.clock, olt.shared.tick);
+            let message = calls::clock_message(olt.shared, unit.clock);
+            let next = calls::clock_sent(unit);
+            answers::clock_sent(olt, i, verdict, next, message)
         }
     }
 }
@@ -111,12 +102,12 @@ pub fn offer(olt: Olt, llid: u16, key: [u8; 16]) -> KeySent
     match at {
         Located::Absent(refusal) => answers::key_refused(olt, refusal),
         Located::Place(i) => {
-            let unit = olt.units[i];
-            let verdict = unit_calls::offer_verdict(unit, key);
+            let unit = place::unit_at(olt, i);
+            let verdict = calls::offer_verdict(unit, key);
             match verdict {
                 Verdict::Refused(refusal) => answers::key_refused(olt, refusal),
                 Verdict::Accepted => {
-                    let next = unit_calls::offered(unit, key);
+                    let next = offering::offered(unit, key);
                     answers::key_sent(olt, i, next, llid)
                 }
             }
@@ -132,14 +123,11 @@ pub fn retry(olt: Olt, llid: u16) -> KeySent
     match at {
         Located::Absent(refusal) => answers::key_refused(olt, refusal),
         Located::Place(i) => {
-            let unit = olt.units[i];
-            let verdict = unit_calls::retry_verdict(unit.keys);
+            let unit = place::unit_at(olt, i);
+            let verdict = calls::retry_verdict(unit.keys);
             match verdict {
                 Verdict::Refused(refusal) => answers::key_refused(olt, refusal),
-                Verdict::Accepted => {
-                    let next = unit_calls::retried(unit);
-                    answers::key_sent(olt, i, next, llid)
-                }
+                Verdict::Accepted => answers::key_sent(olt, i, unit, llid),
             }
         }
     }
@@ -152,15 +140,10 @@ pub fn acknowledge(olt: Olt, llid: u16, acknowledgement: Acknowledgement) -> Olt
     match at {
         Located::Absent(refusal) => answers::refused(olt, refusal),
         Located::Place(i) => {
-            let unit = olt.units[i];
-            let verdict = unit_calls::acknowledge_verdict(acknowledgement, olt.shared, unit);
-            match verdict {
-                Verdict::Refused(refusal) => answers::refused(olt, refusal),
-                Verdict::Accepted => {
-                    let next = unit_calls::acknowledged(acknowledgement, olt.shared, unit);
-                    answers::accepted(place::with_unit(olt, i, next))
-                }
-            }
+            let unit = place::unit_at(olt, i);
+            let verdict = calls::acknowledge_verdict(acknowledgement, olt.shared, unit);
+            let next = calls::acknowledged(acknowledgement, olt.shared, unit);
+            answers::put_back(olt, i, verdict, next)
         }
     }
 }

@@ -1,7 +1,7 @@
 // The unit that a call names.
 ghost use mathlib.Core.Path.{_≡_};
 ghost use Prim.Native.Nat.{_<_};
-ghost use Rattle.ends.specs.Table.{withUnit};
+ghost use Rattle.ends.specs.Table.{unitAt, withUnit};
 ghost use Rattle.olt.specs.Lookup.{locatedOf};
 use crate::Located;
 use ends::Found;
@@ -29,6 +29,15 @@ pub fn locate(olt: Olt, ahead: Verdict, llid: u16) -> Located
             }
         }
     }
+}
+
+// The unit at a place.
+pub(crate) fn unit_at(olt: Olt, i: usize) -> UnitRecord
+    requires { ⌜ i < 16 ⌝ }
+    ensures { λ r. ⌜ r ≡ unitAt olt i ⌝ }
+{
+    let units = olt.units;
+    units[i]
 }
 
 // The end with the unit in its place.

@@ -25,7 +25,7 @@ use ends::OnuAnswer;
 use ends::OnuClock;
 use ends::OnuKeys;
 use ends::Slots;
-use ends::check_onu::MAX_KEY_NUMBER;
+use ends::check_olt::MAX_KEY_NUMBER;
 use refusal::Refusal;
 use refusal::Verdict;
 

@@ -20,15 +20,13 @@ use Rattle.ends.specs.Records.{withKeys}
 use Rattle.ends.specs.Table.{unitAt, withUnit}
 use Rattle.ends.specs.Validity.{validOlt, validOnu}
 use Rattle.ends.specs.Lift.{putBack}
-use Rattle.ends.specs.Headers.{choiceNumber, headerOf, passageOf, sendingOf, noSending}
+use Rattle.ends.specs.Headers.{passageOf, sendingOf, noSending}
 use Rattle.ends.specs.UnitTraffic.{unitSendChoice, unitSendVerdict, keysSent, sendUnit}
 use Rattle.ends.specs.OltTraffic.{sendingOlt}
 use Rattle.ends.specs.OnuCalls.{onuReply}
 use Rattle.ends.specs.OnuTraffic.{onuSendChoice, onuSendVerdict, onuSent, sendingOnu}
 use Rattle.ends.specs.declared.Olt.{Olt}
 use Rattle.ends.specs.declared.Onu.{Onu}
-use Rattle.ends.specs.declared.Header.{Header}
-use Rattle.ends.specs.declared.Passage.{Passage}
 use Rattle.ends.specs.declared.Sending.{Sending}
 use Rattle.ends.proofs.Replies.{refuse-accepted, reply-accepted, reply-refused}
 use Rattle.ends.proofs.Validity.{olt-in-range, shared-in-range, onu-in-range, onu-clock-in-range}
@@ -67,32 +65,29 @@ module _ (o : Olt) (llid index i : ℕ) (p out : List ℕ) where
   unit-send-refused r e =
       olt-not-sent o r index p out ∙ sym (ap (λ (x : Reply Olt Sending). oltSent x index p out) (reply-refused _ o noSending _ _ r e))
 
-  pub unit-send-accepted : (next : Olt) (h : Header) (q : Passage) (n : ℕ) (octets : List ℕ)
+  pub unit-send-accepted : (next : Olt) (s : Sending) (n : ℕ) (octets : List ℕ)
       → unitSendVerdict (o .shared) (unitAt o i) index ≡ Accepted
       → next
       ≡ withUnit o i (occupied (o .shared .channels) index (o .shared .tick) (eqsOf p))
       (withKeys (unitAt o i) (keysSent (unitSendChoice (unitAt o i)) (unitAt o i .keys) (o .shared .tick)))
-      → h ≡ headerOf (choiceNumber (unitSendChoice (unitAt o i))) index llid (o .shared .clock)
-      → q ≡ passageOf (unitSendChoice (unitAt o i)) (unitAt o i .keys .slots) (o .shared .mac) (o .shared .clock)
-      → exchange n octets ≡ exchange (passedCount q p) (passed index q p)
-      → exchange {R = OltSent} (record { number = 0; olt = next; header = h; count = n }) octets
+      → s ≡ sendingOf (unitSendChoice (unitAt o i)) (unitAt o i .keys .slots) (o .shared .mac) (o .shared .clock) index llid
+      → exchange n octets ≡ exchange (passedCount (s .passage) p) (passed index (s .passage) p)
+      → exchange {R = OltSent} (record { number = 0; olt = next; header = s .header; count = n }) octets
       ≡ oltSent (putBack o noSending i (sendUnit llid index (eqsOf p) (o .shared) (unitAt o i))) index p out
-  unfolding putBack sendUnit sendingOf
-  unit-send-accepted next h q n octets v e f g k =
-      rw (e, f)
-      (olt-sent _ (sendingOf (unitSendChoice (unitAt o i)) (unitAt o i .keys .slots) (o .shared .mac) (o .shared .clock) index llid) index p out n octets
-      (k ∙ ap (λ (x : Passage). exchange (passedCount x p) (passed index x p)) g)
-      ∙ sym (ap (λ (x : Reply Olt Sending). oltSent x index p out) (reply-accepted _ o noSending _ _ v)))
+  unfolding putBack sendUnit
+  unit-send-accepted next s n octets v e f k =
+      olt-sent next s index p out n octets k
+      ∙ rw (e, f) (sym (ap (λ (x : Reply Olt Sending). oltSent x index p out) (reply-accepted _ o noSending _ _ v)))
 
   -- what the OLT sends fits
-  pub unit-send-fits : (q : Passage) → validOlt o ≡ true → misfit p out ≡ false → downstream index ≡ true
-      → q ≡ passageOf (unitSendChoice (unitAt o i)) (unitAt o i .keys .slots) (o .shared .mac) (o .shared .clock)
-      → judgeSeal (length p) (length out) (nonceOf index q) ≡ Accepted
-  unfolding passageOf
-  unit-send-fits q v f d g =
-      let s = shared-in-range (o .shared) (olt-in-range o v .shared) in
-      judged p out (nonceOf index q) f
-      (down-fits (nonceOf index q) d (rw g (s .mac)) (rw g (s .clock)))
+  pub unit-send-fits : (s : Sending) → validOlt o ≡ true → misfit p out ≡ false → downstream index ≡ true
+      → s ≡ sendingOf (unitSendChoice (unitAt o i)) (unitAt o i .keys .slots) (o .shared .mac) (o .shared .clock) index llid
+      → judgeSeal (length p) (length out) (nonceOf index (s .passage)) ≡ Accepted
+  unfolding sendingOf passageOf
+  unit-send-fits s v f d g =
+      let r = shared-in-range (o .shared) (olt-in-range o v .shared) in
+      judged p out (nonceOf index (s .passage)) f
+      (down-fits (nonceOf index (s .passage)) d (rw g (r .mac)) (rw g (r .clock)))
 
 module _ (o : Olt) (llid index : ℕ) (p out : List ℕ) where
   pub olt-send-absent : (r : Refusal) → locatedOf o (sendAhead (misfit p out) index) llid ≡ Absent r
@@ -145,18 +140,15 @@ module _ (o : Onu) (llid index : ℕ) (p out : List ℕ) where
   onu-send-refused r e =
       onu-not-sent o r index p out ∙ sym (ap (λ (x : Reply Onu Sending). onuSentBy x index p out) (reply-refused _ o noSending _ _ r e))
 
-  pub onu-send-done : (next : Onu) (h : Header) (q : Passage) (n : ℕ) (octets : List ℕ) → onuSendJudged ≡ Accepted
+  pub onu-send-done : (next : Onu) (s : Sending) (n : ℕ) (octets : List ℕ) → onuSendJudged ≡ Accepted
       → next ≡ onuSent o index (eqsOf p)
-      → h ≡ headerOf (choiceNumber (onuSendChoice (o .keys))) index llid (o .clock .time)
-      → q ≡ passageOf (onuSendChoice (o .keys)) (o .keys .slots) (o .identity .mac) (o .clock .time)
-      → exchange n octets ≡ exchange (passedCount q p) (passed index q p)
-      → exchange {R = OnuSent} (record { number = 0; onu = next; header = h; count = n }) octets ≡ onuSendOf o llid index p out
-  unfolding onuSendOf sendingOnu onuReply sendingOf
-  onu-send-done next h q n octets v e f g k =
-      rw (e, f)
-      (onu-sent (onuSent o index (eqsOf p)) (sendingOf (onuSendChoice (o .keys)) (o .keys .slots) (o .identity .mac) (o .clock .time) index llid) index p out n octets
-      (k ∙ ap (λ (x : Passage). exchange (passedCount x p) (passed index x p)) g)
-      ∙ sym (ap (λ (x : Reply Onu Sending). onuSentBy x index p out) (reply-accepted _ o noSending _ _ v)))
+      → s ≡ sendingOf (onuSendChoice (o .keys)) (o .keys .slots) (o .identity .mac) (o .clock .time) index llid
+      → exchange n octets ≡ exchange (passedCount (s .passage) p) (passed index (s .passage) p)
+      → exchange {R = OnuSent} (record { number = 0; onu = next; header = s .header; count = n }) octets ≡ onuSendOf o llid index p out
+  unfolding onuSendOf sendingOnu onuReply
+  onu-send-done next s n octets v e f k =
+      onu-sent next s index p out n octets k
+      ∙ rw (e, f) (sym (ap (λ (x : Reply Onu Sending). onuSentBy x index p out) (reply-accepted _ o noSending _ _ v)))
 
   pub onu-send-within : onuSendJudged ≡ Accepted → (o .tick ≤ maxTick) × (eqsOf p ≤ maxEqs)
   onu-send-within v =
@@ -164,16 +156,16 @@ module _ (o : Onu) (llid index : ℕ) (p out : List ℕ) where
       (onu-in-range o (not-false _ (a .0)) .tick, few-eqs p out (onu-send-accepted o (misfit p out) llid index (a .1) .fits))
 
   -- what a unit sends fits
-  pub onu-send-fits : (q : Passage) → onuSendJudged ≡ Accepted
-      → q ≡ passageOf (onuSendChoice (o .keys)) (o .keys .slots) (o .identity .mac) (o .clock .time)
-      → judgeSeal (length p) (length out) (nonceOf index q) ≡ Accepted
-  unfolding passageOf
-  onu-send-fits q v g =
+  pub onu-send-fits : (s : Sending) → onuSendJudged ≡ Accepted
+      → s ≡ sendingOf (onuSendChoice (o .keys)) (o .keys .slots) (o .identity .mac) (o .clock .time) index llid
+      → judgeSeal (length p) (length out) (nonceOf index (s .passage)) ≡ Accepted
+  unfolding sendingOf passageOf
+  onu-send-fits s v g =
       let a = refuse-accepted _ _ _ v in
       let r = onu-in-range o (not-false _ (a .0)) in
-      let s = onu-send-accepted o (misfit p out) llid index (a .1) in
-      judged p out (nonceOf index q) (s .fits)
-      (up-fits (nonceOf index q) (s .upstream) (rw g (identity-mac (o .identity) (r .identity))) (rw g (onu-clock-in-range (o .clock) (r .clock) .tx)))
+      let u = onu-send-accepted o (misfit p out) llid index (a .1) in
+      judged p out (nonceOf index (s .passage)) (u .fits)
+      (up-fits (nonceOf index (s .passage)) (u .upstream) (rw g (identity-mac (o .identity) (r .identity))) (rw g (onu-clock-in-range (o .clock) (r .clock) .tx)))
 
   -- a valid ONU stays valid
   pub onu-send-valid : validOnu o ≡ true → validOnu (onuSendOf o llid index p out .answer .onu) ≡ true

@@ -23,14 +23,15 @@ ghost use Rattle.traffic.specs.Receipts.{oltNotReceived, oltReceived};
 ghost use Rattle.traffic.specs.Sends.{oltNotSent, oltSent};
 use crate::OltReceived;
 use crate::OltSent;
-use crate::on_unit;
-use crate::passing;
+use crate::carrying;
 use ends::Channels;
 use ends::Header;
 use ends::Olt;
 use ends::UnitRecord;
 use refusal::Refusal;
 use refusal::Verdict;
+use unit::passing::valid_header;
+use unit::traffic;
 
 fn first_of(misfit: bool, wrong: bool) -> Verdict
     ensures { λ r. ⌜ r ≡ refuseIf misfit BadLength (refuseIf wrong OutOfRange Accepted) ⌝ }
@@ -48,7 +49,7 @@ fn first_of(misfit: bool, wrong: bool) -> Verdict
 pub(crate) fn send_ahead(n: usize, m: usize, index: u8) -> Verdict
     ensures { λ r. ⌜ r ≡ refuseIf (not (lengthsFit n m)) BadLength (refuseIf (not (downstream index)) OutOfRange Accepted) ⌝ }
 {
-    let misfit = passing::misfit(n, m);
+    let misfit = carrying::misfit(n, m);
     first_of(misfit, !(index <= 1))
 }
 
@@ -56,9 +57,9 @@ pub(crate) fn send_ahead(n: usize, m: usize, index: u8) -> Verdict
 pub(crate) fn receive_ahead(n: usize, m: usize, header: Header) -> Verdict
     ensures { λ r. ⌜ r ≡ refuseIf (not (lengthsFit n m)) BadLength (refuseIf (not (both (upstream (header .index)) (validHeader header))) OutOfRange Accepted) ⌝ }
 {
-    let misfit = passing::misfit(n, m);
+    let misfit = carrying::misfit(n, m);
     let index = header.index;
-    let valid = passing::valid_header(header);
+    let valid = valid_header(header);
     first_of(misfit, !(((128 <= index) & (index <= 129)) & valid))
 }
 
@@ -89,6 +90,15 @@ pub(crate) fn not_received(olt: Olt, refusal: Refusal) -> OltReceived
     }
 }
 
+// The unit at a place.
+fn unit_at(olt: Olt, i: usize) -> UnitRecord
+    requires { ⌜ i < 16 ⌝ }
+    ensures { λ r. ⌜ r ≡ unitAt olt i ⌝ }
+{
+    let units = olt.units;
+    units[i]
+}
+
 // The end with the unit in its place, and the channels.
 fn with_unit(olt: Olt, i: usize, channels: Channels, unit: UnitRecord) -> Olt
     requires { ⌜ i < 16 ⌝ }
@@ -109,8 +119,8 @@ fn after_send(olt: Olt, i: usize, unit: UnitRecord, index: u8, eqs: u64) -> Olt
     requires { ⌜ eqs ≤ maxEqs ⌝ }
     ensures { λ r. ⌜ r ≡ withUnit olt i (occupied (olt .shared .channels) index (olt .shared .tick) eqs) (withKeys unit (keysSent (unitSendChoice unit) (unit .keys) (olt .shared .tick))) ⌝ }
 {
-    let channels = passing::occupied(olt.shared.channels, index, olt.shared.tick, eqs);
-    let next = on_unit::unit_sent(unit, olt.shared.tick);
+    let channels = carrying::occupied(olt.shared.channels, index, olt.shared.tick, eqs);
+    let next = traffic::unit_sent(unit, olt.shared.tick);
     with_unit(olt, i, channels, next)
 }
 
@@ -128,17 +138,17 @@ pub(crate) fn send_at(
     requires { ⌜ downstream index ≡ true ⌝ }
     ensures { λ r. ⌜ exchange r (now (output .exit)) ≡ oltSent (putBack olt noSending i (sendUnit llid index (eqsOf (now (payload .entry))) (olt .shared) (unitAt olt i))) index (now (payload .entry)) (now (output .entry)) ⌝ }
 {
-    let unit = olt.units[i];
+    let unit = unit_at(olt, i);
     let shared = olt.shared;
     let next = after_send(olt, i, unit, index, (payload.len() / 9) as u64);
-    let verdict = on_unit::send_verdict(shared, unit, index);
+    let verdict = traffic::send_verdict(shared, unit, index);
     match verdict {
         Verdict::Refused(refusal) => not_sent(olt, refusal),
         Verdict::Accepted => {
-            let choice = on_unit::send_choice(unit);
-            let header = passing::header_of(choice, index, llid, shared.clock);
-            let passage = passing::passage_of(choice, unit.keys.slots, shared.mac, shared.clock);
-            let count = passing::carry(passage, index, payload, output);
+            let sending = traffic::sending(shared, unit, index, llid);
+            let header = sending.header;
+            let passage = sending.passage;
+            let count = carrying::carry(passage, index, payload, output);
             OltSent {
                 number: 0,
                 olt: next,
@@ -162,25 +172,18 @@ pub(crate) fn receive_at(
     requires { ⌜ upstream (header .index) ≡ true ⌝ }
     ensures { λ r. ⌜ exchange r (now (output .exit)) ≡ oltReceived (putBack olt noPassage i (receiveUnit header (olt .shared) (unitAt olt i))) (header .index) (now (octets .entry)) (now (output .entry)) ⌝ }
 {
-    let unit = olt.units[i];
+    let unit = unit_at(olt, i);
     let shared = olt.shared;
-    let choice = on_unit::receive_choice(unit, header);
-    let next = with_unit(
-        olt,
-        i,
-        shared.channels,
-        on_unit::unit_received(choice, unit),
-    );
-    let verdict = on_unit::receive_verdict(shared, unit, header);
+    let verdict = traffic::receive_verdict(shared, unit, header);
     match verdict {
         Verdict::Refused(refusal) => not_received(olt, refusal),
         Verdict::Accepted => {
-            let mac = unit.identity.mac;
-            let passage = passing::passage_of(choice, unit.keys.slots, mac, shared.clock);
-            let count = passing::carry(passage, header.index, octets, output);
+            let passage = traffic::passage(shared, unit, header);
+            let count = carrying::carry(passage, header.index, octets, output);
+            let next = traffic::unit_received(unit, header);
             OltReceived {
                 number: 0,
-                olt: next,
+                olt: with_unit(olt, i, shared.channels, next),
                 count,
             }
         }

@@ -2,12 +2,11 @@
 ghost use mathlib.Core.Path.{_≡_};
 ghost use mathlib.Core.Bool.{not, true};
 ghost use Prim.Native.Nat.{ℕ, _≤_, _<_};
-ghost use Rattle.refusal.specs.declared.Refusal.the-variants.{BadLength, ChannelTaken, ClockNotSet, EpamDiffers, KeyTooOld, OutOfRange, UnknownLlid};
-ghost use Rattle.refusal.specs.declared.Verdict.the-variants.{Accepted};
+ghost use Rattle.refusal.specs.declared.Refusal.the-variants.{BadLength, ClockNotSet, EpamDiffers, OutOfRange, UnknownLlid};
 ghost use Rattle.clock.specs.Ticks.{maxTick};
 ghost use Rattle.octets.specs.Eqs.{maxEqs};
 ghost use Rattle.ends.specs.Limits.{maxKeyNumber};
-ghost use Rattle.ends.specs.OnuTraffic.{onuMoved, onuNoted, onuReceiveChoice, onuReceiveVerdict, onuReceived, onuSendChoice, onuSendVerdict, onuSent};
+ghost use Rattle.ends.specs.OnuTraffic.{onuMoved, onuReceiveChoice, onuReceiveVerdict, onuReceived, onuSendChoice, onuSendVerdict, onuSent};
 ghost use Rattle.ends.specs.Replies.{refuseIf};
 ghost use Rattle.ends.specs.Validity.{validOnu, validOnuKeys};
 ghost use Rattle.ends.specs.declared.KeyChoice.the-variants.{Next};
@@ -15,7 +14,7 @@ ghost use Rattle.traffic.specs.Receipts.{onuNotReceived};
 ghost use Rattle.traffic.specs.Sends.{onuNotSent};
 use crate::OnuReceived;
 use crate::OnuSent;
-use crate::passing;
+use crate::carrying;
 use clock::epam_of;
 use ends::FirstSend;
 use ends::Header;
@@ -27,6 +26,7 @@ use ends::keyslots::only_key;
 use ends::llids::has;
 use refusal::Refusal;
 use refusal::Verdict;
+use unit::passing;
 
 pub(crate) fn not_sent(onu: Onu, refusal: Refusal) -> OnuSent
     ensures { λ r. ⌜ r ≡ onuNotSent onu refusal ⌝ }
@@ -64,8 +64,9 @@ pub(crate) fn send_choice(keys: OnuKeys) -> KeyChoice
     KeyChoice::Current(keys.active)
 }
 
-fn send_chain(misfit: bool, wrong: bool, unknown: bool, busy: bool, old: bool) -> Verdict
-    ensures { λ r. ⌜ r ≡ refuseIf misfit BadLength (refuseIf wrong OutOfRange (refuseIf unknown UnknownLlid (refuseIf busy ChannelTaken (refuseIf old KeyTooOld Accepted)))) ⌝ }
+// 14, 1 and 2, ahead of the rest.
+fn named(misfit: bool, wrong: bool, unknown: bool, rest: Verdict) -> Verdict
+    ensures { λ r. ⌜ r ≡ refuseIf misfit BadLength (refuseIf wrong OutOfRange (refuseIf unknown UnknownLlid rest)) ⌝ }
 {
     if misfit {
         return Verdict::Refused(Refusal::BadLength);
@@ -76,13 +77,7 @@ fn send_chain(misfit: bool, wrong: bool, unknown: bool, busy: bool, old: bool) -
     if unknown {
         return Verdict::Refused(Refusal::UnknownLlid);
     }
-    if busy {
-        return Verdict::Refused(Refusal::ChannelTaken);
-    }
-    if old {
-        return Verdict::Refused(Refusal::KeyTooOld);
-    }
-    Verdict::Accepted
+    rest
 }
 
 // 1 for a lent end that is not valid, then what the send refuses.
@@ -93,32 +88,9 @@ pub(crate) fn send_verdict(onu: Onu, misfit: bool, llid: u16, index: u8) -> Verd
         return Verdict::Refused(Refusal::OutOfRange);
     }
     let known = has(onu.identity, llid);
-    let busy = passing::taken(onu.channels, index, onu.tick);
     let choice = send_choice(onu.keys);
-    let old = passing::choice_aged(choice, onu.first, onu.tick);
-    send_chain(
-        misfit,
-        !((128 <= index) & (index <= 129)),
-        !known,
-        busy,
-        old,
-    )
-}
-
-fn noted(choice: KeyChoice, onu: Onu) -> Onu
-    ensures { λ r. ⌜ r ≡ onuNoted choice onu ⌝ }
-{
-    match choice {
-        KeyChoice::Clear => onu,
-        KeyChoice::Current(_) => {
-            let first = passing::first_send(onu.first, onu.tick);
-            let mut r = onu;
-            r.first = first;
-            r
-        }
-        KeyChoice::Next(_) => onu,
-        KeyChoice::Barred(_) => onu,
-    }
+    let rest = passing::send_verdict(choice, onu.channels, index, onu.first, onu.tick);
+    named(misfit, !((128 <= index) & (index <= 129)), !known, rest)
 }
 
 // The end that a send leaves, where it is accepted.
@@ -127,9 +99,13 @@ pub(crate) fn after_send(onu: Onu, index: u8, eqs: u64) -> Onu
     requires { ⌜ eqs ≤ maxEqs ⌝ }
     ensures { λ r. ⌜ r ≡ onuSent onu index eqs ⌝ }
 {
-    let channels = passing::occupied(onu.channels, index, onu.tick, eqs);
-    let mut r = noted(send_choice(onu.keys), onu);
+    let channels = carrying::occupied(onu.channels, index, onu.tick, eqs);
+    let mut r = onu;
     r.channels = channels;
+    if onu.keys.active == 0 {
+        return r;
+    }
+    r.first = passing::first_send(onu.first, onu.tick);
     r
 }
 
@@ -155,25 +131,10 @@ pub(crate) fn receive_choice(keys: OnuKeys, header: Header) -> KeyChoice
     KeyChoice::Barred(Refusal::NoKey)
 }
 
-fn receive_chain(
-    misfit: bool,
-    wrong: bool,
-    unknown: bool,
-    off: bool,
-    unset: bool,
-    rest: Verdict,
-) -> Verdict
-    ensures { λ r. ⌜ r ≡ refuseIf misfit BadLength (refuseIf wrong OutOfRange (refuseIf unknown UnknownLlid (refuseIf off EpamDiffers (refuseIf unset ClockNotSet rest)))) ⌝ }
+// 10 and 5, ahead of the rest.
+fn timed(off: bool, unset: bool, rest: Verdict) -> Verdict
+    ensures { λ r. ⌜ r ≡ refuseIf off EpamDiffers (refuseIf unset ClockNotSet rest) ⌝ }
 {
-    if misfit {
-        return Verdict::Refused(Refusal::BadLength);
-    }
-    if wrong {
-        return Verdict::Refused(Refusal::OutOfRange);
-    }
-    if unknown {
-        return Verdict::Refused(Refusal::UnknownLlid);
-    }
     if off {
         return Verdict::Refused(Refusal::EpamDiffers);
     }
@@ -194,15 +155,12 @@ pub(crate) fn receive_verdict(onu: Onu, misfit: bool, header: Header) -> Verdict
     let known = has(onu.identity, header.llid);
     let epam = epam_of(onu.clock.rx);
     let synced = onu.clock.synced == 1;
-    let rest = passing::choice_verdict(receive_choice(onu.keys, header));
-    receive_chain(
-        misfit,
-        !((header.index <= 1) & valid),
-        !known,
+    let rest = timed(
         synced & !(header.epam == epam),
         (header.encenabled == 1) & !synced,
-        rest,
-    )
+        passing::choice_verdict(receive_choice(onu.keys, header)),
+    );
+    named(misfit, !((header.index <= 1) & valid), !known, rest)
 }
 
 // The key a + 1 comes into use: the old one is wiped, and the new one has had no send.

@@ -2,8 +2,7 @@
 // header and the octets enciphered, and writes the output; refused, the end and the output are those that were lent.
 mod at_olt;
 mod at_onu;
-mod on_unit;
-mod passing;
+mod carrying;
 
 ghost use mathlib.Core.Path.{_≡_};
 ghost use Rattle.traffic.specs.Passages.{exchange};
@@ -15,6 +14,7 @@ use ends::Onu;
 use olt::Located;
 use olt::place::locate;
 use refusal::Verdict;
+use unit::passing;
 
 #[repr(C)]
 pub struct OltSent {
@@ -71,7 +71,7 @@ pub fn olt_receive(olt: Olt, header: Header, octets: &[u8], output: &mut [u8]) -
 pub fn onu_send(onu: Onu, llid: u16, index: u8, payload: &[u8], output: &mut [u8]) -> OnuSent
     ensures { λ r. ⌜ exchange r (now (output .exit)) ≡ onuSendOf onu llid index (now (payload .entry)) (now (output .entry)) ⌝ }
 {
-    let misfit = passing::misfit(payload.len(), output.len());
+    let misfit = carrying::misfit(payload.len(), output.len());
     let verdict = at_onu::send_verdict(onu, misfit, llid, index);
     match verdict {
         Verdict::Refused(refusal) => at_onu::not_sent(onu, refusal),
@@ -80,9 +80,10 @@ pub fn onu_send(onu: Onu, llid: u16, index: u8, payload: &[u8], output: &mut [u8
             let choice = at_onu::send_choice(onu.keys);
             let mac = onu.identity.mac;
             let time = onu.clock.time;
-            let header = passing::header_of(choice, index, llid, time);
-            let passage = passing::passage_of(choice, onu.keys.slots, mac, time);
-            let count = passing::carry(passage, index, payload, output);
+            let sending = passing::sending_of(choice, onu.keys.slots, mac, time, index, llid);
+            let header = sending.header;
+            let passage = sending.passage;
+            let count = carrying::carry(passage, index, payload, output);
             OnuSent {
                 number: 0,
                 onu: next,
@@ -96,7 +97,7 @@ pub fn onu_send(onu: Onu, llid: u16, index: u8, payload: &[u8], output: &mut [u8
 pub fn onu_receive(onu: Onu, header: Header, octets: &[u8], output: &mut [u8]) -> OnuReceived
     ensures { λ r. ⌜ exchange r (now (output .exit)) ≡ onuReceiveOf onu header (now (octets .entry)) (now (output .entry)) ⌝ }
 {
-    let misfit = passing::misfit(octets.len(), output.len());
+    let misfit = carrying::misfit(octets.len(), output.len());
     let verdict = at_onu::receive_verdict(onu, misfit, header);
     match verdict {
         Verdict::Refused(refusal) => at_onu::not_received(onu, refusal),
@@ -105,7 +106,7 @@ pub fn onu_receive(onu: Onu, header: Header, octets: &[u8], output: &mut [u8]) -
             let next = at_onu::after_receive(choice, onu);
             let mac = onu.oltmac;
             let passage = passing::passage_of(choice, onu.keys.slots, mac, onu.clock.rx);
-            let count = passing::carry(passage, header.index, octets, output);
+            let count = carrying::carry(passage, header.index, octets, output);
             OnuReceived {
                 number: 0,
                 onu: next,

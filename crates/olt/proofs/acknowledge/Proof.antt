@@ -1,17 +1,17 @@
 -- `olt::acknowledge` meets its contract: the unit decides by the kind.
 -- Assumes nothing.
-use mathlib.Core.Path.{_≡_, sym, ap, _∙_}
-use Prim.Native.Nat.{_<_}
-use native.Mathlib.Omega.{arith}
+use mathlib.Core.Path.{_≡_, refl, sym, ap, _∙_}
 use borrow.Author.Needs.{needs}
-use Rattle.refusal.specs.declared.Verdict.the-variants.{Accepted, Refused}
-use Rattle.ends.specs.Lift.{outcome}
+use Rattle.refusal.specs.declared.Verdict.the-variants.{Accepted}
 use Rattle.ends.specs.OltCalls.{acknowledgeOf, oltAnswer}
-use Rattle.ends.specs.Replies.{silent, reply}
-use Rattle.ends.specs.Table.{pastUnit}
+use Rattle.ends.specs.Lift.{putBack}
+use Rattle.ends.specs.Replies.{Silence, silent}
+use Rattle.ends.specs.Table.{unitAt}
 use Rattle.ends.specs.UnitCalls.{acknowledgeUnit}
 use Rattle.ends.proofs.UnitCalls.{acknowledged-channels}
-use Rattle.olt.proofs.Lookup.{Stands, place-stands, lift-absent, lift-refused, lift-accepted}
+use Rattle.olt.specs.Lookup.{locatedOf}
+use Rattle.olt.specs.declared.Located.the-variants.{Place}
+use Rattle.olt.proofs.Lookup.{place-below, lift-absent, lift-place}
 use Rattle.olt.proofs.acknowledge.Statement.{statement}
 use Rattle.olt.proofs.acknowledge.Tie as tie
 
@@ -27,54 +27,38 @@ refused-requires c κs = search needs
 enum-known-at-2 : tie.Need-enum-known-at-2
 enum-known-at-2 c = search needs
 
-here : (c : tie.After-known-told2) → Stands (c .before .before .before .before .args .t1) (c .before .before .before .before .args .llid) (c .before .at2 .given .0 .0)
-here c = place-stands _ _ _ _ (sym (c .before .before .before .locate .ensures) ∙ c .before .at2 .given .1)
+-- the unit was found
+here : (c : tie.After-known-told2) → locatedOf (c .before .before .before .before .args .olt) Accepted (c .before .before .before .before .args .llid) ≡ Place (c .before .at2 .given .0 .0)
+here c = sym (c .before .before .before .locate .ensures) ∙ c .before .at2 .given .1
 
-mul-unit : tie.Need-mul-unit
-mul-unit c = omega (arith, here c .below, here c .few)
-
-element-copy-out-unit : tie.Need-element-copy-out-unit
-element-copy-out-unit c = let s = here c in omega (arith, s .below, s .few)
+unit-at-requires : tie.Need-unit-at-requires
+unit-at-requires c κs = place-below _ _ _ _ (here c)
 
 acknowledge-verdict-requires : tie.Need-acknowledge-verdict-requires
 acknowledge-verdict-requires c κs = search needs
 
-enum-known-verdict : tie.Need-enum-known-verdict
-enum-known-verdict c = search needs
-
-refused-requires-2 : tie.Need-refused-requires-2
-refused-requires-2 c κs = search needs
-
-enum-told : tie.Need-enum-told
-enum-told c = search needs
-
 acknowledged-requires : tie.Need-acknowledged-requires
 acknowledged-requires c κs = search needs
 
-with-unit-requires : tie.Need-with-unit-requires
-with-unit-requires c κs = let s = here (c .before .before .before .before .before .before .before) in omega (arith, s .below, s .few)
+put-back-requires : tie.Need-put-back-requires
+put-back-requires c κs = place-below _ _ _ _ (here (c .before .before .before))
 
-accepted-requires : tie.Need-accepted-requires
-accepted-requires c κs = search needs
+still : (s : Silence) → s ≡ silent
+still silent = refl
 
 returns : tie.Need-returns
 unfolding acknowledgeOf
 returns c =
+    let a = c .before .before .before .before .before .args in
     c .refused .ensures
-    ∙ sym (ap oltAnswer (lift-absent (c .before .before .before .before .before .args .t1) silent Accepted (c .before .before .before .before .before .args .llid) (acknowledgeUnit (c .before .before .before .before .before .args .acknowledgement)) _ (sym (c .before .before .before .before .locate .ensures) ∙ c .before .before .at .given .1)))
+    ∙ sym (ap oltAnswer (lift-absent (a .olt) silent Accepted (a .llid) (acknowledgeUnit (a .acknowledgement)) _ (sym (c .before .before .before .before .locate .ensures) ∙ c .before .before .at .given .1)))
 
 returns-2 : tie.Need-returns-2
-unfolding acknowledgeOf pastUnit
+unfolding acknowledgeOf putBack
 returns-2 c =
-    c .refused2 .ensures
-    ∙ sym (ap oltAnswer (lift-refused (c .before .before .before .before .before .before .before .before .before .before .before .args .t1) silent Accepted (c .before .before .before .before .before .before .before .before .before .before .before .args .llid) (acknowledgeUnit (c .before .before .before .before .before .before .before .before .before .before .before .args .acknowledgement)) _ _ (sym (c .before .before .before .before .before .before .before .before .before .before .locate .ensures) ∙ c .before .before .before .before .before .before .before .before .at2 .given .1) (sym (c .before .before .before .before .acknowledge-verdict .ensures) ∙ c .before .before .verdict .given .1)))
-
-returns-3 : tie.Need-returns-3
-unfolding acknowledgeOf oltAnswer reply pastUnit
-returns-3 c =
-    let e = lift-accepted (c .before .before .before .before .before .before .before .before .before .before .before .before .before .args .t1) silent Accepted (c .before .before .before .before .before .before .before .before .before .before .before .before .before .args .llid) (acknowledgeUnit (c .before .before .before .before .before .before .before .before .before .before .before .before .before .args .acknowledgement)) _ (sym (c .before .before .before .before .before .before .before .before .before .before .before .before .locate .ensures) ∙ c .before .before .before .before .before .before .before .before .before .before .at2 .given .1) (sym (c .before .before .before .before .before .before .acknowledge-verdict .ensures) ∙ c .before .before .before .before .enum-told .given .1) in
-    rw (c .accepted .ensures, c .before .with-unit .ensures, c .before .before .acknowledged .ensures)
-    (sym (ap oltAnswer e ∙ rw (acknowledged-channels (c .before .before .before .before .before .before .before .before .before .before .before .before .before .args .acknowledgement))))
+    let a = c .before .before .before .before .before .before .before .before .args in
+    rw (c .put-back .ensures, c .before .acknowledged .ensures, c .before .before .acknowledge-verdict .ensures, c .before .before .before .unit-at .ensures)
+    (sym (ap oltAnswer (lift-place (a .olt) silent Accepted (a .llid) (acknowledgeUnit (a .acknowledgement)) _ (here (c .before .before .before .before))) ∙ rw (acknowledged-channels (a .acknowledgement), still (acknowledgeUnit (a .acknowledgement) (a .olt .shared) (unitAt (a .olt) (c .before .before .before .before .before .at2 .given .0 .0)) .handed))))
 
 pub acknowledge-spec : {M : Type 1} → statement M
 acknowledge-spec =
@@ -84,15 +68,9 @@ acknowledge-spec =
     enum-known-at
     refused-requires
     enum-known-at-2
-    mul-unit
-    element-copy-out-unit
+    unit-at-requires
     acknowledge-verdict-requires
-    enum-known-verdict
-    refused-requires-2
-    enum-told
     acknowledged-requires
-    with-unit-requires
-    accepted-requires
+    put-back-requires
     returns
-    returns-2
-    returns-3)
+    returns-2)

@@ -1,16 +1,15 @@
 -- `olt::capture` meets its contract: a unit that is found is captured.
 -- Assumes nothing.
 use mathlib.Core.Path.{_≡_, refl, sym, ap, _∙_}
-use Prim.Native.Nat.{_<_}
-use native.Mathlib.Omega.{arith}
 use borrow.Author.Needs.{needs}
-use Rattle.refusal.specs.declared.Verdict.the-variants.{Accepted, Refused}
+use Rattle.refusal.specs.declared.Verdict.the-variants.{Accepted}
 use Rattle.ends.specs.Lift.{outcome}
 use Rattle.ends.specs.OltCalls.{captureOf, oltAnswer}
 use Rattle.ends.specs.Replies.{silent, reply}
-use Rattle.ends.specs.Table.{pastUnit}
 use Rattle.ends.specs.UnitCalls.{captureUnit}
-use Rattle.olt.proofs.Lookup.{Stands, place-stands, lift-absent, lift-accepted}
+use Rattle.olt.specs.Lookup.{locatedOf}
+use Rattle.olt.specs.declared.Located.the-variants.{Place}
+use Rattle.olt.proofs.Lookup.{place-below, lift-absent, lift-accepted}
 use Rattle.olt.proofs.capture.Statement.{statement}
 use Rattle.olt.proofs.capture.Tie as tie
 
@@ -26,20 +25,18 @@ refused-requires c κs = search needs
 enum-known-at-2 : tie.Need-enum-known-at-2
 enum-known-at-2 c = search needs
 
-here : (c : tie.After-known-told2) → Stands (c .before .before .before .before .args .t1) (c .before .before .before .before .args .llid) (c .before .at2 .given .0 .0)
-here c = place-stands _ _ _ _ (sym (c .before .before .before .locate .ensures) ∙ c .before .at2 .given .1)
+-- the unit was found
+here : (c : tie.After-known-told2) → locatedOf (c .before .before .before .before .args .olt) Accepted (c .before .before .before .before .args .llid) ≡ Place (c .before .at2 .given .0 .0)
+here c = sym (c .before .before .before .locate .ensures) ∙ c .before .at2 .given .1
 
-mul-unit : tie.Need-mul-unit
-mul-unit c = omega (arith, here c .below, here c .few)
-
-element-copy-out-unit : tie.Need-element-copy-out-unit
-element-copy-out-unit c = let s = here c in omega (arith, s .below, s .few)
+unit-at-requires : tie.Need-unit-at-requires
+unit-at-requires c κs = place-below _ _ _ _ (here c)
 
 captured-requires : tie.Need-captured-requires
 captured-requires c κs = search needs
 
 with-unit-requires : tie.Need-with-unit-requires
-with-unit-requires c κs = let s = here (c .before .before) in omega (arith, s .below, s .few)
+with-unit-requires c κs = place-below _ _ _ _ (here (c .before .before))
 
 accepted-requires : tie.Need-accepted-requires
 accepted-requires c κs = search needs
@@ -47,14 +44,16 @@ accepted-requires c κs = search needs
 returns : tie.Need-returns
 unfolding captureOf
 returns c =
+    let a = c .before .before .before .before .before .args in
     c .refused .ensures
-    ∙ sym (ap oltAnswer (lift-absent (c .before .before .before .before .before .args .t1) silent Accepted (c .before .before .before .before .before .args .llid) captureUnit _ (sym (c .before .before .before .before .locate .ensures) ∙ c .before .before .at .given .1)))
+    ∙ sym (ap oltAnswer (lift-absent (a .olt) silent Accepted (a .llid) captureUnit _ (sym (c .before .before .before .before .locate .ensures) ∙ c .before .before .at .given .1)))
 
 returns-2 : tie.Need-returns-2
-unfolding captureOf oltAnswer reply captureUnit outcome pastUnit
+unfolding captureOf oltAnswer reply captureUnit outcome
 returns-2 c =
-    rw (c .accepted .ensures, c .before .with-unit .ensures, c .before .before .captured .ensures)
-    (sym (ap oltAnswer (lift-accepted (c .before .before .before .before .before .before .before .before .args .t1) silent Accepted (c .before .before .before .before .before .before .before .before .args .llid) captureUnit _ (sym (c .before .before .before .before .before .before .before .locate .ensures) ∙ c .before .before .before .before .before .at2 .given .1) refl)))
+    let a = c .before .before .before .before .before .before .before .before .args in
+    rw (c .accepted .ensures, c .before .with-unit .ensures, c .before .before .captured .ensures, c .before .before .before .unit-at .ensures)
+    (sym (ap oltAnswer (lift-accepted (a .olt) silent Accepted (a .llid) captureUnit _ (here (c .before .before .before .before)) refl)))
 
 pub capture-spec : {M : Type 1} → statement M
 capture-spec =
@@ -64,8 +63,7 @@ capture-spec =
     enum-known-at
     refused-requires
     enum-known-at-2
-    mul-unit
-    element-copy-out-unit
+    unit-at-requires
     captured-requires
     with-unit-requires
     accepted-requires

@@ -42,16 +42,13 @@ after-send-requires c κs =
 send-choice-requires : tie.Need-send-choice-requires
 send-choice-requires c κs = search needs
 
-header-of-requires : tie.Need-header-of-requires
-header-of-requires c κs = search needs
-
-passage-of-requires : tie.Need-passage-of-requires
-passage-of-requires c κs = search needs
+sending-of-requires : tie.Need-sending-of-requires
+sending-of-requires c κs = search needs
 
 carry-requires : tie.Need-carry-requires
 carry-requires c κs =
-    let a = c .before .before .before .before .before .before .before .before .before .before .before .args in
-    onu-send-fits (a .onu) (a .llid) (a .index) (a .payload .now) (a .output .now) (c .before .passage-of .result) (sym (judged (c .before .before .before .before .before .before .before)) ∙ c .before .before .before .before .before .enum-told .given .1) (rw (sym (c .before .before .before .send-choice .ensures)) (c .before .passage-of .ensures))
+    let a = c .before .before .before .before .before .before .before .before .before .before .before .before .args in
+    onu-send-fits (a .onu) (a .llid) (a .index) (a .payload .now) (a .output .now) (c .before .before .before .sending-of .result) (sym (judged (c .before .before .before .before .before .before .before .before)) ∙ c .before .before .before .before .before .before .enum-told .given .1) (rw (sym (c .before .before .before .before .send-choice .ensures)) (c .before .before .before .sending-of .ensures))
 
 returns : tie.Need-returns
 returns c =
@@ -63,9 +60,9 @@ same-length c = search needs
 
 returns-2 : tie.Need-returns-2
 returns-2 c =
-    let a = c .before .before .before .before .before .before .before .before .before .before .before .before .before .before .args in
-    onu-send-done (a .onu) (a .llid) (a .index) (a .payload .now) (a .output .now) _ _ _ _ _ (sym (judged (c .before .before .before .before .before .before .before .before .before .before)) ∙ c .before .before .before .before .before .before .before .before .enum-told .given .1)
-    (c .before .before .before .before .before .before .before .after-send .ensures) (rw (sym (c .before .before .before .before .before .before .send-choice .ensures)) (c .before .before .before .before .before .header-of .ensures)) (rw (sym (c .before .before .before .before .before .before .send-choice .ensures)) (c .before .before .before .before .passage-of .ensures)) (c .before .before .carry .ensures)
+    let a = c .before .before .before .before .before .before .before .before .before .before .before .before .before .before .before .args in
+    onu-send-done (a .onu) (a .llid) (a .index) (a .payload .now) (a .output .now) _ _ _ _ (sym (judged (c .before .before .before .before .before .before .before .before .before .before .before)) ∙ c .before .before .before .before .before .before .before .before .before .enum-told .given .1)
+    (c .before .before .before .before .before .before .before .before .after-send .ensures) (rw (sym (c .before .before .before .before .before .before .before .send-choice .ensures)) (c .before .before .before .before .before .before .sending-of .ensures)) (c .before .before .carry .ensures)
 
 pub onu-send-spec : {M : Type 1} → statement M
 onu-send-spec =
@@ -78,8 +75,7 @@ onu-send-spec =
     enum-told
     after-send-requires
     send-choice-requires
-    header-of-requires
-    passage-of-requires
+    sending-of-requires
     carry-requires
     returns
     same-length

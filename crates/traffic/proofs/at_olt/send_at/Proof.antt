@@ -1,32 +1,25 @@
 -- `traffic::at_olt::send_at` meets its contract: the unit decides, and what it accepts fits.
 -- Assumes nothing.
-use mathlib.Core.Path.{sym, _∙_}
-use Prim.Native.Nat.{_<_}
-use Rattle.ends.specs.Table.{pastUnit}
-use Rattle.ends.proofs.Table.{find-at}
+use mathlib.Core.Path.{_≡_, sym, ap, _∙_}
+use borrow.Author.Needs.{needs}
+use Rattle.ends.specs.Headers.{sendingOf}
+use Rattle.ends.specs.Table.{unitAt}
+use Rattle.ends.specs.UnitTraffic.{unitSendChoice, unitSendVerdict}
+use Rattle.ends.specs.declared.UnitRecord.{UnitRecord}
 use Rattle.ends.proofs.Validity.{olt-in-range, shared-in-range}
+use Rattle.olt.proofs.Lookup.{found-below}
 use Rattle.traffic.proofs.Passages.{few-eqs}
 use Rattle.traffic.proofs.Sends.{unit-send-refused, unit-send-accepted, unit-send-fits}
-use borrow.Author.Needs.{needs}
-use native.Mathlib.Omega.{arith}
 use Rattle.traffic.proofs.at_olt.send_at.Statement.{statement}
 use Rattle.traffic.proofs.at_olt.send_at.Tie as tie
 
-below : (c : tie.Start) → c .args .i < 16
-below c =
-    let few = olt-in-range (c .args .t1) (c .pre .0) .count in
-    omega (arith, find-at _ _ _ (c .pre .1 .0) .used)
-
-mul-unit : tie.Need-mul-unit
-mul-unit c = omega (arith, below (c .before .before))
-
-element-copy-out-unit : tie.Need-element-copy-out-unit
-element-copy-out-unit c = omega (arith, below (c .before .before))
+unit-at-requires : tie.Need-unit-at-requires
+unit-at-requires c κs = found-below _ _ _ (c .before .before .pre .0) (c .before .before .pre .1 .0)
 
 after-send-requires : tie.Need-after-send-requires
 after-send-requires c κs =
     let s = c .before .before .before .before in
-    (below s, (shared-in-range _ (olt-in-range _ (s .pre .0) .shared) .tick, few-eqs _ _ (s .pre .1 .1 .0)))
+    (found-below _ _ _ (s .pre .0) (s .pre .1 .0), (shared-in-range _ (olt-in-range _ (s .pre .0) .shared) .tick, few-eqs _ _ (s .pre .1 .1 .0)))
 
 send-verdict-requires : tie.Need-send-verdict-requires
 send-verdict-requires c κs = search needs
@@ -40,53 +33,46 @@ not-sent-requires c κs = search needs
 enum-told : tie.Need-enum-told
 enum-told c = search needs
 
-send-choice-requires : tie.Need-send-choice-requires
-send-choice-requires c κs = search needs
+sending-requires : tie.Need-sending-requires
+sending-requires c κs = search needs
 
-header-of-requires : tie.Need-header-of-requires
-header-of-requires c κs = search needs
-
-passage-of-requires : tie.Need-passage-of-requires
-passage-of-requires c κs = search needs
+-- the unit's verdict
+judged : (c : tie.After-send-verdict) → let a = c .before .before .before .before .before .before .args in c .send-verdict .result ≡ unitSendVerdict (a .olt .shared) (unitAt (a .olt) (a .i)) (a .index)
+judged c = let a = c .before .before .before .before .before .before .args in c .send-verdict .ensures ∙ ap (λ (u : UnitRecord). unitSendVerdict (a .olt .shared) u (a .index)) (c .before .before .before .unit-at .ensures)
 
 carry-requires : tie.Need-carry-requires
-unfolding pastUnit
 carry-requires c κs =
     let s = c .before .before .before .before .before .before .before .before .before .before .before .before in
-    unit-send-fits (s .args .t1) (s .args .llid) (s .args .index) (s .args .i) (s .args .payload .now) (s .args .output .now) (c .before .passage-of .result) (s .pre .0) (s .pre .1 .1 .0) (s .pre .1 .1 .1)
-    (rw (sym (c .before .before .before .send-choice .ensures)) (c .before .passage-of .ensures))
+    unit-send-fits (s .args .olt) (s .args .llid) (s .args .index) (s .args .i) (s .args .payload .now) (s .args .output .now) (c .before .before .before .sending .result) (s .pre .0) (s .pre .1 .1 .0) (s .pre .1 .1 .1)
+    (rw (sym (c .before .before .before .before .before .before .before .before .before .unit-at .ensures)) (c .before .before .before .sending .ensures))
 
 returns : tie.Need-returns
-unfolding pastUnit
 returns c =
     let a = c .before .before .before .before .before .before .before .before .before .before .args in
     rw (c .not-sent .ensures)
-    (unit-send-refused (a .t1) (a .llid) (a .index) (a .i) (a .payload .now) (a .output .now) _ (sym (c .before .before .before .before .send-verdict .ensures) ∙ c .before .before .verdict .given .1))
+    (unit-send-refused (a .olt) (a .llid) (a .index) (a .i) (a .payload .now) (a .output .now) _ (sym (judged (c .before .before .before .before)) ∙ c .before .before .verdict .given .1))
 
 same-length : tie.Need-same-length
 same-length c = search needs
 
 returns-2 : tie.Need-returns-2
-unfolding pastUnit
 returns-2 c =
     let a = c .before .before .before .before .before .before .before .before .before .before .before .before .before .before .before .args in
-    unit-send-accepted (a .t1) (a .llid) (a .index) (a .i) (a .payload .now) (a .output .now) _ _ _ _ _ (sym (c .before .before .before .before .before .before .before .before .before .send-verdict .ensures) ∙ c .before .before .before .before .before .before .before .enum-told .given .1)
-    (c .before .before .before .before .before .before .before .before .before .before .after-send .ensures) (rw (sym (c .before .before .before .before .before .before .send-choice .ensures)) (c .before .before .before .before .before .header-of .ensures)) (rw (sym (c .before .before .before .before .before .before .send-choice .ensures)) (c .before .before .before .before .passage-of .ensures)) (c .before .before .carry .ensures)
+    let u = sym (c .before .before .before .before .before .before .before .before .before .before .before .before .unit-at .ensures) in
+    unit-send-accepted (a .olt) (a .llid) (a .index) (a .i) (a .payload .now) (a .output .now) _ _ _ _ (sym (judged (c .before .before .before .before .before .before .before .before .before)) ∙ c .before .before .before .before .before .before .before .enum-told .given .1)
+    (rw u (c .before .before .before .before .before .before .before .before .before .before .after-send .ensures)) (rw u (c .before .before .before .before .before .before .sending .ensures)) (c .before .before .carry .ensures)
 
 pub send-at-spec : {M : Type 1} → statement M
 send-at-spec =
     tie.close
     (tie.spec
-    mul-unit
-    element-copy-out-unit
+    unit-at-requires
     after-send-requires
     send-verdict-requires
     enum-known-verdict
     not-sent-requires
     enum-told
-    send-choice-requires
-    header-of-requires
-    passage-of-requires
+    sending-requires
     carry-requires
     returns
     same-length

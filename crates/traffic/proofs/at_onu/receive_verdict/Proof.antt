@@ -28,17 +28,20 @@ epam-of-requires : tie.Need-epam-of-requires
 epam-of-requires c κs = search needs
 
 receive-choice-requires : tie.Need-receive-choice-requires
-receive-choice-requires c κs = onu-in-range _ (sym (c .before .before .before .before .before .valid-onu .ensures) ∙ not-false _ (c .before .before .before .before .if1 .left)) .keys
+receive-choice-requires c κs = onu-in-range _ (sym (c .before .before .before .before .before .before .before .valid-onu .ensures) ∙ not-false _ (c .before .before .before .before .before .before .if1 .left)) .keys
 
 choice-verdict-requires : tie.Need-choice-verdict-requires
 choice-verdict-requires c κs = search needs
 
-receive-chain-requires : tie.Need-receive-chain-requires
-receive-chain-requires c κs = search needs
+timed-requires : tie.Need-timed-requires
+timed-requires c κs = search needs
+
+named-requires : tie.Need-named-requires
+named-requires c κs = search needs
 
 returns-2 : tie.Need-returns-2
 unfolding refuseIf onuReceiveVerdict downstream both
-returns-2 c = rw (sym (c .before .before .before .before .before .before .before .before .before .before .before .valid-onu .ensures), c .before .before .before .before .before .before .before .before .before .before .if1 .left, c .receive-chain .ensures, c .before .before .before .before .choice-verdict .ensures, c .before .before .before .before .before .receive-choice .ensures, c .before .before .before .before .before .before .before .epam-of .ensures, c .before .before .before .before .before .before .before .before .has .ensures, c .before .before .before .before .before .before .before .before .before .valid-header .ensures)
+returns-2 c = rw (sym (c .before .before .before .before .before .before .before .before .before .before .before .before .valid-onu .ensures), c .before .before .before .before .before .before .before .before .before .before .before .if1 .left, c .named .ensures, c .before .before .timed .ensures, c .before .before .before .choice-verdict .ensures, c .before .before .before .before .receive-choice .ensures, c .before .before .before .before .before .before .before .before .epam-of .ensures, c .before .before .before .before .before .before .before .before .before .has .ensures, c .before .before .before .before .before .before .before .before .before .before .valid-header .ensures)
 
 pub receive-verdict-spec : {M : Type 1} → statement M
 receive-verdict-spec =
@@ -51,5 +54,6 @@ receive-verdict-spec =
     epam-of-requires
     receive-choice-requires
     choice-verdict-requires
-    receive-chain-requires
+    timed-requires
+    named-requires
     returns-2)

@@ -19,21 +19,18 @@ returns c = rw (sym (c .before .valid-onu .ensures), c .if1 .taken)
 has-requires : tie.Need-has-requires
 has-requires c κs = search needs
 
-taken-requires : tie.Need-taken-requires
-taken-requires c κs = search needs
-
 send-choice-requires : tie.Need-send-choice-requires
 send-choice-requires c κs = search needs
 
-choice-aged-requires : tie.Need-choice-aged-requires
-choice-aged-requires c κs = search needs
+send-verdict-requires : tie.Need-send-verdict-requires
+send-verdict-requires c κs = search needs
 
-send-chain-requires : tie.Need-send-chain-requires
-send-chain-requires c κs = search needs
+named-requires : tie.Need-named-requires
+named-requires c κs = search needs
 
 returns-2 : tie.Need-returns-2
 unfolding refuseIf onuSendVerdict upstream both
-returns-2 c = rw (sym (c .before .before .before .before .before .before .valid-onu .ensures), c .before .before .before .before .before .if1 .left, c .send-chain .ensures, c .before .choice-aged .ensures, c .before .before .send-choice .ensures, c .before .before .before .taken .ensures, c .before .before .before .before .has .ensures)
+returns-2 c = rw (sym (c .before .before .before .before .before .valid-onu .ensures), c .before .before .before .before .if1 .left, c .named .ensures, c .before .send-verdict .ensures, c .before .before .send-choice .ensures, c .before .before .before .has .ensures)
 
 pub send-verdict-spec : {M : Type 1} → statement M
 send-verdict-spec =
@@ -42,8 +39,7 @@ send-verdict-spec =
     valid-onu-requires
     returns
     has-requires
-    taken-requires
     send-choice-requires
-    choice-aged-requires
-    send-chain-requires
+    send-verdict-requires
+    named-requires
     returns-2)

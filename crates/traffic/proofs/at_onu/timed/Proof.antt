@@ -1,0 +1,20 @@
+-- `traffic::at_onu::timed` meets its contract: the first that holds is the refusal.
+-- Assumes nothing.
+use Rattle.ends.specs.Replies.{refuseIf}
+use Rattle.traffic.proofs.at_onu.timed.Statement.{statement}
+use Rattle.traffic.proofs.at_onu.timed.Tie as tie
+
+returns : tie.Need-returns
+unfolding refuseIf
+returns c = rw (c .if1 .taken)
+
+returns-2 : tie.Need-returns-2
+unfolding refuseIf
+returns-2 c = rw (c .before .if1 .left, c .if2 .taken)
+
+returns-3 : tie.Need-returns-3
+unfolding refuseIf
+returns-3 c = rw (c .before .if1 .left, c .if2 .left)
+
+pub timed-spec : {M : Type 1} → statement M
+timed-spec = tie.close (tie.spec returns returns-2 returns-3)

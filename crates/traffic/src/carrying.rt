@@ -1,0 +1,74 @@
+// The channel that an envelope takes and its payload, at both ends alike (01, Keys; Counter block and mask).
+ghost use mathlib.Core.Path.{_≡_};
+ghost use mathlib.Core.Bool.{not};
+ghost use Prim.Native.Nat.{_≤_};
+ghost use lib.ListN.{length};
+ghost use Rattle.refusal.specs.declared.Verdict.the-variants.{Accepted};
+ghost use Rattle.clock.specs.Ticks.{maxTick};
+ghost use Rattle.sealing.specs.Seal.{judgeSeal, lengthsFit};
+ghost use Rattle.octets.specs.Eqs.{maxEqs};
+ghost use Rattle.ends.specs.Occupancy.{occupied};
+ghost use Rattle.traffic.specs.Passages.{exchange, isEnciphered, nonceOf, passed, passedCount};
+use ends::Channels;
+use ends::KeyChoice;
+use ends::Passage;
+use sealing::envelope::Nonce;
+use sealing::envelope::lengths_fit;
+use sealing::envelope::seal;
+use sealing::envelope::seal_count;
+
+// A header keeps its channel for its own tick, beside one for each EQ.
+const HEADER_TICKS: u64 = 1;
+
+// 14: the lengths of payload and output.
+pub(crate) fn misfit(n: usize, m: usize) -> bool
+    ensures { λ r. ⌜ r ≡ not (lengthsFit n m) ⌝ }
+{
+    !lengths_fit(n, m)
+}
+
+pub(crate) fn occupied(channels: Channels, index: u8, tick: u64, eqs: u64) -> Channels
+    requires { ⌜ tick ≤ maxTick ⌝ }
+    requires { ⌜ eqs ≤ maxEqs ⌝ }
+    ensures { λ r. ⌜ r ≡ occupied channels index tick eqs ⌝ }
+{
+    let free = tick + eqs + HEADER_TICKS;
+    if index % 128 == 0 {
+        return Channels {
+            zero: free,
+            one: channels.one,
+        };
+    }
+    Channels {
+        zero: channels.zero,
+        one: free,
+    }
+}
+
+fn is_enciphered(choice: KeyChoice) -> bool
+    ensures { λ r. ⌜ r ≡ isEnciphered choice ⌝ }
+{
+    match choice {
+        KeyChoice::Clear => false,
+        KeyChoice::Current(_) => true,
+        KeyChoice::Next(_) => true,
+        KeyChoice::Barred(_) => false,
+    }
+}
+
+// Seals or opens the payload, and gives the octets enciphered.
+pub(crate) fn carry(passage: Passage, index: u8, payload: &[u8], output: &mut [u8]) -> u64
+    requires { ⌜ judgeSeal (length (now payload)) (length (now output)) (nonceOf index passage) ≡ Accepted ⌝ }
+    ensures { λ r. ⌜ exchange r (now (output .exit)) ≡ exchange (passedCount passage (now (payload .entry))) (passed index passage (now (payload .entry))) ⌝ }
+{
+    let choice = passage.choice;
+    let enciphered = is_enciphered(choice);
+    let key = passage.key;
+    let nonce = Nonce {
+        channel: index,
+        mac: passage.mac,
+        clock: passage.clock,
+    };
+    let answer = seal(enciphered, key, nonce, payload, output);
+    seal_count(answer)
+}

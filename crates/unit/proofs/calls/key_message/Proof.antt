@@ -1,0 +1,16 @@
+-- `unit::calls::key_message` meets its contract: the key is the offer's.
+-- Assumes nothing.
+use borrow.Author.Needs.{needs}
+use Rattle.ends.specs.UnitCalls.{keyMessageOf}
+use Rattle.unit.proofs.calls.key_message.Statement.{statement}
+use Rattle.unit.proofs.calls.key_message.Tie as tie
+
+key-in-requires : tie.Need-key-in-requires
+key-in-requires c κs = search needs
+
+returns : tie.Need-returns
+unfolding keyMessageOf
+returns c = rw (c .key-in .ensures)
+
+pub key-message-spec : {M : Type 1} → statement M
+key-message-spec = tie.close (tie.spec key-in-requires returns)

@@ -1,0 +1,22 @@
+-- `unit::passing::aged` meets its contract: the ticks since the first send are compared, and not the sum.
+-- Assumes nothing.
+use native.Mathlib.Omega.{arith}
+use borrow.Author.Needs.{needs}
+use Rattle.octets.specs.Choice.{both}
+use Rattle.clock.specs.Ticks.{keyLife}
+use Rattle.ends.specs.Keys.{aged}
+use Rattle.unit.proofs.Elapsed.{least-since}
+use Rattle.unit.proofs.passing.aged.Statement.{statement}
+use Rattle.unit.proofs.passing.aged.Tie as tie
+
+since-requires : tie.Need-since-requires
+since-requires c κs = search needs
+
+returns : tie.Need-returns
+unfolding aged both
+returns c =
+    let a = c .before .before .args in
+    rw (c .since .ensures, least-since (a .first .tick) keyLife (a .tick) (omega arith))
+
+pub aged-spec : {M : Type 1} → statement M
+aged-spec = tie.close (tie.spec since-requires returns)

@@ -1,0 +1,56 @@
+-- `unit::traffic::keys_sent` meets its contract: by the choice.
+-- Assumes nothing.
+use Rattle.ends.specs.Records.{withFirst}
+use Rattle.ends.specs.UnitTraffic.{keysSent}
+use borrow.Author.Needs.{needs}
+use Rattle.unit.proofs.traffic.keys_sent.Statement.{statement}
+use Rattle.unit.proofs.traffic.keys_sent.Tie as tie
+
+enum-told : tie.Need-enum-told
+enum-told c = search needs
+
+enum-told-2 : tie.Need-enum-told-2
+enum-told-2 c = search needs
+
+first-send-requires : tie.Need-first-send-requires
+first-send-requires c κs = search needs
+
+enum-told-3 : tie.Need-enum-told-3
+enum-told-3 c = search needs
+
+keys-switched-requires : tie.Need-keys-switched-requires
+keys-switched-requires c κs = search needs
+
+enum-told-4 : tie.Need-enum-told-4
+enum-told-4 c = search needs
+
+returns : tie.Need-returns
+unfolding keysSent
+returns c = rw (c .enum-told .given .1)
+
+returns-2 : tie.Need-returns-2
+unfolding keysSent withFirst
+returns-2 c = rw (c .before .enum-told2 .given .1, c .first-send .ensures)
+
+returns-3 : tie.Need-returns-3
+unfolding keysSent
+returns-3 c = rw (c .before .enum-told3 .given .1) (c .keys-switched .ensures)
+
+returns-4 : tie.Need-returns-4
+unfolding keysSent
+returns-4 c = rw (c .enum-told4 .given .1)
+
+pub keys-sent-spec : {M : Type 1} → statement M
+keys-sent-spec =
+    tie.close
+    (tie.spec
+    enum-told
+    enum-told-2
+    first-send-requires
+    enum-told-3
+    keys-switched-requires
+    enum-told-4
+    returns
+    returns-2
+    returns-3
+    returns-4)

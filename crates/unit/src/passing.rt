@@ -1,0 +1,169 @@
+// What an envelope goes under, its header, and whether its channel is free: what both ends do alike (01, Keys).
+ghost use mathlib.Core.Path.{_≡_};
+ghost use Rattle.refusal.specs.declared.Refusal.the-variants.{ChannelTaken, KeyTooOld};
+ghost use Rattle.refusal.specs.declared.Verdict.the-variants.{Accepted};
+ghost use Rattle.ends.specs.Headers.{choiceAged, choiceNumber, choiceVerdict, headerOf, keyFor, passageOf, sendingOf, validHeader};
+ghost use Rattle.ends.specs.Keys.{aged, firstSend};
+ghost use Rattle.ends.specs.Occupancy.{taken};
+ghost use Rattle.ends.specs.Replies.{refuseIf};
+use crate::ticks::since;
+use clock::epam_of;
+use ends::Channels;
+use ends::FirstSend;
+use ends::Header;
+use ends::KeyChoice;
+use ends::Passage;
+use ends::Sending;
+use ends::Slots;
+use ends::keyslots::key_in;
+use refusal::Refusal;
+use refusal::Verdict;
+
+// Sends under a key stop this many ticks after its first.
+const KEY_LIFE: u64 = 0x1_0000_0000_0000;
+
+const EPAM_TURN: u8 = 64;
+
+pub fn valid_header(header: Header) -> bool
+    ensures { λ r. ⌜ r ≡ validHeader header ⌝ }
+{
+    (header.encenabled <= 1) & ((header.enckey <= header.encenabled) & (header.epam < EPAM_TURN))
+}
+
+fn taken(channels: Channels, index: u8, tick: u64) -> bool
+    ensures { λ r. ⌜ r ≡ taken channels index tick ⌝ }
+{
+    if index % 128 == 0 {
+        return tick < channels.zero;
+    }
+    tick < channels.one
+}
+
+fn aged(first: FirstSend, tick: u64) -> bool
+    ensures { λ r. ⌜ r ≡ aged first tick ⌝ }
+{
+    (first.noted == 1) & (KEY_LIFE <= since(first.tick, tick))
+}
+
+// A key that comes into use has had no send: only the key in use can be too old.
+fn choice_aged(choice: KeyChoice, first: FirstSend, tick: u64) -> bool
+    ensures { λ r. ⌜ r ≡ choiceAged choice first tick ⌝ }
+{
+    let old = aged(first, tick);
+    match choice {
+        KeyChoice::Clear => false,
+        KeyChoice::Current(_) => old,
+        KeyChoice::Next(_) => false,
+        KeyChoice::Barred(_) => false,
+    }
+}
+
+// 12 for the channel, then 13 for the key.
+pub fn send_verdict(
+    choice: KeyChoice,
+    channels: Channels,
+    index: u8,
+    first: FirstSend,
+    tick: u64,
+) -> Verdict
+    ensures { λ r. ⌜ r ≡ refuseIf (taken channels index tick) ChannelTaken (refuseIf (choiceAged choice first tick) KeyTooOld Accepted) ⌝ }
+{
+    if taken(channels, index, tick) {
+        return Verdict::Refused(Refusal::ChannelTaken);
+    }
+    if choice_aged(choice, first, tick) {
+        return Verdict::Refused(Refusal::KeyTooOld);
+    }
+    Verdict::Accepted
+}
+
+pub fn first_send(first: FirstSend, tick: u64) -> FirstSend
+    ensures { λ r. ⌜ r ≡ firstSend first tick ⌝ }
+{
+    if first.noted == 1 {
+        return first;
+    }
+    FirstSend { noted: 1, tick }
+}
+
+pub fn choice_verdict(choice: KeyChoice) -> Verdict
+    ensures { λ r. ⌜ r ≡ choiceVerdict choice ⌝ }
+{
+    match choice {
+        KeyChoice::Clear => Verdict::Accepted,
+        KeyChoice::Current(_) => Verdict::Accepted,
+        KeyChoice::Next(_) => Verdict::Accepted,
+        KeyChoice::Barred(refusal) => Verdict::Refused(refusal),
+    }
+}
+
+fn choice_number(choice: KeyChoice) -> u32
+    ensures { λ r. ⌜ r ≡ choiceNumber choice ⌝ }
+{
+    match choice {
+        KeyChoice::Clear => 0,
+        KeyChoice::Current(n) => n,
+        KeyChoice::Next(n) => n,
+        KeyChoice::Barred(_) => 0,
+    }
+}
+
+fn header_of(choice: KeyChoice, index: u8, llid: u16, clock: u64) -> Header
+    ensures { λ r. ⌜ r ≡ headerOf (choiceNumber choice) index llid clock ⌝ }
+{
+    let n = choice_number(choice);
+    let enckey = (n % 2) as u8;
+    let epam = epam_of(clock);
+    if n == 0 {
+        return Header {
+            index,
+            llid,
+            encenabled: 0,
+            enckey,
+            epam,
+        };
+    }
+    Header {
+        index,
+        llid,
+        encenabled: 1,
+        enckey,
+        epam,
+    }
+}
+
+fn key_for(n: u32, slots: Slots) -> [u8; 16]
+    ensures { λ r. ⌜ r ≡ keyFor n slots ⌝ }
+{
+    if n == 0 {
+        return [0; 16];
+    }
+    key_in(slots, n)
+}
+
+pub fn passage_of(choice: KeyChoice, slots: Slots, mac: u64, clock: u64) -> Passage
+    ensures { λ r. ⌜ r ≡ passageOf choice slots mac clock ⌝ }
+{
+    let key = key_for(choice_number(choice), slots);
+    Passage {
+        choice,
+        key,
+        mac,
+        clock,
+    }
+}
+
+pub fn sending_of(
+    choice: KeyChoice,
+    slots: Slots,
+    mac: u64,
+    clock: u64,
+    index: u8,
+    llid: u16,
+) -> Sending
+    ensures { λ r. ⌜ r ≡ sendingOf choice slots mac clock index llid ⌝ }
+{
+    let header = header_of(choice, index, llid, clock);
+    let passage = passage_of(choice, slots, mac, clock);
+    Sending { header, passage }
+}

@@ -1,6 +1,5 @@
 pub mod Pairs
 pub mod Records
-pub mod Verdicts
 pub mod Openings
 pub mod Reopening
 pub mod Lines

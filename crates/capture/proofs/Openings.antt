@@ -30,21 +30,21 @@ use Rattle.sealing.specs.Seal.{outcome as sealOutcome}
 use Rattle.sealing.specs.KeyExpansion.{keyExpansion}
 use Rattle.sealing.proofs.Payload.{sealed-length}
 use Rattle.sealing.proofs.Seal.{sealing-done}
-use Rattle.capture.specs.declared.header.RecordVerdict.{RecordVerdict}
-use Rattle.capture.specs.declared.header.RecordVerdict.the-variants.{Clear, Sealed}
-use Rattle.capture.specs.declared.header.Header.{Header}
+use Rattle.records.specs.declared.header.RecordVerdict.{RecordVerdict}
+use Rattle.records.specs.declared.header.RecordVerdict.the-variants.{Clear, Sealed}
+use Rattle.records.specs.declared.header.Header.{Header}
 use Rattle.capture.specs.declared.directory.Directory.{Directory}
 use Rattle.capture.specs.declared.directory.Directory.the-variants.{Good, BadSize, BadChain, BadLength}
 use Rattle.capture.specs.declared.opening.Keys.{Keys}
 use Rattle.capture.specs.declared.opening.OpenAnswer.{OpenAnswer}
 use Rattle.capture.specs.declared.opening.OpenAnswer.the-variants.{Denied}
-use Rattle.capture.specs.Settings.{settingsOctets, presenceOf, keyPresent, keyOf, macOf, settingsVerdict}
-use Rattle.capture.specs.Record.{headerOf, payloadOf}
-use Rattle.capture.specs.Directory.{countOf, offsetOf, lengthOf, endOf, dueOf, recordOf, verdictOn, directoryOf}
+use Rattle.records.specs.Settings.{settingsOctets, presenceOf, keyPresent, keyOf, macOf, settingsVerdict}
+use Rattle.records.specs.Record.{headerOf, payloadOf}
+use Rattle.capture.specs.Directory.{recordsIn, offsetOf, lengthOf, endOf, dueOf, recordOf, verdictOn, directoryOf}
 use Rattle.capture.specs.Opening.{verdictOf, nonceOf, writtenAs, countAs, openedRecord, recordCount, openedFrom, openedBlock, blockCount, andThen, openVerdict, openingAfter, opening, outcome}
-use Rattle.capture.specs.Verdict.{headerFits}
+use Rattle.records.specs.Verdict.{clearedFlags, headerFits}
 use Rattle.capture.specs.Duties.{Placed, Expanded}
-use Rattle.capture.proofs.Verdicts.{settings-octets}
+use Rattle.records.proofs.Verdicts.{settings-octets}
 use Rattle.capture.proofs.Pairs.{pair-fits, due-next}
 use Rattle.capture.proofs.Records.{Records, good, placed, records-end}
 
@@ -97,7 +97,7 @@ module _ (s b out : List ℕ) (i : ℕ) (same : drop (offsetOf b i) out ≡ drop
 
   -- the output holds an opened record once its flags are stored and its payload is replaced
   pub record-opened : (j t : ℕ) → Placed b i → verdictOf s (recordOf b i) ≡ Sealed j t
-      → replaced (set out (offsetOf b i + 4) (headerOf (recordOf b i) .flags / 4 * 4)) (offsetOf b i + 16)
+      → replaced (set out (offsetOf b i + 4) (clearedFlags (headerOf (recordOf b i) .flags))) (offsetOf b i + 16)
       (sealed (keyExpansion (keyOf s j)) (nonceOf s (headerOf (recordOf b i)) t) (part b (offsetOf b i + 16) (offsetOf b i + lengthOf b i - (offsetOf b i + 16))))
       ≡ take (offsetOf b i) out ++ (openedRecord s (recordOf b i) ++ drop (endOf b i) b)
   unfolding openedRecord writtenAs payloadOf recordOf endOf
@@ -127,16 +127,16 @@ pub nonce-fits : (h : Header) (m t : ℕ) → headerFits h ≡ true → m < 2 ^ 
 unfolding nonceFits headerFits
 nonce-fits h m t f p q = both-true (both-left _ _ (both-right _ _ f)) (both-true (lt-ltb _ _ p) (lt-ltb _ _ q))
 
--- the same of what was read of a record: its place and length, its header, the MAC and the expanded key
+-- the same of what was read of a record: its place and length, its header and flags, the MAC and the expanded key
 pub opened-by : (s b out : List ℕ) (i : ℕ) → drop (offsetOf b i) out ≡ drop (offsetOf b i) b → Placed b i
-    → (j t from len m : ℕ) (h : Header) (w : List ℕ) → verdictOf s (recordOf b i) ≡ Sealed j t
-    → from ≡ offsetOf b i → len ≡ lengthOf b i → h ≡ headerOf (recordOf b i) → m ≡ macOf s → w ≡ keyExpansion (keyOf s j)
+    → (j t from len m f : ℕ) (h : Header) (w : List ℕ) → verdictOf s (recordOf b i) ≡ Sealed j t
+    → from ≡ offsetOf b i → len ≡ lengthOf b i → h ≡ headerOf (recordOf b i) → f ≡ clearedFlags (h .flags) → m ≡ macOf s → w ≡ keyExpansion (keyOf s j)
     → (countEnciphered (part b (from + 16) (from + len - (from + 16))) ≡ recordCount s (recordOf b i))
-    × (replaced (set out (from + 4) (h .flags / 4 * 4)) (from + 16)
+    × (replaced (set out (from + 4) f) (from + 16)
     (sealed w (record { channel = h .channel; mac = m; clock = t }) (part b (from + 16) (from + len - (from + 16))))
     ≡ take (offsetOf b i) out ++ (openedRecord s (recordOf b i) ++ drop (endOf b i) b))
-opened-by s b out i same p j t from len m h w v ef el eh em ew =
-    (rw (ef, el) (opened-count s b i j t p v), rw (ef, el, eh, em, ew) (record-opened s b out i same j t p v))
+opened-by s b out i same p j t from len m f h w v ef el eh eg em ew =
+    (rw (ef, el) (opened-count s b i j t p v), rw (ef, el, eg, eh, em, ew) (record-opened s b out i same j t p v))
 
 -- opening keeps a record's length
 written-length : (s r : List ℕ) (v : RecordVerdict) → 16 ≤ length r → length (writtenAs s r v) ≡ length r
@@ -175,7 +175,7 @@ one-more s b i = rw add-one (sum-suc 0 i (λ j. recordCount s (recordOf b j)) �
 
 -- the output once i records are opened, without what is still the block
 abbrev pub upTo : List ℕ → List ℕ → ℕ → List ℕ
-upTo s b i = take (2 + 8 * countOf b) b ++ openedFrom s b 0 i
+upTo s b i = take (2 + 8 * recordsIn b) b ++ openedFrom s b 0 i
 
 opened-more : (s b : List ℕ) (j i : ℕ) → openedFrom s b j (suc i) ≡ openedFrom s b j i ++ openedRecord s (recordOf b (j + i))
 unfolding openedFrom
@@ -187,10 +187,10 @@ pub up-to-next : (s b : List ℕ) (i : ℕ) → upTo s b (i + 1) ≡ upTo s b i 
 up-to-next s b i = rw (add-one, opened-more s b 0 i, zero-add) (simp append-assoc)
 
 -- at first the output is the block
-pub none-opened : (s b : List ℕ) → 2 + 8 * countOf b ≤ length b → (b ≡ upTo s b 0 ++ drop (dueOf b 0) b) × (length (upTo s b 0) ≡ dueOf b 0)
+pub none-opened : (s b : List ℕ) → 2 + 8 * recordsIn b ≤ length b → (b ≡ upTo s b 0 ++ drop (dueOf b 0) b) × (length (upTo s b 0) ≡ dueOf b 0)
 unfolding openedFrom dueOf
 none-opened s b h =
-    (rw append-nil (sym (take-append-drop (2 + 8 * countOf b) b)), rw append-nil (length-take-le (2 + 8 * countOf b) b h))
+    (rw append-nil (sym (take-append-drop (2 + 8 * recordsIn b) b)), rw append-nil (length-take-le (2 + 8 * recordsIn b) b h))
 
 module _ (s b out : List ℕ) (n i : ℕ) (r : Records b n) (h : i < n) (opened : out ≡ upTo s b i ++ drop (dueOf b i) b)
     (l : length (upTo s b i) ≡ dueOf b i) where
@@ -222,13 +222,13 @@ pub record Callable (s b : List ℕ) (m : ℕ) : Type 0 where
   pub size : m ≡ length b
   pub accepted : settingsVerdict s ≡ Accepted
   pub settings : length s ≡ settingsOctets
-  pub good : directoryOf b ≡ Good (countOf b)
+  pub good : directoryOf b ≡ Good (recordsIn b)
 
 then-both : (u v : Verdict) → andThen u v ≡ Accepted → (u ≡ Accepted) × (v ≡ Accepted)
 then-both Accepted v e = (refl, e)
 then-both (Verdict.Refused r) v e = (e, cc)
 
-counted : (b : List ℕ) (d : Directory) → directoryOf b ≡ d → verdictOn d ≡ Accepted → directoryOf b ≡ Good (countOf b)
+counted : (b : List ℕ) (d : Directory) → directoryOf b ≡ d → verdictOn d ≡ Accepted → directoryOf b ≡ Good (recordsIn b)
 counted b (Good n) q e = q ∙ ap Good (good b n q .count)
 counted b BadSize q e = cc
 counted b (BadChain k) q e = cc

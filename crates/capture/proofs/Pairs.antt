@@ -10,19 +10,16 @@ use lib.ListN.{length}
 use borrow.Author.Tests.{leb-true, eqb-true, eq-eqb, ne-eqb}
 use Rattle.octets.specs.Choice.{both, either, pick}
 use Rattle.octets.proofs.Choice.{both-left, both-right, pick-first}
-use Rattle.capture.specs.Record.{sized}
-use Rattle.capture.specs.Directory.{mostOctets, mostRecords, countOf, offsetOf, lengthOf, endOf, dueOf, recordOf, endFits, chained, pairOf, sizeFits, withPair, pairsFrom}
+use Rattle.records.specs.Record.{sized}
+use Rattle.records.specs.Place.{endFits}
+use Rattle.records.proofs.Places.{end-within, end-at}
+use Rattle.capture.specs.Directory.{mostOctets, mostRecords, recordsIn, offsetOf, lengthOf, endOf, dueOf, recordOf, chained, pairOf, sizeFits, withPair, pairsFrom}
 use Rattle.capture.specs.declared.directory.Pair.the-variants.{Fits, OffChain, OffLength}
 use Rattle.capture.specs.declared.directory.Directory.the-variants.{Good}
 
-pub end-within : (last : Bool) (end size : ℕ) → endFits last end size ≡ true → end ≤ size
-unfolding endFits
-end-within true end size e = let q = eqb-true end size e in omega arith
-end-within false end size e = leb-true end size e
-
 -- the end of pair i suits the block
 abbrev pub ends : List ℕ → ℕ → Bool
-ends b i = endFits (eqb (i + 1) (countOf b)) (endOf b i) (length b)
+ends b i = endFits (eqb (i + 1) (recordsIn b)) (endOf b i) (length b)
 
 pub pair-off-due : (b : List ℕ) (i : ℕ) → (offsetOf b i ≡ dueOf b i → ⊥) → OffChain ≡ pairOf b i
 unfolding pairOf chained both pick
@@ -40,13 +37,8 @@ pair-chained b i h e = rw (eq-eqb (offsetOf b i) (dueOf b i) h, e)
 pub record Within (b : List ℕ) (i : ℕ) : Type 0 where
   pub place : offsetOf b i ≡ dueOf b i
   pub inside : endOf b i ≤ length b
-  pub last : i + 1 ≡ countOf b → endOf b i ≡ length b
+  pub last : i + 1 ≡ recordsIn b → endOf b i ≡ length b
   pub sizes : sized (recordOf b i) ≡ true
-
-end-at : (last : Bool) (end size : ℕ) → endFits last end size ≡ true → last ≡ true → end ≡ size
-unfolding endFits
-end-at true end size e l = eqb-true end size e
-end-at false end size e l = let z : false ≡ true = l in cc
 
 pub pair-fits : (b : List ℕ) (i : ℕ) → pairOf b i ≡ Fits → Within b i
 unfolding pairOf chained
@@ -57,7 +49,7 @@ pair-fits b i e =
     record {
       place = eqb-true _ _ (both-left _ _ (f .0));
       inside = end-within _ _ _ t;
-      last = λ l. end-at _ _ _ t (eq-eqb (i + 1) (countOf b) l);
+      last = λ l. end-at _ _ _ t (eq-eqb (i + 1) (recordsIn b) l);
       sizes = s .0;
     }
 
@@ -65,9 +57,9 @@ pair-fits b i e =
 pub record Sizes (b : List ℕ) : Type 0 where
   pub some : 2 ≤ length b
   pub most : length b ≤ mostOctets
-  pub few : countOf b ≤ mostRecords
-  pub pairs : 2 + 8 * countOf b ≤ length b
-  pub alone : countOf b ≡ 0 → length b ≡ 2
+  pub few : recordsIn b ≤ mostRecords
+  pub pairs : 2 + 8 * recordsIn b ≤ length b
+  pub alone : recordsIn b ≡ 0 → length b ≡ 2
 
 no-count : (n m : ℕ) → either (not (eqb n 0)) (eqb m 2) ≡ true → n ≡ 0 → m ≡ 2
 unfolding either
@@ -84,7 +76,7 @@ size-fits b e =
       most = leb-true _ _ (both-right _ _ l);
       few = leb-true _ _ (both-left _ _ r);
       pairs = leb-true _ _ (both-left _ _ q);
-      alone = no-count (countOf b) (length b) (both-right _ _ q);
+      alone = no-count (recordsIn b) (length b) (both-right _ _ q);
     }
 
 -- one turn of the loop over the pairs

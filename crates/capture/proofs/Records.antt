@@ -16,8 +16,8 @@ use Rattle.refusal.specs.declared.Refusal.{Refusal}
 use Rattle.refusal.specs.declared.Refusal.the-variants.{OutOfRange}
 use Rattle.refusal.specs.declared.Verdict.{Verdict}
 use Rattle.refusal.specs.declared.Verdict.the-variants.{Accepted, Refused}
-use Rattle.capture.specs.Record.{payloadOf, sized}
-use Rattle.capture.specs.Directory.{countOf, offsetOf, lengthOf, endOf, dueOf, recordOf, pairOf, sizeFits, withPair, pairsFrom, directoryOf}
+use Rattle.records.specs.Record.{payloadOf, sized}
+use Rattle.capture.specs.Directory.{recordsIn, offsetOf, lengthOf, endOf, dueOf, recordOf, pairOf, sizeFits, withPair, pairsFrom, directoryOf}
 use Rattle.capture.specs.Duties.{Placed}
 use Rattle.capture.specs.Payload.{recordAsked, payloadVerdict, boundsOf, boundsAfter, payloadBounds, unlessRefused, payloadPart}
 use Rattle.capture.specs.declared.directory.Pair.{Pair}
@@ -25,12 +25,12 @@ use Rattle.capture.specs.declared.directory.Pair.the-variants.{Fits, Off
 use Rattle.capture.specs.declared.directory.Directory.{Directory}
 use Rattle.capture.specs.declared.directory.Directory.the-variants.{Good, BadSize, BadChain, BadLength}
 use Rattle.capture.specs.declared.payload.Bounds.{Bounds}
-use Rattle.capture.specs.declared.payload.Bounds.the-variants.{Within, Absent}
+use Rattle.capture.specs.declared.payload.Bounds.the-variants.{Within}
 use Rattle.capture.proofs.Pairs.{Sizes, size-fits, pair-fits}
 
 -- what a good directory of n records says of its block
 pub record Records (b : List ℕ) (n : ℕ) : Type 0 where
-  pub count : n ≡ countOf b
+  pub count : n ≡ recordsIn b
   pub right : sizeFits b ≡ true
   pub sizes : Sizes b
   pub fit : (i : ℕ) → i < n → pairOf b i ≡ Fits
@@ -59,9 +59,9 @@ good-pairs b i (suc m) n e =
 pub good : (b : List ℕ) (n : ℕ) → directoryOf b ≡ Good n → Records b n
 unfolding directoryOf
 good b n e =
-    let s = pick-first (sizeFits b) (pairsFrom b 0 (countOf b)) BadSize (Good n) (λ z. cc) e in
-    let p = good-pairs b 0 (countOf b) n (s .1) in
-    record { count = p .0 ∙ zero-add (countOf b); right = s .0; sizes = size-fits b (s .0); fit = λ i h. p .1 i (omega arith) (omega (arith, p .0)) }
+    let s = pick-first (sizeFits b) (pairsFrom b 0 (recordsIn b)) BadSize (Good n) (λ z. cc) e in
+    let p = good-pairs b 0 (recordsIn b) n (s .1) in
+    record { count = p .0 ∙ zero-add (recordsIn b); right = s .0; sizes = size-fits b (s .0); fit = λ i h. p .1 i (omega arith) (omega (arith, p .0)) }
 
 -- where record i stands, and what its length is
 pub placed : (b : List ℕ) (n i : ℕ) → Records b n → i < n → Placed b i
@@ -118,14 +118,14 @@ bounded b k from n e =
     let q = bounded-by b k from n (payloadVerdict b k) refl e in
     record { inside = q .0; octets = q .1 }
 
-absent-by : (b : List ℕ) (i : ℕ) (l : List ℕ) (r : Refusal) (v : Verdict) → boundsAfter v (boundsOf b i) ≡ Absent r → unlessRefused v l ≡ []
+refused-part-by : (b : List ℕ) (i : ℕ) (l : List ℕ) (r : Refusal) (v : Verdict) → boundsAfter v (boundsOf b i) ≡ Bounds.Refused r → unlessRefused v l ≡ []
 unfolding boundsOf
-absent-by b i l r Accepted e = let z : _≡_ {A = ℕ} 0 1 = cc in absurd (omega arith)
-absent-by b i l r (Refused s) e = refl
+refused-part-by b i l r Accepted e = let z : _≡_ {A = ℕ} 0 1 = cc in absurd (omega arith)
+refused-part-by b i l r (Refused s) e = refl
 
-pub absent : (b : List ℕ) (k : ℕ) (r : Refusal) → payloadBounds b k ≡ Absent r → payloadPart b k ≡ []
+pub refused-part : (b : List ℕ) (k : ℕ) (r : Refusal) → payloadBounds b k ≡ Bounds.Refused r → payloadPart b k ≡ []
 unfolding payloadBounds payloadPart
-absent b k r e = absent-by b (k - 1) _ r (payloadVerdict b k) e
+refused-part b k r e = refused-part-by b (k - 1) _ r (payloadVerdict b k) e
 
 -- the records end where the block does
 pub records-end : (b : List ℕ) (n : ℕ) → Records b n → dueOf b n ≡ length b

@@ -2,7 +2,7 @@
 use mathlib.Core.Path.{_≡_, refl, sym, ap, _∙_}
 use mathlib.Core.Bool.{true}
 use mathlib.Core.List.{List, _++_, append-assoc}
-use Prim.Native.Nat.{ℕ, zero, suc, _+_, _-_, _*_, _/_, _≤_, _<_}
+use Prim.Native.Nat.{ℕ, zero, suc, _+_, _-_, _*_, _≤_, _<_}
 use native.Mathlib.Nat.{add-zero, zero-add, add-suc, suc-add}
 use native.Mathlib.Numerals.{add-one}
 use native.Mathlib.Omega.{arith}
@@ -19,21 +19,21 @@ use Rattle.octets.proofs.Lists.{sum-ext}
 use Rattle.refusal.specs.declared.Verdict.the-variants.{Accepted}
 use Rattle.sealing.specs.KeyExpansion.{keyExpansion}
 use Rattle.sealing.specs.Payload.{sealed}
-use Rattle.capture.specs.declared.header.Header.{Header}
-use Rattle.capture.specs.declared.header.RecordVerdict.{RecordVerdict}
-use Rattle.capture.specs.declared.header.RecordVerdict.the-variants.{Clear, Sealed}
+use Rattle.records.specs.declared.header.Header.{Header}
+use Rattle.records.specs.declared.header.RecordVerdict.{RecordVerdict}
+use Rattle.records.specs.declared.header.RecordVerdict.the-variants.{Clear, Sealed}
 use Rattle.capture.specs.declared.directory.Pair.the-variants.{Fits}
 use Rattle.capture.specs.declared.directory.Directory.the-variants.{Good}
 use Rattle.capture.specs.declared.opening.OpenAnswer.the-variants.{Done}
-use Rattle.capture.specs.Settings.{keyOf, presenceOf, llidOf, settingsVerdict}
-use Rattle.capture.specs.Record.{headerOf, payloadOf, sized}
-use Rattle.capture.specs.Directory.{countOf, offsetOf, lengthOf, endOf, dueOf, recordOf, chained, pairOf, sizeFits, withPair, pairsFrom, directoryOf}
-use Rattle.capture.specs.Verdict.{flagsFit, headerFits, epamCheck, recordVerdict}
+use Rattle.records.specs.Settings.{keyOf, presenceOf, llidOf, settingsVerdict}
+use Rattle.records.specs.Record.{headerOf, payloadOf, sized}
+use Rattle.capture.specs.Directory.{recordsIn, offsetOf, lengthOf, endOf, dueOf, recordOf, chained, pairOf, sizeFits, withPair, pairsFrom, directoryOf}
+use Rattle.records.specs.Verdict.{flagsFit, clearedFlags, headerFits, epamCheck, recordVerdict}
 use Rattle.capture.specs.Opening.{verdictOf, nonceOf, cleared, writtenAs, openedRecord, recordCount, openedFrom, openedBlock, blockCount, openVerdict, opening, outcome}
 use Rattle.capture.specs.Claims.{Opened}
 use Rattle.capture.proofs.Pairs.{pair-fits, due-next}
 use Rattle.capture.proofs.Records.{Records, good, placed, records-end}
-use Rattle.capture.proofs.Verdicts.{Openable, openable, own-llid, is-clear}
+use Rattle.records.proofs.Verdicts.{Openable, openable, own-llid, is-clear}
 use Rattle.capture.proofs.Openings.{upTo, none-opened, up-to-next, opened-length, clear-record, refused-record, callable, opening-done}
 
 -- ---- each record in its place
@@ -74,8 +74,8 @@ module _ (s b : List ℕ) (n : ℕ) (r : Records b n) where
   same-number : (k at : ℕ) → at + k ≤ 2 + 8 * n → numberAt k (openedBlock s b) at ≡ numberAt k b at
   same-number k at h = number-same k (openedBlock s b) b at at (λ j l. same-octet (at + j) (omega arith))
 
-  same-count : countOf (openedBlock s b) ≡ countOf b
-  unfolding countOf
+  same-count : recordsIn (openedBlock s b) ≡ recordsIn b
+  unfolding recordsIn
   same-count = same-number 2 0 (omega arith)
 
   module _ (i : ℕ) (h : i < n) where
@@ -137,12 +137,12 @@ cleared-fits : (h : Header) → headerFits h ≡ true → headerFits (withFlags 
 unfolding headerFits withFlags
 cleared-fits h f = both-true (both-left _ _ f) (both-true (both-left _ _ (both-right _ _ f)) none-set)
 
-no-flags : (h : Header) → headerFits h ≡ true → h .flags / 4 * 4 ≡ 0
+no-flags : (h : Header) → headerFits h ≡ true → clearedFlags (h .flags) ≡ 0
 unfolding headerFits
 no-flags h f = omega (arith, ltb-true (h .flags) 4 (both-left _ _ (both-right _ _ (both-right _ _ f))))
 
 now-clear : (presence llid : ℕ) (h : Header) (i t : ℕ) → Openable presence llid h i t
-    → recordVerdict presence llid (withFlags h (h .flags / 4 * 4)) ≡ Clear
+    → recordVerdict presence llid (withFlags h (clearedFlags (h .flags))) ≡ Clear
 unfolding withFlags epamCheck
 now-clear presence llid h i t o =
     rw (no-flags h (o .fits))
@@ -162,7 +162,7 @@ opened-once s r i t h e =
     let ys = sealed (keyExpansion (keyOf s i)) (nonceOf s (headerOf r) t) (payloadOf r) in
     let w : openedRecord s r ≡ take 16 (cleared r) ++ ys = is-written s r i t e in
     let clear : verdictOf s (take 16 (cleared r) ++ ys) ≡ Clear =
-    ap (recordVerdict (presenceOf s) (llidOf s)) (flags-only r ys (headerOf r .flags / 4 * 4) h)
+    ap (recordVerdict (presenceOf s) (llidOf s)) (flags-only r ys (clearedFlags (headerOf r .flags)) h)
     ∙ now-clear (presenceOf s) (llidOf s) (headerOf r) i t (openable (presenceOf s) (llidOf s) (headerOf r) i t e) in
     let k = clear-record s (take 16 (cleared r) ++ ys) clear in
     (rw w (k .0), rw w (k .1))
@@ -199,7 +199,7 @@ no-sum : (i n : ℕ) → sum i n (λ (j : ℕ). 0) ≡ 0
 no-sum i zero = refl
 no-sum i (suc n) = rw zero-add (no-sum (suc i) n)
 
-made : (s b : List ℕ) → openedBlock s b ≡ take (2 + 8 * countOf b) b ++ openedFrom s b 0 (countOf b)
+made : (s b : List ℕ) → openedBlock s b ≡ take (2 + 8 * recordsIn b) b ++ openedFrom s b 0 (recordsIn b)
 unfolding openedBlock
 made s b = refl
 
@@ -260,15 +260,15 @@ accepts-again s b m n t e d = pick-true _ _ (eq-eqb _ _ e) ∙ rw (t, d)
 pub opened : (s b : List ℕ) (size : ℕ) → openVerdict s b size ≡ Accepted → Opened s b
 opened s b size v =
     let c = callable s b size v in
-    let r = good b (countOf b) (c .good) in
+    let r = good b (recordsIn b) (c .good) in
     record {
-      directory = same-directory s b (countOf b) r;
-      own = λ i h. own-record s b (countOf b) r i h;
+      directory = same-directory s b (recordsIn b) r;
+      own = λ i h. own-record s b (recordsIn b) r i h;
       again = λ out l. again out l (c .accepted) r;
     } where
-      again : (out : List ℕ) → length out ≡ length b → settingsVerdict s ≡ Accepted → Records b (countOf b)
+      again : (out : List ℕ) → length out ≡ length b → settingsVerdict s ≡ Accepted → Records b (recordsIn b)
           → opening s (openedBlock s b) out ≡ outcome (Done 0) (openedBlock s b)
       again out l t r =
-          let g = good-again s b (countOf b) r in
-          sym (opening-done s (openedBlock s b) out (accepts-again s (openedBlock s b) (length out) (countOf b) t (l ∙ sym (opened-octets s b (countOf b) r)) g))
-          ∙ rw (count-again s b (countOf b) r, block-again s b (countOf b) r)
+          let g = good-again s b (recordsIn b) r in
+          sym (opening-done s (openedBlock s b) out (accepts-again s (openedBlock s b) (length out) (recordsIn b) t (l ∙ sym (opened-octets s b (recordsIn b) r)) g))
+          ∙ rw (count-again s b (recordsIn b) r, block-again s b (recordsIn b) r)

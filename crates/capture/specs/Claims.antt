@@ -6,14 +6,14 @@ use lib.ListN.{length, take}
 use Rattle.octets.specs.Lists.{part}
 use Rattle.refusal.specs.declared.Verdict.the-variants.{Accepted}
 use Rattle.capture.specs.declared.opening.OpenAnswer.the-variants.{Done}
-use Rattle.capture.specs.Directory.{countOf, offsetOf, lengthOf, recordOf}
+use Rattle.capture.specs.Directory.{recordsIn, offsetOf, lengthOf, recordOf}
 use Rattle.capture.specs.Opening.{openedRecord, openedBlock, openVerdict, opening, outcome}
 
 pub record Opened (s b : List ℕ) : Type 0 where
   -- the directory stays
-  pub directory : take (2 + 8 * countOf b) (openedBlock s b) ≡ take (2 + 8 * countOf b) b
+  pub directory : take (2 + 8 * recordsIn b) (openedBlock s b) ≡ take (2 + 8 * recordsIn b) b
   -- what is written of a record depends on the settings and that record alone
-  pub own : (i : ℕ) → i < countOf b → part (openedBlock s b) (offsetOf b i) (lengthOf b i) ≡ openedRecord s (recordOf b i)
+  pub own : (i : ℕ) → i < recordsIn b → part (openedBlock s b) (offsetOf b i) (lengthOf b i) ≡ openedRecord s (recordOf b i)
   -- opened again, a block stays as it is, its opened records being clear
   pub again : (out : List ℕ) → length out ≡ length b → opening s (openedBlock s b) out ≡ outcome (Done 0) (openedBlock s b)
 

@@ -1,6 +1,6 @@
 -- The directory of a capture block b (01, Capture block). Pair i and record i have i others before them, so 01's pair
 -- k and record k are pair and record k - 1 here. Assumes nothing.
-use mathlib.Core.Bool.{Bool, true, false, not}
+use mathlib.Core.Bool.{Bool, not}
 use mathlib.Core.List.{List}
 use Prim.Native.Nat.{ℕ, zero, suc, _+_, _*_}
 use lib.Dec.{leb, eqb}
@@ -15,7 +15,8 @@ use Rattle.capture.specs.declared.directory.Pair.{Pair}
 use Rattle.capture.specs.declared.directory.Pair.the-variants.{Fits, OffChain, OffLength}
 use Rattle.capture.specs.declared.directory.Directory.{Directory}
 use Rattle.capture.specs.declared.directory.Directory.the-variants.{Good, BadSize, BadChain, BadLength}
-use Rattle.capture.specs.Record.{sized}
+use Rattle.records.specs.Record.{sized}
+use Rattle.records.specs.Place.{endFits}
 
 abbrev pub mostOctets : ℕ
 mostOctets = 65536
@@ -23,8 +24,8 @@ mostOctets = 65536
 abbrev pub mostRecords : ℕ
 mostRecords = 256
 
-unfoldable pub countOf : List ℕ → ℕ
-countOf b = numberAt 2 b 0
+unfoldable pub recordsIn : List ℕ → ℕ
+recordsIn b = numberAt 2 b 0
 
 unfoldable pub offsetOf : List ℕ → ℕ → ℕ
 offsetOf b i = numberAt 4 b (2 + 8 * i)
@@ -38,20 +39,15 @@ endOf b i = offsetOf b i + lengthOf b i
 
 -- where record i is to start: the first behind the directory, each next where the previous ends
 unfoldable pub dueOf : List ℕ → ℕ → ℕ
-dueOf b zero = 2 + 8 * countOf b
+dueOf b zero = 2 + 8 * recordsIn b
 dueOf b (suc i) = endOf b i
 
 unfoldable pub recordOf : List ℕ → ℕ → List ℕ
 recordOf b i = part b (offsetOf b i) (lengthOf b i)
 
--- a record ends within the block, the last at the block's end
-unfoldable pub endFits : Bool → ℕ → ℕ → Bool
-endFits true end size = eqb end size
-endFits false end size = leb end size
-
 -- pair i stands in the chain of offsets
 unfoldable pub chained : List ℕ → ℕ → Bool
-chained b i = both (eqb (offsetOf b i) (dueOf b i)) (endFits (eqb (i + 1) (countOf b)) (endOf b i) (length b))
+chained b i = both (eqb (offsetOf b i) (dueOf b i)) (endFits (eqb (i + 1) (recordsIn b)) (endOf b i) (length b))
 
 -- the chain first, then the length against the record's EQs
 unfoldable pub pairOf : List ℕ → ℕ → Pair
@@ -61,8 +57,8 @@ pairOf b i = pick (chained b i) (pick (sized (recordOf b i)) Fits OffLength) Off
 unfoldable pub sizeFits : List ℕ → Bool
 sizeFits b =
     both (both (leb 2 (length b)) (leb (length b) mostOctets))
-    (both (leb (countOf b) mostRecords)
-    (both (leb (2 + 8 * countOf b) (length b)) (either (not (eqb (countOf b) 0)) (eqb (length b) 2))))
+    (both (leb (recordsIn b) mostRecords)
+    (both (leb (2 + 8 * recordsIn b) (length b)) (either (not (eqb (recordsIn b) 0)) (eqb (length b) 2))))
 
 -- what the pair with this number, counted from 1, makes of the verdict on the pairs behind it
 unfoldable pub withPair : Pair → ℕ → Directory → Directory
@@ -76,7 +72,7 @@ pairsFrom b i zero = Good i
 pairsFrom b i (suc m) = withPair (pairOf b i) (suc i) (pairsFrom b (suc i) m)
 
 unfoldable pub directoryOf : List ℕ → Directory
-directoryOf b = pick (sizeFits b) (pairsFrom b 0 (countOf b)) BadSize
+directoryOf b = pick (sizeFits b) (pairsFrom b 0 (recordsIn b)) BadSize
 
 -- any break of the directory is refused alike
 abbrev pub verdictOn : Directory → Verdict

@@ -1,20 +1,19 @@
 -- What functions of this crate ask of each other: nothing here is part of a promise to a caller. Assumes nothing.
 use mathlib.Core.Path.{_≡_}
 use mathlib.Core.Bool.{true}
-use mathlib.Core.List.{List, _++_}
+use mathlib.Core.List.{List}
 use Prim.Native.Nat.{ℕ, _+_, _*_, _≤_, _<_}
-use lib.ListN.{length, take, drop}
+use lib.ListN.{length, drop}
 use Rattle.sealing.specs.KeyExpansion.{keyExpansion}
 use Rattle.capture.specs.declared.directory.Directory.the-variants.{Good}
-use Rattle.capture.specs.declared.listing.Line.{Line}
 use Rattle.capture.specs.declared.opening.Keys.{Keys}
-use Rattle.capture.specs.Settings.{settingsOctets, presenceOf, keyPresent, keyOf}
-use Rattle.capture.specs.Record.{headerOf, headerOctets, eqOctets}
-use Rattle.capture.specs.Directory.{mostOctets, countOf, offsetOf, lengthOf, dueOf, recordOf, directoryOf}
+use Rattle.records.specs.Settings.{settingsOctets, presenceOf, keyPresent, keyOf}
+use Rattle.records.specs.Record.{headerOf, headerOctets, eqOctets}
+use Rattle.capture.specs.Directory.{mostOctets, recordsIn, offsetOf, lengthOf, dueOf, recordOf, directoryOf}
 
 -- pair i is one of n, all of them in the block, and its record is due at `due`
 pub record Due (b : List ℕ) (n i due : ℕ) : Type 0 where
-  pub count : n ≡ countOf b
+  pub count : n ≡ recordsIn b
   pub inside : 2 + 8 * n ≤ length b
   pub before : i < n
   pub place : due ≡ dueOf b i
@@ -46,12 +45,3 @@ pub record Copied (s : List ℕ) (keys : Keys) (b out : List ℕ) (n : ℕ) : Ty
   pub expanded : Expanded s keys
   pub good : directoryOf b ≡ Good n
   pub copied : out ≡ b
-
--- what a line holds
-abbrev pub textOf : Line → List ℕ
-textOf l = take (l .used) (l .octets)
-
--- a line with a piece of text behind what it held
-pub record Grown (l m : Line) (piece : List ℕ) : Type 0 where
-  pub text : textOf m ≡ textOf l ++ piece
-  pub used : m .used ≡ l .used + length piece

@@ -1,5 +1,3 @@
-pub mod Settings
-pub mod Record
 pub mod Directory
 pub mod Payload
 pub mod Verdict

@@ -1,6 +1,6 @@
 -- Opening a capture block b under the settings s (01, Capture block). Assumes nothing.
 use mathlib.Core.List.{List, [], _++_}
-use Prim.Native.Nat.{ℕ, zero, suc, _+_, _*_, _/_}
+use Prim.Native.Nat.{ℕ, zero, suc, _+_, _*_}
 use lib.Dec.{eqb}
 use lib.ListN.{length, take, set}
 use Rattle.octets.specs.Choice.{pick}
@@ -13,15 +13,15 @@ use Rattle.sealing.specs.declared.envelope.Nonce.{Nonce}
 use Rattle.sealing.specs.KeyExpansion.{keyExpansion}
 use Rattle.sealing.specs.Payload.{sealed}
 use Rattle.sealing.specs.Payload.{countOf as countEnciphered}
-use Rattle.capture.specs.declared.header.Header.{Header}
-use Rattle.capture.specs.declared.header.RecordVerdict.{RecordVerdict}
-use Rattle.capture.specs.declared.header.RecordVerdict.the-variants.{Clear, Sealed}
+use Rattle.records.specs.declared.header.Header.{Header}
+use Rattle.records.specs.declared.header.RecordVerdict.{RecordVerdict}
+use Rattle.records.specs.declared.header.RecordVerdict.the-variants.{Clear, Sealed}
 use Rattle.capture.specs.declared.opening.OpenAnswer.{OpenAnswer}
 use Rattle.capture.specs.declared.opening.OpenAnswer.the-variants.{Done, Denied}
-use Rattle.capture.specs.Settings.{presenceOf, keyOf, macOf, llidOf, settingsVerdict}
-use Rattle.capture.specs.Record.{headerOctets, headerOf, payloadOf}
-use Rattle.capture.specs.Directory.{countOf, recordOf, verdictOn, directoryOf}
-use Rattle.capture.specs.Verdict.{recordVerdict}
+use Rattle.records.specs.Settings.{presenceOf, keyOf, macOf, llidOf, settingsVerdict}
+use Rattle.records.specs.Record.{headerOctets, headerOf, payloadOf}
+use Rattle.capture.specs.Directory.{recordsIn, recordOf, verdictOn, directoryOf}
+use Rattle.records.specs.Verdict.{clearedFlags, recordVerdict}
 
 -- the verdict on a record, whose own octets are r
 unfoldable pub verdictOf : List ℕ → List ℕ → RecordVerdict
@@ -33,7 +33,7 @@ nonceOf s h t = record { channel = h .channel; mac = macOf s; clock = t }
 
 -- an opened record has bits 0 and 1 of its flags, at place 4, cleared
 abbrev pub cleared : List ℕ → List ℕ
-cleared r = set r 4 (headerOf r .flags / 4 * 4)
+cleared r = set r 4 (clearedFlags (headerOf r .flags))
 
 -- a record as the verdict has it written: refused and clear ones are copied unchanged
 unfoldable pub writtenAs : List ℕ → List ℕ → RecordVerdict → List ℕ
@@ -59,11 +59,11 @@ openedFrom s b i (suc m) = openedRecord s (recordOf b i) ++ openedFrom s b (suc 
 
 -- the directory stays, and the records follow it
 unfoldable pub openedBlock : List ℕ → List ℕ → List ℕ
-openedBlock s b = take (2 + 8 * countOf b) b ++ openedFrom s b 0 (countOf b)
+openedBlock s b = take (2 + 8 * recordsIn b) b ++ openedFrom s b 0 (recordsIn b)
 
 -- the sum over the records
 unfoldable pub blockCount : List ℕ → List ℕ → ℕ
-blockCount s b = sum 0 (countOf b) (λ i. recordCount s (recordOf b i))
+blockCount s b = sum 0 (recordsIn b) (λ i. recordCount s (recordOf b i))
 
 abbrev pub andThen : Verdict → Verdict → Verdict
 andThen Accepted v = v

@@ -9,8 +9,8 @@ use Rattle.refusal.specs.declared.Verdict.the-variants.{Accepted, Refused}
 use Rattle.capture.specs.declared.directory.Directory.{Directory}
 use Rattle.capture.specs.declared.directory.Directory.the-variants.{Good, BadSize, BadChain, BadLength}
 use Rattle.capture.specs.declared.payload.Bounds.{Bounds}
-use Rattle.capture.specs.declared.payload.Bounds.the-variants.{Within, Absent}
-use Rattle.capture.specs.Record.{headerOctets, payloadOf}
+use Rattle.capture.specs.declared.payload.Bounds.the-variants.{Within}
+use Rattle.records.specs.Record.{headerOctets, payloadOf}
 use Rattle.capture.specs.Directory.{offsetOf, lengthOf, recordOf, verdictOn, directoryOf}
 
 -- 15, then 1 for k outside 1 to n
@@ -29,7 +29,7 @@ boundsOf b i = Within (offsetOf b i + headerOctets) (lengthOf b i - headerOctets
 
 abbrev pub boundsAfter : Verdict → Bounds → Bounds
 boundsAfter Accepted p = p
-boundsAfter (Refused r) p = Absent r
+boundsAfter (Refused r) p = Bounds.Refused r
 
 unfoldable pub payloadBounds : List ℕ → ℕ → Bounds
 payloadBounds b k = boundsAfter (payloadVerdict b k) (boundsOf b (k - 1))

@@ -2,12 +2,13 @@
 ghost use mathlib.Core.Path.{_≡_};
 ghost use Prim.Native.Nat.{_+_, _*_, _^_, _≤_, _<_};
 ghost use lib.ListN.{length};
-ghost use Rattle.capture.specs.Record.{sized};
-ghost use Rattle.capture.specs.Directory.{countOf, offsetOf, lengthOf, endFits, pairOf, sizeFits, directoryOf, verdictOn};
+ghost use Rattle.records.specs.Record.{sized};
+ghost use Rattle.capture.specs.Directory.{recordsIn, offsetOf, lengthOf, pairOf, sizeFits, directoryOf, verdictOn};
 ghost use Rattle.capture.specs.Duties.{Due};
 use crate::fields::number16;
 use crate::fields::number32;
-use crate::header::HEADER_OCTETS;
+use records::header::HEADER_OCTETS;
+use records::place::ends_right;
 use refusal::Refusal;
 use refusal::Verdict;
 
@@ -49,7 +50,7 @@ fn is_sized(r: &[u8]) -> bool
 // The count of records, in the first two octets.
 pub(crate) fn count(block: &[u8]) -> usize
     requires { ⌜ 2 ≤ length (now block) ⌝ }
-    ensures { λ r. ⌜ (r ≡ countOf (now (block .entry))) × (r < 65536) ⌝ }
+    ensures { λ r. ⌜ (r ≡ recordsIn (now (block .entry))) × (r < 65536) ⌝ }
 {
     number16(block, 0) as usize
 }
@@ -66,13 +67,6 @@ pub(crate) fn length_of(block: &[u8], i: usize) -> usize
     ensures { λ r. ⌜ (r ≡ lengthOf (now (block .entry)) i) × (r < 2 ^ 32) ⌝ }
 {
     number32(block, 2 + 8 * i + 4) as usize
-}
-
-// Whether a record may end at `to` in a block of `size` octets.
-fn ends_right(is_last: bool, to: usize, size: usize) -> bool
-    ensures { λ r. ⌜ r ≡ endFits «is_last» to size ⌝ }
-{
-    if is_last { to == size } else { to <= size }
 }
 
 // The verdict on pair i of n, whose record is due at `due`.

@@ -1,9 +1,9 @@
-// The capture reader (01, Capture block): the directory of a capture block, its records, and their payloads.
+// The capture reader (01, Capture block): the directory of a capture block, the payloads of its records, opening and listing it.
 pub mod directory;
 mod fields;
-pub mod header;
+mod header;
 pub mod listing;
 pub mod opening;
 pub mod payload;
-pub mod settings;
+mod settings;
 pub mod verdict;

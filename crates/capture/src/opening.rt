@@ -2,7 +2,7 @@
 ghost use mathlib.Core.Path.{_≡_};
 ghost use mathlib.Core.Bool.{true};
 ghost use mathlib.Core.List.{_++_};
-ghost use Prim.Native.Nat.{_+_, _-_, _*_, _%_, _≤_, _<_};
+ghost use Prim.Native.Nat.{_+_, _-_, _%_, _≤_, _<_};
 ghost use lib.ListN.{length, take, drop};
 ghost use lib.Dec.{eqb};
 ghost use Rattle.octets.specs.Choice.{pick};
@@ -11,7 +11,7 @@ ghost use Rattle.sealing.specs.Payload.{sealed};
 ghost use Rattle.sealing.specs.Payload.{countOf as countEnciphered};
 ghost use Rattle.sealing.specs.Seal.{nonceFits};
 ghost use Rattle.sealing.specs.KeyExpansion.{keyExpansion};
-ghost use Rattle.capture.specs.Settings.{presenceOf, keyPresent, keyOf};
+ghost use Rattle.records.specs.Settings.{presenceOf, keyPresent, keyOf};
 ghost use Rattle.capture.specs.Directory.{offsetOf, endOf, recordOf};
 ghost use Rattle.capture.specs.Opening.{openedRecord, recordCount, openedBlock, blockCount, openVerdict, opening, outcome, openNumber, openCount};
 ghost use Rattle.capture.specs.Claims.{OpenedIfAccepted};
@@ -22,14 +22,15 @@ use crate::directory::length_of;
 use crate::directory::offset;
 use crate::directory::verdict;
 use crate::header::FLAGS;
-use crate::header::HEADER_OCTETS;
-use crate::header::RecordVerdict;
-use crate::header::judge;
 use crate::header::read;
 use crate::settings::key;
 use crate::settings::llid;
 use crate::settings::mac;
 use crate::settings::presence;
+use records::header::HEADER_OCTETS;
+use records::header::RecordVerdict;
+use records::header::cleared;
+use records::header::judge;
 use refusal::Refusal;
 use refusal::Verdict;
 use sealing::aes128::RoundKeys;
@@ -98,7 +99,7 @@ fn open_record(settings: &[u8], keys: Keys, block: &[u8], output: &mut [u8], i: 
                 mac: mac(settings),
                 clock,
             };
-            output[from + FLAGS] = h.flags / 4 * 4;
+            output[from + FLAGS] = cleared(h.flags);
             let start = from + HEADER_OCTETS;
             open_part(key_for(keys, index), nonce, block, output, start, to)
         }
@@ -156,7 +157,7 @@ pub(crate) fn judge_call(settings: &[u8], block: &[u8], size: usize) -> Verdict
     if size != block.len() {
         return Verdict::Refused(Refusal::BadLength);
     }
-    match crate::settings::verdict(settings) {
+    match records::settings::verdict(settings) {
         Verdict::Refused(refusal) => Verdict::Refused(refusal),
         Verdict::Accepted => verdict(check(block)),
     }

@@ -5,7 +5,7 @@ use crate::directory::Directory;
 use crate::directory::check;
 use crate::directory::length_of;
 use crate::directory::offset;
-use crate::header::HEADER_OCTETS;
+use records::header::HEADER_OCTETS;
 use refusal::Refusal;
 use refusal::Verdict;
 
@@ -13,7 +13,7 @@ use refusal::Verdict;
 pub enum Bounds {
     // from this offset on, for so many octets
     Within(usize, usize),
-    Absent(Refusal),
+    Refused(Refusal),
 }
 
 // Whether a directory has a record with number k.
@@ -53,7 +53,7 @@ pub fn locate(block: &[u8], k: usize) -> Bounds
             let octets = length_of(block, i) - HEADER_OCTETS;
             Bounds::Within(from, octets)
         }
-        Verdict::Refused(refusal) => Bounds::Absent(refusal),
+        Verdict::Refused(refusal) => Bounds::Refused(refusal),
     }
 }
 
@@ -66,6 +66,6 @@ pub fn part(block: &[u8], k: usize) -> &[u8]
             let to = from + octets;
             &block[from..to]
         }
-        Bounds::Absent(_) => &block[0..0],
+        Bounds::Refused(_) => &block[0..0],
     }
 }

@@ -2,26 +2,9 @@
 ghost use mathlib.Core.Path.{_≡_};
 ghost use Prim.Native.Nat.{_+_, _^_, _<_};
 ghost use lib.ListN.{length};
-ghost use Rattle.capture.specs.Settings.{presenceOf, keyOf, macOf, llidOf, settingsVerdict};
+ghost use Rattle.records.specs.Settings.{presenceOf, keyOf, macOf, llidOf};
 use crate::fields::number16;
 use crate::fields::number48;
-use refusal::Refusal;
-use refusal::Verdict;
-
-pub const SETTINGS_OCTETS: usize = 41;
-
-// Whether settings are of their length, and no presence bit but those of the two keys is set.
-pub fn verdict(s: &[u8]) -> Verdict
-    ensures { λ r. ⌜ r ≡ settingsVerdict (now (s .entry)) ⌝ }
-{
-    if s.len() != SETTINGS_OCTETS {
-        return Verdict::Refused(Refusal::BadLength);
-    }
-    if 4 <= s[0] {
-        return Verdict::Refused(Refusal::OutOfRange);
-    }
-    Verdict::Accepted
-}
 
 pub(crate) fn presence(s: &[u8]) -> u8
     requires { ⌜ length (now s) ≡ 41 ⌝ }

@@ -1,15 +1,15 @@
 // The verdict on a record that is asked for by its number, from 1.
 ghost use mathlib.Core.Path.{_≡_};
-ghost use Rattle.capture.specs.Record.{headerOf};
+ghost use Rattle.records.specs.Record.{headerOf};
 ghost use Rattle.capture.specs.Directory.{recordOf};
 ghost use Rattle.capture.specs.Verdict.{verdictAsked};
 ghost use Rattle.capture.specs.Duties.{Placed};
 use crate::directory::length_of;
 use crate::directory::offset;
-use crate::header::Header;
-use crate::header::RecordVerdict;
-use crate::header::judge;
 use crate::header::read;
+use records::header::Header;
+use records::header::RecordVerdict;
+use records::header::judge;
 use refusal::Verdict;
 
 // The header of record i, which has i others before it.
@@ -26,7 +26,7 @@ pub(crate) fn header_of(block: &[u8], i: usize) -> Header
 pub fn ask(settings: &[u8], block: &[u8], k: usize) -> RecordVerdict
     ensures { λ r. ⌜ r ≡ verdictAsked (now (settings .entry)) (now (block .entry)) k ⌝ }
 {
-    if let Verdict::Refused(refusal) = crate::settings::verdict(settings) {
+    if let Verdict::Refused(refusal) = records::settings::verdict(settings) {
         return RecordVerdict::Refused(refusal);
     }
     match crate::payload::verdict(block, k) {

@@ -2,12 +2,12 @@
 use Rattle.refusal.specs.Number.{numberOf, verdictNumber}
 use Rattle.capture.specs.declared.directory.Directory.{Directory}
 use Rattle.capture.specs.declared.directory.Directory.the-variants.{Good, BadSize, BadChain, BadLength}
-use Rattle.capture.specs.declared.header.RecordVerdict.{RecordVerdict}
-use Rattle.capture.specs.declared.header.RecordVerdict.the-variants.{Clear, Sealed, Refused}
+use Rattle.records.specs.declared.header.RecordVerdict.{RecordVerdict}
+use Rattle.records.specs.declared.header.RecordVerdict.the-variants.{Clear, Sealed, Refused}
 use Rattle.capture.specs.declared.payload.Bounds.{Bounds}
-use Rattle.capture.specs.declared.payload.Bounds.the-variants.{Within, Absent}
+use Rattle.capture.specs.declared.payload.Bounds.the-variants.{Within}
 use Rattle.capture.specs.Directory.{verdictOn}
-use Rattle.capture.specs.Verdict.{recordNumber}
+use Rattle.records.specs.Verdict.{recordNumber}
 use Rattle.capture.specs.Opening.{Opening, openNumber, openCount}
 use Rattle.traffic.specs.Passages.{Exchange, exchange}
 use Rattle.jazmotip.specs.declared.payloads.PayloadAnswer.{PayloadAnswer}
@@ -30,7 +30,7 @@ blockVerdict (Refused r) = record { number = recordNumber (Refused r); encenable
 
 abbrev pub blockPart : Bounds → BlockPart
 blockPart (Within from n) = record { number = 0; offset = from; length = n }
-blockPart (Absent r) = record { number = numberOf r; offset = 0; length = 0 }
+blockPart (Bounds.Refused r) = record { number = numberOf r; offset = 0; length = 0 }
 
 abbrev pub openedInNumbers : Opening → Exchange PayloadAnswer
 openedInNumbers o = exchange (record { number = openNumber (o .answer); count = openCount (o .answer) }) (o .output)

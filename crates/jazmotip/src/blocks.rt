@@ -16,7 +16,6 @@ use super::payloads::PayloadAnswer;
 use capture::directory::Directory;
 use capture::directory::check;
 use capture::directory::verdict;
-use capture::header::RecordVerdict;
 use capture::listing::LISTING_OCTETS;
 use capture::listing::list;
 use capture::opening::octets_opened;
@@ -24,6 +23,7 @@ use capture::opening::open;
 use capture::payload::Bounds;
 use capture::payload::locate;
 use capture::verdict::ask;
+use records::header::RecordVerdict;
 use refusal::verdict_number;
 
 // What is wrong with a directory.
@@ -97,7 +97,7 @@ fn directory_in_numbers(directory: Directory) -> BlockDirectory
 fn verdict_in_numbers(verdict: RecordVerdict) -> BlockVerdict
     ensures { λ r. ⌜ r ≡ blockVerdict verdict ⌝ }
 {
-    let number = capture::header::number(verdict);
+    let number = records::header::number(verdict);
     match verdict {
         RecordVerdict::Clear => BlockVerdict {
             number,
@@ -129,7 +129,7 @@ fn part_in_numbers(bounds: Bounds) -> BlockPart
             offset: from,
             length: octets,
         },
-        Bounds::Absent(refusal) => BlockPart {
+        Bounds::Refused(refusal) => BlockPart {
             number: refusal::number(refusal),
             offset: 0,
             length: 0,

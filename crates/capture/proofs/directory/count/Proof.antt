@@ -1,7 +1,7 @@
 -- `capture::directory::count` meets its contract: the count is the number in the first two octets.
 -- Assumes nothing.
 use borrow.Author.Needs.{needs}
-use Rattle.capture.specs.Directory.{countOf}
+use Rattle.capture.specs.Directory.{recordsIn}
 use Rattle.capture.proofs.directory.count.Statement.{statement}
 use Rattle.capture.proofs.directory.count.Tie as tie
 
@@ -9,7 +9,7 @@ number16-requires : tie.Need-number16-requires
 number16-requires c κs = search needs
 
 returns : tie.Need-returns
-unfolding countOf
+unfolding recordsIn
 returns c = c .number16 .ensures
 
 pub count-spec : {M : Type 1} → statement M

@@ -3,7 +3,7 @@
 use borrow.Author.Needs.{needs}
 use borrow.Author.Tests.{lt-leb, le-leb}
 use Rattle.octets.specs.Choice.{both}
-use Rattle.capture.specs.Record.{sized, headerOf}
+use Rattle.records.specs.Record.{sized, headerOf}
 use Rattle.capture.proofs.directory.is_sized.Statement.{statement}
 use Rattle.capture.proofs.directory.is_sized.Tie as tie
 

@@ -8,9 +8,10 @@ use borrow.Author.Tests.{not-true, not-false}
 use denote.Ref.{now}
 use Rattle.octets.specs.Choice.{pick}
 use Rattle.capture.specs.declared.directory.Pair.the-variants.{Fits, OffLength}
-use Rattle.capture.specs.Record.{sized}
+use Rattle.records.specs.Record.{sized}
+use Rattle.records.proofs.Places.{end-within}
 use Rattle.capture.specs.Directory.{endOf, offsetOf, dueOf, recordOf, pairOf}
-use Rattle.capture.proofs.Pairs.{ends, end-within, pair-off-due, pair-off-end, pair-chained}
+use Rattle.capture.proofs.Pairs.{ends, pair-off-due, pair-off-end, pair-chained}
 use Rattle.capture.proofs.directory.judge.Statement.{statement}
 use Rattle.capture.proofs.directory.judge.Tie as tie
 

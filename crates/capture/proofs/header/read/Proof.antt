@@ -1,7 +1,7 @@
 -- `capture::header::read` meets its contract: each field is read at its place.
 -- Assumes nothing.
 use borrow.Author.Needs.{needs}
-use Rattle.capture.specs.Record.{headerOf}
+use Rattle.records.specs.Record.{headerOf}
 use Rattle.capture.proofs.header.read.Statement.{statement}
 use Rattle.capture.proofs.header.read.Tie as tie
 

@@ -2,7 +2,7 @@
 -- Assumes nothing.
 use mathlib.Core.Path.{sym, ap, _∙_}
 use mathlib.Core.List.{List, _++_}
-use Prim.Native.Nat.{ℕ, _+_}
+use Prim.Native.Nat.{ℕ}
 use native.Mathlib.Omega.{arith}
 use lib.ListN.{length, take}
 use denote.Ref.{now}
@@ -10,7 +10,6 @@ use Rattle.capture.specs.declared.directory.Directory.the-variants.{Good
 use Rattle.capture.specs.Listing.{bodyOf}
 use Rattle.capture.proofs.Records.{good}
 use Rattle.capture.proofs.Openings.{Callable, callable}
-use Rattle.capture.proofs.Lines.{both-grown, refused-few}
 use borrow.Author.Needs.{needs}
 use Rattle.capture.proofs.listing.put_body.Statement.{statement}
 use Rattle.capture.proofs.listing.put_body.Tie as tie
@@ -21,14 +20,11 @@ judge-call-requires c κs = search needs
 enum-known-refusal : tie.Need-enum-known-refusal
 enum-known-refusal c = search needs
 
-refused-requires : tie.Need-refused-requires
-refused-requires c κs = search needs
-
-push-requires : tie.Need-push-requires
-push-requires c κs = omega (arith, c .refused .ensures .used, refused-few (c .before .before .before .refusal .given .0 .0))
+refused-row-requires : tie.Need-refused-row-requires
+refused-row-requires c κs = search needs
 
 put-line-requires : tie.Need-put-line-requires
-put-line-requires c κs = (omega (arith, c .push .ensures .used, c .before .refused .ensures .used, refused-few (c .before .before .before .before .refusal .given .0 .0)), omega arith)
+put-line-requires c κs = search needs
 
 enum-told : tie.Need-enum-told
 enum-told c = search needs
@@ -51,10 +47,10 @@ same-length c = search needs
 returns : tie.Need-returns
 unfolding bodyOf
 returns c =
-    let g = c .before .before .before .before .before .before .before .before .before .before .before .before .before in
-    let e = sym (c .before .before .before .before .before .before .before .before .before .judge-call .ensures) ∙ c .before .before .before .before .before .before .before .refusal .given .1 in (
+    let g = c .before .before .before .before .before .before .before .before .before .before .before .before in
+    let e = sym (c .before .before .before .before .before .before .before .before .judge-call .ensures) ∙ c .before .before .before .before .before .before .refusal .given .1 in (
       omega (arith, c .before .before .put-line .ensures .0),
-      c .before .before .put-line .ensures .1 ∙ rw e (ap (λ (t : List ℕ). take (g .args .at) (now (g .args .text)) ++ t) (both-grown (c .before .before .before .before .refused .ensures) (c .before .before .before .push .ensures) .text)),
+      c .before .before .put-line .ensures .1 ∙ rw e (ap (λ (t : List ℕ). take (g .args .at) (now (g .args .text)) ++ t) (c .before .before .before .refused-row .ensures .0)),
     )
 
 same-length-2 : tie.Need-same-length-2
@@ -72,8 +68,7 @@ put-body-spec =
     (tie.spec
     judge-call-requires
     enum-known-refusal
-    refused-requires
-    push-requires
+    refused-row-requires
     put-line-requires
     enum-told
     count-requires

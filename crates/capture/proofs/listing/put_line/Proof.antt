@@ -4,7 +4,7 @@ use mathlib.Core.Path.{_≡_, sym}
 use native.Mathlib.Omega.{arith}
 use lib.ListN.{length}
 use lib.Seq.{length-take-le}
-use Rattle.capture.specs.Duties.{textOf}
+use Rattle.rows.specs.Text.{textOf}
 use borrow.Author.Needs.{needs}
 use Rattle.capture.proofs.listing.put_line.Statement.{statement}
 use Rattle.capture.proofs.listing.put_line.Tie as tie

@@ -2,11 +2,9 @@
 -- Assumes nothing.
 use mathlib.Core.Path.{ap, _∙_}
 use mathlib.Core.List.{List, _++_}
-use Prim.Native.Nat.{ℕ, _+_}
-use native.Mathlib.Omega.{arith}
+use Prim.Native.Nat.{ℕ}
 use lib.ListN.{take}
 use denote.Ref.{now}
-use Rattle.capture.specs.declared.header.Header.{Header}
 use Rattle.capture.specs.Opening.{verdictOf}
 use borrow.Author.Needs.{needs}
 use Rattle.capture.proofs.listing.put_row.Statement.{statement}
@@ -28,9 +26,7 @@ add-row : tie.Need-add-row
 add-row c = search needs
 
 row-requires : tie.Need-row-requires
-row-requires c κs =
-    let g = c .before .before .before .before .before .before .before .before in
-    (omega arith, omega (arith, ap (λ (h : Header). h .eqs) (c .before .before .before .before .header-of .ensures), g .pre .1 .0 .size, g .pre .1 .0 .inside))
+row-requires c κs = search needs
 
 put-line-requires : tie.Need-put-line-requires
 put-line-requires c κs = search needs

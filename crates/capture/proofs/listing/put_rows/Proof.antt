@@ -29,13 +29,8 @@ put-row-requires : tie.Need-put-row-requires Inv-loop μ-loop
 put-row-requires c κs =
     let g = c .before .before .before .before .before .before in
     let r = good _ _ (g .pre .1 .0) in
-    let v = c .before .before .loop .inv in (
-      (g .pre .0, r .sizes .most),
-      (
-        placed _ _ _ r (c .before .loop-test .taken),
-        (omega (arith, r .count, r .sizes .few), omega (arith, r .count, r .sizes .few, v .1, v .2)),
-      ),
-    )
+    let v = c .before .before .loop .inv in
+    (g .pre .0, (placed _ _ _ r (c .before .loop-test .taken), omega (arith, r .count, r .sizes .few, v .1, v .2)))
 
 add-i : tie.Need-add-i Inv-loop μ-loop
 add-i c = search needs

@@ -3,7 +3,7 @@
 use mathlib.Core.Path.{_∙_}
 use borrow.Author.Needs.{needs}
 use borrow.Author.Tests.{eqb-true}
-use Rattle.capture.specs.Settings.{keyPresent}
+use Rattle.records.specs.Settings.{keyPresent}
 use Rattle.capture.proofs.opening.expand.Statement.{statement}
 use Rattle.capture.proofs.opening.expand.Tie as tie
 

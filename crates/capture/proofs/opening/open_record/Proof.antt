@@ -2,7 +2,6 @@
 -- definition, and the output is kept or opened in place accordingly.
 -- Assumes nothing.
 use mathlib.Core.Path.{_≡_, sym, ap, _∙_}
-use Prim.Native.Nat.{_-_}
 use native.Mathlib.Nat.{add-sub-cancel-left}
 use native.Mathlib.Omega.{arith}
 use borrow.Author.Needs.{needs}
@@ -10,14 +9,14 @@ use denote.Ref.{now}
 use lib.ListN.{length-set}
 use Rattle.octets.proofs.Bits.{bit-below}
 use Rattle.sealing.specs.declared.aes128.RoundKeys.{RoundKeys}
-use Rattle.capture.specs.declared.header.Header.{Header}
-use Rattle.capture.specs.declared.header.RecordVerdict.the-variants.{Sealed}
-use Rattle.capture.specs.Settings.{presenceOf, llidOf}
-use Rattle.capture.specs.Record.{headerOf}
+use Rattle.records.specs.declared.header.Header.{Header}
+use Rattle.records.specs.declared.header.RecordVerdict.the-variants.{Sealed}
+use Rattle.records.specs.Settings.{presenceOf, llidOf}
+use Rattle.records.specs.Record.{headerOf}
 use Rattle.capture.specs.Directory.{recordOf}
-use Rattle.capture.specs.Verdict.{encKey, headerFits}
+use Rattle.records.specs.Verdict.{encKey, headerFits}
 use Rattle.capture.specs.Opening.{verdictOf}
-use Rattle.capture.proofs.Verdicts.{Openable, openable}
+use Rattle.records.proofs.Verdicts.{Openable, openable}
 use Rattle.capture.proofs.Openings.{clear-record, refused-record, record-kept, opened-by, key-expanded, nonce-fits}
 use Rattle.capture.proofs.opening.open_record.Statement.{statement}
 use Rattle.capture.proofs.opening.open_record.Tie as tie
@@ -78,8 +77,8 @@ enum-known-index c = search needs
 mac-requires : tie.Need-mac-requires
 mac-requires c κs = search needs
 
-mul-output : tie.Need-mul-output
-mul-output c = search needs
+cleared-requires : tie.Need-cleared-requires
+cleared-requires c κs = search needs
 
 add-output : tie.Need-add-output
 add-output c = search needs
@@ -154,7 +153,7 @@ returns-3 c =
     let j = x .index .given .0 .0 in
     let k = key-expanded _ _ j (g .pre .expanded) (op .present) (omega (arith, op .index, bit-below (headerOf (recordOf (now (g .args .block)) (g .args .i)) .flags) 1)) in
     let r =
-    opened-by (now (g .args .settings)) (now (g .args .block)) (now (g .args .output)) (g .args .i) (g .pre .same) (g .pre .placed) j _ _ _ _ (d .read .result) _ (sealed-is x) (d .before .before .before .offset .ensures .0) (d .before .before .length-of .ensures .0) (header-is d) (c .before .before .before .before .before .before .mac .ensures .0) (ap (λ (w : RoundKeys). w .octets) (c .before .before .before .before .key-for .ensures) ∙ k) in
+    opened-by (now (g .args .settings)) (now (g .args .block)) (now (g .args .output)) (g .args .i) (g .pre .same) (g .pre .placed) j _ _ _ _ _ (d .read .result) _ (sealed-is x) (d .before .before .before .offset .ensures .0) (d .before .before .length-of .ensures .0) (header-is d) (c .before .before .before .before .before .cleared .ensures) (c .before .before .before .before .before .before .mac .ensures .0) (ap (λ (w : RoundKeys). w .octets) (c .before .before .before .before .key-for .ensures) ∙ k) in
     (q .open-part .ensures .0 ∙ r .0, q .open-part .ensures .1 ∙ r .1)
 
 pub open-record-spec : {M : Type 1} → statement M
@@ -175,7 +174,7 @@ open-record-spec =
     enum-told-2
     enum-known-index
     mac-requires
-    mul-output
+    cleared-requires
     add-output
     slice-write-output
     add-start

@@ -5,7 +5,7 @@ use Prim.Native.Nat.{_+_, _-_}
 use native.Mathlib.Omega.{arith}
 use borrow.Author.Needs.{needs}
 use denote.Ref.{now}
-use Rattle.capture.proofs.Records.{Bounded, bounded, absent}
+use Rattle.capture.proofs.Records.{Bounded, bounded, refused-part}
 use Rattle.capture.proofs.payload.part.Statement.{statement}
 use Rattle.capture.proofs.payload.part.Tie as tie
 
@@ -50,7 +50,7 @@ returns c =
     rw e (is-bounded (c .before .before) .octets)
 
 returns-2 : tie.Need-returns-2
-returns-2 c = sym (absent _ _ _ (sym (c .before .before .before .locate .ensures) ∙ c .before .enum-told .given .1))
+returns-2 c = sym (refused-part _ _ _ (sym (c .before .before .before .locate .ensures) ∙ c .before .enum-told .given .1))
 
 pub part-spec : {M : Type 1} → statement M
 part-spec =

@@ -9,7 +9,7 @@ use lib.Seq.{take-all}
 use denote.Ref.{now}
 use Rattle.octets.specs.Lists.{part}
 use Rattle.octets.proofs.Lists.{copy-more, part-length, part-at}
-use Rattle.capture.specs.Settings.{keyOf}
+use Rattle.records.specs.Settings.{keyOf}
 use Rattle.capture.proofs.settings.key.Statement.{statement}
 use Rattle.capture.proofs.settings.key.Tie as tie
 

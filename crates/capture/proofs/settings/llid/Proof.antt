@@ -1,7 +1,7 @@
 -- `capture::settings::llid` meets its contract: the LLID is the number at its place.
 -- Assumes nothing.
 use borrow.Author.Needs.{needs}
-use Rattle.capture.specs.Settings.{llidOf}
+use Rattle.records.specs.Settings.{llidOf}
 use Rattle.capture.proofs.settings.llid.Statement.{statement}
 use Rattle.capture.proofs.settings.llid.Tie as tie
 

@@ -1,7 +1,7 @@
 -- `capture::settings::mac` meets its contract: the MAC is the number at its place.
 -- Assumes nothing.
 use borrow.Author.Needs.{needs}
-use Rattle.capture.specs.Settings.{macOf}
+use Rattle.records.specs.Settings.{macOf}
 use Rattle.capture.proofs.settings.mac.Statement.{statement}
 use Rattle.capture.proofs.settings.mac.Tie as tie
 

@@ -2,7 +2,7 @@
 -- Assumes nothing.
 use mathlib.Core.Path.{refl}
 use borrow.Author.Needs.{needs}
-use Rattle.capture.specs.Settings.{presenceOf}
+use Rattle.records.specs.Settings.{presenceOf}
 use Rattle.capture.proofs.settings.presence.Statement.{statement}
 use Rattle.capture.proofs.settings.presence.Tie as tie
 

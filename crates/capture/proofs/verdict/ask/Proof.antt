@@ -1,14 +1,13 @@
 -- `capture::verdict::ask` meets its contract: each verdict on the way is a clause of `verdictAsked`.
 -- Assumes nothing.
 use mathlib.Core.Path.{_≡_, sym, _∙_}
-use Prim.Native.Nat.{_-_}
 use native.Mathlib.Omega.{arith}
 use lib.ListN.{length}
 use borrow.Author.Needs.{needs}
 use denote.Ref.{now}
 use Rattle.capture.specs.Verdict.{verdictAsked}
 use Rattle.capture.proofs.Records.{Asked, asked-for, placed}
-use Rattle.capture.proofs.Verdicts.{settings-octets}
+use Rattle.records.proofs.Verdicts.{settings-octets}
 use Rattle.capture.proofs.verdict.ask.Statement.{statement}
 use Rattle.capture.proofs.verdict.ask.Tie as tie
 

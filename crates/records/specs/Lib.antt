@@ -1,0 +1,4 @@
+pub mod Settings
+pub mod Record
+pub mod Place
+pub mod Verdict

@@ -1,0 +1,37 @@
+-- A record, whose own octets are r: its header, and what its length must be (01, Capture block: Record).
+-- Assumes nothing.
+use mathlib.Core.Bool.{Bool}
+use mathlib.Core.List.{List}
+use Prim.Native.Nat.{ℕ, _+_, _*_}
+use lib.Dec.{leb, eqb}
+use lib.ListN.{length, getD, drop}
+use Rattle.octets.specs.BigEndian.{numberAt}
+use Rattle.octets.specs.Choice.{both}
+use Rattle.records.specs.declared.header.Header.{Header}
+
+-- the octets ahead of the payload
+abbrev pub headerOctets : ℕ
+headerOctets = 16
+
+-- an EQ is a control octet and eight data octets
+abbrev pub eqOctets : ℕ
+eqOctets = 9
+
+unfoldable pub headerOf : List ℕ → Header
+headerOf r =
+    record {
+      kind = getD r 0 0;
+      channel = getD r 1 0;
+      llid = numberAt 2 r 2;
+      flags = getD r 4 0;
+      epam = getD r 5 0;
+      clock = numberAt 6 r 6;
+      eqs = numberAt 4 r 12;
+    }
+
+unfoldable pub payloadOf : List ℕ → List ℕ
+payloadOf r = drop headerOctets r
+
+-- the payload is of 9 × EQs, no more and no less
+unfoldable pub sized : List ℕ → Bool
+sized r = both (leb headerOctets (length r)) (eqb (length r) (headerOctets + eqOctets * headerOf r .eqs))

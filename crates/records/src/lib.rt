@@ -1,0 +1,4 @@
+// The records of a capture (01, Capture block), each by itself: the settings that judge it, its header, and its place.
+pub mod header;
+pub mod place;
+pub mod settings;

@@ -1,0 +1,20 @@
+// The verdict on the settings of the reader.
+ghost use mathlib.Core.Path.{_≡_};
+ghost use Rattle.records.specs.Settings.{settingsVerdict};
+use refusal::Refusal;
+use refusal::Verdict;
+
+pub const SETTINGS_OCTETS: usize = 41;
+
+// Whether settings are of their length, and no presence bit but those of the two keys is set.
+pub fn verdict(s: &[u8]) -> Verdict
+    ensures { λ r. ⌜ r ≡ settingsVerdict (now (s .entry)) ⌝ }
+{
+    if s.len() != SETTINGS_OCTETS {
+        return Verdict::Refused(Refusal::BadLength);
+    }
+    if 4 <= s[0] {
+        return Verdict::Refused(Refusal::OutOfRange);
+    }
+    Verdict::Accepted
+}

@@ -1,0 +1,39 @@
+-- `rows::refused` meets its contract: the word, then the number.
+-- Assumes nothing.
+use Rattle.rows.specs.Text.{refusedText}
+use Rattle.rows.proofs.Lines.{both-grown, grown-as}
+use borrow.Author.Needs.{needs}
+use Rattle.rows.proofs.refused.Statement.{statement}
+use Rattle.rows.proofs.refused.Tie as tie
+
+push4-requires : tie.Need-push4-requires
+push4-requires c κs = search needs
+
+push4-requires-2 : tie.Need-push4-requires-2
+push4-requires-2 c κs = search needs
+
+number-requires : tie.Need-number-requires
+number-requires c κs = search needs
+
+cast-decimal : tie.Need-cast-decimal
+cast-decimal c = search needs
+
+decimal-requires : tie.Need-decimal-requires
+decimal-requires c κs = search needs
+
+returns : tie.Need-returns
+unfolding refusedText
+returns c =
+    grown-as (both-grown (both-grown (c .before .before .before .push4 .ensures) (c .before .before .push42 .ensures)) (c .decimal .ensures))
+    (rw (c .before .number .ensures))
+
+pub refused-spec : {M : Type 1} → statement M
+refused-spec =
+    tie.close
+    (tie.spec
+    push4-requires
+    push4-requires-2
+    number-requires
+    cast-decimal
+    decimal-requires
+    returns)

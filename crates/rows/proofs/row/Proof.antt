@@ -1,0 +1,24 @@
+-- `rows::row` meets its contract: head and tail on an empty line.
+-- Assumes nothing.
+use native.Mathlib.Omega.{arith}
+use Rattle.rows.specs.Text.{rowOf}
+use Rattle.rows.proofs.Lines.{both-grown, head-few, tail-few}
+use borrow.Author.Needs.{needs}
+use Rattle.rows.proofs.row.Statement.{statement}
+use Rattle.rows.proofs.row.Tie as tie
+
+row-head-requires : tie.Need-row-head-requires
+row-head-requires c κs = search needs
+
+row-tail-requires : tie.Need-row-tail-requires
+row-tail-requires c κs = omega (arith, c .row-head .ensures .used, head-few (c .before .args .k) (c .before .args .h))
+
+returns : tie.Need-returns
+unfolding rowOf
+returns c =
+    let a = c .before .before .args in
+    let g = both-grown (c .before .row-head .ensures) (c .row-tail .ensures) in
+    (g .text, omega (arith, c .row-tail .ensures .used, c .before .row-head .ensures .used, head-few (a .k) (a .h), tail-few (a .h) (a .verdict)))
+
+pub row-spec : {M : Type 1} → statement M
+row-spec = tie.close (tie.spec row-head-requires row-tail-requires returns)

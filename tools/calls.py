@@ -1,12 +1,13 @@
 #!/usr/bin/env python3
-"""What the program `calls` must print: every exported call, played on the ends of tools/traffic.py and the reader of tools/capture_cases.py.
+"""What the program `calls` must print: every exported call, played on the ends of tools/traffic.py and the reader of tools/capture_blocks.py.
 
 usage: tools/calls.py > crates/calls/stdout
 Shares no code with the engine. What those two do not give, the faults of a directory and the refusals of a fresh end, is written here
 from document 01.
 """
-import capture_cases as reader
+import capture_blocks as reader
 import traffic
+from capture_blocks import CLEAR, ONE
 from traffic import LENT, LOCAL, PAYLOAD, TURN, MAC_ONE, OLT_MAC
 
 KEY = bytes.fromhex("2b7e151628aed2a6abf7158809cf4f3c")
@@ -122,9 +123,6 @@ def payloads():
 
 
 # ---- capture blocks
-
-CLEAR, ONE = reader.record(), reader.captured(reader.quanta(1))
-
 
 def directory(block):
     """The fault, 1 for the size, 2 for the chain, 3 for a length, and the first bad pair."""

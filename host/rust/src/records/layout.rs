@@ -1,0 +1,49 @@
+//! Every record is laid out as the archive has it.
+
+use super::*;
+use core::mem::{offset_of, size_of};
+
+/// Stops the build where a record's size, or a field's offset, is not the archive's, or a field is not named.
+macro_rules! layout {
+    ($record:ident, $size:literal, $($field:ident: $offset:literal),+) => {
+        const _: () = {
+            assert!(size_of::<$record>() == $size);
+            $(assert!(offset_of!($record, $field) == $offset);)+
+        };
+        const _: fn($record) = |$record { $($field: _),+ }| ();
+    };
+}
+
+layout!(Timer, 24, interval: 0, count: 8, flag: 16);
+layout!(Slots, 32, even: 0, odd: 16);
+layout!(FirstSend, 16, noted: 0, tick: 8);
+layout!(Channels, 16, zero: 0, one: 8);
+layout!(Identity, 24, mac: 0, llids: 8, count: 16);
+layout!(UnitKeys, 80, timer: 0, active: 24, offered: 28, slots: 32, first: 64);
+layout!(Confirmation, 8, confirmed: 0, acknowledged: 4);
+layout!(UnitClock, 32, trip: 0, captured: 8, tick: 16, sent: 24, acknowledged: 25);
+layout!(Unit, 144, identity: 0, keys: 24, confirmation: 104, clock: 112);
+layout!(Shared, 40, mac: 0, tick: 8, clock: 16, channels: 24);
+layout!(Olt, 2352, shared: 0, count: 40, units: 48);
+layout!(OnuKeys, 40, active: 0, held: 4, slots: 5);
+layout!(OnuClock, 24, synced: 0, time: 8, rx: 16);
+layout!(Onu, 136, identity: 0, oltmac: 24, tick: 32, clock: 40, keys: 64, first: 104, channels: 120);
+layout!(Stamps, 16, rx: 0, tx: 8);
+layout!(KeyMessage, 24, llid: 0, number: 4, key: 8);
+layout!(Acknowledgement, 8, kind: 0, number: 4);
+layout!(Header, 8, index: 0, llid: 2, encenabled: 4, enckey: 5, epam: 6);
+layout!(OltAnswer, 2360, number: 0, olt: 8);
+layout!(ClockSent, 2376, number: 0, olt: 8, message: 2360);
+layout!(KeySent, 2384, number: 0, olt: 8, message: 2360);
+layout!(OltSent, 2376, number: 0, olt: 8, header: 2360, count: 2368);
+layout!(OltReceived, 2368, number: 0, olt: 8, count: 2360);
+layout!(OnuAnswer, 144, number: 0, onu: 8);
+layout!(OnuAcknowledged, 152, number: 0, onu: 8, acknowledgement: 144);
+layout!(OnuSent, 160, number: 0, onu: 8, header: 144, count: 152);
+layout!(OnuReceived, 152, number: 0, onu: 8, count: 144);
+layout!(Nonce, 24, channel: 0, mac: 8, clock: 16);
+layout!(RoundKeys, 176, octets: 0);
+layout!(PayloadAnswer, 16, number: 0, count: 8);
+layout!(BlockDirectory, 24, number: 0, fault: 1, records: 8, pair: 16);
+layout!(BlockVerdict, 16, number: 0, encenabled: 1, enckey: 2, clock: 8);
+layout!(BlockPart, 24, number: 0, offset: 8, length: 16);

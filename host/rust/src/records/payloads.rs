@@ -1,0 +1,62 @@
+//! The records of the calls that take no end: sealing, and capture blocks.
+
+/// What tells one envelope's counter blocks from another's. Never use one twice under one key.
+#[repr(C)]
+#[derive(Clone, Copy, Debug, Default, PartialEq, Eq)]
+pub struct Nonce {
+    /// Channel index: 00, 01, 80 or 81 hex.
+    pub channel: u8,
+    /// The sender's, below 2^48.
+    pub mac: u64,
+    /// The sender's cipher clock at the header, below 2^48.
+    pub clock: u64,
+}
+
+/// The eleven round keys of AES-128, 16 octets each.
+#[repr(C)]
+#[derive(Clone, Copy, Debug, PartialEq, Eq)]
+pub struct RoundKeys {
+    pub octets: [u8; 176],
+}
+
+#[repr(C)]
+#[derive(Clone, Copy, Debug, Default, PartialEq, Eq)]
+pub struct PayloadAnswer {
+    pub number: u8,
+    /// Octets enciphered or deciphered.
+    pub count: u64,
+}
+
+/// What the directory of a capture block is found to be.
+#[repr(C)]
+#[derive(Clone, Copy, Debug, Default, PartialEq, Eq)]
+pub struct BlockDirectory {
+    /// 0 or 15.
+    pub number: u8,
+    /// 0 none; 1 sizes; 2 a pair off the chain of offsets; 3 a pair off its record's length.
+    pub fault: u8,
+    /// How many records, 0 if refused.
+    pub records: usize,
+    /// The first bad pair from 1, for faults 2 and 3; else 0.
+    pub pair: usize,
+}
+
+/// Whether opening opens a record.
+#[repr(C)]
+#[derive(Clone, Copy, Debug, Default, PartialEq, Eq)]
+pub struct BlockVerdict {
+    pub number: u8,
+    /// 1 where opening deciphers the record; then `enckey` and `clock` are what it uses, else 0.
+    pub encenabled: u8,
+    pub enckey: u8,
+    pub clock: u64,
+}
+
+/// Where the payload of a record lies in its block.
+#[repr(C)]
+#[derive(Clone, Copy, Debug, Default, PartialEq, Eq)]
+pub struct BlockPart {
+    pub number: u8,
+    pub offset: usize,
+    pub length: usize,
+}

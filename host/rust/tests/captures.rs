@@ -2,27 +2,8 @@
 
 use crate::random::{cases, Random};
 use crate::reference::capture::{self, Fault};
+use crate::tally::Tally;
 use jazmotip::{calls, BlockDirectory, BlockPart, BlockVerdict, PayloadAnswer, LISTING_OCTETS};
-use std::collections::BTreeMap;
-
-/// How often each number was answered, by call; for a record, by its verdict.
-#[derive(Default)]
-struct Seen {
-    numbers: BTreeMap<(&'static str, u8), u64>,
-    faults: [u64; 4],
-}
-
-impl Seen {
-    fn note(&mut self, call: &'static str, number: u8) {
-        *self.numbers.entry((call, number)).or_default() += 1;
-    }
-
-    #[track_caller]
-    fn at_least(&self, call: &'static str, number: u8, least: u64) {
-        let seen = self.numbers.get(&(call, number)).copied().unwrap_or(0);
-        assert!(seen >= least, "{call} gave {number} {seen} times, wanted {least}");
-    }
-}
 
 fn push(octets: &mut Vec<u8>, number: u64, width: usize) {
     octets.extend_from_slice(&number.to_be_bytes()[8 - width..]);
@@ -86,10 +67,10 @@ pub fn random_block(random: &mut Random, settings: &[u8], records: usize, most_e
     block(&records)
 }
 
-fn check_opening(random: &mut Random, seen: &mut Seen, settings: &[u8], block: &[u8], output: usize) {
+fn check_opening(random: &mut Random, tally: &mut Tally, settings: &[u8], block: &[u8], output: usize) {
     let mut lent = random.lent(output);
     let answer = calls::capture_open(settings, block, lent.part());
-    seen.note("open", answer.number);
+    tally.note("open", answer.number);
     match capture::open(settings, block, output) {
         Ok((octets, count)) => {
             assert_eq!(answer, PayloadAnswer { number: 0, count });
@@ -102,24 +83,24 @@ fn check_opening(random: &mut Random, seen: &mut Seen, settings: &[u8], block: &
     }
 }
 
-fn check_record(seen: &mut Seen, settings: &[u8], block: &[u8], k: usize) {
+fn check_record(tally: &mut Tally, settings: &[u8], block: &[u8], k: usize) {
     let verdict = match capture::verdict(settings, block, k) {
         Ok(None) => BlockVerdict::default(),
         Ok(Some((enckey, clock))) => BlockVerdict { number: 0, encenabled: 1, enckey, clock },
         Err(number) => BlockVerdict { number, ..BlockVerdict::default() },
     };
     assert_eq!(calls::capture_verdict(settings, block, k), verdict, "verdict on record {k}");
-    seen.note("verdict", verdict.number);
+    tally.note("verdict", verdict.number);
     let part = match capture::part(block, k) {
         Ok(range) => BlockPart { number: 0, offset: range.start, length: range.len() },
         Err(number) => BlockPart { number, ..BlockPart::default() },
     };
     assert_eq!(calls::capture_payload(block, k), part, "payload of record {k}");
-    seen.note("payload", part.number);
+    tally.note("payload", part.number);
 }
 
 /// Every call on one block.
-fn check(random: &mut Random, seen: &mut Seen, settings: &[u8], block: &[u8]) {
+fn check(random: &mut Random, tally: &mut Tally, settings: &[u8], block: &[u8]) {
     let directory = match capture::directory(block) {
         Ok(records) => BlockDirectory { number: 0, fault: 0, records: records.len(), pair: 0 },
         Err(Fault::Sizes) => BlockDirectory { number: 15, fault: 1, records: 0, pair: 0 },
@@ -127,20 +108,20 @@ fn check(random: &mut Random, seen: &mut Seen, settings: &[u8], block: &[u8]) {
         Err(Fault::Length(pair)) => BlockDirectory { number: 15, fault: 3, records: 0, pair },
     };
     assert_eq!(calls::capture_directory(block), directory);
-    seen.faults[usize::from(directory.fault)] += 1;
+    tally.note("fault", directory.fault);
     let n = directory.records;
     let mut asked = vec![0, 1, n, n + 1, usize::MAX, random.below(300) as usize];
     if random.once_in(4) {
         asked.extend(2..n);
     }
     for k in asked {
-        check_record(seen, settings, block, k);
+        check_record(tally, settings, block, k);
     }
-    check_opening(random, seen, settings, block, block.len());
+    check_opening(random, tally, settings, block, block.len());
     if random.once_in(8) {
         let off = random.pick(&[1, 9, 16]);
-        check_opening(random, seen, settings, block, block.len() + off);
-        check_opening(random, seen, settings, block, block.len().saturating_sub(off));
+        check_opening(random, tally, settings, block, block.len() + off);
+        check_opening(random, tally, settings, block, block.len().saturating_sub(off));
     }
     check_listing(settings, block);
 }
@@ -154,53 +135,53 @@ fn check_listing(settings: &[u8], block: &[u8]) {
 
 #[test]
 fn sound_blocks() {
-    let mut seen = Seen::default();
+    let mut tally = Tally::default();
     let all = cases(2000, |random| {
         let presence = random.below(4) as u8;
         let settings = settings(random, presence);
         let records = random.pick(&[0, 1, 2, 3, 10, 40]) + random.below(3) as usize;
         let most_eqs = random.pick(&[0, 3, 20, 60]);
         let block = random_block(random, &settings, records, most_eqs);
-        check(random, &mut seen, &settings, &block);
+        check(random, &mut tally, &settings, &block);
     });
     if all {
         for number in [0, 1, 2, 9, 10] {
-            seen.at_least("verdict", number, 40);
+            tally.gave("verdict", number, 40);
         }
-        seen.at_least("open", 0, 400);
+        tally.gave("open", 0, 400);
     }
 }
 
 #[test]
 fn full_blocks() {
-    let mut seen = Seen::default();
+    let mut tally = Tally::default();
     cases(6, |random| {
         let settings = settings(random, 3);
         // 256 records, and the longest of all
         let full = random_block(random, &settings, 256, 10);
-        check(random, &mut seen, &settings, &full);
+        check(random, &mut tally, &settings, &full);
         for k in 0..=257 {
-            check_record(&mut seen, &settings, &full, k);
+            check_record(&mut tally, &settings, &full, k);
         }
         let two = [record(random, &settings, 7000), record(random, &settings, 276)];
         let longest = block(&two);
         assert_eq!((longest.len(), calls::capture_directory(&longest).number), (65_534, 0));
-        check(random, &mut seen, &settings, &longest);
+        check(random, &mut tally, &settings, &longest);
         // sizes alone: 65,537 octets, and 257 records
         let too_long = block(&[record(random, &settings, 7279)]);
         assert_eq!((too_long.len(), calls::capture_directory(&too_long).fault), (65_537, 1));
-        check(random, &mut seen, &settings, &too_long);
+        check(random, &mut tally, &settings, &too_long);
         let too_many = random_block(random, &settings, 257, 2);
         assert_eq!(calls::capture_directory(&too_many).fault, 1);
-        check(random, &mut seen, &settings, &too_many);
+        check(random, &mut tally, &settings, &too_many);
         let octets = random.octets(65_536);
-        check(random, &mut seen, &settings, &octets);
+        check(random, &mut tally, &settings, &octets);
     });
 }
 
 #[test]
 fn damaged_directories() {
-    let mut seen = Seen::default();
+    let mut tally = Tally::default();
     let all = cases(150, |random| {
         let settings = settings(random, 3);
         let records = random.within(1, 9) as usize;
@@ -211,7 +192,7 @@ fn damaged_directories() {
             for change in [1, 0xFF, random.within(1, 255) as u8] {
                 let mut damaged = sound.clone();
                 damaged[place] = damaged[place].wrapping_add(change);
-                check(random, &mut seen, &settings, &damaged);
+                check(random, &mut tally, &settings, &damaged);
             }
         }
         // each record's EQs, up to 2^32 - 1
@@ -219,26 +200,28 @@ fn damaged_directories() {
             for eqs in [record.eqs + 1, record.eqs.wrapping_sub(1), 0xFFFF_FFFF, 0x1C71_C71C, 1 << 31] {
                 let mut damaged = sound.clone();
                 damaged[record.offset + 12..record.offset + 16].copy_from_slice(&(eqs as u32).to_be_bytes());
-                check(random, &mut seen, &settings, &damaged);
+                check(random, &mut tally, &settings, &damaged);
             }
         }
         // cut short and drawn out
         for cut in 0..sound.len().min(60) {
-            check(random, &mut seen, &settings, &sound[..cut]);
-            check(random, &mut seen, &settings, &sound[..sound.len() - cut]);
+            check(random, &mut tally, &settings, &sound[..cut]);
+            check(random, &mut tally, &settings, &sound[..sound.len() - cut]);
         }
         for more in 1..4 {
             let longer = [sound.clone(), random.octets(more)].concat();
-            check(random, &mut seen, &settings, &longer);
+            check(random, &mut tally, &settings, &longer);
         }
     });
     for octets in 0..4 {
-        check(&mut Random::new(1), &mut seen, &[0; 41], &vec![0; octets]);
+        check(&mut Random::new(1), &mut tally, &[0; 41], &vec![0; octets]);
     }
     if all {
-        assert!(seen.faults[1..].iter().all(|&times| times >= 500), "faults {:?}", seen.faults);
-        seen.at_least("open", 15, 2000);
-        seen.at_least("open", 14, 500);
+        for fault in 1..=3 {
+            tally.gave("fault", fault, 500);
+        }
+        tally.gave("open", 15, 2000);
+        tally.gave("open", 14, 500);
     }
 }
 
@@ -275,7 +258,7 @@ fn the_first_bad_pair() {
 #[test]
 fn pairs_changed_together() {
     cases(2000, |random| {
-        let mut seen = Seen::default();
+        let mut tally = Tally::default();
         let settings = settings(random, 3);
         let records = random.within(2, 6) as usize;
         let mut damaged = random_block(random, &settings, records, 3);
@@ -299,33 +282,33 @@ fn pairs_changed_together() {
                 damaged[2 + 8 * (k + 1) + 7] = damaged[2 + 8 * (k + 1) + 7].wrapping_sub(9);
             }
         }
-        check(random, &mut seen, &settings, &damaged);
+        check(random, &mut tally, &settings, &damaged);
     });
 }
 
 #[test]
 fn damaged_settings() {
-    let mut seen = Seen::default();
+    let mut tally = Tally::default();
     cases(12, |random| {
         let good = settings(random, 3);
         let sound = random_block(random, &good, 4, 3);
         let unsound = [sound.clone(), vec![0]].concat();
         for presence in 0..=255 {
             let settings = [&[presence], &good[1..]].concat();
-            check(random, &mut seen, &settings, &sound);
-            check(random, &mut seen, &settings, &unsound);
+            check(random, &mut tally, &settings, &sound);
+            check(random, &mut tally, &settings, &unsound);
         }
         for length in (0..80).filter(|&length| length != 41) {
             let settings = random.octets(length);
-            check(random, &mut seen, &settings, &sound);
-            check(random, &mut seen, &settings, &unsound);
+            check(random, &mut tally, &settings, &sound);
+            check(random, &mut tally, &settings, &unsound);
         }
     });
 }
 
 #[test]
 fn random_octets() {
-    let mut seen = Seen::default();
+    let mut tally = Tally::default();
     cases(20_000, |random| {
         let settings = settings(random, 1);
         let length = random.below(80) as usize;
@@ -336,7 +319,7 @@ fn random_octets() {
         if let Some(count) = octets.get_mut(1) {
             *count %= 4;
         }
-        check(random, &mut seen, &settings, &octets);
+        check(random, &mut tally, &settings, &octets);
     });
 }
 

@@ -9,4 +9,5 @@ mod pairs;
 mod random;
 mod reference;
 mod sealing;
+mod tally;
 mod values;

@@ -6,12 +6,13 @@
 //! damaged or not.
 
 use crate::lent;
-use crate::pairs::{Pair, Tally};
+use crate::pairs::Pair;
 use crate::random::{cases, Random};
 use crate::reference::olt::{Olt, Unit};
 use crate::reference::onu::Onu;
 use crate::reference::records::End;
 use crate::reference::{Envelope, Key, KEY_LIFE, LAST_TICK};
+use crate::tally::Tally;
 use jazmotip::{Acknowledgement, Header, Identity, KeyMessage, Stamps, SECOND};
 use std::collections::{BTreeSet, HashSet, VecDeque};
 
@@ -779,8 +780,7 @@ fn check_reach(tally: &Tally, least: impl IntoIterator<Item = (&'static str, u64
         println!("{times:9}  {call} {number}");
     }
     for (event, wanted) in least {
-        let times = tally.events.get(event).copied().unwrap_or(0);
-        assert!(times >= wanted, "{event}: {times} times, wanted {wanted}");
+        tally.reached(event, wanted);
     }
     for number in (1..=17).filter(|&number| number != 15) {
         let times = tally.refusals(number);

@@ -6,26 +6,8 @@ use crate::reference::olt::Olt;
 use crate::reference::onu::Onu;
 use crate::reference::records::End;
 use crate::reference::{Envelope, Identity, Key, Opened, Reply};
+use crate::tally::Tally;
 use jazmotip::{calls, Acknowledgement, Header, KeyMessage, Stamps};
-use std::collections::BTreeMap;
-
-/// How often each call gave each number, and how often what was of note came about.
-#[derive(Default)]
-pub struct Tally {
-    pub numbers: BTreeMap<(&'static str, u8), u64>,
-    pub events: BTreeMap<&'static str, u64>,
-}
-
-impl Tally {
-    pub fn event(&mut self, event: &'static str) {
-        *self.events.entry(event).or_default() += 1;
-    }
-
-    /// How often a number was given, by any call.
-    pub fn refusals(&self, number: u8) -> u64 {
-        self.numbers.iter().filter(|((_, given), _)| *given == number).map(|(_, times)| times).sum()
-    }
-}
 
 pub struct Pair<E: End> {
     pub record: E::Record,
@@ -47,6 +29,22 @@ impl<E: End> Pair<E> {
         Pair { record: model.record(), model: Some(model), exact: true }
     }
 
+    /// A fresh end; one that is refused has zeros for a record.
+    #[track_caller]
+    fn made(tally: &mut Tally, call: &'static str, number: u8, record: E::Record, expected: Reply<E>) -> Option<Pair<E>> {
+        tally.note(call, number);
+        match expected {
+            Ok(model) => {
+                assert_eq!((number, record), (0, model.record()));
+                Some(Pair::of(model))
+            }
+            Err(refused) => {
+                assert_eq!((number, record), (refused, E::Record::default()));
+                None
+            }
+        }
+    }
+
     /// The reference of an end that calls made: it is valid.
     pub fn sound(&self) -> &E {
         self.model.as_ref().expect("a valid end")
@@ -58,7 +56,7 @@ impl<E: End> Pair<E> {
 
     #[track_caller]
     fn settle<T>(&mut self, tally: &mut Tally, call: &'static str, number: u8, after: E::Record, expected: &Reply<T>) {
-        *tally.numbers.entry((call, number)).or_default() += 1;
+        tally.note(call, number);
         assert_eq!(number, expected.as_ref().err().copied().unwrap_or(0), "number of {call}");
         if number != 0 {
             assert!(after == self.record, "{call}, refused {number}, changed the end\n{:?}\n{after:?}", self.record);
@@ -92,31 +90,13 @@ fn check_received(lent: &Lent, count: u64, expected: &Reply<Opened>) {
 impl Pair<Olt> {
     pub fn fresh(tally: &mut Tally, mac: u64, clock: u64) -> Option<Pair<Olt>> {
         let answer = calls::olt_fresh(mac, clock);
-        *tally.numbers.entry(("olt_fresh", answer.number)).or_default() += 1;
-        match Olt::fresh(mac, clock) {
-            Ok(model) => {
-                assert_eq!((answer.number, answer.olt), (0, model.record()));
-                Some(Pair::of(model))
-            }
-            Err(number) => {
-                assert_eq!((answer.number, answer.olt), (number, jazmotip::Olt::default()));
-                None
-            }
-        }
+        Pair::made(tally, "olt_fresh", answer.number, answer.olt, Olt::fresh(mac, clock))
     }
 
     pub fn register(&mut self, tally: &mut Tally, identity: jazmotip::Identity, trip: u64, interval: u64) -> Reply<()> {
         let answer = calls::olt_register(self.record, identity, trip, interval);
         let expected = self.judge(|olt| olt.register(Identity::of(&identity), trip, interval));
         self.settle(tally, "olt_register", answer.number, answer.olt, &expected);
-        expected
-    }
-
-    pub fn advance(&mut self, tally: &mut Tally, n: u64) -> Reply<()> {
-        let mut after = self.record;
-        let number = calls::olt_advance(&mut after, n);
-        let expected = self.judge(|olt| olt.advance(n));
-        self.settle(tally, "olt_advance", number, after, &expected);
         expected
     }
 
@@ -157,63 +137,13 @@ impl Pair<Olt> {
         self.settle(tally, "olt_acknowledge", answer.number, answer.olt, &expected);
         expected
     }
-
-    pub fn send(
-        &mut self,
-        tally: &mut Tally,
-        random: &mut Random,
-        llid: u16,
-        index: u8,
-        payload: &[u8],
-        output: usize,
-    ) -> Reply<Envelope> {
-        let mut lent = random.lent(output);
-        let answer = calls::olt_send(self.record, llid, index, payload, lent.part());
-        let expected = self.judge(|olt| olt.send(llid, index, payload, output));
-        check_sent(&lent, answer.header, answer.count, &expected);
-        self.settle(tally, "olt_send", answer.number, answer.olt, &expected);
-        expected
-    }
-
-    pub fn receive(
-        &mut self,
-        tally: &mut Tally,
-        random: &mut Random,
-        header: Header,
-        octets: &[u8],
-        output: usize,
-    ) -> Reply<Opened> {
-        let mut lent = random.lent(output);
-        let answer = calls::olt_receive(self.record, header, octets, lent.part());
-        let expected = self.judge(|olt| olt.receive(&header, octets, output));
-        check_received(&lent, answer.count, &expected);
-        self.settle(tally, "olt_receive", answer.number, answer.olt, &expected);
-        expected
-    }
 }
 
 impl Pair<Onu> {
     pub fn fresh(tally: &mut Tally, identity: jazmotip::Identity, oltmac: u64, time: u64) -> Option<Pair<Onu>> {
         let answer = calls::onu_fresh(identity, oltmac, time);
-        *tally.numbers.entry(("onu_fresh", answer.number)).or_default() += 1;
-        match Onu::fresh(Identity::of(&identity), oltmac, time) {
-            Ok(model) => {
-                assert_eq!((answer.number, answer.onu), (0, model.record()));
-                Some(Pair::of(model))
-            }
-            Err(number) => {
-                assert_eq!((answer.number, answer.onu), (number, jazmotip::Onu::default()));
-                None
-            }
-        }
-    }
-
-    pub fn advance(&mut self, tally: &mut Tally, n: u64) -> Reply<()> {
-        let mut after = self.record;
-        let number = calls::onu_advance(&mut after, n);
-        let expected = self.judge(|onu| onu.advance(n));
-        self.settle(tally, "onu_advance", number, after, &expected);
-        expected
+        let expected = Onu::fresh(Identity::of(&identity), oltmac, time);
+        Pair::made(tally, "onu_fresh", answer.number, answer.onu, expected)
     }
 
     pub fn clock_message(&mut self, tally: &mut Tally, message: Stamps) -> Reply<Acknowledgement> {
@@ -231,37 +161,55 @@ impl Pair<Onu> {
         self.settle(tally, "onu_key_message", answer.number, answer.onu, &expected);
         expected
     }
-
-    pub fn send(
-        &mut self,
-        tally: &mut Tally,
-        random: &mut Random,
-        llid: u16,
-        index: u8,
-        payload: &[u8],
-        output: usize,
-    ) -> Reply<Envelope> {
-        let mut lent = random.lent(output);
-        let answer = calls::onu_send(self.record, llid, index, payload, lent.part());
-        let expected = self.judge(|onu| onu.send(llid, index, payload, output));
-        check_sent(&lent, answer.header, answer.count, &expected);
-        self.settle(tally, "onu_send", answer.number, answer.onu, &expected);
-        expected
-    }
-
-    pub fn receive(
-        &mut self,
-        tally: &mut Tally,
-        random: &mut Random,
-        header: Header,
-        octets: &[u8],
-        output: usize,
-    ) -> Reply<Opened> {
-        let mut lent = random.lent(output);
-        let answer = calls::onu_receive(self.record, header, octets, lent.part());
-        let expected = self.judge(|onu| onu.receive(&header, octets, output));
-        check_received(&lent, answer.count, &expected);
-        self.settle(tally, "onu_receive", answer.number, answer.onu, &expected);
-        expected
-    }
 }
+
+/// The calls that both ends have.
+macro_rules! calls_of_both {
+    ($end:ident, $record:ident, $advance:ident, $send:ident, $receive:ident) => {
+        impl Pair<$end> {
+            pub fn advance(&mut self, tally: &mut Tally, n: u64) -> Reply<()> {
+                let mut after = self.record;
+                let number = calls::$advance(&mut after, n);
+                let expected = self.judge(|end| end.advance(n));
+                self.settle(tally, stringify!($advance), number, after, &expected);
+                expected
+            }
+
+            pub fn send(
+                &mut self,
+                tally: &mut Tally,
+                random: &mut Random,
+                llid: u16,
+                index: u8,
+                payload: &[u8],
+                output: usize,
+            ) -> Reply<Envelope> {
+                let mut lent = random.lent(output);
+                let answer = calls::$send(self.record, llid, index, payload, lent.part());
+                let expected = self.judge(|end| end.send(llid, index, payload, output));
+                check_sent(&lent, answer.header, answer.count, &expected);
+                self.settle(tally, stringify!($send), answer.number, answer.$record, &expected);
+                expected
+            }
+
+            pub fn receive(
+                &mut self,
+                tally: &mut Tally,
+                random: &mut Random,
+                header: Header,
+                octets: &[u8],
+                output: usize,
+            ) -> Reply<Opened> {
+                let mut lent = random.lent(output);
+                let answer = calls::$receive(self.record, header, octets, lent.part());
+                let expected = self.judge(|end| end.receive(&header, octets, output));
+                check_received(&lent, answer.count, &expected);
+                self.settle(tally, stringify!($receive), answer.number, answer.$record, &expected);
+                expected
+            }
+        }
+    };
+}
+
+calls_of_both!(Olt, olt, olt_advance, olt_send, olt_receive);
+calls_of_both!(Onu, onu, onu_advance, onu_send, onu_receive);

@@ -8,7 +8,7 @@ use jazmotip::Stamps;
 
 /// An end of the reference that crosses as a record.
 pub trait End: Clone + PartialEq + std::fmt::Debug {
-    type Record: Copy + PartialEq + std::fmt::Debug;
+    type Record: Copy + Default + PartialEq + std::fmt::Debug;
 
     fn record(&self) -> Self::Record;
 

@@ -1,9 +1,11 @@
 //! The C programs of `host/c`, compiled against the header and the archive, and run. The header itself checks the layout of every
 //! struct. `exchange` must print `exchange.stdout`; what `capture` must print is the reference's.
 
-use crate::captures::{random_block, settings};
+use crate::captures::answers;
+use crate::captures::blocks::{random_block, settings};
 use crate::random::cases;
-use crate::reference::capture::{self, Fault};
+use crate::reference::capture;
+use jazmotip::{BlockDirectory, BlockPart, BlockVerdict};
 use std::fmt::Write as _;
 use std::io::Write as _;
 use std::path::{Path, PathBuf};
@@ -51,25 +53,19 @@ fn exchange_plays_to_the_second_switch() {
 /// What `capture` must print.
 fn capture_text(settings: &[u8], block: &[u8]) -> String {
     let mut text = capture::listing(settings, block);
-    let (records, directory) = match capture::directory(block) {
-        Ok(records) => (records.len(), format!("directory 0 fault 0 records {} pair 0", records.len())),
-        Err(Fault::Sizes) => (0, "directory 15 fault 1 records 0 pair 0".to_string()),
-        Err(Fault::Chain(pair)) => (0, format!("directory 15 fault 2 records 0 pair {pair}")),
-        Err(Fault::Length(pair)) => (0, format!("directory 15 fault 3 records 0 pair {pair}")),
-    };
+    let BlockDirectory { number, fault, records, pair } = answers::directory(block);
+    writeln!(text, "directory {number} fault {fault} records {records} pair {pair}").expect("text");
     let (number, count) = match capture::open(settings, block, block.len()) {
         Ok((_, count)) => (0, count),
         Err(number) => (number, 0),
     };
-    writeln!(text, "{directory}\nopen {number} count {count}").expect("text");
+    writeln!(text, "open {number} count {count}").expect("text");
     for k in 1..=records {
-        let (verdict, seals) = match capture::verdict(settings, block, k) {
-            Ok(None) => ("0 key 0 0 clock 0".to_string(), ""),
-            Ok(Some((enckey, clock))) => (format!("0 key 1 {enckey} clock {clock}"), ", seals back"),
-            Err(number) => (format!("{number} key 0 0 clock 0"), ""),
-        };
-        let part = capture::part(block, k).expect("a record");
-        writeln!(text, "record {k}: {verdict} payload 0 {} {}{seals}", part.start, part.len()).expect("text");
+        let BlockVerdict { number, encenabled, enckey, clock } = answers::verdict(settings, block, k);
+        let BlockPart { number: found, offset, length } = answers::part(block, k);
+        write!(text, "record {k}: {number} key {encenabled} {enckey} clock {clock} payload {found} {offset} {length}")
+            .expect("text");
+        text.push_str(if encenabled == 1 { ", seals back\n" } else { "\n" });
     }
     text
 }

@@ -1,137 +1,15 @@
 //! Capture blocks (01, Capture block): directory, verdicts, payload bounds, opening and listing, on sound and damaged blocks.
 
+pub mod answers;
+pub mod blocks;
+mod check;
+
 use crate::random::{cases, Random};
-use crate::reference::capture::{self, Fault};
+use crate::reference::capture;
 use crate::tally::Tally;
-use jazmotip::{calls, BlockDirectory, BlockPart, BlockVerdict, PayloadAnswer, LISTING_OCTETS};
-
-fn push(octets: &mut Vec<u8>, number: u64, width: usize) {
-    octets.extend_from_slice(&number.to_be_bytes()[8 - width..]);
-}
-
-/// Settings with the keys that `presence` names.
-pub fn settings(random: &mut Random, presence: u8) -> Vec<u8> {
-    let mut octets = vec![presence];
-    octets.extend(random.octets(38));
-    push(&mut octets, random.pick(&[0, 5, 0xFFFF]), 2);
-    octets
-}
-
-/// A record that mostly fits the settings; its odd values are those of a mechanic's trouble.
-fn record(random: &mut Random, settings: &[u8], eqs: usize) -> Vec<u8> {
-    let clock = random.clock();
-    let rare = |random: &mut Random, usual: u8| if random.once_in(25) { random.next() as u8 } else { usual };
-    let kind = random.below(2) as u8;
-    let index = random.pick(&[0x00, 0x01, 0x80, 0x81]);
-    let flags = random.pick(&[0, 1, 1, 3, 3]);
-    let mut octets = vec![rare(random, kind), rare(random, index)];
-    octets.extend(if random.once_in(10) { random.octets(2) } else { settings.get(39..41).unwrap_or(&[0, 5]).to_vec() });
-    octets.push(match random.below(25) {
-        0 => 2,
-        1 => 4 | flags,
-        _ => rare(random, flags),
-    });
-    let epam = (clock % 64) as u8;
-    octets.push(match random.below(25) {
-        0 => epam ^ 1,
-        1 => epam | 0x40,
-        _ => rare(random, epam),
-    });
-    push(&mut octets, clock, 6);
-    push(&mut octets, eqs as u64, 4);
-    octets.extend(random.payload(eqs));
-    octets
-}
-
-/// A block of these records, its directory right.
-fn block(records: &[Vec<u8>]) -> Vec<u8> {
-    let mut octets = Vec::new();
-    push(&mut octets, records.len() as u64, 2);
-    let mut offset = 2 + 8 * records.len();
-    for record in records {
-        push(&mut octets, offset as u64, 4);
-        push(&mut octets, record.len() as u64, 4);
-        offset += record.len();
-    }
-    octets.extend(records.concat());
-    octets
-}
-
-pub fn random_block(random: &mut Random, settings: &[u8], records: usize, most_eqs: u64) -> Vec<u8> {
-    let records: Vec<_> = (0..records)
-        .map(|_| {
-            let eqs = random.below(most_eqs + 1) as usize;
-            record(random, settings, eqs)
-        })
-        .collect();
-    block(&records)
-}
-
-fn check_opening(random: &mut Random, tally: &mut Tally, settings: &[u8], block: &[u8], output: usize) {
-    let mut lent = random.lent(output);
-    let answer = calls::capture_open(settings, block, lent.part());
-    tally.note("open", answer.number);
-    match capture::open(settings, block, output) {
-        Ok((octets, count)) => {
-            assert_eq!(answer, PayloadAnswer { number: 0, count });
-            lent.check(Some(&octets));
-        }
-        Err(number) => {
-            assert_eq!(answer, PayloadAnswer { number, count: 0 });
-            lent.check(None);
-        }
-    }
-}
-
-fn check_record(tally: &mut Tally, settings: &[u8], block: &[u8], k: usize) {
-    let verdict = match capture::verdict(settings, block, k) {
-        Ok(None) => BlockVerdict::default(),
-        Ok(Some((enckey, clock))) => BlockVerdict { number: 0, encenabled: 1, enckey, clock },
-        Err(number) => BlockVerdict { number, ..BlockVerdict::default() },
-    };
-    assert_eq!(calls::capture_verdict(settings, block, k), verdict, "verdict on record {k}");
-    tally.note("verdict", verdict.number);
-    let part = match capture::part(block, k) {
-        Ok(range) => BlockPart { number: 0, offset: range.start, length: range.len() },
-        Err(number) => BlockPart { number, ..BlockPart::default() },
-    };
-    assert_eq!(calls::capture_payload(block, k), part, "payload of record {k}");
-    tally.note("payload", part.number);
-}
-
-/// Every call on one block.
-fn check(random: &mut Random, tally: &mut Tally, settings: &[u8], block: &[u8]) {
-    let directory = match capture::directory(block) {
-        Ok(records) => BlockDirectory { number: 0, fault: 0, records: records.len(), pair: 0 },
-        Err(Fault::Sizes) => BlockDirectory { number: 15, fault: 1, records: 0, pair: 0 },
-        Err(Fault::Chain(pair)) => BlockDirectory { number: 15, fault: 2, records: 0, pair },
-        Err(Fault::Length(pair)) => BlockDirectory { number: 15, fault: 3, records: 0, pair },
-    };
-    assert_eq!(calls::capture_directory(block), directory);
-    tally.note("fault", directory.fault);
-    let n = directory.records;
-    let mut asked = vec![0, 1, n, n + 1, usize::MAX, random.below(300) as usize];
-    if random.once_in(4) {
-        asked.extend(2..n);
-    }
-    for k in asked {
-        check_record(tally, settings, block, k);
-    }
-    check_opening(random, tally, settings, block, block.len());
-    if random.once_in(8) {
-        let off = random.pick(&[1, 9, 16]);
-        check_opening(random, tally, settings, block, block.len() + off);
-        check_opening(random, tally, settings, block, block.len().saturating_sub(off));
-    }
-    check_listing(settings, block);
-}
-
-fn check_listing(settings: &[u8], block: &[u8]) {
-    let mut text = [b'?'; LISTING_OCTETS];
-    let length = calls::capture_list(settings, block, &mut text);
-    let listing = String::from_utf8_lossy(&text[..length]);
-    assert_eq!(listing, capture::listing(settings, block));
-}
+use blocks::{block, random_block, record, settings};
+use check::{check, check_record};
+use jazmotip::{calls, LISTING_OCTETS};
 
 #[test]
 fn sound_blocks() {

@@ -1,0 +1,61 @@
+//! The calls on a capture block, held against the reference.
+
+use super::answers;
+use crate::random::Random;
+use crate::reference::capture;
+use crate::tally::Tally;
+use jazmotip::{calls, PayloadAnswer, LISTING_OCTETS};
+
+fn check_opening(random: &mut Random, tally: &mut Tally, settings: &[u8], block: &[u8], output: usize) {
+    let mut lent = random.lent(output);
+    let answer = calls::capture_open(settings, block, lent.part());
+    tally.note("open", answer.number);
+    match capture::open(settings, block, output) {
+        Ok((octets, count)) => {
+            assert_eq!(answer, PayloadAnswer { number: 0, count });
+            lent.check(Some(&octets));
+        }
+        Err(number) => {
+            assert_eq!(answer, PayloadAnswer { number, count: 0 });
+            lent.check(None);
+        }
+    }
+}
+
+pub fn check_record(tally: &mut Tally, settings: &[u8], block: &[u8], k: usize) {
+    let verdict = calls::capture_verdict(settings, block, k);
+    assert_eq!(verdict, answers::verdict(settings, block, k), "verdict on record {k}");
+    tally.note("verdict", verdict.number);
+    let part = calls::capture_payload(block, k);
+    assert_eq!(part, answers::part(block, k), "payload of record {k}");
+    tally.note("payload", part.number);
+}
+
+fn check_listing(settings: &[u8], block: &[u8]) {
+    let mut text = [b'?'; LISTING_OCTETS];
+    let length = calls::capture_list(settings, block, &mut text);
+    let listing = String::from_utf8_lossy(&text[..length]);
+    assert_eq!(listing, capture::listing(settings, block));
+}
+
+/// Every call on one block.
+pub fn check(random: &mut Random, tally: &mut Tally, settings: &[u8], block: &[u8]) {
+    let directory = calls::capture_directory(block);
+    assert_eq!(directory, answers::directory(block));
+    tally.note("fault", directory.fault);
+    let n = directory.records;
+    let mut asked = vec![0, 1, n, n + 1, usize::MAX, random.below(300) as usize];
+    if random.once_in(4) {
+        asked.extend(2..n);
+    }
+    for k in asked {
+        check_record(tally, settings, block, k);
+    }
+    check_opening(random, tally, settings, block, block.len());
+    if random.once_in(8) {
+        let off = random.pick(&[1, 9, 16]);
+        check_opening(random, tally, settings, block, block.len() + off);
+        check_opening(random, tally, settings, block, block.len().saturating_sub(off));
+    }
+    check_listing(settings, block);
+}

@@ -50,6 +50,11 @@ impl<E: End> Pair<E> {
         self.model.as_ref().expect("a valid end")
     }
 
+    /// Whether a call is refused, tried on a copy of the reference.
+    pub fn refuses<T>(&self, call: impl FnOnce(&mut E) -> Reply<T>) -> bool {
+        call(&mut self.sound().clone()).is_err()
+    }
+
     fn judge<T>(&mut self, call: impl FnOnce(&mut E) -> Reply<T>) -> Reply<T> {
         self.model.as_mut().map_or(Err(1), call)
     }

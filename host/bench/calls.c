@@ -7,31 +7,10 @@
 
 #include "jazmotip.h"
 #include "measure.h"
+#include "scene.h"
 #include "work.h"
 
 #include <stdio.h>
-#include <stdlib.h>
-
-#define INTERVAL UINT64_C(1000)
-#define OLT_MAC UINT64_C(0x020000000002)
-
-/* An OLT and an ONU at each step of their way to the first key, and what calls are handed. The unit that calls name is the
- * table's last one, by its last LLID. */
-struct scene {
-    jazmotip_identity identity; /* of the last unit */
-    jazmotip_identity stranger; /* of none */
-    uint16_t llid;
-    jazmotip_olt one_less, captured, offered, steady, advancing;
-    jazmotip_header upstream;
-    jazmotip_stamps stamps;
-    jazmotip_key_message key_message;
-    jazmotip_onu unsynced, synced, active, onu_advancing;
-    jazmotip_header downstream;
-    const struct work *eight; /* a payload of 8 EQs */
-    const struct work *work;  /* a payload or a capture block, for the calls that take no end */
-    uint8_t number;           /* what a call that names a unit answers: 0, or 2 in an empty table */
-    uint8_t refused;          /* not 0 once a call was answered with another number than it should be */
-};
 
 /* ------------------------------------------------------------------------------------------------------------------- Calls */
 
@@ -46,9 +25,9 @@ struct scene {
 
 static const uint8_t second_key[16] = {1};
 
-CALL(olt_fresh, jazmotip_olt_answer, jazmotip_olt_fresh(OLT_MAC, 0), 0)
-CALL(olt_register, jazmotip_olt_answer, jazmotip_olt_register(s->one_less, s->identity, 100, INTERVAL), 0)
-CALL(olt_register_full, jazmotip_olt_answer, jazmotip_olt_register(s->steady, s->stranger, 100, INTERVAL), 4)
+CALL(olt_fresh, jazmotip_olt_answer, jazmotip_olt_fresh(SCENE_OLT_MAC, 0), 0)
+CALL(olt_register, jazmotip_olt_answer, jazmotip_olt_register(s->one_less, s->identity, SCENE_TRIP, SCENE_INTERVAL), 0)
+CALL(olt_register_full, jazmotip_olt_answer, jazmotip_olt_register(s->steady, s->stranger, SCENE_TRIP, SCENE_INTERVAL), 4)
 CALL(olt_capture, jazmotip_olt_answer, jazmotip_olt_capture(s->steady, s->llid), s->number)
 CALL(olt_clock_send, jazmotip_clock_sent, jazmotip_olt_clock_send(s->captured, s->llid), s->number)
 CALL(olt_offer, jazmotip_key_sent, jazmotip_olt_offer(s->steady, s->llid, second_key), s->number)
@@ -71,7 +50,7 @@ static void olt_advance(void *job)
     s->refused |= jazmotip_olt_advance(&s->advancing, 1);
 }
 
-CALL(onu_fresh, jazmotip_onu_answer, jazmotip_onu_fresh(s->identity, OLT_MAC, 0), 0)
+CALL(onu_fresh, jazmotip_onu_answer, jazmotip_onu_fresh(s->identity, SCENE_OLT_MAC, 0), 0)
 CALL(onu_clock_message, jazmotip_onu_acknowledged, jazmotip_onu_clock_message(s->unsynced, s->stamps), 0)
 CALL(onu_key_message, jazmotip_onu_acknowledged, jazmotip_onu_key_message(s->synced, s->key_message), 0)
 CALL(onu_send_0, jazmotip_onu_sent,
@@ -129,106 +108,6 @@ static void list(void *job)
     s->refused |= jazmotip_capture_list(work_settings, 41, s->work->input, s->work->length, text) < 26;
 }
 
-/* ------------------------------------------------------------------------------------------------------------------ Scenes */
-
-/* Unit i, with LLIDs that are `stride` apart. */
-static jazmotip_identity identity_of(int i, int llids, int stride)
-{
-    jazmotip_identity identity = {.mac = WORK_MAC + 16 + (uint64_t)i, .count = (uint8_t)llids};
-    for (int j = 0; j < llids; j++)
-        identity.llids[j] = (uint16_t)(stride * (4 * i + j));
-    return identity;
-}
-
-static void accepted(uint8_t number, const char *call)
-{
-    if (number != 0) {
-        fprintf(stderr, "%s was refused: %d\n", call, number);
-        exit(1);
-    }
-}
-
-/* A step of the OLT: the end that it leaves is that of the answer. */
-#define STEP(olt, type, call)                                                                                                    \
-    do {                                                                                                                         \
-        type answer = call;                                                                                                      \
-        accepted(answer.number, #call);                                                                                          \
-        olt = answer.olt;                                                                                                        \
-    } while (0)
-
-/* A registered unit goes from no clock to a first key that both ends use. */
-static jazmotip_olt join(struct scene *s, jazmotip_olt olt, uint16_t llid)
-{
-    uint8_t none[1];
-    STEP(olt, jazmotip_olt_answer, jazmotip_olt_capture(olt, llid));
-    s->captured = olt;
-    jazmotip_clock_sent sent = jazmotip_olt_clock_send(olt, llid);
-    accepted(sent.number, "clock_send");
-    olt = sent.olt;
-    s->stamps = sent.message;
-    STEP(olt, jazmotip_olt_answer, jazmotip_olt_acknowledge(olt, llid, (jazmotip_acknowledgement){1, 0}));
-    jazmotip_key_sent offer = jazmotip_olt_offer(olt, llid, work_key);
-    accepted(offer.number, "offer");
-    s->offered = olt = offer.olt;
-    s->key_message = offer.message;
-    STEP(olt, jazmotip_olt_answer, jazmotip_olt_acknowledge(olt, llid, (jazmotip_acknowledgement){2, 1}));
-    accepted(jazmotip_olt_advance(&olt, INTERVAL), "advance");
-    STEP(olt, jazmotip_olt_sent, jazmotip_olt_send(olt, llid, 0, none, 0, none, 0));
-    accepted(jazmotip_olt_advance(&olt, 2), "advance");
-    s->upstream = (jazmotip_header){0x80, llid, 1, 1, (uint8_t)(olt.shared.clock % 64)};
-    STEP(olt, jazmotip_olt_received, jazmotip_olt_receive(olt, s->upstream, none, 0, none, 0));
-    return olt;
-}
-
-/* The ONU's side of the same way. */
-static void join_onu(struct scene *s)
-{
-    uint8_t none[1];
-    jazmotip_onu_answer fresh = jazmotip_onu_fresh(s->identity, OLT_MAC, 0);
-    accepted(fresh.number, "onu_fresh");
-    s->unsynced = fresh.onu;
-    jazmotip_onu_acknowledged a = jazmotip_onu_clock_message(s->unsynced, s->stamps);
-    accepted(a.number, "clock_message");
-    s->synced = a.onu;
-    a = jazmotip_onu_key_message(s->synced, s->key_message);
-    accepted(a.number, "key_message");
-    s->downstream = (jazmotip_header){0x00, s->llid, 1, 1, (uint8_t)(a.onu.clock.rx % 64)};
-    jazmotip_onu_received received = jazmotip_onu_receive(a.onu, s->downstream, none, 0, none, 0);
-    accepted(received.number, "onu_receive");
-    s->active = s->onu_advancing = received.onu;
-}
-
-static void make_scene(struct scene *s, int units, int llids, int stride)
-{
-    jazmotip_olt olt;
-    STEP(olt, jazmotip_olt_answer, jazmotip_olt_fresh(OLT_MAC, 0));
-    for (int i = 0; i < units; i++) {
-        s->one_less = olt;
-        s->identity = identity_of(i, llids, stride);
-        STEP(olt, jazmotip_olt_answer, jazmotip_olt_register(olt, s->identity, 100, INTERVAL));
-        s->llid = s->identity.llids[llids - 1];
-        olt = join(s, olt, s->llid);
-    }
-    s->steady = s->advancing = olt;
-    s->stranger = identity_of(units, llids, stride);
-    s->eight = &works[1];
-    s->refused = 0;
-    join_onu(s);
-}
-
-/* A table without units: a unit can be registered, and every call that names one is refused. */
-static void make_empty_scene(struct scene *s)
-{
-    jazmotip_olt olt;
-    STEP(olt, jazmotip_olt_answer, jazmotip_olt_fresh(OLT_MAC, 0));
-    s->one_less = s->captured = s->offered = s->steady = s->advancing = olt;
-    s->identity = identity_of(0, 1, 1);
-    s->llid = s->identity.llids[0];
-    s->upstream = (jazmotip_header){0x80, s->llid, 1, 1, 0};
-    s->eight = &works[1];
-    s->number = JAZMOTIP_UNKNOWN_LLID;
-}
-
 /* ------------------------------------------------------------------------------------------------------------------ Tables */
 
 /* A call on several scenes in turn: the ns of each, and the deepest stack. NULL where a call has no such scene. */
@@ -251,7 +130,7 @@ static void print_row(const char *name, void (*call)(void *), struct scene *cons
             printf(" |");
             continue;
         }
-        accepted(scenes[k]->refused, name);
+        scene_accepted(scenes[k]->refused, name);
         printf(" %s |", measure_commas(measure_cost(&rounds, k).median));
     }
     printf(" %s |\n", measure_commas((double)stack));
@@ -298,10 +177,10 @@ static void print_ends(void)
         {"receive, 0 EQs", onu_receive_0},
         {"receive, 8 EQs", onu_receive_8},
     };
-    make_empty_scene(&empty);
-    make_scene(&one, 1, 1, 1);
-    make_scene(&full, 16, 4, 1);
-    make_scene(&worst, 16, 4, 256);
+    scene_make_empty(&empty);
+    scene_make(&one, 1, 1, 1);
+    scene_make(&full, 16, 4, 1);
+    scene_make(&worst, 16, 4, 256);
     printf("| OLT call, ns | empty table, units unknown | 1 unit, 1 LLID | 16 units of 4 LLIDs |"
            " the same, LLIDs alike modulo 256 | stack, octets |\n|---|---:|---:|---:|---:|---:|\n");
     print_row("fresh", olt_fresh, no_table, 4);

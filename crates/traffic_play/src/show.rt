@@ -1,7 +1,11 @@
-// A row: what was done, the number that it gave, what it handed over, and how it left the end.
+// What a row shows: the number of the last call, what it handed over, and how it left the end.
+use crate::play;
+use crate::play::Envelope;
+use crate::play::Play;
+use crate::script;
+use clock::Stamps;
 use ends::Acknowledgement;
 use ends::Channels;
-use ends::FirstSend;
 use ends::Header;
 use ends::KeyMessage;
 use ends::Olt;
@@ -10,119 +14,216 @@ use ends::Slots;
 use ends::UnitRecord;
 use libc::STDOUT_FILENO;
 
-pub(crate) fn section(title: &[u8]) {
-    io::write_all(STDOUT_FILENO, b"-- ");
-    io::write_all(STDOUT_FILENO, title);
-    io::write_all(STDOUT_FILENO, b"\n");
-}
-
-pub(crate) fn begin(label: &[u8], number: u8) {
-    io::write_all(STDOUT_FILENO, label);
-    part(b": ", number as u64);
-}
-
-pub(crate) fn part(text: &[u8], value: u64) {
-    io::write_all(STDOUT_FILENO, text);
-    io::print_decimal(STDOUT_FILENO, value);
-}
-
-pub(crate) fn hex(text: &[u8], value: u64, digits: usize) {
-    io::write_all(STDOUT_FILENO, text);
-    io::print_hex(STDOUT_FILENO, value, digits);
-}
-
-pub(crate) fn end() {
-    io::write_all(STDOUT_FILENO, b"\n");
-}
-
-pub(crate) fn row(label: &[u8], number: u8) {
-    begin(label, number);
-    end();
-}
-
-pub(crate) fn header(h: Header) {
-    hex(b", header ", h.index as u64, 2);
-    hex(b" ", h.llid as u64, 4);
-    part(b" ", h.encenabled as u64);
-    part(b" ", h.enckey as u64);
-    hex(b" ", h.epam as u64, 2);
-}
-
 fn wide(x: u8) -> u64 {
     x as u64
 }
 
-pub(crate) fn octets(text: &[u8], s: &[u8]) {
-    io::write_all(STDOUT_FILENO, text);
-    print_octets(s);
-}
-
-fn print_octets(s: &[u8]) {
-    for i in 0..s.len() {
-        io::print_hex(STDOUT_FILENO, wide(s[i]), 2);
+// The hexadecimal digits that stand for an octet of a text: $, & and @ are 2, 4 and 12 of them, % is decimal.
+fn digits(x: u8) -> usize {
+    match x {
+        b'$' => 2,
+        b'&' => 4,
+        b'@' => 12,
+        _ => 0,
     }
 }
 
-pub(crate) fn slots(text: &[u8], s: Slots) {
-    let even = ends::keyslots::key_in(s, 0);
-    let odd = ends::keyslots::key_in(s, 1);
-    octets(text, &even);
-    octets(b" ", &odd);
-    end();
-}
-
-fn first(f: FirstSend) {
-    part(b", first ", f.noted as u64);
-    part(b" ", f.tick);
-}
-
-fn channels(c: Channels) {
-    part(b", free ", c.zero);
-    part(b" ", c.one);
-}
-
-// LLID 9 is that of the second unit.
-fn unit_of(o: Olt, llid: u16) -> UnitRecord {
-    if llid == 9 {
-        return o.units[1];
+// Writes an octet of a text, or the value in its place. How many values were written.
+fn mark(x: u8, value: u64) -> usize {
+    let n = digits(x);
+    if n > 0 {
+        io::print_hex(STDOUT_FILENO, value, n);
+        return 1;
     }
-    o.units[0]
+    if x == b'%' {
+        io::print_decimal(STDOUT_FILENO, value);
+        return 1;
+    }
+    script::put(x);
+    0
 }
 
-// The record of the unit that the LLID names, and the channels that all share.
-pub(crate) fn olt(o: Olt, llid: u16) {
-    let u = unit_of(o, llid);
-    part(b", A ", u.keys.active as u64);
-    part(b" C ", u.confirmation.confirmed as u64);
-    part(b" O ", u.keys.offered as u64);
-    part(b", acknowledged ", u.confirmation.acknowledged as u64);
-    part(b", flag ", u.keys.timer.flag as u64);
-    first(u.keys.first);
-    channels(o.shared.channels);
-    end();
+fn fill(text: &[u8], values: [u64; 9]) {
+    let mut k: usize = 0;
+    for i in 0..text.len() {
+        let used = mark(text[i], values[k % 9]);
+        k = std::num::wrapping_add_usize(k, used);
+    }
 }
 
-pub(crate) fn onu(o: Onu) {
-    part(b", a ", o.keys.active as u64);
-    part(b" held ", o.keys.held as u64);
-    first(o.first);
-    channels(o.channels);
-    end();
+fn few(text: &[u8], a: u64, b: u64, c: u64, d: u64) {
+    fill(text, [a, b, c, d, 0, 0, 0, 0, 0]);
 }
 
-// An offer or a retry, with the first octet of its key.
-pub(crate) fn key_message(label: &[u8], number: u8, m: KeyMessage) {
-    begin(label, number);
-    part(b", LLID ", m.llid as u64);
-    part(b", number ", m.number as u64);
+// The first n octets.
+fn octets(s: &[u8], n: usize) {
+    for i in 0..n {
+        io::print_hex(STDOUT_FILENO, wide(script::octet(s, i)), 2);
+    }
+}
+
+fn two_keys(text: &[u8], one: [u8; 16], two: [u8; 16]) {
+    few(text, 0, 0, 0, 0);
+    octets(&one, 16);
+    script::put(b' ');
+    octets(&two, 16);
+}
+
+fn slots(s: Slots) {
+    two_keys(
+        b", ",
+        ends::keyslots::key_in(s, 0),
+        ends::keyslots::key_in(s, 1),
+    );
+}
+
+// The key that both ends have in use.
+fn held(u: UnitRecord, o: Onu) {
+    few(
+        b", A %, C %, a %",
+        u.keys.active as u64,
+        u.confirmation.confirmed as u64,
+        o.keys.active as u64,
+        0,
+    );
+    two_keys(
+        b", key ",
+        ends::keyslots::key_in(u.keys.slots, u.keys.active),
+        ends::keyslots::key_in(o.keys.slots, o.keys.active),
+    );
+}
+
+fn record(u: UnitRecord, free: Channels) {
+    fill(
+        b", A % C % O %, acknowledged %, flag %, first % %, free % %",
+        [
+            u.keys.active as u64,
+            u.confirmation.confirmed as u64,
+            u.keys.offered as u64,
+            u.confirmation.acknowledged as u64,
+            u.keys.timer.flag as u64,
+            wide(u.keys.first.noted),
+            u.keys.first.tick,
+            free.zero,
+            free.one,
+        ],
+    );
+}
+
+fn unit(o: Onu) {
+    fill(
+        b", a % held %, first % %, free % %",
+        [
+            o.keys.active as u64,
+            o.keys.held as u64,
+            o.first.noted as u64,
+            o.first.tick,
+            o.channels.zero,
+            o.channels.one,
+            0,
+            0,
+            0,
+        ],
+    );
+}
+
+fn header(h: Header) {
+    fill(
+        b", header $ & % % $",
+        [
+            h.index as u64,
+            h.llid as u64,
+            h.encenabled as u64,
+            h.enckey as u64,
+            h.epam as u64,
+            0,
+            0,
+            0,
+            0,
+        ],
+    );
+}
+
+fn stamps(rx: u64, tx: u64) {
+    few(b", Rx @, Tx @", rx, tx, 0, 0);
+}
+
+fn message(m: KeyMessage) {
     let key = m.key;
-    part(b", octet ", wide(key[0]));
-    end();
+    few(
+        b", LLID %, number %, octet %",
+        m.llid as u64,
+        m.number as u64,
+        wide(key[0]),
+        0,
+    );
 }
 
-pub(crate) fn acknowledgement(label: &[u8], number: u8, a: Acknowledgement) {
-    begin(label, number);
-    part(b", kind ", a.kind as u64);
-    part(b", number ", a.number as u64);
-    end();
+fn answer(a: Acknowledgement) {
+    few(b", kind %, number %", a.kind as u64, a.number as u64, 0, 0);
+}
+
+fn output(passed: Envelope, count: u64, room: usize) {
+    let s = passed.octets;
+    few(b", count %, output ", count, 0, 0, 0);
+    octets(&s, room);
+}
+
+// The words state, stamps and slots at the OLT.
+fn at_olt(o: Olt, u: UnitRecord, sent: Stamps, k: usize) {
+    match k {
+        4 => stamps(sent.rx, sent.tx),
+        5 => slots(u.keys.slots),
+        _ => record(u, o.shared.channels),
+    }
+}
+
+// The same at a unit.
+fn at_onu(o: Onu, k: usize) {
+    match k {
+        4 => stamps(o.clock.rx, o.clock.time),
+        5 => slots(o.keys.slots),
+        _ => unit(o),
+    }
+}
+
+fn at_end(p: Play, k: usize) {
+    let place = p.aim.place % 16;
+    let unit = play::unit_of(p.aim.side);
+    let olt = p.olt;
+    if p.aim.side == 0 {
+        at_olt(olt, olt.units[place], p.stamps, k);
+    } else {
+        at_onu(p.onus[unit], k);
+    }
+}
+
+// The words : sent received state stamps slots message answer ends keys, by their place.
+pub(crate) fn show(p: Play, k: usize) {
+    let olt = p.olt;
+    let place = p.aim.place % 16;
+    let unit = play::unit_of(p.aim.side);
+    match k {
+        0 => few(b": %", p.number as u64, 0, 0, 0),
+        1 => {
+            header(p.passed.header);
+            output(p.passed, p.count, p.aim.room);
+            at_end(p, k);
+        }
+        2 => {
+            output(p.passed, p.count, p.aim.room);
+            at_end(p, k);
+        }
+        6 => message(p.message),
+        7 => answer(p.acknowledgements[unit]),
+        8 => few(
+            b" % %, tick %, clock @",
+            p.first as u64,
+            p.second as u64,
+            p.olt.shared.tick,
+            p.olt.shared.clock,
+        ),
+        9 => held(olt.units[place], p.onus[place % 2]),
+        _ => at_end(p, k),
+    }
 }

@@ -1,11 +1,15 @@
-// Names, keys, payloads and headers that the rows use.
+// Names, keys, payloads and headers.
+use crate::script;
+use crate::script::Numbers;
+use ends::Acknowledgement;
 use ends::Header;
 use ends::Identity;
+use ends::Slots;
 
 pub const OLT_MAC: u64 = 0x0200_0000_0001;
 
 // LLIDs 5 and 6.
-pub(crate) fn unit_one() -> Identity {
+pub(crate) fn unit() -> Identity {
     Identity {
         mac: 0x0200_0000_0002,
         llids: [5, 6, 7, 8],
@@ -13,28 +17,57 @@ pub(crate) fn unit_one() -> Identity {
     }
 }
 
-// LLID 9.
-pub(crate) fn unit_two() -> Identity {
+// MAC, two LLIDs, and how many of four places are in use.
+pub(crate) fn identity(n: Numbers) -> Identity {
     Identity {
-        mac: 0x0200_0000_0003,
-        llids: [9, 6, 7, 8],
-        count: 1,
+        mac: n.a,
+        llids: [script::u16_of(n.b), script::u16_of(n.c), 7, 8],
+        count: script::u8_of(n.d),
     }
 }
 
-pub(crate) fn key(first: u8) -> [u8; 16] {
-    [first, 1, 2, 3, 4, 5, 6, 7, 8, 9, 10, 11, 12, 13, 14, 15]
+// A key by its first octet.
+pub(crate) fn key(first: u64) -> [u8; 16] {
+    let octet = script::u8_of(first);
+    [octet, 1, 2, 3, 4, 5, 6, 7, 8, 9, 10, 11, 12, 13, 14, 15]
 }
 
-// One EQ with that control octet.
-pub(crate) fn eq(control: u8) -> [u8; 9] {
-    [control, 16, 17, 18, 19, 20, 21, 22, 23]
+// The first octet is 17 for key n, 34 in the other slot.
+pub(crate) fn slots(n: u32) -> Slots {
+    let zeros = Slots {
+        even: [0; 16],
+        odd: [0; 16],
+    };
+    let one = ends::keyslots::with_key(zeros, n, key(17));
+    ends::keyslots::with_key(one, 1 - n % 2, key(34))
 }
 
-// Three EQs with those control octets.
-pub(crate) fn eqs(a: u8, b: u8, c: u8) -> [u8; 27] {
+// Kind and number, after an LLID.
+pub(crate) fn acknowledgement(n: Numbers) -> Acknowledgement {
+    Acknowledgement {
+        kind: script::u8_of(n.b),
+        number: script::u32_of(n.c),
+    }
+}
+
+// Channel index, LLID, EncEnabled, EncKey and EPAM.
+pub(crate) fn header(n: Numbers) -> Header {
+    Header {
+        index: script::u8_of(n.a),
+        llid: script::u16_of(n.b),
+        encenabled: script::u8_of(n.c),
+        enckey: script::u8_of(n.d),
+        epam: script::u8_of(n.e),
+    }
+}
+
+// Four EQs, the first three with those control octets.
+pub(crate) fn payload(a: u64, b: u64, c: u64) -> [u8; 36] {
+    let one = script::u8_of(a);
+    let two = script::u8_of(b);
+    let three = script::u8_of(c);
     [
-        a,
+        one,
         16,
         17,
         18,
@@ -43,7 +76,7 @@ pub(crate) fn eqs(a: u8, b: u8, c: u8) -> [u8; 27] {
         21,
         22,
         23,
-        b,
+        two,
         32,
         33,
         34,
@@ -52,40 +85,7 @@ pub(crate) fn eqs(a: u8, b: u8, c: u8) -> [u8; 27] {
         37,
         38,
         39,
-        c,
-        48,
-        49,
-        50,
-        51,
-        52,
-        53,
-        54,
-        55,
-    ]
-}
-
-// Four EQs with control octets 00.
-pub(crate) fn four() -> [u8; 36] {
-    [
-        0,
-        16,
-        17,
-        18,
-        19,
-        20,
-        21,
-        22,
-        23,
-        0,
-        32,
-        33,
-        34,
-        35,
-        36,
-        37,
-        38,
-        39,
-        0,
+        three,
         48,
         49,
         50,
@@ -104,19 +104,4 @@ pub(crate) fn four() -> [u8; 36] {
         70,
         71,
     ]
-}
-
-// What most envelopes carry.
-pub(crate) fn payload() -> [u8; 27] {
-    eqs(0x00, 0x81, 0x01)
-}
-
-pub(crate) fn header(index: u8, llid: u16, encenabled: u8, enckey: u8, epam: u8) -> Header {
-    Header {
-        index,
-        llid,
-        encenabled,
-        enckey,
-        epam,
-    }
 }

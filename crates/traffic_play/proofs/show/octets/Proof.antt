@@ -1,23 +1,21 @@
--- `traffic_play::show::print_octets` is safe and ends.
+-- `traffic_play::show::octets` is safe and ends.
 -- Assumes nothing.
 use Prim.Native.Nat.{_≤_, _-_}
 use borrow.Author.Needs.{needs}
-use lib.ListN.{length}
-use native.Mathlib.Omega.{arith}
-use Rattle.traffic_play.proofs.show.print_octets.Statement.{statement}
-use Rattle.traffic_play.proofs.show.print_octets.Tie as tie
+use Rattle.traffic_play.proofs.show.octets.Statement.{statement}
+use Rattle.traffic_play.proofs.show.octets.Tie as tie
 
 abbrev Inv-loop : tie.InvT-loop
-Inv-loop s i₀ i-end i = i ≤ length s
+Inv-loop s n i₀ i = i ≤ n
 
 abbrev μ-loop : tie.MeasureT-loop
-μ-loop s i₀ i-end i = length s - i
+μ-loop s n i₀ i = n - i
 
 loop-holds : tie.Need-loop-holds Inv-loop μ-loop
 loop-holds c = search needs
 
-shared-slice-read-wide : tie.Need-shared-slice-read-wide Inv-loop μ-loop
-shared-slice-read-wide c = search needs
+octet-requires : tie.Need-octet-requires Inv-loop μ-loop
+octet-requires c κs = search needs
 
 wide-requires : tie.Need-wide-requires Inv-loop μ-loop
 wide-requires c κs = search needs
@@ -37,14 +35,14 @@ loop-again c = search needs
 returns : tie.Need-returns Inv-loop μ-loop
 returns c = search needs
 
-pub print-octets-spec : {M : Type 1} → statement M
-print-octets-spec =
+pub octets-spec : {M : Type 1} → statement M
+octets-spec =
     tie.close
     (tie.spec
     Inv-loop
     μ-loop
     loop-holds
-    shared-slice-read-wide
+    octet-requires
     wide-requires
     print-hex-requires
     add-i

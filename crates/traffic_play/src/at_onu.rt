@@ -1,0 +1,184 @@
+// Words at a unit: the ends that rows start from, fields, and calls.
+use crate::play;
+use crate::play::Aim;
+use crate::play::Envelope;
+use crate::play::Play;
+use crate::script;
+use crate::script::Numbers;
+use crate::values;
+use clock::Stamps;
+use ends::Acknowledgement;
+use ends::Header;
+use ends::KeyMessage;
+use ends::Onu;
+use ends::OnuAcknowledged;
+use ends::OnuAnswer;
+use ends::OnuKeys;
+
+// The unit after a send or a receipt, and what passed.
+struct OnuPassed {
+    number: u8,
+    onu: Onu,
+    count: u64,
+    envelope: Envelope,
+}
+
+// Key a is `active`, and a + 1 is held or not; tick 100, Tx 2^32 + 65, Rx 250 less.
+fn keyed(active: u32, held: u8) -> OnuAnswer {
+    let slots = values::slots(active);
+    let keys = OnuKeys {
+        active,
+        held,
+        slots,
+    };
+    let fresh = onu::fresh(values::unit(), values::OLT_MAC, 65);
+    let mut onu = fresh.onu;
+    onu.tick = 100;
+    onu.clock.synced = 1;
+    onu.clock.time = 0x1_0000_0041;
+    onu.clock.rx = 0xffff_ff47;
+    onu.keys = keys;
+    OnuAnswer { number: 0, onu }
+}
+
+fn with_field(o: Onu, k: usize, value: u64, low: u8) -> OnuAnswer {
+    let mut onu = o;
+    match k {
+        8 => onu.tick = value,
+        9 => onu.channels.zero = value,
+        10 => onu.channels.one = value,
+        11 => onu.first.noted = low,
+        12 => onu.first.tick = value,
+        13 => onu.clock.synced = low,
+        14 => onu.clock.time = value,
+        15 => onu.clock.rx = value,
+        _ => {}
+    }
+    OnuAnswer { number: 0, onu }
+}
+
+fn answer(o: Onu, k: usize, n: Numbers) -> OnuAnswer {
+    match k {
+        3 => onu::fresh(values::identity(n), n.e, n.f),
+        4 => onu::advance(o, n.a),
+        5 => keyed(script::u32_of(n.a), script::u8_of(n.b)),
+        _ => with_field(o, k, n.a, script::u8_of(n.a)),
+    }
+}
+
+// `clock_arrives` and `key_arrives` are the messages that are under way.
+fn acknowledged(
+    a: OnuAnswer,
+    k: usize,
+    stamps: Stamps,
+    message: KeyMessage,
+    acknowledgement: Acknowledgement,
+) -> OnuAcknowledged {
+    let onu = a.onu;
+    match k {
+        6 => onu::clock_message(onu, stamps),
+        7 => onu::key_message(onu, message),
+        _ => OnuAcknowledged {
+            number: a.number,
+            onu,
+            acknowledgement,
+        },
+    }
+}
+
+// LLID and channel index.
+fn sent(o: Onu, n: Numbers, payload: [u8; 36], length: usize, room: usize) -> OnuPassed {
+    let mut octets = play::lent();
+    let used = length % 37;
+    let free = room % 37;
+    let answer = traffic::onu_send(
+        o,
+        script::u16_of(n.a),
+        script::u8_of(n.b),
+        &payload[..used],
+        &mut octets[..free],
+    );
+    let onu = answer.onu;
+    let header = answer.header;
+    let envelope = Envelope { header, octets };
+    OnuPassed {
+        number: answer.number,
+        onu,
+        count: answer.count,
+        envelope,
+    }
+}
+
+fn received(o: Onu, header: Header, payload: [u8; 36], length: usize, room: usize) -> OnuPassed {
+    let mut octets = play::lent();
+    let used = length % 37;
+    let free = room % 37;
+    let answer = traffic::onu_receive(o, header, &payload[..used], &mut octets[..free]);
+    let onu = answer.onu;
+    let envelope = Envelope { header, octets };
+    OnuPassed {
+        number: answer.number,
+        onu,
+        count: answer.count,
+        envelope,
+    }
+}
+
+fn passed(before: OnuPassed, k: usize, n: Numbers, aim: Aim, carried: Envelope) -> OnuPassed {
+    let payload = carried.octets;
+    match k {
+        0 => sent(before.onu, n, payload, aim.length, aim.room),
+        1 | 2 => received(before.onu, carried.header, payload, aim.length, aim.room),
+        _ => before,
+    }
+}
+
+fn with_onu(onus: [Onu; 2], unit: usize, onu: Onu) -> [Onu; 2] {
+    let mut r = onus;
+    let at = unit % 2;
+    r[at] = onu;
+    r
+}
+
+fn with_answer(
+    answers: [Acknowledgement; 2],
+    unit: usize,
+    answer: Acknowledgement,
+) -> [Acknowledgement; 2] {
+    let mut r = answers;
+    let at = unit % 2;
+    r[at] = answer;
+    r
+}
+
+pub(crate) fn command(p: Play, s: &[u8], at: usize, to: usize, n: Numbers) -> Play {
+    let k = script::word(
+        s,
+        at,
+        to,
+        b"send receive take fresh advance keyed clock_arrives key_arrives tick channel0 channel1 noted first synced time rx",
+    );
+    script::mark(k > 15, b'?');
+    let unit = play::unit_of(p.aim.side);
+    let asked = answer(p.onus[unit], k, n);
+    let taken = acknowledged(asked, k, p.stamps, p.message, p.acknowledgements[unit]);
+    let acknowledgement = taken.acknowledgement;
+    let onu = taken.onu;
+    let envelope = p.passed;
+    let before = OnuPassed {
+        number: taken.number,
+        onu,
+        count: p.count,
+        envelope,
+    };
+    let envelopes = p.envelopes;
+    let done = passed(before, k, n, p.aim, play::carried(envelopes, k, n, p.aim));
+    let mut r = play::after(p, k, n, done.number, done.count, done.envelope);
+    let units = r.onus;
+    let onus = with_onu(units, unit, done.onu);
+    let answers = r.acknowledgements;
+    let acknowledgements = with_answer(answers, unit, acknowledgement);
+    r.onus = onus;
+    r.acknowledgements = acknowledgements;
+    r
+}

@@ -1,0 +1,195 @@
+// What the script plays on: an OLT and two units, what is under way, and what the last call gave.
+ghost use Prim.Native.Nat.{_<_};
+ghost use lib.ListN.{length};
+ghost use mathlib.Core.Path.{_≡_};
+use crate::script::Numbers;
+use crate::values;
+use clock::Stamps;
+use ends::Acknowledgement;
+use ends::Header;
+use ends::KeyMessage;
+use ends::Olt;
+use ends::Onu;
+
+pub struct Envelope {
+    pub header: Header,
+    pub octets: [u8; 36],
+}
+
+// What the words speak of: the OLT (side 0) or a unit (1, 2), and the place of a unit's record in the OLT's table. Of four EQs the
+// first `length` octets are sent, and `room` octets are lent for the output.
+pub struct Aim {
+    pub side: u8,
+    pub place: usize,
+    pub eqs: [u8; 36],
+    pub length: usize,
+    pub room: usize,
+}
+
+// An envelope is under way in each of four places, an acknowledgement from each unit. `first` and `second` are the units' numbers of
+// an advance of all ends, `number` is that of the last call, `passed` and `count` what the last send or receipt gave.
+pub struct Play {
+    pub aim: Aim,
+    pub number: u8,
+    pub first: u8,
+    pub second: u8,
+    pub olt: Olt,
+    pub onus: [Onu; 2],
+    pub stamps: Stamps,
+    pub message: KeyMessage,
+    pub acknowledgements: [Acknowledgement; 2],
+    pub envelopes: [Envelope; 4],
+    pub passed: Envelope,
+    pub count: u64,
+}
+
+// Three EQs, and an output that fits.
+fn usual(side: u8) -> Aim {
+    let eqs = values::payload(0x00, 0x81, 0x01);
+    Aim {
+        side,
+        place: 0,
+        eqs,
+        length: 27,
+        room: 27,
+    }
+}
+
+pub(crate) fn start() -> Play {
+    let aim = usual(0);
+    let down = olt::fresh(values::OLT_MAC, 0);
+    let up = onu::fresh(values::unit(), values::OLT_MAC, 0);
+    let olt = down.olt;
+    let onu = up.onu;
+    let key = values::key(0);
+    let octets = aim.eqs;
+    let none = Envelope {
+        header: Header {
+            index: 0,
+            llid: 0,
+            encenabled: 0,
+            enckey: 0,
+            epam: 0,
+        },
+        octets,
+    };
+    Play {
+        aim,
+        number: 0,
+        first: 0,
+        second: 0,
+        olt,
+        onus: [onu; 2],
+        stamps: Stamps { rx: 0, tx: 0 },
+        message: KeyMessage {
+            llid: 0,
+            number: 0,
+            key,
+        },
+        acknowledgements: [Acknowledgement { kind: 0, number: 0 }; 2],
+        envelopes: [none; 4],
+        passed: none,
+        count: 0,
+    }
+}
+
+pub(crate) fn unit_of(side: u8) -> usize
+    ensures { λ r. ⌜ r < 2 ⌝ }
+{
+    (side / 2 % 2) as usize
+}
+
+// The first three speak of the usual payload again.
+fn aimed(aim: Aim, k: usize, n: Numbers) -> Aim {
+    let mut r = aim;
+    match k {
+        10 => r = usual(0),
+        11 => r = usual(1),
+        12 => r = usual(2),
+        13 => r.place = (n.a % 16) as usize,
+        14 => {
+            r.length = (n.a % 37) as usize;
+            r.room = (n.b % 37) as usize;
+        }
+        _ => {
+            let eqs = values::payload(n.a, n.b, n.c);
+            r.eqs = eqs;
+        }
+    }
+    r
+}
+
+// An advance of all ends.
+fn advance(p: Play, n: u64) -> Play {
+    let down = olt::advance(p.olt, n);
+    let one = onu::advance(p.onus[0], n);
+    let two = onu::advance(p.onus[1], n);
+    let olt = down.olt;
+    let first = one.onu;
+    let second = two.onu;
+    let onus = [first, second];
+    let mut r = p;
+    r.number = down.number;
+    r.first = one.number;
+    r.second = two.number;
+    r.olt = olt;
+    r.onus = onus;
+    r
+}
+
+// The words olt onu onu2 unit lengths control all, from the tenth on.
+pub(crate) fn turned(p: Play, k: usize, n: Numbers) -> Play {
+    if k == 16 {
+        return advance(p, n.a);
+    }
+    let aim = aimed(p.aim, k, n);
+    let mut r = p;
+    r.aim = aim;
+    r
+}
+
+// The output that is lent.
+pub(crate) fn lent() -> [u8; 36]
+    ensures { λ r. ⌜ 36 ≡ length r ⌝ }
+{
+    [0xaa; 36]
+}
+
+// What passes: an envelope that is under way, or else the payload that is spoken of with a header of numbers.
+pub(crate) fn carried(envelopes: [Envelope; 4], k: usize, n: Numbers, aim: Aim) -> Envelope {
+    let place = (n.a % 4) as usize;
+    if k == 2 {
+        return envelopes[place];
+    }
+    let octets = aim.eqs;
+    let header = values::header(n);
+    Envelope { header, octets }
+}
+
+// What is sent is under way in the place that the third number says.
+fn under_way(envelopes: [Envelope; 4], k: usize, place: usize, sent: Envelope) -> [Envelope; 4] {
+    let mut r = envelopes;
+    let at = place % 4;
+    if k == 0 {
+        r[at] = sent;
+    }
+    r
+}
+
+pub(crate) fn after(
+    p: Play,
+    k: usize,
+    n: Numbers,
+    number: u8,
+    count: u64,
+    passed: Envelope,
+) -> Play {
+    let before = p.envelopes;
+    let envelopes = under_way(before, k, (n.c % 4) as usize, passed);
+    let mut r = p;
+    r.envelopes = envelopes;
+    r.number = number;
+    r.count = count;
+    r.passed = passed;
+    r
+}

@@ -1,0 +1,110 @@
+"""A unit, written from document 01 and the decisions on it. Shares no code with the engine."""
+from ends import LAST, LOCAL, NO_ANSWER, NO_HEADER, TOP, TURN, Named, good_header, old
+from sealing import misfit, seal
+
+
+class Onu:
+    """`time` is LocalTime while unsynced, and Tx, whose low 32 bits are LocalTime, once synced."""
+
+    def __init__(self, named=None, oltmac=0, time=0):
+        self.named, self.oltmac, self.time, self.rx, self.synced = named or Named(0, []), oltmac, time, 0, 0
+        self.tick, self.free, self.a, self.held, self.keys = 0, [0, 0], 0, 0, [bytes(16), bytes(16)]
+        self.noted = self.first = 0
+
+    def valid(self):
+        return (self.named.in_range() and not self.named.twice() and self.oltmac < 2**48 and self.tick <= LAST
+                and max(self.synced, self.held, self.noted) <= 1 and self.rx < TURN and self.time < (TURN if self.synced else LOCAL)
+                and self.a + self.held <= TOP and not (self.noted and self.first > self.tick) and max(self.free) <= LAST + 4194304)
+
+    def advance(self, n):
+        if not self.valid():
+            return 1
+        if self.tick + n > LAST:
+            return 17
+        self.tick, self.time = self.tick + n, (self.time + n) % (TURN if self.synced else LOCAL)
+        self.rx = (self.rx + n) % TURN if self.synced else self.rx
+        return 0
+
+    def clock_message(self, stamps):
+        if not self.valid() or max(stamps) >= TURN:
+            return 1, NO_ANSWER
+        rx, tx = stamps
+        # the source's loop, in strides as long as no low half can match within them
+        raised = 0
+        while (tx + raised) % LOCAL != self.time % LOCAL:
+            raised += (self.time - tx - raised) % LOCAL
+        self.synced, self.time, self.rx = 1, (tx + raised) % TURN, (rx + raised) % TURN
+        return 0, (1, 0)
+
+    def key_message(self, message):
+        llid, number, key = message
+        if not self.valid():
+            return 1, NO_ANSWER
+        if llid not in self.named.llids():
+            return 2, NO_ANSWER
+        if not self.synced:
+            return 5, NO_ANSWER
+        if number == self.a + 1 and not self.held:
+            self.held, self.keys[number % 2] = 1, key
+        elif not (number in (self.a, self.a + self.held) and number >= 1 and self.keys[number % 2] == key):
+            return 8, NO_ANSWER
+        return 0, (2, number)
+
+    def send_number(self, llid, index, payload, out):
+        if not self.valid():
+            return 1
+        if misfit(payload, out):
+            return 14
+        if index not in (0x80, 0x81):
+            return 1
+        if llid not in self.named.llids():
+            return 2
+        if self.tick < self.free[index - 0x80]:
+            return 12
+        return 13 if self.a >= 1 and old(self, self.tick) else 0
+
+    def send(self, llid, index, payload, out):
+        number = self.send_number(llid, index, payload, out)
+        if number:
+            return number, NO_HEADER, 0, out
+        if self.a >= 1 and not self.noted:
+            self.noted, self.first = 1, self.tick
+        self.free[index - 0x80] = self.tick + len(payload) // 9 + 1
+        sealed, count = seal(self.keys[self.a % 2] if self.a else None, index, self.named.mac, self.time, payload)
+        return 0, (index, llid, int(self.a > 0), self.a % 2, self.time % 64), count, sealed
+
+    def receive_number(self, header, octets, out):
+        _, llid, enabled, enckey, epam = header
+        if not self.valid():
+            return 1
+        if misfit(octets, out):
+            return 14
+        if not good_header(header, 0x00):
+            return 1
+        if llid not in self.named.llids():
+            return 2
+        if self.synced and epam != self.rx % 64:
+            return 10
+        if enabled and not self.synced:
+            return 5
+        if not enabled:
+            return 11 if self.a > 0 else 0
+        known = self.a >= 1 and enckey == self.a % 2 or self.held and enckey == (self.a + 1) % 2
+        return 0 if known else 9
+
+    def receive(self, header, octets, out):
+        number = self.receive_number(header, octets, out)
+        if number:
+            return number, 0, out
+        index, _, enabled, enckey, _ = header
+        if enabled and not (self.a >= 1 and enckey == self.a % 2):
+            self.a, self.held, self.noted, self.first = self.a + 1, 0, 0, 0
+            self.keys[1 - self.a % 2] = bytes(16)
+        opened, count = seal(self.keys[enckey] if enabled else None, index, self.oltmac, self.rx, octets)
+        return 0, count, opened
+
+
+def fresh_onu(named, oltmac, time):
+    if not named.in_range() or oltmac >= 2**48 or time >= LOCAL:
+        return 1, Onu()
+    return (3, Onu()) if named.twice() else (0, Onu(named.kept(), oltmac, time))

@@ -1,16 +1,18 @@
 #!/usr/bin/env python3
-"""What the C program host/c/exchange.c must print, from the two ends of tools/traffic.py, which share no code with the engine.
+"""What the C program host/c/exchange.c must print, from the ends of tools/olt.py and tools/onu.py, which share no code with the engine.
 
 usage: tools/c_exchange.py > host/c/exchange.stdout
 """
-from traffic import Olt, Onu
+from ends import Named
+from olt import fresh_olt
+from onu import fresh_onu
 
 DOWN, UP, INTERVAL, FIRST = 20, 12, 1000, 0xFFFFFFFFFF00
-OLT_MAC, UNIT_MAC, LLIDS = 0x020000000001, 0x020000000002, [5, 6]
+OLT_MAC, UNIT = 0x020000000001, Named(0x020000000002, [5, 6])
 PAYLOAD = bytes([0x00, *range(0x10, 0x18), 0x81, *range(0x20, 0x28), 0x01, *range(0x30, 0x38)])
 NOTHING = bytes(len(PAYLOAD))
 
-olt, onu = Olt(OLT_MAC, FIRST), Onu(UNIT_MAC, LLIDS, OLT_MAC, (FIRST + UP) % 2**32)
+(olt_number, olt), (onu_number, onu) = fresh_olt(OLT_MAC, FIRST), fresh_onu(UNIT, OLT_MAC, (FIRST + UP) % 2**32)
 
 
 def advance(n):
@@ -78,14 +80,14 @@ def change_keys(first):
 
 
 if __name__ == "__main__":
-    print("fresh: 0 0")
+    print(f"fresh: {olt_number} {onu_number}")
     for _ in range(2):
-        number = olt.register(UNIT_MAC, LLIDS, DOWN + UP, INTERVAL)
-        print(f"register: {number} units {len(olt.units)}")
+        number = olt.register(UNIT, DOWN + UP, INTERVAL)
+        print(f"register: {number} units {olt.count}")
     offer(0x40)
     set_clock()
     both_ways(0)
     change_keys(0x40)
     change_keys(0xA0)
     u = olt.units[0]
-    print(f"both hold key 2: {int(u.A == u.C == onu.a == 2 and u.keys[2] == onu.keys[2])}")
+    print(f"both hold key 2: {int(u.A == u.C == onu.a == 2 and u.keys[0] == onu.keys[0])}")

@@ -1,15 +1,20 @@
 #!/usr/bin/env python3
-"""What the program `calls` must print: every exported call, played on the ends of tools/traffic.py and the reader of tools/capture_blocks.py.
+"""What the program `calls` must print: every exported call, played on the ends of tools/olt.py and tools/onu.py and the reader of
+tools/capture_blocks.py.
 
 usage: tools/calls.py > crates/calls/stdout
-Shares no code with the engine. What those two do not give, the faults of a directory and the refusals of a fresh end, is written here
-from document 01.
+Shares no code with the engine. What those do not give, the faults of a directory, is written here from document 01.
 """
 import capture_blocks as reader
-import traffic
 from capture_blocks import CLEAR, ONE
-from traffic import LENT, LOCAL, PAYLOAD, TURN, MAC_ONE, OLT_MAC
+from ends import LOCAL, TURN, Named
+from olt import fresh_olt
+from onu import fresh_onu
+from sealing import seal
 
+OLT_MAC, UNIT = 0x020000000001, Named(0x020000000002, [5, 6])
+PAYLOAD = bytes([0x00, *range(0x10, 0x18), 0x81, *range(0x20, 0x28), 0x01, *range(0x30, 0x38)])
+LENT = b"\xaa" * 27
 KEY = bytes.fromhex("2b7e151628aed2a6abf7158809cf4f3c")
 
 
@@ -25,11 +30,12 @@ def passed(count, octets):
 
 class Line:
     def __init__(self):
-        self.olt, self.onu = traffic.Olt(OLT_MAC, TURN - 1000), traffic.Onu(MAC_ONE, [5, 6], OLT_MAC, (TURN - 900) % LOCAL)
-        show("olt_fresh", 0)
+        number, self.olt = fresh_olt(OLT_MAC, TURN - 1000)
+        show("olt_fresh", number)
         for _ in range(2):
-            show("olt_register", self.olt.register(MAC_ONE, [5, 6], 250, 1000))
-        show("onu_fresh", 0)
+            show("olt_register", self.olt.register(UNIT, 250, 1000))
+        number, self.onu = fresh_onu(UNIT, OLT_MAC, (TURN - 900) % LOCAL)
+        show("onu_fresh", number)
 
     def olt_advance(self, n):
         number = self.olt.advance(n)
@@ -91,11 +97,10 @@ class Line:
         show("olt_capture", self.olt.capture(9))
         self.offered("olt_retry", *self.olt.retry(5))
         self.olt_advance(2**62)
-        # a MAC of 2^48
-        show("olt_fresh", 1)
+        show("olt_fresh", fresh_olt(TURN, 0)[0])
         self.send("onu", 9, 0x80)
         self.onu_advance(2**62)
-        show("onu_fresh", 1)
+        show("onu_fresh", fresh_onu(UNIT, TURN, 0)[0])
 
 
 def ends():
@@ -114,7 +119,7 @@ def ends():
 
 def payloads():
     print(f"jazmotip_expand_key {b''.join(reader.expanded(KEY)).hex()}")
-    sealed, count = traffic.seal(KEY, 0x81, OLT_MAC, 0x41, PAYLOAD)
+    sealed, count = seal(KEY, 0x81, OLT_MAC, 0x41, PAYLOAD)
     for call in ("seal", "seal_expanded"):
         show(call, 0, passed(0, PAYLOAD))
         show(call, 0, passed(count, sealed))

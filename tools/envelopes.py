@@ -4,19 +4,10 @@
 usage: tools/envelopes.py > crates/envelopes/stdout
 Shares no code with the engine: the counter block and the mask are written from document 01.
 """
-from cryptography.hazmat.primitives.ciphers import Cipher, algorithms, modes
+from sealing import aes, counter_block, seal
 
 KEYS = [bytes.fromhex("2b7e151628aed2a6abf7158809cf4f3c"), bytes(range(16))]
 MAC, CLOCK = 0x020000000001, 0x41
-
-
-def aes(key, block):
-    step = Cipher(algorithms.AES(key), modes.ECB()).encryptor()
-    return step.update(block) + step.finalize()
-
-
-def counter_block(channel, mac, clock, index):
-    return bytes([channel]) + mac.to_bytes(6, "big") + clock.to_bytes(6, "big") + index.to_bytes(3, "big")
 
 
 def payload(kind, octets):
@@ -25,18 +16,6 @@ def payload(kind, octets):
             return (i % 256 * 7 + i // 256 % 256 + 3) % 256
         return kind if kind < 256 else (i // 9 % 256 * 37 + 11) % 256
     return bytes(octet(i) for i in range(octets))
-
-
-def seal(key, channel, mac, clock, clear_text):
-    out, count = bytearray(clear_text), 0
-    for e in range(len(clear_text) // 9):
-        control = clear_text[9 * e]
-        stream = aes(key, counter_block(channel, mac, clock, e // 2))[8 * (e % 2):8 * (e % 2) + 8]
-        for j in range(8):
-            if not control >> j & 1:
-                out[9 * e + 1 + j] ^= stream[j]
-                count += 1
-    return bytes(out), count
 
 
 def digest(octets):

@@ -1,229 +1,26 @@
 #!/usr/bin/env python3
-"""What the program `exchange` must print: its script, played on both ends without send and receive, which are written from document 01
-and the decisions on it (docs/DECISIONS.md).
+"""What the program `exchange` must print: its script, played on the ends of tools/olt.py and tools/onu.py.
 
 usage: tools/exchange.py < crates/exchange/stdin > crates/exchange/stdout
-Shares no code with the engine. Python 3, standard library.
+Shares no code with the engine.
 """
 import sys
-from copy import deepcopy
 
-TURN, LOCAL, LAST, SECOND = 2**48, 2**32, 2**62, 390625000
-TOP = 2**32 - 1
-OLT_MAC, UNIT_MAC = 0x020000000001, 0x020000000002
-NO_STAMPS, NO_MESSAGE, NO_ANSWER = (0, 0), (0, 0, bytes(16)), (0, 0)
+import script
+from ends import NO_ANSWER, NO_MESSAGE, NO_STAMPS, Named
+from olt import fresh_olt
+from onu import fresh_onu
 
-
-# ---- the two ends (01, Clock; Keys; 'When the reader says no')
-
-class Named:
-    """A MAC and four places for LLIDs, of which `count` are in use."""
-
-    def __init__(self, mac, first, second, third=7, fourth=8, count=2):
-        self.mac, self.places, self.count = mac, [first, second, third, fourth], count
-
-    def llids(self):
-        return self.places[:self.count]
-
-    def in_range(self):
-        return self.mac < 2**48 and 1 <= self.count <= 4
-
-    def twice(self):
-        return len(set(self.llids())) < len(self.llids())
-
-
-class Unit:
-    """The OLT's record of a unit; `keys` by index, number modulo 2."""
-
-    def __init__(self, named, trip, interval):
-        self.named, self.trip, self.interval = deepcopy(named), trip, interval
-        self.count = self.flag = self.A = self.C = self.O = self.mark = 0
-        self.keys = [bytes(16), bytes(16)]
-        self.noted = self.first = self.captured = self.capture = self.sent = self.clocked = 0
-
-    def valid(self, tick):
-        flags = (self.flag, self.mark, self.noted, self.captured, self.sent, self.clocked)
-        return (self.named.in_range() and self.trip <= 1000000 and 1 <= self.interval <= 2**47 and self.count < self.interval
-                and max(flags) <= 1 and not (self.noted and self.first > tick) and not (self.captured and self.capture > tick)
-                and self.A - self.C in (0, 1) and self.O - self.A in (0, 1) and self.O - self.C in (0, 1))
-
-
-class Olt:
-    def __init__(self, mac=0, clock=0):
-        self.mac, self.clock, self.tick, self.free, self.count = mac, clock, 0, [0, 0], 0
-        self.units = [Unit(Named(0, 0, 0, 0, 0, 0), 0, 0) for _ in range(16)]
-
-    def valid(self):
-        if self.count > 16:
-            return False
-        used = self.units[:self.count]
-        llids = [x for u in used for x in u.named.llids()]
-        return (self.mac < 2**48 and self.clock < TURN and self.tick <= LAST and max(self.free) <= LAST + 4194304
-                and all(u.valid(self.tick) for u in used) and len(set(llids)) == len(llids))
-
-    def unit(self, llid):
-        return next((u for u in self.units[:self.count] if llid in u.named.llids()), None)
-
-    def ahead(self, llid):
-        """1 for the end that is lent, then 2."""
-        return 1 if not self.valid() else 2 if self.unit(llid) is None else 0
-
-    def register(self, named, trip, interval):
-        if not self.valid() or not named.in_range() or trip > 1000000 or not 1 <= interval <= 2**47:
-            return 1
-        if named.twice() or any(self.unit(x) for x in named.llids()):
-            return 3
-        if self.count == 16:
-            return 4
-        kept = deepcopy(named)
-        kept.places = kept.llids() + [0] * (4 - kept.count)
-        self.units[self.count] = Unit(kept, trip, interval)
-        self.count += 1
-        return 0
-
-    def advance(self, n):
-        if not self.valid():
-            return 1
-        if self.tick + n > LAST:
-            return 17
-        self.tick, self.clock = self.tick + n, (self.clock + n) % TURN
-        for u in self.units[:self.count]:
-            u.flag = 1 if u.count + n >= u.interval else u.flag
-            u.count = (u.count + n) % u.interval
-        return 0
-
-    def capture(self, llid):
-        number = self.ahead(llid)
-        if number == 0:
-            u = self.unit(llid)
-            u.captured, u.capture = 1, self.tick
-        return number
-
-    def clock_send(self, llid):
-        number, u = self.ahead(llid), self.unit(llid)
-        if number:
-            return number, NO_STAMPS
-        if not u.captured:
-            return 8, NO_STAMPS
-        if self.tick - u.capture > SECOND:
-            return 16, NO_STAMPS
-        u.sent, rx = 1, (self.clock - (self.tick - u.capture)) % TURN
-        return 0, (rx, (rx + u.trip) % TURN)
-
-    def offer(self, llid, key):
-        number, u = self.ahead(llid), self.unit(llid)
-        if number:
-            return number, NO_MESSAGE
-        if not u.clocked:
-            return 5, NO_MESSAGE
-        if u.O > u.A or u.C < u.A:
-            return 6, NO_MESSAGE
-        if u.A >= 1 and u.keys[u.A % 2] == key:
-            return 7, NO_MESSAGE
-        if u.A == TOP:
-            return 17, NO_MESSAGE
-        u.O, u.mark = u.A + 1, 0
-        u.keys[u.O % 2] = key
-        return 0, (llid, u.O, key)
-
-    def retry(self, llid):
-        number, u = self.ahead(llid), self.unit(llid)
-        if number or u.O == u.A:
-            return number or 8, NO_MESSAGE
-        return 0, (llid, u.O, u.keys[u.O % 2])
-
-    def acknowledge(self, llid, answer):
-        number, u = self.ahead(llid), self.unit(llid)
-        if number:
-            return number
-        if answer[0] == 1 and u.sent:
-            u.clocked = 1
-        elif answer[0] == 2 and u.O >= 1 and answer[1] == u.O:
-            u.mark = 1
-        else:
-            return 8
-        return 0
-
-
-class Onu:
-    """`time` is LocalTime while unsynced, and Tx, whose low 32 bits are LocalTime, once synced."""
-
-    def __init__(self, named=None, oltmac=0, time=0):
-        self.named, self.oltmac, self.time, self.rx, self.synced = named or Named(0, 0, 0, 0, 0, 0), oltmac, time, 0, 0
-        self.tick, self.free, self.a, self.held, self.keys = 0, [0, 0], 0, 0, [bytes(16), bytes(16)]
-        self.noted = self.first = 0
-
-    def valid(self):
-        return (self.named.in_range() and not self.named.twice() and self.oltmac < 2**48 and self.tick <= LAST
-                and max(self.synced, self.held, self.noted) <= 1 and self.rx < TURN and self.time < (TURN if self.synced else LOCAL)
-                and self.a + self.held <= TOP and not (self.noted and self.first > self.tick) and max(self.free) <= LAST + 4194304)
-
-    def advance(self, n):
-        if not self.valid():
-            return 1
-        if self.tick + n > LAST:
-            return 17
-        self.tick, self.time = self.tick + n, (self.time + n) % (TURN if self.synced else LOCAL)
-        self.rx = (self.rx + n) % TURN if self.synced else self.rx
-        return 0
-
-    def clock_message(self, stamps):
-        if not self.valid() or max(stamps) >= TURN:
-            return 1, NO_ANSWER
-        rx, tx = stamps
-        # the source's loop, in strides as long as no low half can match within them
-        raised = 0
-        while (tx + raised) % LOCAL != self.time % LOCAL:
-            raised += (self.time - tx - raised) % LOCAL
-        self.synced, self.time, self.rx = 1, (tx + raised) % TURN, (rx + raised) % TURN
-        return 0, (1, 0)
-
-    def key_message(self, message):
-        llid, number, key = message
-        if not self.valid():
-            return 1, NO_ANSWER
-        if llid not in self.named.llids():
-            return 2, NO_ANSWER
-        if not self.synced:
-            return 5, NO_ANSWER
-        if number == self.a + 1 and not self.held:
-            self.held, self.keys[number % 2] = 1, key
-        elif not (number in (self.a, self.a + self.held) and number >= 1 and self.keys[number % 2] == key):
-            return 8, NO_ANSWER
-        return 0, (2, number)
-
-
-def fresh_olt(mac, clock):
-    return (1, Olt()) if mac >= 2**48 or clock >= TURN else (0, Olt(mac, clock))
-
-
-def fresh_onu(named, oltmac, time):
-    if not named.in_range() or oltmac >= 2**48 or time >= LOCAL:
-        return 1, Onu()
-    if named.twice():
-        return 3, Onu()
-    kept = deepcopy(named)
-    kept.places = kept.llids() + [0] * (4 - kept.count)
-    return 0, Onu(kept, oltmac, time)
-
-
-# ---- the script: its grammar stands at the top of crates/exchange/src/script.rt, its words in at_olt.rt, at_onu.rt and shown.rt
-
-def number(text):
-    """Decimal, or a power of 2, with another added or taken away."""
-    for sign in "+-":
-        if sign in text:
-            left, right = text.split(sign)
-            return (number(left) + (1 if sign == "+" else -1) * number(right)) % 2**64
-    base, _, exponent = text.partition("^")
-    return int(base) ** int(exponent) if exponent else int(base)
+OLT_MAC, UNIT = 0x020000000001, Named(0x020000000002, [5, 6])
 
 
 def key(octet):
     return bytes([octet] * 16)
 
 
-UNIT = Named(UNIT_MAC, 5, 6)
+def named(n):
+    """MAC, two LLIDs of four places, and how many are in use."""
+    return Named(n[0], [n[1], n[2], 7, 8], n[3])
 
 
 class Play:
@@ -252,7 +49,7 @@ class Play:
     def olt_full(self):
         self.olt = fresh_olt(OLT_MAC, 0)[1]
         for n in range(16):
-            self.number = self.olt.register(Named(3, 4 * n, 4 * n + 1, 4 * n + 2, 4 * n + 3, 4), 0, 100)
+            self.number = self.olt.register(Named(3, range(4 * n, 4 * n + 4)), 0, 100)
 
     def at_olt(self, word, n):
         o = self.olt
@@ -271,9 +68,9 @@ class Play:
         elif word == "full":
             self.olt_full()
         elif word == "identity":
-            self.unit().named, self.number = Named(n[0], n[1], n[2], count=n[3]), 0
+            self.unit().named, self.number = named(n), 0
         elif word == "register":
-            self.number = o.register(Named(n[0], n[1], n[2], count=n[3]), n[4], n[5])
+            self.number = o.register(named(n), n[4], n[5])
         elif word == "advance":
             self.number = o.advance(n[0])
         elif word == "capture":
@@ -312,7 +109,7 @@ class Play:
     def at_onu(self, word, n):
         o = self.onu
         if word == "fresh":
-            self.number, self.onu = fresh_onu(Named(n[0], n[1], n[2], count=n[3]), n[4], n[5])
+            self.number, self.onu = fresh_onu(named(n), n[4], n[5])
         elif word == "new":
             self.number, self.onu = fresh_onu(UNIT, OLT_MAC, n[0])
         elif word == "synced":
@@ -322,7 +119,7 @@ class Play:
             self.onu.a, self.onu.held = n[0], n[1]
             self.onu.keys[n[0] % 2], self.onu.keys[1 - n[0] % 2] = key(17), key(n[2])
         elif word == "identity":
-            o.named, self.number = Named(n[0], n[1], n[2], count=n[3]), 0
+            o.named, self.number = named(n), 0
         elif word == "advance":
             self.number = o.advance(n[0])
         elif word == "clock_message":
@@ -347,11 +144,10 @@ class Play:
             self.side, self.place = word, 0
         elif "=" in word:
             name, value = word.split("=")
-            (self.olt_field if self.side == "olt" else self.onu_field)(name, number(value))
+            (self.olt_field if self.side == "olt" else self.onu_field)(name, script.number(value))
             self.number = 0
         else:
-            padded = numbers + [0] * (6 - len(numbers))
-            (self.at_olt if self.side == "olt" else self.at_onu)(word, padded)
+            (self.at_olt if self.side == "olt" else self.at_onu)(word, numbers)
 
     def shown(self, name):
         o, u, unit = self.olt, self.onu, self.unit()
@@ -360,24 +156,8 @@ class Play:
                   "number": self.message[1], "octet": self.message[2][15]}
         at_onu = {"MAC": u.named.mac, "LLIDs": u.named.count, "tick": u.tick, "Rx": u.rx, "held": u.held, "Tx": u.time,
                   "LocalTime": u.time, "kind": self.acknowledgement[0], "number": self.acknowledgement[1], "OLT_clock": o.clock}
-        return (at_olt if self.side == "olt" else at_onu)[name]
-
-    def row(self, label, played, shown):
-        words = played.split()
-        for k, word in enumerate(words):
-            if not word[0].isdigit():
-                numbers = []
-                while k + 1 + len(numbers) < len(words) and words[k + 1 + len(numbers)][0].isdigit():
-                    numbers.append(number(words[k + 1 + len(numbers)]))
-                self.command(word, numbers)
-        parts = "".join(f", {name.replace('_', ' ', 1)} {self.shown(name)}" for name in shown.split())
-        print(f"{label}: {self.number}{parts}")
+        value = (at_olt if self.side == "olt" else at_onu)[name]
+        return f", {name.replace('_', ' ', 1)} {value}"
 
 
-play = Play()
-for line in sys.stdin.read().splitlines():
-    label, bar, rest = line.partition(" | ")
-    if bar:
-        play.row(label, *rest.split(":"))
-    elif line and not line.startswith("#"):
-        print(line)
+script.play(Play(), sys.stdin.read())

@@ -1,6 +1,6 @@
-"""The scripts of the programs `exchange` and `traffic_play`: their grammar stands at the top of each script and in src/script.rt.
+"""Reads the scripts of the programs `exchange` and `traffic_play`; their grammar stands at the top of each crate's src/script.rt.
 
-A player has the methods command(word, numbers), and row() and shown(word) for what a row prints.
+A player has command(word, numbers), the number of its last call, and shown(word), the text of what a row shows.
 """
 
 

@@ -2,7 +2,8 @@
 ghost use mathlib.Core.Bool.{not};
 ghost use mathlib.Core.Path.{_≡_};
 ghost use Prim.Native.Nat.{_<_};
-ghost use Rattle.refusal.specs.declared.Refusal.the-variants.{OutOfRange};
+ghost use Rattle.refusal.specs.declared.Refusal.the-variants.{OutOfRange, RepeatedLlid, TableFull};
+ghost use Rattle.refusal.specs.declared.Verdict.the-variants.{Accepted};
 ghost use Rattle.ends.specs.Replies.{refuseIf};
 ghost use Rattle.ends.specs.Records.{freshUnit, newOlt, noUnit};
 ghost use Rattle.ends.specs.Table.{withOneMore};
@@ -111,27 +112,34 @@ fn valid_registration(identity: Identity, trip: u64, interval: u64) -> bool
     who & ((trip <= MAX_ROUND_TRIP) & when)
 }
 
+fn first_of(invalid: bool, wrong: bool, repeated: bool, full: bool) -> Verdict
+    ensures { λ r. ⌜ r ≡ refuseIf invalid OutOfRange (refuseIf wrong OutOfRange (refuseIf repeated RepeatedLlid (refuseIf full TableFull Accepted))) ⌝ }
+{
+    if invalid {
+        return Verdict::Refused(Refusal::OutOfRange);
+    }
+    if wrong {
+        return Verdict::Refused(Refusal::OutOfRange);
+    }
+    if repeated {
+        return Verdict::Refused(Refusal::RepeatedLlid);
+    }
+    if full {
+        return Verdict::Refused(Refusal::TableFull);
+    }
+    Verdict::Accepted
+}
+
 // 1 for the end that is lent, then register's own 1, 3 and 4.
 pub(crate) fn register_verdict(olt: Olt, identity: Identity, trip: u64, interval: u64) -> Verdict
     ensures { λ r. ⌜ r ≡ refuseIf (not (validOlt olt)) OutOfRange (registerVerdict olt identity trip interval) ⌝ }
 {
-    if !valid_olt(olt) {
-        return Verdict::Refused(Refusal::OutOfRange);
-    }
-    if !valid_registration(identity, trip, interval) {
-        return Verdict::Refused(Refusal::OutOfRange);
-    }
-    if !distinct_llids(identity) {
-        return Verdict::Refused(Refusal::RepeatedLlid);
-    }
+    let valid = valid_olt(olt);
+    let ranged = valid_registration(identity, trip, interval);
+    let distinct = distinct_llids(identity);
     let units = olt.units;
-    if meets_table(units, olt.count, identity) {
-        return Verdict::Refused(Refusal::RepeatedLlid);
-    }
-    if MAX_UNITS <= olt.count {
-        return Verdict::Refused(Refusal::TableFull);
-    }
-    Verdict::Accepted
+    let met = meets_table(units, olt.count, identity);
+    first_of(!valid, !ranged, !distinct | met, MAX_UNITS <= olt.count)
 }
 
 // One unit more, in the first place that is not in use.

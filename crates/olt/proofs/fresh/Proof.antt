@@ -1,6 +1,6 @@
 -- `olt::fresh` meets its contract: the tests are those of the definition.
 -- Assumes nothing.
-use mathlib.Core.Path.{_≡_, sym, _∙_}
+use mathlib.Core.Path.{sym}
 use borrow.Author.Needs.{needs}
 use Rattle.octets.specs.Choice.{both}
 use Rattle.ends.specs.OltCalls.{freshOltOf, oltAnswer}

@@ -1,7 +1,6 @@
 -- `olt::register` meets its contract: the verdict decides, and a fresh unit takes the next place.
 -- Assumes nothing.
-use mathlib.Core.Path.{_≡_, sym, _∙_}
-use native.Mathlib.Omega.{arith}
+use mathlib.Core.Path.{sym, _∙_}
 use borrow.Author.Needs.{needs}
 use Rattle.ends.specs.OltCalls.{registerOf, registering, oltAnswer}
 use Rattle.ends.specs.Replies.{reply}

@@ -1,6 +1,5 @@
 -- `olt::answers::put_back` meets its contract: by the verdict.
 -- Assumes nothing.
-use mathlib.Core.Path.{_∙_}
 use borrow.Author.Needs.{needs}
 use Rattle.ends.specs.OltCalls.{oltAnswer}
 use Rattle.ends.specs.Replies.{reply}

@@ -14,7 +14,7 @@ valid-interval-requires c κs = search needs
 
 returns : tie.Need-returns
 unfolding validRegistration both
-returns c = cc
+returns c = rw (c .valid-interval .ensures, c .before .valid-identity .ensures)
 
 pub valid-registration-spec : {M : Type 1} → statement M
 valid-registration-spec =

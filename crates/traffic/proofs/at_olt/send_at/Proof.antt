@@ -2,9 +2,8 @@
 -- Assumes nothing.
 use mathlib.Core.Path.{_≡_, sym, ap, _∙_}
 use borrow.Author.Needs.{needs}
-use Rattle.ends.specs.Headers.{sendingOf}
 use Rattle.ends.specs.Table.{unitAt}
-use Rattle.ends.specs.UnitTraffic.{unitSendChoice, unitSendVerdict}
+use Rattle.ends.specs.UnitTraffic.{unitSendVerdict}
 use Rattle.ends.specs.declared.UnitRecord.{UnitRecord}
 use Rattle.ends.proofs.Validity.{olt-in-range, shared-in-range}
 use Rattle.olt.proofs.Lookup.{found-below}

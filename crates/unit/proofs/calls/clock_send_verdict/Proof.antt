@@ -1,8 +1,8 @@
 -- `unit::calls::clock_send_verdict` meets its contract: the causes are those of the definition, in its order.
 -- Assumes nothing.
-use mathlib.Core.Path.{_≡_, sym, ap, _∙_}
-use Prim.Native.Nat.{ℕ, _+_}
-use lib.Dec.{ltb}
+use mathlib.Core.Path.{sym}
+use Prim.Native.Nat.{_≤_, _<_}
+use native.Mathlib.Omega.{arith}
 use borrow.Author.Needs.{needs}
 use borrow.Author.Tests.{eq-eqb, ne-eqb, lt-ltb, le-ltb}
 use Rattle.clock.specs.Ticks.{ticksPerSecond}
@@ -23,13 +23,15 @@ returns-2 : tie.Need-returns-2
 unfolding clockSendVerdict refuseIf
 returns-2 c =
     let a = c .before .before .before .before .args in
-    rw (eq-eqb _ _ (c .before .before .if1 .left), ← more-since (a .clock .tick) ticksPerSecond (a .tick), sym (c .before .since .ensures), lt-ltb _ _ (c .if2 .taken))
+    let late : ticksPerSecond < c .before .since .result = omega arith in
+    rw (eq-eqb _ _ (c .before .before .if1 .left), ← more-since (a .clock .tick) ticksPerSecond (a .tick), sym (c .before .since .ensures), lt-ltb _ _ late)
 
 returns-3 : tie.Need-returns-3
 unfolding clockSendVerdict refuseIf
 returns-3 c =
     let a = c .before .before .before .before .args in
-    rw (eq-eqb _ _ (c .before .before .if1 .left), ← more-since (a .clock .tick) ticksPerSecond (a .tick), sym (c .before .since .ensures), le-ltb _ _ (c .if2 .left))
+    let soon : c .before .since .result ≤ ticksPerSecond = omega arith in
+    rw (eq-eqb _ _ (c .before .before .if1 .left), ← more-since (a .clock .tick) ticksPerSecond (a .tick), sym (c .before .since .ensures), le-ltb _ _ soon)
 
 pub clock-send-verdict-spec : {M : Type 1} → statement M
 clock-send-verdict-spec = tie.close (tie.spec returns since-requires returns-2 returns-3)

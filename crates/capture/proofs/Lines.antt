@@ -6,9 +6,9 @@ use native.Mathlib.Nat.{add-zero, zero-add}
 use native.Mathlib.Numerals.{add-one}
 use native.Mathlib.Omega.{arith}
 use Rattle.records.specs.Record.{headerOf}
+use Rattle.records.specs.Verdict.{verdictOf}
 use Rattle.rows.specs.Text.{rowOf}
 use Rattle.capture.specs.Directory.{recordOf}
-use Rattle.capture.specs.Opening.{verdictOf}
 use Rattle.capture.specs.Listing.{rowsFrom}
 
 -- the row of record i

@@ -11,6 +11,7 @@ use lib.ListN.{length, take, drop, set, take-append-drop, length-append, length-
 use lib.Seq.{drop-set-add, take-set-le, take-set-lt, drop-set-lt, take-add, take-take, drop-drop, take-at, drop-at, drop-length, length-take-le}
 use lib.Count.{ones}
 use lib.Dec.{eqb}
+use borrow.Rule.Slice.PartMut.{putMid}
 use borrow.Author.Tests.{eq-eqb, eqb-true, le-leb, lt-ltb}
 use Rattle.octets.specs.Choice.{pick}
 use Rattle.octets.specs.Lists.{part, replaced, sum}
@@ -25,7 +26,7 @@ use Rattle.sealing.specs.declared.envelope.SealAnswer.{SealAnswer}
 use Rattle.sealing.specs.declared.envelope.SealAnswer.the-variants.{Done}
 use Rattle.sealing.specs.Payload.{controlOctet, sealed}
 use Rattle.sealing.specs.Payload.{countOf as countEnciphered}
-use Rattle.sealing.specs.Seal.{lengthsFit, nonceFits, judgeSeal, sealing, Sealing}
+use Rattle.sealing.specs.Seal.{lengthsFit, nonceFits, judgeSeal, sealing, sealCount, Sealing}
 use Rattle.sealing.specs.Seal.{outcome as sealOutcome}
 use Rattle.sealing.specs.KeyExpansion.{keyExpansion}
 use Rattle.sealing.proofs.Payload.{sealed-length}
@@ -41,25 +42,37 @@ use Rattle.capture.specs.declared.opening.OpenAnswer.the-variants.{Denie
 use Rattle.records.specs.Settings.{settingsOctets, presenceOf, keyPresent, keyOf, macOf, settingsVerdict}
 use Rattle.records.specs.Record.{headerOf, payloadOf}
 use Rattle.capture.specs.Directory.{recordsIn, offsetOf, lengthOf, endOf, dueOf, recordOf, verdictOn, directoryOf}
-use Rattle.capture.specs.Opening.{verdictOf, nonceOf, writtenAs, countAs, openedRecord, recordCount, openedFrom, openedBlock, blockCount, andThen, openVerdict, openingAfter, opening, outcome}
-use Rattle.records.specs.Verdict.{clearedFlags, headerFits}
+use Rattle.capture.specs.Opening.{nonceOf, writtenAs, countAs, openedRecord, recordCount, openedFrom, openedBlock, blockCount, andThen, openVerdict, openingAfter, opening, outcome}
+use Rattle.records.specs.Verdict.{clearedFlags, headerFits, verdictOf}
 use Rattle.capture.specs.Duties.{Placed, Expanded}
 use Rattle.records.proofs.Verdicts.{settings-octets}
 use Rattle.capture.proofs.Pairs.{pair-fits, due-next}
 use Rattle.capture.proofs.Records.{Records, good, placed, records-end}
 
 -- a record's payload is accepted for opening
-pub seal-accepted : (n m : ℕ) (nonce : Nonce) → n % 9 ≡ 0 → n ≤ 65536 → m ≡ n → nonceFits nonce ≡ true → judgeSeal n m nonce ≡ Accepted
+seal-accepted : (n m : ℕ) (nonce : Nonce) → n % 9 ≡ 0 → n ≤ 65536 → m ≡ n → nonceFits nonce ≡ true → judgeSeal n m nonce ≡ Accepted
 unfolding judgeSeal lengthsFit
 seal-accepted n m nonce whole most same fits =
     pick-true _ _ (both-true (eq-eqb _ _ whole) (both-true (le-leb n (9 * maxEqs) (omega arith)) (eq-eqb _ _ same))) ∙ pick-true _ _ fits
 
 -- what an accepted call answers, and its output
-pub seal-done : (w : List ℕ) (n : Nonce) (p out o : List ℕ) (a : SealAnswer) → judgeSeal (length p) (length out) n ≡ Accepted
+seal-done : (w : List ℕ) (n : Nonce) (p out o : List ℕ) (a : SealAnswer) → judgeSeal (length p) (length out) n ≡ Accepted
     → sealOutcome a o ≡ sealing true w n p out → (a ≡ Done (countEnciphered p)) × (o ≡ sealed w n p)
 seal-done w n p out o a j e =
     let q = e ∙ sym (sealing-done w n p out true refl j) in
     (ap (λ (x : Sealing). x .answer) q, ap (λ (x : Sealing). x .output) q)
+
+-- what the call leaves of a part of the output, and the count that it answers
+pub part-sealed : (w : List ℕ) (n : Nonce) (b out : List ℕ) (at k : ℕ) → at + k ≤ length b → length out ≡ length b → k % 9 ≡ 0 → k ≤ 65536
+    → nonceFits n ≡ true → (a : SealAnswer) (t : List ℕ) → sealOutcome a t ≡ sealing true w n (part b at k) (part out at k)
+    → (sealCount a ≡ countEnciphered (part b at k)) × (putMid at k out t ≡ replaced out at (sealed w n (part b at k)))
+part-sealed w n b out at k inside same whole most fits a t e =
+    let p = part b at k in
+    let lp = part-length b at k inside in
+    let lo = part-length out at k (omega arith) in
+    let d = seal-done w n p (part out at k) t a (seal-accepted (length p) (length (part out at k)) n (rw lp whole) (omega arith) (lo ∙ sym lp) fits) e in
+    let l : length (sealed w n p) ≡ k = sealed-length w n p ∙ lp in
+    (ap sealCount (d .0), rw (d .1, l))
 
 -- an output that is the block from `at` on, with one octet of the record there stored and its payload replaced
 pub opened-in-place : (b out ys : List ℕ) (at len f : ℕ) → 16 ≤ len → drop at out ≡ drop at b → length ys + 16 ≡ len
@@ -98,21 +111,18 @@ module _ (s b out : List ℕ) (i : ℕ) (same : drop (offsetOf b i) out ≡ drop
   -- the output holds an opened record once its flags are stored and its payload is replaced
   pub record-opened : (j t : ℕ) → Placed b i → verdictOf s (recordOf b i) ≡ Sealed j t
       → replaced (set out (offsetOf b i + 4) (clearedFlags (headerOf (recordOf b i) .flags))) (offsetOf b i + 16)
-      (sealed (keyExpansion (keyOf s j)) (nonceOf s (headerOf (recordOf b i)) t) (part b (offsetOf b i + 16) (offsetOf b i + lengthOf b i - (offsetOf b i + 16))))
+      (sealed (keyExpansion (keyOf s j)) (nonceOf s (headerOf (recordOf b i)) t) (payloadOf (recordOf b i)))
       ≡ take (offsetOf b i) out ++ (openedRecord s (recordOf b i) ++ drop (endOf b i) b)
   unfolding openedRecord writtenAs payloadOf recordOf endOf
   record-opened j t p e =
       let o = offsetOf b i in
       let l = lengthOf b i in
-      let h : 16 ≤ l = omega (arith, p .size) in
-      let q = drop-part b o l 16 h in
-      let len = part-length b (o + 16) (o + l - (o + 16)) (omega (arith, p .inside)) in
-      rw (e, q) (opened-in-place b out _ o l _ h same (omega (arith, sealed-length (keyExpansion (keyOf s j)) (nonceOf s (headerOf (part b o l)) t) (part b (o + 16) (o + l - (o + 16))))))
+      let q = drop 16 (part b o l) in
+      rw e (opened-in-place b out _ o l _ (omega (arith, p .size)) same (omega (arith, p .size, p .octets, length-drop 16 (part b o l), sealed-length (keyExpansion (keyOf s j)) (nonceOf s (headerOf (part b o l)) t) q)))
 
-pub opened-count : (s b : List ℕ) (i j t : ℕ) → Placed b i → verdictOf s (recordOf b i) ≡ Sealed j t
-    → countEnciphered (part b (offsetOf b i + 16) (offsetOf b i + lengthOf b i - (offsetOf b i + 16))) ≡ recordCount s (recordOf b i)
-unfolding recordCount countAs payloadOf recordOf
-opened-count s b i j t p e = rw (e, drop-part b (offsetOf b i) (lengthOf b i) 16 (omega (arith, p .size)))
+pub opened-count : (s r : List ℕ) (j t : ℕ) → verdictOf s r ≡ Sealed j t → countEnciphered (payloadOf r) ≡ recordCount s r
+unfolding recordCount countAs
+opened-count s r j t e = rw e
 
 -- the key chosen for an index is that of the settings, expanded
 pub key-expanded : (s : List ℕ) (keys : Keys) (j : ℕ) → Expanded s keys → keyPresent (presenceOf s) j ≡ true → j < 2
@@ -127,16 +137,14 @@ pub nonce-fits : (h : Header) (m t : ℕ) → headerFits h ≡ true → m < 2 ^ 
 unfolding nonceFits headerFits
 nonce-fits h m t f p q = both-true (both-left _ _ (both-right _ _ f)) (both-true (lt-ltb _ _ p) (lt-ltb _ _ q))
 
--- the same of what was read of a record: its place and length, its header and flags, the MAC and the expanded key
+-- the same of what was read of a record: its header and flags, the MAC and the expanded key
 pub opened-by : (s b out : List ℕ) (i : ℕ) → drop (offsetOf b i) out ≡ drop (offsetOf b i) b → Placed b i
-    → (j t from len m f : ℕ) (h : Header) (w : List ℕ) → verdictOf s (recordOf b i) ≡ Sealed j t
-    → from ≡ offsetOf b i → len ≡ lengthOf b i → h ≡ headerOf (recordOf b i) → f ≡ clearedFlags (h .flags) → m ≡ macOf s → w ≡ keyExpansion (keyOf s j)
-    → (countEnciphered (part b (from + 16) (from + len - (from + 16))) ≡ recordCount s (recordOf b i))
-    × (replaced (set out (from + 4) f) (from + 16)
-    (sealed w (record { channel = h .channel; mac = m; clock = t }) (part b (from + 16) (from + len - (from + 16))))
-    ≡ take (offsetOf b i) out ++ (openedRecord s (recordOf b i) ++ drop (endOf b i) b))
-opened-by s b out i same p j t from len m f h w v ef el eh eg em ew =
-    (rw (ef, el) (opened-count s b i j t p v), rw (ef, el, eg, eh, em, ew) (record-opened s b out i same j t p v))
+    → (j t m f : ℕ) (h : Header) (w : List ℕ) → verdictOf s (recordOf b i) ≡ Sealed j t
+    → h ≡ headerOf (recordOf b i) → f ≡ clearedFlags (h .flags) → m ≡ macOf s → w ≡ keyExpansion (keyOf s j)
+    → replaced (set out (offsetOf b i + 4) f) (offsetOf b i + 16)
+    (sealed w (record { channel = h .channel; mac = m; clock = t }) (payloadOf (recordOf b i)))
+    ≡ take (offsetOf b i) out ++ (openedRecord s (recordOf b i) ++ drop (endOf b i) b)
+opened-by s b out i same p j t m f h w v eh eg em ew = rw (eg, eh, em, ew) (record-opened s b out i same j t p v)
 
 -- opening keeps a record's length
 written-length : (s r : List ℕ) (v : RecordVerdict) → 16 ≤ length r → length (writtenAs s r v) ≡ length r

@@ -72,6 +72,12 @@ placed b n i r h =
     let q = eqb-true _ _ (both-right _ _ (w .sizes)) in
     record { pair = omega (arith, r .sizes .pairs, r .count); inside = w .inside; octets = l; size = sym l ∙ q }
 
+-- the payload of record i, as a part of the block
+pub payload-part : (b : List ℕ) (i : ℕ) → Placed b i
+    → payloadOf (recordOf b i) ≡ part b (offsetOf b i + 16) (offsetOf b i + lengthOf b i - (offsetOf b i + 16))
+unfolding payloadOf recordOf
+payload-part b i p = drop-part b (offsetOf b i) (lengthOf b i) 16 (omega (arith, p .size))
+
 -- an accepted number is that of a record
 pub record Asked (b : List ℕ) (k : ℕ) : Type 0 where
   pub count : ℕ
@@ -101,15 +107,14 @@ pub record Bounded (b : List ℕ) (k from n : ℕ) : Type 0 where
 
 bounded-by : (b : List ℕ) (k from n : ℕ) (v : Verdict) → payloadVerdict b k ≡ v → boundsAfter v (boundsOf b (k - 1)) ≡ Within from n
     → (from + n ≤ length b) × (part b from n ≡ unlessRefused v (payloadOf (recordOf b (k - 1))))
-unfolding boundsOf payloadOf recordOf
+unfolding boundsOf
 bounded-by b k from n Accepted q e =
     let i = k - 1 in
     let a = asked-for b k q in
     let p = placed b (a .count) i (a .records) (omega (arith, a .first, a .last)) in
     let f : from ≡ offsetOf b i + 16 = cc in
     let m : n ≡ offsetOf b i + lengthOf b i - (offsetOf b i + 16) = let l : n ≡ lengthOf b i - 16 = cc in omega arith in
-    let h : 16 ≤ lengthOf b i = omega (arith, p .size) in
-    (omega (arith, p .inside), rw (f, m) (sym (drop-part b (offsetOf b i) (lengthOf b i) 16 h)))
+    (omega (arith, p .inside), rw (f, m) (sym (payload-part b i p)))
 bounded-by b k from n (Refused r) q e = let z : _≡_ {A = ℕ} 0 1 = cc in absurd (omega arith)
 
 pub bounded : (b : List ℕ) (k from n : ℕ) → payloadBounds b k ≡ Within from n → Bounded b k from n

@@ -28,8 +28,8 @@ use Rattle.capture.specs.declared.opening.OpenAnswer.the-variants.{Done}
 use Rattle.records.specs.Settings.{keyOf, presenceOf, llidOf, settingsVerdict}
 use Rattle.records.specs.Record.{headerOf, payloadOf, sized}
 use Rattle.capture.specs.Directory.{recordsIn, offsetOf, lengthOf, endOf, dueOf, recordOf, chained, pairOf, sizeFits, withPair, pairsFrom, directoryOf}
-use Rattle.records.specs.Verdict.{flagsFit, clearedFlags, headerFits, epamCheck, recordVerdict}
-use Rattle.capture.specs.Opening.{verdictOf, nonceOf, cleared, writtenAs, openedRecord, recordCount, openedFrom, openedBlock, blockCount, openVerdict, opening, outcome}
+use Rattle.records.specs.Verdict.{flagsFit, clearedFlags, headerFits, epamCheck, recordVerdict, verdictFor, verdictOf}
+use Rattle.capture.specs.Opening.{nonceOf, cleared, writtenAs, openedRecord, recordCount, openedFrom, openedBlock, blockCount, openVerdict, opening, outcome}
 use Rattle.capture.specs.Claims.{Opened}
 use Rattle.capture.proofs.Pairs.{pair-fits, due-next}
 use Rattle.capture.proofs.Records.{Records, good, placed, records-end}
@@ -157,7 +157,7 @@ is-written s r i t e = rw e
 -- an opened record is written as it is, and adds nothing
 opened-once : (s r : List ℕ) (i t : ℕ) → 16 ≤ length r → verdictOf s r ≡ Sealed i t
     → (openedRecord s (openedRecord s r) ≡ openedRecord s r) × (recordCount s (openedRecord s r) ≡ 0)
-unfolding verdictOf
+unfolding verdictFor
 opened-once s r i t h e =
     let ys = sealed (keyExpansion (keyOf s i)) (nonceOf s (headerOf r) t) (payloadOf r) in
     let w : openedRecord s r ≡ take 16 (cleared r) ++ ys = is-written s r i t e in

@@ -5,9 +5,10 @@ use lib.ListN.{length}
 use Rattle.refusal.specs.declared.Verdict.{Verdict}
 use Rattle.refusal.specs.declared.Verdict.the-variants.{Accepted, Refused}
 use Rattle.records.specs.Record.{headerOf}
+use Rattle.records.specs.Verdict.{verdictOf}
 use Rattle.rows.specs.Text.{rowOf, refusedRow}
 use Rattle.capture.specs.Directory.{recordsIn, recordOf}
-use Rattle.capture.specs.Opening.{verdictOf, openVerdict}
+use Rattle.capture.specs.Opening.{openVerdict}
 
 -- the m records from record i on
 unfoldable pub rowsFrom : List ℕ → List ℕ → ℕ → ℕ → List ℕ

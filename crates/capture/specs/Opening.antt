@@ -18,14 +18,10 @@ use Rattle.records.specs.declared.header.RecordVerdict.{RecordVerdict}
 use Rattle.records.specs.declared.header.RecordVerdict.the-variants.{Clear, Sealed}
 use Rattle.capture.specs.declared.opening.OpenAnswer.{OpenAnswer}
 use Rattle.capture.specs.declared.opening.OpenAnswer.the-variants.{Done, Denied}
-use Rattle.records.specs.Settings.{presenceOf, keyOf, macOf, llidOf, settingsVerdict}
+use Rattle.records.specs.Settings.{keyOf, macOf, settingsVerdict}
 use Rattle.records.specs.Record.{headerOctets, headerOf, payloadOf}
 use Rattle.capture.specs.Directory.{recordsIn, recordOf, verdictOn, directoryOf}
-use Rattle.records.specs.Verdict.{clearedFlags, recordVerdict}
-
--- the verdict on a record, whose own octets are r
-unfoldable pub verdictOf : List ℕ → List ℕ → RecordVerdict
-verdictOf s r = recordVerdict (presenceOf s) (llidOf s) (headerOf r)
+use Rattle.records.specs.Verdict.{clearedFlags, verdictOf}
 
 -- what the counter blocks of a record with the header h are made of, at the clock t
 abbrev pub nonceOf : List ℕ → Header → ℕ → Nonce

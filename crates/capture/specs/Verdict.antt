@@ -5,9 +5,8 @@ use Rattle.refusal.specs.declared.Verdict.{Verdict}
 use Rattle.refusal.specs.declared.Verdict.the-variants.{Accepted}
 use Rattle.records.specs.declared.header.RecordVerdict.{RecordVerdict}
 use Rattle.records.specs.declared.header.RecordVerdict.the-variants.{Refused}
-use Rattle.records.specs.Settings.{presenceOf, llidOf, settingsVerdict}
-use Rattle.records.specs.Record.{headerOf}
-use Rattle.records.specs.Verdict.{recordVerdict}
+use Rattle.records.specs.Settings.{settingsVerdict}
+use Rattle.records.specs.Verdict.{verdictOf}
 use Rattle.capture.specs.Directory.{recordOf}
 use Rattle.capture.specs.Payload.{payloadVerdict}
 
@@ -19,5 +18,4 @@ afterCall (Verdict.Refused r) v = Refused r
 -- the verdict on the record with number k, from 1: 14 and 1 for the settings, 15, 1 for k, then the record's own
 unfoldable pub verdictAsked : List ℕ → List ℕ → ℕ → RecordVerdict
 verdictAsked s b k =
-    afterCall (settingsVerdict s)
-    (afterCall (payloadVerdict b k) (recordVerdict (presenceOf s) (llidOf s) (headerOf (recordOf b (k - 1)))))
+    afterCall (settingsVerdict s) (afterCall (payloadVerdict b k) (verdictOf s (recordOf b (k - 1))))

@@ -22,5 +22,5 @@ pub(crate) fn number48(s: &[u8], at: usize) -> u64
     requires { ⌜ at + 6 ≤ length (now s) ⌝ }
     ensures { λ r. ⌜ (r ≡ numberAt 6 (now (s .entry)) at) × (r < 2 ^ 48) ⌝ }
 {
-    octets::be48([s[at], s[at + 1], s[at + 2], s[at + 3], s[at + 4], s[at + 5]])
+    number16(s, at) * 4294967296 + number32(s, at + 2)
 }

@@ -6,16 +6,15 @@ ghost use lib.ListN.{length, take};
 ghost use Rattle.rows.specs.Text.{rowOf, textOf};
 ghost use Rattle.capture.specs.Listing.{rowsFrom, bodyOf, listingOf};
 ghost use Rattle.records.specs.Record.{headerOf};
+ghost use Rattle.records.specs.Verdict.{verdictOf};
 ghost use Rattle.capture.specs.declared.directory.Directory.the-variants.{Good};
 ghost use Rattle.capture.specs.Directory.{recordOf, directoryOf};
-ghost use Rattle.capture.specs.Opening.{verdictOf, openVerdict};
+ghost use Rattle.capture.specs.Opening.{openVerdict};
 ghost use Rattle.capture.specs.Duties.{Placed};
 use crate::directory::count;
 use crate::opening::judge_call;
-use crate::settings::llid;
-use crate::settings::presence;
 use crate::verdict::header_of;
-use records::header::judge;
+use crate::verdict::judge_for;
 use refusal::Verdict;
 use rows::Line;
 use rows::refused_row;
@@ -55,8 +54,7 @@ fn put_row(settings: &[u8], block: &[u8], text: &mut [u8], at: usize, i: usize) 
     ensures { λ r. ⌜ take r (now (text .exit)) ≡ take at (now (text .entry)) ++ rowOf (i + 1) (headerOf (recordOf (now (block .entry)) i)) (verdictOf (now (settings .entry)) (recordOf (now (block .entry)) i)) ⌝ }
 {
     let h = header_of(block, i);
-    let verdict = judge(presence(settings), llid(settings), h);
-    put_line(text, at, row(i as u64 + 1, h, verdict))
+    put_line(text, at, row(i as u64 + 1, h, judge_for(settings, h)))
 }
 
 fn put_rows(settings: &[u8], block: &[u8], text: &mut [u8], at: usize, n: usize) -> usize

@@ -2,41 +2,41 @@
 ghost use mathlib.Core.Path.{_≡_};
 ghost use mathlib.Core.Bool.{true};
 ghost use mathlib.Core.List.{_++_};
-ghost use Prim.Native.Nat.{_+_, _-_, _%_, _≤_, _<_};
-ghost use lib.ListN.{length, take, drop};
+ghost use Prim.Native.Nat.{_+_, _≤_, _<_};
+ghost use lib.ListN.{length, take, drop, set};
 ghost use lib.Dec.{eqb};
 ghost use Rattle.octets.specs.Choice.{pick};
-ghost use Rattle.octets.specs.Lists.{part, replaced};
+ghost use Rattle.octets.specs.Lists.{replaced};
 ghost use Rattle.sealing.specs.Payload.{sealed};
 ghost use Rattle.sealing.specs.Payload.{countOf as countEnciphered};
 ghost use Rattle.sealing.specs.Seal.{nonceFits};
 ghost use Rattle.sealing.specs.KeyExpansion.{keyExpansion};
+ghost use Rattle.records.specs.Record.{payloadOf};
 ghost use Rattle.records.specs.Settings.{presenceOf, keyPresent, keyOf};
 ghost use Rattle.capture.specs.Directory.{offsetOf, endOf, recordOf};
 ghost use Rattle.capture.specs.Opening.{openedRecord, recordCount, openedBlock, blockCount, openVerdict, opening, outcome, openNumber, openCount};
 ghost use Rattle.capture.specs.Claims.{OpenedIfAccepted};
-ghost use Rattle.capture.specs.Duties.{Expanded, Ready, Copied};
+ghost use Rattle.capture.specs.Duties.{Placed, Expanded, Ready, Copied};
 use crate::directory::check;
 use crate::directory::count;
 use crate::directory::length_of;
 use crate::directory::offset;
 use crate::directory::verdict;
 use crate::header::FLAGS;
-use crate::header::read;
 use crate::settings::key;
-use crate::settings::llid;
 use crate::settings::mac;
 use crate::settings::presence;
+use crate::verdict::header_of;
+use crate::verdict::judge_for;
 use records::header::HEADER_OCTETS;
 use records::header::RecordVerdict;
 use records::header::cleared;
-use records::header::judge;
 use refusal::Refusal;
 use refusal::Verdict;
 use sealing::aes128::RoundKeys;
 use sealing::aes128::expand_key;
 use sealing::envelope::Nonce;
-use sealing::envelope::SealAnswer;
+use sealing::envelope::seal_count;
 use sealing::envelope::seal_expanded;
 
 pub enum OpenAnswer {
@@ -51,28 +51,28 @@ struct Keys {
     pub second: RoundKeys,
 }
 
-// The opening step, lent the part of the output from the payload's offset on.
+// Opens the payload of record i into its place in the output, sets the flags there, and counts the octets.
 fn open_part(
     keys: RoundKeys,
     nonce: Nonce,
+    flags: u8,
     block: &[u8],
     output: &mut [u8],
-    from: usize,
-    to: usize,
+    i: usize,
 ) -> u64
-    requires { ⌜ (from ≤ to) × (to ≤ length (now block)) ⌝ }
-    requires { ⌜ length (now output) ≡ length (now block) ⌝ }
-    requires { ⌜ (to - from) % 9 ≡ 0 ⌝ }
-    requires { ⌜ to - from ≤ 65536 ⌝ }
+    requires { ⌜ Placed (now block) i ⌝ }
+    requires { ⌜ (length (now output) ≡ length (now block)) × (length (now block) ≤ 65536) ⌝ }
     requires { ⌜ nonceFits nonce ≡ true ⌝ }
-    ensures { λ r. ⌜ r ≡ countEnciphered (part (now (block .entry)) from (to - from)) ⌝ }
-    ensures { λ _. ⌜ now (output .exit) ≡ replaced (now (output .entry)) from (sealed (keys .octets) nonce (part (now (block .entry)) from (to - from))) ⌝ }
+    ensures { λ r. ⌜ r ≡ countEnciphered (payloadOf (recordOf (now (block .entry)) i)) ⌝ }
+    ensures { λ _. ⌜ now (output .exit) ≡ replaced (set (now (output .entry)) (offsetOf (now (block .entry)) i + 4) flags) (offsetOf (now (block .entry)) i + 16) (sealed (keys .octets) nonce (payloadOf (recordOf (now (block .entry)) i))) ⌝ }
 {
-    let input = &block[from..to];
-    match seal_expanded(true, keys, nonce, input, &mut output[from..to]) {
-        SealAnswer::Done(count) => count,
-        SealAnswer::Denied(_) => 0,
-    }
+    let from = offset(block, i);
+    let to = from + length_of(block, i);
+    output[from + FLAGS] = flags;
+    let start = from + HEADER_OCTETS;
+    let input = &block[start..to];
+    let answer = seal_expanded(true, keys, nonce, input, &mut output[start..to]);
+    seal_count(answer)
 }
 
 fn key_for(keys: Keys, index: u8) -> RoundKeys
@@ -87,10 +87,8 @@ fn open_record(settings: &[u8], keys: Keys, block: &[u8], output: &mut [u8], i: 
     ensures { λ r. ⌜ r ≡ recordCount (now (settings .entry)) (recordOf (now (block .entry)) i) ⌝ }
     ensures { λ _. ⌜ now (output .exit) ≡ take (offsetOf (now (block .entry)) i) (now (output .entry)) ++ (openedRecord (now (settings .entry)) (recordOf (now (block .entry)) i) ++ drop (endOf (now (block .entry)) i) (now (block .entry))) ⌝ }
 {
-    let from = offset(block, i);
-    let to = from + length_of(block, i);
-    let h = read(&block[from..to]);
-    match judge(presence(settings), llid(settings), h) {
+    let h = header_of(block, i);
+    match judge_for(settings, h) {
         RecordVerdict::Clear => 0,
         RecordVerdict::Refused(_) => 0,
         RecordVerdict::Sealed(index, clock) => {
@@ -99,9 +97,8 @@ fn open_record(settings: &[u8], keys: Keys, block: &[u8], output: &mut [u8], i: 
                 mac: mac(settings),
                 clock,
             };
-            output[from + FLAGS] = cleared(h.flags);
-            let start = from + HEADER_OCTETS;
-            open_part(key_for(keys, index), nonce, block, output, start, to)
+            let flags = cleared(h.flags);
+            open_part(key_for(keys, index), nonce, flags, block, output, i)
         }
     }
 }

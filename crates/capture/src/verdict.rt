@@ -1,12 +1,17 @@
 // The verdict on a record that is asked for by its number, from 1.
 ghost use mathlib.Core.Path.{_≡_};
+ghost use Prim.Native.Nat.{_<_, _^_};
+ghost use lib.ListN.{length};
 ghost use Rattle.records.specs.Record.{headerOf};
+ghost use Rattle.records.specs.Verdict.{verdictFor};
 ghost use Rattle.capture.specs.Directory.{recordOf};
 ghost use Rattle.capture.specs.Verdict.{verdictAsked};
 ghost use Rattle.capture.specs.Duties.{Placed};
 use crate::directory::length_of;
 use crate::directory::offset;
 use crate::header::read;
+use crate::settings::llid;
+use crate::settings::presence;
 use records::header::Header;
 use records::header::RecordVerdict;
 use records::header::judge;
@@ -16,10 +21,19 @@ use refusal::Verdict;
 pub(crate) fn header_of(block: &[u8], i: usize) -> Header
     requires { ⌜ Placed (now block) i ⌝ }
     ensures { λ h. ⌜ h ≡ headerOf (recordOf (now (block .entry)) i) ⌝ }
+    ensures { λ h. ⌜ h .clock < 2 ^ 48 ⌝ }
 {
     let from = offset(block, i);
     let to = from + length_of(block, i);
     read(&block[from..to])
+}
+
+// The verdict on a record by its header, for these settings.
+pub(crate) fn judge_for(settings: &[u8], h: Header) -> RecordVerdict
+    requires { ⌜ length (now settings) ≡ 41 ⌝ }
+    ensures { λ r. ⌜ r ≡ verdictFor (now (settings .entry)) h ⌝ }
+{
+    judge(presence(settings), llid(settings), h)
 }
 
 // The verdict on record k. The refusals of the call itself come first.
@@ -31,10 +45,6 @@ pub fn ask(settings: &[u8], block: &[u8], k: usize) -> RecordVerdict
     }
     match crate::payload::verdict(block, k) {
         Verdict::Refused(refusal) => RecordVerdict::Refused(refusal),
-        Verdict::Accepted => {
-            let presence = crate::settings::presence(settings);
-            let llid = crate::settings::llid(settings);
-            judge(presence, llid, header_of(block, k - 1))
-        }
+        Verdict::Accepted => judge_for(settings, header_of(block, k - 1)),
     }
 }

@@ -1,5 +1,6 @@
 -- The verdict on a record, from its header h and the settings (01, Capture block). Assumes nothing.
 use mathlib.Core.Bool.{Bool, not}
+use mathlib.Core.List.{List}
 use Prim.Native.Nat.{ℕ, _*_, _/_, _%_}
 use lib.Dec.{ltb, eqb}
 use Rattle.octets.specs.Bits.{bitOf}
@@ -12,7 +13,8 @@ use Rattle.records.specs.declared.header.Epam.{Epam}
 use Rattle.records.specs.declared.header.Epam.the-variants.{Agrees, Differs}
 use Rattle.records.specs.declared.header.RecordVerdict.{RecordVerdict}
 use Rattle.records.specs.declared.header.RecordVerdict.the-variants.{Clear, Sealed, Refused}
-use Rattle.records.specs.Settings.{keyPresent}
+use Rattle.records.specs.Settings.{presenceOf, keyPresent, llidOf}
+use Rattle.records.specs.Record.{headerOf}
 
 -- bit 0 is EncEnabled, bit 1 EncKey, the others are 0; there is no EncKey without EncEnabled
 abbrev pub flagsFit : ℕ → Bool
@@ -55,6 +57,13 @@ inOrder fits own rest = pick fits (pick own rest (Refused UnknownLlid)) (Refused
 unfoldable pub recordVerdict : ℕ → ℕ → Header → RecordVerdict
 recordVerdict presence llid h =
     inOrder (headerFits h) (eqb (h .llid) llid) (keyVerdict presence h (epamCheck (h .clock) (h .epam)))
+
+-- the verdict for the settings s, by the header, and on a record whose own octets are r
+unfoldable pub verdictFor : List ℕ → Header → RecordVerdict
+verdictFor s h = recordVerdict (presenceOf s) (llidOf s) h
+
+abbrev pub verdictOf : List ℕ → List ℕ → RecordVerdict
+verdictOf s r = verdictFor s (headerOf r)
 
 -- acceptance is 0
 abbrev pub recordNumber : RecordVerdict → ℕ

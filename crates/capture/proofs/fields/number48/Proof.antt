@@ -1,73 +1,44 @@
--- `capture::fields::number48` meets its contract: the octets handed over are those of the slice, each below 256.
+-- `capture::fields::number48` meets its contract: the number is made of that of two octets and that of the four behind.
 -- Assumes nothing.
-use mathlib.Core.Path.{_≡_, _∙_}
-use Prim.Native.Nat.{_+_}
-use native.Mathlib.Nat.{add-zero}
+use mathlib.Core.Path.{_≡_}
+use mathlib.Core.List.{List}
+use Prim.Native.Nat.{ℕ, _+_, _*_}
 use native.Mathlib.Omega.{arith}
 use borrow.Author.Needs.{needs}
 use denote.Ref.{now}
 use Rattle.octets.specs.BigEndian.{numberAt}
-use Rattle.octets.proofs.BigEndian.{number-below}
 use Rattle.capture.proofs.fields.number48.Statement.{statement}
 use Rattle.capture.proofs.fields.number48.Tie as tie
 
-shared-slice-read-t4 : tie.Need-shared-slice-read-t4
-shared-slice-read-t4 c = search needs
+number16-requires : tie.Need-number16-requires
+number16-requires c κs = search needs
 
-add-t5 : tie.Need-add-t5
-add-t5 c = search needs
+mul-result : tie.Need-mul-result
+mul-result c = search needs
 
-shared-slice-read-t7 : tie.Need-shared-slice-read-t7
-shared-slice-read-t7 c = search needs
+add-number32 : tie.Need-add-number32
+add-number32 c = search needs
 
-add-t8 : tie.Need-add-t8
-add-t8 c = search needs
+number32-requires : tie.Need-number32-requires
+number32-requires c κs = search needs
 
-shared-slice-read-t10 : tie.Need-shared-slice-read-t10
-shared-slice-read-t10 c = search needs
+add-result : tie.Need-add-result
+add-result c = search needs
 
-add-t11 : tie.Need-add-t11
-add-t11 c = search needs
-
-shared-slice-read-t13 : tie.Need-shared-slice-read-t13
-shared-slice-read-t13 c = search needs
-
-add-t14 : tie.Need-add-t14
-add-t14 c = search needs
-
-shared-slice-read-t16 : tie.Need-shared-slice-read-t16
-shared-slice-read-t16 c = search needs
-
-add-t17 : tie.Need-add-t17
-add-t17 c = search needs
-
-shared-slice-read-t19 : tie.Need-shared-slice-read-t19
-shared-slice-read-t19 c = search needs
-
-be48-requires : tie.Need-be48-requires
-be48-requires c κs = search needs
+joined : (s : List ℕ) (at : ℕ) → numberAt 2 s at * 4294967296 + numberAt 4 s (at + 2) ≡ numberAt 6 s at
+joined s at =
+    let e₀ : at + 2 + 0 ≡ at + 2 = omega arith in
+    let e₁ : at + 2 + 1 ≡ at + 3 = omega arith in
+    let e₂ : at + 2 + 2 ≡ at + 4 = omega arith in
+    let e₃ : at + 2 + 3 ≡ at + 5 = omega arith in
+    rw (e₀, e₁, e₂, e₃) (omega arith)
 
 returns : tie.Need-returns
 returns c =
-    let a = c .before .before .before .before .before .before .before .before .args in
-    let e : c .be48 .result ≡ numberAt 6 (now (a .s)) (a .at) = c .be48 .ensures ∙ rw add-zero in
-    let h = number-below 6 (now (a .s)) (a .at) (λ j l. omega (arith, c .before .shared-slice-known7 .given (a .at + j))) in
-    (e, omega arith)
+    let a = c .before .before .before .args in
+    (rw (c .before .number16 .ensures .0, c .number32 .ensures .0) (joined (now (a .s)) (a .at)), omega (arith, c .before .number16 .ensures .1, c .number32 .ensures .1))
 
 pub number48-spec : {M : Type 1} → statement M
 number48-spec =
     tie.close
-    (tie.spec
-    shared-slice-read-t4
-    add-t5
-    shared-slice-read-t7
-    add-t8
-    shared-slice-read-t10
-    add-t11
-    shared-slice-read-t13
-    add-t14
-    shared-slice-read-t16
-    add-t17
-    shared-slice-read-t19
-    be48-requires
-    returns)
+    (tie.spec number16-requires mul-result add-number32 number32-requires add-result returns)

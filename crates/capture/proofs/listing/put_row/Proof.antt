@@ -5,7 +5,6 @@ use mathlib.Core.List.{List, _++_}
 use Prim.Native.Nat.{ℕ}
 use lib.ListN.{take}
 use denote.Ref.{now}
-use Rattle.capture.specs.Opening.{verdictOf}
 use borrow.Author.Needs.{needs}
 use Rattle.capture.proofs.listing.put_row.Statement.{statement}
 use Rattle.capture.proofs.listing.put_row.Tie as tie
@@ -13,17 +12,11 @@ use Rattle.capture.proofs.listing.put_row.Tie as tie
 header-of-requires : tie.Need-header-of-requires
 header-of-requires c κs = search needs
 
-presence-requires : tie.Need-presence-requires
-presence-requires c κs = search needs
-
-llid-requires : tie.Need-llid-requires
-llid-requires c κs = search needs
-
-judge-requires : tie.Need-judge-requires
-judge-requires c κs = search needs
-
 add-row : tie.Need-add-row
 add-row c = search needs
+
+judge-for-requires : tie.Need-judge-for-requires
+judge-for-requires c κs = search needs
 
 row-requires : tie.Need-row-requires
 row-requires c κs = search needs
@@ -35,13 +28,12 @@ same-length : tie.Need-same-length
 same-length c = search needs
 
 returns : tie.Need-returns
-unfolding verdictOf
 returns c =
-    let g = c .before .before .before .before .before .before .before .before .before .before .before .before in (
+    let g = c .before .before .before .before .before .before .before .before .before .before in (
       c .before .before .put-line .ensures .0,
       c .before .before .put-line .ensures .1
           ∙ ap (λ (t : List ℕ). take (g .args .at) (now (g .args .text)) ++ t)
-          (c .before .before .before .row .ensures .0 ∙ rw (c .before .before .before .before .before .judge .ensures, c .before .before .before .before .before .before .before .before .header-of .ensures, c .before .before .before .before .before .before .before .presence .ensures, c .before .before .before .before .before .before .llid .ensures)),
+          (c .before .before .before .row .ensures .0 ∙ rw (c .before .before .before .before .judge-for .ensures, c .before .before .before .before .before .before .header-of .ensures .0)),
     )
 
 pub put-row-spec : {M : Type 1} → statement M
@@ -49,10 +41,8 @@ put-row-spec =
     tie.close
     (tie.spec
     header-of-requires
-    presence-requires
-    llid-requires
-    judge-requires
     add-row
+    judge-for-requires
     row-requires
     put-line-requires
     same-length

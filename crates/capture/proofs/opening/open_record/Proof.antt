@@ -2,68 +2,32 @@
 -- definition, and the output is kept or opened in place accordingly.
 -- Assumes nothing.
 use mathlib.Core.Path.{_≡_, sym, ap, _∙_}
-use native.Mathlib.Nat.{add-sub-cancel-left}
 use native.Mathlib.Omega.{arith}
 use borrow.Author.Needs.{needs}
 use denote.Ref.{now}
-use lib.ListN.{length-set}
 use Rattle.octets.proofs.Bits.{bit-below}
 use Rattle.sealing.specs.declared.aes128.RoundKeys.{RoundKeys}
 use Rattle.records.specs.declared.header.Header.{Header}
 use Rattle.records.specs.declared.header.RecordVerdict.the-variants.{Sealed}
 use Rattle.records.specs.Settings.{presenceOf, llidOf}
 use Rattle.records.specs.Record.{headerOf}
+use Rattle.records.specs.Verdict.{encKey, headerFits, verdictFor, verdictOf}
 use Rattle.capture.specs.Directory.{recordOf}
-use Rattle.records.specs.Verdict.{encKey, headerFits}
-use Rattle.capture.specs.Opening.{verdictOf}
 use Rattle.records.proofs.Verdicts.{Openable, openable}
-use Rattle.capture.proofs.Openings.{clear-record, refused-record, record-kept, opened-by, key-expanded, nonce-fits}
+use Rattle.capture.proofs.Openings.{clear-record, refused-record, record-kept, opened-count, opened-by, key-expanded, nonce-fits}
 use Rattle.capture.proofs.opening.open_record.Statement.{statement}
 use Rattle.capture.proofs.opening.open_record.Tie as tie
 
-offset-requires : tie.Need-offset-requires
-offset-requires c κs = search needs
+header-of-requires : tie.Need-header-of-requires
+header-of-requires c κs = search needs
 
-length-of-requires : tie.Need-length-of-requires
-length-of-requires c κs = search needs
+judge-for-requires : tie.Need-judge-for-requires
+judge-for-requires c κs = search needs
 
-add-to : tie.Need-add-to
-add-to c = search needs
-
-sub-read : tie.Need-sub-read
-sub-read c = search needs
-
-part-read-start : tie.Need-part-read-start
-part-read-start c = search needs
-
-part-read-end : tie.Need-part-read-end
-part-read-end c = search needs
-
-read-requires : tie.Need-read-requires
-read-requires c κs = search needs
-
-presence-requires : tie.Need-presence-requires
-presence-requires c κs = search needs
-
-llid-requires : tie.Need-llid-requires
-llid-requires c κs = search needs
-
-judge-requires : tie.Need-judge-requires
-judge-requires c κs = search needs
-
--- the header read is the record's
-header-is : (c : tie.After-read)
-    → c .read .result ≡ headerOf (recordOf (now (c .before .before .before .before .before .before .before .args .block)) (c .before .before .before .before .before .before .before .args .i))
-unfolding recordOf
-header-is c =
-    c .read .ensures .0
-    ∙ rw (add-sub-cancel-left, c .before .before .before .offset .ensures .0, c .before .before .length-of .ensures .0)
-
--- and so is the verdict
-verdict-is : (c : tie.After-judge)
-    → c .judge .result ≡ verdictOf (now (c .before .before .before .before .before .before .before .before .before .before .args .settings)) (recordOf (now (c .before .before .before .before .before .before .before .before .before .before .args .block)) (c .before .before .before .before .before .before .before .before .before .before .args .i))
-unfolding verdictOf
-verdict-is c = c .judge .ensures ∙ rw (header-is (c .before .before .before), c .before .before .presence .ensures, c .before .llid .ensures)
+-- the verdict is the record's
+verdict-is : (c : tie.After-judge-for)
+    → c .judge-for .result ≡ verdictOf (now (c .before .before .before .before .before .args .settings)) (recordOf (now (c .before .before .before .before .before .args .block)) (c .before .before .before .before .before .args .i))
+verdict-is c = c .judge-for .ensures ∙ rw (c .before .header-of .ensures .0)
 
 enum-told : tie.Need-enum-told
 enum-told c = search needs
@@ -80,20 +44,11 @@ mac-requires c κs = search needs
 cleared-requires : tie.Need-cleared-requires
 cleared-requires c κs = search needs
 
-add-output : tie.Need-add-output
-add-output c = search needs
-
-slice-write-output : tie.Need-slice-write-output
-slice-write-output c = search needs
-
-add-start : tie.Need-add-start
-add-start c = search needs
-
 key-for-requires : tie.Need-key-for-requires
 key-for-requires c κs = search needs
 
 abbrev start : tie.After-index → tie.Start
-start c = c .before .before .before .before .before .before .before .before .before .before .before .before
+start c = c .before .before .before .before .before .before .before
 
 -- the record is to be opened, under this index and at this clock
 sealed-is : (c : tie.After-index)
@@ -102,45 +57,37 @@ sealed-is c = sym (verdict-is (c .before .before)) ∙ c .index .given .1
 
 is-openable : (c : tie.After-index)
     → Openable (presenceOf (now (start c .args .settings))) (llidOf (now (start c .args .settings))) (headerOf (recordOf (now (start c .args .block)) (start c .args .i))) (c .index .given .0 .0) (c .index .given .0 .1 .0)
-unfolding verdictOf
+unfolding verdictFor
 is-openable c = openable _ _ _ _ _ (sealed-is c)
 
 open-part-requires : tie.Need-open-part-requires
 open-part-requires c κs =
     let x = c .before .before .before .before .before in
     let g = start x in
-    let d = c .before .before .before .before .before .before .before .before .before .before in
-    let o = d .before .before .before .offset .ensures .0 in
-    let l = d .before .before .length-of .ensures .0 in
+    let d = x .before .before .before in
     let op = is-openable x in
-    let t : x .index .given .0 .1 .0 ≡ d .read .result .clock = op .clock ∙ sym (ap (λ (h : Header). h .clock) (header-is d)) in (
-      (omega (arith, l, g .pre .placed .size), omega (arith, o, l, g .pre .placed .inside)),
+    let t : x .index .given .0 .1 .0 ≡ d .header-of .result .clock = op .clock ∙ sym (ap (λ (h : Header). h .clock) (d .header-of .ensures .0)) in (
+      g .pre .placed,
       (
-        simp length-set (g .pre .size),
-        (
-          omega (arith, l, g .pre .placed .size),
-          (
-            omega (arith, o, l, g .pre .placed .inside, g .pre .most),
-            nonce-fits (d .read .result) (c .before .before .before .mac .result) _ (ap headerFits (header-is d) ∙ op .fits) (c .before .before .before .mac .ensures .1) (omega (arith, t, d .read .ensures .1)),
-          ),
-        ),
+        (g .pre .size, g .pre .most),
+        nonce-fits (d .header-of .result) (c .before .before .before .mac .result) _ (ap headerFits (d .header-of .ensures .0) ∙ op .fits) (c .before .before .before .mac .ensures .1) (omega (arith, t, d .header-of .ensures .1)),
       ),
     )
 
 returns : tie.Need-returns
 returns c =
-    let g = c .before .before .before .before .before .before .before .before .before .before .before .before in
+    let g = c .before .before .before .before .before .before .before in
     let k = clear-record _ _ (sym (verdict-is (c .before .before)) ∙ c .enum-told .given .1) in
     (sym (k .1), record-kept (now (g .args .settings)) (now (g .args .block)) (now (g .args .output)) (g .args .i) (g .pre .same) (k .0))
 
 returns-2 : tie.Need-returns-2
 returns-2 c =
-    let g = c .before .before .before .before .before .before .before .before .before .before .before .before in
+    let g = c .before .before .before .before .before .before .before in
     let k = refused-record _ _ _ (sym (verdict-is (c .before .before)) ∙ c .enum-told2 .given .1) in
     (sym (k .1), record-kept (now (g .args .settings)) (now (g .args .block)) (now (g .args .output)) (g .args .i) (g .pre .same) (k .0))
 
 same-length : tie.Need-same-length
-same-length c = c .before .before .open-part .kept .1 .1 .1 .0 ∙ simp length-set
+same-length c = search needs
 
 returns-3 : tie.Need-returns-3
 unfolding encKey
@@ -148,36 +95,26 @@ returns-3 c =
     let q = c .before .before in
     let x = c .before .before .before .before .before .before .before .before in
     let g = start x in
-    let d = c .before .before .before .before .before .before .before .before .before .before .before .before .before in
+    let d = x .before .before .before in
     let op = is-openable x in
     let j = x .index .given .0 .0 in
-    let k = key-expanded _ _ j (g .pre .expanded) (op .present) (omega (arith, op .index, bit-below (headerOf (recordOf (now (g .args .block)) (g .args .i)) .flags) 1)) in
-    let r =
-    opened-by (now (g .args .settings)) (now (g .args .block)) (now (g .args .output)) (g .args .i) (g .pre .same) (g .pre .placed) j _ _ _ _ _ (d .read .result) _ (sealed-is x) (d .before .before .before .offset .ensures .0) (d .before .before .length-of .ensures .0) (header-is d) (c .before .before .before .before .before .cleared .ensures) (c .before .before .before .before .before .before .mac .ensures .0) (ap (λ (w : RoundKeys). w .octets) (c .before .before .before .before .key-for .ensures) ∙ k) in
-    (q .open-part .ensures .0 ∙ r .0, q .open-part .ensures .1 ∙ r .1)
+    let k = key-expanded _ _ j (g .pre .expanded) (op .present) (omega (arith, op .index, bit-below (headerOf (recordOf (now (g .args .block)) (g .args .i)) .flags) 1)) in (
+      q .open-part .ensures .0 ∙ opened-count _ _ j _ (sealed-is x),
+      q .open-part .ensures .1
+          ∙ opened-by (now (g .args .settings)) (now (g .args .block)) (now (g .args .output)) (g .args .i) (g .pre .same) (g .pre .placed) j _ _ _ (d .header-of .result) _ (sealed-is x) (d .header-of .ensures .0) (c .before .before .before .before .before .cleared .ensures) (c .before .before .before .before .before .before .mac .ensures .0) (ap (λ (w : RoundKeys). w .octets) (c .before .before .before .before .key-for .ensures) ∙ k),
+    )
 
 pub open-record-spec : {M : Type 1} → statement M
 open-record-spec =
     tie.close
     (tie.spec
-    offset-requires
-    length-of-requires
-    add-to
-    sub-read
-    part-read-start
-    part-read-end
-    read-requires
-    presence-requires
-    llid-requires
-    judge-requires
+    header-of-requires
+    judge-for-requires
     enum-told
     enum-told-2
     enum-known-index
     mac-requires
     cleared-requires
-    add-output
-    slice-write-output
-    add-start
     key-for-requires
     open-part-requires
     returns

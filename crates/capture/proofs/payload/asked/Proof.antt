@@ -28,13 +28,13 @@ unfolding both
 returns-2 c = rw (c .before .before .directory .given .1) (sym (pick-false _ _ (c .if1 .left)))
 
 returns-3 : tie.Need-returns-3
-returns-3 c = cc
+returns-3 c = rw (c .enum-told .given .1)
 
 returns-4 : tie.Need-returns-4
-returns-4 c = cc
+returns-4 c = rw (c .enum-told2 .given .1)
 
 returns-5 : tie.Need-returns-5
-returns-5 c = cc
+returns-5 c = rw (c .enum-told3 .given .1)
 
 pub asked-spec : {M : Type 1} → statement M
 asked-spec =

@@ -40,22 +40,16 @@ is-asked : (c : tie.After-enum-told2)
     → Asked (now (c .before .before .before .before .before .before .before .before .args .block)) (c .before .before .before .before .before .before .before .before .args .k)
 is-asked c = asked-for _ _ (sym (c .before .before .verdict2 .ensures) ∙ c .enum-told2 .given .1)
 
-presence-requires : tie.Need-presence-requires
-presence-requires c κs = right-settings (c .before .before .before)
-
-llid-requires : tie.Need-llid-requires
-llid-requires c κs = right-settings (c .before .before .before .before)
-
 sub-header-of : tie.Need-sub-header-of
-sub-header-of c = is-asked (c .before .before) .first
+sub-header-of c = is-asked c .first
 
 header-of-requires : tie.Need-header-of-requires
 header-of-requires c κs =
-    let a = is-asked (c .before .before) in
+    let a = is-asked c in
     placed _ (a .count) _ (a .records) (omega (arith, a .first, a .last))
 
-judge-requires : tie.Need-judge-requires
-judge-requires c κs = search needs
+judge-for-requires : tie.Need-judge-for-requires
+judge-for-requires c κs = right-settings (c .before .before .before .before)
 
 returns-2 : tie.Need-returns-2
 unfolding verdictAsked
@@ -65,8 +59,8 @@ returns-2 c =
 returns-3 : tie.Need-returns-3
 unfolding verdictAsked
 returns-3 c =
-    rw (← c .before .before .before .before .before .before .before .before .before .verdict .ensures, c .before .before .before .before .before .before .before .enum-told .given .1, ← c .before .before .before .before .before .before .verdict2 .ensures, c .before .before .before .before .enum-told2 .given .1)
-    (c .judge .ensures ∙ rw (c .before .header-of .ensures, c .before .before .before .presence .ensures, c .before .before .llid .ensures))
+    rw (← c .before .before .before .before .before .before .before .verdict .ensures, c .before .before .before .before .before .enum-told .given .1, ← c .before .before .before .before .verdict2 .ensures, c .before .before .enum-told2 .given .1)
+    (c .judge-for .ensures ∙ rw (c .before .header-of .ensures .0))
 
 pub ask-spec : {M : Type 1} → statement M
 ask-spec =
@@ -79,10 +73,8 @@ ask-spec =
     verdict-requires-2
     enum-known-refusal-2
     enum-told-2
-    presence-requires
-    llid-requires
     sub-header-of
     header-of-requires
-    judge-requires
+    judge-for-requires
     returns-2
     returns-3)

@@ -30,9 +30,11 @@ read-requires c κs = search needs
 
 returns : tie.Need-returns
 unfolding recordOf
-returns c =
-    c .read .ensures .0
-    ∙ rw (add-sub-cancel-left, c .before .before .before .offset .ensures .0, c .before .before .length-of .ensures .0)
+returns c = (
+  c .read .ensures .0
+      ∙ rw (add-sub-cancel-left, c .before .before .before .offset .ensures .0, c .before .before .length-of .ensures .0),
+  c .read .ensures .1,
+)
 
 pub header-of-spec : {M : Type 1} → statement M
 header-of-spec =

@@ -16,7 +16,7 @@ use borrow.Author.Tests.{eq-eqb, eqb-true, le-leb, lt-ltb}
 use Rattle.octets.specs.Choice.{pick}
 use Rattle.octets.specs.Lists.{part, replaced, sum}
 use Rattle.octets.specs.Eqs.{maxEqs}
-use Rattle.octets.proofs.Lists.{sum-below, sum-suc, part-length, part-below, drop-part}
+use Rattle.octets.proofs.Lists.{sum-below, sum-suc, part-length, part-below}
 use Rattle.octets.proofs.Choice.{both-left, both-right, both-true, pick-true, pick-first}
 use Rattle.refusal.specs.declared.Refusal.{Refusal}
 use Rattle.refusal.specs.declared.Verdict.{Verdict}

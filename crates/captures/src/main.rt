@@ -104,26 +104,32 @@ fn show_case(title: &[u8], settings: &[u8], block: &[u8], size: usize, k: usize)
     print_payload(block, k);
 }
 
+fn read_block(head: [u8; 15], title: &[u8], settings: &[u8]) {
+    let mut block = [0u8; 65600];
+    let n = fill(&mut block, size_at(head, 11));
+    let k = octets::be16([head[1], head[2]]) as usize;
+    show_case(title, settings, &block[..n], size_at(head, 3), k);
+}
+
+fn read_settings(head: [u8; 15], title: &[u8]) {
+    let mut settings = [0u8; 64];
+    let n = fill(&mut settings, size_at(head, 7));
+    read_block(head, title, &settings[..n]);
+}
+
+fn read_title(head: [u8; 15]) {
+    let mut title = [0u8; 256];
+    let n = fill(&mut title, wide(head[0]) as usize);
+    read_settings(head, &title[..n]);
+}
+
 // One case: fifteen octets of sizes and of the record asked for, then title, settings and block.
 fn run_case() -> bool {
     let mut head = [0u8; 15];
     if io::read_full(0, &mut head) < 15 {
         return false;
     }
-    let k = octets::be16([head[1], head[2]]) as usize;
-    let mut title = [0u8; 256];
-    let t = fill(&mut title, wide(head[0]) as usize);
-    let mut settings = [0u8; 64];
-    let s = fill(&mut settings, size_at(head, 7));
-    let mut block = [0u8; 65600];
-    let b = fill(&mut block, size_at(head, 11));
-    show_case(
-        &title[..t],
-        &settings[..s],
-        &block[..b],
-        size_at(head, 3),
-        k,
-    );
+    read_title(head);
     true
 }
 

@@ -33,7 +33,7 @@ class Play:
 
     def __init__(self):
         self.olt, self.onus = fresh_olt(OLT_MAC, 0)[1], {name: fresh_onu(UNIT, OLT_MAC, 0)[1] for name in ("onu", "onu2")}
-        self.stamps, self.message, self.answers = NO_STAMPS, NO_MESSAGE, {"onu": NO_ANSWER, "onu2": NO_ANSWER}
+        self.stamps, self.message, self.answer = NO_STAMPS, NO_MESSAGE, NO_ANSWER
         self.envelopes, self.header, self.count, self.out = {}, NO_HEADER, 0, b""
         self.number, self.others = 0, []
         self.speak_of("olt")
@@ -95,7 +95,7 @@ class Play:
         elif word == "acknowledge":
             self.number = o.acknowledge(n[0], (n[1], n[2]))
         elif word == "arrive":
-            self.number = o.acknowledge(n[0], self.answers["onu2" if n[1] == 2 else "onu"])
+            self.number = o.acknowledge(n[0], self.answer)
         else:
             self.set_field(word, n[0])
 
@@ -106,9 +106,9 @@ class Play:
         elif word == "keyed":
             self.keyed_onu(*n[:2])
         elif word == "clock_arrives":
-            self.number, self.answers[self.at] = o.clock_message(self.stamps)
+            self.number, self.answer = o.clock_message(self.stamps)
         elif word == "key_arrives":
-            self.number, self.answers[self.at] = o.key_message(self.message)
+            self.number, self.answer = o.key_message(self.message)
         else:
             self.set_field(word, n[0])
 
@@ -158,7 +158,7 @@ class Play:
         if name == "message":
             return f", LLID {self.message[0]}, number {self.message[1]}, octet {self.message[2][0]}"
         if name == "answer":
-            return ", kind {}, number {}".format(*self.answers[self.at])
+            return ", kind {}, number {}".format(*self.answer)
         if name == "ends":
             return " {} {}".format(*self.others) + f", tick {self.olt.tick}, clock {self.olt.clock:012x}"
         if name == "keys":

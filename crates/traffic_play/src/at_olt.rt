@@ -177,7 +177,7 @@ fn passed(before: OltPassed, k: usize, n: Numbers, aim: Aim, carried: Envelope) 
 }
 
 // `receive` gives a header with the payload that is spoken of, `take` an envelope that is under way; `acknowledge` gives any
-// acknowledgement, `arrive` the one under way from a unit. The record that fields are set in is the first unit's, and `marked` the
+// acknowledgement, `arrive` the one under way. The record that fields are set in is the first unit's, and `marked` the
 // mark that its offer is acknowledged.
 pub(crate) fn command(p: Play, s: &[u8], at: usize, to: usize, n: Numbers) -> Play {
     let k = script::word(
@@ -187,9 +187,7 @@ pub(crate) fn command(p: Play, s: &[u8], at: usize, to: usize, n: Numbers) -> Pl
         b"send receive take fresh register advance capture acknowledge arrive keyed clock_send offer retry tick clock channel0 channel1 interval flag noted first marked",
     );
     script::mark(k > 21, b'?');
-    let from = play::unit_of(script::u8_of(n.b));
-    let acknowledgement = p.acknowledgements[from];
-    let asked = answer(p.olt, k, n, acknowledgement);
+    let asked = answer(p.olt, k, n, p.acknowledgement);
     let timed = clock_sent(asked, k, script::u16_of(n.a), p.stamps);
     let stamps = timed.message;
     let keyed = key_sent(timed, k, n, p.message);
@@ -202,8 +200,7 @@ pub(crate) fn command(p: Play, s: &[u8], at: usize, to: usize, n: Numbers) -> Pl
         count: p.count,
         envelope,
     };
-    let envelopes = p.envelopes;
-    let done = passed(before, k, n, p.aim, play::carried(envelopes, k, n, p.aim));
+    let done = passed(before, k, n, p.aim, play::carried(p, k, n));
     let mut r = play::after(p, k, n, done.number, done.count, done.envelope);
     let end = done.olt;
     r.olt = end;

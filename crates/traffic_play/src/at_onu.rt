@@ -133,24 +133,6 @@ fn passed(before: OnuPassed, k: usize, n: Numbers, aim: Aim, carried: Envelope) 
     }
 }
 
-fn with_onu(onus: [Onu; 2], unit: usize, onu: Onu) -> [Onu; 2] {
-    let mut r = onus;
-    let at = unit % 2;
-    r[at] = onu;
-    r
-}
-
-fn with_answer(
-    answers: [Acknowledgement; 2],
-    unit: usize,
-    answer: Acknowledgement,
-) -> [Acknowledgement; 2] {
-    let mut r = answers;
-    let at = unit % 2;
-    r[at] = answer;
-    r
-}
-
 pub(crate) fn command(p: Play, s: &[u8], at: usize, to: usize, n: Numbers) -> Play {
     let k = script::word(
         s,
@@ -159,10 +141,8 @@ pub(crate) fn command(p: Play, s: &[u8], at: usize, to: usize, n: Numbers) -> Pl
         b"send receive take fresh advance keyed clock_arrives key_arrives tick channel0 channel1 noted first synced time rx",
     );
     script::mark(k > 15, b'?');
-    let unit = play::unit_of(p.aim.side);
-    let asked = answer(p.onus[unit], k, n);
-    let taken = acknowledged(asked, k, p.stamps, p.message, p.acknowledgements[unit]);
-    let acknowledgement = taken.acknowledgement;
+    let asked = answer(play::unit(p), k, n);
+    let taken = acknowledged(asked, k, p.stamps, p.message, p.acknowledgement);
     let onu = taken.onu;
     let envelope = p.passed;
     let before = OnuPassed {
@@ -171,14 +151,7 @@ pub(crate) fn command(p: Play, s: &[u8], at: usize, to: usize, n: Numbers) -> Pl
         count: p.count,
         envelope,
     };
-    let envelopes = p.envelopes;
-    let done = passed(before, k, n, p.aim, play::carried(envelopes, k, n, p.aim));
-    let mut r = play::after(p, k, n, done.number, done.count, done.envelope);
-    let units = r.onus;
-    let onus = with_onu(units, unit, done.onu);
-    let answers = r.acknowledgements;
-    let acknowledgements = with_answer(answers, unit, acknowledgement);
-    r.onus = onus;
-    r.acknowledgements = acknowledgements;
-    r
+    let done = passed(before, k, n, p.aim, play::carried(p, k, n));
+    let r = play::after(p, k, n, done.number, done.count, done.envelope);
+    play::after_unit(r, done.onu, taken.acknowledgement)
 }

@@ -1,5 +1,4 @@
 // What the script plays on: an OLT and two units, what is under way, and what the last call gave.
-ghost use Prim.Native.Nat.{_<_};
 ghost use lib.ListN.{length};
 ghost use mathlib.Core.Path.{_≡_};
 use crate::script::Numbers;
@@ -26,18 +25,19 @@ pub struct Aim {
     pub room: usize,
 }
 
-// An envelope is under way in each of four places, an acknowledgement from each unit. `first` and `second` are the units' numbers of
-// an advance of all ends, `number` is that of the last call, `passed` and `count` what the last send or receipt gave.
+// An envelope is under way in each of four places. `number` is that of the last call, `first` and `second` are the units' numbers of
+// an advance of all ends, `passed` and `count` what the last send or receipt gave.
 pub struct Play {
     pub aim: Aim,
     pub number: u8,
     pub first: u8,
     pub second: u8,
     pub olt: Olt,
-    pub onus: [Onu; 2],
+    pub one: Onu,
+    pub two: Onu,
     pub stamps: Stamps,
     pub message: KeyMessage,
-    pub acknowledgements: [Acknowledgement; 2],
+    pub acknowledgement: Acknowledgement,
     pub envelopes: [Envelope; 4],
     pub passed: Envelope,
     pub count: u64,
@@ -79,33 +79,33 @@ pub(crate) fn start() -> Play {
         first: 0,
         second: 0,
         olt,
-        onus: [onu; 2],
+        one: onu,
+        two: onu,
         stamps: Stamps { rx: 0, tx: 0 },
         message: KeyMessage {
             llid: 0,
             number: 0,
             key,
         },
-        acknowledgements: [Acknowledgement { kind: 0, number: 0 }; 2],
+        acknowledgement: Acknowledgement { kind: 0, number: 0 },
         envelopes: [none; 4],
         passed: none,
         count: 0,
     }
 }
 
-pub(crate) fn unit_of(side: u8) -> usize
-    ensures { λ r. ⌜ r < 2 ⌝ }
-{
-    (side / 2 % 2) as usize
+pub(crate) fn unit(p: Play) -> Onu {
+    if p.aim.side == 2 {
+        return p.two;
+    }
+    p.one
 }
 
 // The first three speak of the usual payload again.
 fn aimed(aim: Aim, k: usize, n: Numbers) -> Aim {
     let mut r = aim;
     match k {
-        10 => r = usual(0),
-        11 => r = usual(1),
-        12 => r = usual(2),
+        10 | 11 | 12 => r = usual((k % 10) as u8),
         13 => r.place = (n.a % 16) as usize,
         14 => {
             r.length = (n.a % 37) as usize;
@@ -122,18 +122,18 @@ fn aimed(aim: Aim, k: usize, n: Numbers) -> Aim {
 // An advance of all ends.
 fn advance(p: Play, n: u64) -> Play {
     let down = olt::advance(p.olt, n);
-    let one = onu::advance(p.onus[0], n);
-    let two = onu::advance(p.onus[1], n);
+    let first = onu::advance(p.one, n);
+    let second = onu::advance(p.two, n);
     let olt = down.olt;
-    let first = one.onu;
-    let second = two.onu;
-    let onus = [first, second];
+    let one = first.onu;
+    let two = second.onu;
     let mut r = p;
     r.number = down.number;
-    r.first = one.number;
-    r.second = two.number;
+    r.first = first.number;
+    r.second = second.number;
     r.olt = olt;
-    r.onus = onus;
+    r.one = one;
+    r.two = two;
     r
 }
 
@@ -156,12 +156,12 @@ pub(crate) fn lent() -> [u8; 36]
 }
 
 // What passes: an envelope that is under way, or else the payload that is spoken of with a header of numbers.
-pub(crate) fn carried(envelopes: [Envelope; 4], k: usize, n: Numbers, aim: Aim) -> Envelope {
+pub(crate) fn carried(p: Play, k: usize, n: Numbers) -> Envelope {
     let place = (n.a % 4) as usize;
     if k == 2 {
-        return envelopes[place];
+        return p.envelopes[place];
     }
-    let octets = aim.eqs;
+    let octets = p.aim.eqs;
     let header = values::header(n);
     Envelope { header, octets }
 }
@@ -191,5 +191,16 @@ pub(crate) fn after(
     r.number = number;
     r.count = count;
     r.passed = passed;
+    r
+}
+
+pub(crate) fn after_unit(p: Play, onu: Onu, acknowledgement: Acknowledgement) -> Play {
+    let mut r = p;
+    r.acknowledgement = acknowledgement;
+    if p.aim.side == 2 {
+        r.two = onu;
+    } else {
+        r.one = onu;
+    }
     r
 }

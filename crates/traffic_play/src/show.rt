@@ -10,6 +10,7 @@ use ends::Header;
 use ends::KeyMessage;
 use ends::Olt;
 use ends::Onu;
+use ends::Shared;
 use ends::Slots;
 use ends::UnitRecord;
 use libc::STDOUT_FILENO;
@@ -77,7 +78,6 @@ fn slots(s: Slots) {
     );
 }
 
-// The key that both ends have in use.
 fn held(u: UnitRecord, o: Onu) {
     few(
         b", A %, C %, a %",
@@ -187,14 +187,42 @@ fn at_onu(o: Onu, k: usize) {
     }
 }
 
-fn at_end(p: Play, k: usize) {
-    let place = p.aim.place % 16;
-    let unit = play::unit_of(p.aim.side);
-    let olt = p.olt;
+fn number(number: u8) {
+    few(b": %", number as u64, 0, 0, 0);
+}
+
+// After an advance of all ends.
+fn all_ends(first: u8, second: u8, shared: Shared) {
+    few(
+        b" % %, tick %, clock @",
+        first as u64,
+        second as u64,
+        shared.tick,
+        shared.clock,
+    );
+}
+
+// The words sent, received, state, stamps and slots.
+fn at_end(p: Play, u: UnitRecord, k: usize) {
+    if k == 1 {
+        header(p.passed.header);
+    }
+    if k < 3 {
+        output(p.passed, p.count, p.aim.room);
+    }
     if p.aim.side == 0 {
-        at_olt(olt, olt.units[place], p.stamps, k);
+        at_olt(p.olt, u, p.stamps, k);
     } else {
-        at_onu(p.onus[unit], k);
+        at_onu(play::unit(p), k);
+    }
+}
+
+// The key that a unit has in use at both ends.
+fn keys(p: Play, u: UnitRecord) {
+    if p.aim.place == 1 {
+        held(u, p.two);
+    } else {
+        held(u, p.one);
     }
 }
 
@@ -202,28 +230,13 @@ fn at_end(p: Play, k: usize) {
 pub(crate) fn show(p: Play, k: usize) {
     let olt = p.olt;
     let place = p.aim.place % 16;
-    let unit = play::unit_of(p.aim.side);
+    let u = olt.units[place];
     match k {
-        0 => few(b": %", p.number as u64, 0, 0, 0),
-        1 => {
-            header(p.passed.header);
-            output(p.passed, p.count, p.aim.room);
-            at_end(p, k);
-        }
-        2 => {
-            output(p.passed, p.count, p.aim.room);
-            at_end(p, k);
-        }
+        0 => number(p.number),
         6 => message(p.message),
-        7 => answer(p.acknowledgements[unit]),
-        8 => few(
-            b" % %, tick %, clock @",
-            p.first as u64,
-            p.second as u64,
-            p.olt.shared.tick,
-            p.olt.shared.clock,
-        ),
-        9 => held(olt.units[place], p.onus[place % 2]),
-        _ => at_end(p, k),
+        7 => answer(p.acknowledgement),
+        8 => all_ends(p.first, p.second, p.olt.shared),
+        9 => keys(p, u),
+        _ => at_end(p, u, k),
     }
 }

@@ -406,7 +406,7 @@ jazmotip_block_part jazmotip_capture_payload(const uint8_t *block, size_t block_
 jazmotip_payload_answer jazmotip_capture_open(const uint8_t *settings, size_t settings_length, const uint8_t *block,
                                               size_t block_length, uint8_t *output, size_t output_length);
 
-/* Writes the listing of a block, plain ASCII lines with no 0 at the end, and gives its length; text past it is free. A refused
+/* Writes the listing of a block, plain ASCII lines with no 0 at the end, and gives its length; text past it stays. A refused
  * call is the heading and a line such as "refused 15". */
 size_t jazmotip_capture_list(const uint8_t *settings, size_t settings_length, const uint8_t *block, size_t block_length,
                              uint8_t text[JAZMOTIP_LISTING_OCTETS]);

@@ -1,15 +1,23 @@
 -- Laws of the rows of a listing: one more at each turn. Assumes nothing.
 use mathlib.Core.Path.{_≡_, sym, ap, _∙_}
 use mathlib.Core.List.{List, _++_, append-assoc, append-nil}
-use Prim.Native.Nat.{ℕ, zero, suc, _+_}
+use Prim.Native.Nat.{ℕ, zero, suc, _+_, _-_, _≤_}
 use native.Mathlib.Nat.{add-zero, zero-add}
 use native.Mathlib.Numerals.{add-one}
 use native.Mathlib.Omega.{arith}
+use lib.ListN.{drop}
+use lib.Seq.{drop-drop}
 use Rattle.records.specs.Record.{headerOf}
 use Rattle.records.specs.Verdict.{verdictOf}
 use Rattle.rows.specs.Text.{rowOf}
 use Rattle.capture.specs.Directory.{recordOf}
 use Rattle.capture.specs.Listing.{rowsFrom}
+
+-- what is the same from a place on is the same from a later one on
+pub same-behind : (s t : List ℕ) (a b : ℕ) → a ≤ b → drop a s ≡ drop a t → drop b s ≡ drop b t
+same-behind s t a b h e =
+    let n : b ≡ a + (b - a) = omega arith in
+    rw n (sym (drop-drop (b - a) a s) ∙ ap (drop (b - a)) e ∙ drop-drop (b - a) a t)
 
 -- the row of record i
 abbrev rowAt : List ℕ → List ℕ → ℕ → List ℕ

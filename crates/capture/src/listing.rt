@@ -2,7 +2,7 @@
 ghost use mathlib.Core.Path.{_≡_};
 ghost use mathlib.Core.List.{_++_};
 ghost use Prim.Native.Nat.{_+_, _*_, _≤_, _<_};
-ghost use lib.ListN.{length, take};
+ghost use lib.ListN.{length, take, drop};
 ghost use Rattle.rows.specs.Text.{rowOf, textOf};
 ghost use Rattle.capture.specs.Listing.{rowsFrom, bodyOf, listingOf};
 ghost use Rattle.records.specs.Record.{headerOf};
@@ -28,6 +28,7 @@ fn append(text: &mut [u8], at: usize, piece: &[u8]) -> usize
     requires { ⌜ at + length (now piece) ≤ length (now text) ⌝ }
     ensures { λ r. ⌜ r ≡ at + length (now (piece .entry)) ⌝ }
     ensures { λ r. ⌜ take r (now (text .exit)) ≡ take at (now (text .entry)) ++ now (piece .entry) ⌝ }
+    ensures { λ r. ⌜ drop r (now (text .exit)) ≡ drop r (now (text .entry)) ⌝ }
 {
     for j in 0..piece.len() {
         text[at + j] = piece[j];
@@ -37,8 +38,9 @@ fn append(text: &mut [u8], at: usize, piece: &[u8]) -> usize
 
 fn put_line(text: &mut [u8], at: usize, line: Line) -> usize
     requires { ⌜ (line .used ≤ 40) × (at + 40 ≤ length (now text)) ⌝ }
-    ensures { λ r. ⌜ r ≤ at + 40 ⌝ }
+    ensures { λ r. ⌜ (at ≤ r) × (r ≤ at + 40) ⌝ }
     ensures { λ r. ⌜ take r (now (text .exit)) ≡ take at (now (text .entry)) ++ textOf line ⌝ }
+    ensures { λ r. ⌜ drop r (now (text .exit)) ≡ drop r (now (text .entry)) ⌝ }
 {
     let octets = line.octets;
     let used = line.used;
@@ -50,8 +52,9 @@ fn put_row(settings: &[u8], block: &[u8], text: &mut [u8], at: usize, i: usize) 
     requires { ⌜ length (now settings) ≡ 41 ⌝ }
     requires { ⌜ Placed (now block) i ⌝ }
     requires { ⌜ at + 40 ≤ length (now text) ⌝ }
-    ensures { λ r. ⌜ r ≤ at + 40 ⌝ }
+    ensures { λ r. ⌜ (at ≤ r) × (r ≤ at + 40) ⌝ }
     ensures { λ r. ⌜ take r (now (text .exit)) ≡ take at (now (text .entry)) ++ rowOf (i + 1) (headerOf (recordOf (now (block .entry)) i)) (verdictOf (now (settings .entry)) (recordOf (now (block .entry)) i)) ⌝ }
+    ensures { λ r. ⌜ drop r (now (text .exit)) ≡ drop r (now (text .entry)) ⌝ }
 {
     let h = header_of(block, i);
     put_line(text, at, row(i as u64 + 1, h, judge_for(settings, h)))
@@ -61,8 +64,9 @@ fn put_rows(settings: &[u8], block: &[u8], text: &mut [u8], at: usize, n: usize)
     requires { ⌜ length (now settings) ≡ 41 ⌝ }
     requires { ⌜ directoryOf (now block) ≡ Good n ⌝ }
     requires { ⌜ at + 40 * 256 ≤ length (now text) ⌝ }
-    ensures { λ r. ⌜ r ≤ at + 40 * 256 ⌝ }
+    ensures { λ r. ⌜ (at ≤ r) × (r ≤ at + 40 * 256) ⌝ }
     ensures { λ r. ⌜ take r (now (text .exit)) ≡ take at (now (text .entry)) ++ rowsFrom (now (settings .entry)) (now (block .entry)) 0 n ⌝ }
+    ensures { λ r. ⌜ drop r (now (text .exit)) ≡ drop r (now (text .entry)) ⌝ }
 {
     let mut end = at;
     let mut i = 0;
@@ -76,8 +80,9 @@ fn put_rows(settings: &[u8], block: &[u8], text: &mut [u8], at: usize, n: usize)
 // The rows of a block, or the number of the call's refusal.
 fn put_body(settings: &[u8], block: &[u8], text: &mut [u8], at: usize) -> usize
     requires { ⌜ at + 40 * 256 ≤ length (now text) ⌝ }
-    ensures { λ r. ⌜ r ≤ at + 40 * 256 ⌝ }
+    ensures { λ r. ⌜ (at ≤ r) × (r ≤ at + 40 * 256) ⌝ }
     ensures { λ r. ⌜ take r (now (text .exit)) ≡ take at (now (text .entry)) ++ bodyOf (now (settings .entry)) (now (block .entry)) (openVerdict (now (settings .entry)) (now (block .entry)) (length (now (block .entry)))) ⌝ }
+    ensures { λ r. ⌜ drop r (now (text .exit)) ≡ drop r (now (text .entry)) ⌝ }
 {
     match judge_call(settings, block, block.len()) {
         Verdict::Refused(refusal) => put_line(text, at, refused_row(refusal)),
@@ -85,10 +90,12 @@ fn put_body(settings: &[u8], block: &[u8], text: &mut [u8], at: usize) -> usize
     }
 }
 
-// Lists a block: the heading, then the rows, or the number of the call's refusal. Gives the length of the text.
+// Lists a block: the heading, then the rows, or the number of the call's refusal. Gives the length of the text; the octets
+// behind it stay.
 pub fn list(settings: &[u8], block: &[u8], text: &mut [u8; LISTING_OCTETS]) -> usize
     ensures { λ r. ⌜ (r ≤ length (now (text .exit))) × (r ≡ length (take r (now (text .exit)))) ⌝ }
     ensures { λ r. ⌜ take r (now (text .exit)) ≡ listingOf (now (settings .entry)) (now (block .entry)) ⌝ }
+    ensures { λ r. ⌜ drop r (now (text .exit)) ≡ drop r (now (text .entry)) ⌝ }
 {
     let heading = *b"no llid ch key eqs result\n";
     let at = append(text, 0, &heading);

@@ -2,7 +2,7 @@
 // caller's block, since a part of it can't be returned to C.
 ghost use mathlib.Core.Path.{_≡_};
 ghost use Prim.Native.Nat.{_≤_};
-ghost use lib.ListN.{length, take};
+ghost use lib.ListN.{length, take, drop};
 ghost use Rattle.octets.specs.Lists.{part};
 ghost use Rattle.capture.specs.Directory.{directoryOf};
 ghost use Rattle.capture.specs.Verdict.{verdictAsked};
@@ -186,6 +186,7 @@ pub extern "C" fn jazmotip_capture_list(
 ) -> usize
     ensures { λ r. ⌜ (r ≤ length (now (text .exit))) × (r ≡ length (take r (now (text .exit)))) ⌝ }
     ensures { λ r. ⌜ take r (now (text .exit)) ≡ listingOf (now (settings .entry)) (now (block .entry)) ⌝ }
+    ensures { λ r. ⌜ drop r (now (text .exit)) ≡ drop r (now (text .entry)) ⌝ }
 {
     list(settings, block, text)
 }

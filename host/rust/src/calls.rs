@@ -139,7 +139,7 @@ pub fn capture_open(settings: &[u8], block: &[u8], output: &mut [u8]) -> Payload
     }
 }
 
-/// Gives the length of the listing; `text` past it is free.
+/// Gives the length of the listing; `text` past it stays.
 pub fn capture_list(settings: &[u8], block: &[u8], text: &mut [u8; LISTING_OCTETS]) -> usize {
     unsafe { raw::jazmotip_capture_list(settings.as_ptr(), settings.len(), block.as_ptr(), block.len(), text.as_mut_ptr()) }
 }

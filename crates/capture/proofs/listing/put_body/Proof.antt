@@ -47,10 +47,11 @@ same-length c = search needs
 returns : tie.Need-returns
 unfolding bodyOf
 returns c =
+    let q = c .before .before .put-line .ensures in
     let g = c .before .before .before .before .before .before .before .before .before .before .before .before in
     let e = sym (c .before .before .before .before .before .before .before .before .judge-call .ensures) ∙ c .before .before .before .before .before .before .refusal .given .1 in (
-      omega (arith, c .before .before .put-line .ensures .0),
-      c .before .before .put-line .ensures .1 ∙ rw e (ap (λ (t : List ℕ). take (g .args .at) (now (g .args .text)) ++ t) (c .before .before .before .refused-row .ensures .0)),
+      (q .0 .0, omega (arith, q .0 .1)),
+      (q .1 .0 ∙ rw e (ap (λ (t : List ℕ). take (g .args .at) (now (g .args .text)) ++ t) (c .before .before .before .refused-row .ensures .0)), q .1 .1),
     )
 
 same-length-2 : tie.Need-same-length-2
@@ -60,7 +61,8 @@ returns-2 : tie.Need-returns-2
 unfolding bodyOf
 returns-2 c =
     let e = sym (c .before .before .before .before .before .before .before .judge-call .ensures) ∙ c .before .before .before .before .before .enum-told .given .1 in
-    (c .before .before .put-rows .ensures .0, c .before .before .put-rows .ensures .1 ∙ rw (e, c .before .before .before .count .ensures .0))
+    let q = c .before .before .put-rows .ensures in
+    (q .0, (q .1 .0 ∙ rw (e, c .before .before .before .count .ensures .0), q .1 .1))
 
 pub put-body-spec : {M : Type 1} → statement M
 put-body-spec =

@@ -32,7 +32,8 @@ same-length c = search needs
 returns : tie.Need-returns
 returns c =
     let g = c .before .before .before .before .before .before .before in
-    (omega (arith, c .before .before .append .ensures .0, used g), c .before .before .append .ensures .1)
+    let q = c .before .before .append .ensures in
+    ((omega (arith, q .0), omega (arith, q .0, used g)), q .1)
 
 pub put-line-spec : {M : Type 1} → statement M
 put-line-spec =

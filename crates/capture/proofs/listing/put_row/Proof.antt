@@ -31,9 +31,12 @@ returns : tie.Need-returns
 returns c =
     let g = c .before .before .before .before .before .before .before .before .before .before in (
       c .before .before .put-line .ensures .0,
-      c .before .before .put-line .ensures .1
-          ∙ ap (λ (t : List ℕ). take (g .args .at) (now (g .args .text)) ++ t)
-          (c .before .before .before .row .ensures .0 ∙ rw (c .before .before .before .before .judge-for .ensures, c .before .before .before .before .before .before .header-of .ensures .0)),
+      (
+        c .before .before .put-line .ensures .1 .0
+            ∙ ap (λ (t : List ℕ). take (g .args .at) (now (g .args .text)) ++ t)
+            (c .before .before .before .row .ensures .0 ∙ rw (c .before .before .before .before .judge-for .ensures, c .before .before .before .before .before .before .header-of .ensures .0)),
+        c .before .before .put-line .ensures .1 .1,
+      ),
     )
 
 pub put-row-spec : {M : Type 1} → statement M

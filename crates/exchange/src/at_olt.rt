@@ -4,8 +4,11 @@ use crate::play::Play;
 use crate::script;
 use crate::script::Numbers;
 use crate::values;
+use clock::Stamps;
 use ends::Acknowledgement;
+use ends::ClockSent;
 use ends::Identity;
+use ends::KeyMessage;
 use ends::KeySent;
 use ends::Olt;
 use ends::OltAnswer;
@@ -146,9 +149,18 @@ fn field(o: Olt, place: u8, s: &[u8], at: usize, to: usize, value: u64) -> OltAn
     with_unit(o, place, unit_field(unit_at(o, place), k, value, low))
 }
 
+fn timer_flag(o: Olt) -> OltAnswer {
+    let u = o.units[0];
+    OltAnswer {
+        number: u.keys.timer.flag,
+        olt: o,
+    }
+}
+
 fn answer(o: Olt, place: u8, k: usize, n: Numbers, under_way: Acknowledgement) -> OltAnswer {
     let llid = script::u16_of(n.a);
     match k {
+        3 => timer_flag(o),
         7 => olt::fresh(n.a, n.b),
         8 => olt::register(o, values::identity(n), n.e, n.f),
         9 => olt::advance(o, n.a),
@@ -159,21 +171,35 @@ fn answer(o: Olt, place: u8, k: usize, n: Numbers, under_way: Acknowledgement) -
         14 => one(n.a),
         15 => keyed(n),
         16 => full(),
-        _ => named(o, place, values::identity(n)),
+        17 => named(o, place, values::identity(n)),
+        _ => OltAnswer { number: 0, olt: o },
     }
 }
 
-fn key_sent(o: Olt, k: usize, n: Numbers) -> KeySent {
+fn clock_sent(a: OltAnswer, k: usize, llid: u16, message: Stamps) -> ClockSent {
+    let olt = a.olt;
+    if k == 4 {
+        return olt::clock_send(olt, llid);
+    }
+    ClockSent {
+        number: a.number,
+        olt,
+        message,
+    }
+}
+
+fn key_sent(a: ClockSent, k: usize, n: Numbers, message: KeyMessage) -> KeySent {
+    let olt = a.olt;
     let llid = script::u16_of(n.a);
     match k {
-        5 => olt::offer(o, llid, values::key(n.b)),
-        _ => olt::retry(o, llid),
+        5 => olt::offer(olt, llid, values::key(n.b)),
+        6 => olt::retry(olt, llid),
+        _ => KeySent {
+            number: a.number,
+            olt,
+            message,
+        },
     }
-}
-
-fn timer_flag(o: Olt) -> u8 {
-    let u = o.units[0];
-    u.keys.timer.flag
 }
 
 // `timer` makes the flag of the timer the row's number. `acknowledge` gives any acknowledgement, `arrive` the one under way.
@@ -184,15 +210,16 @@ fn word(p: Play, s: &[u8], at: usize, to: usize, n: Numbers) -> Play {
         to,
         b"olt onu unit timer clock_send offer retry fresh register advance capture acknowledge arrive new one keyed full identity",
     );
-    match k {
-        0 => play::on_side(p, 0),
-        1 => play::on_side(p, 1),
-        2 => play::at_place(p, script::u8_of(n.a)),
-        3 => play::with_number(p, timer_flag(p.olt)),
-        4 => play::after_clock(p, olt::clock_send(p.olt, script::u16_of(n.a))),
-        5 | 6 => play::after_key(p, key_sent(p.olt, k, n)),
-        _ => play::after_olt(p, answer(p.olt, p.place, k, n, p.acknowledgement)),
+    if k < 2 {
+        return play::on_side(p, k as u8);
     }
+    if k == 2 {
+        return play::at_place(p, script::u8_of(n.a));
+    }
+    let asked = answer(p.olt, p.place, k, n, p.acknowledgement);
+    let timed = clock_sent(asked, k, script::u16_of(n.a), p.stamps);
+    let done = key_sent(timed, k, n, p.message);
+    play::after_call(p, done, timed.message)
 }
 
 pub(crate) fn command(p: Play, s: &[u8], at: usize, to: usize, end: usize) -> Play {

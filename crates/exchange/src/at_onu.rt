@@ -5,6 +5,8 @@ use crate::script;
 use crate::script::Numbers;
 use crate::values;
 use clock::Stamps;
+use ends::Acknowledgement;
+use ends::KeyMessage;
 use ends::Onu;
 use ends::OnuAcknowledged;
 use ends::OnuAnswer;
@@ -74,15 +76,34 @@ fn answer(o: Onu, k: usize, n: Numbers) -> OnuAnswer {
         8 => onu::fresh(values::unit(), values::OLT_MAC, n.a),
         9 => synced(),
         10 => keyed(script::u32_of(n.a), script::u8_of(n.b), n.c),
-        _ => named(o, n),
+        11 => named(o, n),
+        _ => OnuAnswer { number: 0, onu: o },
     }
 }
 
-fn clock_message(o: Onu, rx: u64, tx: u64) -> OnuAcknowledged {
-    onu::clock_message(o, Stamps { rx, tx })
+// `clock_arrives` and `key_arrives` are the messages that are under way.
+fn acknowledged(
+    a: OnuAnswer,
+    k: usize,
+    n: Numbers,
+    stamps: Stamps,
+    message: KeyMessage,
+    acknowledgement: Acknowledgement,
+) -> OnuAcknowledged {
+    let onu = a.onu;
+    match k {
+        2 => onu::clock_message(onu, Stamps { rx: n.a, tx: n.b }),
+        3 => onu::clock_message(onu, stamps),
+        4 => onu::key_message(onu, values::key_message(n)),
+        5 => onu::key_message(onu, message),
+        _ => OnuAcknowledged {
+            number: a.number,
+            onu,
+            acknowledgement,
+        },
+    }
 }
 
-// `clock_arrives` and `key_arrives` are the messages that are under way.
 fn word(p: Play, s: &[u8], at: usize, to: usize, n: Numbers) -> Play {
     let k = script::word(
         s,
@@ -90,15 +111,12 @@ fn word(p: Play, s: &[u8], at: usize, to: usize, n: Numbers) -> Play {
         to,
         b"olt onu clock_message clock_arrives key_message key_arrives fresh advance new synced keyed identity",
     );
-    match k {
-        0 => play::on_side(p, 0),
-        1 => play::on_side(p, 1),
-        2 => play::after_message(p, clock_message(p.onu, n.a, n.b)),
-        3 => play::after_message(p, onu::clock_message(p.onu, p.stamps)),
-        4 => play::after_message(p, onu::key_message(p.onu, values::key_message(n))),
-        5 => play::after_message(p, onu::key_message(p.onu, p.message)),
-        _ => play::after_onu(p, answer(p.onu, k, n)),
+    if k < 2 {
+        return play::on_side(p, k as u8);
     }
+    let asked = answer(p.onu, k, n);
+    let taken = acknowledged(asked, k, n, p.stamps, p.message, p.acknowledgement);
+    play::after_message(p, taken)
 }
 
 pub(crate) fn command(p: Play, s: &[u8], at: usize, to: usize, end: usize) -> Play {

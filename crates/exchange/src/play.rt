@@ -2,7 +2,6 @@
 use crate::values;
 use clock::Stamps;
 use ends::Acknowledgement;
-use ends::ClockSent;
 use ends::KeyMessage;
 use ends::KeySent;
 use ends::Olt;
@@ -60,12 +59,6 @@ pub(crate) fn at_place(p: Play, place: u8) -> Play {
     r
 }
 
-pub(crate) fn with_number(p: Play, number: u8) -> Play {
-    let mut r = p;
-    r.number = number;
-    r
-}
-
 pub(crate) fn after_olt(p: Play, answer: OltAnswer) -> Play {
     let olt = answer.olt;
     let mut r = p;
@@ -74,22 +67,13 @@ pub(crate) fn after_olt(p: Play, answer: OltAnswer) -> Play {
     r
 }
 
-pub(crate) fn after_clock(p: Play, answer: ClockSent) -> Play {
-    let olt = answer.olt;
-    let stamps = answer.message;
-    let mut r = p;
-    r.olt = olt;
-    r.number = answer.number;
-    r.stamps = stamps;
-    r
-}
-
-pub(crate) fn after_key(p: Play, answer: KeySent) -> Play {
+pub(crate) fn after_call(p: Play, answer: KeySent, stamps: Stamps) -> Play {
     let olt = answer.olt;
     let message = answer.message;
     let mut r = p;
     r.olt = olt;
     r.number = answer.number;
+    r.stamps = stamps;
     r.message = message;
     r
 }

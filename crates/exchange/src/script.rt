@@ -31,7 +31,7 @@ pub(crate) fn after(at: usize, n: usize) -> usize {
     std::num::wrapping_add_usize(at, n)
 }
 
-pub(crate) fn before(at: usize) -> usize {
+fn before(at: usize) -> usize {
     std::num::wrapping_sub_usize(at, 1)
 }
 
@@ -47,12 +47,25 @@ pub(crate) fn until(s: &[u8], at: usize, end: usize, stop: u8) -> usize
     i
 }
 
-// The place of the word after the one at `at`.
-pub(crate) fn next(s: &[u8], at: usize, end: usize) -> usize
-    requires { ⌜ at < end ⌝ }
-    ensures { λ r. ⌜ at < r ⌝ }
+pub(crate) fn starts_line(s: &[u8], at: usize) -> bool {
+    octet(s, before(at)) == b'\n'
+}
+
+// Writes the label of a row, or a title as it stands; a remark goes unseen. The place before the row's first word, or the line's end.
+pub(crate) fn head(s: &[u8], at: usize, end: usize) -> usize
+    requires { ⌜ at ≤ end ⌝ }
+    ensures { λ r. ⌜ (at ≤ r) × (r ≤ end) ⌝ }
 {
-    until(s, at, end - 1, b' ') + 1
+    let bar = until(s, at, end, b'|');
+    if bar < end {
+        write(s, at, before(bar));
+        return bar + 1;
+    }
+    if octet(s, at) != b'#' {
+        write(s, at, end);
+        mark(at < end, b'\n');
+    }
+    end
 }
 
 // Whether the name is what stands from `at` to `to`.
@@ -136,7 +149,7 @@ pub(crate) fn number(s: &[u8], at: usize) -> u64 {
 // The place of the number after the word at `at`, or `end`.
 fn next_number(s: &[u8], at: usize, end: usize) -> usize {
     if at < end {
-        let place = next(s, at, end);
+        let place = until(s, at, end - 1, b' ') + 1;
         if is_digit(octet(s, place)) {
             return place;
         }
@@ -176,6 +189,12 @@ pub(crate) fn u32_of(x: u64) -> u32 {
 pub(crate) fn put(x: u8) {
     let text = [x];
     io::write_all(STDOUT_FILENO, &text);
+}
+
+pub(crate) fn mark(wanted: bool, x: u8) {
+    if wanted {
+        put(x);
+    }
 }
 
 // Writes what stands from one place to another.

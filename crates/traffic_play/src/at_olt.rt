@@ -189,9 +189,7 @@ pub(crate) fn command(p: Play, s: &[u8], at: usize, to: usize, n: Numbers) -> Pl
     script::mark(k > 21, b'?');
     let asked = answer(p.olt, k, n, p.acknowledgement);
     let timed = clock_sent(asked, k, script::u16_of(n.a), p.stamps);
-    let stamps = timed.message;
     let keyed = key_sent(timed, k, n, p.message);
-    let message = keyed.message;
     let olt = keyed.olt;
     let envelope = p.passed;
     let before = OltPassed {
@@ -201,10 +199,6 @@ pub(crate) fn command(p: Play, s: &[u8], at: usize, to: usize, n: Numbers) -> Pl
         envelope,
     };
     let done = passed(before, k, n, p.aim, play::carried(p, k, n));
-    let mut r = play::after(p, k, n, done.number, done.count, done.envelope);
-    let end = done.olt;
-    r.olt = end;
-    r.stamps = stamps;
-    r.message = message;
-    r
+    let r = play::after(p, k, n, done.number, done.count, done.envelope);
+    play::after_olt(r, done.olt, timed.message, keyed.message)
 }

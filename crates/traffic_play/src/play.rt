@@ -194,6 +194,14 @@ pub(crate) fn after(
     r
 }
 
+pub(crate) fn after_olt(p: Play, olt: Olt, stamps: Stamps, message: KeyMessage) -> Play {
+    let mut r = p;
+    r.olt = olt;
+    r.stamps = stamps;
+    r.message = message;
+    r
+}
+
 pub(crate) fn after_unit(p: Play, onu: Onu, acknowledgement: Acknowledgement) -> Play {
     let mut r = p;
     r.acknowledgement = acknowledgement;

@@ -1,4 +1,4 @@
--- `exchange::play_all` is safe and ends: each turn passes a line.
+-- `exchange::play_all` is safe and ends: each turn passes a word, or the head of a line.
 -- Assumes nothing.
 use Prim.Native.Nat.{_-_}
 use borrow.Author.Needs.{needs}
@@ -21,8 +21,17 @@ loop-holds c = search needs
 until-requires : tie.Need-until-requires Inv-loop μ-loop
 until-requires c κs = search needs
 
-line-requires : tie.Need-line-requires Inv-loop μ-loop
-line-requires c κs = search needs
+until-requires-2 : tie.Need-until-requires-2 Inv-loop μ-loop
+until-requires-2 c κs = search needs
+
+add-next : tie.Need-add-next Inv-loop μ-loop
+add-next c = search needs
+
+starts-line-requires : tie.Need-starts-line-requires Inv-loop μ-loop
+starts-line-requires c κs = search needs
+
+head-requires : tie.Need-head-requires Inv-loop μ-loop
+head-requires c κs = search needs
 
 add-at : tie.Need-add-at Inv-loop μ-loop
 add-at c = search needs
@@ -32,6 +41,18 @@ loop-less c = search needs
 
 loop-again : tie.Need-loop-again Inv-loop μ-loop
 loop-again c = search needs
+
+command-requires : tie.Need-command-requires Inv-loop μ-loop
+command-requires c κs = search needs
+
+mark-requires : tie.Need-mark-requires Inv-loop μ-loop
+mark-requires c κs = search needs
+
+loop-less-2 : tie.Need-loop-less-2 Inv-loop μ-loop
+loop-less-2 c = search needs
+
+loop-again-2 : tie.Need-loop-again-2 Inv-loop μ-loop
+loop-again-2 c = search needs
 
 returns : tie.Need-returns Inv-loop μ-loop
 returns c = search needs
@@ -45,8 +66,15 @@ play-all-spec =
     start-requires
     loop-holds
     until-requires
-    line-requires
+    until-requires-2
+    add-next
+    starts-line-requires
+    head-requires
     add-at
     loop-less
     loop-again
+    command-requires
+    mark-requires
+    loop-less-2
+    loop-again-2
     returns)

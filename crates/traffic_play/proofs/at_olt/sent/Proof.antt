@@ -3,7 +3,6 @@
 use borrow.Author.Needs.{needs}
 use lib.Seq.{length-take-le}
 use mathlib.Core.Path.{sym}
-use native.Mathlib.Omega.{arith}
 use Rattle.traffic_play.proofs.at_olt.sent.Statement.{statement}
 use Rattle.traffic_play.proofs.at_olt.sent.Tie as tie
 
@@ -20,13 +19,13 @@ array-share-prefix-payload : tie.Need-array-share-prefix-payload
 array-share-prefix-payload c = search needs
 
 slice-aggregate-olt-send : tie.Need-slice-aggregate-olt-send
-slice-aggregate-olt-send c = sym (length-take-le _ _ (omega arith))
+slice-aggregate-olt-send c = sym (length-take-le _ _ (array-share-prefix-payload (c .before)))
 
 array-borrow-prefix-octets : tie.Need-array-borrow-prefix-octets
 array-borrow-prefix-octets c = search needs
 
 slice-aggregate-olt-send-2 : tie.Need-slice-aggregate-olt-send-2
-slice-aggregate-olt-send-2 c = sym (length-take-le _ _ (omega arith))
+slice-aggregate-olt-send-2 c = sym (length-take-le _ _ (array-borrow-prefix-octets (c .before)))
 
 olt-send-requires : tie.Need-olt-send-requires
 olt-send-requires c κs = search needs

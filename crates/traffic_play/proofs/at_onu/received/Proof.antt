@@ -3,7 +3,6 @@
 use borrow.Author.Needs.{needs}
 use lib.Seq.{length-take-le}
 use mathlib.Core.Path.{sym}
-use native.Mathlib.Omega.{arith}
 use Rattle.traffic_play.proofs.at_onu.received.Statement.{statement}
 use Rattle.traffic_play.proofs.at_onu.received.Tie as tie
 
@@ -14,13 +13,13 @@ array-share-prefix-payload : tie.Need-array-share-prefix-payload
 array-share-prefix-payload c = search needs
 
 slice-aggregate-onu-receive : tie.Need-slice-aggregate-onu-receive
-slice-aggregate-onu-receive c = sym (length-take-le _ _ (omega arith))
+slice-aggregate-onu-receive c = sym (length-take-le _ _ (array-share-prefix-payload (c .before)))
 
 array-borrow-prefix-octets : tie.Need-array-borrow-prefix-octets
 array-borrow-prefix-octets c = search needs
 
 slice-aggregate-onu-receive-2 : tie.Need-slice-aggregate-onu-receive-2
-slice-aggregate-onu-receive-2 c = sym (length-take-le _ _ (omega arith))
+slice-aggregate-onu-receive-2 c = sym (length-take-le _ _ (array-borrow-prefix-octets (c .before)))
 
 onu-receive-requires : tie.Need-onu-receive-requires
 onu-receive-requires c κs = search needs

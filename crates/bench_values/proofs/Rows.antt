@@ -6,8 +6,8 @@ use lib.Bits.{bitXor}
 use lib.Count.{ones, onesIn}
 use Rattle.octets.specs.Bits.{bitOf}
 use Rattle.octets.specs.Choice.{both, pick}
-use Rattle.sealing.specs.CounterBlock.{counterBlock}
-use Rattle.sealing.specs.Payload.{masked, countOf}
+use Rattle.envelope.specs.CounterBlock.{counterBlock}
+use Rattle.envelope.specs.ControlMask.{masked, countEnciphered}
 use Rattle.clock.specs.Stamping.{capturedAt, raiseOf, movedBy, raisedTo}
 use Rattle.ends.specs.Replies.{refuseIf}
 use Rattle.ends.specs.Keys.{aged}
@@ -30,7 +30,7 @@ xored (suc (suc (suc (suc (suc (suc zero)))))) k x h l = refl
 xored (suc (suc (suc (suc (suc (suc (suc j))))))) k x h l = absurd (omega arith)
 
 pub rows-hold : Rows
-unfolding counterBlock capturedAt raiseOf movedBy raisedTo timerAdvanced pick onZero freeFrom occupied taken both aged refuseIf freshUnit withKeys freshTimer choiceAged switches unitSendChoice unitSendVerdict masked bitOf countOf ones onesIn
+unfolding counterBlock capturedAt raiseOf movedBy raisedTo timerAdvanced pick onZero freeFrom occupied taken both aged refuseIf freshUnit withKeys freshTimer choiceAged switches unitSendChoice unitSendVerdict masked bitOf countEnciphered ones onesIn
 rows-hold =
     record {
       p1 = refl;

@@ -3,8 +3,8 @@ use mathlib.Core.Path.{_≡_}
 use mathlib.Core.List.{[], _∷_}
 use Prim.Native.Nat.{ℕ, _+_, _-_, _^_, _<_}
 use lib.Bits.{bitXor}
-use Rattle.sealing.specs.CounterBlock.{counterBlock}
-use Rattle.sealing.specs.Payload.{masked, countOf}
+use Rattle.envelope.specs.CounterBlock.{counterBlock}
+use Rattle.envelope.specs.ControlMask.{masked, countEnciphered}
 use Rattle.clock.specs.Stamping.{capturedAt, raisedTo}
 use Rattle.refusal.specs.Number.{verdictNumber}
 use Rattle.ends.specs.Identities.{noIdentity}
@@ -61,4 +61,4 @@ pub record Rows : Type 0 where
   pub p12-first : (k x : ℕ) → masked 0x81 0 k x ≡ x
   pub p12-data : (j k x : ℕ) → 0 < j → j < 7 → masked 0x81 j k x ≡ bitXor x k
   pub p12-last : (k x : ℕ) → masked 0x81 7 k x ≡ x
-  pub p12-count : countOf (0x81 ∷ 0 ∷ 0 ∷ 0 ∷ 0 ∷ 0 ∷ 0 ∷ 0 ∷ 0 ∷ []) ≡ 6
+  pub p12-count : countEnciphered (0x81 ∷ 0 ∷ 0 ∷ 0 ∷ 0 ∷ 0 ∷ 0 ∷ 0 ∷ 0 ∷ []) ≡ 6

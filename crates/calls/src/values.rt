@@ -1,6 +1,6 @@
 // Names, keys, payloads, settings and blocks.
 use ends::Identity;
-use sealing::envelope::Nonce;
+use envelope::Nonce;
 
 pub const OLT_MAC: u64 = 0x0200_0000_0001;
 

@@ -21,12 +21,14 @@ use Rattle.octets.proofs.Choice.{both-left, both-right, both-true, pick-true, p
 use Rattle.refusal.specs.declared.Refusal.{Refusal}
 use Rattle.refusal.specs.declared.Verdict.{Verdict}
 use Rattle.refusal.specs.declared.Verdict.the-variants.{Accepted}
-use Rattle.sealing.specs.declared.envelope.Nonce.{Nonce}
-use Rattle.sealing.specs.declared.envelope.SealAnswer.{SealAnswer}
-use Rattle.sealing.specs.declared.envelope.SealAnswer.the-variants.{Done}
-use Rattle.sealing.specs.Payload.{controlOctet, sealed}
-use Rattle.sealing.specs.Payload.{countOf as countEnciphered}
-use Rattle.sealing.specs.Seal.{lengthsFit, nonceFits, judgeSeal, sealing, sealCount, Sealing}
+use Rattle.envelope.specs.Acceptance.{lengthsFit, nonceFits, judgeSeal}
+use Rattle.envelope.specs.Answer.{sealCount}
+use Rattle.envelope.specs.ControlMask.{controlOctet, countEnciphered}
+use Rattle.envelope.specs.declared.Nonce.{Nonce}
+use Rattle.envelope.specs.declared.SealAnswer.{SealAnswer}
+use Rattle.envelope.specs.declared.SealAnswer.the-variants.{Done}
+use Rattle.sealing.specs.Payload.{sealed}
+use Rattle.sealing.specs.Seal.{sealing, Sealing}
 use Rattle.sealing.specs.Seal.{outcome as sealOutcome}
 use Rattle.sealing.specs.KeyExpansion.{keyExpansion}
 use Rattle.sealing.proofs.Payload.{sealed-length}

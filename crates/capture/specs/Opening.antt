@@ -9,10 +9,10 @@ use Rattle.refusal.specs.declared.Refusal.the-variants.{BadLength}
 use Rattle.refusal.specs.declared.Verdict.{Verdict}
 use Rattle.refusal.specs.declared.Verdict.the-variants.{Accepted, Refused}
 use Rattle.refusal.specs.Number.{numberOf}
-use Rattle.sealing.specs.declared.envelope.Nonce.{Nonce}
+use Rattle.envelope.specs.ControlMask.{countEnciphered}
+use Rattle.envelope.specs.declared.Nonce.{Nonce}
 use Rattle.sealing.specs.KeyExpansion.{keyExpansion}
 use Rattle.sealing.specs.Payload.{sealed}
-use Rattle.sealing.specs.Payload.{countOf as countEnciphered}
 use Rattle.records.specs.declared.header.Header.{Header}
 use Rattle.records.specs.declared.header.RecordVerdict.{RecordVerdict}
 use Rattle.records.specs.declared.header.RecordVerdict.the-variants.{Clear, Sealed}

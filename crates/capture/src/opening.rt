@@ -7,9 +7,9 @@ ghost use lib.ListN.{length, take, drop, set};
 ghost use lib.Dec.{eqb};
 ghost use Rattle.octets.specs.Choice.{pick};
 ghost use Rattle.octets.specs.Lists.{replaced};
+ghost use Rattle.envelope.specs.ControlMask.{countEnciphered};
+ghost use Rattle.envelope.specs.Acceptance.{nonceFits};
 ghost use Rattle.sealing.specs.Payload.{sealed};
-ghost use Rattle.sealing.specs.Payload.{countOf as countEnciphered};
-ghost use Rattle.sealing.specs.Seal.{nonceFits};
 ghost use Rattle.sealing.specs.KeyExpansion.{keyExpansion};
 ghost use Rattle.records.specs.Record.{payloadOf};
 ghost use Rattle.records.specs.Settings.{presenceOf, keyPresent, keyOf};
@@ -28,6 +28,8 @@ use crate::settings::mac;
 use crate::settings::presence;
 use crate::verdict::header_of;
 use crate::verdict::judge_for;
+use envelope::Nonce;
+use envelope::seal_count;
 use records::header::HEADER_OCTETS;
 use records::header::RecordVerdict;
 use records::header::cleared;
@@ -35,9 +37,7 @@ use refusal::Refusal;
 use refusal::Verdict;
 use sealing::aes128::RoundKeys;
 use sealing::aes128::expand_key;
-use sealing::envelope::Nonce;
-use sealing::envelope::seal_count;
-use sealing::envelope::seal_expanded;
+use sealing::counter_mode::seal_expanded;
 
 pub enum OpenAnswer {
     // the octets deciphered

@@ -1,9 +1,9 @@
 // Seals payloads and prints, case by case, number, count and a sum over the output: against values that an independent
 // AES-128 in counter mode gave, with the mask of 01 applied (tools/envelopes.py).
+use envelope::Nonce;
 use libc::STDOUT_FILENO;
 use sealing::aes128;
-use sealing::envelope;
-use sealing::envelope::Nonce;
+use sealing::counter_mode;
 
 // The control octet of EQ e: one value for all EQs, or, for 256, mixed.
 fn control(kind: u64, e: usize) -> u8 {
@@ -56,7 +56,7 @@ fn print_number(n: u64) {
 
 // Seals `input` and prints number, count, sum and the first octets of the output.
 fn print_sealed(enciphered: bool, key: [u8; 16], nonce: Nonce, input: &[u8], output: &mut [u8]) {
-    let answer = envelope::seal(enciphered, key, nonce, input, output);
+    let answer = counter_mode::seal(enciphered, key, nonce, input, output);
     print_number(envelope::seal_number(answer) as u64);
     print_number(envelope::seal_count(answer));
     io::print_hex(STDOUT_FILENO, digest(output), 8);

@@ -5,8 +5,8 @@ use Prim.Native.Nat.{ℕ, zero, suc, _≤_, _<_}
 use native.Mathlib.Omega.{arith}
 use lib.Dec.{eqb}
 use lib.ListN.{length}
-use Rattle.sealing.specs.declared.envelope.Nonce.{Nonce}
-use Rattle.sealing.specs.declared.envelope.SealAnswer.{SealAnswer}
+use Rattle.envelope.specs.declared.Nonce.{Nonce}
+use Rattle.envelope.specs.declared.SealAnswer.{SealAnswer}
 use Rattle.sealing.specs.Seal.{sealing, outcome}
 use Rattle.traffic.specs.Passages.{exchange}
 use Rattle.jazmotip.specs.Payloads.{payloadAnswer, flagDenied, sealingBy, inNumbers}

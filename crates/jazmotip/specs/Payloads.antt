@@ -6,10 +6,12 @@ use Prim.Native.Nat.{ℕ, zero, suc}
 use lib.ListN.{length}
 use Rattle.octets.specs.Choice.{pick}
 use Rattle.refusal.specs.declared.Refusal.the-variants.{OutOfRange, BadLength}
-use Rattle.sealing.specs.declared.envelope.Nonce.{Nonce}
-use Rattle.sealing.specs.declared.envelope.SealAnswer.{SealAnswer}
-use Rattle.sealing.specs.declared.envelope.SealAnswer.the-variants.{Denied}
-use Rattle.sealing.specs.Seal.{Sealing, lengthsFit, sealing, outcome, sealNumber, sealCount}
+use Rattle.envelope.specs.Acceptance.{lengthsFit}
+use Rattle.envelope.specs.Answer.{sealNumber, sealCount}
+use Rattle.envelope.specs.declared.Nonce.{Nonce}
+use Rattle.envelope.specs.declared.SealAnswer.{SealAnswer}
+use Rattle.envelope.specs.declared.SealAnswer.the-variants.{Denied}
+use Rattle.sealing.specs.Seal.{Sealing, sealing, outcome}
 use Rattle.traffic.specs.Passages.{Exchange, exchange}
 use Rattle.jazmotip.specs.declared.payloads.PayloadAnswer.{PayloadAnswer}
 

@@ -1,20 +1,20 @@
 // Sealing and opening of payloads (01, Counter block and mask). EncEnabled is a number here, and an answer a number and a count.
 ghost use mathlib.Core.Path.{_≡_};
+ghost use Rattle.envelope.specs.ControlMask.{countEnciphered};
 ghost use Rattle.sealing.specs.KeyExpansion.{keyExpansion};
-ghost use Rattle.sealing.specs.Payload.{countOf};
 ghost use Rattle.traffic.specs.Passages.{exchange};
 ghost use Rattle.jazmotip.specs.Payloads.{payloadAnswer, flagDenied, sealingBy, inNumbers};
+use envelope::Nonce;
+use envelope::SealAnswer;
+use envelope::count;
+use envelope::lengths_fit;
+use envelope::seal_count;
+use envelope::seal_number;
 use refusal::Refusal;
 use sealing::aes128::RoundKeys;
 use sealing::aes128::expand_key;
-use sealing::envelope::Nonce;
-use sealing::envelope::SealAnswer;
-use sealing::envelope::count;
-use sealing::envelope::lengths_fit;
-use sealing::envelope::seal;
-use sealing::envelope::seal_count;
-use sealing::envelope::seal_expanded;
-use sealing::envelope::seal_number;
+use sealing::counter_mode::seal;
+use sealing::counter_mode::seal_expanded;
 
 #[repr(C)]
 pub struct PayloadAnswer {
@@ -87,7 +87,7 @@ pub extern "C" fn jazmotip_seal_expanded(
 
 #[no_mangle]
 pub extern "C" fn jazmotip_count(payload: &[u8]) -> u64
-    ensures { λ r. ⌜ r ≡ countOf (now (payload .entry)) ⌝ }
+    ensures { λ r. ⌜ r ≡ countEnciphered (now (payload .entry)) ⌝ }
 {
     count(payload)
 }

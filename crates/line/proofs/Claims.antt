@@ -12,8 +12,8 @@ use Rattle.octets.proofs.Choice.{both-left}
 use Rattle.octets.proofs.Members.{mem-at}
 use Rattle.clock.specs.Ticks.{clockTurn}
 use Rattle.clock.proofs.Ticks.{clocks-differ}
-use Rattle.sealing.specs.CounterBlock.{counterBlock}
-use Rattle.sealing.proofs.CounterBlock.{counter-block-injective}
+use Rattle.envelope.specs.CounterBlock.{counterBlock}
+use Rattle.envelope.proofs.CounterBlock.{counter-block-injective}
 use Rattle.ends.specs.Identities.{validMac, validIdentity}
 use Rattle.ends.specs.Table.{unitAt}
 use Rattle.ends.specs.declared.Onu.{Onu}

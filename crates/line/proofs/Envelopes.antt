@@ -10,9 +10,10 @@ use lib.ListN.{length}
 use borrow.Author.Tests.{leb-true, eq-eqb, not-false}
 use Rattle.octets.specs.Choice.{pick}
 use Rattle.octets.proofs.Choice.{both-left, both-right, both-true, not-of-true}
+use Rattle.envelope.specs.Acceptance.{lengthsFit}
+use Rattle.envelope.specs.declared.Nonce.{Nonce}
 use Rattle.sealing.specs.KeyExpansion.{keyExpansion}
-use Rattle.sealing.specs.Seal.{lengthsFit, carried, countCarried}
-use Rattle.sealing.specs.declared.envelope.Nonce.{Nonce}
+use Rattle.sealing.specs.Seal.{carried, countCarried}
 use Rattle.sealing.proofs.Seal.{carried-length, carried-twice, count-carried}
 use Rattle.ends.specs.declared.Passage.{Passage}
 use Rattle.traffic.specs.Passages.{misfit, isEnciphered, nonceOf, passed, passedCount}

@@ -9,9 +9,9 @@ use lib.ListN.{length, getD}
 use borrow.Author.Tests.{ltb-true, leb-true, eqb-true}
 use Rattle.octets.proofs.Members.{mem-at}
 use Rattle.clock.specs.Ticks.{clockTurn, localTurn}
+use Rattle.envelope.specs.declared.Nonce.{Nonce}
 use Rattle.sealing.specs.KeyExpansion.{keyExpansion}
 use Rattle.sealing.specs.Seal.{carried, countCarried}
-use Rattle.sealing.specs.declared.envelope.Nonce.{Nonce}
 use Rattle.ends.specs.Headers.{headerOf}
 use Rattle.ends.specs.OnuCalls.{freshOnuOf}
 use Rattle.line.specs.Setting.{Site}

@@ -10,7 +10,7 @@ use Rattle.clock.specs.Ticks.{clockTurn, localTurn, ticksPerSecond, keyLife}
 use Rattle.clock.specs.Stamping.{capturedAt}
 use Rattle.clock.specs.Aligned.{Aligned}
 use Rattle.clock.specs.declared.Stamps.{Stamps}
-use Rattle.sealing.specs.Seal.{lengthsFit}
+use Rattle.envelope.specs.Acceptance.{lengthsFit}
 use Rattle.ends.specs.Identities.{has}
 use Rattle.ends.specs.Keys.{keyIn}
 use Rattle.ends.specs.Messages.{keyKind}

@@ -8,7 +8,7 @@ use lib.ListN.{length}
 use borrow.Author.Tests.{not-false}
 use Rattle.octets.proofs.Members.{mem-at}
 use Rattle.refusal.specs.declared.Verdict.the-variants.{Accepted}
-use Rattle.sealing.specs.Payload.{eqsOf}
+use Rattle.envelope.specs.ControlMask.{eqsOf}
 use Rattle.ends.specs.Records.{withChannels}
 use Rattle.ends.specs.Replies.{silent}
 use Rattle.ends.specs.Table.{unitAt}

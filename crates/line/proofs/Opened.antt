@@ -3,8 +3,10 @@ use lib.Count.{ones}
 use Rattle.octets.specs.Choice.{both, either, pick}
 use Rattle.octets.specs.Lists.{same, all}
 use Rattle.clock.specs.Stamping.{capturedAt, raiseOf, movedBy, raisedTo}
-use Rattle.sealing.specs.Payload.{sealed, countOf}
-use Rattle.sealing.specs.Seal.{lengthsFit, carried, countCarried}
+use Rattle.envelope.specs.ControlMask.{countEnciphered}
+use Rattle.envelope.specs.Acceptance.{lengthsFit}
+use Rattle.sealing.specs.Payload.{sealed}
+use Rattle.sealing.specs.Seal.{carried, countCarried}
 use Rattle.ends.specs.Headers.{validHeader, choiceNumber, choiceVerdict, choiceAged, headerOf, keyFor, passageOf, sendingOf}
 use Rattle.ends.specs.Identities.{among, meets, distinct, llidsOf, has, kept, validMac, validIdentity}
 use Rattle.ends.specs.Keys.{keyIn, withKey, onlyKey, firstSend, aged, validFirst}
@@ -29,5 +31,5 @@ use Rattle.line.specs.History.{due, switching, numberDown, laneWith, lan
 use Rattle.line.specs.Run.{freshLane, freshOnu, start, noted, named, withLanes, atOlt, atOnu, atOltFor, advancing, entering, clockSending, offering, retrying, envelopeOf, sendingDown, sendingUp, messageArriving, receiptDown, envelopeArriving, thingArriving, noEnvelope, receiptUp, arrivingUp, answering, unitAfter, oltAfter, step, run}
 
 unfoldable pub opened : Unit {0}
-unfolding ones both either pick same capturedAt raiseOf movedBy raisedTo sealed countOf lengthsFit carried countCarried validHeader choiceNumber choiceVerdict choiceAged headerOf keyFor passageOf sendingOf among meets distinct llidsOf has kept validMac validIdentity keyIn withKey onlyKey firstSend aged validFirst outcome putBack atUnit after lift downstream upstream onZero freeFrom taken occupied validChannels oltAnswer clockSent keySent freshOltOf validRegistration registerVerdict registering registerOf sharedAdvanced oltAdvanced advancingOlt advanceOltOf captureOf clockSendOf offerOf retryOf acknowledgeOf sendingOlt receivingOlt onuAnswer onuAcknowledged onuReply freshOnuVerdict freshOnuOf onuClockAdvanced onuAdvanced advancingOnu advanceOnuOf clockMessageVerdict clockFrom onuSynced clockMessageTo clockMessageAt newKey heldKey activeKey keyMessageVerdict keysTaken keyMessageTo keyMessageAt onuSendChoice onuSendVerdict onuNoted onuSent sendingOnu onuReceiveChoice onuReceiveVerdict onuMoved onuReceived receivingOnu withKeys withConfirmation withClock withTimer withSlots withFirst freshUnit noUnit withChannels newOlt withOnuClock withOnuKeys withOnuFirst withOnuChannels newOnu refuseIf reply advanceVerdict all tableLlids findFrom find pastUnit withUnit withOneMore freshTimer timerAdvanced timerFallen validInterval validTimer unitAdvanced clockCaptured captureUnit clockSendVerdict clockMessageSent clockMessageOf clockSendUnit offerVerdict keysOffered unitOffered keyMessageOf offerUnit retryVerdict retryUnit clockAcknowledgedUnit keyAcknowledgedUnit acknowledgeUnit switches unitSendChoice unitSendVerdict keysSwitched keysSent sendUnit unitReceiveChoice unitReceiveVerdict unitConfirmed unitReceived receiveUnit validNumbers validKeys validUnitClock validUnit validShared validOlt validOnuKeys validOnuClock validOnu misfit isEnciphered passed passedCount outputAfter oltReceived oltReceiveOf onuReceivedBy onuReceiveOf oltSent oltSendOf onuSentBy onuSendOf keyFrom eqFrom payloadFrom blank firstKeyA secondUnit secondKeyA secondKeyB due switching numberDown laneWith laneRegistered laneCaptured leaving laneLeaving laneOffered laneAcknowledged sending laneSentDown laneSentUp laneTaken laneAnswered arriving laneArrivedDown laneArrivedUp freshLane freshOnu start noted named withLanes atOlt atOnu atOltFor advancing entering clockSending offering retrying envelopeOf sendingDown sendingUp messageArriving receiptDown envelopeArriving thingArriving noEnvelope receiptUp arrivingUp answering unitAfter oltAfter step run
+unfolding ones both either pick same capturedAt raiseOf movedBy raisedTo sealed countEnciphered lengthsFit carried countCarried validHeader choiceNumber choiceVerdict choiceAged headerOf keyFor passageOf sendingOf among meets distinct llidsOf has kept validMac validIdentity keyIn withKey onlyKey firstSend aged validFirst outcome putBack atUnit after lift downstream upstream onZero freeFrom taken occupied validChannels oltAnswer clockSent keySent freshOltOf validRegistration registerVerdict registering registerOf sharedAdvanced oltAdvanced advancingOlt advanceOltOf captureOf clockSendOf offerOf retryOf acknowledgeOf sendingOlt receivingOlt onuAnswer onuAcknowledged onuReply freshOnuVerdict freshOnuOf onuClockAdvanced onuAdvanced advancingOnu advanceOnuOf clockMessageVerdict clockFrom onuSynced clockMessageTo clockMessageAt newKey heldKey activeKey keyMessageVerdict keysTaken keyMessageTo keyMessageAt onuSendChoice onuSendVerdict onuNoted onuSent sendingOnu onuReceiveChoice onuReceiveVerdict onuMoved onuReceived receivingOnu withKeys withConfirmation withClock withTimer withSlots withFirst freshUnit noUnit withChannels newOlt withOnuClock withOnuKeys withOnuFirst withOnuChannels newOnu refuseIf reply advanceVerdict all tableLlids findFrom find pastUnit withUnit withOneMore freshTimer timerAdvanced timerFallen validInterval validTimer unitAdvanced clockCaptured captureUnit clockSendVerdict clockMessageSent clockMessageOf clockSendUnit offerVerdict keysOffered unitOffered keyMessageOf offerUnit retryVerdict retryUnit clockAcknowledgedUnit keyAcknowledgedUnit acknowledgeUnit switches unitSendChoice unitSendVerdict keysSwitched keysSent sendUnit unitReceiveChoice unitReceiveVerdict unitConfirmed unitReceived receiveUnit validNumbers validKeys validUnitClock validUnit validShared validOlt validOnuKeys validOnuClock validOnu misfit isEnciphered passed passedCount outputAfter oltReceived oltReceiveOf onuReceivedBy onuReceiveOf oltSent oltSendOf onuSentBy onuSendOf keyFrom eqFrom payloadFrom blank firstKeyA secondUnit secondKeyA secondKeyB due switching numberDown laneWith laneRegistered laneCaptured leaving laneLeaving laneOffered laneAcknowledged sending laneSentDown laneSentUp laneTaken laneAnswered arriving laneArrivedDown laneArrivedUp freshLane freshOnu start noted named withLanes atOlt atOnu atOltFor advancing entering clockSending offering retrying envelopeOf sendingDown sendingUp messageArriving receiptDown envelopeArriving thingArriving noEnvelope receiptUp arrivingUp answering unitAfter oltAfter step run
 opened = tt

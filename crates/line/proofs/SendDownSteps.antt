@@ -8,8 +8,8 @@ use lib.ListN.{length}
 use Rattle.octets.specs.Choice.{pick}
 use Rattle.octets.proofs.Members.{each-more}
 use Rattle.refusal.specs.declared.Verdict.the-variants.{Accepted}
-use Rattle.sealing.specs.Payload.{eqsOf}
-use Rattle.sealing.specs.Seal.{lengthsFit}
+use Rattle.envelope.specs.ControlMask.{eqsOf}
+use Rattle.envelope.specs.Acceptance.{lengthsFit}
 use Rattle.ends.specs.Headers.{keyFor, passageOf, sendingOf}
 use Rattle.ends.specs.Identities.{has}
 use Rattle.ends.specs.Occupancy.{downstream, upstream, freeFrom, occupied}

@@ -10,8 +10,8 @@ use borrow.Author.Tests.{eqb-true, eqb-false}
 use Rattle.octets.proofs.Members.{each-more}
 use Rattle.refusal.specs.declared.Verdict.the-variants.{Accepted}
 use Rattle.clock.specs.Ticks.{epamOf}
-use Rattle.sealing.specs.Payload.{eqsOf}
-use Rattle.sealing.specs.Seal.{lengthsFit}
+use Rattle.envelope.specs.ControlMask.{eqsOf}
+use Rattle.envelope.specs.Acceptance.{lengthsFit}
 use Rattle.ends.specs.Headers.{headerOf, keyFor, passageOf, sendingOf, noSending}
 use Rattle.ends.specs.Identities.{has}
 use Rattle.ends.specs.Occupancy.{downstream, upstream, freeFrom, occupied}

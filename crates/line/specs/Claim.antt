@@ -7,10 +7,10 @@ use lib.Dec.{leb}
 use lib.ListN.{length}
 use Rattle.refusal.specs.declared.Refusal.{Refusal}
 use Rattle.refusal.specs.declared.Refusal.the-variants.{OutOfRange, UnknownLlid, BadLength}
-use Rattle.sealing.specs.CounterBlock.{counterBlock}
+use Rattle.envelope.specs.CounterBlock.{counterBlock}
+use Rattle.envelope.specs.declared.Nonce.{Nonce}
 use Rattle.sealing.specs.KeyExpansion.{keyExpansion}
 use Rattle.sealing.specs.Seal.{carried, countCarried}
-use Rattle.sealing.specs.declared.envelope.Nonce.{Nonce}
 use Rattle.ends.specs.Headers.{headerOf}
 use Rattle.ends.specs.Keys.{keyIn}
 use Rattle.ends.specs.Table.{unitAt}

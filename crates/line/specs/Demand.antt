@@ -6,10 +6,10 @@ use Prim.Native.Nat.{ℕ, _+_, _-_, _<_, _^_}
 use lib.ListN.{length, getD}
 use Rattle.clock.specs.Ticks.{clockTurn, localTurn}
 use Rattle.octets.specs.Choice.{pick}
-use Rattle.sealing.specs.CounterBlock.{counterBlock}
+use Rattle.envelope.specs.CounterBlock.{counterBlock}
+use Rattle.envelope.specs.declared.Nonce.{Nonce}
 use Rattle.sealing.specs.KeyExpansion.{keyExpansion}
 use Rattle.sealing.specs.Seal.{carried}
-use Rattle.sealing.specs.declared.envelope.Nonce.{Nonce}
 use Rattle.ends.specs.Headers.{headerOf, noPassage}
 use Rattle.ends.specs.Keys.{keyIn}
 use Rattle.ends.specs.OltCalls.{registerOf, advanceOltOf, captureOf, clockSendOf, offerOf, retryOf, acknowledgeOf}

@@ -7,7 +7,7 @@ use Rattle.octets.specs.Bits.{bitOf}
 use Rattle.octets.specs.Choice.{both, pick}
 use Rattle.refusal.specs.declared.Refusal.the-variants.{OutOfRange, UnknownLlid, NoKey, EpamDiffers}
 use Rattle.refusal.specs.Number.{numberOf}
-use Rattle.sealing.specs.Seal.{channelFits}
+use Rattle.envelope.specs.Acceptance.{channelFits}
 use Rattle.records.specs.declared.header.Header.{Header}
 use Rattle.records.specs.declared.header.Epam.{Epam}
 use Rattle.records.specs.declared.header.Epam.the-variants.{Agrees, Differs}

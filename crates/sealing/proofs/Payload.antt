@@ -1,32 +1,22 @@
 -- Laws of sealed payloads: what the ends, the line and the capture reader cite.
 -- Assumes nothing.
-use mathlib.Core.Path.{_≡_, refl, ap, ap₂, sym, _∙_}
-use mathlib.Core.Bool.{Bool, true, false}
+use mathlib.Core.Path.{_≡_, ap, ap₂, sym, _∙_}
 use mathlib.Core.List.{List, _∷_}
-use Prim.Native.Nat.{ℕ, zero, suc, _+_, _-_, _*_, _/_, _%_, _<_, _≤_, _^_}
-use native.Mathlib.Nat.{mod-eq-of-lt, zero-add}
+use Prim.Native.Nat.{ℕ, zero, suc, _+_, _-_, _*_, _/_, _%_, _<_, _≤_}
+use native.Mathlib.Nat.{zero-add}
 use native.Mathlib.Numerals.{add-one}
 use native.Mathlib.Omega.{arith}
-use lib.Bits.{bitXor, bitAnd, and-mask, and-zero-r, xor-zero-r}
 use lib.Count.{ones}
-use lib.Dec.{eqb}
 use lib.ListN.{length, getD, take, drop}
 use lib.Seq.{ext-getD}
 use Rattle.octets.specs.Bits.{bitOf}
 use Rattle.octets.specs.Choice.{pick}
 use Rattle.octets.specs.Lists.{tabulate, replaced, written}
-use Rattle.octets.proofs.Bits.{xor-twice}
 use Rattle.octets.proofs.Lists.{tabulate-length, tabulate-at, sum-ext, part-at, part-length, written-part}
-use Rattle.sealing.specs.Payload.{controlOctet, cipherBlock, halfOf, masked, maskedAt, maskedEq, sealedOctet, sealed, countOf}
-use Rattle.sealing.specs.declared.envelope.Nonce.{Nonce}
-
--- the mask as a factor of 0 or 255, with no branch
-pub masked-by-factor : (b k x : ℕ) → b < 2 → k < 2 ^ 8
-    → bitXor x (bitAnd k (255 * (1 - b))) ≡ pick (eqb b 1) x (bitXor x k)
-unfolding pick
-masked-by-factor zero k x h l = ap (bitXor x) (and-mask k 8 ∙ mod-eq-of-lt l)
-masked-by-factor (suc zero) k x h l = ap (bitXor x) (and-zero-r k) ∙ xor-zero-r x
-masked-by-factor (suc (suc b)) k x h l = absurd (omega arith)
+use Rattle.envelope.specs.ControlMask.{controlOctet, masked, maskedAt, countEnciphered}
+use Rattle.envelope.specs.declared.Nonce.{Nonce}
+use Rattle.envelope.proofs.ControlMask.{masked-at-twice}
+use Rattle.sealing.specs.Payload.{cipherBlock, halfOf, maskedEq, sealedOctet, sealed}
 
 pub sealed-length : (w : List ℕ) (n : Nonce) (p : List ℕ) → length (sealed w n p) ≡ length p
 unfolding sealed
@@ -43,18 +33,6 @@ pub sealed-own : (w : List ℕ) (n : Nonce) (p q : List ℕ) (i : ℕ) → contr
 unfolding sealedOctet
 sealed-own w n p q i c x =
     ap₂ (λ (a b : ℕ). maskedAt (cipherBlock w n (i / 9)) (halfOf (i / 9)) a (i % 9) b) c x
-
-masked-twice : (c j k x : ℕ) → masked c j k (masked c j k x) ≡ x
-unfolding masked pick
-masked-twice c j k x = by-bit (eqb (bitOf c j) 1) where
-  by-bit : (t : Bool) → pick t (pick t x (bitXor x k)) (bitXor (pick t x (bitXor x k)) k) ≡ x
-  by-bit true = refl
-  by-bit false = xor-twice x k
-
-masked-at-twice : (block : List ℕ) (half c place x : ℕ) → maskedAt block half c place (maskedAt block half c place x) ≡ x
-unfolding maskedAt
-masked-at-twice block half c zero x = refl
-masked-at-twice block half c (suc j) x = masked-twice c j (getD block (half + j) 0) x
 
 -- control octets pass
 pub sealed-control : (w : List ℕ) (n : Nonce) (p : List ℕ) (e : ℕ) → sealedOctet w n p (9 * e) ≡ controlOctet p e
@@ -89,8 +67,8 @@ sealed-twice w n p =
       octet i h = sealed-at w n (sealed w n p) i (rw sealed-length h) ∙ once i h
 
 -- both report one count
-pub count-sealed : (w : List ℕ) (n : Nonce) (p : List ℕ) → countOf (sealed w n p) ≡ countOf p
-unfolding countOf
+pub count-sealed : (w : List ℕ) (n : Nonce) (p : List ℕ) → countEnciphered (sealed w n p) ≡ countEnciphered p
+unfolding countEnciphered
 count-sealed w n p =
     rw sealed-length
     (sum-ext 0 (length p / 9) (λ e. 8 - ones (controlOctet (sealed w n p) e)) (λ e. 8 - ones (controlOctet p e))

@@ -1,5 +1,5 @@
 -- Words: lists of 4 octets (FIPS 197, 3.5), and what the key expansion does to one (5.2). Assumes nothing.
-use mathlib.Core.List.{List, [], _∷_}
+use mathlib.Core.List.{List}
 use Prim.Native.Nat.{ℕ, _+_, _*_, _%_}
 use lib.ListN.{getD}
 use Rattle.octets.specs.Lists.{tabulate}

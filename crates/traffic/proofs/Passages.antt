@@ -11,11 +11,13 @@ use Rattle.octets.proofs.Choice.{both-left, both-true, pick-true, either-left, 
 use Rattle.refusal.specs.declared.Verdict.{Verdict}
 use Rattle.refusal.specs.declared.Verdict.the-variants.{Accepted}
 use Rattle.clock.specs.Ticks.{clockTurn}
-use Rattle.sealing.specs.Payload.{eqsOf}
-use Rattle.sealing.specs.Seal.{channelFits, nonceFits, judgeSeal, carried, countCarried, Sealing, sealingAfter, sealing, outcome, sealCount}
-use Rattle.sealing.specs.declared.envelope.Nonce.{Nonce}
-use Rattle.sealing.specs.declared.envelope.SealAnswer.{SealAnswer}
-use Rattle.sealing.proofs.Seal.{lengths-fit}
+use Rattle.envelope.specs.ControlMask.{eqsOf}
+use Rattle.envelope.specs.Acceptance.{channelFits, nonceFits, judgeSeal}
+use Rattle.envelope.specs.Answer.{sealCount}
+use Rattle.envelope.specs.declared.Nonce.{Nonce}
+use Rattle.envelope.specs.declared.SealAnswer.{SealAnswer}
+use Rattle.envelope.proofs.Acceptance.{lengths-fit}
+use Rattle.sealing.specs.Seal.{carried, countCarried, Sealing, sealingAfter, sealing, outcome}
 use Rattle.ends.specs.Identities.{validMac, validIdentity}
 use Rattle.ends.specs.declared.Identity.{Identity}
 use Rattle.ends.specs.Occupancy.{downstream, upstream}

@@ -12,7 +12,8 @@ use Rattle.refusal.specs.declared.Refusal.{Refusal}
 use Rattle.refusal.specs.declared.Refusal.the-variants.{OutOfRange}
 use Rattle.refusal.specs.declared.Verdict.{Verdict}
 use Rattle.refusal.specs.declared.Verdict.the-variants.{Accepted, Refused}
-use Rattle.sealing.specs.Seal.{judgeSeal, countCarried}
+use Rattle.envelope.specs.Acceptance.{judgeSeal}
+use Rattle.sealing.specs.Seal.{countCarried}
 use Rattle.ends.specs.Limits.{maxKeyNumber}
 use Rattle.ends.specs.Replies.{refuseIf, Reply, reply}
 use Rattle.ends.specs.Occupancy.{upstream}

@@ -12,8 +12,9 @@ use Rattle.refusal.specs.declared.Refusal.the-variants.{OutOfRange}
 use Rattle.refusal.specs.declared.Verdict.{Verdict}
 use Rattle.refusal.specs.declared.Verdict.the-variants.{Accepted, Refused}
 use Rattle.clock.specs.Ticks.{maxTick}
-use Rattle.sealing.specs.Payload.{eqsOf}
-use Rattle.sealing.specs.Seal.{judgeSeal, countCarried}
+use Rattle.envelope.specs.ControlMask.{eqsOf}
+use Rattle.envelope.specs.Acceptance.{judgeSeal}
+use Rattle.sealing.specs.Seal.{countCarried}
 use Rattle.ends.specs.Replies.{refuseIf, Reply, reply}
 use Rattle.ends.specs.Occupancy.{downstream, occupied}
 use Rattle.ends.specs.Records.{withKeys}

@@ -5,9 +5,10 @@ use Prim.Native.Nat.{ℕ}
 use lib.ListN.{length}
 use Rattle.refusal.specs.declared.Verdict.{Verdict}
 use Rattle.refusal.specs.declared.Verdict.the-variants.{Accepted, Refused}
+use Rattle.envelope.specs.Acceptance.{lengthsFit}
+use Rattle.envelope.specs.declared.Nonce.{Nonce}
 use Rattle.sealing.specs.KeyExpansion.{keyExpansion}
-use Rattle.sealing.specs.Seal.{lengthsFit, carried, countCarried}
-use Rattle.sealing.specs.declared.envelope.Nonce.{Nonce}
+use Rattle.sealing.specs.Seal.{carried, countCarried}
 use Rattle.ends.specs.declared.KeyChoice.{KeyChoice}
 use Rattle.ends.specs.declared.KeyChoice.the-variants.{Clear, Current, Next, Barred}
 use Rattle.ends.specs.declared.Passage.{Passage}

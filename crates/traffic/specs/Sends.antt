@@ -4,7 +4,7 @@ use mathlib.Core.List.{List}
 use Prim.Native.Nat.{ℕ}
 use Rattle.refusal.specs.Number.{numberOf, verdictNumber}
 use Rattle.refusal.specs.declared.Refusal.{Refusal}
-use Rattle.sealing.specs.Payload.{eqsOf}
+use Rattle.envelope.specs.ControlMask.{eqsOf}
 use Rattle.ends.specs.Replies.{Reply}
 use Rattle.ends.specs.Headers.{noSending}
 use Rattle.ends.specs.OltTraffic.{sendingOlt}

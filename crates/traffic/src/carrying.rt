@@ -5,17 +5,17 @@ ghost use Prim.Native.Nat.{_≤_};
 ghost use lib.ListN.{length};
 ghost use Rattle.refusal.specs.declared.Verdict.the-variants.{Accepted};
 ghost use Rattle.clock.specs.Ticks.{maxTick};
-ghost use Rattle.sealing.specs.Seal.{judgeSeal, lengthsFit};
+ghost use Rattle.envelope.specs.Acceptance.{judgeSeal, lengthsFit};
 ghost use Rattle.octets.specs.Eqs.{maxEqs};
 ghost use Rattle.ends.specs.Occupancy.{occupied};
 ghost use Rattle.traffic.specs.Passages.{exchange, isEnciphered, nonceOf, passed, passedCount};
 use ends::Channels;
 use ends::KeyChoice;
 use ends::Passage;
-use sealing::envelope::Nonce;
-use sealing::envelope::lengths_fit;
-use sealing::envelope::seal;
-use sealing::envelope::seal_count;
+use envelope::Nonce;
+use envelope::lengths_fit;
+use envelope::seal_count;
+use sealing::counter_mode::seal;
 
 // A header keeps its channel for its own tick, beside one for each EQ.
 const HEADER_TICKS: u64 = 1;

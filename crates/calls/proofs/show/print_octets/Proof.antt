@@ -3,7 +3,6 @@
 use Prim.Native.Nat.{_≤_, _-_}
 use borrow.Author.Needs.{needs}
 use lib.ListN.{length}
-use native.Mathlib.Omega.{arith}
 use Rattle.calls.proofs.show.print_octets.Statement.{statement}
 use Rattle.calls.proofs.show.print_octets.Tie as tie
 

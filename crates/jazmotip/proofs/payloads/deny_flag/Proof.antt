@@ -2,7 +2,7 @@
 -- Assumes nothing.
 use mathlib.Core.Path.{ap, sym, _∙_}
 use Rattle.octets.proofs.Choice.{pick-true, pick-false}
-use Rattle.sealing.specs.declared.envelope.SealAnswer.the-variants.{Denied}
+use Rattle.envelope.specs.declared.SealAnswer.the-variants.{Denied}
 use Rattle.jazmotip.specs.Payloads.{flagDenied}
 use borrow.Author.Needs.{needs}
 use Rattle.jazmotip.proofs.payloads.deny_flag.Statement.{statement}

@@ -2,7 +2,7 @@
 -- Assumes nothing.
 use mathlib.Core.Path.{refl}
 use Rattle.octets.specs.Choice.{both, either}
-use Rattle.sealing.specs.Seal.{channelFits}
+use Rattle.envelope.specs.Acceptance.{channelFits}
 use Rattle.records.specs.Verdict.{headerFits}
 use Rattle.records.proofs.header.is_well_formed.Statement.{statement}
 use Rattle.records.proofs.header.is_well_formed.Tie as tie

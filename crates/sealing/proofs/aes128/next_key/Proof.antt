@@ -1,6 +1,6 @@
 -- `aes128::next_key` meets its contract, word by word.
 -- Assumes nothing.
-use mathlib.Core.Path.{_≡_, ap, ap₂, _∙_}
+use mathlib.Core.Path.{ap, ap₂, _∙_}
 use mathlib.Core.List.{List}
 use Prim.Native.Nat.{ℕ}
 use Rattle.sealing.specs.Words.{xorWords, rotWord, subWord}

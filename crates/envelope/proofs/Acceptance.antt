@@ -1,0 +1,30 @@
+-- Laws of acceptance: what an accepted call tells. Assumes nothing.
+use mathlib.Core.Path.{_≡_}
+use mathlib.Core.Bool.{true}
+use Prim.Native.Nat.{ℕ, _*_, _%_, _≤_}
+use borrow.Author.Tests.{eqb-true, leb-true}
+use Rattle.octets.specs.Eqs.{maxEqs}
+use Rattle.octets.proofs.Choice.{both-left, both-right, pick-first}
+use Rattle.refusal.specs.declared.Refusal.the-variants.{OutOfRange, BadLength}
+use Rattle.refusal.specs.declared.Verdict.the-variants.{Accepted, Refused}
+use Rattle.envelope.specs.Acceptance.{lengthsFit, nonceFits, judgeSeal}
+use Rattle.envelope.specs.declared.Nonce.{Nonce}
+
+-- the lengths of an accepted call
+pub record Lengths (n m : ℕ) : Type 0 where
+  pub whole : n % 9 ≡ 0
+  pub bounded : n ≤ 9 * maxEqs
+  pub same : m ≡ n
+
+pub lengths-fit : (n m : ℕ) → lengthsFit n m ≡ true → Lengths n m
+unfolding lengthsFit
+lengths-fit n m e =
+    let rest = both-right _ _ e in
+    record { whole = eqb-true _ _ (both-left _ _ e); bounded = leb-true _ _ (both-left _ _ rest); same = eqb-true _ _ (both-right _ _ rest) }
+
+-- what acceptance tells
+pub accepted : (n m : ℕ) (nonce : Nonce) → judgeSeal n m nonce ≡ Accepted → (lengthsFit n m ≡ true) × (nonceFits nonce ≡ true)
+unfolding judgeSeal
+accepted n m nonce e =
+    let a = pick-first (lengthsFit n m) _ (Refused BadLength) Accepted (λ z. cc) e in
+    (a .0, pick-first (nonceFits nonce) Accepted (Refused OutOfRange) Accepted (λ z. cc) (a .1) .0)

@@ -1,0 +1,82 @@
+-- `envelope::count` meets its contract: the sum over the EQs counted.
+-- Assumes nothing.
+use Prim.Native.Nat.{_*_}
+use Prim.Native.Nat.{_≤_, _-_, _/_}
+use Rattle.octets.proofs.Lists.{sum-suc, sum-below}
+use Rattle.octets.specs.Lists.{sum}
+use Rattle.envelope.specs.ControlMask.{controlOctet, countEnciphered}
+use borrow.Author.Needs.{needs}
+use lib.Count.{ones, ones-le}
+use lib.ListN.{length}
+use mathlib.Core.Path.{_≡_}
+use mathlib.Core.Path.{refl}
+use native.Mathlib.Nat.{zero-add}
+use native.Mathlib.Numerals.{add-one}
+use native.Mathlib.Omega.{arith}
+use Rattle.envelope.proofs.count.Statement.{statement}
+use Rattle.envelope.proofs.count.Tie as tie
+
+abbrev Inv-loop : tie.InvT-loop
+Inv-loop payload eqs sum₀ e₀ sum e = (e ≤ eqs) × (eqs ≡ length payload / 9) × (sum ≡ Rattle.octets.specs.Lists.sum 0 e (λ i. 8 - ones (controlOctet payload i)))
+
+abbrev μ-loop : tie.MeasureT-loop
+μ-loop payload eqs sum₀ e₀ sum e = eqs - e
+
+loop-holds : tie.Need-loop-holds Inv-loop μ-loop
+loop-holds c = search needs
+
+mul-ones : tie.Need-mul-ones Inv-loop μ-loop
+mul-ones c = search needs
+
+shared-slice-read-ones : tie.Need-shared-slice-read-ones Inv-loop μ-loop
+shared-slice-read-ones c = search needs
+
+sub-sum : tie.Need-sub-sum Inv-loop μ-loop
+sub-sum c = ones-le 8 _ (c .shared-slice-known .given (9 * c .before .before .loop .e) .fits)
+
+cast-sum : tie.Need-cast-sum Inv-loop μ-loop
+cast-sum c = omega arith
+
+add-sum : tie.Need-add-sum Inv-loop μ-loop
+add-sum c =
+    omega (
+      arith,
+      c .before .before .before .good,
+      sum-below 0 (c .before .before .loop .e) 8 (λ i. 8 - ones (controlOctet (c .before .before .before .args .payload .now) i)) (λ k. omega arith),
+    )
+
+add-e : tie.Need-add-e Inv-loop μ-loop
+add-e c = search needs
+
+loop-less : tie.Need-loop-less Inv-loop μ-loop
+loop-less c = search needs
+
+loop-again : tie.Need-loop-again Inv-loop μ-loop
+loop-again c = (
+  search needs,
+  refl,
+  rw (c .before .before .loop .inv .2, add-one, sum-suc, zero-add),
+)
+
+returns : tie.Need-returns Inv-loop μ-loop
+unfolding countEnciphered
+returns c =
+    let e : c .before .loop .e ≡ length (c .before .before .args .payload .now) / 9 = omega arith in
+    rw e at (c .before .loop .inv .2)
+
+pub count-spec : {M : Type 1} → statement M
+count-spec =
+    tie.close
+    (tie.spec
+    Inv-loop
+    μ-loop
+    loop-holds
+    mul-ones
+    shared-slice-read-ones
+    sub-sum
+    cast-sum
+    add-sum
+    add-e
+    loop-less
+    loop-again
+    returns)

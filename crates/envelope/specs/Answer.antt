@@ -1,0 +1,14 @@
+-- The answer of the call that seals or opens a payload, in numbers (01, When the reader says no). Assumes nothing.
+use Prim.Native.Nat.{ℕ}
+use Rattle.refusal.specs.Number.{numberOf}
+use Rattle.envelope.specs.declared.SealAnswer.{SealAnswer}
+use Rattle.envelope.specs.declared.SealAnswer.the-variants.{Done, Denied}
+
+-- the paper's number of an answer, and its count
+abbrev pub sealNumber : SealAnswer → ℕ
+sealNumber (Done count) = 0
+sealNumber (Denied r) = numberOf r
+
+abbrev pub sealCount : SealAnswer → ℕ
+sealCount (Done count) = count
+sealCount (Denied r) = 0

@@ -1,0 +1,31 @@
+-- A payload's EQs under the control mask (01, Counter block and mask; 001, 11.3.5). Assumes nothing.
+use mathlib.Core.List.{List}
+use Prim.Native.Nat.{ℕ, zero, suc, _+_, _-_, _*_, _/_}
+use lib.Bits.{bitXor}
+use lib.Count.{ones}
+use lib.Dec.{eqb}
+use lib.ListN.{length, getD}
+use Rattle.octets.specs.Bits.{bitOf}
+use Rattle.octets.specs.Choice.{pick}
+use Rattle.octets.specs.Lists.{sum}
+
+-- the quanta (EQs) of a payload, each a control octet and then eight data octets
+abbrev pub eqsOf : List ℕ → ℕ
+eqsOf p = length p / 9
+
+-- the control octet of EQ e
+abbrev pub controlOctet : List ℕ → ℕ → ℕ
+controlOctet p e = getD p (9 * e) 0
+
+-- data octet x at place j under the control octet c and the cipher octet k: a control character, where bit j is set, passes
+unfoldable pub masked : ℕ → ℕ → ℕ → ℕ → ℕ
+masked c j k x = pick (eqb (bitOf c j) 1) x (bitXor x k)
+
+-- octet x of an EQ with the control octet c: at place 0 the control octet itself, which passes; at place j + 1 data octet j
+unfoldable pub maskedAt : List ℕ → ℕ → ℕ → ℕ → ℕ → ℕ
+maskedAt block half c zero x = x
+maskedAt block half c (suc j) x = masked c j (getD block (half + j) 0) x
+
+-- the octets that sealing enciphers: over all EQs, eight minus the ones in the control octet
+unfoldable pub countEnciphered : List ℕ → ℕ
+countEnciphered p = sum 0 (eqsOf p) (λ e. 8 - ones (controlOctet p e))

@@ -1,0 +1,4 @@
+pub mod Acceptance
+pub mod Answer
+pub mod ControlMask
+pub mod CounterBlock

@@ -1,0 +1,120 @@
+// What sealing takes and answers that needs no cipher (01, Counter block and mask, When the reader says no: 14, 1): the counter
+// block, the control mask, the count, and the verdict on a call.
+ghost use mathlib.Core.Path.{_≡_};
+ghost use Rattle.envelope.specs.Acceptance.{lengthsFit, nonceFits, judgeSeal};
+ghost use Rattle.envelope.specs.Answer.{sealNumber, sealCount};
+ghost use Rattle.envelope.specs.ControlMask.{masked, countEnciphered};
+ghost use Rattle.envelope.specs.CounterBlock.{counterBlock};
+use octets::bit;
+use refusal::Refusal;
+use refusal::Verdict;
+
+// The longest payload, 4,194,303 EQs of nine octets.
+const MAX_OCTETS: usize = 37_748_727;
+
+// Channel index, sender's MAC and cipher clock at the header: what tells one envelope's counter blocks from another's.
+#[repr(C)]
+pub struct Nonce {
+    pub channel: u8,
+    pub mac: u64,
+    pub clock: u64,
+}
+
+pub enum SealAnswer {
+    // the octets enciphered
+    Done(u64),
+    Denied(Refusal),
+}
+
+// Counter block `index` of the envelope.
+pub fn counter_block(nonce: Nonce, index: u64) -> [u8; 16]
+    ensures { λ r. ⌜ r ≡ counterBlock nonce index ⌝ }
+{
+    let m = octets::octets48(nonce.mac);
+    let c = octets::octets48(nonce.clock);
+    let k = octets::octets24(index);
+    [
+        nonce.channel,
+        m[0],
+        m[1],
+        m[2],
+        m[3],
+        m[4],
+        m[5],
+        c[0],
+        c[1],
+        c[2],
+        c[3],
+        c[4],
+        c[5],
+        k[0],
+        k[1],
+        k[2],
+    ]
+}
+
+// One data octet: no branch on its value or on the control octet's.
+pub fn mask(control: u8, j: u8, key: u8, octet: u8) -> u8
+    ensures { λ r. ⌜ r ≡ masked control j key octet ⌝ }
+{
+    octet ^ (key & (255 * (1 - bit(control, j))))
+}
+
+// The octets that sealing enciphers.
+pub fn count(payload: &[u8]) -> u64
+    ensures { λ r. ⌜ r ≡ countEnciphered (now (payload .entry)) ⌝ }
+{
+    let eqs = payload.len() / 9;
+    let mut sum: u64 = 0;
+    for e in 0..eqs {
+        let ones = u8::count_ones(payload[9 * e]);
+        sum += (8 - ones) as u64;
+    }
+    sum
+}
+
+pub fn nonce_fits(nonce: Nonce) -> bool
+    ensures { λ r. ⌜ r ≡ nonceFits nonce ⌝ }
+{
+    ((nonce.channel < 2) | ((128 <= nonce.channel) & (nonce.channel < 130)))
+        & ((nonce.mac < 0x1_0000_0000_0000) & (nonce.clock < 0x1_0000_0000_0000))
+}
+
+// Whether n octets are a payload, and an output of m has as many.
+pub fn lengths_fit(n: usize, m: usize) -> bool
+    ensures { λ r. ⌜ r ≡ lengthsFit n m ⌝ }
+{
+    (n % 9 == 0) & ((n <= MAX_OCTETS) & (m == n))
+}
+
+pub fn judge(n: usize, m: usize, nonce: Nonce) -> Verdict
+    ensures { λ r. ⌜ r ≡ judgeSeal n m nonce ⌝ }
+{
+    if lengths_fit(n, m) {
+        if nonce_fits(nonce) {
+            return Verdict::Accepted;
+        }
+        return Verdict::Refused(Refusal::OutOfRange);
+    }
+    Verdict::Refused(Refusal::BadLength)
+}
+
+// 0, or the refusal's number.
+pub fn seal_number(answer: SealAnswer) -> u8
+    ensures { λ r. ⌜ r ≡ sealNumber answer ⌝ }
+{
+    match answer {
+        SealAnswer::Done(_) => 0,
+        SealAnswer::Denied(refusal) => refusal::number(refusal),
+    }
+}
+
+// The octets enciphered, 0 where the call was refused.
+pub fn seal_count(answer: SealAnswer) -> u64
+    ensures { λ r. ⌜ r ≡ sealCount answer ⌝ }
+{
+    match answer {
+        SealAnswer::Done(count) => count,
+        SealAnswer::Denied(_) => 0,
+    }
+}

@@ -52,8 +52,8 @@ def take_key(message):
     acknowledge(ack)
 
 
-def passage(names, sender, llid, index, delay, receiver):
-    number, header, count, sealed = sender.send(llid, index, PAYLOAD, NOTHING)
+def passage(names, sender, llid, channel, delay, receiver):
+    number, header, count, sealed = sender.send(llid, channel, PAYLOAD, NOTHING)
     channel, to, enabled, enckey, epam = header
     print(f"{names[0]}: {number} header {channel:02x} {to:04x} {enabled} {enckey} {epam} count {count} octets {sealed.hex()}")
     advance(delay)

@@ -49,8 +49,8 @@ class Line:
         self.olt_advance(n)
         self.onu_advance(n)
 
-    def send(self, end, llid, index):
-        number, header, count, octets = getattr(self, end).send(llid, index, PAYLOAD, LENT)
+    def send(self, end, llid, channel):
+        number, header, count, octets = getattr(self, end).send(llid, channel, PAYLOAD, LENT)
         i, l, e, k, p = header
         show(f"{end}_send", number, f" {i:02x} {l:04x} {e} {k} {p:02x}" + passed(count, octets))
         return header, octets
@@ -59,13 +59,13 @@ class Line:
         number, count, octets = getattr(self, end).receive(*envelope, LENT)
         show(f"{end}_receive", number, passed(count, octets))
 
-    def down(self, llid, index):
-        envelope = self.send("olt", llid, index)
+    def down(self, llid, channel):
+        envelope = self.send("olt", llid, channel)
         self.advance(150)
         self.receive("onu", envelope)
 
-    def up(self, llid, index):
-        envelope = self.send("onu", llid, index)
+    def up(self, llid, channel):
+        envelope = self.send("onu", llid, channel)
         self.advance(100)
         self.receive("olt", envelope)
 

@@ -35,5 +35,5 @@ def old(end, tick):
 
 
 def good_header(header, high):
-    index, _, enabled, enckey, epam = header
-    return index in (high, high + 1) and enabled <= 1 and enckey <= enabled and epam <= 63
+    channel, _, enabled, enckey, epam = header
+    return channel in (high, high + 1) and enabled <= 1 and enckey <= enabled and epam <= 63

@@ -116,22 +116,22 @@ class Olt:
             return 8
         return 0
 
-    def send_number(self, llid, index, payload, out):
+    def send_number(self, llid, channel, payload, out):
         if not self.valid():
             return 1
         if misfit(payload, out):
             return 14
-        if index not in (0x00, 0x01):
+        if channel not in (0x00, 0x01):
             return 1
         u = self.unit(llid)
         if u is None:
             return 2
-        if self.tick < self.free[index]:
+        if self.tick < self.free[channel]:
             return 12
         return 13 if not u.switches() and u.A >= 1 and old(u, self.tick) else 0
 
-    def send(self, llid, index, payload, out):
-        number = self.send_number(llid, index, payload, out)
+    def send(self, llid, channel, payload, out):
+        number = self.send_number(llid, channel, payload, out)
         if number:
             return number, NO_HEADER, 0, out
         u = self.unit(llid)
@@ -139,9 +139,9 @@ class Olt:
             u.A, u.flag, u.noted = u.O, 0, 0
         if u.A >= 1 and not u.noted:
             u.noted, u.first = 1, self.tick
-        self.free[index] = self.tick + len(payload) // 9 + 1
-        sealed, count = seal(u.keys[u.A % 2] if u.A else None, index, self.mac, self.clock, payload)
-        return 0, (index, llid, int(u.A > 0), u.A % 2, self.clock % 64), count, sealed
+        self.free[channel] = self.tick + len(payload) // 9 + 1
+        sealed, count = seal(u.keys[u.A % 2] if u.A else None, channel, self.mac, self.clock, payload)
+        return 0, (channel, llid, int(u.A > 0), u.A % 2, self.clock % 64), count, sealed
 
     def receive_number(self, header, octets, out):
         _, llid, enabled, enckey, epam = header
@@ -165,11 +165,11 @@ class Olt:
         number = self.receive_number(header, octets, out)
         if number:
             return number, 0, out
-        index, llid, enabled, enckey, _ = header
+        channel, llid, enabled, enckey, _ = header
         u = self.unit(llid)
         if enabled and not (u.C >= 1 and enckey == u.C % 2):
             u.C, u.keys[1 - u.A % 2] = u.A, bytes(16)
-        opened, count = seal(u.keys[enckey] if enabled else None, index, u.named.mac, self.clock, octets)
+        opened, count = seal(u.keys[enckey] if enabled else None, channel, u.named.mac, self.clock, octets)
         return 0, count, opened
 
 

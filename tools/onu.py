@@ -50,28 +50,28 @@ class Onu:
             return 8, NO_ANSWER
         return 0, (2, number)
 
-    def send_number(self, llid, index, payload, out):
+    def send_number(self, llid, channel, payload, out):
         if not self.valid():
             return 1
         if misfit(payload, out):
             return 14
-        if index not in (0x80, 0x81):
+        if channel not in (0x80, 0x81):
             return 1
         if llid not in self.named.llids():
             return 2
-        if self.tick < self.free[index - 0x80]:
+        if self.tick < self.free[channel - 0x80]:
             return 12
         return 13 if self.a >= 1 and old(self, self.tick) else 0
 
-    def send(self, llid, index, payload, out):
-        number = self.send_number(llid, index, payload, out)
+    def send(self, llid, channel, payload, out):
+        number = self.send_number(llid, channel, payload, out)
         if number:
             return number, NO_HEADER, 0, out
         if self.a >= 1 and not self.noted:
             self.noted, self.first = 1, self.tick
-        self.free[index - 0x80] = self.tick + len(payload) // 9 + 1
-        sealed, count = seal(self.keys[self.a % 2] if self.a else None, index, self.named.mac, self.time, payload)
-        return 0, (index, llid, int(self.a > 0), self.a % 2, self.time % 64), count, sealed
+        self.free[channel - 0x80] = self.tick + len(payload) // 9 + 1
+        sealed, count = seal(self.keys[self.a % 2] if self.a else None, channel, self.named.mac, self.time, payload)
+        return 0, (channel, llid, int(self.a > 0), self.a % 2, self.time % 64), count, sealed
 
     def receive_number(self, header, octets, out):
         _, llid, enabled, enckey, epam = header
@@ -96,11 +96,11 @@ class Onu:
         number = self.receive_number(header, octets, out)
         if number:
             return number, 0, out
-        index, _, enabled, enckey, _ = header
+        channel, _, enabled, enckey, _ = header
         if enabled and not (self.a >= 1 and enckey == self.a % 2):
             self.a, self.held, self.noted, self.first = self.a + 1, 0, 0, 0
             self.keys[1 - self.a % 2] = bytes(16)
-        opened, count = seal(self.keys[enckey] if enabled else None, index, self.oltmac, self.rx, octets)
+        opened, count = seal(self.keys[enckey] if enabled else None, channel, self.oltmac, self.rx, octets)
         return 0, count, opened
 
 

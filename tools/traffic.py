@@ -44,8 +44,8 @@ class Play:
     def end(self):
         return self.olt if self.at == "olt" else self.onus[self.at]
 
-    def send(self, llid, index, place):
-        self.number, self.header, self.count, self.out = self.end().send(llid, index, self.payload[:self.length], b"\xaa" * self.room)
+    def send(self, llid, channel, place):
+        self.number, self.header, self.count, self.out = self.end().send(llid, channel, self.payload[:self.length], b"\xaa" * self.room)
         self.envelopes[place] = self.header, self.out
 
     def receive(self, header, octets):

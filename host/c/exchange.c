@@ -38,7 +38,7 @@ static void print_octets(const char *name, const uint8_t *octets, size_t length)
 
 static void print_header(jazmotip_header header)
 {
-    printf(" header %02x %04x %u %u %u", header.index, header.llid, header.encenabled, header.enckey, header.epam);
+    printf(" header %02x %04x %u %u %u", header.channel, header.llid, header.encenabled, header.enckey, header.epam);
 }
 
 static void print_key_message(jazmotip_key_message message)
@@ -134,10 +134,10 @@ static void take_key(line *line, jazmotip_key_message message)
     acknowledge(line, taken.acknowledgement);
 }
 
-static void send_down(line *line, uint8_t index)
+static void send_down(line *line, uint8_t channel)
 {
     uint8_t sealed[OCTETS] = {0}, opened[OCTETS] = {0};
-    jazmotip_olt_sent sent = jazmotip_olt_send(line->olt, LLID, index, payload, OCTETS, sealed, OCTETS);
+    jazmotip_olt_sent sent = jazmotip_olt_send(line->olt, LLID, channel, payload, OCTETS, sealed, OCTETS);
     line->olt = sent.olt;
     printf("olt send: %u", sent.number);
     print_header(sent.header);
@@ -151,10 +151,10 @@ static void send_down(line *line, uint8_t index)
            memcmp(opened, payload, OCTETS) == 0 ? "the payload" : "not the payload");
 }
 
-static void send_up(line *line, uint8_t index)
+static void send_up(line *line, uint8_t channel)
 {
     uint8_t sealed[OCTETS] = {0}, opened[OCTETS] = {0};
-    jazmotip_onu_sent sent = jazmotip_onu_send(line->onu, OTHER_LLID, index, payload, OCTETS, sealed, OCTETS);
+    jazmotip_onu_sent sent = jazmotip_onu_send(line->onu, OTHER_LLID, channel, payload, OCTETS, sealed, OCTETS);
     line->onu = sent.onu;
     printf("onu send: %u", sent.number);
     print_header(sent.header);

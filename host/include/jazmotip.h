@@ -208,7 +208,7 @@ typedef struct jazmotip_acknowledgement {
 
 /* An envelope's header, start (ESH) or continuation (ECH). */
 typedef struct jazmotip_header {
-    uint8_t index;      /* channel index: 0x00, 0x01 downstream, 0x80, 0x81 upstream */
+    uint8_t channel;    /* channel index: 0x00, 0x01 downstream, 0x80, 0x81 upstream */
     uint16_t llid;
     uint8_t encenabled;
     uint8_t enckey;     /* the key's number mod 2 */
@@ -302,7 +302,7 @@ jazmotip_olt_answer jazmotip_olt_acknowledge(jazmotip_olt olt, uint16_t llid, ja
 /* Seals a payload for a unit into output, of the same length, and hands over its header. With the timer's flag up and the offer
  * acknowledged this is the envelope that switches keys. Index 0x00 or 0x01. The channel is taken for as many ticks as EQs.
  * Order: 14, 1, 2, 12, 13. */
-jazmotip_olt_sent jazmotip_olt_send(jazmotip_olt olt, uint16_t llid, uint8_t index, const uint8_t *payload, size_t payload_length,
+jazmotip_olt_sent jazmotip_olt_send(jazmotip_olt olt, uint16_t llid, uint8_t channel, const uint8_t *payload, size_t payload_length,
                                     uint8_t *output, size_t output_length);
 
 /* Opens an envelope from a unit into output, of the same length. Order: 14, 1, 2, 10, 11, 9. */
@@ -325,7 +325,7 @@ jazmotip_onu_acknowledged jazmotip_onu_key_message(jazmotip_onu onu, jazmotip_ke
 
 /* Seals a payload for the head end into output, of the same length, and hands over its header. Index 0x80 or 0x81.
  * Order: 14, 1, 2, 12, 13. */
-jazmotip_onu_sent jazmotip_onu_send(jazmotip_onu onu, uint16_t llid, uint8_t index, const uint8_t *payload, size_t payload_length,
+jazmotip_onu_sent jazmotip_onu_send(jazmotip_onu onu, uint16_t llid, uint8_t channel, const uint8_t *payload, size_t payload_length,
                                     uint8_t *output, size_t output_length);
 
 /* Opens an envelope from the head end into output, of the same length. An envelope under the next key makes that key the active

@@ -36,17 +36,17 @@ fn start() -> Line {
     ends_of(olt, onu)
 }
 
-fn down(l: Line, llid: u16, index: u8) -> Line {
+fn down(l: Line, llid: u16, channel: u8) -> Line {
     let mut octets = values::lent();
-    let sent = olt_calls::send(l.olt, llid, index, &mut octets);
+    let sent = olt_calls::send(l.olt, llid, channel, &mut octets);
     let there = advance(ends_of(sent.olt, l.onu), 150);
     let onu = onu_calls::receive(there.onu, sent.header, &octets);
     ends_of(there.olt, onu)
 }
 
-fn up(l: Line, llid: u16, index: u8) -> Line {
+fn up(l: Line, llid: u16, channel: u8) -> Line {
     let mut octets = values::lent();
-    let sent = onu_calls::send(l.onu, llid, index, &mut octets);
+    let sent = onu_calls::send(l.onu, llid, channel, &mut octets);
     let there = advance(ends_of(l.olt, sent.onu), 100);
     let olt = olt_calls::receive(there.olt, sent.header, &octets);
     ends_of(olt, there.onu)

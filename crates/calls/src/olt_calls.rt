@@ -82,9 +82,9 @@ pub(crate) fn acknowledge(olt: Olt, llid: u16, acknowledgement: Acknowledgement)
     answer.olt
 }
 
-pub(crate) fn send(olt: Olt, llid: u16, index: u8, output: &mut [u8]) -> OltSent {
+pub(crate) fn send(olt: Olt, llid: u16, channel: u8, output: &mut [u8]) -> OltSent {
     let payload = values::payload();
-    let answer = jazmotip_olt_send(olt, llid, index, &payload, output);
+    let answer = jazmotip_olt_send(olt, llid, channel, &payload, output);
     show::begin(b"olt_send", answer.number);
     show::header(answer.header);
     show::passed(answer.count, output);

@@ -52,9 +52,9 @@ pub(crate) fn key_message(onu: Onu, message: KeyMessage) -> OnuAcknowledged {
     answer
 }
 
-pub(crate) fn send(onu: Onu, llid: u16, index: u8, output: &mut [u8]) -> OnuSent {
+pub(crate) fn send(onu: Onu, llid: u16, channel: u8, output: &mut [u8]) -> OnuSent {
     let payload = values::payload();
-    let answer = jazmotip_onu_send(onu, llid, index, &payload, output);
+    let answer = jazmotip_onu_send(onu, llid, channel, &payload, output);
     show::begin(b"onu_send", answer.number);
     show::header(answer.header);
     show::passed(answer.count, output);

@@ -58,7 +58,7 @@ pub(crate) fn octets(s: &[u8]) {
 }
 
 pub(crate) fn header(h: Header) {
-    hex(h.index as u64, 2);
+    hex(h.channel as u64, 2);
     hex(h.llid as u64, 4);
     octet(h.encenabled);
     octet(h.enckey);

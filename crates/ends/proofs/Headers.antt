@@ -13,19 +13,19 @@ use Rattle.ends.specs.Headers.{validHeader, headerOf, keyFor}
 use Rattle.ends.specs.declared.Slots.{Slots}
 
 -- a clear envelope says so
-pub header-clear : (n index llid clock : ℕ) → n ≡ 0 → headerOf n index llid clock .encenabled ≡ 0
+pub header-clear : (n channel llid clock : ℕ) → n ≡ 0 → headerOf n channel llid clock .encenabled ≡ 0
 unfolding headerOf
-header-clear n index llid clock e = pick-true 0 1 (eq-eqb n 0 e)
+header-clear n channel llid clock e = pick-true 0 1 (eq-eqb n 0 e)
 
 -- and so does a sealed one
-pub header-sealed : (n index llid clock : ℕ) → 1 ≤ n → headerOf n index llid clock .encenabled ≡ 1
+pub header-sealed : (n channel llid clock : ℕ) → 1 ≤ n → headerOf n channel llid clock .encenabled ≡ 1
 unfolding headerOf
-header-sealed n index llid clock h = pick-false 0 1 (ne-eqb n 0 (λ e. omega arith))
+header-sealed n channel llid clock h = pick-false 0 1 (ne-eqb n 0 (λ e. omega arith))
 
 -- every header that is made is valid
-pub header-valid : (n index llid clock : ℕ) → validHeader (headerOf n index llid clock) ≡ true
+pub header-valid : (n channel llid clock : ℕ) → validHeader (headerOf n channel llid clock) ≡ true
 unfolding validHeader headerOf pick
-header-valid n index llid clock = by-clear (eqb n 0) refl where
+header-valid n channel llid clock = by-clear (eqb n 0) refl where
   epam : ltb (epamOf clock) epamTurn ≡ true
   epam = lt-ltb (epamOf clock) epamTurn (omega arith)
 
@@ -39,6 +39,6 @@ unfolding keyFor
 key-for n s h = pick-false noKey (keyIn s n) (ne-eqb n 0 (λ e. omega arith))
 
 -- of the clock a header has no more than EPAM
-pub header-epam : (n index llid c d : ℕ) → epamOf c ≡ epamOf d → headerOf n index llid c ≡ headerOf n index llid d
+pub header-epam : (n channel llid c d : ℕ) → epamOf c ≡ epamOf d → headerOf n channel llid c ≡ headerOf n channel llid d
 unfolding headerOf
-header-epam n index llid c d e = rw e
+header-epam n channel llid c d e = rw e

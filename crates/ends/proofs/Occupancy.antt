@@ -14,31 +14,31 @@ use Rattle.ends.specs.Occupancy.{downstream, upstream, freeChannels, onZ
 use Rattle.ends.specs.declared.Channels.{Channels}
 
 -- a header's own channel is free from the tick after its last EQ
-pub free-own : (c : Channels) (index tick eqs : ℕ) → freeFrom (occupied c index tick eqs) index ≡ tick + eqs + 1
+pub free-own : (c : Channels) (channel tick eqs : ℕ) → freeFrom (occupied c channel tick eqs) channel ≡ tick + eqs + 1
 unfolding freeFrom occupied pick
-free-own c index tick eqs = by-channel (onZero index) where
+free-own c channel tick eqs = by-channel (onZero channel) where
   by-channel : (t : Bool) → pick t (pick t (tick + eqs + 1) (c .zero)) (pick t (c .one) (tick + eqs + 1)) ≡ tick + eqs + 1
   by-channel true = refl
   by-channel false = refl
 
 -- a header at a tick keeps its channel for as many ticks more as it has EQs
-pub taken-until : (c : Channels) (index tick eqs later : ℕ) → later ≤ tick + eqs → taken (occupied c index tick eqs) index later ≡ true
+pub taken-until : (c : Channels) (channel tick eqs later : ℕ) → later ≤ tick + eqs → taken (occupied c channel tick eqs) channel later ≡ true
 unfolding taken
-taken-until c index tick eqs later h = lt-ltb later _ (omega (arith, free-own c index tick eqs))
+taken-until c channel tick eqs later h = lt-ltb later _ (omega (arith, free-own c channel tick eqs))
 
 -- and is free after
-pub free-after : (c : Channels) (index tick eqs later : ℕ) → tick + eqs + 1 ≤ later → taken (occupied c index tick eqs) index later ≡ false
+pub free-after : (c : Channels) (channel tick eqs later : ℕ) → tick + eqs + 1 ≤ later → taken (occupied c channel tick eqs) channel later ≡ false
 unfolding taken
-free-after c index tick eqs later h = le-ltb later _ (omega (arith, free-own c index tick eqs))
+free-after c channel tick eqs later h = le-ltb later _ (omega (arith, free-own c channel tick eqs))
 
-pub taken-false : (c : Channels) (index tick : ℕ) → taken c index tick ≡ false → freeFrom c index ≤ tick
+pub taken-false : (c : Channels) (channel tick : ℕ) → taken c channel tick ≡ false → freeFrom c channel ≤ tick
 unfolding taken
-taken-false c index tick e = ltb-false tick (freeFrom c index) e
+taken-false c channel tick e = ltb-false tick (freeFrom c channel) e
 
 -- a send on a free channel makes no channel free earlier
-pub free-later : (c : Channels) (index other tick eqs : ℕ) → taken c index tick ≡ false → freeFrom c other ≤ freeFrom (occupied c index tick eqs) other
+pub free-later : (c : Channels) (channel other tick eqs : ℕ) → taken c channel tick ≡ false → freeFrom c other ≤ freeFrom (occupied c channel tick eqs) other
 unfolding freeFrom occupied pick
-free-later c index other tick eqs e = by-channel (onZero other) (onZero index) (taken-false c index tick e) where
+free-later c channel other tick eqs e = by-channel (onZero other) (onZero channel) (taken-false c channel tick e) where
   by-channel : (t u : Bool) → pick u (c .zero) (c .one) ≤ tick
       → pick t (c .zero) (c .one) ≤ pick t (pick u (tick + eqs + 1) (c .zero)) (pick u (c .one) (tick + eqs + 1))
   by-channel true true h = omega arith
@@ -53,10 +53,10 @@ unfolding validChannels both
 free-valid = refl
 
 -- a send of at most the most EQs, at a tick that an end counts to
-pub occupied-valid : (c : Channels) (index tick eqs : ℕ) → tick ≤ maxTick → eqs ≤ maxEqs → validChannels c ≡ true
-    → validChannels (occupied c index tick eqs) ≡ true
+pub occupied-valid : (c : Channels) (channel tick eqs : ℕ) → tick ≤ maxTick → eqs ≤ maxEqs → validChannels c ≡ true
+    → validChannels (occupied c channel tick eqs) ≡ true
 unfolding validChannels occupied pick
-occupied-valid c index tick eqs h k e = by-channel (onZero index) where
+occupied-valid c channel tick eqs h k e = by-channel (onZero channel) where
   new : leb (tick + eqs + 1) maxFree ≡ true
   new = le-leb (tick + eqs + 1) maxFree (omega arith)
 
@@ -67,10 +67,10 @@ occupied-valid c index tick eqs h k e = by-channel (onZero index) where
 ---- directions
 
 -- the channel indices of the two directions
-pub downstream-below : (index : ℕ) → downstream index ≡ true → index ≤ 1
+pub downstream-below : (channel : ℕ) → downstream channel ≡ true → channel ≤ 1
 unfolding downstream
-downstream-below index e = leb-true index 1 e
+downstream-below channel e = leb-true channel 1 e
 
-pub upstream-between : (index : ℕ) → upstream index ≡ true → (128 ≤ index) × (index ≤ 129)
+pub upstream-between : (channel : ℕ) → upstream channel ≡ true → (128 ≤ channel) × (channel ≤ 129)
 unfolding upstream
-upstream-between index e = (leb-true 128 index (both-left _ _ e), leb-true index 129 (both-right _ _ e))
+upstream-between channel e = (leb-true 128 channel (both-left _ _ e), leb-true channel 129 (both-right _ _ e))

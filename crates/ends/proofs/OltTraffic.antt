@@ -26,11 +26,11 @@ use Rattle.ends.proofs.UnitTraffic.{send-keeps, receive-keeps}
 use Rattle.ends.proofs.UnitChoices.{Receives, receive-accepts}
 
 -- a payload whose length is not refused has at most the most EQs
-pub sending-valid : (o : Olt) (misfit : Bool) (llid index eqs : ℕ) → (misfit ≡ false → eqs ≤ maxEqs) → validOlt o ≡ true
-    → validOlt (sendingOlt o misfit llid index eqs .end) ≡ true
+pub sending-valid : (o : Olt) (misfit : Bool) (llid channel eqs : ℕ) → (misfit ≡ false → eqs ≤ maxEqs) → validOlt o ≡ true
+    → validOlt (sendingOlt o misfit llid channel eqs .end) ≡ true
 unfolding sendingOlt
-sending-valid o misfit llid index eqs h v =
-    lift-valid o noSending _ llid (sendUnit llid index eqs) (λ a. send-keeps llid index eqs (h (refuse-accepted _ _ _ a .0))) v
+sending-valid o misfit llid channel eqs h v =
+    lift-valid o noSending _ llid (sendUnit llid channel eqs) (λ a. send-keeps llid channel eqs (h (refuse-accepted _ _ _ a .0))) v
 
 pub receiving-valid : (o : Olt) (misfit : Bool) (h : Header) → validOlt o ≡ true → validOlt (receivingOlt o misfit h .end) ≡ true
 unfolding receivingOlt
@@ -45,14 +45,14 @@ receiving-untouched o misfit h r e = lift-untouched o noPassage _ (h .llid) (rec
 
 -- what a send refuses ahead of 2
 abbrev pub sendAhead : Bool → ℕ → Verdict
-sendAhead misfit index = refuseIf misfit BadLength (refuseIf (not (downstream index)) OutOfRange Accepted)
+sendAhead misfit channel = refuseIf misfit BadLength (refuseIf (not (downstream channel)) OutOfRange Accepted)
 
 -- what a receipt refuses ahead of 2
 abbrev pub receiveAhead : Bool → Header → Verdict
-receiveAhead misfit h = refuseIf misfit BadLength (refuseIf (not (both (upstream (h .index)) (validHeader h))) OutOfRange Accepted)
+receiveAhead misfit h = refuseIf misfit BadLength (refuseIf (not (both (upstream (h .channel)) (validHeader h))) OutOfRange Accepted)
 
 -- an envelope that names a registered unit, of the right direction and with a buffer that fits, is taken as its unit takes it
-pub receiving-accepts : (o : Olt) (h : Header) (i : ℕ) → validOlt o ≡ true → upstream (h .index) ≡ true → validHeader h ≡ true → find o (h .llid) ≡ At i
+pub receiving-accepts : (o : Olt) (h : Header) (i : ℕ) → validOlt o ≡ true → upstream (h .channel) ≡ true → validHeader h ≡ true → find o (h .llid) ≡ At i
     → Receives (o .shared) (unitAt o i) h → Lifted o noPassage (receiveAhead false h) (h .llid) (receiveUnit h)
 unfolding receiveUnit outcome
 receiving-accepts o h i v u w f r =

@@ -23,16 +23,16 @@ use Rattle.ends.proofs.Replies.{refuse-accepted, refuse-passed}
 
 ---- which key a send goes under
 
-pub record OnuSends (o : Onu) (misfit : Bool) (llid index : ℕ) : Type 0 where
+pub record OnuSends (o : Onu) (misfit : Bool) (llid channel : ℕ) : Type 0 where
   pub fits : misfit ≡ false
-  pub upstream : upstream index ≡ true
+  pub upstream : upstream channel ≡ true
   pub has : has (o .identity) llid ≡ true
-  pub free : taken (o .channels) index (o .tick) ≡ false
+  pub free : taken (o .channels) channel (o .tick) ≡ false
   pub young : choiceAged (onuSendChoice (o .keys)) (o .first) (o .tick) ≡ false
 
-pub onu-send-accepted : (o : Onu) (misfit : Bool) (llid index : ℕ) → onuSendVerdict o misfit llid index ≡ Accepted → OnuSends o misfit llid index
+pub onu-send-accepted : (o : Onu) (misfit : Bool) (llid channel : ℕ) → onuSendVerdict o misfit llid channel ≡ Accepted → OnuSends o misfit llid channel
 unfolding onuSendVerdict
-onu-send-accepted o misfit llid index e =
+onu-send-accepted o misfit llid channel e =
     let a = refuse-accepted _ _ _ e in
     let b = refuse-accepted _ _ _ (a .1) in
     let c = refuse-accepted _ _ _ (b .1) in
@@ -103,7 +103,7 @@ onu-receive-next k h n e f p c =
 
 pub record OnuReceives (o : Onu) (misfit : Bool) (h : Header) : Type 0 where
   pub fits : misfit ≡ false
-  pub downstream : downstream (h .index) ≡ true
+  pub downstream : downstream (h .channel) ≡ true
   pub header : validHeader h ≡ true
   pub has : has (o .identity) (h .llid) ≡ true
   pub epam : o .clock .synced ≡ 1 → h .epam ≡ epamOf (o .clock .rx)

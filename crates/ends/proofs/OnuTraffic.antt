@@ -48,12 +48,12 @@ noted-valid (Current n) o v =
       channels = r .channels;
     })
 
-pub onu-sent-valid : (o : Onu) (index eqs : ℕ) → eqs ≤ maxEqs → validOnu o ≡ true → validOnu (onuSent o index eqs) ≡ true
+pub onu-sent-valid : (o : Onu) (channel eqs : ℕ) → eqs ≤ maxEqs → validOnu o ≡ true → validOnu (onuSent o channel eqs) ≡ true
 unfolding onuSent withOnuChannels
-onu-sent-valid o index eqs h v =
+onu-sent-valid o channel eqs h v =
     let r = onu-in-range o v in
     let q = onu-in-range (onuNoted (onuSendChoice (o .keys)) o) (noted-valid (onuSendChoice (o .keys)) o v) in
-    onu-valid (onuSent o index eqs)
+    onu-valid (onuSent o channel eqs)
     (record {
       identity = q .identity;
       distinct = q .distinct;
@@ -62,14 +62,14 @@ onu-sent-valid o index eqs h v =
       clock = q .clock;
       keys = q .keys;
       first = q .first;
-      channels = occupied-valid (o .channels) index (o .tick) eqs (r .tick) h (r .channels);
+      channels = occupied-valid (o .channels) channel (o .tick) eqs (r .tick) h (r .channels);
     })
 
-pub sending-onu-valid : (o : Onu) (misfit : Bool) (llid index eqs : ℕ) → (misfit ≡ false → eqs ≤ maxEqs) → validOnu o ≡ true
-    → validOnu (sendingOnu o misfit llid index eqs .end) ≡ true
+pub sending-onu-valid : (o : Onu) (misfit : Bool) (llid channel eqs : ℕ) → (misfit ≡ false → eqs ≤ maxEqs) → validOnu o ≡ true
+    → validOnu (sendingOnu o misfit llid channel eqs .end) ≡ true
 unfolding sendingOnu onuSendVerdict
-sending-onu-valid o misfit llid index eqs h v =
-    onu-keeps (λ (p : Onu). validOnu p ≡ true) o noSending _ _ _ v (λ w a. onu-sent-valid o index eqs (h (refuse-accepted _ _ _ a .0)) w)
+sending-onu-valid o misfit llid channel eqs h v =
+    onu-keeps (λ (p : Onu). validOnu p ≡ true) o noSending _ _ _ v (λ w a. onu-sent-valid o channel eqs (h (refuse-accepted _ _ _ a .0)) w)
 
 pub onu-moved-valid : (o : Onu) → validOnu o ≡ true → validOnu (onuMoved o) ≡ true
 unfolding onuMoved withOnuFirst withOnuKeys validOnuKeys either
@@ -101,10 +101,10 @@ receiving-onu-valid o misfit h v =
 
 ---- refused: the very ONU that was lent, and nothing
 
-pub sending-onu-untouched : (o : Onu) (misfit : Bool) (llid index eqs : ℕ) (r : Refusal) → sendingOnu o misfit llid index eqs .verdict ≡ Refused r
-    → Untouched o noSending (sendingOnu o misfit llid index eqs)
+pub sending-onu-untouched : (o : Onu) (misfit : Bool) (llid channel eqs : ℕ) (r : Refusal) → sendingOnu o misfit llid channel eqs .verdict ≡ Refused r
+    → Untouched o noSending (sendingOnu o misfit llid channel eqs)
 unfolding sendingOnu
-sending-onu-untouched o misfit llid index eqs r e = onu-untouched o noSending _ _ _ r e
+sending-onu-untouched o misfit llid channel eqs r e = onu-untouched o noSending _ _ _ r e
 
 pub receiving-onu-untouched : (o : Onu) (misfit : Bool) (h : Header) (r : Refusal) → receivingOnu o misfit h .verdict ≡ Refused r
     → Untouched o noPassage (receivingOnu o misfit h)
@@ -114,12 +114,12 @@ receiving-onu-untouched o misfit h r e = onu-untouched o noPassage _ _ _ r e
 ---- overheard envelopes
 
 -- an envelope for another unit is refused 2 and an upstream one 1, after 14
-pub overheard-down : (o : Onu) (misfit : Bool) (h : Header) → downstream (h .index) ≡ true → validHeader h ≡ true → has (o .identity) (h .llid) ≡ false
+pub overheard-down : (o : Onu) (misfit : Bool) (h : Header) → downstream (h .channel) ≡ true → validHeader h ≡ true → has (o .identity) (h .llid) ≡ false
     → onuReceiveVerdict o misfit h ≡ refuseIf misfit BadLength (Refused UnknownLlid)
 unfolding onuReceiveVerdict refuseIf both
 overheard-down o misfit h d v n = rw (d, v, n)
 
-pub overheard-up : (o : Onu) (misfit : Bool) (h : Header) → upstream (h .index) ≡ true
+pub overheard-up : (o : Onu) (misfit : Bool) (h : Header) → upstream (h .channel) ≡ true
     → onuReceiveVerdict o misfit h ≡ refuseIf misfit BadLength (Refused OutOfRange)
 unfolding onuReceiveVerdict refuseIf both downstream
-overheard-up o misfit h u = rw (lt-leb (h .index) 1 (omega (arith, upstream-between (h .index) u .0)))
+overheard-up o misfit h u = rw (lt-leb (h .channel) 1 (omega (arith, upstream-between (h .channel) u .0)))

@@ -50,15 +50,15 @@ sent-valid (Next n) tick u v =
       clock = r .clock;
     })
 
-pub send-keeps : (llid index eqs : ℕ) → eqs ≤ maxEqs → Keeps (sendUnit llid index eqs)
+pub send-keeps : (llid channel eqs : ℕ) → eqs ≤ maxEqs → Keeps (sendUnit llid channel eqs)
 unfolding sendUnit withKeys
-send-keeps llid index eqs h =
+send-keeps llid channel eqs h =
     record {
       identity = λ s u. refl;
       unit = λ s u v a. sent-valid (unitSendChoice u) (s .tick) u v;
       channels = λ s u v.
           let r = shared-in-range s v in
-          occupied-valid (s .channels) index (s .tick) eqs (r .tick) h (r .channels);
+          occupied-valid (s .channels) channel (s .tick) eqs (r .tick) h (r .channels);
     }
 
 received-valid : (choice : KeyChoice) (tick : ℕ) (u : UnitRecord) → validUnit tick u ≡ true → validUnit tick (unitReceived choice u) ≡ true

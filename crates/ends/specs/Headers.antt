@@ -42,8 +42,8 @@ choiceAged (Barred r) f tick = false
 
 -- the header of an envelope numbered n, at the sender's clock (01, Keys: EPAM, of LocalTime if unsynced)
 unfoldable pub headerOf : ℕ → ℕ → ℕ → ℕ → Header
-headerOf n index llid clock =
-    record { index = index; llid = llid; encenabled = pick (eqb n 0) 0 1; enckey = n % 2; epam = epamOf clock }
+headerOf n channel llid clock =
+    record { channel = channel; llid = llid; encenabled = pick (eqb n 0) 0 1; enckey = n % 2; epam = epamOf clock }
 
 -- the key of number n, none for 0
 unfoldable pub keyFor : ℕ → Slots → List ℕ
@@ -54,11 +54,11 @@ unfoldable pub passageOf : KeyChoice → Slots → ℕ → ℕ → Passage
 passageOf choice s mac clock = record { choice = choice; key = keyFor (choiceNumber choice) s; mac = mac; clock = clock }
 
 unfoldable pub sendingOf : KeyChoice → Slots → ℕ → ℕ → ℕ → ℕ → Sending
-sendingOf choice s mac clock index llid =
-    record { header = headerOf (choiceNumber choice) index llid clock; passage = passageOf choice s mac clock }
+sendingOf choice s mac clock channel llid =
+    record { header = headerOf (choiceNumber choice) channel llid clock; passage = passageOf choice s mac clock }
 
 abbrev pub noPassage : Passage
 noPassage = record { choice = Clear; key = noKey; mac = 0; clock = 0 }
 
 abbrev pub noSending : Sending
-noSending = record { header = record { index = 0; llid = 0; encenabled = 0; enckey = 0; epam = 0 }; passage = noPassage }
+noSending = record { header = record { channel = 0; llid = 0; encenabled = 0; enckey = 0; epam = 0 }; passage = noPassage }

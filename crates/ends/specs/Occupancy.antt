@@ -8,30 +8,30 @@ use Rattle.ends.specs.declared.Channels.{Channels}
 
 -- the channel indices of the OLT's sends
 unfoldable pub downstream : ℕ → Bool
-downstream index = leb index 1
+downstream channel = leb channel 1
 
 -- the channel indices of a unit's sends
 unfoldable pub upstream : ℕ → Bool
-upstream index = both (leb 128 index) (leb index 129)
+upstream channel = both (leb 128 channel) (leb channel 129)
 
 abbrev pub freeChannels : Channels
 freeChannels = record { zero = 0; one = 0 }
 
--- the low seven bits of an index are its channel
+-- the low seven bits of a channel index are the channel
 unfoldable pub onZero : ℕ → Bool
-onZero index = eqb (index % 128) 0
+onZero channel = eqb (channel % 128) 0
 
--- the tick from which the channel of an index is free
+-- the tick from which the channel of a channel index is free
 unfoldable pub freeFrom : Channels → ℕ → ℕ
-freeFrom c index = pick (onZero index) (c .zero) (c .one)
+freeFrom c channel = pick (onZero channel) (c .zero) (c .one)
 
 unfoldable pub taken : Channels → ℕ → ℕ → Bool
-taken c index tick = ltb tick (freeFrom c index)
+taken c channel tick = ltb tick (freeFrom c channel)
 
 -- a header at a tick keeps its channel for that tick and as many more as it has EQs
 unfoldable pub occupied : Channels → ℕ → ℕ → ℕ → Channels
-occupied c index tick eqs =
-    record { zero = pick (onZero index) (tick + eqs + 1) (c .zero); one = pick (onZero index) (c .one) (tick + eqs + 1) }
+occupied c channel tick eqs =
+    record { zero = pick (onZero channel) (tick + eqs + 1) (c .zero); one = pick (onZero channel) (c .one) (tick + eqs + 1) }
 
 unfoldable pub validChannels : Channels → Bool
 validChannels c = both (leb (c .zero) maxFree) (leb (c .one) maxFree)

@@ -17,11 +17,11 @@ use Rattle.ends.specs.declared.Sending.{Sending}
 
 -- 14, 1, 2, then the unit's own
 unfoldable pub sendingOlt : Olt → Bool → ℕ → ℕ → ℕ → Reply Olt Sending
-sendingOlt o misfit llid index eqs =
-    lift o noSending (refuseIf misfit BadLength (refuseIf (not (downstream index)) OutOfRange Accepted)) llid (sendUnit llid index eqs)
+sendingOlt o misfit llid channel eqs =
+    lift o noSending (refuseIf misfit BadLength (refuseIf (not (downstream channel)) OutOfRange Accepted)) llid (sendUnit llid channel eqs)
 
 -- 14, 1, 2, then the unit's own
 unfoldable pub receivingOlt : Olt → Bool → Header → Reply Olt Passage
 receivingOlt o misfit h =
-    lift o noPassage (refuseIf misfit BadLength (refuseIf (not (both (upstream (h .index)) (validHeader h))) OutOfRange Accepted)) (h .llid)
+    lift o noPassage (refuseIf misfit BadLength (refuseIf (not (both (upstream (h .channel)) (validHeader h))) OutOfRange Accepted)) (h .llid)
     (receiveUnit h)

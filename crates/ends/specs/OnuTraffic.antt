@@ -30,11 +30,11 @@ unfoldable pub onuSendChoice : OnuKeys → KeyChoice
 onuSendChoice k = pick (eqb (k .active) 0) Clear (Current (k .active))
 
 unfoldable pub onuSendVerdict : Onu → Bool → ℕ → ℕ → Verdict
-onuSendVerdict o misfit llid index =
+onuSendVerdict o misfit llid channel =
     refuseIf misfit BadLength
-    (refuseIf (not (upstream index)) OutOfRange
+    (refuseIf (not (upstream channel)) OutOfRange
     (refuseIf (not (has (o .identity) llid)) UnknownLlid
-    (refuseIf (taken (o .channels) index (o .tick)) ChannelTaken
+    (refuseIf (taken (o .channels) channel (o .tick)) ChannelTaken
     (refuseIf (choiceAged (onuSendChoice (o .keys)) (o .first) (o .tick)) KeyTooOld Accepted))))
 
 -- a send under a key may be its first
@@ -45,13 +45,13 @@ onuNoted (Next n) o = o
 onuNoted (Barred r) o = o
 
 unfoldable pub onuSent : Onu → ℕ → ℕ → Onu
-onuSent o index eqs = withOnuChannels (onuNoted (onuSendChoice (o .keys)) o) (occupied (o .channels) index (o .tick) eqs)
+onuSent o channel eqs = withOnuChannels (onuNoted (onuSendChoice (o .keys)) o) (occupied (o .channels) channel (o .tick) eqs)
 
 -- sealed with the unit's own MAC and its Tx clock, in whose place `time` is LocalTime while the unit is unsynced
 unfoldable pub sendingOnu : Onu → Bool → ℕ → ℕ → ℕ → Reply Onu Sending
-sendingOnu o misfit llid index eqs =
-    onuReply o noSending (onuSendVerdict o misfit llid index) (onuSent o index eqs)
-    (sendingOf (onuSendChoice (o .keys)) (o .keys .slots) (o .identity .mac) (o .clock .time) index llid)
+sendingOnu o misfit llid channel eqs =
+    onuReply o noSending (onuSendVerdict o misfit llid channel) (onuSent o channel eqs)
+    (sendingOf (onuSendChoice (o .keys)) (o .keys .slots) (o .identity .mac) (o .clock .time) channel llid)
 
 ---- receive: 14, 1, 2, 10, 5, 11, 9
 
@@ -65,7 +65,7 @@ onuReceiveChoice k h =
 unfoldable pub onuReceiveVerdict : Onu → Bool → Header → Verdict
 onuReceiveVerdict o misfit h =
     refuseIf misfit BadLength
-    (refuseIf (not (both (downstream (h .index)) (validHeader h))) OutOfRange
+    (refuseIf (not (both (downstream (h .channel)) (validHeader h))) OutOfRange
     (refuseIf (not (has (o .identity) (h .llid))) UnknownLlid
     (refuseIf (both (isUp (o .clock .synced)) (not (eqb (h .epam) (epamOf (o .clock .rx))))) EpamDiffers
     (refuseIf (both (eqb (h .encenabled) 1) (not (isUp (o .clock .synced)))) ClockNotSet

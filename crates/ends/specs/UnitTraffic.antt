@@ -35,8 +35,8 @@ unfoldable pub unitSendChoice : UnitRecord → KeyChoice
 unitSendChoice u = pick (switches u) (Next (u .keys .offered)) (pick (eqb (u .keys .active) 0) Clear (Current (u .keys .active)))
 
 unfoldable pub unitSendVerdict : Shared → UnitRecord → ℕ → Verdict
-unitSendVerdict s u index =
-    refuseIf (taken (s .channels) index (s .tick)) ChannelTaken
+unitSendVerdict s u channel =
+    refuseIf (taken (s .channels) channel (s .tick)) ChannelTaken
     (refuseIf (choiceAged (unitSendChoice u) (u .keys .first) (s .tick)) KeyTooOld Accepted)
 
 -- A becomes O, the flag falls, and this is the key's first send
@@ -51,12 +51,12 @@ keysSent (Next n) k tick = keysSwitched k tick
 keysSent (Barred r) k tick = k
 
 unfoldable pub sendUnit : ℕ → ℕ → ℕ → Shared → UnitRecord → Outcome Sending
-sendUnit llid index eqs s u =
+sendUnit llid channel eqs s u =
     record {
-      verdict = unitSendVerdict s u index;
+      verdict = unitSendVerdict s u channel;
       unit = withKeys u (keysSent (unitSendChoice u) (u .keys) (s .tick));
-      channels = occupied (s .channels) index (s .tick) eqs;
-      handed = sendingOf (unitSendChoice u) (u .keys .slots) (s .mac) (s .clock) index llid;
+      channels = occupied (s .channels) channel (s .tick) eqs;
+      handed = sendingOf (unitSendChoice u) (u .keys .slots) (s .mac) (s .clock) channel llid;
     }
 
 ---- receive: 10, 11, 9

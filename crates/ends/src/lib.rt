@@ -147,10 +147,10 @@ pub struct Acknowledgement {
     pub number: u32,
 }
 
-// An envelope's header, start or continuation; `index` is the channel index.
+// An envelope's header, start or continuation; `channel` is the channel index.
 #[repr(C)]
 pub struct Header {
-    pub index: u8,
+    pub channel: u8,
     pub llid: u16,
     pub encenabled: u8,
     pub enckey: u8,

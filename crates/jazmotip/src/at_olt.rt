@@ -86,13 +86,13 @@ pub extern "C" fn jazmotip_olt_acknowledge(
 pub extern "C" fn jazmotip_olt_send(
     olt: Olt,
     llid: u16,
-    index: u8,
+    channel: u8,
     payload: &[u8],
     output: &mut [u8],
 ) -> OltSent
-    ensures { λ r. ⌜ exchange r (now (output .exit)) ≡ oltSendOf olt llid index (now (payload .entry)) (now (output .entry)) ⌝ }
+    ensures { λ r. ⌜ exchange r (now (output .exit)) ≡ oltSendOf olt llid channel (now (payload .entry)) (now (output .entry)) ⌝ }
 {
-    traffic::olt_send(olt, llid, index, payload, output)
+    traffic::olt_send(olt, llid, channel, payload, output)
 }
 
 #[no_mangle]

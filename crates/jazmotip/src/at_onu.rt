@@ -49,13 +49,13 @@ pub extern "C" fn jazmotip_onu_key_message(onu: Onu, message: KeyMessage) -> Onu
 pub extern "C" fn jazmotip_onu_send(
     onu: Onu,
     llid: u16,
-    index: u8,
+    channel: u8,
     payload: &[u8],
     output: &mut [u8],
 ) -> OnuSent
-    ensures { λ r. ⌜ exchange r (now (output .exit)) ≡ onuSendOf onu llid index (now (payload .entry)) (now (output .entry)) ⌝ }
+    ensures { λ r. ⌜ exchange r (now (output .exit)) ≡ onuSendOf onu llid channel (now (payload .entry)) (now (output .entry)) ⌝ }
 {
-    traffic::onu_send(onu, llid, index, payload, output)
+    traffic::onu_send(onu, llid, channel, payload, output)
 }
 
 #[no_mangle]

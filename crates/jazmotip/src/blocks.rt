@@ -105,10 +105,10 @@ fn verdict_in_numbers(verdict: RecordVerdict) -> BlockVerdict
             enckey: 0,
             clock: 0,
         },
-        RecordVerdict::Sealed(index, clock) => BlockVerdict {
+        RecordVerdict::Sealed(channel, clock) => BlockVerdict {
             number,
             encenabled: 1,
-            enckey: index,
+            enckey: channel,
             clock,
         },
         RecordVerdict::Refused(_) => BlockVerdict {

@@ -57,11 +57,11 @@ sender-clock-below w s upward tick = mod-lt (w .first + tick + s .up) (omega ari
 later-differs : (w : Setting) (sh : Shared) (now : ℕ) (l : Lane) (u : UnitRecord) (o : Onu) → Joined w sh now l u o → (i j : ℕ) → i < j
     → j < length (l .past .sent) → 1 ≤ getD (l .past .sent) i noEnvelope .number
     → getD (l .past .sent) i noEnvelope .number ≡ getD (l .past .sent) j noEnvelope .number
-    → getD (l .past .sent) i noEnvelope .index ≡ getD (l .past .sent) j noEnvelope .index
+    → getD (l .past .sent) i noEnvelope .channel ≡ getD (l .past .sent) j noEnvelope .channel
     → senderClock w (l .site) (getD (l .past .sent) i noEnvelope .way) (getD (l .past .sent) i noEnvelope .left)
     ≡ senderClock w (l .site) (getD (l .past .sent) j noEnvelope .way) (getD (l .past .sent) j noEnvelope .left)
     → ⊥
-later-differs w sh now l u o jn i j before below sealed number index clock =
+later-differs w sh now l u o jn i j before below sealed number channel clock =
     by (getD (l .past .sent) i noEnvelope .way) (getD (l .past .sent) j noEnvelope .way) refl refl clock where
       first : Envelope
       first = getD (l .past .sent) i noEnvelope
@@ -77,16 +77,16 @@ later-differs w sh now l u o jn i j before below sealed number index clock =
 
       by : (x y : Way) → first .way ≡ x → second .way ≡ y → senderClock w (l .site) x (first .left) ≡ senderClock w (l .site) y (second .left) → ⊥
       by downward downward p q e =
-          let t = jn .spending .spaced .apart i j before below (p ∙ sym q) sealed number index in
+          let t = jn .spending .spaced .apart i j before below (p ∙ sym q) sealed number channel in
           clocks-differ (w .first) (first .left) (first .left) (second .left) (omega arith) (t .0) (t .1) e
       by upward upward p q e =
-          let t = jn .spending .spaced .apart i j before below (p ∙ sym q) sealed number index in
+          let t = jn .spending .spaced .apart i j before below (p ∙ sym q) sealed number channel in
           clocks-differ (w .first + l .site .up) (first .left) (first .left) (second .left) (omega arith) (t .0) (t .1)
           (ap (λ (x : ℕ). x % clockTurn) (omega arith) ∙ e ∙ ap (λ (x : ℕ). x % clockTurn) (omega arith))
       by downward upward p q e =
-          absurd (omega (arith, index, downstream-below (first .index) (jn .spending .downs first at-i p .0), upstream-between (second .index) (jn .spending .ups second at-j q .0) .0))
+          absurd (omega (arith, channel, downstream-below (first .channel) (jn .spending .downs first at-i p .0), upstream-between (second .channel) (jn .spending .ups second at-j q .0) .0))
       by upward downward p q e =
-          absurd (omega (arith, index, downstream-below (second .index) (jn .spending .downs second at-j q .0), upstream-between (first .index) (jn .spending .ups first at-i p .0) .0))
+          absurd (omega (arith, channel, downstream-below (second .channel) (jn .spending .downs second at-j q .0), upstream-between (first .channel) (jn .spending .ups first at-i p .0) .0))
 
 one-send : (w : Setting) (sh : Shared) (now : ℕ) (l : Lane) (u : UnitRecord) (o : Onu) → Joined w sh now l u o
     → w .mac < 2 ^ 48 → l .site .identity .mac < 2 ^ 48 → (i j a b : ℕ) → i < length (l .past .sent)
@@ -102,7 +102,7 @@ one-send w sh now l u o jn olt onu i j a b hi hj sealed number ha hb e = by (ltb
   second : Envelope
   second = getD (l .past .sent) j noEnvelope
 
-  fields : (first .index ≡ second .index)
+  fields : (first .channel ≡ second .channel)
       × (senderMac w (l .site) (first .way) ≡ senderMac w (l .site) (second .way))
       × (senderClock w (l .site) (first .way) (first .left) ≡ senderClock w (l .site) (second .way) (second .left))
       × (a ≡ b)

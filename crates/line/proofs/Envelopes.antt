@@ -28,12 +28,12 @@ ways-apart e = let z : _≡_ {A = ℕ} 0 1 = cc in absurd (omega arith)
 ---- what is carried
 
 -- under the key and counter block of number n, clear for 0
-pub passed-as : (index : ℕ) (q : Passage) (n : ℕ) (key : List ℕ) (nonce : Nonce) (p : List ℕ) → isEnciphered (q .choice) ≡ leb 1 n
-    → (1 ≤ n → q .key ≡ key) → (1 ≤ n → nonceOf index q ≡ nonce)
-    → passed index q p ≡ carried (leb 1 n) (keyExpansion key) nonce p
+pub passed-as : (channel : ℕ) (q : Passage) (n : ℕ) (key : List ℕ) (nonce : Nonce) (p : List ℕ) → isEnciphered (q .choice) ≡ leb 1 n
+    → (1 ≤ n → q .key ≡ key) → (1 ≤ n → nonceOf channel q ≡ nonce)
+    → passed channel q p ≡ carried (leb 1 n) (keyExpansion key) nonce p
 unfolding passed carried pick
-passed-as index q n key nonce p s k c = by-number (leb 1 n) refl where
-  by-number : (t : Bool) → leb 1 n ≡ t → passed index q p ≡ carried t (keyExpansion key) nonce p
+passed-as channel q n key nonce p s k c = by-number (leb 1 n) refl where
+  by-number : (t : Bool) → leb 1 n ≡ t → passed channel q p ≡ carried t (keyExpansion key) nonce p
   by-number true e = let h = leb-true 1 n e in rw (s ∙ e, k h, c h)
   by-number false e = rw (s ∙ e)
 
@@ -66,7 +66,7 @@ arrivalOf e q =
       envelope = e;
       number = 0;
       count = passedCount q (e .octets);
-      output = passed (e .header .index) q (e .octets);
+      output = passed (e .header .channel) q (e .octets);
       passage = q;
     }
 
@@ -74,7 +74,7 @@ arrivalOf e q =
 pub record Opens (w : Setting) (l : Lane) (e : Envelope) (q : Passage) : Type 0 where
   pub enciphered : isEnciphered (q .choice) ≡ isSealed e
   pub key : 1 ≤ e .number → q .key ≡ keyOf (l .keys) (e .number)
-  pub nonce : 1 ≤ e .number → nonceOf (e .header .index) q ≡ nonceFor w (l .site) e
+  pub nonce : 1 ≤ e .number → nonceOf (e .header .channel) q ≡ nonceFor w (l .site) e
 
 pub opens-right : (w : Setting) (l : Lane) (e : Envelope) (q : Passage) → List·Memᴰ e (l .past .sent) → SentRight w l e → Opens w l e q
     → ArrivedRight w l (arrivalOf e q)
@@ -86,7 +86,7 @@ opens-right w l e q m r h =
       key = h .key;
       nonce = h .nonce;
       payload =
-          passed-as (e .header .index) q (e .number) (keyOf (l .keys) (e .number)) (nonceFor w (l .site) e) (e .octets) (h .enciphered) (h .key) (h .nonce)
+          passed-as (e .header .channel) q (e .number) (keyOf (l .keys) (e .number)) (nonceFor w (l .site) e) (e .octets) (h .enciphered) (h .key) (h .nonce)
           ∙ ap (carried (isSealed e) (keyExpansion (keyOf (l .keys) (e .number))) (nonceFor w (l .site) e)) (r .octets)
           ∙ carried-twice (isSealed e) (keyExpansion (keyOf (l .keys) (e .number))) (nonceFor w (l .site) e) (e .payload);
       count =

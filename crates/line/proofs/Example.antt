@@ -54,9 +54,9 @@ course = record { registered = refl; refused = refl; sentA = refl; arrivedA = re
 nonce-is : (n : Nonce) (channel mac clock : ℕ) → n .channel ≡ channel → n .mac ≡ mac → n .clock ≡ clock → n ≡ nonce channel mac clock
 nonce-is n channel mac clock a b c = rw (sym a, sym b, sym c) refl
 
-header-is : (n n' index index' llid llid' clock clock' : ℕ) → n ≡ n' → index ≡ index' → llid ≡ llid' → clock ≡ clock'
-    → headerOf n index llid clock ≡ headerOf n' index' llid' clock'
-header-is n n' index index' llid llid' clock clock' a b c d = rw (a, b, c, d) refl
+header-is : (n n' channel channel' llid llid' clock clock' : ℕ) → n ≡ n' → channel ≡ channel' → llid ≡ llid' → clock ≡ clock'
+    → headerOf n channel llid clock ≡ headerOf n' channel' llid' clock'
+header-is n n' channel channel' llid llid' clock clock' a b c d = rw (a, b, c, d) refl
 
 carried-is : (t : Bool) (k k' : List ℕ) (n n' : Nonce) (p p' : List ℕ) → t ≡ true → k ≡ k' → n ≡ n' → p ≡ p'
     → carried t (keyExpansion k) n p ≡ carried true (keyExpansion k') n' p'
@@ -96,13 +96,13 @@ module _ (c : Claim example played) where
   handed u i number llid key channel mac clock payload some sealed hnumber hllid hkey hchannel hmac hclock hpayload hcount =
       let below = ltb-true _ _ some in
       let r = c .sent u (sentAt played u i) (mem-at (laneAt played u .past .sent) i _ below) in
-      let index = eqb-true _ _ hchannel in
+      let place = eqb-true _ _ hchannel in
       let time = eqb-true _ _ hclock in
       record {
         some = below;
-        header = r .header ∙ header-is _ number _ channel _ llid _ clock hnumber index hllid time;
+        header = r .header ∙ header-is _ number _ channel _ llid _ clock hnumber place hllid time;
         octets =
-            r .octets ∙ carried-is _ _ key _ (nonce channel mac clock) _ payload sealed hkey (nonce-is _ channel mac clock index (eqb-true _ _ hmac) time) hpayload;
+            r .octets ∙ carried-is _ _ key _ (nonce channel mac clock) _ payload sealed hkey (nonce-is _ channel mac clock place (eqb-true _ _ hmac) time) hpayload;
         count = r .count ∙ hcount;
       }
 

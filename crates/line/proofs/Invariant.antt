@@ -129,7 +129,7 @@ From l lo hi (e ∷ es) = Under (l .site .identity) (l .past .sent) upward lo hi
 -- a send of that way: its channel was free, and under the key in use it was not before the first send
 pub record Spent (channels : Channels) (first : FirstSend) (current : ℕ) (e : Envelope) : Type 0 where
   pub most : e .number ≤ current
-  pub passed : e .left < freeFrom channels (e .index)
+  pub passed : e .left < freeFrom channels (e .channel)
   pub noted : 1 ≤ e .number → e .number ≡ current → (first .noted ≡ 1) × (first .tick ≤ e .left)
 
 -- two sends of one way under one number on one channel index: the later one is later, and within a key's life
@@ -137,15 +137,15 @@ pub record Spaced (sent : List Envelope) : Type 0 where
   pub apart : (i j : ℕ) → i < j → j < length sent
       → getD sent i noEnvelope .way ≡ getD sent j noEnvelope .way
       → 1 ≤ getD sent i noEnvelope .number → getD sent i noEnvelope .number ≡ getD sent j noEnvelope .number
-      → getD sent i noEnvelope .index ≡ getD sent j noEnvelope .index
+      → getD sent i noEnvelope .channel ≡ getD sent j noEnvelope .channel
       → (getD sent i noEnvelope .left < getD sent j noEnvelope .left)
       × (getD sent j noEnvelope .left < getD sent i noEnvelope .left + keyLife)
 
 pub record Spending (l : Lane) (down : Channels) (u : UnitRecord) (o : Onu) : Type 0 where
   pub downs : (e : Envelope) → List·Memᴰ e (l .past .sent) → e .way ≡ downward
-      → (downstream (e .index) ≡ true) × Spent down (u .keys .first) (u .keys .active) e
+      → (downstream (e .channel) ≡ true) × Spent down (u .keys .first) (u .keys .active) e
   pub ups : (e : Envelope) → List·Memᴰ e (l .past .sent) → e .way ≡ upward
-      → (upstream (e .index) ≡ true) × Spent (o .channels) (o .first) (o .keys .active) e
+      → (upstream (e .channel) ≡ true) × Spent (o .channels) (o .first) (o .keys .active) e
   pub spaced : Spaced (l .past .sent)
 
 ---- what has been

@@ -121,28 +121,28 @@ answer-right w s u k llid i d =
 
 ---- sends
 
-pub send-down-right : (w : Setting) (s : State) (llid index : ℕ) (p out : List ℕ) → Invariant w s → Fits w s (sendDown llid index p out)
-    → Invariant w (step s (sendDown llid index p out))
+pub send-down-right : (w : Setting) (s : State) (llid channel : ℕ) (p out : List ℕ) → Invariant w s → Fits w s (sendDown llid channel p out)
+    → Invariant w (step s (sendDown llid channel p out))
 unfolding step sendingDown oltSendOf oltSent sendingOlt laneSentDown laneWith
-send-down-right w s llid index p out i fits =
+send-down-right w s llid channel p out i fits =
     let sh = s .olt .shared in
     let now = s .history .now in
-    let call = sendUnit llid index (eqsOf p) in
-    let r = oltSendOf (s .olt) llid index p out in
+    let call = sendUnit llid channel (eqsOf p) in
+    let r = oltSendOf (s .olt) llid channel p out in
     let f : Lane → Lane =
-    λ l. laneSentDown now (envelopeOf downward now llid index p (r .answer .header) (r .output) (r .answer .count) (numberDown l now)) l in
-    call-right w s noSending (sendAhead (misfit p out) index) llid call f i
+    λ l. laneSentDown now (envelopeOf downward now llid channel p (r .answer .header) (r .output) (r .answer .count) (numberDown l now)) l in
+    call-right w s noSending (sendAhead (misfit p out) channel) llid call f i
     (record {
-      valid = sending-valid (s .olt) (misfit p out) llid index (eqsOf p) (few-eqs p out) (i .valid);
-      rises = λ u a k. send-channels llid index (eqsOf p) sh u a k;
+      valid = sending-valid (s .olt) (misfit p out) llid channel (eqsOf p) (few-eqs p out) (i .valid);
+      rises = λ u a k. send-channels llid channel (eqsOf p) sh u a k;
       site = λ l. refl;
       entry = λ l. refl;
       own = λ l u h e j.
           let x = unitAt (s .olt) (l .at) in
           let met = refuse-accepted _ _ _ (l .passed) in
           subst (λ (y : Envelope). Joined w (withChannels sh (call sh x .channels)) now (laneSentDown now y (laneAt s u)) (call sh x .unit) (onuAt s u))
-          (sym (envelope-down-is (s .olt) (laneAt s u) now llid index p out (call sh x .handed) (l .verdict) (l .handed)))
-          (send-down-keeps w sh now (laneAt s u) x (onuAt s u) llid index (eqsOf p) p out (i .shared) j
+          (sym (envelope-down-is (s .olt) (laneAt s u) now llid channel p out (call sh x .handed) (l .verdict) (l .handed)))
+          (send-down-keeps w sh now (laneAt s u) x (onuAt s u) llid channel (eqsOf p) p out (i .shared) j
           (unit-at-valid (s .olt) llid (l .at) (i .valid) (find-at (s .olt) llid (l .at) (l .found)))
           e (not-false _ (refuse-accepted _ _ _ (met .1) .0)) (met .0) (l .accepts));
       keys = λ l. keys-named llid f (s .history .lanes) (λ y. refl) (i .keys);

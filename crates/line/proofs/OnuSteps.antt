@@ -142,25 +142,25 @@ module _ (w : Setting) (s : State) (u : ℕ) (v : Invariant w s) where
 
 ---- a send
 
-send-up-refused : (o : Onu) (llid index : ℕ) (p out : List ℕ) → (onuSendOf o llid index p out .answer .number ≡ 0 → ⊥)
-    → onuSendOf o llid index p out .answer .onu ≡ o
+send-up-refused : (o : Onu) (llid channel : ℕ) (p out : List ℕ) → (onuSendOf o llid channel p out .answer .number ≡ 0 → ⊥)
+    → onuSendOf o llid channel p out .answer .onu ≡ o
 unfolding onuSendOf onuSentBy
-send-up-refused o llid index p out n = number-refused o noSending _ (sending-onu-untouched o _ llid index _) n .end
+send-up-refused o llid channel p out n = number-refused o noSending _ (sending-onu-untouched o _ llid channel _) n .end
 
-pub send-up-right : (w : Setting) (s : State) (u llid index : ℕ) (p out : List ℕ) → Invariant w s → Fits w s (sendUp u llid index p out)
-    → Invariant w (step s (sendUp u llid index p out))
+pub send-up-right : (w : Setting) (s : State) (u llid channel : ℕ) (p out : List ℕ) → Invariant w s → Fits w s (sendUp u llid channel p out)
+    → Invariant w (step s (sendUp u llid channel p out))
 unfolding step sendingUp laneSentUp laneWith
-send-up-right w s u llid index p out v f =
-    let x = onuSendOf (onuAt s u) llid index p out in
+send-up-right w s u llid channel p out v f =
+    let x = onuSendOf (onuAt s u) llid channel p out in
     noted-right w s u (x .answer .onu) (x .answer .number) _ (λ l. l)
     (λ z.
     let r = registered-alive w s u v (f z) in
     alive-right w s u v (x .answer .onu) _ r refl refl
-    (send-common w (s .history .now) (laneAt s u) _ (onuAt s u) llid index p out refl (r .common))
-    (send-up-keeps w (s .olt .shared) (s .history .now) (laneAt s u) (unitAt (s .olt) (laneAt s u .entry .place)) (onuAt s u) llid index p out (r .common)
+    (send-common w (s .history .now) (laneAt s u) _ (onuAt s u) llid channel p out refl (r .common))
+    (send-up-keeps w (s .olt .shared) (s .history .now) (laneAt s u) (unitAt (s .olt) (laneAt s u .entry .place)) (onuAt s u) llid channel p out (r .common)
     (r .joined) z))
     (λ n.
-    rw (send-up-refused (onuAt s u) llid index p out n) (at-onu-right w s u (onuAt s u) (λ l. l) v (λ known. v .lane u known) refl refl))
+    rw (send-up-refused (onuAt s u) llid channel p out n) (at-onu-right w s u (onuAt s u) (λ l. l) v (λ known. v .lane u known) refl refl))
 
 ---- what arrives
 

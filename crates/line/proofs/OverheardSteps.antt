@@ -44,11 +44,11 @@ overheard-verdict w sh now l u other o e out j m strange = by-way (e .way) refl 
       → onuReceiveVerdict o (misfit (e .octets) out) (e .header) ≡ refuseIf (misfit (e .octets) out) BadLength (Refused (overheardFor false (e .way)))
   by-way downward q =
       rw q
-      (overheard-down o _ (e .header) (ap (λ (h : Header). downstream (h .index)) (right .header) ∙ j .spending .downs e m q .0)
-      (ap validHeader (right .header) ∙ header-valid (e .number) (e .index) (e .llid) _)
+      (overheard-down o _ (e .header) (ap (λ (h : Header). downstream (h .channel)) (right .header) ∙ j .spending .downs e m q .0)
+      (ap validHeader (right .header) ∙ header-valid (e .number) (e .channel) (e .llid) _)
       (ap (λ (h : Header). has (o .identity) (h .llid)) (right .header) ∙ strange))
   by-way upward q =
-      rw q (overheard-up o _ (e .header) (ap (λ (h : Header). upstream (h .index)) (right .header) ∙ j .spending .ups e m q .0))
+      rw q (overheard-up o _ (e .header) (ap (λ (h : Header). upstream (h .channel)) (right .header) ∙ j .spending .ups e m q .0))
 
   by-buffer : (t : Bool) (x : Way) → refuseIf t BadLength (Refused (overheardFor false x)) ≡ Refused (overheardFor t x)
   by-buffer true x = refl

@@ -98,22 +98,22 @@ taken-next o n e f =
       stays = λ q. absurd (omega arith);
     }
 
-pub taken-down : (o : Onu) (h : Header) (n index llid clock : ℕ) → h ≡ headerOf n index llid clock → o .keys .active ≤ n → n ≤ reachOf (o .keys)
+pub taken-down : (o : Onu) (h : Header) (n channel llid clock : ℕ) → h ≡ headerOf n channel llid clock → o .keys .active ≤ n → n ≤ reachOf (o .keys)
     → o .keys .held ≤ 1 → TakenDown o (onuReceiveChoice (o .keys) h) n
 unfolding headerOf
-taken-down o h n index llid clock e low high flag = by-number (eqb n 0) (eqb n (o .keys .active)) refl refl where
+taken-down o h n channel llid clock e low high flag = by-number (eqb n 0) (eqb n (o .keys .active)) refl refl where
   key : h .enckey ≡ n % 2
   key = ap (λ (x : Header). x .enckey) e
 
   by-number : (z t : Bool) → eqb n 0 ≡ z → eqb n (o .keys .active) ≡ t → TakenDown o (onuReceiveChoice (o .keys) h) n
   by-number true t p q =
       let none : n ≡ 0 = eqb-true n 0 p in
-      let clear : h .encenabled ≡ 0 = ap (λ (x : Header). x .encenabled) e ∙ header-clear n index llid clock none in
+      let clear : h .encenabled ≡ 0 = ap (λ (x : Header). x .encenabled) e ∙ header-clear n channel llid clock none in
       let first : o .keys .active ≡ 0 = omega arith in
       rw (onu-receive-clear (o .keys) h clear first) (taken-clear o n none (none ∙ sym first) flag)
   by-number false t p q =
       let some : 1 ≤ n = omega (arith, eqb-false n 0 p) in
-      let sealed : h .encenabled ≡ 1 = ap (λ (x : Header). x .encenabled) e ∙ header-sealed n index llid clock some in
+      let sealed : h .encenabled ≡ 1 = ap (λ (x : Header). x .encenabled) e ∙ header-sealed n channel llid clock some in
       by-key some sealed t q where
         by-key : 1 ≤ n → h .encenabled ≡ 1 → (t : Bool) → eqb n (o .keys .active) ≡ t → TakenDown o (onuReceiveChoice (o .keys) h) n
         by-key some sealed true q =
@@ -184,22 +184,22 @@ confirmed-next u n h e f =
           rw same (only-kept (u .keys .slots) (u .keys .active));
     }
 
-pub taken-up : (u : UnitRecord) (h : Header) (n index llid clock : ℕ) → h ≡ headerOf n index llid clock → u .confirmation .confirmed ≤ n → n ≤ u .keys .active
+pub taken-up : (u : UnitRecord) (h : Header) (n channel llid clock : ℕ) → h ≡ headerOf n channel llid clock → u .confirmation .confirmed ≤ n → n ≤ u .keys .active
     → u .keys .active ≤ u .keys .offered → u .keys .offered ≤ u .confirmation .confirmed + 1 → TakenUp u (unitReceiveChoice u h) n
 unfolding headerOf
-taken-up u h n index llid clock e low high mid top = by-number (eqb n 0) (eqb n (u .confirmation .confirmed)) refl refl where
+taken-up u h n channel llid clock e low high mid top = by-number (eqb n 0) (eqb n (u .confirmation .confirmed)) refl refl where
   key : h .enckey ≡ n % 2
   key = ap (λ (x : Header). x .enckey) e
 
   by-number : (z t : Bool) → eqb n 0 ≡ z → eqb n (u .confirmation .confirmed) ≡ t → TakenUp u (unitReceiveChoice u h) n
   by-number true t p q =
       let none : n ≡ 0 = eqb-true n 0 p in
-      let clear : h .encenabled ≡ 0 = ap (λ (x : Header). x .encenabled) e ∙ header-clear n index llid clock none in
+      let clear : h .encenabled ≡ 0 = ap (λ (x : Header). x .encenabled) e ∙ header-clear n channel llid clock none in
       let first : u .confirmation .confirmed ≡ 0 = omega arith in
       rw (receive-clear u h clear first) (confirmed-clear u n none (none ∙ sym first))
   by-number false t p q =
       let some : 1 ≤ n = omega (arith, eqb-false n 0 p) in
-      let sealed : h .encenabled ≡ 1 = ap (λ (x : Header). x .encenabled) e ∙ header-sealed n index llid clock some in
+      let sealed : h .encenabled ≡ 1 = ap (λ (x : Header). x .encenabled) e ∙ header-sealed n channel llid clock some in
       by-key some sealed t q where
         by-key : 1 ≤ n → h .encenabled ≡ 1 → (t : Bool) → eqb n (u .confirmation .confirmed) ≡ t → TakenUp u (unitReceiveChoice u h) n
         by-key some sealed true q =

@@ -144,13 +144,13 @@ module _ (w : Setting) (sh : Shared) (now : ℕ) (l : Lane) (u : UnitRecord) (o 
   right-down : SentRight w l e
   right-down = j .passing .sent e (queue-down .0 .sent)
 
-  header-down : e .header ≡ headerOf (e .number) (e .index) (e .llid) (clockDown (w .first) (e .left))
+  header-down : e .header ≡ headerOf (e .number) (e .channel) (e .llid) (clockDown (w .first) (e .left))
   header-down = rw (queue-down .0 .thatWay) at (right-down .header)
 
   chosen-at-unit : TakenDown o (onuReceiveChoice (o .keys) (e .header)) (e .number)
   chosen-at-unit =
       let n = j .numbers in
-      taken-down o (e .header) (e .number) (e .index) (e .llid) (clockDown (w .first) (e .left)) header-down (queue-down .0 .above)
+      taken-down o (e .header) (e .number) (e .channel) (e .llid) (clockDown (w .first) (e .left)) header-down (queue-down .0 .above)
       (omega (arith, queue-down .0 .most, n .high)) (n .flag)
 
   synced-down : 1 ≤ e .number → o .clock .synced ≡ 1
@@ -171,8 +171,8 @@ module _ (w : Setting) (sh : Shared) (now : ℕ) (l : Lane) (u : UnitRecord) (o 
             ∙ key-for (e .number) (o .keys .slots) h
             ∙ j .stored .onu (e .number) h (queue-down .0 .above) (omega (arith, queue-down .0 .most, n .high));
         nonce = λ h.
-            let index : e .header .index ≡ e .index = ap (λ (x : Header). x .index) header-down in
-            rw (index, c .oltmac ∙ j .oltmac, rx-down (synced-down h), queue-down .0 .thatWay);
+            let channel : e .header .channel ≡ e .channel = ap (λ (x : Header). x .channel) header-down in
+            rw (channel, c .oltmac ∙ j .oltmac, rx-down (synced-down h), queue-down .0 .thatWay);
       }
 
   receives-down : OnuReceives o (misfit (e .octets) out) (e .header)
@@ -181,8 +181,8 @@ module _ (w : Setting) (sh : Shared) (now : ℕ) (l : Lane) (u : UnitRecord) (o 
       let h = header-down in
       record {
         fits = octets-fit w l e out right-down (j .passing .fits e (queue-down .0 .sent)) buffer;
-        downstream = rw (ap (λ (x : Header). x .index) h) (j .spending .downs e (queue-down .0 .sent) (queue-down .0 .thatWay) .0);
-        header = ap validHeader h ∙ header-valid (e .number) (e .index) (e .llid) (clockDown (w .first) (e .left));
+        downstream = rw (ap (λ (x : Header). x .channel) h) (j .spending .downs e (queue-down .0 .sent) (queue-down .0 .thatWay) .0);
+        header = ap validHeader h ∙ header-valid (e .number) (e .channel) (e .llid) (clockDown (w .first) (e .left));
         has = ap (λ (x : Header). has (o .identity) (x .llid)) h ∙ c .llids (e .llid) ∙ queue-down .0 .named;
         epam = λ s. ap (λ (x : Header). x .epam) h ∙ ap epamOf (sym (rx-down s));
         synced = λ s. sealed-synced s (eqb (e .number) 0) refl;
@@ -190,7 +190,7 @@ module _ (w : Setting) (sh : Shared) (now : ℕ) (l : Lane) (u : UnitRecord) (o 
       } where
         sealed-synced : e .header .encenabled ≡ 1 → (z : Bool) → eqb (e .number) 0 ≡ z → o .clock .synced ≡ 1
         sealed-synced s true q =
-            let clear = header-clear (e .number) (e .index) (e .llid) (clockDown (w .first) (e .left)) (eqb-true (e .number) 0 q) in
+            let clear = header-clear (e .number) (e .channel) (e .llid) (clockDown (w .first) (e .left)) (eqb-true (e .number) 0 q) in
             let zero : e .header .encenabled ≡ 0 = ap (λ (x : Header). x .encenabled) header-down ∙ clear in
             absurd (omega (arith, s, zero))
         sealed-synced s false q = synced-down (omega (arith, eqb-false (e .number) 0 q))
@@ -221,13 +221,13 @@ module _ (w : Setting) (sh : Shared) (now : ℕ) (l : Lane) (u : UnitRecord) (o 
       (laneArrivedDown
       (record {
         envelope = e;
-        number = onuReceivedBy x (e .header .index) (e .octets) out .answer .number;
-        count = onuReceivedBy x (e .header .index) (e .octets) out .answer .count;
-        output = onuReceivedBy x (e .header .index) (e .octets) out .output;
+        number = onuReceivedBy x (e .header .channel) (e .octets) out .answer .number;
+        count = onuReceivedBy x (e .header .channel) (e .octets) out .answer .count;
+        output = onuReceivedBy x (e .header .channel) (e .octets) out .output;
         passage = x .handed;
       })
       (laneTaken k l))
-      u (onuReceivedBy x (e .header .index) (e .octets) out .answer .onu))
+      u (onuReceivedBy x (e .header .channel) (e .octets) out .answer .onu))
       (sym accepted-down) joined
 
 ---- the unit itself

@@ -100,15 +100,15 @@ module _ (w : Setting) (sh : Shared) (now : ℕ) (l : Lane) (u : UnitRecord) (o 
       let same : w .first + e .left + l .site .up ≡ w .first + now = omega (arith, due) in
       ap (λ (x : ℕ). x % clockTurn) same ∙ sym (at .clock)
 
-  header-up : e .header ≡ headerOf (e .number) (e .index) (e .llid) (sh .clock)
+  header-up : e .header ≡ headerOf (e .number) (e .channel) (e .llid) (sh .clock)
   header-up =
       rw (queue-up .0 .thatWay) at (right-up .header)
-      ∙ ap (headerOf (e .number) (e .index) (e .llid)) clock-up
+      ∙ ap (headerOf (e .number) (e .channel) (e .llid)) clock-up
 
   chosen-at-olt : TakenUp u (unitReceiveChoice u (e .header)) (e .number)
   chosen-at-olt =
       let n = j .numbers in
-      taken-up u (e .header) (e .number) (e .index) (e .llid) (sh .clock) header-up (queue-up .0 .above) (omega (arith, queue-up .0 .most, n .mid))
+      taken-up u (e .header) (e .number) (e .channel) (e .llid) (sh .clock) header-up (queue-up .0 .above) (omega (arith, queue-up .0 .most, n .mid))
       (omega (arith, n .high, n .top)) (n .next)
 
   opens-up : Opens w l e (receiveUnit (e .header) sh u .handed)
@@ -123,13 +123,13 @@ module _ (w : Setting) (sh : Shared) (now : ℕ) (l : Lane) (u : UnitRecord) (o 
             ∙ key-for (e .number) (u .keys .slots) h
             ∙ j .stored .olt (e .number) h (queue-up .0 .above) (omega (arith, queue-up .0 .most, n .mid, n .high, n .top));
         nonce = λ h.
-            let index : e .header .index ≡ e .index = ap (λ (x : Header). x .index) header-up in
-            rw (index, j .mac, sym clock-up, queue-up .0 .thatWay);
+            let channel : e .header .channel ≡ e .channel = ap (λ (x : Header). x .channel) header-up in
+            rw (channel, j .mac, sym clock-up, queue-up .0 .thatWay);
       }
 
   -- the unit that the envelope names, and the ways and ranges of its header
   pub record NamedUp : Type 0 where
-    pub upstream : upstream (e .header .index) ≡ true
+    pub upstream : upstream (e .header .channel) ≡ true
     pub header : validHeader (e .header) ≡ true
     pub named : e .header .llid ≡ e .llid
     pub has : has (u .identity) (e .header .llid) ≡ true
@@ -141,8 +141,8 @@ module _ (w : Setting) (sh : Shared) (now : ℕ) (l : Lane) (u : UnitRecord) (o 
       let h = header-up in
       let llid : e .header .llid ≡ e .llid = ap (λ (x : Header). x .llid) h in
       record {
-        upstream = rw (ap (λ (x : Header). x .index) h) (j .spending .ups e (queue-up .0 .sent) (queue-up .0 .thatWay) .0);
-        header = ap validHeader h ∙ header-valid (e .number) (e .index) (e .llid) (sh .clock);
+        upstream = rw (ap (λ (x : Header). x .channel) h) (j .spending .ups e (queue-up .0 .sent) (queue-up .0 .thatWay) .0);
+        header = ap validHeader h ∙ header-valid (e .number) (e .channel) (e .llid) (sh .clock);
         named = llid;
         has = ap (has (u .identity)) llid ∙ j .llids (e .llid) ∙ queue-up .0 .named;
         fits = λ out buffer. octets-fit w l e out right-up (j .passing .fits e (queue-up .0 .sent)) buffer;

@@ -48,9 +48,9 @@ module _ (w : Setting) (sh : Shared) (now : ℕ) (l : Lane) (u : UnitRecord) (o 
   sent-down-joined : (k : UnitKeys) (choice : KeyChoice) (c : Channels) (e : Envelope)
       → Chosen (l .entry) now (reachOf (o .keys)) (u .keys) k choice (e .number) (pick (switching l now) now (l .keys .switched))
       → Renewed (u .keys .first) (k .first) (u .keys .active) (e .number) now
-      → e .way ≡ downward → e .left ≡ now → downstream (e .index) ≡ true → has (l .site .identity) (e .llid) ≡ true
+      → e .way ≡ downward → e .left ≡ now → downstream (e .channel) ≡ true → has (l .site .identity) (e .llid) ≡ true
       → lengthsFit (length (e .payload)) (length (e .payload)) ≡ true → SentRight w l e
-      → freeFrom (sh .channels) (e .index) ≤ now → ((i : ℕ) → freeFrom (sh .channels) i ≤ freeFrom c i) → now < freeFrom c (e .index)
+      → freeFrom (sh .channels) (e .channel) ≤ now → ((i : ℕ) → freeFrom (sh .channels) i ≤ freeFrom c i) → now < freeFrom c (e .channel)
       → Joined w (withChannels sh c) now (laneSentDown now e l) (withKeys u k) o
   unfolding laneSentDown laneWith leaving sending withKeys withChannels
   sent-down-joined k choice c e h r way left down named fits right free rises after =
@@ -99,16 +99,16 @@ module _ (w : Setting) (sh : Shared) (now : ℕ) (l : Lane) (u : UnitRecord) (o 
         spending =
             record {
               downs =
-                  each-more (λ (x : Envelope). x .way ≡ downward → (downstream (x .index) ≡ true) × Spent c (k .first) (k .active) x) (l .past .sent) e
+                  each-more (λ (x : Envelope). x .way ≡ downward → (downstream (x .channel) ≡ true) × Spent c (k .first) (k .active) x) (l .past .sent) e
                   (λ x i q.
                   let was = j .spending .downs x i q in (
                     was .0,
-                    rw (h .active) (spent-kept (sh .channels) c (u .keys .first) (k .first) (u .keys .active) (e .number) now x r (rises (x .index)) (was .1)),
+                    rw (h .active) (spent-kept (sh .channels) c (u .keys .first) (k .first) (u .keys .active) (e .number) now x r (rises (x .channel)) (was .1)),
                   ))
                   (λ q.
                   (down, rw (h .active) (spent-new c (u .keys .first) (k .first) (u .keys .active) (e .number) now e r refl left after)));
               ups =
-                  each-more (λ (x : Envelope). x .way ≡ upward → (upstream (x .index) ≡ true) × Spent (o .channels) (o .first) (o .keys .active) x)
+                  each-more (λ (x : Envelope). x .way ≡ upward → (upstream (x .channel) ≡ true) × Spent (o .channels) (o .first) (o .keys .active) x)
                   (l .past .sent) e (j .spending .ups) (λ q. ways-apart (sym way ∙ q));
               spaced =
                   spaced-more (l .past .sent) e
@@ -124,12 +124,12 @@ module _ (w : Setting) (sh : Shared) (now : ℕ) (l : Lane) (u : UnitRecord) (o 
 
 -- the envelope of a send to the unit
 abbrev pub envelopeDown : Lane → ℕ → ℕ → ℕ → List ℕ → Sending → Envelope
-envelopeDown l now llid index p s =
-    envelopeOf downward now llid index p (s .header) (passed index (s .passage) p) (passedCount (s .passage) p) (numberDown l now)
+envelopeDown l now llid channel p s =
+    envelopeOf downward now llid channel p (s .header) (passed channel (s .passage) p) (passedCount (s .passage) p) (numberDown l now)
 
-module _ (w : Setting) (sh : Shared) (now : ℕ) (l : Lane) (u : UnitRecord) (o : Onu) (llid index eqs : ℕ) (p out : List ℕ) where
+module _ (w : Setting) (sh : Shared) (now : ℕ) (l : Lane) (u : UnitRecord) (o : Onu) (llid channel eqs : ℕ) (p out : List ℕ) where
   sent-down-right : AtTick w now sh → Joined w sh now l u o → validUnit (sh .tick) u ≡ true
-      → SentRight w l (envelopeDown l now llid index p (sendUnit llid index eqs sh u .handed))
+      → SentRight w l (envelopeDown l now llid channel p (sendUnit llid channel eqs sh u .handed))
   unfolding envelopeOf sendUnit sendingOf passageOf
   sent-down-right t j v =
       let h = chosen-down w sh now l u o j (sh .tick) (t .tick) (unit-first (sh .tick) u v) in
@@ -137,7 +137,7 @@ module _ (w : Setting) (sh : Shared) (now : ℕ) (l : Lane) (u : UnitRecord) (o 
       record {
         header = rw (h .chosen, t .clock);
         octets =
-            passed-as index (passageOf (unitSendChoice u) (u .keys .slots) (sh .mac) (sh .clock)) (numberDown l now) (keyOf (l .keys) (numberDown l now))
+            passed-as channel (passageOf (unitSendChoice u) (u .keys .slots) (sh .mac) (sh .clock)) (numberDown l now) (keyOf (l .keys) (numberDown l now))
             _ p (h .enciphered)
             (λ some.
             ap (λ (x : ℕ). keyFor x (u .keys .slots)) (h .chosen)
@@ -149,31 +149,31 @@ module _ (w : Setting) (sh : Shared) (now : ℕ) (l : Lane) (u : UnitRecord) (o 
 
   -- the lane that the send is on
   pub send-down-keeps : AtTick w now sh → Joined w sh now l u o → validUnit (sh .tick) u ≡ true → has (l .site .identity) llid ≡ true
-      → downstream index ≡ true → misfit p out ≡ false → sendUnit llid index eqs sh u .verdict ≡ Accepted
-      → Joined w (withChannels sh (sendUnit llid index eqs sh u .channels)) now
-      (laneSentDown now (envelopeDown l now llid index p (sendUnit llid index eqs sh u .handed)) l) (sendUnit llid index eqs sh u .unit) o
+      → downstream channel ≡ true → misfit p out ≡ false → sendUnit llid channel eqs sh u .verdict ≡ Accepted
+      → Joined w (withChannels sh (sendUnit llid channel eqs sh u .channels)) now
+      (laneSentDown now (envelopeDown l now llid channel p (sendUnit llid channel eqs sh u .handed)) l) (sendUnit llid channel eqs sh u .unit) o
   unfolding sendUnit unitSendVerdict envelopeOf
   send-down-keeps t j v named down fit a =
       let first = refuse-accepted _ _ _ a in
       let second = refuse-accepted _ _ _ (first .1) in
       let h = chosen-down w sh now l u o j (sh .tick) (t .tick) (unit-first (sh .tick) u v) in
-      let free : freeFrom (sh .channels) index ≤ sh .tick = taken-false (sh .channels) index (sh .tick) (first .0) in
+      let free : freeFrom (sh .channels) channel ≤ sh .tick = taken-false (sh .channels) channel (sh .tick) (first .0) in
       sent-down-joined w sh now l u o j (keysSent (unitSendChoice u) (u .keys) (sh .tick)) (unitSendChoice u)
-      (occupied (sh .channels) index (sh .tick) eqs) (envelopeDown l now llid index p (sendUnit llid index eqs sh u .handed))
+      (occupied (sh .channels) channel (sh .tick) eqs) (envelopeDown l now llid channel p (sendUnit llid channel eqs sh u .handed))
       h (h .renewed (rw (t .tick) at (second .0))) refl refl down named (fits-alone p out fit) (sent-down-right t j v)
       (omega (arith, free, t .tick))
-      (λ i. free-later (sh .channels) index i (sh .tick) eqs (first .0))
-      (omega (arith, free-own (sh .channels) index (sh .tick) eqs, t .tick))
+      (λ i. free-later (sh .channels) channel i (sh .tick) eqs (first .0))
+      (omega (arith, free-own (sh .channels) channel (sh .tick) eqs, t .tick))
 
 ---- the envelope of an accepted send
 
-pub envelope-down-is : (o : Olt) (l : Lane) (now llid index : ℕ) (p out : List ℕ) (s : Sending)
-    → sendingOlt o (misfit p out) llid index (eqsOf p) .verdict ≡ Accepted → sendingOlt o (misfit p out) llid index (eqsOf p) .handed ≡ s
-    → envelopeOf downward now llid index p (oltSendOf o llid index p out .answer .header) (oltSendOf o llid index p out .output)
-    (oltSendOf o llid index p out .answer .count) (numberDown l now)
-    ≡ envelopeDown l now llid index p s
+pub envelope-down-is : (o : Olt) (l : Lane) (now llid channel : ℕ) (p out : List ℕ) (s : Sending)
+    → sendingOlt o (misfit p out) llid channel (eqsOf p) .verdict ≡ Accepted → sendingOlt o (misfit p out) llid channel (eqsOf p) .handed ≡ s
+    → envelopeOf downward now llid channel p (oltSendOf o llid channel p out .answer .header) (oltSendOf o llid channel p out .output)
+    (oltSendOf o llid channel p out .answer .count) (numberDown l now)
+    ≡ envelopeDown l now llid channel p s
 unfolding oltSendOf oltSent outputAfter
-envelope-down-is o l now llid index p out s a h = rw (a, h)
+envelope-down-is o l now llid channel p out s a h = rw (a, h)
 
 ---- other lanes
 
@@ -198,7 +198,7 @@ channels-keep w sh now l u o c rises j =
             downs = λ x i q.
                 let was = j .spending .downs x i q in
                 let s = was .1 in
-                (was .0, record { most = s .most; passed = omega (arith, s .passed, rises (x .index)); noted = s .noted });
+                (was .0, record { most = s .most; passed = omega (arith, s .passed, rises (x .channel)); noted = s .noted });
             ups = j .spending .ups;
             spaced = j .spending .spaced;
           };
@@ -206,10 +206,10 @@ channels-keep w sh now l u o c rises j =
     }
 
 -- the channels after an accepted send
-pub send-channels : (llid index eqs : ℕ) (sh : Shared) (u : UnitRecord) → sendUnit llid index eqs sh u .verdict ≡ Accepted
-    → (i : ℕ) → freeFrom (sh .channels) i ≤ freeFrom (sendUnit llid index eqs sh u .channels) i
+pub send-channels : (llid channel eqs : ℕ) (sh : Shared) (u : UnitRecord) → sendUnit llid channel eqs sh u .verdict ≡ Accepted
+    → (i : ℕ) → freeFrom (sh .channels) i ≤ freeFrom (sendUnit llid channel eqs sh u .channels) i
 unfolding sendUnit unitSendVerdict
-send-channels llid index eqs sh u a i = free-later (sh .channels) index i (sh .tick) eqs (refuse-accepted _ _ _ a .0)
+send-channels llid channel eqs sh u a i = free-later (sh .channels) channel i (sh .tick) eqs (refuse-accepted _ _ _ a .0)
 
 -- the OLT's part is at its tick still
 pub channels-at-tick : (w : Setting) (now : ℕ) (sh : Shared) (c : Channels) → AtTick w now sh → AtTick w now (withChannels sh c)

@@ -68,9 +68,9 @@ module _ (w : Setting) (sh : Shared) (now : ℕ) (l : Lane) (u : UnitRecord) (o 
   -- an envelope that left the unit, and first send and channels after it
   sent-up-joined : (f : FirstSend) (c : Channels) (e : Envelope) → e .number ≡ o .keys .active
       → Renewed (o .first) f (o .keys .active) (e .number) now
-      → e .way ≡ upward → e .left ≡ now → upstream (e .index) ≡ true → has (l .site .identity) (e .llid) ≡ true
+      → e .way ≡ upward → e .left ≡ now → upstream (e .channel) ≡ true → has (l .site .identity) (e .llid) ≡ true
       → lengthsFit (length (e .payload)) (length (e .payload)) ≡ true → SentRight w l e
-      → freeFrom (o .channels) (e .index) ≤ now → ((i : ℕ) → freeFrom (o .channels) i ≤ freeFrom c i) → now < freeFrom c (e .index)
+      → freeFrom (o .channels) (e .channel) ≤ now → ((i : ℕ) → freeFrom (o .channels) i ≤ freeFrom c i) → now < freeFrom c (e .channel)
       → Joined w sh now (laneSentUp e l) u (withOnuChannels (withOnuFirst o f) c)
   unfolding laneSentUp laneWith sending withOnuChannels withOnuFirst
   sent-up-joined f c e number r way left up named fits right free rises after =
@@ -103,14 +103,14 @@ module _ (w : Setting) (sh : Shared) (now : ℕ) (l : Lane) (u : UnitRecord) (o 
         spending =
             record {
               downs =
-                  each-more (λ (x : Envelope). x .way ≡ downward → (downstream (x .index) ≡ true) × Spent (sh .channels) (u .keys .first) (u .keys .active) x)
+                  each-more (λ (x : Envelope). x .way ≡ downward → (downstream (x .channel) ≡ true) × Spent (sh .channels) (u .keys .first) (u .keys .active) x)
                   (l .past .sent) e (j .spending .downs) (λ q. ways-apart (sym q ∙ way));
               ups =
-                  each-more (λ (x : Envelope). x .way ≡ upward → (upstream (x .index) ≡ true) × Spent c f (o .keys .active) x) (l .past .sent) e
+                  each-more (λ (x : Envelope). x .way ≡ upward → (upstream (x .channel) ≡ true) × Spent c f (o .keys .active) x) (l .past .sent) e
                   (λ x i q.
                   let was = j .spending .ups x i q in (
                     was .0,
-                    rw (← number) (spent-kept (o .channels) c (o .first) f (o .keys .active) (e .number) now x r (rises (x .index)) (was .1)),
+                    rw (← number) (spent-kept (o .channels) c (o .first) f (o .keys .active) (e .number) now x r (rises (x .channel)) (was .1)),
                   ))
                   (λ q. (up, rw (← number) (spent-new c (o .first) f (o .keys .active) (e .number) now e r refl left after)));
               spaced =
@@ -126,12 +126,12 @@ module _ (w : Setting) (sh : Shared) (now : ℕ) (l : Lane) (u : UnitRecord) (o 
 
 -- the envelope of a unit's send
 abbrev pub envelopeUp : Lane → ℕ → ℕ → ℕ → List ℕ → Sending → Envelope
-envelopeUp l now llid index p s =
-    envelopeOf upward now llid index p (s .header) (passed index (s .passage) p) (passedCount (s .passage) p) (l .keys .number)
+envelopeUp l now llid channel p s =
+    envelopeOf upward now llid channel p (s .header) (passed channel (s .passage) p) (passedCount (s .passage) p) (l .keys .number)
 
-module _ (w : Setting) (sh : Shared) (now : ℕ) (l : Lane) (u : UnitRecord) (o : Onu) (llid index : ℕ) (p out : List ℕ) where
+module _ (w : Setting) (sh : Shared) (now : ℕ) (l : Lane) (u : UnitRecord) (o : Onu) (llid channel : ℕ) (p out : List ℕ) where
   sent-up-right : Common w now l o → Joined w sh now l u o
-      → SentRight w l (envelopeUp l now llid index p (sendingOf (onuSendChoice (o .keys)) (o .keys .slots) (o .identity .mac) (o .clock .time) index llid))
+      → SentRight w l (envelopeUp l now llid channel p (sendingOf (onuSendChoice (o .keys)) (o .keys .slots) (o .identity .mac) (o .clock .time) channel llid))
   unfolding envelopeOf sendingOf passageOf
   sent-up-right c j =
       let h = chosen-up o (onu-in-range o (c .valid) .first) in
@@ -140,11 +140,11 @@ module _ (w : Setting) (sh : Shared) (now : ℕ) (l : Lane) (u : UnitRecord) (o 
       let sealed : isEnciphered (onuSendChoice (o .keys)) ≡ leb 1 (l .keys .number) = h .enciphered ∙ ap (leb 1) (n .last) in
       record {
         header =
-            ap (λ (x : ℕ). headerOf x index llid (o .clock .time)) (h .chosen ∙ n .last)
-            ∙ header-epam (l .keys .number) index llid (o .clock .time) (clockUp (w .first) (l .site .up) now)
+            ap (λ (x : ℕ). headerOf x channel llid (o .clock .time)) (h .chosen ∙ n .last)
+            ∙ header-epam (l .keys .number) channel llid (o .clock .time) (clockUp (w .first) (l .site .up) now)
             (epam-up (w .first) now (l .captured) (l .site) (u .clock) (o .clock) (j .clocks));
         octets =
-            passed-as index passage (l .keys .number) (keyOf (l .keys) (l .keys .number)) _ p sealed
+            passed-as channel passage (l .keys .number) (keyOf (l .keys) (l .keys .number)) _ p sealed
             (λ some.
             ap (λ (x : ℕ). keyFor x (o .keys .slots)) (h .chosen ∙ n .last)
             ∙ key-for (l .keys .number) (o .keys .slots) some
@@ -156,63 +156,63 @@ module _ (w : Setting) (sh : Shared) (now : ℕ) (l : Lane) (u : UnitRecord) (o 
       }
 
   -- the lane of the unit that sends
-  pub send-up-keeps : Common w now l o → Joined w sh now l u o → onuSendOf o llid index p out .answer .number ≡ 0
+  pub send-up-keeps : Common w now l o → Joined w sh now l u o → onuSendOf o llid channel p out .answer .number ≡ 0
       → Joined w sh now
       (laneSentUp
-      (envelopeOf upward now llid index p (onuSendOf o llid index p out .answer .header) (onuSendOf o llid index p out .output)
-      (onuSendOf o llid index p out .answer .count) (l .keys .number))
+      (envelopeOf upward now llid channel p (onuSendOf o llid channel p out .answer .header) (onuSendOf o llid channel p out .output)
+      (onuSendOf o llid channel p out .answer .count) (l .keys .number))
       l)
-      u (onuSendOf o llid index p out .answer .onu)
+      u (onuSendOf o llid channel p out .answer .onu)
   unfolding onuSendOf onuSentBy sendingOnu onuSent outputAfter envelopeOf
   send-up-keeps c j a =
       let eqs = eqsOf p in
-      let verdict = onuSendVerdict o (misfit p out) llid index in
-      let next = onuSent o index eqs in
-      let handed = sendingOf (onuSendChoice (o .keys)) (o .keys .slots) (o .identity .mac) (o .clock .time) index llid in
+      let verdict = onuSendVerdict o (misfit p out) llid channel in
+      let next = onuSent o channel eqs in
+      let handed = sendingOf (onuSendChoice (o .keys)) (o .keys .slots) (o .identity .mac) (o .clock .time) channel llid in
       let accepts : verdict ≡ Accepted = onu-accepted o noSending verdict next handed (number-accepted _ a) .1 in
-      let met = onu-send-accepted o (misfit p out) llid index accepts in
+      let met = onu-send-accepted o (misfit p out) llid channel accepts in
       let h = chosen-up o (onu-in-range o (c .valid) .first) in
       let n = j .numbers in
-      let after = occupied (o .channels) index (o .tick) eqs in
-      let free : freeFrom (o .channels) index ≤ o .tick = taken-false (o .channels) index (o .tick) (met .free) in
+      let after = occupied (o .channels) channel (o .tick) eqs in
+      let free : freeFrom (o .channels) channel ≤ o .tick = taken-false (o .channels) channel (o .tick) (met .free) in
       let renewed : Renewed (o .first) (h .first) (o .keys .active) (l .keys .number) now =
       subst (λ (x : ℕ). Renewed (o .first) (h .first) (o .keys .active) x now) (n .last)
       (subst (λ (x : ℕ). Renewed (o .first) (h .first) (o .keys .active) (o .keys .active) x) (c .tick) (h .renewed (met .young))) in
-      let joined : Joined w sh now (laneSentUp (envelopeUp l now llid index p handed) l) u next =
-      subst (λ (x : Onu). Joined w sh now (laneSentUp (envelopeUp l now llid index p handed) l) u (withOnuChannels x after)) (sym (h .noted))
-      (sent-up-joined w sh now l u o j (h .first) after (envelopeUp l now llid index p handed) (sym (n .last)) renewed refl refl
+      let joined : Joined w sh now (laneSentUp (envelopeUp l now llid channel p handed) l) u next =
+      subst (λ (x : Onu). Joined w sh now (laneSentUp (envelopeUp l now llid channel p handed) l) u (withOnuChannels x after)) (sym (h .noted))
+      (sent-up-joined w sh now l u o j (h .first) after (envelopeUp l now llid channel p handed) (sym (n .last)) renewed refl refl
       (met .upstream) (sym (c .llids llid) ∙ met .has) (fits-alone p out (met .fits)) (sent-up-right c j) (omega (arith, free, c .tick))
-      (λ i. free-later (o .channels) index i (o .tick) eqs (met .free))
-      (omega (arith, free-own (o .channels) index (o .tick) eqs, c .tick))) in
+      (λ i. free-later (o .channels) channel i (o .tick) eqs (met .free))
+      (omega (arith, free-own (o .channels) channel (o .tick) eqs, c .tick))) in
       subst
       (λ (x : Reply Onu Sending).
       Joined w sh now
       (laneSentUp
-      (envelopeOf upward now llid index p (onuSentBy x index p out .answer .header) (onuSentBy x index p out .output)
-      (onuSentBy x index p out .answer .count) (l .keys .number))
+      (envelopeOf upward now llid channel p (onuSentBy x channel p out .answer .header) (onuSentBy x channel p out .output)
+      (onuSentBy x channel p out .answer .count) (l .keys .number))
       l)
-      u (onuSentBy x index p out .answer .onu))
+      u (onuSentBy x channel p out .answer .onu))
       (sym (onu-accepts o noSending verdict next handed (c .valid) accepts)) joined
 
 ---- the unit itself
 
-sent-common : (w : Setting) (now : ℕ) (m : Lane) (o : Onu) (index eqs : ℕ) → Common w now m o → validOnu (onuSent o index eqs) ≡ true
-    → Common w now m (onuSent o index eqs)
+sent-common : (w : Setting) (now : ℕ) (m : Lane) (o : Onu) (channel eqs : ℕ) → Common w now m o → validOnu (onuSent o channel eqs) ≡ true
+    → Common w now m (onuSent o channel eqs)
 unfolding onuSent withOnuChannels withOnuFirst
-sent-common w now m o index eqs k v =
+sent-common w now m o channel eqs k v =
     let h = chosen-up o (onu-in-range o (k .valid) .first) in
-    let is : onuSent o index eqs ≡ withOnuChannels (withOnuFirst o (h .first)) (occupied (o .channels) index (o .tick) eqs) =
-    ap (λ (x : Onu). withOnuChannels x (occupied (o .channels) index (o .tick) eqs)) (h .noted) in
+    let is : onuSent o channel eqs ≡ withOnuChannels (withOnuFirst o (h .first)) (occupied (o .channels) channel (o .tick) eqs) =
+    ap (λ (x : Onu). withOnuChannels x (occupied (o .channels) channel (o .tick) eqs)) (h .noted) in
     subst (Common w now m) (sym is)
     (record { valid = subst (λ (x : Onu). validOnu x ≡ true) is v; tick = k .tick; mac = k .mac; llids = k .llids; oltmac = k .oltmac })
 
 -- it stays valid, at its tick, and who it is
-pub send-common : (w : Setting) (now : ℕ) (l m : Lane) (o : Onu) (llid index : ℕ) (p out : List ℕ) → l .site ≡ m .site → Common w now l o
-    → Common w now m (onuSendOf o llid index p out .answer .onu)
+pub send-common : (w : Setting) (now : ℕ) (l m : Lane) (o : Onu) (llid channel : ℕ) (p out : List ℕ) → l .site ≡ m .site → Common w now l o
+    → Common w now m (onuSendOf o llid channel p out .answer .onu)
 unfolding onuSendOf onuSentBy sendingOnu onuSendVerdict
-send-common w now l m o llid index p out s c =
+send-common w now l m o llid channel p out s c =
     let kept = common-moved w now l m o s c in
     onu-keeps (Common w now m) o noSending _ _ _ kept
-    (λ v a. sent kept (onu-sent-valid o index (eqsOf p) (few-eqs p out (refuse-accepted _ _ _ a .0)) v)) where
-      sent : Common w now m o → validOnu (onuSent o index (eqsOf p)) ≡ true → Common w now m (onuSent o index (eqsOf p))
-      sent k v = sent-common w now m o index (eqsOf p) k v
+    (λ v a. sent kept (onu-sent-valid o channel (eqsOf p) (few-eqs p out (refuse-accepted _ _ _ a .0)) v)) where
+      sent : Common w now m o → validOnu (onuSent o channel (eqsOf p)) ≡ true → Common w now m (onuSent o channel (eqsOf p))
+      sent k v = sent-common w now m o channel (eqsOf p) k v

@@ -58,7 +58,7 @@ renewed-clear f now = record { most = omega arith; new = λ g. absurd (omega ari
 
 -- earlier sends of that way
 pub spent-kept : (c d : Channels) (first next : FirstSend) (current number now : ℕ) (e : Envelope) → Renewed first next current number now
-    → freeFrom c (e .index) ≤ freeFrom d (e .index) → Spent c first current e → Spent d next number e
+    → freeFrom c (e .channel) ≤ freeFrom d (e .channel) → Spent c first current e → Spent d next number e
 spent-kept c d first next current number now e r h s =
     record {
       most = omega (arith, s .most, r .most);
@@ -71,7 +71,7 @@ spent-kept c d first next current number now e r h s =
 
 -- the send itself
 pub spent-new : (d : Channels) (first next : FirstSend) (current number now : ℕ) (e : Envelope) → Renewed first next current number now
-    → e .number ≡ number → e .left ≡ now → now < freeFrom d (e .index) → Spent d next number e
+    → e .number ≡ number → e .left ≡ now → now < freeFrom d (e .channel) → Spent d next number e
 spent-new d first next current number now e r n t h =
     record { most = omega arith; passed = omega arith; noted = λ p q. rw t (r .new (omega arith)) }
 
@@ -79,18 +79,18 @@ spent-new d first next current number now e r n t h =
 
 abbrev Apart : Envelope → Envelope → Type 0
 Apart x y =
-    x .way ≡ y .way → 1 ≤ x .number → x .number ≡ y .number → x .index ≡ y .index
+    x .way ≡ y .way → 1 ≤ x .number → x .number ≡ y .number → x .channel ≡ y .channel
     → (x .left < y .left) × (y .left < x .left + keyLife)
 
 -- the channel was free, and the key not too old
 pub apart-new : (c : Channels) (first next : FirstSend) (current now : ℕ) (x e : Envelope) → Renewed first next current (e .number) now
-    → e .left ≡ now → freeFrom c (e .index) ≤ now → (x .way ≡ e .way → Spent c first current x) → Apart x e
+    → e .left ≡ now → freeFrom c (e .channel) ≤ now → (x .way ≡ e .way → Spent c first current x) → Apart x e
 apart-new c first next current now x e r t h spent way p n i =
     let s = spent way in
     let same : e .number ≡ current = omega (arith, s .most, r .most) in
     let was = s .noted p (n ∙ same) in
     let young = r .old (omega arith) same (was .0) .1 in
-    let before : x .left < freeFrom c (e .index) = rw i at (s .passed) in
+    let before : x .left < freeFrom c (e .channel) = rw i at (s .passed) in
     (omega (arith, before, h, t), omega (arith, young, was .1, t))
 
 pub spaced-more : (sent : List Envelope) (e : Envelope) → ((x : Envelope) → List·Memᴰ x sent → Apart x e) → Spaced sent → Spaced (sent ++ (e ∷ []))

@@ -148,9 +148,9 @@ fits w s (capture llid) = true
 fits w s (clockSend llid) = true
 fits w s (offer llid key) = ifAccepted (offerOf (s .olt) llid key .number) (unused key (s .history .lanes))
 fits w s (retry llid) = true
-fits w s (sendDown llid index p out) = true
-fits w s (sendUp u llid index p out) =
-    ifAccepted (onuSendOf (onuAt s u) llid index p out .answer .number) (laneAt s u .entry .registered)
+fits w s (sendDown llid channel p out) = true
+fits w s (sendUp u llid channel p out) =
+    ifAccepted (onuSendOf (onuAt s u) llid channel p out .answer .number) (laneAt s u .entry .registered)
 fits w s (arriveDown u k out) = dueDown s u k out
 fits w s (arriveUp u k out) = dueUp s u k out
 fits w s (arriveAnswer u k llid) = dueAnswer s u k llid
@@ -169,8 +169,8 @@ fits-true w s (capture llid) h = tt
 fits-true w s (clockSend llid) h = tt
 fits-true w s (offer llid key) h = λ a. record { unused = unused-at key (s .history .lanes) (if-accepted _ _ h a) }
 fits-true w s (retry llid) h = tt
-fits-true w s (sendDown llid index p out) h = tt
-fits-true w s (sendUp u llid index p out) h = if-accepted _ _ h
+fits-true w s (sendDown llid channel p out) h = tt
+fits-true w s (sendUp u llid channel p out) h = if-accepted _ _ h
 fits-true w s (arriveDown u k out) h = due-down-true s u k out h
 fits-true w s (arriveUp u k out) h = due-up-true s u k out h
 fits-true w s (arriveAnswer u k llid) h = due-answer-true s u k llid h

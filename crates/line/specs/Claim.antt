@@ -35,7 +35,7 @@ senderClock w s upward tick = clockUp (w .first) (s .up) tick
 -- what tells an envelope's counter blocks from another's
 abbrev pub nonceFor : Setting → Site → Envelope → Nonce
 nonceFor w s e =
-    record { channel = e .index; mac = senderMac w s (e .way); clock = senderClock w s (e .way) (e .left) }
+    record { channel = e .channel; mac = senderMac w s (e .way); clock = senderClock w s (e .way) (e .left) }
 
 -- number 0 is clear; n ≥ 1 is sealed with key n
 abbrev pub isSealed : Envelope → Bool
@@ -43,7 +43,7 @@ isSealed e = leb 1 (e .number)
 
 -- (0) an accepted send handed over what the definitions give for its number, key, MAC and clock
 pub record SentRight (w : Setting) (l : Lane) (e : Envelope) : Type 0 where
-  pub header : e .header ≡ headerOf (e .number) (e .index) (e .llid) (senderClock w (l .site) (e .way) (e .left))
+  pub header : e .header ≡ headerOf (e .number) (e .channel) (e .llid) (senderClock w (l .site) (e .way) (e .left))
   pub octets : e .octets ≡ carried (isSealed e) (keyExpansion (keyOf (l .keys) (e .number))) (nonceFor w (l .site) e) (e .payload)
   pub count : e .count ≡ countCarried (isSealed e) (e .payload)
 
@@ -53,7 +53,7 @@ pub record ArrivedRight (w : Setting) (l : Lane) (r : Arrival) : Type 0 where
   pub accepted : r .number ≡ 0
   pub enciphered : isEnciphered (r .passage .choice) ≡ isSealed (r .envelope)
   pub key : 1 ≤ r .envelope .number → r .passage .key ≡ keyOf (l .keys) (r .envelope .number)
-  pub nonce : 1 ≤ r .envelope .number → nonceOf (r .envelope .header .index) (r .passage) ≡ nonceFor w (l .site) (r .envelope)
+  pub nonce : 1 ≤ r .envelope .number → nonceOf (r .envelope .header .channel) (r .passage) ≡ nonceFor w (l .site) (r .envelope)
   pub payload : r .output ≡ r .envelope .payload
   pub count : r .count ≡ r .envelope .count
 

@@ -65,7 +65,7 @@ pub record Delivered (u k : ℕ) (x : List ℕ) (n : Nonce) (p : List ℕ) : Typ
   pub some : k < length (laneAt played u .past .arrived)
   pub accepted : arrivalAt played u k .number ≡ 0
   pub key : arrivalAt played u k .passage .key ≡ x
-  pub nonce : nonceOf (arrivalAt played u k .envelope .header .index) (arrivalAt played u k .passage) ≡ n
+  pub nonce : nonceOf (arrivalAt played u k .envelope .header .channel) (arrivalAt played u k .passage) ≡ n
   pub payload : arrivalAt played u k .output ≡ p
   pub count : arrivalAt played u k .count ≡ 22
 
@@ -98,8 +98,8 @@ callNumber s (capture llid) = captureOf (s .olt) llid .number
 callNumber s (clockSend llid) = clockSendOf (s .olt) llid .number
 callNumber s (offer llid key) = offerOf (s .olt) llid key .number
 callNumber s (retry llid) = retryOf (s .olt) llid .number
-callNumber s (sendDown llid index p out) = oltSendOf (s .olt) llid index p out .answer .number
-callNumber s (sendUp u llid index p out) = onuSendOf (onuAt s u) llid index p out .answer .number
+callNumber s (sendDown llid channel p out) = oltSendOf (s .olt) llid channel p out .answer .number
+callNumber s (sendUp u llid channel p out) = onuSendOf (onuAt s u) llid channel p out .answer .number
 callNumber s (arriveDown u k out) = arrivalNumber (onuAt s u) out (thingAt s u k)
 callNumber s (arriveUp u k out) = oltReceiveOf (s .olt) (envelopeAt s u k .header) (envelopeAt s u k .octets) out .answer .number
 callNumber s (arriveAnswer u k llid) = acknowledgeOf (s .olt) llid (answerAt s u k .acknowledgement) .number

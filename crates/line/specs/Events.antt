@@ -17,9 +17,9 @@ pub data Event : Type 0 where
   clockSend : (llid : ℕ) → Event
   offer : (llid : ℕ) (key : List ℕ) → Event
   retry : (llid : ℕ) → Event
-  sendDown : (llid index : ℕ) (payload out : List ℕ) → Event
+  sendDown : (llid channel : ℕ) (payload out : List ℕ) → Event
   -- a send of a unit
-  sendUp : (unit llid index : ℕ) (payload out : List ℕ) → Event
+  sendUp : (unit llid channel : ℕ) (payload out : List ℕ) → Event
   -- the kth of what is under way to the unit arrives, an envelope with that output
   arriveDown : (unit k : ℕ) (out : List ℕ) → Event
   -- the kth of the unit's envelopes under way arrives at the OLT

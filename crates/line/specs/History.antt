@@ -24,7 +24,7 @@ pub record Envelope : Type 0 where
   pub way : Way
   pub left : ℕ
   pub llid : ℕ
-  pub index : ℕ
+  pub channel : ℕ
   pub payload : List ℕ
   pub header : Header
   pub octets : List ℕ

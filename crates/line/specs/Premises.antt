@@ -74,9 +74,9 @@ Fits w s (capture llid) = Unit {0}
 Fits w s (clockSend llid) = Unit {0}
 Fits w s (offer llid key) = offerOf (s .olt) llid key .number ≡ 0 → NewKey s key
 Fits w s (retry llid) = Unit {0}
-Fits w s (sendDown llid index p out) = Unit {0}
+Fits w s (sendDown llid channel p out) = Unit {0}
 -- units are registered before their traffic
-Fits w s (sendUp u llid index p out) = onuSendOf (onuAt s u) llid index p out .answer .number ≡ 0 → laneAt s u .entry .registered ≡ true
+Fits w s (sendUp u llid channel p out) = onuSendOf (onuAt s u) llid channel p out .answer .number ≡ 0 → laneAt s u .entry .registered ≡ true
 Fits w s (arriveDown u k out) = DueDown s u k out
 Fits w s (arriveUp u k out) = DueUp s u k out
 Fits w s (arriveAnswer u k llid) = DueAnswer s u k llid

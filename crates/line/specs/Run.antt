@@ -150,12 +150,12 @@ retrying s llid r = atOlt s (r .olt) (r .number) llid (λ l. laneLeaving (keyMes
 
 -- an envelope that left at the tick now
 unfoldable pub envelopeOf : Way → ℕ → ℕ → ℕ → List ℕ → Header → List ℕ → ℕ → ℕ → Envelope
-envelopeOf way now llid index payload header octets count number =
+envelopeOf way now llid channel payload header octets count number =
     record {
       way = way;
       left = now;
       llid = llid;
-      index = index;
+      channel = channel;
       payload = payload;
       header = header;
       octets = octets;
@@ -164,19 +164,19 @@ envelopeOf way now llid index payload header octets count number =
     }
 
 unfoldable pub sendingDown : State → ℕ → ℕ → List ℕ → Exchange OltSent → State
-sendingDown s llid index p r =
+sendingDown s llid channel p r =
     atOlt s (r .answer .olt) (r .answer .number) llid
     (λ l.
     laneSentDown (s .history .now)
-    (envelopeOf downward (s .history .now) llid index p (r .answer .header) (r .output) (r .answer .count) (numberDown l (s .history .now))) l)
+    (envelopeOf downward (s .history .now) llid channel p (r .answer .header) (r .output) (r .answer .count) (numberDown l (s .history .now))) l)
 
 unfoldable pub sendingUp : State → ℕ → ℕ → ℕ → List ℕ → Exchange OnuSent → State
-sendingUp s u llid index p r =
+sendingUp s u llid channel p r =
     atOnu s u (r .answer .onu)
     (noted (r .answer .number)
     (λ l.
     laneSentUp
-    (envelopeOf upward (s .history .now) llid index p (r .answer .header) (r .output) (r .answer .count) (l .keys .number)) l))
+    (envelopeOf upward (s .history .now) llid channel p (r .answer .header) (r .output) (r .answer .count) (l .keys .number)) l))
 
 -- the unit's answer to a message that arrived
 unfoldable pub messageArriving : State → ℕ → ℕ → OnuAcknowledged → State
@@ -207,7 +207,7 @@ thingArriving s u k out (envelope e) = envelopeArriving s u k e out
 -- an envelope that never was: of zeros
 unfoldable pub noEnvelope : Envelope
 noEnvelope =
-    envelopeOf downward 0 0 0 [] (record { index = 0; llid = 0; encenabled = 0; enckey = 0; epam = 0 }) [] 0 0
+    envelopeOf downward 0 0 0 [] (record { channel = 0; llid = 0; encenabled = 0; enckey = 0; epam = 0 }) [] 0 0
 
 abbrev pub thingAt : State → ℕ → ℕ → Thing
 thingAt s u k = getD (laneAt s u .transit .towards) k (envelope noEnvelope)
@@ -259,8 +259,8 @@ step s (capture llid) =
 step s (clockSend llid) = clockSending s llid (clockSendOf (s .olt) llid)
 step s (offer llid key) = offering s llid key (offerOf (s .olt) llid key)
 step s (retry llid) = retrying s llid (retryOf (s .olt) llid)
-step s (sendDown llid index p out) = sendingDown s llid index p (oltSendOf (s .olt) llid index p out)
-step s (sendUp u llid index p out) = sendingUp s u llid index p (onuSendOf (onuAt s u) llid index p out)
+step s (sendDown llid channel p out) = sendingDown s llid channel p (oltSendOf (s .olt) llid channel p out)
+step s (sendUp u llid channel p out) = sendingUp s u llid channel p (onuSendOf (onuAt s u) llid channel p out)
 step s (arriveDown u k out) = thingArriving s u k out (thingAt s u k)
 step s (arriveUp u k out) = arrivingUp s u k (envelopeAt s u k) out
 step s (arriveAnswer u k llid) = answering s llid (answerAt s u k .acknowledgement)

@@ -7,7 +7,7 @@ use Prim.Native.Nat.{ℕ, zero, suc, _+_, _-_, _*_, _<_, _≤_}
 use native.Mathlib.Nat.{add-zero, zero-add, add-suc, suc-add, le-of-lt, le-of-suc-le-suc, not-suc-le-zero, add-assoc, sub-zero, suc-sub-suc}
 use native.Mathlib.Numerals.{add-one}
 use native.Mathlib.Omega.{arith}
-use lib.ListN.{length, getD, drop, take, set, length-append, length-take, length-drop, take-append-drop}
+use lib.ListN.{length, getD, drop, take, set, length-append, length-take, length-drop}
 use lib.Seq.{drop-cons, take-suc, length-take-le, set-at, ext-getD, take-all, take-at, drop-at, drop-length, drop-drop, take-add, getD-take, getD-drop, paste, take-length, take-nil}
 use borrow.Author.Tests.{eqb-true, eq-eqb}
 use Rattle.octets.specs.Lists.{tabulate, sum, same, replaced, written, part}
@@ -40,14 +40,6 @@ tabulate-self l d =
 pub tabulate-suc : {A : Type 0} (i n : ℕ) (f : ℕ → A) (ys : List A) → tabulate i (suc n) f ++ ys ≡ tabulate i n f ++ (f (i + n) ∷ ys)
 tabulate-suc i zero f ys = rw add-zero
 tabulate-suc {A} i (suc n) f ys = rw (add-suc, ← suc-add) (ap (λ (l : List A). f i ∷ l) (tabulate-suc (suc i) n f ys))
-
--- one turn of a loop that fills a list from the front
-pub fill-more : {A : Type 0} (f : ℕ → A) (s : List A) (d : A) (i : ℕ) → i < length s
-    → set (tabulate 0 i f ++ drop i s) i (f i) ≡ tabulate 0 (i + 1) f ++ drop (i + 1) s
-fill-more f s d i h =
-    rw (add-one, drop-cons s i d h)
-    (set-at (tabulate 0 i f) (getD s i d) (drop (suc i) s) (f i) i (tabulate-length 0 i f)
-    ∙ sym (rw zero-add at (tabulate-suc 0 i f (drop (suc i) s))))
 
 -- one turn of a loop that copies a list into another
 pub copy-more : {A : Type 0} (k z : List A) (d : A) (i : ℕ) → i < length k → i < length z
@@ -98,10 +90,6 @@ part-length s a n h = simp (length-take, length-drop) (omega arith)
 
 pub written-length : {A : Type 0} (t : List A) (a e : ℕ) (s : List A) → a ≤ e → e ≤ length s → e ≤ length t → length (written t a e s) ≡ length s
 written-length t a e s h k l = simp (length-append, length-take, length-drop) (omega arith)
-
--- nothing is written yet
-pub written-none : {A : Type 0} (t : List A) (a : ℕ) (s : List A) → written t a a s ≡ s
-written-none t a s = let z : a - a ≡ 0 = omega arith in rw (z, take-append-drop)
 
 -- all is written
 pub written-all : {A : Type 0} (t s : List A) → length t ≡ length s → written t 0 (length s) s ≡ t

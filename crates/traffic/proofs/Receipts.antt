@@ -49,67 +49,67 @@ use Rattle.traffic.proofs.Passages.{identity-mac, judged, down-fits, up
 
 ---- the OLT
 
-olt-not-received : (o : Olt) (r : Refusal) (index : ℕ) (p out : List ℕ)
-    → exchange (oltNotReceived o r) out ≡ oltReceived (record { verdict = Refused r; end = o; handed = noPassage }) index p out
+olt-not-received : (o : Olt) (r : Refusal) (channel : ℕ) (p out : List ℕ)
+    → exchange (oltNotReceived o r) out ≡ oltReceived (record { verdict = Refused r; end = o; handed = noPassage }) channel p out
 unfolding oltNotReceived oltReceived passedCount isEnciphered countCarried pick outputAfter
-olt-not-received o r index p out = refl
+olt-not-received o r channel p out = refl
 
-olt-received : (o : Olt) (q : Passage) (index : ℕ) (p out : List ℕ) (n : ℕ) (octets : List ℕ)
-    → exchange n octets ≡ exchange (passedCount q p) (passed index q p)
-    → exchange {R = OltReceived} (record { number = 0; olt = o; count = n }) octets ≡ oltReceived (record { verdict = Accepted; end = o; handed = q }) index p out
+olt-received : (o : Olt) (q : Passage) (channel : ℕ) (p out : List ℕ) (n : ℕ) (octets : List ℕ)
+    → exchange n octets ≡ exchange (passedCount q p) (passed channel q p)
+    → exchange {R = OltReceived} (record { number = 0; olt = o; count = n }) octets ≡ oltReceived (record { verdict = Accepted; end = o; handed = q }) channel p out
 unfolding oltReceived outputAfter
-olt-received o q index p out n octets e =
+olt-received o q channel p out n octets e =
     ap (λ (x : Exchange ℕ). exchange {R = OltReceived} (record { number = 0; olt = o; count = x .answer }) (x .output)) e
 
 module _ (o : Olt) (h : Header) (i : ℕ) (p out : List ℕ) where
   pub unit-receive-refused : (r : Refusal) → unitReceiveVerdict (o .shared) (unitAt o i) h ≡ Refused r
-      → exchange (oltNotReceived o r) out ≡ oltReceived (putBack o noPassage i (receiveUnit h (o .shared) (unitAt o i))) (h .index) p out
+      → exchange (oltNotReceived o r) out ≡ oltReceived (putBack o noPassage i (receiveUnit h (o .shared) (unitAt o i))) (h .channel) p out
   unfolding putBack receiveUnit outcome
   unit-receive-refused r e =
-      olt-not-received o r (h .index) p out
-      ∙ sym (ap (λ (x : Reply Olt Passage). oltReceived x (h .index) p out) (reply-refused _ o noPassage _ _ r e))
+      olt-not-received o r (h .channel) p out
+      ∙ sym (ap (λ (x : Reply Olt Passage). oltReceived x (h .channel) p out) (reply-refused _ o noPassage _ _ r e))
 
   pub unit-receive-accepted : (next : Olt) (q : Passage) (n : ℕ) (octets : List ℕ) → unitReceiveVerdict (o .shared) (unitAt o i) h ≡ Accepted
       → next ≡ withUnit o i (o .shared .channels) (unitReceived (unitReceiveChoice (unitAt o i) h) (unitAt o i))
       → q ≡ passageOf (unitReceiveChoice (unitAt o i) h) (unitAt o i .keys .slots) (unitAt o i .identity .mac) (o .shared .clock)
-      → exchange n octets ≡ exchange (passedCount q p) (passed (h .index) q p)
+      → exchange n octets ≡ exchange (passedCount q p) (passed (h .channel) q p)
       → exchange {R = OltReceived} (record { number = 0; olt = next; count = n }) octets
-      ≡ oltReceived (putBack o noPassage i (receiveUnit h (o .shared) (unitAt o i))) (h .index) p out
+      ≡ oltReceived (putBack o noPassage i (receiveUnit h (o .shared) (unitAt o i))) (h .channel) p out
   unfolding putBack receiveUnit outcome
   unit-receive-accepted next q n octets v e g k =
       rw e
-      (olt-received _ (passageOf (unitReceiveChoice (unitAt o i) h) (unitAt o i .keys .slots) (unitAt o i .identity .mac) (o .shared .clock)) (h .index) p out n octets
-      (k ∙ ap (λ (x : Passage). exchange (passedCount x p) (passed (h .index) x p)) g)
-      ∙ sym (ap (λ (x : Reply Olt Passage). oltReceived x (h .index) p out) (reply-accepted _ o noPassage _ _ v)))
+      (olt-received _ (passageOf (unitReceiveChoice (unitAt o i) h) (unitAt o i .keys .slots) (unitAt o i .identity .mac) (o .shared .clock)) (h .channel) p out n octets
+      (k ∙ ap (λ (x : Passage). exchange (passedCount x p) (passed (h .channel) x p)) g)
+      ∙ sym (ap (λ (x : Reply Olt Passage). oltReceived x (h .channel) p out) (reply-accepted _ o noPassage _ _ v)))
 
   -- what the OLT receives fits
-  pub unit-receive-fits : (q : Passage) → validOlt o ≡ true → find o (h .llid) ≡ At i → misfit p out ≡ false → upstream (h .index) ≡ true
+  pub unit-receive-fits : (q : Passage) → validOlt o ≡ true → find o (h .llid) ≡ At i → misfit p out ≡ false → upstream (h .channel) ≡ true
       → q ≡ passageOf (unitReceiveChoice (unitAt o i) h) (unitAt o i .keys .slots) (unitAt o i .identity .mac) (o .shared .clock)
-      → judgeSeal (length p) (length out) (nonceOf (h .index) q) ≡ Accepted
+      → judgeSeal (length p) (length out) (nonceOf (h .channel) q) ≡ Accepted
   unfolding passageOf
   unit-receive-fits q v n f d g =
       let s = shared-in-range (o .shared) (olt-in-range o v .shared) in
       let u = unit-in-range _ (unitAt o i) (unit-at-valid o (h .llid) i v (find-at o (h .llid) i n)) in
-      judged p out (nonceOf (h .index) q) f
-      (up-fits (nonceOf (h .index) q) d (rw g (identity-mac (unitAt o i .identity) (u .identity))) (rw g (s .clock)))
+      judged p out (nonceOf (h .channel) q) f
+      (up-fits (nonceOf (h .channel) q) d (rw g (identity-mac (unitAt o i .identity) (u .identity))) (rw g (s .clock)))
 
 module _ (o : Olt) (h : Header) (p out : List ℕ) where
   pub olt-receive-absent : (r : Refusal) → locatedOf o (receiveAhead (misfit p out) h) (h .llid) ≡ Absent r
       → exchange (oltNotReceived o r) out ≡ oltReceiveOf o h p out
   unfolding oltReceiveOf receivingOlt reply
   olt-receive-absent r e =
-      olt-not-received o r (h .index) p out
-      ∙ sym (ap (λ (x : Reply Olt Passage). oltReceived x (h .index) p out) (lift-absent o noPassage (receiveAhead (misfit p out) h) (h .llid) (receiveUnit h) r e))
+      olt-not-received o r (h .channel) p out
+      ∙ sym (ap (λ (x : Reply Olt Passage). oltReceived x (h .channel) p out) (lift-absent o noPassage (receiveAhead (misfit p out) h) (h .llid) (receiveUnit h) r e))
 
   pub olt-receive-at : (i : ℕ) → Reaches o (receiveAhead (misfit p out) h) (h .llid) i
-      → oltReceived (putBack o noPassage i (receiveUnit h (o .shared) (unitAt o i))) (h .index) p out ≡ oltReceiveOf o h p out
+      → oltReceived (putBack o noPassage i (receiveUnit h (o .shared) (unitAt o i))) (h .channel) p out ≡ oltReceiveOf o h p out
   unfolding oltReceiveOf receivingOlt
   olt-receive-at i l =
-      sym (ap (λ (x : Reply Olt Passage). oltReceived x (h .index) p out)
+      sym (ap (λ (x : Reply Olt Passage). oltReceived x (h .channel) p out)
       (lift-unit o noPassage (receiveAhead (misfit p out) h) (h .llid) (receiveUnit h) i (l .valid) (l .passed) (l .found)))
 
   -- what a receipt from the unit found has passed
-  pub receive-passed : (i : ℕ) → Reaches o (receiveAhead (misfit p out) h) (h .llid) i → (misfit p out ≡ false) × (upstream (h .index) ≡ true)
+  pub receive-passed : (i : ℕ) → Reaches o (receiveAhead (misfit p out) h) (h .llid) i → (misfit p out ≡ false) × (upstream (h .channel) ≡ true)
   receive-passed i l =
       let a = refuse-accepted _ _ _ (l .passed) in
       (a .0, both-left _ _ (not-false _ (refuse-accepted _ _ _ (a .1) .0)))
@@ -121,16 +121,16 @@ module _ (o : Olt) (h : Header) (p out : List ℕ) where
 
 ---- the ONU
 
-onu-not-received : (o : Onu) (r : Refusal) (index : ℕ) (p out : List ℕ)
-    → exchange (onuNotReceived o r) out ≡ onuReceivedBy (record { verdict = Refused r; end = o; handed = noPassage }) index p out
+onu-not-received : (o : Onu) (r : Refusal) (channel : ℕ) (p out : List ℕ)
+    → exchange (onuNotReceived o r) out ≡ onuReceivedBy (record { verdict = Refused r; end = o; handed = noPassage }) channel p out
 unfolding onuNotReceived onuReceivedBy passedCount isEnciphered countCarried pick outputAfter
-onu-not-received o r index p out = refl
+onu-not-received o r channel p out = refl
 
-onu-received : (o : Onu) (q : Passage) (index : ℕ) (p out : List ℕ) (n : ℕ) (octets : List ℕ)
-    → exchange n octets ≡ exchange (passedCount q p) (passed index q p)
-    → exchange {R = OnuReceived} (record { number = 0; onu = o; count = n }) octets ≡ onuReceivedBy (record { verdict = Accepted; end = o; handed = q }) index p out
+onu-received : (o : Onu) (q : Passage) (channel : ℕ) (p out : List ℕ) (n : ℕ) (octets : List ℕ)
+    → exchange n octets ≡ exchange (passedCount q p) (passed channel q p)
+    → exchange {R = OnuReceived} (record { number = 0; onu = o; count = n }) octets ≡ onuReceivedBy (record { verdict = Accepted; end = o; handed = q }) channel p out
 unfolding onuReceivedBy outputAfter
-onu-received o q index p out n octets e =
+onu-received o q channel p out n octets e =
     ap (λ (x : Exchange ℕ). exchange {R = OnuReceived} (record { number = 0; onu = o; count = x .answer }) (x .output)) e
 
 -- only a held key comes into use, so that its number is a key number
@@ -151,20 +151,20 @@ module _ (o : Onu) (h : Header) (p out : List ℕ) where
   pub onu-receive-refused : (r : Refusal) → onuReceiveJudged ≡ Refused r → exchange (onuNotReceived o r) out ≡ onuReceiveOf o h p out
   unfolding onuReceiveOf receivingOnu onuReply
   onu-receive-refused r e =
-      onu-not-received o r (h .index) p out
-      ∙ sym (ap (λ (x : Reply Onu Passage). onuReceivedBy x (h .index) p out) (reply-refused _ o noPassage _ _ r e))
+      onu-not-received o r (h .channel) p out
+      ∙ sym (ap (λ (x : Reply Onu Passage). onuReceivedBy x (h .channel) p out) (reply-refused _ o noPassage _ _ r e))
 
   pub onu-receive-done : (next : Onu) (q : Passage) (n : ℕ) (octets : List ℕ) → onuReceiveJudged ≡ Accepted
       → next ≡ onuReceived (onuReceiveChoice (o .keys) h) o
       → q ≡ passageOf (onuReceiveChoice (o .keys) h) (o .keys .slots) (o .oltmac) (o .clock .rx)
-      → exchange n octets ≡ exchange (passedCount q p) (passed (h .index) q p)
+      → exchange n octets ≡ exchange (passedCount q p) (passed (h .channel) q p)
       → exchange {R = OnuReceived} (record { number = 0; onu = next; count = n }) octets ≡ onuReceiveOf o h p out
   unfolding onuReceiveOf receivingOnu onuReply
   onu-receive-done next q n octets v e g k =
       rw e
-      (onu-received _ (passageOf (onuReceiveChoice (o .keys) h) (o .keys .slots) (o .oltmac) (o .clock .rx)) (h .index) p out n octets
-      (k ∙ ap (λ (x : Passage). exchange (passedCount x p) (passed (h .index) x p)) g)
-      ∙ sym (ap (λ (x : Reply Onu Passage). onuReceivedBy x (h .index) p out) (reply-accepted _ o noPassage _ _ v)))
+      (onu-received _ (passageOf (onuReceiveChoice (o .keys) h) (o .keys .slots) (o .oltmac) (o .clock .rx)) (h .channel) p out n octets
+      (k ∙ ap (λ (x : Passage). exchange (passedCount x p) (passed (h .channel) x p)) g)
+      ∙ sym (ap (λ (x : Reply Onu Passage). onuReceivedBy x (h .channel) p out) (reply-accepted _ o noPassage _ _ v)))
 
   -- what is accepted comes to a valid end
   pub onu-receive-lent : onuReceiveJudged ≡ Accepted → validOnu o ≡ true
@@ -173,14 +173,14 @@ module _ (o : Onu) (h : Header) (p out : List ℕ) where
   -- what a unit receives fits
   pub onu-receive-fits : (q : Passage) → onuReceiveJudged ≡ Accepted
       → q ≡ passageOf (onuReceiveChoice (o .keys) h) (o .keys .slots) (o .oltmac) (o .clock .rx)
-      → judgeSeal (length p) (length out) (nonceOf (h .index) q) ≡ Accepted
+      → judgeSeal (length p) (length out) (nonceOf (h .channel) q) ≡ Accepted
   unfolding passageOf
   onu-receive-fits q v g =
       let a = refuse-accepted _ _ _ v in
       let r = onu-in-range o (not-false _ (a .0)) in
       let s = onu-receive-accepted o (misfit p out) h (a .1) in
-      judged p out (nonceOf (h .index) q) (s .fits)
-      (down-fits (nonceOf (h .index) q) (s .downstream) (rw g (r .oltmac)) (rw g (onu-clock-in-range (o .clock) (r .clock) .rx)))
+      judged p out (nonceOf (h .channel) q) (s .fits)
+      (down-fits (nonceOf (h .channel) q) (s .downstream) (rw g (r .oltmac)) (rw g (onu-clock-in-range (o .clock) (r .clock) .rx)))
 
   -- a valid ONU stays valid
   pub onu-receive-valid : validOnu o ≡ true → validOnu (onuReceiveOf o h p out .answer .onu) ≡ true

@@ -46,129 +46,129 @@ use Rattle.traffic.proofs.Passages.{few-eqs, identity-mac, judged, down
 
 ---- the OLT
 
-olt-not-sent : (o : Olt) (r : Refusal) (index : ℕ) (p out : List ℕ)
-    → exchange (oltNotSent o r) out ≡ oltSent (record { verdict = Refused r; end = o; handed = noSending }) index p out
+olt-not-sent : (o : Olt) (r : Refusal) (channel : ℕ) (p out : List ℕ)
+    → exchange (oltNotSent o r) out ≡ oltSent (record { verdict = Refused r; end = o; handed = noSending }) channel p out
 unfolding oltNotSent oltSent passedCount isEnciphered countCarried pick outputAfter
-olt-not-sent o r index p out = refl
+olt-not-sent o r channel p out = refl
 
-olt-sent : (o : Olt) (s : Sending) (index : ℕ) (p out : List ℕ) (n : ℕ) (octets : List ℕ)
-    → exchange n octets ≡ exchange (passedCount (s .passage) p) (passed index (s .passage) p)
+olt-sent : (o : Olt) (s : Sending) (channel : ℕ) (p out : List ℕ) (n : ℕ) (octets : List ℕ)
+    → exchange n octets ≡ exchange (passedCount (s .passage) p) (passed channel (s .passage) p)
     → exchange {R = OltSent} (record { number = 0; olt = o; header = s .header; count = n }) octets
-    ≡ oltSent (record { verdict = Accepted; end = o; handed = s }) index p out
+    ≡ oltSent (record { verdict = Accepted; end = o; handed = s }) channel p out
 unfolding oltSent outputAfter
-olt-sent o s index p out n octets e =
+olt-sent o s channel p out n octets e =
     ap (λ (x : Exchange ℕ). exchange {R = OltSent} (record { number = 0; olt = o; header = s .header; count = x .answer }) (x .output)) e
 
-module _ (o : Olt) (llid index i : ℕ) (p out : List ℕ) where
-  pub unit-send-refused : (r : Refusal) → unitSendVerdict (o .shared) (unitAt o i) index ≡ Refused r
-      → exchange (oltNotSent o r) out ≡ oltSent (putBack o noSending i (sendUnit llid index (eqsOf p) (o .shared) (unitAt o i))) index p out
+module _ (o : Olt) (llid channel i : ℕ) (p out : List ℕ) where
+  pub unit-send-refused : (r : Refusal) → unitSendVerdict (o .shared) (unitAt o i) channel ≡ Refused r
+      → exchange (oltNotSent o r) out ≡ oltSent (putBack o noSending i (sendUnit llid channel (eqsOf p) (o .shared) (unitAt o i))) channel p out
   unfolding putBack sendUnit
   unit-send-refused r e =
-      olt-not-sent o r index p out ∙ sym (ap (λ (x : Reply Olt Sending). oltSent x index p out) (reply-refused _ o noSending _ _ r e))
+      olt-not-sent o r channel p out ∙ sym (ap (λ (x : Reply Olt Sending). oltSent x channel p out) (reply-refused _ o noSending _ _ r e))
 
   pub unit-send-accepted : (next : Olt) (s : Sending) (n : ℕ) (octets : List ℕ)
-      → unitSendVerdict (o .shared) (unitAt o i) index ≡ Accepted
+      → unitSendVerdict (o .shared) (unitAt o i) channel ≡ Accepted
       → next
-      ≡ withUnit o i (occupied (o .shared .channels) index (o .shared .tick) (eqsOf p))
+      ≡ withUnit o i (occupied (o .shared .channels) channel (o .shared .tick) (eqsOf p))
       (withKeys (unitAt o i) (keysSent (unitSendChoice (unitAt o i)) (unitAt o i .keys) (o .shared .tick)))
-      → s ≡ sendingOf (unitSendChoice (unitAt o i)) (unitAt o i .keys .slots) (o .shared .mac) (o .shared .clock) index llid
-      → exchange n octets ≡ exchange (passedCount (s .passage) p) (passed index (s .passage) p)
+      → s ≡ sendingOf (unitSendChoice (unitAt o i)) (unitAt o i .keys .slots) (o .shared .mac) (o .shared .clock) channel llid
+      → exchange n octets ≡ exchange (passedCount (s .passage) p) (passed channel (s .passage) p)
       → exchange {R = OltSent} (record { number = 0; olt = next; header = s .header; count = n }) octets
-      ≡ oltSent (putBack o noSending i (sendUnit llid index (eqsOf p) (o .shared) (unitAt o i))) index p out
+      ≡ oltSent (putBack o noSending i (sendUnit llid channel (eqsOf p) (o .shared) (unitAt o i))) channel p out
   unfolding putBack sendUnit
   unit-send-accepted next s n octets v e f k =
-      olt-sent next s index p out n octets k
-      ∙ rw (e, f) (sym (ap (λ (x : Reply Olt Sending). oltSent x index p out) (reply-accepted _ o noSending _ _ v)))
+      olt-sent next s channel p out n octets k
+      ∙ rw (e, f) (sym (ap (λ (x : Reply Olt Sending). oltSent x channel p out) (reply-accepted _ o noSending _ _ v)))
 
   -- what the OLT sends fits
-  pub unit-send-fits : (s : Sending) → validOlt o ≡ true → misfit p out ≡ false → downstream index ≡ true
-      → s ≡ sendingOf (unitSendChoice (unitAt o i)) (unitAt o i .keys .slots) (o .shared .mac) (o .shared .clock) index llid
-      → judgeSeal (length p) (length out) (nonceOf index (s .passage)) ≡ Accepted
+  pub unit-send-fits : (s : Sending) → validOlt o ≡ true → misfit p out ≡ false → downstream channel ≡ true
+      → s ≡ sendingOf (unitSendChoice (unitAt o i)) (unitAt o i .keys .slots) (o .shared .mac) (o .shared .clock) channel llid
+      → judgeSeal (length p) (length out) (nonceOf channel (s .passage)) ≡ Accepted
   unfolding sendingOf passageOf
   unit-send-fits s v f d g =
       let r = shared-in-range (o .shared) (olt-in-range o v .shared) in
-      judged p out (nonceOf index (s .passage)) f
-      (down-fits (nonceOf index (s .passage)) d (rw g (r .mac)) (rw g (r .clock)))
+      judged p out (nonceOf channel (s .passage)) f
+      (down-fits (nonceOf channel (s .passage)) d (rw g (r .mac)) (rw g (r .clock)))
 
-module _ (o : Olt) (llid index : ℕ) (p out : List ℕ) where
-  pub olt-send-absent : (r : Refusal) → locatedOf o (sendAhead (misfit p out) index) llid ≡ Absent r
-      → exchange (oltNotSent o r) out ≡ oltSendOf o llid index p out
+module _ (o : Olt) (llid channel : ℕ) (p out : List ℕ) where
+  pub olt-send-absent : (r : Refusal) → locatedOf o (sendAhead (misfit p out) channel) llid ≡ Absent r
+      → exchange (oltNotSent o r) out ≡ oltSendOf o llid channel p out
   unfolding oltSendOf sendingOlt reply
   olt-send-absent r e =
-      olt-not-sent o r index p out
-      ∙ sym (ap (λ (x : Reply Olt Sending). oltSent x index p out) (lift-absent o noSending (sendAhead (misfit p out) index) llid (sendUnit llid index (eqsOf p)) r e))
+      olt-not-sent o r channel p out
+      ∙ sym (ap (λ (x : Reply Olt Sending). oltSent x channel p out) (lift-absent o noSending (sendAhead (misfit p out) channel) llid (sendUnit llid channel (eqsOf p)) r e))
 
-  pub olt-send-at : (i : ℕ) → Reaches o (sendAhead (misfit p out) index) llid i
-      → oltSent (putBack o noSending i (sendUnit llid index (eqsOf p) (o .shared) (unitAt o i))) index p out ≡ oltSendOf o llid index p out
+  pub olt-send-at : (i : ℕ) → Reaches o (sendAhead (misfit p out) channel) llid i
+      → oltSent (putBack o noSending i (sendUnit llid channel (eqsOf p) (o .shared) (unitAt o i))) channel p out ≡ oltSendOf o llid channel p out
   unfolding oltSendOf sendingOlt
   olt-send-at i l =
-      sym (ap (λ (x : Reply Olt Sending). oltSent x index p out)
-      (lift-unit o noSending (sendAhead (misfit p out) index) llid (sendUnit llid index (eqsOf p)) i (l .valid) (l .passed) (l .found)))
+      sym (ap (λ (x : Reply Olt Sending). oltSent x channel p out)
+      (lift-unit o noSending (sendAhead (misfit p out) channel) llid (sendUnit llid channel (eqsOf p)) i (l .valid) (l .passed) (l .found)))
 
   -- what a send to the unit found has passed
-  pub send-passed : (i : ℕ) → Reaches o (sendAhead (misfit p out) index) llid i → (misfit p out ≡ false) × (downstream index ≡ true)
+  pub send-passed : (i : ℕ) → Reaches o (sendAhead (misfit p out) channel) llid i → (misfit p out ≡ false) × (downstream channel ≡ true)
   send-passed i l =
       let a = refuse-accepted _ _ _ (l .passed) in
       (a .0, not-false _ (refuse-accepted _ _ _ (a .1) .0))
 
   -- a valid OLT stays valid
-  pub olt-send-valid : validOlt o ≡ true → validOlt (oltSendOf o llid index p out .answer .olt) ≡ true
+  pub olt-send-valid : validOlt o ≡ true → validOlt (oltSendOf o llid channel p out .answer .olt) ≡ true
   unfolding oltSendOf oltSent
-  olt-send-valid v = sending-valid o (misfit p out) llid index (eqsOf p) (few-eqs p out) v
+  olt-send-valid v = sending-valid o (misfit p out) llid channel (eqsOf p) (few-eqs p out) v
 
 ---- the ONU
 
-onu-not-sent : (o : Onu) (r : Refusal) (index : ℕ) (p out : List ℕ)
-    → exchange (onuNotSent o r) out ≡ onuSentBy (record { verdict = Refused r; end = o; handed = noSending }) index p out
+onu-not-sent : (o : Onu) (r : Refusal) (channel : ℕ) (p out : List ℕ)
+    → exchange (onuNotSent o r) out ≡ onuSentBy (record { verdict = Refused r; end = o; handed = noSending }) channel p out
 unfolding onuNotSent onuSentBy passedCount isEnciphered countCarried pick outputAfter
-onu-not-sent o r index p out = refl
+onu-not-sent o r channel p out = refl
 
-onu-sent : (o : Onu) (s : Sending) (index : ℕ) (p out : List ℕ) (n : ℕ) (octets : List ℕ)
-    → exchange n octets ≡ exchange (passedCount (s .passage) p) (passed index (s .passage) p)
+onu-sent : (o : Onu) (s : Sending) (channel : ℕ) (p out : List ℕ) (n : ℕ) (octets : List ℕ)
+    → exchange n octets ≡ exchange (passedCount (s .passage) p) (passed channel (s .passage) p)
     → exchange {R = OnuSent} (record { number = 0; onu = o; header = s .header; count = n }) octets
-    ≡ onuSentBy (record { verdict = Accepted; end = o; handed = s }) index p out
+    ≡ onuSentBy (record { verdict = Accepted; end = o; handed = s }) channel p out
 unfolding onuSentBy outputAfter
-onu-sent o s index p out n octets e =
+onu-sent o s channel p out n octets e =
     ap (λ (x : Exchange ℕ). exchange {R = OnuSent} (record { number = 0; onu = o; header = s .header; count = x .answer }) (x .output)) e
 
-module _ (o : Onu) (llid index : ℕ) (p out : List ℕ) where
+module _ (o : Onu) (llid channel : ℕ) (p out : List ℕ) where
   -- the verdict, that on the lent end ahead
   abbrev pub onuSendJudged : Verdict
-  onuSendJudged = refuseIf (not (validOnu o)) OutOfRange (onuSendVerdict o (misfit p out) llid index)
+  onuSendJudged = refuseIf (not (validOnu o)) OutOfRange (onuSendVerdict o (misfit p out) llid channel)
 
-  pub onu-send-refused : (r : Refusal) → onuSendJudged ≡ Refused r → exchange (onuNotSent o r) out ≡ onuSendOf o llid index p out
+  pub onu-send-refused : (r : Refusal) → onuSendJudged ≡ Refused r → exchange (onuNotSent o r) out ≡ onuSendOf o llid channel p out
   unfolding onuSendOf sendingOnu onuReply
   onu-send-refused r e =
-      onu-not-sent o r index p out ∙ sym (ap (λ (x : Reply Onu Sending). onuSentBy x index p out) (reply-refused _ o noSending _ _ r e))
+      onu-not-sent o r channel p out ∙ sym (ap (λ (x : Reply Onu Sending). onuSentBy x channel p out) (reply-refused _ o noSending _ _ r e))
 
   pub onu-send-done : (next : Onu) (s : Sending) (n : ℕ) (octets : List ℕ) → onuSendJudged ≡ Accepted
-      → next ≡ onuSent o index (eqsOf p)
-      → s ≡ sendingOf (onuSendChoice (o .keys)) (o .keys .slots) (o .identity .mac) (o .clock .time) index llid
-      → exchange n octets ≡ exchange (passedCount (s .passage) p) (passed index (s .passage) p)
-      → exchange {R = OnuSent} (record { number = 0; onu = next; header = s .header; count = n }) octets ≡ onuSendOf o llid index p out
+      → next ≡ onuSent o channel (eqsOf p)
+      → s ≡ sendingOf (onuSendChoice (o .keys)) (o .keys .slots) (o .identity .mac) (o .clock .time) channel llid
+      → exchange n octets ≡ exchange (passedCount (s .passage) p) (passed channel (s .passage) p)
+      → exchange {R = OnuSent} (record { number = 0; onu = next; header = s .header; count = n }) octets ≡ onuSendOf o llid channel p out
   unfolding onuSendOf sendingOnu onuReply
   onu-send-done next s n octets v e f k =
-      onu-sent next s index p out n octets k
-      ∙ rw (e, f) (sym (ap (λ (x : Reply Onu Sending). onuSentBy x index p out) (reply-accepted _ o noSending _ _ v)))
+      onu-sent next s channel p out n octets k
+      ∙ rw (e, f) (sym (ap (λ (x : Reply Onu Sending). onuSentBy x channel p out) (reply-accepted _ o noSending _ _ v)))
 
   pub onu-send-within : onuSendJudged ≡ Accepted → (o .tick ≤ maxTick) × (eqsOf p ≤ maxEqs)
   onu-send-within v =
       let a = refuse-accepted _ _ _ v in
-      (onu-in-range o (not-false _ (a .0)) .tick, few-eqs p out (onu-send-accepted o (misfit p out) llid index (a .1) .fits))
+      (onu-in-range o (not-false _ (a .0)) .tick, few-eqs p out (onu-send-accepted o (misfit p out) llid channel (a .1) .fits))
 
   -- what a unit sends fits
   pub onu-send-fits : (s : Sending) → onuSendJudged ≡ Accepted
-      → s ≡ sendingOf (onuSendChoice (o .keys)) (o .keys .slots) (o .identity .mac) (o .clock .time) index llid
-      → judgeSeal (length p) (length out) (nonceOf index (s .passage)) ≡ Accepted
+      → s ≡ sendingOf (onuSendChoice (o .keys)) (o .keys .slots) (o .identity .mac) (o .clock .time) channel llid
+      → judgeSeal (length p) (length out) (nonceOf channel (s .passage)) ≡ Accepted
   unfolding sendingOf passageOf
   onu-send-fits s v g =
       let a = refuse-accepted _ _ _ v in
       let r = onu-in-range o (not-false _ (a .0)) in
-      let u = onu-send-accepted o (misfit p out) llid index (a .1) in
-      judged p out (nonceOf index (s .passage)) (u .fits)
-      (up-fits (nonceOf index (s .passage)) (u .upstream) (rw g (identity-mac (o .identity) (r .identity))) (rw g (onu-clock-in-range (o .clock) (r .clock) .tx)))
+      let u = onu-send-accepted o (misfit p out) llid channel (a .1) in
+      judged p out (nonceOf channel (s .passage)) (u .fits)
+      (up-fits (nonceOf channel (s .passage)) (u .upstream) (rw g (identity-mac (o .identity) (r .identity))) (rw g (onu-clock-in-range (o .clock) (r .clock) .tx)))
 
   -- a valid ONU stays valid
-  pub onu-send-valid : validOnu o ≡ true → validOnu (onuSendOf o llid index p out .answer .onu) ≡ true
+  pub onu-send-valid : validOnu o ≡ true → validOnu (onuSendOf o llid channel p out .answer .onu) ≡ true
   unfolding onuSendOf onuSentBy
-  onu-send-valid v = sending-onu-valid o (misfit p out) llid index (eqsOf p) (few-eqs p out) v
+  onu-send-valid v = sending-onu-valid o (misfit p out) llid channel (eqsOf p) (few-eqs p out) v

@@ -32,11 +32,11 @@ isEnciphered (Next n) = true
 isEnciphered (Barred r) = false
 
 abbrev pub nonceOf : ℕ → Passage → Nonce
-nonceOf index q = record { channel = index; mac = q .mac; clock = q .clock }
+nonceOf channel q = record { channel = channel; mac = q .mac; clock = q .clock }
 
 -- the payload, sealed or opened, or unchanged where it is clear
 unfoldable pub passed : ℕ → Passage → List ℕ → List ℕ
-passed index q p = carried (isEnciphered (q .choice)) (keyExpansion (q .key)) (nonceOf index q) p
+passed channel q p = carried (isEnciphered (q .choice)) (keyExpansion (q .key)) (nonceOf channel q) p
 
 -- the octets enciphered
 unfoldable pub passedCount : Passage → List ℕ → ℕ

@@ -16,10 +16,10 @@ use Rattle.traffic.specs.declared.OltReceived.{OltReceived}
 use Rattle.traffic.specs.declared.OnuReceived.{OnuReceived}
 
 unfoldable pub oltReceived : Reply Olt Passage → ℕ → List ℕ → List ℕ → Exchange OltReceived
-oltReceived r index p out =
+oltReceived r channel p out =
     record {
       answer = record { number = verdictNumber (r .verdict); olt = r .end; count = passedCount (r .handed) p };
-      output = outputAfter (r .verdict) (passed index (r .handed) p) out;
+      output = outputAfter (r .verdict) (passed channel (r .handed) p) out;
     }
 
 -- refused: the end as it was lent, count 0
@@ -27,17 +27,17 @@ unfoldable pub oltNotReceived : Olt → Refusal → OltReceived
 oltNotReceived o r = record { number = numberOf r; olt = o; count = 0 }
 
 unfoldable pub oltReceiveOf : Olt → Header → List ℕ → List ℕ → Exchange OltReceived
-oltReceiveOf o h p out = oltReceived (receivingOlt o (misfit p out) h) (h .index) p out
+oltReceiveOf o h p out = oltReceived (receivingOlt o (misfit p out) h) (h .channel) p out
 
 unfoldable pub onuReceivedBy : Reply Onu Passage → ℕ → List ℕ → List ℕ → Exchange OnuReceived
-onuReceivedBy r index p out =
+onuReceivedBy r channel p out =
     record {
       answer = record { number = verdictNumber (r .verdict); onu = r .end; count = passedCount (r .handed) p };
-      output = outputAfter (r .verdict) (passed index (r .handed) p) out;
+      output = outputAfter (r .verdict) (passed channel (r .handed) p) out;
     }
 
 unfoldable pub onuNotReceived : Onu → Refusal → OnuReceived
 onuNotReceived o r = record { number = numberOf r; onu = o; count = 0 }
 
 unfoldable pub onuReceiveOf : Onu → Header → List ℕ → List ℕ → Exchange OnuReceived
-onuReceiveOf o h p out = onuReceivedBy (receivingOnu o (misfit p out) h) (h .index) p out
+onuReceiveOf o h p out = onuReceivedBy (receivingOnu o (misfit p out) h) (h .channel) p out

@@ -17,7 +17,7 @@ use Rattle.traffic.specs.declared.OltSent.{OltSent}
 use Rattle.traffic.specs.declared.OnuSent.{OnuSent}
 
 unfoldable pub oltSent : Reply Olt Sending → ℕ → List ℕ → List ℕ → Exchange OltSent
-oltSent r index p out =
+oltSent r channel p out =
     record {
       answer =
           record {
@@ -26,7 +26,7 @@ oltSent r index p out =
             header = r .handed .header;
             count = passedCount (r .handed .passage) p;
           };
-      output = outputAfter (r .verdict) (passed index (r .handed .passage) p) out;
+      output = outputAfter (r .verdict) (passed channel (r .handed .passage) p) out;
     }
 
 -- refused: the end as it was lent, a header of zeros, count 0
@@ -34,10 +34,10 @@ unfoldable pub oltNotSent : Olt → Refusal → OltSent
 oltNotSent o r = record { number = numberOf r; olt = o; header = noSending .header; count = 0 }
 
 unfoldable pub oltSendOf : Olt → ℕ → ℕ → List ℕ → List ℕ → Exchange OltSent
-oltSendOf o llid index p out = oltSent (sendingOlt o (misfit p out) llid index (eqsOf p)) index p out
+oltSendOf o llid channel p out = oltSent (sendingOlt o (misfit p out) llid channel (eqsOf p)) channel p out
 
 unfoldable pub onuSentBy : Reply Onu Sending → ℕ → List ℕ → List ℕ → Exchange OnuSent
-onuSentBy r index p out =
+onuSentBy r channel p out =
     record {
       answer =
           record {
@@ -46,11 +46,11 @@ onuSentBy r index p out =
             header = r .handed .header;
             count = passedCount (r .handed .passage) p;
           };
-      output = outputAfter (r .verdict) (passed index (r .handed .passage) p) out;
+      output = outputAfter (r .verdict) (passed channel (r .handed .passage) p) out;
     }
 
 unfoldable pub onuNotSent : Onu → Refusal → OnuSent
 onuNotSent o r = record { number = numberOf r; onu = o; header = noSending .header; count = 0 }
 
 unfoldable pub onuSendOf : Onu → ℕ → ℕ → List ℕ → List ℕ → Exchange OnuSent
-onuSendOf o llid index p out = onuSentBy (sendingOnu o (misfit p out) llid index (eqsOf p)) index p out
+onuSendOf o llid channel p out = onuSentBy (sendingOnu o (misfit p out) llid channel (eqsOf p)) channel p out

@@ -46,21 +46,21 @@ fn first_of(misfit: bool, wrong: bool) -> Verdict
 }
 
 // What a send refuses ahead of 2.
-pub(crate) fn send_ahead(n: usize, m: usize, index: u8) -> Verdict
-    ensures { λ r. ⌜ r ≡ refuseIf (not (lengthsFit n m)) BadLength (refuseIf (not (downstream index)) OutOfRange Accepted) ⌝ }
+pub(crate) fn send_ahead(n: usize, m: usize, channel: u8) -> Verdict
+    ensures { λ r. ⌜ r ≡ refuseIf (not (lengthsFit n m)) BadLength (refuseIf (not (downstream channel)) OutOfRange Accepted) ⌝ }
 {
     let misfit = carrying::misfit(n, m);
-    first_of(misfit, !(index <= 1))
+    first_of(misfit, !(channel <= 1))
 }
 
 // What a receipt refuses ahead of 2.
 pub(crate) fn receive_ahead(n: usize, m: usize, header: Header) -> Verdict
-    ensures { λ r. ⌜ r ≡ refuseIf (not (lengthsFit n m)) BadLength (refuseIf (not (both (upstream (header .index)) (validHeader header))) OutOfRange Accepted) ⌝ }
+    ensures { λ r. ⌜ r ≡ refuseIf (not (lengthsFit n m)) BadLength (refuseIf (not (both (upstream (header .channel)) (validHeader header))) OutOfRange Accepted) ⌝ }
 {
     let misfit = carrying::misfit(n, m);
-    let index = header.index;
+    let channel = header.channel;
     let valid = valid_header(header);
-    first_of(misfit, !(((128 <= index) & (index <= 129)) & valid))
+    first_of(misfit, !(((128 <= channel) & (channel <= 129)) & valid))
 }
 
 pub(crate) fn not_sent(olt: Olt, refusal: Refusal) -> OltSent
@@ -70,7 +70,7 @@ pub(crate) fn not_sent(olt: Olt, refusal: Refusal) -> OltSent
         number: refusal::number(refusal),
         olt,
         header: Header {
-            index: 0,
+            channel: 0,
             llid: 0,
             encenabled: 0,
             enckey: 0,
@@ -113,13 +113,13 @@ fn with_unit(olt: Olt, i: usize, channels: Channels, unit: UnitRecord) -> Olt
 }
 
 // The end that a send leaves, where it is accepted.
-fn after_send(olt: Olt, i: usize, unit: UnitRecord, index: u8, eqs: u64) -> Olt
+fn after_send(olt: Olt, i: usize, unit: UnitRecord, channel: u8, eqs: u64) -> Olt
     requires { ⌜ i < 16 ⌝ }
     requires { ⌜ olt .shared .tick ≤ maxTick ⌝ }
     requires { ⌜ eqs ≤ maxEqs ⌝ }
-    ensures { λ r. ⌜ r ≡ withUnit olt i (occupied (olt .shared .channels) index (olt .shared .tick) eqs) (withKeys unit (keysSent (unitSendChoice unit) (unit .keys) (olt .shared .tick))) ⌝ }
+    ensures { λ r. ⌜ r ≡ withUnit olt i (occupied (olt .shared .channels) channel (olt .shared .tick) eqs) (withKeys unit (keysSent (unitSendChoice unit) (unit .keys) (olt .shared .tick))) ⌝ }
 {
-    let channels = carrying::occupied(olt.shared.channels, index, olt.shared.tick, eqs);
+    let channels = carrying::occupied(olt.shared.channels, channel, olt.shared.tick, eqs);
     let next = traffic::unit_sent(unit, olt.shared.tick);
     with_unit(olt, i, channels, next)
 }
@@ -128,27 +128,27 @@ pub(crate) fn send_at(
     olt: Olt,
     i: usize,
     llid: u16,
-    index: u8,
+    channel: u8,
     payload: &[u8],
     output: &mut [u8],
 ) -> OltSent
     requires { ⌜ validOlt olt ≡ true ⌝ }
     requires { ⌜ find olt llid ≡ At i ⌝ }
     requires { ⌜ misfit (now payload) (now output) ≡ false ⌝ }
-    requires { ⌜ downstream index ≡ true ⌝ }
-    ensures { λ r. ⌜ exchange r (now (output .exit)) ≡ oltSent (putBack olt noSending i (sendUnit llid index (eqsOf (now (payload .entry))) (olt .shared) (unitAt olt i))) index (now (payload .entry)) (now (output .entry)) ⌝ }
+    requires { ⌜ downstream channel ≡ true ⌝ }
+    ensures { λ r. ⌜ exchange r (now (output .exit)) ≡ oltSent (putBack olt noSending i (sendUnit llid channel (eqsOf (now (payload .entry))) (olt .shared) (unitAt olt i))) channel (now (payload .entry)) (now (output .entry)) ⌝ }
 {
     let unit = unit_at(olt, i);
     let shared = olt.shared;
-    let next = after_send(olt, i, unit, index, (payload.len() / 9) as u64);
-    let verdict = traffic::send_verdict(shared, unit, index);
+    let next = after_send(olt, i, unit, channel, (payload.len() / 9) as u64);
+    let verdict = traffic::send_verdict(shared, unit, channel);
     match verdict {
         Verdict::Refused(refusal) => not_sent(olt, refusal),
         Verdict::Accepted => {
-            let sending = traffic::sending(shared, unit, index, llid);
+            let sending = traffic::sending(shared, unit, channel, llid);
             let header = sending.header;
             let passage = sending.passage;
-            let count = carrying::carry(passage, index, payload, output);
+            let count = carrying::carry(passage, channel, payload, output);
             OltSent {
                 number: 0,
                 olt: next,
@@ -169,8 +169,8 @@ pub(crate) fn receive_at(
     requires { ⌜ validOlt olt ≡ true ⌝ }
     requires { ⌜ find olt (header .llid) ≡ At i ⌝ }
     requires { ⌜ misfit (now octets) (now output) ≡ false ⌝ }
-    requires { ⌜ upstream (header .index) ≡ true ⌝ }
-    ensures { λ r. ⌜ exchange r (now (output .exit)) ≡ oltReceived (putBack olt noPassage i (receiveUnit header (olt .shared) (unitAt olt i))) (header .index) (now (octets .entry)) (now (output .entry)) ⌝ }
+    requires { ⌜ upstream (header .channel) ≡ true ⌝ }
+    ensures { λ r. ⌜ exchange r (now (output .exit)) ≡ oltReceived (putBack olt noPassage i (receiveUnit header (olt .shared) (unitAt olt i))) (header .channel) (now (octets .entry)) (now (output .entry)) ⌝ }
 {
     let unit = unit_at(olt, i);
     let shared = olt.shared;
@@ -179,7 +179,7 @@ pub(crate) fn receive_at(
         Verdict::Refused(refusal) => not_received(olt, refusal),
         Verdict::Accepted => {
             let passage = traffic::passage(shared, unit, header);
-            let count = carrying::carry(passage, header.index, octets, output);
+            let count = carrying::carry(passage, header.channel, octets, output);
             let next = traffic::unit_received(unit, header);
             OltReceived {
                 number: 0,

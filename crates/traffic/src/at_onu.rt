@@ -35,7 +35,7 @@ pub(crate) fn not_sent(onu: Onu, refusal: Refusal) -> OnuSent
         number: refusal::number(refusal),
         onu,
         header: Header {
-            index: 0,
+            channel: 0,
             llid: 0,
             encenabled: 0,
             enckey: 0,
@@ -81,25 +81,25 @@ fn named(misfit: bool, wrong: bool, unknown: bool, rest: Verdict) -> Verdict
 }
 
 // 1 for a lent end that is not valid, then what the send refuses.
-pub(crate) fn send_verdict(onu: Onu, misfit: bool, llid: u16, index: u8) -> Verdict
-    ensures { λ r. ⌜ r ≡ refuseIf (not (validOnu onu)) OutOfRange (onuSendVerdict onu misfit llid index) ⌝ }
+pub(crate) fn send_verdict(onu: Onu, misfit: bool, llid: u16, channel: u8) -> Verdict
+    ensures { λ r. ⌜ r ≡ refuseIf (not (validOnu onu)) OutOfRange (onuSendVerdict onu misfit llid channel) ⌝ }
 {
     if !valid_onu(onu) {
         return Verdict::Refused(Refusal::OutOfRange);
     }
     let known = has(onu.identity, llid);
     let choice = send_choice(onu.keys);
-    let rest = passing::send_verdict(choice, onu.channels, index, onu.first, onu.tick);
-    named(misfit, !((128 <= index) & (index <= 129)), !known, rest)
+    let rest = passing::send_verdict(choice, onu.channels, channel, onu.first, onu.tick);
+    named(misfit, !((128 <= channel) & (channel <= 129)), !known, rest)
 }
 
 // The end that a send leaves, where it is accepted.
-pub(crate) fn after_send(onu: Onu, index: u8, eqs: u64) -> Onu
+pub(crate) fn after_send(onu: Onu, channel: u8, eqs: u64) -> Onu
     requires { ⌜ onu .tick ≤ maxTick ⌝ }
     requires { ⌜ eqs ≤ maxEqs ⌝ }
-    ensures { λ r. ⌜ r ≡ onuSent onu index eqs ⌝ }
+    ensures { λ r. ⌜ r ≡ onuSent onu channel eqs ⌝ }
 {
-    let channels = carrying::occupied(onu.channels, index, onu.tick, eqs);
+    let channels = carrying::occupied(onu.channels, channel, onu.tick, eqs);
     let mut r = onu;
     r.channels = channels;
     if onu.keys.active == 0 {
@@ -160,7 +160,7 @@ pub(crate) fn receive_verdict(onu: Onu, misfit: bool, header: Header) -> Verdict
         (header.encenabled == 1) & !synced,
         passing::choice_verdict(receive_choice(onu.keys, header)),
     );
-    named(misfit, !((header.index <= 1) & valid), !known, rest)
+    named(misfit, !((header.channel <= 1) & valid), !known, rest)
 }
 
 // The key a + 1 comes into use: the old one is wiped, and the new one has had no send.

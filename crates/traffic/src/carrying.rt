@@ -27,13 +27,13 @@ pub(crate) fn misfit(n: usize, m: usize) -> bool
     !lengths_fit(n, m)
 }
 
-pub(crate) fn occupied(channels: Channels, index: u8, tick: u64, eqs: u64) -> Channels
+pub(crate) fn occupied(channels: Channels, channel: u8, tick: u64, eqs: u64) -> Channels
     requires { ⌜ tick ≤ maxTick ⌝ }
     requires { ⌜ eqs ≤ maxEqs ⌝ }
-    ensures { λ r. ⌜ r ≡ occupied channels index tick eqs ⌝ }
+    ensures { λ r. ⌜ r ≡ occupied channels channel tick eqs ⌝ }
 {
     let free = tick + eqs + HEADER_TICKS;
-    if index % 128 == 0 {
+    if channel % 128 == 0 {
         return Channels {
             zero: free,
             one: channels.one,
@@ -57,15 +57,15 @@ fn is_enciphered(choice: KeyChoice) -> bool
 }
 
 // Seals or opens the payload, and gives the octets enciphered.
-pub(crate) fn carry(passage: Passage, index: u8, payload: &[u8], output: &mut [u8]) -> u64
-    requires { ⌜ judgeSeal (length (now payload)) (length (now output)) (nonceOf index passage) ≡ Accepted ⌝ }
-    ensures { λ r. ⌜ exchange r (now (output .exit)) ≡ exchange (passedCount passage (now (payload .entry))) (passed index passage (now (payload .entry))) ⌝ }
+pub(crate) fn carry(passage: Passage, channel: u8, payload: &[u8], output: &mut [u8]) -> u64
+    requires { ⌜ judgeSeal (length (now payload)) (length (now output)) (nonceOf channel passage) ≡ Accepted ⌝ }
+    ensures { λ r. ⌜ exchange r (now (output .exit)) ≡ exchange (passedCount passage (now (payload .entry))) (passed channel passage (now (payload .entry))) ⌝ }
 {
     let choice = passage.choice;
     let enciphered = is_enciphered(choice);
     let key = passage.key;
     let nonce = Nonce {
-        channel: index,
+        channel,
         mac: passage.mac,
         clock: passage.clock,
     };

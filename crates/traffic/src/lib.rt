@@ -46,14 +46,14 @@ pub struct OnuReceived {
     pub count: u64,
 }
 
-pub fn olt_send(olt: Olt, llid: u16, index: u8, payload: &[u8], output: &mut [u8]) -> OltSent
-    ensures { λ r. ⌜ exchange r (now (output .exit)) ≡ oltSendOf olt llid index (now (payload .entry)) (now (output .entry)) ⌝ }
+pub fn olt_send(olt: Olt, llid: u16, channel: u8, payload: &[u8], output: &mut [u8]) -> OltSent
+    ensures { λ r. ⌜ exchange r (now (output .exit)) ≡ oltSendOf olt llid channel (now (payload .entry)) (now (output .entry)) ⌝ }
 {
-    let ahead = at_olt::send_ahead(payload.len(), output.len(), index);
+    let ahead = at_olt::send_ahead(payload.len(), output.len(), channel);
     let at = locate(olt, ahead, llid);
     match at {
         Located::Absent(refusal) => at_olt::not_sent(olt, refusal),
-        Located::Place(i) => at_olt::send_at(olt, i, llid, index, payload, output),
+        Located::Place(i) => at_olt::send_at(olt, i, llid, channel, payload, output),
     }
 }
 
@@ -68,22 +68,22 @@ pub fn olt_receive(olt: Olt, header: Header, octets: &[u8], output: &mut [u8]) -
     }
 }
 
-pub fn onu_send(onu: Onu, llid: u16, index: u8, payload: &[u8], output: &mut [u8]) -> OnuSent
-    ensures { λ r. ⌜ exchange r (now (output .exit)) ≡ onuSendOf onu llid index (now (payload .entry)) (now (output .entry)) ⌝ }
+pub fn onu_send(onu: Onu, llid: u16, channel: u8, payload: &[u8], output: &mut [u8]) -> OnuSent
+    ensures { λ r. ⌜ exchange r (now (output .exit)) ≡ onuSendOf onu llid channel (now (payload .entry)) (now (output .entry)) ⌝ }
 {
     let misfit = carrying::misfit(payload.len(), output.len());
-    let verdict = at_onu::send_verdict(onu, misfit, llid, index);
+    let verdict = at_onu::send_verdict(onu, misfit, llid, channel);
     match verdict {
         Verdict::Refused(refusal) => at_onu::not_sent(onu, refusal),
         Verdict::Accepted => {
-            let next = at_onu::after_send(onu, index, (payload.len() / 9) as u64);
+            let next = at_onu::after_send(onu, channel, (payload.len() / 9) as u64);
             let choice = at_onu::send_choice(onu.keys);
             let mac = onu.identity.mac;
             let time = onu.clock.time;
-            let sending = passing::sending_of(choice, onu.keys.slots, mac, time, index, llid);
+            let sending = passing::sending_of(choice, onu.keys.slots, mac, time, channel, llid);
             let header = sending.header;
             let passage = sending.passage;
-            let count = carrying::carry(passage, index, payload, output);
+            let count = carrying::carry(passage, channel, payload, output);
             OnuSent {
                 number: 0,
                 onu: next,
@@ -106,7 +106,7 @@ pub fn onu_receive(onu: Onu, header: Header, octets: &[u8], output: &mut [u8]) -
             let next = at_onu::after_receive(choice, onu);
             let mac = onu.oltmac;
             let passage = passing::passage_of(choice, onu.keys.slots, mac, onu.clock.rx);
-            let count = carrying::carry(passage, header.index, octets, output);
+            let count = carrying::carry(passage, header.channel, octets, output);
             OnuReceived {
                 number: 0,
                 onu: next,

@@ -65,7 +65,7 @@ pub(crate) fn start() -> Play {
     let octets = aim.eqs;
     let none = Envelope {
         header: Header {
-            index: 0,
+            channel: 0,
             llid: 0,
             encenabled: 0,
             enckey: 0,

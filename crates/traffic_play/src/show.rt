@@ -131,7 +131,7 @@ fn header(h: Header) {
     fill(
         b", header $ & % % $",
         [
-            h.index as u64,
+            h.channel as u64,
             h.llid as u64,
             h.encenabled as u64,
             h.enckey as u64,

@@ -53,7 +53,7 @@ pub(crate) fn acknowledgement(n: Numbers) -> Acknowledgement {
 // Channel index, LLID, EncEnabled, EncKey and EPAM.
 pub(crate) fn header(n: Numbers) -> Header {
     Header {
-        index: script::u8_of(n.a),
+        channel: script::u8_of(n.a),
         llid: script::u16_of(n.b),
         encenabled: script::u8_of(n.c),
         enckey: script::u8_of(n.d),

@@ -30,10 +30,10 @@ pub fn valid_header(header: Header) -> bool
     (header.encenabled <= 1) & ((header.enckey <= header.encenabled) & (header.epam < EPAM_TURN))
 }
 
-fn taken(channels: Channels, index: u8, tick: u64) -> bool
-    ensures { λ r. ⌜ r ≡ taken channels index tick ⌝ }
+fn taken(channels: Channels, channel: u8, tick: u64) -> bool
+    ensures { λ r. ⌜ r ≡ taken channels channel tick ⌝ }
 {
-    if index % 128 == 0 {
+    if channel % 128 == 0 {
         return tick < channels.zero;
     }
     tick < channels.one
@@ -62,13 +62,13 @@ fn choice_aged(choice: KeyChoice, first: FirstSend, tick: u64) -> bool
 pub fn send_verdict(
     choice: KeyChoice,
     channels: Channels,
-    index: u8,
+    channel: u8,
     first: FirstSend,
     tick: u64,
 ) -> Verdict
-    ensures { λ r. ⌜ r ≡ refuseIf (taken channels index tick) ChannelTaken (refuseIf (choiceAged choice first tick) KeyTooOld Accepted) ⌝ }
+    ensures { λ r. ⌜ r ≡ refuseIf (taken channels channel tick) ChannelTaken (refuseIf (choiceAged choice first tick) KeyTooOld Accepted) ⌝ }
 {
-    if taken(channels, index, tick) {
+    if taken(channels, channel, tick) {
         return Verdict::Refused(Refusal::ChannelTaken);
     }
     if choice_aged(choice, first, tick) {
@@ -108,15 +108,15 @@ fn choice_number(choice: KeyChoice) -> u32
     }
 }
 
-fn header_of(choice: KeyChoice, index: u8, llid: u16, clock: u64) -> Header
-    ensures { λ r. ⌜ r ≡ headerOf (choiceNumber choice) index llid clock ⌝ }
+fn header_of(choice: KeyChoice, channel: u8, llid: u16, clock: u64) -> Header
+    ensures { λ r. ⌜ r ≡ headerOf (choiceNumber choice) channel llid clock ⌝ }
 {
     let n = choice_number(choice);
     let enckey = (n % 2) as u8;
     let epam = epam_of(clock);
     if n == 0 {
         return Header {
-            index,
+            channel,
             llid,
             encenabled: 0,
             enckey,
@@ -124,7 +124,7 @@ fn header_of(choice: KeyChoice, index: u8, llid: u16, clock: u64) -> Header
         };
     }
     Header {
-        index,
+        channel,
         llid,
         encenabled: 1,
         enckey,
@@ -158,12 +158,12 @@ pub fn sending_of(
     slots: Slots,
     mac: u64,
     clock: u64,
-    index: u8,
+    channel: u8,
     llid: u16,
 ) -> Sending
-    ensures { λ r. ⌜ r ≡ sendingOf choice slots mac clock index llid ⌝ }
+    ensures { λ r. ⌜ r ≡ sendingOf choice slots mac clock channel llid ⌝ }
 {
-    let header = header_of(choice, index, llid, clock);
+    let header = header_of(choice, channel, llid, clock);
     let passage = passage_of(choice, slots, mac, clock);
     Sending { header, passage }
 }

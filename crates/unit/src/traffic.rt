@@ -37,11 +37,17 @@ fn send_choice(unit: UnitRecord) -> KeyChoice
     KeyChoice::Current(unit.keys.active)
 }
 
-pub fn send_verdict(shared: Shared, unit: UnitRecord, index: u8) -> Verdict
-    ensures { λ r. ⌜ r ≡ unitSendVerdict shared unit index ⌝ }
+pub fn send_verdict(shared: Shared, unit: UnitRecord, channel: u8) -> Verdict
+    ensures { λ r. ⌜ r ≡ unitSendVerdict shared unit channel ⌝ }
 {
     let choice = send_choice(unit);
-    passing::send_verdict(choice, shared.channels, index, unit.keys.first, shared.tick)
+    passing::send_verdict(
+        choice,
+        shared.channels,
+        channel,
+        unit.keys.first,
+        shared.tick,
+    )
 }
 
 fn keys_switched(keys: UnitKeys, tick: u64) -> UnitKeys
@@ -80,8 +86,8 @@ pub fn unit_sent(unit: UnitRecord, tick: u64) -> UnitRecord
     r
 }
 
-pub fn sending(shared: Shared, unit: UnitRecord, index: u8, llid: u16) -> Sending
-    ensures { λ r. ⌜ r ≡ sendingOf (unitSendChoice unit) (unit .keys .slots) (shared .mac) (shared .clock) index llid ⌝ }
+pub fn sending(shared: Shared, unit: UnitRecord, channel: u8, llid: u16) -> Sending
+    ensures { λ r. ⌜ r ≡ sendingOf (unitSendChoice unit) (unit .keys .slots) (shared .mac) (shared .clock) channel llid ⌝ }
 {
     let choice = send_choice(unit);
     passing::sending_of(
@@ -89,7 +95,7 @@ pub fn sending(shared: Shared, unit: UnitRecord, index: u8, llid: u16) -> Sendin
         unit.keys.slots,
         shared.mac,
         shared.clock,
-        index,
+        channel,
         llid,
     )
 }

@@ -50,8 +50,8 @@ pub fn olt_acknowledge(olt: Olt, llid: u16, acknowledgement: Acknowledgement) ->
 }
 
 /// Order of refusals: 14, 1, 2, 12, 13.
-pub fn olt_send(olt: Olt, llid: u16, index: u8, payload: &[u8], output: &mut [u8]) -> OltSent {
-    unsafe { raw::jazmotip_olt_send(olt, llid, index, payload.as_ptr(), payload.len(), output.as_mut_ptr(), output.len()) }
+pub fn olt_send(olt: Olt, llid: u16, channel: u8, payload: &[u8], output: &mut [u8]) -> OltSent {
+    unsafe { raw::jazmotip_olt_send(olt, llid, channel, payload.as_ptr(), payload.len(), output.as_mut_ptr(), output.len()) }
 }
 
 /// Order of refusals: 14, 1, 2, 10, 11, 9.
@@ -79,8 +79,8 @@ pub fn onu_key_message(onu: Onu, message: KeyMessage) -> OnuAcknowledged {
 }
 
 /// Order of refusals: 14, 1, 2, 12, 13.
-pub fn onu_send(onu: Onu, llid: u16, index: u8, payload: &[u8], output: &mut [u8]) -> OnuSent {
-    unsafe { raw::jazmotip_onu_send(onu, llid, index, payload.as_ptr(), payload.len(), output.as_mut_ptr(), output.len()) }
+pub fn onu_send(onu: Onu, llid: u16, channel: u8, payload: &[u8], output: &mut [u8]) -> OnuSent {
+    unsafe { raw::jazmotip_onu_send(onu, llid, channel, payload.as_ptr(), payload.len(), output.as_mut_ptr(), output.len()) }
 }
 
 /// Order of refusals: 14, 1, 2, 10 (not while unsynced), 5 (sealed ones only), 11, 9.

@@ -77,8 +77,8 @@ impl Olt {
 
     /// Seals a payload for a unit into `output`, of the same length. Index 00 or 01 hex. With the timer's flag up and the offer
     /// acknowledged this is the envelope that switches keys.
-    pub fn send(&mut self, llid: u16, index: u8, payload: &[u8], output: &mut [u8]) -> Result<Sent, Refusal> {
-        let answer = calls::olt_send(*self, llid, index, payload, output);
+    pub fn send(&mut self, llid: u16, channel: u8, payload: &[u8], output: &mut [u8]) -> Result<Sent, Refusal> {
+        let answer = calls::olt_send(*self, llid, channel, payload, output);
         *self = answer.olt;
         Refusal::verdict(answer.number).map(|()| Sent { header: answer.header, count: answer.count })
     }
@@ -118,8 +118,8 @@ impl Onu {
     }
 
     /// Seals a payload for the head end into `output`, of the same length. Index 80 or 81 hex.
-    pub fn send(&mut self, llid: u16, index: u8, payload: &[u8], output: &mut [u8]) -> Result<Sent, Refusal> {
-        let answer = calls::onu_send(*self, llid, index, payload, output);
+    pub fn send(&mut self, llid: u16, channel: u8, payload: &[u8], output: &mut [u8]) -> Result<Sent, Refusal> {
+        let answer = calls::onu_send(*self, llid, channel, payload, output);
         *self = answer.onu;
         Refusal::verdict(answer.number).map(|()| Sent { header: answer.header, count: answer.count })
     }

@@ -19,7 +19,7 @@ extern "C" {
     pub fn jazmotip_olt_send(
         olt: Olt,
         llid: u16,
-        index: u8,
+        channel: u8,
         payload: *const u8,
         payload_length: usize,
         output: *mut u8,
@@ -41,7 +41,7 @@ extern "C" {
     pub fn jazmotip_onu_send(
         onu: Onu,
         llid: u16,
-        index: u8,
+        channel: u8,
         payload: *const u8,
         payload_length: usize,
         output: *mut u8,

@@ -208,7 +208,7 @@ fn an_invalid_end_comes_first() {
     let (mut tally, mut random) = (Tally::default(), Random::new(1));
     let mut olt = some_olt();
     olt.shared.clock = 1 << 48;
-    let header = jazmotip::Header { index: 0, llid: 99, ..Default::default() };
+    let header = jazmotip::Header { channel: 0, llid: 99, ..Default::default() };
     let mut end = Pair::<Olt>::lent(olt);
     assert_eq!(end.send(&mut tally, &mut random, 99, 9, &[0; 10], 3), Err(1));
     assert_eq!(end.receive(&mut tally, &mut random, header, &[0; 10], 3), Err(1));

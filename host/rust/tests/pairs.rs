@@ -185,13 +185,13 @@ macro_rules! calls_of_both {
                 tally: &mut Tally,
                 random: &mut Random,
                 llid: u16,
-                index: u8,
+                channel: u8,
                 payload: &[u8],
                 output: usize,
             ) -> Reply<Envelope> {
                 let mut lent = random.lent(output);
-                let answer = calls::$send(self.record, llid, index, payload, lent.part());
-                let expected = self.judge(|end| end.send(llid, index, payload, output));
+                let answer = calls::$send(self.record, llid, channel, payload, lent.part());
+                let expected = self.judge(|end| end.send(llid, channel, payload, output));
                 check_sent(&lent, answer.header, answer.count, &expected);
                 self.settle(tally, stringify!($send), answer.number, answer.$record, &expected);
                 expected

@@ -12,7 +12,7 @@ use Rattle.traffic.proofs.olt_send.Statement.{statement}
 use Rattle.traffic.proofs.olt_send.Tie as tie
 
 -- where the unit stands
-here : (c : tie.After-locate) → let a = c .before .before .before .before .args in c .locate .result ≡ locatedOf (a .olt) (sendAhead (misfit (a .payload .now) (a .output .now)) (a .index)) (a .llid)
+here : (c : tie.After-locate) → let a = c .before .before .before .before .args in c .locate .result ≡ locatedOf (a .olt) (sendAhead (misfit (a .payload .now) (a .output .now)) (a .channel)) (a .llid)
 unfolding misfit
 here c =
     let a = c .before .before .before .before .args in
@@ -37,13 +37,13 @@ send-at-requires : tie.Need-send-at-requires
 send-at-requires c κs =
     let a = c .before .before .before .before .before .before .before .before .args in
     let l = reaches _ _ _ _ (sym (here (c .before .before .before .before)) ∙ c .before .before .at2 .given .1) in
-    let q = send-passed (a .olt) (a .llid) (a .index) (a .payload .now) (a .output .now) _ l in
+    let q = send-passed (a .olt) (a .llid) (a .channel) (a .payload .now) (a .output .now) _ l in
     (l .valid, (l .found, (q .0, q .1)))
 
 returns : tie.Need-returns
 returns c =
     let a = c .before .before .before .before .before .before .before .before .args in
-    rw (c .not-sent .ensures) (olt-send-absent (a .olt) (a .llid) (a .index) (a .payload .now) (a .output .now) _ (sym (here (c .before .before .before .before)) ∙ c .before .before .at .given .1))
+    rw (c .not-sent .ensures) (olt-send-absent (a .olt) (a .llid) (a .channel) (a .payload .now) (a .output .now) _ (sym (here (c .before .before .before .before)) ∙ c .before .before .at .given .1))
 
 same-length : tie.Need-same-length
 same-length c = search needs
@@ -51,7 +51,7 @@ same-length c = search needs
 returns-2 : tie.Need-returns-2
 returns-2 c =
     let a = c .before .before .before .before .before .before .before .before .before .before .before .args in
-    c .before .before .send-at .ensures ∙ olt-send-at (a .olt) (a .llid) (a .index) (a .payload .now) (a .output .now) _ (reaches _ _ _ _ (sym (here (c .before .before .before .before .before .before .before)) ∙ c .before .before .before .before .before .at2 .given .1))
+    c .before .before .send-at .ensures ∙ olt-send-at (a .olt) (a .llid) (a .channel) (a .payload .now) (a .output .now) _ (reaches _ _ _ _ (sym (here (c .before .before .before .before .before .before .before)) ∙ c .before .before .before .before .before .at2 .given .1))
 
 pub olt-send-spec : {M : Type 1} → statement M
 olt-send-spec =

@@ -13,11 +13,11 @@ use Rattle.traffic.proofs.onu_send.Statement.{statement}
 use Rattle.traffic.proofs.onu_send.Tie as tie
 
 -- the verdict on the end and the call
-judged : (c : tie.After-send-verdict) → let a = c .before .before .before .before .args in c .send-verdict .result ≡ onuSendJudged (a .onu) (a .llid) (a .index) (a .payload .now) (a .output .now)
+judged : (c : tie.After-send-verdict) → let a = c .before .before .before .before .args in c .send-verdict .result ≡ onuSendJudged (a .onu) (a .llid) (a .channel) (a .payload .now) (a .output .now)
 unfolding misfit
 judged c =
     let a = c .before .before .before .before .args in
-    c .send-verdict .ensures ∙ ap (λ (t : Bool). refuseIf (not (validOnu (a .onu))) OutOfRange (onuSendVerdict (a .onu) t (a .llid) (a .index))) (c .before .misfit .ensures)
+    c .send-verdict .ensures ∙ ap (λ (t : Bool). refuseIf (not (validOnu (a .onu))) OutOfRange (onuSendVerdict (a .onu) t (a .llid) (a .channel))) (c .before .misfit .ensures)
 
 misfit-requires : tie.Need-misfit-requires
 misfit-requires c κs = search needs
@@ -37,7 +37,7 @@ enum-told c = search needs
 after-send-requires : tie.Need-after-send-requires
 after-send-requires c κs =
     let a = c .before .before .before .before .before .before .args in
-    onu-send-within (a .onu) (a .llid) (a .index) (a .payload .now) (a .output .now) (sym (judged (c .before .before)) ∙ c .enum-told .given .1)
+    onu-send-within (a .onu) (a .llid) (a .channel) (a .payload .now) (a .output .now) (sym (judged (c .before .before)) ∙ c .enum-told .given .1)
 
 send-choice-requires : tie.Need-send-choice-requires
 send-choice-requires c κs = search needs
@@ -48,12 +48,12 @@ sending-of-requires c κs = search needs
 carry-requires : tie.Need-carry-requires
 carry-requires c κs =
     let a = c .before .before .before .before .before .before .before .before .before .before .before .before .args in
-    onu-send-fits (a .onu) (a .llid) (a .index) (a .payload .now) (a .output .now) (c .before .before .before .sending-of .result) (sym (judged (c .before .before .before .before .before .before .before .before)) ∙ c .before .before .before .before .before .before .enum-told .given .1) (rw (sym (c .before .before .before .before .send-choice .ensures)) (c .before .before .before .sending-of .ensures))
+    onu-send-fits (a .onu) (a .llid) (a .channel) (a .payload .now) (a .output .now) (c .before .before .before .sending-of .result) (sym (judged (c .before .before .before .before .before .before .before .before)) ∙ c .before .before .before .before .before .before .enum-told .given .1) (rw (sym (c .before .before .before .before .send-choice .ensures)) (c .before .before .before .sending-of .ensures))
 
 returns : tie.Need-returns
 returns c =
     let a = c .before .before .before .before .before .before .before .before .args in
-    rw (c .not-sent .ensures) (onu-send-refused (a .onu) (a .llid) (a .index) (a .payload .now) (a .output .now) _ (sym (judged (c .before .before .before .before)) ∙ c .before .before .verdict .given .1))
+    rw (c .not-sent .ensures) (onu-send-refused (a .onu) (a .llid) (a .channel) (a .payload .now) (a .output .now) _ (sym (judged (c .before .before .before .before)) ∙ c .before .before .verdict .given .1))
 
 same-length : tie.Need-same-length
 same-length c = search needs
@@ -61,7 +61,7 @@ same-length c = search needs
 returns-2 : tie.Need-returns-2
 returns-2 c =
     let a = c .before .before .before .before .before .before .before .before .before .before .before .before .before .before .before .args in
-    onu-send-done (a .onu) (a .llid) (a .index) (a .payload .now) (a .output .now) _ _ _ _ (sym (judged (c .before .before .before .before .before .before .before .before .before .before .before)) ∙ c .before .before .before .before .before .before .before .before .before .enum-told .given .1)
+    onu-send-done (a .onu) (a .llid) (a .channel) (a .payload .now) (a .output .now) _ _ _ _ (sym (judged (c .before .before .before .before .before .before .before .before .before .before .before)) ∙ c .before .before .before .before .before .before .before .before .before .enum-told .given .1)
     (c .before .before .before .before .before .before .before .before .after-send .ensures) (rw (sym (c .before .before .before .before .before .before .before .send-choice .ensures)) (c .before .before .before .before .before .before .sending-of .ensures)) (c .before .before .carry .ensures)
 
 pub onu-send-spec : {M : Type 1} → statement M

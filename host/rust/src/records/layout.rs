@@ -31,7 +31,7 @@ layout!(Onu, 136, identity: 0, oltmac: 24, tick: 32, clock: 40, keys: 64, first:
 layout!(Stamps, 16, rx: 0, tx: 8);
 layout!(KeyMessage, 24, llid: 0, number: 4, key: 8);
 layout!(Acknowledgement, 8, kind: 0, number: 4);
-layout!(Header, 8, index: 0, llid: 2, encenabled: 4, enckey: 5, epam: 6);
+layout!(Header, 8, channel: 0, llid: 2, encenabled: 4, enckey: 5, epam: 6);
 layout!(OltAnswer, 2360, number: 0, olt: 8);
 layout!(ClockSent, 2376, number: 0, olt: 8, message: 2360);
 layout!(KeySent, 2384, number: 0, olt: 8, message: 2360);

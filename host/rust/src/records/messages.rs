@@ -34,7 +34,7 @@ pub struct Acknowledgement {
 #[derive(Clone, Copy, Debug, Default, PartialEq, Eq)]
 pub struct Header {
     /// Channel index: 00, 01 downstream, 80, 81 hex upstream.
-    pub index: u8,
+    pub channel: u8,
     pub llid: u16,
     pub encenabled: u8,
     /// The key's number mod 2.

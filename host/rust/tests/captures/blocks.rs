@@ -19,9 +19,9 @@ pub fn record(random: &mut Random, settings: &[u8], eqs: usize) -> Vec<u8> {
     let clock = random.clock();
     let rare = |random: &mut Random, usual: u8| if random.once_in(25) { random.next() as u8 } else { usual };
     let kind = random.below(2) as u8;
-    let index = random.pick(&[0x00, 0x01, 0x80, 0x81]);
+    let channel = random.pick(&[0x00, 0x01, 0x80, 0x81]);
     let flags = random.pick(&[0, 1, 1, 3, 3]);
-    let mut octets = vec![rare(random, kind), rare(random, index)];
+    let mut octets = vec![rare(random, kind), rare(random, channel)];
     octets.extend(if random.once_in(10) { random.octets(2) } else { settings.get(39..41).unwrap_or(&[0, 5]).to_vec() });
     octets.push(match random.below(25) {
         0 => 2,

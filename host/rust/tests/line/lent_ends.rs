@@ -12,8 +12,8 @@ use jazmotip::{Acknowledgement, Header, Identity, KeyMessage, Stamps};
 const ADVANCES: [u64; 5] = [0, 1, 1000, 1 << 48, 1 << 62];
 
 /// A header for a clock, sealed or clear.
-fn any_header(random: &mut Random, index: u8, llid: u16, clock: u64) -> Header {
-    Header { index, llid, encenabled: random.below(2) as u8, enckey: random.below(2) as u8, epam: (clock % 64) as u8 }
+fn any_header(random: &mut Random, channel: u8, llid: u16, clock: u64) -> Header {
+    Header { channel, llid, encenabled: random.below(2) as u8, enckey: random.below(2) as u8, epam: (clock % 64) as u8 }
 }
 
 impl World<'_> {

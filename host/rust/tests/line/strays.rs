@@ -11,8 +11,8 @@ pub const STRANGERS: u16 = 1000;
 /// Changes one thing of a receipt, or nothing.
 fn damage(random: &mut Random, header: &mut Header, octets: &mut Vec<u8>, output: &mut usize) {
     match random.below(12) {
-        0 => header.index ^= 0x80,
-        1 => header.index = random.next() as u8,
+        0 => header.channel ^= 0x80,
+        1 => header.channel = random.next() as u8,
         2 => header.llid = random.next() as u16,
         3 => header.encenabled ^= 1,
         4 => header.encenabled = random.next() as u8,
@@ -30,7 +30,7 @@ impl World<'_> {
     /// A receipt of an envelope that is on its way or past, with something wrong. In a list of the line only what is refused.
     pub fn receive_damaged(&mut self, i: usize) {
         let Some((_, mut header, mut octets)) = self.past.back().cloned() else { return };
-        let at_olt = header.index & 0x80 != 0;
+        let at_olt = header.channel & 0x80 != 0;
         let mut output = octets.len();
         let random = &mut *self.random;
         // so that one thing is wrong, the rest is made right
@@ -139,7 +139,7 @@ impl World<'_> {
     pub fn unknown_llid(&mut self) {
         let llid = STRANGERS - 1;
         let (tally, random) = (&mut *self.tally, &mut *self.random);
-        let header = Header { index: 0x80, llid, encenabled: 0, enckey: 0, epam: 0 };
+        let header = Header { channel: 0x80, llid, encenabled: 0, enckey: 0, epam: 0 };
         match random.below(7) {
             0 => assert_eq!(self.olt.capture(tally, llid), Err(2)),
             1 => assert_eq!(self.olt.clock_send(tally, llid), Err(2)),

@@ -26,12 +26,12 @@ impl World<'_> {
             }
             _ => (),
         }
-        let index = match self.random.below(40) {
+        let channel = match self.random.below(40) {
             0 => self.random.next() as u8,
             1 => direction ^ 0x80,
             _ => direction | self.random.below(2) as u8,
         };
-        (payload, output, index)
+        (payload, output, channel)
     }
 
     fn sent(&mut self, i: usize, downwards: bool, number: u64, envelope: Envelope, payload: Vec<u8>) {
@@ -47,7 +47,7 @@ impl World<'_> {
         });
         let Envelope { header, octets, count, sealed_under } = envelope;
         if let (Kind::Line, Some((key, mac, clock))) = (self.kind, sealed_under) {
-            assert!(self.sealed.insert((header.index, key, mac, clock)), "a counter block is used twice");
+            assert!(self.sealed.insert((header.channel, key, mac, clock)), "a counter block is used twice");
         }
         self.past.push_back((i, header, octets.clone()));
         if self.past.len() > 8 {
@@ -57,11 +57,11 @@ impl World<'_> {
     }
 
     pub fn olt_send(&mut self, i: usize) {
-        let (payload, output, index) = self.drawn(0x00);
+        let (payload, output, channel) = self.drawn(0x00);
         let llid = self.stations[i].llid(self.random);
         let key_age = |unit: &Unit, tick: u64| unit.first_send.map_or(0, |first| tick - first);
         let before = self.unit(i).map(|unit| (unit.active, key_age(unit, self.tick())));
-        let Ok(envelope) = self.olt.send(self.tally, self.random, llid, index, &payload, output) else { return };
+        let Ok(envelope) = self.olt.send(self.tally, self.random, llid, channel, &payload, output) else { return };
         let number = self.unit(i).expect("registered").active;
         if before.is_some_and(|(active, _)| active < number) {
             self.tally.event("OLT switched");
@@ -72,11 +72,11 @@ impl World<'_> {
     }
 
     pub fn onu_send(&mut self, i: usize) {
-        let (payload, output, index) = self.drawn(0x80);
+        let (payload, output, channel) = self.drawn(0x80);
         // 01: units are registered before their traffic; what others send is refused at the OLT
         let llid = self.stations[i].llid(self.random);
         let first = self.stations[i].end.sound().first_send;
-        let Ok(envelope) = self.stations[i].end.send(self.tally, self.random, llid, index, &payload, output) else { return };
+        let Ok(envelope) = self.stations[i].end.send(self.tally, self.random, llid, channel, &payload, output) else { return };
         if first.is_some_and(|first| self.tick() - first == KEY_LIFE - 1) {
             self.tally.event("unit sends at the last tick of a key");
         }

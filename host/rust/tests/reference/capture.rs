@@ -16,7 +16,7 @@ pub enum Fault {
 #[derive(Clone, Debug)]
 pub struct Record {
     pub kind: u8,
-    pub index: u8,
+    pub channel: u8,
     pub llid: u16,
     pub flags: u8,
     pub epam: u8,
@@ -55,7 +55,7 @@ pub fn directory(block: &[u8]) -> Result<Vec<Record>, Fault> {
         }
         records.push(Record {
             kind: record[0],
-            index: record[1],
+            channel: record[1],
             llid: number(&record[2..4]) as u16,
             flags: record[4],
             epam: record[5],
@@ -84,9 +84,9 @@ pub fn settings(octets: &[u8]) -> Reply<Settings> {
 
 /// What opening does with a record: `None` leaves it, being clear; else the index of the key and the key.
 pub fn judge(settings: &Settings, record: &Record) -> Reply<Option<(u8, Key)>> {
-    let index_known = record.index & 0b0111_1110 == 0;
+    let channel_known = record.channel & 0b0111_1110 == 0;
     let (enabled, enckey) = (record.flags & 1, record.flags >> 1 & 1);
-    refuse_if(record.kind > 1 || !index_known || record.flags > 3 || enckey > enabled, 1)?;
+    refuse_if(record.kind > 1 || !channel_known || record.flags > 3 || enckey > enabled, 1)?;
     refuse_if(record.llid != settings.llid, 2)?;
     refuse_if(u64::from(record.epam) != record.clock % 64, 10)?;
     match enabled {
@@ -121,7 +121,7 @@ pub fn open(octets: &[u8], block: &[u8], output: usize) -> Reply<(Vec<u8>, u64)>
     for record in records {
         if let Ok(Some((_, key))) = judge(&settings, &record) {
             let sealed = &block[record.payload.clone()];
-            let (opened, count) = payload::pass(&key, record.index, settings.mac, record.clock % CLOCK, sealed);
+            let (opened, count) = payload::pass(&key, record.channel, settings.mac, record.clock % CLOCK, sealed);
             out[record.payload].copy_from_slice(&opened);
             out[record.offset + 4] &= 0b1111_1100;
             total += count;
@@ -146,8 +146,8 @@ pub fn listing(octets: &[u8], block: &[u8]) -> String {
                     Ok(_) => "open".to_string(),
                     Err(refusal) => format!("refused {refusal}"),
                 };
-                let (llid, index, eqs) = (record.llid, record.index, record.eqs);
-                writeln!(text, "{} {llid:04x} {index:02x} {key} {eqs} {result}", i + 1).expect("text");
+                let (llid, channel, eqs) = (record.llid, record.channel, record.eqs);
+                writeln!(text, "{} {llid:04x} {channel:02x} {key} {eqs} {result}", i + 1).expect("text");
             }
         }
     }

@@ -58,12 +58,12 @@ pub struct Channels {
 }
 
 impl Channels {
-    pub fn is_taken(&self, index: u8, tick: u64) -> bool {
-        tick < self.free_from[usize::from(index & 1)]
+    pub fn is_taken(&self, channel: u8, tick: u64) -> bool {
+        tick < self.free_from[usize::from(channel & 1)]
     }
 
-    pub fn take(&mut self, index: u8, tick: u64, eqs: usize) {
-        self.free_from[usize::from(index & 1)] = tick + 1 + eqs as u64;
+    pub fn take(&mut self, channel: u8, tick: u64, eqs: usize) {
+        self.free_from[usize::from(channel & 1)] = tick + 1 + eqs as u64;
     }
 }
 
@@ -86,7 +86,7 @@ pub struct Opened {
 
 /// The 1 of a receipt: a channel index of the wrong direction, a flag or EPAM outside its bits, EncKey 1 with EncEnabled 0.
 pub fn header_out_of_range(header: &jazmotip::Header, direction: u8) -> bool {
-    header.index & 0xFE != direction
+    header.channel & 0xFE != direction
         || header.encenabled > 1
         || header.enckey > 1
         || header.epam > 63

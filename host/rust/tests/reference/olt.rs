@@ -152,12 +152,12 @@ impl Olt {
         Ok(())
     }
 
-    pub fn send(&mut self, llid: u16, index: u8, payload: &[u8], output: usize) -> Reply<Envelope> {
+    pub fn send(&mut self, llid: u16, channel: u8, payload: &[u8], output: usize) -> Reply<Envelope> {
         payload::check_lengths(payload.len(), output)?;
-        refuse_if(index != 0x00 && index != 0x01, 1)?;
+        refuse_if(channel != 0x00 && channel != 0x01, 1)?;
         let (tick, clock, mac) = (self.tick, self.clock, self.mac);
         let place = self.place(llid)?;
-        refuse_if(self.channels.is_taken(index, tick), 12)?;
+        refuse_if(self.channels.is_taken(channel, tick), 12)?;
         let unit = &mut self.units[place];
         if unit.switches() {
             unit.active = unit.offered;
@@ -171,17 +171,17 @@ impl Olt {
         let epam = (clock % 64) as u8;
         let envelope = match unit.active {
             0 => {
-                let header = Header { index, llid, encenabled: 0, enckey: 0, epam };
+                let header = Header { channel, llid, encenabled: 0, enckey: 0, epam };
                 Envelope { header, octets: payload.to_vec(), count: 0, sealed_under: None }
             }
             active => {
                 let key = unit.keys[&active];
-                let (octets, count) = payload::pass(&key, index, mac, clock, payload);
-                let header = Header { index, llid, encenabled: 1, enckey: (active % 2) as u8, epam };
+                let (octets, count) = payload::pass(&key, channel, mac, clock, payload);
+                let header = Header { channel, llid, encenabled: 1, enckey: (active % 2) as u8, epam };
                 Envelope { header, octets, count, sealed_under: Some((key, mac, clock)) }
             }
         };
-        self.channels.take(index, tick, payload.len() / 9);
+        self.channels.take(channel, tick, payload.len() / 9);
         Ok(envelope)
     }
 
@@ -203,7 +203,7 @@ impl Olt {
         } else {
             return Err(9);
         };
-        let (octets, count) = payload::pass(&unit.keys[&number], header.index, unit.identity.mac, clock, octets);
+        let (octets, count) = payload::pass(&unit.keys[&number], header.channel, unit.identity.mac, clock, octets);
         if number > unit.confirmed {
             unit.confirmed = number;
             unit.forget_all_but_active();

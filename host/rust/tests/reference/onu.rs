@@ -75,26 +75,26 @@ impl Onu {
         self.clocks.map_or(u64::from(self.local_time), |clocks| clocks.tx)
     }
 
-    pub fn send(&mut self, llid: u16, index: u8, payload: &[u8], output: usize) -> Reply<Envelope> {
+    pub fn send(&mut self, llid: u16, channel: u8, payload: &[u8], output: usize) -> Reply<Envelope> {
         payload::check_lengths(payload.len(), output)?;
-        refuse_if(index != 0x80 && index != 0x81, 1)?;
+        refuse_if(channel != 0x80 && channel != 0x81, 1)?;
         refuse_if(!self.identity.llids.contains(&llid), 2)?;
-        refuse_if(self.channels.is_taken(index, self.tick), 12)?;
+        refuse_if(self.channels.is_taken(channel, self.tick), 12)?;
         let clock = self.sender_clock();
         let epam = (clock % 64) as u8;
         let envelope = if self.active == 0 {
-            let header = Header { index, llid, encenabled: 0, enckey: 0, epam };
+            let header = Header { channel, llid, encenabled: 0, enckey: 0, epam };
             Envelope { header, octets: payload.to_vec(), count: 0, sealed_under: None }
         } else {
             let first = self.first_send.unwrap_or(self.tick);
             refuse_if(self.tick - first >= KEY_LIFE, 13)?;
             self.first_send = Some(first);
             let key = self.keys[&self.active];
-            let (octets, count) = payload::pass(&key, index, self.identity.mac, clock, payload);
-            let header = Header { index, llid, encenabled: 1, enckey: (self.active % 2) as u8, epam };
+            let (octets, count) = payload::pass(&key, channel, self.identity.mac, clock, payload);
+            let header = Header { channel, llid, encenabled: 1, enckey: (self.active % 2) as u8, epam };
             Envelope { header, octets, count, sealed_under: Some((key, self.identity.mac, clock)) }
         };
-        self.channels.take(index, self.tick, payload.len() / 9);
+        self.channels.take(channel, self.tick, payload.len() / 9);
         Ok(envelope)
     }
 
@@ -111,7 +111,7 @@ impl Onu {
         // the key in use and the next have different indices; there is no key 0
         let number = self.active + u64::from(self.active % 2 != u64::from(header.enckey));
         let key = *self.keys.get(&number).ok_or(9)?;
-        let (octets, count) = payload::pass(&key, header.index, self.olt_mac, clocks.rx, octets);
+        let (octets, count) = payload::pass(&key, header.channel, self.olt_mac, clocks.rx, octets);
         if number > self.active {
             self.keys.remove(&self.active);
             self.active = number;

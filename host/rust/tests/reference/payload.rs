@@ -6,9 +6,9 @@ use super::{refuse_if, Key, Reply, CLOCK};
 pub const MOST_EQS: usize = 4_194_303;
 
 /// Channel index, sender's MAC, cipher clock at the header, block index; all big-endian.
-pub fn counter_block(index: u8, mac: u64, clock: u64, block: u64) -> [u8; 16] {
+pub fn counter_block(channel: u8, mac: u64, clock: u64, block: u64) -> [u8; 16] {
     let mut octets = Vec::with_capacity(16);
-    octets.push(index);
+    octets.push(channel);
     octets.extend_from_slice(&mac.to_be_bytes()[2..]);
     octets.extend_from_slice(&clock.to_be_bytes()[2..]);
     octets.extend_from_slice(&block.to_be_bytes()[5..]);
@@ -16,16 +16,16 @@ pub fn counter_block(index: u8, mac: u64, clock: u64, block: u64) -> [u8; 16] {
 }
 
 /// Seals or opens, and counts the octets enciphered.
-pub fn pass(key: &Key, index: u8, mac: u64, clock: u64, payload: &[u8]) -> (Vec<u8>, u64) {
-    pass_expanded(&Schedule::new(key), index, mac, clock, payload)
+pub fn pass(key: &Key, channel: u8, mac: u64, clock: u64, payload: &[u8]) -> (Vec<u8>, u64) {
+    pass_expanded(&Schedule::new(key), channel, mac, clock, payload)
 }
 
-fn pass_expanded(schedule: &Schedule, index: u8, mac: u64, clock: u64, payload: &[u8]) -> (Vec<u8>, u64) {
+fn pass_expanded(schedule: &Schedule, channel: u8, mac: u64, clock: u64, payload: &[u8]) -> (Vec<u8>, u64) {
     let mut out = payload.to_vec();
     let mut count = 0;
     // two EQs share a block
     for (block, eqs) in out.chunks_mut(18).enumerate() {
-        let stream = schedule.encrypt(counter_block(index, mac, clock, block as u64));
+        let stream = schedule.encrypt(counter_block(channel, mac, clock, block as u64));
         for (eq, half) in eqs.chunks_mut(9).zip(stream.chunks(8)) {
             let control = eq[0];
             for j in 0..8 {

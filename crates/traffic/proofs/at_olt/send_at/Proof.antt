@@ -36,20 +36,20 @@ sending-requires : tie.Need-sending-requires
 sending-requires c κs = search needs
 
 -- the unit's verdict
-judged : (c : tie.After-send-verdict) → let a = c .before .before .before .before .before .before .args in c .send-verdict .result ≡ unitSendVerdict (a .olt .shared) (unitAt (a .olt) (a .i)) (a .index)
-judged c = let a = c .before .before .before .before .before .before .args in c .send-verdict .ensures ∙ ap (λ (u : UnitRecord). unitSendVerdict (a .olt .shared) u (a .index)) (c .before .before .before .unit-at .ensures)
+judged : (c : tie.After-send-verdict) → let a = c .before .before .before .before .before .before .args in c .send-verdict .result ≡ unitSendVerdict (a .olt .shared) (unitAt (a .olt) (a .i)) (a .channel)
+judged c = let a = c .before .before .before .before .before .before .args in c .send-verdict .ensures ∙ ap (λ (u : UnitRecord). unitSendVerdict (a .olt .shared) u (a .channel)) (c .before .before .before .unit-at .ensures)
 
 carry-requires : tie.Need-carry-requires
 carry-requires c κs =
     let s = c .before .before .before .before .before .before .before .before .before .before .before .before in
-    unit-send-fits (s .args .olt) (s .args .llid) (s .args .index) (s .args .i) (s .args .payload .now) (s .args .output .now) (c .before .before .before .sending .result) (s .pre .0) (s .pre .1 .1 .0) (s .pre .1 .1 .1)
+    unit-send-fits (s .args .olt) (s .args .llid) (s .args .channel) (s .args .i) (s .args .payload .now) (s .args .output .now) (c .before .before .before .sending .result) (s .pre .0) (s .pre .1 .1 .0) (s .pre .1 .1 .1)
     (rw (sym (c .before .before .before .before .before .before .before .before .before .unit-at .ensures)) (c .before .before .before .sending .ensures))
 
 returns : tie.Need-returns
 returns c =
     let a = c .before .before .before .before .before .before .before .before .before .before .args in
     rw (c .not-sent .ensures)
-    (unit-send-refused (a .olt) (a .llid) (a .index) (a .i) (a .payload .now) (a .output .now) _ (sym (judged (c .before .before .before .before)) ∙ c .before .before .verdict .given .1))
+    (unit-send-refused (a .olt) (a .llid) (a .channel) (a .i) (a .payload .now) (a .output .now) _ (sym (judged (c .before .before .before .before)) ∙ c .before .before .verdict .given .1))
 
 same-length : tie.Need-same-length
 same-length c = search needs
@@ -58,7 +58,7 @@ returns-2 : tie.Need-returns-2
 returns-2 c =
     let a = c .before .before .before .before .before .before .before .before .before .before .before .before .before .before .before .args in
     let u = sym (c .before .before .before .before .before .before .before .before .before .before .before .before .unit-at .ensures) in
-    unit-send-accepted (a .olt) (a .llid) (a .index) (a .i) (a .payload .now) (a .output .now) _ _ _ _ (sym (judged (c .before .before .before .before .before .before .before .before .before)) ∙ c .before .before .before .before .before .before .before .enum-told .given .1)
+    unit-send-accepted (a .olt) (a .llid) (a .channel) (a .i) (a .payload .now) (a .output .now) _ _ _ _ (sym (judged (c .before .before .before .before .before .before .before .before .before)) ∙ c .before .before .before .before .before .before .before .enum-told .given .1)
     (rw u (c .before .before .before .before .before .before .before .before .before .before .after-send .ensures)) (rw u (c .before .before .before .before .before .before .sending .ensures)) (c .before .before .carry .ensures)
 
 pub send-at-spec : {M : Type 1} → statement M

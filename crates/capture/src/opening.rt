@@ -36,8 +36,8 @@ use records::header::cleared;
 use refusal::Refusal;
 use refusal::Verdict;
 use sealing::aes128::RoundKeys;
-use sealing::aes128::expand_key;
 use sealing::counter_mode::seal_expanded;
+use sealing::key_expansion::expand_key;
 
 pub enum OpenAnswer {
     // the octets deciphered

@@ -4,6 +4,7 @@ use envelope::Nonce;
 use libc::STDOUT_FILENO;
 use sealing::aes128;
 use sealing::counter_mode;
+use sealing::key_expansion;
 
 // The control octet of EQ e: one value for all EQs, or, for 256, mixed.
 fn control(kind: u64, e: usize) -> u8 {
@@ -160,7 +161,7 @@ fn counter(index: u64) {
     let block = envelope::counter_block(nonce, index);
     print_octets(&block);
     io::write_all(STDOUT_FILENO, b" ");
-    let cipher = aes128::encrypt_block(aes128::expand_key(key(1)), block);
+    let cipher = aes128::encrypt_block(key_expansion::expand_key(key(1)), block);
     print_octets(&cipher);
     io::write_all(STDOUT_FILENO, b"\n");
 }

@@ -12,9 +12,9 @@ use envelope::seal_count;
 use envelope::seal_number;
 use refusal::Refusal;
 use sealing::aes128::RoundKeys;
-use sealing::aes128::expand_key;
 use sealing::counter_mode::seal;
 use sealing::counter_mode::seal_expanded;
+use sealing::key_expansion::expand_key;
 
 #[repr(C)]
 pub struct PayloadAnswer {

@@ -1,18 +1,14 @@
-// The forward cipher of AES-128 (FIPS 197). The tables are bound once by the caller and lent, and the key is expanded by 16 octets
-// at a time. The nine full rounds are written out column by column, in three parts with one caller each: so the compiler makes
+// The forward cipher of AES-128 (FIPS 197). The tables are bound once by the caller and lent. The nine full rounds are written out column by column, in three parts with one caller each: so the compiler makes
 // one run of code of them, where a loop over the rounds would keep the state in memory.
 ghost use mathlib.Core.Path.{_≡_};
 ghost use mathlib.Core.List.{_++_};
 ghost use Prim.Native.Nat.{_<_};
-ghost use lib.ListN.{length};
-ghost use Rattle.octets.specs.Lists.{replaced};
 ghost use Rattle.gf256.specs.Field.{xTimes};
 ghost use Rattle.gf256.specs.Substitution.{sbox};
 ghost use Rattle.gf256.specs.Table.{sboxTable, doublesTable};
 ghost use Rattle.sealing.specs.Cipher.{addRoundKey, roundKey, round, lastRound, cipher};
-ghost use Rattle.sealing.specs.KeyExpansion.{constantWord, keyExpansion};
-ghost use Rattle.sealing.specs.Steps.{shiftedColumn, roundColumn, nextKey};
-ghost use Rattle.sealing.specs.Words.{word, xorWords, rotWord, subWord};
+ghost use Rattle.sealing.specs.Steps.{shiftedColumn, roundColumn};
+ghost use Rattle.sealing.specs.Words.{word, xorWords, subWord};
 
 // The eleven round keys, one after the other.
 #[repr(C)]
@@ -35,7 +31,7 @@ fn double(table: &[u8; 256], x: u8) -> u8
 }
 
 // Word i of 16 octets.
-fn word_of(s: [u8; 16], i: usize) -> [u8; 4]
+pub(crate) fn word_of(s: [u8; 16], i: usize) -> [u8; 4]
     requires { ⌜ i < 4 ⌝ }
     ensures { λ r. ⌜ r ≡ word s i ⌝ }
 {
@@ -44,7 +40,7 @@ fn word_of(s: [u8; 16], i: usize) -> [u8; 4]
 }
 
 // The 16 octets of four words.
-fn joined(a: [u8; 4], b: [u8; 4], c: [u8; 4], d: [u8; 4]) -> [u8; 16]
+pub(crate) fn joined(a: [u8; 4], b: [u8; 4], c: [u8; 4], d: [u8; 4]) -> [u8; 16]
     ensures { λ r. ⌜ r ≡ word a 0 ++ (word b 0 ++ (word c 0 ++ word d 0)) ⌝ }
 {
     [
@@ -67,7 +63,7 @@ fn joined(a: [u8; 4], b: [u8; 4], c: [u8; 4], d: [u8; 4]) -> [u8; 16]
     ]
 }
 
-fn sub_word(subs: &[u8; 256], a: [u8; 4]) -> [u8; 4]
+pub(crate) fn sub_word(subs: &[u8; 256], a: [u8; 4]) -> [u8; 4]
     requires { ⌜ now subs ≡ sboxTable ⌝ }
     ensures { λ r. ⌜ r ≡ subWord a ⌝ }
 {
@@ -79,7 +75,7 @@ fn sub_word(subs: &[u8; 256], a: [u8; 4]) -> [u8; 4]
     ]
 }
 
-fn xor_words(a: [u8; 4], b: [u8; 4]) -> [u8; 4]
+pub(crate) fn xor_words(a: [u8; 4], b: [u8; 4]) -> [u8; 4]
     ensures { λ r. ⌜ r ≡ xorWords a b ⌝ }
 {
     [a[0] ^ b[0], a[1] ^ b[1], a[2] ^ b[2], a[3] ^ b[3]]
@@ -283,63 +279,4 @@ pub fn encrypt_block(keys: RoundKeys, block: [u8; 16]) -> [u8; 16]
     let subs = gf256::sbox_table();
     let doubles = gf256::doubles_table();
     encrypt_with(&subs, &doubles, keys, block)
-}
-
-fn rot_word(a: [u8; 4]) -> [u8; 4]
-    ensures { λ r. ⌜ r ≡ rotWord a ⌝ }
-{
-    [a[1], a[2], a[3], a[0]]
-}
-
-fn constant_word(x: u8) -> [u8; 4]
-    ensures { λ r. ⌜ r ≡ constantWord x ⌝ }
-{
-    [x, 0, 0, 0]
-}
-
-// The round key after k, where x is the power of x in its round constant.
-fn next_key(subs: &[u8; 256], k: [u8; 16], x: u8) -> [u8; 16]
-    requires { ⌜ now subs ≡ sboxTable ⌝ }
-    ensures { λ r. ⌜ r ≡ nextKey k x ⌝ }
-{
-    let t = xor_words(sub_word(subs, rot_word(word_of(k, 3))), constant_word(x));
-    let a = xor_words(word_of(k, 0), t);
-    let b = xor_words(word_of(k, 1), a);
-    let c = xor_words(word_of(k, 2), b);
-    let d = xor_words(word_of(k, 3), c);
-    joined(a, b, c, d)
-}
-
-// Stores a round key from the octet `at` on.
-fn put(w: &mut [u8; 176], at: usize, k: [u8; 16])
-    requires { ⌜ (at < 161) × (length (now w) ≡ 176) ⌝ }
-    ensures { λ r. ⌜ now (w .exit) ≡ replaced (now (w .entry)) at k ⌝ }
-{
-    for j in 0..16usize {
-        w[at + j] = k[j];
-    }
-}
-
-// The key expansion, with the table lent.
-pub(crate) fn expand_with(subs: &[u8; 256], key: [u8; 16]) -> RoundKeys
-    requires { ⌜ now subs ≡ sboxTable ⌝ }
-    ensures { λ r. ⌜ r .octets ≡ keyExpansion key ⌝ }
-{
-    let constants = gf256::round_constants();
-    let mut w = [0u8; 176];
-    let mut k = key;
-    put(&mut w, 0, k);
-    for n in 0..10usize {
-        let u = next_key(subs, k, constants[n]);
-        put(&mut w, 16 * (n + 1), u);
-        k = u;
-    }
-    RoundKeys { octets: w }
-}
-
-pub fn expand_key(key: [u8; 16]) -> RoundKeys
-    ensures { λ r. ⌜ r .octets ≡ keyExpansion key ⌝ }
-{
-    let subs = gf256::sbox_table();
-    expand_with(&subs, key)
 }

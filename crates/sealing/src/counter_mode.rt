@@ -9,7 +9,7 @@ ghost use Rattle.sealing.specs.Payload.{maskedEq, sealed};
 ghost use Rattle.sealing.specs.Seal.{sealing, outcome};
 use super::aes128::RoundKeys;
 use super::aes128::encrypt_with;
-use super::aes128::expand_with;
+use super::key_expansion::expand_with;
 use envelope::Nonce;
 use envelope::SealAnswer;
 use envelope::count;

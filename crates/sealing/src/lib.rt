@@ -1,3 +1,4 @@
 // AES-128 (FIPS 197), and the sealing and opening of envelope payloads with it (01, Counter block and mask).
 pub mod aes128;
 pub mod counter_mode;
+pub mod key_expansion;

@@ -2,6 +2,7 @@
 // What the documents say is in the file stdout.
 use libc::STDOUT_FILENO;
 use sealing::aes128;
+use sealing::key_expansion;
 ghost use Prim.Native.Nat.{_<_};
 
 // The value of a hexadecimal digit.
@@ -66,12 +67,12 @@ fn print_round_keys(keys: aes128::RoundKeys) {
 
 fn print_block(label: &[u8], key: &[u8; 32], block: &[u8; 32]) {
     io::write_all(STDOUT_FILENO, label);
-    print(aes128::encrypt_block(aes128::expand_key(octets(key)), octets(block)));
+    print(aes128::encrypt_block(key_expansion::expand_key(octets(key)), octets(block)));
 }
 
 fn main() {
     let key = b"2b7e151628aed2a6abf7158809cf4f3c";
-    print_round_keys(aes128::expand_key(octets(key)));
+    print_round_keys(key_expansion::expand_key(octets(key)));
     print_block(b"FIPS 197, B", key, b"3243f6a8885a308d313198a2e0370734");
     print_block(
         b"FIPS 197, C.1",

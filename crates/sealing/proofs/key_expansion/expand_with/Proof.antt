@@ -1,4 +1,4 @@
--- `aes128::expand_with` meets its contract. The loop keeps the array at the round keys made so far, and k at the last of them.
+-- `key_expansion::expand_with` meets its contract. The loop keeps the array at the round keys made so far, and k at the last of them.
 -- Assumes nothing.
 use mathlib.Core.Path.{_≡_, refl, ap, _∙_}
 use mathlib.Core.List.{List, _++_, append-nil}
@@ -11,8 +11,8 @@ use Rattle.gf256.specs.Table.{powerOfX, roundConstants}
 use Rattle.sealing.specs.KeyExpansion.{expanded, keyExpansion}
 use Rattle.sealing.proofs.KeyExpansion.{schedule-length, turned}
 use borrow.Author.Needs.{needs}
-use Rattle.sealing.proofs.aes128.expand_with.Statement.{statement}
-use Rattle.sealing.proofs.aes128.expand_with.Tie as tie
+use Rattle.sealing.proofs.key_expansion.expand_with.Statement.{statement}
+use Rattle.sealing.proofs.key_expansion.expand_with.Tie as tie
 
 abbrev Inv-loop : tie.InvT-loop
 Inv-loop subs constants w₀ k₀ n₀ w k n =

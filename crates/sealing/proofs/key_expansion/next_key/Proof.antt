@@ -1,4 +1,4 @@
--- `aes128::next_key` meets its contract, word by word.
+-- `key_expansion::next_key` meets its contract, word by word.
 -- Assumes nothing.
 use mathlib.Core.Path.{ap, ap₂, _∙_}
 use mathlib.Core.List.{List}
@@ -6,8 +6,8 @@ use Prim.Native.Nat.{ℕ}
 use Rattle.sealing.specs.Words.{xorWords, rotWord, subWord}
 use Rattle.sealing.proofs.KeyExpansion.{key-words}
 use borrow.Author.Needs.{needs}
-use Rattle.sealing.proofs.aes128.next_key.Statement.{statement}
-use Rattle.sealing.proofs.aes128.next_key.Tie as tie
+use Rattle.sealing.proofs.key_expansion.next_key.Statement.{statement}
+use Rattle.sealing.proofs.key_expansion.next_key.Tie as tie
 
 word-of-requires : tie.Need-word-of-requires
 word-of-requires c κs = search needs

@@ -1,4 +1,4 @@
--- `aes128::put` meets its contract. The loop keeps the array at its copy of the first j octets.
+-- `key_expansion::put` meets its contract. The loop keeps the array at its copy of the first j octets.
 -- Assumes nothing.
 use mathlib.Core.Path.{_≡_, ap, _∙_}
 use mathlib.Core.List.{List}
@@ -9,8 +9,8 @@ use lib.ListN.{length, set, getD}
 use lib.Seq.{paste, paste-zero, paste-suc}
 use Rattle.octets.proofs.Lists.{paste-all}
 use borrow.Author.Needs.{needs}
-use Rattle.sealing.proofs.aes128.put.Statement.{statement}
-use Rattle.sealing.proofs.aes128.put.Tie as tie
+use Rattle.sealing.proofs.key_expansion.put.Statement.{statement}
+use Rattle.sealing.proofs.key_expansion.put.Tie as tie
 
 abbrev Inv-loop : tie.InvT-loop
 Inv-loop w₀ at k j₀ w j = (j ≤ 16) × (length w₀ ≡ 176) × (length k ≡ 16) × (w ≡ paste w₀ at k j)

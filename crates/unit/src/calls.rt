@@ -1,9 +1,12 @@
 // The clock and key calls of the OLT on one unit (01, Clock; Keys).
 ghost use mathlib.Core.Path.{_≡_};
-ghost use mathlib.Core.Bool.{not};
-ghost use Rattle.refusal.specs.declared.Refusal.the-variants.{AtEnd, ClockNotSet, NothingOutstanding, OfferPending, SameKey};
+ghost use mathlib.Core.Bool.{false};
+ghost use lib.Dec.{eqb, leb};
+ghost use Rattle.octets.specs.Choice.{both, pick};
+ghost use Rattle.refusal.specs.declared.Refusal.the-variants.{AtEnd, ClockNotSet, OfferPending, SameKey};
 ghost use Rattle.refusal.specs.declared.Verdict.the-variants.{Accepted};
-ghost use Rattle.ends.specs.Replies.{refuseIf};
+ghost use Rattle.ends.specs.Messages.{clockKind, keyKind};
+ghost use Rattle.ends.specs.Replies.{isUp, refuseIf};
 ghost use Rattle.ends.specs.Records.{withClock};
 ghost use Rattle.ends.specs.UnitCalls.{acknowledgeUnit, clockCaptured, clockMessageOf, clockMessageSent, clockSendVerdict, keyMessageOf, offerVerdict, retryVerdict};
 use crate::ticks::since;
@@ -116,14 +119,17 @@ pub fn retry_verdict(keys: UnitKeys) -> Verdict
     Verdict::Accepted
 }
 
-// 8 where nothing is outstanding.
-fn outstanding(fits: bool) -> Verdict
-    ensures { λ r. ⌜ r ≡ refuseIf (not fits) NothingOutstanding Accepted ⌝ }
+// Whether an acknowledgement of that kind and number has its message: a clock message that was sent, or key O, which is 1 or more.
+fn is_outstanding(kind: u8, number: u32, sent: u8, offered: u32) -> bool
+    ensures { λ r. ⌜ r ≡ pick (eqb kind clockKind) (isUp sent) (pick (eqb kind keyKind) (both (leb 1 number) (eqb number offered)) false) ⌝ }
 {
-    if fits {
-        return Verdict::Accepted;
+    if kind == CLOCK_KIND {
+        return sent == 1;
     }
-    Verdict::Refused(Refusal::NothingOutstanding)
+    if kind == KEY_KIND {
+        return (1 <= number) & (number == offered);
+    }
+    false
 }
 
 pub fn acknowledge_verdict(
@@ -133,12 +139,10 @@ pub fn acknowledge_verdict(
 ) -> Verdict
     ensures { λ r. ⌜ r ≡ acknowledgeUnit acknowledgement shared unit .verdict ⌝ }
 {
-    if acknowledgement.kind == CLOCK_KIND {
-        return outstanding(unit.clock.sent == 1);
-    }
-    if acknowledgement.kind == KEY_KIND {
-        let number = acknowledgement.number;
-        return outstanding((1 <= number) & (number == unit.keys.offered));
+    let number = acknowledgement.number;
+    let offered = unit.keys.offered;
+    if is_outstanding(acknowledgement.kind, number, unit.clock.sent, offered) {
+        return Verdict::Accepted;
     }
     Verdict::Refused(Refusal::NothingOutstanding)
 }

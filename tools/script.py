@@ -1,4 +1,4 @@
-"""Reads the scripts of the programs `exchange` and `traffic_play`; their grammar stands at the top of each crate's src/script.rt.
+"""Reads the script of the program `exchange`; its grammar stands at the top of crates/exchange/src/script.rt and main.rt.
 
 A player has command(word, numbers), the number of its last call, and shown(word), the text of what a row shows.
 """

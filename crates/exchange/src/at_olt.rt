@@ -1,5 +1,7 @@
 // Words at the OLT: the ends that rows start from, fields, and calls.
 use crate::play;
+use crate::play::Aim;
+use crate::play::Envelope;
 use crate::play::Play;
 use crate::script;
 use crate::script::Numbers;
@@ -7,6 +9,7 @@ use crate::values;
 use clock::Stamps;
 use ends::Acknowledgement;
 use ends::ClockSent;
+use ends::Header;
 use ends::Identity;
 use ends::KeyMessage;
 use ends::KeySent;
@@ -15,31 +18,21 @@ use ends::OltAnswer;
 use ends::UnitKeys;
 use ends::UnitRecord;
 
-// The second unit, the last, or else the first.
-pub(crate) fn unit_at(o: Olt, place: u8) -> UnitRecord {
-    match place {
-        1 => o.units[1],
-        15 => o.units[15],
-        _ => o.units[0],
-    }
+// The OLT after a send or a receipt, and what passed.
+struct OltPassed {
+    number: u8,
+    olt: Olt,
+    count: u64,
+    envelope: Envelope,
 }
 
-fn with_unit(o: Olt, place: u8, unit: UnitRecord) -> OltAnswer {
-    let mut olt = o;
-    match place {
-        1 => olt.units[1] = unit,
-        _ => olt.units[0] = unit,
-    }
-    OltAnswer { number: 0, olt }
-}
-
-// Clock 0, and a unit with LLIDs 5 and 6, round trip 250.
+// Clock 0, and a unit with LLIDs 5 and 6 and round trip 250.
 fn one(interval: u64) -> OltAnswer {
     let fresh = olt::fresh(values::OLT_MAC, 0);
     olt::register(fresh.olt, values::unit(), 250, interval)
 }
 
-// At C, A and O, its clock sent and acknowledged. The octets of key A are 17, those in the other slot `other`.
+// At C, A and O, its clock sent and acknowledged.
 fn numbered(unit: UnitRecord, confirmed: u32, active: u32, offered: u32, other: u64) -> UnitRecord {
     let slots = values::slots(active, other);
     let mut u = unit;
@@ -59,19 +52,21 @@ fn numbered(unit: UnitRecord, confirmed: u32, active: u32, offered: u32, other: 
     u
 }
 
-// One unit at C, A and O, interval 1000, tick 100.
+// Tick 100, clock 65, and that unit at C, A and O with interval 1000.
 fn keyed(n: Numbers) -> OltAnswer {
     let start = one(1000);
-    let mut o = start.olt;
-    o.shared.tick = 100;
+    let mut olt = start.olt;
+    olt.shared.tick = 100;
+    olt.shared.clock = 65;
     let u = numbered(
-        o.units[0],
+        olt.units[0],
         script::u32_of(n.a),
         script::u32_of(n.b),
         script::u32_of(n.c),
         n.d,
     );
-    with_unit(o, 0, u)
+    olt.units[0] = u;
+    OltAnswer { number: 0, olt }
 }
 
 fn with_four(o: Olt, n: u16) -> OltAnswer {
@@ -96,89 +91,75 @@ fn full() -> OltAnswer {
     answer
 }
 
-fn named(o: Olt, place: u8, identity: Identity) -> OltAnswer {
-    let mut u = unit_at(o, place);
-    u.identity = identity;
-    with_unit(o, place, u)
-}
-
-fn shared_field(o: Olt, k: usize, value: u64, low: u8) -> OltAnswer {
-    let mut olt = o;
-    match k {
-        0 => olt.shared.mac = value,
-        1 => olt.shared.tick = value,
-        2 => olt.shared.clock = value,
-        3 => olt.shared.channels.zero = value,
-        4 => olt.shared.channels.one = value,
-        _ => olt.count = low,
+fn timer_flag(olt: Olt) -> OltAnswer {
+    let u = olt.units[0];
+    OltAnswer {
+        number: u.keys.timer.flag,
+        olt,
     }
-    OltAnswer { number: 0, olt }
 }
 
-fn unit_field(unit: UnitRecord, k: usize, value: u64, low: u8) -> UnitRecord {
+fn unit_field(unit: UnitRecord, k: usize, n: Numbers) -> UnitRecord {
+    let value = n.a;
+    let low = script::u8_of(value);
+    let identity = values::identity(n);
     let mut u = unit;
     match k {
-        6 => u.keys.timer.interval = value,
-        7 => u.keys.timer.count = value,
-        8 => u.keys.timer.flag = low,
-        9 => u.keys.first.noted = low,
-        10 => u.keys.first.tick = value,
-        11 => u.confirmation.acknowledged = low,
-        12 => u.clock.trip = value,
-        13 => u.clock.captured = low,
-        14 => u.clock.tick = value,
-        15 => u.clock.sent = low,
-        16 => u.clock.acknowledged = low,
+        22 => u.keys.timer.interval = value,
+        23 => u.keys.timer.count = value,
+        24 => u.keys.timer.flag = low,
+        25 => u.keys.first.noted = low,
+        26 => u.keys.first.tick = value,
+        27 => u.confirmation.acknowledged = low,
+        28 => u.clock.trip = value,
+        29 => u.clock.captured = low,
+        30 => u.clock.tick = value,
+        31 => u.clock.sent = low,
+        32 => u.clock.acknowledged = low,
+        33 => u.identity = identity,
         _ => {}
     }
     u
 }
 
-// `marked` is the mark that the offer is acknowledged, `clocked` that the clock is.
-fn field(o: Olt, place: u8, s: &[u8], at: usize, to: usize, value: u64) -> OltAnswer {
-    let k = script::word(
-        s,
-        at,
-        to,
-        b"mac tick clock channel0 channel1 units interval count flag noted first marked trip captured captured_at sent clocked",
-    );
-    let low = script::u8_of(value);
-    if k < 6 {
-        return shared_field(o, k, value, low);
+fn with_field(o: Olt, place: usize, k: usize, n: Numbers) -> OltAnswer {
+    let value = n.a;
+    let at = place % 16;
+    let mut olt = o;
+    let u = unit_field(olt.units[at], k, n);
+    olt.units[at] = u;
+    match k {
+        16 => olt.shared.mac = value,
+        17 => olt.shared.tick = value,
+        18 => olt.shared.clock = value,
+        19 => olt.shared.channels.zero = value,
+        20 => olt.shared.channels.one = value,
+        21 => olt.count = script::u8_of(value),
+        _ => {}
     }
-    with_unit(o, place, unit_field(unit_at(o, place), k, value, low))
+    OltAnswer { number: 0, olt }
 }
 
-fn timer_flag(o: Olt) -> OltAnswer {
-    let u = o.units[0];
-    OltAnswer {
-        number: u.keys.timer.flag,
-        olt: o,
-    }
-}
-
-fn answer(o: Olt, place: u8, k: usize, n: Numbers, under_way: Acknowledgement) -> OltAnswer {
+fn answer(o: Olt, place: usize, k: usize, n: Numbers, under_way: Acknowledgement) -> OltAnswer {
     let llid = script::u16_of(n.a);
     match k {
-        3 => timer_flag(o),
-        7 => olt::fresh(n.a, n.b),
-        8 => olt::register(o, values::identity(n), n.e, n.f),
-        9 => olt::advance(o, n.a),
-        10 => olt::capture(o, llid),
-        11 => olt::acknowledge(o, llid, values::acknowledgement(n)),
-        12 => olt::acknowledge(o, llid, under_way),
-        13 => olt::fresh(values::OLT_MAC, n.a),
-        14 => one(n.a),
-        15 => keyed(n),
-        16 => full(),
-        17 => named(o, place, values::identity(n)),
-        _ => OltAnswer { number: 0, olt: o },
+        3 => olt::fresh(n.a, n.b),
+        4 => olt::register(o, values::identity(n), n.e, n.f),
+        5 => olt::advance(o, n.a),
+        6 => olt::capture(o, llid),
+        7 => olt::acknowledge(o, llid, values::acknowledgement(n)),
+        8 => olt::acknowledge(o, llid, under_way),
+        9 => one(n.a),
+        10 => keyed(n),
+        11 => full(),
+        12 => timer_flag(o),
+        _ => with_field(o, place, k, n),
     }
 }
 
 fn clock_sent(a: OltAnswer, k: usize, llid: u16, message: Stamps) -> ClockSent {
     let olt = a.olt;
-    if k == 4 {
+    if k == 13 {
         return olt::clock_send(olt, llid);
     }
     ClockSent {
@@ -192,8 +173,8 @@ fn key_sent(a: ClockSent, k: usize, n: Numbers, message: KeyMessage) -> KeySent 
     let olt = a.olt;
     let llid = script::u16_of(n.a);
     match k {
-        5 => olt::offer(olt, llid, values::key(n.b)),
-        6 => olt::retry(olt, llid),
+        14 => olt::offer(olt, llid, values::key(n.b)),
+        15 => olt::retry(olt, llid),
         _ => KeySent {
             number: a.number,
             olt,
@@ -202,30 +183,76 @@ fn key_sent(a: ClockSent, k: usize, n: Numbers, message: KeyMessage) -> KeySent 
     }
 }
 
-// `timer` makes the flag of the timer the row's number. `acknowledge` gives any acknowledgement, `arrive` the one under way.
-fn word(p: Play, s: &[u8], at: usize, to: usize, n: Numbers) -> Play {
+// LLID and channel index.
+fn sent(o: Olt, n: Numbers, payload: [u8; 36], length: usize, room: usize) -> OltPassed {
+    let mut octets = play::lent();
+    let used = length % 37;
+    let free = room % 37;
+    let answer = traffic::olt_send(
+        o,
+        script::u16_of(n.a),
+        script::u8_of(n.b),
+        &payload[..used],
+        &mut octets[..free],
+    );
+    let olt = answer.olt;
+    let header = answer.header;
+    let envelope = Envelope { header, octets };
+    OltPassed {
+        number: answer.number,
+        olt,
+        count: answer.count,
+        envelope,
+    }
+}
+
+fn received(o: Olt, header: Header, payload: [u8; 36], length: usize, room: usize) -> OltPassed {
+    let mut octets = play::lent();
+    let used = length % 37;
+    let free = room % 37;
+    let answer = traffic::olt_receive(o, header, &payload[..used], &mut octets[..free]);
+    let olt = answer.olt;
+    let envelope = Envelope { header, octets };
+    OltPassed {
+        number: answer.number,
+        olt,
+        count: answer.count,
+        envelope,
+    }
+}
+
+fn passed(before: OltPassed, k: usize, n: Numbers, aim: Aim, carried: Envelope) -> OltPassed {
+    let payload = carried.octets;
+    match k {
+        0 => sent(before.olt, n, payload, aim.length, aim.room),
+        1 | 2 => received(before.olt, carried.header, payload, aim.length, aim.room),
+        _ => before,
+    }
+}
+
+// `receive` gives a header with the payload that is spoken of, `take` an envelope that is under way; `acknowledge` gives any
+// acknowledgement, `arrive` the one under way. `timer` makes the flag of the timer the row's number. From `mac` on the words set fields:
+// `marked` is the mark that the offer is acknowledged, `sent` and `clocked` that the clock is sent and acknowledged.
+pub(crate) fn command(p: Play, s: &[u8], at: usize, to: usize, n: Numbers) -> Play {
     let k = script::word(
         s,
         at,
         to,
-        b"olt onu unit timer clock_send offer retry fresh register advance capture acknowledge arrive new one keyed full identity",
+        b"send receive take fresh register advance capture acknowledge arrive one keyed full timer clock_send offer retry mac tick clock channel0 channel1 units interval count flag noted first marked trip captured captured_at sent clocked identity",
     );
-    if k < 2 {
-        return play::on_side(p, k as u8);
-    }
-    if k == 2 {
-        return play::at_place(p, script::u8_of(n.a));
-    }
-    let asked = answer(p.olt, p.place, k, n, p.acknowledgement);
+    script::mark(k > 33, b'?');
+    let asked = answer(p.olt, p.aim.place, k, n, p.acknowledgement);
     let timed = clock_sent(asked, k, script::u16_of(n.a), p.stamps);
-    let done = key_sent(timed, k, n, p.message);
-    play::after_call(p, done, timed.message)
-}
-
-pub(crate) fn command(p: Play, s: &[u8], at: usize, to: usize, end: usize) -> Play {
-    if script::octet(s, to) == b'=' {
-        let value = script::number(s, script::after(to, 1));
-        return play::after_olt(p, field(p.olt, p.place, s, at, to, value));
-    }
-    word(p, s, at, to, script::numbers_after(s, at, end))
+    let keyed = key_sent(timed, k, n, p.message);
+    let olt = keyed.olt;
+    let envelope = p.passed;
+    let before = OltPassed {
+        number: keyed.number,
+        olt,
+        count: p.count,
+        envelope,
+    };
+    let done = passed(before, k, n, p.aim, play::carried(p, k, n));
+    let r = play::after(p, k, n, done.number, done.count, done.envelope);
+    play::after_olt(r, done.olt, timed.message, keyed.message)
 }

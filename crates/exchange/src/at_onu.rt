@@ -1,27 +1,29 @@
-// Words at the ONU: the ends that rows start from, fields, and calls.
+// Words at a unit: the ends that rows start from, fields, and calls.
 use crate::play;
+use crate::play::Aim;
+use crate::play::Envelope;
 use crate::play::Play;
 use crate::script;
 use crate::script::Numbers;
 use crate::values;
 use clock::Stamps;
 use ends::Acknowledgement;
+use ends::Header;
 use ends::KeyMessage;
 use ends::Onu;
 use ends::OnuAcknowledged;
 use ends::OnuAnswer;
 use ends::OnuKeys;
 
-// Tx 0, Rx 0, tick 100.
-fn synced() -> OnuAnswer {
-    let fresh = onu::fresh(values::unit(), values::OLT_MAC, 0);
-    let answer = onu::clock_message(fresh.onu, Stamps { rx: 0, tx: 0 });
-    let mut onu = answer.onu;
-    onu.tick = 100;
-    OnuAnswer { number: 0, onu }
+// The unit after a send or a receipt, and what passed.
+struct OnuPassed {
+    number: u8,
+    onu: Onu,
+    count: u64,
+    envelope: Envelope,
 }
 
-// Synced: a is `active`, the octets of its key are 17, and `other` stands in the other slot.
+// Key a is `active`, and a + 1 is held or not; tick 100, Tx 2^32 + 65, Rx 250 less.
 fn keyed(active: u32, held: u8, other: u64) -> OnuAnswer {
     let slots = values::slots(active, other);
     let keys = OnuKeys {
@@ -29,55 +31,43 @@ fn keyed(active: u32, held: u8, other: u64) -> OnuAnswer {
         held,
         slots,
     };
-    let start = synced();
-    let mut onu = start.onu;
+    let fresh = onu::fresh(values::unit(), values::OLT_MAC, 65);
+    let mut onu = fresh.onu;
+    onu.tick = 100;
+    onu.clock.synced = 1;
+    onu.clock.time = 0x1_0000_0041;
+    onu.clock.rx = 0xffff_ff47;
     onu.keys = keys;
     OnuAnswer { number: 0, onu }
 }
 
-fn named(o: Onu, n: Numbers) -> OnuAnswer {
+fn with_field(o: Onu, k: usize, n: Numbers) -> OnuAnswer {
+    let value = n.a;
+    let low = script::u8_of(value);
     let identity = values::identity(n);
     let mut onu = o;
-    onu.identity = identity;
-    OnuAnswer { number: 0, onu }
-}
-
-fn with_field(o: Onu, k: usize, value: u64, low: u8) -> OnuAnswer {
-    let mut onu = o;
     match k {
-        0 => onu.oltmac = value,
-        1 => onu.tick = value,
-        2 => onu.clock.synced = low,
-        3 => onu.clock.time = value,
-        4 => onu.clock.rx = value,
-        5 => onu.first.noted = low,
-        6 => onu.first.tick = value,
-        7 => onu.channels.zero = value,
-        8 => onu.channels.one = value,
+        10 => onu.tick = value,
+        11 => onu.channels.zero = value,
+        12 => onu.channels.one = value,
+        13 => onu.first.noted = low,
+        14 => onu.first.tick = value,
+        15 => onu.clock.synced = low,
+        16 => onu.clock.time = value,
+        17 => onu.clock.rx = value,
+        18 => onu.oltmac = value,
+        19 => onu.identity = identity,
         _ => {}
     }
     OnuAnswer { number: 0, onu }
 }
 
-fn field(o: Onu, s: &[u8], at: usize, to: usize, value: u64) -> OnuAnswer {
-    let k = script::word(
-        s,
-        at,
-        to,
-        b"olt_mac tick synced time rx noted first channel0 channel1",
-    );
-    with_field(o, k, value, script::u8_of(value))
-}
-
 fn answer(o: Onu, k: usize, n: Numbers) -> OnuAnswer {
     match k {
-        6 => onu::fresh(values::identity(n), n.e, n.f),
-        7 => onu::advance(o, n.a),
-        8 => onu::fresh(values::unit(), values::OLT_MAC, n.a),
-        9 => synced(),
-        10 => keyed(script::u32_of(n.a), script::u8_of(n.b), n.c),
-        11 => named(o, n),
-        _ => OnuAnswer { number: 0, onu: o },
+        3 => onu::fresh(values::identity(n), n.e, n.f),
+        4 => onu::advance(o, n.a),
+        5 => keyed(script::u32_of(n.a), script::u8_of(n.b), n.c),
+        _ => with_field(o, k, n),
     }
 }
 
@@ -92,10 +82,10 @@ fn acknowledged(
 ) -> OnuAcknowledged {
     let onu = a.onu;
     match k {
-        2 => onu::clock_message(onu, Stamps { rx: n.a, tx: n.b }),
-        3 => onu::clock_message(onu, stamps),
-        4 => onu::key_message(onu, values::key_message(n)),
-        5 => onu::key_message(onu, message),
+        6 => onu::clock_message(onu, Stamps { rx: n.a, tx: n.b }),
+        7 => onu::clock_message(onu, stamps),
+        8 => onu::key_message(onu, values::key_message(n)),
+        9 => onu::key_message(onu, message),
         _ => OnuAcknowledged {
             number: a.number,
             onu,
@@ -104,25 +94,72 @@ fn acknowledged(
     }
 }
 
-fn word(p: Play, s: &[u8], at: usize, to: usize, n: Numbers) -> Play {
+// LLID and channel index.
+fn sent(o: Onu, n: Numbers, payload: [u8; 36], length: usize, room: usize) -> OnuPassed {
+    let mut octets = play::lent();
+    let used = length % 37;
+    let free = room % 37;
+    let answer = traffic::onu_send(
+        o,
+        script::u16_of(n.a),
+        script::u8_of(n.b),
+        &payload[..used],
+        &mut octets[..free],
+    );
+    let onu = answer.onu;
+    let header = answer.header;
+    let envelope = Envelope { header, octets };
+    OnuPassed {
+        number: answer.number,
+        onu,
+        count: answer.count,
+        envelope,
+    }
+}
+
+fn received(o: Onu, header: Header, payload: [u8; 36], length: usize, room: usize) -> OnuPassed {
+    let mut octets = play::lent();
+    let used = length % 37;
+    let free = room % 37;
+    let answer = traffic::onu_receive(o, header, &payload[..used], &mut octets[..free]);
+    let onu = answer.onu;
+    let envelope = Envelope { header, octets };
+    OnuPassed {
+        number: answer.number,
+        onu,
+        count: answer.count,
+        envelope,
+    }
+}
+
+fn passed(before: OnuPassed, k: usize, n: Numbers, aim: Aim, carried: Envelope) -> OnuPassed {
+    let payload = carried.octets;
+    match k {
+        0 => sent(before.onu, n, payload, aim.length, aim.room),
+        1 | 2 => received(before.onu, carried.header, payload, aim.length, aim.room),
+        _ => before,
+    }
+}
+
+pub(crate) fn command(p: Play, s: &[u8], at: usize, to: usize, n: Numbers) -> Play {
     let k = script::word(
         s,
         at,
         to,
-        b"olt onu clock_message clock_arrives key_message key_arrives fresh advance new synced keyed identity",
+        b"send receive take fresh advance keyed clock_message clock_arrives key_message key_arrives tick channel0 channel1 noted first synced time rx olt_mac identity",
     );
-    if k < 2 {
-        return play::on_side(p, k as u8);
-    }
-    let asked = answer(p.onu, k, n);
+    script::mark(k > 19, b'?');
+    let asked = answer(play::unit(p), k, n);
     let taken = acknowledged(asked, k, n, p.stamps, p.message, p.acknowledgement);
-    play::after_message(p, taken)
-}
-
-pub(crate) fn command(p: Play, s: &[u8], at: usize, to: usize, end: usize) -> Play {
-    if script::octet(s, to) == b'=' {
-        let value = script::number(s, script::after(to, 1));
-        return play::after_onu(p, field(p.onu, s, at, to, value));
-    }
-    word(p, s, at, to, script::numbers_after(s, at, end))
+    let onu = taken.onu;
+    let envelope = p.passed;
+    let before = OnuPassed {
+        number: taken.number,
+        onu,
+        count: p.count,
+        envelope,
+    };
+    let done = passed(before, k, n, p.aim, play::carried(p, k, n));
+    let r = play::after(p, k, n, done.number, done.count, done.envelope);
+    play::after_unit(r, done.onu, taken.acknowledgement)
 }

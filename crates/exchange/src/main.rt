@@ -1,37 +1,41 @@
-// Plays the script on standard input: an exchange between the two ends, every refusal of their calls but send and receive, and what
-// the readings of 01 tell apart. A line is a remark (#), a title, or a row: its label, what is played, and what is shown of it.
+// Plays the script on standard input: exchanges between an OLT and two units, of clocks and keys and of envelopes, with losses, retries
+// and switches; every refusal of the calls of both ends; and what the readings of 01 tell apart. A line is a remark (#), a title, or a
+// row: its label, what is played, and after the colon what is shown of it. What it must print is made by tools/exchange.py.
 mod at_olt;
 mod at_onu;
+mod named;
 mod play;
 mod script;
-mod shown;
+mod show;
 mod values;
 
 ghost use Prim.Native.Nat.{_≤_};
 use play::Play;
 
-// Before the colon, a word with the numbers after it or a field with its value, as tick=100; after it, a value's name. Numbers go with
-// the word before them.
+// Before the colon, a word with the numbers after it; after it, what is shown. Numbers go with the word before them.
 fn command(p: Play, s: &[u8], at: usize, to: usize, end: usize) -> Play
-    requires { ⌜ (at ≤ to) × (to ≤ end) ⌝ }
+    requires { ⌜ at ≤ end ⌝ }
 {
     if script::is_digit(script::octet(s, at)) {
         return p;
     }
-    let colon = script::until(s, at, end, b':');
-    let equals = script::until(s, at, to, b'=');
-    if colon == at {
-        shown::number(p.number);
+    if script::until(s, at, end, b':') == end {
+        show::show(p, s, at, to);
         return p;
     }
-    if colon == end {
-        shown::show(p, s, at, to);
+    let k = script::word(s, at, to, b"olt onu onu2 unit lengths control all :");
+    let n = script::numbers_after(s, at, end);
+    if k < 7 {
+        return play::turned(p, k, n);
+    }
+    if k == 7 {
+        show::number(p.number);
         return p;
     }
-    if p.side == 1 {
-        return at_onu::command(p, s, at, equals, end);
+    if p.aim.side == 0 {
+        return at_olt::command(p, s, at, to, n);
     }
-    at_olt::command(p, s, at, equals, end)
+    at_onu::command(p, s, at, to, n)
 }
 
 fn play_all(s: &[u8]) {

@@ -1,6 +1,6 @@
-// Reading the script: words and numbers, one space apart. A number is decimal, or a power of 2 as 2^48, and may have another added
-// or taken away, as 2^48-1.
-ghost use Prim.Native.Nat.{_≤_, _<_};
+// Reading the script: words and numbers, one space apart. A number is decimal, hexadecimal as 0x41, or a power of 2 as 2^48, and may
+// have another added or taken away, as 2^48-1.
+ghost use Prim.Native.Nat.{_≤_};
 use libc::STDOUT_FILENO;
 
 // Up to six numbers after a word; those that are not there are 0.
@@ -27,7 +27,7 @@ pub(crate) fn octet(s: &[u8], at: usize) -> u8 {
     b'\n'
 }
 
-pub(crate) fn after(at: usize, n: usize) -> usize {
+fn after(at: usize, n: usize) -> usize {
     std::num::wrapping_add_usize(at, n)
 }
 
@@ -78,8 +78,7 @@ fn stands(s: &[u8], at: usize, to: usize, name: &[u8]) -> bool {
     after(at, name.len()) == to
 }
 
-// Which of the names, counted from 0, stands from `at` to `to`. Where none does, a mark is written, so that a word that is misspelt
-// does not go unseen.
+// Which of the names, counted from 0, stands from `at` to `to`; where none does, how many there are.
 pub(crate) fn word(s: &[u8], at: usize, to: usize, names: &[u8]) -> usize {
     let mut k = 0;
     let mut from = 0;
@@ -91,26 +90,34 @@ pub(crate) fn word(s: &[u8], at: usize, to: usize, names: &[u8]) -> usize {
         k += 1;
         from = end + 1;
     }
-    put(b'?');
     k
 }
 
-// Below 10 for a digit.
-fn digit(x: u8) -> u64
-    ensures { λ r. ⌜ r < 256 ⌝ }
-{
-    std::num::wrapping_sub_u8(x, b'0') as u64
+// Below the base for a digit of it.
+fn digit(x: u8) -> u64 {
+    match x {
+        b'a'..=b'f' => std::num::wrapping_sub_u8(x, 87) as u64,
+        _ => std::num::wrapping_sub_u8(x, b'0') as u64,
+    }
 }
 
 pub(crate) fn is_digit(x: u8) -> bool {
     digit(x) < 10
 }
 
-fn decimal(s: &[u8], at: usize) -> Term {
+// A place more, in base 10 or 16.
+fn scaled(value: u64, base: u64) -> u64 {
+    match base {
+        16 => value % 0x1000_0000_0000_0000 * 16,
+        _ => value % 0x1000_0000_0000_0000 * 10,
+    }
+}
+
+fn digits(s: &[u8], at: usize, base: u64) -> Term {
     let mut value: u64 = 0;
     let mut next = at;
-    while next < s.len() && digit(s[next]) < 10 {
-        value = value % 0x1000_0000_0000_0000 * 10 + digit(s[next]);
+    while next < s.len() && digit(s[next]) < base {
+        value = std::num::wrapping_add_u64(scaled(value, base), digit(s[next]));
         next += 1;
     }
     Term { value, next }
@@ -125,18 +132,22 @@ fn power(n: u64) -> u64 {
 }
 
 fn unsigned(s: &[u8], at: usize) -> Term {
-    let first = decimal(s, at);
-    if octet(s, first.next) != b'^' {
-        return first;
-    }
-    let exponent = decimal(s, after(first.next, 1));
-    Term {
-        value: power(exponent.value),
-        next: exponent.next,
+    let first = digits(s, at, 10);
+    let after_mark = after(first.next, 1);
+    match octet(s, first.next) {
+        b'x' => digits(s, after_mark, 16),
+        b'^' => {
+            let exponent = digits(s, after_mark, 10);
+            Term {
+                value: power(exponent.value),
+                next: exponent.next,
+            }
+        }
+        _ => first,
     }
 }
 
-pub(crate) fn number(s: &[u8], at: usize) -> u64 {
+fn number(s: &[u8], at: usize) -> u64 {
     let first = unsigned(s, at);
     let second = unsigned(s, after(first.next, 1));
     match octet(s, first.next) {

@@ -1,21 +1,13 @@
-// Names and keys.
+// Names, keys, payloads and headers.
 use crate::script;
 use crate::script::Numbers;
 use ends::Acknowledgement;
+use ends::Header;
 use ends::Identity;
 use ends::KeyMessage;
 use ends::Slots;
 
 pub const OLT_MAC: u64 = 0x0200_0000_0001;
-
-// MAC, two LLIDs, and how many of four places are in use.
-pub(crate) fn identity(n: Numbers) -> Identity {
-    Identity {
-        mac: n.a,
-        llids: [script::u16_of(n.b), script::u16_of(n.c), 7, 8],
-        count: script::u8_of(n.d),
-    }
-}
 
 // LLIDs 5 and 6.
 pub(crate) fn unit() -> Identity {
@@ -26,12 +18,25 @@ pub(crate) fn unit() -> Identity {
     }
 }
 
-// A key of sixteen equal octets.
-pub(crate) fn key(octet: u64) -> [u8; 16] {
-    [script::u8_of(octet); 16]
+// MAC, two LLIDs, and how many of four places are in use.
+pub(crate) fn identity(n: Numbers) -> Identity {
+    Identity {
+        mac: n.a,
+        llids: [script::u16_of(n.b), script::u16_of(n.c), 7, 8],
+        count: script::u8_of(n.d),
+    }
 }
 
-// Key n has the octets 17, `other` stands at the other index.
+// A key by its first octet; 0 is the key of zeros.
+pub(crate) fn key(first: u64) -> [u8; 16] {
+    if first == 0 {
+        return [0; 16];
+    }
+    let octet = script::u8_of(first);
+    [octet, 1, 2, 3, 4, 5, 6, 7, 8, 9, 10, 11, 12, 13, 14, 15]
+}
+
+// Key n has the first octet 17; `other` is that of the key in the other slot.
 pub(crate) fn slots(n: u32, other: u64) -> Slots {
     let zeros = Slots {
         even: [0; 16],
@@ -49,10 +54,66 @@ pub(crate) fn acknowledgement(n: Numbers) -> Acknowledgement {
     }
 }
 
-// LLID, number and the octets of the key.
+// LLID, number and the first octet of the key.
 pub(crate) fn key_message(n: Numbers) -> KeyMessage {
     let llid = script::u16_of(n.a);
     let number = script::u32_of(n.b);
     let key = key(n.c);
     KeyMessage { llid, number, key }
+}
+
+// Channel index, LLID, EncEnabled, EncKey and EPAM.
+pub(crate) fn header(n: Numbers) -> Header {
+    Header {
+        channel: script::u8_of(n.a),
+        llid: script::u16_of(n.b),
+        encenabled: script::u8_of(n.c),
+        enckey: script::u8_of(n.d),
+        epam: script::u8_of(n.e),
+    }
+}
+
+// Four EQs, the first three with those control octets.
+pub(crate) fn payload(a: u64, b: u64, c: u64) -> [u8; 36] {
+    let one = script::u8_of(a);
+    let two = script::u8_of(b);
+    let three = script::u8_of(c);
+    [
+        one,
+        16,
+        17,
+        18,
+        19,
+        20,
+        21,
+        22,
+        23,
+        two,
+        32,
+        33,
+        34,
+        35,
+        36,
+        37,
+        38,
+        39,
+        three,
+        48,
+        49,
+        50,
+        51,
+        52,
+        53,
+        54,
+        55,
+        0,
+        64,
+        65,
+        66,
+        67,
+        68,
+        69,
+        70,
+        71,
+    ]
 }

@@ -1,10 +1,10 @@
--- `traffic_play::at_olt::received` is safe and ends: both parts lie within their arrays.
+-- `exchange::at_olt::received` is safe and ends: both parts lie within their arrays.
 -- Assumes nothing.
 use borrow.Author.Needs.{needs}
 use lib.Seq.{length-take-le}
 use mathlib.Core.Path.{sym}
-use Rattle.traffic_play.proofs.at_olt.received.Statement.{statement}
-use Rattle.traffic_play.proofs.at_olt.received.Tie as tie
+use Rattle.exchange.proofs.at_olt.received.Statement.{statement}
+use Rattle.exchange.proofs.at_olt.received.Tie as tie
 
 lent-requires : tie.Need-lent-requires
 lent-requires c κs = search needs

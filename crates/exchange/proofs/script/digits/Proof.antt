@@ -1,16 +1,16 @@
--- `exchange::script::decimal` is safe and ends: each turn passes a digit.
+-- `exchange::script::digits` is safe and ends: each turn passes a digit.
 -- Assumes nothing.
 use Prim.Native.Nat.{_-_}
 use borrow.Author.Needs.{needs}
 use lib.ListN.{length}
-use Rattle.exchange.proofs.script.decimal.Statement.{statement}
-use Rattle.exchange.proofs.script.decimal.Tie as tie
+use Rattle.exchange.proofs.script.digits.Statement.{statement}
+use Rattle.exchange.proofs.script.digits.Tie as tie
 
 abbrev Inv-loop : tie.InvT-loop
-Inv-loop s at value₀ next₀ value next = Unit {0}
+Inv-loop s at base value₀ next₀ value next = Unit {0}
 
 abbrev μ-loop : tie.MeasureT-loop
-μ-loop s at value₀ next₀ value next = length s - next
+μ-loop s at base value₀ next₀ value next = length s - next
 
 loop-holds : tie.Need-loop-holds Inv-loop μ-loop
 loop-holds c = search needs
@@ -21,8 +21,8 @@ shared-slice-read-digit c = search needs
 digit-requires : tie.Need-digit-requires Inv-loop μ-loop
 digit-requires c κs = search needs
 
-mul-value : tie.Need-mul-value Inv-loop μ-loop
-mul-value c = search needs
+scaled-requires : tie.Need-scaled-requires Inv-loop μ-loop
+scaled-requires c κs = search needs
 
 shared-slice-read-digit-2 : tie.Need-shared-slice-read-digit-2 Inv-loop μ-loop
 shared-slice-read-digit-2 c = search needs
@@ -30,8 +30,8 @@ shared-slice-read-digit-2 c = search needs
 digit-requires-2 : tie.Need-digit-requires-2 Inv-loop μ-loop
 digit-requires-2 c κs = search needs
 
-add-value : tie.Need-add-value Inv-loop μ-loop
-add-value c = search needs
+wrapping-add-u64-requires : tie.Need-wrapping-add-u64-requires Inv-loop μ-loop
+wrapping-add-u64-requires c κs = search needs
 
 add-next : tie.Need-add-next Inv-loop μ-loop
 add-next c = search needs
@@ -48,8 +48,8 @@ returns c = search needs
 returns-2 : tie.Need-returns-2 Inv-loop μ-loop
 returns-2 c = search needs
 
-pub decimal-spec : {M : Type 1} → statement M
-decimal-spec =
+pub digits-spec : {M : Type 1} → statement M
+digits-spec =
     tie.close
     (tie.spec
     Inv-loop
@@ -57,10 +57,10 @@ decimal-spec =
     loop-holds
     shared-slice-read-digit
     digit-requires
-    mul-value
+    scaled-requires
     shared-slice-read-digit-2
     digit-requires-2
-    add-value
+    wrapping-add-u64-requires
     add-next
     loop-less
     loop-again

@@ -1,9 +1,9 @@
--- `traffic_play::show::octets` is safe and ends.
+-- `exchange::show::octets` is safe and ends.
 -- Assumes nothing.
 use Prim.Native.Nat.{_≤_, _-_}
 use borrow.Author.Needs.{needs}
-use Rattle.traffic_play.proofs.show.octets.Statement.{statement}
-use Rattle.traffic_play.proofs.show.octets.Tie as tie
+use Rattle.exchange.proofs.show.octets.Statement.{statement}
+use Rattle.exchange.proofs.show.octets.Tie as tie
 
 abbrev Inv-loop : tie.InvT-loop
 Inv-loop s n i₀ i = i ≤ n

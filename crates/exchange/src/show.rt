@@ -1,4 +1,5 @@
 // What a row shows: the number of the last call, what it handed over, and how it left the end.
+use crate::named;
 use crate::play;
 use crate::play::Envelope;
 use crate::play::Play;
@@ -172,8 +173,8 @@ fn output(passed: Envelope, count: u64, room: usize) {
 // The words state, stamps and slots at the OLT.
 fn at_olt(o: Olt, u: UnitRecord, sent: Stamps, k: usize) {
     match k {
-        4 => stamps(sent.rx, sent.tx),
-        5 => slots(u.keys.slots),
+        3 => stamps(sent.rx, sent.tx),
+        4 => slots(u.keys.slots),
         _ => record(u, o.shared.channels),
     }
 }
@@ -181,13 +182,13 @@ fn at_olt(o: Olt, u: UnitRecord, sent: Stamps, k: usize) {
 // The same at a unit.
 fn at_onu(o: Onu, k: usize) {
     match k {
-        4 => stamps(o.clock.rx, o.clock.time),
-        5 => slots(o.keys.slots),
+        3 => stamps(o.clock.rx, o.clock.time),
+        4 => slots(o.keys.slots),
         _ => unit(o),
     }
 }
 
-fn number(number: u8) {
+pub(crate) fn number(number: u8) {
     few(b": %", number as u64, 0, 0, 0);
 }
 
@@ -204,10 +205,10 @@ fn all_ends(first: u8, second: u8, shared: Shared) {
 
 // The words sent, received, state, stamps and slots.
 fn at_end(p: Play, u: UnitRecord, k: usize) {
-    if k == 1 {
+    if k == 0 {
         header(p.passed.header);
     }
-    if k < 3 {
+    if k < 2 {
         output(p.passed, p.count, p.aim.room);
     }
     if p.aim.side == 0 {
@@ -226,17 +227,35 @@ fn keys(p: Play, u: UnitRecord) {
     }
 }
 
-// The words : sent received state stamps slots message answer ends keys, by their place.
-pub(crate) fn show(p: Play, k: usize) {
+// The OLT's clock beside those of unit 1.
+fn clocks(clock: u64, o: Onu) {
+    few(
+        b", OLT clock %, Tx %, Rx %",
+        clock,
+        o.clock.time,
+        o.clock.rx,
+        0,
+    );
+}
+
+// What a word after the colon stands for; where it is none of these, a value by its name.
+pub(crate) fn show(p: Play, s: &[u8], at: usize, to: usize) {
+    let k = script::word(
+        s,
+        at,
+        to,
+        b"sent received state stamps slots message answer ends keys clocks",
+    );
     let olt = p.olt;
     let place = p.aim.place % 16;
     let u = olt.units[place];
     match k {
-        0 => number(p.number),
-        6 => message(p.message),
-        7 => answer(p.acknowledgement),
-        8 => all_ends(p.first, p.second, p.olt.shared),
-        9 => keys(p, u),
+        5 => message(p.message),
+        6 => answer(p.acknowledgement),
+        7 => all_ends(p.first, p.second, p.olt.shared),
+        8 => keys(p, u),
+        9 => clocks(p.olt.shared.clock, p.one),
+        10 => named::show(p, u, s, at, to),
         _ => at_end(p, u, k),
     }
 }

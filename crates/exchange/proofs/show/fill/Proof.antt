@@ -1,10 +1,10 @@
--- `traffic_play::show::fill` is safe and ends.
+-- `exchange::show::fill` is safe and ends.
 -- Assumes nothing.
 use Prim.Native.Nat.{_≤_, _-_}
 use borrow.Author.Needs.{needs}
 use lib.ListN.{length}
-use Rattle.traffic_play.proofs.show.fill.Statement.{statement}
-use Rattle.traffic_play.proofs.show.fill.Tie as tie
+use Rattle.exchange.proofs.show.fill.Statement.{statement}
+use Rattle.exchange.proofs.show.fill.Tie as tie
 
 abbrev Inv-loop : tie.InvT-loop
 Inv-loop text values k₀ i₀ i-end k i = i ≤ length text

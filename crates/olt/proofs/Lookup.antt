@@ -21,7 +21,7 @@ use Rattle.ends.proofs.Table.{find-at}
 use Rattle.ends.proofs.Validity.{olt-in-range}
 use Rattle.olt.specs.Lookup.{foundAt, foundAfter, locatedOf}
 use Rattle.olt.specs.declared.Located.{Located}
-use Rattle.olt.specs.declared.Located.the-variants.{Place, Absent}
+use Rattle.olt.specs.declared.Located.the-variants.{Place, Denied}
 
 -- the call goes on at place i: the end is valid, the call passed what it refuses ahead of 2, and the unit was found
 pub record Reaches (o : Olt) (ahead : Verdict) (llid i : ℕ) : Type 0 where
@@ -55,7 +55,7 @@ place-below o ahead llid i e = let r = reaches o ahead llid i e in found-below o
 module _ {H : Type 0} (o : Olt) (nothing : H) (ahead : Verdict) (llid : ℕ) (call : Shared → UnitRecord → Outcome H) where
   at-place : Located → Reply Olt H
   at-place (Place i) = putBack o nothing i (call (o .shared) (unitAt o i))
-  at-place (Absent r) = reply (Refused r) o nothing o nothing
+  at-place (Denied r) = reply (Refused r) o nothing o nothing
 
   lift-at : lift o nothing ahead llid call ≡ at-place (locatedOf o ahead llid)
   unfolding lift after atUnit locatedOf foundAfter foundAt refuseIf at-place
@@ -67,7 +67,7 @@ module _ {H : Type 0} (o : Olt) (nothing : H) (ahead : Verdict) (llid : ℕ) (ca
     by-case true (Refused r) f = refl
     by-case false v f = refl
 
-  pub lift-absent : (r : Refusal) → locatedOf o ahead llid ≡ Absent r → lift o nothing ahead llid call ≡ reply (Refused r) o nothing o nothing
+  pub lift-absent : (r : Refusal) → locatedOf o ahead llid ≡ Denied r → lift o nothing ahead llid call ≡ reply (Refused r) o nothing o nothing
   unfolding at-place
   lift-absent r e = lift-at ∙ ap at-place e
 

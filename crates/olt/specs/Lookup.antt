@@ -13,15 +13,15 @@ use Rattle.ends.specs.declared.Olt.{Olt}
 use Rattle.ends.specs.declared.Found.{Found}
 use Rattle.ends.specs.declared.Found.the-variants.{At, Nowhere}
 use Rattle.olt.specs.declared.Located.{Located}
-use Rattle.olt.specs.declared.Located.the-variants.{Place, Absent}
+use Rattle.olt.specs.declared.Located.the-variants.{Place, Denied}
 
 unfoldable pub foundAt : Found → Located
 foundAt (At i) = Place i
-foundAt Nowhere = Absent UnknownLlid
+foundAt Nowhere = Denied UnknownLlid
 
 unfoldable pub foundAfter : Verdict → Found → Located
 foundAfter Accepted f = foundAt f
-foundAfter (Refused r) f = Absent r
+foundAfter (Refused r) f = Denied r
 
 unfoldable pub locatedOf : Olt → Verdict → ℕ → Located
 locatedOf o ahead llid = foundAfter (refuseIf (not (validOlt o)) OutOfRange ahead) (find o llid)
@@ -29,4 +29,4 @@ locatedOf o ahead llid = foundAfter (refuseIf (not (validOlt o)) OutOfRange ahea
 -- the paper's number for a place
 abbrev pub locatedNumber : Located → ℕ
 locatedNumber (Place i) = 0
-locatedNumber (Absent r) = numberOf r
+locatedNumber (Denied r) = numberOf r

@@ -25,7 +25,7 @@ use unit::calls;
 // Where the unit stands that a call names, or why the call goes no further.
 pub enum Located {
     Place(usize),
-    Absent(Refusal),
+    Denied(Refusal),
 }
 
 // A fresh OLT of that MAC and first clock. Refused, it is an end of zeros.
@@ -70,7 +70,7 @@ pub fn capture(olt: Olt, llid: u16) -> OltAnswer
 {
     let at = place::locate(olt, Verdict::Accepted, llid);
     match at {
-        Located::Absent(refusal) => answers::refused(olt, refusal),
+        Located::Denied(refusal) => answers::refused(olt, refusal),
         Located::Place(i) => {
             let unit = place::unit_at(olt, i);
             let next = calls::captured(unit, olt.shared.tick);
@@ -84,7 +84,7 @@ pub fn clock_send(olt: Olt, llid: u16) -> ClockSent
 {
     let at = place::locate(olt, Verdict::Accepted, llid);
     match at {
-        Located::Absent(refusal) => answers::clock_refused(olt, refusal),
+        Located::Denied(refusal) => answers::clock_refused(olt, refusal),
         Located::Place(i) => {
             let unit = place::unit_at(olt, i);
             let verdict = calls::clock_send_verdict(unit.clock, olt.shared.tick);
@@ -100,7 +100,7 @@ pub fn offer(olt: Olt, llid: u16, key: [u8; 16]) -> KeySent
 {
     let at = place::locate(olt, Verdict::Accepted, llid);
     match at {
-        Located::Absent(refusal) => answers::key_refused(olt, refusal),
+        Located::Denied(refusal) => answers::key_refused(olt, refusal),
         Located::Place(i) => {
             let unit = place::unit_at(olt, i);
             let verdict = calls::offer_verdict(unit, key);
@@ -121,7 +121,7 @@ pub fn retry(olt: Olt, llid: u16) -> KeySent
 {
     let at = place::locate(olt, Verdict::Accepted, llid);
     match at {
-        Located::Absent(refusal) => answers::key_refused(olt, refusal),
+        Located::Denied(refusal) => answers::key_refused(olt, refusal),
         Located::Place(i) => {
             let unit = place::unit_at(olt, i);
             let verdict = calls::retry_verdict(unit.keys);
@@ -138,7 +138,7 @@ pub fn acknowledge(olt: Olt, llid: u16, acknowledgement: Acknowledgement) -> Olt
 {
     let at = place::locate(olt, Verdict::Accepted, llid);
     match at {
-        Located::Absent(refusal) => answers::refused(olt, refusal),
+        Located::Denied(refusal) => answers::refused(olt, refusal),
         Located::Place(i) => {
             let unit = place::unit_at(olt, i);
             let verdict = calls::acknowledge_verdict(acknowledgement, olt.shared, unit);

@@ -16,15 +16,15 @@ pub fn locate(olt: Olt, ahead: Verdict, llid: u16) -> Located
     ensures { λ r. ⌜ r ≡ locatedOf olt ahead llid ⌝ }
 {
     if !valid_olt(olt) {
-        return Located::Absent(Refusal::OutOfRange);
+        return Located::Denied(Refusal::OutOfRange);
     }
     match ahead {
-        Verdict::Refused(refusal) => Located::Absent(refusal),
+        Verdict::Refused(refusal) => Located::Denied(refusal),
         Verdict::Accepted => {
             let units = olt.units;
             let found = find(units, olt.count, llid);
             match found {
-                Found::Nowhere => Located::Absent(Refusal::UnknownLlid),
+                Found::Nowhere => Located::Denied(Refusal::UnknownLlid),
                 Found::At(i) => Located::Place(i),
             }
         }

@@ -39,7 +39,7 @@ use Rattle.ends.proofs.OltTraffic.{receiveAhead, receiving-valid}
 use Rattle.ends.proofs.OnuTraffic.{receiving-onu-valid}
 use Rattle.ends.proofs.OnuChoices.{OnuReceiveCase, onuClear, onuLate, onuCurrent, onuNext, onuUnknown, onu-receive-case, onu-receive-accepted}
 use Rattle.olt.specs.Lookup.{locatedOf}
-use Rattle.olt.specs.declared.Located.the-variants.{Absent}
+use Rattle.olt.specs.declared.Located.the-variants.{Denied}
 use Rattle.olt.proofs.Lookup.{lift-absent, Reaches}
 use Rattle.traffic.specs.Passages.{Exchange, exchange, misfit, isEnciphered, nonceOf, passed, passedCount, outputAfter}
 use Rattle.traffic.specs.Receipts.{oltReceived, oltNotReceived, oltReceiveOf, onuReceivedBy, onuNotReceived, onuReceiveOf}
@@ -94,7 +94,7 @@ module _ (o : Olt) (h : Header) (i : ℕ) (p out : List ℕ) where
       (up-fits (nonceOf (h .channel) q) d (rw g (identity-mac (unitAt o i .identity) (u .identity))) (rw g (s .clock)))
 
 module _ (o : Olt) (h : Header) (p out : List ℕ) where
-  pub olt-receive-absent : (r : Refusal) → locatedOf o (receiveAhead (misfit p out) h) (h .llid) ≡ Absent r
+  pub olt-receive-absent : (r : Refusal) → locatedOf o (receiveAhead (misfit p out) h) (h .llid) ≡ Denied r
       → exchange (oltNotReceived o r) out ≡ oltReceiveOf o h p out
   unfolding oltReceiveOf receivingOlt reply
   olt-receive-absent r e =

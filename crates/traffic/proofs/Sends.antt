@@ -36,7 +36,7 @@ use Rattle.ends.proofs.OltTraffic.{sendAhead, sending-valid}
 use Rattle.ends.proofs.OnuTraffic.{sending-onu-valid}
 use Rattle.ends.proofs.OnuChoices.{onu-send-accepted}
 use Rattle.olt.specs.Lookup.{locatedOf}
-use Rattle.olt.specs.declared.Located.the-variants.{Absent}
+use Rattle.olt.specs.declared.Located.the-variants.{Denied}
 use Rattle.olt.proofs.Lookup.{lift-absent, Reaches}
 use Rattle.traffic.specs.Passages.{Exchange, exchange, misfit, isEnciphered, nonceOf, passed, passedCount, outputAfter}
 use Rattle.traffic.specs.Sends.{oltSent, oltNotSent, oltSendOf, onuSentBy, onuNotSent, onuSendOf}
@@ -91,7 +91,7 @@ module _ (o : Olt) (llid channel i : ℕ) (p out : List ℕ) where
       (down-fits (nonceOf channel (s .passage)) d (rw g (r .mac)) (rw g (r .clock)))
 
 module _ (o : Olt) (llid channel : ℕ) (p out : List ℕ) where
-  pub olt-send-absent : (r : Refusal) → locatedOf o (sendAhead (misfit p out) channel) llid ≡ Absent r
+  pub olt-send-absent : (r : Refusal) → locatedOf o (sendAhead (misfit p out) channel) llid ≡ Denied r
       → exchange (oltNotSent o r) out ≡ oltSendOf o llid channel p out
   unfolding oltSendOf sendingOlt reply
   olt-send-absent r e =

@@ -52,7 +52,7 @@ pub fn olt_send(olt: Olt, llid: u16, channel: u8, payload: &[u8], output: &mut [
     let ahead = at_olt::send_ahead(payload.len(), output.len(), channel);
     let at = locate(olt, ahead, llid);
     match at {
-        Located::Absent(refusal) => at_olt::not_sent(olt, refusal),
+        Located::Denied(refusal) => at_olt::not_sent(olt, refusal),
         Located::Place(i) => at_olt::send_at(olt, i, llid, channel, payload, output),
     }
 }
@@ -63,7 +63,7 @@ pub fn olt_receive(olt: Olt, header: Header, octets: &[u8], output: &mut [u8]) -
     let ahead = at_olt::receive_ahead(octets.len(), output.len(), header);
     let at = locate(olt, ahead, header.llid);
     match at {
-        Located::Absent(refusal) => at_olt::not_received(olt, refusal),
+        Located::Denied(refusal) => at_olt::not_received(olt, refusal),
         Located::Place(i) => at_olt::receive_at(olt, i, header, octets, output),
     }
 }

@@ -43,20 +43,20 @@ use denote.Exit.{yes}
 use Rattle.jazmotip.proofs.End.{End}
 
 module _ (E : End) where
-  abbrev State : Type 0
+  abbrev pub State : Type 0
   State = E .type .D
 
-  abbrev end : RattleType
+  abbrev pub end : RattleType
   end = row (E .type)
 
-  abbrev end-mir : Ty
+  abbrev pub end-mir : Ty
   end-mir = layout (shape (E .type))
 
   -- an end as the machine has it
-  abbrev machine : State → Val
+  abbrev pub machine : State → Val
   machine h = val (E .type) (E .laws) h
 
-  abbrev answer-type : Declared
+  abbrev pub answer-type : Declared
   answer-type =
       record {
         name = E .name;
@@ -67,13 +67,13 @@ module _ (E : End) where
         to-one = E .apart;
       }
 
-  abbrev answer : RattleType
+  abbrev pub answer : RattleType
   answer = row answer-type
 
-  abbrev answer-mir : Ty
+  abbrev pub answer-mir : Ty
   answer-mir = layout (shape answer-type)
 
-  abbrev answer-laws : Laws answer-type
+  abbrev pub answer-laws : Laws answer-type
   answer-laws = (u8-laws, (field-laws (E .type) (E .laws) (E .lowers), tt))
 
   module _ (r : E .Answer) (v : Val) (is : Is answer r (v ∷ [])) where
@@ -85,7 +85,7 @@ module _ (E : End) where
 
   ---- the two functions
 
-  abbrev by-value : Ended
+  abbrev pub by-value : Ended
   by-value =
       record {
         signature =
@@ -98,7 +98,7 @@ module _ (E : End) where
         kept = (yes, (yes, tt));
       }
 
-  abbrev in-place : Ended
+  abbrev pub in-place : Ended
   in-place =
       record {
         signature =
@@ -145,7 +145,7 @@ module _ (E : End) where
           ensures = λ g r e. fact 𝓤 (r ≡ E .advanced (a .0) (a .1 .0));
         }
 
-    abbrev in-place-clauses : Clauses 𝓤 in-place
+    abbrev pub in-place-clauses : Clauses 𝓤 in-place
     in-place-clauses κs a =
         record {
           ghost = Unit {0};

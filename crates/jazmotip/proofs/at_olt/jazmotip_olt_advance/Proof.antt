@@ -2,33 +2,14 @@
 use contract.Running.{givenOf, tables, tablesOf}
 use denote.Triple.Spec.{tripleOf}
 use denote.Triple.Table.{cited, entered}
-use Rattle.ends.specs.OltCalls.{advanceOltOf}
-use Rattle.ends.specs.declared.OltAnswer.{OltAnswer}
-use Rattle.ends.proofs.Olt.{the-type}
-use Rattle.ends.proofs.Olt.Laws.{lowers, the-laws, the-plain}
-use Rattle.ends.proofs.OltAnswer as answer
 use Rattle.olt.proofs.advance.Met as by-value
 use Rattle.olt.proofs.advance.Symbol as callee
-use Rattle.jazmotip.proofs.End.{End}
+use Rattle.jazmotip.proofs.End.{olt}
 use Rattle.jazmotip.proofs.InPlace.{Known, advances}
 use Rattle.jazmotip.proofs.at_olt.jazmotip_olt_advance as in-place
 use Rattle.jazmotip.proofs.at_olt.jazmotip_olt_advance.Code as code
 use Rattle.jazmotip.proofs.at_olt.jazmotip_olt_advance.Key.{name}
 use Rattle.jazmotip.proofs.at_olt.jazmotip_olt_advance.Statement.{statement}
-
-abbrev olt : End
-olt = record {
-  type = the-type;
-  laws = the-laws;
-  lowers = lowers;
-  plains = the-plain;
-  name = answer.the-type .name;
-  Answer = OltAnswer;
-  number = λ r. r .number;
-  after = λ r. r .olt;
-  apart = answer.the-type .to-one;
-  advanced = advanceOltOf;
-}
 
 pub jazmotip-olt-advance-spec : {M : Type 1} → statement M
 unfolding code.routine tablesOf

@@ -2,33 +2,14 @@
 use contract.Running.{givenOf, tables, tablesOf}
 use denote.Triple.Spec.{tripleOf}
 use denote.Triple.Table.{cited, entered}
-use Rattle.ends.specs.OnuCalls.{advanceOnuOf}
-use Rattle.ends.specs.declared.OnuAnswer.{OnuAnswer}
-use Rattle.ends.proofs.Onu.{the-type}
-use Rattle.ends.proofs.Onu.Laws.{lowers, the-laws, the-plain}
-use Rattle.ends.proofs.OnuAnswer as answer
 use Rattle.onu.proofs.advance.Met as by-value
 use Rattle.onu.proofs.advance.Symbol as callee
-use Rattle.jazmotip.proofs.End.{End}
+use Rattle.jazmotip.proofs.End.{onu}
 use Rattle.jazmotip.proofs.InPlace.{Known, advances}
 use Rattle.jazmotip.proofs.at_onu.jazmotip_onu_advance as in-place
 use Rattle.jazmotip.proofs.at_onu.jazmotip_onu_advance.Code as code
 use Rattle.jazmotip.proofs.at_onu.jazmotip_onu_advance.Key.{name}
 use Rattle.jazmotip.proofs.at_onu.jazmotip_onu_advance.Statement.{statement}
-
-abbrev onu : End
-onu = record {
-  type = the-type;
-  laws = the-laws;
-  lowers = lowers;
-  plains = the-plain;
-  name = answer.the-type .name;
-  Answer = OnuAnswer;
-  number = λ r. r .number;
-  after = λ r. r .onu;
-  apart = answer.the-type .to-one;
-  advanced = advanceOnuOf;
-}
 
 pub jazmotip-onu-advance-spec : {M : Type 1} → statement M
 unfolding code.routine tablesOf

@@ -32,14 +32,6 @@ pub fn be32(b: [u8; 4]) -> u64
     ((wide(b[0]) * 256 + wide(b[1])) * 256 + wide(b[2])) * 256 + wide(b[3])
 }
 
-pub fn be48(b: [u8; 6]) -> u64
-    ensures { λ r. ⌜ r ≡ numberAt 6 b 0 ⌝ }
-{
-    ((((wide(b[0]) * 256 + wide(b[1])) * 256 + wide(b[2])) * 256 + wide(b[3])) * 256 + wide(b[4]))
-        * 256
-        + wide(b[5])
-}
-
 pub fn octets24(n: u64) -> [u8; 3]
     ensures { λ r. ⌜ r ≡ octetsOf 3 n ⌝ }
 {

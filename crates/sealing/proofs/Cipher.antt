@@ -63,7 +63,7 @@ module _ (w s : List ℕ) (n : ℕ) where
     at i = omega arith
 
   -- a round, from its four columns
-  pub round-columns : {a b c d : List ℕ}
+  round-columns : {a b c d : List ℕ}
       → a ≡ roundColumn (word w (4 * n + 0)) (shiftedColumn s (4 * n + 0)) → b ≡ roundColumn (word w (4 * n + 1)) (shiftedColumn s (4 * n + 1))
       → c ≡ roundColumn (word w (4 * n + 2)) (shiftedColumn s (4 * n + 2)) → d ≡ roundColumn (word w (4 * n + 3)) (shiftedColumn s (4 * n + 3))
       → word a 0 ++ (word b 0 ++ (word c 0 ++ word d 0)) ≡ round (roundKey w n) s

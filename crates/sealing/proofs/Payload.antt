@@ -16,7 +16,8 @@ use Rattle.octets.proofs.Lists.{tabulate-length, tabulate-at, sum-ext, part-at,
 use Rattle.envelope.specs.ControlMask.{controlOctet, masked, maskedAt, countEnciphered}
 use Rattle.envelope.specs.declared.Nonce.{Nonce}
 use Rattle.envelope.proofs.ControlMask.{masked-at-twice}
-use Rattle.sealing.specs.Payload.{cipherBlock, halfOf, maskedEq, sealedOctet, sealed}
+use Rattle.sealing.specs.Payload.{cipherBlock, halfOf, sealedOctet, sealed}
+use Rattle.sealing.specs.Steps.{maskedEq}
 
 pub sealed-length : (w : List ℕ) (n : Nonce) (p : List ℕ) → length (sealed w n p) ≡ length p
 unfolding sealed

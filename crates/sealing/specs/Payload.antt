@@ -1,11 +1,11 @@
 -- The payload of an envelope, enciphered under the control mask (01, Counter block and mask; 001, 11.3.5). Sealing and opening
 -- are one act. w is the expanded key.
 -- Assumes nothing.
-use mathlib.Core.List.{List, _∷_}
-use Prim.Native.Nat.{ℕ, _+_, _*_, _/_, _%_}
+use mathlib.Core.List.{List}
+use Prim.Native.Nat.{ℕ, _*_, _/_, _%_}
 use lib.ListN.{length, getD}
 use Rattle.octets.specs.Lists.{tabulate}
-use Rattle.envelope.specs.ControlMask.{controlOctet, masked, maskedAt}
+use Rattle.envelope.specs.ControlMask.{controlOctet, maskedAt}
 use Rattle.envelope.specs.CounterBlock.{counterBlock}
 use Rattle.envelope.specs.declared.Nonce.{Nonce}
 use Rattle.sealing.specs.Cipher.{cipher}
@@ -17,10 +17,6 @@ cipherBlock w n e = cipher w (counterBlock n (e / 2))
 -- where EQ e's cipher octets start in its block: 0 for EQ 2k, 8 for EQ 2k + 1
 abbrev pub halfOf : ℕ → ℕ
 halfOf e = 8 * (e % 2)
-
--- the EQ that starts at octet `at` of p: its control octet passes, and its data octets are masked
-abbrev pub maskedEq : List ℕ → ℕ → List ℕ → ℕ → List ℕ
-maskedEq block half p at = getD p at 0 ∷ tabulate 0 8 (λ j. masked (getD p at 0) j (getD block (half + j) 0) (getD p (at + (j + 1)) 0))
 
 -- octet i of the payload, sealed or opened
 unfoldable pub sealedOctet : List ℕ → Nonce → List ℕ → ℕ → ℕ

@@ -1,9 +1,10 @@
--- Steps of the code that FIPS 197 does not name: a round column by column, and the key schedule 16 octets at a time. That they make
--- up its definitions is proved. Assumes nothing.
-use mathlib.Core.List.{List, _++_}
+-- Steps of the code that the papers do not name: a round column by column, the key schedule 16 octets at a time, and a payload EQ by
+-- EQ. That they make up the papers' definitions is proved. Assumes nothing.
+use mathlib.Core.List.{List, _∷_, _++_}
 use Prim.Native.Nat.{ℕ, zero, suc, _+_, _*_, _%_}
 use lib.ListN.{getD}
 use Rattle.octets.specs.Lists.{tabulate}
+use Rattle.envelope.specs.ControlMask.{masked}
 use Rattle.sealing.specs.Cipher.{mixedColumn}
 use Rattle.sealing.specs.KeyExpansion.{constantWord}
 use Rattle.sealing.specs.Words.{word, xorWords, rotWord, subWord}
@@ -24,3 +25,7 @@ keyWord k x (suc j) = xorWords (word k (suc j)) (keyWord k x j)
 -- the round key after k: four words at a time of the key schedule
 unfoldable pub nextKey : List ℕ → ℕ → List ℕ
 nextKey k x = keyWord k x 0 ++ (keyWord k x 1 ++ (keyWord k x 2 ++ keyWord k x 3))
+
+-- the EQ that starts at octet `at` of p: its control octet passes, and its data octets are masked
+abbrev pub maskedEq : List ℕ → ℕ → List ℕ → ℕ → List ℕ
+maskedEq block half p at = getD p at 0 ∷ tabulate 0 8 (λ j. masked (getD p at 0) j (getD block (half + j) 0) (getD p (at + (j + 1)) 0))

@@ -18,7 +18,7 @@ fn directory(block: &[u8]) {
     show::end();
 }
 
-fn verdict(settings: &[u8], block: &[u8], k: usize) {
+fn show_verdict(settings: &[u8], block: &[u8], k: usize) {
     let answer = jazmotip_capture_verdict(settings, block, k);
     show::begin(b"capture_verdict", answer.number);
     show::octet(answer.encenabled);
@@ -67,9 +67,9 @@ fn directories() {
 
 // Record 1 is clear, record 2 is to be opened, and there is no record 3.
 fn records(settings: &[u8], block: &[u8]) {
-    verdict(settings, block, 1);
-    verdict(settings, block, 2);
-    verdict(settings, block, 3);
+    show_verdict(settings, block, 1);
+    show_verdict(settings, block, 2);
+    show_verdict(settings, block, 3);
     payload(block, 1);
     payload(block, 2);
     payload(block, 3);

@@ -7,7 +7,7 @@ use native.Mathlib.Numerals.{add-one}
 use native.Mathlib.Omega.{arith}
 use lib.ListN.{drop}
 use lib.Seq.{drop-drop}
-use Rattle.records.specs.Record.{headerOf}
+use Rattle.records.specs.Record.{recordHeader}
 use Rattle.records.specs.Verdict.{verdictOf}
 use Rattle.rows.specs.Text.{rowOf}
 use Rattle.capture.specs.Directory.{recordOf}
@@ -21,7 +21,7 @@ same-behind s t a b h e =
 
 -- the row of record i
 abbrev rowAt : List ℕ → List ℕ → ℕ → List ℕ
-rowAt s b i = rowOf (i + 1) (headerOf (recordOf b i)) (verdictOf s (recordOf b i))
+rowAt s b i = rowOf (i + 1) (recordHeader (recordOf b i)) (verdictOf s (recordOf b i))
 
 rows-more : (s b : List ℕ) (j i : ℕ) → rowsFrom s b j (suc i) ≡ rowsFrom s b j i ++ rowAt s b (j + i)
 unfolding rowsFrom

@@ -18,18 +18,18 @@ use Rattle.octets.specs.Lists.{part, replaced, sum}
 use Rattle.octets.specs.Eqs.{maxEqs}
 use Rattle.octets.proofs.Lists.{sum-below, sum-suc, part-length, part-below}
 use Rattle.octets.proofs.Choice.{both-left, both-right, both-true, pick-true, pick-first}
+use Rattle.octets.specs.Output.{WithOutput, withOutput}
 use Rattle.refusal.specs.declared.Refusal.{Refusal}
 use Rattle.refusal.specs.declared.Verdict.{Verdict}
 use Rattle.refusal.specs.declared.Verdict.the-variants.{Accepted}
-use Rattle.envelope.specs.Acceptance.{lengthsFit, nonceFits, judgeSeal}
+use Rattle.envelope.specs.Acceptance.{lengthsFit, nonceFits, sealVerdict}
 use Rattle.envelope.specs.Answer.{sealCount}
 use Rattle.envelope.specs.ControlMask.{controlOctet, countEnciphered}
 use Rattle.envelope.specs.declared.Nonce.{Nonce}
 use Rattle.envelope.specs.declared.SealAnswer.{SealAnswer}
 use Rattle.envelope.specs.declared.SealAnswer.the-variants.{Done}
 use Rattle.sealing.specs.Payload.{sealed}
-use Rattle.sealing.specs.Seal.{sealing, Sealing}
-use Rattle.sealing.specs.Seal.{outcome as sealOutcome}
+use Rattle.sealing.specs.Seal.{sealing}
 use Rattle.sealing.specs.KeyExpansion.{keyExpansion}
 use Rattle.sealing.proofs.Payload.{sealed-length}
 use Rattle.sealing.proofs.Seal.{sealing-done}
@@ -37,14 +37,14 @@ use Rattle.records.specs.declared.header.RecordVerdict.{RecordVerdict}
 use Rattle.records.specs.declared.header.RecordVerdict.the-variants.{Clear, Sealed}
 use Rattle.records.specs.declared.header.Header.{Header}
 use Rattle.capture.specs.declared.directory.Directory.{Directory}
-use Rattle.capture.specs.declared.directory.Directory.the-variants.{Good, BadSize, BadChain, BadLength}
+use Rattle.capture.specs.declared.directory.Directory.the-variants.{Good, BadSize, BadChain, BadRecord}
 use Rattle.capture.specs.declared.opening.Keys.{Keys}
 use Rattle.capture.specs.declared.opening.OpenAnswer.{OpenAnswer}
 use Rattle.capture.specs.declared.opening.OpenAnswer.the-variants.{Denied}
 use Rattle.records.specs.Settings.{settingsOctets, presenceOf, keyPresent, keyOf, macOf, settingsVerdict}
-use Rattle.records.specs.Record.{headerOf, payloadOf}
+use Rattle.records.specs.Record.{recordHeader, payloadOf}
 use Rattle.capture.specs.Directory.{recordsIn, offsetOf, lengthOf, endOf, dueOf, recordOf, verdictOn, directoryOf}
-use Rattle.capture.specs.Opening.{nonceOf, writtenAs, countAs, openedRecord, recordCount, openedFrom, openedBlock, blockCount, andThen, openVerdict, openingAfter, opening, outcome}
+use Rattle.capture.specs.Opening.{recordNonce, writtenAs, countAs, openedRecord, recordCount, openedFrom, openedBlock, blockCount, andThen, openVerdict, openingAfter, opening}
 use Rattle.records.specs.Verdict.{clearedFlags, headerFits, verdictOf}
 use Rattle.capture.specs.Duties.{Placed, Expanded}
 use Rattle.records.proofs.Verdicts.{settings-octets}
@@ -52,21 +52,21 @@ use Rattle.capture.proofs.Pairs.{pair-fits, due-next}
 use Rattle.capture.proofs.Records.{Records, good, placed, records-end}
 
 -- a record's payload is accepted for opening
-seal-accepted : (n m : ℕ) (nonce : Nonce) → n % 9 ≡ 0 → n ≤ 65536 → m ≡ n → nonceFits nonce ≡ true → judgeSeal n m nonce ≡ Accepted
-unfolding judgeSeal lengthsFit
+seal-accepted : (n m : ℕ) (nonce : Nonce) → n % 9 ≡ 0 → n ≤ 65536 → m ≡ n → nonceFits nonce ≡ true → sealVerdict n m nonce ≡ Accepted
+unfolding sealVerdict lengthsFit
 seal-accepted n m nonce whole most same fits =
     pick-true _ _ (both-true (eq-eqb _ _ whole) (both-true (le-leb n (9 * maxEqs) (omega arith)) (eq-eqb _ _ same))) ∙ pick-true _ _ fits
 
 -- what an accepted call answers, and its output
-seal-done : (w : List ℕ) (n : Nonce) (p out o : List ℕ) (a : SealAnswer) → judgeSeal (length p) (length out) n ≡ Accepted
-    → sealOutcome a o ≡ sealing true w n p out → (a ≡ Done (countEnciphered p)) × (o ≡ sealed w n p)
+seal-done : (w : List ℕ) (n : Nonce) (p out o : List ℕ) (a : SealAnswer) → sealVerdict (length p) (length out) n ≡ Accepted
+    → withOutput a o ≡ sealing true w n p out → (a ≡ Done (countEnciphered p)) × (o ≡ sealed w n p)
 seal-done w n p out o a j e =
     let q = e ∙ sym (sealing-done w n p out true refl j) in
-    (ap (λ (x : Sealing). x .answer) q, ap (λ (x : Sealing). x .output) q)
+    (ap (λ (x : WithOutput SealAnswer). x .answer) q, ap (λ (x : WithOutput SealAnswer). x .output) q)
 
 -- what the call leaves of a part of the output, and the count that it answers
 pub part-sealed : (w : List ℕ) (n : Nonce) (b out : List ℕ) (at k : ℕ) → at + k ≤ length b → length out ≡ length b → k % 9 ≡ 0 → k ≤ 65536
-    → nonceFits n ≡ true → (a : SealAnswer) (t : List ℕ) → sealOutcome a t ≡ sealing true w n (part b at k) (part out at k)
+    → nonceFits n ≡ true → (a : SealAnswer) (t : List ℕ) → withOutput a t ≡ sealing true w n (part b at k) (part out at k)
     → (sealCount a ≡ countEnciphered (part b at k)) × (putMid at k out t ≡ replaced out at (sealed w n (part b at k)))
 part-sealed w n b out at k inside same whole most fits a t e =
     let p = part b at k in
@@ -112,15 +112,15 @@ module _ (s b out : List ℕ) (i : ℕ) (same : drop (offsetOf b i) out ≡ drop
 
   -- the output holds an opened record once its flags are stored and its payload is replaced
   pub record-opened : (j t : ℕ) → Placed b i → verdictOf s (recordOf b i) ≡ Sealed j t
-      → replaced (set out (offsetOf b i + 4) (clearedFlags (headerOf (recordOf b i) .flags))) (offsetOf b i + 16)
-      (sealed (keyExpansion (keyOf s j)) (nonceOf s (headerOf (recordOf b i)) t) (payloadOf (recordOf b i)))
+      → replaced (set out (offsetOf b i + 4) (clearedFlags (recordHeader (recordOf b i) .flags))) (offsetOf b i + 16)
+      (sealed (keyExpansion (keyOf s j)) (recordNonce s (recordHeader (recordOf b i)) t) (payloadOf (recordOf b i)))
       ≡ take (offsetOf b i) out ++ (openedRecord s (recordOf b i) ++ drop (endOf b i) b)
   unfolding openedRecord writtenAs payloadOf recordOf endOf
   record-opened j t p e =
       let o = offsetOf b i in
       let l = lengthOf b i in
       let q = drop 16 (part b o l) in
-      rw e (opened-in-place b out _ o l _ (omega (arith, p .size)) same (omega (arith, p .size, p .octets, length-drop 16 (part b o l), sealed-length (keyExpansion (keyOf s j)) (nonceOf s (headerOf (part b o l)) t) q)))
+      rw e (opened-in-place b out _ o l _ (omega (arith, p .size)) same (omega (arith, p .size, p .octets, length-drop 16 (part b o l), sealed-length (keyExpansion (keyOf s j)) (recordNonce s (recordHeader (part b o l)) t) q)))
 
 pub opened-count : (s r : List ℕ) (j t : ℕ) → verdictOf s r ≡ Sealed j t → countEnciphered (payloadOf r) ≡ recordCount s r
 unfolding recordCount countAs
@@ -142,7 +142,7 @@ nonce-fits h m t f p q = both-true (both-left _ _ (both-right _ _ f)) (both-true
 -- the same of what was read of a record: its header and flags, the MAC and the expanded key
 pub opened-by : (s b out : List ℕ) (i : ℕ) → drop (offsetOf b i) out ≡ drop (offsetOf b i) b → Placed b i
     → (j t m f : ℕ) (h : Header) (w : List ℕ) → verdictOf s (recordOf b i) ≡ Sealed j t
-    → h ≡ headerOf (recordOf b i) → f ≡ clearedFlags (h .flags) → m ≡ macOf s → w ≡ keyExpansion (keyOf s j)
+    → h ≡ recordHeader (recordOf b i) → f ≡ clearedFlags (h .flags) → m ≡ macOf s → w ≡ keyExpansion (keyOf s j)
     → replaced (set out (offsetOf b i + 4) f) (offsetOf b i + 16)
     (sealed w (record { channel = h .channel; mac = m; clock = t }) (payloadOf (recordOf b i)))
     ≡ take (offsetOf b i) out ++ (openedRecord s (recordOf b i) ++ drop (endOf b i) b)
@@ -242,7 +242,7 @@ counted : (b : List ℕ) (d : Directory) → directoryOf b ≡ d → verdictOn d
 counted b (Good n) q e = q ∙ ap Good (good b n q .count)
 counted b BadSize q e = cc
 counted b (BadChain k) q e = cc
-counted b (BadLength k) q e = cc
+counted b (BadRecord k) q e = cc
 
 pub callable : (s b : List ℕ) (m : ℕ) → openVerdict s b m ≡ Accepted → Callable s b m
 unfolding openVerdict
@@ -257,10 +257,10 @@ callable s b m e =
     }
 
 module _ (s b out : List ℕ) where
-  pub opening-refused : (r : Refusal) → openVerdict s b (length out) ≡ Verdict.Refused r → outcome (Denied r) out ≡ opening s b out
+  pub opening-refused : (r : Refusal) → openVerdict s b (length out) ≡ Verdict.Refused r → withOutput (Denied r) out ≡ opening s b out
   unfolding opening openingAfter
   opening-refused r e = rw e
 
-  pub opening-done : openVerdict s b (length out) ≡ Accepted → outcome (OpenAnswer.Done (blockCount s b)) (openedBlock s b) ≡ opening s b out
+  pub opening-done : openVerdict s b (length out) ≡ Accepted → withOutput (OpenAnswer.Done (blockCount s b)) (openedBlock s b) ≡ opening s b out
   unfolding opening openingAfter
   opening-done e = rw e

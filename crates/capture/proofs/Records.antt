@@ -23,7 +23,7 @@ use Rattle.capture.specs.Payload.{recordAsked, payloadVerdict, boundsOf,
 use Rattle.capture.specs.declared.directory.Pair.{Pair}
 use Rattle.capture.specs.declared.directory.Pair.the-variants.{Fits, OffChain, OffLength}
 use Rattle.capture.specs.declared.directory.Directory.{Directory}
-use Rattle.capture.specs.declared.directory.Directory.the-variants.{Good, BadSize, BadChain, BadLength}
+use Rattle.capture.specs.declared.directory.Directory.the-variants.{Good, BadSize, BadChain, BadRecord}
 use Rattle.capture.specs.declared.payload.Bounds.{Bounds}
 use Rattle.capture.specs.declared.payload.Bounds.the-variants.{Within}
 use Rattle.capture.proofs.Pairs.{Sizes, size-fits, pair-fits}
@@ -94,7 +94,7 @@ by-directory b k (Good n) q e =
     record { count = n; records = good b n q; first = leb-true _ _ (both-left _ _ t); last = leb-true _ _ (both-right _ _ t) }
 by-directory b k BadSize q e = absurd (never _ e)
 by-directory b k (BadChain i) q e = absurd (never _ e)
-by-directory b k (BadLength i) q e = absurd (never _ e)
+by-directory b k (BadRecord i) q e = absurd (never _ e)
 
 pub asked-for : (b : List ℕ) (k : ℕ) → payloadVerdict b k ≡ Accepted → Asked b k
 unfolding payloadVerdict

@@ -16,6 +16,7 @@ use Rattle.octets.specs.Lists.{part, sum}
 use Rattle.octets.proofs.BigEndian.{number-same}
 use Rattle.octets.proofs.Choice.{both-left, both-right, both-true, pick-true}
 use Rattle.octets.proofs.Lists.{sum-ext}
+use Rattle.octets.specs.Output.{withOutput}
 use Rattle.refusal.specs.declared.Verdict.the-variants.{Accepted}
 use Rattle.sealing.specs.KeyExpansion.{keyExpansion}
 use Rattle.sealing.specs.Payload.{sealed}
@@ -26,10 +27,10 @@ use Rattle.capture.specs.declared.directory.Pair.the-variants.{Fits}
 use Rattle.capture.specs.declared.directory.Directory.the-variants.{Good}
 use Rattle.capture.specs.declared.opening.OpenAnswer.the-variants.{Done}
 use Rattle.records.specs.Settings.{keyOf, presenceOf, llidOf, settingsVerdict}
-use Rattle.records.specs.Record.{headerOf, payloadOf, sized}
+use Rattle.records.specs.Record.{recordHeader, payloadOf, sized}
 use Rattle.capture.specs.Directory.{recordsIn, offsetOf, lengthOf, endOf, dueOf, recordOf, chained, pairOf, sizeFits, withPair, pairsFrom, directoryOf}
 use Rattle.records.specs.Verdict.{flagsFit, clearedFlags, headerFits, epamCheck, recordVerdict, verdictFor, verdictOf}
-use Rattle.capture.specs.Opening.{nonceOf, cleared, writtenAs, openedRecord, recordCount, openedFrom, openedBlock, blockCount, openVerdict, opening, outcome}
+use Rattle.capture.specs.Opening.{recordNonce, cleared, writtenAs, openedRecord, recordCount, openedFrom, openedBlock, blockCount, openVerdict, opening}
 use Rattle.capture.specs.Claims.{Opened}
 use Rattle.capture.proofs.Pairs.{pair-fits, due-next}
 use Rattle.capture.proofs.Records.{Records, good, placed, records-end}
@@ -120,8 +121,8 @@ module _ (r ys : List ℕ) (f : ℕ) (h : 16 ≤ length r) where
   kept-number : (k at : ℕ) → at + k ≤ 16 → ((j : ℕ) → j < k → at + j ≡ 4 → ⊥) → numberAt k (take 16 (set r 4 f) ++ ys) at ≡ numberAt k r at
   kept-number k at l n = number-same k (take 16 (set r 4 f) ++ ys) r at at (λ j g. kept-octet (at + j) (omega arith) (n j g))
 
-  flags-only : headerOf (take 16 (set r 4 f) ++ ys) ≡ withFlags (headerOf r) f
-  unfolding headerOf withFlags
+  flags-only : recordHeader (take 16 (set r 4 f) ++ ys) ≡ withFlags (recordHeader r) f
+  unfolding recordHeader withFlags
   flags-only =
       rw (kept-octet 0 (omega arith) (λ e. omega arith), kept-octet 1 (omega arith) (λ e. omega arith), kept-number 2 2 (omega arith) (λ j g e. omega arith), header-octet 4 (omega arith) ∙ getD-set-same r 4 f 0 (omega arith), kept-octet 5 (omega arith) (λ e. omega arith), kept-number 6 6 (omega arith) (λ j g e. omega arith), kept-number 4 12 (omega arith) (λ j g e. omega arith))
 
@@ -150,7 +151,7 @@ now-clear presence llid h i t o =
     ∙ sym (is-clear presence (withFlags h 0) _ (h .clock) (pick-true _ _ (o .epam)) no-bit))
 
 is-written : (s r : List ℕ) (i t : ℕ) → verdictOf s r ≡ Sealed i t
-    → openedRecord s r ≡ take 16 (cleared r) ++ sealed (keyExpansion (keyOf s i)) (nonceOf s (headerOf r) t) (payloadOf r)
+    → openedRecord s r ≡ take 16 (cleared r) ++ sealed (keyExpansion (keyOf s i)) (recordNonce s (recordHeader r) t) (payloadOf r)
 unfolding openedRecord writtenAs
 is-written s r i t e = rw e
 
@@ -159,11 +160,11 @@ opened-once : (s r : List ℕ) (i t : ℕ) → 16 ≤ length r → verdictOf s r
     → (openedRecord s (openedRecord s r) ≡ openedRecord s r) × (recordCount s (openedRecord s r) ≡ 0)
 unfolding verdictFor
 opened-once s r i t h e =
-    let ys = sealed (keyExpansion (keyOf s i)) (nonceOf s (headerOf r) t) (payloadOf r) in
+    let ys = sealed (keyExpansion (keyOf s i)) (recordNonce s (recordHeader r) t) (payloadOf r) in
     let w : openedRecord s r ≡ take 16 (cleared r) ++ ys = is-written s r i t e in
     let clear : verdictOf s (take 16 (cleared r) ++ ys) ≡ Clear =
-    ap (recordVerdict (presenceOf s) (llidOf s)) (flags-only r ys (clearedFlags (headerOf r .flags)) h)
-    ∙ now-clear (presenceOf s) (llidOf s) (headerOf r) i t (openable (presenceOf s) (llidOf s) (headerOf r) i t e) in
+    ap (recordVerdict (presenceOf s) (llidOf s)) (flags-only r ys (clearedFlags (recordHeader r .flags)) h)
+    ∙ now-clear (presenceOf s) (llidOf s) (recordHeader r) i t (openable (presenceOf s) (llidOf s) (recordHeader r) i t e) in
     let k = clear-record s (take 16 (cleared r) ++ ys) clear in
     (rw w (k .0), rw w (k .1))
 
@@ -178,12 +179,12 @@ record-again : (s r : List ℕ) → 16 ≤ length r
 record-again s r h = by-verdict s r (verdictOf s r) h refl
 
 -- ---- the opened block has the same directory
-same-eqs : (s r : List ℕ) (v : RecordVerdict) → 16 ≤ length r → verdictOf s r ≡ v → headerOf (openedRecord s r) .eqs ≡ headerOf r .eqs
+same-eqs : (s r : List ℕ) (v : RecordVerdict) → 16 ≤ length r → verdictOf s r ≡ v → recordHeader (openedRecord s r) .eqs ≡ recordHeader r .eqs
 unfolding withFlags
-same-eqs s r Clear h e = ap (λ (t : List ℕ). headerOf t .eqs) (clear-record s r e .0)
-same-eqs s r (RecordVerdict.Refused c) h e = ap (λ (t : List ℕ). headerOf t .eqs) (refused-record s r c e .0)
+same-eqs s r Clear h e = ap (λ (t : List ℕ). recordHeader t .eqs) (clear-record s r e .0)
+same-eqs s r (RecordVerdict.Refused c) h e = ap (λ (t : List ℕ). recordHeader t .eqs) (refused-record s r c e .0)
 same-eqs s r (Sealed i t) h e =
-    ap (λ (w : List ℕ). headerOf w .eqs) (is-written s r i t e) ∙ ap (λ (q : Header). q .eqs) (flags-only r _ _ h)
+    ap (λ (w : List ℕ). recordHeader w .eqs) (is-written s r i t e) ∙ ap (λ (q : Header). q .eqs) (flags-only r _ _ h)
 
 same-sized : (s r : List ℕ) → 16 ≤ length r → sized (openedRecord s r) ≡ sized r
 unfolding sized
@@ -267,7 +268,7 @@ opened s b size v =
       again = λ out l. again out l (c .accepted) r;
     } where
       again : (out : List ℕ) → length out ≡ length b → settingsVerdict s ≡ Accepted → Records b (recordsIn b)
-          → opening s (openedBlock s b) out ≡ outcome (Done 0) (openedBlock s b)
+          → opening s (openedBlock s b) out ≡ withOutput (Done 0) (openedBlock s b)
       again out l t r =
           let g = good-again s b (recordsIn b) r in
           sym (opening-done s (openedBlock s b) out (accepts-again s (openedBlock s b) (length out) (recordsIn b) t (l ∙ sym (opened-octets s b (recordsIn b) r)) g))

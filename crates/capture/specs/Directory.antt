@@ -14,7 +14,7 @@ use Rattle.refusal.specs.declared.Verdict.the-variants.{Accepted, Refused}
 use Rattle.capture.specs.declared.directory.Pair.{Pair}
 use Rattle.capture.specs.declared.directory.Pair.the-variants.{Fits, OffChain, OffLength}
 use Rattle.capture.specs.declared.directory.Directory.{Directory}
-use Rattle.capture.specs.declared.directory.Directory.the-variants.{Good, BadSize, BadChain, BadLength}
+use Rattle.capture.specs.declared.directory.Directory.the-variants.{Good, BadSize, BadChain, BadRecord}
 use Rattle.records.specs.Record.{sized}
 use Rattle.records.specs.Place.{endFits}
 
@@ -64,7 +64,7 @@ sizeFits b =
 unfoldable pub withPair : Pair → ℕ → Directory → Directory
 withPair Fits k rest = rest
 withPair OffChain k rest = BadChain k
-withPair OffLength k rest = BadLength k
+withPair OffLength k rest = BadRecord k
 
 -- the first pair that does not fit, of the m from pair i on
 unfoldable pub pairsFrom : List ℕ → ℕ → ℕ → Directory
@@ -79,4 +79,4 @@ abbrev pub verdictOn : Directory → Verdict
 verdictOn (Good n) = Accepted
 verdictOn BadSize = Refused BadDirectory
 verdictOn (BadChain k) = Refused BadDirectory
-verdictOn (BadLength k) = Refused BadDirectory
+verdictOn (BadRecord k) = Refused BadDirectory

@@ -8,7 +8,7 @@ use Rattle.sealing.specs.KeyExpansion.{keyExpansion}
 use Rattle.capture.specs.declared.directory.Directory.the-variants.{Good}
 use Rattle.capture.specs.declared.opening.Keys.{Keys}
 use Rattle.records.specs.Settings.{settingsOctets, presenceOf, keyPresent, keyOf}
-use Rattle.records.specs.Record.{headerOf, headerOctets, eqOctets}
+use Rattle.records.specs.Record.{recordHeader, headerOctets, eqOctets}
 use Rattle.capture.specs.Directory.{mostOctets, recordsIn, offsetOf, lengthOf, dueOf, recordOf, directoryOf}
 
 -- pair i is one of n, all of them in the block, and its record is due at `due`
@@ -23,7 +23,7 @@ pub record Placed (b : List ℕ) (i : ℕ) : Type 0 where
   pub pair : 2 + 8 * (i + 1) ≤ length b
   pub inside : offsetOf b i + lengthOf b i ≤ length b
   pub octets : length (recordOf b i) ≡ lengthOf b i
-  pub size : lengthOf b i ≡ headerOctets + eqOctets * headerOf (recordOf b i) .eqs
+  pub size : lengthOf b i ≡ headerOctets + eqOctets * recordHeader (recordOf b i) .eqs
 
 -- the present keys of the settings s, expanded
 pub record Expanded (s : List ℕ) (keys : Keys) : Type 0 where

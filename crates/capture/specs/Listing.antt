@@ -4,7 +4,7 @@ use Prim.Native.Nat.{ℕ, zero, suc, _+_}
 use lib.ListN.{length}
 use Rattle.refusal.specs.declared.Verdict.{Verdict}
 use Rattle.refusal.specs.declared.Verdict.the-variants.{Accepted, Refused}
-use Rattle.records.specs.Record.{headerOf}
+use Rattle.records.specs.Record.{recordHeader}
 use Rattle.records.specs.Verdict.{verdictOf}
 use Rattle.rows.specs.Text.{rowOf, refusedRow}
 use Rattle.capture.specs.Directory.{recordsIn, recordOf}
@@ -13,7 +13,7 @@ use Rattle.capture.specs.Opening.{openVerdict}
 -- the m records from record i on
 unfoldable pub rowsFrom : List ℕ → List ℕ → ℕ → ℕ → List ℕ
 rowsFrom s b i zero = []
-rowsFrom s b i (suc m) = rowOf (i + 1) (headerOf (recordOf b i)) (verdictOf s (recordOf b i)) ++ rowsFrom s b (suc i) m
+rowsFrom s b i (suc m) = rowOf (i + 1) (recordHeader (recordOf b i)) (verdictOf s (recordOf b i)) ++ rowsFrom s b (suc i) m
 
 -- "no llid ch key eqs result" and a line feed
 abbrev pub headingText : List ℕ

@@ -5,6 +5,7 @@ use lib.Dec.{eqb}
 use lib.ListN.{length, take, set}
 use Rattle.octets.specs.Choice.{pick}
 use Rattle.octets.specs.Lists.{sum}
+use Rattle.octets.specs.Output.{WithOutput}
 use Rattle.refusal.specs.declared.Refusal.the-variants.{BadLength}
 use Rattle.refusal.specs.declared.Verdict.{Verdict}
 use Rattle.refusal.specs.declared.Verdict.the-variants.{Accepted, Refused}
@@ -19,21 +20,21 @@ use Rattle.records.specs.declared.header.RecordVerdict.the-variants.{Clear, Sea
 use Rattle.capture.specs.declared.opening.OpenAnswer.{OpenAnswer}
 use Rattle.capture.specs.declared.opening.OpenAnswer.the-variants.{Done, Denied}
 use Rattle.records.specs.Settings.{keyOf, macOf, settingsVerdict}
-use Rattle.records.specs.Record.{headerOctets, headerOf, payloadOf}
+use Rattle.records.specs.Record.{headerOctets, recordHeader, payloadOf}
 use Rattle.capture.specs.Directory.{recordsIn, recordOf, verdictOn, directoryOf}
 use Rattle.records.specs.Verdict.{clearedFlags, verdictOf}
 
 -- what the counter blocks of a record with the header h are made of, at the clock t
-abbrev pub nonceOf : List ℕ → Header → ℕ → Nonce
-nonceOf s h t = record { channel = h .channel; mac = macOf s; clock = t }
+abbrev pub recordNonce : List ℕ → Header → ℕ → Nonce
+recordNonce s h t = record { channel = h .channel; mac = macOf s; clock = t }
 
 -- an opened record has bits 0 and 1 of its flags, at place 4, cleared
 abbrev pub cleared : List ℕ → List ℕ
-cleared r = set r 4 (clearedFlags (headerOf r .flags))
+cleared r = set r 4 (clearedFlags (recordHeader r .flags))
 
 -- a record as the verdict has it written: refused and clear ones are copied unchanged
 unfoldable pub writtenAs : List ℕ → List ℕ → RecordVerdict → List ℕ
-writtenAs s r (Sealed i t) = take headerOctets (cleared r) ++ sealed (keyExpansion (keyOf s i)) (nonceOf s (headerOf r) t) (payloadOf r)
+writtenAs s r (Sealed i t) = take headerOctets (cleared r) ++ sealed (keyExpansion (keyOf s i)) (recordNonce s (recordHeader r) t) (payloadOf r)
 writtenAs s r Clear = r
 writtenAs s r (RecordVerdict.Refused c) = r
 
@@ -70,22 +71,13 @@ unfoldable pub openVerdict : List ℕ → List ℕ → ℕ → Verdict
 openVerdict s b outputOctets =
     pick (eqb outputOctets (length b)) (andThen (settingsVerdict s) (verdictOn (directoryOf b))) (Verdict.Refused BadLength)
 
--- what the call answers, and what its output then holds
-pub record Opening : Type 0 where
-  pub answer : OpenAnswer
-  pub output : List ℕ
-
-unfoldable pub openingAfter : Verdict → List ℕ → List ℕ → List ℕ → Opening
+unfoldable pub openingAfter : Verdict → List ℕ → List ℕ → List ℕ → WithOutput OpenAnswer
 openingAfter Accepted s b out = record { answer = Done (blockCount s b); output = openedBlock s b }
 openingAfter (Verdict.Refused r) s b out = record { answer = Denied r; output = out }
 
 -- out is the output as it was lent
-unfoldable pub opening : List ℕ → List ℕ → List ℕ → Opening
+unfoldable pub opening : List ℕ → List ℕ → List ℕ → WithOutput OpenAnswer
 opening s b out = openingAfter (openVerdict s b (length out)) s b out
-
--- an answer with the output
-abbrev pub outcome : OpenAnswer → List ℕ → Opening
-outcome a o = record { answer = a; output = o }
 
 -- the paper's number of an answer, and its count
 abbrev pub openNumber : OpenAnswer → ℕ

@@ -7,7 +7,7 @@ use Rattle.refusal.specs.declared.Refusal.the-variants.{OutOfRange}
 use Rattle.refusal.specs.declared.Verdict.{Verdict}
 use Rattle.refusal.specs.declared.Verdict.the-variants.{Accepted, Refused}
 use Rattle.capture.specs.declared.directory.Directory.{Directory}
-use Rattle.capture.specs.declared.directory.Directory.the-variants.{Good, BadSize, BadChain, BadLength}
+use Rattle.capture.specs.declared.directory.Directory.the-variants.{Good, BadSize, BadChain, BadRecord}
 use Rattle.capture.specs.declared.payload.Bounds.{Bounds}
 use Rattle.capture.specs.declared.payload.Bounds.the-variants.{Within}
 use Rattle.records.specs.Record.{headerOctets, payloadOf}
@@ -18,7 +18,7 @@ abbrev pub recordAsked : Directory → ℕ → Verdict
 recordAsked (Good n) k = pick (both (leb 1 k) (leb k n)) Accepted (Refused OutOfRange)
 recordAsked BadSize k = verdictOn BadSize
 recordAsked (BadChain i) k = verdictOn (BadChain i)
-recordAsked (BadLength i) k = verdictOn (BadLength i)
+recordAsked (BadRecord i) k = verdictOn (BadRecord i)
 
 unfoldable pub payloadVerdict : List ℕ → ℕ → Verdict
 payloadVerdict b k = recordAsked (directoryOf b) k

@@ -34,7 +34,7 @@ pub enum Directory {
     // the first pair that does not fit is off the chain
     BadChain(usize),
     // the first pair that does not fit is off its record's length
-    BadLength(usize),
+    BadRecord(usize),
 }
 
 // Whether a record is as long as its EQs say.
@@ -70,7 +70,7 @@ pub(crate) fn length_of(block: &[u8], i: usize) -> usize
 }
 
 // The verdict on pair i of n, whose record is due at `due`.
-fn judge(block: &[u8], n: usize, i: usize, due: usize) -> Pair
+fn pair_of(block: &[u8], n: usize, i: usize, due: usize) -> Pair
     requires { ⌜ Due (now block) n i due ⌝ }
     ensures { λ r. ⌜ r ≡ pairOf (now (block .entry)) i ⌝ }
 {
@@ -117,10 +117,10 @@ pub fn check(block: &[u8]) -> Directory
     let mut due = 2 + 8 * n;
     let mut i = 0;
     while i < n {
-        match judge(block, n, i, due) {
+        match pair_of(block, n, i, due) {
             Pair::Fits => {}
             Pair::OffChain => return Directory::BadChain(i + 1),
-            Pair::OffLength => return Directory::BadLength(i + 1),
+            Pair::OffLength => return Directory::BadRecord(i + 1),
         }
         due += length_of(block, i);
         i += 1;
@@ -129,13 +129,13 @@ pub fn check(block: &[u8]) -> Directory
 }
 
 // The refusal that a directory earns: 15 for any break of it.
-pub fn verdict(directory: Directory) -> Verdict
+pub fn verdict_on(directory: Directory) -> Verdict
     ensures { λ r. ⌜ r ≡ verdictOn directory ⌝ }
 {
     match directory {
         Directory::Good(_) => Verdict::Accepted,
         Directory::BadSize => Verdict::Refused(Refusal::BadDirectory),
         Directory::BadChain(_) => Verdict::Refused(Refusal::BadDirectory),
-        Directory::BadLength(_) => Verdict::Refused(Refusal::BadDirectory),
+        Directory::BadRecord(_) => Verdict::Refused(Refusal::BadDirectory),
     }
 }

@@ -2,7 +2,7 @@
 ghost use mathlib.Core.Path.{_≡_};
 ghost use Prim.Native.Nat.{_≤_, _<_, _^_};
 ghost use lib.ListN.{length};
-ghost use Rattle.records.specs.Record.{headerOf};
+ghost use Rattle.records.specs.Record.{recordHeader};
 use crate::fields::number16;
 use crate::fields::number32;
 use crate::fields::number48;
@@ -14,7 +14,7 @@ pub(crate) const FLAGS: usize = 4;
 // The header of a record's octets.
 pub(crate) fn read(r: &[u8]) -> Header
     requires { ⌜ 16 ≤ length (now r) ⌝ }
-    ensures { λ h. ⌜ h ≡ headerOf (now (r .entry)) ⌝ }
+    ensures { λ h. ⌜ h ≡ recordHeader (now (r .entry)) ⌝ }
     ensures { λ h. ⌜ h .clock < 2 ^ 48 ⌝ }
 {
     Header {

@@ -5,16 +5,16 @@ ghost use Prim.Native.Nat.{_+_, _*_, _≤_, _<_};
 ghost use lib.ListN.{length, take, drop};
 ghost use Rattle.rows.specs.Text.{rowOf, textOf};
 ghost use Rattle.capture.specs.Listing.{rowsFrom, bodyOf, listingOf};
-ghost use Rattle.records.specs.Record.{headerOf};
+ghost use Rattle.records.specs.Record.{recordHeader};
 ghost use Rattle.records.specs.Verdict.{verdictOf};
 ghost use Rattle.capture.specs.declared.directory.Directory.the-variants.{Good};
 ghost use Rattle.capture.specs.Directory.{recordOf, directoryOf};
 ghost use Rattle.capture.specs.Opening.{openVerdict};
 ghost use Rattle.capture.specs.Duties.{Placed};
 use crate::directory::count;
-use crate::opening::judge_call;
+use crate::opening::open_verdict;
 use crate::verdict::header_of;
-use crate::verdict::judge_for;
+use crate::verdict::verdict_for;
 use refusal::Verdict;
 use rows::Line;
 use rows::refused_row;
@@ -53,11 +53,11 @@ fn put_row(settings: &[u8], block: &[u8], text: &mut [u8], at: usize, i: usize) 
     requires { ⌜ Placed (now block) i ⌝ }
     requires { ⌜ at + 40 ≤ length (now text) ⌝ }
     ensures { λ r. ⌜ (at ≤ r) × (r ≤ at + 40) ⌝ }
-    ensures { λ r. ⌜ take r (now (text .exit)) ≡ take at (now (text .entry)) ++ rowOf (i + 1) (headerOf (recordOf (now (block .entry)) i)) (verdictOf (now (settings .entry)) (recordOf (now (block .entry)) i)) ⌝ }
+    ensures { λ r. ⌜ take r (now (text .exit)) ≡ take at (now (text .entry)) ++ rowOf (i + 1) (recordHeader (recordOf (now (block .entry)) i)) (verdictOf (now (settings .entry)) (recordOf (now (block .entry)) i)) ⌝ }
     ensures { λ r. ⌜ drop r (now (text .exit)) ≡ drop r (now (text .entry)) ⌝ }
 {
     let h = header_of(block, i);
-    put_line(text, at, row(i as u64 + 1, h, judge_for(settings, h)))
+    put_line(text, at, row(i as u64 + 1, h, verdict_for(settings, h)))
 }
 
 fn put_rows(settings: &[u8], block: &[u8], text: &mut [u8], at: usize, n: usize) -> usize
@@ -84,7 +84,7 @@ fn put_body(settings: &[u8], block: &[u8], text: &mut [u8], at: usize) -> usize
     ensures { λ r. ⌜ take r (now (text .exit)) ≡ take at (now (text .entry)) ++ bodyOf (now (settings .entry)) (now (block .entry)) (openVerdict (now (settings .entry)) (now (block .entry)) (length (now (block .entry)))) ⌝ }
     ensures { λ r. ⌜ drop r (now (text .exit)) ≡ drop r (now (text .entry)) ⌝ }
 {
-    match judge_call(settings, block, block.len()) {
+    match open_verdict(settings, block, block.len()) {
         Verdict::Refused(refusal) => put_line(text, at, refused_row(refusal)),
         Verdict::Accepted => put_rows(settings, block, text, at, count(block)),
     }

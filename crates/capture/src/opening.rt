@@ -7,6 +7,7 @@ ghost use lib.ListN.{length, take, drop, set};
 ghost use lib.Dec.{eqb};
 ghost use Rattle.octets.specs.Choice.{pick};
 ghost use Rattle.octets.specs.Lists.{replaced};
+ghost use Rattle.octets.specs.Output.{withOutput};
 ghost use Rattle.envelope.specs.ControlMask.{countEnciphered};
 ghost use Rattle.envelope.specs.Acceptance.{nonceFits};
 ghost use Rattle.sealing.specs.Payload.{sealed};
@@ -14,20 +15,20 @@ ghost use Rattle.sealing.specs.KeyExpansion.{keyExpansion};
 ghost use Rattle.records.specs.Record.{payloadOf};
 ghost use Rattle.records.specs.Settings.{presenceOf, keyPresent, keyOf};
 ghost use Rattle.capture.specs.Directory.{offsetOf, endOf, recordOf};
-ghost use Rattle.capture.specs.Opening.{openedRecord, recordCount, openedBlock, blockCount, openVerdict, opening, outcome, openNumber, openCount};
+ghost use Rattle.capture.specs.Opening.{openedRecord, recordCount, openedBlock, blockCount, openVerdict, opening, openNumber, openCount};
 ghost use Rattle.capture.specs.Claims.{OpenedIfAccepted};
 ghost use Rattle.capture.specs.Duties.{Placed, Expanded, Ready, Copied};
 use crate::directory::check;
 use crate::directory::count;
 use crate::directory::length_of;
 use crate::directory::offset;
-use crate::directory::verdict;
+use crate::directory::verdict_on;
 use crate::header::FLAGS;
 use crate::settings::key;
 use crate::settings::mac;
 use crate::settings::presence;
 use crate::verdict::header_of;
-use crate::verdict::judge_for;
+use crate::verdict::verdict_for;
 use envelope::Nonce;
 use envelope::seal_count;
 use records::header::HEADER_OCTETS;
@@ -88,7 +89,7 @@ fn open_record(settings: &[u8], keys: Keys, block: &[u8], output: &mut [u8], i: 
     ensures { λ _. ⌜ now (output .exit) ≡ take (offsetOf (now (block .entry)) i) (now (output .entry)) ++ (openedRecord (now (settings .entry)) (recordOf (now (block .entry)) i) ++ drop (endOf (now (block .entry)) i) (now (block .entry))) ⌝ }
 {
     let h = header_of(block, i);
-    match judge_for(settings, h) {
+    match verdict_for(settings, h) {
         RecordVerdict::Clear => 0,
         RecordVerdict::Refused(_) => 0,
         RecordVerdict::Sealed(index, clock) => {
@@ -148,24 +149,24 @@ fn copy(block: &[u8], output: &mut [u8])
 }
 
 // The verdict on the call, for an output of `size` octets.
-pub(crate) fn judge_call(settings: &[u8], block: &[u8], size: usize) -> Verdict
+pub(crate) fn open_verdict(settings: &[u8], block: &[u8], size: usize) -> Verdict
     ensures { λ r. ⌜ r ≡ openVerdict (now (settings .entry)) (now (block .entry)) size ⌝ }
 {
     if size != block.len() {
         return Verdict::Refused(Refusal::BadLength);
     }
-    match records::settings::verdict(settings) {
+    match records::settings::settings_verdict(settings) {
         Verdict::Refused(refusal) => Verdict::Refused(refusal),
-        Verdict::Accepted => verdict(check(block)),
+        Verdict::Accepted => verdict_on(check(block)),
     }
 }
 
 // Opens a block into an output of its length. Each present key is expanded once.
 pub fn open(settings: &[u8], block: &[u8], output: &mut [u8]) -> OpenAnswer
-    ensures { λ r. ⌜ outcome r (now (output .exit)) ≡ opening (now (settings .entry)) (now (block .entry)) (now (output .entry)) ⌝ }
+    ensures { λ r. ⌜ withOutput r (now (output .exit)) ≡ opening (now (settings .entry)) (now (block .entry)) (now (output .entry)) ⌝ }
     ensures { λ _. ⌜ OpenedIfAccepted (now (settings .entry)) (now (block .entry)) (length (now (output .entry))) ⌝ }
 {
-    match judge_call(settings, block, output.len()) {
+    match open_verdict(settings, block, output.len()) {
         Verdict::Refused(refusal) => OpenAnswer::Denied(refusal),
         Verdict::Accepted => {
             let keys = expand_keys(settings);

@@ -30,12 +30,12 @@ fn asked(directory: Directory, k: usize) -> Verdict
         }
         Directory::BadSize => Verdict::Refused(Refusal::BadDirectory),
         Directory::BadChain(_) => Verdict::Refused(Refusal::BadDirectory),
-        Directory::BadLength(_) => Verdict::Refused(Refusal::BadDirectory),
+        Directory::BadRecord(_) => Verdict::Refused(Refusal::BadDirectory),
     }
 }
 
 // Whether a block has a payload with number k: an empty part can also be the payload of 0 EQs.
-pub fn verdict(block: &[u8], k: usize) -> Verdict
+pub fn payload_verdict(block: &[u8], k: usize) -> Verdict
     ensures { λ r. ⌜ r ≡ payloadVerdict (now (block .entry)) k ⌝ }
 {
     asked(check(block), k)
@@ -45,7 +45,7 @@ pub fn verdict(block: &[u8], k: usize) -> Verdict
 pub fn locate(block: &[u8], k: usize) -> Bounds
     ensures { λ r. ⌜ r ≡ payloadBounds (now (block .entry)) k ⌝ }
 {
-    match verdict(block, k) {
+    match payload_verdict(block, k) {
         Verdict::Accepted => {
             let i = k - 1;
             let offset = offset(block, i);

@@ -9,22 +9,22 @@ use Rattle.octets.specs.Choice.{both, pick}
 use Rattle.octets.proofs.Choice.{both-true, pick-true, pick-false}
 use Rattle.clock.specs.Ticks.{epamTurn, epamOf}
 use Rattle.ends.specs.Keys.{noKey, keyIn}
-use Rattle.ends.specs.Headers.{validHeader, headerOf, keyFor}
+use Rattle.ends.specs.Headers.{validHeader, envelopeHeader, keyFor}
 use Rattle.ends.specs.declared.Slots.{Slots}
 
 -- a clear envelope says so
-pub header-clear : (n channel llid clock : ℕ) → n ≡ 0 → headerOf n channel llid clock .encenabled ≡ 0
-unfolding headerOf
+pub header-clear : (n channel llid clock : ℕ) → n ≡ 0 → envelopeHeader n channel llid clock .encenabled ≡ 0
+unfolding envelopeHeader
 header-clear n channel llid clock e = pick-true 0 1 (eq-eqb n 0 e)
 
 -- and so does a sealed one
-pub header-sealed : (n channel llid clock : ℕ) → 1 ≤ n → headerOf n channel llid clock .encenabled ≡ 1
-unfolding headerOf
+pub header-sealed : (n channel llid clock : ℕ) → 1 ≤ n → envelopeHeader n channel llid clock .encenabled ≡ 1
+unfolding envelopeHeader
 header-sealed n channel llid clock h = pick-false 0 1 (ne-eqb n 0 (λ e. omega arith))
 
 -- every header that is made is valid
-pub header-valid : (n channel llid clock : ℕ) → validHeader (headerOf n channel llid clock) ≡ true
-unfolding validHeader headerOf pick
+pub header-valid : (n channel llid clock : ℕ) → validHeader (envelopeHeader n channel llid clock) ≡ true
+unfolding validHeader envelopeHeader pick
 header-valid n channel llid clock = by-clear (eqb n 0) refl where
   epam : ltb (epamOf clock) epamTurn ≡ true
   epam = lt-ltb (epamOf clock) epamTurn (omega arith)
@@ -39,6 +39,6 @@ unfolding keyFor
 key-for n s h = pick-false noKey (keyIn s n) (ne-eqb n 0 (λ e. omega arith))
 
 -- of the clock a header has no more than EPAM
-pub header-epam : (n channel llid c d : ℕ) → epamOf c ≡ epamOf d → headerOf n channel llid c ≡ headerOf n channel llid d
-unfolding headerOf
+pub header-epam : (n channel llid c d : ℕ) → epamOf c ≡ epamOf d → envelopeHeader n channel llid c ≡ envelopeHeader n channel llid d
+unfolding envelopeHeader
 header-epam n channel llid c d e = rw e

@@ -16,7 +16,7 @@ use Rattle.ends.specs.Identities.{has}
 use Rattle.ends.specs.Records.{withOnuKeys, withOnuFirst, withOnuChannels}
 use Rattle.ends.specs.Validity.{validOnuKeys, validOnu}
 use Rattle.ends.specs.Headers.{validHeader, noPassage, noSending}
-use Rattle.ends.specs.OnuTraffic.{onuSendChoice, onuSendVerdict, onuNoted, onuSent, sendingOnu, onuReceiveChoice, onuReceiveVerdict, onuMoved, onuReceived, receivingOnu}
+use Rattle.ends.specs.OnuTraffic.{onuSendChoice, onuSendVerdict, onuNoted, onuAfterSend, sendingOnu, onuReceiveChoice, onuReceiveVerdict, onuMoved, onuAfterReceipt, receivingOnu}
 use Rattle.ends.specs.declared.Onu.{Onu}
 use Rattle.ends.specs.declared.Header.{Header}
 use Rattle.ends.specs.declared.KeyChoice.{KeyChoice}
@@ -48,12 +48,12 @@ noted-valid (Current n) o v =
       channels = r .channels;
     })
 
-pub onu-sent-valid : (o : Onu) (channel eqs : ℕ) → eqs ≤ maxEqs → validOnu o ≡ true → validOnu (onuSent o channel eqs) ≡ true
-unfolding onuSent withOnuChannels
+pub onu-sent-valid : (o : Onu) (channel eqs : ℕ) → eqs ≤ maxEqs → validOnu o ≡ true → validOnu (onuAfterSend o channel eqs) ≡ true
+unfolding onuAfterSend withOnuChannels
 onu-sent-valid o channel eqs h v =
     let r = onu-in-range o v in
     let q = onu-in-range (onuNoted (onuSendChoice (o .keys)) o) (noted-valid (onuSendChoice (o .keys)) o v) in
-    onu-valid (onuSent o channel eqs)
+    onu-valid (onuAfterSend o channel eqs)
     (record {
       identity = q .identity;
       distinct = q .distinct;
@@ -87,8 +87,8 @@ onu-moved-valid o v =
       channels = r .channels;
     })
 
-received-valid : (choice : KeyChoice) (o : Onu) → validOnu o ≡ true → validOnu (onuReceived choice o) ≡ true
-unfolding onuReceived
+received-valid : (choice : KeyChoice) (o : Onu) → validOnu o ≡ true → validOnu (onuAfterReceipt choice o) ≡ true
+unfolding onuAfterReceipt
 received-valid Clear o v = v
 received-valid (Current n) o v = v
 received-valid (Next n) o v = onu-moved-valid o v

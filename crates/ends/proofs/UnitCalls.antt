@@ -21,7 +21,7 @@ use Rattle.ends.specs.Records.{withKeys, withConfirmation, withClock, wi
 use Rattle.ends.specs.Validity.{validUnitClock, validUnit, validShared}
 use Rattle.ends.specs.Occupancy.{validChannels}
 use Rattle.ends.specs.Lift.{Outcome, outcome}
-use Rattle.ends.specs.UnitCalls.{unitAdvanced, clockCaptured, captureUnit, clockSendVerdict, clockMessageSent, clockSendUnit, offerVerdict, keysOffered, unitOffered, offerUnit, retryVerdict, retryUnit, clockAcknowledgedUnit, keyAcknowledgedUnit, acknowledgeUnit}
+use Rattle.ends.specs.UnitCalls.{unitAdvanced, clockCaptured, captureUnit, clockSendVerdict, clockAfterSend, clockSendUnit, offerVerdict, keysOffered, unitOffered, offerUnit, retryVerdict, retryUnit, clockAcknowledgedUnit, keyAcknowledgedUnit, acknowledgeUnit}
 use Rattle.ends.specs.declared.UnitClock.{UnitClock}
 use Rattle.ends.specs.declared.UnitRecord.{UnitRecord}
 use Rattle.ends.specs.declared.Shared.{Shared}
@@ -105,13 +105,13 @@ capture-keeps =
     }
 
 pub clock-send-keeps : Keeps clockSendUnit
-unfolding clockSendUnit outcome withClock clockMessageSent
+unfolding clockSendUnit outcome withClock clockAfterSend
 clock-send-keeps =
     record {
       identity = λ s u. refl;
       unit = λ s u v a.
           let r = clock-in-range (s .tick) (u .clock) (unit-in-range (s .tick) u v .clock) in
-          clock-replaced (s .tick) u (clockMessageSent (u .clock))
+          clock-replaced (s .tick) u (clockAfterSend (u .clock))
           (record { trip = r .trip; captured = r .captured; since = r .since; sent = omega arith; acknowledged = r .acknowledged })
           v;
       channels = λ s u v. stay s v;

@@ -7,7 +7,7 @@ use Rattle.octets.specs.Eqs.{maxEqs}
 use Rattle.ends.specs.Records.{withKeys, withConfirmation, withSlots, withFirst}
 use Rattle.ends.specs.Validity.{validUnit}
 use Rattle.ends.specs.Lift.{outcome}
-use Rattle.ends.specs.UnitTraffic.{unitSendChoice, keysSwitched, keysSent, sendUnit, unitReceiveChoice, unitConfirmed, unitReceived, receiveUnit}
+use Rattle.ends.specs.UnitTraffic.{unitSendChoice, keysSwitched, keysAfterSend, sendUnit, unitReceiveChoice, unitConfirmed, unitAfterReceipt, receiveUnit}
 use Rattle.ends.specs.declared.UnitRecord.{UnitRecord}
 use Rattle.ends.specs.declared.Header.{Header}
 use Rattle.ends.specs.declared.KeyChoice.{KeyChoice}
@@ -19,8 +19,8 @@ use Rattle.ends.proofs.Validity.{unit-in-range, unit-valid, shared-in-r
 use Rattle.ends.proofs.Lift.{Keeps}
 
 -- whatever the choice, the keys after a send are in range
-sent-valid : (choice : KeyChoice) (tick : ℕ) (u : UnitRecord) → validUnit tick u ≡ true → validUnit tick (withKeys u (keysSent choice (u .keys) tick)) ≡ true
-unfolding withKeys keysSent withFirst keysSwitched
+sent-valid : (choice : KeyChoice) (tick : ℕ) (u : UnitRecord) → validUnit tick u ≡ true → validUnit tick (withKeys u (keysAfterSend choice (u .keys) tick)) ≡ true
+unfolding withKeys keysAfterSend withFirst keysSwitched
 sent-valid Clear tick u v = v
 sent-valid (Barred r) tick u v = v
 sent-valid (Current n) tick u v =
@@ -61,8 +61,8 @@ send-keeps llid channel eqs h =
           occupied-valid (s .channels) channel (s .tick) eqs (r .tick) h (r .channels);
     }
 
-received-valid : (choice : KeyChoice) (tick : ℕ) (u : UnitRecord) → validUnit tick u ≡ true → validUnit tick (unitReceived choice u) ≡ true
-unfolding unitReceived unitConfirmed withKeys withSlots withConfirmation
+received-valid : (choice : KeyChoice) (tick : ℕ) (u : UnitRecord) → validUnit tick u ≡ true → validUnit tick (unitAfterReceipt choice u) ≡ true
+unfolding unitAfterReceipt unitConfirmed withKeys withSlots withConfirmation
 received-valid Clear tick u v = v
 received-valid (Current n) tick u v = v
 received-valid (Barred r) tick u v = v
@@ -80,8 +80,8 @@ received-valid (Next n) tick u v =
       clock = r .clock;
     })
 
-received-identity : (choice : KeyChoice) (u : UnitRecord) → unitReceived choice u .identity ≡ u .identity
-unfolding unitReceived unitConfirmed withKeys withSlots withConfirmation
+received-identity : (choice : KeyChoice) (u : UnitRecord) → unitAfterReceipt choice u .identity ≡ u .identity
+unfolding unitAfterReceipt unitConfirmed withKeys withSlots withConfirmation
 received-identity Clear u = refl
 received-identity (Current n) u = refl
 received-identity (Next n) u = refl

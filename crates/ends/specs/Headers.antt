@@ -41,8 +41,8 @@ choiceAged (Next n) f tick = false
 choiceAged (Barred r) f tick = false
 
 -- the header of an envelope numbered n, at the sender's clock (01, Keys: EPAM, of LocalTime if unsynced)
-unfoldable pub headerOf : ℕ → ℕ → ℕ → ℕ → Header
-headerOf n channel llid clock =
+unfoldable pub envelopeHeader : ℕ → ℕ → ℕ → ℕ → Header
+envelopeHeader n channel llid clock =
     record { channel = channel; llid = llid; encenabled = pick (eqb n 0) 0 1; enckey = n % 2; epam = epamOf clock }
 
 -- the key of number n, none for 0
@@ -55,7 +55,7 @@ passageOf choice s mac clock = record { choice = choice; key = keyFor (choiceNum
 
 unfoldable pub sendingOf : KeyChoice → Slots → ℕ → ℕ → ℕ → ℕ → Sending
 sendingOf choice s mac clock channel llid =
-    record { header = headerOf (choiceNumber choice) channel llid clock; passage = passageOf choice s mac clock }
+    record { header = envelopeHeader (choiceNumber choice) channel llid clock; passage = passageOf choice s mac clock }
 
 abbrev pub noPassage : Passage
 noPassage = record { choice = Clear; key = noKey; mac = 0; clock = 0 }

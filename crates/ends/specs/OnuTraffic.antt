@@ -44,13 +44,13 @@ onuNoted (Current n) o = withOnuFirst o (firstSend (o .first) (o .tick))
 onuNoted (Next n) o = o
 onuNoted (Barred r) o = o
 
-unfoldable pub onuSent : Onu → ℕ → ℕ → Onu
-onuSent o channel eqs = withOnuChannels (onuNoted (onuSendChoice (o .keys)) o) (occupied (o .channels) channel (o .tick) eqs)
+unfoldable pub onuAfterSend : Onu → ℕ → ℕ → Onu
+onuAfterSend o channel eqs = withOnuChannels (onuNoted (onuSendChoice (o .keys)) o) (occupied (o .channels) channel (o .tick) eqs)
 
 -- sealed with the unit's own MAC and its Tx clock, in whose place `time` is LocalTime while the unit is unsynced
 unfoldable pub sendingOnu : Onu → Bool → ℕ → ℕ → ℕ → Reply Onu Sending
 sendingOnu o misfit llid channel eqs =
-    onuReply o noSending (onuSendVerdict o misfit llid channel) (onuSent o channel eqs)
+    onuReply o noSending (onuSendVerdict o misfit llid channel) (onuAfterSend o channel eqs)
     (sendingOf (onuSendChoice (o .keys)) (o .keys .slots) (o .identity .mac) (o .clock .time) channel llid)
 
 ---- receive: 14, 1, 2, 10, 5, 11, 9
@@ -78,14 +78,14 @@ onuMoved o =
     (withOnuKeys o (record { active = o .keys .active + 1; held = 0; slots = onlyKey (o .keys .slots) (o .keys .active + 1) }))
     notNoted
 
-unfoldable pub onuReceived : KeyChoice → Onu → Onu
-onuReceived Clear o = o
-onuReceived (Current n) o = o
-onuReceived (Next n) o = onuMoved o
-onuReceived (Barred r) o = o
+unfoldable pub onuAfterReceipt : KeyChoice → Onu → Onu
+onuAfterReceipt Clear o = o
+onuAfterReceipt (Current n) o = o
+onuAfterReceipt (Next n) o = onuMoved o
+onuAfterReceipt (Barred r) o = o
 
 -- opened with the OLT's MAC and the Rx clock
 unfoldable pub receivingOnu : Onu → Bool → Header → Reply Onu Passage
 receivingOnu o misfit h =
-    onuReply o noPassage (onuReceiveVerdict o misfit h) (onuReceived (onuReceiveChoice (o .keys) h) o)
+    onuReply o noPassage (onuReceiveVerdict o misfit h) (onuAfterReceipt (onuReceiveChoice (o .keys) h) o)
     (passageOf (onuReceiveChoice (o .keys) h) (o .keys .slots) (o .oltmac) (o .clock .rx))

@@ -44,8 +44,8 @@ clockSendVerdict c tick =
     refuseIf (not (isUp (c .captured))) NothingOutstanding
     (refuseIf (ltb (c .tick + ticksPerSecond) tick) CaptureTooOld Accepted)
 
-unfoldable pub clockMessageSent : UnitClock → UnitClock
-clockMessageSent c = record { trip = c .trip; captured = c .captured; tick = c .tick; sent = 1; acknowledged = c .acknowledged }
+unfoldable pub clockAfterSend : UnitClock → UnitClock
+clockAfterSend c = record { trip = c .trip; captured = c .captured; tick = c .tick; sent = 1; acknowledged = c .acknowledged }
 
 -- the stamps of the capture's tick, from the clock of this one
 unfoldable pub clockMessageOf : Shared → UnitClock → Stamps
@@ -53,7 +53,7 @@ clockMessageOf s c = capturedAt (rewound (s .clock) (s .tick - c .tick)) (c .tri
 
 unfoldable pub clockSendUnit : Shared → UnitRecord → Outcome Stamps
 clockSendUnit s u =
-    outcome s (clockSendVerdict (u .clock) (s .tick)) (withClock u (clockMessageSent (u .clock))) (clockMessageOf s (u .clock))
+    outcome s (clockSendVerdict (u .clock) (s .tick)) (withClock u (clockAfterSend (u .clock))) (clockMessageOf s (u .clock))
 
 ---- offer: 5, 6, 7, 17
 

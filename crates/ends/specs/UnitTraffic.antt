@@ -44,17 +44,17 @@ unfoldable pub keysSwitched : UnitKeys → ℕ → UnitKeys
 keysSwitched k tick =
     record { timer = timerFallen (k .timer); active = k .offered; offered = k .offered; slots = k .slots; first = notedAt tick }
 
-unfoldable pub keysSent : KeyChoice → UnitKeys → ℕ → UnitKeys
-keysSent Clear k tick = k
-keysSent (Current n) k tick = withFirst k (firstSend (k .first) tick)
-keysSent (Next n) k tick = keysSwitched k tick
-keysSent (Barred r) k tick = k
+unfoldable pub keysAfterSend : KeyChoice → UnitKeys → ℕ → UnitKeys
+keysAfterSend Clear k tick = k
+keysAfterSend (Current n) k tick = withFirst k (firstSend (k .first) tick)
+keysAfterSend (Next n) k tick = keysSwitched k tick
+keysAfterSend (Barred r) k tick = k
 
 unfoldable pub sendUnit : ℕ → ℕ → ℕ → Shared → UnitRecord → Outcome Sending
 sendUnit llid channel eqs s u =
     record {
       verdict = unitSendVerdict s u channel;
-      unit = withKeys u (keysSent (unitSendChoice u) (u .keys) (s .tick));
+      unit = withKeys u (keysAfterSend (unitSendChoice u) (u .keys) (s .tick));
       channels = occupied (s .channels) channel (s .tick) eqs;
       handed = sendingOf (unitSendChoice u) (u .keys .slots) (s .mac) (s .clock) channel llid;
     }
@@ -81,14 +81,14 @@ unitConfirmed u =
     withConfirmation (withKeys u (withSlots (u .keys) (onlyKey (u .keys .slots) (u .keys .active))))
     (record { confirmed = u .keys .active; acknowledged = u .confirmation .acknowledged })
 
-unfoldable pub unitReceived : KeyChoice → UnitRecord → UnitRecord
-unitReceived Clear u = u
-unitReceived (Current n) u = u
-unitReceived (Next n) u = unitConfirmed u
-unitReceived (Barred r) u = u
+unfoldable pub unitAfterReceipt : KeyChoice → UnitRecord → UnitRecord
+unitAfterReceipt Clear u = u
+unitAfterReceipt (Current n) u = u
+unitAfterReceipt (Next n) u = unitConfirmed u
+unitAfterReceipt (Barred r) u = u
 
 -- opened with the unit's MAC and the OLT's clock
 unfoldable pub receiveUnit : Header → Shared → UnitRecord → Outcome Passage
 receiveUnit h s u =
-    outcome s (unitReceiveVerdict s u h) (unitReceived (unitReceiveChoice u h) u)
+    outcome s (unitReceiveVerdict s u h) (unitAfterReceipt (unitReceiveChoice u h) u)
     (passageOf (unitReceiveChoice u h) (u .keys .slots) (u .identity .mac) (s .clock))

@@ -7,7 +7,7 @@ use Rattle.octets.specs.Eqs.{maxEqs}
 use Rattle.octets.proofs.Choice.{both-left, both-right, pick-first}
 use Rattle.refusal.specs.declared.Refusal.the-variants.{OutOfRange, BadLength}
 use Rattle.refusal.specs.declared.Verdict.the-variants.{Accepted, Refused}
-use Rattle.envelope.specs.Acceptance.{lengthsFit, nonceFits, judgeSeal}
+use Rattle.envelope.specs.Acceptance.{lengthsFit, nonceFits, sealVerdict}
 use Rattle.envelope.specs.declared.Nonce.{Nonce}
 
 -- the lengths of an accepted call
@@ -23,8 +23,8 @@ lengths-fit n m e =
     record { whole = eqb-true _ _ (both-left _ _ e); bounded = leb-true _ _ (both-left _ _ rest); same = eqb-true _ _ (both-right _ _ rest) }
 
 -- what acceptance tells
-pub accepted : (n m : ℕ) (nonce : Nonce) → judgeSeal n m nonce ≡ Accepted → (lengthsFit n m ≡ true) × (nonceFits nonce ≡ true)
-unfolding judgeSeal
+pub accepted : (n m : ℕ) (nonce : Nonce) → sealVerdict n m nonce ≡ Accepted → (lengthsFit n m ≡ true) × (nonceFits nonce ≡ true)
+unfolding sealVerdict
 accepted n m nonce e =
     let a = pick-first (lengthsFit n m) _ (Refused BadLength) Accepted (λ z. cc) e in
     (a .0, pick-first (nonceFits nonce) Accepted (Refused OutOfRange) Accepted (λ z. cc) (a .1) .0)

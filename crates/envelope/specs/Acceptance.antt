@@ -21,5 +21,5 @@ unfoldable pub nonceFits : Nonce → Bool
 nonceFits n = both (channelFits (n .channel)) (both (ltb (n .mac) (2 ^ 48)) (ltb (n .clock) (2 ^ 48)))
 
 -- 14, then 1
-unfoldable pub judgeSeal : ℕ → ℕ → Nonce → Verdict
-judgeSeal n m nonce = pick (lengthsFit n m) (pick (nonceFits nonce) Accepted (Refused OutOfRange)) (Refused BadLength)
+unfoldable pub sealVerdict : ℕ → ℕ → Nonce → Verdict
+sealVerdict n m nonce = pick (lengthsFit n m) (pick (nonceFits nonce) Accepted (Refused OutOfRange)) (Refused BadLength)

@@ -1,7 +1,7 @@
 // What sealing takes and answers that needs no cipher (01, Counter block and mask, When the reader says no: 14, 1): the counter
 // block, the control mask, the count, and the verdict on a call.
 ghost use mathlib.Core.Path.{_≡_};
-ghost use Rattle.envelope.specs.Acceptance.{lengthsFit, nonceFits, judgeSeal};
+ghost use Rattle.envelope.specs.Acceptance.{lengthsFit, nonceFits, sealVerdict};
 ghost use Rattle.envelope.specs.Answer.{sealNumber, sealCount};
 ghost use Rattle.envelope.specs.ControlMask.{masked, countEnciphered};
 ghost use Rattle.envelope.specs.CounterBlock.{counterBlock};
@@ -87,8 +87,8 @@ pub fn lengths_fit(n: usize, m: usize) -> bool
     (n % 9 == 0) & ((n <= MAX_OCTETS) & (m == n))
 }
 
-pub fn judge(n: usize, m: usize, nonce: Nonce) -> Verdict
-    ensures { λ r. ⌜ r ≡ judgeSeal n m nonce ⌝ }
+pub fn seal_verdict(n: usize, m: usize, nonce: Nonce) -> Verdict
+    ensures { λ r. ⌜ r ≡ sealVerdict n m nonce ⌝ }
 {
     if lengths_fit(n, m) {
         if nonce_fits(nonce) {

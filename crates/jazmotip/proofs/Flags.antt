@@ -5,22 +5,22 @@ use Prim.Native.Nat.{ℕ, zero, suc, _≤_, _<_}
 use native.Mathlib.Omega.{arith}
 use lib.Dec.{eqb}
 use lib.ListN.{length}
+use Rattle.octets.specs.Output.{withOutput}
 use Rattle.envelope.specs.declared.Nonce.{Nonce}
 use Rattle.envelope.specs.declared.SealAnswer.{SealAnswer}
-use Rattle.sealing.specs.Seal.{sealing, outcome}
-use Rattle.traffic.specs.Passages.{exchange}
+use Rattle.sealing.specs.Seal.{sealing}
 use Rattle.jazmotip.specs.Payloads.{payloadAnswer, flagDenied, sealingBy, inNumbers}
 
 module _ (w : List ℕ) (n : Nonce) (p out : List ℕ) where
   -- above 1 the output is as it was
-  pub flag-denied : (f : ℕ) → 1 < f → exchange (payloadAnswer (flagDenied (length p) (length out))) out ≡ inNumbers (sealingBy f w n p out)
+  pub flag-denied : (f : ℕ) → 1 < f → withOutput (payloadAnswer (flagDenied (length p) (length out))) out ≡ inNumbers (sealingBy f w n p out)
   unfolding sealingBy
   flag-denied zero h = absurd (omega arith)
   flag-denied (suc zero) h = absurd (omega arith)
   flag-denied (suc (suc f)) h = refl
 
-  pub flag-sealed : (f : ℕ) (a : SealAnswer) (o : List ℕ) → f ≤ 1 → outcome a o ≡ sealing (eqb f 1) w n p out
-      → exchange (payloadAnswer a) o ≡ inNumbers (sealingBy f w n p out)
+  pub flag-sealed : (f : ℕ) (a : SealAnswer) (o : List ℕ) → f ≤ 1 → withOutput a o ≡ sealing (eqb f 1) w n p out
+      → withOutput (payloadAnswer a) o ≡ inNumbers (sealingBy f w n p out)
   unfolding sealingBy
   flag-sealed zero a o h e = ap inNumbers e
   flag-sealed (suc zero) a o h e = ap inNumbers e

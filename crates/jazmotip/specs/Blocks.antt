@@ -1,15 +1,16 @@
 -- What the calls on a capture block decide, in numbers (01, Capture block). Assumes nothing.
+use Rattle.octets.specs.Output.{WithOutput, withOutput}
 use Rattle.refusal.specs.Number.{numberOf, verdictNumber}
 use Rattle.capture.specs.declared.directory.Directory.{Directory}
-use Rattle.capture.specs.declared.directory.Directory.the-variants.{Good, BadSize, BadChain, BadLength}
+use Rattle.capture.specs.declared.directory.Directory.the-variants.{Good, BadSize, BadChain, BadRecord}
 use Rattle.records.specs.declared.header.RecordVerdict.{RecordVerdict}
 use Rattle.records.specs.declared.header.RecordVerdict.the-variants.{Clear, Sealed, Refused}
 use Rattle.capture.specs.declared.payload.Bounds.{Bounds}
 use Rattle.capture.specs.declared.payload.Bounds.the-variants.{Within}
 use Rattle.capture.specs.Directory.{verdictOn}
 use Rattle.records.specs.Verdict.{recordNumber}
-use Rattle.capture.specs.Opening.{Opening, openNumber, openCount}
-use Rattle.traffic.specs.Passages.{Exchange, exchange}
+use Rattle.capture.specs.Opening.{openNumber, openCount}
+use Rattle.capture.specs.declared.opening.OpenAnswer.{OpenAnswer}
 use Rattle.jazmotip.specs.declared.payloads.PayloadAnswer.{PayloadAnswer}
 use Rattle.jazmotip.specs.declared.blocks.BlockDirectory.{BlockDirectory}
 use Rattle.jazmotip.specs.declared.blocks.BlockVerdict.{BlockVerdict}
@@ -20,7 +21,7 @@ abbrev pub blockDirectory : Directory → BlockDirectory
 blockDirectory (Good n) = record { number = verdictNumber (verdictOn (Good n)); fault = 0; records = n; pair = 0 }
 blockDirectory BadSize = record { number = verdictNumber (verdictOn BadSize); fault = 1; records = 0; pair = 0 }
 blockDirectory (BadChain k) = record { number = verdictNumber (verdictOn (BadChain k)); fault = 2; records = 0; pair = k }
-blockDirectory (BadLength k) = record { number = verdictNumber (verdictOn (BadLength k)); fault = 3; records = 0; pair = k }
+blockDirectory (BadRecord k) = record { number = verdictNumber (verdictOn (BadRecord k)); fault = 3; records = 0; pair = k }
 
 -- EncEnabled 1 with the key's index and the clock where a record is to be opened
 abbrev pub blockVerdict : RecordVerdict → BlockVerdict
@@ -32,5 +33,5 @@ abbrev pub blockPart : Bounds → BlockPart
 blockPart (Within from n) = record { number = 0; offset = from; length = n }
 blockPart (Bounds.Refused r) = record { number = numberOf r; offset = 0; length = 0 }
 
-abbrev pub openedInNumbers : Opening → Exchange PayloadAnswer
-openedInNumbers o = exchange (record { number = openNumber (o .answer); count = openCount (o .answer) }) (o .output)
+abbrev pub openedInNumbers : WithOutput OpenAnswer → WithOutput PayloadAnswer
+openedInNumbers o = withOutput (record { number = openNumber (o .answer); count = openCount (o .answer) }) (o .output)

@@ -1,7 +1,7 @@
 // The calls of the OLT. All take the end by value but advance, which changes the end that is lent (01, Clock).
 ghost use mathlib.Core.Path.{_≡_};
+ghost use Rattle.octets.specs.Output.{withOutput};
 ghost use Rattle.ends.specs.OltCalls.{acknowledgeOf, advanceOltOf, captureOf, clockSendOf, freshOltOf, offerOf, registerOf, retryOf};
-ghost use Rattle.traffic.specs.Passages.{exchange};
 ghost use Rattle.traffic.specs.Receipts.{oltReceiveOf};
 ghost use Rattle.traffic.specs.Sends.{oltSendOf};
 use ends::Acknowledgement;
@@ -90,7 +90,7 @@ pub extern "C" fn jazmotip_olt_send(
     payload: &[u8],
     output: &mut [u8],
 ) -> OltSent
-    ensures { λ r. ⌜ exchange r (now (output .exit)) ≡ oltSendOf olt llid channel (now (payload .entry)) (now (output .entry)) ⌝ }
+    ensures { λ r. ⌜ withOutput r (now (output .exit)) ≡ oltSendOf olt llid channel (now (payload .entry)) (now (output .entry)) ⌝ }
 {
     traffic::olt_send(olt, llid, channel, payload, output)
 }
@@ -102,7 +102,7 @@ pub extern "C" fn jazmotip_olt_receive(
     octets: &[u8],
     output: &mut [u8],
 ) -> OltReceived
-    ensures { λ r. ⌜ exchange r (now (output .exit)) ≡ oltReceiveOf olt header (now (octets .entry)) (now (output .entry)) ⌝ }
+    ensures { λ r. ⌜ withOutput r (now (output .exit)) ≡ oltReceiveOf olt header (now (octets .entry)) (now (output .entry)) ⌝ }
 {
     traffic::olt_receive(olt, header, octets, output)
 }

@@ -1,7 +1,7 @@
 // The calls of the ONU. All take the end by value but advance, which changes the end that is lent (01, Clock).
 ghost use mathlib.Core.Path.{_≡_};
+ghost use Rattle.octets.specs.Output.{withOutput};
 ghost use Rattle.ends.specs.OnuCalls.{advanceOnuOf, clockMessageAt, freshOnuOf, keyMessageAt};
-ghost use Rattle.traffic.specs.Passages.{exchange};
 ghost use Rattle.traffic.specs.Receipts.{onuReceiveOf};
 ghost use Rattle.traffic.specs.Sends.{onuSendOf};
 use clock::Stamps;
@@ -53,7 +53,7 @@ pub extern "C" fn jazmotip_onu_send(
     payload: &[u8],
     output: &mut [u8],
 ) -> OnuSent
-    ensures { λ r. ⌜ exchange r (now (output .exit)) ≡ onuSendOf onu llid channel (now (payload .entry)) (now (output .entry)) ⌝ }
+    ensures { λ r. ⌜ withOutput r (now (output .exit)) ≡ onuSendOf onu llid channel (now (payload .entry)) (now (output .entry)) ⌝ }
 {
     traffic::onu_send(onu, llid, channel, payload, output)
 }
@@ -65,7 +65,7 @@ pub extern "C" fn jazmotip_onu_receive(
     octets: &[u8],
     output: &mut [u8],
 ) -> OnuReceived
-    ensures { λ r. ⌜ exchange r (now (output .exit)) ≡ onuReceiveOf onu header (now (octets .entry)) (now (output .entry)) ⌝ }
+    ensures { λ r. ⌜ withOutput r (now (output .exit)) ≡ onuReceiveOf onu header (now (octets .entry)) (now (output .entry)) ⌝ }
 {
     traffic::onu_receive(onu, header, octets, output)
 }

@@ -4,18 +4,18 @@ ghost use mathlib.Core.Path.{_≡_};
 ghost use Prim.Native.Nat.{_≤_};
 ghost use lib.ListN.{length, take, drop};
 ghost use Rattle.octets.specs.Lists.{part};
+ghost use Rattle.octets.specs.Output.{withOutput};
 ghost use Rattle.capture.specs.Directory.{directoryOf};
 ghost use Rattle.capture.specs.Verdict.{verdictAsked};
 ghost use Rattle.capture.specs.Payload.{payloadBounds, payloadPart};
 ghost use Rattle.capture.specs.Opening.{opening};
 ghost use Rattle.capture.specs.Claims.{OpenedIfAccepted};
 ghost use Rattle.capture.specs.Listing.{listingOf};
-ghost use Rattle.traffic.specs.Passages.{exchange};
 ghost use Rattle.jazmotip.specs.Blocks.{blockDirectory, blockVerdict, blockPart, openedInNumbers};
 use super::payloads::PayloadAnswer;
 use capture::directory::Directory;
 use capture::directory::check;
-use capture::directory::verdict;
+use capture::directory::verdict_on;
 use capture::listing::LISTING_OCTETS;
 use capture::listing::list;
 use capture::opening::octets_opened;
@@ -65,7 +65,7 @@ pub struct BlockPart {
 fn directory_in_numbers(directory: Directory) -> BlockDirectory
     ensures { λ r. ⌜ r ≡ blockDirectory directory ⌝ }
 {
-    let number = verdict_number(verdict(directory));
+    let number = verdict_number(verdict_on(directory));
     match directory {
         Directory::Good(n) => BlockDirectory {
             number,
@@ -85,7 +85,7 @@ fn directory_in_numbers(directory: Directory) -> BlockDirectory
             records: 0,
             pair: k,
         },
-        Directory::BadLength(k) => BlockDirectory {
+        Directory::BadRecord(k) => BlockDirectory {
             number,
             fault: LENGTH_FAULT,
             records: 0,
@@ -105,10 +105,10 @@ fn verdict_in_numbers(verdict: RecordVerdict) -> BlockVerdict
             enckey: 0,
             clock: 0,
         },
-        RecordVerdict::Sealed(channel, clock) => BlockVerdict {
+        RecordVerdict::Sealed(index, clock) => BlockVerdict {
             number,
             encenabled: 1,
-            enckey: channel,
+            enckey: index,
             clock,
         },
         RecordVerdict::Refused(_) => BlockVerdict {
@@ -167,7 +167,7 @@ pub extern "C" fn jazmotip_capture_open(
     block: &[u8],
     output: &mut [u8],
 ) -> PayloadAnswer
-    ensures { λ r. ⌜ exchange r (now (output .exit)) ≡ openedInNumbers (opening (now (settings .entry)) (now (block .entry)) (now (output .entry))) ⌝ }
+    ensures { λ r. ⌜ withOutput r (now (output .exit)) ≡ openedInNumbers (opening (now (settings .entry)) (now (block .entry)) (now (output .entry))) ⌝ }
     ensures { λ _. ⌜ OpenedIfAccepted (now (settings .entry)) (now (block .entry)) (length (now (output .entry))) ⌝ }
 {
     let answer = open(settings, block, output);

@@ -1,8 +1,8 @@
 // Sealing and opening of payloads (01, Counter block and mask). EncEnabled is a number here, and an answer a number and a count.
 ghost use mathlib.Core.Path.{_≡_};
+ghost use Rattle.octets.specs.Output.{withOutput};
 ghost use Rattle.envelope.specs.ControlMask.{countEnciphered};
 ghost use Rattle.sealing.specs.KeyExpansion.{keyExpansion};
-ghost use Rattle.traffic.specs.Passages.{exchange};
 ghost use Rattle.jazmotip.specs.Payloads.{payloadAnswer, flagDenied, sealingBy, inNumbers};
 use envelope::Nonce;
 use envelope::SealAnswer;
@@ -58,7 +58,7 @@ pub extern "C" fn jazmotip_seal(
     input: &[u8],
     output: &mut [u8],
 ) -> PayloadAnswer
-    ensures { λ r. ⌜ exchange r (now (output .exit)) ≡ inNumbers (sealingBy encenabled (keyExpansion (now (key .entry))) nonce (now (input .entry)) (now (output .entry))) ⌝ }
+    ensures { λ r. ⌜ withOutput r (now (output .exit)) ≡ inNumbers (sealingBy encenabled (keyExpansion (now (key .entry))) nonce (now (input .entry)) (now (output .entry))) ⌝ }
 {
     if 1 < encenabled {
         return numbered(deny_flag(input.len(), output.len()));
@@ -76,7 +76,7 @@ pub extern "C" fn jazmotip_seal_expanded(
     input: &[u8],
     output: &mut [u8],
 ) -> PayloadAnswer
-    ensures { λ r. ⌜ exchange r (now (output .exit)) ≡ inNumbers (sealingBy encenabled (keys .octets) nonce (now (input .entry)) (now (output .entry))) ⌝ }
+    ensures { λ r. ⌜ withOutput r (now (output .exit)) ≡ inNumbers (sealingBy encenabled (keys .octets) nonce (now (input .entry)) (now (output .entry))) ⌝ }
 {
     if 1 < encenabled {
         return numbered(deny_flag(input.len(), output.len()));

@@ -21,7 +21,7 @@ use Rattle.ends.specs.Lift.{outcome}
 use Rattle.ends.specs.Messages.{noAcknowledgement, ofClock}
 use Rattle.ends.specs.Records.{withClock, withOnuClock}
 use Rattle.ends.specs.Validity.{validOnu}
-use Rattle.ends.specs.UnitCalls.{clockCaptured, captureUnit, clockMessageSent, clockMessageOf, clockSendUnit}
+use Rattle.ends.specs.UnitCalls.{clockCaptured, captureUnit, clockAfterSend, clockMessageOf, clockSendUnit}
 use Rattle.ends.specs.OnuCalls.{onuAcknowledged, clockMessageVerdict, clockFrom, onuSynced, clockMessageTo, clockMessageAt}
 use Rattle.ends.specs.declared.Onu.{Onu}
 use Rattle.ends.specs.declared.OnuAcknowledged.{OnuAcknowledged}
@@ -105,12 +105,12 @@ sent-right w sh now s captured c o t k h =
 pub clock-send-keeps : (w : Setting) (sh : Shared) (now : ℕ) (l : Lane) (u : UnitRecord) (o : Onu) → AtTick w now sh → Joined w sh now l u o
     → clockSendUnit sh u .verdict ≡ Accepted
     → Joined w sh now (laneLeaving (clockMessage (clockSendUnit sh u .handed) (l .captured) now) l) (clockSendUnit sh u .unit) o
-unfolding clockSendUnit outcome clockMessageSent laneCaptured withClock withOnuClock
+unfolding clockSendUnit outcome clockAfterSend laneCaptured withClock withOnuClock
 clock-send-keeps w sh now l u o t j a =
     let k = j .clocks in
     let right = sent-right w sh now (l .site) (l .captured) (u .clock) (o .clock) t k (clock-send-accepted (u .clock) (sh .tick) a) in
-    let sent : Joined w sh now l (withClock u (clockMessageSent (u .clock))) o =
-    clocks-replaced w sh now l u o (l .captured) (clockMessageSent (u .clock)) (o .clock) j
+    let sent : Joined w sh now l (withClock u (clockAfterSend (u .clock))) o =
+    clocks-replaced w sh now l u o (l .captured) (clockAfterSend (u .clock)) (o .clock) j
     (record {
       trip = k .trip;
       capture = k .capture;
@@ -120,7 +120,7 @@ clock-send-keeps w sh now l u o t j a =
       acknowledged = k .acknowledged;
     })
     (λ e. e) in
-    leaving-keeps w sh now l (withClock u (clockMessageSent (u .clock))) o (clockMessage (clockMessageOf sh (u .clock)) (l .captured) now) sent
+    leaving-keeps w sh now l (withClock u (clockAfterSend (u .clock))) o (clockMessage (clockMessageOf sh (u .clock)) (l .captured) now) sent
     (towards-clock (w .first) l (o .keys .active) (u .keys .active) (u .keys .offered) (l .transit .towards) (clockMessageOf sh (u .clock)) (l .captured) now
     (j .numbers .mid) right (j .towards))
 

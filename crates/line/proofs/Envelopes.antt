@@ -16,7 +16,7 @@ use Rattle.sealing.specs.KeyExpansion.{keyExpansion}
 use Rattle.sealing.specs.Seal.{carried, countCarried}
 use Rattle.sealing.proofs.Seal.{carried-length, carried-twice, count-carried}
 use Rattle.ends.specs.declared.Passage.{Passage}
-use Rattle.traffic.specs.Passages.{misfit, isEnciphered, nonceOf, passed, passedCount}
+use Rattle.traffic.specs.Passages.{misfit, choiceEnciphered, passageNonce, passed, passedCount}
 use Rattle.line.specs.Setting.{Setting}
 use Rattle.line.specs.History.{downward, upward, Envelope, Lane, keyOf, Arrival}
 use Rattle.line.specs.Claim.{SentRight, nonceFor, isSealed, ArrivedRight}
@@ -28,8 +28,8 @@ ways-apart e = let z : _≡_ {A = ℕ} 0 1 = cc in absurd (omega arith)
 ---- what is carried
 
 -- under the key and counter block of number n, clear for 0
-pub passed-as : (channel : ℕ) (q : Passage) (n : ℕ) (key : List ℕ) (nonce : Nonce) (p : List ℕ) → isEnciphered (q .choice) ≡ leb 1 n
-    → (1 ≤ n → q .key ≡ key) → (1 ≤ n → nonceOf channel q ≡ nonce)
+pub passed-as : (channel : ℕ) (q : Passage) (n : ℕ) (key : List ℕ) (nonce : Nonce) (p : List ℕ) → choiceEnciphered (q .choice) ≡ leb 1 n
+    → (1 ≤ n → q .key ≡ key) → (1 ≤ n → passageNonce channel q ≡ nonce)
     → passed channel q p ≡ carried (leb 1 n) (keyExpansion key) nonce p
 unfolding passed carried pick
 passed-as channel q n key nonce p s k c = by-number (leb 1 n) refl where
@@ -37,7 +37,7 @@ passed-as channel q n key nonce p s k c = by-number (leb 1 n) refl where
   by-number true e = let h = leb-true 1 n e in rw (s ∙ e, k h, c h)
   by-number false e = rw (s ∙ e)
 
-pub count-as : (q : Passage) (n : ℕ) (p : List ℕ) → isEnciphered (q .choice) ≡ leb 1 n → passedCount q p ≡ countCarried (leb 1 n) p
+pub count-as : (q : Passage) (n : ℕ) (p : List ℕ) → choiceEnciphered (q .choice) ≡ leb 1 n → passedCount q p ≡ countCarried (leb 1 n) p
 unfolding passedCount
 count-as q n p s = rw s
 
@@ -72,9 +72,9 @@ arrivalOf e q =
 
 -- opened with the key and counter block of its number
 pub record Opens (w : Setting) (l : Lane) (e : Envelope) (q : Passage) : Type 0 where
-  pub enciphered : isEnciphered (q .choice) ≡ isSealed e
+  pub enciphered : choiceEnciphered (q .choice) ≡ isSealed e
   pub key : 1 ≤ e .number → q .key ≡ keyOf (l .keys) (e .number)
-  pub nonce : 1 ≤ e .number → nonceOf (e .header .channel) q ≡ nonceFor w (l .site) e
+  pub nonce : 1 ≤ e .number → passageNonce (e .header .channel) q ≡ nonceFor w (l .site) e
 
 pub opens-right : (w : Setting) (l : Lane) (e : Envelope) (q : Passage) → List·Memᴰ e (l .past .sent) → SentRight w l e → Opens w l e q
     → ArrivedRight w l (arrivalOf e q)

@@ -12,7 +12,7 @@ use Rattle.clock.specs.Ticks.{clockTurn, localTurn}
 use Rattle.envelope.specs.declared.Nonce.{Nonce}
 use Rattle.sealing.specs.KeyExpansion.{keyExpansion}
 use Rattle.sealing.specs.Seal.{carried, countCarried}
-use Rattle.ends.specs.Headers.{headerOf}
+use Rattle.ends.specs.Headers.{envelopeHeader}
 use Rattle.ends.specs.OnuCalls.{freshOnuOf}
 use Rattle.line.specs.Setting.{Site}
 use Rattle.line.specs.History.{Way, downward, upward, keyOf}
@@ -55,7 +55,7 @@ nonce-is : (n : Nonce) (channel mac clock : ℕ) → n .channel ≡ channel → 
 nonce-is n channel mac clock a b c = rw (sym a, sym b, sym c) refl
 
 header-is : (n n' channel channel' llid llid' clock clock' : ℕ) → n ≡ n' → channel ≡ channel' → llid ≡ llid' → clock ≡ clock'
-    → headerOf n channel llid clock ≡ headerOf n' channel' llid' clock'
+    → envelopeHeader n channel llid clock ≡ envelopeHeader n' channel' llid' clock'
 header-is n n' channel channel' llid llid' clock clock' a b c d = rw (a, b, c, d) refl
 
 carried-is : (t : Bool) (k k' : List ℕ) (n n' : Nonce) (p p' : List ℕ) → t ≡ true → k ≡ k' → n ≡ n' → p ≡ p'

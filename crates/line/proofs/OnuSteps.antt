@@ -10,6 +10,7 @@ use lib.ListN.{length, getD, set, length-set, List·getD-map}
 use lib.Seq.{getD-set-same, getD-set-other, set-getD, map-set-same}
 use borrow.Author.Tests.{eqb-true, eqb-false}
 use Rattle.octets.proofs.Choice.{pick-holds}
+use Rattle.octets.specs.Output.{WithOutput}
 use Rattle.clock.specs.declared.Stamps.{Stamps}
 use Rattle.ends.specs.Headers.{noPassage, noSending}
 use Rattle.ends.specs.Identities.{noIdentity}
@@ -26,9 +27,8 @@ use Rattle.ends.proofs.OnuTraffic.{sending-onu-untouched, receiving-onu-untouch
 use Rattle.ends.proofs.Replies.{number-refused}
 use Rattle.ends.proofs.Validity.{onu-in-range}
 use Rattle.ends.proofs.KeyMessages.{keys-taken-valid, keys-replaced-valid}
-use Rattle.traffic.specs.Passages.{Exchange}
-use Rattle.traffic.specs.Receipts.{onuReceivedBy, onuNotReceived, onuReceiveOf}
-use Rattle.traffic.specs.Sends.{onuSentBy, onuSendOf}
+use Rattle.traffic.specs.Receipts.{onuReceived, onuNotReceived, onuReceiveOf}
+use Rattle.traffic.specs.Sends.{onuSent, onuSendOf}
 use Rattle.traffic.specs.declared.OnuReceived.{OnuReceived}
 use Rattle.line.specs.Setting.{Setting}
 use Rattle.line.specs.History.{Thing, clockMessage, keyMessage, envelope, Entry, Lane, leftAt, laneWith, laneSentUp, laneTaken, laneAnswered, laneArrivedDown}
@@ -144,7 +144,7 @@ module _ (w : Setting) (s : State) (u : ℕ) (v : Invariant w s) where
 
 send-up-refused : (o : Onu) (llid channel : ℕ) (p out : List ℕ) → (onuSendOf o llid channel p out .answer .number ≡ 0 → ⊥)
     → onuSendOf o llid channel p out .answer .onu ≡ o
-unfolding onuSendOf onuSentBy
+unfolding onuSendOf onuSent
 send-up-refused o llid channel p out n = number-refused o noSending _ (sending-onu-untouched o _ llid channel _) n .end
 
 pub send-up-right : (w : Setting) (s : State) (u llid channel : ℕ) (p out : List ℕ) → Invariant w s → Fits w s (sendUp u llid channel p out)
@@ -234,7 +234,7 @@ pub overhear-right : (w : Setting) (s : State) (u other k : ℕ) (out : List ℕ
     → Invariant w (step s (overhear u other k out))
 unfolding step onuNotReceived
 overhear-right w s u other k out v h =
-    unit-after-right w s u _ (ap (λ (x : Exchange OnuReceived). x .answer .onu) (overheard-refused w s v u other k out h)) v
+    unit-after-right w s u _ (ap (λ (x : WithOutput OnuReceived). x .answer .onu) (overheard-refused w s v u other k out h)) v
 
 ---- any other receipt, which is refused
 
@@ -250,7 +250,7 @@ stray-key-right w s u m v n = unit-after-right w s u _ (key-message-refused (onu
 
 receive-refused : (o : Onu) (h : Header) (p out : List ℕ) → (onuReceiveOf o h p out .answer .number ≡ 0 → ⊥)
     → onuReceiveOf o h p out .answer .onu ≡ o
-unfolding onuReceiveOf onuReceivedBy
+unfolding onuReceiveOf onuReceived
 receive-refused o h p out n = number-refused o noPassage _ (receiving-onu-untouched o _ h) n .end
 
 pub stray-down-right : (w : Setting) (s : State) (u : ℕ) (h : Header) (p out : List ℕ) → Invariant w s → Fits w s (strayDown u h p out)

@@ -7,7 +7,7 @@ use Rattle.envelope.specs.ControlMask.{countEnciphered}
 use Rattle.envelope.specs.Acceptance.{lengthsFit}
 use Rattle.sealing.specs.Payload.{sealed}
 use Rattle.sealing.specs.Seal.{carried, countCarried}
-use Rattle.ends.specs.Headers.{validHeader, choiceNumber, choiceVerdict, choiceAged, headerOf, keyFor, passageOf, sendingOf}
+use Rattle.ends.specs.Headers.{validHeader, choiceNumber, choiceVerdict, choiceAged, envelopeHeader, keyFor, passageOf, sendingOf}
 use Rattle.ends.specs.Identities.{among, meets, distinct, llidsOf, has, kept, validMac, validIdentity}
 use Rattle.ends.specs.Keys.{keyIn, withKey, onlyKey, firstSend, aged, validFirst}
 use Rattle.ends.specs.Lift.{outcome, putBack, atUnit, after, lift}
@@ -15,21 +15,21 @@ use Rattle.ends.specs.Occupancy.{downstream, upstream, onZero, freeFrom, taken,
 use Rattle.ends.specs.OltCalls.{oltAnswer, clockSent, keySent, freshOltOf, validRegistration, registerVerdict, registering, registerOf, sharedAdvanced, oltAdvanced, advancingOlt, advanceOltOf, captureOf, clockSendOf, offerOf, retryOf, acknowledgeOf}
 use Rattle.ends.specs.OltTraffic.{sendingOlt, receivingOlt}
 use Rattle.ends.specs.OnuCalls.{onuAnswer, onuAcknowledged, onuReply, freshOnuVerdict, freshOnuOf, onuClockAdvanced, onuAdvanced, advancingOnu, advanceOnuOf, clockMessageVerdict, clockFrom, onuSynced, clockMessageTo, clockMessageAt, newKey, heldKey, activeKey, keyMessageVerdict, keysTaken, keyMessageTo, keyMessageAt}
-use Rattle.ends.specs.OnuTraffic.{onuSendChoice, onuSendVerdict, onuNoted, onuSent, sendingOnu, onuReceiveChoice, onuReceiveVerdict, onuMoved, onuReceived, receivingOnu}
+use Rattle.ends.specs.OnuTraffic.{onuSendChoice, onuSendVerdict, onuNoted, onuAfterSend, sendingOnu, onuReceiveChoice, onuReceiveVerdict, onuMoved, onuAfterReceipt, receivingOnu}
 use Rattle.ends.specs.Records.{withKeys, withConfirmation, withClock, withTimer, withSlots, withFirst, freshUnit, noUnit, withChannels, newOlt, withOnuClock, withOnuKeys, withOnuFirst, withOnuChannels, newOnu}
 use Rattle.ends.specs.Replies.{refuseIf, reply, advanceVerdict}
 use Rattle.ends.specs.Table.{tableLlids, findFrom, find, pastUnit, withUnit, withOneMore}
 use Rattle.ends.specs.Timers.{freshTimer, timerAdvanced, timerFallen, validInterval, validTimer}
-use Rattle.ends.specs.UnitCalls.{unitAdvanced, clockCaptured, captureUnit, clockSendVerdict, clockMessageSent, clockMessageOf, clockSendUnit, offerVerdict, keysOffered, unitOffered, keyMessageOf, offerUnit, retryVerdict, retryUnit, clockAcknowledgedUnit, keyAcknowledgedUnit, acknowledgeUnit}
-use Rattle.ends.specs.UnitTraffic.{switches, unitSendChoice, unitSendVerdict, keysSwitched, keysSent, sendUnit, unitReceiveChoice, unitReceiveVerdict, unitConfirmed, unitReceived, receiveUnit}
+use Rattle.ends.specs.UnitCalls.{unitAdvanced, clockCaptured, captureUnit, clockSendVerdict, clockAfterSend, clockMessageOf, clockSendUnit, offerVerdict, keysOffered, unitOffered, keyMessageOf, offerUnit, retryVerdict, retryUnit, clockAcknowledgedUnit, keyAcknowledgedUnit, acknowledgeUnit}
+use Rattle.ends.specs.UnitTraffic.{switches, unitSendChoice, unitSendVerdict, keysSwitched, keysAfterSend, sendUnit, unitReceiveChoice, unitReceiveVerdict, unitConfirmed, unitAfterReceipt, receiveUnit}
 use Rattle.ends.specs.Validity.{validNumbers, validKeys, validUnitClock, validUnit, validShared, validOlt, validOnuKeys, validOnuClock, validOnu}
-use Rattle.traffic.specs.Passages.{misfit, isEnciphered, passed, passedCount, outputAfter}
-use Rattle.traffic.specs.Receipts.{oltReceived, oltReceiveOf, onuReceivedBy, onuReceiveOf}
-use Rattle.traffic.specs.Sends.{oltSent, oltSendOf, onuSentBy, onuSendOf}
+use Rattle.traffic.specs.Passages.{misfit, choiceEnciphered, passed, passedCount, outputAfter}
+use Rattle.traffic.specs.Receipts.{oltReceived, oltReceiveOf, onuReceived, onuReceiveOf}
+use Rattle.traffic.specs.Sends.{oltSent, oltSendOf, onuSent, onuSendOf}
 use Rattle.line.specs.Example.{keyFrom, eqFrom, payloadFrom, blank, firstKeyA, secondUnit, secondKeyA, secondKeyB}
 use Rattle.line.specs.History.{due, switching, numberDown, laneWith, laneRegistered, laneCaptured, leaving, laneLeaving, laneOffered, laneAcknowledged, sending, laneSentDown, laneSentUp, laneTaken, laneAnswered, arriving, laneArrivedDown, laneArrivedUp}
 use Rattle.line.specs.Run.{freshLane, freshOnu, start, noted, named, withLanes, atOlt, atOnu, atOltFor, advancing, entering, clockSending, offering, retrying, envelopeOf, sendingDown, sendingUp, messageArriving, receiptDown, envelopeArriving, thingArriving, noEnvelope, receiptUp, arrivingUp, answering, unitAfter, oltAfter, step, run}
 
 unfoldable pub opened : Unit {0}
-unfolding ones both either pick same capturedAt raiseOf movedBy raisedTo sealed countEnciphered lengthsFit carried countCarried validHeader choiceNumber choiceVerdict choiceAged headerOf keyFor passageOf sendingOf among meets distinct llidsOf has kept validMac validIdentity keyIn withKey onlyKey firstSend aged validFirst outcome putBack atUnit after lift downstream upstream onZero freeFrom taken occupied validChannels oltAnswer clockSent keySent freshOltOf validRegistration registerVerdict registering registerOf sharedAdvanced oltAdvanced advancingOlt advanceOltOf captureOf clockSendOf offerOf retryOf acknowledgeOf sendingOlt receivingOlt onuAnswer onuAcknowledged onuReply freshOnuVerdict freshOnuOf onuClockAdvanced onuAdvanced advancingOnu advanceOnuOf clockMessageVerdict clockFrom onuSynced clockMessageTo clockMessageAt newKey heldKey activeKey keyMessageVerdict keysTaken keyMessageTo keyMessageAt onuSendChoice onuSendVerdict onuNoted onuSent sendingOnu onuReceiveChoice onuReceiveVerdict onuMoved onuReceived receivingOnu withKeys withConfirmation withClock withTimer withSlots withFirst freshUnit noUnit withChannels newOlt withOnuClock withOnuKeys withOnuFirst withOnuChannels newOnu refuseIf reply advanceVerdict all tableLlids findFrom find pastUnit withUnit withOneMore freshTimer timerAdvanced timerFallen validInterval validTimer unitAdvanced clockCaptured captureUnit clockSendVerdict clockMessageSent clockMessageOf clockSendUnit offerVerdict keysOffered unitOffered keyMessageOf offerUnit retryVerdict retryUnit clockAcknowledgedUnit keyAcknowledgedUnit acknowledgeUnit switches unitSendChoice unitSendVerdict keysSwitched keysSent sendUnit unitReceiveChoice unitReceiveVerdict unitConfirmed unitReceived receiveUnit validNumbers validKeys validUnitClock validUnit validShared validOlt validOnuKeys validOnuClock validOnu misfit isEnciphered passed passedCount outputAfter oltReceived oltReceiveOf onuReceivedBy onuReceiveOf oltSent oltSendOf onuSentBy onuSendOf keyFrom eqFrom payloadFrom blank firstKeyA secondUnit secondKeyA secondKeyB due switching numberDown laneWith laneRegistered laneCaptured leaving laneLeaving laneOffered laneAcknowledged sending laneSentDown laneSentUp laneTaken laneAnswered arriving laneArrivedDown laneArrivedUp freshLane freshOnu start noted named withLanes atOlt atOnu atOltFor advancing entering clockSending offering retrying envelopeOf sendingDown sendingUp messageArriving receiptDown envelopeArriving thingArriving noEnvelope receiptUp arrivingUp answering unitAfter oltAfter step run
+unfolding ones both either pick same capturedAt raiseOf movedBy raisedTo sealed countEnciphered lengthsFit carried countCarried validHeader choiceNumber choiceVerdict choiceAged envelopeHeader keyFor passageOf sendingOf among meets distinct llidsOf has kept validMac validIdentity keyIn withKey onlyKey firstSend aged validFirst outcome putBack atUnit after lift downstream upstream onZero freeFrom taken occupied validChannels oltAnswer clockSent keySent freshOltOf validRegistration registerVerdict registering registerOf sharedAdvanced oltAdvanced advancingOlt advanceOltOf captureOf clockSendOf offerOf retryOf acknowledgeOf sendingOlt receivingOlt onuAnswer onuAcknowledged onuReply freshOnuVerdict freshOnuOf onuClockAdvanced onuAdvanced advancingOnu advanceOnuOf clockMessageVerdict clockFrom onuSynced clockMessageTo clockMessageAt newKey heldKey activeKey keyMessageVerdict keysTaken keyMessageTo keyMessageAt onuSendChoice onuSendVerdict onuNoted onuAfterSend sendingOnu onuReceiveChoice onuReceiveVerdict onuMoved onuAfterReceipt receivingOnu withKeys withConfirmation withClock withTimer withSlots withFirst freshUnit noUnit withChannels newOlt withOnuClock withOnuKeys withOnuFirst withOnuChannels newOnu refuseIf reply advanceVerdict all tableLlids findFrom find pastUnit withUnit withOneMore freshTimer timerAdvanced timerFallen validInterval validTimer unitAdvanced clockCaptured captureUnit clockSendVerdict clockAfterSend clockMessageOf clockSendUnit offerVerdict keysOffered unitOffered keyMessageOf offerUnit retryVerdict retryUnit clockAcknowledgedUnit keyAcknowledgedUnit acknowledgeUnit switches unitSendChoice unitSendVerdict keysSwitched keysAfterSend sendUnit unitReceiveChoice unitReceiveVerdict unitConfirmed unitAfterReceipt receiveUnit validNumbers validKeys validUnitClock validUnit validShared validOlt validOnuKeys validOnuClock validOnu misfit choiceEnciphered passed passedCount outputAfter oltReceived oltReceiveOf onuReceived onuReceiveOf oltSent oltSendOf onuSent onuSendOf keyFrom eqFrom payloadFrom blank firstKeyA secondUnit secondKeyA secondKeyB due switching numberDown laneWith laneRegistered laneCaptured leaving laneLeaving laneOffered laneAcknowledged sending laneSentDown laneSentUp laneTaken laneAnswered arriving laneArrivedDown laneArrivedUp freshLane freshOnu start noted named withLanes atOlt atOnu atOltFor advancing entering clockSending offering retrying envelopeOf sendingDown sendingUp messageArriving receiptDown envelopeArriving thingArriving noEnvelope receiptUp arrivingUp answering unitAfter oltAfter step run
 opened = tt

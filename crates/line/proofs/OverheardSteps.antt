@@ -5,9 +5,10 @@ use mathlib.Core.List.{List, List·Memᴰ}
 use Prim.Native.Nat.{ℕ}
 use Rattle.octets.proofs.Choice.{not-of-true}
 use Rattle.octets.proofs.Members.{mem-at}
+use Rattle.octets.specs.Output.{withOutput}
 use Rattle.refusal.specs.declared.Refusal.the-variants.{OutOfRange, BadLength}
 use Rattle.refusal.specs.declared.Verdict.the-variants.{Refused}
-use Rattle.ends.specs.Headers.{validHeader, headerOf}
+use Rattle.ends.specs.Headers.{validHeader, envelopeHeader}
 use Rattle.ends.specs.Identities.{has}
 use Rattle.ends.specs.Occupancy.{downstream, upstream}
 use Rattle.ends.specs.OnuTraffic.{onuReceiveVerdict}
@@ -20,7 +21,7 @@ use Rattle.ends.specs.declared.UnitRecord.{UnitRecord}
 use Rattle.ends.proofs.Headers.{header-valid}
 use Rattle.ends.proofs.OnuTraffic.{overheard-down, overheard-up}
 use Rattle.ends.proofs.Replies.{refuse-passed}
-use Rattle.traffic.specs.Passages.{exchange, misfit}
+use Rattle.traffic.specs.Passages.{misfit}
 use Rattle.traffic.specs.Receipts.{onuNotReceived}
 use Rattle.traffic.proofs.Receipts.{onu-receive-refused}
 use Rattle.line.specs.Setting.{Setting}
@@ -35,7 +36,7 @@ use Rattle.line.proofs.Alive.{registered-alive, sent-alive, llid-apart}
 overheard-verdict : (w : Setting) (sh : Shared) (now : ℕ) (l : Lane) (u : UnitRecord) (other o : Onu) (e : Envelope) (out : List ℕ)
     → Joined w sh now l u other → List·Memᴰ e (l .past .sent) → has (o .identity) (e .llid) ≡ false
     → onuReceiveVerdict o (misfit (e .octets) out) (e .header) ≡ Refused (overheardFor (misfit (e .octets) out) (e .way))
-unfolding headerOf refuseIf
+unfolding envelopeHeader refuseIf
 overheard-verdict w sh now l u other o e out j m strange = by-way (e .way) refl ∙ by-buffer (misfit (e .octets) out) (e .way) where
   right : SentRight w l e
   right = j .passing .sent e m
@@ -57,7 +58,7 @@ overheard-verdict w sh now l u other o e out j m strange = by-way (e .way) refl 
 -- no LLID of another registered unit is the unit's
 pub overheard-refused : (w : Setting) (s : State) → Invariant w s → (u other k : ℕ) (out : List ℕ) → Overhears s u other k
     → overhearing s u other k out
-    ≡ exchange (onuNotReceived (onuAt s u) (overheardFor (misfit (sentAt s other k .octets) out) (sentAt s other k .way))) out
+    ≡ withOutput (onuNotReceived (onuAt s u) (overheardFor (misfit (sentAt s other k .octets) out) (sentAt s other k .way))) out
 overheard-refused w s v u other k out h =
     let r = registered-alive w s u v (h .registered) in
     let e = sentAt s other k in

@@ -7,11 +7,11 @@ use native.Mathlib.Omega.{arith}
 use lib.Dec.{eqb, leb}
 use borrow.Author.Tests.{le-leb, eqb-true, eqb-false}
 use Rattle.refusal.specs.declared.Verdict.the-variants.{Accepted}
-use Rattle.ends.specs.Headers.{choiceNumber, choiceVerdict, headerOf}
+use Rattle.ends.specs.Headers.{choiceNumber, choiceVerdict, envelopeHeader}
 use Rattle.ends.specs.Keys.{keyIn, onlyKey, notNoted}
-use Rattle.ends.specs.OnuTraffic.{onuReceiveChoice, onuMoved, onuReceived}
+use Rattle.ends.specs.OnuTraffic.{onuReceiveChoice, onuMoved, onuAfterReceipt}
 use Rattle.ends.specs.Records.{withKeys, withConfirmation, withSlots, withOnuKeys, withOnuFirst}
-use Rattle.ends.specs.UnitTraffic.{unitReceiveChoice, unitConfirmed, unitReceived}
+use Rattle.ends.specs.UnitTraffic.{unitReceiveChoice, unitConfirmed, unitAfterReceipt}
 use Rattle.ends.specs.declared.FirstSend.{FirstSend}
 use Rattle.ends.specs.declared.Header.{Header}
 use Rattle.ends.specs.declared.KeyChoice.{KeyChoice}
@@ -24,7 +24,7 @@ use Rattle.ends.proofs.Headers.{header-clear, header-sealed}
 use Rattle.ends.proofs.Keys.{only-kept}
 use Rattle.ends.proofs.OnuChoices.{onu-receive-clear, onu-receive-current, onu-receive-next}
 use Rattle.ends.proofs.UnitChoices.{receive-clear, receive-current, receive-next}
-use Rattle.traffic.specs.Passages.{isEnciphered}
+use Rattle.traffic.specs.Passages.{choiceEnciphered}
 use Rattle.line.proofs.Invariant.{reachOf}
 
 ---- at a unit
@@ -33,10 +33,10 @@ use Rattle.line.proofs.Invariant.{reachOf}
 pub record TakenDown (o : Onu) (choice : KeyChoice) (n : ℕ) : Type 0 where
   pub accepts : choiceVerdict choice ≡ Accepted
   pub chosen : choiceNumber choice ≡ n
-  pub enciphered : isEnciphered choice ≡ leb 1 n
+  pub enciphered : choiceEnciphered choice ≡ leb 1 n
   pub keys : OnuKeys
   pub first : FirstSend
-  pub after : onuReceived choice o ≡ withOnuFirst (withOnuKeys o keys) first
+  pub after : onuAfterReceipt choice o ≡ withOnuFirst (withOnuKeys o keys) first
   pub active : keys .active ≡ n
   pub flag : keys .held ≤ 1
   pub reach : reachOf keys ≡ reachOf (o .keys)
@@ -45,7 +45,7 @@ pub record TakenDown (o : Onu) (choice : KeyChoice) (n : ℕ) : Type 0 where
 
 -- number 0, or that in use
 taken-clear : (o : Onu) (n : ℕ) → n ≡ 0 → n ≡ o .keys .active → o .keys .held ≤ 1 → TakenDown o Clear n
-unfolding choiceVerdict choiceNumber isEnciphered onuReceived withOnuFirst withOnuKeys
+unfolding choiceVerdict choiceNumber choiceEnciphered onuAfterReceipt withOnuFirst withOnuKeys
 taken-clear o n z e f =
     record {
       accepts = refl;
@@ -62,7 +62,7 @@ taken-clear o n z e f =
     }
 
 taken-current : (o : Onu) (n : ℕ) → 1 ≤ n → n ≡ o .keys .active → o .keys .held ≤ 1 → TakenDown o (Current n) n
-unfolding choiceVerdict choiceNumber isEnciphered onuReceived withOnuFirst withOnuKeys
+unfolding choiceVerdict choiceNumber choiceEnciphered onuAfterReceipt withOnuFirst withOnuKeys
 taken-current o n h e f =
     record {
       accepts = refl;
@@ -80,7 +80,7 @@ taken-current o n h e f =
 
 -- the key that was held comes into use
 taken-next : (o : Onu) (n : ℕ) → n ≡ o .keys .active + 1 → o .keys .held ≡ 1 → TakenDown o (Next n) n
-unfolding choiceVerdict choiceNumber isEnciphered onuReceived onuMoved
+unfolding choiceVerdict choiceNumber choiceEnciphered onuAfterReceipt onuMoved
 taken-next o n e f =
     record {
       accepts = refl;
@@ -98,9 +98,9 @@ taken-next o n e f =
       stays = λ q. absurd (omega arith);
     }
 
-pub taken-down : (o : Onu) (h : Header) (n channel llid clock : ℕ) → h ≡ headerOf n channel llid clock → o .keys .active ≤ n → n ≤ reachOf (o .keys)
+pub taken-down : (o : Onu) (h : Header) (n channel llid clock : ℕ) → h ≡ envelopeHeader n channel llid clock → o .keys .active ≤ n → n ≤ reachOf (o .keys)
     → o .keys .held ≤ 1 → TakenDown o (onuReceiveChoice (o .keys) h) n
-unfolding headerOf
+unfolding envelopeHeader
 taken-down o h n channel llid clock e low high flag = by-number (eqb n 0) (eqb n (o .keys .active)) refl refl where
   key : h .enckey ≡ n % 2
   key = ap (λ (x : Header). x .enckey) e
@@ -136,9 +136,9 @@ confirmedAt u slots n =
 pub record TakenUp (u : UnitRecord) (choice : KeyChoice) (n : ℕ) : Type 0 where
   pub accepts : choiceVerdict choice ≡ Accepted
   pub chosen : choiceNumber choice ≡ n
-  pub enciphered : isEnciphered choice ≡ leb 1 n
+  pub enciphered : choiceEnciphered choice ≡ leb 1 n
   pub slots : Slots
-  pub after : unitReceived choice u ≡ confirmedAt u slots n
+  pub after : unitAfterReceipt choice u ≡ confirmedAt u slots n
   pub stored : (m : ℕ) → n ≤ m → m ≤ u .keys .offered → keyIn slots m ≡ keyIn (u .keys .slots) m
 
 same-confirmed : (u : UnitRecord) (n : ℕ) → n ≡ u .confirmation .confirmed → u ≡ confirmedAt u (u .keys .slots) n
@@ -146,7 +146,7 @@ unfolding withConfirmation withKeys withSlots
 same-confirmed u n e = sym (ap (λ (x : ℕ). confirmedAt u (u .keys .slots) x) e)
 
 confirmed-clear : (u : UnitRecord) (n : ℕ) → n ≡ 0 → n ≡ u .confirmation .confirmed → TakenUp u Clear n
-unfolding choiceVerdict choiceNumber isEnciphered unitReceived
+unfolding choiceVerdict choiceNumber choiceEnciphered unitAfterReceipt
 confirmed-clear u n z e =
     record {
       accepts = refl;
@@ -158,7 +158,7 @@ confirmed-clear u n z e =
     }
 
 confirmed-current : (u : UnitRecord) (n : ℕ) → 1 ≤ n → n ≡ u .confirmation .confirmed → TakenUp u (Current n) n
-unfolding choiceVerdict choiceNumber isEnciphered unitReceived
+unfolding choiceVerdict choiceNumber choiceEnciphered unitAfterReceipt
 confirmed-current u n h e =
     record {
       accepts = refl;
@@ -171,7 +171,7 @@ confirmed-current u n h e =
 
 -- A is confirmed
 confirmed-next : (u : UnitRecord) (n : ℕ) → 1 ≤ n → n ≡ u .keys .active → u .keys .offered ≤ n → TakenUp u (Next n) n
-unfolding choiceVerdict choiceNumber isEnciphered unitReceived unitConfirmed
+unfolding choiceVerdict choiceNumber choiceEnciphered unitAfterReceipt unitConfirmed
 confirmed-next u n h e f =
     record {
       accepts = refl;
@@ -184,9 +184,9 @@ confirmed-next u n h e f =
           rw same (only-kept (u .keys .slots) (u .keys .active));
     }
 
-pub taken-up : (u : UnitRecord) (h : Header) (n channel llid clock : ℕ) → h ≡ headerOf n channel llid clock → u .confirmation .confirmed ≤ n → n ≤ u .keys .active
+pub taken-up : (u : UnitRecord) (h : Header) (n channel llid clock : ℕ) → h ≡ envelopeHeader n channel llid clock → u .confirmation .confirmed ≤ n → n ≤ u .keys .active
     → u .keys .active ≤ u .keys .offered → u .keys .offered ≤ u .confirmation .confirmed + 1 → TakenUp u (unitReceiveChoice u h) n
-unfolding headerOf
+unfolding envelopeHeader
 taken-up u h n channel llid clock e low high mid top = by-number (eqb n 0) (eqb n (u .confirmation .confirmed)) refl refl where
   key : h .enckey ≡ n % 2
   key = ap (λ (x : Header). x .enckey) e

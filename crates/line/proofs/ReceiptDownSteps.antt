@@ -11,9 +11,9 @@ use Rattle.refusal.specs.declared.Verdict.the-variants.{Accepted}
 use Rattle.clock.specs.Ticks.{epamOf}
 use Rattle.clock.specs.Aligned.{Aligned}
 use Rattle.clock.specs.declared.Stamps.{Stamps}
-use Rattle.ends.specs.Headers.{validHeader, headerOf, keyFor, passageOf, noPassage}
+use Rattle.ends.specs.Headers.{validHeader, envelopeHeader, keyFor, passageOf, noPassage}
 use Rattle.ends.specs.Identities.{has}
-use Rattle.ends.specs.OnuTraffic.{onuReceiveChoice, onuMoved, onuReceived, receivingOnu}
+use Rattle.ends.specs.OnuTraffic.{onuReceiveChoice, onuMoved, onuAfterReceipt, receivingOnu}
 use Rattle.ends.specs.Records.{withOnuKeys, withOnuFirst}
 use Rattle.ends.specs.Replies.{Reply}
 use Rattle.ends.specs.declared.FirstSend.{FirstSend}
@@ -29,7 +29,7 @@ use Rattle.ends.proofs.OnuCalls.{onu-accepts, onu-keeps}
 use Rattle.ends.proofs.OnuTraffic.{onu-moved-valid}
 use Rattle.ends.proofs.OnuChoices.{OnuReceives, onu-receive-accepts}
 use Rattle.traffic.specs.Passages.{misfit, outputAfter}
-use Rattle.traffic.specs.Receipts.{onuReceivedBy, onuReceiveOf}
+use Rattle.traffic.specs.Receipts.{onuReceived, onuReceiveOf}
 use Rattle.line.specs.Setting.{Setting, clockDown}
 use Rattle.line.specs.History.{downward, Envelope, Thing, envelope, Arrival, Lane, laneWith, arriving, laneTaken, laneArrivedDown}
 use Rattle.line.specs.Claim.{SentRight, ArrivedRight}
@@ -144,7 +144,7 @@ module _ (w : Setting) (sh : Shared) (now : ℕ) (l : Lane) (u : UnitRecord) (o 
   right-down : SentRight w l e
   right-down = j .passing .sent e (queue-down .0 .sent)
 
-  header-down : e .header ≡ headerOf (e .number) (e .channel) (e .llid) (clockDown (w .first) (e .left))
+  header-down : e .header ≡ envelopeHeader (e .number) (e .channel) (e .llid) (clockDown (w .first) (e .left))
   header-down = rw (queue-down .0 .thatWay) at (right-down .header)
 
   chosen-at-unit : TakenDown o (onuReceiveChoice (o .keys) (e .header)) (e .number)
@@ -160,7 +160,7 @@ module _ (w : Setting) (sh : Shared) (now : ℕ) (l : Lane) (u : UnitRecord) (o 
   rx-down h = rx-at (w .first) now (e .left) (l .site .up) (l .site .down) _ (j .clocks .synced h) due
 
   opens-down : Opens w l e (passageOf (onuReceiveChoice (o .keys) (e .header)) (o .keys .slots) (o .oltmac) (o .clock .rx))
-  unfolding passageOf headerOf
+  unfolding passageOf envelopeHeader
   opens-down =
       let t = chosen-at-unit in
       let n = j .numbers in
@@ -176,7 +176,7 @@ module _ (w : Setting) (sh : Shared) (now : ℕ) (l : Lane) (u : UnitRecord) (o 
       }
 
   receives-down : OnuReceives o (misfit (e .octets) out) (e .header)
-  unfolding headerOf
+  unfolding envelopeHeader
   receives-down =
       let h = header-down in
       record {
@@ -198,7 +198,7 @@ module _ (w : Setting) (sh : Shared) (now : ℕ) (l : Lane) (u : UnitRecord) (o 
   accepted-down : receivingOnu o (misfit (e .octets) out) (e .header)
       ≡ record {
         verdict = Accepted;
-        end = onuReceived (onuReceiveChoice (o .keys) (e .header)) o;
+        end = onuAfterReceipt (onuReceiveChoice (o .keys) (e .header)) o;
         handed = passageOf (onuReceiveChoice (o .keys) (e .header)) (o .keys .slots) (o .oltmac) (o .clock .rx);
       }
   unfolding receivingOnu
@@ -206,13 +206,13 @@ module _ (w : Setting) (sh : Shared) (now : ℕ) (l : Lane) (u : UnitRecord) (o 
 
   -- the lane of its unit is kept
   pub arrive-down : Joined w sh now (laneArrivedDown (arrivalDown o e out) (laneTaken k l)) u (onuReceiveOf o (e .header) (e .octets) out .answer .onu)
-  unfolding onuReceiveOf onuReceivedBy outputAfter
+  unfolding onuReceiveOf onuReceived outputAfter
   arrive-down =
       let choice = onuReceiveChoice (o .keys) (e .header) in
       let q = passageOf choice (o .keys .slots) (o .oltmac) (o .clock .rx) in
       let t = chosen-at-unit in
       let right = opens-right w l e q (queue-down .0 .sent) right-down opens-down in
-      let joined : Joined w sh now (laneArrivedDown (arrivalOf e q) (laneTaken k l)) u (onuReceived choice o) =
+      let joined : Joined w sh now (laneArrivedDown (arrivalOf e q) (laneTaken k l)) u (onuAfterReceipt choice o) =
       subst (λ (x : Onu). Joined w sh now (laneArrivedDown (arrivalOf e q) (laneTaken k l)) u x) (sym (t .after))
       (arrived-down-joined w sh now l u o j choice k (arrivalOf e q) t (queue-down .0) (queue-down .1) right) in
       subst
@@ -221,19 +221,19 @@ module _ (w : Setting) (sh : Shared) (now : ℕ) (l : Lane) (u : UnitRecord) (o 
       (laneArrivedDown
       (record {
         envelope = e;
-        number = onuReceivedBy x (e .header .channel) (e .octets) out .answer .number;
-        count = onuReceivedBy x (e .header .channel) (e .octets) out .answer .count;
-        output = onuReceivedBy x (e .header .channel) (e .octets) out .output;
+        number = onuReceived x (e .header .channel) (e .octets) out .answer .number;
+        count = onuReceived x (e .header .channel) (e .octets) out .answer .count;
+        output = onuReceived x (e .header .channel) (e .octets) out .output;
         passage = x .handed;
       })
       (laneTaken k l))
-      u (onuReceivedBy x (e .header .channel) (e .octets) out .answer .onu))
+      u (onuReceived x (e .header .channel) (e .octets) out .answer .onu))
       (sym accepted-down) joined
 
 ---- the unit itself
 
-received-common : (w : Setting) (now : ℕ) (m : Lane) (o : Onu) (choice : KeyChoice) → Common w now m o → Common w now m (onuReceived choice o)
-unfolding onuReceived onuMoved withOnuFirst withOnuKeys
+received-common : (w : Setting) (now : ℕ) (m : Lane) (o : Onu) (choice : KeyChoice) → Common w now m o → Common w now m (onuAfterReceipt choice o)
+unfolding onuAfterReceipt onuMoved withOnuFirst withOnuKeys
 received-common w now m o Clear c = c
 received-common w now m o (Current n) c = c
 received-common w now m o (Barred r) c = c
@@ -243,7 +243,7 @@ received-common w now m o (Next n) c =
 -- it stays valid, at its tick, and who it is
 pub receive-common : (w : Setting) (now : ℕ) (l m : Lane) (o : Onu) (h : Header) (p out : List ℕ) → l .site ≡ m .site → Common w now l o
     → Common w now m (onuReceiveOf o h p out .answer .onu)
-unfolding onuReceiveOf onuReceivedBy receivingOnu
+unfolding onuReceiveOf onuReceived receivingOnu
 receive-common w now l m o h p out s c =
     let kept = common-moved w now l m o s c in
     onu-keeps (Common w now m) o noPassage _ _ _ kept (λ v a. received-common w now m o (onuReceiveChoice (o .keys) h) kept)

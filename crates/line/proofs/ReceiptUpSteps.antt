@@ -7,7 +7,7 @@ use native.Mathlib.Omega.{arith}
 use lib.ListN.{length, getD, drop}
 use Rattle.refusal.specs.declared.Verdict.the-variants.{Accepted}
 use Rattle.clock.specs.Ticks.{clockTurn}
-use Rattle.ends.specs.Headers.{validHeader, headerOf, keyFor, passageOf}
+use Rattle.ends.specs.Headers.{validHeader, envelopeHeader, keyFor, passageOf}
 use Rattle.ends.specs.Identities.{has}
 use Rattle.ends.specs.Lift.{outcome}
 use Rattle.ends.specs.Occupancy.{upstream}
@@ -100,10 +100,10 @@ module _ (w : Setting) (sh : Shared) (now : ℕ) (l : Lane) (u : UnitRecord) (o 
       let same : w .first + e .left + l .site .up ≡ w .first + now = omega (arith, due) in
       ap (λ (x : ℕ). x % clockTurn) same ∙ sym (at .clock)
 
-  header-up : e .header ≡ headerOf (e .number) (e .channel) (e .llid) (sh .clock)
+  header-up : e .header ≡ envelopeHeader (e .number) (e .channel) (e .llid) (sh .clock)
   header-up =
       rw (queue-up .0 .thatWay) at (right-up .header)
-      ∙ ap (headerOf (e .number) (e .channel) (e .llid)) clock-up
+      ∙ ap (envelopeHeader (e .number) (e .channel) (e .llid)) clock-up
 
   chosen-at-olt : TakenUp u (unitReceiveChoice u (e .header)) (e .number)
   chosen-at-olt =
@@ -112,7 +112,7 @@ module _ (w : Setting) (sh : Shared) (now : ℕ) (l : Lane) (u : UnitRecord) (o 
       (omega (arith, n .high, n .top)) (n .next)
 
   opens-up : Opens w l e (receiveUnit (e .header) sh u .handed)
-  unfolding receiveUnit outcome passageOf headerOf
+  unfolding receiveUnit outcome passageOf envelopeHeader
   opens-up =
       let t = chosen-at-olt in
       let n = j .numbers in
@@ -136,7 +136,7 @@ module _ (w : Setting) (sh : Shared) (now : ℕ) (l : Lane) (u : UnitRecord) (o 
     pub fits : (out : List ℕ) → length out ≡ length (e .octets) → misfit (e .octets) out ≡ false
 
   pub arrive-up-named : NamedUp
-  unfolding headerOf
+  unfolding envelopeHeader
   arrive-up-named =
       let h = header-up in
       let llid : e .header .llid ≡ e .llid = ap (λ (x : Header). x .llid) h in
@@ -149,7 +149,7 @@ module _ (w : Setting) (sh : Shared) (now : ℕ) (l : Lane) (u : UnitRecord) (o 
       }
 
   pub arrive-up-receives : Receives sh u (e .header)
-  unfolding headerOf
+  unfolding envelopeHeader
   arrive-up-receives = record { epam = ap (λ (x : Header). x .epam) header-up; choice = chosen-at-olt .accepts }
 
   -- the lane of its unit is kept

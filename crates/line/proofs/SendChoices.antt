@@ -15,7 +15,7 @@ use Rattle.ends.specs.OnuTraffic.{onuSendChoice, onuNoted}
 use Rattle.ends.specs.Records.{withFirst, withOnuFirst}
 use Rattle.ends.specs.Replies.{isUp}
 use Rattle.ends.specs.Timers.{timerFallen}
-use Rattle.ends.specs.UnitTraffic.{switches, unitSendChoice, keysSwitched, keysSent}
+use Rattle.ends.specs.UnitTraffic.{switches, unitSendChoice, keysSwitched, keysAfterSend}
 use Rattle.ends.specs.Validity.{validUnit, validKeys}
 use Rattle.ends.specs.declared.FirstSend.{FirstSend}
 use Rattle.ends.specs.declared.KeyChoice.{KeyChoice}
@@ -25,7 +25,7 @@ use Rattle.ends.specs.declared.Shared.{Shared}
 use Rattle.ends.specs.declared.Timer.{Timer}
 use Rattle.ends.specs.declared.UnitRecord.{UnitRecord}
 use Rattle.ends.specs.declared.UnitKeys.{UnitKeys}
-use Rattle.traffic.specs.Passages.{isEnciphered}
+use Rattle.traffic.specs.Passages.{choiceEnciphered}
 use Rattle.line.specs.Setting.{Setting}
 use Rattle.line.specs.History.{Entry, Keys, Lane, due, switching, numberDown}
 use Rattle.line.proofs.Invariant.{flagOf, reachOf, Timing, Joined}
@@ -84,7 +84,7 @@ timing-switched r k m now t e h =
 -- what a send of that choice makes of the unit's keys
 pub record Chosen (r : Entry) (now reach : ℕ) (old new : UnitKeys) (choice : KeyChoice) (number switched : ℕ) : Type 0 where
   pub chosen : choiceNumber choice ≡ number
-  pub enciphered : isEnciphered choice ≡ leb 1 number
+  pub enciphered : choiceEnciphered choice ≡ leb 1 number
   pub active : new .active ≡ number
   pub offered : new .offered ≡ old .offered
   pub slots : new .slots ≡ old .slots
@@ -110,10 +110,10 @@ module _ (w : Setting) (sh : Shared) (now : ℕ) (l : Lane) (u : UnitRecord) (o 
 
   chosen-by : validFirst (u .keys .first) now ≡ true → (s z : Bool) → switching l now ≡ s → eqb (u .keys .active) 0 ≡ z
       → Chosen (l .entry) now (reachOf (o .keys)) (u .keys)
-      (keysSent (pick s (Next (u .keys .offered)) (pick z Clear (Current (u .keys .active)))) (u .keys) now)
+      (keysAfterSend (pick s (Next (u .keys .offered)) (pick z Clear (Current (u .keys .active)))) (u .keys) now)
       (pick s (Next (u .keys .offered)) (pick z Clear (Current (u .keys .active))))
       (pick s (l .keys .switches + 1) (l .keys .switches)) (pick s now (l .keys .switched))
-  unfolding pick keysSent keysSwitched withFirst choiceNumber isEnciphered choiceAged switching
+  unfolding pick keysAfterSend keysSwitched withFirst choiceNumber choiceEnciphered choiceAged switching
   chosen-by v true z e f =
       let n = j .numbers in
       let more : l .keys .switches < length (l .keys .offers) = ltb-true _ _ (both-left _ _ e) in
@@ -162,7 +162,7 @@ module _ (w : Setting) (sh : Shared) (now : ℕ) (l : Lane) (u : UnitRecord) (o 
       }
 
   pub chosen-down : (tick : ℕ) → tick ≡ now → validFirst (u .keys .first) tick ≡ true
-      → Chosen (l .entry) now (reachOf (o .keys)) (u .keys) (keysSent (unitSendChoice u) (u .keys) tick) (unitSendChoice u) (numberDown l now)
+      → Chosen (l .entry) now (reachOf (o .keys)) (u .keys) (keysAfterSend (unitSendChoice u) (u .keys) tick) (unitSendChoice u) (numberDown l now)
       (pick (switching l now) now (l .keys .switched))
   unfolding unitSendChoice numberDown
   chosen-down tick e v = rw (e, switches-listed) (chosen-by (rw e at v) (switching l now) (eqb (u .keys .active) 0) refl refl)
@@ -177,14 +177,14 @@ unit-first tick u v = both-right _ _ (both-left _ _ (both-right _ _ v))
 -- what a send of that choice makes of the unit
 pub record ChosenUp (o : Onu) (choice : KeyChoice) (number : ℕ) : Type 0 where
   pub chosen : choiceNumber choice ≡ number
-  pub enciphered : isEnciphered choice ≡ leb 1 number
+  pub enciphered : choiceEnciphered choice ≡ leb 1 number
   pub first : FirstSend
   pub noted : onuNoted choice o ≡ withOnuFirst o first
   pub renewed : choiceAged choice (o .first) (o .tick) ≡ false → Renewed (o .first) first (o .keys .active) number (o .tick)
 
 chosen-up-by : (o : Onu) → validFirst (o .first) (o .tick) ≡ true → (z : Bool) → eqb (o .keys .active) 0 ≡ z
     → ChosenUp o (pick z Clear (Current (o .keys .active))) (o .keys .active)
-unfolding pick choiceNumber isEnciphered choiceAged onuNoted withOnuFirst
+unfolding pick choiceNumber choiceEnciphered choiceAged onuNoted withOnuFirst
 chosen-up-by o v true e =
     let none : o .keys .active ≡ 0 = eqb-true _ _ e in
     record {

@@ -15,7 +15,7 @@ use Rattle.ends.specs.Identities.{has}
 use Rattle.ends.specs.Occupancy.{downstream, upstream, freeFrom, occupied}
 use Rattle.ends.specs.OltTraffic.{sendingOlt}
 use Rattle.ends.specs.Records.{withKeys, withChannels}
-use Rattle.ends.specs.UnitTraffic.{unitSendChoice, unitSendVerdict, keysSent, sendUnit}
+use Rattle.ends.specs.UnitTraffic.{unitSendChoice, unitSendVerdict, keysAfterSend, sendUnit}
 use Rattle.ends.specs.Validity.{validUnit}
 use Rattle.ends.specs.declared.Channels.{Channels}
 use Rattle.ends.specs.declared.KeyChoice.{KeyChoice}
@@ -158,7 +158,7 @@ module _ (w : Setting) (sh : Shared) (now : ℕ) (l : Lane) (u : UnitRecord) (o 
       let second = refuse-accepted _ _ _ (first .1) in
       let h = chosen-down w sh now l u o j (sh .tick) (t .tick) (unit-first (sh .tick) u v) in
       let free : freeFrom (sh .channels) channel ≤ sh .tick = taken-false (sh .channels) channel (sh .tick) (first .0) in
-      sent-down-joined w sh now l u o j (keysSent (unitSendChoice u) (u .keys) (sh .tick)) (unitSendChoice u)
+      sent-down-joined w sh now l u o j (keysAfterSend (unitSendChoice u) (u .keys) (sh .tick)) (unitSendChoice u)
       (occupied (sh .channels) channel (sh .tick) eqs) (envelopeDown l now llid channel p (sendUnit llid channel eqs sh u .handed))
       h (h .renewed (rw (t .tick) at (second .0))) refl refl down named (fits-alone p out fit) (sent-down-right t j v)
       (omega (arith, free, t .tick))

@@ -12,10 +12,10 @@ use Rattle.refusal.specs.declared.Verdict.the-variants.{Accepted}
 use Rattle.clock.specs.Ticks.{epamOf}
 use Rattle.envelope.specs.ControlMask.{eqsOf}
 use Rattle.envelope.specs.Acceptance.{lengthsFit}
-use Rattle.ends.specs.Headers.{headerOf, keyFor, passageOf, sendingOf, noSending}
+use Rattle.ends.specs.Headers.{envelopeHeader, keyFor, passageOf, sendingOf, noSending}
 use Rattle.ends.specs.Identities.{has}
 use Rattle.ends.specs.Occupancy.{downstream, upstream, freeFrom, occupied}
-use Rattle.ends.specs.OnuTraffic.{onuSendChoice, onuSendVerdict, onuSent, sendingOnu}
+use Rattle.ends.specs.OnuTraffic.{onuSendChoice, onuSendVerdict, onuAfterSend, sendingOnu}
 use Rattle.ends.specs.Records.{withOnuFirst, withOnuChannels}
 use Rattle.ends.specs.Replies.{Reply}
 use Rattle.ends.specs.Validity.{validOnu}
@@ -34,8 +34,8 @@ use Rattle.ends.proofs.OnuChoices.{onu-send-accepted}
 use Rattle.ends.proofs.OnuTraffic.{onu-sent-valid}
 use Rattle.ends.proofs.Replies.{number-accepted, refuse-accepted}
 use Rattle.ends.proofs.Validity.{onu-in-range}
-use Rattle.traffic.specs.Passages.{misfit, isEnciphered, passed, passedCount, outputAfter}
-use Rattle.traffic.specs.Sends.{onuSentBy, onuSendOf}
+use Rattle.traffic.specs.Passages.{misfit, choiceEnciphered, passed, passedCount, outputAfter}
+use Rattle.traffic.specs.Sends.{onuSent, onuSendOf}
 use Rattle.traffic.proofs.Passages.{few-eqs}
 use Rattle.line.specs.Setting.{Site, Setting, clockUp}
 use Rattle.line.specs.History.{downward, upward, Envelope, Lane, keyOf, laneWith, sending, laneSentUp}
@@ -137,10 +137,10 @@ module _ (w : Setting) (sh : Shared) (now : ℕ) (l : Lane) (u : UnitRecord) (o 
       let h = chosen-up o (onu-in-range o (c .valid) .first) in
       let n = j .numbers in
       let passage = passageOf (onuSendChoice (o .keys)) (o .keys .slots) (o .identity .mac) (o .clock .time) in
-      let sealed : isEnciphered (onuSendChoice (o .keys)) ≡ leb 1 (l .keys .number) = h .enciphered ∙ ap (leb 1) (n .last) in
+      let sealed : choiceEnciphered (onuSendChoice (o .keys)) ≡ leb 1 (l .keys .number) = h .enciphered ∙ ap (leb 1) (n .last) in
       record {
         header =
-            ap (λ (x : ℕ). headerOf x channel llid (o .clock .time)) (h .chosen ∙ n .last)
+            ap (λ (x : ℕ). envelopeHeader x channel llid (o .clock .time)) (h .chosen ∙ n .last)
             ∙ header-epam (l .keys .number) channel llid (o .clock .time) (clockUp (w .first) (l .site .up) now)
             (epam-up (w .first) now (l .captured) (l .site) (u .clock) (o .clock) (j .clocks));
         octets =
@@ -163,11 +163,11 @@ module _ (w : Setting) (sh : Shared) (now : ℕ) (l : Lane) (u : UnitRecord) (o 
       (onuSendOf o llid channel p out .answer .count) (l .keys .number))
       l)
       u (onuSendOf o llid channel p out .answer .onu)
-  unfolding onuSendOf onuSentBy sendingOnu onuSent outputAfter envelopeOf
+  unfolding onuSendOf onuSent sendingOnu onuAfterSend outputAfter envelopeOf
   send-up-keeps c j a =
       let eqs = eqsOf p in
       let verdict = onuSendVerdict o (misfit p out) llid channel in
-      let next = onuSent o channel eqs in
+      let next = onuAfterSend o channel eqs in
       let handed = sendingOf (onuSendChoice (o .keys)) (o .keys .slots) (o .identity .mac) (o .clock .time) channel llid in
       let accepts : verdict ≡ Accepted = onu-accepted o noSending verdict next handed (number-accepted _ a) .1 in
       let met = onu-send-accepted o (misfit p out) llid channel accepts in
@@ -188,20 +188,20 @@ module _ (w : Setting) (sh : Shared) (now : ℕ) (l : Lane) (u : UnitRecord) (o 
       (λ (x : Reply Onu Sending).
       Joined w sh now
       (laneSentUp
-      (envelopeOf upward now llid channel p (onuSentBy x channel p out .answer .header) (onuSentBy x channel p out .output)
-      (onuSentBy x channel p out .answer .count) (l .keys .number))
+      (envelopeOf upward now llid channel p (onuSent x channel p out .answer .header) (onuSent x channel p out .output)
+      (onuSent x channel p out .answer .count) (l .keys .number))
       l)
-      u (onuSentBy x channel p out .answer .onu))
+      u (onuSent x channel p out .answer .onu))
       (sym (onu-accepts o noSending verdict next handed (c .valid) accepts)) joined
 
 ---- the unit itself
 
-sent-common : (w : Setting) (now : ℕ) (m : Lane) (o : Onu) (channel eqs : ℕ) → Common w now m o → validOnu (onuSent o channel eqs) ≡ true
-    → Common w now m (onuSent o channel eqs)
-unfolding onuSent withOnuChannels withOnuFirst
+sent-common : (w : Setting) (now : ℕ) (m : Lane) (o : Onu) (channel eqs : ℕ) → Common w now m o → validOnu (onuAfterSend o channel eqs) ≡ true
+    → Common w now m (onuAfterSend o channel eqs)
+unfolding onuAfterSend withOnuChannels withOnuFirst
 sent-common w now m o channel eqs k v =
     let h = chosen-up o (onu-in-range o (k .valid) .first) in
-    let is : onuSent o channel eqs ≡ withOnuChannels (withOnuFirst o (h .first)) (occupied (o .channels) channel (o .tick) eqs) =
+    let is : onuAfterSend o channel eqs ≡ withOnuChannels (withOnuFirst o (h .first)) (occupied (o .channels) channel (o .tick) eqs) =
     ap (λ (x : Onu). withOnuChannels x (occupied (o .channels) channel (o .tick) eqs)) (h .noted) in
     subst (Common w now m) (sym is)
     (record { valid = subst (λ (x : Onu). validOnu x ≡ true) is v; tick = k .tick; mac = k .mac; llids = k .llids; oltmac = k .oltmac })
@@ -209,10 +209,10 @@ sent-common w now m o channel eqs k v =
 -- it stays valid, at its tick, and who it is
 pub send-common : (w : Setting) (now : ℕ) (l m : Lane) (o : Onu) (llid channel : ℕ) (p out : List ℕ) → l .site ≡ m .site → Common w now l o
     → Common w now m (onuSendOf o llid channel p out .answer .onu)
-unfolding onuSendOf onuSentBy sendingOnu onuSendVerdict
+unfolding onuSendOf onuSent sendingOnu onuSendVerdict
 send-common w now l m o llid channel p out s c =
     let kept = common-moved w now l m o s c in
     onu-keeps (Common w now m) o noSending _ _ _ kept
     (λ v a. sent kept (onu-sent-valid o channel (eqsOf p) (few-eqs p out (refuse-accepted _ _ _ a .0)) v)) where
-      sent : Common w now m o → validOnu (onuSent o channel (eqsOf p)) ≡ true → Common w now m (onuSent o channel (eqsOf p))
+      sent : Common w now m o → validOnu (onuAfterSend o channel (eqsOf p)) ≡ true → Common w now m (onuAfterSend o channel (eqsOf p))
       sent k v = sent-common w now m o channel (eqsOf p) k v

@@ -5,18 +5,19 @@ use mathlib.Core.List.{List, List·Memᴰ}
 use Prim.Native.Nat.{ℕ, _<_, _≤_, _^_}
 use lib.Dec.{leb}
 use lib.ListN.{length}
+use Rattle.octets.specs.Output.{withOutput}
 use Rattle.refusal.specs.declared.Refusal.{Refusal}
 use Rattle.refusal.specs.declared.Refusal.the-variants.{OutOfRange, UnknownLlid, BadLength}
 use Rattle.envelope.specs.CounterBlock.{counterBlock}
 use Rattle.envelope.specs.declared.Nonce.{Nonce}
 use Rattle.sealing.specs.KeyExpansion.{keyExpansion}
 use Rattle.sealing.specs.Seal.{carried, countCarried}
-use Rattle.ends.specs.Headers.{headerOf}
+use Rattle.ends.specs.Headers.{envelopeHeader}
 use Rattle.ends.specs.Keys.{keyIn}
 use Rattle.ends.specs.Table.{unitAt}
 use Rattle.ends.specs.declared.Onu.{Onu}
 use Rattle.ends.specs.declared.UnitRecord.{UnitRecord}
-use Rattle.traffic.specs.Passages.{exchange, misfit, isEnciphered, nonceOf}
+use Rattle.traffic.specs.Passages.{misfit, choiceEnciphered, passageNonce}
 use Rattle.traffic.specs.Receipts.{onuNotReceived}
 use Rattle.line.specs.Setting.{Site, Setting, clockDown, clockUp}
 use Rattle.line.specs.History.{Way, downward, upward, Envelope, Arrival, Lane, keyOf}
@@ -43,7 +44,7 @@ isSealed e = leb 1 (e .number)
 
 -- (0) an accepted send handed over what the definitions give for its number, key, MAC and clock
 pub record SentRight (w : Setting) (l : Lane) (e : Envelope) : Type 0 where
-  pub header : e .header ≡ headerOf (e .number) (e .channel) (e .llid) (senderClock w (l .site) (e .way) (e .left))
+  pub header : e .header ≡ envelopeHeader (e .number) (e .channel) (e .llid) (senderClock w (l .site) (e .way) (e .left))
   pub octets : e .octets ≡ carried (isSealed e) (keyExpansion (keyOf (l .keys) (e .number))) (nonceFor w (l .site) e) (e .payload)
   pub count : e .count ≡ countCarried (isSealed e) (e .payload)
 
@@ -51,9 +52,9 @@ pub record SentRight (w : Setting) (l : Lane) (e : Envelope) : Type 0 where
 pub record ArrivedRight (w : Setting) (l : Lane) (r : Arrival) : Type 0 where
   pub sent : List·Memᴰ (r .envelope) (l .past .sent)
   pub accepted : r .number ≡ 0
-  pub enciphered : isEnciphered (r .passage .choice) ≡ isSealed (r .envelope)
+  pub enciphered : choiceEnciphered (r .passage .choice) ≡ isSealed (r .envelope)
   pub key : 1 ≤ r .envelope .number → r .passage .key ≡ keyOf (l .keys) (r .envelope .number)
-  pub nonce : 1 ≤ r .envelope .number → nonceOf (r .envelope .header .channel) (r .passage) ≡ nonceFor w (l .site) (r .envelope)
+  pub nonce : 1 ≤ r .envelope .number → passageNonce (r .envelope .header .channel) (r .passage) ≡ nonceFor w (l .site) (r .envelope)
   pub payload : r .output ≡ r .envelope .payload
   pub count : r .count ≡ r .envelope .count
 
@@ -95,4 +96,4 @@ pub record Claim (w : Setting) (s : State) : Type 0 where
   -- (4) what another registered unit overhears is refused, with count 0, and leaves that unit and its buffer as they were
   pub overheard : (u v k : ℕ) (out : List ℕ) → Overhears s u v k
       → overhearing s u v k out
-      ≡ exchange (onuNotReceived (onuAt s u) (overheardFor (misfit (sentAt s v k .octets) out) (sentAt s v k .way))) out
+      ≡ withOutput (onuNotReceived (onuAt s u) (overheardFor (misfit (sentAt s v k .octets) out) (sentAt s v k .way))) out

@@ -10,13 +10,13 @@ use Rattle.envelope.specs.CounterBlock.{counterBlock}
 use Rattle.envelope.specs.declared.Nonce.{Nonce}
 use Rattle.sealing.specs.KeyExpansion.{keyExpansion}
 use Rattle.sealing.specs.Seal.{carried}
-use Rattle.ends.specs.Headers.{headerOf, noPassage}
+use Rattle.ends.specs.Headers.{envelopeHeader, noPassage}
 use Rattle.ends.specs.Keys.{keyIn}
 use Rattle.ends.specs.OltCalls.{registerOf, advanceOltOf, captureOf, clockSendOf, offerOf, retryOf, acknowledgeOf}
 use Rattle.ends.specs.OnuCalls.{clockMessageAt, keyMessageAt}
 use Rattle.ends.specs.Table.{unitAt}
 use Rattle.ends.specs.declared.Onu.{Onu}
-use Rattle.traffic.specs.Passages.{isEnciphered, nonceOf}
+use Rattle.traffic.specs.Passages.{choiceEnciphered, passageNonce}
 use Rattle.traffic.specs.Sends.{oltSendOf, onuSendOf}
 use Rattle.traffic.specs.Receipts.{oltReceiveOf, onuReceiveOf}
 use Rattle.line.specs.Setting.{Setting}
@@ -47,7 +47,7 @@ nonce channel mac clock = record { channel = channel; mac = mac; clock = clock }
 -- payload; of the payload's 24 data octets 22 are enciphered
 pub record Handed (u i number llid : ℕ) (x : List ℕ) (n : Nonce) (p : List ℕ) : Type 0 where
   pub some : i < length (laneAt played u .past .sent)
-  pub header : sentAt played u i .header ≡ headerOf number (n .channel) llid (n .clock)
+  pub header : sentAt played u i .header ≡ envelopeHeader number (n .channel) llid (n .clock)
   pub octets : sentAt played u i .octets ≡ carried true (keyExpansion x) n p
   pub count : sentAt played u i .count ≡ 22
 
@@ -55,7 +55,7 @@ pub record Handed (u i number llid : ℕ) (x : List ℕ) (n : Nonce) (p : List �
 pub record Passed (u k : ℕ) (p : List ℕ) : Type 0 where
   pub some : k < length (laneAt played u .past .arrived)
   pub accepted : arrivalAt played u k .number ≡ 0
-  pub clear : isEnciphered (arrivalAt played u k .passage .choice) ≡ false
+  pub clear : choiceEnciphered (arrivalAt played u k .passage .choice) ≡ false
   pub payload : arrivalAt played u k .output ≡ p
   pub count : arrivalAt played u k .count ≡ 0
 
@@ -65,7 +65,7 @@ pub record Delivered (u k : ℕ) (x : List ℕ) (n : Nonce) (p : List ℕ) : Typ
   pub some : k < length (laneAt played u .past .arrived)
   pub accepted : arrivalAt played u k .number ≡ 0
   pub key : arrivalAt played u k .passage .key ≡ x
-  pub nonce : nonceOf (arrivalAt played u k .envelope .header .channel) (arrivalAt played u k .passage) ≡ n
+  pub nonce : passageNonce (arrivalAt played u k .envelope .header .channel) (arrivalAt played u k .passage) ≡ n
   pub payload : arrivalAt played u k .output ≡ p
   pub count : arrivalAt played u k .count ≡ 22
 

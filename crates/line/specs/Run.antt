@@ -6,6 +6,7 @@ use Prim.Native.Nat.{ℕ, _+_}
 use lib.Dec.{eqb}
 use lib.ListN.{getD, set}
 use Rattle.octets.specs.Choice.{both, pick}
+use Rattle.octets.specs.Output.{WithOutput}
 use Rattle.ends.specs.Identities.{has, noIdentity}
 use Rattle.ends.specs.Records.{newOnu}
 use Rattle.ends.specs.OltCalls.{freshOltOf, registerOf, advanceOltOf, captureOf, clockSendOf, offerOf, retryOf, acknowledgeOf}
@@ -19,7 +20,7 @@ use Rattle.ends.specs.declared.KeySent.{KeySent}
 use Rattle.ends.specs.declared.Olt.{Olt}
 use Rattle.ends.specs.declared.Onu.{Onu}
 use Rattle.ends.specs.declared.OnuAcknowledged.{OnuAcknowledged}
-use Rattle.traffic.specs.Passages.{Exchange, misfit}
+use Rattle.traffic.specs.Passages.{misfit}
 use Rattle.traffic.specs.Sends.{oltSendOf, onuSendOf}
 use Rattle.traffic.specs.Receipts.{oltReceiveOf, onuReceiveOf}
 use Rattle.traffic.specs.declared.OltSent.{OltSent}
@@ -163,14 +164,14 @@ envelopeOf way now llid channel payload header octets count number =
       number = number;
     }
 
-unfoldable pub sendingDown : State → ℕ → ℕ → List ℕ → Exchange OltSent → State
+unfoldable pub sendingDown : State → ℕ → ℕ → List ℕ → WithOutput OltSent → State
 sendingDown s llid channel p r =
     atOlt s (r .answer .olt) (r .answer .number) llid
     (λ l.
     laneSentDown (s .history .now)
     (envelopeOf downward (s .history .now) llid channel p (r .answer .header) (r .output) (r .answer .count) (numberDown l (s .history .now))) l)
 
-unfoldable pub sendingUp : State → ℕ → ℕ → ℕ → List ℕ → Exchange OnuSent → State
+unfoldable pub sendingUp : State → ℕ → ℕ → ℕ → List ℕ → WithOutput OnuSent → State
 sendingUp s u llid channel p r =
     atOnu s u (r .answer .onu)
     (noted (r .answer .number)
@@ -219,7 +220,7 @@ abbrev pub sentAt : State → ℕ → ℕ → Envelope
 sentAt s u k = getD (laneAt s u .past .sent) k noEnvelope
 
 -- a unit's receipt of the kth envelope that was sent to or by another
-abbrev pub overhearing : State → ℕ → ℕ → ℕ → List ℕ → Exchange OnuReceived
+abbrev pub overhearing : State → ℕ → ℕ → ℕ → List ℕ → WithOutput OnuReceived
 overhearing s u other k out = onuReceiveOf (onuAt s u) (sentAt s other k .header) (sentAt s other k .octets) out
 
 abbrev pub answerAt : State → ℕ → ℕ → Answered

@@ -3,3 +3,4 @@ pub mod Bits
 pub mod Choice
 pub mod Eqs
 pub mod Lists
+pub mod Output

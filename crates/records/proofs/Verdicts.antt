@@ -13,7 +13,7 @@ use Rattle.refusal.specs.declared.Refusal.the-variants.{OutOfRange, UnknownLlid
 use Rattle.refusal.specs.declared.Verdict.{Verdict}
 use Rattle.refusal.specs.declared.Verdict.the-variants.{Accepted}
 use Rattle.records.specs.Settings.{settingsOctets, keyPresent, settingsVerdict}
-use Rattle.records.specs.Verdict.{headerFits, isEnciphered, encKey, epamCheck, keyVerdict, inOrder, recordVerdict}
+use Rattle.records.specs.Verdict.{headerFits, encEnabled, encKey, epamCheck, keyVerdict, inOrder, recordVerdict}
 use Rattle.records.specs.declared.header.Header.{Header}
 use Rattle.records.specs.declared.header.Epam.{Epam}
 use Rattle.records.specs.declared.header.Epam.the-variants.{Agrees, Differs}
@@ -34,15 +34,15 @@ module _ (presence llid : ℕ) (h : Header) where
 
 module _ (presence : ℕ) (h : Header) (epam : Epam) (t : ℕ) (e : epam ≡ Agrees t) where
   pub is-clear : (bitOf (h .flags) 0 ≡ 1 → ⊥) → Clear ≡ keyVerdict presence h epam
-  unfolding keyVerdict isEnciphered
+  unfolding keyVerdict encEnabled
   is-clear n = rw e (sym (pick-false _ _ (ne-eqb _ _ n)))
 
   pub lacks-key : bitOf (h .flags) 0 ≡ 1 → (bitOf presence (bitOf (h .flags) 1) ≡ 1 → ⊥) → Refused NoKey ≡ keyVerdict presence h epam
-  unfolding keyVerdict isEnciphered encKey keyPresent
+  unfolding keyVerdict encEnabled encKey keyPresent
   lacks-key q n = rw e (sym (pick-true _ _ (eq-eqb _ _ q) ∙ pick-false _ _ (ne-eqb _ _ n)))
 
   pub is-sealed : bitOf (h .flags) 0 ≡ 1 → bitOf presence (bitOf (h .flags) 1) ≡ 1 → Sealed (bitOf (h .flags) 1) t ≡ keyVerdict presence h epam
-  unfolding keyVerdict isEnciphered encKey keyPresent
+  unfolding keyVerdict encEnabled encKey keyPresent
   is-sealed q p = rw e (sym (pick-true _ _ (eq-eqb _ _ q) ∙ pick-true _ _ (eq-eqb _ _ p)))
 
 -- settings that are accepted have their length
@@ -64,7 +64,7 @@ pub record Openable (presence llid : ℕ) (h : Header) (i t : ℕ) : Type 0 wher
   pub fits : headerFits h ≡ true
   pub own : h .llid ≡ llid
   pub epam : eqb (h .epam) (h .clock % 64) ≡ true
-  pub enciphered : isEnciphered h ≡ true
+  pub enciphered : encEnabled h ≡ true
   pub present : keyPresent presence i ≡ true
   pub index : i ≡ encKey h
   pub clock : t ≡ h .clock
@@ -75,7 +75,7 @@ openable presence llid h i t e =
     let a = pick-first (headerFits h) _ (Refused OutOfRange) (Sealed i t) (λ z. cc) e in
     let b = pick-first (eqb (h .llid) llid) _ (Refused UnknownLlid) (Sealed i t) (λ z. cc) (a .1) in
     let c = unless-differs presence h (eqb (h .epam) (h .clock % 64)) (h .clock) i t (b .1) in
-    let d = pick-first (isEnciphered h) _ Clear (Sealed i t) (λ z. cc) (c .1) in
+    let d = pick-first (encEnabled h) _ Clear (Sealed i t) (λ z. cc) (c .1) in
     let f = pick-first (keyPresent presence (encKey h)) _ (Refused NoKey) (Sealed i t) (λ z. cc) (d .1) in
     let g = sealed-same (encKey h) i (h .clock) t (f .1) in
     record {

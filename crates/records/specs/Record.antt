@@ -17,8 +17,8 @@ headerOctets = 16
 abbrev pub eqOctets : ℕ
 eqOctets = 9
 
-unfoldable pub headerOf : List ℕ → Header
-headerOf r =
+unfoldable pub recordHeader : List ℕ → Header
+recordHeader r =
     record {
       kind = getD r 0 0;
       channel = getD r 1 0;
@@ -34,4 +34,4 @@ payloadOf r = drop headerOctets r
 
 -- the payload is of 9 × EQs, no more and no less
 unfoldable pub sized : List ℕ → Bool
-sized r = both (leb headerOctets (length r)) (eqb (length r) (headerOctets + eqOctets * headerOf r .eqs))
+sized r = both (leb headerOctets (length r)) (eqb (length r) (headerOctets + eqOctets * recordHeader r .eqs))

@@ -14,7 +14,7 @@ use Rattle.records.specs.declared.header.Epam.the-variants.{Agrees, Diff
 use Rattle.records.specs.declared.header.RecordVerdict.{RecordVerdict}
 use Rattle.records.specs.declared.header.RecordVerdict.the-variants.{Clear, Sealed, Refused}
 use Rattle.records.specs.Settings.{presenceOf, keyPresent, llidOf}
-use Rattle.records.specs.Record.{headerOf}
+use Rattle.records.specs.Record.{recordHeader}
 
 -- bit 0 is EncEnabled, bit 1 EncKey, the others are 0; there is no EncKey without EncEnabled
 abbrev pub flagsFit : ℕ → Bool
@@ -24,8 +24,8 @@ flagsFit flags = both (ltb flags 4) (not (eqb flags 2))
 unfoldable pub headerFits : Header → Bool
 headerFits h = both (ltb (h .kind) 2) (both (channelFits (h .channel)) (flagsFit (h .flags)))
 
-unfoldable pub isEnciphered : Header → Bool
-isEnciphered h = eqb (bitOf (h .flags) 0) 1
+unfoldable pub encEnabled : Header → Bool
+encEnabled h = eqb (bitOf (h .flags) 0) 1
 
 unfoldable pub encKey : Header → ℕ
 encKey h = bitOf (h .flags) 1
@@ -47,7 +47,7 @@ epamNumber Differs = numberOf EpamDiffers
 unfoldable pub keyVerdict : ℕ → Header → Epam → RecordVerdict
 keyVerdict presence h Differs = Refused EpamDiffers
 keyVerdict presence h (Agrees t) =
-    pick (isEnciphered h) (pick (keyPresent presence (encKey h)) (Sealed (encKey h) t) (Refused NoKey)) Clear
+    pick (encEnabled h) (pick (keyPresent presence (encKey h)) (Sealed (encKey h) t) (Refused NoKey)) Clear
 
 -- 1, then 2, then what the rest says
 unfoldable pub inOrder : Bool → Bool → RecordVerdict → RecordVerdict
@@ -63,7 +63,7 @@ unfoldable pub verdictFor : List ℕ → Header → RecordVerdict
 verdictFor s h = recordVerdict (presenceOf s) (llidOf s) h
 
 abbrev pub verdictOf : List ℕ → List ℕ → RecordVerdict
-verdictOf s r = verdictFor s (headerOf r)
+verdictOf s r = verdictFor s (recordHeader r)
 
 -- acceptance is 0
 abbrev pub recordNumber : RecordVerdict → ℕ

@@ -59,7 +59,7 @@ pub fn check_epam(clock: u64, epam: u8) -> Epam
 }
 
 // The verdict on a record whose clock is known: enciphered, it needs its key.
-fn judge_key(presence: u8, h: Header, epam: Epam) -> RecordVerdict
+fn key_verdict(presence: u8, h: Header, epam: Epam) -> RecordVerdict
     ensures { λ r. ⌜ r ≡ keyVerdict presence h epam ⌝ }
 {
     match epam {
@@ -78,7 +78,7 @@ fn judge_key(presence: u8, h: Header, epam: Epam) -> RecordVerdict
 }
 
 // The verdict on a record by its header, for settings of this presence octet and LLID.
-pub fn judge(presence: u8, llid: u64, h: Header) -> RecordVerdict
+pub fn record_verdict(presence: u8, llid: u64, h: Header) -> RecordVerdict
     ensures { λ r. ⌜ r ≡ recordVerdict presence llid h ⌝ }
 {
     if !is_well_formed(h) {
@@ -87,7 +87,7 @@ pub fn judge(presence: u8, llid: u64, h: Header) -> RecordVerdict
     if h.llid != llid {
         return RecordVerdict::Refused(Refusal::UnknownLlid);
     }
-    judge_key(presence, h, check_epam(h.clock, h.epam))
+    key_verdict(presence, h, check_epam(h.clock, h.epam))
 }
 
 // The number of a verdict, 0 for acceptance.

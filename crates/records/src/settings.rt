@@ -7,7 +7,7 @@ use refusal::Verdict;
 pub const SETTINGS_OCTETS: usize = 41;
 
 // Whether settings are of their length, and no presence bit but those of the two keys is set.
-pub fn verdict(s: &[u8]) -> Verdict
+pub fn settings_verdict(s: &[u8]) -> Verdict
     ensures { λ r. ⌜ r ≡ settingsVerdict (now (s .entry)) ⌝ }
 {
     if s.len() != SETTINGS_OCTETS {

@@ -9,7 +9,7 @@ use Rattle.refusal.specs.Number.{numberOf}
 use Rattle.records.specs.declared.header.Header.{Header}
 use Rattle.records.specs.declared.header.RecordVerdict.{RecordVerdict}
 use Rattle.records.specs.declared.header.RecordVerdict.the-variants.{Clear, Sealed, Refused}
-use Rattle.records.specs.Verdict.{isEnciphered, encKey}
+use Rattle.records.specs.Verdict.{encEnabled, encKey}
 use Rattle.rows.specs.declared.Line.{Line}
 
 -- a digit below 16: 0 to 9, then a to f
@@ -28,7 +28,7 @@ decimalOf n =
 
 -- EncKey, or - for a clear record
 unfoldable pub keyOctet : Header → ℕ
-keyOctet h = pick (isEnciphered h) (48 + encKey h) 45
+keyOctet h = pick (encEnabled h) (48 + encKey h) 45
 
 -- "refused " and the number
 unfoldable pub refusedText : Refusal → List ℕ

@@ -5,30 +5,31 @@ use mathlib.Core.List.{List}
 use Prim.Native.Nat.{ℕ}
 use lib.ListN.{length}
 use Rattle.octets.specs.Choice.{pick}
+use Rattle.octets.specs.Output.{withOutput}
 use Rattle.refusal.specs.declared.Verdict.the-variants.{Accepted, Refused}
 use Rattle.refusal.specs.declared.Refusal.{Refusal}
-use Rattle.envelope.specs.Acceptance.{judgeSeal}
+use Rattle.envelope.specs.Acceptance.{sealVerdict}
 use Rattle.envelope.specs.ControlMask.{countEnciphered}
 use Rattle.envelope.specs.declared.Nonce.{Nonce}
 use Rattle.envelope.specs.declared.SealAnswer.the-variants.{Done, Denied}
 use Rattle.sealing.specs.Payload.{sealed}
-use Rattle.sealing.specs.Seal.{carried, countCarried, sealingAfter, sealing, outcome}
+use Rattle.sealing.specs.Seal.{carried, countCarried, sealingAfter, sealing}
 use Rattle.sealing.proofs.Payload.{sealed-length, sealed-twice, count-sealed}
 
 module _ (w : List ℕ) (n : Nonce) (p out : List ℕ) where
   -- refused: the number, and the output as it was
-  pub sealing-refused : (enciphered : Bool) (r : Refusal) → judgeSeal (length p) (length out) n ≡ Refused r
-      → outcome (Denied r) out ≡ sealing enciphered w n p out
+  pub sealing-refused : (enciphered : Bool) (r : Refusal) → sealVerdict (length p) (length out) n ≡ Refused r
+      → withOutput (Denied r) out ≡ sealing enciphered w n p out
   unfolding sealing sealingAfter
   sealing-refused enciphered r e = rw e
 
-  pub sealing-done : (enciphered : Bool) → enciphered ≡ true → judgeSeal (length p) (length out) n ≡ Accepted
-      → outcome (Done (countEnciphered p)) (sealed w n p) ≡ sealing enciphered w n p out
+  pub sealing-done : (enciphered : Bool) → enciphered ≡ true → sealVerdict (length p) (length out) n ≡ Accepted
+      → withOutput (Done (countEnciphered p)) (sealed w n p) ≡ sealing enciphered w n p out
   unfolding sealing sealingAfter carried countCarried pick
   sealing-done enciphered b e = rw (e, b)
 
-  pub sealing-clear : (enciphered : Bool) → enciphered ≡ false → judgeSeal (length p) (length out) n ≡ Accepted
-      → outcome (Done 0) p ≡ sealing enciphered w n p out
+  pub sealing-clear : (enciphered : Bool) → enciphered ≡ false → sealVerdict (length p) (length out) n ≡ Accepted
+      → withOutput (Done 0) p ≡ sealing enciphered w n p out
   unfolding sealing sealingAfter carried countCarried pick
   sealing-clear enciphered b e = rw (e, b)
 

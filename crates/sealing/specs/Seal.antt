@@ -4,9 +4,10 @@ use mathlib.Core.List.{List}
 use Prim.Native.Nat.{ℕ}
 use lib.ListN.{length}
 use Rattle.octets.specs.Choice.{pick}
+use Rattle.octets.specs.Output.{WithOutput}
 use Rattle.refusal.specs.declared.Verdict.{Verdict}
 use Rattle.refusal.specs.declared.Verdict.the-variants.{Accepted, Refused}
-use Rattle.envelope.specs.Acceptance.{judgeSeal}
+use Rattle.envelope.specs.Acceptance.{sealVerdict}
 use Rattle.envelope.specs.ControlMask.{countEnciphered}
 use Rattle.envelope.specs.declared.Nonce.{Nonce}
 use Rattle.envelope.specs.declared.SealAnswer.{SealAnswer}
@@ -20,20 +21,11 @@ carried enciphered w n p = pick enciphered (sealed w n p) p
 unfoldable pub countCarried : Bool → List ℕ → ℕ
 countCarried enciphered p = pick enciphered (countEnciphered p) 0
 
--- what a call answers, and what its output then holds
-pub record Sealing : Type 0 where
-  pub answer : SealAnswer
-  pub output : List ℕ
-
-unfoldable pub sealingAfter : Verdict → Bool → List ℕ → Nonce → List ℕ → List ℕ → Sealing
+unfoldable pub sealingAfter : Verdict → Bool → List ℕ → Nonce → List ℕ → List ℕ → WithOutput SealAnswer
 sealingAfter Accepted enciphered w n p out =
     record { answer = Done (countCarried enciphered p); output = carried enciphered w n p }
 sealingAfter (Refused r) enciphered w n p out = record { answer = Denied r; output = out }
 
 -- w is the expanded key, p the input, out the output as it was lent
-unfoldable pub sealing : Bool → List ℕ → Nonce → List ℕ → List ℕ → Sealing
-sealing enciphered w n p out = sealingAfter (judgeSeal (length p) (length out) n) enciphered w n p out
-
--- a call's answer with its output
-abbrev pub outcome : SealAnswer → List ℕ → Sealing
-outcome a o = record { answer = a; output = o }
+unfoldable pub sealing : Bool → List ℕ → Nonce → List ℕ → List ℕ → WithOutput SealAnswer
+sealing enciphered w n p out = sealingAfter (sealVerdict (length p) (length out) n) enciphered w n p out

@@ -3,10 +3,11 @@ ghost use mathlib.Core.Path.{_≡_};
 ghost use Prim.Native.Nat.{_+_, _*_, _%_, _≤_, _<_, min};
 ghost use lib.ListN.{length};
 ghost use Rattle.octets.specs.Lists.{replaced, written};
+ghost use Rattle.octets.specs.Output.{withOutput};
 ghost use Rattle.gf256.specs.Table.{sboxTable, doublesTable};
 ghost use Rattle.sealing.specs.KeyExpansion.{keyExpansion};
 ghost use Rattle.sealing.specs.Payload.{sealed};
-ghost use Rattle.sealing.specs.Seal.{sealing, outcome};
+ghost use Rattle.sealing.specs.Seal.{sealing};
 ghost use Rattle.sealing.specs.Steps.{maskedEq};
 use super::aes128::RoundKeys;
 use super::aes128::encrypt_with;
@@ -15,8 +16,8 @@ use envelope::Nonce;
 use envelope::SealAnswer;
 use envelope::count;
 use envelope::counter_block;
-use envelope::judge;
 use envelope::mask;
+use envelope::seal_verdict;
 use refusal::Verdict;
 
 // The EQ that starts at `at`, under the half of a cipher block that starts at `half`.
@@ -95,9 +96,9 @@ pub fn seal_expanded(
     input: &[u8],
     output: &mut [u8],
 ) -> SealAnswer
-    ensures { λ r. ⌜ outcome r (now (output .exit)) ≡ sealing enciphered (keys .octets) nonce (now (input .entry)) (now (output .entry)) ⌝ }
+    ensures { λ r. ⌜ withOutput r (now (output .exit)) ≡ sealing enciphered (keys .octets) nonce (now (input .entry)) (now (output .entry)) ⌝ }
 {
-    let verdict = judge(input.len(), output.len(), nonce);
+    let verdict = seal_verdict(input.len(), output.len(), nonce);
     match verdict {
         Verdict::Refused(refusal) => SealAnswer::Denied(refusal),
         Verdict::Accepted => {
@@ -121,9 +122,9 @@ pub fn seal(
     input: &[u8],
     output: &mut [u8],
 ) -> SealAnswer
-    ensures { λ r. ⌜ outcome r (now (output .exit)) ≡ sealing enciphered (keyExpansion key) nonce (now (input .entry)) (now (output .entry)) ⌝ }
+    ensures { λ r. ⌜ withOutput r (now (output .exit)) ≡ sealing enciphered (keyExpansion key) nonce (now (input .entry)) (now (output .entry)) ⌝ }
 {
-    let verdict = judge(input.len(), output.len(), nonce);
+    let verdict = seal_verdict(input.len(), output.len(), nonce);
     match verdict {
         Verdict::Refused(refusal) => SealAnswer::Denied(refusal),
         Verdict::Accepted => {

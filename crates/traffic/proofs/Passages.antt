@@ -8,21 +8,22 @@ use lib.ListN.{length}
 use borrow.Author.Tests.{le-leb, lt-ltb, not-false}
 use Rattle.octets.specs.Eqs.{maxEqs}
 use Rattle.octets.proofs.Choice.{both-left, both-true, pick-true, either-left, either-right}
+use Rattle.octets.specs.Output.{WithOutput, withOutput}
 use Rattle.refusal.specs.declared.Verdict.{Verdict}
 use Rattle.refusal.specs.declared.Verdict.the-variants.{Accepted}
 use Rattle.clock.specs.Ticks.{clockTurn}
 use Rattle.envelope.specs.ControlMask.{eqsOf}
-use Rattle.envelope.specs.Acceptance.{channelFits, nonceFits, judgeSeal}
+use Rattle.envelope.specs.Acceptance.{channelFits, nonceFits, sealVerdict}
 use Rattle.envelope.specs.Answer.{sealCount}
 use Rattle.envelope.specs.declared.Nonce.{Nonce}
 use Rattle.envelope.specs.declared.SealAnswer.{SealAnswer}
 use Rattle.envelope.proofs.Acceptance.{lengths-fit}
-use Rattle.sealing.specs.Seal.{carried, countCarried, Sealing, sealingAfter, sealing, outcome}
+use Rattle.sealing.specs.Seal.{carried, countCarried, sealingAfter, sealing}
 use Rattle.ends.specs.Identities.{validMac, validIdentity}
 use Rattle.ends.specs.declared.Identity.{Identity}
 use Rattle.ends.specs.Occupancy.{downstream, upstream}
 use Rattle.ends.proofs.Occupancy.{downstream-below, upstream-between}
-use Rattle.traffic.specs.Passages.{exchange, misfit}
+use Rattle.traffic.specs.Passages.{misfit}
 
 -- a payload whose length is not refused has at most the most EQs
 pub few-eqs : (p out : List ℕ) → misfit p out ≡ false → eqsOf p ≤ maxEqs
@@ -33,8 +34,8 @@ pub identity-mac : (i : Identity) → validIdentity i ≡ true → validMac (i .
 unfolding validIdentity
 identity-mac i e = both-left _ _ e
 
-pub judged : (p out : List ℕ) (n : Nonce) → misfit p out ≡ false → nonceFits n ≡ true → judgeSeal (length p) (length out) n ≡ Accepted
-unfolding misfit judgeSeal
+pub judged : (p out : List ℕ) (n : Nonce) → misfit p out ≡ false → nonceFits n ≡ true → sealVerdict (length p) (length out) n ≡ Accepted
+unfolding misfit sealVerdict
 judged p out n f e = pick-true _ _ (not-false _ f) ∙ pick-true _ _ e
 
 -- what the OLT sends, and a unit receives
@@ -53,8 +54,8 @@ up-fits n u m c =
 
 -- accepted, sealing answers with the count and writes the payload sealed or opened
 pub sealing-carried : (enciphered : Bool) (w : List ℕ) (n : Nonce) (p out : List ℕ) (a : SealAnswer) (o : List ℕ)
-    → outcome a o ≡ sealing enciphered w n p out → judgeSeal (length p) (length out) n ≡ Accepted
-    → exchange (sealCount a) o ≡ exchange (countCarried enciphered p) (carried enciphered w n p)
+    → withOutput a o ≡ sealing enciphered w n p out → sealVerdict (length p) (length out) n ≡ Accepted
+    → withOutput (sealCount a) o ≡ withOutput (countCarried enciphered p) (carried enciphered w n p)
 unfolding sealing sealingAfter
 sealing-carried enciphered w n p out a o e j =
-    ap (λ (s : Sealing). exchange (sealCount (s .answer)) (s .output)) (e ∙ ap (λ (v : Verdict). sealingAfter v enciphered w n p out) j)
+    ap (λ (s : WithOutput SealAnswer). withOutput (sealCount (s .answer)) (s .output)) (e ∙ ap (λ (v : Verdict). sealingAfter v enciphered w n p out) j)

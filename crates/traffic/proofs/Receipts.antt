@@ -8,11 +8,12 @@ use lib.ListN.{length}
 use borrow.Author.Tests.{not-false}
 use Rattle.octets.specs.Choice.{pick}
 use Rattle.octets.proofs.Choice.{both-left}
+use Rattle.octets.specs.Output.{WithOutput, withOutput}
 use Rattle.refusal.specs.declared.Refusal.{Refusal}
 use Rattle.refusal.specs.declared.Refusal.the-variants.{OutOfRange}
 use Rattle.refusal.specs.declared.Verdict.{Verdict}
 use Rattle.refusal.specs.declared.Verdict.the-variants.{Accepted, Refused}
-use Rattle.envelope.specs.Acceptance.{judgeSeal}
+use Rattle.envelope.specs.Acceptance.{sealVerdict}
 use Rattle.sealing.specs.Seal.{countCarried}
 use Rattle.ends.specs.Limits.{maxKeyNumber}
 use Rattle.ends.specs.Replies.{refuseIf, Reply, reply}
@@ -21,10 +22,10 @@ use Rattle.ends.specs.Table.{find, unitAt, withUnit}
 use Rattle.ends.specs.Validity.{validOlt, validOnu}
 use Rattle.ends.specs.Lift.{outcome, putBack}
 use Rattle.ends.specs.Headers.{passageOf, noPassage}
-use Rattle.ends.specs.UnitTraffic.{unitReceiveChoice, unitReceiveVerdict, unitReceived, receiveUnit}
+use Rattle.ends.specs.UnitTraffic.{unitReceiveChoice, unitReceiveVerdict, unitAfterReceipt, receiveUnit}
 use Rattle.ends.specs.OltTraffic.{receivingOlt}
 use Rattle.ends.specs.OnuCalls.{onuReply}
-use Rattle.ends.specs.OnuTraffic.{onuReceiveChoice, onuReceiveVerdict, onuReceived, receivingOnu}
+use Rattle.ends.specs.OnuTraffic.{onuReceiveChoice, onuReceiveVerdict, onuAfterReceipt, receivingOnu}
 use Rattle.ends.specs.declared.Olt.{Olt}
 use Rattle.ends.specs.declared.Onu.{Onu}
 use Rattle.ends.specs.declared.Header.{Header}
@@ -41,8 +42,8 @@ use Rattle.ends.proofs.OnuChoices.{OnuReceiveCase, onuClear, onuLate, onuCurren
 use Rattle.olt.specs.Lookup.{locatedOf}
 use Rattle.olt.specs.declared.Located.the-variants.{Denied}
 use Rattle.olt.proofs.Lookup.{lift-absent, Reaches}
-use Rattle.traffic.specs.Passages.{Exchange, exchange, misfit, isEnciphered, nonceOf, passed, passedCount, outputAfter}
-use Rattle.traffic.specs.Receipts.{oltReceived, oltNotReceived, oltReceiveOf, onuReceivedBy, onuNotReceived, onuReceiveOf}
+use Rattle.traffic.specs.Passages.{misfit, choiceEnciphered, passageNonce, passed, passedCount, outputAfter}
+use Rattle.traffic.specs.Receipts.{oltReceived, oltNotReceived, oltReceiveOf, onuReceived, onuNotReceived, onuReceiveOf}
 use Rattle.traffic.specs.declared.OltReceived.{OltReceived}
 use Rattle.traffic.specs.declared.OnuReceived.{OnuReceived}
 use Rattle.traffic.proofs.Passages.{identity-mac, judged, down-fits, up-fits}
@@ -50,52 +51,52 @@ use Rattle.traffic.proofs.Passages.{identity-mac, judged, down-fits, up
 ---- the OLT
 
 olt-not-received : (o : Olt) (r : Refusal) (channel : ℕ) (p out : List ℕ)
-    → exchange (oltNotReceived o r) out ≡ oltReceived (record { verdict = Refused r; end = o; handed = noPassage }) channel p out
-unfolding oltNotReceived oltReceived passedCount isEnciphered countCarried pick outputAfter
+    → withOutput (oltNotReceived o r) out ≡ oltReceived (record { verdict = Refused r; end = o; handed = noPassage }) channel p out
+unfolding oltNotReceived oltReceived passedCount choiceEnciphered countCarried pick outputAfter
 olt-not-received o r channel p out = refl
 
 olt-received : (o : Olt) (q : Passage) (channel : ℕ) (p out : List ℕ) (n : ℕ) (octets : List ℕ)
-    → exchange n octets ≡ exchange (passedCount q p) (passed channel q p)
-    → exchange {R = OltReceived} (record { number = 0; olt = o; count = n }) octets ≡ oltReceived (record { verdict = Accepted; end = o; handed = q }) channel p out
+    → withOutput n octets ≡ withOutput (passedCount q p) (passed channel q p)
+    → withOutput {R = OltReceived} (record { number = 0; olt = o; count = n }) octets ≡ oltReceived (record { verdict = Accepted; end = o; handed = q }) channel p out
 unfolding oltReceived outputAfter
 olt-received o q channel p out n octets e =
-    ap (λ (x : Exchange ℕ). exchange {R = OltReceived} (record { number = 0; olt = o; count = x .answer }) (x .output)) e
+    ap (λ (x : WithOutput ℕ). withOutput {R = OltReceived} (record { number = 0; olt = o; count = x .answer }) (x .output)) e
 
 module _ (o : Olt) (h : Header) (i : ℕ) (p out : List ℕ) where
   pub unit-receive-refused : (r : Refusal) → unitReceiveVerdict (o .shared) (unitAt o i) h ≡ Refused r
-      → exchange (oltNotReceived o r) out ≡ oltReceived (putBack o noPassage i (receiveUnit h (o .shared) (unitAt o i))) (h .channel) p out
+      → withOutput (oltNotReceived o r) out ≡ oltReceived (putBack o noPassage i (receiveUnit h (o .shared) (unitAt o i))) (h .channel) p out
   unfolding putBack receiveUnit outcome
   unit-receive-refused r e =
       olt-not-received o r (h .channel) p out
       ∙ sym (ap (λ (x : Reply Olt Passage). oltReceived x (h .channel) p out) (reply-refused _ o noPassage _ _ r e))
 
   pub unit-receive-accepted : (next : Olt) (q : Passage) (n : ℕ) (octets : List ℕ) → unitReceiveVerdict (o .shared) (unitAt o i) h ≡ Accepted
-      → next ≡ withUnit o i (o .shared .channels) (unitReceived (unitReceiveChoice (unitAt o i) h) (unitAt o i))
+      → next ≡ withUnit o i (o .shared .channels) (unitAfterReceipt (unitReceiveChoice (unitAt o i) h) (unitAt o i))
       → q ≡ passageOf (unitReceiveChoice (unitAt o i) h) (unitAt o i .keys .slots) (unitAt o i .identity .mac) (o .shared .clock)
-      → exchange n octets ≡ exchange (passedCount q p) (passed (h .channel) q p)
-      → exchange {R = OltReceived} (record { number = 0; olt = next; count = n }) octets
+      → withOutput n octets ≡ withOutput (passedCount q p) (passed (h .channel) q p)
+      → withOutput {R = OltReceived} (record { number = 0; olt = next; count = n }) octets
       ≡ oltReceived (putBack o noPassage i (receiveUnit h (o .shared) (unitAt o i))) (h .channel) p out
   unfolding putBack receiveUnit outcome
   unit-receive-accepted next q n octets v e g k =
       rw e
       (olt-received _ (passageOf (unitReceiveChoice (unitAt o i) h) (unitAt o i .keys .slots) (unitAt o i .identity .mac) (o .shared .clock)) (h .channel) p out n octets
-      (k ∙ ap (λ (x : Passage). exchange (passedCount x p) (passed (h .channel) x p)) g)
+      (k ∙ ap (λ (x : Passage). withOutput (passedCount x p) (passed (h .channel) x p)) g)
       ∙ sym (ap (λ (x : Reply Olt Passage). oltReceived x (h .channel) p out) (reply-accepted _ o noPassage _ _ v)))
 
   -- what the OLT receives fits
   pub unit-receive-fits : (q : Passage) → validOlt o ≡ true → find o (h .llid) ≡ At i → misfit p out ≡ false → upstream (h .channel) ≡ true
       → q ≡ passageOf (unitReceiveChoice (unitAt o i) h) (unitAt o i .keys .slots) (unitAt o i .identity .mac) (o .shared .clock)
-      → judgeSeal (length p) (length out) (nonceOf (h .channel) q) ≡ Accepted
+      → sealVerdict (length p) (length out) (passageNonce (h .channel) q) ≡ Accepted
   unfolding passageOf
   unit-receive-fits q v n f d g =
       let s = shared-in-range (o .shared) (olt-in-range o v .shared) in
       let u = unit-in-range _ (unitAt o i) (unit-at-valid o (h .llid) i v (find-at o (h .llid) i n)) in
-      judged p out (nonceOf (h .channel) q) f
-      (up-fits (nonceOf (h .channel) q) d (rw g (identity-mac (unitAt o i .identity) (u .identity))) (rw g (s .clock)))
+      judged p out (passageNonce (h .channel) q) f
+      (up-fits (passageNonce (h .channel) q) d (rw g (identity-mac (unitAt o i .identity) (u .identity))) (rw g (s .clock)))
 
 module _ (o : Olt) (h : Header) (p out : List ℕ) where
   pub olt-receive-absent : (r : Refusal) → locatedOf o (receiveAhead (misfit p out) h) (h .llid) ≡ Denied r
-      → exchange (oltNotReceived o r) out ≡ oltReceiveOf o h p out
+      → withOutput (oltNotReceived o r) out ≡ oltReceiveOf o h p out
   unfolding oltReceiveOf receivingOlt reply
   olt-receive-absent r e =
       olt-not-received o r (h .channel) p out
@@ -122,16 +123,16 @@ module _ (o : Olt) (h : Header) (p out : List ℕ) where
 ---- the ONU
 
 onu-not-received : (o : Onu) (r : Refusal) (channel : ℕ) (p out : List ℕ)
-    → exchange (onuNotReceived o r) out ≡ onuReceivedBy (record { verdict = Refused r; end = o; handed = noPassage }) channel p out
-unfolding onuNotReceived onuReceivedBy passedCount isEnciphered countCarried pick outputAfter
+    → withOutput (onuNotReceived o r) out ≡ onuReceived (record { verdict = Refused r; end = o; handed = noPassage }) channel p out
+unfolding onuNotReceived onuReceived passedCount choiceEnciphered countCarried pick outputAfter
 onu-not-received o r channel p out = refl
 
 onu-received : (o : Onu) (q : Passage) (channel : ℕ) (p out : List ℕ) (n : ℕ) (octets : List ℕ)
-    → exchange n octets ≡ exchange (passedCount q p) (passed channel q p)
-    → exchange {R = OnuReceived} (record { number = 0; onu = o; count = n }) octets ≡ onuReceivedBy (record { verdict = Accepted; end = o; handed = q }) channel p out
-unfolding onuReceivedBy outputAfter
+    → withOutput n octets ≡ withOutput (passedCount q p) (passed channel q p)
+    → withOutput {R = OnuReceived} (record { number = 0; onu = o; count = n }) octets ≡ onuReceived (record { verdict = Accepted; end = o; handed = q }) channel p out
+unfolding onuReceived outputAfter
 onu-received o q channel p out n octets e =
-    ap (λ (x : Exchange ℕ). exchange {R = OnuReceived} (record { number = 0; onu = o; count = x .answer }) (x .output)) e
+    ap (λ (x : WithOutput ℕ). withOutput {R = OnuReceived} (record { number = 0; onu = o; count = x .answer }) (x .output)) e
 
 -- only a held key comes into use, so that its number is a key number
 pub next-below : (o : Onu) (h : Header) (n : ℕ) → validOnu o ≡ true → onuReceiveChoice (o .keys) h ≡ Next n → o .keys .active < maxKeyNumber
@@ -148,23 +149,23 @@ module _ (o : Onu) (h : Header) (p out : List ℕ) where
   abbrev pub onuReceiveJudged : Verdict
   onuReceiveJudged = refuseIf (not (validOnu o)) OutOfRange (onuReceiveVerdict o (misfit p out) h)
 
-  pub onu-receive-refused : (r : Refusal) → onuReceiveJudged ≡ Refused r → exchange (onuNotReceived o r) out ≡ onuReceiveOf o h p out
+  pub onu-receive-refused : (r : Refusal) → onuReceiveJudged ≡ Refused r → withOutput (onuNotReceived o r) out ≡ onuReceiveOf o h p out
   unfolding onuReceiveOf receivingOnu onuReply
   onu-receive-refused r e =
       onu-not-received o r (h .channel) p out
-      ∙ sym (ap (λ (x : Reply Onu Passage). onuReceivedBy x (h .channel) p out) (reply-refused _ o noPassage _ _ r e))
+      ∙ sym (ap (λ (x : Reply Onu Passage). onuReceived x (h .channel) p out) (reply-refused _ o noPassage _ _ r e))
 
   pub onu-receive-done : (next : Onu) (q : Passage) (n : ℕ) (octets : List ℕ) → onuReceiveJudged ≡ Accepted
-      → next ≡ onuReceived (onuReceiveChoice (o .keys) h) o
+      → next ≡ onuAfterReceipt (onuReceiveChoice (o .keys) h) o
       → q ≡ passageOf (onuReceiveChoice (o .keys) h) (o .keys .slots) (o .oltmac) (o .clock .rx)
-      → exchange n octets ≡ exchange (passedCount q p) (passed (h .channel) q p)
-      → exchange {R = OnuReceived} (record { number = 0; onu = next; count = n }) octets ≡ onuReceiveOf o h p out
+      → withOutput n octets ≡ withOutput (passedCount q p) (passed (h .channel) q p)
+      → withOutput {R = OnuReceived} (record { number = 0; onu = next; count = n }) octets ≡ onuReceiveOf o h p out
   unfolding onuReceiveOf receivingOnu onuReply
   onu-receive-done next q n octets v e g k =
       rw e
       (onu-received _ (passageOf (onuReceiveChoice (o .keys) h) (o .keys .slots) (o .oltmac) (o .clock .rx)) (h .channel) p out n octets
-      (k ∙ ap (λ (x : Passage). exchange (passedCount x p) (passed (h .channel) x p)) g)
-      ∙ sym (ap (λ (x : Reply Onu Passage). onuReceivedBy x (h .channel) p out) (reply-accepted _ o noPassage _ _ v)))
+      (k ∙ ap (λ (x : Passage). withOutput (passedCount x p) (passed (h .channel) x p)) g)
+      ∙ sym (ap (λ (x : Reply Onu Passage). onuReceived x (h .channel) p out) (reply-accepted _ o noPassage _ _ v)))
 
   -- what is accepted comes to a valid end
   pub onu-receive-lent : onuReceiveJudged ≡ Accepted → validOnu o ≡ true
@@ -173,16 +174,16 @@ module _ (o : Onu) (h : Header) (p out : List ℕ) where
   -- what a unit receives fits
   pub onu-receive-fits : (q : Passage) → onuReceiveJudged ≡ Accepted
       → q ≡ passageOf (onuReceiveChoice (o .keys) h) (o .keys .slots) (o .oltmac) (o .clock .rx)
-      → judgeSeal (length p) (length out) (nonceOf (h .channel) q) ≡ Accepted
+      → sealVerdict (length p) (length out) (passageNonce (h .channel) q) ≡ Accepted
   unfolding passageOf
   onu-receive-fits q v g =
       let a = refuse-accepted _ _ _ v in
       let r = onu-in-range o (not-false _ (a .0)) in
       let s = onu-receive-accepted o (misfit p out) h (a .1) in
-      judged p out (nonceOf (h .channel) q) (s .fits)
-      (down-fits (nonceOf (h .channel) q) (s .downstream) (rw g (r .oltmac)) (rw g (onu-clock-in-range (o .clock) (r .clock) .rx)))
+      judged p out (passageNonce (h .channel) q) (s .fits)
+      (down-fits (passageNonce (h .channel) q) (s .downstream) (rw g (r .oltmac)) (rw g (onu-clock-in-range (o .clock) (r .clock) .rx)))
 
   -- a valid ONU stays valid
   pub onu-receive-valid : validOnu o ≡ true → validOnu (onuReceiveOf o h p out .answer .onu) ≡ true
-  unfolding onuReceiveOf onuReceivedBy
+  unfolding onuReceiveOf onuReceived
   onu-receive-valid v = receiving-onu-valid o (misfit p out) h v

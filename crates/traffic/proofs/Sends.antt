@@ -7,13 +7,14 @@ use lib.ListN.{length}
 use borrow.Author.Tests.{not-false}
 use Rattle.octets.specs.Choice.{pick}
 use Rattle.octets.specs.Eqs.{maxEqs}
+use Rattle.octets.specs.Output.{WithOutput, withOutput}
 use Rattle.refusal.specs.declared.Refusal.{Refusal}
 use Rattle.refusal.specs.declared.Refusal.the-variants.{OutOfRange}
 use Rattle.refusal.specs.declared.Verdict.{Verdict}
 use Rattle.refusal.specs.declared.Verdict.the-variants.{Accepted, Refused}
 use Rattle.clock.specs.Ticks.{maxTick}
 use Rattle.envelope.specs.ControlMask.{eqsOf}
-use Rattle.envelope.specs.Acceptance.{judgeSeal}
+use Rattle.envelope.specs.Acceptance.{sealVerdict}
 use Rattle.sealing.specs.Seal.{countCarried}
 use Rattle.ends.specs.Replies.{refuseIf, Reply, reply}
 use Rattle.ends.specs.Occupancy.{downstream, occupied}
@@ -22,10 +23,10 @@ use Rattle.ends.specs.Table.{unitAt, withUnit}
 use Rattle.ends.specs.Validity.{validOlt, validOnu}
 use Rattle.ends.specs.Lift.{putBack}
 use Rattle.ends.specs.Headers.{passageOf, sendingOf, noSending}
-use Rattle.ends.specs.UnitTraffic.{unitSendChoice, unitSendVerdict, keysSent, sendUnit}
+use Rattle.ends.specs.UnitTraffic.{unitSendChoice, unitSendVerdict, keysAfterSend, sendUnit}
 use Rattle.ends.specs.OltTraffic.{sendingOlt}
 use Rattle.ends.specs.OnuCalls.{onuReply}
-use Rattle.ends.specs.OnuTraffic.{onuSendChoice, onuSendVerdict, onuSent, sendingOnu}
+use Rattle.ends.specs.OnuTraffic.{onuSendChoice, onuSendVerdict, onuAfterSend, sendingOnu}
 use Rattle.ends.specs.declared.Olt.{Olt}
 use Rattle.ends.specs.declared.Onu.{Onu}
 use Rattle.ends.specs.declared.Sending.{Sending}
@@ -38,8 +39,8 @@ use Rattle.ends.proofs.OnuChoices.{onu-send-accepted}
 use Rattle.olt.specs.Lookup.{locatedOf}
 use Rattle.olt.specs.declared.Located.the-variants.{Denied}
 use Rattle.olt.proofs.Lookup.{lift-absent, Reaches}
-use Rattle.traffic.specs.Passages.{Exchange, exchange, misfit, isEnciphered, nonceOf, passed, passedCount, outputAfter}
-use Rattle.traffic.specs.Sends.{oltSent, oltNotSent, oltSendOf, onuSentBy, onuNotSent, onuSendOf}
+use Rattle.traffic.specs.Passages.{misfit, choiceEnciphered, passageNonce, passed, passedCount, outputAfter}
+use Rattle.traffic.specs.Sends.{oltSent, oltNotSent, oltSendOf, onuSent, onuNotSent, onuSendOf}
 use Rattle.traffic.specs.declared.OltSent.{OltSent}
 use Rattle.traffic.specs.declared.OnuSent.{OnuSent}
 use Rattle.traffic.proofs.Passages.{few-eqs, identity-mac, judged, down-fits, up-fits}
@@ -47,21 +48,21 @@ use Rattle.traffic.proofs.Passages.{few-eqs, identity-mac, judged, down
 ---- the OLT
 
 olt-not-sent : (o : Olt) (r : Refusal) (channel : ℕ) (p out : List ℕ)
-    → exchange (oltNotSent o r) out ≡ oltSent (record { verdict = Refused r; end = o; handed = noSending }) channel p out
-unfolding oltNotSent oltSent passedCount isEnciphered countCarried pick outputAfter
+    → withOutput (oltNotSent o r) out ≡ oltSent (record { verdict = Refused r; end = o; handed = noSending }) channel p out
+unfolding oltNotSent oltSent passedCount choiceEnciphered countCarried pick outputAfter
 olt-not-sent o r channel p out = refl
 
 olt-sent : (o : Olt) (s : Sending) (channel : ℕ) (p out : List ℕ) (n : ℕ) (octets : List ℕ)
-    → exchange n octets ≡ exchange (passedCount (s .passage) p) (passed channel (s .passage) p)
-    → exchange {R = OltSent} (record { number = 0; olt = o; header = s .header; count = n }) octets
+    → withOutput n octets ≡ withOutput (passedCount (s .passage) p) (passed channel (s .passage) p)
+    → withOutput {R = OltSent} (record { number = 0; olt = o; header = s .header; count = n }) octets
     ≡ oltSent (record { verdict = Accepted; end = o; handed = s }) channel p out
 unfolding oltSent outputAfter
 olt-sent o s channel p out n octets e =
-    ap (λ (x : Exchange ℕ). exchange {R = OltSent} (record { number = 0; olt = o; header = s .header; count = x .answer }) (x .output)) e
+    ap (λ (x : WithOutput ℕ). withOutput {R = OltSent} (record { number = 0; olt = o; header = s .header; count = x .answer }) (x .output)) e
 
 module _ (o : Olt) (llid channel i : ℕ) (p out : List ℕ) where
   pub unit-send-refused : (r : Refusal) → unitSendVerdict (o .shared) (unitAt o i) channel ≡ Refused r
-      → exchange (oltNotSent o r) out ≡ oltSent (putBack o noSending i (sendUnit llid channel (eqsOf p) (o .shared) (unitAt o i))) channel p out
+      → withOutput (oltNotSent o r) out ≡ oltSent (putBack o noSending i (sendUnit llid channel (eqsOf p) (o .shared) (unitAt o i))) channel p out
   unfolding putBack sendUnit
   unit-send-refused r e =
       olt-not-sent o r channel p out ∙ sym (ap (λ (x : Reply Olt Sending). oltSent x channel p out) (reply-refused _ o noSending _ _ r e))
@@ -70,10 +71,10 @@ module _ (o : Olt) (llid channel i : ℕ) (p out : List ℕ) where
       → unitSendVerdict (o .shared) (unitAt o i) channel ≡ Accepted
       → next
       ≡ withUnit o i (occupied (o .shared .channels) channel (o .shared .tick) (eqsOf p))
-      (withKeys (unitAt o i) (keysSent (unitSendChoice (unitAt o i)) (unitAt o i .keys) (o .shared .tick)))
+      (withKeys (unitAt o i) (keysAfterSend (unitSendChoice (unitAt o i)) (unitAt o i .keys) (o .shared .tick)))
       → s ≡ sendingOf (unitSendChoice (unitAt o i)) (unitAt o i .keys .slots) (o .shared .mac) (o .shared .clock) channel llid
-      → exchange n octets ≡ exchange (passedCount (s .passage) p) (passed channel (s .passage) p)
-      → exchange {R = OltSent} (record { number = 0; olt = next; header = s .header; count = n }) octets
+      → withOutput n octets ≡ withOutput (passedCount (s .passage) p) (passed channel (s .passage) p)
+      → withOutput {R = OltSent} (record { number = 0; olt = next; header = s .header; count = n }) octets
       ≡ oltSent (putBack o noSending i (sendUnit llid channel (eqsOf p) (o .shared) (unitAt o i))) channel p out
   unfolding putBack sendUnit
   unit-send-accepted next s n octets v e f k =
@@ -83,16 +84,16 @@ module _ (o : Olt) (llid channel i : ℕ) (p out : List ℕ) where
   -- what the OLT sends fits
   pub unit-send-fits : (s : Sending) → validOlt o ≡ true → misfit p out ≡ false → downstream channel ≡ true
       → s ≡ sendingOf (unitSendChoice (unitAt o i)) (unitAt o i .keys .slots) (o .shared .mac) (o .shared .clock) channel llid
-      → judgeSeal (length p) (length out) (nonceOf channel (s .passage)) ≡ Accepted
+      → sealVerdict (length p) (length out) (passageNonce channel (s .passage)) ≡ Accepted
   unfolding sendingOf passageOf
   unit-send-fits s v f d g =
       let r = shared-in-range (o .shared) (olt-in-range o v .shared) in
-      judged p out (nonceOf channel (s .passage)) f
-      (down-fits (nonceOf channel (s .passage)) d (rw g (r .mac)) (rw g (r .clock)))
+      judged p out (passageNonce channel (s .passage)) f
+      (down-fits (passageNonce channel (s .passage)) d (rw g (r .mac)) (rw g (r .clock)))
 
 module _ (o : Olt) (llid channel : ℕ) (p out : List ℕ) where
   pub olt-send-absent : (r : Refusal) → locatedOf o (sendAhead (misfit p out) channel) llid ≡ Denied r
-      → exchange (oltNotSent o r) out ≡ oltSendOf o llid channel p out
+      → withOutput (oltNotSent o r) out ≡ oltSendOf o llid channel p out
   unfolding oltSendOf sendingOlt reply
   olt-send-absent r e =
       olt-not-sent o r channel p out
@@ -119,37 +120,37 @@ module _ (o : Olt) (llid channel : ℕ) (p out : List ℕ) where
 ---- the ONU
 
 onu-not-sent : (o : Onu) (r : Refusal) (channel : ℕ) (p out : List ℕ)
-    → exchange (onuNotSent o r) out ≡ onuSentBy (record { verdict = Refused r; end = o; handed = noSending }) channel p out
-unfolding onuNotSent onuSentBy passedCount isEnciphered countCarried pick outputAfter
+    → withOutput (onuNotSent o r) out ≡ onuSent (record { verdict = Refused r; end = o; handed = noSending }) channel p out
+unfolding onuNotSent onuSent passedCount choiceEnciphered countCarried pick outputAfter
 onu-not-sent o r channel p out = refl
 
 onu-sent : (o : Onu) (s : Sending) (channel : ℕ) (p out : List ℕ) (n : ℕ) (octets : List ℕ)
-    → exchange n octets ≡ exchange (passedCount (s .passage) p) (passed channel (s .passage) p)
-    → exchange {R = OnuSent} (record { number = 0; onu = o; header = s .header; count = n }) octets
-    ≡ onuSentBy (record { verdict = Accepted; end = o; handed = s }) channel p out
-unfolding onuSentBy outputAfter
+    → withOutput n octets ≡ withOutput (passedCount (s .passage) p) (passed channel (s .passage) p)
+    → withOutput {R = OnuSent} (record { number = 0; onu = o; header = s .header; count = n }) octets
+    ≡ onuSent (record { verdict = Accepted; end = o; handed = s }) channel p out
+unfolding onuSent outputAfter
 onu-sent o s channel p out n octets e =
-    ap (λ (x : Exchange ℕ). exchange {R = OnuSent} (record { number = 0; onu = o; header = s .header; count = x .answer }) (x .output)) e
+    ap (λ (x : WithOutput ℕ). withOutput {R = OnuSent} (record { number = 0; onu = o; header = s .header; count = x .answer }) (x .output)) e
 
 module _ (o : Onu) (llid channel : ℕ) (p out : List ℕ) where
   -- the verdict, that on the lent end ahead
   abbrev pub onuSendJudged : Verdict
   onuSendJudged = refuseIf (not (validOnu o)) OutOfRange (onuSendVerdict o (misfit p out) llid channel)
 
-  pub onu-send-refused : (r : Refusal) → onuSendJudged ≡ Refused r → exchange (onuNotSent o r) out ≡ onuSendOf o llid channel p out
+  pub onu-send-refused : (r : Refusal) → onuSendJudged ≡ Refused r → withOutput (onuNotSent o r) out ≡ onuSendOf o llid channel p out
   unfolding onuSendOf sendingOnu onuReply
   onu-send-refused r e =
-      onu-not-sent o r channel p out ∙ sym (ap (λ (x : Reply Onu Sending). onuSentBy x channel p out) (reply-refused _ o noSending _ _ r e))
+      onu-not-sent o r channel p out ∙ sym (ap (λ (x : Reply Onu Sending). onuSent x channel p out) (reply-refused _ o noSending _ _ r e))
 
   pub onu-send-done : (next : Onu) (s : Sending) (n : ℕ) (octets : List ℕ) → onuSendJudged ≡ Accepted
-      → next ≡ onuSent o channel (eqsOf p)
+      → next ≡ onuAfterSend o channel (eqsOf p)
       → s ≡ sendingOf (onuSendChoice (o .keys)) (o .keys .slots) (o .identity .mac) (o .clock .time) channel llid
-      → exchange n octets ≡ exchange (passedCount (s .passage) p) (passed channel (s .passage) p)
-      → exchange {R = OnuSent} (record { number = 0; onu = next; header = s .header; count = n }) octets ≡ onuSendOf o llid channel p out
+      → withOutput n octets ≡ withOutput (passedCount (s .passage) p) (passed channel (s .passage) p)
+      → withOutput {R = OnuSent} (record { number = 0; onu = next; header = s .header; count = n }) octets ≡ onuSendOf o llid channel p out
   unfolding onuSendOf sendingOnu onuReply
   onu-send-done next s n octets v e f k =
       onu-sent next s channel p out n octets k
-      ∙ rw (e, f) (sym (ap (λ (x : Reply Onu Sending). onuSentBy x channel p out) (reply-accepted _ o noSending _ _ v)))
+      ∙ rw (e, f) (sym (ap (λ (x : Reply Onu Sending). onuSent x channel p out) (reply-accepted _ o noSending _ _ v)))
 
   pub onu-send-within : onuSendJudged ≡ Accepted → (o .tick ≤ maxTick) × (eqsOf p ≤ maxEqs)
   onu-send-within v =
@@ -159,16 +160,16 @@ module _ (o : Onu) (llid channel : ℕ) (p out : List ℕ) where
   -- what a unit sends fits
   pub onu-send-fits : (s : Sending) → onuSendJudged ≡ Accepted
       → s ≡ sendingOf (onuSendChoice (o .keys)) (o .keys .slots) (o .identity .mac) (o .clock .time) channel llid
-      → judgeSeal (length p) (length out) (nonceOf channel (s .passage)) ≡ Accepted
+      → sealVerdict (length p) (length out) (passageNonce channel (s .passage)) ≡ Accepted
   unfolding sendingOf passageOf
   onu-send-fits s v g =
       let a = refuse-accepted _ _ _ v in
       let r = onu-in-range o (not-false _ (a .0)) in
       let u = onu-send-accepted o (misfit p out) llid channel (a .1) in
-      judged p out (nonceOf channel (s .passage)) (u .fits)
-      (up-fits (nonceOf channel (s .passage)) (u .upstream) (rw g (identity-mac (o .identity) (r .identity))) (rw g (onu-clock-in-range (o .clock) (r .clock) .tx)))
+      judged p out (passageNonce channel (s .passage)) (u .fits)
+      (up-fits (passageNonce channel (s .passage)) (u .upstream) (rw g (identity-mac (o .identity) (r .identity))) (rw g (onu-clock-in-range (o .clock) (r .clock) .tx)))
 
   -- a valid ONU stays valid
   pub onu-send-valid : validOnu o ≡ true → validOnu (onuSendOf o llid channel p out .answer .onu) ≡ true
-  unfolding onuSendOf onuSentBy
+  unfolding onuSendOf onuSent
   onu-send-valid v = sending-onu-valid o (misfit p out) llid channel (eqsOf p) (few-eqs p out) v

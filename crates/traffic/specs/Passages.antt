@@ -13,34 +13,26 @@ use Rattle.ends.specs.declared.KeyChoice.{KeyChoice}
 use Rattle.ends.specs.declared.KeyChoice.the-variants.{Clear, Current, Next, Barred}
 use Rattle.ends.specs.declared.Passage.{Passage}
 
--- an answer beside what the output then holds
-pub record Exchange (R : Type 0) : Type 0 where
-  pub answer : R
-  pub output : List ℕ
-
-abbrev pub exchange : {R : Type 0} → R → List ℕ → Exchange R
-exchange r out = record { answer = r; output = out }
-
 -- 14: the lengths of payload and output
 unfoldable pub misfit : List ℕ → List ℕ → Bool
 misfit p out = not (lengthsFit (length p) (length out))
 
-unfoldable pub isEnciphered : KeyChoice → Bool
-isEnciphered Clear = false
-isEnciphered (Current n) = true
-isEnciphered (Next n) = true
-isEnciphered (Barred r) = false
+unfoldable pub choiceEnciphered : KeyChoice → Bool
+choiceEnciphered Clear = false
+choiceEnciphered (Current n) = true
+choiceEnciphered (Next n) = true
+choiceEnciphered (Barred r) = false
 
-abbrev pub nonceOf : ℕ → Passage → Nonce
-nonceOf channel q = record { channel = channel; mac = q .mac; clock = q .clock }
+abbrev pub passageNonce : ℕ → Passage → Nonce
+passageNonce channel q = record { channel = channel; mac = q .mac; clock = q .clock }
 
 -- the payload, sealed or opened, or unchanged where it is clear
 unfoldable pub passed : ℕ → Passage → List ℕ → List ℕ
-passed channel q p = carried (isEnciphered (q .choice)) (keyExpansion (q .key)) (nonceOf channel q) p
+passed channel q p = carried (choiceEnciphered (q .choice)) (keyExpansion (q .key)) (passageNonce channel q) p
 
 -- the octets enciphered
 unfoldable pub passedCount : Passage → List ℕ → ℕ
-passedCount q p = countCarried (isEnciphered (q .choice)) p
+passedCount q p = countCarried (choiceEnciphered (q .choice)) p
 
 -- a refusal leaves the output
 unfoldable pub outputAfter : Verdict → List ℕ → List ℕ → List ℕ

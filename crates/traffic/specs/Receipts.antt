@@ -2,6 +2,7 @@
 -- h is the header, p the payload as it came, out the output as it was lent. Assumes nothing.
 use mathlib.Core.List.{List}
 use Prim.Native.Nat.{ℕ}
+use Rattle.octets.specs.Output.{WithOutput}
 use Rattle.refusal.specs.Number.{numberOf, verdictNumber}
 use Rattle.refusal.specs.declared.Refusal.{Refusal}
 use Rattle.ends.specs.Replies.{Reply}
@@ -11,11 +12,11 @@ use Rattle.ends.specs.declared.Header.{Header}
 use Rattle.ends.specs.declared.Olt.{Olt}
 use Rattle.ends.specs.declared.Onu.{Onu}
 use Rattle.ends.specs.declared.Passage.{Passage}
-use Rattle.traffic.specs.Passages.{Exchange, misfit, passed, passedCount, outputAfter}
+use Rattle.traffic.specs.Passages.{misfit, passed, passedCount, outputAfter}
 use Rattle.traffic.specs.declared.OltReceived.{OltReceived}
 use Rattle.traffic.specs.declared.OnuReceived.{OnuReceived}
 
-unfoldable pub oltReceived : Reply Olt Passage → ℕ → List ℕ → List ℕ → Exchange OltReceived
+unfoldable pub oltReceived : Reply Olt Passage → ℕ → List ℕ → List ℕ → WithOutput OltReceived
 oltReceived r channel p out =
     record {
       answer = record { number = verdictNumber (r .verdict); olt = r .end; count = passedCount (r .handed) p };
@@ -26,11 +27,11 @@ oltReceived r channel p out =
 unfoldable pub oltNotReceived : Olt → Refusal → OltReceived
 oltNotReceived o r = record { number = numberOf r; olt = o; count = 0 }
 
-unfoldable pub oltReceiveOf : Olt → Header → List ℕ → List ℕ → Exchange OltReceived
+unfoldable pub oltReceiveOf : Olt → Header → List ℕ → List ℕ → WithOutput OltReceived
 oltReceiveOf o h p out = oltReceived (receivingOlt o (misfit p out) h) (h .channel) p out
 
-unfoldable pub onuReceivedBy : Reply Onu Passage → ℕ → List ℕ → List ℕ → Exchange OnuReceived
-onuReceivedBy r channel p out =
+unfoldable pub onuReceived : Reply Onu Passage → ℕ → List ℕ → List ℕ → WithOutput OnuReceived
+onuReceived r channel p out =
     record {
       answer = record { number = verdictNumber (r .verdict); onu = r .end; count = passedCount (r .handed) p };
       output = outputAfter (r .verdict) (passed channel (r .handed) p) out;
@@ -39,5 +40,5 @@ onuReceivedBy r channel p out =
 unfoldable pub onuNotReceived : Onu → Refusal → OnuReceived
 onuNotReceived o r = record { number = numberOf r; onu = o; count = 0 }
 
-unfoldable pub onuReceiveOf : Onu → Header → List ℕ → List ℕ → Exchange OnuReceived
-onuReceiveOf o h p out = onuReceivedBy (receivingOnu o (misfit p out) h) (h .channel) p out
+unfoldable pub onuReceiveOf : Onu → Header → List ℕ → List ℕ → WithOutput OnuReceived
+onuReceiveOf o h p out = onuReceived (receivingOnu o (misfit p out) h) (h .channel) p out

@@ -2,6 +2,7 @@
 -- p is the payload, out the output as it was lent. Assumes nothing.
 use mathlib.Core.List.{List}
 use Prim.Native.Nat.{ℕ}
+use Rattle.octets.specs.Output.{WithOutput}
 use Rattle.refusal.specs.Number.{numberOf, verdictNumber}
 use Rattle.refusal.specs.declared.Refusal.{Refusal}
 use Rattle.envelope.specs.ControlMask.{eqsOf}
@@ -12,11 +13,11 @@ use Rattle.ends.specs.OnuTraffic.{sendingOnu}
 use Rattle.ends.specs.declared.Olt.{Olt}
 use Rattle.ends.specs.declared.Onu.{Onu}
 use Rattle.ends.specs.declared.Sending.{Sending}
-use Rattle.traffic.specs.Passages.{Exchange, misfit, passed, passedCount, outputAfter}
+use Rattle.traffic.specs.Passages.{misfit, passed, passedCount, outputAfter}
 use Rattle.traffic.specs.declared.OltSent.{OltSent}
 use Rattle.traffic.specs.declared.OnuSent.{OnuSent}
 
-unfoldable pub oltSent : Reply Olt Sending → ℕ → List ℕ → List ℕ → Exchange OltSent
+unfoldable pub oltSent : Reply Olt Sending → ℕ → List ℕ → List ℕ → WithOutput OltSent
 oltSent r channel p out =
     record {
       answer =
@@ -33,11 +34,11 @@ oltSent r channel p out =
 unfoldable pub oltNotSent : Olt → Refusal → OltSent
 oltNotSent o r = record { number = numberOf r; olt = o; header = noSending .header; count = 0 }
 
-unfoldable pub oltSendOf : Olt → ℕ → ℕ → List ℕ → List ℕ → Exchange OltSent
+unfoldable pub oltSendOf : Olt → ℕ → ℕ → List ℕ → List ℕ → WithOutput OltSent
 oltSendOf o llid channel p out = oltSent (sendingOlt o (misfit p out) llid channel (eqsOf p)) channel p out
 
-unfoldable pub onuSentBy : Reply Onu Sending → ℕ → List ℕ → List ℕ → Exchange OnuSent
-onuSentBy r channel p out =
+unfoldable pub onuSent : Reply Onu Sending → ℕ → List ℕ → List ℕ → WithOutput OnuSent
+onuSent r channel p out =
     record {
       answer =
           record {
@@ -52,5 +53,5 @@ onuSentBy r channel p out =
 unfoldable pub onuNotSent : Onu → Refusal → OnuSent
 onuNotSent o r = record { number = numberOf r; onu = o; header = noSending .header; count = 0 }
 
-unfoldable pub onuSendOf : Onu → ℕ → ℕ → List ℕ → List ℕ → Exchange OnuSent
-onuSendOf o llid channel p out = onuSentBy (sendingOnu o (misfit p out) llid channel (eqsOf p)) channel p out
+unfoldable pub onuSendOf : Onu → ℕ → ℕ → List ℕ → List ℕ → WithOutput OnuSent
+onuSendOf o llid channel p out = onuSent (sendingOnu o (misfit p out) llid channel (eqsOf p)) channel p out

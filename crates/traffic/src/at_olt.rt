@@ -11,14 +11,15 @@ ghost use Rattle.octets.specs.Choice.{both};
 ghost use Rattle.ends.specs.Headers.{noPassage, noSending, validHeader};
 ghost use Rattle.ends.specs.Lift.{putBack};
 ghost use Rattle.octets.specs.Eqs.{maxEqs};
+ghost use Rattle.octets.specs.Output.{withOutput};
 ghost use Rattle.ends.specs.Occupancy.{downstream, occupied, upstream};
 ghost use Rattle.ends.specs.Records.{withKeys};
 ghost use Rattle.ends.specs.Replies.{refuseIf};
 ghost use Rattle.ends.specs.Table.{find, unitAt, withUnit};
-ghost use Rattle.ends.specs.UnitTraffic.{keysSent, receiveUnit, sendUnit, unitSendChoice};
+ghost use Rattle.ends.specs.UnitTraffic.{keysAfterSend, receiveUnit, sendUnit, unitSendChoice};
 ghost use Rattle.ends.specs.Validity.{validOlt};
 ghost use Rattle.ends.specs.declared.Found.the-variants.{At};
-ghost use Rattle.traffic.specs.Passages.{exchange, misfit};
+ghost use Rattle.traffic.specs.Passages.{misfit};
 ghost use Rattle.traffic.specs.Receipts.{oltNotReceived, oltReceived};
 ghost use Rattle.traffic.specs.Sends.{oltNotSent, oltSent};
 use crate::OltReceived;
@@ -117,7 +118,7 @@ fn after_send(olt: Olt, i: usize, unit: UnitRecord, channel: u8, eqs: u64) -> Ol
     requires { ⌜ i < 16 ⌝ }
     requires { ⌜ olt .shared .tick ≤ maxTick ⌝ }
     requires { ⌜ eqs ≤ maxEqs ⌝ }
-    ensures { λ r. ⌜ r ≡ withUnit olt i (occupied (olt .shared .channels) channel (olt .shared .tick) eqs) (withKeys unit (keysSent (unitSendChoice unit) (unit .keys) (olt .shared .tick))) ⌝ }
+    ensures { λ r. ⌜ r ≡ withUnit olt i (occupied (olt .shared .channels) channel (olt .shared .tick) eqs) (withKeys unit (keysAfterSend (unitSendChoice unit) (unit .keys) (olt .shared .tick))) ⌝ }
 {
     let channels = carrying::occupied(olt.shared.channels, channel, olt.shared.tick, eqs);
     let next = traffic::unit_sent(unit, olt.shared.tick);
@@ -136,7 +137,7 @@ pub(crate) fn send_at(
     requires { ⌜ find olt llid ≡ At i ⌝ }
     requires { ⌜ misfit (now payload) (now output) ≡ false ⌝ }
     requires { ⌜ downstream channel ≡ true ⌝ }
-    ensures { λ r. ⌜ exchange r (now (output .exit)) ≡ oltSent (putBack olt noSending i (sendUnit llid channel (eqsOf (now (payload .entry))) (olt .shared) (unitAt olt i))) channel (now (payload .entry)) (now (output .entry)) ⌝ }
+    ensures { λ r. ⌜ withOutput r (now (output .exit)) ≡ oltSent (putBack olt noSending i (sendUnit llid channel (eqsOf (now (payload .entry))) (olt .shared) (unitAt olt i))) channel (now (payload .entry)) (now (output .entry)) ⌝ }
 {
     let unit = unit_at(olt, i);
     let shared = olt.shared;
@@ -170,7 +171,7 @@ pub(crate) fn receive_at(
     requires { ⌜ find olt (header .llid) ≡ At i ⌝ }
     requires { ⌜ misfit (now octets) (now output) ≡ false ⌝ }
     requires { ⌜ upstream (header .channel) ≡ true ⌝ }
-    ensures { λ r. ⌜ exchange r (now (output .exit)) ≡ oltReceived (putBack olt noPassage i (receiveUnit header (olt .shared) (unitAt olt i))) (header .channel) (now (octets .entry)) (now (output .entry)) ⌝ }
+    ensures { λ r. ⌜ withOutput r (now (output .exit)) ≡ oltReceived (putBack olt noPassage i (receiveUnit header (olt .shared) (unitAt olt i))) (header .channel) (now (octets .entry)) (now (output .entry)) ⌝ }
 {
     let unit = unit_at(olt, i);
     let shared = olt.shared;

@@ -6,7 +6,7 @@ ghost use Rattle.refusal.specs.declared.Refusal.the-variants.{BadLength, ClockN
 ghost use Rattle.clock.specs.Ticks.{maxTick};
 ghost use Rattle.octets.specs.Eqs.{maxEqs};
 ghost use Rattle.ends.specs.Limits.{maxKeyNumber};
-ghost use Rattle.ends.specs.OnuTraffic.{onuMoved, onuReceiveChoice, onuReceiveVerdict, onuReceived, onuSendChoice, onuSendVerdict, onuSent};
+ghost use Rattle.ends.specs.OnuTraffic.{onuMoved, onuReceiveChoice, onuReceiveVerdict, onuAfterReceipt, onuSendChoice, onuSendVerdict, onuAfterSend};
 ghost use Rattle.ends.specs.Replies.{refuseIf};
 ghost use Rattle.ends.specs.Validity.{validOnu, validOnuKeys};
 ghost use Rattle.ends.specs.declared.KeyChoice.the-variants.{Next};
@@ -97,7 +97,7 @@ pub(crate) fn send_verdict(onu: Onu, misfit: bool, llid: u16, channel: u8) -> Ve
 pub(crate) fn after_send(onu: Onu, channel: u8, eqs: u64) -> Onu
     requires { ⌜ onu .tick ≤ maxTick ⌝ }
     requires { ⌜ eqs ≤ maxEqs ⌝ }
-    ensures { λ r. ⌜ r ≡ onuSent onu channel eqs ⌝ }
+    ensures { λ r. ⌜ r ≡ onuAfterSend onu channel eqs ⌝ }
 {
     let channels = carrying::occupied(onu.channels, channel, onu.tick, eqs);
     let mut r = onu;
@@ -185,7 +185,7 @@ fn moved(onu: Onu) -> Onu
 // The end that a receipt leaves, where it is accepted.
 pub(crate) fn after_receive(choice: KeyChoice, onu: Onu) -> Onu
     requires { ⌜ ((n : ℕ) → choice ≡ Next n → onu .keys .active < maxKeyNumber) ⌝ }
-    ensures { λ r. ⌜ r ≡ onuReceived choice onu ⌝ }
+    ensures { λ r. ⌜ r ≡ onuAfterReceipt choice onu ⌝ }
 {
     match choice {
         KeyChoice::Clear => onu,

@@ -5,10 +5,11 @@ ghost use Prim.Native.Nat.{_≤_};
 ghost use lib.ListN.{length};
 ghost use Rattle.refusal.specs.declared.Verdict.the-variants.{Accepted};
 ghost use Rattle.clock.specs.Ticks.{maxTick};
-ghost use Rattle.envelope.specs.Acceptance.{judgeSeal, lengthsFit};
+ghost use Rattle.envelope.specs.Acceptance.{sealVerdict, lengthsFit};
 ghost use Rattle.octets.specs.Eqs.{maxEqs};
+ghost use Rattle.octets.specs.Output.{withOutput};
 ghost use Rattle.ends.specs.Occupancy.{occupied};
-ghost use Rattle.traffic.specs.Passages.{exchange, isEnciphered, nonceOf, passed, passedCount};
+ghost use Rattle.traffic.specs.Passages.{choiceEnciphered, passageNonce, passed, passedCount};
 use ends::Channels;
 use ends::KeyChoice;
 use ends::Passage;
@@ -46,7 +47,7 @@ pub(crate) fn occupied(channels: Channels, channel: u8, tick: u64, eqs: u64) -> 
 }
 
 fn is_enciphered(choice: KeyChoice) -> bool
-    ensures { λ r. ⌜ r ≡ isEnciphered choice ⌝ }
+    ensures { λ r. ⌜ r ≡ choiceEnciphered choice ⌝ }
 {
     match choice {
         KeyChoice::Clear => false,
@@ -58,8 +59,8 @@ fn is_enciphered(choice: KeyChoice) -> bool
 
 // Seals or opens the payload, and gives the octets enciphered.
 pub(crate) fn carry(passage: Passage, channel: u8, payload: &[u8], output: &mut [u8]) -> u64
-    requires { ⌜ judgeSeal (length (now payload)) (length (now output)) (nonceOf channel passage) ≡ Accepted ⌝ }
-    ensures { λ r. ⌜ exchange r (now (output .exit)) ≡ exchange (passedCount passage (now (payload .entry))) (passed channel passage (now (payload .entry))) ⌝ }
+    requires { ⌜ sealVerdict (length (now payload)) (length (now output)) (passageNonce channel passage) ≡ Accepted ⌝ }
+    ensures { λ r. ⌜ withOutput r (now (output .exit)) ≡ withOutput (passedCount passage (now (payload .entry))) (passed channel passage (now (payload .entry))) ⌝ }
 {
     let choice = passage.choice;
     let enciphered = is_enciphered(choice);

@@ -5,7 +5,7 @@ mod at_onu;
 mod carrying;
 
 ghost use mathlib.Core.Path.{_≡_};
-ghost use Rattle.traffic.specs.Passages.{exchange};
+ghost use Rattle.octets.specs.Output.{withOutput};
 ghost use Rattle.traffic.specs.Receipts.{oltReceiveOf, onuReceiveOf};
 ghost use Rattle.traffic.specs.Sends.{oltSendOf, onuSendOf};
 use ends::Header;
@@ -47,7 +47,7 @@ pub struct OnuReceived {
 }
 
 pub fn olt_send(olt: Olt, llid: u16, channel: u8, payload: &[u8], output: &mut [u8]) -> OltSent
-    ensures { λ r. ⌜ exchange r (now (output .exit)) ≡ oltSendOf olt llid channel (now (payload .entry)) (now (output .entry)) ⌝ }
+    ensures { λ r. ⌜ withOutput r (now (output .exit)) ≡ oltSendOf olt llid channel (now (payload .entry)) (now (output .entry)) ⌝ }
 {
     let ahead = at_olt::send_ahead(payload.len(), output.len(), channel);
     let at = locate(olt, ahead, llid);
@@ -58,7 +58,7 @@ pub fn olt_send(olt: Olt, llid: u16, channel: u8, payload: &[u8], output: &mut [
 }
 
 pub fn olt_receive(olt: Olt, header: Header, octets: &[u8], output: &mut [u8]) -> OltReceived
-    ensures { λ r. ⌜ exchange r (now (output .exit)) ≡ oltReceiveOf olt header (now (octets .entry)) (now (output .entry)) ⌝ }
+    ensures { λ r. ⌜ withOutput r (now (output .exit)) ≡ oltReceiveOf olt header (now (octets .entry)) (now (output .entry)) ⌝ }
 {
     let ahead = at_olt::receive_ahead(octets.len(), output.len(), header);
     let at = locate(olt, ahead, header.llid);
@@ -69,7 +69,7 @@ pub fn olt_receive(olt: Olt, header: Header, octets: &[u8], output: &mut [u8]) -
 }
 
 pub fn onu_send(onu: Onu, llid: u16, channel: u8, payload: &[u8], output: &mut [u8]) -> OnuSent
-    ensures { λ r. ⌜ exchange r (now (output .exit)) ≡ onuSendOf onu llid channel (now (payload .entry)) (now (output .entry)) ⌝ }
+    ensures { λ r. ⌜ withOutput r (now (output .exit)) ≡ onuSendOf onu llid channel (now (payload .entry)) (now (output .entry)) ⌝ }
 {
     let misfit = carrying::misfit(payload.len(), output.len());
     let verdict = at_onu::send_verdict(onu, misfit, llid, channel);
@@ -95,7 +95,7 @@ pub fn onu_send(onu: Onu, llid: u16, channel: u8, payload: &[u8], output: &mut [
 }
 
 pub fn onu_receive(onu: Onu, header: Header, octets: &[u8], output: &mut [u8]) -> OnuReceived
-    ensures { λ r. ⌜ exchange r (now (output .exit)) ≡ onuReceiveOf onu header (now (octets .entry)) (now (output .entry)) ⌝ }
+    ensures { λ r. ⌜ withOutput r (now (output .exit)) ≡ onuReceiveOf onu header (now (octets .entry)) (now (output .entry)) ⌝ }
 {
     let misfit = carrying::misfit(octets.len(), output.len());
     let verdict = at_onu::receive_verdict(onu, misfit, header);

@@ -8,7 +8,7 @@ ghost use Rattle.refusal.specs.declared.Verdict.the-variants.{Accepted};
 ghost use Rattle.ends.specs.Messages.{clockKind, keyKind};
 ghost use Rattle.ends.specs.Replies.{isUp, refuseIf};
 ghost use Rattle.ends.specs.Records.{withClock};
-ghost use Rattle.ends.specs.UnitCalls.{acknowledgeUnit, clockCaptured, clockMessageOf, clockMessageSent, clockSendVerdict, keyMessageOf, offerVerdict, retryVerdict};
+ghost use Rattle.ends.specs.UnitCalls.{acknowledgeUnit, clockCaptured, clockMessageOf, clockAfterSend, clockSendVerdict, keyMessageOf, offerVerdict, retryVerdict};
 use crate::ticks::since;
 use clock::Stamps;
 use ends::Acknowledgement;
@@ -57,7 +57,7 @@ pub fn clock_message(shared: Shared, clock: UnitClock) -> Stamps
 }
 
 pub fn clock_sent(unit: UnitRecord) -> UnitRecord
-    ensures { λ r. ⌜ r ≡ withClock unit (clockMessageSent (unit .clock)) ⌝ }
+    ensures { λ r. ⌜ r ≡ withClock unit (clockAfterSend (unit .clock)) ⌝ }
 {
     let mut r = unit;
     r.clock.sent = 1;

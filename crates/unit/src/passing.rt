@@ -2,7 +2,7 @@
 ghost use mathlib.Core.Path.{_≡_};
 ghost use Rattle.refusal.specs.declared.Refusal.the-variants.{ChannelTaken, KeyTooOld};
 ghost use Rattle.refusal.specs.declared.Verdict.the-variants.{Accepted};
-ghost use Rattle.ends.specs.Headers.{choiceAged, choiceNumber, choiceVerdict, headerOf, keyFor, passageOf, sendingOf, validHeader};
+ghost use Rattle.ends.specs.Headers.{choiceAged, choiceNumber, choiceVerdict, envelopeHeader, keyFor, passageOf, sendingOf, validHeader};
 ghost use Rattle.ends.specs.Keys.{aged, firstSend};
 ghost use Rattle.ends.specs.Occupancy.{taken};
 ghost use Rattle.ends.specs.Replies.{refuseIf};
@@ -109,7 +109,7 @@ fn choice_number(choice: KeyChoice) -> u32
 }
 
 fn header_of(choice: KeyChoice, channel: u8, llid: u16, clock: u64) -> Header
-    ensures { λ r. ⌜ r ≡ headerOf (choiceNumber choice) channel llid clock ⌝ }
+    ensures { λ r. ⌜ r ≡ envelopeHeader (choiceNumber choice) channel llid clock ⌝ }
 {
     let n = choice_number(choice);
     let enckey = (n % 2) as u8;

@@ -2,7 +2,7 @@
 ghost use mathlib.Core.Path.{_≡_};
 ghost use Rattle.ends.specs.Headers.{passageOf, sendingOf};
 ghost use Rattle.ends.specs.Records.{withKeys};
-ghost use Rattle.ends.specs.UnitTraffic.{keysSent, keysSwitched, switches, unitConfirmed, unitReceiveChoice, unitReceiveVerdict, unitReceived, unitSendChoice, unitSendVerdict};
+ghost use Rattle.ends.specs.UnitTraffic.{keysAfterSend, keysSwitched, switches, unitConfirmed, unitReceiveChoice, unitReceiveVerdict, unitAfterReceipt, unitSendChoice, unitSendVerdict};
 use crate::passing;
 use clock::epam_of;
 use ends::Header;
@@ -62,7 +62,7 @@ fn keys_switched(keys: UnitKeys, tick: u64) -> UnitKeys
 }
 
 fn keys_sent(choice: KeyChoice, keys: UnitKeys, tick: u64) -> UnitKeys
-    ensures { λ r. ⌜ r ≡ keysSent choice keys tick ⌝ }
+    ensures { λ r. ⌜ r ≡ keysAfterSend choice keys tick ⌝ }
 {
     match choice {
         KeyChoice::Clear => keys,
@@ -78,7 +78,7 @@ fn keys_sent(choice: KeyChoice, keys: UnitKeys, tick: u64) -> UnitKeys
 }
 
 pub fn unit_sent(unit: UnitRecord, tick: u64) -> UnitRecord
-    ensures { λ r. ⌜ r ≡ withKeys unit (keysSent (unitSendChoice unit) (unit .keys) tick) ⌝ }
+    ensures { λ r. ⌜ r ≡ withKeys unit (keysAfterSend (unitSendChoice unit) (unit .keys) tick) ⌝ }
 {
     let keys = keys_sent(send_choice(unit), unit.keys, tick);
     let mut r = unit;
@@ -144,7 +144,7 @@ fn confirmed(unit: UnitRecord) -> UnitRecord
 }
 
 pub fn unit_received(unit: UnitRecord, header: Header) -> UnitRecord
-    ensures { λ r. ⌜ r ≡ unitReceived (unitReceiveChoice unit header) unit ⌝ }
+    ensures { λ r. ⌜ r ≡ unitAfterReceipt (unitReceiveChoice unit header) unit ⌝ }
 {
     let choice = receive_choice(unit, header);
     match choice {

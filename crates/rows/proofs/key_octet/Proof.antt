@@ -5,7 +5,7 @@ use native.Mathlib.Omega.{arith}
 use borrow.Author.Tests.{eq-eqb, ne-eqb}
 use Rattle.octets.proofs.Bits.{bit-below}
 use Rattle.octets.proofs.Choice.{pick-true, pick-false}
-use Rattle.records.specs.Verdict.{isEnciphered, encKey}
+use Rattle.records.specs.Verdict.{encEnabled, encKey}
 use Rattle.rows.specs.Text.{keyOctet}
 use borrow.Author.Needs.{needs}
 use Rattle.rows.proofs.key_octet.Statement.{statement}
@@ -15,7 +15,7 @@ bit-requires : tie.Need-bit-requires
 bit-requires c κs = search needs
 
 returns : tie.Need-returns
-unfolding keyOctet isEnciphered
+unfolding keyOctet encEnabled
 returns c = sym (pick-false _ _ (ne-eqb _ _ (λ e. c .if1 .taken (c .before .bit .ensures ∙ e))))
 
 bit-requires-2 : tie.Need-bit-requires-2
@@ -25,7 +25,7 @@ add-result : tie.Need-add-result
 add-result c = omega (arith, c .bit2 .ensures, bit-below (c .before .before .before .args .h .flags) 1)
 
 returns-2 : tie.Need-returns-2
-unfolding keyOctet isEnciphered encKey
+unfolding keyOctet encEnabled encKey
 returns-2 c =
     rw (c .bit2 .ensures) (sym (pick-true _ _ (eq-eqb _ _ (sym (c .before .before .bit .ensures) ∙ c .before .if1 .left))))
 

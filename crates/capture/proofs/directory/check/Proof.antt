@@ -50,18 +50,18 @@ loop-holds c =
     let q = c .count .ensures .0 in
     (search needs, rw q, omega (arith, q, s .pairs), rw (e, q) (pick-true _ _ (sym (c .before .before .is-size-right .ensures) ∙ not-false _ (c .before .if1 .left))))
 
-judge-requires : tie.Need-judge-requires Inv-loop μ-loop
-judge-requires c κs =
+pair-of-requires : tie.Need-pair-of-requires Inv-loop μ-loop
+pair-of-requires c κs =
     let q = c .before .before .count .ensures .0 in
     let s = sizes (c .before .before .before) in
     record { count = q; inside = omega (arith, q, s .pairs); before = c .loop-test .taken; place = c .before .loop .inv .1 }
 
 -- what the verdict on pair i makes of the whole
-seen : (c : tie.After-judge Inv-loop μ-loop)
+seen : (c : tie.After-pair-of Inv-loop μ-loop)
     → directoryOf (now (c .before .before .before .before .before .before .before .args .block))
-    ≡ withPair (c .judge .result) (c .before .before .loop .i + 1)
+    ≡ withPair (c .pair-of .result) (c .before .before .loop .i + 1)
     (pairsFrom (now (c .before .before .before .before .before .before .before .args .block)) (c .before .before .loop .i + 1) (c .before .before .before .count .result - (c .before .before .loop .i + 1)))
-seen c = c .before .before .loop .inv .3 ∙ pairs-at _ _ _ (c .before .loop-test .taken) ∙ rw (c .judge .ensures)
+seen c = c .before .before .loop .inv .3 ∙ pairs-at _ _ _ (c .before .loop-test .taken) ∙ rw (c .pair-of .ensures)
 
 -- where pair i fits, its record ends where the next is due
 next : (c : tie.After-length-of Inv-loop μ-loop)
@@ -69,7 +69,7 @@ next : (c : tie.After-length-of Inv-loop μ-loop)
     ≡ dueOf (now (c .before .before .before .before .before .before .before .before .before .before .args .block)) (c .before .before .before .before .before .loop .i + 1))
     × (c .before .before .before .before .before .loop .due + c .length-of .result ≤ length (now (c .before .before .before .before .before .before .before .before .before .before .args .block)))
 next c =
-    next-due _ _ _ _ (sym (c .before .before .before .judge .ensures) ∙ c .before .enum-told .given .1) (c .before .before .before .before .before .loop .inv .1) (c .length-of .ensures .0)
+    next-due _ _ _ _ (sym (c .before .before .before .pair-of .ensures) ∙ c .before .enum-told .given .1) (c .before .before .before .before .before .loop .inv .1) (c .length-of .ensures .0)
 
 enum-told : tie.Need-enum-told Inv-loop μ-loop
 enum-told c = search needs
@@ -133,7 +133,7 @@ check-spec =
     mul-due
     add-due
     loop-holds
-    judge-requires
+    pair-of-requires
     enum-told
     enum-told-2
     add-t10

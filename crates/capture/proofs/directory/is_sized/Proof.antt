@@ -3,7 +3,7 @@
 use borrow.Author.Needs.{needs}
 use borrow.Author.Tests.{lt-leb, le-leb}
 use Rattle.octets.specs.Choice.{both}
-use Rattle.records.specs.Record.{sized, headerOf}
+use Rattle.records.specs.Record.{sized, recordHeader}
 use Rattle.capture.proofs.directory.is_sized.Statement.{statement}
 use Rattle.capture.proofs.directory.is_sized.Tie as tie
 
@@ -21,7 +21,7 @@ add-result : tie.Need-add-result
 add-result c = search needs
 
 returns-2 : tie.Need-returns-2
-unfolding sized both headerOf
+unfolding sized both recordHeader
 returns-2 c = rw (le-leb _ _ (c .before .if1 .left), c .number32 .ensures .0)
 
 pub is-sized-spec : {M : Type 1} → statement M

@@ -1,7 +1,7 @@
 -- `capture::header::read` meets its contract: each field is read at its place.
 -- Assumes nothing.
 use borrow.Author.Needs.{needs}
-use Rattle.records.specs.Record.{headerOf}
+use Rattle.records.specs.Record.{recordHeader}
 use Rattle.capture.proofs.header.read.Statement.{statement}
 use Rattle.capture.proofs.header.read.Tie as tie
 
@@ -27,7 +27,7 @@ number32-requires : tie.Need-number32-requires
 number32-requires c κs = search needs
 
 returns : tie.Need-returns
-unfolding headerOf
+unfolding recordHeader
 returns c =
     (rw (c .before .before .before .before .number16 .ensures .0, c .before .number48 .ensures .0, c .number32 .ensures .0), c .before .number48 .ensures .1)
 

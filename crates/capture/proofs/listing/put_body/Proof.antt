@@ -14,8 +14,8 @@ use borrow.Author.Needs.{needs}
 use Rattle.capture.proofs.listing.put_body.Statement.{statement}
 use Rattle.capture.proofs.listing.put_body.Tie as tie
 
-judge-call-requires : tie.Need-judge-call-requires
-judge-call-requires c κs = search needs
+open-verdict-requires : tie.Need-open-verdict-requires
+open-verdict-requires c κs = search needs
 
 enum-known-refusal : tie.Need-enum-known-refusal
 enum-known-refusal c = search needs
@@ -31,7 +31,7 @@ enum-told c = search needs
 
 can-call : (c : tie.After-enum-told)
     → Callable (now (c .before .before .before .before .before .before .args .settings)) (now (c .before .before .before .before .before .before .args .block)) (length (now (c .before .before .before .before .before .before .args .block)))
-can-call c = callable _ _ _ (sym (c .before .before .judge-call .ensures) ∙ c .enum-told .given .1)
+can-call c = callable _ _ _ (sym (c .before .before .open-verdict .ensures) ∙ c .enum-told .given .1)
 
 count-requires : tie.Need-count-requires
 count-requires c κs = good _ _ (can-call (c .before) .good) .sizes .some
@@ -49,7 +49,7 @@ unfolding bodyOf
 returns c =
     let q = c .before .before .put-line .ensures in
     let g = c .before .before .before .before .before .before .before .before .before .before .before .before in
-    let e = sym (c .before .before .before .before .before .before .before .before .judge-call .ensures) ∙ c .before .before .before .before .before .before .refusal .given .1 in (
+    let e = sym (c .before .before .before .before .before .before .before .before .open-verdict .ensures) ∙ c .before .before .before .before .before .before .refusal .given .1 in (
       (q .0 .0, omega (arith, q .0 .1)),
       (q .1 .0 ∙ rw e (ap (λ (t : List ℕ). take (g .args .at) (now (g .args .text)) ++ t) (c .before .before .before .refused-row .ensures .0)), q .1 .1),
     )
@@ -60,7 +60,7 @@ same-length-2 c = search needs
 returns-2 : tie.Need-returns-2
 unfolding bodyOf
 returns-2 c =
-    let e = sym (c .before .before .before .before .before .before .before .judge-call .ensures) ∙ c .before .before .before .before .before .enum-told .given .1 in
+    let e = sym (c .before .before .before .before .before .before .before .open-verdict .ensures) ∙ c .before .before .before .before .before .enum-told .given .1 in
     let q = c .before .before .put-rows .ensures in
     (q .0, (q .1 .0 ∙ rw (e, c .before .before .before .count .ensures .0), q .1 .1))
 
@@ -68,7 +68,7 @@ pub put-body-spec : {M : Type 1} → statement M
 put-body-spec =
     tie.close
     (tie.spec
-    judge-call-requires
+    open-verdict-requires
     enum-known-refusal
     refused-row-requires
     put-line-requires

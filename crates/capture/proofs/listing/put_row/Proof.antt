@@ -15,8 +15,8 @@ header-of-requires c κs = search needs
 add-row : tie.Need-add-row
 add-row c = search needs
 
-judge-for-requires : tie.Need-judge-for-requires
-judge-for-requires c κs = search needs
+verdict-for-requires : tie.Need-verdict-for-requires
+verdict-for-requires c κs = search needs
 
 row-requires : tie.Need-row-requires
 row-requires c κs = search needs
@@ -34,7 +34,7 @@ returns c =
       (
         c .before .before .put-line .ensures .1 .0
             ∙ ap (λ (t : List ℕ). take (g .args .at) (now (g .args .text)) ++ t)
-            (c .before .before .before .row .ensures .0 ∙ rw (c .before .before .before .before .judge-for .ensures, c .before .before .before .before .before .before .header-of .ensures .0)),
+            (c .before .before .before .row .ensures .0 ∙ rw (c .before .before .before .before .verdict-for .ensures, c .before .before .before .before .before .before .header-of .ensures .0)),
         c .before .before .put-line .ensures .1 .1,
       ),
     )
@@ -45,7 +45,7 @@ put-row-spec =
     (tie.spec
     header-of-requires
     add-row
-    judge-for-requires
+    verdict-for-requires
     row-requires
     put-line-requires
     same-length

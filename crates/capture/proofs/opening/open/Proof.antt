@@ -6,18 +6,19 @@ use Prim.Native.Nat.{ℕ}
 use lib.ListN.{length}
 use borrow.Author.Needs.{needs}
 use denote.Ref.{now}
+use Rattle.octets.specs.Output.{withOutput}
 use Rattle.refusal.specs.declared.Verdict.the-variants.{Accepted}
 use Rattle.capture.specs.declared.directory.Directory.the-variants.{Good}
 use Rattle.capture.specs.declared.opening.OpenAnswer.the-variants.{Done}
-use Rattle.capture.specs.Opening.{openVerdict, outcome}
+use Rattle.capture.specs.Opening.{openVerdict}
 use Rattle.capture.proofs.Records.{good}
 use Rattle.capture.proofs.Openings.{Callable, callable, opening-refused, opening-done}
 use Rattle.capture.proofs.Reopening.{opened}
 use Rattle.capture.proofs.opening.open.Statement.{statement}
 use Rattle.capture.proofs.opening.open.Tie as tie
 
-judge-call-requires : tie.Need-judge-call-requires
-judge-call-requires c κs = search needs
+open-verdict-requires : tie.Need-open-verdict-requires
+open-verdict-requires c κs = search needs
 
 enum-known-refusal : tie.Need-enum-known-refusal
 enum-known-refusal c = search needs
@@ -27,7 +28,7 @@ enum-told c = search needs
 
 judged : (c : tie.After-enum-told)
     → openVerdict (now (c .before .before .before .before .before .before .args .settings)) (now (c .before .before .before .before .before .before .args .block)) (length (now (c .before .before .before .before .before .before .args .output))) ≡ Accepted
-judged c = sym (c .before .before .judge-call .ensures) ∙ c .enum-told .given .1
+judged c = sym (c .before .before .open-verdict .ensures) ∙ c .enum-told .given .1
 
 can-call : (c : tie.After-enum-told)
     → Callable (now (c .before .before .before .before .before .before .args .settings)) (now (c .before .before .before .before .before .before .args .block)) (length (now (c .before .before .before .before .before .before .args .output)))
@@ -54,7 +55,7 @@ open-records-requires c κs =
 
 returns : tie.Need-returns
 returns c =
-    (opening-refused _ _ _ _ (sym (c .before .before .before .judge-call .ensures) ∙ c .before .refusal .given .1), opened _ _ _)
+    (opening-refused _ _ _ _ (sym (c .before .before .before .open-verdict .ensures) ∙ c .before .refusal .given .1), opened _ _ _)
 
 same-length : tie.Need-same-length
 same-length c = search needs
@@ -62,7 +63,7 @@ same-length c = search needs
 returns-2 : tie.Need-returns-2
 returns-2 c =
     let g = c .before .before .before .before .before .before .before .before .before .before .before .before .before .before .before .before in (
-      ap₂ (λ (n : ℕ) (o : List ℕ). outcome (Done n) o) (c .before .before .open-records .ensures .0) (c .before .before .open-records .ensures .1)
+      ap₂ (λ (n : ℕ) (o : List ℕ). withOutput (Done n) o) (c .before .before .open-records .ensures .0) (c .before .before .open-records .ensures .1)
           ∙ opening-done (now (g .args .settings)) (now (g .args .block)) (now (g .args .output)) (judged (c .before .before .before .before .before .before .before .before .before .before)),
       opened _ _ _,
     )
@@ -71,7 +72,7 @@ pub open-spec : {M : Type 1} → statement M
 open-spec =
     tie.close
     (tie.spec
-    judge-call-requires
+    open-verdict-requires
     enum-known-refusal
     enum-told
     expand-keys-requires

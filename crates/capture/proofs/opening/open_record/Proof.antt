@@ -10,7 +10,7 @@ use Rattle.sealing.specs.declared.aes128.RoundKeys.{RoundKeys}
 use Rattle.records.specs.declared.header.Header.{Header}
 use Rattle.records.specs.declared.header.RecordVerdict.the-variants.{Sealed}
 use Rattle.records.specs.Settings.{presenceOf, llidOf}
-use Rattle.records.specs.Record.{headerOf}
+use Rattle.records.specs.Record.{recordHeader}
 use Rattle.records.specs.Verdict.{encKey, headerFits, verdictFor, verdictOf}
 use Rattle.capture.specs.Directory.{recordOf}
 use Rattle.records.proofs.Verdicts.{Openable, openable}
@@ -21,13 +21,13 @@ use Rattle.capture.proofs.opening.open_record.Tie as tie
 header-of-requires : tie.Need-header-of-requires
 header-of-requires c κs = search needs
 
-judge-for-requires : tie.Need-judge-for-requires
-judge-for-requires c κs = search needs
+verdict-for-requires : tie.Need-verdict-for-requires
+verdict-for-requires c κs = search needs
 
 -- the verdict is the record's
-verdict-is : (c : tie.After-judge-for)
-    → c .judge-for .result ≡ verdictOf (now (c .before .before .before .before .before .args .settings)) (recordOf (now (c .before .before .before .before .before .args .block)) (c .before .before .before .before .before .args .i))
-verdict-is c = c .judge-for .ensures ∙ rw (c .before .header-of .ensures .0)
+verdict-is : (c : tie.After-verdict-for)
+    → c .verdict-for .result ≡ verdictOf (now (c .before .before .before .before .before .args .settings)) (recordOf (now (c .before .before .before .before .before .args .block)) (c .before .before .before .before .before .args .i))
+verdict-is c = c .verdict-for .ensures ∙ rw (c .before .header-of .ensures .0)
 
 enum-told : tie.Need-enum-told
 enum-told c = search needs
@@ -56,7 +56,7 @@ sealed-is : (c : tie.After-index)
 sealed-is c = sym (verdict-is (c .before .before)) ∙ c .index .given .1
 
 is-openable : (c : tie.After-index)
-    → Openable (presenceOf (now (start c .args .settings))) (llidOf (now (start c .args .settings))) (headerOf (recordOf (now (start c .args .block)) (start c .args .i))) (c .index .given .0 .0) (c .index .given .0 .1 .0)
+    → Openable (presenceOf (now (start c .args .settings))) (llidOf (now (start c .args .settings))) (recordHeader (recordOf (now (start c .args .block)) (start c .args .i))) (c .index .given .0 .0) (c .index .given .0 .1 .0)
 unfolding verdictFor
 is-openable c = openable _ _ _ _ _ (sealed-is c)
 
@@ -98,7 +98,7 @@ returns-3 c =
     let d = x .before .before .before in
     let op = is-openable x in
     let j = x .index .given .0 .0 in
-    let k = key-expanded _ _ j (g .pre .expanded) (op .present) (omega (arith, op .index, bit-below (headerOf (recordOf (now (g .args .block)) (g .args .i)) .flags) 1)) in (
+    let k = key-expanded _ _ j (g .pre .expanded) (op .present) (omega (arith, op .index, bit-below (recordHeader (recordOf (now (g .args .block)) (g .args .i)) .flags) 1)) in (
       q .open-part .ensures .0 ∙ opened-count _ _ j _ (sealed-is x),
       q .open-part .ensures .1
           ∙ opened-by (now (g .args .settings)) (now (g .args .block)) (now (g .args .output)) (g .args .i) (g .pre .same) (g .pre .placed) j _ _ _ (d .header-of .result) _ (sealed-is x) (d .header-of .ensures .0) (c .before .before .before .before .before .cleared .ensures) (c .before .before .before .before .before .before .mac .ensures .0) (ap (λ (w : RoundKeys). w .octets) (c .before .before .before .before .key-for .ensures) ∙ k),
@@ -109,7 +109,7 @@ open-record-spec =
     tie.close
     (tie.spec
     header-of-requires
-    judge-for-requires
+    verdict-for-requires
     enum-told
     enum-told-2
     enum-known-index

@@ -11,14 +11,14 @@ use Rattle.capture.proofs.Records.{Asked, asked-for, placed}
 use Rattle.capture.proofs.payload.locate.Statement.{statement}
 use Rattle.capture.proofs.payload.locate.Tie as tie
 
-verdict-requires : tie.Need-verdict-requires
-verdict-requires c κs = search needs
+payload-verdict-requires : tie.Need-payload-verdict-requires
+payload-verdict-requires c κs = search needs
 
 enum-told : tie.Need-enum-told
 enum-told c = search needs
 
 is-asked : (c : tie.After-enum-told) → Asked (now (c .before .before .before .before .args .block)) (c .before .before .before .before .args .k)
-is-asked c = asked-for _ _ (sym (c .before .before .verdict .ensures) ∙ c .enum-told .given .1)
+is-asked c = asked-for _ _ (sym (c .before .before .payload-verdict .ensures) ∙ c .enum-told .given .1)
 
 is-placed : (c : tie.After-enum-told) → Placed (now (c .before .before .before .before .args .block)) (c .before .before .before .before .args .k - 1)
 is-placed c =
@@ -46,17 +46,17 @@ enum-known-refusal c = search needs
 returns : tie.Need-returns
 unfolding payloadBounds boundsOf
 returns c =
-    rw (← c .before .before .before .before .verdict .ensures, c .before .before .enum-told .given .1, c .before .offset .ensures .0, c .length-of .ensures .0)
+    rw (← c .before .before .before .before .payload-verdict .ensures, c .before .before .enum-told .given .1, c .before .offset .ensures .0, c .length-of .ensures .0)
 
 returns-2 : tie.Need-returns-2
 unfolding payloadBounds
-returns-2 c = rw (← c .before .before .before .verdict .ensures, c .before .refusal .given .1)
+returns-2 c = rw (← c .before .before .before .payload-verdict .ensures, c .before .refusal .given .1)
 
 pub locate-spec : {M : Type 1} → statement M
 locate-spec =
     tie.close
     (tie.spec
-    verdict-requires
+    payload-verdict-requires
     enum-told
     sub-i
     offset-requires

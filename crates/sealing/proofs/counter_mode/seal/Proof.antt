@@ -1,13 +1,13 @@
 -- `sealing::counter_mode::seal` meets its contract: as with an expanded key, and the key is expanded.
 -- Assumes nothing.
 use Prim.Native.Nat.{ℕ}
+use Rattle.octets.specs.Output.{withOutput}
 use Rattle.refusal.specs.declared.Verdict.the-variants.{Accepted}
 use Rattle.envelope.proofs.Acceptance.{accepted, lengths-fit}
 use Rattle.sealing.proofs.Seal.{sealing-refused, sealing-done, sealing-clear}
 use Rattle.sealing.specs.KeyExpansion.{keyExpansion}
 use Rattle.sealing.specs.Payload.{sealed}
-use Rattle.envelope.specs.Acceptance.{judgeSeal}
-use Rattle.sealing.specs.Seal.{outcome}
+use Rattle.envelope.specs.Acceptance.{sealVerdict}
 use Rattle.envelope.specs.declared.SealAnswer.the-variants.{Done}
 use borrow.Author.Needs.{needs}
 use lib.ListN.{length}
@@ -17,11 +17,11 @@ use Rattle.sealing.proofs.counter_mode.seal.Statement.{statement}
 use Rattle.sealing.proofs.counter_mode.seal.Tie as tie
 
 -- the call was accepted
-judged : (c : tie.After-enum-told) → judgeSeal (length (c .before .before .before .before .before .args .input .now)) (length (c .before .before .before .before .before .args .output .now)) (c .before .before .before .before .before .args .nonce) ≡ Accepted
-judged c = sym (c .before .before .judge .ensures) ∙ c .enum-told .given .1
+judged : (c : tie.After-enum-told) → sealVerdict (length (c .before .before .before .before .before .args .input .now)) (length (c .before .before .before .before .before .args .output .now)) (c .before .before .before .before .before .args .nonce) ≡ Accepted
+judged c = sym (c .before .before .seal-verdict .ensures) ∙ c .enum-told .given .1
 
-judge-requires : tie.Need-judge-requires
-judge-requires c κs = search needs
+seal-verdict-requires : tie.Need-seal-verdict-requires
+seal-verdict-requires c κs = search needs
 
 enum-known-verdict : tie.Need-enum-known-verdict
 enum-known-verdict c = search needs
@@ -52,7 +52,7 @@ same-length c = search needs
 returns : tie.Need-returns
 returns c =
     let a = c .before .before .before .before .before .before .before .before .before .before .before .before .before .before .before .before .before .args in
-    ap₂ (λ (n : ℕ) (o : List ℕ). outcome (Done n) o) (c .count .ensures)
+    ap₂ (λ (n : ℕ) (o : List ℕ). withOutput (Done n) o) (c .count .ensures)
     (c .before .before .before .seal-blocks .ensures ∙ ap (λ (k : List ℕ). sealed k (a .nonce) (a .input .now)) (c .before .before .before .before .before .before .before .expand-with .ensures))
     ∙ sealing-done (keyExpansion (a .key)) (a .nonce) (a .input .now) (a .output .now) (a .enciphered) (c .before .before .before .before .before .before .before .before .before .before .before .if1 .taken) (judged (c .before .before .before .before .before .before .before .before .before .before .before .before))
 
@@ -62,7 +62,7 @@ copy-requires c κs = lengths-fit _ _ (accepted _ _ _ (judged (c .before .before
 returns-2 : tie.Need-returns-2
 returns-2 c =
     let a = c .before .before .before .before .before .before .args in
-    sealing-refused (keyExpansion (a .key)) (a .nonce) (a .input .now) (a .output .now) (a .enciphered) _ (sym (c .before .before .before .judge .ensures) ∙ c .before .verdict .given .1)
+    sealing-refused (keyExpansion (a .key)) (a .nonce) (a .input .now) (a .output .now) (a .enciphered) _ (sym (c .before .before .before .seal-verdict .ensures) ∙ c .before .verdict .given .1)
 
 same-length-2 : tie.Need-same-length-2
 same-length-2 c = search needs
@@ -70,14 +70,14 @@ same-length-2 c = search needs
 returns-3 : tie.Need-returns-3
 returns-3 c =
     let a = c .before .before .before .before .before .before .before .before .before .before .args in
-    ap (λ (o : List ℕ). outcome (Done 0) o) (c .before .before .copy .ensures)
+    ap (λ (o : List ℕ). withOutput (Done 0) o) (c .before .before .copy .ensures)
     ∙ sealing-clear (keyExpansion (a .key)) (a .nonce) (a .input .now) (a .output .now) (a .enciphered) (c .before .before .before .before .if1 .left) (judged (c .before .before .before .before .before))
 
 pub seal-spec : {M : Type 1} → statement M
 seal-spec =
     tie.close
     (tie.spec
-    judge-requires
+    seal-verdict-requires
     enum-known-verdict
     enum-told
     sbox-table-requires

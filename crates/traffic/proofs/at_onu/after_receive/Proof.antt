@@ -1,6 +1,6 @@
 -- `traffic::at_onu::after_receive` meets its contract: by the choice.
 -- Assumes nothing.
-use Rattle.ends.specs.OnuTraffic.{onuReceived}
+use Rattle.ends.specs.OnuTraffic.{onuAfterReceipt}
 use borrow.Author.Needs.{needs}
 use Rattle.traffic.proofs.at_onu.after_receive.Statement.{statement}
 use Rattle.traffic.proofs.at_onu.after_receive.Tie as tie
@@ -21,19 +21,19 @@ enum-told-4 : tie.Need-enum-told-4
 enum-told-4 c = search needs
 
 returns : tie.Need-returns
-unfolding onuReceived
+unfolding onuAfterReceipt
 returns c = rw (c .enum-told .given .1)
 
 returns-2 : tie.Need-returns-2
-unfolding onuReceived
+unfolding onuAfterReceipt
 returns-2 c = rw (c .enum-told2 .given .1)
 
 returns-3 : tie.Need-returns-3
-unfolding onuReceived
+unfolding onuAfterReceipt
 returns-3 c = rw (c .before .enum-told3 .given .1) (c .moved .ensures)
 
 returns-4 : tie.Need-returns-4
-unfolding onuReceived
+unfolding onuAfterReceipt
 returns-4 c = rw (c .enum-told4 .given .1)
 
 pub after-receive-spec : {M : Type 1} → statement M

@@ -2,12 +2,12 @@
 -- Assumes nothing.
 use mathlib.Core.Path.{refl}
 use Rattle.ends.specs.Records.{withClock}
-use Rattle.ends.specs.UnitCalls.{clockMessageSent}
+use Rattle.ends.specs.UnitCalls.{clockAfterSend}
 use Rattle.unit.proofs.calls.clock_sent.Statement.{statement}
 use Rattle.unit.proofs.calls.clock_sent.Tie as tie
 
 returns : tie.Need-returns
-unfolding withClock clockMessageSent
+unfolding withClock clockAfterSend
 returns c = refl
 
 pub clock-sent-spec : {M : Type 1} → statement M

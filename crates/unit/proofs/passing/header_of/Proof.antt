@@ -3,7 +3,7 @@
 use mathlib.Core.Path.{sym}
 use borrow.Author.Tests.{eq-eqb, ne-eqb}
 use Rattle.octets.specs.Choice.{pick}
-use Rattle.ends.specs.Headers.{headerOf}
+use Rattle.ends.specs.Headers.{envelopeHeader}
 use borrow.Author.Needs.{needs}
 use Rattle.unit.proofs.passing.header_of.Statement.{statement}
 use Rattle.unit.proofs.passing.header_of.Tie as tie
@@ -18,11 +18,11 @@ epam-of-requires : tie.Need-epam-of-requires
 epam-of-requires c κs = search needs
 
 returns : tie.Need-returns
-unfolding headerOf pick
+unfolding envelopeHeader pick
 returns c = rw (sym (c .before .before .choice-number .ensures), eq-eqb _ _ (c .if1 .taken), c .before .epam-of .ensures)
 
 returns-2 : tie.Need-returns-2
-unfolding headerOf pick
+unfolding envelopeHeader pick
 returns-2 c = rw (sym (c .before .before .choice-number .ensures), ne-eqb _ _ (c .if1 .left), c .before .epam-of .ensures)
 
 pub header-of-spec : {M : Type 1} → statement M

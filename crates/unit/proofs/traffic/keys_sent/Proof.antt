@@ -1,7 +1,7 @@
 -- `unit::traffic::keys_sent` meets its contract: by the choice.
 -- Assumes nothing.
 use Rattle.ends.specs.Records.{withFirst}
-use Rattle.ends.specs.UnitTraffic.{keysSent}
+use Rattle.ends.specs.UnitTraffic.{keysAfterSend}
 use borrow.Author.Needs.{needs}
 use Rattle.unit.proofs.traffic.keys_sent.Statement.{statement}
 use Rattle.unit.proofs.traffic.keys_sent.Tie as tie
@@ -25,19 +25,19 @@ enum-told-4 : tie.Need-enum-told-4
 enum-told-4 c = search needs
 
 returns : tie.Need-returns
-unfolding keysSent
+unfolding keysAfterSend
 returns c = rw (c .enum-told .given .1)
 
 returns-2 : tie.Need-returns-2
-unfolding keysSent withFirst
+unfolding keysAfterSend withFirst
 returns-2 c = rw (c .before .enum-told2 .given .1, c .first-send .ensures)
 
 returns-3 : tie.Need-returns-3
-unfolding keysSent
+unfolding keysAfterSend
 returns-3 c = rw (c .before .enum-told3 .given .1) (c .keys-switched .ensures)
 
 returns-4 : tie.Need-returns-4
-unfolding keysSent
+unfolding keysAfterSend
 returns-4 c = rw (c .enum-told4 .given .1)
 
 pub keys-sent-spec : {M : Type 1} → statement M

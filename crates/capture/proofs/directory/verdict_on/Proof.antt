@@ -1,8 +1,8 @@
--- `capture::directory::verdict` meets its contract: a clause of `verdictOn` at each arm.
+-- `capture::directory::verdict_on` meets its contract: a clause of `verdictOn` at each arm.
 -- Assumes nothing.
 use borrow.Author.Needs.{needs}
-use Rattle.capture.proofs.directory.verdict.Statement.{statement}
-use Rattle.capture.proofs.directory.verdict.Tie as tie
+use Rattle.capture.proofs.directory.verdict_on.Statement.{statement}
+use Rattle.capture.proofs.directory.verdict_on.Tie as tie
 
 enum-told : tie.Need-enum-told
 enum-told c = search needs
@@ -28,7 +28,7 @@ returns-3 c = rw (c .enum-told3 .given .1)
 returns-4 : tie.Need-returns-4
 returns-4 c = rw (c .enum-told4 .given .1)
 
-pub verdict-spec : {M : Type 1} → statement M
-verdict-spec =
+pub verdict-on-spec : {M : Type 1} → statement M
+verdict-on-spec =
     tie.close
     (tie.spec enum-told enum-told-2 enum-told-3 enum-told-4 returns returns-2 returns-3 returns-4)

@@ -1,11 +1,11 @@
--- `records::settings::verdict` meets its contract: the tests of `settingsVerdict`, one after the other.
+-- `records::settings::settings_verdict` meets its contract: the tests of `settingsVerdict`, one after the other.
 -- Assumes nothing.
 use borrow.Author.Needs.{needs}
 use borrow.Author.Tests.{eq-eqb, ne-eqb, lt-ltb, le-ltb}
 use Rattle.octets.specs.Choice.{pick}
 use Rattle.records.specs.Settings.{presenceOf, settingsVerdict}
-use Rattle.records.proofs.settings.verdict.Statement.{statement}
-use Rattle.records.proofs.settings.verdict.Tie as tie
+use Rattle.records.proofs.settings.settings_verdict.Statement.{statement}
+use Rattle.records.proofs.settings.settings_verdict.Tie as tie
 
 returns : tie.Need-returns
 unfolding settingsVerdict pick
@@ -22,5 +22,5 @@ returns-3 : tie.Need-returns-3
 unfolding settingsVerdict presenceOf pick
 returns-3 c = rw (eq-eqb _ _ (c .before .before .if1 .left), lt-ltb _ _ (c .if2 .left))
 
-pub verdict-spec : {M : Type 1} → statement M
-verdict-spec = tie.close (tie.spec returns shared-slice-read-if2 returns-2 returns-3)
+pub settings-verdict-spec : {M : Type 1} → statement M
+settings-verdict-spec = tie.close (tie.spec returns shared-slice-read-if2 returns-2 returns-3)

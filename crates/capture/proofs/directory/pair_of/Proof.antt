@@ -1,4 +1,4 @@
--- `capture::directory::judge` meets its contract: what was read is the pair's offset and end, and each test that
+-- `capture::directory::pair_of` meets its contract: what was read is the pair's offset and end, and each test that
 -- leads to a return is one of `pairOf`.
 -- Assumes nothing.
 use mathlib.Core.Path.{_≡_, sym, _∙_}
@@ -12,8 +12,8 @@ use Rattle.records.specs.Record.{sized}
 use Rattle.records.proofs.Places.{end-within}
 use Rattle.capture.specs.Directory.{endOf, offsetOf, dueOf, recordOf, pairOf}
 use Rattle.capture.proofs.Pairs.{ends, pair-off-due, pair-off-end, pair-chained}
-use Rattle.capture.proofs.directory.judge.Statement.{statement}
-use Rattle.capture.proofs.directory.judge.Tie as tie
+use Rattle.capture.proofs.directory.pair_of.Statement.{statement}
+use Rattle.capture.proofs.directory.pair_of.Tie as tie
 
 offset-requires : tie.Need-offset-requires
 offset-requires c κs = search needs
@@ -87,8 +87,8 @@ returns-4 : tie.Need-returns-4
 unfolding pick
 returns-4 c = rw (c .if3 .left) at (in-chain (c .before))
 
-pub judge-spec : {M : Type 1} → statement M
-judge-spec =
+pub pair-of-spec : {M : Type 1} → statement M
+pair-of-spec =
     tie.close
     (tie.spec
     offset-requires

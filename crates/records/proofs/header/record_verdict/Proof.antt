@@ -1,11 +1,11 @@
--- `records::header::judge` meets its contract: the tests of `recordVerdict`, one after the other.
+-- `records::header::record_verdict` meets its contract: the tests of `recordVerdict`, one after the other.
 -- Assumes nothing.
 use mathlib.Core.Path.{sym, _∙_}
 use borrow.Author.Needs.{needs}
 use borrow.Author.Tests.{not-true, not-false}
 use Rattle.records.proofs.Verdicts.{malformed, other-llid, own-llid}
-use Rattle.records.proofs.header.judge.Statement.{statement}
-use Rattle.records.proofs.header.judge.Tie as tie
+use Rattle.records.proofs.header.record_verdict.Statement.{statement}
+use Rattle.records.proofs.header.record_verdict.Tie as tie
 
 is-well-formed-requires : tie.Need-is-well-formed-requires
 is-well-formed-requires c κs = search needs
@@ -20,16 +20,16 @@ returns-2 c =
 check-epam-requires : tie.Need-check-epam-requires
 check-epam-requires c κs = search needs
 
-judge-key-requires : tie.Need-judge-key-requires
-judge-key-requires c κs = search needs
+key-verdict-requires : tie.Need-key-verdict-requires
+key-verdict-requires c κs = search needs
 
 returns-3 : tie.Need-returns-3
 returns-3 c =
-    c .judge-key .ensures
+    c .key-verdict .ensures
     ∙ rw (c .before .check-epam .ensures)
     (own-llid _ _ _ (sym (c .before .before .before .before .before .is-well-formed .ensures) ∙ not-false _ (c .before .before .before .before .if1 .left)) (c .before .before .if2 .left))
 
-pub judge-spec : {M : Type 1} → statement M
-judge-spec =
+pub record-verdict-spec : {M : Type 1} → statement M
+record-verdict-spec =
     tie.close
-    (tie.spec is-well-formed-requires returns returns-2 check-epam-requires judge-key-requires returns-3)
+    (tie.spec is-well-formed-requires returns returns-2 check-epam-requires key-verdict-requires returns-3)

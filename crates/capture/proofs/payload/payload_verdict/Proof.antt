@@ -1,10 +1,10 @@
--- `capture::payload::verdict` meets its contract by those of its two steps.
+-- `capture::payload::payload_verdict` meets its contract by those of its two steps.
 -- Assumes nothing.
 use mathlib.Core.Path.{_∙_}
 use borrow.Author.Needs.{needs}
 use Rattle.capture.specs.Payload.{payloadVerdict}
-use Rattle.capture.proofs.payload.verdict.Statement.{statement}
-use Rattle.capture.proofs.payload.verdict.Tie as tie
+use Rattle.capture.proofs.payload.payload_verdict.Statement.{statement}
+use Rattle.capture.proofs.payload.payload_verdict.Tie as tie
 
 check-requires : tie.Need-check-requires
 check-requires c κs = search needs
@@ -16,5 +16,5 @@ returns : tie.Need-returns
 unfolding payloadVerdict
 returns c = c .asked .ensures ∙ rw (c .before .check .ensures)
 
-pub verdict-spec : {M : Type 1} → statement M
-verdict-spec = tie.close (tie.spec check-requires asked-requires returns)
+pub payload-verdict-spec : {M : Type 1} → statement M
+payload-verdict-spec = tie.close (tie.spec check-requires asked-requires returns)

@@ -1,12 +1,12 @@
--- `records::header::judge_key` meets its contract: the tests of `keyVerdict`, one after the other.
+-- `records::header::key_verdict` meets its contract: the tests of `keyVerdict`, one after the other.
 -- Assumes nothing.
 use mathlib.Core.Path.{_≡_, sym, _∙_}
 use borrow.Author.Needs.{needs}
 use Rattle.records.specs.declared.header.Epam.the-variants.{Agrees}
 use Rattle.records.specs.Verdict.{keyVerdict}
 use Rattle.records.proofs.Verdicts.{is-clear, lacks-key, is-sealed}
-use Rattle.records.proofs.header.judge_key.Statement.{statement}
-use Rattle.records.proofs.header.judge_key.Tie as tie
+use Rattle.records.proofs.header.key_verdict.Statement.{statement}
+use Rattle.records.proofs.header.key_verdict.Tie as tie
 
 enum-told : tie.Need-enum-told
 enum-told c = search needs
@@ -46,8 +46,8 @@ returns-4 c =
     (is-sealed _ _ _ _ (told (c .before .before .before)) (sym (c .before .before .before .before .bit .ensures) ∙ c .before .before .before .if1 .left)
     (rw (c .before .before .bit2 .ensures) at (sym (c .before .bit3 .ensures) ∙ c .if2 .left)))
 
-pub judge-key-spec : {M : Type 1} → statement M
-judge-key-spec =
+pub key-verdict-spec : {M : Type 1} → statement M
+key-verdict-spec =
     tie.close
     (tie.spec
     enum-told

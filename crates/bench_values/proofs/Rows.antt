@@ -5,17 +5,19 @@ use native.Mathlib.Omega.{arith}
 use lib.Bits.{bitXor}
 use lib.Count.{ones, onesIn}
 use Rattle.octets.specs.Bits.{bitOf}
-use Rattle.octets.specs.Choice.{both, pick}
+use Rattle.octets.specs.Choice.{both, either, pick}
 use Rattle.envelope.specs.CounterBlock.{counterBlock}
 use Rattle.envelope.specs.ControlMask.{masked, countEnciphered}
 use Rattle.clock.specs.Stamping.{capturedAt, raiseOf, movedBy, raisedTo}
 use Rattle.ends.specs.Replies.{refuseIf}
+use Rattle.ends.specs.Identities.{among, llidsOf, has}
 use Rattle.ends.specs.Keys.{aged}
-use Rattle.ends.specs.Occupancy.{onZero, freeFrom, occupied, taken}
+use Rattle.ends.specs.Occupancy.{upstream, onZero, freeFrom, occupied, taken}
 use Rattle.ends.specs.Records.{freshUnit, withKeys}
 use Rattle.ends.specs.Timers.{timerAdvanced, freshTimer}
 use Rattle.ends.specs.Headers.{choiceAged}
 use Rattle.ends.specs.UnitTraffic.{switches, unitSendChoice, unitSendVerdict}
+use Rattle.ends.specs.OnuTraffic.{onuSendChoice, onuSendVerdict}
 use Rattle.bench_values.specs.Rows.{Rows}
 
 xored : (j k x : ℕ) → 0 < j → j < 7 → masked 0x81 j k x ≡ bitXor x k
@@ -30,7 +32,7 @@ xored (suc (suc (suc (suc (suc (suc zero)))))) k x h l = refl
 xored (suc (suc (suc (suc (suc (suc (suc j))))))) k x h l = absurd (omega arith)
 
 pub rows-hold : Rows
-unfolding counterBlock capturedAt raiseOf movedBy raisedTo timerAdvanced pick onZero freeFrom occupied taken both aged refuseIf freshUnit withKeys freshTimer choiceAged switches unitSendChoice unitSendVerdict masked bitOf countEnciphered ones onesIn
+unfolding counterBlock capturedAt raiseOf movedBy raisedTo timerAdvanced pick onZero freeFrom occupied taken both either aged refuseIf freshUnit withKeys freshTimer choiceAged switches unitSendChoice unitSendVerdict among llidsOf has upstream onuSendChoice onuSendVerdict masked bitOf countEnciphered ones onesIn
 rows-hold =
     record {
       p1 = refl;
@@ -41,9 +43,13 @@ rows-hold =
       p6 = refl;
       p7 = refl;
       p8 = refl;
+      p8-onu = refl;
       p9 = refl;
+      p9-onu = refl;
       p10 = refl;
+      p10-onu = refl;
       p11 = refl;
+      p11-onu = refl;
       p12-first = λ k x. refl;
       p12-data = xored;
       p12-last = λ k x. refl;

@@ -1,41 +1,66 @@
 -- The bench values of 01, one row each, in the paper's order. Assumes nothing.
 use mathlib.Core.Path.{_≡_}
+use mathlib.Core.Bool.{false}
 use mathlib.Core.List.{[], _∷_}
 use Prim.Native.Nat.{ℕ, _+_, _-_, _^_, _<_}
 use lib.Bits.{bitXor}
+use lib.ListN.{replicate}
 use Rattle.envelope.specs.CounterBlock.{counterBlock}
 use Rattle.envelope.specs.ControlMask.{masked, countEnciphered}
 use Rattle.clock.specs.Stamping.{capturedAt, raisedTo}
 use Rattle.refusal.specs.Number.{verdictNumber}
 use Rattle.ends.specs.Identities.{noIdentity}
 use Rattle.ends.specs.Keys.{noSlots, notedAt}
+use Rattle.ends.specs.Limits.{maxLlids}
 use Rattle.ends.specs.Occupancy.{occupied, freeChannels}
 use Rattle.ends.specs.Records.{freshUnit, withKeys}
 use Rattle.ends.specs.Timers.{timerAdvanced, freshTimer}
 use Rattle.ends.specs.UnitTraffic.{unitSendVerdict}
+use Rattle.ends.specs.OnuTraffic.{onuSendVerdict}
+use Rattle.ends.specs.declared.Channels.{Channels}
+use Rattle.ends.specs.declared.Onu.{Onu}
 use Rattle.ends.specs.declared.Timer.{Timer}
+use Rattle.ends.specs.declared.UnitRecord.{UnitRecord}
 
 -- the timer of P5 to P7
 abbrev pub timer : ℕ → ℕ → Timer
 timer count flag = record { interval = 10; count = count; flag = flag }
 
--- the number of an OLT's send on channel 0 at a tick, after a header at 50 with 4 EQs
-abbrev pub sendAt : ℕ → ℕ
-sendAt tick =
-    verdictNumber
-    (unitSendVerdict (record { mac = 0; tick = tick; clock = 0; channels = occupied freeChannels 0 50 4 })
-    (freshUnit noIdentity 0 1) 0)
-
--- the first use of a key in P10 and P11, and the number of an OLT's send under it at a tick
+-- the first use of a key in P10 and P11
 abbrev pub firstUse : ℕ
 firstUse = 100
 
-abbrev pub sendUnder : ℕ → ℕ
-sendUnder tick =
-    verdictNumber
-    (unitSendVerdict (record { mac = 0; tick = tick; clock = 0; channels = freeChannels })
-    (withKeys (freshUnit noIdentity 0 1)
-    (record { timer = freshTimer 1; active = 1; offered = 1; slots = noSlots; first = notedAt firstUse })) 0)
+-- an OLT's unit and an ONU, with key 1 in use since then; the ONU's one LLID is 0
+abbrev pub unitInUse : UnitRecord
+unitInUse =
+    withKeys (freshUnit noIdentity 0 1)
+    (record { timer = freshTimer 1; active = 1; offered = 1; slots = noSlots; first = notedAt firstUse })
+
+abbrev pub onuInUse : ℕ → Channels → Onu
+onuInUse tick channels =
+    record {
+      identity = record { mac = 0; llids = replicate maxLlids 0; count = 1 };
+      oltmac = 0;
+      tick = tick;
+      clock = record { synced = 1; time = 0; rx = 0 };
+      keys = record { active = 1; held = 0; slots = noSlots };
+      first = notedAt firstUse;
+      channels = channels;
+    }
+
+-- the number of a send on channel 0 at a tick, at the OLT and at the ONU
+abbrev pub oltSend : ℕ → Channels → ℕ
+oltSend tick channels = verdictNumber (unitSendVerdict (record { mac = 0; tick = tick; clock = 0; channels = channels }) unitInUse 0)
+
+abbrev pub onuSend : ℕ → Channels → ℕ
+onuSend tick channels = verdictNumber (onuSendVerdict (onuInUse tick channels) false 0 0x80)
+
+-- the channels after a header at 50 with 4 EQs, of the OLT and of the ONU
+abbrev pub afterOlt : Channels
+afterOlt = occupied freeChannels 0x00 50 4
+
+abbrev pub afterOnu : Channels
+afterOnu = occupied freeChannels 0x80 50 4
 
 pub record Rows : Type 0 where
   -- index 80 hex, MAC 02-00-00-00-00-01, clock 41 hex, block 2
@@ -52,11 +77,15 @@ pub record Rows : Type 0 where
   pub p6 : timerAdvanced (timer 7 0) 2 ≡ timer 9 0
   pub p7 : timerAdvanced (timer 7 0) 25 ≡ timer 2 1
   -- header at 50 with 4 EQs: 54 and 55
-  pub p8 : sendAt 54 ≡ 12
-  pub p9 : sendAt 55 ≡ 0
+  pub p8 : oltSend 54 afterOlt ≡ 12
+  pub p8-onu : onuSend 54 afterOnu ≡ 12
+  pub p9 : oltSend 55 afterOlt ≡ 0
+  pub p9-onu : onuSend 55 afterOnu ≡ 0
   -- first use at 100
-  pub p10 : sendUnder (firstUse + 2 ^ 48 - 1) ≡ 0
-  pub p11 : sendUnder (firstUse + 2 ^ 48) ≡ 13
+  pub p10 : oltSend (firstUse + 2 ^ 48 - 1) freeChannels ≡ 0
+  pub p10-onu : onuSend (firstUse + 2 ^ 48 - 1) freeChannels ≡ 0
+  pub p11 : oltSend (firstUse + 2 ^ 48) freeChannels ≡ 13
+  pub p11-onu : onuSend (firstUse + 2 ^ 48) freeChannels ≡ 13
   -- control 81 hex: octets 1 to 6 are XORed, count 6
   pub p12-first : (k x : ℕ) → masked 0x81 0 k x ≡ x
   pub p12-data : (j k x : ℕ) → 0 < j → j < 7 → masked 0x81 j k x ≡ bitXor x k

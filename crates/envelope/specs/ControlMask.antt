@@ -7,15 +7,24 @@ use lib.Dec.{eqb}
 use lib.ListN.{length, getD}
 use Rattle.octets.specs.Bits.{bitOf}
 use Rattle.octets.specs.Choice.{pick}
+use Rattle.octets.specs.Eqs.{eqOctets}
 use Rattle.octets.specs.Lists.{sum}
 
 -- the quanta (EQs) of a payload, each a control octet and then eight data octets
 abbrev pub eqsOf : List ℕ → ℕ
-eqsOf p = length p / 9
+eqsOf p = length p / eqOctets
+
+-- the most blocks of a payload: each serves two EQs
+abbrev pub maxBlocks : ℕ
+maxBlocks = 2097152
+
+-- the cipher blocks of n octets, a last one for an odd last EQ among them
+abbrev pub blocksOf : ℕ → ℕ
+blocksOf n = (n + 17) / 18
 
 -- the control octet of EQ e
 abbrev pub controlOctet : List ℕ → ℕ → ℕ
-controlOctet p e = getD p (9 * e) 0
+controlOctet p e = getD p (eqOctets * e) 0
 
 -- data octet x at place j under the control octet c and the cipher octet k: a control character, where bit j is set, passes
 unfoldable pub masked : ℕ → ℕ → ℕ → ℕ → ℕ

@@ -1,16 +1,20 @@
 // What sealing takes and answers that needs no cipher (01, Counter block and mask, When the reader says no: 14, 1): the counter
 // block, the control mask, the count, and the verdict on a call.
 ghost use mathlib.Core.Path.{_≡_};
-ghost use Rattle.envelope.specs.Acceptance.{lengthsFit, nonceFits, sealVerdict};
+ghost use Rattle.envelope.specs.Acceptance.{channelFits, lengthsFit, nonceFits, sealVerdict};
 ghost use Rattle.envelope.specs.Answer.{sealNumber, sealCount};
 ghost use Rattle.envelope.specs.ControlMask.{masked, countEnciphered};
 ghost use Rattle.envelope.specs.CounterBlock.{counterBlock};
+use octets::EQ_OCTETS;
 use octets::bit;
 use refusal::Refusal;
 use refusal::Verdict;
 
 // The longest payload, 4,194,303 EQs of nine octets.
 const MAX_OCTETS: usize = 37_748_727;
+
+// A MAC and a cipher clock, of six octets each, are below this.
+const SIX_OCTETS: u64 = 0x1_0000_0000_0000;
 
 // Channel index, sender's MAC and cipher clock at the header: what tells one envelope's counter blocks from another's.
 #[repr(C)]
@@ -64,27 +68,33 @@ pub fn mask(control: u8, j: u8, key: u8, octet: u8) -> u8
 pub fn count(payload: &[u8]) -> u64
     ensures { λ r. ⌜ r ≡ countEnciphered (now (payload .entry)) ⌝ }
 {
-    let eqs = payload.len() / 9;
+    let eqs = payload.len() / EQ_OCTETS;
     let mut sum: u64 = 0;
     for e in 0..eqs {
-        let ones = u8::count_ones(payload[9 * e]);
+        let ones = u8::count_ones(payload[EQ_OCTETS * e]);
         sum += (8 - ones) as u64;
     }
     sum
 }
 
+// Whether a channel index is 00 or 01, or 80 or 81 hex.
+pub fn channel_fits(channel: u8) -> bool
+    ensures { λ r. ⌜ r ≡ channelFits channel ⌝ }
+{
+    (channel < 2) | ((128 <= channel) & (channel < 130))
+}
+
 pub fn nonce_fits(nonce: Nonce) -> bool
     ensures { λ r. ⌜ r ≡ nonceFits nonce ⌝ }
 {
-    ((nonce.channel < 2) | ((128 <= nonce.channel) & (nonce.channel < 130)))
-        & ((nonce.mac < 0x1_0000_0000_0000) & (nonce.clock < 0x1_0000_0000_0000))
+    channel_fits(nonce.channel) & ((nonce.mac < SIX_OCTETS) & (nonce.clock < SIX_OCTETS))
 }
 
 // Whether n octets are a payload, and an output of m has as many.
 pub fn lengths_fit(n: usize, m: usize) -> bool
     ensures { λ r. ⌜ r ≡ lengthsFit n m ⌝ }
 {
-    (n % 9 == 0) & ((n <= MAX_OCTETS) & (m == n))
+    (n % EQ_OCTETS == 0) & ((n <= MAX_OCTETS) & (m == n))
 }
 
 pub fn seal_verdict(n: usize, m: usize, nonce: Nonce) -> Verdict

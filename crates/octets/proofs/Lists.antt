@@ -7,10 +7,10 @@ use Prim.Native.Nat.{ℕ, zero, suc, _+_, _-_, _*_, _<_, _≤_}
 use native.Mathlib.Nat.{add-zero, zero-add, add-suc, suc-add, le-of-lt, le-of-suc-le-suc, not-suc-le-zero, add-assoc, sub-zero, suc-sub-suc}
 use native.Mathlib.Numerals.{add-one}
 use native.Mathlib.Omega.{arith}
-use lib.ListN.{length, getD, drop, take, set, length-append, length-take, length-drop}
+use lib.ListN.{length, getD, drop, take, set, length-append, length-take, length-drop, drop-of-length-le}
 use lib.Seq.{drop-cons, take-suc, length-take-le, set-at, ext-getD, take-all, take-at, drop-at, drop-length, drop-drop, take-add, getD-take, getD-drop, paste, take-length, take-nil}
 use borrow.Author.Tests.{eqb-true, eq-eqb}
-use Rattle.octets.specs.Lists.{tabulate, sum, same, replaced, written, part}
+use Rattle.octets.specs.Lists.{tabulate, sum, same, replaced, written, part, copied}
 use Rattle.octets.proofs.Choice.{both-left, both-right, both-true}
 
 pub tabulate-length : {A : Type 0} (i n : ℕ) (f : ℕ → A) → length (tabulate i n f) ≡ n
@@ -47,6 +47,18 @@ pub copy-more : {A : Type 0} (k z : List A) (d : A) (i : ℕ) → i < length k �
 copy-more k z d i hk hz =
     rw (add-one, drop-cons z i d hz, take-suc k i d hk, append-assoc)
     (set-at (take i k) (getD z i d) (drop (suc i) z) (getD k i d) i (length-take-le i k (le-of-lt hk)))
+
+-- a copy of a list that is no longer than the other: all of it
+pub copied-short : {A : Type 0} (s t : List A) → length s ≤ length t → take (length s) s ++ drop (length s) t ≡ copied s t
+copied-short s t h = rw (take-length, take-all (length t) s h)
+
+-- of one that is no shorter: the other is filled
+pub copied-long : {A : Type 0} (s t : List A) → length t ≤ length s → take (length t) s ++ drop (length t) t ≡ copied s t
+copied-long s t h = rw (drop-length, drop-of-length-le t h)
+
+-- of one of the same length: the list itself
+pub copied-whole : {A : Type 0} (s t : List A) → length t ≡ length s → copied s t ≡ s
+copied-whole s t e = rw (e, take-length, ← e, drop-length, append-nil)
 
 pub sum-suc : (i n : ℕ) (f : ℕ → ℕ) → sum i (suc n) f ≡ sum i n f + f (i + n)
 sum-suc i zero f = rw (add-zero, add-zero, zero-add)
@@ -90,6 +102,13 @@ part-length s a n h = simp (length-take, length-drop) (omega arith)
 
 pub written-length : {A : Type 0} (t : List A) (a e : ℕ) (s : List A) → a ≤ e → e ≤ length s → e ≤ length t → length (written t a e s) ≡ length s
 written-length t a e s h k l = simp (length-append, length-take, length-drop) (omega arith)
+
+-- what lies past the written places is as it was
+pub written-rest : {A : Type 0} (t : List A) (b a : ℕ) (s : List A) → b ≤ a → a ≤ length s → a ≤ length t → drop a (written t b a s) ≡ drop a s
+written-rest t b a s h k l =
+    let p = take (a - b) (drop b t) in
+    let n : length (take b s ++ p) ≡ a = simp (length-append, length-take, length-drop) (omega arith) in
+    rw (← append-assoc (take b s) p (drop a s)) (drop-at (take b s ++ p) (drop a s) a n)
 
 -- all is written
 pub written-all : {A : Type 0} (t s : List A) → length t ≡ length s → written t 0 (length s) s ≡ t

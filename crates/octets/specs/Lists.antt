@@ -28,6 +28,10 @@ replaced s at t = take at s ++ (t ++ drop (length t) (drop at s))
 abbrev pub written : {A : Type 0} → List A → ℕ → ℕ → List A → List A
 written t a e s = take a s ++ (take (e - a) (drop a t) ++ drop e s)
 
+-- t with as many elements of s as both have in its first places
+abbrev pub copied : {A : Type 0} → List A → List A → List A
+copied s t = take (length t) s ++ drop (length s) t
+
 -- the two lists are the same
 unfoldable pub same : List ℕ → List ℕ → Bool
 same [] [] = true

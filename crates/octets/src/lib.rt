@@ -1,8 +1,12 @@
-// Octets: the test of a bit, and numbers in octets, the first octet highest.
+// Octets: the test of a bit, numbers in octets, the first octet highest, a copy, and how many an EQ has.
 ghost use mathlib.Core.Path.{_≡_};
 ghost use Prim.Native.Nat.{_<_};
 ghost use Rattle.octets.specs.Bits.{bitOf};
 ghost use Rattle.octets.specs.BigEndian.{numberAt, octetsOf};
+ghost use Rattle.octets.specs.Lists.{copied};
+
+// An EQ is a control octet, then eight data octets.
+pub const EQ_OCTETS: usize = 9;
 
 // Bit j of x, bit 0 the lowest: the one test of a bit, for control octets and header flags.
 pub fn bit(x: u8, j: u8) -> u8
@@ -53,4 +57,17 @@ pub fn octets48(n: u64) -> [u8; 6]
         (n / 256 % 256) as u8,
         (n % 256) as u8,
     ]
+}
+
+// As many octets as both have; the rest of the output stays.
+pub fn copy(input: &[u8], output: &mut [u8])
+    ensures { λ _. ⌜ now (output .exit) ≡ copied (now (input .entry)) (now (output .entry)) ⌝ }
+{
+    let mut n = output.len();
+    if input.len() < n {
+        n = input.len();
+    }
+    for i in 0..n {
+        output[i] = input[i];
+    }
 }

@@ -8,7 +8,7 @@ use lib.Dec.{ltb}
 use borrow.Author.Tests.{ltb-true, ltb-false}
 use Rattle.clock.specs.Ticks.{clockTurn, localTurn, advanced, localOf}
 use Rattle.clock.specs.Stamping.{raiseOf, movedBy, raisedTo}
-use Rattle.clock.specs.Loop.{turn, turns, Stops}
+use Rattle.clock.specs.Loop.{turn, turns, Stops, Leaves}
 use Rattle.clock.specs.declared.Stamps.{Stamps}
 use Rattle.clock.proofs.Ticks.{advanced-sum}
 use Rattle.clock.proofs.Stamping.{raise-meets, raise-least}
@@ -45,6 +45,7 @@ stops-once time s m n p q =
       go false e false f = omega (arith, ltb-false n m e, ltb-false m n f)
 
 -- what the loop leaves
-pub loop-raises : (time : ℕ) (s : Stamps) (n : ℕ) → time < localTurn → s .rx < clockTurn → s .tx < clockTurn → Stops time s n → turns n s ≡ raisedTo time s
+pub loop-raises : (time : ℕ) (s : Stamps) → time < localTurn → Leaves time s (raisedTo time s)
 unfolding raisedTo
-loop-raises time s n h a b p = rw (stops-once time s n (raiseOf time (s .tx)) p (raise-stops time s h)) (turns-moved _ s a b)
+loop-raises time s h =
+    record { left = λ n a b p. rw (stops-once time s n (raiseOf time (s .tx)) p (raise-stops time s h)) (turns-moved _ s a b) }

@@ -2,7 +2,7 @@
 -- while the low 32 bits of Tx differ from LocalTime, both stamps are incremented. Assumes nothing.
 use mathlib.Core.Path.{_≡_}
 use Prim.Native.Nat.{ℕ, zero, suc, _<_}
-use Rattle.clock.specs.Ticks.{advanced, localOf}
+use Rattle.clock.specs.Ticks.{clockTurn, advanced, localOf}
 use Rattle.clock.specs.declared.Stamps.{Stamps}
 
 -- one turn: both stamps are incremented, and may wrap around
@@ -21,3 +21,7 @@ Matches time s = localOf (s .tx) ≡ time
 pub record Stops (time : ℕ) (s : Stamps) (n : ℕ) : Type 0 where
   pub matches : Matches time (turns n s)
   pub earlier : (k : ℕ) → k < n → Matches time (turns k s) → ⊥
+
+-- r is what the loop leaves of stamps of 48 bits, wherever it stops
+pub record Leaves (time : ℕ) (s r : Stamps) : Type 0 where
+  pub left : (n : ℕ) → s .rx < clockTurn → s .tx < clockTurn → Stops time s n → turns n s ≡ r

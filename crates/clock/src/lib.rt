@@ -2,11 +2,13 @@
 ghost use mathlib.Core.Path.{_≡_};
 ghost use Rattle.clock.specs.Ticks.{advanced, rewound, localOf, localAdvanced, epamOf};
 ghost use Rattle.clock.specs.Stamping.{capturedAt, raiseOf, movedBy, raisedTo};
-ghost use Rattle.clock.specs.Loop.{Stops};
+ghost use Rattle.clock.specs.Loop.{Stops, Leaves};
 
 pub const CLOCK_TURN: u64 = 0x1_0000_0000_0000;
 
 pub const LOCAL_TURN: u64 = 0x1_0000_0000;
+
+pub const EPAM_TURN: u8 = 64;
 
 // A clock message: the OLT's clock at the capture, and that clock plus the round trip. After the raise, a unit's Rx and Tx clocks.
 #[repr(C)]
@@ -42,7 +44,7 @@ pub fn local_of(clock: u64) -> u32
 pub fn epam_of(clock: u64) -> u8
     ensures { λ r. ⌜ r ≡ epamOf clock ⌝ }
 {
-    (clock % 64) as u8
+    (clock % EPAM_TURN as u64) as u8
 }
 
 pub fn captured(clock: u64, trip: u64) -> Stamps
@@ -71,8 +73,10 @@ pub fn moved(stamps: Stamps, ticks: u64) -> Stamps
     }
 }
 
+// The clocks that a unit with that LocalTime takes from the stamps: what the source's loop leaves of them.
 pub fn raised(time: u32, stamps: Stamps) -> Stamps
     ensures { λ r. ⌜ r ≡ raisedTo time stamps ⌝ }
+    ensures left { λ r. ⌜ Leaves time stamps r ⌝ }
 {
     moved(stamps, raise(time, stamps) as u64)
 }

@@ -3,7 +3,7 @@ use mathlib.Core.Path.{_≡_, refl, sym, _∙_, ap}
 use mathlib.Core.Bool.{true, false}
 use mathlib.Core.List.{List, [], _∷_, _++_}
 use mathlib.Core.Logic.{⊎-elim}
-use Prim.Native.Nat.{ℕ, _≤_, _<_}
+use Prim.Native.Nat.{ℕ, zero, suc, _≤_, _<_}
 use native.Mathlib.Nat.{zero-add}
 use native.Mathlib.Omega.{arith}
 use lib.Dec.{ltb, eqb}
@@ -66,6 +66,14 @@ distinct-apart (y ∷ xs) ys x d a =
 pub identity-valid : (i : Identity) → validIdentity i ≡ true → (1 ≤ i .count) × (i .count ≤ maxLlids)
 unfolding validIdentity
 identity-valid i e = let c = both-right _ _ e in (leb-true _ _ (both-left _ _ c), leb-true _ _ (both-right _ _ c))
+
+-- an identity with a count has its first LLID
+pub first-has : (i : Identity) → 1 ≤ i .count → has i (getD (i .llids) 0 0) ≡ true
+unfolding has llidsOf
+first-has i h = by-count (i .count) h where
+  by-count : (n : ℕ) → 1 ≤ n → among (getD (i .llids) 0 0) (tabulate 0 n (λ j. getD (i .llids) j 0)) ≡ true
+  by-count zero g = absurd (omega arith)
+  by-count (suc n) g = among-head (getD (i .llids) 0 0) _
 
 -- the LLIDs are kept
 pub kept-llids : (i : Identity) → i .count ≤ maxLlids → llidsOf (kept i) ≡ llidsOf i

@@ -1,3 +1,4 @@
+pub mod ClockCaptures
 pub mod Headers
 pub mod Identities
 pub mod KeyMessages

@@ -12,11 +12,11 @@ use Rattle.refusal.specs.declared.Refusal.{Refusal}
 use Rattle.refusal.specs.declared.Refusal.the-variants.{OutOfRange, UnknownLlid}
 use Rattle.refusal.specs.declared.Verdict.{Verdict}
 use Rattle.refusal.specs.declared.Verdict.the-variants.{Accepted, Refused}
-use Rattle.ends.specs.Replies.{Reply, reply}
+use Rattle.ends.specs.Replies.{refuseIf, andThen, onValid, Reply, reply}
 use Rattle.ends.specs.Identities.{distinct}
 use Rattle.ends.specs.Occupancy.{validChannels}
 use Rattle.ends.specs.Records.{withChannels}
-use Rattle.ends.specs.Table.{registered, find, pastUnit, unitAt, withUnit}
+use Rattle.ends.specs.Table.{registered, isRegistered, find, pastUnit, unitAt, unitFound, unitNamed, withUnit}
 use Rattle.ends.specs.Validity.{validUnit, validShared, validOlt}
 use Rattle.ends.specs.Lift.{Outcome, putBack, atUnit, after, lift}
 use Rattle.ends.specs.declared.Channels.{Channels}
@@ -25,8 +25,8 @@ use Rattle.ends.specs.declared.Shared.{Shared}
 use Rattle.ends.specs.declared.Olt.{Olt}
 use Rattle.ends.specs.declared.Found.{Found}
 use Rattle.ends.specs.declared.Found.the-variants.{At, Nowhere}
-use Rattle.ends.proofs.Replies.{refused-accepts, refuse-passed, refuse-stopped, reply-accepted, reply-refused, Untouched}
-use Rattle.ends.proofs.Table.{Registered, find-at, identities, SameUnits, find-same, table-same, with-unit, with-other, with-twice, with-channels, with-same-units, with-beside, Beside}
+use Rattle.ends.proofs.Replies.{refused-accepts, refuse-passed, refuse-stopped, reply-verdict, reply-accepted, reply-refused, Untouched}
+use Rattle.ends.proofs.Table.{Registered, find-at, registered-found, registered-nowhere, identities, SameUnits, find-same, table-same, with-unit, with-other, with-twice, with-channels, with-same-units, with-beside, Beside}
 use Rattle.ends.proofs.Validity.{shared-in-range, shared-valid, olt-in-range, olt-valid}
 
 module _ {H : Type 0} (o : Olt) (nothing : H) (ahead : Verdict) (llid : ℕ) (call : Shared → UnitRecord → Outcome H) where
@@ -51,6 +51,33 @@ module _ {H : Type 0} (o : Olt) (nothing : H) (ahead : Verdict) (llid : ℕ) (ca
       → lift o nothing ahead llid call ≡ putBack o nothing i (call (o .shared) (unitAt o i))
   unfolding lift after atUnit
   lift-unit i e f n = rw (refuse-passed (not (validOlt o)) OutOfRange ahead (not-of-true e), f, n)
+
+  -- the verdict as one chain: 1 for the end, what the call refuses ahead of 2, 2, what the unit decides
+  pub lift-verdict : lift o nothing ahead llid call .verdict
+      ≡ onValid (validOlt o) (andThen ahead (refuseIf (not (isRegistered o llid)) UnknownLlid (call (o .shared) (unitNamed o llid) .verdict)))
+  unfolding andThen unitFound putBack
+  lift-verdict = by-valid (validOlt o) refl where
+    rest : Verdict
+    rest = refuseIf (not (isRegistered o llid)) UnknownLlid (call (o .shared) (unitNamed o llid) .verdict)
+
+    by-found : validOlt o ≡ true → ahead ≡ Accepted → (x : Found) → find o llid ≡ x → lift o nothing ahead llid call .verdict ≡ rest
+    by-found e f Nowhere n =
+        ap (λ (r : Reply Olt H). r .verdict) (lift-unknown e f n)
+        ∙ sym (refuse-stopped _ UnknownLlid _ (not-of-false (registered-nowhere o llid n)))
+    by-found e f (At i) n =
+        ap (λ (r : Reply Olt H). r .verdict) (lift-unit i e f n)
+        ∙ reply-verdict (call (o .shared) (unitAt o i) .verdict) o nothing _ _
+        ∙ sym (refuse-passed _ UnknownLlid _ (not-of-true (registered-found o llid i n)) ∙ ap (λ (x : Found). call (o .shared) (unitFound o x) .verdict) n)
+
+    by-ahead : validOlt o ≡ true → (v : Verdict) → ahead ≡ v → lift o nothing ahead llid call .verdict ≡ andThen ahead rest
+    by-ahead e Accepted f = by-found e f (find o llid) refl ∙ sym (ap (λ (v : Verdict). andThen v rest) f)
+    by-ahead e (Refused r) f = ap (λ (x : Reply Olt H). x .verdict) (lift-ahead r e f) ∙ sym (ap (λ (v : Verdict). andThen v rest) f)
+
+    by-valid : (t : Bool) → validOlt o ≡ t → lift o nothing ahead llid call .verdict ≡ onValid (validOlt o) (andThen ahead rest)
+    by-valid false e =
+        ap (λ (r : Reply Olt H). r .verdict) (lift-invalid e)
+        ∙ sym (refuse-stopped _ OutOfRange _ (not-of-false e))
+    by-valid true e = by-ahead e ahead refl ∙ sym (refuse-passed _ OutOfRange _ (not-of-true e))
 
   -- what an accepted call has met, and leaves
   pub record Lifted : Type 0 where

@@ -42,7 +42,7 @@ olt-sum m n o =
       map-twice (unitAdvanced m) (unitAdvanced n) (unitAdvanced (m + n)) (unit-sum m n) (registered o),
     )
 
-unit-identity : (n : ℕ) (u : UnitRecord) → unitAdvanced n u .identity ≡ u .identity
+pub unit-identity : (n : ℕ) (u : UnitRecord) → unitAdvanced n u .identity ≡ u .identity
 unfolding unitAdvanced withKeys
 unit-identity n u = refl
 

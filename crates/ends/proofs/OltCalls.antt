@@ -1,6 +1,7 @@
--- Laws of the OLT's calls: a valid OLT stays valid, its places stay as many, and a refused call leaves it. Assumes nothing.
+-- Laws of the OLT's calls: a valid OLT stays valid, its places stay as many, a refused call leaves it, and the number is that of the
+-- call's order. Assumes nothing.
 use mathlib.Core.Path.{_≡_, refl, _∙_, ap}
-use mathlib.Core.Bool.{true}
+use mathlib.Core.Bool.{true, not}
 use mathlib.Core.List.{List}
 use Prim.Native.Nat.{ℕ, _<_}
 use native.Mathlib.Omega.{arith}
@@ -8,27 +9,33 @@ use lib.ListN.{length, length-replicate}
 use borrow.Author.Tests.{ltb-true, not-false}
 use Rattle.octets.specs.Lists.{all}
 use Rattle.octets.proofs.Choice.{both-left, both-right}
+use Rattle.refusal.specs.Number.{verdictNumber}
+use Rattle.refusal.specs.declared.Refusal.the-variants.{UnknownLlid}
+use Rattle.refusal.specs.declared.Verdict.{Verdict}
 use Rattle.refusal.specs.declared.Verdict.the-variants.{Accepted}
 use Rattle.clock.specs.Ticks.{clockTurn}
 use Rattle.ends.specs.Limits.{maxUnits}
-use Rattle.ends.specs.Replies.{silent}
+use Rattle.ends.specs.Replies.{refuseIf, andThen, onValid, silent}
 use Rattle.ends.specs.Messages.{noStamps, noKeyMessage}
 use Rattle.ends.specs.Identities.{distinct, validMac}
 use Rattle.ends.specs.Records.{noUnit, newOlt}
-use Rattle.ends.specs.Table.{tableLlids, find}
+use Rattle.ends.specs.Table.{tableLlids, isRegistered, unitNamed, find}
 use Rattle.ends.specs.Validity.{validOlt}
 use Rattle.ends.specs.Lift.{outcome}
 use Rattle.ends.specs.UnitCalls.{captureUnit, clockSendUnit, offerUnit, retryUnit, acknowledgeUnit}
-use Rattle.ends.specs.OltCalls.{oltAnswer, clockSent, keySent, freshOltOf, registering, registerOf, advancingOlt, advanceOltOf, captureOf, clockSendOf, offerOf, retryOf, acknowledgeOf}
+use Rattle.ends.specs.OltCalls.{oltAnswer, clockSent, keySent, freshOltOf, registering, registerOf, advancingOlt, advanceOltOf, captureOrder, captureOf, clockSendOrder, clockSendOf, offerOrder, offerOf, retryOrder, retryOf, acknowledgeOrder, acknowledgeOf}
 use Rattle.ends.specs.declared.Identity.{Identity}
 use Rattle.ends.specs.declared.Olt.{Olt}
 use Rattle.ends.specs.declared.Acknowledgement.{Acknowledgement}
+use Rattle.ends.specs.declared.OltAnswer.{OltAnswer}
+use Rattle.ends.specs.declared.ClockSent.{ClockSent}
+use Rattle.ends.specs.declared.KeySent.{KeySent}
 use Rattle.ends.proofs.Replies.{number-accepted, number-refused, refuse-accepted, reply-keeps, reply-untouched}
 use Rattle.ends.proofs.Occupancy.{free-valid}
 use Rattle.ends.proofs.Table.{with-itself}
 use Rattle.ends.proofs.Validity.{shared-valid, olt-valid}
-use Rattle.ends.proofs.Lift.{lift-keeps, lift-valid, lift-again, lift-untouched}
-use Rattle.ends.proofs.UnitCalls.{capture-keeps, clock-send-keeps, offer-keeps, acknowledge-keeps, acknowledged-channels, acknowledged-again}
+use Rattle.ends.proofs.Lift.{lift-verdict, lift-keeps, lift-valid, lift-again, lift-untouched}
+use Rattle.ends.proofs.UnitCalls.{capture-keeps, clock-send-keeps, offer-keeps, acknowledge-verdict, acknowledge-keeps, acknowledged-channels, acknowledged-again}
 
 ---- fresh
 
@@ -142,3 +149,37 @@ retry-refused o llid n =
 pub acknowledge-refused : (o : Olt) (llid : ℕ) (a : Acknowledgement) → (acknowledgeOf o llid a .number ≡ 0 → ⊥) → acknowledgeOf o llid a .olt ≡ o
 unfolding acknowledgeOf oltAnswer
 acknowledge-refused o llid a n = number-refused o silent _ (lift-untouched o silent Accepted llid (acknowledgeUnit a)) n .end
+
+---- the number is that of the first refusal in the call's order, for an answer r as the definition has it
+
+pub capture-ordered : (o : Olt) (llid : ℕ) (r : OltAnswer) → r ≡ captureOf o llid
+    → (r ≡ captureOf o llid) × (r .number ≡ verdictNumber (captureOrder o llid))
+unfolding captureOf oltAnswer captureOrder captureUnit outcome andThen
+capture-ordered o llid r e = (e, ap (λ (x : OltAnswer). x .number) e ∙ ap verdictNumber (lift-verdict o silent Accepted llid captureUnit))
+
+pub clock-send-ordered : (o : Olt) (llid : ℕ) (r : ClockSent) → r ≡ clockSendOf o llid
+    → (r ≡ clockSendOf o llid) × (r .number ≡ verdictNumber (clockSendOrder o llid))
+unfolding clockSendOf clockSent clockSendOrder clockSendUnit outcome andThen
+clock-send-ordered o llid r e = (e, ap (λ (x : ClockSent). x .number) e ∙ ap verdictNumber (lift-verdict o noStamps Accepted llid clockSendUnit))
+
+pub offer-ordered : (o : Olt) (llid : ℕ) (key : List ℕ) (r : KeySent) → r ≡ offerOf o llid key
+    → (r ≡ offerOf o llid key) × (r .number ≡ verdictNumber (offerOrder o llid key))
+unfolding offerOf keySent offerOrder offerUnit outcome andThen
+offer-ordered o llid key r e =
+    (e, ap (λ (x : KeySent). x .number) e ∙ ap verdictNumber (lift-verdict o noKeyMessage Accepted llid (offerUnit llid key)))
+
+pub retry-ordered : (o : Olt) (llid : ℕ) (r : KeySent) → r ≡ retryOf o llid
+    → (r ≡ retryOf o llid) × (r .number ≡ verdictNumber (retryOrder o llid))
+unfolding retryOf keySent retryOrder retryUnit outcome andThen
+retry-ordered o llid r e = (e, ap (λ (x : KeySent). x .number) e ∙ ap verdictNumber (lift-verdict o noKeyMessage Accepted llid (retryUnit llid)))
+
+pub acknowledge-ordered : (o : Olt) (llid : ℕ) (a : Acknowledgement) (r : OltAnswer) → r ≡ acknowledgeOf o llid a
+    → (r ≡ acknowledgeOf o llid a) × (r .number ≡ verdictNumber (acknowledgeOrder o llid a))
+unfolding acknowledgeOf oltAnswer acknowledgeOrder andThen
+acknowledge-ordered o llid a r e = (
+  e,
+  ap (λ (x : OltAnswer). x .number) e
+      ∙ ap verdictNumber
+      (lift-verdict o silent Accepted llid (acknowledgeUnit a)
+      ∙ ap (λ (v : Verdict). onValid (validOlt o) (refuseIf (not (isRegistered o llid)) UnknownLlid v)) (acknowledge-verdict a (o .shared) (unitNamed o llid))),
+)

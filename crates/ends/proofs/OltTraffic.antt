@@ -1,5 +1,5 @@
--- Send and receive of the OLT keep it valid. Assumes nothing.
-use mathlib.Core.Path.{_≡_, refl, _∙_}
+-- Send and receive of the OLT keep it valid, and their verdict is that of their order. Assumes nothing.
+use mathlib.Core.Path.{_≡_, refl, ap, _∙_}
 use mathlib.Core.Bool.{Bool, true, false, not}
 use Prim.Native.Nat.{ℕ, _≤_}
 use Rattle.octets.specs.Choice.{both}
@@ -9,19 +9,19 @@ use Rattle.refusal.specs.declared.Refusal.{Refusal}
 use Rattle.refusal.specs.declared.Refusal.the-variants.{OutOfRange, BadLength}
 use Rattle.refusal.specs.declared.Verdict.{Verdict}
 use Rattle.refusal.specs.declared.Verdict.the-variants.{Accepted, Refused}
-use Rattle.ends.specs.Replies.{refuseIf}
+use Rattle.ends.specs.Replies.{refuseIf, onValid}
 use Rattle.ends.specs.Occupancy.{downstream, upstream}
 use Rattle.ends.specs.Table.{find, unitAt}
 use Rattle.ends.specs.Validity.{validOlt}
 use Rattle.ends.specs.Lift.{outcome}
 use Rattle.ends.specs.Headers.{validHeader, noPassage, noSending}
 use Rattle.ends.specs.UnitTraffic.{sendUnit, receiveUnit}
-use Rattle.ends.specs.OltTraffic.{sendingOlt, receivingOlt}
+use Rattle.ends.specs.OltTraffic.{sendOrder, sendingOlt, receiveOrder, receivingOlt}
 use Rattle.ends.specs.declared.Olt.{Olt}
 use Rattle.ends.specs.declared.Header.{Header}
 use Rattle.ends.specs.declared.Found.the-variants.{At}
-use Rattle.ends.proofs.Replies.{refuse-accepted, refuse-passed, Untouched}
-use Rattle.ends.proofs.Lift.{Lifted, lift-accepts, lift-untouched, lift-valid}
+use Rattle.ends.proofs.Replies.{refuse-accepted, refuse-passed, two-then, Untouched}
+use Rattle.ends.proofs.Lift.{Lifted, lift-verdict, lift-accepts, lift-untouched, lift-valid}
 use Rattle.ends.proofs.UnitTraffic.{send-keeps, receive-keeps}
 use Rattle.ends.proofs.UnitChoices.{Receives, receive-accepts}
 
@@ -59,3 +59,17 @@ receiving-accepts o h i v u w f r =
     lift-accepts o noPassage (receiveAhead false h) (h .llid) (receiveUnit h) i v
     (refuse-passed false BadLength _ refl ∙ refuse-passed _ OutOfRange _ (not-of-true (both-true u w)))
     f (receive-accepts (o .shared) (unitAt o i) h r)
+
+---- the verdict is that of the call's order
+
+pub send-order : (o : Olt) (misfit : Bool) (llid channel eqs : ℕ) → sendingOlt o misfit llid channel eqs .verdict ≡ sendOrder o misfit llid channel
+unfolding sendingOlt sendOrder sendUnit
+send-order o misfit llid channel eqs =
+    lift-verdict o noSending (sendAhead misfit channel) llid (sendUnit llid channel eqs)
+    ∙ ap (onValid (validOlt o)) (two-then misfit BadLength (not (downstream channel)) OutOfRange _)
+
+pub receive-order : (o : Olt) (misfit : Bool) (h : Header) → receivingOlt o misfit h .verdict ≡ receiveOrder o misfit h
+unfolding receivingOlt receiveOrder receiveUnit outcome
+receive-order o misfit h =
+    lift-verdict o noPassage (receiveAhead misfit h) (h .llid) (receiveUnit h)
+    ∙ ap (onValid (validOlt o)) (two-then misfit BadLength (not (both (upstream (h .channel)) (validHeader h))) OutOfRange _)

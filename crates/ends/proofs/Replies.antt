@@ -10,7 +10,7 @@ use Rattle.refusal.specs.declared.Refusal.the-variants.{OutOfRange, UnknownLlid
 use Rattle.refusal.specs.declared.Verdict.{Verdict}
 use Rattle.refusal.specs.declared.Verdict.the-variants.{Accepted, Refused}
 use Rattle.clock.specs.Ticks.{maxTick}
-use Rattle.ends.specs.Replies.{refuseIf, Reply, reply, advanceVerdict}
+use Rattle.ends.specs.Replies.{refuseIf, andThen, Reply, reply, advanceVerdict}
 
 ---- the order of refusals
 
@@ -30,6 +30,14 @@ refuse-passed cause r v e = rw e
 pub refuse-stopped : (cause : Bool) (r : Refusal) (v : Verdict) → cause ≡ true → refuseIf cause r v ≡ Refused r
 unfolding refuseIf
 refuse-stopped cause r v e = rw e
+
+-- a list of two causes goes on with the list that follows it
+pub two-then : (a : Bool) (r : Refusal) (b : Bool) (s : Refusal) (v : Verdict)
+    → andThen (refuseIf a r (refuseIf b s Accepted)) v ≡ refuseIf a r (refuseIf b s v)
+unfolding andThen refuseIf
+two-then true r b s v = refl
+two-then false r true s v = refl
+two-then false r false s v = refl
 
 ---- what a verdict leaves
 

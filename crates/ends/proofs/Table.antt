@@ -1,6 +1,6 @@
 -- Laws of the table: a unit is found by any of its LLIDs, and a unit replaced leaves all else. Assumes nothing.
 use mathlib.Core.Path.{_≡_, refl, sym, _∙_, ap, ap₂}
-use mathlib.Core.Bool.{Bool, true, false}
+use mathlib.Core.Bool.{Bool, true, false, not}
 use mathlib.Core.List.{List, [], _∷_, _++_, map}
 use Prim.Native.Nat.{ℕ, zero, suc, _+_, _-_, _≤_, _<_}
 use native.Mathlib.Nat.{le-of-suc-le-suc, not-suc-le-zero, zero-add, add-zero, add-suc, suc-add}
@@ -9,16 +9,23 @@ use native.Mathlib.Omega.{arith}
 use lib.ListN.{length, getD, take, length-take, length-set}
 use lib.Seq.{getD-take, getD-set-same, getD-set-other, set-getD, set-set, map-set-same, take-suc-set}
 use Rattle.octets.specs.Choice.{pick}
-use Rattle.octets.proofs.Choice.{pick-true, pick-false, either-false, not-both, either-left, either-right, either-none}
+use Rattle.octets.proofs.Choice.{pick-true, pick-false, either-false, not-both, either-left, either-right, either-none, not-of-true, not-of-false}
 use Rattle.octets.proofs.Maps.{map-take}
+use Rattle.refusal.specs.Number.{verdictNumber}
+use Rattle.refusal.specs.declared.Refusal.the-variants.{UnknownLlid}
+use Rattle.refusal.specs.declared.Verdict.{Verdict}
+use Rattle.refusal.specs.declared.Verdict.the-variants.{Accepted}
+use Rattle.ends.specs.Replies.{refuseIf}
 use Rattle.ends.specs.Identities.{among, distinct, llidsOf, has}
 use Rattle.ends.specs.Records.{withChannels}
-use Rattle.ends.specs.Table.{registered, tableLlids, findFrom, find, pastUnit, unitAt, withUnit, withOneMore}
+use Rattle.ends.specs.Table.{registered, tableLlids, isRegistered, findFrom, find, foundNumber, pastUnit, unitAt, withUnit, withOneMore}
 use Rattle.ends.specs.declared.Channels.{Channels}
 use Rattle.ends.specs.declared.Identity.{Identity}
 use Rattle.ends.specs.declared.UnitRecord.{UnitRecord}
 use Rattle.ends.specs.declared.Olt.{Olt}
+use Rattle.ends.specs.declared.Found.{Found}
 use Rattle.ends.specs.declared.Found.the-variants.{At, Nowhere}
+use Rattle.ends.proofs.Replies.{refuse-passed, refuse-stopped}
 use Rattle.ends.proofs.Identities.{among-append, distinct-right, distinct-apart}
 
 ---- who is found
@@ -103,6 +110,20 @@ among-nowhere k (u ∷ us) llid e = by-head (has (u .identity) llid) refl (among
   by-head true h more f = let z : _≡_ {A = ℕ} 0 1 = cc in absurd (omega arith)
   by-head false h more f = among-append llid (llidsOf (u .identity)) (tableLlids us) ∙ either-none h (more f)
 
+pub registered-found : (o : Olt) (llid i : ℕ) → find o llid ≡ At i → isRegistered o llid ≡ true
+unfolding find
+registered-found o llid i e = among-found 0 (registered o) llid i e
+
+pub registered-nowhere : (o : Olt) (llid : ℕ) → find o llid ≡ Nowhere → isRegistered o llid ≡ false
+unfolding find
+registered-nowhere o llid e = among-nowhere 0 (registered o) llid e
+
+-- 2 is for an LLID that is not the table's
+pub found-number : (us : List UnitRecord) (llid : ℕ) (x : Found) → x ≡ findFrom 0 us llid
+    → foundNumber x ≡ verdictNumber (refuseIf (not (among llid (tableLlids us))) UnknownLlid Accepted)
+found-number us llid (At i) e = sym (ap verdictNumber (refuse-passed _ UnknownLlid Accepted (not-of-true (among-found 0 us llid i (sym e)))))
+found-number us llid Nowhere e = sym (ap verdictNumber (refuse-stopped _ UnknownLlid Accepted (not-of-false (among-nowhere 0 us llid (sym e)))))
+
 from-absent : (k : ℕ) (us : List UnitRecord) (llid : ℕ) → among llid (tableLlids us) ≡ false → findFrom k us llid ≡ Nowhere
 unfolding findFrom tableLlids has
 from-absent k [] llid e = refl
@@ -118,7 +139,7 @@ identityOf u = u .identity
 abbrev pub identities : Olt → List Identity
 identities o = map identityOf (o .units)
 
-from-same : (k : ℕ) (us vs : List UnitRecord) (llid : ℕ) → map identityOf us ≡ map identityOf vs → findFrom k us llid ≡ findFrom k vs llid
+pub from-same : (k : ℕ) (us vs : List UnitRecord) (llid : ℕ) → map identityOf us ≡ map identityOf vs → findFrom k us llid ≡ findFrom k vs llid
 unfolding findFrom
 from-same k [] [] llid e = refl
 from-same k [] (v ∷ vs) llid e = let z : _≡_ {A = ℕ} 0 1 = cc in absurd (omega arith)

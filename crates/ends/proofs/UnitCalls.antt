@@ -1,6 +1,6 @@
 -- The clock and key calls on one unit keep it valid and of its identity. Assumes nothing.
 use mathlib.Core.Path.{_≡_, refl, _∙_}
-use mathlib.Core.Bool.{Bool, true, false}
+use mathlib.Core.Bool.{Bool, true, false, not}
 use mathlib.Core.List.{List}
 use mathlib.Core.Logic.{⊎-elim}
 use Prim.Native.Nat.{ℕ, _+_, _-_, _≤_, _<_}
@@ -14,14 +14,14 @@ use Rattle.refusal.specs.declared.Refusal.the-variants.{NothingOutstanding}
 use Rattle.refusal.specs.declared.Verdict.the-variants.{Accepted, Refused}
 use Rattle.clock.specs.Ticks.{ticksPerSecond}
 use Rattle.ends.specs.Limits.{maxKeyNumber}
-use Rattle.ends.specs.Replies.{Silence, silent}
+use Rattle.ends.specs.Replies.{isUp, refuseIf, Silence, silent}
 use Rattle.ends.specs.Keys.{keyIn}
 use Rattle.ends.specs.Messages.{clockKind, keyKind}
 use Rattle.ends.specs.Records.{withKeys, withConfirmation, withClock, withTimer}
 use Rattle.ends.specs.Validity.{validUnitClock, validUnit, validShared}
 use Rattle.ends.specs.Occupancy.{validChannels}
 use Rattle.ends.specs.Lift.{Outcome, outcome}
-use Rattle.ends.specs.UnitCalls.{unitAdvanced, clockCaptured, captureUnit, clockSendVerdict, clockAfterSend, clockSendUnit, offerVerdict, keysOffered, unitOffered, offerUnit, retryVerdict, retryUnit, clockAcknowledgedUnit, keyAcknowledgedUnit, acknowledgeUnit}
+use Rattle.ends.specs.UnitCalls.{unitAdvanced, clockCaptured, captureUnit, clockSendVerdict, clockAfterSend, clockSendUnit, offerVerdict, keysOffered, unitOffered, offerUnit, retryVerdict, retryUnit, outstanding, acknowledgeVerdict, clockAcknowledgedUnit, keyAcknowledgedUnit, acknowledgeUnit}
 use Rattle.ends.specs.declared.UnitClock.{UnitClock}
 use Rattle.ends.specs.declared.UnitRecord.{UnitRecord}
 use Rattle.ends.specs.declared.Shared.{Shared}
@@ -163,6 +163,17 @@ unfolding keyAcknowledgedUnit outcome
 key-acknowledged-accepted number s u e =
     let a = not-false _ (refuse-accepted _ _ _ e .0) in
     (leb-true _ _ (both-left _ _ a), eqb-true _ _ (both-right _ _ a))
+
+-- by each kind, the verdict is 8 where nothing that it acknowledges is outstanding
+pub acknowledge-verdict : (a : Acknowledgement) (s : Shared) (u : UnitRecord) → acknowledgeUnit a s u .verdict ≡ acknowledgeVerdict a u
+unfolding acknowledgeUnit clockAcknowledgedUnit keyAcknowledgedUnit acknowledgeVerdict outstanding outcome pick refuseIf
+acknowledge-verdict a s u = by-kind (eqb (a .kind) clockKind) (eqb (a .kind) keyKind) where
+  by-kind : (t k : Bool)
+      → pick t (clockAcknowledgedUnit s u) (pick k (keyAcknowledgedUnit (a .number) s u) (outcome s (Refused NothingOutstanding) u silent)) .verdict
+      ≡ refuseIf (not (pick t (isUp (u .clock .sent)) (pick k (both (leb 1 (a .number)) (eqb (a .number) (u .keys .offered))) false))) NothingOutstanding Accepted
+  by-kind true k = refl
+  by-kind false true = refl
+  by-kind false false = refl
 
 ---- keys
 

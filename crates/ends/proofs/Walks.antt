@@ -14,6 +14,7 @@ use Rattle.octets.specs.Choice.{both, either, pick}
 use Rattle.octets.specs.Lists.{tabulate, all}
 use Rattle.octets.proofs.Choice.{both-left, both-right}
 use Rattle.octets.proofs.Steps.{tabulate-step, tabulate-end, drop-step, drop-back, first-step, first-end}
+use Rattle.ends.specs.Limits.{maxLlids}
 use Rattle.ends.specs.Identities.{among, distinct, has, llidsOf, meets, validIdentity}
 use Rattle.ends.specs.Table.{findFrom, pastUnit, tableLlids}
 use Rattle.ends.specs.Validity.{validUnit}
@@ -159,13 +160,13 @@ marked l i marks h k len m x e =
 
 ---- validity
 
-pub unit-few : (tick : ℕ) (u : UnitRecord) → validUnit tick u ≡ true → u .identity .count ≤ 4
+pub unit-few : (tick : ℕ) (u : UnitRecord) → validUnit tick u ≡ true → u .identity .count ≤ maxLlids
 unfolding validUnit validIdentity
 unit-few tick u e = leb-true _ _ (both-right _ _ (both-right _ _ (both-left _ _ e)))
 
 -- a registered unit has at most four LLIDs, and what stands past the table has none
 pub units-few : (tick n : ℕ) (l : List UnitRecord) → all (validUnit tick) (take n l) ≡ true
-    → (i : ℕ) → i < n → getD l i pastUnit .identity .count ≤ 4
+    → (i : ℕ) → i < n → getD l i pastUnit .identity .count ≤ maxLlids
 unfolding all pastUnit
 units-few tick zero l e i h = absurd (not-suc-le-zero h)
 units-few tick (suc n) [] e i h = omega arith

@@ -4,10 +4,14 @@ use mathlib.Core.List.{List}
 use Prim.Native.Nat.{ℕ, _%_}
 use lib.Dec.{leb, ltb, eqb}
 use Rattle.octets.specs.Choice.{both, pick}
+use Rattle.refusal.specs.declared.Refusal.the-variants.{ChannelTaken, KeyTooOld}
 use Rattle.refusal.specs.declared.Verdict.{Verdict}
 use Rattle.refusal.specs.declared.Verdict.the-variants.{Accepted, Refused}
 use Rattle.clock.specs.Ticks.{epamTurn, epamOf}
+use Rattle.ends.specs.Replies.{refuseIf}
 use Rattle.ends.specs.Keys.{noKey, keyIn, aged}
+use Rattle.ends.specs.Occupancy.{taken}
+use Rattle.ends.specs.declared.Channels.{Channels}
 use Rattle.ends.specs.declared.Slots.{Slots}
 use Rattle.ends.specs.declared.FirstSend.{FirstSend}
 use Rattle.ends.specs.declared.Header.{Header}
@@ -39,6 +43,11 @@ choiceAged Clear f tick = false
 choiceAged (Current n) f tick = aged f tick
 choiceAged (Next n) f tick = false
 choiceAged (Barred r) f tick = false
+
+-- a send at either end, under the key of its choice, whose first send is noted: 12, then 13
+abbrev pub channelThenKey : Channels → ℕ → KeyChoice → FirstSend → ℕ → Verdict
+channelThenKey channels channel choice first tick =
+    refuseIf (taken channels channel tick) ChannelTaken (refuseIf (choiceAged choice first tick) KeyTooOld Accepted)
 
 -- the header of an envelope numbered n, at the sender's clock (01, Keys: EPAM, of LocalTime if unsynced)
 unfoldable pub envelopeHeader : ℕ → ℕ → ℕ → ℕ → Header

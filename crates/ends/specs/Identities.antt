@@ -25,7 +25,7 @@ distinct [] = true
 distinct (x ∷ xs) = both (not (among x xs)) (distinct xs)
 
 abbrev pub noIdentity : Identity
-noIdentity = record { mac = 0; llids = replicate 4 0; count = 0 }
+noIdentity = record { mac = 0; llids = replicate maxLlids 0; count = 0 }
 
 unfoldable pub llidsOf : Identity → List ℕ
 llidsOf i = tabulate 0 (i .count) (λ j. getD (i .llids) j 0)

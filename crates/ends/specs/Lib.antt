@@ -11,6 +11,7 @@ pub mod Validity
 pub mod Lift
 pub mod UnitCalls
 pub mod OltCalls
+pub mod ClockCaptures
 pub mod OnuCalls
 pub mod Headers
 pub mod UnitTraffic

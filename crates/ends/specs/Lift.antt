@@ -1,11 +1,10 @@
 -- From a call on one unit to the same call on the OLT: the unit is found by its LLID, the call is made, and the unit is put back
 -- (01, Clock: OLT calls name a unit by any of its LLIDs). Assumes nothing.
-use mathlib.Core.Bool.{not}
 use Prim.Native.Nat.{ℕ}
-use Rattle.refusal.specs.declared.Refusal.the-variants.{OutOfRange, UnknownLlid}
+use Rattle.refusal.specs.declared.Refusal.the-variants.{UnknownLlid}
 use Rattle.refusal.specs.declared.Verdict.{Verdict}
 use Rattle.refusal.specs.declared.Verdict.the-variants.{Accepted, Refused}
-use Rattle.ends.specs.Replies.{refuseIf, Reply, reply}
+use Rattle.ends.specs.Replies.{onValid, Reply, reply}
 use Rattle.ends.specs.Table.{find, unitAt, withUnit}
 use Rattle.ends.specs.Validity.{validOlt}
 use Rattle.ends.specs.declared.Channels.{Channels}
@@ -41,4 +40,4 @@ after (Refused x) o nothing r = reply (Refused x) o nothing o nothing
 
 -- 1 for a lent end that is not valid, then what the call refuses ahead of 2, then 2, then what the unit decides
 unfoldable pub lift : {H : Type 0} → Olt → H → Verdict → ℕ → (Shared → UnitRecord → Outcome H) → Reply Olt H
-lift o nothing ahead llid call = after (refuseIf (not (validOlt o)) OutOfRange ahead) o nothing (atUnit o nothing call (find o llid))
+lift o nothing ahead llid call = after (onValid (validOlt o) ahead) o nothing (atUnit o nothing call (find o llid))

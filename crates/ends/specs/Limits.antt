@@ -1,5 +1,5 @@
 -- The limits of 01 that the ends keep to; those of the clock are in crate clock. Assumes nothing.
-use Prim.Native.Nat.{ℕ, _+_, _-_, _^_}
+use Prim.Native.Nat.{ℕ, _+_, _-_, _*_, _^_}
 use Rattle.octets.specs.Eqs.{maxEqs}
 use Rattle.clock.specs.Ticks.{maxTick}
 
@@ -14,6 +14,10 @@ maxLlids = 4
 -- units of an OLT
 abbrev pub maxUnits : ℕ
 maxUnits = 16
+
+-- LLIDs of a full table
+abbrev pub maxTableLlids : ℕ
+maxTableLlids = maxUnits * maxLlids
 
 -- ticks of a timer's interval
 abbrev pub maxInterval : ℕ

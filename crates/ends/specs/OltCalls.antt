@@ -1,5 +1,5 @@
 -- The calls of the OLT but send and receive (01, Clock; Keys; 'When the reader says no'). Each gives number, end and what is handed
--- over together. Assumes nothing.
+-- over together, and its `..Order` is the paper's list of its refusals as one chain, with 1 for the lent end ahead. Assumes nothing.
 use mathlib.Core.Bool.{Bool, not}
 use mathlib.Core.List.{List, _++_, map}
 use Prim.Native.Nat.{ℕ, _+_}
@@ -7,21 +7,21 @@ use lib.Dec.{leb, ltb}
 use lib.ListN.{drop}
 use Rattle.octets.specs.Choice.{both, either}
 use Rattle.refusal.specs.Number.{verdictNumber}
-use Rattle.refusal.specs.declared.Refusal.the-variants.{OutOfRange, RepeatedLlid, TableFull}
+use Rattle.refusal.specs.declared.Refusal.the-variants.{OutOfRange, UnknownLlid, RepeatedLlid, TableFull}
 use Rattle.refusal.specs.declared.Verdict.{Verdict}
 use Rattle.refusal.specs.declared.Verdict.the-variants.{Accepted}
 use Rattle.clock.specs.Ticks.{clockTurn, maxRoundTrip, advanced}
 use Rattle.clock.specs.declared.Stamps.{Stamps}
 use Rattle.ends.specs.Limits.{maxUnits}
-use Rattle.ends.specs.Replies.{refuseIf, Silence, silent, Reply, reply, advanceVerdict}
+use Rattle.ends.specs.Replies.{refuseIf, onValid, Silence, silent, Reply, reply, advanceVerdict}
 use Rattle.ends.specs.Timers.{validInterval}
 use Rattle.ends.specs.Messages.{noStamps, noKeyMessage}
 use Rattle.ends.specs.Identities.{distinct, meets, llidsOf, validMac, validIdentity}
 use Rattle.ends.specs.Records.{freshUnit, newOlt}
-use Rattle.ends.specs.Table.{registered, tableLlids, withOneMore}
+use Rattle.ends.specs.Table.{registered, tableLlids, isRegistered, unitNamed, withOneMore}
 use Rattle.ends.specs.Validity.{validOlt}
 use Rattle.ends.specs.Lift.{lift}
-use Rattle.ends.specs.UnitCalls.{unitAdvanced, captureUnit, clockSendUnit, offerUnit, retryUnit, acknowledgeUnit}
+use Rattle.ends.specs.UnitCalls.{unitAdvanced, captureUnit, clockSendVerdict, clockSendUnit, offerVerdict, offerUnit, retryVerdict, retryUnit, acknowledgeVerdict, acknowledgeUnit}
 use Rattle.ends.specs.declared.Identity.{Identity}
 use Rattle.ends.specs.declared.Shared.{Shared}
 use Rattle.ends.specs.declared.Olt.{Olt}
@@ -57,9 +57,11 @@ registerVerdict o i trip interval =
     (refuseIf (either (not (distinct (llidsOf i))) (meets (llidsOf i) (tableLlids (registered o)))) RepeatedLlid
     (refuseIf (leb maxUnits (o .count)) TableFull Accepted))
 
+abbrev pub registerOrder : Olt → Identity → ℕ → ℕ → Verdict
+registerOrder o i trip interval = onValid (validOlt o) (registerVerdict o i trip interval)  -- 1, 3, 4
+
 unfoldable pub registering : Olt → Identity → ℕ → ℕ → Reply Olt Silence
-registering o i trip interval =
-    reply (refuseIf (not (validOlt o)) OutOfRange (registerVerdict o i trip interval)) o silent (withOneMore o (freshUnit i trip interval)) silent
+registering o i trip interval = reply (registerOrder o i trip interval) o silent (withOneMore o (freshUnit i trip interval)) silent
 
 unfoldable pub registerOf : Olt → Identity → ℕ → ℕ → OltAnswer
 registerOf o i trip interval = oltAnswer (registering o i trip interval)
@@ -77,25 +79,65 @@ oltAdvanced o n =
       units = map (unitAdvanced n) (registered o) ++ drop (o .count) (o .units);
     }
 
+abbrev pub advanceOrder : Olt → ℕ → Verdict
+advanceOrder o n = onValid (validOlt o) (advanceVerdict (o .shared .tick) n)  -- 17
+
 unfoldable pub advancingOlt : Olt → ℕ → Reply Olt Silence
-advancingOlt o n = reply (refuseIf (not (validOlt o)) OutOfRange (advanceVerdict (o .shared .tick) n)) o silent (oltAdvanced o n) silent
+advancingOlt o n = reply (advanceOrder o n) o silent (oltAdvanced o n) silent
 
 unfoldable pub advanceOltOf : Olt → ℕ → OltAnswer
 advanceOltOf o n = oltAnswer (advancingOlt o n)
 
----- calls on one unit: 2, then the unit's own
+---- capture: 2
+
+unfoldable pub captureOrder : Olt → ℕ → Verdict
+captureOrder o llid =
+    onValid (validOlt o)
+    (refuseIf (not (isRegistered o llid)) UnknownLlid Accepted)  -- 2
 
 unfoldable pub captureOf : Olt → ℕ → OltAnswer
 captureOf o llid = oltAnswer (lift o silent Accepted llid captureUnit)
 
+---- clock send: 2, 8, 16
+
+unfoldable pub clockSendOrder : Olt → ℕ → Verdict
+clockSendOrder o llid =
+    onValid (validOlt o)
+    (refuseIf (not (isRegistered o llid)) UnknownLlid  -- 2
+    (clockSendVerdict (unitNamed o llid .clock) (o .shared .tick)))  -- 8, 16
+
 unfoldable pub clockSendOf : Olt → ℕ → ClockSent
 clockSendOf o llid = clockSent (lift o noStamps Accepted llid clockSendUnit)
+
+---- offer: 2, 5, 6, 7, 17
+
+unfoldable pub offerOrder : Olt → ℕ → List ℕ → Verdict
+offerOrder o llid key =
+    onValid (validOlt o)
+    (refuseIf (not (isRegistered o llid)) UnknownLlid  -- 2
+    (offerVerdict (unitNamed o llid) key))  -- 5, 6, 7, 17
 
 unfoldable pub offerOf : Olt → ℕ → List ℕ → KeySent
 offerOf o llid key = keySent (lift o noKeyMessage Accepted llid (offerUnit llid key))
 
+---- retry: 2, 8
+
+unfoldable pub retryOrder : Olt → ℕ → Verdict
+retryOrder o llid =
+    onValid (validOlt o)
+    (refuseIf (not (isRegistered o llid)) UnknownLlid  -- 2
+    (retryVerdict (unitNamed o llid .keys)))  -- 8
+
 unfoldable pub retryOf : Olt → ℕ → KeySent
 retryOf o llid = keySent (lift o noKeyMessage Accepted llid (retryUnit llid))
+
+---- acknowledgement: 2, 8
+
+unfoldable pub acknowledgeOrder : Olt → ℕ → Acknowledgement → Verdict
+acknowledgeOrder o llid a =
+    onValid (validOlt o)
+    (refuseIf (not (isRegistered o llid)) UnknownLlid  -- 2
+    (acknowledgeVerdict a (unitNamed o llid)))  -- 8
 
 unfoldable pub acknowledgeOf : Olt → ℕ → Acknowledgement → OltAnswer
 acknowledgeOf o llid a = oltAnswer (lift o silent Accepted llid (acknowledgeUnit a))

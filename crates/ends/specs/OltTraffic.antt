@@ -3,24 +3,45 @@
 use mathlib.Core.Bool.{Bool, not}
 use Prim.Native.Nat.{ℕ}
 use Rattle.octets.specs.Choice.{both}
-use Rattle.refusal.specs.declared.Refusal.the-variants.{OutOfRange, BadLength}
+use Rattle.refusal.specs.declared.Refusal.the-variants.{OutOfRange, UnknownLlid, BadLength}
+use Rattle.refusal.specs.declared.Verdict.{Verdict}
 use Rattle.refusal.specs.declared.Verdict.the-variants.{Accepted}
-use Rattle.ends.specs.Replies.{refuseIf, Reply}
+use Rattle.ends.specs.Replies.{refuseIf, onValid, Reply}
 use Rattle.ends.specs.Occupancy.{downstream, upstream}
+use Rattle.ends.specs.Table.{isRegistered, unitNamed}
+use Rattle.ends.specs.Validity.{validOlt}
 use Rattle.ends.specs.Lift.{lift}
 use Rattle.ends.specs.Headers.{validHeader, noPassage, noSending}
-use Rattle.ends.specs.UnitTraffic.{sendUnit, receiveUnit}
+use Rattle.ends.specs.UnitTraffic.{unitSendVerdict, sendUnit, unitReceiveVerdict, receiveUnit}
 use Rattle.ends.specs.declared.Olt.{Olt}
 use Rattle.ends.specs.declared.Header.{Header}
 use Rattle.ends.specs.declared.Passage.{Passage}
 use Rattle.ends.specs.declared.Sending.{Sending}
 
--- 14, 1, 2, then the unit's own
+---- send: 14, 1, 2, 12, 13
+
+unfoldable pub sendOrder : Olt → Bool → ℕ → ℕ → Verdict
+sendOrder o misfit llid channel =
+    onValid (validOlt o)
+    (refuseIf misfit BadLength  -- 14
+    (refuseIf (not (downstream channel)) OutOfRange  -- 1
+    (refuseIf (not (isRegistered o llid)) UnknownLlid  -- 2
+    (unitSendVerdict (o .shared) (unitNamed o llid) channel))))  -- 12, 13
+
 unfoldable pub sendingOlt : Olt → Bool → ℕ → ℕ → ℕ → Reply Olt Sending
 sendingOlt o misfit llid channel eqs =
     lift o noSending (refuseIf misfit BadLength (refuseIf (not (downstream channel)) OutOfRange Accepted)) llid (sendUnit llid channel eqs)
 
--- 14, 1, 2, then the unit's own
+---- receive: 14, 1, 2, 10, 11, 9
+
+unfoldable pub receiveOrder : Olt → Bool → Header → Verdict
+receiveOrder o misfit h =
+    onValid (validOlt o)
+    (refuseIf misfit BadLength  -- 14
+    (refuseIf (not (both (upstream (h .channel)) (validHeader h))) OutOfRange  -- 1
+    (refuseIf (not (isRegistered o (h .llid))) UnknownLlid  -- 2
+    (unitReceiveVerdict (o .shared) (unitNamed o (h .llid)) h))))  -- 10, 11, 9
+
 unfoldable pub receivingOlt : Olt → Bool → Header → Reply Olt Passage
 receivingOlt o misfit h =
     lift o noPassage (refuseIf misfit BadLength (refuseIf (not (both (upstream (h .channel)) (validHeader h))) OutOfRange Accepted)) (h .llid)

@@ -13,7 +13,7 @@ use Rattle.clock.specs.Ticks.{clockTurn, localTurn, advanced, localAdvanced, lo
 use Rattle.clock.specs.Stamping.{raisedTo}
 use Rattle.clock.specs.declared.Stamps.{Stamps}
 use Rattle.ends.specs.Limits.{maxKeyNumber}
-use Rattle.ends.specs.Replies.{isUp, refuseIf, Silence, silent, Reply, reply, advanceVerdict}
+use Rattle.ends.specs.Replies.{isUp, refuseIf, onValid, Silence, silent, Reply, reply, advanceVerdict}
 use Rattle.ends.specs.Keys.{keyIn, withKey}
 use Rattle.ends.specs.Identities.{noIdentity, distinct, llidsOf, has, validMac, validIdentity}
 use Rattle.ends.specs.Records.{newOnu, withOnuClock, withOnuKeys}
@@ -36,7 +36,7 @@ onuAcknowledged r = record { number = verdictNumber (r .verdict); onu = r .end; 
 
 -- 1 for a lent end that is not valid, then what the call refuses
 unfoldable pub onuReply : {H : Type 0} → Onu → H → Verdict → Onu → H → Reply Onu H
-onuReply o nothing v next handed = reply (refuseIf (not (validOnu o)) OutOfRange v) o nothing next handed
+onuReply o nothing v next handed = reply (onValid (validOnu o) v) o nothing next handed
 
 ---- a fresh ONU: 1, 3, with an end of zeros
 

@@ -4,16 +4,15 @@ use mathlib.Core.Bool.{Bool, not}
 use Prim.Native.Nat.{ℕ, _+_, _%_}
 use lib.Dec.{leb, eqb}
 use Rattle.octets.specs.Choice.{both, pick}
-use Rattle.refusal.specs.declared.Refusal.the-variants.{OutOfRange, UnknownLlid, ClockNotSet, NoKey, EpamDiffers, ClearEnvelope, ChannelTaken, KeyTooOld, BadLength}
+use Rattle.refusal.specs.declared.Refusal.the-variants.{OutOfRange, UnknownLlid, ClockNotSet, NoKey, EpamDiffers, ClearEnvelope, BadLength}
 use Rattle.refusal.specs.declared.Verdict.{Verdict}
-use Rattle.refusal.specs.declared.Verdict.the-variants.{Accepted}
 use Rattle.clock.specs.Ticks.{epamOf}
 use Rattle.ends.specs.Replies.{isUp, refuseIf, Reply}
 use Rattle.ends.specs.Keys.{onlyKey, notNoted, firstSend}
-use Rattle.ends.specs.Occupancy.{downstream, upstream, taken, occupied}
+use Rattle.ends.specs.Occupancy.{downstream, upstream, occupied}
 use Rattle.ends.specs.Identities.{has}
 use Rattle.ends.specs.Records.{withOnuKeys, withOnuFirst, withOnuChannels}
-use Rattle.ends.specs.Headers.{validHeader, choiceVerdict, choiceAged, passageOf, sendingOf, noPassage, noSending}
+use Rattle.ends.specs.Headers.{validHeader, choiceVerdict, channelThenKey, passageOf, sendingOf, noPassage, noSending}
 use Rattle.ends.specs.OnuCalls.{onuReply}
 use Rattle.ends.specs.declared.OnuKeys.{OnuKeys}
 use Rattle.ends.specs.declared.Onu.{Onu}
@@ -34,8 +33,7 @@ onuSendVerdict o misfit llid channel =
     refuseIf misfit BadLength
     (refuseIf (not (upstream channel)) OutOfRange
     (refuseIf (not (has (o .identity) llid)) UnknownLlid
-    (refuseIf (taken (o .channels) channel (o .tick)) ChannelTaken
-    (refuseIf (choiceAged (onuSendChoice (o .keys)) (o .first) (o .tick)) KeyTooOld Accepted))))
+    (channelThenKey (o .channels) channel (onuSendChoice (o .keys)) (o .first) (o .tick))))
 
 -- a send under a key may be its first
 unfoldable pub onuNoted : KeyChoice → Onu → Onu

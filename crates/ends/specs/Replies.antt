@@ -1,9 +1,9 @@
 -- What a call decides and leaves (01, 'When the reader says no'). Assumes nothing.
-use mathlib.Core.Bool.{Bool, true, false}
+use mathlib.Core.Bool.{Bool, true, false, not}
 use Prim.Native.Nat.{ℕ, _+_}
 use lib.Dec.{ltb, eqb}
 use Rattle.refusal.specs.declared.Refusal.{Refusal}
-use Rattle.refusal.specs.declared.Refusal.the-variants.{AtEnd}
+use Rattle.refusal.specs.declared.Refusal.the-variants.{OutOfRange, AtEnd}
 use Rattle.refusal.specs.declared.Verdict.{Verdict}
 use Rattle.refusal.specs.declared.Verdict.the-variants.{Accepted, Refused}
 use Rattle.clock.specs.Ticks.{maxTick}
@@ -16,6 +16,15 @@ isUp flag = eqb flag 1
 unfoldable pub refuseIf : Bool → Refusal → Verdict → Verdict
 refuseIf true r v = Refused r
 refuseIf false r v = v
+
+-- one list of refusals after another
+unfoldable pub andThen : Verdict → Verdict → Verdict
+andThen Accepted v = v
+andThen (Refused r) v = Refused r
+
+-- ahead of each list comes 1, for an end that is not valid
+abbrev pub onValid : Bool → Verdict → Verdict
+onValid valid v = refuseIf (not valid) OutOfRange v
 
 -- a call that hands over nothing hands over this
 pub data Silence : Type 0 where

@@ -1,11 +1,12 @@
 -- The table of an OLT's units (01, Clock: OLT calls name a unit by any of its LLIDs). Assumes nothing.
+use mathlib.Core.Bool.{Bool}
 use mathlib.Core.List.{List, [], _∷_, _++_}
 use Prim.Native.Nat.{ℕ, suc, _+_}
 use lib.ListN.{take, getD, set}
 use Rattle.octets.specs.Choice.{pick}
 use Rattle.refusal.specs.Number.{numberOf}
 use Rattle.refusal.specs.declared.Refusal.the-variants.{UnknownLlid}
-use Rattle.ends.specs.Identities.{llidsOf, has}
+use Rattle.ends.specs.Identities.{among, llidsOf, has}
 use Rattle.ends.specs.Records.{withChannels}
 use Rattle.ends.specs.declared.Channels.{Channels}
 use Rattle.ends.specs.declared.UnitRecord.{UnitRecord}
@@ -21,6 +22,10 @@ registered o = take (o .count) (o .units)
 unfoldable pub tableLlids : List UnitRecord → List ℕ
 tableLlids [] = []
 tableLlids (u ∷ us) = llidsOf (u .identity) ++ tableLlids us
+
+-- a registered unit has the LLID
+abbrev pub isRegistered : Olt → ℕ → Bool
+isRegistered o llid = among llid (tableLlids (registered o))
 
 -- the first unit that has the LLID, its place counted from i
 unfoldable pub findFrom : ℕ → List UnitRecord → ℕ → Found
@@ -54,6 +59,14 @@ pastUnit =
 
 abbrev pub unitAt : Olt → ℕ → UnitRecord
 unitAt o i = getD (o .units) i pastUnit
+
+unfoldable pub unitFound : Olt → Found → UnitRecord
+unitFound o (At i) = unitAt o i
+unitFound o Nowhere = pastUnit
+
+-- the unit that a call names by an LLID
+abbrev pub unitNamed : Olt → ℕ → UnitRecord
+unitNamed o llid = unitFound o (find o llid)
 
 -- one unit and the channels replaced
 unfoldable pub withUnit : Olt → ℕ → Channels → UnitRecord → Olt

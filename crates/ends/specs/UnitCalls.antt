@@ -1,5 +1,5 @@
 -- The clock and key calls of the OLT on one unit (01, Clock; Keys). Assumes nothing.
-use mathlib.Core.Bool.{not}
+use mathlib.Core.Bool.{Bool, false, not}
 use mathlib.Core.List.{List}
 use Prim.Native.Nat.{ℕ, _+_, _-_}
 use lib.Dec.{leb, ltb, eqb}
@@ -90,6 +90,15 @@ unfoldable pub retryUnit : ℕ → Shared → UnitRecord → Outcome KeyMessage
 retryUnit llid s u = outcome s (retryVerdict (u .keys)) u (keyMessageOf llid (u .keys))
 
 ---- acknowledgement: 8
+
+-- what it acknowledges is outstanding, by its kind: a clock message that was sent, or number O, which is 1 or more
+unfoldable pub outstanding : Acknowledgement → UnitRecord → Bool
+outstanding a u =
+    pick (eqb (a .kind) clockKind) (isUp (u .clock .sent))
+    (pick (eqb (a .kind) keyKind) (both (leb 1 (a .number)) (eqb (a .number) (u .keys .offered))) false)
+
+unfoldable pub acknowledgeVerdict : Acknowledgement → UnitRecord → Verdict
+acknowledgeVerdict a u = refuseIf (not (outstanding a u)) NothingOutstanding Accepted
 
 -- a clock acknowledgement needs a clock message sent
 unfoldable pub clockAcknowledgedUnit : Shared → UnitRecord → Outcome Silence

@@ -3,17 +3,16 @@ use mathlib.Core.Bool.{Bool, not}
 use Prim.Native.Nat.{ℕ, _+_, _%_}
 use lib.Dec.{leb, eqb}
 use Rattle.octets.specs.Choice.{both, pick}
-use Rattle.refusal.specs.declared.Refusal.the-variants.{NoKey, EpamDiffers, ClearEnvelope, ChannelTaken, KeyTooOld}
+use Rattle.refusal.specs.declared.Refusal.the-variants.{NoKey, EpamDiffers, ClearEnvelope}
 use Rattle.refusal.specs.declared.Verdict.{Verdict}
-use Rattle.refusal.specs.declared.Verdict.the-variants.{Accepted}
 use Rattle.clock.specs.Ticks.{epamOf}
 use Rattle.ends.specs.Replies.{isUp, refuseIf}
 use Rattle.ends.specs.Timers.{timerFallen}
 use Rattle.ends.specs.Keys.{onlyKey, notedAt, firstSend}
-use Rattle.ends.specs.Occupancy.{taken, occupied}
+use Rattle.ends.specs.Occupancy.{occupied}
 use Rattle.ends.specs.Records.{withKeys, withConfirmation, withSlots, withFirst}
 use Rattle.ends.specs.Lift.{Outcome, outcome}
-use Rattle.ends.specs.Headers.{choiceVerdict, choiceAged, passageOf, sendingOf}
+use Rattle.ends.specs.Headers.{choiceVerdict, channelThenKey, passageOf, sendingOf}
 use Rattle.ends.specs.declared.UnitKeys.{UnitKeys}
 use Rattle.ends.specs.declared.UnitRecord.{UnitRecord}
 use Rattle.ends.specs.declared.Shared.{Shared}
@@ -35,9 +34,7 @@ unfoldable pub unitSendChoice : UnitRecord → KeyChoice
 unitSendChoice u = pick (switches u) (Next (u .keys .offered)) (pick (eqb (u .keys .active) 0) Clear (Current (u .keys .active)))
 
 unfoldable pub unitSendVerdict : Shared → UnitRecord → ℕ → Verdict
-unitSendVerdict s u channel =
-    refuseIf (taken (s .channels) channel (s .tick)) ChannelTaken
-    (refuseIf (choiceAged (unitSendChoice u) (u .keys .first) (s .tick)) KeyTooOld Accepted)
+unitSendVerdict s u channel = channelThenKey (s .channels) channel (unitSendChoice u) (u .keys .first) (s .tick)
 
 -- A becomes O, the flag falls, and this is the key's first send
 unfoldable pub keysSwitched : UnitKeys → ℕ → UnitKeys

@@ -1,5 +1,7 @@
--- When a lent end is valid (01, 'When the reader says no': Ahead of each list comes 1). Each line is a cause of that sentence, and
--- there is no other; a place that is not in use is no field of the end. Assumes nothing.
+-- When a lent end is valid (01, 'When the reader says no': Ahead of each list comes 1). Beside each line stands the cause of that
+-- sentence that it excludes, and there is no other. The types hold the ranges that are not tested here: an LLID is a u16, all codes
+-- allowed; A, C, O and a are u32, so key numbers or 0; a key is sixteen u8. A place that is not in use is no field of the end.
+-- Assumes nothing.
 use mathlib.Core.Bool.{Bool}
 use Prim.Native.Nat.{ℕ, _+_}
 use lib.Dec.{leb, ltb, eqb}
@@ -22,53 +24,65 @@ use Rattle.ends.specs.declared.OnuKeys.{OnuKeys}
 use Rattle.ends.specs.declared.OnuClock.{OnuClock}
 use Rattle.ends.specs.declared.Onu.{Onu}
 
--- C is A or A - 1, O is A or A + 1, and not C = A - 1 with O = A + 1
 unfoldable pub validNumbers : ℕ → ℕ → ℕ → Bool
-validNumbers confirmed active offered = both (leb confirmed active) (both (leb active offered) (leb offered (confirmed + 1)))
+validNumbers confirmed active offered =
+    both (leb confirmed active)  -- C above A
+    (both (leb active offered)  -- O below A
+    (leb offered (confirmed + 1)))  -- C below A - 1, O above A + 1, or C = A - 1 with O = A + 1, since an offer needs C = A
 
 unfoldable pub validKeys : ℕ → UnitKeys → Bool
-validKeys tick k = both (validTimer (k .timer)) (validFirst (k .first) tick)
+validKeys tick k =
+    both (validTimer (k .timer))  -- interval or flag outside its range; a count that is not below the interval
+    (validFirst (k .first) tick)  -- flag outside its range; a first send later than the tick
 
 unfoldable pub validUnitClock : ℕ → UnitClock → Bool
 validUnitClock tick c =
-    both (leb (c .trip) maxRoundTrip)
-    (both (leb (c .captured) 1)
-    (both (either (eqb (c .captured) 0) (leb (c .tick) tick))
-    (both (leb (c .sent) 1) (leb (c .acknowledged) 1))))
+    both (leb (c .trip) maxRoundTrip)  -- round trip outside its range
+    (both (leb (c .captured) 1)  -- flag outside its range
+    (both (either (eqb (c .captured) 0) (leb (c .tick) tick))  -- a capture later than the tick
+    (both (leb (c .sent) 1) (leb (c .acknowledged) 1))))  -- flags outside their range
 
 unfoldable pub validUnit : ℕ → UnitRecord → Bool
 validUnit tick u =
-    both (validIdentity (u .identity))
+    both (validIdentity (u .identity))  -- MAC or number of LLIDs outside its range
     (both (validKeys tick (u .keys))
-    (both (validNumbers (u .confirmation .confirmed) (u .keys .active) (u .keys .offered))
-    (both (leb (u .confirmation .acknowledged) 1) (validUnitClock tick (u .clock)))))
+    (both (validNumbers (u .confirmation .confirmed) (u .keys .active) (u .keys .offered))  -- A, C or O breaking the rules
+    (both (leb (u .confirmation .acknowledged) 1)  -- flag outside its range
+    (validUnitClock tick (u .clock)))))
 
 unfoldable pub validShared : Shared → Bool
 validShared s =
-    both (validMac (s .mac))
-    (both (leb (s .tick) maxTick) (both (ltb (s .clock) clockTurn) (validChannels (s .channels))))
+    both (validMac (s .mac))  -- MAC outside its range
+    (both (leb (s .tick) maxTick)  -- tick outside its range
+    (both (ltb (s .clock) clockTurn)  -- clock outside its range
+    (validChannels (s .channels))))  -- a channel's tick outside its range
 
 unfoldable pub validOlt : Olt → Bool
 validOlt o =
-    both (leb (o .count) maxUnits)
+    both (leb (o .count) maxUnits)  -- number of units outside its range
     (both (validShared (o .shared))
-    (both (all (validUnit (o .shared .tick)) (registered o)) (distinct (tableLlids (registered o)))))
+    (both (all (validUnit (o .shared .tick)) (registered o))
+    (distinct (tableLlids (registered o)))))  -- an LLID twice
 
--- the number a + 1 of a held key is a key number
 unfoldable pub validOnuKeys : OnuKeys → Bool
-validOnuKeys k = both (leb (k .held) 1) (either (eqb (k .held) 0) (ltb (k .active) maxKeyNumber))
+validOnuKeys k =
+    both (leb (k .held) 1)  -- flag outside its range
+    (either (eqb (k .held) 0) (ltb (k .active) maxKeyNumber))  -- number a + 1 of a held key outside the key numbers
 
 -- Tx and LocalTime share the field `time`: it is Tx, of 48 bits, once synced, and LocalTime, of 32, before
 unfoldable pub validOnuClock : OnuClock → Bool
 validOnuClock c =
-    both (leb (c .synced) 1)
-    (both (ltb (c .rx) clockTurn) (pick (isUp (c .synced)) (ltb (c .time) clockTurn) (ltb (c .time) localTurn)))
+    both (leb (c .synced) 1)  -- flag outside its range
+    (both (ltb (c .rx) clockTurn)  -- Rx outside its range
+    (pick (isUp (c .synced)) (ltb (c .time) clockTurn) (ltb (c .time) localTurn)))  -- Tx or LocalTime outside its range
 
 unfoldable pub validOnu : Onu → Bool
 validOnu o =
-    both (validIdentity (o .identity))
-    (both (distinct (llidsOf (o .identity)))
-    (both (validMac (o .oltmac))
-    (both (leb (o .tick) maxTick)
+    both (validIdentity (o .identity))  -- MAC or number of LLIDs outside its range
+    (both (distinct (llidsOf (o .identity)))  -- an LLID twice
+    (both (validMac (o .oltmac))  -- the OLT's MAC outside its range
+    (both (leb (o .tick) maxTick)  -- tick outside its range
     (both (validOnuClock (o .clock))
-    (both (validOnuKeys (o .keys)) (both (validFirst (o .first) (o .tick)) (validChannels (o .channels))))))))
+    (both (validOnuKeys (o .keys))
+    (both (validFirst (o .first) (o .tick))  -- flag outside its range; a first send later than the tick
+    (validChannels (o .channels))))))))  -- a channel's tick outside its range

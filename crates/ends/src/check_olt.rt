@@ -1,16 +1,23 @@
 // Whether an OLT that is lent is valid (01, 'When the reader says no': Ahead of each list comes 1).
 ghost use mathlib.Core.Path.{_≡_};
-ghost use mathlib.Core.Bool.{true, false};
+ghost use mathlib.Core.Bool.{true, false, not};
 ghost use mathlib.Core.List.{_++_};
 ghost use Prim.Native.Nat.{ℕ, _+_, _≤_, _<_};
 ghost use lib.ListN.{length, getD, take, drop};
+ghost use Rattle.refusal.specs.Number.{verdictNumber};
+ghost use Rattle.refusal.specs.declared.Refusal.the-variants.{UnknownLlid};
+ghost use Rattle.refusal.specs.declared.Verdict.the-variants.{Accepted};
 ghost use Rattle.ends.specs.Identities.{among, distinct, llidsOf, meets};
+ghost use Rattle.ends.specs.Limits.{maxLlids, maxTableLlids, maxUnits};
+ghost use Rattle.ends.specs.Replies.{refuseIf};
 ghost use Rattle.ends.specs.Timers.{validInterval, validTimer};
 ghost use Rattle.octets.specs.Lists.{all};
-ghost use Rattle.ends.specs.Table.{findFrom, pastUnit, tableLlids};
+ghost use Rattle.ends.specs.Table.{findFrom, foundNumber, pastUnit, tableLlids};
 ghost use Rattle.ends.specs.Validity.{validKeys, validNumbers, validOlt, validShared, validUnit, validUnitClock};
 use crate::Found;
 use crate::Identity;
+use crate::MAX_LLIDS;
+use crate::MAX_UNITS;
 use crate::Olt;
 use crate::Shared;
 use crate::Timer;
@@ -90,8 +97,8 @@ pub fn valid_shared(shared: Shared) -> bool
     mac & ((shared.tick <= MAX_TICK) & ((shared.clock < CLOCK_TURN) & channels))
 }
 
-fn valid_units(tick: u64, units: [UnitRecord; 16], count: u8) -> bool
-    requires { ⌜ count ≤ 16 ⌝ }
+fn valid_units(tick: u64, units: [UnitRecord; MAX_UNITS as usize], count: u8) -> bool
+    requires { ⌜ count ≤ maxUnits ⌝ }
     ensures { λ r. ⌜ r ≡ all (validUnit tick) (take count units) ⌝ }
 {
     let n = count as usize;
@@ -106,15 +113,18 @@ fn valid_units(tick: u64, units: [UnitRecord; 16], count: u8) -> bool
     true
 }
 
+// LLIDs of a full table.
+const TABLE_LLIDS: usize = MAX_UNITS as usize * MAX_LLIDS as usize;
+
 // The LLIDs of a table, of which the first `count` places are in use.
 struct TableLlids {
-    list: [u16; 64],
+    list: [u16; TABLE_LLIDS],
     count: usize,
 }
 
 fn with_llids(table: TableLlids, identity: Identity) -> TableLlids
-    requires { ⌜ table .count ≤ 60 ⌝ }
-    requires { ⌜ identity .count ≤ 4 ⌝ }
+    requires { ⌜ table .count + maxLlids ≤ maxTableLlids ⌝ }
+    requires { ⌜ identity .count ≤ maxLlids ⌝ }
     ensures { λ r. ⌜ (take (r .count) (r .list) ≡ take (table .count) (table .list) ++ llidsOf identity) × (r .count ≡ table .count + identity .count) ⌝ }
 {
     let mut r = table;
@@ -131,13 +141,13 @@ fn with_llids(table: TableLlids, identity: Identity) -> TableLlids
     r
 }
 
-fn table_llids(units: [UnitRecord; 16], count: u8) -> TableLlids
-    requires { ⌜ count ≤ 16 ⌝ }
-    requires { ⌜ ((i : ℕ) → i < count → getD units i pastUnit .identity .count ≤ 4) ⌝ }
-    ensures { λ r. ⌜ (take (r .count) (r .list) ≡ tableLlids (take count units)) × (r .count ≤ 64) ⌝ }
+fn table_llids(units: [UnitRecord; MAX_UNITS as usize], count: u8) -> TableLlids
+    requires { ⌜ count ≤ maxUnits ⌝ }
+    requires { ⌜ ((i : ℕ) → i < count → getD units i pastUnit .identity .count ≤ maxLlids) ⌝ }
+    ensures { λ r. ⌜ (take (r .count) (r .list) ≡ tableLlids (take count units)) × (r .count ≤ maxTableLlids) ⌝ }
 {
     let mut table = TableLlids {
-        list: [0; 64],
+        list: [0; TABLE_LLIDS],
         count: 0,
     };
     let n = count as usize;
@@ -198,7 +208,7 @@ pub fn valid_olt(olt: Olt) -> bool
     ensures { λ r. ⌜ r ≡ validOlt olt ⌝ }
 {
     let count = olt.count;
-    if 16 < count {
+    if MAX_UNITS < count {
         return false;
     }
     if !valid_shared(olt.shared) {
@@ -215,11 +225,12 @@ pub fn valid_olt(olt: Olt) -> bool
 }
 
 // Which of the first `count` units has the LLID.
-pub fn find(units: [UnitRecord; 16], count: u8, llid: u16) -> Found
+pub fn find(units: [UnitRecord; MAX_UNITS as usize], count: u8, llid: u16) -> Found
     ensures { λ r. ⌜ r ≡ findFrom 0 (take count units) llid ⌝ }
+    ensures number { λ r. ⌜ foundNumber r ≡ verdictNumber (refuseIf (not (among llid (tableLlids (take count units)))) UnknownLlid Accepted) ⌝ }
 {
     let mut i: usize = 0;
-    while i < 16 {
+    while i < MAX_UNITS as usize {
         if count as usize <= i {
             return Found::Nowhere;
         }
@@ -232,7 +243,7 @@ pub fn find(units: [UnitRecord; 16], count: u8, llid: u16) -> Found
     Found::Nowhere
 }
 
-fn stands_in(units: [UnitRecord; 16], count: u8, llid: u16) -> bool
+fn stands_in(units: [UnitRecord; MAX_UNITS as usize], count: u8, llid: u16) -> bool
     ensures { λ r. ⌜ r ≡ among llid (tableLlids (take count units)) ⌝ }
 {
     let found = find(units, count, llid);
@@ -243,7 +254,7 @@ fn stands_in(units: [UnitRecord; 16], count: u8, llid: u16) -> bool
 }
 
 // Whether one of the LLIDs is that of a registered unit.
-pub fn meets_table(units: [UnitRecord; 16], count: u8, identity: Identity) -> bool
+pub fn meets_table(units: [UnitRecord; MAX_UNITS as usize], count: u8, identity: Identity) -> bool
     ensures { λ r. ⌜ r ≡ meets (llidsOf identity) (tableLlids (take count units)) ⌝ }
 {
     let llids = identity.llids;

@@ -40,11 +40,17 @@ pub struct Channels {
     pub one: u64,
 }
 
+// LLIDs of a unit.
+pub const MAX_LLIDS: u8 = 4;
+
+// Units of an OLT.
+pub const MAX_UNITS: u8 = 16;
+
 // A unit's MAC and its 1 to 4 LLIDs.
 #[repr(C)]
 pub struct Identity {
     pub mac: u64,
-    pub llids: [u16; 4],
+    pub llids: [u16; MAX_LLIDS as usize],
     pub count: u8,
 }
 
@@ -97,7 +103,7 @@ pub struct Shared {
 pub struct Olt {
     pub shared: Shared,
     pub count: u8,
-    pub units: [UnitRecord; 16],
+    pub units: [UnitRecord; MAX_UNITS as usize],
 }
 
 // A unit's own keys: a, and whether a + 1 is held.

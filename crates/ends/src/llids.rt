@@ -7,6 +7,7 @@ ghost use Rattle.octets.specs.Choice.{pick};
 ghost use Rattle.octets.specs.Lists.{tabulate};
 ghost use Rattle.ends.specs.Identities.{among, distinct, has, kept, llidsOf, validIdentity, validMac};
 use crate::Identity;
+use crate::MAX_LLIDS;
 
 pub const MAC_TURN: u64 = 0x1_0000_0000_0000;
 
@@ -19,14 +20,14 @@ pub fn valid_mac(mac: u64) -> bool
 pub fn valid_identity(identity: Identity) -> bool
     ensures { λ r. ⌜ r ≡ validIdentity identity ⌝ }
 {
-    valid_mac(identity.mac) & ((1 <= identity.count) & (identity.count <= 4))
+    valid_mac(identity.mac) & ((1 <= identity.count) & (identity.count <= MAX_LLIDS))
 }
 
 // The LLID at place j.
-pub(crate) fn at(llids: [u16; 4], j: u8) -> u16
+pub(crate) fn at(llids: [u16; MAX_LLIDS as usize], j: u8) -> u16
     ensures { λ r. ⌜ r ≡ getD llids j 0 ⌝ }
 {
-    if j < 4 {
+    if j < MAX_LLIDS {
         return llids[j as usize];
     }
     0
@@ -48,7 +49,7 @@ pub fn has(identity: Identity, llid: u16) -> bool
 }
 
 // The LLID at place j stands at a later one too.
-fn again(llids: [u16; 4], j: u8, count: u8) -> bool
+fn again(llids: [u16; MAX_LLIDS as usize], j: u8, count: u8) -> bool
     requires { ⌜ j < count ⌝ }
     ensures { λ r. ⌜ r ≡ among (getD llids j 0) (tabulate (j + 1) (count - (j + 1)) (λ k. getD llids k 0)) ⌝ }
 {
@@ -78,7 +79,7 @@ pub fn distinct_llids(identity: Identity) -> bool
     true
 }
 
-fn used(llids: [u16; 4], j: u8, count: u8) -> u16
+fn used(llids: [u16; MAX_LLIDS as usize], j: u8, count: u8) -> u16
     ensures { λ r. ⌜ r ≡ pick (ltb j count) (getD llids j 0) 0 ⌝ }
 {
     if j < count {

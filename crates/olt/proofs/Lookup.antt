@@ -3,13 +3,14 @@ use mathlib.Core.Path.{_≡_, refl, ap, _∙_}
 use mathlib.Core.Bool.{Bool, true, false, not}
 use Prim.Native.Nat.{ℕ, _<_}
 use native.Mathlib.Omega.{arith}
+use Rattle.refusal.specs.Number.{verdictNumber}
 use Rattle.refusal.specs.declared.Refusal.{Refusal}
-use Rattle.refusal.specs.declared.Refusal.the-variants.{OutOfRange}
+use Rattle.refusal.specs.declared.Refusal.the-variants.{OutOfRange, UnknownLlid}
 use Rattle.refusal.specs.declared.Verdict.{Verdict}
 use Rattle.refusal.specs.declared.Verdict.the-variants.{Accepted, Refused}
 use Rattle.ends.specs.Limits.{maxUnits}
-use Rattle.ends.specs.Replies.{refuseIf, Reply, reply}
-use Rattle.ends.specs.Table.{find, unitAt, withUnit}
+use Rattle.ends.specs.Replies.{refuseIf, andThen, onValid, Reply, reply}
+use Rattle.ends.specs.Table.{isRegistered, find, unitAt, withUnit}
 use Rattle.ends.specs.Validity.{validOlt}
 use Rattle.ends.specs.Lift.{Outcome, putBack, atUnit, after, lift}
 use Rattle.ends.specs.declared.UnitRecord.{UnitRecord}
@@ -17,9 +18,9 @@ use Rattle.ends.specs.declared.Shared.{Shared}
 use Rattle.ends.specs.declared.Olt.{Olt}
 use Rattle.ends.specs.declared.Found.{Found}
 use Rattle.ends.specs.declared.Found.the-variants.{At, Nowhere}
-use Rattle.ends.proofs.Table.{find-at}
+use Rattle.ends.proofs.Table.{find-at, registered-found, registered-nowhere}
 use Rattle.ends.proofs.Validity.{olt-in-range}
-use Rattle.olt.specs.Lookup.{foundAt, foundAfter, locatedOf}
+use Rattle.olt.specs.Lookup.{foundAt, foundAfter, locatedOf, locateOrder, locatedNumber}
 use Rattle.olt.specs.declared.Located.{Located}
 use Rattle.olt.specs.declared.Located.the-variants.{Place, Denied}
 
@@ -49,6 +50,24 @@ found-below o llid i v f =
 
 pub place-below : (o : Olt) (ahead : Verdict) (llid i : ℕ) → locatedOf o ahead llid ≡ Place i → i < maxUnits
 place-below o ahead llid i e = let r = reaches o ahead llid i e in found-below o llid i (r .valid) (r .found)
+
+-- a place has the number of the first refusal in order
+pub located-ordered : (o : Olt) (ahead : Verdict) (llid : ℕ) (x : Located) → x ≡ locatedOf o ahead llid
+    → (x ≡ locatedOf o ahead llid) × (locatedNumber x ≡ verdictNumber (locateOrder o ahead llid))
+unfolding locatedOf foundAfter foundAt locateOrder andThen refuseIf
+located-ordered o ahead llid x e = (e, ap locatedNumber e ∙ by-case (validOlt o) ahead (find o llid) (isRegistered o llid) known absent) where
+  known : (i : ℕ) → find o llid ≡ At i → isRegistered o llid ≡ true
+  known i f = registered-found o llid i f
+
+  absent : find o llid ≡ Nowhere → isRegistered o llid ≡ false
+  absent f = registered-nowhere o llid f
+
+  by-case : (t : Bool) (v : Verdict) (f : Found) (r : Bool) → ((i : ℕ) → f ≡ At i → r ≡ true) → (f ≡ Nowhere → r ≡ false)
+      → locatedNumber (foundAfter (onValid t v) f) ≡ verdictNumber (onValid t (andThen v (refuseIf (not r) UnknownLlid Accepted)))
+  by-case true Accepted (At i) r k a = rw (k i refl)
+  by-case true Accepted Nowhere r k a = rw (a refl)
+  by-case true (Refused x) f r k a = refl
+  by-case false v f r k a = refl
 
 ---- the call
 

@@ -1,13 +1,9 @@
 -- What an accepted verdict tells of the table. Assumes nothing.
 use mathlib.Core.Path.{_≡_}
-use mathlib.Core.Bool.{not}
 use Prim.Native.Nat.{ℕ, _<_}
-use Rattle.refusal.specs.declared.Refusal.the-variants.{OutOfRange}
 use Rattle.refusal.specs.declared.Verdict.the-variants.{Accepted}
 use Rattle.ends.specs.Limits.{maxUnits}
-use Rattle.ends.specs.Replies.{refuseIf}
-use Rattle.ends.specs.Validity.{validOlt}
-use Rattle.ends.specs.OltCalls.{registerVerdict}
+use Rattle.ends.specs.OltCalls.{registerOrder}
 use Rattle.ends.specs.declared.Identity.{Identity}
 use Rattle.ends.specs.declared.Olt.{Olt}
 use Rattle.ends.proofs.Replies.{refuse-accepted}
@@ -15,5 +11,5 @@ use Rattle.ends.proofs.Registration.{register-accepted}
 
 -- a registration is accepted only where a place is left
 pub register-room : (o : Olt) (i : Identity) (trip interval : ℕ)
-    → refuseIf (not (validOlt o)) OutOfRange (registerVerdict o i trip interval) ≡ Accepted → o .count < maxUnits
+    → registerOrder o i trip interval ≡ Accepted → o .count < maxUnits
 register-room o i trip interval e = register-accepted o i trip interval (refuse-accepted _ _ _ e .1) .room

@@ -3,11 +3,11 @@
 use mathlib.Core.Bool.{not}
 use Prim.Native.Nat.{ℕ}
 use Rattle.refusal.specs.Number.{numberOf}
-use Rattle.refusal.specs.declared.Refusal.the-variants.{OutOfRange, UnknownLlid}
+use Rattle.refusal.specs.declared.Refusal.the-variants.{UnknownLlid}
 use Rattle.refusal.specs.declared.Verdict.{Verdict}
 use Rattle.refusal.specs.declared.Verdict.the-variants.{Accepted, Refused}
-use Rattle.ends.specs.Replies.{refuseIf}
-use Rattle.ends.specs.Table.{find}
+use Rattle.ends.specs.Replies.{refuseIf, andThen, onValid}
+use Rattle.ends.specs.Table.{isRegistered, find}
 use Rattle.ends.specs.Validity.{validOlt}
 use Rattle.ends.specs.declared.Olt.{Olt}
 use Rattle.ends.specs.declared.Found.{Found}
@@ -24,7 +24,11 @@ foundAfter Accepted f = foundAt f
 foundAfter (Refused r) f = Denied r
 
 unfoldable pub locatedOf : Olt → Verdict → ℕ → Located
-locatedOf o ahead llid = foundAfter (refuseIf (not (validOlt o)) OutOfRange ahead) (find o llid)
+locatedOf o ahead llid = foundAfter (onValid (validOlt o) ahead) (find o llid)
+
+-- the refusals in order, as one chain
+unfoldable pub locateOrder : Olt → Verdict → ℕ → Verdict
+locateOrder o ahead llid = onValid (validOlt o) (andThen ahead (refuseIf (not (isRegistered o llid)) UnknownLlid Accepted))
 
 -- the paper's number for a place
 abbrev pub locatedNumber : Located → ℕ

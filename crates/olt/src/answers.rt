@@ -2,6 +2,7 @@
 ghost use mathlib.Core.Path.{_≡_};
 ghost use Prim.Native.Nat.{_<_};
 ghost use Rattle.refusal.specs.declared.Verdict.the-variants.{Accepted, Refused};
+ghost use Rattle.ends.specs.Limits.{maxUnits};
 ghost use Rattle.ends.specs.Replies.{silent, reply};
 ghost use Rattle.ends.specs.Messages.{noKeyMessage, noStamps};
 ghost use Rattle.ends.specs.Table.{withUnit};
@@ -35,7 +36,7 @@ pub(crate) fn refused(olt: Olt, refusal: Refusal) -> OltAnswer
 
 // The unit in its place, where the verdict accepts.
 pub(crate) fn put_back(olt: Olt, i: usize, verdict: Verdict, unit: UnitRecord) -> OltAnswer
-    requires { ⌜ i < 16 ⌝ }
+    requires { ⌜ i < maxUnits ⌝ }
     ensures { λ r. ⌜ r ≡ oltAnswer (reply verdict olt silent (withUnit olt i (olt .shared .channels) unit) silent) ⌝ }
 {
     match verdict {
@@ -62,7 +63,7 @@ pub(crate) fn clock_sent(
     unit: UnitRecord,
     message: Stamps,
 ) -> ClockSent
-    requires { ⌜ i < 16 ⌝ }
+    requires { ⌜ i < maxUnits ⌝ }
     ensures { λ r. ⌜ r ≡ clockSent (reply verdict olt noStamps (withUnit olt i (olt .shared .channels) unit) message) ⌝ }
 {
     match verdict {
@@ -91,7 +92,7 @@ pub(crate) fn key_refused(olt: Olt, refusal: Refusal) -> KeySent
 
 // The unit in its place, and the message of its outstanding offer handed over.
 pub(crate) fn key_sent(olt: Olt, i: usize, unit: UnitRecord, llid: u16) -> KeySent
-    requires { ⌜ i < 16 ⌝ }
+    requires { ⌜ i < maxUnits ⌝ }
     ensures { λ r. ⌜ r ≡ keySent (reply Accepted olt noKeyMessage (withUnit olt i (olt .shared .channels) unit) (keyMessageOf llid (unit .keys))) ⌝ }
 {
     let message = key_message(llid, unit.keys);

@@ -7,7 +7,9 @@ pub mod place;
 mod timing;
 
 ghost use mathlib.Core.Path.{_≡_};
-ghost use Rattle.ends.specs.OltCalls.{acknowledgeOf, advanceOltOf, captureOf, clockSendOf, freshOltOf, offerOf, registerOf, retryOf};
+ghost use Rattle.refusal.specs.Number.{verdictNumber};
+ghost use Rattle.ends.specs.ClockCaptures.{Captures};
+ghost use Rattle.ends.specs.OltCalls.{acknowledgeOf, acknowledgeOrder, advanceOltOf, captureOf, captureOrder, clockSendOf, clockSendOrder, freshOltOf, offerOf, offerOrder, registerOf, retryOf, retryOrder};
 use clock::CLOCK_TURN;
 use ends::Acknowledgement;
 use ends::ClockSent;
@@ -64,9 +66,11 @@ pub fn advance(olt: Olt, n: u64) -> OltAnswer
     answers::accepted(timing::advanced(olt, n))
 }
 
-// The unit's stamps are those of this tick.
+// The unit's stamps are those of this tick, whenever they are sent.
 pub fn capture(olt: Olt, llid: u16) -> OltAnswer
     ensures { λ r. ⌜ r ≡ captureOf olt llid ⌝ }
+    ensures order { λ r. ⌜ r .number ≡ verdictNumber (captureOrder olt llid) ⌝ }
+    ensures stamps { λ r. ⌜ Captures olt llid r ⌝ }
 {
     let at = place::locate(olt, Verdict::Accepted, llid);
     match at {
@@ -81,6 +85,7 @@ pub fn capture(olt: Olt, llid: u16) -> OltAnswer
 
 pub fn clock_send(olt: Olt, llid: u16) -> ClockSent
     ensures { λ r. ⌜ r ≡ clockSendOf olt llid ⌝ }
+    ensures order { λ r. ⌜ r .number ≡ verdictNumber (clockSendOrder olt llid) ⌝ }
 {
     let at = place::locate(olt, Verdict::Accepted, llid);
     match at {
@@ -97,6 +102,7 @@ pub fn clock_send(olt: Olt, llid: u16) -> ClockSent
 
 pub fn offer(olt: Olt, llid: u16, key: [u8; 16]) -> KeySent
     ensures { λ r. ⌜ r ≡ offerOf olt llid key ⌝ }
+    ensures order { λ r. ⌜ r .number ≡ verdictNumber (offerOrder olt llid key) ⌝ }
 {
     let at = place::locate(olt, Verdict::Accepted, llid);
     match at {
@@ -118,6 +124,7 @@ pub fn offer(olt: Olt, llid: u16, key: [u8; 16]) -> KeySent
 // The offer's number and key again.
 pub fn retry(olt: Olt, llid: u16) -> KeySent
     ensures { λ r. ⌜ r ≡ retryOf olt llid ⌝ }
+    ensures order { λ r. ⌜ r .number ≡ verdictNumber (retryOrder olt llid) ⌝ }
 {
     let at = place::locate(olt, Verdict::Accepted, llid);
     match at {
@@ -135,6 +142,7 @@ pub fn retry(olt: Olt, llid: u16) -> KeySent
 
 pub fn acknowledge(olt: Olt, llid: u16, acknowledgement: Acknowledgement) -> OltAnswer
     ensures { λ r. ⌜ r ≡ acknowledgeOf olt llid acknowledgement ⌝ }
+    ensures order { λ r. ⌜ r .number ≡ verdictNumber (acknowledgeOrder olt llid acknowledgement) ⌝ }
 {
     let at = place::locate(olt, Verdict::Accepted, llid);
     match at {

@@ -1,18 +1,19 @@
 // New ends and new units (01, Clock; Keys).
-ghost use mathlib.Core.Bool.{not};
 ghost use mathlib.Core.Path.{_≡_};
 ghost use Prim.Native.Nat.{_<_};
 ghost use Rattle.refusal.specs.declared.Refusal.the-variants.{OutOfRange, RepeatedLlid, TableFull};
 ghost use Rattle.refusal.specs.declared.Verdict.the-variants.{Accepted};
+ghost use Rattle.ends.specs.Limits.{maxUnits};
 ghost use Rattle.ends.specs.Replies.{refuseIf};
 ghost use Rattle.ends.specs.Records.{freshUnit, newOlt, noUnit};
 ghost use Rattle.ends.specs.Table.{withOneMore};
-ghost use Rattle.ends.specs.Validity.{validOlt};
-ghost use Rattle.ends.specs.OltCalls.{registerVerdict, validRegistration};
+ghost use Rattle.ends.specs.OltCalls.{registerOrder, validRegistration};
 use ends::Channels;
 use ends::Confirmation;
 use ends::FirstSend;
 use ends::Identity;
+use ends::MAX_LLIDS;
+use ends::MAX_UNITS;
 use ends::Olt;
 use ends::Shared;
 use ends::Slots;
@@ -29,9 +30,6 @@ use ends::llids::kept_identity;
 use ends::llids::valid_identity;
 use refusal::Refusal;
 use refusal::Verdict;
-
-// The units of a full table.
-const MAX_UNITS: u8 = 16;
 
 // Numbers 0, flags down.
 pub(crate) fn fresh_unit(identity: Identity, trip: u64, interval: u64) -> UnitRecord
@@ -79,7 +77,7 @@ fn no_unit() -> UnitRecord
 {
     let identity = Identity {
         mac: 0,
-        llids: [0; 4],
+        llids: [0; MAX_LLIDS as usize],
         count: 0,
     };
     fresh_unit(identity, 0, 0)
@@ -96,7 +94,7 @@ pub(crate) fn new_olt(mac: u64, clock: u64) -> Olt
         channels,
     };
     let unit = no_unit();
-    let units = [unit; 16];
+    let units = [unit; MAX_UNITS as usize];
     Olt {
         shared,
         count: 0,
@@ -132,7 +130,7 @@ fn first_of(invalid: bool, wrong: bool, repeated: bool, full: bool) -> Verdict
 
 // 1 for the end that is lent, then register's own 1, 3 and 4.
 pub(crate) fn register_verdict(olt: Olt, identity: Identity, trip: u64, interval: u64) -> Verdict
-    ensures { λ r. ⌜ r ≡ refuseIf (not (validOlt olt)) OutOfRange (registerVerdict olt identity trip interval) ⌝ }
+    ensures { λ r. ⌜ r ≡ registerOrder olt identity trip interval ⌝ }
 {
     let valid = valid_olt(olt);
     let ranged = valid_registration(identity, trip, interval);
@@ -144,7 +142,7 @@ pub(crate) fn register_verdict(olt: Olt, identity: Identity, trip: u64, interval
 
 // One unit more, in the first place that is not in use.
 pub(crate) fn with_one_more(olt: Olt, unit: UnitRecord) -> Olt
-    requires { ⌜ olt .count < 16 ⌝ }
+    requires { ⌜ olt .count < maxUnits ⌝ }
     ensures { λ r. ⌜ r ≡ withOneMore olt unit ⌝ }
 {
     let mut r = olt;

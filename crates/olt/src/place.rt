@@ -1,8 +1,10 @@
 // The unit that a call names.
 ghost use mathlib.Core.Path.{_≡_};
 ghost use Prim.Native.Nat.{_<_};
+ghost use Rattle.refusal.specs.Number.{verdictNumber};
+ghost use Rattle.ends.specs.Limits.{maxUnits};
 ghost use Rattle.ends.specs.Table.{unitAt, withUnit};
-ghost use Rattle.olt.specs.Lookup.{locatedOf};
+ghost use Rattle.olt.specs.Lookup.{locateOrder, locatedNumber, locatedOf};
 use crate::Located;
 use ends::Found;
 use ends::Olt;
@@ -14,6 +16,7 @@ use refusal::Verdict;
 
 pub fn locate(olt: Olt, ahead: Verdict, llid: u16) -> Located
     ensures { λ r. ⌜ r ≡ locatedOf olt ahead llid ⌝ }
+    ensures order { λ r. ⌜ locatedNumber r ≡ verdictNumber (locateOrder olt ahead llid) ⌝ }
 {
     if !valid_olt(olt) {
         return Located::Denied(Refusal::OutOfRange);
@@ -33,7 +36,7 @@ pub fn locate(olt: Olt, ahead: Verdict, llid: u16) -> Located
 
 // The unit at a place.
 pub(crate) fn unit_at(olt: Olt, i: usize) -> UnitRecord
-    requires { ⌜ i < 16 ⌝ }
+    requires { ⌜ i < maxUnits ⌝ }
     ensures { λ r. ⌜ r ≡ unitAt olt i ⌝ }
 {
     let units = olt.units;
@@ -42,7 +45,7 @@ pub(crate) fn unit_at(olt: Olt, i: usize) -> UnitRecord
 
 // The end with the unit in its place.
 pub(crate) fn with_unit(olt: Olt, i: usize, unit: UnitRecord) -> Olt
-    requires { ⌜ i < 16 ⌝ }
+    requires { ⌜ i < maxUnits ⌝ }
     ensures { λ r. ⌜ r ≡ withUnit olt i (olt .shared .channels) unit ⌝ }
 {
     let mut r = olt;

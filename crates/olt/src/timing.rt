@@ -6,11 +6,13 @@ ghost use Prim.Native.Nat.{_+_, _%_, _≤_, _<_};
 ghost use lib.ListN.{drop, take};
 ghost use Rattle.clock.specs.Ticks.{maxTick};
 ghost use Rattle.octets.specs.Lists.{all};
+ghost use Rattle.ends.specs.Limits.{maxUnits};
 ghost use Rattle.ends.specs.Timers.{timerAdvanced, validTimer};
 ghost use Rattle.ends.specs.UnitCalls.{unitAdvanced};
 ghost use Rattle.ends.specs.declared.UnitRecord.{UnitRecord};
 ghost use Rattle.ends.specs.OltCalls.{oltAdvanced, sharedAdvanced};
 ghost use Rattle.ends.specs.Validity.{validOlt};
+use ends::MAX_UNITS;
 use ends::Olt;
 use ends::Shared;
 use ends::Timer;
@@ -52,8 +54,12 @@ fn unit_advanced(unit: UnitRecord, n: u64) -> UnitRecord
     r
 }
 
-fn units_advanced(units: [UnitRecord; 16], count: u8, n: u64) -> [UnitRecord; 16]
-    requires { ⌜ count ≤ 16 ⌝ }
+fn units_advanced(
+    units: [UnitRecord; MAX_UNITS as usize],
+    count: u8,
+    n: u64,
+) -> [UnitRecord; MAX_UNITS as usize]
+    requires { ⌜ count ≤ maxUnits ⌝ }
     requires { ⌜ all (λ (u : UnitRecord). validTimer (u .keys .timer)) (take count units) ≡ true ⌝ }
     requires { ⌜ n ≤ maxTick ⌝ }
     ensures { λ r. ⌜ r ≡ map (unitAdvanced n) (take count units) ++ drop count units ⌝ }

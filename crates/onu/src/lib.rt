@@ -1,11 +1,10 @@
 // The calls of the ONU but send and receive, by value (01, Clock; Keys; 'When the reader says no').
 ghost use mathlib.Core.Path.{_≡_};
-ghost use mathlib.Core.Bool.{not};
-ghost use Rattle.refusal.specs.declared.Refusal.the-variants.{OutOfRange, UnknownLlid, ClockNotSet, NothingOutstanding};
+ghost use Rattle.refusal.specs.declared.Refusal.the-variants.{UnknownLlid, ClockNotSet, NothingOutstanding};
 ghost use Rattle.refusal.specs.declared.Verdict.the-variants.{Accepted};
 ghost use Rattle.clock.specs.Ticks.{localOf};
 ghost use Rattle.clock.specs.Stamping.{raisedTo};
-ghost use Rattle.ends.specs.Replies.{refuseIf, advanceVerdict};
+ghost use Rattle.ends.specs.Replies.{refuseIf, onValid, advanceVerdict};
 ghost use Rattle.ends.specs.Records.{newOnu};
 ghost use Rattle.ends.specs.Validity.{validOnu};
 ghost use Rattle.ends.specs.OnuCalls.{freshOnuVerdict, freshOnuOf, onuClockAdvanced, onuAdvanced, advanceOnuOf, clockMessageVerdict, clockFrom, clockMessageAt, newKey, heldKey, activeKey, keyMessageVerdict, keysTaken, keyMessageAt};
@@ -19,6 +18,7 @@ use ends::FirstSend;
 use ends::Identity;
 use ends::KEY_KIND;
 use ends::KeyMessage;
+use ends::MAX_LLIDS;
 use ends::Onu;
 use ends::OnuAcknowledged;
 use ends::OnuAnswer;
@@ -31,7 +31,7 @@ use refusal::Verdict;
 
 // 1 for a lent end that is not valid, ahead of what the call refuses.
 fn judged(o: Onu, verdict: Verdict) -> Verdict
-    ensures { λ r. ⌜ r ≡ refuseIf (not (validOnu o)) OutOfRange verdict ⌝ }
+    ensures { λ r. ⌜ r ≡ onValid (validOnu o) verdict ⌝ }
 {
     if !ends::check_onu::valid_onu(o) {
         return Verdict::Refused(Refusal::OutOfRange);
@@ -92,7 +92,7 @@ pub fn fresh(identity: Identity, oltmac: u64, time: u64) -> OnuAnswer
         Verdict::Refused(refusal) => {
             let none = Identity {
                 mac: 0,
-                llids: [0; 4],
+                llids: [0; MAX_LLIDS as usize],
                 count: 0,
             };
             let onu = new_onu(none, 0, 0);

@@ -1,6 +1,6 @@
 -- Laws of receive: what each verdict makes of it. Assumes nothing.
 use mathlib.Core.Path.{_≡_, refl, sym, ap, _∙_}
-use mathlib.Core.Bool.{true, false, not}
+use mathlib.Core.Bool.{true, false}
 use mathlib.Core.List.{List}
 use Prim.Native.Nat.{ℕ, _<_}
 use native.Mathlib.Omega.{arith}
@@ -9,21 +9,21 @@ use borrow.Author.Tests.{not-false}
 use Rattle.octets.specs.Choice.{pick}
 use Rattle.octets.proofs.Choice.{both-left}
 use Rattle.octets.specs.Output.{WithOutput, withOutput}
+use Rattle.refusal.specs.Number.{verdictNumber}
 use Rattle.refusal.specs.declared.Refusal.{Refusal}
-use Rattle.refusal.specs.declared.Refusal.the-variants.{OutOfRange}
 use Rattle.refusal.specs.declared.Verdict.{Verdict}
 use Rattle.refusal.specs.declared.Verdict.the-variants.{Accepted, Refused}
 use Rattle.envelope.specs.Acceptance.{sealVerdict}
 use Rattle.sealing.specs.Seal.{countCarried}
 use Rattle.ends.specs.Limits.{maxKeyNumber}
-use Rattle.ends.specs.Replies.{refuseIf, Reply, reply}
+use Rattle.ends.specs.Replies.{onValid, Reply, reply}
 use Rattle.ends.specs.Occupancy.{upstream}
 use Rattle.ends.specs.Table.{find, unitAt, withUnit}
 use Rattle.ends.specs.Validity.{validOlt, validOnu}
 use Rattle.ends.specs.Lift.{outcome, putBack}
 use Rattle.ends.specs.Headers.{passageOf, noPassage}
 use Rattle.ends.specs.UnitTraffic.{unitReceiveChoice, unitReceiveVerdict, unitAfterReceipt, receiveUnit}
-use Rattle.ends.specs.OltTraffic.{receivingOlt}
+use Rattle.ends.specs.OltTraffic.{receiveOrder, receivingOlt}
 use Rattle.ends.specs.OnuCalls.{onuReply}
 use Rattle.ends.specs.OnuTraffic.{onuReceiveChoice, onuReceiveVerdict, onuAfterReceipt, receivingOnu}
 use Rattle.ends.specs.declared.Olt.{Olt}
@@ -36,7 +36,7 @@ use Rattle.ends.proofs.Replies.{refuse-accepted, reply-accepted, reply-refused}
 use Rattle.ends.proofs.Table.{find-at}
 use Rattle.ends.proofs.Validity.{olt-in-range, shared-in-range, unit-in-range, onu-in-range, onu-clock-in-range, onu-keys-in-range}
 use Rattle.ends.proofs.Lift.{lift-unit, unit-at-valid}
-use Rattle.ends.proofs.OltTraffic.{receiveAhead, receiving-valid}
+use Rattle.ends.proofs.OltTraffic.{receiveAhead, receiving-valid, receive-order}
 use Rattle.ends.proofs.OnuTraffic.{receiving-onu-valid}
 use Rattle.ends.proofs.OnuChoices.{OnuReceiveCase, onuClear, onuLate, onuCurrent, onuNext, onuUnknown, onu-receive-case, onu-receive-accepted}
 use Rattle.olt.specs.Lookup.{locatedOf}
@@ -115,6 +115,13 @@ module _ (o : Olt) (h : Header) (p out : List ℕ) where
       let a = refuse-accepted _ _ _ (l .passed) in
       (a .0, both-left _ _ (not-false _ (refuse-accepted _ _ _ (a .1) .0)))
 
+  -- the number is that of the first refusal in order
+  pub olt-receive-ordered : (r : OltReceived) (octets : List ℕ) → withOutput r octets ≡ oltReceiveOf o h p out
+      → (withOutput r octets ≡ oltReceiveOf o h p out) × (r .number ≡ verdictNumber (receiveOrder o (misfit p out) h))
+  unfolding oltReceiveOf oltReceived
+  olt-receive-ordered r octets e =
+      (e, ap (λ (x : WithOutput OltReceived). x .answer .number) e ∙ ap verdictNumber (receive-order o (misfit p out) h))
+
   -- a valid OLT stays valid
   pub olt-receive-valid : validOlt o ≡ true → validOlt (oltReceiveOf o h p out .answer .olt) ≡ true
   unfolding oltReceiveOf oltReceived
@@ -147,7 +154,7 @@ next-below o h n v e = by-case (onu-receive-case (o .keys) h) where
 module _ (o : Onu) (h : Header) (p out : List ℕ) where
   -- the verdict, that on the lent end ahead
   abbrev pub onuReceiveJudged : Verdict
-  onuReceiveJudged = refuseIf (not (validOnu o)) OutOfRange (onuReceiveVerdict o (misfit p out) h)
+  onuReceiveJudged = onValid (validOnu o) (onuReceiveVerdict o (misfit p out) h)
 
   pub onu-receive-refused : (r : Refusal) → onuReceiveJudged ≡ Refused r → withOutput (onuNotReceived o r) out ≡ onuReceiveOf o h p out
   unfolding onuReceiveOf receivingOnu onuReply

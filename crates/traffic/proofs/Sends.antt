@@ -1,6 +1,6 @@
 -- Laws of send: what each verdict makes of it. Assumes nothing.
 use mathlib.Core.Path.{_≡_, refl, sym, ap, _∙_}
-use mathlib.Core.Bool.{true, false, not}
+use mathlib.Core.Bool.{true, false}
 use mathlib.Core.List.{List}
 use Prim.Native.Nat.{ℕ, _≤_}
 use lib.ListN.{length}
@@ -8,15 +8,15 @@ use borrow.Author.Tests.{not-false}
 use Rattle.octets.specs.Choice.{pick}
 use Rattle.octets.specs.Eqs.{maxEqs}
 use Rattle.octets.specs.Output.{WithOutput, withOutput}
+use Rattle.refusal.specs.Number.{verdictNumber}
 use Rattle.refusal.specs.declared.Refusal.{Refusal}
-use Rattle.refusal.specs.declared.Refusal.the-variants.{OutOfRange}
 use Rattle.refusal.specs.declared.Verdict.{Verdict}
 use Rattle.refusal.specs.declared.Verdict.the-variants.{Accepted, Refused}
 use Rattle.clock.specs.Ticks.{maxTick}
 use Rattle.envelope.specs.ControlMask.{eqsOf}
 use Rattle.envelope.specs.Acceptance.{sealVerdict}
 use Rattle.sealing.specs.Seal.{countCarried}
-use Rattle.ends.specs.Replies.{refuseIf, Reply, reply}
+use Rattle.ends.specs.Replies.{onValid, Reply, reply}
 use Rattle.ends.specs.Occupancy.{downstream, occupied}
 use Rattle.ends.specs.Records.{withKeys}
 use Rattle.ends.specs.Table.{unitAt, withUnit}
@@ -24,7 +24,7 @@ use Rattle.ends.specs.Validity.{validOlt, validOnu}
 use Rattle.ends.specs.Lift.{putBack}
 use Rattle.ends.specs.Headers.{passageOf, sendingOf, noSending}
 use Rattle.ends.specs.UnitTraffic.{unitSendChoice, unitSendVerdict, keysAfterSend, sendUnit}
-use Rattle.ends.specs.OltTraffic.{sendingOlt}
+use Rattle.ends.specs.OltTraffic.{sendOrder, sendingOlt}
 use Rattle.ends.specs.OnuCalls.{onuReply}
 use Rattle.ends.specs.OnuTraffic.{onuSendChoice, onuSendVerdict, onuAfterSend, sendingOnu}
 use Rattle.ends.specs.declared.Olt.{Olt}
@@ -33,7 +33,7 @@ use Rattle.ends.specs.declared.Sending.{Sending}
 use Rattle.ends.proofs.Replies.{refuse-accepted, reply-accepted, reply-refused}
 use Rattle.ends.proofs.Validity.{olt-in-range, shared-in-range, onu-in-range, onu-clock-in-range}
 use Rattle.ends.proofs.Lift.{lift-unit}
-use Rattle.ends.proofs.OltTraffic.{sendAhead, sending-valid}
+use Rattle.ends.proofs.OltTraffic.{sendAhead, sending-valid, send-order}
 use Rattle.ends.proofs.OnuTraffic.{sending-onu-valid}
 use Rattle.ends.proofs.OnuChoices.{onu-send-accepted}
 use Rattle.olt.specs.Lookup.{locatedOf}
@@ -112,6 +112,13 @@ module _ (o : Olt) (llid channel : ℕ) (p out : List ℕ) where
       let a = refuse-accepted _ _ _ (l .passed) in
       (a .0, not-false _ (refuse-accepted _ _ _ (a .1) .0))
 
+  -- the number is that of the first refusal in order
+  pub olt-send-ordered : (r : OltSent) (octets : List ℕ) → withOutput r octets ≡ oltSendOf o llid channel p out
+      → (withOutput r octets ≡ oltSendOf o llid channel p out) × (r .number ≡ verdictNumber (sendOrder o (misfit p out) llid channel))
+  unfolding oltSendOf oltSent
+  olt-send-ordered r octets e =
+      (e, ap (λ (x : WithOutput OltSent). x .answer .number) e ∙ ap verdictNumber (send-order o (misfit p out) llid channel (eqsOf p)))
+
   -- a valid OLT stays valid
   pub olt-send-valid : validOlt o ≡ true → validOlt (oltSendOf o llid channel p out .answer .olt) ≡ true
   unfolding oltSendOf oltSent
@@ -135,7 +142,7 @@ onu-sent o s channel p out n octets e =
 module _ (o : Onu) (llid channel : ℕ) (p out : List ℕ) where
   -- the verdict, that on the lent end ahead
   abbrev pub onuSendJudged : Verdict
-  onuSendJudged = refuseIf (not (validOnu o)) OutOfRange (onuSendVerdict o (misfit p out) llid channel)
+  onuSendJudged = onValid (validOnu o) (onuSendVerdict o (misfit p out) llid channel)
 
   pub onu-send-refused : (r : Refusal) → onuSendJudged ≡ Refused r → withOutput (onuNotSent o r) out ≡ onuSendOf o llid channel p out
   unfolding onuSendOf sendingOnu onuReply

@@ -10,6 +10,7 @@ ghost use Rattle.envelope.specs.Acceptance.{lengthsFit};
 ghost use Rattle.octets.specs.Choice.{both};
 ghost use Rattle.ends.specs.Headers.{noPassage, noSending, validHeader};
 ghost use Rattle.ends.specs.Lift.{putBack};
+ghost use Rattle.ends.specs.Limits.{maxUnits};
 ghost use Rattle.octets.specs.Eqs.{maxEqs};
 ghost use Rattle.octets.specs.Output.{withOutput};
 ghost use Rattle.ends.specs.Occupancy.{downstream, occupied, upstream};
@@ -93,7 +94,7 @@ pub(crate) fn not_received(olt: Olt, refusal: Refusal) -> OltReceived
 
 // The unit at a place.
 fn unit_at(olt: Olt, i: usize) -> UnitRecord
-    requires { ⌜ i < 16 ⌝ }
+    requires { ⌜ i < maxUnits ⌝ }
     ensures { λ r. ⌜ r ≡ unitAt olt i ⌝ }
 {
     let units = olt.units;
@@ -102,7 +103,7 @@ fn unit_at(olt: Olt, i: usize) -> UnitRecord
 
 // The end with the unit in its place, and the channels.
 fn with_unit(olt: Olt, i: usize, channels: Channels, unit: UnitRecord) -> Olt
-    requires { ⌜ i < 16 ⌝ }
+    requires { ⌜ i < maxUnits ⌝ }
     ensures { λ r. ⌜ r ≡ withUnit olt i channels unit ⌝ }
 {
     let mut shared = olt.shared;
@@ -115,7 +116,7 @@ fn with_unit(olt: Olt, i: usize, channels: Channels, unit: UnitRecord) -> Olt
 
 // The end that a send leaves, where it is accepted.
 fn after_send(olt: Olt, i: usize, unit: UnitRecord, channel: u8, eqs: u64) -> Olt
-    requires { ⌜ i < 16 ⌝ }
+    requires { ⌜ i < maxUnits ⌝ }
     requires { ⌜ olt .shared .tick ≤ maxTick ⌝ }
     requires { ⌜ eqs ≤ maxEqs ⌝ }
     ensures { λ r. ⌜ r ≡ withUnit olt i (occupied (olt .shared .channels) channel (olt .shared .tick) eqs) (withKeys unit (keysAfterSend (unitSendChoice unit) (unit .keys) (olt .shared .tick))) ⌝ }

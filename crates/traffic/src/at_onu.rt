@@ -1,13 +1,13 @@
 // Send and receive of the ONU (01, Keys; 'When the reader says no').
 ghost use mathlib.Core.Path.{_≡_};
-ghost use mathlib.Core.Bool.{not, true};
+ghost use mathlib.Core.Bool.{true};
 ghost use Prim.Native.Nat.{ℕ, _≤_, _<_};
 ghost use Rattle.refusal.specs.declared.Refusal.the-variants.{BadLength, ClockNotSet, EpamDiffers, OutOfRange, UnknownLlid};
 ghost use Rattle.clock.specs.Ticks.{maxTick};
 ghost use Rattle.octets.specs.Eqs.{maxEqs};
 ghost use Rattle.ends.specs.Limits.{maxKeyNumber};
 ghost use Rattle.ends.specs.OnuTraffic.{onuMoved, onuReceiveChoice, onuReceiveVerdict, onuAfterReceipt, onuSendChoice, onuSendVerdict, onuAfterSend};
-ghost use Rattle.ends.specs.Replies.{refuseIf};
+ghost use Rattle.ends.specs.Replies.{onValid, refuseIf};
 ghost use Rattle.ends.specs.Validity.{validOnu, validOnuKeys};
 ghost use Rattle.ends.specs.declared.KeyChoice.the-variants.{Next};
 ghost use Rattle.traffic.specs.Receipts.{onuNotReceived};
@@ -82,14 +82,14 @@ fn named(misfit: bool, wrong: bool, unknown: bool, rest: Verdict) -> Verdict
 
 // 1 for a lent end that is not valid, then what the send refuses.
 pub(crate) fn send_verdict(onu: Onu, misfit: bool, llid: u16, channel: u8) -> Verdict
-    ensures { λ r. ⌜ r ≡ refuseIf (not (validOnu onu)) OutOfRange (onuSendVerdict onu misfit llid channel) ⌝ }
+    ensures { λ r. ⌜ r ≡ onValid (validOnu onu) (onuSendVerdict onu misfit llid channel) ⌝ }
 {
     if !valid_onu(onu) {
         return Verdict::Refused(Refusal::OutOfRange);
     }
     let known = has(onu.identity, llid);
     let choice = send_choice(onu.keys);
-    let rest = passing::send_verdict(choice, onu.channels, channel, onu.first, onu.tick);
+    let rest = passing::channel_then_key(onu.channels, channel, choice, onu.first, onu.tick);
     named(misfit, !((128 <= channel) & (channel <= 129)), !known, rest)
 }
 
@@ -146,7 +146,7 @@ fn timed(off: bool, unset: bool, rest: Verdict) -> Verdict
 
 // 1 for a lent end that is not valid, then what the receipt refuses.
 pub(crate) fn receive_verdict(onu: Onu, misfit: bool, header: Header) -> Verdict
-    ensures { λ r. ⌜ r ≡ refuseIf (not (validOnu onu)) OutOfRange (onuReceiveVerdict onu misfit header) ⌝ }
+    ensures { λ r. ⌜ r ≡ onValid (validOnu onu) (onuReceiveVerdict onu misfit header) ⌝ }
 {
     if !valid_onu(onu) {
         return Verdict::Refused(Refusal::OutOfRange);

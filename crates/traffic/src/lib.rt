@@ -6,6 +6,9 @@ mod carrying;
 
 ghost use mathlib.Core.Path.{_≡_};
 ghost use Rattle.octets.specs.Output.{withOutput};
+ghost use Rattle.refusal.specs.Number.{verdictNumber};
+ghost use Rattle.ends.specs.OltTraffic.{receiveOrder, sendOrder};
+ghost use Rattle.traffic.specs.Passages.{misfit};
 ghost use Rattle.traffic.specs.Receipts.{oltReceiveOf, onuReceiveOf};
 ghost use Rattle.traffic.specs.Sends.{oltSendOf, onuSendOf};
 use ends::Header;
@@ -48,6 +51,7 @@ pub struct OnuReceived {
 
 pub fn olt_send(olt: Olt, llid: u16, channel: u8, payload: &[u8], output: &mut [u8]) -> OltSent
     ensures { λ r. ⌜ withOutput r (now (output .exit)) ≡ oltSendOf olt llid channel (now (payload .entry)) (now (output .entry)) ⌝ }
+    ensures order { λ r. ⌜ r .number ≡ verdictNumber (sendOrder olt (misfit (now (payload .entry)) (now (output .entry))) llid channel) ⌝ }
 {
     let ahead = at_olt::send_ahead(payload.len(), output.len(), channel);
     let at = locate(olt, ahead, llid);
@@ -59,6 +63,7 @@ pub fn olt_send(olt: Olt, llid: u16, channel: u8, payload: &[u8], output: &mut [
 
 pub fn olt_receive(olt: Olt, header: Header, octets: &[u8], output: &mut [u8]) -> OltReceived
     ensures { λ r. ⌜ withOutput r (now (output .exit)) ≡ oltReceiveOf olt header (now (octets .entry)) (now (output .entry)) ⌝ }
+    ensures order { λ r. ⌜ r .number ≡ verdictNumber (receiveOrder olt (misfit (now (octets .entry)) (now (output .entry))) header) ⌝ }
 {
     let ahead = at_olt::receive_ahead(octets.len(), output.len(), header);
     let at = locate(olt, ahead, header.llid);

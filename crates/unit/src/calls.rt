@@ -1,14 +1,10 @@
 // The clock and key calls of the OLT on one unit (01, Clock; Keys).
 ghost use mathlib.Core.Path.{_≡_};
-ghost use mathlib.Core.Bool.{false};
-ghost use lib.Dec.{eqb, leb};
-ghost use Rattle.octets.specs.Choice.{both, pick};
 ghost use Rattle.refusal.specs.declared.Refusal.the-variants.{AtEnd, ClockNotSet, OfferPending, SameKey};
 ghost use Rattle.refusal.specs.declared.Verdict.the-variants.{Accepted};
-ghost use Rattle.ends.specs.Messages.{clockKind, keyKind};
-ghost use Rattle.ends.specs.Replies.{isUp, refuseIf};
+ghost use Rattle.ends.specs.Replies.{refuseIf};
 ghost use Rattle.ends.specs.Records.{withClock};
-ghost use Rattle.ends.specs.UnitCalls.{acknowledgeUnit, clockCaptured, clockMessageOf, clockAfterSend, clockSendVerdict, keyMessageOf, offerVerdict, retryVerdict};
+ghost use Rattle.ends.specs.UnitCalls.{acknowledgeUnit, clockCaptured, clockMessageOf, clockAfterSend, clockSendVerdict, keyMessageOf, offerVerdict, outstanding, retryVerdict};
 use crate::ticks::since;
 use clock::Stamps;
 use ends::Acknowledgement;
@@ -119,10 +115,14 @@ pub fn retry_verdict(keys: UnitKeys) -> Verdict
     Verdict::Accepted
 }
 
-// Whether an acknowledgement of that kind and number has its message: a clock message that was sent, or key O, which is 1 or more.
-fn is_outstanding(kind: u8, number: u32, sent: u8, offered: u32) -> bool
-    ensures { λ r. ⌜ r ≡ pick (eqb kind clockKind) (isUp sent) (pick (eqb kind keyKind) (both (leb 1 number) (eqb number offered)) false) ⌝ }
+// Whether what is acknowledged is outstanding: a clock message that was sent, or key O, which is 1 or more.
+fn is_outstanding(acknowledgement: Acknowledgement, unit: UnitRecord) -> bool
+    ensures { λ r. ⌜ r ≡ outstanding acknowledgement unit ⌝ }
 {
+    let kind = acknowledgement.kind;
+    let number = acknowledgement.number;
+    let sent = unit.clock.sent;
+    let offered = unit.keys.offered;
     if kind == CLOCK_KIND {
         return sent == 1;
     }
@@ -139,9 +139,7 @@ pub fn acknowledge_verdict(
 ) -> Verdict
     ensures { λ r. ⌜ r ≡ acknowledgeUnit acknowledgement shared unit .verdict ⌝ }
 {
-    let number = acknowledgement.number;
-    let offered = unit.keys.offered;
-    if is_outstanding(acknowledgement.kind, number, unit.clock.sent, offered) {
+    if is_outstanding(acknowledgement, unit) {
         return Verdict::Accepted;
     }
     Verdict::Refused(Refusal::NothingOutstanding)

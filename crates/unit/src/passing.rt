@@ -1,12 +1,10 @@
 // What an envelope goes under, its header, and whether its channel is free: what both ends do alike (01, Keys).
 ghost use mathlib.Core.Path.{_≡_};
-ghost use Rattle.refusal.specs.declared.Refusal.the-variants.{ChannelTaken, KeyTooOld};
-ghost use Rattle.refusal.specs.declared.Verdict.the-variants.{Accepted};
-ghost use Rattle.ends.specs.Headers.{choiceAged, choiceNumber, choiceVerdict, envelopeHeader, keyFor, passageOf, sendingOf, validHeader};
+ghost use Rattle.ends.specs.Headers.{channelThenKey, choiceAged, choiceNumber, choiceVerdict, envelopeHeader, keyFor, passageOf, sendingOf, validHeader};
 ghost use Rattle.ends.specs.Keys.{aged, firstSend};
 ghost use Rattle.ends.specs.Occupancy.{taken};
-ghost use Rattle.ends.specs.Replies.{refuseIf};
 use crate::ticks::since;
+use clock::EPAM_TURN;
 use clock::epam_of;
 use ends::Channels;
 use ends::FirstSend;
@@ -21,8 +19,6 @@ use refusal::Verdict;
 
 // Sends under a key stop this many ticks after its first.
 const KEY_LIFE: u64 = 0x1_0000_0000_0000;
-
-const EPAM_TURN: u8 = 64;
 
 pub fn valid_header(header: Header) -> bool
     ensures { λ r. ⌜ r ≡ validHeader header ⌝ }
@@ -58,20 +54,22 @@ fn choice_aged(choice: KeyChoice, first: FirstSend, tick: u64) -> bool
     }
 }
 
-// 12 for the channel, then 13 for the key.
-pub fn send_verdict(
-    choice: KeyChoice,
+// A send at either end: 12 for the channel, then 13 for the key.
+pub fn channel_then_key(
     channels: Channels,
     channel: u8,
+    choice: KeyChoice,
     first: FirstSend,
     tick: u64,
 ) -> Verdict
-    ensures { λ r. ⌜ r ≡ refuseIf (taken channels channel tick) ChannelTaken (refuseIf (choiceAged choice first tick) KeyTooOld Accepted) ⌝ }
+    ensures { λ r. ⌜ r ≡ channelThenKey channels channel choice first tick ⌝ }
 {
-    if taken(channels, channel, tick) {
+    let busy = taken(channels, channel, tick);
+    let old = choice_aged(choice, first, tick);
+    if busy {
         return Verdict::Refused(Refusal::ChannelTaken);
     }
-    if choice_aged(choice, first, tick) {
+    if old {
         return Verdict::Refused(Refusal::KeyTooOld);
     }
     Verdict::Accepted

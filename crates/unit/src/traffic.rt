@@ -41,10 +41,10 @@ pub fn send_verdict(shared: Shared, unit: UnitRecord, channel: u8) -> Verdict
     ensures { λ r. ⌜ r ≡ unitSendVerdict shared unit channel ⌝ }
 {
     let choice = send_choice(unit);
-    passing::send_verdict(
-        choice,
+    passing::channel_then_key(
         shared.channels,
         channel,
+        choice,
         unit.keys.first,
         shared.tick,
     )

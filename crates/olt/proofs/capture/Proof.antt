@@ -7,6 +7,7 @@ use Rattle.ends.specs.Lift.{outcome}
 use Rattle.ends.specs.OltCalls.{captureOf, oltAnswer}
 use Rattle.ends.specs.Replies.{silent, reply}
 use Rattle.ends.specs.UnitCalls.{captureUnit}
+use Rattle.ends.proofs.ClockCaptures.{capture-answered}
 use Rattle.olt.specs.Lookup.{locatedOf}
 use Rattle.olt.specs.declared.Located.the-variants.{Place}
 use Rattle.olt.proofs.Lookup.{place-below, lift-absent, lift-accepted}
@@ -27,7 +28,7 @@ enum-known-at-2 c = search needs
 
 -- the unit was found
 here : (c : tie.After-known-told2) → locatedOf (c .before .before .before .before .args .olt) Accepted (c .before .before .before .before .args .llid) ≡ Place (c .before .at2 .given .0 .0)
-here c = sym (c .before .before .before .locate .ensures) ∙ c .before .at2 .given .1
+here c = sym (c .before .before .before .locate .ensures .0) ∙ c .before .at2 .given .1
 
 unit-at-requires : tie.Need-unit-at-requires
 unit-at-requires c κs = place-below _ _ _ _ (here c)
@@ -45,15 +46,17 @@ returns : tie.Need-returns
 unfolding captureOf
 returns c =
     let a = c .before .before .before .before .before .args in
-    c .refused .ensures
-    ∙ sym (ap oltAnswer (lift-absent (a .olt) silent Accepted (a .llid) captureUnit _ (sym (c .before .before .before .before .locate .ensures) ∙ c .before .before .at .given .1)))
+    capture-answered (a .olt) (a .llid) _
+    (c .refused .ensures
+    ∙ sym (ap oltAnswer (lift-absent (a .olt) silent Accepted (a .llid) captureUnit _ (sym (c .before .before .before .before .locate .ensures .0) ∙ c .before .before .at .given .1))))
 
 returns-2 : tie.Need-returns-2
 unfolding captureOf oltAnswer reply captureUnit outcome
 returns-2 c =
     let a = c .before .before .before .before .before .before .before .before .args in
-    rw (c .accepted .ensures, c .before .with-unit .ensures, c .before .before .captured .ensures, c .before .before .before .unit-at .ensures)
-    (sym (ap oltAnswer (lift-accepted (a .olt) silent Accepted (a .llid) captureUnit _ (here (c .before .before .before .before)) refl)))
+    capture-answered (a .olt) (a .llid) _
+    (rw (c .accepted .ensures, c .before .with-unit .ensures, c .before .before .captured .ensures, c .before .before .before .unit-at .ensures)
+    (sym (ap oltAnswer (lift-accepted (a .olt) silent Accepted (a .llid) captureUnit _ (here (c .before .before .before .before)) refl))))
 
 pub capture-spec : {M : Type 1} → statement M
 capture-spec =

@@ -7,6 +7,7 @@ use Rattle.ends.specs.Lift.{outcome, putBack}
 use Rattle.ends.specs.Messages.{noStamps}
 use Rattle.ends.specs.OltCalls.{clockSendOf, clockSent}
 use Rattle.ends.specs.UnitCalls.{clockSendUnit}
+use Rattle.ends.proofs.OltCalls.{clock-send-ordered}
 use Rattle.olt.specs.Lookup.{locatedOf}
 use Rattle.olt.specs.declared.Located.the-variants.{Place}
 use Rattle.olt.proofs.Lookup.{place-below, lift-absent, lift-place}
@@ -27,7 +28,7 @@ enum-known-at-2 c = search needs
 
 -- the unit was found
 here : (c : tie.After-known-told2) → locatedOf (c .before .before .before .before .args .olt) Accepted (c .before .before .before .before .args .llid) ≡ Place (c .before .at2 .given .0 .0)
-here c = sym (c .before .before .before .locate .ensures) ∙ c .before .at2 .given .1
+here c = sym (c .before .before .before .locate .ensures .0) ∙ c .before .at2 .given .1
 
 unit-at-requires : tie.Need-unit-at-requires
 unit-at-requires c κs = place-below _ _ _ _ (here c)
@@ -48,15 +49,17 @@ returns : tie.Need-returns
 unfolding clockSendOf
 returns c =
     let a = c .before .before .before .before .before .args in
-    c .clock-refused .ensures
-    ∙ sym (ap clockSent (lift-absent (a .olt) noStamps Accepted (a .llid) clockSendUnit _ (sym (c .before .before .before .before .locate .ensures) ∙ c .before .before .at .given .1)))
+    clock-send-ordered (a .olt) (a .llid) _
+    (c .clock-refused .ensures
+    ∙ sym (ap clockSent (lift-absent (a .olt) noStamps Accepted (a .llid) clockSendUnit _ (sym (c .before .before .before .before .locate .ensures .0) ∙ c .before .before .at .given .1))))
 
 returns-2 : tie.Need-returns-2
 unfolding clockSendOf clockSendUnit putBack outcome
 returns-2 c =
     let a = c .before .before .before .before .before .before .before .before .before .args in
-    rw (c .clock-sent2 .ensures, c .before .clock-sent .ensures, c .before .before .clock-message .ensures, c .before .before .before .clock-send-verdict .ensures, c .before .before .before .before .unit-at .ensures)
-    (sym (ap clockSent (lift-place (a .olt) noStamps Accepted (a .llid) clockSendUnit _ (here (c .before .before .before .before .before)))))
+    clock-send-ordered (a .olt) (a .llid) _
+    (rw (c .clock-sent2 .ensures, c .before .clock-sent .ensures, c .before .before .clock-message .ensures, c .before .before .before .clock-send-verdict .ensures, c .before .before .before .before .unit-at .ensures)
+    (sym (ap clockSent (lift-place (a .olt) noStamps Accepted (a .llid) clockSendUnit _ (here (c .before .before .before .before .before))))))
 
 pub clock-send-spec : {M : Type 1} → statement M
 clock-send-spec =

@@ -11,6 +11,7 @@ use Rattle.ends.specs.Replies.{reply}
 use Rattle.ends.specs.UnitCalls.{offerUnit, offerVerdict, unitOffered}
 use Rattle.ends.specs.declared.UnitRecord.{UnitRecord}
 use Rattle.ends.proofs.UnitCalls.{offer-accepted}
+use Rattle.ends.proofs.OltCalls.{offer-ordered}
 use Rattle.olt.specs.Lookup.{locatedOf}
 use Rattle.olt.specs.declared.Located.the-variants.{Place}
 use Rattle.olt.proofs.Lookup.{place-below, lift-absent, lift-refused, lift-accepted}
@@ -31,7 +32,7 @@ enum-known-at-2 c = search needs
 
 -- the unit was found
 here : (c : tie.After-known-told2) → locatedOf (c .before .before .before .before .args .olt) Accepted (c .before .before .before .before .args .llid) ≡ Place (c .before .at2 .given .0 .0)
-here c = sym (c .before .before .before .locate .ensures) ∙ c .before .at2 .given .1
+here c = sym (c .before .before .before .locate .ensures .0) ∙ c .before .at2 .given .1
 
 unit-at-requires : tie.Need-unit-at-requires
 unit-at-requires c κs = place-below _ _ _ _ (here c)
@@ -58,22 +59,25 @@ returns : tie.Need-returns
 unfolding offerOf
 returns c =
     let a = c .before .before .before .before .before .args in
-    c .key-refused .ensures
-    ∙ sym (ap keySent (lift-absent (a .olt) noKeyMessage Accepted (a .llid) (offerUnit (a .llid) (a .key)) _ (sym (c .before .before .before .before .locate .ensures) ∙ c .before .before .at .given .1)))
+    offer-ordered (a .olt) (a .llid) (a .key) _
+    (c .key-refused .ensures
+    ∙ sym (ap keySent (lift-absent (a .olt) noKeyMessage Accepted (a .llid) (offerUnit (a .llid) (a .key)) _ (sym (c .before .before .before .before .locate .ensures .0) ∙ c .before .before .at .given .1))))
 
 returns-2 : tie.Need-returns-2
 unfolding offerOf offerUnit outcome
 returns-2 c =
     let a = c .before .before .before .before .before .before .before .before .before .before .args in
-    c .key-refused2 .ensures
-    ∙ sym (ap keySent (lift-refused (a .olt) noKeyMessage Accepted (a .llid) (offerUnit (a .llid) (a .key)) _ _ (here (c .before .before .before .before .before .before)) (ap (λ (u : UnitRecord). offerVerdict u (a .key)) (sym (c .before .before .before .before .before .unit-at .ensures)) ∙ sym (c .before .before .before .before .offer-verdict .ensures) ∙ c .before .before .verdict .given .1)))
+    offer-ordered (a .olt) (a .llid) (a .key) _
+    (c .key-refused2 .ensures
+    ∙ sym (ap keySent (lift-refused (a .olt) noKeyMessage Accepted (a .llid) (offerUnit (a .llid) (a .key)) _ _ (here (c .before .before .before .before .before .before)) (ap (λ (u : UnitRecord). offerVerdict u (a .key)) (sym (c .before .before .before .before .before .unit-at .ensures)) ∙ sym (c .before .before .before .before .offer-verdict .ensures) ∙ c .before .before .verdict .given .1))))
 
 returns-3 : tie.Need-returns-3
 unfolding offerOf keySent reply offerUnit unitOffered withKeys withConfirmation outcome
 returns-3 c =
     let a = c .before .before .before .before .before .before .before .before .before .before .args in
-    rw (c .before .offered .ensures, c .before .before .before .before .before .unit-at .ensures) at (c .key-sent .ensures)
-    ∙ sym (ap keySent (lift-accepted (a .olt) noKeyMessage Accepted (a .llid) (offerUnit (a .llid) (a .key)) _ (here (c .before .before .before .before .before .before)) (ap (λ (u : UnitRecord). offerVerdict u (a .key)) (sym (c .before .before .before .before .before .unit-at .ensures)) ∙ sym (c .before .before .before .before .offer-verdict .ensures) ∙ c .before .before .enum-told .given .1)))
+    offer-ordered (a .olt) (a .llid) (a .key) _
+    (rw (c .before .offered .ensures, c .before .before .before .before .before .unit-at .ensures) at (c .key-sent .ensures)
+    ∙ sym (ap keySent (lift-accepted (a .olt) noKeyMessage Accepted (a .llid) (offerUnit (a .llid) (a .key)) _ (here (c .before .before .before .before .before .before)) (ap (λ (u : UnitRecord). offerVerdict u (a .key)) (sym (c .before .before .before .before .before .unit-at .ensures)) ∙ sym (c .before .before .before .before .offer-verdict .ensures) ∙ c .before .before .enum-told .given .1))))
 
 pub offer-spec : {M : Type 1} → statement M
 offer-spec =

@@ -9,6 +9,7 @@ use Rattle.ends.specs.OltCalls.{retryOf, keySent}
 use Rattle.ends.specs.Replies.{reply}
 use Rattle.ends.specs.UnitCalls.{retryUnit, retryVerdict}
 use Rattle.ends.specs.declared.UnitRecord.{UnitRecord}
+use Rattle.ends.proofs.OltCalls.{retry-ordered}
 use Rattle.olt.specs.Lookup.{locatedOf}
 use Rattle.olt.specs.declared.Located.the-variants.{Place}
 use Rattle.olt.proofs.Lookup.{place-below, lift-absent, lift-refused, lift-accepted}
@@ -29,7 +30,7 @@ enum-known-at-2 c = search needs
 
 -- the unit was found
 here : (c : tie.After-known-told2) → locatedOf (c .before .before .before .before .args .olt) Accepted (c .before .before .before .before .args .llid) ≡ Place (c .before .at2 .given .0 .0)
-here c = sym (c .before .before .before .locate .ensures) ∙ c .before .at2 .given .1
+here c = sym (c .before .before .before .locate .ensures .0) ∙ c .before .at2 .given .1
 
 unit-at-requires : tie.Need-unit-at-requires
 unit-at-requires c κs = place-below _ _ _ _ (here c)
@@ -53,22 +54,25 @@ returns : tie.Need-returns
 unfolding retryOf
 returns c =
     let a = c .before .before .before .before .before .args in
-    c .key-refused .ensures
-    ∙ sym (ap keySent (lift-absent (a .olt) noKeyMessage Accepted (a .llid) (retryUnit (a .llid)) _ (sym (c .before .before .before .before .locate .ensures) ∙ c .before .before .at .given .1)))
+    retry-ordered (a .olt) (a .llid) _
+    (c .key-refused .ensures
+    ∙ sym (ap keySent (lift-absent (a .olt) noKeyMessage Accepted (a .llid) (retryUnit (a .llid)) _ (sym (c .before .before .before .before .locate .ensures .0) ∙ c .before .before .at .given .1))))
 
 returns-2 : tie.Need-returns-2
 unfolding retryOf retryUnit outcome
 returns-2 c =
     let a = c .before .before .before .before .before .before .before .before .before .before .args in
-    c .key-refused2 .ensures
-    ∙ sym (ap keySent (lift-refused (a .olt) noKeyMessage Accepted (a .llid) (retryUnit (a .llid)) _ _ (here (c .before .before .before .before .before .before)) (ap (λ (u : UnitRecord). retryVerdict (u .keys)) (sym (c .before .before .before .before .before .unit-at .ensures)) ∙ sym (c .before .before .before .before .retry-verdict .ensures) ∙ c .before .before .verdict .given .1)))
+    retry-ordered (a .olt) (a .llid) _
+    (c .key-refused2 .ensures
+    ∙ sym (ap keySent (lift-refused (a .olt) noKeyMessage Accepted (a .llid) (retryUnit (a .llid)) _ _ (here (c .before .before .before .before .before .before)) (ap (λ (u : UnitRecord). retryVerdict (u .keys)) (sym (c .before .before .before .before .before .unit-at .ensures)) ∙ sym (c .before .before .before .before .retry-verdict .ensures) ∙ c .before .before .verdict .given .1))))
 
 returns-3 : tie.Need-returns-3
 unfolding retryOf keySent reply retryUnit outcome
 returns-3 c =
     let a = c .before .before .before .before .before .before .before .before .before .args in
-    rw (c .before .before .before .before .unit-at .ensures) at (c .key-sent .ensures)
-    ∙ sym (ap keySent (lift-accepted (a .olt) noKeyMessage Accepted (a .llid) (retryUnit (a .llid)) _ (here (c .before .before .before .before .before)) (ap (λ (u : UnitRecord). retryVerdict (u .keys)) (sym (c .before .before .before .before .unit-at .ensures)) ∙ sym (c .before .before .before .retry-verdict .ensures) ∙ c .before .enum-told .given .1)))
+    retry-ordered (a .olt) (a .llid) _
+    (rw (c .before .before .before .before .unit-at .ensures) at (c .key-sent .ensures)
+    ∙ sym (ap keySent (lift-accepted (a .olt) noKeyMessage Accepted (a .llid) (retryUnit (a .llid)) _ (here (c .before .before .before .before .before)) (ap (λ (u : UnitRecord). retryVerdict (u .keys)) (sym (c .before .before .before .before .unit-at .ensures)) ∙ sym (c .before .before .before .retry-verdict .ensures) ∙ c .before .enum-told .given .1))))
 
 pub retry-spec : {M : Type 1} → statement M
 retry-spec =

@@ -12,7 +12,7 @@ raised-requires c κs = search needs
 
 returns : tie.Need-returns
 unfolding clockFrom
-returns c = rw (c .raised .ensures, c .before .local-of .ensures)
+returns c = rw (c .raised .ensures .0, c .before .local-of .ensures)
 
 pub clock-from-spec : {M : Type 1} → statement M
 clock-from-spec = tie.close (tie.spec local-of-requires raised-requires returns)

@@ -5,7 +5,7 @@ use Rattle.refusal.specs.declared.Verdict.{Verdict}
 use Rattle.olt.specs.Lookup.{locatedOf}
 use Rattle.traffic.specs.Passages.{misfit}
 use Rattle.ends.proofs.OltTraffic.{receiveAhead}
-use Rattle.traffic.proofs.Receipts.{olt-receive-absent, olt-receive-at, receive-passed}
+use Rattle.traffic.proofs.Receipts.{olt-receive-ordered, olt-receive-absent, olt-receive-at, receive-passed}
 use borrow.Author.Needs.{needs}
 use Rattle.olt.proofs.Lookup.{reaches}
 use Rattle.traffic.proofs.olt_receive.Statement.{statement}
@@ -16,7 +16,7 @@ here : (c : tie.After-locate) → let a = c .before .before .before .before .arg
 unfolding misfit
 here c =
     let a = c .before .before .before .before .args in
-    c .locate .ensures ∙ ap (λ (v : Verdict). locatedOf (a .olt) v (a .header .llid)) (c .before .receive-ahead .ensures)
+    c .locate .ensures .0 ∙ ap (λ (v : Verdict). locatedOf (a .olt) v (a .header .llid)) (c .before .receive-ahead .ensures)
 
 receive-ahead-requires : tie.Need-receive-ahead-requires
 receive-ahead-requires c κs = search needs
@@ -43,7 +43,8 @@ receive-at-requires c κs =
 returns : tie.Need-returns
 returns c =
     let a = c .before .before .before .before .before .before .before .before .args in
-    rw (c .not-received .ensures) (olt-receive-absent (a .olt) (a .header) (a .octets .now) (a .output .now) _ (sym (here (c .before .before .before .before)) ∙ c .before .before .at .given .1))
+    olt-receive-ordered (a .olt) (a .header) (a .octets .now) (a .output .now) _ _
+    (rw (c .not-received .ensures) (olt-receive-absent (a .olt) (a .header) (a .octets .now) (a .output .now) _ (sym (here (c .before .before .before .before)) ∙ c .before .before .at .given .1)))
 
 same-length : tie.Need-same-length
 same-length c = search needs
@@ -51,7 +52,8 @@ same-length c = search needs
 returns-2 : tie.Need-returns-2
 returns-2 c =
     let a = c .before .before .before .before .before .before .before .before .before .before .before .args in
-    c .before .before .receive-at .ensures ∙ olt-receive-at (a .olt) (a .header) (a .octets .now) (a .output .now) _ (reaches _ _ _ _ (sym (here (c .before .before .before .before .before .before .before)) ∙ c .before .before .before .before .before .at2 .given .1))
+    olt-receive-ordered (a .olt) (a .header) (a .octets .now) (a .output .now) _ _
+    (c .before .before .receive-at .ensures ∙ olt-receive-at (a .olt) (a .header) (a .octets .now) (a .output .now) _ (reaches _ _ _ _ (sym (here (c .before .before .before .before .before .before .before)) ∙ c .before .before .before .before .before .at2 .given .1)))
 
 pub olt-receive-spec : {M : Type 1} → statement M
 olt-receive-spec =

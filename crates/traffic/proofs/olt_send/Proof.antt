@@ -5,7 +5,7 @@ use Rattle.refusal.specs.declared.Verdict.{Verdict}
 use Rattle.olt.specs.Lookup.{locatedOf}
 use Rattle.traffic.specs.Passages.{misfit}
 use Rattle.ends.proofs.OltTraffic.{sendAhead}
-use Rattle.traffic.proofs.Sends.{olt-send-absent, olt-send-at, send-passed}
+use Rattle.traffic.proofs.Sends.{olt-send-ordered, olt-send-absent, olt-send-at, send-passed}
 use borrow.Author.Needs.{needs}
 use Rattle.olt.proofs.Lookup.{reaches}
 use Rattle.traffic.proofs.olt_send.Statement.{statement}
@@ -16,7 +16,7 @@ here : (c : tie.After-locate) → let a = c .before .before .before .before .arg
 unfolding misfit
 here c =
     let a = c .before .before .before .before .args in
-    c .locate .ensures ∙ ap (λ (v : Verdict). locatedOf (a .olt) v (a .llid)) (c .before .send-ahead .ensures)
+    c .locate .ensures .0 ∙ ap (λ (v : Verdict). locatedOf (a .olt) v (a .llid)) (c .before .send-ahead .ensures)
 
 send-ahead-requires : tie.Need-send-ahead-requires
 send-ahead-requires c κs = search needs
@@ -43,7 +43,8 @@ send-at-requires c κs =
 returns : tie.Need-returns
 returns c =
     let a = c .before .before .before .before .before .before .before .before .args in
-    rw (c .not-sent .ensures) (olt-send-absent (a .olt) (a .llid) (a .channel) (a .payload .now) (a .output .now) _ (sym (here (c .before .before .before .before)) ∙ c .before .before .at .given .1))
+    olt-send-ordered (a .olt) (a .llid) (a .channel) (a .payload .now) (a .output .now) _ _
+    (rw (c .not-sent .ensures) (olt-send-absent (a .olt) (a .llid) (a .channel) (a .payload .now) (a .output .now) _ (sym (here (c .before .before .before .before)) ∙ c .before .before .at .given .1)))
 
 same-length : tie.Need-same-length
 same-length c = search needs
@@ -51,7 +52,8 @@ same-length c = search needs
 returns-2 : tie.Need-returns-2
 returns-2 c =
     let a = c .before .before .before .before .before .before .before .before .before .before .before .args in
-    c .before .before .send-at .ensures ∙ olt-send-at (a .olt) (a .llid) (a .channel) (a .payload .now) (a .output .now) _ (reaches _ _ _ _ (sym (here (c .before .before .before .before .before .before .before)) ∙ c .before .before .before .before .before .at2 .given .1))
+    olt-send-ordered (a .olt) (a .llid) (a .channel) (a .payload .now) (a .output .now) _ _
+    (c .before .before .send-at .ensures ∙ olt-send-at (a .olt) (a .llid) (a .channel) (a .payload .now) (a .output .now) _ (reaches _ _ _ _ (sym (here (c .before .before .before .before .before .before .before)) ∙ c .before .before .before .before .before .at2 .given .1)))
 
 pub olt-send-spec : {M : Type 1} → statement M
 olt-send-spec =

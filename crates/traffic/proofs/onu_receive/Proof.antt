@@ -1,9 +1,8 @@
 -- `traffic::onu_receive` meets its contract: what `receive_verdict` tells is the verdict of the reply, and what it accepts fits.
 -- Assumes nothing.
-use mathlib.Core.Bool.{Bool, not}
+use mathlib.Core.Bool.{Bool}
 use mathlib.Core.Path.{_≡_, sym, ap, _∙_}
-use Rattle.refusal.specs.declared.Refusal.the-variants.{OutOfRange}
-use Rattle.ends.specs.Replies.{refuseIf}
+use Rattle.ends.specs.Replies.{onValid}
 use Rattle.ends.specs.Validity.{validOnu}
 use Rattle.traffic.specs.Passages.{misfit}
 use Rattle.ends.specs.OnuTraffic.{onuReceiveVerdict}
@@ -18,7 +17,7 @@ judged : (c : tie.After-receive-verdict) → let a = c .before .before .before .
 unfolding misfit
 judged c =
     let a = c .before .before .before .before .args in
-    c .receive-verdict .ensures ∙ ap (λ (t : Bool). refuseIf (not (validOnu (a .onu))) OutOfRange (onuReceiveVerdict (a .onu) t (a .header))) (c .before .misfit .ensures)
+    c .receive-verdict .ensures ∙ ap (λ (t : Bool). onValid (validOnu (a .onu)) (onuReceiveVerdict (a .onu) t (a .header))) (c .before .misfit .ensures)
 
 misfit-requires : tie.Need-misfit-requires
 misfit-requires c κs = search needs

@@ -1,9 +1,8 @@
 -- `traffic::onu_send` meets its contract: what `send_verdict` tells is the verdict of the reply, and what it accepts fits.
 -- Assumes nothing.
-use mathlib.Core.Bool.{Bool, not}
+use mathlib.Core.Bool.{Bool}
 use mathlib.Core.Path.{_≡_, sym, ap, _∙_}
-use Rattle.refusal.specs.declared.Refusal.the-variants.{OutOfRange}
-use Rattle.ends.specs.Replies.{refuseIf}
+use Rattle.ends.specs.Replies.{onValid}
 use Rattle.ends.specs.Validity.{validOnu}
 use Rattle.traffic.specs.Passages.{misfit}
 use Rattle.ends.specs.OnuTraffic.{onuSendVerdict}
@@ -17,7 +16,7 @@ judged : (c : tie.After-send-verdict) → let a = c .before .before .before .bef
 unfolding misfit
 judged c =
     let a = c .before .before .before .before .args in
-    c .send-verdict .ensures ∙ ap (λ (t : Bool). refuseIf (not (validOnu (a .onu))) OutOfRange (onuSendVerdict (a .onu) t (a .llid) (a .channel))) (c .before .misfit .ensures)
+    c .send-verdict .ensures ∙ ap (λ (t : Bool). onValid (validOnu (a .onu)) (onuSendVerdict (a .onu) t (a .llid) (a .channel))) (c .before .misfit .ensures)
 
 misfit-requires : tie.Need-misfit-requires
 misfit-requires c κs = search needs

@@ -6,25 +6,31 @@ use native.Mathlib.Omega.{arith}
 use lib.ListN.{length, take, drop}
 use borrow.Author.Needs.{needs}
 use Rattle.octets.proofs.Steps.{first-end, first-past}
+use Rattle.ends.specs.Limits.{maxUnits}
 use Rattle.ends.specs.Table.{findFrom, pastUnit}
+use Rattle.ends.proofs.Table.{found-number}
 use Rattle.ends.proofs.Walks.{find-hit, find-miss, find-none}
 use Rattle.ends.proofs.check_olt.find.Statement.{statement}
 use Rattle.ends.proofs.check_olt.find.Tie as tie
 
 abbrev Inv-loop : tie.InvT-loop
-Inv-loop count llid units i₀ i = (i ≤ 16) × (findFrom 0 (take count units) llid ≡ findFrom i (drop i (take count units)) llid)
+Inv-loop count llid units i₀ i = (i ≤ maxUnits) × (findFrom 0 (take count units) llid ≡ findFrom i (drop i (take count units)) llid)
 
 abbrev μ-loop : tie.MeasureT-loop
-μ-loop count llid units i₀ i = 16 - i
+μ-loop count llid units i₀ i = maxUnits - i
 
 loop-holds : tie.Need-loop-holds Inv-loop μ-loop
 loop-holds c = (omega arith, refl)
+
+cast-loop : tie.Need-cast-loop Inv-loop μ-loop
+cast-loop c = omega arith
 
 returns : tie.Need-returns Inv-loop μ-loop
 returns c =
     let a = c .before .before .before .args in
     let here = c .before .before .loop in
-    sym (here .inv .1 ∙ find-none (here .i) _ (a .llid) (first-end (a .count) (a .t1) (here .i) (c .if1 .taken)))
+    let e = sym (here .inv .1 ∙ find-none (here .i) _ (a .llid) (first-end (a .count) (a .t1) (here .i) (c .if1 .taken))) in
+    (e, found-number _ (a .llid) _ e)
 
 mul-unit : tie.Need-mul-unit Inv-loop μ-loop
 mul-unit c = omega arith
@@ -40,10 +46,12 @@ unfolding pastUnit
 returns-2 c =
     let a = c .before .before .before .before .before .before .args in
     let here = c .before .before .before .before .before .loop in
-    let len : length (a .t1) ≡ 16 = search needs in
+    let len : length (a .t1) ≡ maxUnits = search needs in
+    let e =
     sym (here .inv .1
     ∙ find-hit (a .count) (a .t1) (here .i) pastUnit (a .llid) (c .before .before .before .if1 .left) (omega arith)
-    (sym (c .before .has .ensures) ∙ c .if2 .taken))
+    (sym (c .before .has .ensures) ∙ c .if2 .taken)) in
+    (e, found-number _ (a .llid) _ e)
 
 add-i : tie.Need-add-i Inv-loop μ-loop
 add-i c = omega arith
@@ -56,7 +64,7 @@ unfolding pastUnit
 loop-again c =
     let a = c .before .before .before .before .before .before .args in
     let here = c .before .before .before .before .before .loop in
-    let len : length (a .t1) ≡ 16 = search needs in (
+    let len : length (a .t1) ≡ maxUnits = search needs in (
       omega arith,
       here .inv .1
           ∙ find-miss (a .count) (a .t1) (here .i) pastUnit (a .llid) (c .before .before .before .if1 .left) (omega arith)
@@ -66,9 +74,10 @@ loop-again c =
 returns-3 : tie.Need-returns-3 Inv-loop μ-loop
 returns-3 c =
     let a = c .before .before .args in
-    let len : length (a .t1) ≡ 16 = search needs in
+    let len : length (a .t1) ≡ maxUnits = search needs in
     let here = c .before .loop in
-    sym (here .inv .1 ∙ find-none (here .i) _ (a .llid) (first-past (a .count) (a .t1) (here .i) (omega arith)))
+    let e = sym (here .inv .1 ∙ find-none (here .i) _ (a .llid) (first-past (a .count) (a .t1) (here .i) (omega arith))) in
+    (e, found-number _ (a .llid) _ e)
 
 pub find-spec : {M : Type 1} → statement M
 find-spec =
@@ -77,6 +86,7 @@ find-spec =
     Inv-loop
     μ-loop
     loop-holds
+    cast-loop
     returns
     mul-unit
     array-copy-out-unit

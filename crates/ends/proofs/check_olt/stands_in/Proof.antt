@@ -16,10 +16,10 @@ enum-told-2 : tie.Need-enum-told-2
 enum-told-2 c = search needs
 
 returns : tie.Need-returns
-returns c = sym (among-found 0 _ _ _ (sym (c .before .before .find .ensures) ∙ c .enum-told .given .1))
+returns c = sym (among-found 0 _ _ _ (sym (c .before .before .find .ensures .0) ∙ c .enum-told .given .1))
 
 returns-2 : tie.Need-returns-2
-returns-2 c = sym (among-nowhere 0 _ _ (sym (c .before .before .find .ensures) ∙ c .enum-told2 .given .1))
+returns-2 c = sym (among-nowhere 0 _ _ (sym (c .before .before .find .ensures .0) ∙ c .enum-told2 .given .1))
 
 pub stands-in-spec : {M : Type 1} → statement M
 stands-in-spec = tie.close (tie.spec find-requires enum-told enum-told-2 returns returns-2)

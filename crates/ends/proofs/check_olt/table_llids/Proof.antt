@@ -6,6 +6,7 @@ use Prim.Native.Nat.{ℕ, _≤_, _-_, _*_}
 use native.Mathlib.Omega.{arith}
 use lib.ListN.{length, take, drop, getD}
 use borrow.Author.Needs.{needs}
+use Rattle.ends.specs.Limits.{maxLlids, maxUnits}
 use Rattle.ends.specs.Table.{pastUnit, tableLlids}
 use Rattle.ends.proofs.Walks.{llids-step, llids-end}
 use Rattle.ends.proofs.check_olt.table_llids.Statement.{statement}
@@ -14,7 +15,7 @@ use Rattle.ends.proofs.check_olt.table_llids.Tie as tie
 abbrev Inv-loop : tie.InvT-loop
 Inv-loop count units table₀ n i₀ table i =
     (i ≤ count)
-    × ((table .count ≤ 4 * i) × (take (table .count) (table .list) ++ tableLlids (drop i (take count units)) ≡ tableLlids (take count units)))
+    × ((table .count ≤ maxLlids * i) × (take (table .count) (table .list) ++ tableLlids (drop i (take count units)) ≡ tableLlids (take count units)))
 
 abbrev μ-loop : tie.MeasureT-loop
 μ-loop count units table₀ n i₀ table i = count - i
@@ -46,8 +47,8 @@ loop-again c =
     let a = c .before .before .before .before .args in
     let here = c .before .before .before .loop in
     let i = here .i in
-    let len : length (a .t1) ≡ 16 = search needs in
-    let few : getD (a .t1) i pastUnit .identity .count ≤ 4 = c .before .before .before .before .pre .1 i (omega arith) in (
+    let len : length (a .t1) ≡ maxUnits = search needs in
+    let few : getD (a .t1) i pastUnit .identity .count ≤ maxLlids = c .before .before .before .before .pre .1 i (omega arith) in (
       omega arith,
       (
         omega (arith, c .with-llids .ensures .1),

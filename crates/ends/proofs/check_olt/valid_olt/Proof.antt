@@ -10,6 +10,7 @@ use borrow.Author.Needs.{needs}
 use borrow.Author.Tests.{le-leb, lt-leb, not-true, not-false}
 use Rattle.octets.specs.Choice.{both}
 use Rattle.octets.specs.Lists.{all}
+use Rattle.ends.specs.Limits.{maxTableLlids}
 use Rattle.ends.specs.Identities.{distinct}
 use Rattle.ends.specs.Validity.{validOlt, validShared, validUnit}
 use Rattle.ends.proofs.Walks.{units-few}
@@ -50,13 +51,13 @@ table-llids-requires c κs = (omega arith, units-few _ _ _ (units-valid c))
 
 array-share-prefix-list : tie.Need-array-share-prefix-list
 array-share-prefix-list c =
-    let len : length (c .before .table-llids .result .list) ≡ 64 = search needs in
+    let len : length (c .before .table-llids .result .list) ≡ maxTableLlids = search needs in
     omega (arith, c .before .table-llids .ensures .1)
 
 slice-aggregate-all-distinct : tie.Need-slice-aggregate-all-distinct
 slice-aggregate-all-distinct c =
     let r = c .before .before .table-llids .result in
-    let len : length (r .list) ≡ 64 = search needs in
+    let len : length (r .list) ≡ maxTableLlids = search needs in
     let h : r .count ≤ length (r .list) = omega (arith, c .before .before .table-llids .ensures .1) in
     sym (length-take-le _ _ h)
 

@@ -8,6 +8,7 @@ use borrow.Author.Needs.{needs}
 use borrow.Author.Tests.{not-true, not-false}
 use Rattle.octets.specs.Lists.{all}
 use Rattle.octets.proofs.Steps.{all-hit, all-miss, all-end}
+use Rattle.ends.specs.Limits.{maxUnits}
 use Rattle.ends.specs.Table.{pastUnit}
 use Rattle.ends.specs.Validity.{validUnit}
 use Rattle.ends.proofs.check_olt.valid_units.Statement.{statement}
@@ -36,7 +37,7 @@ unfolding pastUnit
 returns c =
     let a = c .before .before .before .before .before .args in
     let here = c .before .before .before .before .loop in
-    let len : length (a .t2) ≡ 16 = search needs in
+    let len : length (a .t2) ≡ maxUnits = search needs in
     sym (here .inv .1
     ∙ all-miss (validUnit (a .tick)) (a .count) (a .t2) (here .i) pastUnit (omega arith) (omega arith)
     (sym (c .before .valid-unit .ensures) ∙ not-true (c .before .valid-unit .result) (c .if1 .taken)))
@@ -52,7 +53,7 @@ unfolding pastUnit
 loop-again c =
     let a = c .before .before .before .before .before .args in
     let here = c .before .before .before .before .loop in
-    let len : length (a .t2) ≡ 16 = search needs in (
+    let len : length (a .t2) ≡ maxUnits = search needs in (
       omega arith,
       here .inv .1
           ∙ all-hit (validUnit (a .tick)) (a .count) (a .t2) (here .i) pastUnit (omega arith) (omega arith)

@@ -9,13 +9,14 @@ use lib.ListN.{length, take, getD, length-set}
 use borrow.Author.Needs.{needs}
 use Rattle.octets.specs.Lists.{tabulate}
 use Rattle.octets.proofs.Steps.{grow}
+use Rattle.ends.specs.Limits.{maxTableLlids}
 use Rattle.ends.specs.Identities.{llidsOf}
 use Rattle.ends.proofs.check_olt.with_llids.Statement.{statement}
 use Rattle.ends.proofs.check_olt.with_llids.Tie as tie
 
 abbrev Inv-loop : tie.InvT-loop
 Inv-loop r₀ n count llids j₀ r j =
-    (j ≤ count) × ((length (r .list) ≡ 64) × (take (n + j) (r .list) ≡ take n (r₀ .list) ++ tabulate 0 j (λ k. getD llids k 0)))
+    (j ≤ count) × ((length (r .list) ≡ maxTableLlids) × (take (n + j) (r .list) ≡ take n (r₀ .list) ++ tabulate 0 j (λ k. getD llids k 0)))
 
 abbrev μ-loop : tie.MeasureT-loop
 μ-loop r₀ n count llids j₀ r j = count - j
@@ -25,7 +26,7 @@ cast-count c = search needs
 
 loop-holds : tie.Need-loop-holds Inv-loop μ-loop
 loop-holds c =
-    let len : length (c .before .before .args .table .list) ≡ 64 = search needs in
+    let len : length (c .before .before .args .table .list) ≡ maxTableLlids = search needs in
     (omega arith, (len, rw (add-zero, append-nil)))
 
 add-place : tie.Need-add-place Inv-loop μ-loop

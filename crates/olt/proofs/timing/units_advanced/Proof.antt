@@ -13,6 +13,7 @@ use Rattle.ends.specs.Table.{pastUnit}
 use Rattle.ends.specs.Timers.{validTimer}
 use Rattle.ends.specs.UnitCalls.{unitAdvanced}
 use Rattle.ends.specs.declared.UnitRecord.{UnitRecord}
+use Rattle.ends.specs.Limits.{maxUnits}
 use Rattle.olt.proofs.timing.units_advanced.Statement.{statement}
 use Rattle.olt.proofs.timing.units_advanced.Tie as tie
 
@@ -36,7 +37,7 @@ unfolding pastUnit
 unit-advanced-requires c κs =
     let a = c .before .before .before .args in
     let here = c .before .before .loop in
-    let len : length (a .units) ≡ 16 = search needs in
+    let len : length (a .units) ≡ maxUnits = search needs in
     let old : getD (here .r) (here .i) pastUnit ≡ getD (a .units) (here .i) pastUnit =
     ap (λ (l : List UnitRecord). getD l (here .i) pastUnit) (here .inv .1) ∙ first-at (unitAdvanced (a .n)) (here .i) (a .units) pastUnit in (
       ap (λ (u : UnitRecord). validTimer (u .keys .timer)) old
@@ -61,7 +62,7 @@ unfolding pastUnit
 loop-again c =
     let a = c .before .before .before .before .args in
     let here = c .before .before .before .loop in
-    let len : length (a .units) ≡ 16 = search needs in (
+    let len : length (a .units) ≡ maxUnits = search needs in (
       omega arith,
       rw (c .unit-advanced .ensures, here .inv .1, first-at, add-one) (first-more (unitAdvanced (a .n)) (here .i) (a .units) pastUnit (omega arith)),
     )

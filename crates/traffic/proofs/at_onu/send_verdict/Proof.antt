@@ -22,15 +22,15 @@ has-requires c κs = search needs
 send-choice-requires : tie.Need-send-choice-requires
 send-choice-requires c κs = search needs
 
-send-verdict-requires : tie.Need-send-verdict-requires
-send-verdict-requires c κs = search needs
+channel-then-key-requires : tie.Need-channel-then-key-requires
+channel-then-key-requires c κs = search needs
 
 named-requires : tie.Need-named-requires
 named-requires c κs = search needs
 
 returns-2 : tie.Need-returns-2
 unfolding refuseIf onuSendVerdict upstream both
-returns-2 c = rw (sym (c .before .before .before .before .before .valid-onu .ensures), c .before .before .before .before .if1 .left, c .named .ensures, c .before .send-verdict .ensures, c .before .before .send-choice .ensures, c .before .before .before .has .ensures)
+returns-2 c = rw (sym (c .before .before .before .before .before .valid-onu .ensures), c .before .before .before .before .if1 .left, c .named .ensures, c .before .channel-then-key .ensures, c .before .before .send-choice .ensures, c .before .before .before .has .ensures)
 
 pub send-verdict-spec : {M : Type 1} → statement M
 send-verdict-spec =
@@ -40,6 +40,6 @@ send-verdict-spec =
     returns
     has-requires
     send-choice-requires
-    send-verdict-requires
+    channel-then-key-requires
     named-requires
     returns-2)

@@ -25,7 +25,7 @@ unfolding passed passedCount
 returns c =
     let a = c .before .before .before .before .before .before .before .before .before .args in
     rw (c .seal-count .ensures, sym (c .before .before .before .before .before .before .is-enciphered .ensures))
-    (sealing-carried _ (keyExpansion (a .passage .key)) (passageNonce (a .channel) (a .passage)) (a .payload .now) (a .output .now) _ _ (c .before .before .before .seal .ensures) (c .before .before .before .before .before .before .before .before .before .pre))
+    (sealing-carried _ (keyExpansion (a .passage .key)) (passageNonce (a .channel) (a .passage)) (a .payload .now) (a .output .now) _ _ (c .before .before .before .seal .ensures .0) (c .before .before .before .before .before .before .before .before .before .pre))
 
 pub carry-spec : {M : Type 1} → statement M
 carry-spec =

@@ -2,19 +2,20 @@
 -- Assumes nothing.
 use borrow.Author.Tests.{eq-eqb, ne-eqb}
 use Rattle.octets.specs.Choice.{both, pick}
+use Rattle.ends.specs.UnitCalls.{outstanding}
 use Rattle.unit.proofs.calls.is_outstanding.Statement.{statement}
 use Rattle.unit.proofs.calls.is_outstanding.Tie as tie
 
 returns : tie.Need-returns
-unfolding pick
+unfolding outstanding pick
 returns c = rw (eq-eqb _ _ (c .if1 .taken))
 
 returns-2 : tie.Need-returns-2
-unfolding pick both
+unfolding outstanding pick both
 returns-2 c = rw (ne-eqb _ _ (c .before .if1 .left), eq-eqb _ _ (c .if2 .taken))
 
 returns-3 : tie.Need-returns-3
-unfolding pick
+unfolding outstanding pick
 returns-3 c = rw (ne-eqb _ _ (c .before .if1 .left), ne-eqb _ _ (c .if2 .left))
 
 pub is-outstanding-spec : {M : Type 1} → statement M

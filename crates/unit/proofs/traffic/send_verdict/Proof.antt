@@ -8,12 +8,12 @@ use Rattle.unit.proofs.traffic.send_verdict.Tie as tie
 send-choice-requires : tie.Need-send-choice-requires
 send-choice-requires c κs = search needs
 
-send-verdict-requires : tie.Need-send-verdict-requires
-send-verdict-requires c κs = search needs
+channel-then-key-requires : tie.Need-channel-then-key-requires
+channel-then-key-requires c κs = search needs
 
 returns : tie.Need-returns
 unfolding unitSendVerdict
-returns c = rw (c .send-verdict .ensures, c .before .send-choice .ensures)
+returns c = rw (c .channel-then-key .ensures, c .before .send-choice .ensures)
 
 pub send-verdict-spec : {M : Type 1} → statement M
-send-verdict-spec = tie.close (tie.spec send-choice-requires send-verdict-requires returns)
+send-verdict-spec = tie.close (tie.spec send-choice-requires channel-then-key-requires returns)

@@ -120,10 +120,10 @@ def ends():
 def payloads():
     print(f"jazmotip_expand_key {b''.join(reader.expanded(KEY)).hex()}")
     sealed, count = seal(KEY, 0x81, OLT_MAC, 0x41, PAYLOAD)
-    for call in ("seal", "seal_expanded"):
+    for call, refused in (("seal", LENT), ("seal_expanded", LENT), ("seal_in_place", PAYLOAD), ("seal_expanded_in_place", PAYLOAD)):
         show(call, 0, passed(0, PAYLOAD))
         show(call, 0, passed(count, sealed))
-        show(call, 1, passed(0, LENT))
+        show(call, 1, passed(0, refused))
     print(f"jazmotip_count {count}")
 
 

@@ -2,8 +2,8 @@
  * jazmotip.h: the Jazmotip link engine, for firmware in C.
  *
  * Seals and opens the payloads of SIEPON.4 envelopes (AES-128 in counter mode under the control mask), plays either end of a
- * 25G/50G EPON line, and opens capture blocks. Link with libjazmotip.a; nothing else is needed, not even a C library beyond the
- * memcpy and memset that compilers take for granted. x86-64, System V calling convention.
+ * 25G/50G EPON line, and opens capture blocks. Link with libjazmotip.a, which needs one function from outside, memcpy. x86-64,
+ * System V calling convention.
  *
  * What holds of every call
  *   - It ends, and asks nothing of the values handed to it: whatever is malformed, untimely, unknown or too long is refused by a
@@ -14,15 +14,20 @@
  *   - No heap, no globals that are written, no locks: calls on different ends and buffers may run at the same time.
  *
  * What the caller owes, as for any C function
- *   - A pointer with a length points to that many octets that may be read, and written for an output. With length 0 it may be any
- *     pointer but NULL.
- *   - An output overlaps nothing else that is lent in the same call. No length is above PTRDIFF_MAX.
+ *   - A pointer with a length points to that many octets that may be read, and written for an output; octets need no alignment.
+ *     With length 0 nothing is read or written through it, and it may be any pointer, NULL too.
+ *   - A pointer without a length, to a key, a text or an end that is advanced, is not NULL. The end is aligned as its type is, to
+ *     8 octets.
+ *   - An output overlaps nothing else that is lent in the same call; to seal or open a payload where it lies there are calls of
+ *     their own. No length is above PTRDIFF_MAX.
+ *   - Stack: 16 KiB are enough for a call of the OLT and 4 KiB for any other, with what is handed over by value and without the
+ *     place of the answer. host/bench/run measures each call.
  *
  * Who owns what
  *   - The caller owns all memory. The engine keeps no pointer after a call returns.
  *   - An end, a jazmotip_olt or a jazmotip_onu, is a plain value. A call takes it by value and answers with the next one: store
  *     that, and use no older copy, since sending twice from one copy would use a counter block twice. Only the two advances
- *     write in place. An end may be copied, compared field by field, or kept over a restart; it holds keys, so wipe what you
+ *     write an end in place. An end may be copied, compared field by field, or kept over a restart; it holds keys, so wipe what you
  *     leave behind.
  *
  *         jazmotip_olt_answer a = jazmotip_olt_register(olt, identity, trip, interval);
@@ -45,7 +50,7 @@ extern "C" {
  * What a call answers with. Where several causes hold, the first in the call's own order is given; each call lists its order. */
 enum {
     JAZMOTIP_ACCEPTED = 0,
-    JAZMOTIP_OUT_OF_RANGE = 1,        /* a value outside its range, or a lent end that no call could have made */
+    JAZMOTIP_OUT_OF_RANGE = 1,        /* a value outside its range, or an end that breaks the rules below */
     JAZMOTIP_UNKNOWN_LLID = 2,        /* LLID not registered */
     JAZMOTIP_REPEATED_LLID = 3,       /* LLID already registered, or twice in one call */
     JAZMOTIP_TABLE_FULL = 4,          /* seventeenth unit */
@@ -81,8 +86,18 @@ enum {
 #define JAZMOTIP_LISTING_OCTETS 10266u       /* the buffer that a listing needs */
 
 /* ------------------------------------------------------------------------------------------------------------------- Ends
- * A flag is 0 or 1. A place that is not in use holds zeros. Read any field; write none but in a struct that you hand over as an
- * argument: an end with a field outside its rules is refused with 1 by every call. */
+ * Read any field; write none but in a struct that you hand over as an argument. Ahead of its order every call refuses with 1 an
+ * end that breaks one of these rules, and no other:
+ *   - a flag (flag, noted, acknowledged, captured, sent, synced, held) is 0 or 1
+ *   - MACs and the OLT's clock are below 2^48; a tick is at most JAZMOTIP_MAX_TICK
+ *   - a channel is free from a tick of at most JAZMOTIP_MAX_TICK + JAZMOTIP_MAX_EQS + 1, 2^62 + 4,194,304
+ *   - a unit has 1 to 4 LLIDs, and no LLID stands twice at an end
+ *   - a first send that is noted, and a capture, are not after the end's tick
+ *   - at an OLT: at most 16 units; a round trip of at most JAZMOTIP_MAX_TRIP; an interval of 1 to JAZMOTIP_MAX_INTERVAL, its count
+ *     below it; C is A or A - 1, O is A or A + 1, and not both C = A - 1 and O = A + 1
+ *   - at an ONU: time is below 2^48 once synced and below 2^32 before; rx is below 2^48; no key is held at a = 2^32 - 1
+ * Places that are not in use are not judged, and calls carry along what they hold: LLIDs past a count, units past the OLT's count,
+ * the tick of a first send or capture that is not noted. A fresh end has zeros there. Any octets are a key. */
 
 typedef struct jazmotip_timer {
     uint64_t interval; /* 1 to JAZMOTIP_MAX_INTERVAL ticks */
@@ -272,7 +287,7 @@ typedef struct jazmotip_onu_received {
 } jazmotip_onu_received;
 
 /* ------------------------------------------------------------------------------------------------------- Calls of the OLT
- * A unit is named by any of its LLIDs. Ahead of each order below stands 1 for an end that no call could have made. */
+ * A unit is named by any of its LLIDs. Ahead of each order below stands 1 for an end that breaks the rules above. */
 
 /* A head end with no units. Refused (1: MAC or clock not below 2^48), the end is zeros. */
 jazmotip_olt_answer jazmotip_olt_fresh(uint64_t mac, uint64_t clock);
@@ -296,12 +311,13 @@ jazmotip_key_sent jazmotip_olt_offer(jazmotip_olt olt, uint16_t llid, const uint
 /* Hands over the key message of the outstanding offer again. Order: 2, 8. */
 jazmotip_key_sent jazmotip_olt_retry(jazmotip_olt olt, uint16_t llid);
 
-/* Takes in a unit's acknowledgement. Order: 2, 8. */
+/* Takes in a unit's acknowledgement. The number of one to a clock message is ignored; a kind other than 1 and 2 fits nothing, 8.
+ * Order: 2, 8. */
 jazmotip_olt_answer jazmotip_olt_acknowledge(jazmotip_olt olt, uint16_t llid, jazmotip_acknowledgement acknowledgement);
 
 /* Seals a payload for a unit into output, of the same length, and hands over its header. With the timer's flag up and the offer
- * acknowledged this is the envelope that switches keys. Index 0x00 or 0x01. The channel is taken for as many ticks as EQs.
- * Order: 14, 1, 2, 12, 13. */
+ * acknowledged this is the envelope that switches keys. Index 0x00 or 0x01. A header at tick t with p EQs keeps its channel until
+ * t + p; t + p + 1 is free. Order: 14, 1, 2, 12, 13. */
 jazmotip_olt_sent jazmotip_olt_send(jazmotip_olt olt, uint16_t llid, uint8_t channel, const uint8_t *payload, size_t payload_length,
                                     uint8_t *output, size_t output_length);
 
@@ -309,7 +325,8 @@ jazmotip_olt_sent jazmotip_olt_send(jazmotip_olt olt, uint16_t llid, uint8_t cha
 jazmotip_olt_received jazmotip_olt_receive(jazmotip_olt olt, jazmotip_header header, const uint8_t *octets, size_t octets_length,
                                            uint8_t *output, size_t output_length);
 
-/* ------------------------------------------------------------------------------------------------------- Calls of the ONU */
+/* ------------------------------------------------------------------------------------------------------- Calls of the ONU
+ * Ahead of each order below stands 1 for an end that breaks the rules above. */
 
 /* A unit that is not synced yet: its identity, the OLT's MAC and LocalTime, below 2^32. Refused (1, 3), the end is zeros. */
 jazmotip_onu_answer jazmotip_onu_fresh(jazmotip_identity identity, uint64_t oltmac, uint64_t time);
@@ -323,8 +340,8 @@ jazmotip_onu_acknowledged jazmotip_onu_clock_message(jazmotip_onu onu, jazmotip_
 /* Takes a key message and hands over the acknowledgement. Order: 2, 5, 8. */
 jazmotip_onu_acknowledged jazmotip_onu_key_message(jazmotip_onu onu, jazmotip_key_message message);
 
-/* Seals a payload for the head end into output, of the same length, and hands over its header. Index 0x80 or 0x81.
- * Order: 14, 1, 2, 12, 13. */
+/* Seals a payload for the head end into output, of the same length, and hands over its header. Index 0x80 or 0x81. The channel is
+ * kept as at the OLT. Order: 14, 1, 2, 12, 13. */
 jazmotip_onu_sent jazmotip_onu_send(jazmotip_onu onu, uint16_t llid, uint8_t channel, const uint8_t *payload, size_t payload_length,
                                     uint8_t *output, size_t output_length);
 
@@ -361,6 +378,12 @@ jazmotip_payload_answer jazmotip_seal(uint8_t encenabled, const uint8_t key[16],
 /* The same under a key that was expanded once, for many short envelopes. */
 jazmotip_payload_answer jazmotip_seal_expanded(uint8_t encenabled, jazmotip_round_keys keys, jazmotip_nonce nonce,
                                                const uint8_t *input, size_t input_length, uint8_t *output, size_t output_length);
+
+/* The two in place: the payload is input and output. A clear or refused one stays as it is. Order: 14, 1. */
+jazmotip_payload_answer jazmotip_seal_in_place(uint8_t encenabled, const uint8_t key[16], jazmotip_nonce nonce, uint8_t *payload,
+                                               size_t payload_length);
+jazmotip_payload_answer jazmotip_seal_expanded_in_place(uint8_t encenabled, jazmotip_round_keys keys, jazmotip_nonce nonce,
+                                                        uint8_t *payload, size_t payload_length);
 
 jazmotip_round_keys jazmotip_expand_key(const uint8_t key[16]);
 

@@ -5,6 +5,8 @@ use jazmotip::payloads::jazmotip_count;
 use jazmotip::payloads::jazmotip_expand_key;
 use jazmotip::payloads::jazmotip_seal;
 use jazmotip::payloads::jazmotip_seal_expanded;
+use jazmotip::payloads::jazmotip_seal_expanded_in_place;
+use jazmotip::payloads::jazmotip_seal_in_place;
 use sealing::aes128::RoundKeys;
 
 fn expand() -> RoundKeys {
@@ -33,6 +35,21 @@ fn seal_expanded(encenabled: u8, keys: RoundKeys) {
     show::passed(answer.count, &output);
 }
 
+fn seal_in_place(encenabled: u8) {
+    let key = values::key();
+    let mut payload = values::payload();
+    let answer = jazmotip_seal_in_place(encenabled, &key, values::nonce(), &mut payload);
+    show::begin(b"seal_in_place", answer.number);
+    show::passed(answer.count, &payload);
+}
+
+fn seal_expanded_in_place(encenabled: u8, keys: RoundKeys) {
+    let mut payload = values::payload();
+    let answer = jazmotip_seal_expanded_in_place(encenabled, keys, values::nonce(), &mut payload);
+    show::begin(b"seal_expanded_in_place", answer.number);
+    show::passed(answer.count, &payload);
+}
+
 fn count() {
     let payload = values::payload();
     show::name(b"count");
@@ -48,5 +65,11 @@ pub(crate) fn play() {
     seal_expanded(0, keys);
     seal_expanded(1, keys);
     seal_expanded(2, keys);
+    seal_in_place(0);
+    seal_in_place(1);
+    seal_in_place(2);
+    seal_expanded_in_place(0, keys);
+    seal_expanded_in_place(1, keys);
+    seal_expanded_in_place(2, keys);
     count();
 }

@@ -25,6 +25,10 @@ sealingBy zero w n p out = sealing false w n p out
 sealingBy (suc zero) w n p out = sealing true w n p out
 sealingBy (suc (suc more)) w n p out = withOutput (flagDenied (length p) (length out)) out
 
+-- in place: the payload is input and output
+abbrev pub inPlaceBy : ℕ → List ℕ → Nonce → List ℕ → WithOutput SealAnswer
+inPlaceBy f w n p = sealingBy f w n p p
+
 abbrev pub payloadAnswer : SealAnswer → PayloadAnswer
 payloadAnswer a = record { number = sealNumber a; count = sealCount a }
 

@@ -3,7 +3,7 @@ ghost use mathlib.Core.Path.{_≡_};
 ghost use Rattle.octets.specs.Output.{withOutput};
 ghost use Rattle.envelope.specs.ControlMask.{countEnciphered};
 ghost use Rattle.sealing.specs.KeyExpansion.{keyExpansion};
-ghost use Rattle.jazmotip.specs.Payloads.{payloadAnswer, flagDenied, sealingBy, inNumbers};
+ghost use Rattle.jazmotip.specs.Payloads.{payloadAnswer, flagDenied, sealingBy, inPlaceBy, inNumbers};
 use envelope::Nonce;
 use envelope::SealAnswer;
 use envelope::count;
@@ -14,6 +14,8 @@ use refusal::Refusal;
 use sealing::aes128::RoundKeys;
 use sealing::counter_mode::seal;
 use sealing::counter_mode::seal_expanded;
+use sealing::counter_mode::seal_expanded_in_place;
+use sealing::counter_mode::seal_in_place;
 use sealing::key_expansion::expand_key;
 
 #[repr(C)]
@@ -82,6 +84,39 @@ pub extern "C" fn jazmotip_seal_expanded(
         return numbered(deny_flag(input.len(), output.len()));
     }
     let answer = seal_expanded(encenabled == 1, keys, nonce, input, output);
+    numbered(answer)
+}
+
+// The two in place: the payload is input and output.
+#[no_mangle]
+pub extern "C" fn jazmotip_seal_in_place(
+    encenabled: u8,
+    key: &[u8; 16],
+    nonce: Nonce,
+    payload: &mut [u8],
+) -> PayloadAnswer
+    ensures { λ r. ⌜ withOutput r (now (payload .exit)) ≡ inNumbers (inPlaceBy encenabled (keyExpansion (now (key .entry))) nonce (now (payload .entry))) ⌝ }
+{
+    if 1 < encenabled {
+        return numbered(deny_flag(payload.len(), payload.len()));
+    }
+    let answer = seal_in_place(encenabled == 1, *key, nonce, payload);
+    numbered(answer)
+}
+
+#[no_mangle]
+pub extern "C" fn jazmotip_seal_expanded_in_place(
+    encenabled: u8,
+    keys: RoundKeys,
+    nonce: Nonce,
+    payload: &mut [u8],
+) -> PayloadAnswer
+    ensures { λ r. ⌜ withOutput r (now (payload .exit)) ≡ inNumbers (inPlaceBy encenabled (keys .octets) nonce (now (payload .entry))) ⌝ }
+{
+    if 1 < encenabled {
+        return numbered(deny_flag(payload.len(), payload.len()));
+    }
+    let answer = seal_expanded_in_place(encenabled == 1, keys, nonce, payload);
     numbered(answer)
 }
 

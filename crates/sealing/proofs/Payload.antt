@@ -7,16 +7,16 @@ use native.Mathlib.Nat.{zero-add}
 use native.Mathlib.Numerals.{add-one}
 use native.Mathlib.Omega.{arith}
 use lib.Count.{ones}
-use lib.ListN.{length, getD, take, drop}
-use lib.Seq.{ext-getD}
+use lib.ListN.{length, getD, take, drop, length-drop}
+use lib.Seq.{ext-getD, getD-drop}
 use Rattle.octets.specs.Bits.{bitOf}
 use Rattle.octets.specs.Choice.{pick}
 use Rattle.octets.specs.Lists.{tabulate, replaced, written}
-use Rattle.octets.proofs.Lists.{tabulate-length, tabulate-at, sum-ext, part-at, part-length, written-part}
+use Rattle.octets.proofs.Lists.{tabulate-length, tabulate-at, sum-ext, part-at, part-length, written-part, written-length, written-more, written-rest}
 use Rattle.envelope.specs.ControlMask.{controlOctet, masked, maskedAt, countEnciphered}
 use Rattle.envelope.specs.declared.Nonce.{Nonce}
 use Rattle.envelope.proofs.ControlMask.{masked-at-twice}
-use Rattle.sealing.specs.Payload.{cipherBlock, halfOf, sealedOctet, sealed}
+use Rattle.sealing.specs.Payload.{cipherBlock, halfOf, sealedOctet, sealed, SealedLaws}
 use Rattle.sealing.specs.Steps.{maskedEq}
 
 pub sealed-length : (w : List ℕ) (n : Nonce) (p : List ℕ) → length (sealed w n p) ≡ length p
@@ -29,19 +29,19 @@ unfolding sealed
 sealed-at w n p i h = tabulate-at 0 (length p) (sealedOctet w n p) i 0 h ∙ ap (sealedOctet w n p) (zero-add i)
 
 -- an octet becomes what its own place, its EQ's control octet, key and counter block make of it
-pub sealed-own : (w : List ℕ) (n : Nonce) (p q : List ℕ) (i : ℕ) → controlOctet p (i / 9) ≡ controlOctet q (i / 9) → getD p i 0 ≡ getD q i 0
+sealed-own : (w : List ℕ) (n : Nonce) (p q : List ℕ) (i : ℕ) → controlOctet p (i / 9) ≡ controlOctet q (i / 9) → getD p i 0 ≡ getD q i 0
     → sealedOctet w n p i ≡ sealedOctet w n q i
 unfolding sealedOctet
 sealed-own w n p q i c x =
     ap₂ (λ (a b : ℕ). maskedAt (cipherBlock w n (i / 9)) (halfOf (i / 9)) a (i % 9) b) c x
 
 -- control octets pass
-pub sealed-control : (w : List ℕ) (n : Nonce) (p : List ℕ) (e : ℕ) → sealedOctet w n p (9 * e) ≡ controlOctet p e
+sealed-control : (w : List ℕ) (n : Nonce) (p : List ℕ) (e : ℕ) → sealedOctet w n p (9 * e) ≡ controlOctet p e
 unfolding sealedOctet maskedAt
 sealed-control w n p e = let z : 9 * e % 9 ≡ 0 = omega arith in rw z
 
 -- control characters pass
-pub sealed-character : (w : List ℕ) (n : Nonce) (p : List ℕ) (e j : ℕ) → j < 8 → bitOf (controlOctet p e) j ≡ 1
+sealed-character : (w : List ℕ) (n : Nonce) (p : List ℕ) (e j : ℕ) → j < 8 → bitOf (controlOctet p e) j ≡ 1
     → sealedOctet w n p (9 * e + suc j) ≡ getD p (9 * e + suc j) 0
 unfolding sealedOctet maskedAt masked pick
 sealed-character w n p e j h b =
@@ -75,6 +75,17 @@ count-sealed w n p =
     (sum-ext 0 (length p / 9) (λ e. 8 - ones (controlOctet (sealed w n p) e)) (λ e. 8 - ones (controlOctet p e))
     (λ e a b. ap (λ (x : ℕ). 8 - ones x) (control-kept w n p e (omega arith))))
 
+-- the laws that sealing promises, together
+pub sealed-laws : (w : List ℕ) (n : Nonce) (p : List ℕ) → SealedLaws w n p
+sealed-laws w n p = record {
+  same-length = sealed-length w n p;
+  control = λ e h. control-kept w n p e (omega arith);
+  character = λ e j h l b. sealed-at w n p (9 * e + suc j) (omega arith) ∙ sealed-character w n p e j l b;
+  own = λ q i h k c x. sealed-at w n p i h ∙ sealed-own w n p q i c x ∙ sym (sealed-at w n q i k);
+  twice = sealed-twice w n p;
+  count = count-sealed w n p;
+}
+
 -- the nine octets of EQ e
 pub sealed-eq : (w : List ℕ) (n : Nonce) (p : List ℕ) (e : ℕ) → 9 * e + 9 ≤ length p
     → maskedEq (cipherBlock w n e) (halfOf e) p (9 * e) ≡ take 9 (drop (9 * e) (sealed w n p))
@@ -96,9 +107,37 @@ sealed-eq w n p e h =
           let here : getD (tabulate 0 8 dataOctet) j 0 ≡ dataOctet j = rw zero-add at (tabulate-at 0 8 dataOctet j 0 (omega arith)) in
           here ∙ sym (there (suc j) l ∙ same)
 
+---- a payload sealed in its place, from the front
+
 -- one EQ masked in its place is that EQ of the sealed payload
-pub eq-written : (w : List ℕ) (n : Nonce) (p out block : List ℕ) (at half e : ℕ) → at ≡ 9 * e → half ≡ halfOf e → block ≡ cipherBlock w n e
-    → at + 9 ≤ length p → replaced out at (maskedEq block half p at) ≡ written (sealed w n p) at (at + 9) out
-eq-written w n p out block at half e ea eh ek h =
+pub eq-written : (w : List ℕ) (n : Nonce) (p block : List ℕ) (at half e : ℕ) → at ≡ 9 * e → half ≡ halfOf e → block ≡ cipherBlock w n e
+    → at + 9 ≤ length p → replaced p at (maskedEq block half p at) ≡ written (sealed w n p) at (at + 9) p
+eq-written w n p block at half e ea eh ek h =
     let fits : 9 * e + 9 ≤ length p = omega arith in
-    rw (ek, eh, ea) (written-part (sealed w n p) (9 * e) 9 out _ (sealed-eq w n p e fits))
+    rw (ek, eh, ea) (written-part (sealed w n p) (9 * e) 9 p _ (sealed-eq w n p e fits))
+
+-- from an EQ on, the sealed payload is made of the payload from that EQ on
+sealed-from : (w : List ℕ) (n : Nonce) (p q : List ℕ) (a : ℕ) → a % 9 ≡ 0 → length q ≡ length p → drop a q ≡ drop a p
+    → drop a (sealed w n q) ≡ drop a (sealed w n p)
+sealed-from w n p q a whole long same =
+    ext-getD 0 (drop a (sealed w n q)) (drop a (sealed w n p)) (simp (length-drop, sealed-length, long)) octet where
+      still : (k : ℕ) → a ≤ k → getD q k 0 ≡ getD p k 0
+      still k h =
+          let place : a + (k - a) ≡ k = omega arith in
+          rw place at (sym (getD-drop a q (k - a) 0) ∙ ap (λ (l : List ℕ). getD l (k - a) 0) same ∙ getD-drop a p (k - a) 0)
+
+      octet : (i : ℕ) → i < length (drop a (sealed w n q)) → getD (drop a (sealed w n q)) i 0 ≡ getD (drop a (sealed w n p)) i 0
+      octet i h =
+          let in-q : a + i < length q = omega (arith, simp (length-drop, sealed-length) at h) in
+          rw (getD-drop, getD-drop, sealed-at w n q (a + i) in-q, sealed-at w n p (a + i) (omega arith))
+          (sealed-own w n q p (a + i) (still (9 * ((a + i) / 9)) (omega arith)) (still (a + i) (omega arith)))
+
+-- what is sealed in its place from b up to a, and then from a up to e, is sealed from b up to e
+pub sealed-more : (w : List ℕ) (n : Nonce) (p : List ℕ) (b a e : ℕ) → a % 9 ≡ 0 → b ≤ a → a ≤ e → e ≤ length p
+    → written (sealed w n (written (sealed w n p) b a p)) a e (written (sealed w n p) b a p) ≡ written (sealed w n p) b e p
+sealed-more w n p b a e whole g h k =
+    let s = sealed w n p in
+    let q = written s b a p in
+    let long : length q ≡ length p = written-length s b a p g (omega arith) (omega (arith, sealed-length w n p)) in
+    let rest : drop a q ≡ drop a p = written-rest s b a p g (omega arith) (omega (arith, sealed-length w n p)) in
+    rw (sealed-from w n p q a whole long rest) (written-more s b a e p g h k (omega (arith, sealed-length w n p)))

@@ -6,12 +6,14 @@ use Prim.Native.Nat.{ℕ}
 use lib.ListN.{length}
 use Rattle.octets.specs.Choice.{pick}
 use Rattle.octets.specs.Output.{withOutput}
+use Rattle.refusal.specs.declared.Verdict.{Verdict}
 use Rattle.refusal.specs.declared.Verdict.the-variants.{Accepted, Refused}
 use Rattle.refusal.specs.declared.Refusal.{Refusal}
 use Rattle.envelope.specs.Acceptance.{sealVerdict}
 use Rattle.envelope.specs.ControlMask.{countEnciphered}
 use Rattle.envelope.specs.declared.Nonce.{Nonce}
 use Rattle.envelope.specs.declared.SealAnswer.the-variants.{Done, Denied}
+use Rattle.envelope.proofs.Acceptance.{accepted, lengths-fit}
 use Rattle.sealing.specs.Payload.{sealed}
 use Rattle.sealing.specs.Seal.{carried, countCarried, sealingAfter, sealing}
 use Rattle.sealing.proofs.Payload.{sealed-length, sealed-twice, count-sealed}
@@ -32,6 +34,27 @@ module _ (w : List ℕ) (n : Nonce) (p out : List ℕ) where
       → withOutput (Done 0) p ≡ sealing enciphered w n p out
   unfolding sealing sealingAfter carried countCarried pick
   sealing-clear enciphered b e = rw (e, b)
+
+-- accepted, the payload goes into the output as it would go into its own place
+pub sealing-apart : (enciphered : Bool) (w : List ℕ) (n : Nonce) (p out : List ℕ) → sealVerdict (length p) (length out) n ≡ Accepted
+    → sealing enciphered w n p p ≡ sealing enciphered w n p out
+unfolding sealing sealingAfter
+sealing-apart enciphered w n p out e =
+    let same : length out ≡ length p = lengths-fit _ _ (accepted _ _ _ e .0) .same in
+    let here : sealVerdict (length p) (length p) n ≡ Accepted = rw same at e in
+    rw (here, e)
+
+-- the key matters to an accepted enciphered call alone
+pub sealing-key : (enciphered : Bool) (w v : List ℕ) (n : Nonce) (p out : List ℕ)
+    → (enciphered ≡ true → sealVerdict (length p) (length out) n ≡ Accepted → w ≡ v)
+    → sealing enciphered w n p out ≡ sealing enciphered v n p out
+unfolding sealing sealingAfter carried pick
+sealing-key enciphered w v n p out h = after (sealVerdict (length p) (length out) n) enciphered h where
+  after : (verdict : Verdict) (t : Bool) → (t ≡ true → verdict ≡ Accepted → w ≡ v)
+      → sealingAfter verdict t w n p out ≡ sealingAfter verdict t v n p out
+  after Accepted true h = rw (h refl refl)
+  after Accepted false h = refl
+  after (Refused r) t h = refl
 
 ---- what an envelope carries
 

@@ -1,12 +1,14 @@
 -- Steps of the code that the papers do not name: a round column by column, the key schedule 16 octets at a time, and a payload EQ by
--- EQ. That they make up the papers' definitions is proved. Assumes nothing.
+-- EQ and block by block. That they make up the papers' definitions is proved. Assumes nothing.
 use mathlib.Core.List.{List, _∷_, _++_}
-use Prim.Native.Nat.{ℕ, zero, suc, _+_, _*_, _%_}
-use lib.ListN.{getD}
-use Rattle.octets.specs.Lists.{tabulate}
+use Prim.Native.Nat.{ℕ, zero, suc, _+_, _*_, _%_, min}
+use lib.ListN.{length, getD}
+use Rattle.octets.specs.Lists.{tabulate, written}
 use Rattle.envelope.specs.ControlMask.{masked}
+use Rattle.envelope.specs.declared.Nonce.{Nonce}
 use Rattle.sealing.specs.Cipher.{mixedColumn}
 use Rattle.sealing.specs.KeyExpansion.{constantWord}
+use Rattle.sealing.specs.Payload.{sealed}
 use Rattle.sealing.specs.Words.{word, xorWords, rotWord, subWord}
 
 -- column i % 4 of a state after ShiftRows
@@ -29,3 +31,7 @@ nextKey k x = keyWord k x 0 ++ (keyWord k x 1 ++ (keyWord k x 2 ++ keyWord k x 3
 -- the EQ that starts at octet `at` of p: its control octet passes, and its data octets are masked
 abbrev pub maskedEq : List ℕ → ℕ → List ℕ → ℕ → List ℕ
 maskedEq block half p at = getD p at 0 ∷ tabulate 0 8 (λ j. masked (getD p at 0) j (getD block (half + j) 0) (getD p (at + (j + 1)) 0))
+
+-- p with the one or two EQs of block i sealed, and the others as they are
+abbrev pub blockSealed : List ℕ → Nonce → List ℕ → ℕ → List ℕ
+blockSealed w n p i = written (sealed w n p) (18 * i) (min (18 * i + 18) (length p)) p

@@ -1,37 +1,41 @@
 // Sealing and opening of an envelope's payload, AES-128 in counter mode under the control mask: one act (01, Counter block and mask).
 ghost use mathlib.Core.Path.{_≡_};
-ghost use Prim.Native.Nat.{_+_, _*_, _%_, _≤_, _<_, min};
+ghost use mathlib.Core.Bool.{true};
+ghost use Prim.Native.Nat.{_+_, _*_, _%_, _≤_, _<_};
 ghost use lib.ListN.{length};
-ghost use Rattle.octets.specs.Lists.{replaced, written};
+ghost use Rattle.octets.specs.Lists.{replaced};
 ghost use Rattle.octets.specs.Output.{withOutput};
+ghost use Rattle.refusal.specs.declared.Verdict.the-variants.{Accepted};
 ghost use Rattle.gf256.specs.Table.{sboxTable, doublesTable};
+ghost use Rattle.envelope.specs.Acceptance.{sealVerdict};
+ghost use Rattle.envelope.specs.ControlMask.{maxBlocks, blocksOf};
 ghost use Rattle.sealing.specs.KeyExpansion.{keyExpansion};
-ghost use Rattle.sealing.specs.Payload.{sealed};
+ghost use Rattle.sealing.specs.Payload.{sealed, SealedLaws};
 ghost use Rattle.sealing.specs.Seal.{sealing};
-ghost use Rattle.sealing.specs.Steps.{maskedEq};
+ghost use Rattle.sealing.specs.Steps.{maskedEq, blockSealed};
 use super::aes128::RoundKeys;
 use super::aes128::encrypt_with;
-use super::key_expansion::expand_with;
+use super::key_expansion::expand_key;
 use envelope::Nonce;
 use envelope::SealAnswer;
 use envelope::count;
 use envelope::counter_block;
+use envelope::lengths_fit;
 use envelope::mask;
+use envelope::nonce_fits;
 use envelope::seal_verdict;
 use refusal::Verdict;
 
-// The EQ that starts at `at`, under the half of a cipher block that starts at `half`.
-fn mask_eq(input: &[u8], output: &mut [u8], block: [u8; 16], at: usize, half: usize)
-    requires { ⌜ length (now output) ≡ length (now input) ⌝ }
-    requires { ⌜ at + 9 ≤ length (now input) ⌝ }
+// The EQ that starts at `at`, under the half of a cipher block that starts at `half`. Its control octet stays.
+fn mask_eq(payload: &mut [u8], block: [u8; 16], at: usize, half: usize)
+    requires { ⌜ at + 9 ≤ length (now payload) ⌝ }
     requires { ⌜ half ≤ 8 ⌝ }
-    ensures { λ _. ⌜ now (output .exit) ≡ replaced (now (output .entry)) at (maskedEq block half (now (input .entry)) at) ⌝ }
+    ensures { λ _. ⌜ now (payload .exit) ≡ replaced (now (payload .entry)) at (maskedEq block half (now (payload .entry)) at) ⌝ }
 {
-    let control = input[at];
+    let control = payload[at];
     for j in 0..8usize {
-        output[at + (j + 1)] = mask(control, j as u8, block[half + j], input[at + (j + 1)]);
+        payload[at + (j + 1)] = mask(control, j as u8, block[half + j], payload[at + (j + 1)]);
     }
-    output[at] = control;
 }
 
 // The one or two EQs that cipher block `i` serves.
@@ -40,21 +44,19 @@ fn seal_block<'a>(
     doubles: &'a [u8; 256],
     keys: RoundKeys,
     nonce: Nonce,
-    input: &'a [u8],
-    output: &mut [u8],
+    payload: &mut [u8],
     i: usize,
 )
     requires { ⌜ (now subs ≡ sboxTable) × (now doubles ≡ doublesTable) ⌝ }
-    requires { ⌜ length (now output) ≡ length (now input) ⌝ }
-    requires { ⌜ length (now input) % 9 ≡ 0 ⌝ }
-    requires { ⌜ 18 * i < length (now input) ⌝ }
-    ensures { λ _. ⌜ now (output .exit) ≡ written (sealed (keys .octets) nonce (now (input .entry))) (18 * i) (min (18 * i + 18) (length (now (input .entry)))) (now (output .entry)) ⌝ }
+    requires { ⌜ length (now payload) % 9 ≡ 0 ⌝ }
+    requires { ⌜ (18 * i < length (now payload)) × (i < maxBlocks) ⌝ }
+    ensures { λ _. ⌜ now (payload .exit) ≡ blockSealed (keys .octets) nonce (now (payload .entry)) i ⌝ }
 {
     let block = encrypt_with(subs, doubles, keys, counter_block(nonce, i as u64));
     let at = 18 * i;
-    mask_eq(input, output, block, at, 0);
-    if at + 9 < input.len() {
-        mask_eq(input, output, block, at + 9, 8);
+    mask_eq(payload, block, at, 0);
+    if at + 9 < payload.len() {
+        mask_eq(payload, block, at + 9, 8);
     }
 }
 
@@ -63,32 +65,47 @@ fn seal_blocks<'a>(
     doubles: &'a [u8; 256],
     keys: RoundKeys,
     nonce: Nonce,
-    input: &'a [u8],
-    output: &mut [u8],
+    payload: &mut [u8],
 )
     requires { ⌜ (now subs ≡ sboxTable) × (now doubles ≡ doublesTable) ⌝ }
-    requires { ⌜ length (now output) ≡ length (now input) ⌝ }
-    requires { ⌜ length (now input) % 9 ≡ 0 ⌝ }
-    ensures { λ _. ⌜ now (output .exit) ≡ sealed (keys .octets) nonce (now (input .entry)) ⌝ }
+    requires { ⌜ length (now payload) % 9 ≡ 0 ⌝ }
+    requires { ⌜ blocksOf (length (now payload)) ≤ maxBlocks ⌝ }
+    ensures { λ _. ⌜ now (payload .exit) ≡ sealed (keys .octets) nonce (now (payload .entry)) ⌝ }
 {
-    let n = input.len();
+    let n = payload.len();
     let mut i: usize = 0;
     while i < (n + 17) / 18 {
-        seal_block(subs, doubles, keys, nonce, input, output, i);
+        seal_block(subs, doubles, keys, nonce, payload, i);
         i += 1;
     }
 }
 
-fn copy(input: &[u8], output: &mut [u8])
-    requires { ⌜ length (now output) ≡ length (now input) ⌝ }
-    ensures { λ _. ⌜ now (output .exit) ≡ now (input .entry) ⌝ }
+// Seals or opens a payload in its place under an expanded key; a clear envelope's stays as it is.
+pub fn seal_expanded_in_place(
+    enciphered: bool,
+    keys: RoundKeys,
+    nonce: Nonce,
+    payload: &mut [u8],
+) -> SealAnswer
+    ensures { λ r. ⌜ withOutput r (now (payload .exit)) ≡ sealing enciphered (keys .octets) nonce (now (payload .entry)) (now (payload .entry)) ⌝ }
 {
-    for i in 0..input.len() {
-        output[i] = input[i];
+    let n = payload.len();
+    match seal_verdict(n, n, nonce) {
+        Verdict::Refused(refusal) => SealAnswer::Denied(refusal),
+        Verdict::Accepted => {
+            if enciphered {
+                let enciphering = count(payload);
+                let subs = gf256::sbox_table();
+                let doubles = gf256::doubles_table();
+                seal_blocks(&subs, &doubles, keys, nonce, payload);
+                return SealAnswer::Done(enciphering);
+            }
+            SealAnswer::Done(0)
+        }
     }
 }
 
-// Seals or opens `input` into `output` under an expanded key; a clear envelope's payload is copied.
+// Seals or opens `input` into `output`.
 pub fn seal_expanded(
     enciphered: bool,
     keys: RoundKeys,
@@ -98,23 +115,39 @@ pub fn seal_expanded(
 ) -> SealAnswer
     ensures { λ r. ⌜ withOutput r (now (output .exit)) ≡ sealing enciphered (keys .octets) nonce (now (input .entry)) (now (output .entry)) ⌝ }
 {
-    let verdict = seal_verdict(input.len(), output.len(), nonce);
-    match verdict {
+    match seal_verdict(input.len(), output.len(), nonce) {
         Verdict::Refused(refusal) => SealAnswer::Denied(refusal),
         Verdict::Accepted => {
-            if enciphered {
-                let subs = gf256::sbox_table();
-                let doubles = gf256::doubles_table();
-                seal_blocks(&subs, &doubles, keys, nonce, input, output);
-                return SealAnswer::Done(count(input));
-            }
-            copy(input, output);
-            SealAnswer::Done(0)
+            octets::copy(input, output);
+            seal_expanded_in_place(enciphered, keys, nonce, output)
         }
     }
 }
 
+// The key expanded, where a call on n octets for an output of m enciphers.
+fn expand_for(enciphered: bool, key: [u8; 16], nonce: Nonce, n: usize, m: usize) -> RoundKeys
+    ensures { λ r. ⌜ (enciphered ≡ true → sealVerdict n m nonce ≡ Accepted → r .octets ≡ keyExpansion key) ⌝ }
+{
+    if enciphered & (lengths_fit(n, m) & nonce_fits(nonce)) {
+        return expand_key(key);
+    }
+    RoundKeys { octets: [0u8; 176] }
+}
+
 // The same under a key that is expanded for this call alone.
+pub fn seal_in_place(
+    enciphered: bool,
+    key: [u8; 16],
+    nonce: Nonce,
+    payload: &mut [u8],
+) -> SealAnswer
+    ensures { λ r. ⌜ withOutput r (now (payload .exit)) ≡ sealing enciphered (keyExpansion key) nonce (now (payload .entry)) (now (payload .entry)) ⌝ }
+{
+    let n = payload.len();
+    let keys = expand_for(enciphered, key, nonce, n, n);
+    seal_expanded_in_place(enciphered, keys, nonce, payload)
+}
+
 pub fn seal(
     enciphered: bool,
     key: [u8; 16],
@@ -123,20 +156,8 @@ pub fn seal(
     output: &mut [u8],
 ) -> SealAnswer
     ensures { λ r. ⌜ withOutput r (now (output .exit)) ≡ sealing enciphered (keyExpansion key) nonce (now (input .entry)) (now (output .entry)) ⌝ }
+    ensures { λ _. ⌜ SealedLaws (keyExpansion key) nonce (now (input .entry)) ⌝ }
 {
-    let verdict = seal_verdict(input.len(), output.len(), nonce);
-    match verdict {
-        Verdict::Refused(refusal) => SealAnswer::Denied(refusal),
-        Verdict::Accepted => {
-            if enciphered {
-                let subs = gf256::sbox_table();
-                let doubles = gf256::doubles_table();
-                let keys = expand_with(&subs, key);
-                seal_blocks(&subs, &doubles, keys, nonce, input, output);
-                return SealAnswer::Done(count(input));
-            }
-            copy(input, output);
-            SealAnswer::Done(0)
-        }
-    }
+    let keys = expand_for(enciphered, key, nonce, input.len(), output.len());
+    seal_expanded(enciphered, keys, nonce, input, output)
 }

@@ -106,6 +106,16 @@ pub fn seal_expanded(encenabled: u8, keys: RoundKeys, nonce: Nonce, input: &[u8]
     }
 }
 
+/// [`seal`] with the payload as input and output.
+pub fn seal_in_place(encenabled: u8, key: &[u8; 16], nonce: Nonce, payload: &mut [u8]) -> PayloadAnswer {
+    unsafe { raw::jazmotip_seal_in_place(encenabled, key.as_ptr(), nonce, payload.as_mut_ptr(), payload.len()) }
+}
+
+/// [`seal_expanded`] with the payload as input and output.
+pub fn seal_expanded_in_place(encenabled: u8, keys: RoundKeys, nonce: Nonce, payload: &mut [u8]) -> PayloadAnswer {
+    unsafe { raw::jazmotip_seal_expanded_in_place(encenabled, keys, nonce, payload.as_mut_ptr(), payload.len()) }
+}
+
 /// The octets that sealing a payload enciphers: over all whole EQs, eight minus the ones in the control octet.
 pub fn count(payload: &[u8]) -> u64 {
     unsafe { raw::jazmotip_count(payload.as_ptr(), payload.len()) }

@@ -144,4 +144,10 @@ impl RoundKeys {
         let answer = calls::seal_expanded(1, *self, nonce, input, output);
         Refusal::verdict(answer.number).map(|()| answer.count)
     }
+
+    /// The same with the payload as input and output.
+    pub fn seal_in_place(&self, nonce: Nonce, payload: &mut [u8]) -> Result<u64, Refusal> {
+        let answer = calls::seal_expanded_in_place(1, *self, nonce, payload);
+        Refusal::verdict(answer.number).map(|()| answer.count)
+    }
 }

@@ -75,6 +75,20 @@ extern "C" {
         output: *mut u8,
         output_length: usize,
     ) -> PayloadAnswer;
+    pub fn jazmotip_seal_in_place(
+        encenabled: u8,
+        key: *const u8,
+        nonce: Nonce,
+        payload: *mut u8,
+        payload_length: usize,
+    ) -> PayloadAnswer;
+    pub fn jazmotip_seal_expanded_in_place(
+        encenabled: u8,
+        keys: RoundKeys,
+        nonce: Nonce,
+        payload: *mut u8,
+        payload_length: usize,
+    ) -> PayloadAnswer;
     pub fn jazmotip_count(payload: *const u8, payload_length: usize) -> u64;
 
     pub fn jazmotip_capture_directory(block: *const u8, block_length: usize) -> BlockDirectory;

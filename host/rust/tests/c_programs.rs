@@ -50,6 +50,29 @@ fn exchange_plays_to_the_second_switch() {
     }
 }
 
+/// NULL with length 0: an empty payload is sealed, empty settings and an empty block are refused, and nothing is read or written.
+#[test]
+fn nothing_is_null_with_length_0() {
+    let expected = "seal 0: 0 0 0 0, count 0\n\
+                    seal 1: 0 0 0 0, count 0\n\
+                    seal 2: 1 1 1 1, count 0\n\
+                    seal into nothing: 14\n\
+                    seal of nothing: 14\n\
+                    count: 0\n\
+                    olt send: 0, count 0\n\
+                    onu receive: 0\n\
+                    onu send: 0, count 0\n\
+                    olt receive: 0\n\
+                    directory: 15 fault 1\n\
+                    verdict: 14 15\n\
+                    payload: 15\n\
+                    open: 14 15 14\n\
+                    list: no llid ch key eqs result\nrefused 14\n";
+    for level in ["-O0", "-O2"] {
+        assert_eq!(printed(&compiled("nothing", level), &[]), expected, "{level}");
+    }
+}
+
 /// What `capture` must print.
 fn capture_text(settings: &[u8], block: &[u8]) -> String {
     let mut text = capture::listing(settings, block);

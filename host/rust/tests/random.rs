@@ -90,6 +90,14 @@ impl Random {
         let octets = self.octets(length + 2 * margin);
         Lent { part: margin..margin + length, before: octets.clone(), octets }
     }
+
+    /// A payload that is lent to be changed in its place.
+    pub fn lent_payload(&mut self, payload: &[u8]) -> Lent {
+        let mut lent = self.lent(payload.len());
+        lent.part().copy_from_slice(payload);
+        lent.before.clone_from(&lent.octets);
+        lent
+    }
 }
 
 /// An output of random octets, lent out of the middle of a larger buffer, at any alignment.

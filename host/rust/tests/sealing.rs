@@ -38,6 +38,21 @@ fn check(random: &mut Random, encenabled: u8, key: &[u8; 16], nonce: Nonce, inpu
     answer
 }
 
+/// The same in place, where the payload is the output.
+fn check_in_place(random: &mut Random, encenabled: u8, key: &[u8; 16], nonce: Nonce, octets: &[u8]) {
+    let expected = payload::seal(encenabled, &Schedule::new(key), nonce, octets, octets.len());
+    let (answer, holds) = match &expected {
+        Ok((sealed, count)) => (PayloadAnswer { number: 0, count: *count }, Some(&sealed[..])),
+        Err(number) => (PayloadAnswer { number: *number, count: 0 }, None),
+    };
+    let mut lent = random.lent_payload(octets);
+    assert_eq!(calls::seal_in_place(encenabled, key, nonce, lent.part()), answer);
+    lent.check(holds);
+    let mut lent = random.lent_payload(octets);
+    assert_eq!(calls::seal_expanded_in_place(encenabled, calls::expand_key(key), nonce, lent.part()), answer);
+    lent.check(holds);
+}
+
 #[test]
 fn published_values() {
     // FIPS 197, C.1, and B
@@ -88,11 +103,15 @@ fn random_payloads() {
         let answer = check(random, 1, &key, nonce, &input, input.len());
         assert_eq!(answer.count, calls::count(&input));
         check(random, 0, &key, nonce, &input, input.len());
+        check_in_place(random, 1, &key, nonce, &input);
+        check_in_place(random, 0, &key, nonce, &input);
         // sealing twice gives the payload back
         let (mut sealed, mut opened) = (vec![0; input.len()], vec![0; input.len()]);
         calls::seal(1, &key, nonce, &input, &mut sealed);
         calls::seal(1, &key, nonce, &sealed, &mut opened);
         assert_eq!(opened, input);
+        assert_eq!(RoundKeys::expand(&key).seal_in_place(nonce, &mut sealed), Ok(answer.count));
+        assert_eq!(sealed, input);
     });
 }
 
@@ -122,21 +141,27 @@ fn every_damage_to_the_arguments() {
         let input = random.payload(eqs);
         for encenabled in 0..=255 {
             check(random, encenabled, &key, good, &input, input.len());
+            check_in_place(random, encenabled, &key, good, &input);
         }
         for channel in 0..=255 {
             for encenabled in 0..=2 {
                 check(random, encenabled, &key, Nonce { channel, ..good }, &input, input.len());
+                check_in_place(random, encenabled, &key, Nonce { channel, ..good }, &input);
             }
         }
         for value in [0, 1, (1 << 48) - 1, 1 << 48, (1 << 48) + 1, 1 << 63, u64::MAX] {
             for encenabled in 0..=2 {
                 check(random, encenabled, &key, Nonce { mac: value, ..good }, &input, input.len());
                 check(random, encenabled, &key, Nonce { clock: value, ..good }, &input, input.len());
+                check_in_place(random, encenabled, &key, Nonce { mac: value, ..good }, &input);
+                check_in_place(random, encenabled, &key, Nonce { clock: value, ..good }, &input);
             }
         }
         // lengths off by a few, and 14 ahead of 1
         for octets in 0..=28usize {
             let input = random.octets(octets);
+            check_in_place(random, 1, &key, good, &input);
+            check_in_place(random, 2, &key, Nonce { channel: 2, ..good }, &input);
             for output in [octets, octets + 1, octets.saturating_sub(1), octets + 9, 0] {
                 check(random, 1, &key, good, &input, output);
                 check(random, 2, &key, Nonce { channel: 2, ..good }, &input, output);
@@ -165,9 +190,11 @@ fn the_largest_payload_and_one_more() {
         let answer = check(random, 1, &key, nonce, largest, largest.len());
         assert_eq!(answer, PayloadAnswer { number: 0, count: payload::count(largest) });
         assert_eq!(calls::count(largest), answer.count);
+        check_in_place(random, 1, &key, nonce, largest);
         for encenabled in 0..=2 {
             let answer = check(random, encenabled, &key, nonce, &input, input.len());
             assert_eq!(answer, PayloadAnswer { number: 14, count: 0 });
+            check_in_place(random, encenabled, &key, nonce, &input);
         }
     });
 }

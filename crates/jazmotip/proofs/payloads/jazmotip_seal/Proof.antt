@@ -30,9 +30,12 @@ same-length c = search needs
 
 returns-2 : tie.Need-returns-2
 returns-2 c =
-    let a = c .before .before .before .before .before .before .before .before .before .args in
+    let sealed = c .before .before .before in
+    let left = sealed .before .before .before in
+    let a = left .before .before .before .args in
     rw (c .numbered2 .ensures)
-    (flag-sealed (keyExpansion (a .key .now)) (a .nonce) (a .input .now) (a .output .now) (a .encenabled) _ _ (omega (arith, c .before .before .before .before .before .before .if1 .left)) (c .before .before .before .seal .ensures))
+    (flag-sealed (keyExpansion (a .key .now)) (a .nonce) (a .input .now) (a .output .now) (a .encenabled) _ _ (omega (arith, left .if1 .left))
+    (sealed .seal .ensures .0))
 
 pub jazmotip-seal-spec : {M : Type 1} → statement M
 jazmotip-seal-spec =

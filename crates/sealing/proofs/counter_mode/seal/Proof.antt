@@ -1,93 +1,29 @@
--- `sealing::counter_mode::seal` meets its contract: as with an expanded key, and the key is expanded.
+-- `sealing::counter_mode::seal` meets its contract: the key is expanded wherever it matters, and the laws hold of every payload.
 -- Assumes nothing.
-use Prim.Native.Nat.{ℕ}
-use Rattle.octets.specs.Output.{withOutput}
-use Rattle.refusal.specs.declared.Verdict.the-variants.{Accepted}
-use Rattle.envelope.proofs.Acceptance.{accepted, lengths-fit}
-use Rattle.sealing.proofs.Seal.{sealing-refused, sealing-done, sealing-clear}
+use Rattle.sealing.proofs.Payload.{sealed-laws}
+use Rattle.sealing.proofs.Seal.{sealing-key}
 use Rattle.sealing.specs.KeyExpansion.{keyExpansion}
-use Rattle.sealing.specs.Payload.{sealed}
-use Rattle.envelope.specs.Acceptance.{sealVerdict}
-use Rattle.envelope.specs.declared.SealAnswer.the-variants.{Done}
 use borrow.Author.Needs.{needs}
-use lib.ListN.{length}
-use mathlib.Core.List.{List}
-use mathlib.Core.Path.{_≡_, ap, ap₂, sym, _∙_}
+use mathlib.Core.Path.{_∙_}
 use Rattle.sealing.proofs.counter_mode.seal.Statement.{statement}
 use Rattle.sealing.proofs.counter_mode.seal.Tie as tie
 
--- the call was accepted
-judged : (c : tie.After-enum-told) → sealVerdict (length (c .before .before .before .before .before .args .input .now)) (length (c .before .before .before .before .before .args .output .now)) (c .before .before .before .before .before .args .nonce) ≡ Accepted
-judged c = sym (c .before .before .seal-verdict .ensures) ∙ c .enum-told .given .1
-
-seal-verdict-requires : tie.Need-seal-verdict-requires
-seal-verdict-requires c κs = search needs
-
-enum-known-verdict : tie.Need-enum-known-verdict
-enum-known-verdict c = search needs
-
-enum-told : tie.Need-enum-told
-enum-told c = search needs
-
-sbox-table-requires : tie.Need-sbox-table-requires
-sbox-table-requires c κs = search needs
-
-doubles-table-requires : tie.Need-doubles-table-requires
-doubles-table-requires c κs = search needs
-
-expand-with-requires : tie.Need-expand-with-requires
-expand-with-requires c κs = c .before .before .sbox-table .ensures .0
-
-seal-blocks-requires : tie.Need-seal-blocks-requires
-seal-blocks-requires c κs =
-    let fit = lengths-fit _ _ (accepted _ _ _ (judged (c .before .before .before .before .before .before .before .before)) .0) in
-    ((c .before .before .before .before .before .before .sbox-table .ensures .0, c .before .before .before .before .before .doubles-table .ensures), (fit .same, fit .whole))
-
-count-requires : tie.Need-count-requires
-count-requires c κs = search needs
-
-same-length : tie.Need-same-length
-same-length c = search needs
-
 returns : tie.Need-returns
 returns c =
-    let a = c .before .before .before .before .before .before .before .before .before .before .before .before .before .before .before .before .before .args in
-    ap₂ (λ (n : ℕ) (o : List ℕ). withOutput (Done n) o) (c .count .ensures)
-    (c .before .before .before .seal-blocks .ensures ∙ ap (λ (k : List ℕ). sealed k (a .nonce) (a .input .now)) (c .before .before .before .before .before .before .before .expand-with .ensures))
-    ∙ sealing-done (keyExpansion (a .key)) (a .nonce) (a .input .now) (a .output .now) (a .enciphered) (c .before .before .before .before .before .before .before .before .before .before .before .if1 .taken) (judged (c .before .before .before .before .before .before .before .before .before .before .before .before))
-
-copy-requires : tie.Need-copy-requires
-copy-requires c κs = lengths-fit _ _ (accepted _ _ _ (judged (c .before .before)) .0) .same
-
-returns-2 : tie.Need-returns-2
-returns-2 c =
-    let a = c .before .before .before .before .before .before .args in
-    sealing-refused (keyExpansion (a .key)) (a .nonce) (a .input .now) (a .output .now) (a .enciphered) _ (sym (c .before .before .before .seal-verdict .ensures) ∙ c .before .verdict .given .1)
-
-same-length-2 : tie.Need-same-length-2
-same-length-2 c = search needs
-
-returns-3 : tie.Need-returns-3
-returns-3 c =
-    let a = c .before .before .before .before .before .before .before .before .before .before .args in
-    ap (λ (o : List ℕ). withOutput (Done 0) o) (c .before .before .copy .ensures)
-    ∙ sealing-clear (keyExpansion (a .key)) (a .nonce) (a .input .now) (a .output .now) (a .enciphered) (c .before .before .before .before .if1 .left) (judged (c .before .before .before .before .before))
+    let sealed = c .before .before in
+    let expanded = sealed .before .before in
+    let a = expanded .before .before .before .args in
+    let w = keyExpansion (a .key) in (
+      sealed .seal-expanded .ensures
+          ∙ sealing-key (a .enciphered) (expanded .expand-for .result .octets) w (a .nonce) (a .input .now) (a .output .now) (expanded .expand-for .ensures),
+      sealed-laws w (a .nonce) (a .input .now),
+    )
 
 pub seal-spec : {M : Type 1} → statement M
 seal-spec =
     tie.close
     (tie.spec
-    seal-verdict-requires
-    enum-known-verdict
-    enum-told
-    sbox-table-requires
-    doubles-table-requires
-    expand-with-requires
-    seal-blocks-requires
-    count-requires
-    same-length
-    returns
-    copy-requires
-    returns-2
-    same-length-2
-    returns-3)
+    (λ c κs. search needs)
+    (λ c κs. search needs)
+    (λ c. search needs)
+    returns)

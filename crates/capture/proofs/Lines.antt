@@ -5,13 +5,15 @@ use Prim.Native.Nat.{ℕ, zero, suc, _+_, _-_, _≤_}
 use native.Mathlib.Nat.{add-zero, zero-add}
 use native.Mathlib.Numerals.{add-one}
 use native.Mathlib.Omega.{arith}
-use lib.ListN.{drop}
+use lib.ListN.{length, drop}
 use lib.Seq.{drop-drop}
 use Rattle.records.specs.Record.{recordHeader}
-use Rattle.records.specs.Verdict.{verdictOf}
 use Rattle.rows.specs.Text.{rowOf}
-use Rattle.capture.specs.Directory.{recordOf}
-use Rattle.capture.specs.Listing.{rowsFrom}
+use Rattle.rows.proofs.Lines.{decimal-below, row-few}
+use Rattle.records.specs.declared.header.RecordVerdict.{RecordVerdict}
+use Rattle.capture.specs.Directory.{mostOctets, mostRecords, recordOf}
+use Rattle.capture.specs.Listing.{lineOctets, rowAt, rowsFrom}
+use Rattle.capture.specs.Duties.{Placed}
 
 -- what is the same from a place on is the same from a later one on
 pub same-behind : (s t : List ℕ) (a b : ℕ) → a ≤ b → drop a s ≡ drop a t → drop b s ≡ drop b t
@@ -19,9 +21,13 @@ same-behind s t a b h e =
     let n : b ≡ a + (b - a) = omega arith in
     rw n (sym (drop-drop (b - a) a s) ∙ ap (drop (b - a)) e ∙ drop-drop (b - a) a t)
 
--- the row of record i
-abbrev rowAt : List ℕ → List ℕ → ℕ → List ℕ
-rowAt s b i = rowOf (i + 1) (recordHeader (recordOf b i)) (verdictOf s (recordOf b i))
+-- a record of a block has numbers of at most four digits in its row
+pub row-short : (b : List ℕ) (i k : ℕ) (v : RecordVerdict) → Placed b i → length b ≤ mostOctets → k ≤ mostRecords
+    → length (rowOf k (recordHeader (recordOf b i)) v) ≤ lineOctets
+row-short b i k v p most few =
+    let h = recordHeader (recordOf b i) in
+    let eqs = decimal-below 3 (h .eqs) (omega (arith, p .size, p .inside)) in
+    omega (arith, row-few k h v, decimal-below 3 k (omega arith), eqs)
 
 rows-more : (s b : List ℕ) (j i : ℕ) → rowsFrom s b j (suc i) ≡ rowsFrom s b j i ++ rowAt s b (j + i)
 unfolding rowsFrom

@@ -19,7 +19,7 @@ use Rattle.refusal.specs.declared.Verdict.the-variants.{Accepted, Refused}
 use Rattle.records.specs.Record.{payloadOf, sized}
 use Rattle.capture.specs.Directory.{recordsIn, offsetOf, lengthOf, endOf, dueOf, recordOf, pairOf, sizeFits, withPair, pairsFrom, directoryOf}
 use Rattle.capture.specs.Duties.{Placed}
-use Rattle.capture.specs.Payload.{recordAsked, payloadVerdict, boundsOf, boundsAfter, payloadBounds, unlessRefused, payloadPart}
+use Rattle.capture.specs.Payload.{recordAsked, payloadVerdict, boundsOf, boundsAfter, payloadBounds, boundsOffset, boundsLength, unlessRefused, payloadPart}
 use Rattle.capture.specs.declared.directory.Pair.{Pair}
 use Rattle.capture.specs.declared.directory.Pair.the-variants.{Fits, OffChain, OffLength}
 use Rattle.capture.specs.declared.directory.Directory.{Directory}
@@ -131,6 +131,16 @@ refused-part-by b i l r (Refused s) e = refl
 pub refused-part : (b : List ℕ) (k : ℕ) (r : Refusal) → payloadBounds b k ≡ Bounds.Refused r → payloadPart b k ≡ []
 unfolding payloadBounds payloadPart
 refused-part b k r e = refused-part-by b (k - 1) _ r (payloadVerdict b k) e
+
+named-by : (b : List ℕ) (k : ℕ) (p : Bounds) → payloadBounds b k ≡ p
+    → (boundsOffset p + boundsLength p ≤ length b) × (part b (boundsOffset p) (boundsLength p) ≡ payloadPart b k)
+named-by b k (Within from n) e = let w = bounded b k from n e in (w .inside, w .octets)
+named-by b k (Bounds.Refused r) e = (omega arith, sym (refused-part b k r e))
+
+-- the bounds name the payload, which is empty where it is refused
+pub part-named : (b : List ℕ) (k : ℕ)
+    → let p = payloadBounds b k in (boundsOffset p + boundsLength p ≤ length b) × (part b (boundsOffset p) (boundsLength p) ≡ payloadPart b k)
+part-named b k = named-by b k (payloadBounds b k) refl
 
 -- the records end where the block does
 pub records-end : (b : List ℕ) (n : ℕ) → Records b n → dueOf b n ≡ length b

@@ -1,6 +1,6 @@
 -- Laws of an opened block: each record stands in its place, and opened again it stays as it is. Assumes nothing.
 use mathlib.Core.Path.{_≡_, refl, sym, ap, _∙_}
-use mathlib.Core.Bool.{true}
+use mathlib.Core.Bool.{true, false}
 use mathlib.Core.List.{List, _++_, append-assoc}
 use Prim.Native.Nat.{ℕ, zero, suc, _+_, _-_, _*_, _≤_, _<_}
 use native.Mathlib.Nat.{add-zero, zero-add, add-suc, suc-add}
@@ -8,10 +8,10 @@ use native.Mathlib.Numerals.{add-one}
 use native.Mathlib.Omega.{arith}
 use lib.ListN.{length, take, set, getD, length-append, length-take, length-set, List·getD-append}
 use lib.Seq.{take-at, drop-at, getD-take, getD-set-same, getD-set-other, length-take-le}
-use borrow.Author.Tests.{ltb-true, eq-eqb}
+use borrow.Author.Tests.{eqb-true, eq-eqb}
 use Rattle.octets.specs.BigEndian.{numberAt}
-use Rattle.octets.specs.Bits.{bitOf}
-use Rattle.octets.specs.Choice.{both}
+use Rattle.octets.specs.Bits.{bitOf, lowCleared}
+use Rattle.octets.specs.Choice.{both, either, pick}
 use Rattle.octets.specs.Lists.{part, sum}
 use Rattle.octets.proofs.BigEndian.{number-same}
 use Rattle.octets.proofs.Choice.{both-left, both-right, both-true, pick-true}
@@ -29,12 +29,12 @@ use Rattle.capture.specs.declared.opening.OpenAnswer.the-variants.{Done}
 use Rattle.records.specs.Settings.{keyOf, presenceOf, llidOf, settingsVerdict}
 use Rattle.records.specs.Record.{recordHeader, payloadOf, sized}
 use Rattle.capture.specs.Directory.{recordsIn, offsetOf, lengthOf, endOf, dueOf, recordOf, chained, pairOf, sizeFits, withPair, pairsFrom, directoryOf}
-use Rattle.records.specs.Verdict.{flagsFit, clearedFlags, headerFits, epamCheck, recordVerdict, verdictFor, verdictOf}
+use Rattle.records.specs.Verdict.{encEnabled, clearedFlags, flagsFit, headerFits, recordVerdict, verdictFor, verdictOf}
 use Rattle.capture.specs.Opening.{recordNonce, cleared, writtenAs, openedRecord, recordCount, openedFrom, openedBlock, blockCount, openVerdict, opening}
 use Rattle.capture.specs.Claims.{Opened}
 use Rattle.capture.proofs.Pairs.{pair-fits, due-next}
 use Rattle.capture.proofs.Records.{Records, good, placed, records-end}
-use Rattle.records.proofs.Verdicts.{Openable, openable, own-llid, is-clear}
+use Rattle.records.proofs.Verdicts.{Openable, openable, by-key, is-clear}
 use Rattle.capture.proofs.Openings.{upTo, none-opened, up-to-next, opened-length, clear-record, refused-record, callable, opening-done}
 
 -- ---- each record in its place
@@ -127,28 +127,28 @@ module _ (r ys : List ℕ) (f : ℕ) (h : 16 ≤ length r) where
       rw (kept-octet 0 (omega arith) (λ e. omega arith), kept-octet 1 (omega arith) (λ e. omega arith), kept-number 2 2 (omega arith) (λ j g e. omega arith), header-octet 4 (omega arith) ∙ getD-set-same r 4 f 0 (omega arith), kept-octet 5 (omega arith) (λ e. omega arith), kept-number 6 6 (omega arith) (λ j g e. omega arith), kept-number 4 12 (omega arith) (λ j g e. omega arith))
 
 none-set : flagsFit 0 ≡ true
-unfolding both
+unfolding flagsFit encEnabled bitOf lowCleared both either pick
 none-set = refl
 
-no-bit : bitOf 0 0 ≡ 1 → ⊥
-unfolding bitOf
-no-bit e = omega arith
+not-enabled : encEnabled 0 ≡ false
+unfolding encEnabled bitOf
+not-enabled = refl
 
 cleared-fits : (h : Header) → headerFits h ≡ true → headerFits (withFlags h 0) ≡ true
 unfolding headerFits withFlags
 cleared-fits h f = both-true (both-left _ _ f) (both-true (both-left _ _ (both-right _ _ f)) none-set)
 
+-- the flags of a header are all that is set in their octet
 no-flags : (h : Header) → headerFits h ≡ true → clearedFlags (h .flags) ≡ 0
-unfolding headerFits
-no-flags h f = omega (arith, ltb-true (h .flags) 4 (both-left _ _ (both-right _ _ (both-right _ _ f))))
+unfolding headerFits flagsFit
+no-flags h f = eqb-true _ _ (both-left _ _ (both-right _ _ (both-right _ _ f)))
 
-now-clear : (presence llid : ℕ) (h : Header) (i t : ℕ) → Openable presence llid h i t
-    → recordVerdict presence llid (withFlags h (clearedFlags (h .flags))) ≡ Clear
-unfolding withFlags epamCheck
-now-clear presence llid h i t o =
+now-clear : (presence llid t : ℕ) (h : Header) (i u : ℕ) → Openable presence llid t h i u
+    → recordVerdict presence llid t (withFlags h (clearedFlags (h .flags))) ≡ Clear
+unfolding withFlags
+now-clear presence llid t h i u o =
     rw (no-flags h (o .fits))
-    (sym (own-llid presence llid (withFlags h 0) (cleared-fits h (o .fits)) (o .own))
-    ∙ sym (is-clear presence (withFlags h 0) _ (h .clock) (pick-true _ _ (o .epam)) no-bit))
+    (sym (is-clear presence t 0 not-enabled ∙ by-key presence llid t (withFlags h 0) (cleared-fits h (o .fits)) (o .own) (o .epam)))
 
 is-written : (s r : List ℕ) (i t : ℕ) → verdictOf s r ≡ Sealed i t
     → openedRecord s r ≡ take 16 (cleared r) ++ sealed (keyExpansion (keyOf s i)) (recordNonce s (recordHeader r) t) (payloadOf r)
@@ -158,13 +158,13 @@ is-written s r i t e = rw e
 -- an opened record is written as it is, and adds nothing
 opened-once : (s r : List ℕ) (i t : ℕ) → 16 ≤ length r → verdictOf s r ≡ Sealed i t
     → (openedRecord s (openedRecord s r) ≡ openedRecord s r) × (recordCount s (openedRecord s r) ≡ 0)
-unfolding verdictFor
+unfolding verdictFor withFlags
 opened-once s r i t h e =
     let ys = sealed (keyExpansion (keyOf s i)) (recordNonce s (recordHeader r) t) (payloadOf r) in
     let w : openedRecord s r ≡ take 16 (cleared r) ++ ys = is-written s r i t e in
     let clear : verdictOf s (take 16 (cleared r) ++ ys) ≡ Clear =
-    ap (recordVerdict (presenceOf s) (llidOf s)) (flags-only r ys (clearedFlags (recordHeader r .flags)) h)
-    ∙ now-clear (presenceOf s) (llidOf s) (recordHeader r) i t (openable (presenceOf s) (llidOf s) (recordHeader r) i t e) in
+    ap (λ (q : Header). recordVerdict (presenceOf s) (llidOf s) (q .clock) q) (flags-only r ys (clearedFlags (recordHeader r .flags)) h)
+    ∙ now-clear (presenceOf s) (llidOf s) _ (recordHeader r) i t (openable (presenceOf s) (llidOf s) _ (recordHeader r) i t e) in
     let k = clear-record s (take 16 (cleared r) ++ ys) clear in
     (rw w (k .0), rw w (k .1))
 

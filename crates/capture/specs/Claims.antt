@@ -1,18 +1,18 @@
 -- What holds of every opened block, beside what it equals. Assumes nothing.
 use mathlib.Core.Path.{_≡_}
 use mathlib.Core.List.{List}
-use Prim.Native.Nat.{ℕ, _+_, _*_, _<_}
+use Prim.Native.Nat.{ℕ, _<_}
 use lib.ListN.{length, take}
 use Rattle.octets.specs.Lists.{part}
 use Rattle.octets.specs.Output.{withOutput}
 use Rattle.refusal.specs.declared.Verdict.the-variants.{Accepted}
 use Rattle.capture.specs.declared.opening.OpenAnswer.the-variants.{Done}
-use Rattle.capture.specs.Directory.{recordsIn, offsetOf, lengthOf, recordOf}
+use Rattle.capture.specs.Directory.{directoryOctets, recordsIn, offsetOf, lengthOf, recordOf}
 use Rattle.capture.specs.Opening.{openedRecord, openedBlock, openVerdict, opening}
 
 pub record Opened (s b : List ℕ) : Type 0 where
   -- the directory stays
-  pub directory : take (2 + 8 * recordsIn b) (openedBlock s b) ≡ take (2 + 8 * recordsIn b) b
+  pub directory : take (directoryOctets (recordsIn b)) (openedBlock s b) ≡ take (directoryOctets (recordsIn b)) b
   -- what is written of a record depends on the settings and that record alone
   pub own : (i : ℕ) → i < recordsIn b → part (openedBlock s b) (offsetOf b i) (lengthOf b i) ≡ openedRecord s (recordOf b i)
   -- opened again, a block stays as it is, its opened records being clear

@@ -18,20 +18,32 @@ use Rattle.capture.specs.declared.directory.Directory.the-variants.{Good
 use Rattle.records.specs.Record.{sized}
 use Rattle.records.specs.Place.{endFits}
 
+-- the most octets of a block
 abbrev pub mostOctets : ℕ
 mostOctets = 65536
 
 abbrev pub mostRecords : ℕ
 mostRecords = 256
 
+-- the count has two octets, and a pair eight: offset (4) and length (4)
+abbrev pub countOctets : ℕ
+countOctets = 2
+
+abbrev pub pairOctets : ℕ
+pairOctets = 8
+
+-- the octets of the count and n pairs, behind which pair n begins
+abbrev pub directoryOctets : ℕ → ℕ
+directoryOctets n = countOctets + pairOctets * n
+
 unfoldable pub recordsIn : List ℕ → ℕ
-recordsIn b = numberAt 2 b 0
+recordsIn b = numberAt countOctets b 0
 
 unfoldable pub offsetOf : List ℕ → ℕ → ℕ
-offsetOf b i = numberAt 4 b (2 + 8 * i)
+offsetOf b i = numberAt 4 b (directoryOctets i)
 
 unfoldable pub lengthOf : List ℕ → ℕ → ℕ
-lengthOf b i = numberAt 4 b (2 + 8 * i + 4)
+lengthOf b i = numberAt 4 b (directoryOctets i + 4)
 
 -- where record i ends
 unfoldable pub endOf : List ℕ → ℕ → ℕ
@@ -39,7 +51,7 @@ endOf b i = offsetOf b i + lengthOf b i
 
 -- where record i is to start: the first behind the directory, each next where the previous ends
 unfoldable pub dueOf : List ℕ → ℕ → ℕ
-dueOf b zero = 2 + 8 * recordsIn b
+dueOf b zero = directoryOctets (recordsIn b)
 dueOf b (suc i) = endOf b i
 
 unfoldable pub recordOf : List ℕ → ℕ → List ℕ
@@ -56,9 +68,9 @@ pairOf b i = pick (chained b i) (pick (sized (recordOf b i)) Fits OffLength) Off
 -- the block and its count are within their bounds, the pairs are all there, and a block without records is the count alone
 unfoldable pub sizeFits : List ℕ → Bool
 sizeFits b =
-    both (both (leb 2 (length b)) (leb (length b) mostOctets))
+    both (both (leb countOctets (length b)) (leb (length b) mostOctets))
     (both (leb (recordsIn b) mostRecords)
-    (both (leb (2 + 8 * recordsIn b) (length b)) (either (not (eqb (recordsIn b) 0)) (eqb (length b) 2))))
+    (both (leb (directoryOctets (recordsIn b)) (length b)) (either (not (eqb (recordsIn b) 0)) (eqb (length b) countOctets))))
 
 -- what the pair with this number, counted from 1, makes of the verdict on the pairs behind it
 unfoldable pub withPair : Pair → ℕ → Directory → Directory

@@ -1,6 +1,6 @@
 -- Opening a capture block b under the settings s (01, Capture block). Assumes nothing.
 use mathlib.Core.List.{List, [], _++_}
-use Prim.Native.Nat.{ℕ, zero, suc, _+_, _*_}
+use Prim.Native.Nat.{ℕ, zero, suc}
 use lib.Dec.{eqb}
 use lib.ListN.{length, take, set}
 use Rattle.octets.specs.Choice.{pick}
@@ -20,17 +20,17 @@ use Rattle.records.specs.declared.header.RecordVerdict.the-variants.{Clear, Sea
 use Rattle.capture.specs.declared.opening.OpenAnswer.{OpenAnswer}
 use Rattle.capture.specs.declared.opening.OpenAnswer.the-variants.{Done, Denied}
 use Rattle.records.specs.Settings.{keyOf, macOf, settingsVerdict}
-use Rattle.records.specs.Record.{headerOctets, recordHeader, payloadOf}
-use Rattle.capture.specs.Directory.{recordsIn, recordOf, verdictOn, directoryOf}
+use Rattle.records.specs.Record.{headerOctets, flagsAt, recordHeader, payloadOf}
+use Rattle.capture.specs.Directory.{directoryOctets, recordsIn, recordOf, verdictOn, directoryOf}
 use Rattle.records.specs.Verdict.{clearedFlags, verdictOf}
 
 -- what the counter blocks of a record with the header h are made of, at the clock t
 abbrev pub recordNonce : List ℕ → Header → ℕ → Nonce
 recordNonce s h t = record { channel = h .channel; mac = macOf s; clock = t }
 
--- an opened record has bits 0 and 1 of its flags, at place 4, cleared
+-- an opened record has EncEnabled and EncKey cleared among its flags
 abbrev pub cleared : List ℕ → List ℕ
-cleared r = set r 4 (clearedFlags (recordHeader r .flags))
+cleared r = set r flagsAt (clearedFlags (recordHeader r .flags))
 
 -- a record as the verdict has it written: refused and clear ones are copied unchanged
 unfoldable pub writtenAs : List ℕ → List ℕ → RecordVerdict → List ℕ
@@ -56,7 +56,7 @@ openedFrom s b i (suc m) = openedRecord s (recordOf b i) ++ openedFrom s b (suc 
 
 -- the directory stays, and the records follow it
 unfoldable pub openedBlock : List ℕ → List ℕ → List ℕ
-openedBlock s b = take (2 + 8 * recordsIn b) b ++ openedFrom s b 0 (recordsIn b)
+openedBlock s b = take (directoryOctets (recordsIn b)) b ++ openedFrom s b 0 (recordsIn b)
 
 -- the sum over the records
 unfoldable pub blockCount : List ℕ → List ℕ → ℕ

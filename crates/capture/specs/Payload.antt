@@ -1,11 +1,16 @@
 -- The payload of the record with number k, from 1, of a capture block b (01, Capture block). Assumes nothing.
+use mathlib.Core.Path.{_≡_}
 use mathlib.Core.List.{List, []}
-use Prim.Native.Nat.{ℕ, _+_, _-_}
+use Prim.Native.Nat.{ℕ, _+_, _-_, _≤_}
 use lib.Dec.{leb}
+use lib.ListN.{length}
+use denote.Ref.{RefT, ptr, now}
 use Rattle.octets.specs.Choice.{both, pick}
+use Rattle.octets.specs.Lists.{part}
 use Rattle.refusal.specs.declared.Refusal.the-variants.{OutOfRange}
 use Rattle.refusal.specs.declared.Verdict.{Verdict}
 use Rattle.refusal.specs.declared.Verdict.the-variants.{Accepted, Refused}
+use Rattle.refusal.specs.Number.{numberOf}
 use Rattle.capture.specs.declared.directory.Directory.{Directory}
 use Rattle.capture.specs.declared.directory.Directory.the-variants.{Good, BadSize, BadChain, BadRecord}
 use Rattle.capture.specs.declared.payload.Bounds.{Bounds}
@@ -33,6 +38,27 @@ boundsAfter (Refused r) p = Bounds.Refused r
 
 unfoldable pub payloadBounds : List ℕ → ℕ → Bounds
 payloadBounds b k = boundsAfter (payloadVerdict b k) (boundsOf b (k - 1))
+
+-- the paper's number of bounds, and where they are: a refused payload is at 0, for no octets
+abbrev pub boundsNumber : Bounds → ℕ
+boundsNumber (Within from n) = 0
+boundsNumber (Bounds.Refused r) = numberOf r
+
+abbrev pub boundsOffset : Bounds → ℕ
+boundsOffset (Within from n) = from
+boundsOffset (Bounds.Refused r) = 0
+
+abbrev pub boundsLength : Bounds → ℕ
+boundsLength (Within from n) = n
+boundsLength (Bounds.Refused r) = 0
+
+-- r refers to a part of what b refers to, n octets from `at` on, where they lie: a reference's ptr is the memory that it points
+-- into, and its place there
+pub record PartOf (b r : RefT (List ℕ)) (at n : ℕ) : Type 0 where
+  pub memory : ptr r .0 ≡ ptr b .0
+  pub offset : ptr r .1 ≡ at + ptr b .1
+  pub inside : at + n ≤ length (now b)
+  pub octets : now r ≡ part (now b) at n
 
 -- what is asked for, or nothing where that is refused
 abbrev pub unlessRefused : Verdict → List ℕ → List ℕ

@@ -3,18 +3,26 @@ ghost use mathlib.Core.Path.{_≡_};
 ghost use Prim.Native.Nat.{_+_, _*_, _^_, _≤_, _<_};
 ghost use lib.ListN.{length};
 ghost use Rattle.records.specs.Record.{sized};
-ghost use Rattle.capture.specs.Directory.{recordsIn, offsetOf, lengthOf, pairOf, sizeFits, directoryOf, verdictOn};
+ghost use Rattle.capture.specs.Directory.{countOctets, directoryOctets, recordsIn, offsetOf, lengthOf, pairOf, sizeFits, directoryOf, verdictOn};
 ghost use Rattle.capture.specs.Duties.{Due};
 use crate::fields::number16;
 use crate::fields::number32;
+use crate::header::EQS;
+use octets::EQ_OCTETS;
 use records::header::HEADER_OCTETS;
 use records::place::ends_right;
 use refusal::Refusal;
 use refusal::Verdict;
 
+// The most octets of a block.
 const MOST_OCTETS: usize = 65536;
 
 const MOST_RECORDS: usize = 256;
+
+// The octets of the count, and of a pair.
+const COUNT_OCTETS: usize = 2;
+
+const PAIR_OCTETS: usize = 8;
 
 // What a pair is found to be.
 pub enum Pair {
@@ -44,29 +52,29 @@ fn is_sized(r: &[u8]) -> bool
     if r.len() < HEADER_OCTETS {
         return false;
     }
-    r.len() as u64 == 16 + 9 * number32(r, 12)
+    r.len() == HEADER_OCTETS + EQ_OCTETS * number32(r, EQS) as usize
 }
 
 // The count of records, in the first two octets.
 pub(crate) fn count(block: &[u8]) -> usize
-    requires { ⌜ 2 ≤ length (now block) ⌝ }
-    ensures { λ r. ⌜ (r ≡ recordsIn (now (block .entry))) × (r < 65536) ⌝ }
+    requires { ⌜ countOctets ≤ length (now block) ⌝ }
+    ensures { λ r. ⌜ (r ≡ recordsIn (now (block .entry))) × (r < 256 ^ countOctets) ⌝ }
 {
     number16(block, 0) as usize
 }
 
 pub(crate) fn offset(block: &[u8], i: usize) -> usize
-    requires { ⌜ 2 + 8 * (i + 1) ≤ length (now block) ⌝ }
+    requires { ⌜ directoryOctets (i + 1) ≤ length (now block) ⌝ }
     ensures { λ r. ⌜ (r ≡ offsetOf (now (block .entry)) i) × (r < 2 ^ 32) ⌝ }
 {
-    number32(block, 2 + 8 * i) as usize
+    number32(block, COUNT_OCTETS + PAIR_OCTETS * i) as usize
 }
 
 pub(crate) fn length_of(block: &[u8], i: usize) -> usize
-    requires { ⌜ 2 + 8 * (i + 1) ≤ length (now block) ⌝ }
+    requires { ⌜ directoryOctets (i + 1) ≤ length (now block) ⌝ }
     ensures { λ r. ⌜ (r ≡ lengthOf (now (block .entry)) i) × (r < 2 ^ 32) ⌝ }
 {
-    number32(block, 2 + 8 * i + 4) as usize
+    number32(block, COUNT_OCTETS + PAIR_OCTETS * i + 4) as usize
 }
 
 // The verdict on pair i of n, whose record is due at `due`.
@@ -93,7 +101,7 @@ fn pair_of(block: &[u8], n: usize, i: usize, due: usize) -> Pair
 fn is_size_right(block: &[u8]) -> bool
     ensures { λ r. ⌜ r ≡ sizeFits (now (block .entry)) ⌝ }
 {
-    if block.len() < 2 {
+    if block.len() < COUNT_OCTETS {
         return false;
     }
     if MOST_OCTETS < block.len() {
@@ -103,7 +111,7 @@ fn is_size_right(block: &[u8]) -> bool
     if MOST_RECORDS < n {
         return false;
     }
-    (2 + 8 * n <= block.len()) & ((n != 0) | (block.len() == 2))
+    (COUNT_OCTETS + PAIR_OCTETS * n <= block.len()) & ((n != 0) | (block.len() == COUNT_OCTETS))
 }
 
 // What the directory of a block is found to be: bounds first, then pair by pair, in one pass.
@@ -114,7 +122,7 @@ pub fn check(block: &[u8]) -> Directory
         return Directory::BadSize;
     }
     let n = count(block);
-    let mut due = 2 + 8 * n;
+    let mut due = COUNT_OCTETS + PAIR_OCTETS * n;
     let mut i = 0;
     while i < n {
         match pair_of(block, n, i, due) {

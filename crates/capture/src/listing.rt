@@ -1,15 +1,13 @@
 // The listing of a capture block: a heading, and a row for each record.
 ghost use mathlib.Core.Path.{_≡_};
 ghost use mathlib.Core.List.{_++_};
-ghost use Prim.Native.Nat.{_+_, _*_, _≤_, _<_};
+ghost use Prim.Native.Nat.{_+_, _≤_, _<_};
 ghost use lib.ListN.{length, take, drop};
-ghost use Rattle.rows.specs.Text.{rowOf, textOf};
-ghost use Rattle.capture.specs.Listing.{rowsFrom, bodyOf, listingOf};
-ghost use Rattle.records.specs.Record.{recordHeader};
-ghost use Rattle.records.specs.Verdict.{verdictOf};
+ghost use Rattle.rows.specs.Text.{textOf};
+ghost use Rattle.capture.specs.Listing.{lineOctets, bodyOctets, rowAt, rowsFrom, bodyOf, listingOf};
+ghost use Rattle.records.specs.Settings.{settingsOctets};
 ghost use Rattle.capture.specs.declared.directory.Directory.the-variants.{Good};
-ghost use Rattle.capture.specs.Directory.{recordOf, directoryOf};
-ghost use Rattle.capture.specs.Opening.{openVerdict};
+ghost use Rattle.capture.specs.Directory.{mostOctets, mostRecords, directoryOf};
 ghost use Rattle.capture.specs.Duties.{Placed};
 use crate::directory::count;
 use crate::opening::open_verdict;
@@ -37,8 +35,8 @@ fn append(text: &mut [u8], at: usize, piece: &[u8]) -> usize
 }
 
 fn put_line(text: &mut [u8], at: usize, line: Line) -> usize
-    requires { ⌜ (line .used ≤ 40) × (at + 40 ≤ length (now text)) ⌝ }
-    ensures { λ r. ⌜ (at ≤ r) × (r ≤ at + 40) ⌝ }
+    requires { ⌜ (line .used ≤ lineOctets) × (at + lineOctets ≤ length (now text)) ⌝ }
+    ensures { λ r. ⌜ (at ≤ r) × (r ≤ at + lineOctets) ⌝ }
     ensures { λ r. ⌜ take r (now (text .exit)) ≡ take at (now (text .entry)) ++ textOf line ⌝ }
     ensures { λ r. ⌜ drop r (now (text .exit)) ≡ drop r (now (text .entry)) ⌝ }
 {
@@ -49,11 +47,12 @@ fn put_line(text: &mut [u8], at: usize, line: Line) -> usize
 
 // The row of record i, which has i others before it.
 fn put_row(settings: &[u8], block: &[u8], text: &mut [u8], at: usize, i: usize) -> usize
-    requires { ⌜ length (now settings) ≡ 41 ⌝ }
+    requires { ⌜ length (now settings) ≡ settingsOctets ⌝ }
     requires { ⌜ Placed (now block) i ⌝ }
-    requires { ⌜ at + 40 ≤ length (now text) ⌝ }
-    ensures { λ r. ⌜ (at ≤ r) × (r ≤ at + 40) ⌝ }
-    ensures { λ r. ⌜ take r (now (text .exit)) ≡ take at (now (text .entry)) ++ rowOf (i + 1) (recordHeader (recordOf (now (block .entry)) i)) (verdictOf (now (settings .entry)) (recordOf (now (block .entry)) i)) ⌝ }
+    requires { ⌜ (length (now block) ≤ mostOctets) × (i < mostRecords) ⌝ }
+    requires { ⌜ at + lineOctets ≤ length (now text) ⌝ }
+    ensures { λ r. ⌜ (at ≤ r) × (r ≤ at + lineOctets) ⌝ }
+    ensures { λ r. ⌜ take r (now (text .exit)) ≡ take at (now (text .entry)) ++ rowAt (now (settings .entry)) (now (block .entry)) i ⌝ }
     ensures { λ r. ⌜ drop r (now (text .exit)) ≡ drop r (now (text .entry)) ⌝ }
 {
     let h = header_of(block, i);
@@ -61,10 +60,10 @@ fn put_row(settings: &[u8], block: &[u8], text: &mut [u8], at: usize, i: usize) 
 }
 
 fn put_rows(settings: &[u8], block: &[u8], text: &mut [u8], at: usize, n: usize) -> usize
-    requires { ⌜ length (now settings) ≡ 41 ⌝ }
+    requires { ⌜ length (now settings) ≡ settingsOctets ⌝ }
     requires { ⌜ directoryOf (now block) ≡ Good n ⌝ }
-    requires { ⌜ at + 40 * 256 ≤ length (now text) ⌝ }
-    ensures { λ r. ⌜ (at ≤ r) × (r ≤ at + 40 * 256) ⌝ }
+    requires { ⌜ at + bodyOctets ≤ length (now text) ⌝ }
+    ensures { λ r. ⌜ (at ≤ r) × (r ≤ at + bodyOctets) ⌝ }
     ensures { λ r. ⌜ take r (now (text .exit)) ≡ take at (now (text .entry)) ++ rowsFrom (now (settings .entry)) (now (block .entry)) 0 n ⌝ }
     ensures { λ r. ⌜ drop r (now (text .exit)) ≡ drop r (now (text .entry)) ⌝ }
 {
@@ -79,9 +78,9 @@ fn put_rows(settings: &[u8], block: &[u8], text: &mut [u8], at: usize, n: usize)
 
 // The rows of a block, or the number of the call's refusal.
 fn put_body(settings: &[u8], block: &[u8], text: &mut [u8], at: usize) -> usize
-    requires { ⌜ at + 40 * 256 ≤ length (now text) ⌝ }
-    ensures { λ r. ⌜ (at ≤ r) × (r ≤ at + 40 * 256) ⌝ }
-    ensures { λ r. ⌜ take r (now (text .exit)) ≡ take at (now (text .entry)) ++ bodyOf (now (settings .entry)) (now (block .entry)) (openVerdict (now (settings .entry)) (now (block .entry)) (length (now (block .entry)))) ⌝ }
+    requires { ⌜ at + bodyOctets ≤ length (now text) ⌝ }
+    ensures { λ r. ⌜ (at ≤ r) × (r ≤ at + bodyOctets) ⌝ }
+    ensures { λ r. ⌜ take r (now (text .exit)) ≡ take at (now (text .entry)) ++ bodyOf (now (settings .entry)) (now (block .entry)) ⌝ }
     ensures { λ r. ⌜ drop r (now (text .exit)) ≡ drop r (now (text .entry)) ⌝ }
 {
     match open_verdict(settings, block, block.len()) {

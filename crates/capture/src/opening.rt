@@ -1,23 +1,20 @@
 // Opening a capture block into an output of the same length.
 ghost use mathlib.Core.Path.{_≡_};
 ghost use mathlib.Core.Bool.{true};
-ghost use mathlib.Core.List.{_++_};
-ghost use Prim.Native.Nat.{_+_, _≤_, _<_};
-ghost use lib.ListN.{length, take, drop, set};
+ghost use Prim.Native.Nat.{_≤_, _<_};
+ghost use lib.ListN.{length};
 ghost use lib.Dec.{eqb};
 ghost use Rattle.octets.specs.Choice.{pick};
-ghost use Rattle.octets.specs.Lists.{replaced};
 ghost use Rattle.octets.specs.Output.{withOutput};
 ghost use Rattle.envelope.specs.ControlMask.{countEnciphered};
 ghost use Rattle.envelope.specs.Acceptance.{nonceFits};
-ghost use Rattle.sealing.specs.Payload.{sealed};
 ghost use Rattle.sealing.specs.KeyExpansion.{keyExpansion};
 ghost use Rattle.records.specs.Record.{payloadOf};
-ghost use Rattle.records.specs.Settings.{presenceOf, keyPresent, keyOf};
-ghost use Rattle.capture.specs.Directory.{offsetOf, endOf, recordOf};
-ghost use Rattle.capture.specs.Opening.{openedRecord, recordCount, openedBlock, blockCount, openVerdict, opening, openNumber, openCount};
+ghost use Rattle.records.specs.Settings.{settingsOctets, settingsKeys, presenceOf, keyPresent, keyOf};
+ghost use Rattle.capture.specs.Directory.{mostOctets, recordOf};
+ghost use Rattle.capture.specs.Opening.{recordCount, openedBlock, blockCount, openVerdict, opening, openNumber, openCount};
 ghost use Rattle.capture.specs.Claims.{OpenedIfAccepted};
-ghost use Rattle.capture.specs.Duties.{Placed, Expanded, Ready, Copied};
+ghost use Rattle.capture.specs.Duties.{Placed, Expanded, Ready, withPart, withRecord, Copied};
 use crate::directory::check;
 use crate::directory::count;
 use crate::directory::length_of;
@@ -62,10 +59,10 @@ fn open_part(
     i: usize,
 ) -> u64
     requires { ⌜ Placed (now block) i ⌝ }
-    requires { ⌜ (length (now output) ≡ length (now block)) × (length (now block) ≤ 65536) ⌝ }
+    requires { ⌜ (length (now output) ≡ length (now block)) × (length (now block) ≤ mostOctets) ⌝ }
     requires { ⌜ nonceFits nonce ≡ true ⌝ }
     ensures { λ r. ⌜ r ≡ countEnciphered (payloadOf (recordOf (now (block .entry)) i)) ⌝ }
-    ensures { λ _. ⌜ now (output .exit) ≡ replaced (set (now (output .entry)) (offsetOf (now (block .entry)) i + 4) flags) (offsetOf (now (block .entry)) i + 16) (sealed (keys .octets) nonce (payloadOf (recordOf (now (block .entry)) i))) ⌝ }
+    ensures { λ _. ⌜ now (output .exit) ≡ withPart (keys .octets) nonce flags (now (block .entry)) (now (output .entry)) i ⌝ }
 {
     let from = offset(block, i);
     let to = from + length_of(block, i);
@@ -86,7 +83,7 @@ fn key_for(keys: Keys, index: u8) -> RoundKeys
 fn open_record(settings: &[u8], keys: Keys, block: &[u8], output: &mut [u8], i: usize) -> u64
     requires { ⌜ Ready (now settings) keys (now block) (now output) i ⌝ }
     ensures { λ r. ⌜ r ≡ recordCount (now (settings .entry)) (recordOf (now (block .entry)) i) ⌝ }
-    ensures { λ _. ⌜ now (output .exit) ≡ take (offsetOf (now (block .entry)) i) (now (output .entry)) ++ (openedRecord (now (settings .entry)) (recordOf (now (block .entry)) i) ++ drop (endOf (now (block .entry)) i) (now (block .entry))) ⌝ }
+    ensures { λ _. ⌜ now (output .exit) ≡ withRecord (now (settings .entry)) (now (block .entry)) (now (output .entry)) i ⌝ }
 {
     let h = header_of(block, i);
     match verdict_for(settings, h) {
@@ -121,7 +118,7 @@ fn open_records(settings: &[u8], keys: Keys, block: &[u8], output: &mut [u8], n:
 
 // Key i of the settings, expanded where it is present.
 fn expand(settings: &[u8], i: u8) -> RoundKeys
-    requires { ⌜ (length (now settings) ≡ 41) × (i < 2) ⌝ }
+    requires { ⌜ (length (now settings) ≡ settingsOctets) × (i < settingsKeys) ⌝ }
     ensures { λ r. ⌜ (keyPresent (presenceOf (now (settings .entry))) i ≡ true → r .octets ≡ keyExpansion (keyOf (now (settings .entry)) i)) ⌝ }
 {
     if octets::bit(presence(settings), i) != 1 {
@@ -131,21 +128,12 @@ fn expand(settings: &[u8], i: u8) -> RoundKeys
 }
 
 fn expand_keys(settings: &[u8]) -> Keys
-    requires { ⌜ length (now settings) ≡ 41 ⌝ }
+    requires { ⌜ length (now settings) ≡ settingsOctets ⌝ }
     ensures { λ r. ⌜ Expanded (now (settings .entry)) r ⌝ }
 {
     let first = expand(settings, 0);
     let second = expand(settings, 1);
     Keys { first, second }
-}
-
-fn copy(block: &[u8], output: &mut [u8])
-    requires { ⌜ length (now output) ≡ length (now block) ⌝ }
-    ensures { λ _. ⌜ now (output .exit) ≡ now (block .entry) ⌝ }
-{
-    for i in 0..block.len() {
-        output[i] = block[i];
-    }
 }
 
 // The verdict on the call, for an output of `size` octets.
@@ -171,7 +159,7 @@ pub fn open(settings: &[u8], block: &[u8], output: &mut [u8]) -> OpenAnswer
         Verdict::Accepted => {
             let keys = expand_keys(settings);
             let n = count(block);
-            copy(block, output);
+            octets::copy(block, output);
             OpenAnswer::Done(open_records(settings, keys, block, output, n))
         }
     }

@@ -1,6 +1,6 @@
 // The payload of a record, as a part of the caller's block. Records count from 1.
 ghost use mathlib.Core.Path.{_≡_};
-ghost use Rattle.capture.specs.Payload.{recordAsked, payloadVerdict, payloadBounds, payloadPart};
+ghost use Rattle.capture.specs.Payload.{recordAsked, payloadVerdict, payloadBounds, boundsNumber, boundsOffset, boundsLength, PartOf, payloadPart};
 use crate::directory::Directory;
 use crate::directory::check;
 use crate::directory::length_of;
@@ -57,9 +57,20 @@ pub fn locate(block: &[u8], k: usize) -> Bounds
     }
 }
 
+// 0, or the refusal's number.
+pub fn number(bounds: Bounds) -> u8
+    ensures { λ r. ⌜ r ≡ boundsNumber bounds ⌝ }
+{
+    match bounds {
+        Bounds::Within(_, _) => 0,
+        Bounds::Refused(refusal) => refusal::number(refusal),
+    }
+}
+
 // The payload of record k as a part of the block, empty where it is refused.
 pub fn part(block: &[u8], k: usize) -> &[u8]
     ensures { λ r. ⌜ now r ≡ payloadPart (now (block .entry)) k ⌝ }
+    ensures { λ r. ⌜ PartOf (block .entry) r (boundsOffset (payloadBounds (now (block .entry)) k)) (boundsLength (payloadBounds (now (block .entry)) k)) ⌝ }
 {
     match locate(block, k) {
         Bounds::Within(from, octets) => {

@@ -3,6 +3,7 @@ ghost use mathlib.Core.Path.{_≡_};
 ghost use Prim.Native.Nat.{_<_, _^_};
 ghost use lib.ListN.{length};
 ghost use Rattle.records.specs.Record.{recordHeader};
+ghost use Rattle.records.specs.Settings.{settingsOctets};
 ghost use Rattle.records.specs.Verdict.{verdictFor};
 ghost use Rattle.capture.specs.Directory.{recordOf};
 ghost use Rattle.capture.specs.Verdict.{verdictAsked};
@@ -30,10 +31,10 @@ pub(crate) fn header_of(block: &[u8], i: usize) -> Header
 
 // The verdict on a record by its header, for these settings.
 pub(crate) fn verdict_for(settings: &[u8], h: Header) -> RecordVerdict
-    requires { ⌜ length (now settings) ≡ 41 ⌝ }
+    requires { ⌜ length (now settings) ≡ settingsOctets ⌝ }
     ensures { λ r. ⌜ r ≡ verdictFor (now (settings .entry)) h ⌝ }
 {
-    record_verdict(presence(settings), llid(settings), h)
+    record_verdict(presence(settings), llid(settings), h.clock, h)
 }
 
 // The verdict on record k. The refusals of the call itself come first.

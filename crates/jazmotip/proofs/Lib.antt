@@ -1,4 +1,3 @@
 pub mod End
 pub mod Flags
 pub mod InPlace
-pub mod Parts

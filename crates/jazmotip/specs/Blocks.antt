@@ -1,14 +1,14 @@
 -- What the calls on a capture block decide, in numbers (01, Capture block). Assumes nothing.
 use Rattle.octets.specs.Output.{WithOutput, withOutput}
-use Rattle.refusal.specs.Number.{numberOf, verdictNumber}
+use Rattle.refusal.specs.Number.{verdictNumber}
 use Rattle.capture.specs.declared.directory.Directory.{Directory}
 use Rattle.capture.specs.declared.directory.Directory.the-variants.{Good, BadSize, BadChain, BadRecord}
 use Rattle.records.specs.declared.header.RecordVerdict.{RecordVerdict}
 use Rattle.records.specs.declared.header.RecordVerdict.the-variants.{Clear, Sealed, Refused}
 use Rattle.capture.specs.declared.payload.Bounds.{Bounds}
-use Rattle.capture.specs.declared.payload.Bounds.the-variants.{Within}
 use Rattle.capture.specs.Directory.{verdictOn}
 use Rattle.records.specs.Verdict.{recordNumber}
+use Rattle.capture.specs.Payload.{boundsNumber, boundsOffset, boundsLength}
 use Rattle.capture.specs.Opening.{openNumber, openCount}
 use Rattle.capture.specs.declared.opening.OpenAnswer.{OpenAnswer}
 use Rattle.jazmotip.specs.declared.payloads.PayloadAnswer.{PayloadAnswer}
@@ -30,8 +30,7 @@ blockVerdict (Sealed i t) = record { number = recordNumber (Sealed i t); encenab
 blockVerdict (Refused r) = record { number = recordNumber (Refused r); encenabled = 0; enckey = 0; clock = 0 }
 
 abbrev pub blockPart : Bounds → BlockPart
-blockPart (Within from n) = record { number = 0; offset = from; length = n }
-blockPart (Bounds.Refused r) = record { number = numberOf r; offset = 0; length = 0 }
+blockPart p = record { number = boundsNumber p; offset = boundsOffset p; length = boundsLength p }
 
 abbrev pub openedInNumbers : WithOutput OpenAnswer → WithOutput PayloadAnswer
 openedInNumbers o = withOutput (record { number = openNumber (o .answer); count = openCount (o .answer) }) (o .output)

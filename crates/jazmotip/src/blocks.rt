@@ -1,7 +1,7 @@
 // The capture reader (01, Capture block). What its calls decide is numbers here, and a payload is an offset and a length in the
 // caller's block, since a part of it can't be returned to C.
 ghost use mathlib.Core.Path.{_≡_};
-ghost use Prim.Native.Nat.{_≤_};
+ghost use Prim.Native.Nat.{_+_, _≤_};
 ghost use lib.ListN.{length, take, drop};
 ghost use Rattle.octets.specs.Lists.{part};
 ghost use Rattle.octets.specs.Output.{withOutput};
@@ -123,14 +123,15 @@ fn verdict_in_numbers(verdict: RecordVerdict) -> BlockVerdict
 fn part_in_numbers(bounds: Bounds) -> BlockPart
     ensures { λ r. ⌜ r ≡ blockPart bounds ⌝ }
 {
+    let number = capture::payload::number(bounds);
     match bounds {
         Bounds::Within(from, octets) => BlockPart {
-            number: 0,
+            number,
             offset: from,
             length: octets,
         },
-        Bounds::Refused(refusal) => BlockPart {
-            number: refusal::number(refusal),
+        Bounds::Refused(_) => BlockPart {
+            number,
             offset: 0,
             length: 0,
         },
@@ -156,6 +157,7 @@ pub extern "C" fn jazmotip_capture_verdict(settings: &[u8], block: &[u8], k: usi
 #[no_mangle]
 pub extern "C" fn jazmotip_capture_payload(block: &[u8], k: usize) -> BlockPart
     ensures { λ r. ⌜ r ≡ blockPart (payloadBounds (now (block .entry)) k) ⌝ }
+    ensures { λ r. ⌜ r .offset + r .length ≤ length (now (block .entry)) ⌝ }
     ensures { λ r. ⌜ part (now (block .entry)) (r .offset) (r .length) ≡ payloadPart (now (block .entry)) k ⌝ }
 {
     part_in_numbers(locate(block, k))

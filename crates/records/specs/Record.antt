@@ -7,15 +7,16 @@ use lib.Dec.{leb, eqb}
 use lib.ListN.{length, getD, drop}
 use Rattle.octets.specs.BigEndian.{numberAt}
 use Rattle.octets.specs.Choice.{both}
+use Rattle.octets.specs.Eqs.{eqOctets}
 use Rattle.records.specs.declared.header.Header.{Header}
 
 -- the octets ahead of the payload
 abbrev pub headerOctets : ℕ
 headerOctets = 16
 
--- an EQ is a control octet and eight data octets
-abbrev pub eqOctets : ℕ
-eqOctets = 9
+-- the place of the flags among them
+abbrev pub flagsAt : ℕ
+flagsAt = 4
 
 unfoldable pub recordHeader : List ℕ → Header
 recordHeader r =
@@ -23,7 +24,7 @@ recordHeader r =
       kind = getD r 0 0;
       channel = getD r 1 0;
       llid = numberAt 2 r 2;
-      flags = getD r 4 0;
+      flags = getD r flagsAt 0;
       epam = getD r 5 0;
       clock = numberAt 6 r 6;
       eqs = numberAt 4 r 12;

@@ -2,10 +2,10 @@
 use mathlib.Core.Bool.{Bool}
 use mathlib.Core.List.{List}
 use Prim.Native.Nat.{ℕ, _+_, _*_}
-use lib.Dec.{ltb, eqb}
+use lib.Dec.{eqb}
 use lib.ListN.{length, getD}
 use Rattle.octets.specs.BigEndian.{numberAt}
-use Rattle.octets.specs.Bits.{bitOf}
+use Rattle.octets.specs.Bits.{bitOf, lowCleared}
 use Rattle.octets.specs.Choice.{pick}
 use Rattle.octets.specs.Lists.{part}
 use Rattle.refusal.specs.declared.Refusal.the-variants.{OutOfRange, BadLength}
@@ -15,6 +15,23 @@ use Rattle.refusal.specs.declared.Verdict.the-variants.{Accepted, Refused}
 abbrev pub settingsOctets : ℕ
 settingsOctets = 41
 
+-- the keys that settings have room for, and the octets of each
+abbrev pub settingsKeys : ℕ
+settingsKeys = 2
+
+abbrev pub keyOctets : ℕ
+keyOctets = 16
+
+-- where the keys, the MAC and the LLID begin
+abbrev pub keysAt : ℕ
+keysAt = 1
+
+abbrev pub macAt : ℕ
+macAt = keysAt + keyOctets * settingsKeys
+
+abbrev pub llidAt : ℕ
+llidAt = macAt + 6
+
 unfoldable pub presenceOf : List ℕ → ℕ
 presenceOf s = getD s 0 0
 
@@ -23,15 +40,19 @@ unfoldable pub keyPresent : ℕ → ℕ → Bool
 keyPresent presence i = eqb (bitOf presence i) 1
 
 unfoldable pub keyOf : List ℕ → ℕ → List ℕ
-keyOf s i = part s (1 + 16 * i) 16
+keyOf s i = part s (keysAt + keyOctets * i) keyOctets
 
 unfoldable pub macOf : List ℕ → ℕ
-macOf s = numberAt 6 s 33
+macOf s = numberAt 6 s macAt
 
 unfoldable pub llidOf : List ℕ → ℕ
-llidOf s = numberAt 2 s 39
+llidOf s = numberAt 2 s llidAt
 
--- 14, then 1: bits 0 and 1 of the presence octet are for the two keys, the others are 0
+-- bits 0 and 1 of the presence octet are for the two keys, the others are 0
+unfoldable pub presenceFits : ℕ → Bool
+presenceFits presence = eqb (lowCleared settingsKeys presence) 0
+
+-- 14, then 1
 unfoldable pub settingsVerdict : List ℕ → Verdict
 settingsVerdict s =
-    pick (eqb (length s) settingsOctets) (pick (ltb (presenceOf s) 4) Accepted (Refused OutOfRange)) (Refused BadLength)
+    pick (eqb (length s) settingsOctets) (pick (presenceFits (presenceOf s)) Accepted (Refused OutOfRange)) (Refused BadLength)

@@ -1,67 +1,68 @@
 -- The verdict on a record, from its header h and the settings (01, Capture block). Assumes nothing.
-use mathlib.Core.Bool.{Bool, not}
+use mathlib.Core.Bool.{Bool}
 use mathlib.Core.List.{List}
-use Prim.Native.Nat.{ℕ, _*_, _/_, _%_}
+use Prim.Native.Nat.{ℕ}
 use lib.Dec.{ltb, eqb}
-use Rattle.octets.specs.Bits.{bitOf}
-use Rattle.octets.specs.Choice.{both, pick}
+use Rattle.octets.specs.Bits.{bitOf, lowCleared}
+use Rattle.octets.specs.Choice.{both, either, pick}
 use Rattle.refusal.specs.declared.Refusal.the-variants.{OutOfRange, UnknownLlid, NoKey, EpamDiffers}
 use Rattle.refusal.specs.Number.{numberOf}
+use Rattle.clock.specs.Ticks.{epamOf}
 use Rattle.envelope.specs.Acceptance.{channelFits}
 use Rattle.records.specs.declared.header.Header.{Header}
-use Rattle.records.specs.declared.header.Epam.{Epam}
-use Rattle.records.specs.declared.header.Epam.the-variants.{Agrees, Differs}
 use Rattle.records.specs.declared.header.RecordVerdict.{RecordVerdict}
 use Rattle.records.specs.declared.header.RecordVerdict.the-variants.{Clear, Sealed, Refused}
 use Rattle.records.specs.Settings.{presenceOf, keyPresent, llidOf}
 use Rattle.records.specs.Record.{recordHeader}
 
--- bit 0 is EncEnabled, bit 1 EncKey, the others are 0; there is no EncKey without EncEnabled
-abbrev pub flagsFit : ℕ → Bool
-flagsFit flags = both (ltb flags 4) (not (eqb flags 2))
+-- the flags are the two lowest bits of their octet
+abbrev pub flagBits : ℕ
+flagBits = 2
+
+-- bit 0 is EncEnabled
+unfoldable pub encEnabled : ℕ → Bool
+encEnabled flags = eqb (bitOf flags 0) 1
+
+-- bit 1 is EncKey
+abbrev pub encKey : ℕ → ℕ
+encKey flags = bitOf flags 1
+
+-- an opened record has both cleared, every other bit being as it was
+abbrev pub clearedFlags : ℕ → ℕ
+clearedFlags flags = lowCleared flagBits flags
+
+-- the other bits are 0, and there is no EncKey without EncEnabled
+unfoldable pub flagsFit : ℕ → Bool
+flagsFit flags = both (eqb (clearedFlags flags) 0) (either (encEnabled flags) (eqb (encKey flags) 0))
+
+-- ESH and ECH
+abbrev pub kinds : ℕ
+kinds = 2
 
 -- kind, channel index and flags are of their values
 unfoldable pub headerFits : Header → Bool
-headerFits h = both (ltb (h .kind) 2) (both (channelFits (h .channel)) (flagsFit (h .flags)))
+headerFits h = both (ltb (h .kind) kinds) (both (channelFits (h .channel)) (flagsFit (h .flags)))
 
-unfoldable pub encEnabled : Header → Bool
-encEnabled h = eqb (bitOf (h .flags) 0) 1
+-- what is left to judge once EPAM agrees: 9 for an enciphered record without its key, t being the clock to open at
+unfoldable pub keyVerdict : ℕ → ℕ → ℕ → RecordVerdict
+keyVerdict presence t flags =
+    pick (encEnabled flags) (pick (keyPresent presence (encKey flags)) (Sealed (encKey flags) t) (Refused NoKey)) Clear
 
-unfoldable pub encKey : Header → ℕ
-encKey h = bitOf (h .flags) 1
+-- 1, 2, 10, then what the rest says
+unfoldable pub inOrder : Bool → Bool → Bool → RecordVerdict → RecordVerdict
+inOrder fits own agrees rest =
+    pick fits (pick own (pick agrees rest (Refused EpamDiffers)) (Refused UnknownLlid)) (Refused OutOfRange)
 
--- an opened record has both cleared
-abbrev pub clearedFlags : ℕ → ℕ
-clearedFlags flags = flags / 4 * 4
+-- for settings of this presence octet and LLID, t being the clock that the record is judged and opened at
+unfoldable pub recordVerdict : ℕ → ℕ → ℕ → Header → RecordVerdict
+recordVerdict presence llid t h =
+    inOrder (headerFits h) (eqb (h .llid) llid) (eqb (h .epam) (epamOf t)) (keyVerdict presence t (h .flags))
 
--- the clock of a header, where EPAM is its low six bits
-unfoldable pub epamCheck : ℕ → ℕ → Epam
-epamCheck clock epam = pick (eqb epam (clock % 64)) (Agrees clock) Differs
-
--- the paper's number for what EPAM shows
-abbrev pub epamNumber : Epam → ℕ
-epamNumber (Agrees t) = 0
-epamNumber Differs = numberOf EpamDiffers
-
--- what is left to judge once the clock is known: the key of an enciphered record
-unfoldable pub keyVerdict : ℕ → Header → Epam → RecordVerdict
-keyVerdict presence h Differs = Refused EpamDiffers
-keyVerdict presence h (Agrees t) =
-    pick (encEnabled h) (pick (keyPresent presence (encKey h)) (Sealed (encKey h) t) (Refused NoKey)) Clear
-
--- 1, then 2, then what the rest says
-unfoldable pub inOrder : Bool → Bool → RecordVerdict → RecordVerdict
-inOrder fits own rest = pick fits (pick own rest (Refused UnknownLlid)) (Refused OutOfRange)
-
--- 1, 2, 10, and 9 for enciphered records
-unfoldable pub recordVerdict : ℕ → ℕ → Header → RecordVerdict
-recordVerdict presence llid h =
-    inOrder (headerFits h) (eqb (h .llid) llid) (keyVerdict presence h (epamCheck (h .clock) (h .epam)))
-
--- the verdict for the settings s, by the header, and on a record whose own octets are r
+-- the verdict for the settings s, by the header, at its own receive clock
 unfoldable pub verdictFor : List ℕ → Header → RecordVerdict
-verdictFor s h = recordVerdict (presenceOf s) (llidOf s) h
+verdictFor s h = recordVerdict (presenceOf s) (llidOf s) (h .clock) h
 
+-- and on a record whose own octets are r
 abbrev pub verdictOf : List ℕ → List ℕ → RecordVerdict
 verdictOf s r = verdictFor s (recordHeader r)
 

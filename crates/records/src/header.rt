@@ -1,10 +1,17 @@
 // The header of a record, and the verdict on a record.
 ghost use mathlib.Core.Path.{_≡_};
-ghost use Rattle.records.specs.Verdict.{clearedFlags, headerFits, epamCheck, keyVerdict, recordVerdict, recordNumber};
+ghost use Rattle.records.specs.Verdict.{encEnabled, encKey, clearedFlags, flagsFit, headerFits, keyVerdict, recordVerdict, recordNumber};
+use envelope::channel_fits;
 use refusal::Refusal;
 
 // The octets of a record ahead of its payload.
 pub const HEADER_OCTETS: usize = 16;
+
+// ESH and ECH.
+const KINDS: u8 = 2;
+
+// The bits that are neither EncEnabled nor EncKey.
+const OTHER_FLAGS: u8 = 0xfc;
 
 pub struct Header {
     // 0 ESH, 1 ECH
@@ -17,12 +24,6 @@ pub struct Header {
     pub eqs: u64,
 }
 
-// The clock at which a header was sent, or that EPAM is not its low six bits.
-pub enum Epam {
-    Agrees(u64),
-    Differs,
-}
-
 // What a record is found to be.
 pub enum RecordVerdict {
     // passes unchanged
@@ -32,54 +33,56 @@ pub enum RecordVerdict {
     Refused(Refusal),
 }
 
-// Whether kind, channel index and flags are of their values, which no settings change.
-pub fn is_well_formed(h: Header) -> bool
-    ensures { λ r. ⌜ r ≡ headerFits h ⌝ }
-{
-    (h.kind < 2)
-        & (((h.channel < 2) | ((128 <= h.channel) & (h.channel < 130)))
-            & ((h.flags < 4) & (h.flags != 2)))
-}
-
 // The flags of a record once it is opened: EncEnabled and EncKey cleared.
 pub fn cleared(flags: u8) -> u8
     ensures { λ r. ⌜ r ≡ clearedFlags flags ⌝ }
 {
-    flags / 4 * 4
+    flags & OTHER_FLAGS
 }
 
-// The clock to use for a header received at `clock`.
-pub fn check_epam(clock: u64, epam: u8) -> Epam
-    ensures { λ r. ⌜ r ≡ epamCheck clock epam ⌝ }
+pub fn enc_enabled(flags: u8) -> bool
+    ensures { λ r. ⌜ r ≡ encEnabled flags ⌝ }
 {
-    if epam as u64 != clock % 64 {
-        return Epam::Differs;
-    }
-    Epam::Agrees(clock)
+    octets::bit(flags, 0) == 1
 }
 
-// The verdict on a record whose clock is known: enciphered, it needs its key.
-fn key_verdict(presence: u8, h: Header, epam: Epam) -> RecordVerdict
-    ensures { λ r. ⌜ r ≡ keyVerdict presence h epam ⌝ }
+pub fn enc_key(flags: u8) -> u8
+    ensures { λ r. ⌜ r ≡ encKey flags ⌝ }
 {
-    match epam {
-        Epam::Differs => RecordVerdict::Refused(Refusal::EpamDiffers),
-        Epam::Agrees(t) => {
-            if octets::bit(h.flags, 0) != 1 {
-                return RecordVerdict::Clear;
-            }
-            let index = octets::bit(h.flags, 1);
-            if octets::bit(presence, index) != 1 {
-                return RecordVerdict::Refused(Refusal::NoKey);
-            }
-            RecordVerdict::Sealed(index, t)
-        }
-    }
+    octets::bit(flags, 1)
 }
 
-// The verdict on a record by its header, for settings of this presence octet and LLID.
-pub fn record_verdict(presence: u8, llid: u64, h: Header) -> RecordVerdict
-    ensures { λ r. ⌜ r ≡ recordVerdict presence llid h ⌝ }
+// Whether no other bit is set, and EncKey not without EncEnabled.
+fn flags_fit(flags: u8) -> bool
+    ensures { λ r. ⌜ r ≡ flagsFit flags ⌝ }
+{
+    (cleared(flags) == 0) & (enc_enabled(flags) | (enc_key(flags) == 0))
+}
+
+// Whether kind, channel index and flags are of their values, which no settings change.
+pub fn is_well_formed(h: Header) -> bool
+    ensures { λ r. ⌜ r ≡ headerFits h ⌝ }
+{
+    (h.kind < KINDS) & (channel_fits(h.channel) & flags_fit(h.flags))
+}
+
+// What is left to judge once EPAM agrees: an enciphered record needs its key.
+fn key_verdict(presence: u8, clock: u64, flags: u8) -> RecordVerdict
+    ensures { λ r. ⌜ r ≡ keyVerdict presence clock flags ⌝ }
+{
+    if !enc_enabled(flags) {
+        return RecordVerdict::Clear;
+    }
+    let index = enc_key(flags);
+    if octets::bit(presence, index) != 1 {
+        return RecordVerdict::Refused(Refusal::NoKey);
+    }
+    RecordVerdict::Sealed(index, clock)
+}
+
+// The verdict on a record by its header, for settings of this presence octet and LLID, at the clock to use.
+pub fn record_verdict(presence: u8, llid: u64, clock: u64, h: Header) -> RecordVerdict
+    ensures { λ r. ⌜ r ≡ recordVerdict presence llid clock h ⌝ }
 {
     if !is_well_formed(h) {
         return RecordVerdict::Refused(Refusal::OutOfRange);
@@ -87,7 +90,11 @@ pub fn record_verdict(presence: u8, llid: u64, h: Header) -> RecordVerdict
     if h.llid != llid {
         return RecordVerdict::Refused(Refusal::UnknownLlid);
     }
-    key_verdict(presence, h, check_epam(h.clock, h.epam))
+    let epam = clock::epam_of(clock);
+    if h.epam != epam {
+        return RecordVerdict::Refused(Refusal::EpamDiffers);
+    }
+    key_verdict(presence, clock, h.flags)
 }
 
 // The number of a verdict, 0 for acceptance.

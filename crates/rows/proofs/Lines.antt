@@ -1,19 +1,23 @@
 -- Laws of lines that grow by pieces of text. Assumes nothing.
-use mathlib.Core.Path.{_≡_, ap, _∙_}
+use mathlib.Core.Path.{_≡_, refl, ap, _∙_}
 use mathlib.Core.Bool.{Bool, true, false}
 use mathlib.Core.List.{List, [], _∷_, _++_, append-assoc}
-use Prim.Native.Nat.{ℕ, _≤_}
+use Prim.Native.Nat.{ℕ, zero, suc, _+_, _/_, _%_, _^_, _≤_, _<_}
+use native.Mathlib.Nat.{pow-suc}
+use native.Mathlib.Numerals.{add-one}
 use native.Mathlib.Omega.{arith}
 use lib.Dec.{ltb}
 use lib.ListN.{length, length-append}
-use Rattle.octets.specs.Choice.{pick}
+use borrow.Author.Tests.{lt-ltb, le-ltb, ltb-false}
+use Rattle.octets.proofs.Choice.{pick-true, pick-false, pick-holds, pick-same}
 use Rattle.refusal.specs.Number.{numberOf}
 use Rattle.refusal.specs.declared.Refusal.{Refusal}
+use Rattle.refusal.specs.declared.Refusal.the-variants.{OutOfRange, UnknownLlid, RepeatedLlid, TableFull, ClockNotSet, OfferPending, SameKey, NothingOutstanding, NoKey, EpamDiffers, ClearEnvelope, ChannelTaken, KeyTooOld, BadLength, BadDirectory, CaptureTooOld, AtEnd}
 use Rattle.records.specs.declared.header.Header.{Header}
 use Rattle.records.specs.declared.header.RecordVerdict.{RecordVerdict}
 use Rattle.records.specs.declared.header.RecordVerdict.the-variants.{Clear, Sealed}
 use Rattle.rows.specs.declared.Line.{Line}
-use Rattle.rows.specs.Text.{decimalOf, refusedText, resultText, rowHead, rowTail, textOf}
+use Rattle.rows.specs.Text.{glyphOf, digits, mostDigits, digitsWithin, digitCount, decimalOf, refusedText, resultText, rowHead, rowTail, rowOf, refusedRow, textOf}
 use Rattle.rows.specs.Duties.{Grown}
 
 -- one piece after the other
@@ -25,36 +29,96 @@ both-grown {l} {m} {n} {p} {q} a b =
 pub grown-as : {l m : Line} {p q : List ℕ} → Grown l m p → p ≡ q → Grown l m q
 grown-as a e = rw e at a
 
-few-digits : (t u v : Bool) (a b c d : List ℕ) → length a ≤ 4 → length b ≤ 4 → length c ≤ 4 → length d ≤ 4
-    → length (pick t a (pick u b (pick v c d))) ≤ 4
-unfolding pick
-few-digits true u v a b c d p q r s = p
-few-digits false true v a b c d p q r s = q
-few-digits false false true a b c d p q r s = r
-few-digits false false false a b c d p q r s = s
+-- one digit more of those that are left
+pub one-digit : (t : List ℕ) (b k n x : ℕ) → x ≡ glyphOf (n / b ^ k % b) → (t ++ (x ∷ [])) ++ digits b k n ≡ t ++ digits b (k + 1) n
+one-digit t b k n x e = rw (e, add-one) (append-assoc t _ (digits b k n))
+
+pub digits-length : (b k n : ℕ) → length (digits b k n) ≡ k
+digits-length b zero n = refl
+digits-length b (suc k) n = ap suc (digits-length b k n)
+
+-- one digit more behind a number of several
+pub more-digits : (m n : ℕ) → 10 ≤ n → digitsWithin (suc m) n ≡ suc (digitsWithin m (n / 10))
+unfolding digitsWithin
+more-digits m n h = pick-false _ _ (le-ltb n 10 h)
+
+pub one-digit-only : (m n : ℕ) → n < 10 → digitsWithin (suc m) n ≡ 1
+unfolding digitsWithin
+one-digit-only m n h = pick-true _ _ (lt-ltb n 10 h)
+
+pub last-digit : (n : ℕ) → digitsWithin 1 n ≡ 1
+unfolding digitsWithin
+last-digit n = pick-same (ltb n 10) 1
 
 -- how long the pieces of a row can be
-pub decimal-few : (n : ℕ) → length (decimalOf n) ≤ 4
-unfolding decimalOf
-decimal-few n = few-digits (ltb n 10) (ltb n 100) (ltb n 1000) _ _ _ _ (omega arith) (omega arith) (omega arith) (omega arith)
+few-by : (b : Bool) (m d n : ℕ) → ltb n 10 ≡ b → n < 10 ^ suc d → digitsWithin m n ≤ suc d
+unfolding digitsWithin
+few-by true zero d n e h = omega arith
+few-by true (suc m) d n e h = rw (pick-true _ _ e) (omega arith)
+few-by false zero d n e h = omega arith
+few-by false (suc m) zero n e h = absurd (omega (arith, ltb-false n 10 e))
+few-by false (suc m) (suc d) n e h = rw (pick-false _ _ e) (omega (arith, few-by (ltb (n / 10) 10) m d (n / 10) refl (omega (arith, pow-suc 10 (suc d)))))
 
-pub refused-few : (r : Refusal) → length (refusedText r) ≤ 12
+pub decimal-below : (d n : ℕ) → n < 10 ^ suc d → length (decimalOf n) ≤ suc d
+unfolding decimalOf digitCount
+decimal-below d n h = rw digits-length (few-by (ltb n 10) mostDigits d n refl h)
+
+within-few : (m n : ℕ) → digitsWithin m n ≤ m
+unfolding digitsWithin
+within-few zero n = omega arith
+within-few (suc m) n = pick-holds (λ k. k ≤ suc m) (ltb n 10) 1 _ (λ e. omega arith) (λ e. omega (arith, within-few m (n / 10)))
+
+pub decimal-few : (n : ℕ) → length (decimalOf n) ≤ mostDigits
+unfolding decimalOf digitCount
+decimal-few n = rw digits-length (within-few mostDigits n)
+
+number-few : (r : Refusal) → numberOf r < 100
+number-few OutOfRange = omega arith
+number-few UnknownLlid = omega arith
+number-few RepeatedLlid = omega arith
+number-few TableFull = omega arith
+number-few ClockNotSet = omega arith
+number-few OfferPending = omega arith
+number-few SameKey = omega arith
+number-few NothingOutstanding = omega arith
+number-few NoKey = omega arith
+number-few EpamDiffers = omega arith
+number-few ClearEnvelope = omega arith
+number-few ChannelTaken = omega arith
+number-few KeyTooOld = omega arith
+number-few BadLength = omega arith
+number-few BadDirectory = omega arith
+number-few CaptureTooOld = omega arith
+number-few AtEnd = omega arith
+
+pub number-digits : (r : Refusal) → length (decimalOf (numberOf r)) ≤ 2
+number-digits r = decimal-below 1 (numberOf r) (number-few r)
+
+pub refused-few : (r : Refusal) → length (refusedText r) ≤ 10
 unfolding refusedText
-refused-few r = omega (arith, decimal-few (numberOf r))
+refused-few r = omega (arith, number-digits r)
 
-pub result-few : (v : RecordVerdict) → length (resultText v) ≤ 12
+pub refused-row-few : (r : Refusal) → length (refusedRow r) ≤ 11
+unfolding refusedRow
+refused-row-few r = simp length-append (omega (arith, refused-few r))
+
+pub result-few : (v : RecordVerdict) → length (resultText v) ≤ 10
 unfolding resultText
 result-few Clear = omega arith
 result-few (Sealed i t) = omega arith
 result-few (RecordVerdict.Refused r) = refused-few r
 
-pub head-few : (k : ℕ) (h : Header) → length (rowHead k h) ≤ 13
+pub head-few : (k : ℕ) (h : Header) → length (rowHead k h) ≤ length (decimalOf k) + 9
 unfolding rowHead
-head-few k h = simp length-append (omega (arith, decimal-few k))
+head-few k h = simp length-append (omega arith)
 
-pub tail-few : (h : Header) (v : RecordVerdict) → length (rowTail h v) ≤ 20
+pub tail-few : (h : Header) (v : RecordVerdict) → length (rowTail h v) ≤ length (decimalOf (h .eqs)) + 14
 unfolding rowTail
-tail-few h v = simp length-append (omega (arith, decimal-few (h .eqs), result-few v))
+tail-few h v = simp length-append (omega (arith, result-few v))
+
+pub row-few : (k : ℕ) (h : Header) (v : RecordVerdict) → length (rowOf k h v) ≤ length (decimalOf k) + length (decimalOf (h .eqs)) + 23
+unfolding rowOf
+row-few k h v = simp length-append (omega (arith, head-few k h, tail-few h v))
 
 -- the pieces of a row's end, as they are written and as the row has them
 pub tail-pieces : (x y : ℕ) (d r : List ℕ) → x ≡ y

@@ -1,8 +1,9 @@
 -- The text of a listing's rows, as ASCII codes (01, Capture block: the reader program). Assumes nothing.
+use mathlib.Core.Path.{_≡_}
 use mathlib.Core.List.{List, [], _∷_, _++_}
-use Prim.Native.Nat.{ℕ, zero, suc, _+_, _/_, _%_, _^_}
+use Prim.Native.Nat.{ℕ, zero, suc, _+_, _/_, _%_, _^_, _≤_}
 use lib.Dec.{ltb}
-use lib.ListN.{take}
+use lib.ListN.{length, take}
 use Rattle.octets.specs.Choice.{pick}
 use Rattle.refusal.specs.declared.Refusal.{Refusal}
 use Rattle.refusal.specs.Number.{numberOf}
@@ -16,19 +17,30 @@ use Rattle.rows.specs.declared.Line.{Line}
 unfoldable pub glyphOf : ℕ → ℕ
 glyphOf d = pick (ltb d 10) (48 + d) (87 + d)
 
--- the last k digits of n in base b
+-- the last k digits of n in base b, with zeros ahead
 abbrev pub digits : ℕ → ℕ → ℕ → List ℕ
 digits b zero n = []
 digits b (suc k) n = glyphOf (n / b ^ k % b) ∷ digits b k n
 
--- a number by its last four digits, without zeros ahead: a block holds fewer than 10,000 EQs
+-- the most digits of a number of 64 bits
+abbrev pub mostDigits : ℕ
+mostDigits = 20
+
+-- how many digits n has, where they are at most m
+unfoldable pub digitsWithin : ℕ → ℕ → ℕ
+digitsWithin zero n = 0
+digitsWithin (suc m) n = pick (ltb n 10) 1 (suc (digitsWithin m (n / 10)))
+
+unfoldable pub digitCount : ℕ → ℕ
+digitCount n = digitsWithin mostDigits n
+
+-- a number without zeros ahead
 unfoldable pub decimalOf : ℕ → List ℕ
-decimalOf n =
-    pick (ltb n 10) (digits 10 1 n) (pick (ltb n 100) (digits 10 2 n) (pick (ltb n 1000) (digits 10 3 n) (digits 10 4 n)))
+decimalOf n = digits 10 (digitCount n) n
 
 -- EncKey, or - for a clear record
-unfoldable pub keyOctet : Header → ℕ
-keyOctet h = pick (encEnabled h) (48 + encKey h) 45
+unfoldable pub keyGlyph : Header → ℕ
+keyGlyph h = pick (encEnabled (h .flags)) (48 + encKey (h .flags)) 45
 
 -- "refused " and the number
 unfoldable pub refusedText : Refusal → List ℕ
@@ -46,7 +58,7 @@ rowHead k h = decimalOf k ++ (32 ∷ (digits 16 4 (h .llid) ++ (32 ∷ (digits 1
 
 -- EncKey, EQs, result
 unfoldable pub rowTail : Header → RecordVerdict → List ℕ
-rowTail h v = keyOctet h ∷ 32 ∷ (decimalOf (h .eqs) ++ (32 ∷ (resultText v ++ (10 ∷ []))))
+rowTail h v = keyGlyph h ∷ 32 ∷ (decimalOf (h .eqs) ++ (32 ∷ (resultText v ++ (10 ∷ []))))
 
 unfoldable pub rowOf : ℕ → Header → RecordVerdict → List ℕ
 rowOf k h v = rowHead k h ++ rowTail h v
@@ -55,6 +67,16 @@ rowOf k h v = rowHead k h ++ rowTail h v
 unfoldable pub refusedRow : Refusal → List ℕ
 refusedRow r = refusedText r ++ (10 ∷ [])
 
+-- the most octets of a row: two decimal numbers, and 23 beside them
+abbrev pub rowOctets : ℕ
+rowOctets = 63
+
 -- what a line holds
 abbrev pub textOf : Line → List ℕ
 textOf l = take (l .used) (l .octets)
+
+-- a line with this text and no more
+pub record Holds (l : Line) (text : List ℕ) : Type 0 where
+  pub octets : textOf l ≡ text
+  pub used : l .used ≡ length text
+  pub inside : l .used ≤ rowOctets

@@ -1,21 +1,30 @@
-// The rows of a listing (01, Capture block: the reader program), each a line of at most 40 octets.
+// The rows of a listing (01, Capture block: the reader program).
 ghost use mathlib.Core.Path.{_≡_};
 ghost use mathlib.Core.List.{[], _∷_};
-ghost use Prim.Native.Nat.{_≤_, _<_};
-ghost use Rattle.rows.specs.Text.{glyphOf, digits, decimalOf, keyOctet, refusedText, resultText, rowHead, rowTail, rowOf, refusedRow, textOf};
+ghost use Prim.Native.Nat.{_+_, _/_, _%_, _^_, _≤_, _<_};
+ghost use lib.ListN.{length};
+ghost use Rattle.rows.specs.Text.{glyphOf, digits, digitCount, decimalOf, rowOctets, keyGlyph, refusedText, resultText, rowHead, rowTail, rowOf, refusedRow, Holds};
 ghost use Rattle.rows.specs.Duties.{Grown};
 use records::header::Header;
 use records::header::RecordVerdict;
+use records::header::enc_enabled;
+use records::header::enc_key;
 use refusal::Refusal;
+
+// The most octets of a row: two decimal numbers, and 23 beside them.
+pub const ROW_OCTETS: usize = 63;
+
+// The most digits of a number of 64 bits.
+const MOST_DIGITS: usize = 20;
 
 // A line being written, and how much of it is.
 pub struct Line {
-    pub octets: [u8; 40],
+    pub octets: [u8; ROW_OCTETS],
     pub used: usize,
 }
 
 fn push(line: Line, octet: u8) -> Line
-    requires { ⌜ line .used < 40 ⌝ }
+    requires { ⌜ line .used < rowOctets ⌝ }
     ensures { λ r. ⌜ Grown line r (octet ∷ []) ⌝ }
 {
     let mut next = line;
@@ -26,14 +35,14 @@ fn push(line: Line, octet: u8) -> Line
 }
 
 fn push2(line: Line, a: u8, b: u8) -> Line
-    requires { ⌜ line .used < 39 ⌝ }
+    requires { ⌜ line .used + 2 ≤ rowOctets ⌝ }
     ensures { λ r. ⌜ Grown line r (a ∷ b ∷ []) ⌝ }
 {
     push(push(line, a), b)
 }
 
 fn push4(line: Line, a: u8, b: u8, c: u8, d: u8) -> Line
-    requires { ⌜ line .used < 37 ⌝ }
+    requires { ⌜ line .used + 4 ≤ rowOctets ⌝ }
     ensures { λ r. ⌜ Grown line r (a ∷ b ∷ c ∷ d ∷ []) ⌝ }
 {
     push2(push2(line, a, b), c, d)
@@ -46,57 +55,67 @@ fn glyph(d: u64) -> u8
     if d < 10 { 48 + d as u8 } else { 87 + d as u8 }
 }
 
-fn hex2(line: Line, n: u64) -> Line
-    requires { ⌜ line .used < 39 ⌝ }
-    ensures { λ r. ⌜ Grown line r (digits 16 2 n) ⌝ }
+// The digit of n that has i others behind it.
+fn digit(base: u64, n: u64, i: usize) -> u8
+    requires { ⌜ (1 ≤ base) × (base ≤ 16) ⌝ }
+    ensures { λ r. ⌜ r ≡ glyphOf (n / base ^ i % base) ⌝ }
 {
-    push2(line, glyph(n / 16 % 16), glyph(n % 16))
+    let mut rest = n;
+    for _ in 0..i {
+        rest /= base;
+    }
+    glyph(rest % base)
 }
 
-fn hex4(line: Line, n: u64) -> Line
-    requires { ⌜ line .used < 37 ⌝ }
-    ensures { λ r. ⌜ Grown line r (digits 16 4 n) ⌝ }
+// The last `count` digits of n.
+fn put_digits(line: Line, base: u64, count: usize, n: u64) -> Line
+    requires { ⌜ (1 ≤ base) × (base ≤ 16) × (line .used + count ≤ rowOctets) ⌝ }
+    ensures { λ r. ⌜ Grown line r (digits base count n) ⌝ }
 {
-    push4(
-        line,
-        glyph(n / 4096 % 16),
-        glyph(n / 256 % 16),
-        glyph(n / 16 % 16),
-        glyph(n % 16),
-    )
+    let mut next = line;
+    let mut left = count;
+    while 0 < left {
+        left -= 1;
+        let longer = push(next, digit(base, n, left));
+        next = longer;
+    }
+    next
+}
+
+fn digit_count(n: u64) -> usize
+    ensures { λ r. ⌜ r ≡ digitCount n ⌝ }
+{
+    let mut rest = n;
+    let mut count = 1;
+    while count < MOST_DIGITS {
+        if rest < 10 {
+            return count;
+        }
+        rest /= 10;
+        count += 1;
+    }
+    count
 }
 
 fn decimal(line: Line, n: u64) -> Line
-    requires { ⌜ line .used < 37 ⌝ }
+    requires { ⌜ line .used + length (decimalOf n) ≤ rowOctets ⌝ }
     ensures { λ r. ⌜ Grown line r (decimalOf n) ⌝ }
 {
-    let ones = glyph(n % 10);
-    if n < 10 {
-        return push(line, ones);
-    }
-    let tens = glyph(n / 10 % 10);
-    if n < 100 {
-        return push2(line, tens, ones);
-    }
-    let hundreds = glyph(n / 100 % 10);
-    if n < 1000 {
-        return push(push2(line, hundreds, tens), ones);
-    }
-    push4(line, glyph(n / 1000 % 10), hundreds, tens, ones)
+    put_digits(line, 10, digit_count(n), n)
 }
 
 // EncKey, or - for a clear record.
-fn key_octet(h: Header) -> u8
-    ensures { λ r. ⌜ r ≡ keyOctet h ⌝ }
+fn key_glyph(h: Header) -> u8
+    ensures { λ r. ⌜ r ≡ keyGlyph h ⌝ }
 {
-    if octets::bit(h.flags, 0) != 1 {
-        return b'-';
+    if enc_enabled(h.flags) {
+        return 48 + enc_key(h.flags);
     }
-    48 + octets::bit(h.flags, 1)
+    b'-'
 }
 
 fn refused(line: Line, refusal: Refusal) -> Line
-    requires { ⌜ line .used < 29 ⌝ }
+    requires { ⌜ line .used + 10 ≤ rowOctets ⌝ }
     ensures { λ r. ⌜ Grown line r (refusedText refusal) ⌝ }
 {
     let half = push4(line, b'r', b'e', b'f', b'u');
@@ -105,7 +124,7 @@ fn refused(line: Line, refusal: Refusal) -> Line
 }
 
 fn result(line: Line, verdict: RecordVerdict) -> Line
-    requires { ⌜ line .used < 29 ⌝ }
+    requires { ⌜ line .used + 10 ≤ rowOctets ⌝ }
     ensures { λ r. ⌜ Grown line r (resultText verdict) ⌝ }
 {
     match verdict {
@@ -121,26 +140,26 @@ fn row_head(line: Line, k: u64, h: Header) -> Line
     ensures { λ r. ⌜ Grown line r (rowHead k h) ⌝ }
 {
     let a = push(decimal(line, k), b' ');
-    let b = push(hex4(a, h.llid), b' ');
-    push(hex2(b, h.channel as u64), b' ')
+    let b = push(put_digits(a, 16, 4, h.llid), b' ');
+    push(put_digits(b, 16, 2, h.channel as u64), b' ')
 }
 
 // Key, EQs and result.
 fn row_tail(line: Line, h: Header, verdict: RecordVerdict) -> Line
-    requires { ⌜ line .used < 14 ⌝ }
+    requires { ⌜ line .used + 34 ≤ rowOctets ⌝ }
     ensures { λ r. ⌜ Grown line r (rowTail h verdict) ⌝ }
 {
-    let a = push2(line, key_octet(h), b' ');
+    let a = push2(line, key_glyph(h), b' ');
     let b = push(decimal(a, h.eqs), b' ');
     push(result(b, verdict), b'\n')
 }
 
 // The row of the record with number k.
 pub fn row(k: u64, h: Header, verdict: RecordVerdict) -> Line
-    ensures { λ r. ⌜ (textOf r ≡ rowOf k h verdict) × (r .used ≤ 40) ⌝ }
+    ensures { λ r. ⌜ Holds r (rowOf k h verdict) ⌝ }
 {
     let line = Line {
-        octets: [0u8; 40],
+        octets: [0u8; ROW_OCTETS],
         used: 0,
     };
     row_tail(row_head(line, k, h), h, verdict)
@@ -148,10 +167,10 @@ pub fn row(k: u64, h: Header, verdict: RecordVerdict) -> Line
 
 // The row of a call that is refused.
 pub fn refused_row(refusal: Refusal) -> Line
-    ensures { λ r. ⌜ (textOf r ≡ refusedRow refusal) × (r .used ≤ 40) ⌝ }
+    ensures { λ r. ⌜ Holds r (refusedRow refusal) ⌝ }
 {
     let line = Line {
-        octets: [0u8; 40],
+        octets: [0u8; ROW_OCTETS],
         used: 0,
     };
     push(refused(line, refusal), b'\n')

@@ -1,7 +1,10 @@
 -- `rows::refused` meets its contract: the word, then the number.
 -- Assumes nothing.
-use Rattle.rows.specs.Text.{refusedText}
-use Rattle.rows.proofs.Lines.{both-grown, grown-as}
+use Prim.Native.Nat.{_≤_}
+use native.Mathlib.Omega.{arith}
+use lib.ListN.{length}
+use Rattle.rows.specs.Text.{decimalOf, refusedText}
+use Rattle.rows.proofs.Lines.{both-grown, grown-as, number-digits}
 use borrow.Author.Needs.{needs}
 use Rattle.rows.proofs.refused.Statement.{statement}
 use Rattle.rows.proofs.refused.Tie as tie
@@ -19,7 +22,10 @@ cast-decimal : tie.Need-cast-decimal
 cast-decimal c = search needs
 
 decimal-requires : tie.Need-decimal-requires
-decimal-requires c κs = search needs
+decimal-requires c κs =
+    let r = c .before .before .before .args .refusal in
+    let e : length (decimalOf (c .number .result)) ≤ 2 = rw (c .number .ensures) (number-digits r) in
+    omega (arith, c .before .push42 .ensures .used, c .before .before .push4 .ensures .used, e)
 
 returns : tie.Need-returns
 unfolding refusedText

@@ -2,7 +2,7 @@
 -- Assumes nothing.
 use native.Mathlib.Omega.{arith}
 use Rattle.rows.specs.Text.{rowOf}
-use Rattle.rows.proofs.Lines.{both-grown, head-few, tail-few}
+use Rattle.rows.proofs.Lines.{both-grown, decimal-few, head-few, row-few}
 use borrow.Author.Needs.{needs}
 use Rattle.rows.proofs.row.Statement.{statement}
 use Rattle.rows.proofs.row.Tie as tie
@@ -11,14 +11,20 @@ row-head-requires : tie.Need-row-head-requires
 row-head-requires c κs = search needs
 
 row-tail-requires : tie.Need-row-tail-requires
-row-tail-requires c κs = omega (arith, c .row-head .ensures .used, head-few (c .before .args .k) (c .before .args .h))
+row-tail-requires c κs =
+    let a = c .before .args in
+    omega (arith, c .row-head .ensures .used, head-few (a .k) (a .h), decimal-few (a .k), decimal-few (a .h .eqs))
 
 returns : tie.Need-returns
 unfolding rowOf
 returns c =
     let a = c .before .before .args in
     let g = both-grown (c .before .row-head .ensures) (c .row-tail .ensures) in
-    (g .text, omega (arith, c .row-tail .ensures .used, c .before .row-head .ensures .used, head-few (a .k) (a .h), tail-few (a .h) (a .verdict)))
+    record {
+      octets = g .text;
+      used = omega (arith, g .used);
+      inside = omega (arith, g .used, row-few (a .k) (a .h) (a .verdict), decimal-few (a .k), decimal-few (a .h .eqs));
+    }
 
 pub row-spec : {M : Type 1} → statement M
 row-spec = tie.close (tie.spec row-head-requires row-tail-requires returns)

@@ -7,7 +7,6 @@ use native.Mathlib.Omega.{arith}
 use lib.ListN.{length}
 use lib.Seq.{length-take-le}
 use denote.Ref.{now}
-use Rattle.capture.specs.Opening.{openVerdict}
 use Rattle.capture.specs.Listing.{bodyOf, listingOf}
 use Rattle.capture.proofs.Lines.{same-behind}
 use borrow.Author.Needs.{needs}
@@ -29,7 +28,7 @@ returns c =
     let a = c .before .before .before .before .before .before .before .before .before .args in
     let q = c .put-body .ensures in
     let p = c .before .before .append .ensures in
-    let rest = bodyOf (now (a .settings)) (now (a .block)) (openVerdict (now (a .settings)) (now (a .block)) (length (now (a .block)))) in
+    let rest = bodyOf (now (a .settings)) (now (a .block)) in
     let within : c .put-body .result ≤ length (c .put-body .last .1 .1 .0) = omega (arith, q .0 .1, p .0) in (
       (within, sym (length-take-le _ _ within)),
       (q .1 .0 ∙ ap (λ (t : List ℕ). t ++ rest) (p .1 .0), q .1 .1 ∙ same-behind _ _ _ _ (q .0 .0) (p .1 .1)),

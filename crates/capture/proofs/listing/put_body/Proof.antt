@@ -6,8 +6,9 @@ use Prim.Native.Nat.{ℕ}
 use native.Mathlib.Omega.{arith}
 use lib.ListN.{length, take}
 use denote.Ref.{now}
+use Rattle.rows.proofs.Lines.{refused-row-few}
 use Rattle.capture.specs.declared.directory.Directory.the-variants.{Good}
-use Rattle.capture.specs.Listing.{bodyOf}
+use Rattle.capture.specs.Listing.{bodyAfter}
 use Rattle.capture.proofs.Records.{good}
 use Rattle.capture.proofs.Openings.{Callable, callable}
 use borrow.Author.Needs.{needs}
@@ -24,7 +25,8 @@ refused-row-requires : tie.Need-refused-row-requires
 refused-row-requires c κs = search needs
 
 put-line-requires : tie.Need-put-line-requires
-put-line-requires c κs = search needs
+put-line-requires c κs =
+    (omega (arith, c .refused-row .ensures .used, refused-row-few (c .before .before .before .refusal .given .0 .0)), omega arith)
 
 enum-told : tie.Need-enum-told
 enum-told c = search needs
@@ -45,20 +47,20 @@ same-length : tie.Need-same-length
 same-length c = search needs
 
 returns : tie.Need-returns
-unfolding bodyOf
+unfolding bodyAfter
 returns c =
     let q = c .before .before .put-line .ensures in
     let g = c .before .before .before .before .before .before .before .before .before .before .before .before in
     let e = sym (c .before .before .before .before .before .before .before .before .open-verdict .ensures) ∙ c .before .before .before .before .before .before .refusal .given .1 in (
       (q .0 .0, omega (arith, q .0 .1)),
-      (q .1 .0 ∙ rw e (ap (λ (t : List ℕ). take (g .args .at) (now (g .args .text)) ++ t) (c .before .before .before .refused-row .ensures .0)), q .1 .1),
+      (q .1 .0 ∙ rw e (ap (λ (t : List ℕ). take (g .args .at) (now (g .args .text)) ++ t) (c .before .before .before .refused-row .ensures .octets)), q .1 .1),
     )
 
 same-length-2 : tie.Need-same-length-2
 same-length-2 c = search needs
 
 returns-2 : tie.Need-returns-2
-unfolding bodyOf
+unfolding bodyAfter
 returns-2 c =
     let e = sym (c .before .before .before .before .before .before .before .open-verdict .ensures) ∙ c .before .before .before .before .before .enum-told .given .1 in
     let q = c .before .before .put-rows .ensures in

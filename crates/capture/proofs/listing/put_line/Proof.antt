@@ -4,21 +4,21 @@ use mathlib.Core.Path.{_≡_, sym}
 use native.Mathlib.Omega.{arith}
 use lib.ListN.{length}
 use lib.Seq.{length-take-le}
-use Rattle.rows.specs.Text.{textOf}
+use Rattle.rows.specs.Text.{rowOctets, textOf}
 use borrow.Author.Needs.{needs}
 use Rattle.capture.proofs.listing.put_line.Statement.{statement}
 use Rattle.capture.proofs.listing.put_line.Tie as tie
 
--- the octets of a line are forty
-forty : (c : tie.Start) → length (c .args .line .octets) ≡ 40
-forty c = search needs
+-- the octets of a line, used or not
+room : (c : tie.Start) → length (c .args .line .octets) ≡ rowOctets
+room c = search needs
 
 -- as many of them as are used
 used : (c : tie.Start) → length (textOf (c .args .line)) ≡ c .args .line .used
-used c = length-take-le (c .args .line .used) (c .args .line .octets) (omega (arith, forty c))
+used c = length-take-le (c .args .line .used) (c .args .line .octets) (omega (arith, room c))
 
 array-share-prefix-octets : tie.Need-array-share-prefix-octets
-array-share-prefix-octets c = omega (arith, forty (c .before .before .before))
+array-share-prefix-octets c = omega (arith, room (c .before .before .before))
 
 slice-aggregate-append : tie.Need-slice-aggregate-append
 slice-aggregate-append c = sym (used (c .before .before .before .before))

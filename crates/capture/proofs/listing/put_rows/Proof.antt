@@ -8,7 +8,7 @@ use native.Mathlib.Omega.{arith}
 use lib.ListN.{length, take, drop}
 use denote.Ref.{now}
 use borrow.Author.Needs.{needs}
-use Rattle.capture.specs.Listing.{rowsFrom}
+use Rattle.capture.specs.Listing.{lineOctets, rowsFrom}
 use Rattle.capture.proofs.Records.{good, placed}
 use Rattle.capture.proofs.Lines.{same-behind, one-row}
 use Rattle.capture.proofs.listing.put_rows.Statement.{statement}
@@ -16,7 +16,7 @@ use Rattle.capture.proofs.listing.put_rows.Tie as tie
 
 abbrev Inv-loop : tie.InvT-loop
 Inv-loop settings block text₀ at n end₀ i₀ text end i =
-    (i ≤ n) × (length text ≡ length text₀) × (at ≤ end) × (end ≤ at + 40 * i) × (take end text ≡ take at text₀ ++ rowsFrom settings block 0 i)
+    (i ≤ n) × (length text ≡ length text₀) × (at ≤ end) × (end ≤ at + lineOctets * i) × (take end text ≡ take at text₀ ++ rowsFrom settings block 0 i)
     × (drop end text ≡ drop end text₀)
 
 abbrev μ-loop : tie.MeasureT-loop
@@ -30,8 +30,13 @@ put-row-requires : tie.Need-put-row-requires Inv-loop μ-loop
 put-row-requires c κs =
     let g = c .before .before .before .before .before .before in
     let r = good _ _ (g .pre .1 .0) in
-    let v = c .before .before .loop .inv in
-    (g .pre .0, (placed _ _ _ r (c .before .loop-test .taken), omega (arith, r .count, r .sizes .few, v .1, v .3)))
+    let v = c .before .before .loop .inv in (
+      g .pre .0,
+      (
+        placed _ _ _ r (c .before .loop-test .taken),
+        ((r .sizes .most, omega (arith, r .count, r .sizes .few, c .before .loop-test .taken)), omega (arith, r .count, r .sizes .few, v .1, v .3)),
+      ),
+    )
 
 add-i : tie.Need-add-i Inv-loop μ-loop
 add-i c = search needs

@@ -7,6 +7,7 @@ use lib.ListN.{length}
 use borrow.Author.Needs.{needs}
 use denote.Ref.{now}
 use Rattle.octets.specs.Output.{withOutput}
+use Rattle.octets.proofs.Lists.{copied-whole}
 use Rattle.refusal.specs.declared.Verdict.the-variants.{Accepted}
 use Rattle.capture.specs.declared.directory.Directory.the-variants.{Good}
 use Rattle.capture.specs.declared.opening.OpenAnswer.the-variants.{Done}
@@ -41,16 +42,17 @@ count-requires : tie.Need-count-requires
 count-requires c κs = good _ _ (can-call (c .before) .good) .sizes .some
 
 copy-requires : tie.Need-copy-requires
-copy-requires c κs = can-call (c .before .before .before) .size
+copy-requires c κs = search needs
 
 open-records-requires : tie.Need-open-records-requires
 open-records-requires c κs =
     let x = c .before .before .before .before .before .before .before in
+    let a = x .before .before .before .before .before .before .args in
     record {
       settings = can-call x .settings;
       expanded = c .before .before .before .before .before .before .expand-keys .ensures;
       good = can-call x .good ∙ ap Good (sym (c .before .before .before .before .before .count .ensures .0));
-      copied = c .before .before .before .copy .ensures;
+      copied = c .before .before .before .copy .ensures ∙ copied-whole (now (a .block)) (now (a .output)) (can-call x .size);
     }
 
 returns : tie.Need-returns

@@ -11,7 +11,7 @@ use Rattle.records.specs.declared.header.Header.{Header}
 use Rattle.records.specs.declared.header.RecordVerdict.the-variants.{Sealed}
 use Rattle.records.specs.Settings.{presenceOf, llidOf}
 use Rattle.records.specs.Record.{recordHeader}
-use Rattle.records.specs.Verdict.{encKey, headerFits, verdictFor, verdictOf}
+use Rattle.records.specs.Verdict.{headerFits, verdictFor, verdictOf}
 use Rattle.capture.specs.Directory.{recordOf}
 use Rattle.records.proofs.Verdicts.{Openable, openable}
 use Rattle.capture.proofs.Openings.{clear-record, refused-record, record-kept, opened-count, opened-by, key-expanded, nonce-fits}
@@ -56,9 +56,11 @@ sealed-is : (c : tie.After-index)
 sealed-is c = sym (verdict-is (c .before .before)) ∙ c .index .given .1
 
 is-openable : (c : tie.After-index)
-    → Openable (presenceOf (now (start c .args .settings))) (llidOf (now (start c .args .settings))) (recordHeader (recordOf (now (start c .args .block)) (start c .args .i))) (c .index .given .0 .0) (c .index .given .0 .1 .0)
+    → let s = now (start c .args .settings) in
+    let h = recordHeader (recordOf (now (start c .args .block)) (start c .args .i)) in
+    Openable (presenceOf s) (llidOf s) (h .clock) h (c .index .given .0 .0) (c .index .given .0 .1 .0)
 unfolding verdictFor
-is-openable c = openable _ _ _ _ _ (sealed-is c)
+is-openable c = openable _ _ _ _ _ _ (sealed-is c)
 
 open-part-requires : tie.Need-open-part-requires
 open-part-requires c κs =
@@ -90,7 +92,6 @@ same-length : tie.Need-same-length
 same-length c = search needs
 
 returns-3 : tie.Need-returns-3
-unfolding encKey
 returns-3 c =
     let q = c .before .before in
     let x = c .before .before .before .before .before .before .before .before in

@@ -5,6 +5,7 @@ use native.Mathlib.Omega.{arith}
 use lib.ListN.{length}
 use borrow.Author.Needs.{needs}
 use denote.Ref.{now}
+use Rattle.records.specs.Settings.{settingsOctets}
 use Rattle.capture.specs.Verdict.{verdictAsked}
 use Rattle.capture.proofs.Records.{Asked, asked-for, placed}
 use Rattle.records.proofs.Verdicts.{settings-octets}
@@ -33,7 +34,7 @@ enum-known-refusal-2 c = search needs
 enum-told-2 : tie.Need-enum-told-2
 enum-told-2 c = search needs
 
-right-settings : (c : tie.After-enum-told) → length (now (c .before .before .before .before .before .args .settings)) ≡ 41
+right-settings : (c : tie.After-enum-told) → length (now (c .before .before .before .before .before .args .settings)) ≡ settingsOctets
 right-settings c = settings-octets _ (sym (c .before .before .settings-verdict .ensures) ∙ c .enum-told .given .1)
 
 is-asked : (c : tie.After-enum-told2)

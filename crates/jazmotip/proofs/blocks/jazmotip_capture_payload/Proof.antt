@@ -4,7 +4,7 @@ use mathlib.Core.Path.{_≡_, _∙_}
 use denote.Ref.{now}
 use Rattle.capture.specs.Payload.{payloadBounds}
 use Rattle.jazmotip.specs.Blocks.{blockPart}
-use Rattle.jazmotip.proofs.Parts.{part-named}
+use Rattle.capture.proofs.Records.{part-named}
 use borrow.Author.Needs.{needs}
 use Rattle.jazmotip.proofs.blocks.jazmotip_capture_payload.Statement.{statement}
 use Rattle.jazmotip.proofs.blocks.jazmotip_capture_payload.Tie as tie
@@ -19,7 +19,8 @@ returns : tie.Need-returns
 returns c =
     let a = c .before .before .before .args in
     let e : c .part-in-numbers .result ≡ blockPart (payloadBounds (now (a .block)) (a .k)) = c .part-in-numbers .ensures ∙ rw (c .before .locate .ensures) in
-    (e, rw e (part-named (now (a .block)) (a .k)))
+    let n = part-named (now (a .block)) (a .k) in
+    (e, (rw e (n .0), rw e (n .1)))
 
 pub jazmotip-capture-payload-spec : {M : Type 1} → statement M
 jazmotip-capture-payload-spec =

@@ -1,35 +1,37 @@
 -- `records::header::record_verdict` meets its contract: the tests of `recordVerdict`, one after the other.
 -- Assumes nothing.
-use mathlib.Core.Path.{sym, _∙_}
+use mathlib.Core.Path.{_≡_, sym, _∙_}
+use mathlib.Core.Bool.{true}
 use borrow.Author.Needs.{needs}
 use borrow.Author.Tests.{not-true, not-false}
-use Rattle.records.proofs.Verdicts.{malformed, other-llid, own-llid}
+use Rattle.records.specs.Verdict.{headerFits}
+use Rattle.records.proofs.Verdicts.{malformed, other-llid, other-epam, by-key}
 use Rattle.records.proofs.header.record_verdict.Statement.{statement}
 use Rattle.records.proofs.header.record_verdict.Tie as tie
 
-is-well-formed-requires : tie.Need-is-well-formed-requires
-is-well-formed-requires c κs = search needs
-
 returns : tie.Need-returns
-returns c = malformed _ _ _ (sym (c .before .is-well-formed .ensures) ∙ not-true _ (c .if1 .taken))
+returns c = malformed _ _ _ _ (sym (c .before .is-well-formed .ensures) ∙ not-true _ (c .if1 .taken))
+
+-- the header is of its values
+formed : (c : tie.Else1) → headerFits (c .before .before .args .h) ≡ true
+formed c = sym (c .before .is-well-formed .ensures) ∙ not-false _ (c .if1 .left)
 
 returns-2 : tie.Need-returns-2
-returns-2 c =
-    other-llid _ _ _ (sym (c .before .before .before .is-well-formed .ensures) ∙ not-false _ (c .before .before .if1 .left)) (c .if2 .taken)
-
-check-epam-requires : tie.Need-check-epam-requires
-check-epam-requires c κs = search needs
-
-key-verdict-requires : tie.Need-key-verdict-requires
-key-verdict-requires c κs = search needs
+returns-2 c = other-llid _ _ _ _ (formed (c .before .before)) (c .if2 .taken)
 
 returns-3 : tie.Need-returns-3
 returns-3 c =
+    let at-llid = c .before .before .before in
+    other-epam _ _ _ _ (formed (at-llid .before .before)) (at-llid .if2 .left) (λ e. c .if3 .taken (e ∙ sym (c .before .before .epam-of .ensures)))
+
+returns-4 : tie.Need-returns-4
+returns-4 c =
+    let at-epam = c .before in
+    let at-llid = at-epam .before .before .before in
     c .key-verdict .ensures
-    ∙ rw (c .before .check-epam .ensures)
-    (own-llid _ _ _ (sym (c .before .before .before .before .before .is-well-formed .ensures) ∙ not-false _ (c .before .before .before .before .if1 .left)) (c .before .before .if2 .left))
+    ∙ by-key _ _ _ _ (formed (at-llid .before .before)) (at-llid .if2 .left) (at-epam .if3 .left ∙ at-epam .before .before .epam-of .ensures)
 
 pub record-verdict-spec : {M : Type 1} → statement M
 record-verdict-spec =
     tie.close
-    (tie.spec is-well-formed-requires returns returns-2 check-epam-requires key-verdict-requires returns-3)
+    (tie.spec (λ c κs. search needs) returns returns-2 (λ c κs. search needs) returns-3 (λ c κs. search needs) returns-4)

@@ -72,4 +72,5 @@ arrive-up-right w s u k out i d =
     (arrive-up-receives w sh now (laneAt s u) (unitAt (s .olt) place) (onuAt s u) (i .shared) j k noEnvelope e (d .some) refl (d .now)) in
     let own : Held s (l .at) u = record { known = held .known; registered = held .registered; place = at-once _ _ (sym found ∙ l .found) } in
     arrived-right w s u k out e i (x .fits out (d .buffer)) l own
-    (arrive-up w sh now (laneAt s u) (unitAt (s .olt) (l .at)) (onuAt s u) (i .shared) (joined-at w s (l .at) u i own .1) k noEnvelope e (d .some) refl (d .now))
+    (arrive-up w sh now (laneAt s u) (unitAt (s .olt) (l .at)) (onuAt s u) (i .shared) (joined-at w s (l .at) u i own .1) k noEnvelope e
+    (d .some) refl (d .now))

@@ -15,16 +15,15 @@ use Rattle.clock.proofs.Ticks.{clocks-differ}
 use Rattle.envelope.specs.CounterBlock.{counterBlock}
 use Rattle.envelope.proofs.CounterBlock.{counter-block-injective}
 use Rattle.ends.specs.Identities.{validMac, validIdentity}
-use Rattle.ends.specs.Table.{unitAt}
 use Rattle.ends.specs.declared.Onu.{Onu}
 use Rattle.ends.specs.declared.Shared.{Shared}
 use Rattle.ends.specs.declared.UnitRecord.{UnitRecord}
 use Rattle.ends.proofs.Occupancy.{downstream-below, upstream-between}
 use Rattle.ends.proofs.Validity.{shared-in-range, olt-in-range, onu-in-range}
 use Rattle.line.specs.Setting.{Site, Setting}
-use Rattle.line.specs.History.{Way, downward, upward, Envelope, Lane, keyOf}
+use Rattle.line.specs.History.{Way, downward, upward, Envelope, Lane}
 use Rattle.line.specs.Run.{State, laneAt, onuAt, sentAt, noEnvelope}
-use Rattle.line.specs.Claim.{senderMac, senderClock, nonceFor, Holds, ArrivedNumbered, Claim}
+use Rattle.line.specs.Claim.{senderMac, senderClock, nonceFor, indexTurn, BlocksApart, LastKeyHeld, Claim}
 use Rattle.line.proofs.Invariant.{Joined, Common, Invariant}
 use Rattle.line.proofs.Alive.{Alive, sent-alive, arrived-alive}
 use Rattle.line.proofs.Past.{sent-most}
@@ -84,18 +83,22 @@ later-differs w sh now l u o jn i j before below sealed number channel clock =
           clocks-differ (w .first + l .site .up) (first .left) (first .left) (second .left) (omega arith) (t .0) (t .1)
           (ap (λ (x : ℕ). x % clockTurn) (omega arith) ∙ e ∙ ap (λ (x : ℕ). x % clockTurn) (omega arith))
       by downward upward p q e =
-          absurd (omega (arith, channel, downstream-below (first .channel) (jn .spending .downs first at-i p .0), upstream-between (second .channel) (jn .spending .ups second at-j q .0) .0))
+          let low = downstream-below (first .channel) (jn .spending .downs first at-i p .0) in
+          let high = upstream-between (second .channel) (jn .spending .ups second at-j q .0) in
+          absurd (omega (arith, channel, low, high .0))
       by upward downward p q e =
-          absurd (omega (arith, channel, downstream-below (second .channel) (jn .spending .downs second at-j q .0), upstream-between (first .channel) (jn .spending .ups first at-i p .0) .0))
+          let high = upstream-between (first .channel) (jn .spending .ups first at-i p .0) in
+          let low = downstream-below (second .channel) (jn .spending .downs second at-j q .0) in
+          absurd (omega (arith, channel, low, high .0))
 
 one-send : (w : Setting) (sh : Shared) (now : ℕ) (l : Lane) (u : UnitRecord) (o : Onu) → Joined w sh now l u o
     → w .mac < 2 ^ 48 → l .site .identity .mac < 2 ^ 48 → (i j a b : ℕ) → i < length (l .past .sent)
     → j < length (l .past .sent) → 1 ≤ getD (l .past .sent) i noEnvelope .number
-    → getD (l .past .sent) i noEnvelope .number ≡ getD (l .past .sent) j noEnvelope .number → a < 2 ^ 24 → b < 2 ^ 24
+    → getD (l .past .sent) i noEnvelope .number ≡ getD (l .past .sent) j noEnvelope .number → a < indexTurn → b < indexTurn
     → counterBlock (nonceFor w (l .site) (getD (l .past .sent) i noEnvelope)) a
     ≡ counterBlock (nonceFor w (l .site) (getD (l .past .sent) j noEnvelope)) b
-    → i ≡ j
-one-send w sh now l u o jn olt onu i j a b hi hj sealed number ha hb e = by (ltb i j) (ltb j i) refl refl where
+    → (i ≡ j) × (a ≡ b)
+one-send w sh now l u o jn olt onu i j a b hi hj sealed number ha hb e = (by (ltb i j) (ltb j i) refl refl, fields .3) where
   first : Envelope
   first = getD (l .past .sent) i noEnvelope
 
@@ -126,12 +129,8 @@ offer-below w s u i v h sealed =
     let most = sent-most (laneAt s u) (s .olt .shared .channels) _ (onuAt s u) (v .joined .spending) (n .mid) (sentAt s u i) (mem-at _ i noEnvelope h) in
     omega (arith, sealed, most, n .high, n .top, n .listed)
 
-blocks-differ : (w : Setting) (s : State) → Invariant w s → (u v i j a b : ℕ) → i < length (laneAt s u .past .sent)
-    → j < length (laneAt s v .past .sent) → 1 ≤ sentAt s u i .number → 1 ≤ sentAt s v j .number
-    → keyOf (laneAt s u .keys) (sentAt s u i .number) ≡ keyOf (laneAt s v .keys) (sentAt s v j .number) → a < 2 ^ 24 → b < 2 ^ 24
-    → counterBlock (nonceFor w (laneAt s u .site) (sentAt s u i)) a ≡ counterBlock (nonceFor w (laneAt s v .site) (sentAt s v j)) b
-    → (u ≡ v) × (i ≡ j)
-blocks-differ w s inv u v i j a b hi hj pi pj key ha hb e =
+blocks-apart : (w : Setting) (s : State) → Invariant w s → BlocksApart w s
+blocks-apart w s inv u v i j a b hi hj pi pj key ha hb e =
     let x = sent-alive w s u inv (sentAt s u i) (mem-at _ i noEnvelope hi) in
     let y = sent-alive w s v inv (sentAt s v j) (mem-at _ j noEnvelope hj) in
     let q = inv .keys u v (sentAt s u i .number - 1) (sentAt s v j .number - 1) (offer-below w s u i x hi pi) (offer-below w s v j y hj pj) key in
@@ -139,7 +138,7 @@ blocks-differ w s inv u v i j a b hi hj pi pj key ha hb e =
       q .0,
       subst
           (λ (z : ℕ). j < length (laneAt s z .past .sent) → sentAt s u i .number ≡ sentAt s z j .number
-          → counterBlock (nonceFor w (laneAt s u .site) (sentAt s u i)) a ≡ counterBlock (nonceFor w (laneAt s z .site) (sentAt s z j)) b → i ≡ j)
+          → counterBlock (nonceFor w (laneAt s u .site) (sentAt s u i)) a ≡ counterBlock (nonceFor w (laneAt s z .site) (sentAt s z j)) b → (i ≡ j) × (a ≡ b))
           (q .0)
           (λ k n f. one-send w (s .olt .shared) (s .history .now) (laneAt s u) _ (onuAt s u) (x .joined) (olt-mac-below w s inv)
           (onu-mac-below w (s .history .now) (laneAt s u) (onuAt s u) (inv .lane u (x .known) .common)) i j a b hi k pi n ha hb f)
@@ -148,14 +147,13 @@ blocks-differ w s inv u v i j a b hi hj pi pj key ha hb e =
 
 ---- (3) the last key
 
-both-hold : (w : Setting) (s : State) → Invariant w s → (u n : ℕ) → 1 ≤ n → laneAt s u .keys .switches ≡ n
-    → ArrivedNumbered (laneAt s u) downward n → ArrivedNumbered (laneAt s u) upward n
-    → Holds (laneAt s u) n (unitAt (s .olt) (laneAt s u .entry .place)) (onuAt s u)
+both-hold : (w : Setting) (s : State) → Invariant w s → LastKeyHeld s
 both-hold w s inv u n some switches down up =
     let jn = arrived-alive w s u inv (up .arrival) (up .among) .joined in
     let m = jn .numbers in
     let least = jn .passing .up (up .arrival) (up .among) (up .thatWay) in
     record {
+      llids = jn .llids;
       active = m .counted ∙ switches;
       confirmed = omega (arith, switches, least, up .numbered, m .low, m .mid, m .counted);
       unit = omega (arith, switches, least, up .numbered, m .low, m .mid, m .counted);
@@ -170,7 +168,7 @@ claim-holds w s inv =
     record {
       sent = λ u e m. sent-alive w s u inv e m .joined .passing .sent e m;
       arrived = λ u r m. arrived-alive w s u inv r m .joined .passing .arrived r m;
-      blocks = blocks-differ w s inv;
+      blocks = blocks-apart w s inv;
       held = both-hold w s inv;
       overheard = overheard-refused w s inv;
     }

@@ -3,23 +3,22 @@
 use mathlib.Core.Path.{_≡_, refl, sym, _∙_, ap, ap₂}
 use mathlib.Core.Bool.{Bool, true, false}
 use mathlib.Core.List.{List, List·Memᴰ}
-use Prim.Native.Nat.{ℕ, _≤_}
+use Prim.Native.Nat.{ℕ}
 use native.Mathlib.Omega.{arith}
-use lib.Dec.{leb}
 use lib.ListN.{length}
 use borrow.Author.Tests.{leb-true, eq-eqb, not-false}
 use Rattle.octets.specs.Choice.{pick}
 use Rattle.octets.proofs.Choice.{both-left, both-right, both-true, not-of-true}
 use Rattle.envelope.specs.Acceptance.{lengthsFit}
-use Rattle.envelope.specs.declared.Nonce.{Nonce}
 use Rattle.sealing.specs.KeyExpansion.{keyExpansion}
 use Rattle.sealing.specs.Seal.{carried, countCarried}
 use Rattle.sealing.proofs.Seal.{carried-length, carried-twice, count-carried}
 use Rattle.ends.specs.declared.Passage.{Passage}
-use Rattle.traffic.specs.Passages.{misfit, choiceEnciphered, passageNonce, passed, passedCount}
+use Rattle.ends.specs.declared.Sending.{Sending}
+use Rattle.traffic.specs.Passages.{misfit, passed, passedCount}
 use Rattle.line.specs.Setting.{Setting}
-use Rattle.line.specs.History.{downward, upward, Envelope, Lane, keyOf, Arrival}
-use Rattle.line.specs.Claim.{SentRight, nonceFor, isSealed, ArrivedRight}
+use Rattle.line.specs.History.{Way, downward, upward, Envelope, Lane, keyOf, Arrival}
+use Rattle.line.specs.Claim.{nonceFor, isSealed, PassageRight, SentRight, ArrivedRight}
 
 -- an envelope goes one way
 pub ways-apart : {P : Type 0} → downward ≡ upward → P
@@ -27,19 +26,34 @@ ways-apart e = let z : _≡_ {A = ℕ} 0 1 = cc in absurd (omega arith)
 
 ---- what is carried
 
--- under the key and counter block of number n, clear for 0
-pub passed-as : (channel : ℕ) (q : Passage) (n : ℕ) (key : List ℕ) (nonce : Nonce) (p : List ℕ) → choiceEnciphered (q .choice) ≡ leb 1 n
-    → (1 ≤ n → q .key ≡ key) → (1 ≤ n → passageNonce channel q ≡ nonce)
-    → passed channel q p ≡ carried (leb 1 n) (keyExpansion key) nonce p
-unfolding passed carried pick
-passed-as channel q n key nonce p s k c = by-number (leb 1 n) refl where
-  by-number : (t : Bool) → leb 1 n ≡ t → passed channel q p ≡ carried t (keyExpansion key) nonce p
-  by-number true e = let h = leb-true 1 n e in rw (s ∙ e, k h, c h)
-  by-number false e = rw (s ∙ e)
+-- the envelope of an accepted send that handed over s, under that number
+abbrev pub envelopeOf : Way → ℕ → ℕ → ℕ → List ℕ → Sending → ℕ → Envelope
+envelopeOf way now llid channel p s number =
+    record {
+      way = way;
+      left = now;
+      llid = llid;
+      channel = channel;
+      payload = p;
+      header = s .header;
+      octets = passed channel (s .passage) p;
+      count = passedCount (s .passage) p;
+      passage = s .passage;
+      number = number;
+    }
 
-pub count-as : (q : Passage) (n : ℕ) (p : List ℕ) → choiceEnciphered (q .choice) ≡ leb 1 n → passedCount q p ≡ countCarried (leb 1 n) p
-unfolding passedCount
-count-as q n p s = rw s
+module _ (w : Setting) (l : Lane) (e : Envelope) (channel : ℕ) (q : Passage) (r : PassageRight w l e channel q) (p : List ℕ) where
+  -- under the key and counter block of its number, clear for 0
+  pub passed-right : passed channel q p ≡ carried (isSealed e) (keyExpansion (keyOf (l .keys) (e .number))) (nonceFor w (l .site) e) p
+  unfolding passed carried pick
+  passed-right = by-number (isSealed e) refl where
+    by-number : (t : Bool) → isSealed e ≡ t → passed channel q p ≡ carried t (keyExpansion (keyOf (l .keys) (e .number))) (nonceFor w (l .site) e) p
+    by-number true s = let h = leb-true 1 (e .number) s in rw (r .enciphered ∙ s, r .key (omega arith), r .nonce (omega arith))
+    by-number false s = rw (r .enciphered ∙ s)
+
+  pub count-right : passedCount q p ≡ countCarried (isSealed e) p
+  unfolding passedCount
+  count-right = rw (r .enciphered)
 
 ---- lengths
 
@@ -71,26 +85,19 @@ arrivalOf e q =
     }
 
 -- opened with the key and counter block of its number
-pub record Opens (w : Setting) (l : Lane) (e : Envelope) (q : Passage) : Type 0 where
-  pub enciphered : choiceEnciphered (q .choice) ≡ isSealed e
-  pub key : 1 ≤ e .number → q .key ≡ keyOf (l .keys) (e .number)
-  pub nonce : 1 ≤ e .number → passageNonce (e .header .channel) q ≡ nonceFor w (l .site) e
-
-pub opens-right : (w : Setting) (l : Lane) (e : Envelope) (q : Passage) → List·Memᴰ e (l .past .sent) → SentRight w l e → Opens w l e q
-    → ArrivedRight w l (arrivalOf e q)
+pub opens-right : (w : Setting) (l : Lane) (e : Envelope) (q : Passage) → List·Memᴰ e (l .past .sent) → SentRight w l e
+    → PassageRight w l e (e .header .channel) q → ArrivedRight w l (arrivalOf e q)
 opens-right w l e q m r h =
     record {
       sent = m;
       accepted = refl;
-      enciphered = h .enciphered;
-      key = h .key;
-      nonce = h .nonce;
+      passage = h;
       payload =
-          passed-as (e .header .channel) q (e .number) (keyOf (l .keys) (e .number)) (nonceFor w (l .site) e) (e .octets) (h .enciphered) (h .key) (h .nonce)
+          passed-right w l e (e .header .channel) q h (e .octets)
           ∙ ap (carried (isSealed e) (keyExpansion (keyOf (l .keys) (e .number))) (nonceFor w (l .site) e)) (r .octets)
           ∙ carried-twice (isSealed e) (keyExpansion (keyOf (l .keys) (e .number))) (nonceFor w (l .site) e) (e .payload);
       count =
-          count-as q (e .number) (e .octets) (h .enciphered)
+          count-right w l e (e .header .channel) q h (e .octets)
           ∙ ap (countCarried (isSealed e)) (r .octets)
           ∙ count-carried (isSealed e) (keyExpansion (keyOf (l .keys) (e .number))) (nonceFor w (l .site) e) (e .payload)
           ∙ sym (r .count);

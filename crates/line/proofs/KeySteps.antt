@@ -71,11 +71,18 @@ module _ (w : Setting) (sh : Shared) (now : ℕ) (l : Lane) (u : UnitRecord) (o 
       let n = j .numbers in
       let a = offer-accepted u key accepted in
       let keys : Keys =
-      record { offers = l .keys .offers ++ (key ∷ []); acknowledged = false; switches = l .keys .switches; switched = l .keys .switched; number = l .keys .number } in
+      record {
+        offers = l .keys .offers ++ (key ∷ []);
+        acknowledged = false;
+        switches = l .keys .switches;
+        switched = l .keys .switched;
+        number = l .keys .number;
+      } in
       let after = laneLeaving (keyMessage (offerUnit llid key sh u .handed) now) (laneOffered key l) in
       let old : (m : ℕ) → 1 ≤ m → m ≤ u .keys .offered → keyOf (l .keys) m ≡ keyOf keys m =
       λ m h g. keys-before (l .keys .offers) key m h (omega arith) in
-      let stored : (m : ℕ) → 1 ≤ m → u .keys .active ≤ m → m ≤ u .keys .active + 1 → keyIn (withKey (u .keys .slots) (u .keys .active + 1) key) m ≡ keyOf keys m =
+      let stored : (m : ℕ) → 1 ≤ m → u .keys .active ≤ m → m ≤ u .keys .active + 1
+      → keyIn (withKey (u .keys .slots) (u .keys .active + 1) key) m ≡ keyOf keys m =
       next-stored (u .keys .slots) (u .keys .active) key (keyOf keys) (sym (key-last (l .keys .offers) key (u .keys .active) (omega arith)))
       (λ h. j .stored .olt (u .keys .active) h (omega arith) (omega arith) ∙ old (u .keys .active) h (omega arith)) in
       let knows : Knows l after (u .keys .offered) = record { site = refl; sent = λ e m. m; keys = old } in
@@ -194,7 +201,9 @@ module _ (w : Setting) (sh : Shared) (now : ℕ) (l : Lane) (u : UnitRecord) (o 
     pub next-key : Joined w sh now l u o → k < length (l .transit .towards) → getD (l .transit .towards) k x ≡ keyMessage m t → NextKey
     next-key j h e =
         let n = j .numbers in
-        let r = towards-taken (w .first) l (o .keys .active) (u .keys .active) (u .keys .offered) (l .transit .towards) k x (keyMessage m t) h e (j .towards) .0 in
+        let taken =
+        towards-taken (w .first) l (o .keys .active) (u .keys .active) (u .keys .offered) (l .transit .towards) k x (keyMessage m t) h e (j .towards) in
+        let r = taken .0 in
         record { number = omega (arith, r .above, r .most); offered = r .most; key = r .key; named = r .named }
 
     -- a key message that fits leaves key a + 1 held

@@ -180,7 +180,8 @@ refused-number : (v : Verdict) → (v ≡ Accepted → ⊥) → eqb (verdictNumb
 refused-number v n = ne-eqb (verdictNumber v) 0 (λ e. n (number-accepted v e))
 
 -- what a call on a unit makes of the lane of that unit
-pub record Tells {H : Type 0} (w : Setting) (s : State) (nothing : H) (ahead : Verdict) (llid : ℕ) (call : Shared → UnitRecord → Outcome H) (f : Lane → Lane) : Type 0 where
+pub record Tells {H : Type 0} (w : Setting) (s : State) (nothing : H) (ahead : Verdict) (llid : ℕ) (call : Shared → UnitRecord → Outcome H)
+    (f : Lane → Lane) : Type 0 where
   pub valid : validOlt (lift (s .olt) nothing ahead llid call .end) ≡ true
   pub rises : (u : UnitRecord) → call (s .olt .shared) u .verdict ≡ Accepted → (k : ℕ)
       → freeFrom (s .olt .shared .channels) k ≤ freeFrom (call (s .olt .shared) u .channels) k

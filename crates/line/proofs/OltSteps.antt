@@ -32,9 +32,9 @@ use Rattle.traffic.specs.Receipts.{oltReceived, oltReceiveOf}
 use Rattle.traffic.specs.Sends.{oltSent, oltSendOf}
 use Rattle.traffic.proofs.Passages.{few-eqs}
 use Rattle.line.specs.Setting.{Setting}
-use Rattle.line.specs.History.{downward, Envelope, clockMessage, keyMessage, Lane, numberDown, laneWith, laneCaptured, laneLeaving, laneAcknowledged, laneSentDown}
+use Rattle.line.specs.History.{Envelope, clockMessage, keyMessage, Lane, numberDown, laneWith, laneCaptured, laneLeaving, laneAcknowledged, laneSentDown}
 use Rattle.line.specs.Events.{capture, clockSend, retry, sendDown, arriveAnswer, strayAnswer, strayUp}
-use Rattle.line.specs.Run.{State, laneAt, onuAt, answerAt, freshLane, clockSending, retrying, envelopeOf, sendingDown, answering, oltAfter, step}
+use Rattle.line.specs.Run.{State, laneAt, onuAt, answerAt, freshLane, clockSending, retrying, envelopeDown, sendingDown, answering, oltAfter, step}
 use Rattle.line.specs.Premises.{Fits}
 use Rattle.line.proofs.Invariant.{Joined, Invariant}
 use Rattle.line.proofs.ClockSteps.{capture-keeps, clock-send-keeps}
@@ -128,9 +128,8 @@ send-down-right w s llid channel p out i fits =
     let sh = s .olt .shared in
     let now = s .history .now in
     let call = sendUnit llid channel (eqsOf p) in
-    let r = oltSendOf (s .olt) llid channel p out in
     let f : Lane → Lane =
-    λ l. laneSentDown now (envelopeOf downward now llid channel p (r .answer .header) (r .output) (r .answer .count) (numberDown l now)) l in
+    λ l. laneSentDown now (envelopeDown now (s .olt) llid channel p out (numberDown l now)) l in
     call-right w s noSending (sendAhead (misfit p out) channel) llid call f i
     (record {
       valid = sending-valid (s .olt) (misfit p out) llid channel (eqsOf p) (few-eqs p out) (i .valid);
@@ -141,7 +140,7 @@ send-down-right w s llid channel p out i fits =
           let x = unitAt (s .olt) (l .at) in
           let met = refuse-accepted _ _ _ (l .passed) in
           subst (λ (y : Envelope). Joined w (withChannels sh (call sh x .channels)) now (laneSentDown now y (laneAt s u)) (call sh x .unit) (onuAt s u))
-          (sym (envelope-down-is (s .olt) (laneAt s u) now llid channel p out (call sh x .handed) (l .verdict) (l .handed)))
+          (sym (envelope-down-is (s .olt) now llid channel p out (numberDown (laneAt s u) now) (call sh x .handed) (l .verdict) (l .handed)))
           (send-down-keeps w sh now (laneAt s u) x (onuAt s u) llid channel (eqsOf p) p out (i .shared) j
           (unit-at-valid (s .olt) llid (l .at) (i .valid) (find-at (s .olt) llid (l .at) (l .found)))
           e (not-false _ (refuse-accepted _ _ _ (met .1) .0)) (met .0) (l .accepts));
@@ -155,7 +154,8 @@ pub stray-answer-right : (w : Setting) (s : State) (llid : ℕ) (a : Acknowledge
 unfolding step oltAfter
 stray-answer-right w s llid a i n = rw (acknowledge-refused (s .olt) llid a n) i
 
-pub stray-up-right : (w : Setting) (s : State) (h : Header) (p out : List ℕ) → Invariant w s → Fits w s (strayUp h p out) → Invariant w (step s (strayUp h p out))
+pub stray-up-right : (w : Setting) (s : State) (h : Header) (p out : List ℕ) → Invariant w s → Fits w s (strayUp h p out)
+    → Invariant w (step s (strayUp h p out))
 unfolding step oltAfter oltReceiveOf oltReceived
 stray-up-right w s h p out i n =
     rw (number-refused (s .olt) noPassage (receivingOlt (s .olt) (misfit p out) h) (receiving-untouched (s .olt) (misfit p out) h) n .end) i

@@ -206,21 +206,21 @@ module _ (w : Setting) (s : State) (u k : ℕ) (out : List ℕ) (v : Invariant w
   thing-right (clockMessage m c t) e due b =
       let r = place in
       let arrives =
-      clock-arrives w (s .olt .shared) (s .history .now) (laneAt s u) (unitAt (s .olt) (laneAt s u .entry .place)) (onuAt s u) k (envelope noEnvelope) m c t (r .common) (r .joined)
-      (d .some) e due in
+      clock-arrives w (s .olt .shared) (s .history .now) (laneAt s u) (unitAt (s .olt) (laneAt s u .entry .place)) (onuAt s u) k (envelope noEnvelope)
+      m c t (r .common) (r .joined) (d .some) e due in
       message-right (clockMessageAt (onuAt s u) m) (common-clock-keeps w (s .history .now) (laneAt s u) (onuAt s u) m (r .common)) (arrives .0) (arrives .1)
   thing-right (keyMessage m t) e due b =
       let r = place in
       let arrives =
-      key-arrives w (s .olt .shared) (s .history .now) (laneAt s u) (unitAt (s .olt) (laneAt s u .entry .place)) (onuAt s u) k (envelope noEnvelope) m t (r .common) (r .joined)
-      (d .some) e in
+      key-arrives w (s .olt .shared) (s .history .now) (laneAt s u) (unitAt (s .olt) (laneAt s u .entry .place)) (onuAt s u) k (envelope noEnvelope)
+      m t (r .common) (r .joined) (d .some) e in
       message-right (keyMessageAt (onuAt s u) m) (key-common w (s .history .now) (laneAt s u) (onuAt s u) m (r .common)) (arrives .0) (arrives .1)
   thing-right (envelope x) e due b =
       let r = place in
       alive-right w s u v _ (λ l. laneArrivedDown (receiptDown s u x out) (laneTaken k l)) r refl refl
       (receive-common w (s .history .now) (laneAt s u) _ (onuAt s u) (x .header) (x .octets) out refl (r .common))
-      (arrive-down w (s .olt .shared) (s .history .now) (laneAt s u) (unitAt (s .olt) (laneAt s u .entry .place)) (onuAt s u) (r .common) (r .joined) k (envelope noEnvelope) x out
-      (d .some) e due b)
+      (arrive-down w (s .olt .shared) (s .history .now) (laneAt s u) (unitAt (s .olt) (laneAt s u .entry .place)) (onuAt s u) (r .common) (r .joined)
+      k (envelope noEnvelope) x out (d .some) e due b)
 
 pub arrive-down-right : (w : Setting) (s : State) (u k : ℕ) (out : List ℕ) → Invariant w s → Fits w s (arriveDown u k out)
     → Invariant w (step s (arriveDown u k out))

@@ -15,10 +15,11 @@ use Rattle.sealing.specs.Seal.{carried}
 use Rattle.ends.specs.Identities.{has}
 use Rattle.ends.specs.declared.Channels.{Channels}
 use Rattle.ends.specs.declared.Onu.{Onu}
+use Rattle.ends.specs.declared.Passage.{Passage}
 use Rattle.ends.specs.declared.UnitRecord.{UnitRecord}
 use Rattle.line.specs.Setting.{Site, Setting}
 use Rattle.line.specs.History.{Way, downward, upward, Envelope, Arrival, Past, Lane, keyOf}
-use Rattle.line.specs.Claim.{SentRight, ArrivedRight, isSealed, nonceFor}
+use Rattle.line.specs.Claim.{nonceFor, isSealed, PassageRight, SentRight, ArrivedRight}
 use Rattle.line.proofs.Invariant.{Spending, Passing}
 use Rattle.line.proofs.Queues.{Knows}
 
@@ -29,9 +30,18 @@ carried-same true k k' n p h = ap (λ (x : List ℕ). carried true (keyExpansion
 carried-same false k k' n p h = refl
 
 module _ (w : Setting) (l l' : Lane) (top : ℕ) (k : Knows l l' top) where
+  passage-carried : (e : Envelope) (channel : ℕ) (q : Passage) → e .number ≤ top → PassageRight w l e channel q → PassageRight w l' e channel q
+  passage-carried e channel q h r =
+      record {
+        enciphered = r .enciphered;
+        key = λ p. r .key p ∙ k .keys (e .number) p h;
+        nonce = λ p. r .nonce p ∙ ap (λ (s : Site). nonceFor w s e) (k .site);
+      }
+
   pub sent-carried : (e : Envelope) → e .number ≤ top → SentRight w l e → SentRight w l' e
   sent-carried e h r =
       record {
+        passage = passage-carried e (e .channel) (e .passage) h (r .passage);
         header = rw (k .site) at (r .header);
         octets =
             r .octets
@@ -45,9 +55,7 @@ module _ (w : Setting) (l l' : Lane) (top : ℕ) (k : Knows l l' top) where
       record {
         sent = k .sent (r .envelope) (a .sent);
         accepted = a .accepted;
-        enciphered = a .enciphered;
-        key = λ p. a .key p ∙ k .keys (r .envelope .number) p h;
-        nonce = λ p. a .nonce p ∙ ap (λ (s : Site). nonceFor w s (r .envelope)) (k .site);
+        passage = passage-carried (r .envelope) (r .envelope .header .channel) (r .passage) h (a .passage);
         payload = a .payload;
         count = a .count;
       }

@@ -67,7 +67,8 @@ joined-at w s p u i h =
     rw (h .place) at stands
 
 -- it is found by any of its LLIDs
-pub held-found : (w : Setting) (s : State) (p u llid : ℕ) → Invariant w s → Held s p u → has (laneAt s u .site .identity) llid ≡ true → find (s .olt) llid ≡ At p
+pub held-found : (w : Setting) (s : State) (p u llid : ℕ) → Invariant w s → Held s p u → has (laneAt s u .site .identity) llid ≡ true
+    → find (s .olt) llid ≡ At p
 held-found w s p u llid i h e =
     let j = joined-at w s p u i h in
     let r = olt-in-range (s .olt) (i .valid) in

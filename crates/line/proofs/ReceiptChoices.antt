@@ -184,7 +184,8 @@ confirmed-next u n h e f =
           rw same (only-kept (u .keys .slots) (u .keys .active));
     }
 
-pub taken-up : (u : UnitRecord) (h : Header) (n channel llid clock : ℕ) → h ≡ envelopeHeader n channel llid clock → u .confirmation .confirmed ≤ n → n ≤ u .keys .active
+pub taken-up : (u : UnitRecord) (h : Header) (n channel llid clock : ℕ) → h ≡ envelopeHeader n channel llid clock
+    → u .confirmation .confirmed ≤ n → n ≤ u .keys .active
     → u .keys .active ≤ u .keys .offered → u .keys .offered ≤ u .confirmation .confirmed + 1 → TakenUp u (unitReceiveChoice u h) n
 unfolding envelopeHeader
 taken-up u h n channel llid clock e low high mid top = by-number (eqb n 0) (eqb n (u .confirmation .confirmed)) refl refl where

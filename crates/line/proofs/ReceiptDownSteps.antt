@@ -15,13 +15,11 @@ use Rattle.ends.specs.Headers.{validHeader, envelopeHeader, keyFor, passageOf, 
 use Rattle.ends.specs.Identities.{has}
 use Rattle.ends.specs.OnuTraffic.{onuReceiveChoice, onuMoved, onuAfterReceipt, receivingOnu}
 use Rattle.ends.specs.Records.{withOnuKeys, withOnuFirst}
-use Rattle.ends.specs.Replies.{Reply}
 use Rattle.ends.specs.declared.FirstSend.{FirstSend}
 use Rattle.ends.specs.declared.Header.{Header}
 use Rattle.ends.specs.declared.KeyChoice.{KeyChoice}
 use Rattle.ends.specs.declared.KeyChoice.the-variants.{Clear, Current, Next, Barred}
 use Rattle.ends.specs.declared.Onu.{Onu}
-use Rattle.ends.specs.declared.Passage.{Passage}
 use Rattle.ends.specs.declared.Shared.{Shared}
 use Rattle.ends.specs.declared.UnitRecord.{UnitRecord}
 use Rattle.ends.proofs.Headers.{header-clear, header-valid, key-for}
@@ -32,11 +30,11 @@ use Rattle.traffic.specs.Passages.{misfit, outputAfter}
 use Rattle.traffic.specs.Receipts.{onuReceived, onuReceiveOf}
 use Rattle.line.specs.Setting.{Setting, clockDown}
 use Rattle.line.specs.History.{downward, Envelope, Thing, envelope, Arrival, Lane, laneWith, arriving, laneTaken, laneArrivedDown}
-use Rattle.line.specs.Claim.{SentRight, ArrivedRight}
+use Rattle.line.specs.Claim.{PassageRight, SentRight, ArrivedRight}
 use Rattle.line.proofs.Invariant.{Under, Towards, Joined, Common}
 use Rattle.line.proofs.Queues.{Knows, towards-carried, towards-taken, from-carried}
 use Rattle.line.proofs.Frames.{common-moved}
-use Rattle.line.proofs.Envelopes.{ways-apart, arrivalOf, Opens, opens-right, octets-fit}
+use Rattle.line.proofs.Envelopes.{ways-apart, arrivalOf, opens-right, octets-fit}
 use Rattle.line.proofs.SendChoices.{timing-stayed}
 use Rattle.line.proofs.Past.{passing-arrived}
 use Rattle.line.proofs.ReceiptChoices.{TakenDown, taken-down}
@@ -159,7 +157,7 @@ module _ (w : Setting) (sh : Shared) (now : ℕ) (l : Lane) (u : UnitRecord) (o 
   rx-down : o .clock .synced ≡ 1 → o .clock .rx ≡ clockDown (w .first) (e .left)
   rx-down h = rx-at (w .first) now (e .left) (l .site .up) (l .site .down) _ (j .clocks .synced h) due
 
-  opens-down : Opens w l e (passageOf (onuReceiveChoice (o .keys) (e .header)) (o .keys .slots) (o .oltmac) (o .clock .rx))
+  opens-down : PassageRight w l e (e .header .channel) (passageOf (onuReceiveChoice (o .keys) (e .header)) (o .keys .slots) (o .oltmac) (o .clock .rx))
   unfolding passageOf envelopeHeader
   opens-down =
       let t = chosen-at-unit in
@@ -212,23 +210,9 @@ module _ (w : Setting) (sh : Shared) (now : ℕ) (l : Lane) (u : UnitRecord) (o 
       let q = passageOf choice (o .keys .slots) (o .oltmac) (o .clock .rx) in
       let t = chosen-at-unit in
       let right = opens-right w l e q (queue-down .0 .sent) right-down opens-down in
-      let joined : Joined w sh now (laneArrivedDown (arrivalOf e q) (laneTaken k l)) u (onuAfterReceipt choice o) =
-      subst (λ (x : Onu). Joined w sh now (laneArrivedDown (arrivalOf e q) (laneTaken k l)) u x) (sym (t .after))
-      (arrived-down-joined w sh now l u o j choice k (arrivalOf e q) t (queue-down .0) (queue-down .1) right) in
-      subst
-      (λ (x : Reply Onu Passage).
-      Joined w sh now
-      (laneArrivedDown
-      (record {
-        envelope = e;
-        number = onuReceived x (e .header .channel) (e .octets) out .answer .number;
-        count = onuReceived x (e .header .channel) (e .octets) out .answer .count;
-        output = onuReceived x (e .header .channel) (e .octets) out .output;
-        passage = x .handed;
-      })
-      (laneTaken k l))
-      u (onuReceived x (e .header .channel) (e .octets) out .answer .onu))
-      (sym accepted-down) joined
+      rw accepted-down
+      (subst (λ (x : Onu). Joined w sh now (laneArrivedDown (arrivalOf e q) (laneTaken k l)) u x) (sym (t .after))
+      (arrived-down-joined w sh now l u o j choice k (arrivalOf e q) t (queue-down .0) (queue-down .1) right))
 
 ---- the unit itself
 

@@ -27,10 +27,10 @@ use Rattle.traffic.specs.Receipts.{oltReceived, oltReceiveOf}
 use Rattle.line.specs.Setting.{Setting, clockUp}
 use Rattle.line.specs.History.{upward, Envelope, Arrival, Lane, laneWith, arriving, laneArrivedUp}
 use Rattle.line.specs.Run.{State, receiptUp}
-use Rattle.line.specs.Claim.{SentRight, ArrivedRight}
+use Rattle.line.specs.Claim.{PassageRight, SentRight, ArrivedRight}
 use Rattle.line.proofs.Invariant.{Under, From, Joined, AtTick}
 use Rattle.line.proofs.Queues.{Knows, towards-moved, from-moved, from-taken}
-use Rattle.line.proofs.Envelopes.{ways-apart, arrivalOf, Opens, opens-right, octets-fit}
+use Rattle.line.proofs.Envelopes.{ways-apart, arrivalOf, opens-right, octets-fit}
 use Rattle.line.proofs.Past.{passing-arrived}
 use Rattle.line.proofs.ReceiptChoices.{confirmedAt, TakenUp, taken-up}
 
@@ -111,7 +111,7 @@ module _ (w : Setting) (sh : Shared) (now : ℕ) (l : Lane) (u : UnitRecord) (o 
       taken-up u (e .header) (e .number) (e .channel) (e .llid) (sh .clock) header-up (queue-up .0 .above) (omega (arith, queue-up .0 .most, n .mid))
       (omega (arith, n .high, n .top)) (n .next)
 
-  opens-up : Opens w l e (receiveUnit (e .header) sh u .handed)
+  opens-up : PassageRight w l e (e .header .channel) (receiveUnit (e .header) sh u .handed)
   unfolding receiveUnit outcome passageOf envelopeHeader
   opens-up =
       let t = chosen-at-olt in

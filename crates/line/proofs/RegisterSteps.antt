@@ -4,7 +4,7 @@ use mathlib.Core.Bool.{true, Bool, false}
 use Prim.Native.Nat.{ℕ, _+_, _-_, _/_, _%_, _≤_, _<_}
 use native.Mathlib.Nat.{zero-mod}
 use native.Mathlib.Omega.{arith}
-use lib.ListN.{length, set, length-set}
+use lib.ListN.{length, getD, set, length-set}
 use lib.Dec.{eqb}
 use lib.Seq.{getD-set-same, getD-set-other, set-getD}
 use borrow.Author.Tests.{leb-true, le-ltb, eqb-true, eqb-false}
@@ -12,20 +12,20 @@ use Rattle.octets.specs.Choice.{pick}
 use Rattle.octets.proofs.Choice.{both-left, true-false}
 use Rattle.octets.proofs.Members.{none-in}
 use Rattle.clock.specs.Ticks.{localTurn}
-use Rattle.ends.specs.Identities.{has, kept, validIdentity}
+use Rattle.ends.specs.Identities.{llidsOf, has, kept, validIdentity}
 use Rattle.ends.specs.Records.{freshUnit}
 use Rattle.ends.specs.Timers.{freshTimer, validInterval}
 use Rattle.ends.specs.OltCalls.{oltAnswer, registering, registerOf}
 use Rattle.ends.specs.Replies.{silent}
-use Rattle.ends.specs.Table.{unitAt, withOneMore}
+use Rattle.ends.specs.Table.{registered, tableLlids, find, unitAt, withOneMore}
 use Rattle.ends.specs.declared.Identity.{Identity}
 use Rattle.ends.specs.declared.Onu.{Onu}
 use Rattle.ends.specs.declared.Shared.{Shared}
 use Rattle.ends.specs.declared.Olt.{Olt}
 use Rattle.ends.specs.declared.UnitRecord.{UnitRecord}
-use Rattle.ends.proofs.Identities.{identity-valid, kept-has}
+use Rattle.ends.proofs.Identities.{meets-apart, identity-valid, first-has, kept-has}
 use Rattle.ends.proofs.Replies.{number-accepted, refuse-accepted, reply-verdict, reply-accepted}
-use Rattle.ends.proofs.Table.{more-unit, more-other, more-places}
+use Rattle.ends.proofs.Table.{among-found, more-unit, more-other, more-places}
 use Rattle.ends.proofs.OltCalls.{register-refused}
 use Rattle.ends.proofs.Registration.{Registers, register-accepted, registered-valid}
 use Rattle.line.specs.Setting.{Setting}
@@ -35,6 +35,7 @@ use Rattle.line.specs.Run.{State, laneAt, onuAt, noSite, freshLane, note
 use Rattle.line.specs.Premises.{Agrees, Fits}
 use Rattle.line.proofs.Invariant.{flagOf, Timing, Idle, Joined, Standing, LaneRight, Invariant}
 use Rattle.line.proofs.Frames.{common-moved}
+use Rattle.line.proofs.Places.{Held, held-found}
 
 timing-fresh : (r : Entry) (k : Keys) (now : ℕ) → r .since ≡ now → k .switched ≡ now → 1 ≤ r .interval
     → Timing r k now (freshTimer (r .interval))
@@ -163,12 +164,25 @@ module _ (w : Setting) (s : State) (u : ℕ) (i : Identity) (trip interval : ℕ
   after-other : (x : ℕ) → (x ≡ u → ⊥) → laneAt after x ≡ laneAt s x
   after-other x n = getD-set-other (s .history .lanes) u x entered _ n
 
+  -- refusal 3: its LLIDs are none of the table's, and those of a registered unit are
+  unregistered : laneAt s u .entry .registered ≡ false
+  unfolding has find
+  unregistered = by-entry (laneAt s u .entry .registered) refl where
+    by-entry : (t : Bool) → laneAt s u .entry .registered ≡ t → t ≡ false
+    by-entry false e = refl
+    by-entry true e =
+        let llid = getD (i .llids) 0 0 in
+        let own = first-has i (identity-valid i (r .identity) .0) in
+        let held : Held s (laneAt s u .entry .place) u = record { known = a .known; registered = e; place = refl } in
+        let found = held-found w s (laneAt s u .entry .place) u llid v held (sym (a .llids llid) ∙ own) in
+        true-false (sym (among-found 0 (registered (s .olt)) llid _ found) ∙ meets-apart (llidsOf i) (tableLlids (registered (s .olt))) llid (r .new) own)
+
   entered-right : LaneRight w (after .olt) (s .history .now) entered (onuAt s u)
   unfolding laneRegistered withOneMore
   entered-right =
       let old = v .lane u (a .known) in
       let idle : Idle (s .history .now) (laneAt s u) (onuAt s u) =
-      subst (λ (b : Bool). Standing b w (s .olt) (s .history .now) (laneAt s u) (onuAt s u)) (a .once) (old .standing) in
+      subst (λ (b : Bool). Standing b w (s .olt) (s .history .now) (laneAt s u) (onuAt s u)) unregistered (old .standing) in
       let room : s .olt .count < length (s .olt .units) = omega (arith, r .room, v .places) in
       let unit : unitAt (after .olt) (s .history .registrations) ≡ freshUnit i trip interval =
       rw (← v .count) (more-unit (s .olt) (freshUnit i trip interval) room) in
@@ -191,7 +205,9 @@ module _ (w : Setting) (s : State) (u : ℕ) (i : Identity) (trip interval : ℕ
         rw (after-other x (eqb-false x u e))
         (record {
           common = old .common;
-          standing = standing-before (laneAt s x .entry .registered) w (s .olt) (freshUnit i trip interval) (s .history .now) (laneAt s x) (onuAt s x) (old .standing);
+          standing =
+              standing-before (laneAt s x .entry .registered) w (s .olt) (freshUnit i trip interval) (s .history .now) (laneAt s x) (onuAt s x)
+              (old .standing);
         })
 
   -- the place of the new unit is not that of another

@@ -28,16 +28,16 @@ use Rattle.ends.specs.declared.UnitKeys.{UnitKeys}
 use Rattle.ends.proofs.Headers.{key-for}
 use Rattle.ends.proofs.Occupancy.{free-own, taken-false, free-later}
 use Rattle.ends.proofs.Replies.{refuse-accepted}
-use Rattle.traffic.specs.Passages.{misfit, passed, passedCount, outputAfter}
+use Rattle.traffic.specs.Passages.{misfit, outputAfter}
 use Rattle.traffic.specs.Sends.{oltSent, oltSendOf}
 use Rattle.line.specs.Setting.{Setting}
-use Rattle.line.specs.History.{downward, upward, Envelope, Lane, keyOf, switching, numberDown, laneWith, leaving, sending, laneSentDown}
-use Rattle.line.specs.Run.{envelopeOf}
-use Rattle.line.specs.Claim.{SentRight}
+use Rattle.line.specs.History.{downward, upward, Envelope, Lane, switching, numberDown, laneWith, leaving, sending, laneSentDown}
+use Rattle.line.specs.Run.{envelopeDown}
+use Rattle.line.specs.Claim.{PassageRight, SentRight}
 use Rattle.line.proofs.Invariant.{reachOf, Spent, Joined, AtTick}
 use Rattle.line.proofs.Queues.{Knows, towards-carried, towards-envelope, from-carried}
 use Rattle.line.proofs.Past.{sent-carried, passing-sent}
-use Rattle.line.proofs.Envelopes.{ways-apart, passed-as, count-as, fits-alone}
+use Rattle.line.proofs.Envelopes.{ways-apart, envelopeOf, passed-right, count-right, fits-alone}
 use Rattle.line.proofs.Spending.{Renewed, spent-kept, spent-new, apart-new, spaced-more}
 use Rattle.line.proofs.SendChoices.{Chosen, chosen-down, unit-first}
 
@@ -103,7 +103,8 @@ module _ (w : Setting) (sh : Shared) (now : ℕ) (l : Lane) (u : UnitRecord) (o 
                   (λ x i q.
                   let was = j .spending .downs x i q in (
                     was .0,
-                    rw (h .active) (spent-kept (sh .channels) c (u .keys .first) (k .first) (u .keys .active) (e .number) now x r (rises (x .channel)) (was .1)),
+                    rw (h .active)
+                        (spent-kept (sh .channels) c (u .keys .first) (k .first) (u .keys .active) (e .number) now x r (rises (x .channel)) (was .1)),
                   ))
                   (λ q.
                   (down, rw (h .active) (spent-new c (u .keys .first) (k .first) (u .keys .active) (e .number) now e r refl left after)));
@@ -122,44 +123,46 @@ module _ (w : Setting) (sh : Shared) (now : ℕ) (l : Lane) (u : UnitRecord) (o 
             (sent-carried w l m (e .number) (knows (e .number)) e (omega arith) right) named fits (j .passing);
       }
 
--- the envelope of a send to the unit
-abbrev pub envelopeDown : Lane → ℕ → ℕ → ℕ → List ℕ → Sending → Envelope
-envelopeDown l now llid channel p s =
-    envelopeOf downward now llid channel p (s .header) (passed channel (s .passage) p) (passedCount (s .passage) p) (numberDown l now)
-
 module _ (w : Setting) (sh : Shared) (now : ℕ) (l : Lane) (u : UnitRecord) (o : Onu) (llid channel eqs : ℕ) (p out : List ℕ) where
   sent-down-right : AtTick w now sh → Joined w sh now l u o → validUnit (sh .tick) u ≡ true
-      → SentRight w l (envelopeDown l now llid channel p (sendUnit llid channel eqs sh u .handed))
-  unfolding envelopeOf sendUnit sendingOf passageOf
+      → SentRight w l (envelopeOf downward now llid channel p (sendUnit llid channel eqs sh u .handed) (numberDown l now))
+  unfolding sendUnit sendingOf passageOf
   sent-down-right t j v =
       let h = chosen-down w sh now l u o j (sh .tick) (t .tick) (unit-first (sh .tick) u v) in
       let n = j .numbers in
+      let q = sendUnit llid channel eqs sh u .handed .passage in
+      let e = envelopeOf downward now llid channel p (sendUnit llid channel eqs sh u .handed) (numberDown l now) in
+      let under : PassageRight w l e channel q =
       record {
-        header = rw (h .chosen, t .clock);
-        octets =
-            passed-as channel (passageOf (unitSendChoice u) (u .keys .slots) (sh .mac) (sh .clock)) (numberDown l now) (keyOf (l .keys) (numberDown l now))
-            _ p (h .enciphered)
-            (λ some.
+        enciphered = h .enciphered;
+        key = λ some.
             ap (λ (x : ℕ). keyFor x (u .keys .slots)) (h .chosen)
             ∙ key-for (numberDown l now) (u .keys .slots) some
-            ∙ j .stored .olt (numberDown l now) some (omega (arith, n .low, n .mid, h .low)) (omega (arith, h .high, n .top)))
-            (λ some. rw (t .mac, t .clock));
-        count = count-as (passageOf (unitSendChoice u) (u .keys .slots) (sh .mac) (sh .clock)) (numberDown l now) p (h .enciphered);
+            ∙ j .stored .olt (numberDown l now) some (omega (arith, n .low, n .mid, h .low)) (omega (arith, h .high, n .top));
+        nonce = λ some. rw (t .mac, t .clock);
+      } in
+      record {
+        passage = under;
+        header = rw (h .chosen, t .clock);
+        octets = passed-right w l e channel q under p;
+        count = count-right w l e channel q under p;
       }
 
   -- the lane that the send is on
   pub send-down-keeps : AtTick w now sh → Joined w sh now l u o → validUnit (sh .tick) u ≡ true → has (l .site .identity) llid ≡ true
       → downstream channel ≡ true → misfit p out ≡ false → sendUnit llid channel eqs sh u .verdict ≡ Accepted
       → Joined w (withChannels sh (sendUnit llid channel eqs sh u .channels)) now
-      (laneSentDown now (envelopeDown l now llid channel p (sendUnit llid channel eqs sh u .handed)) l) (sendUnit llid channel eqs sh u .unit) o
-  unfolding sendUnit unitSendVerdict envelopeOf
+      (laneSentDown now (envelopeOf downward now llid channel p (sendUnit llid channel eqs sh u .handed) (numberDown l now)) l)
+      (sendUnit llid channel eqs sh u .unit) o
+  unfolding sendUnit unitSendVerdict
   send-down-keeps t j v named down fit a =
       let first = refuse-accepted _ _ _ a in
       let second = refuse-accepted _ _ _ (first .1) in
       let h = chosen-down w sh now l u o j (sh .tick) (t .tick) (unit-first (sh .tick) u v) in
       let free : freeFrom (sh .channels) channel ≤ sh .tick = taken-false (sh .channels) channel (sh .tick) (first .0) in
       sent-down-joined w sh now l u o j (keysAfterSend (unitSendChoice u) (u .keys) (sh .tick)) (unitSendChoice u)
-      (occupied (sh .channels) channel (sh .tick) eqs) (envelopeDown l now llid channel p (sendUnit llid channel eqs sh u .handed))
+      (occupied (sh .channels) channel (sh .tick) eqs)
+      (envelopeOf downward now llid channel p (sendUnit llid channel eqs sh u .handed) (numberDown l now))
       h (h .renewed (rw (t .tick) at (second .0))) refl refl down named (fits-alone p out fit) (sent-down-right t j v)
       (omega (arith, free, t .tick))
       (λ i. free-later (sh .channels) channel i (sh .tick) eqs (first .0))
@@ -167,13 +170,11 @@ module _ (w : Setting) (sh : Shared) (now : ℕ) (l : Lane) (u : UnitRecord) (o 
 
 ---- the envelope of an accepted send
 
-pub envelope-down-is : (o : Olt) (l : Lane) (now llid channel : ℕ) (p out : List ℕ) (s : Sending)
+pub envelope-down-is : (o : Olt) (now llid channel : ℕ) (p out : List ℕ) (number : ℕ) (s : Sending)
     → sendingOlt o (misfit p out) llid channel (eqsOf p) .verdict ≡ Accepted → sendingOlt o (misfit p out) llid channel (eqsOf p) .handed ≡ s
-    → envelopeOf downward now llid channel p (oltSendOf o llid channel p out .answer .header) (oltSendOf o llid channel p out .output)
-    (oltSendOf o llid channel p out .answer .count) (numberDown l now)
-    ≡ envelopeDown l now llid channel p s
-unfolding oltSendOf oltSent outputAfter
-envelope-down-is o l now llid channel p out s a h = rw (a, h)
+    → envelopeDown now o llid channel p out number ≡ envelopeOf downward now llid channel p s number
+unfolding envelopeDown oltSendOf oltSent outputAfter
+envelope-down-is o now llid channel p out number s a h = rw (a, h)
 
 ---- other lanes
 

@@ -17,7 +17,6 @@ use Rattle.ends.specs.Identities.{has}
 use Rattle.ends.specs.Occupancy.{downstream, upstream, freeFrom, occupied}
 use Rattle.ends.specs.OnuTraffic.{onuSendChoice, onuSendVerdict, onuAfterSend, sendingOnu}
 use Rattle.ends.specs.Records.{withOnuFirst, withOnuChannels}
-use Rattle.ends.specs.Replies.{Reply}
 use Rattle.ends.specs.Validity.{validOnu}
 use Rattle.ends.specs.declared.Channels.{Channels}
 use Rattle.ends.specs.declared.FirstSend.{FirstSend}
@@ -34,18 +33,18 @@ use Rattle.ends.proofs.OnuChoices.{onu-send-accepted}
 use Rattle.ends.proofs.OnuTraffic.{onu-sent-valid}
 use Rattle.ends.proofs.Replies.{number-accepted, refuse-accepted}
 use Rattle.ends.proofs.Validity.{onu-in-range}
-use Rattle.traffic.specs.Passages.{misfit, choiceEnciphered, passed, passedCount, outputAfter}
+use Rattle.traffic.specs.Passages.{misfit, outputAfter}
 use Rattle.traffic.specs.Sends.{onuSent, onuSendOf}
 use Rattle.traffic.proofs.Passages.{few-eqs}
 use Rattle.line.specs.Setting.{Site, Setting, clockUp}
-use Rattle.line.specs.History.{downward, upward, Envelope, Lane, keyOf, laneWith, sending, laneSentUp}
-use Rattle.line.specs.Run.{envelopeOf}
-use Rattle.line.specs.Claim.{SentRight}
+use Rattle.line.specs.History.{downward, upward, Envelope, Lane, laneWith, sending, laneSentUp}
+use Rattle.line.specs.Run.{envelopeUp}
+use Rattle.line.specs.Claim.{PassageRight, SentRight}
 use Rattle.line.proofs.Invariant.{Clocks, Spent, Joined, Common}
 use Rattle.line.proofs.Queues.{Knows, towards-moved, from-moved, from-envelope}
 use Rattle.line.proofs.Past.{sent-carried, passing-sent}
 use Rattle.line.proofs.Frames.{common-moved}
-use Rattle.line.proofs.Envelopes.{ways-apart, passed-as, count-as, fits-alone}
+use Rattle.line.proofs.Envelopes.{ways-apart, envelopeOf, passed-right, count-right, fits-alone}
 use Rattle.line.proofs.Spending.{Renewed, spent-kept, spent-new, apart-new, spaced-more}
 use Rattle.line.proofs.SendChoices.{chosen-up}
 
@@ -124,52 +123,47 @@ module _ (w : Setting) (sh : Shared) (now : ℕ) (l : Lane) (u : UnitRecord) (o 
             (sent-carried w l m (e .number) (knows (e .number)) e (omega arith) right) named fits (j .passing);
       }
 
--- the envelope of a unit's send
-abbrev pub envelopeUp : Lane → ℕ → ℕ → ℕ → List ℕ → Sending → Envelope
-envelopeUp l now llid channel p s =
-    envelopeOf upward now llid channel p (s .header) (passed channel (s .passage) p) (passedCount (s .passage) p) (l .keys .number)
-
 module _ (w : Setting) (sh : Shared) (now : ℕ) (l : Lane) (u : UnitRecord) (o : Onu) (llid channel : ℕ) (p out : List ℕ) where
-  sent-up-right : Common w now l o → Joined w sh now l u o
-      → SentRight w l (envelopeUp l now llid channel p (sendingOf (onuSendChoice (o .keys)) (o .keys .slots) (o .identity .mac) (o .clock .time) channel llid))
-  unfolding envelopeOf sendingOf passageOf
+  -- what the unit seals with
+  abbrev handedUp : Sending
+  handedUp = sendingOf (onuSendChoice (o .keys)) (o .keys .slots) (o .identity .mac) (o .clock .time) channel llid
+
+  abbrev sentUp : Envelope
+  sentUp = envelopeOf upward now llid channel p handedUp (l .keys .number)
+
+  sent-up-right : Common w now l o → Joined w sh now l u o → SentRight w l sentUp
+  unfolding sendingOf passageOf
   sent-up-right c j =
       let h = chosen-up o (onu-in-range o (c .valid) .first) in
       let n = j .numbers in
-      let passage = passageOf (onuSendChoice (o .keys)) (o .keys .slots) (o .identity .mac) (o .clock .time) in
-      let sealed : choiceEnciphered (onuSendChoice (o .keys)) ≡ leb 1 (l .keys .number) = h .enciphered ∙ ap (leb 1) (n .last) in
+      let under : PassageRight w l sentUp channel (handedUp .passage) =
       record {
+        enciphered = h .enciphered ∙ ap (leb 1) (n .last);
+        key = λ some.
+            ap (λ (x : ℕ). keyFor x (o .keys .slots)) (h .chosen ∙ n .last)
+            ∙ key-for (l .keys .number) (o .keys .slots) some
+            ∙ j .stored .onu (l .keys .number) some (omega (arith, n .last)) (omega (arith, n .last));
+        nonce = λ some. let a = j .clocks .synced (j .answers .keyed (omega (arith, n .last))) in rw (c .mac, a .tx);
+      } in
+      record {
+        passage = under;
         header =
             ap (λ (x : ℕ). envelopeHeader x channel llid (o .clock .time)) (h .chosen ∙ n .last)
             ∙ header-epam (l .keys .number) channel llid (o .clock .time) (clockUp (w .first) (l .site .up) now)
             (epam-up (w .first) now (l .captured) (l .site) (u .clock) (o .clock) (j .clocks));
-        octets =
-            passed-as channel passage (l .keys .number) (keyOf (l .keys) (l .keys .number)) _ p sealed
-            (λ some.
-            ap (λ (x : ℕ). keyFor x (o .keys .slots)) (h .chosen ∙ n .last)
-            ∙ key-for (l .keys .number) (o .keys .slots) some
-            ∙ j .stored .onu (l .keys .number) some (omega (arith, n .last)) (omega (arith, n .last)))
-            (λ some.
-            let a = j .clocks .synced (j .answers .keyed (omega (arith, n .last))) in
-            rw (c .mac, a .tx));
-        count = count-as passage (l .keys .number) p sealed;
+        octets = passed-right w l sentUp channel (handedUp .passage) under p;
+        count = count-right w l sentUp channel (handedUp .passage) under p;
       }
 
   -- the lane of the unit that sends
   pub send-up-keeps : Common w now l o → Joined w sh now l u o → onuSendOf o llid channel p out .answer .number ≡ 0
-      → Joined w sh now
-      (laneSentUp
-      (envelopeOf upward now llid channel p (onuSendOf o llid channel p out .answer .header) (onuSendOf o llid channel p out .output)
-      (onuSendOf o llid channel p out .answer .count) (l .keys .number))
-      l)
-      u (onuSendOf o llid channel p out .answer .onu)
-  unfolding onuSendOf onuSent sendingOnu onuAfterSend outputAfter envelopeOf
+      → Joined w sh now (laneSentUp (envelopeUp now o llid channel p out (l .keys .number)) l) u (onuSendOf o llid channel p out .answer .onu)
+  unfolding envelopeUp onuSendOf onuSent sendingOnu onuAfterSend outputAfter
   send-up-keeps c j a =
       let eqs = eqsOf p in
       let verdict = onuSendVerdict o (misfit p out) llid channel in
       let next = onuAfterSend o channel eqs in
-      let handed = sendingOf (onuSendChoice (o .keys)) (o .keys .slots) (o .identity .mac) (o .clock .time) channel llid in
-      let accepts : verdict ≡ Accepted = onu-accepted o noSending verdict next handed (number-accepted _ a) .1 in
+      let accepts : verdict ≡ Accepted = onu-accepted o noSending verdict next handedUp (number-accepted _ a) .1 in
       let met = onu-send-accepted o (misfit p out) llid channel accepts in
       let h = chosen-up o (onu-in-range o (c .valid) .first) in
       let n = j .numbers in
@@ -178,21 +172,12 @@ module _ (w : Setting) (sh : Shared) (now : ℕ) (l : Lane) (u : UnitRecord) (o 
       let renewed : Renewed (o .first) (h .first) (o .keys .active) (l .keys .number) now =
       subst (λ (x : ℕ). Renewed (o .first) (h .first) (o .keys .active) x now) (n .last)
       (subst (λ (x : ℕ). Renewed (o .first) (h .first) (o .keys .active) (o .keys .active) x) (c .tick) (h .renewed (met .young))) in
-      let joined : Joined w sh now (laneSentUp (envelopeUp l now llid channel p handed) l) u next =
-      subst (λ (x : Onu). Joined w sh now (laneSentUp (envelopeUp l now llid channel p handed) l) u (withOnuChannels x after)) (sym (h .noted))
-      (sent-up-joined w sh now l u o j (h .first) after (envelopeUp l now llid channel p handed) (sym (n .last)) renewed refl refl
+      rw (onu-accepts o noSending verdict next handedUp (c .valid) accepts)
+      (subst (λ (x : Onu). Joined w sh now (laneSentUp sentUp l) u (withOnuChannels x after)) (sym (h .noted))
+      (sent-up-joined w sh now l u o j (h .first) after sentUp (sym (n .last)) renewed refl refl
       (met .upstream) (sym (c .llids llid) ∙ met .has) (fits-alone p out (met .fits)) (sent-up-right c j) (omega (arith, free, c .tick))
       (λ i. free-later (o .channels) channel i (o .tick) eqs (met .free))
-      (omega (arith, free-own (o .channels) channel (o .tick) eqs, c .tick))) in
-      subst
-      (λ (x : Reply Onu Sending).
-      Joined w sh now
-      (laneSentUp
-      (envelopeOf upward now llid channel p (onuSent x channel p out .answer .header) (onuSent x channel p out .output)
-      (onuSent x channel p out .answer .count) (l .keys .number))
-      l)
-      u (onuSent x channel p out .answer .onu))
-      (sym (onu-accepts o noSending verdict next handed (c .valid) accepts)) joined
+      (omega (arith, free-own (o .channels) channel (o .tick) eqs, c .tick))))
 
 ---- the unit itself
 

@@ -1,7 +1,8 @@
 -- The premises as a test that computes: a list that passes it meets them. Assumes nothing.
-use mathlib.Core.Path.{_≡_, sym, _∙_, ap}
-use mathlib.Core.Bool.{Bool, true, not}
-use mathlib.Core.List.{List, [], _∷_}
+use mathlib.Core.Path.{_≡_, refl, sym, _∙_, ap}
+use mathlib.Core.Bool.{Bool, true, false, not}
+use mathlib.Core.List.{List, [], _∷_, _++_}
+use mathlib.Core.Logic.{⊎-elim}
 use Prim.Native.Nat.{ℕ, zero, suc, _+_, _%_, _<_}
 use native.Mathlib.Nat.{not-suc-le-zero}
 use lib.Dec.{eqb, leb, ltb}
@@ -9,8 +10,8 @@ use lib.ListN.{length, getD}
 use borrow.Author.Tests.{ltb-true, leb-true, eqb-true, eqb-false, eq-eqb, not-true}
 use Rattle.octets.specs.Choice.{both, either}
 use Rattle.octets.specs.Lists.{same, all}
-use Rattle.octets.proofs.Choice.{both-left, both-right, true-false}
-use Rattle.octets.proofs.Lists.{same-true, same-refl}
+use Rattle.octets.proofs.Choice.{both-left, both-right, either-cases, true-false}
+use Rattle.octets.proofs.Lists.{same-refl}
 use Rattle.octets.proofs.Tests.{all-at}
 use Rattle.clock.specs.Ticks.{localTurn}
 use Rattle.ends.specs.Identities.{among, has, llidsOf}
@@ -39,15 +40,33 @@ not-accepted number h = eqb-false number 0 (not-true (eqb number 0) h)
 
 ---- each premise
 
+-- each number of one list is in the other
+unfoldable pub alike : List ℕ → List ℕ → Bool
+alike xs ys = both (all (λ x. among x ys) xs) (all (λ y. among y xs) ys)
+
+all-among : (p : ℕ → Bool) (xs : List ℕ) (x : ℕ) → all p xs ≡ true → among x xs ≡ true → p x ≡ true
+unfolding all among
+all-among p [] x e m = true-false (sym m)
+all-among p (y ∷ xs) x e m =
+    ⊎-elim (λ h. ap p (sym (eqb-true y x h)) ∙ both-left _ _ e) (λ h. all-among p xs x (both-right _ _ e) h) (either-cases (eqb y x) (among x xs) m)
+
+alike-true : (xs ys : List ℕ) → alike xs ys ≡ true → (x : ℕ) → among x xs ≡ among x ys
+unfolding alike
+alike-true xs ys e x =
+    by-cases (among x xs) (among x ys) (all-among _ xs x (both-left _ _ e)) (all-among _ ys x (both-right _ _ e)) where
+      by-cases : (a b : Bool) → (a ≡ true → b ≡ true) → (b ≡ true → a ≡ true) → a ≡ b
+      by-cases true b f g = sym (f refl)
+      by-cases false true f g = g refl
+      by-cases false false f g = refl
+
 unfoldable pub agrees : Setting → State → ℕ → Identity → ℕ → Bool
 agrees w s u i trip =
     both (ltb u (length (s .history .lanes)))
-    (both (not (laneAt s u .entry .registered))
     (both (eqb (i .mac) (laneAt s u .site .identity .mac))
-    (both (same (llidsOf i) (llidsOf (laneAt s u .site .identity)))
+    (both (alike (llidsOf i) (llidsOf (laneAt s u .site .identity)))
     (both (eqb (laneAt s u .site .oltmac) (w .mac))
     (both (eqb (laneAt s u .site .time) ((w .first + laneAt s u .site .up) % localTurn))
-    (eqb trip (laneAt s u .site .up + laneAt s u .site .down)))))))
+    (eqb trip (laneAt s u .site .up + laneAt s u .site .down))))))
 
 agrees-true : (w : Setting) (s : State) (u : ℕ) (i : Identity) (trip : ℕ) → agrees w s u i trip ≡ true → Agrees w s u i trip
 unfolding agrees has
@@ -56,15 +75,13 @@ agrees-true w s u i trip e =
     let b = both-right _ _ a in
     let c = both-right _ _ b in
     let d = both-right _ _ c in
-    let f = both-right _ _ d in
     record {
       known = ltb-true _ _ (both-left _ _ e);
-      once = not-true _ (both-left _ _ a);
-      mac = eqb-true _ _ (both-left _ _ b);
-      llids = λ x. ap (λ (l : List ℕ). among x l) (same-true _ _ (both-left _ _ c));
-      oltmac = eqb-true _ _ (both-left _ _ d);
-      time = eqb-true _ _ (both-left _ _ f);
-      delays = eqb-true _ _ (both-right _ _ f);
+      mac = eqb-true _ _ (both-left _ _ a);
+      llids = alike-true _ _ (both-left _ _ b);
+      oltmac = eqb-true _ _ (both-left _ _ c);
+      time = eqb-true _ _ (both-left _ _ d);
+      delays = eqb-true _ _ (both-right _ _ d);
     }
 
 unfoldable pub other : List ℕ → List ℕ → Bool
@@ -190,7 +207,12 @@ unfolding meets
 meets-true w s [] h = tt
 meets-true w s (e ∷ es) h = (fits-true w s e (both-left _ _ h), meets-true w (step s e) es (both-right _ _ h))
 
+-- what a list meets, each start of it does
+pub meets-start : (w : Setting) (s : State) (es rest : List Event) → Meets w s (es ++ rest) → Meets w s es
+meets-start w s [] rest m = tt
+meets-start w s (e ∷ es) rest m = (m .0, meets-start w (step s e) es rest (m .1))
+
 -- to compute the test
 unfoldable pub tested : Unit {0}
-unfolding ifAccepted agrees other unused fitting dueDown dueUp dueAnswer overhears fits meets
+unfolding ifAccepted alike agrees other unused fitting dueDown dueUp dueAnswer overhears fits meets
 tested = tt

@@ -13,9 +13,11 @@ use Rattle.envelope.specs.declared.Nonce.{Nonce}
 use Rattle.sealing.specs.KeyExpansion.{keyExpansion}
 use Rattle.sealing.specs.Seal.{carried, countCarried}
 use Rattle.ends.specs.Headers.{envelopeHeader}
+use Rattle.ends.specs.Identities.{has}
 use Rattle.ends.specs.Keys.{keyIn}
 use Rattle.ends.specs.Table.{unitAt}
 use Rattle.ends.specs.declared.Onu.{Onu}
+use Rattle.ends.specs.declared.Passage.{Passage}
 use Rattle.ends.specs.declared.UnitRecord.{UnitRecord}
 use Rattle.traffic.specs.Passages.{misfit, choiceEnciphered, passageNonce}
 use Rattle.traffic.specs.Receipts.{onuNotReceived}
@@ -42,8 +44,16 @@ nonceFor w s e =
 abbrev pub isSealed : Envelope → Bool
 isSealed e = leb 1 (e .number)
 
--- (0) an accepted send handed over what the definitions give for its number, key, MAC and clock
+-- what an end sealed or opened an envelope with, on that channel: 0 went in clear, n ≥ 1 under key n and its sender's MAC and clock
+pub record PassageRight (w : Setting) (l : Lane) (e : Envelope) (channel : ℕ) (q : Passage) : Type 0 where
+  pub enciphered : choiceEnciphered (q .choice) ≡ isSealed e
+  pub key : 1 ≤ e .number → q .key ≡ keyOf (l .keys) (e .number)
+  pub nonce : 1 ≤ e .number → passageNonce channel q ≡ nonceFor w (l .site) e
+
+-- (0) an accepted send sealed under its key and counter block, and handed over the header, octets and count that the definitions
+-- give for them
 pub record SentRight (w : Setting) (l : Lane) (e : Envelope) : Type 0 where
+  pub passage : PassageRight w l e (e .channel) (e .passage)
   pub header : e .header ≡ envelopeHeader (e .number) (e .channel) (e .llid) (senderClock w (l .site) (e .way) (e .left))
   pub octets : e .octets ≡ carried (isSealed e) (keyExpansion (keyOf (l .keys) (e .number))) (nonceFor w (l .site) e) (e .payload)
   pub count : e .count ≡ countCarried (isSealed e) (e .payload)
@@ -52,14 +62,27 @@ pub record SentRight (w : Setting) (l : Lane) (e : Envelope) : Type 0 where
 pub record ArrivedRight (w : Setting) (l : Lane) (r : Arrival) : Type 0 where
   pub sent : List·Memᴰ (r .envelope) (l .past .sent)
   pub accepted : r .number ≡ 0
-  pub enciphered : choiceEnciphered (r .passage .choice) ≡ isSealed (r .envelope)
-  pub key : 1 ≤ r .envelope .number → r .passage .key ≡ keyOf (l .keys) (r .envelope .number)
-  pub nonce : 1 ≤ r .envelope .number → passageNonce (r .envelope .header .channel) (r .passage) ≡ nonceFor w (l .site) (r .envelope)
+  pub passage : PassageRight w l (r .envelope) (r .envelope .header .channel) (r .passage)
   pub payload : r .output ≡ r .envelope .payload
   pub count : r .count ≡ r .envelope .count
 
--- (3) both ends hold key n
+-- a block index has three octets
+abbrev pub indexTurn : ℕ
+indexTurn = 2 ^ 24
+
+-- (2) two sealed envelopes that share key and counter block are one, and so are the two block indices
+abbrev pub BlocksApart : Setting → State → Type 0
+BlocksApart w s =
+    (u v i j a b : ℕ) → i < length (laneAt s u .past .sent) → j < length (laneAt s v .past .sent)
+    → 1 ≤ sentAt s u i .number → 1 ≤ sentAt s v j .number
+    → keyOf (laneAt s u .keys) (sentAt s u i .number) ≡ keyOf (laneAt s v .keys) (sentAt s v j .number)
+    → a < indexTurn → b < indexTurn
+    → counterBlock (nonceFor w (laneAt s u .site) (sentAt s u i)) a ≡ counterBlock (nonceFor w (laneAt s v .site) (sentAt s v j)) b
+    → (u ≡ v) × ((i ≡ j) × (a ≡ b))
+
+-- (3) both ends hold key n, and the OLT's record is the unit's: it has the unit's LLIDs
 pub record Holds (l : Lane) (n : ℕ) (u : UnitRecord) (o : Onu) : Type 0 where
+  pub llids : (x : ℕ) → has (u .identity) x ≡ has (l .site .identity) x
   pub active : u .keys .active ≡ n
   pub confirmed : u .confirmation .confirmed ≡ n
   pub unit : o .keys .active ≡ n
@@ -73,6 +96,13 @@ pub record ArrivedNumbered (l : Lane) (way : Way) (n : ℕ) : Type 0 where
   pub thatWay : arrival .envelope .way ≡ way
   pub numbered : arrival .envelope .number ≡ n
 
+-- (3) where the switches are n and an envelope numbered n has arrived each way, both ends hold key n
+abbrev pub LastKeyHeld : State → Type 0
+LastKeyHeld s =
+    (u n : ℕ) → 1 ≤ n → laneAt s u .keys .switches ≡ n
+    → ArrivedNumbered (laneAt s u) downward n → ArrivedNumbered (laneAt s u) upward n
+    → Holds (laneAt s u) n (unitAt (s .olt) (laneAt s u .entry .place)) (onuAt s u)
+
 -- (4) what an overheard envelope is refused for: a buffer that does not fit, else downstream an LLID of another unit, upstream its
 -- direction
 abbrev pub overheardFor : Bool → Way → Refusal
@@ -83,16 +113,8 @@ overheardFor false upward = OutOfRange
 pub record Claim (w : Setting) (s : State) : Type 0 where
   pub sent : (u : ℕ) (e : Envelope) → List·Memᴰ e (laneAt s u .past .sent) → SentRight w (laneAt s u) e
   pub arrived : (u : ℕ) (r : Arrival) → List·Memᴰ r (laneAt s u .past .arrived) → ArrivedRight w (laneAt s u) r
-  -- (2) two sealed envelopes that share key and counter block are one
-  pub blocks : (u v i j a b : ℕ) → i < length (laneAt s u .past .sent) → j < length (laneAt s v .past .sent)
-      → 1 ≤ sentAt s u i .number → 1 ≤ sentAt s v j .number
-      → keyOf (laneAt s u .keys) (sentAt s u i .number) ≡ keyOf (laneAt s v .keys) (sentAt s v j .number)
-      → a < 2 ^ 24 → b < 2 ^ 24
-      → counterBlock (nonceFor w (laneAt s u .site) (sentAt s u i)) a ≡ counterBlock (nonceFor w (laneAt s v .site) (sentAt s v j)) b
-      → (u ≡ v) × (i ≡ j)
-  pub held : (u n : ℕ) → 1 ≤ n → laneAt s u .keys .switches ≡ n
-      → ArrivedNumbered (laneAt s u) downward n → ArrivedNumbered (laneAt s u) upward n
-      → Holds (laneAt s u) n (unitAt (s .olt) (laneAt s u .entry .place)) (onuAt s u)
+  pub blocks : BlocksApart w s
+  pub held : LastKeyHeld s
   -- (4) what another registered unit overhears is refused, with count 0, and leaves that unit and its buffer as they were
   pub overheard : (u v k : ℕ) (out : List ℕ) → Overhears s u v k
       → overhearing s u v k out

@@ -19,7 +19,7 @@ pub data Way : Type 0 where
   downward : Way
   upward : Way
 
--- an envelope that an accepted send handed over: what it was sent with, what was handed over, and its number
+-- an envelope that an accepted send handed over: what it was sent with, what was handed over, what it was sealed with, its number
 pub record Envelope : Type 0 where
   pub way : Way
   pub left : ℕ
@@ -29,6 +29,7 @@ pub record Envelope : Type 0 where
   pub header : Header
   pub octets : List ℕ
   pub count : ℕ
+  pub passage : Passage
   pub number : ℕ
 
 -- what is under way to a unit, with the tick at which it left; a clock message also with the tick of its capture

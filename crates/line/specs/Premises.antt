@@ -1,7 +1,7 @@
 -- What a list must keep to (01, The line), in the paper's order. A call of an end is bound only where it is accepted; an arrival,
 -- an overheard receipt and any other receipt by what makes it one. Assumes nothing.
 use mathlib.Core.Path.{_≡_}
-use mathlib.Core.Bool.{true, false}
+use mathlib.Core.Bool.{true}
 use mathlib.Core.List.{List, [], _∷_}
 use Prim.Native.Nat.{ℕ, _+_, _%_, _<_, _≤_}
 use lib.ListN.{length, getD}
@@ -20,13 +20,13 @@ use Rattle.line.specs.Run.{State, step, laneAt, onuAt, thingAt, envelope
 -- "from fresh ends": the OLT and every unit were made
 pub record Fresh (w : Setting) : Type 0 where
   pub olt : freshOltOf (w .mac) (w .first) .number ≡ 0
-  pub onus : (u : ℕ) (s : Site) → u < length (w .sites) → freshOnuOf (getD (w .sites) u s .identity) (getD (w .sites) u s .oltmac) (getD (w .sites) u s .time) .number ≡ 0
+  pub onus : (u : ℕ) (s : Site) → u < length (w .sites)
+      → freshOnuOf (getD (w .sites) u s .identity) (getD (w .sites) u s .oltmac) (getD (w .sites) u s .time) .number ≡ 0
 
 -- an accepted registration: the ends agree on MACs and LLIDs, LocalTime is the low half of the OLT's clock plus the delay up, and
--- the delays add up to the round trip. That the unit was not registered before follows, since its LLIDs would be refused 3
+-- the delays add up to the round trip. That it is the unit's first follows: a second one's LLIDs are in the table, and refused 3
 pub record Agrees (w : Setting) (s : State) (u : ℕ) (i : Identity) (trip : ℕ) : Type 0 where
   pub known : u < length (s .history .lanes)
-  pub once : laneAt s u .entry .registered ≡ false
   pub mac : i .mac ≡ laneAt s u .site .identity .mac
   pub llids : (x : ℕ) → has i x ≡ has (laneAt s u .site .identity) x
   pub oltmac : laneAt s u .site .oltmac ≡ w .mac

@@ -7,15 +7,16 @@ use lib.Dec.{eqb}
 use lib.ListN.{getD, set}
 use Rattle.octets.specs.Choice.{both, pick}
 use Rattle.octets.specs.Output.{WithOutput}
+use Rattle.envelope.specs.ControlMask.{eqsOf}
+use Rattle.ends.specs.Headers.{noSending}
 use Rattle.ends.specs.Identities.{has, noIdentity}
 use Rattle.ends.specs.Records.{newOnu}
 use Rattle.ends.specs.OltCalls.{freshOltOf, registerOf, advanceOltOf, captureOf, clockSendOf, offerOf, retryOf, acknowledgeOf}
 use Rattle.ends.specs.OnuCalls.{freshOnuOf, advanceOnuOf, clockMessageAt, keyMessageAt}
-use Rattle.ends.specs.OltTraffic.{receivingOlt}
-use Rattle.ends.specs.OnuTraffic.{receivingOnu}
+use Rattle.ends.specs.OltTraffic.{sendingOlt, receivingOlt}
+use Rattle.ends.specs.OnuTraffic.{sendingOnu, receivingOnu}
 use Rattle.ends.specs.declared.Acknowledgement.{Acknowledgement}
 use Rattle.ends.specs.declared.ClockSent.{ClockSent}
-use Rattle.ends.specs.declared.Header.{Header}
 use Rattle.ends.specs.declared.KeySent.{KeySent}
 use Rattle.ends.specs.declared.Olt.{Olt}
 use Rattle.ends.specs.declared.Onu.{Onu}
@@ -23,11 +24,9 @@ use Rattle.ends.specs.declared.OnuAcknowledged.{OnuAcknowledged}
 use Rattle.traffic.specs.Passages.{misfit}
 use Rattle.traffic.specs.Sends.{oltSendOf, onuSendOf}
 use Rattle.traffic.specs.Receipts.{oltReceiveOf, onuReceiveOf}
-use Rattle.traffic.specs.declared.OltSent.{OltSent}
 use Rattle.traffic.specs.declared.OnuReceived.{OnuReceived}
-use Rattle.traffic.specs.declared.OnuSent.{OnuSent}
 use Rattle.line.specs.Setting.{Site, Setting}
-use Rattle.line.specs.History.{Way, downward, upward, Envelope, Thing, clockMessage, keyMessage, envelope, Answered, Arrival, Lane, History, numberDown, laneRegistered, laneCaptured, laneLeaving, laneOffered, laneAcknowledged, laneSentDown, laneSentUp, laneTaken, laneAnswered, laneArrivedDown, laneArrivedUp}
+use Rattle.line.specs.History.{downward, upward, Envelope, Thing, clockMessage, keyMessage, envelope, Answered, Arrival, Lane, History, numberDown, laneRegistered, laneCaptured, laneLeaving, laneOffered, laneAcknowledged, laneSentDown, laneSentUp, laneTaken, laneAnswered, laneArrivedDown, laneArrivedUp}
 use Rattle.line.specs.Events.{Event, advance, register, capture, clockSend, offer, retry, sendDown, sendUp, arriveDown, arriveUp, arriveAnswer, overhear, strayClock, strayKey, strayAnswer, strayDown, strayUp}
 
 -- the ends and the history
@@ -149,35 +148,49 @@ offering s llid key r =
 unfoldable pub retrying : State → ℕ → KeySent → State
 retrying s llid r = atOlt s (r .olt) (r .number) llid (λ l. laneLeaving (keyMessage (r .message) (s .history .now)) l)
 
--- an envelope that left at the tick now
-unfoldable pub envelopeOf : Way → ℕ → ℕ → ℕ → List ℕ → Header → List ℕ → ℕ → ℕ → Envelope
-envelopeOf way now llid channel payload header octets count number =
+-- the envelope of the OLT's send at the tick now, under that number
+unfoldable pub envelopeDown : ℕ → Olt → ℕ → ℕ → List ℕ → List ℕ → ℕ → Envelope
+envelopeDown now o llid channel p out number =
     record {
-      way = way;
+      way = downward;
       left = now;
       llid = llid;
       channel = channel;
-      payload = payload;
-      header = header;
-      octets = octets;
-      count = count;
+      payload = p;
+      header = oltSendOf o llid channel p out .answer .header;
+      octets = oltSendOf o llid channel p out .output;
+      count = oltSendOf o llid channel p out .answer .count;
+      passage = sendingOlt o (misfit p out) llid channel (eqsOf p) .handed .passage;
       number = number;
     }
 
-unfoldable pub sendingDown : State → ℕ → ℕ → List ℕ → WithOutput OltSent → State
-sendingDown s llid channel p r =
-    atOlt s (r .answer .olt) (r .answer .number) llid
+unfoldable pub sendingDown : State → ℕ → ℕ → List ℕ → List ℕ → State
+sendingDown s llid channel p out =
+    atOlt s (oltSendOf (s .olt) llid channel p out .answer .olt) (oltSendOf (s .olt) llid channel p out .answer .number) llid
     (λ l.
-    laneSentDown (s .history .now)
-    (envelopeOf downward (s .history .now) llid channel p (r .answer .header) (r .output) (r .answer .count) (numberDown l (s .history .now))) l)
+    laneSentDown (s .history .now) (envelopeDown (s .history .now) (s .olt) llid channel p out (numberDown l (s .history .now))) l)
 
-unfoldable pub sendingUp : State → ℕ → ℕ → ℕ → List ℕ → WithOutput OnuSent → State
-sendingUp s u llid channel p r =
-    atOnu s u (r .answer .onu)
-    (noted (r .answer .number)
-    (λ l.
-    laneSentUp
-    (envelopeOf upward (s .history .now) llid channel p (r .answer .header) (r .output) (r .answer .count) (l .keys .number)) l))
+-- the envelope of a unit's send
+unfoldable pub envelopeUp : ℕ → Onu → ℕ → ℕ → List ℕ → List ℕ → ℕ → Envelope
+envelopeUp now o llid channel p out number =
+    record {
+      way = upward;
+      left = now;
+      llid = llid;
+      channel = channel;
+      payload = p;
+      header = onuSendOf o llid channel p out .answer .header;
+      octets = onuSendOf o llid channel p out .output;
+      count = onuSendOf o llid channel p out .answer .count;
+      passage = sendingOnu o (misfit p out) llid channel (eqsOf p) .handed .passage;
+      number = number;
+    }
+
+unfoldable pub sendingUp : State → ℕ → ℕ → ℕ → List ℕ → List ℕ → State
+sendingUp s u llid channel p out =
+    atOnu s u (onuSendOf (onuAt s u) llid channel p out .answer .onu)
+    (noted (onuSendOf (onuAt s u) llid channel p out .answer .number)
+    (λ l. laneSentUp (envelopeUp (s .history .now) (onuAt s u) llid channel p out (l .keys .number)) l))
 
 -- the unit's answer to a message that arrived
 unfoldable pub messageArriving : State → ℕ → ℕ → OnuAcknowledged → State
@@ -208,7 +221,18 @@ thingArriving s u k out (envelope e) = envelopeArriving s u k e out
 -- an envelope that never was: of zeros
 unfoldable pub noEnvelope : Envelope
 noEnvelope =
-    envelopeOf downward 0 0 0 [] (record { channel = 0; llid = 0; encenabled = 0; enckey = 0; epam = 0 }) [] 0 0
+    record {
+      way = downward;
+      left = 0;
+      llid = 0;
+      channel = 0;
+      payload = [];
+      header = noSending .header;
+      octets = [];
+      count = 0;
+      passage = noSending .passage;
+      number = 0;
+    }
 
 abbrev pub thingAt : State → ℕ → ℕ → Thing
 thingAt s u k = getD (laneAt s u .transit .towards) k (envelope noEnvelope)
@@ -260,8 +284,8 @@ step s (capture llid) =
 step s (clockSend llid) = clockSending s llid (clockSendOf (s .olt) llid)
 step s (offer llid key) = offering s llid key (offerOf (s .olt) llid key)
 step s (retry llid) = retrying s llid (retryOf (s .olt) llid)
-step s (sendDown llid channel p out) = sendingDown s llid channel p (oltSendOf (s .olt) llid channel p out)
-step s (sendUp u llid channel p out) = sendingUp s u llid channel p (onuSendOf (onuAt s u) llid channel p out)
+step s (sendDown llid channel p out) = sendingDown s llid channel p out
+step s (sendUp u llid channel p out) = sendingUp s u llid channel p out
 step s (arriveDown u k out) = thingArriving s u k out (thingAt s u k)
 step s (arriveUp u k out) = arrivingUp s u k (envelopeAt s u k) out
 step s (arriveAnswer u k llid) = answering s llid (answerAt s u k .acknowledgement)

@@ -1,7 +1,8 @@
 // The theorem on the whole list (demand 3 of 01).
 ghost use mathlib.Core.Path.{_≡_};
 ghost use Rattle.line.specs.Run.{laneAt};
-ghost use Rattle.line.specs.Demand.{Demand, played};
+ghost use Rattle.line.specs.Course.{played};
+ghost use Rattle.line.specs.Demand.{Demand};
 
 // The switches to the first unit in the example's list. The theorem stands in its contract, with what it says of that list.
 pub fn example_switches() -> u32

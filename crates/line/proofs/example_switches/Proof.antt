@@ -1,13 +1,12 @@
 -- `line::example_switches` meets its contract: the list is played by computing, and the theorem is cited.
 -- Assumes nothing.
 use mathlib.Core.Path.{refl}
-use Rattle.line.proofs.Opened.{opened}
-use Rattle.line.proofs.Example.{demand}
+use Rattle.line.proofs.Example.{listed, demand}
 use Rattle.line.proofs.example_switches.Statement.{statement}
 use Rattle.line.proofs.example_switches.Tie as tie
 
 returns : tie.Need-returns
-unfolding opened
+unfolding listed
 returns c = (refl, demand)
 
 pub example-switches-spec : {M : Type 1} → statement M

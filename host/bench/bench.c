@@ -7,6 +7,7 @@
 #include "measure.h"
 #include "openssl.h"
 #include "work.h"
+#include "yardstick.h"
 
 #include <stdio.h>
 #include <stdlib.h>
@@ -250,6 +251,10 @@ int main(int argc, char **argv)
     works_make();
     if (argc > 1 && strcmp(argv[1], OPENSSL_BARE) == 0)
         return openssl_bare_main();
+    if (argc > 1 && strcmp(argv[1], "--copies") == 0) {
+        yardstick_print_copies();
+        return 0;
+    }
     openssl = openssl_start(argv[0]);
     expanded = jazmotip_expand_key(work_key);
     check_works();
@@ -262,6 +267,7 @@ int main(int argc, char **argv)
         openssl->stop();
     }
     double flatness = print_flatness();
+    yardstick_print();
     calls_print();
     print_goals(flatness);
     return 0;

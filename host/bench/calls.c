@@ -78,6 +78,10 @@ CALL(seal_clear, jazmotip_payload_answer,
      jazmotip_seal(0, work_key, nonce, s->work->input, s->work->length, s->work->output, s->work->length), 0)
 CALL(seal_expanded, jazmotip_payload_answer,
      jazmotip_seal_expanded(1, round_keys, nonce, s->work->input, s->work->length, s->work->output, s->work->length), 0)
+/* Turn by turn the output is sealed and opened where it lies. */
+CALL(seal_in_place, jazmotip_payload_answer, jazmotip_seal_in_place(1, work_key, nonce, s->work->output, s->work->length), 0)
+CALL(seal_expanded_in_place, jazmotip_payload_answer,
+     jazmotip_seal_expanded_in_place(1, round_keys, nonce, s->work->output, s->work->length), 0)
 
 static void expand_key(void *job)
 {
@@ -178,9 +182,9 @@ static void print_ends(void)
         {"receive, 8 EQs", onu_receive_8},
     };
     scene_make_empty(&empty);
-    scene_make(&one, 1, 1, 1);
-    scene_make(&full, 16, 4, 1);
-    scene_make(&worst, 16, 4, 256);
+    scene_make(&one, 1, 1, scene_in_order);
+    scene_make(&full, 16, 4, scene_in_order);
+    scene_make(&worst, 16, 4, scene_alike);
     printf("| OLT call, ns | empty table, units unknown | 1 unit, 1 LLID | 16 units of 4 LLIDs |"
            " the same, LLIDs alike modulo 256 | stack, octets |\n|---|---:|---:|---:|---:|---:|\n");
     print_row("fresh", olt_fresh, no_table, 4);
@@ -201,6 +205,8 @@ static void print_payloads(void)
         {"seal, enciphered", seal},
         {"seal, clear", seal_clear},
         {"seal_expanded", seal_expanded},
+        {"seal_in_place", seal_in_place},
+        {"seal_expanded_in_place", seal_expanded_in_place},
     };
     eight.work = &works[1];
     more.work = &works[3];

@@ -4,12 +4,29 @@
 #include <stdio.h>
 #include <stdlib.h>
 
-/* Unit i, with LLIDs that are `stride` apart. */
-static jazmotip_identity identity_of(int i, int llids, int stride)
+uint16_t scene_in_order(int k)
+{
+    return (uint16_t)k;
+}
+
+uint16_t scene_alike(int k)
+{
+    return (uint16_t)(256 * k);
+}
+
+/* Steps that can be taken back, so that two are never the same. */
+uint16_t scene_random(int k)
+{
+    uint16_t llid = (uint16_t)(0x9e37 * (k + 1));
+    llid = (uint16_t)((llid ^ llid >> 7) * 0x2c1b);
+    return llid ^ llid >> 9;
+}
+
+static jazmotip_identity identity_of(int i, int llids, scene_llids *llid_of)
 {
     jazmotip_identity identity = {.mac = WORK_MAC + 16 + (uint64_t)i, .count = (uint8_t)llids};
     for (int j = 0; j < llids; j++)
-        identity.llids[j] = (uint16_t)(stride * (4 * i + j));
+        identity.llids[j] = llid_of(4 * i + j);
     return identity;
 }
 
@@ -71,19 +88,19 @@ static void join_onu(struct scene *s)
     s->active = s->onu_advancing = received.onu;
 }
 
-void scene_make(struct scene *s, int units, int llids, int stride)
+void scene_make(struct scene *s, int units, int llids, scene_llids *llid_of)
 {
     jazmotip_olt olt;
     STEP(olt, jazmotip_olt_answer, jazmotip_olt_fresh(SCENE_OLT_MAC, 0));
     for (int i = 0; i < units; i++) {
         s->one_less = olt;
-        s->identity = identity_of(i, llids, stride);
+        s->identity = identity_of(i, llids, llid_of);
         STEP(olt, jazmotip_olt_answer, jazmotip_olt_register(olt, s->identity, SCENE_TRIP, SCENE_INTERVAL));
         s->llid = s->identity.llids[llids - 1];
         olt = join(s, olt, s->llid);
     }
     s->steady = s->advancing = olt;
-    s->stranger = identity_of(units, llids, stride);
+    s->stranger = identity_of(units, llids, llid_of);
     s->eight = &works[1];
     s->refused = 0;
     join_onu(s);
@@ -94,7 +111,7 @@ void scene_make_empty(struct scene *s)
     jazmotip_olt olt;
     STEP(olt, jazmotip_olt_answer, jazmotip_olt_fresh(SCENE_OLT_MAC, 0));
     s->one_less = s->captured = s->offered = s->steady = s->advancing = olt;
-    s->identity = identity_of(0, 1, 1);
+    s->identity = identity_of(0, 1, scene_in_order);
     s->llid = s->identity.llids[0];
     s->upstream = (jazmotip_header){0x80, s->llid, 1, 1, 0};
     s->eight = &works[1];

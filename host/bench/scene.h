@@ -19,7 +19,7 @@ struct scene {
     jazmotip_identity identity; /* of the last unit */
     jazmotip_identity stranger; /* of none */
     uint16_t llid;
-    jazmotip_olt one_less, captured, offered, steady, advancing;
+    jazmotip_olt one_less, captured, offered, steady, advancing, pointed;
     jazmotip_header upstream;
     jazmotip_stamps stamps;
     jazmotip_key_message key_message;
@@ -31,8 +31,12 @@ struct scene {
     uint8_t refused;          /* not 0 once a call was answered with another number than it should be */
 };
 
-/* An OLT of so many units, each with so many LLIDs that are `stride` apart. */
-void scene_make(struct scene *s, int units, int llids, int stride);
+/* LLID k of a table. Those of a scene: from 0 up; all alike modulo 256; and as if at random, none twice. */
+typedef uint16_t scene_llids(int k);
+scene_llids scene_in_order, scene_alike, scene_random;
+
+/* An OLT of so many units, each with so many LLIDs. */
+void scene_make(struct scene *s, int units, int llids, scene_llids *llid_of);
 
 /* A table without units: a unit can be registered, and every call that names one is refused. */
 void scene_make_empty(struct scene *s);

@@ -1,0 +1,5 @@
+pub mod Values
+pub mod Timers
+pub mod Answers
+pub mod Moves
+pub mod Keys

@@ -1,0 +1,135 @@
+// The moves of the OLT, state by state (003, 15.5.3.2).
+ghost use mathlib.Core.Path.{_≡_};
+ghost use Rattle.xgpon.specs.Answers.{accepted, confirm, generate};
+ghost use Rattle.xgpon.specs.Timers.{noTimer, onlyTk3};
+ghost use Rattle.xgpon.specs.Moves.{inKl0, inKl1, inKl2, inKl3, inKl4, stepOf};
+use crate::answers::Answer;
+use crate::answers::SILENT;
+use crate::answers::accept;
+use crate::answers::await_index;
+use crate::answers::confirm;
+use crate::answers::generate;
+use crate::answers::refuse;
+use crate::answers::stay;
+use crate::timers::NO_TIMER;
+use crate::timers::ONLY_TK2;
+use crate::timers::ONLY_TK3;
+use crate::timers::TK1_AND_TK2;
+use crate::timers::TK1_AND_TK3;
+use crate::timers::Timers;
+use crate::values::FRESH;
+use crate::values::KL2;
+use crate::values::KL3;
+use crate::values::KL4;
+use crate::values::KeyExchange;
+use crate::values::NO_KEY;
+use crate::values::State;
+use crate::values::in_state;
+use crate::values::requesting;
+use crate::values::state_of;
+use refusal::Refusal;
+
+// What the OLT is handed: a report with the key index that it names, the expiry of a timer, or a decision of its own.
+pub enum Input {
+    NewKey(u8),
+    ExistingKey(u8),
+    Tk1Expires,
+    Tk2Expires,
+    Tk3Expires,
+    Begin,
+    BeginToSend,
+    Rekey,
+    KeyCheck,
+}
+
+// Generate is sent for the new key.
+fn request(next: KeyExchange, starts: Timers) -> Answer
+    ensures { λ r. ⌜ r ≡ accepted next (generate (next .new)) starts noTimer ⌝ }
+{
+    accept(next, generate(next.new), starts, NO_TIMER)
+}
+
+// Confirm is sent for the new key, and its report awaited.
+fn confirm_new(next: KeyExchange) -> Answer
+    ensures { λ r. ⌜ r ≡ accepted next (confirm (next .new)) onlyTk3 noTimer ⌝ }
+{
+    accept(next, confirm(next.new), ONLY_TK3, NO_TIMER)
+}
+
+fn in_kl0(x: KeyExchange, input: Input) -> Answer
+    ensures { λ r. ⌜ r ≡ inKl0 x input ⌝ }
+{
+    match input {
+        Input::Begin => request(requesting(NO_KEY), TK1_AND_TK2),
+        _ => stay(x),
+    }
+}
+
+fn in_kl1(x: KeyExchange, input: Input) -> Answer
+    ensures { λ r. ⌜ r ≡ inKl1 x input ⌝ }
+{
+    match input {
+        Input::NewKey(index) => await_index(
+            x,
+            index,
+            accept(in_state(KL2, x), SILENT, NO_TIMER, ONLY_TK2),
+        ),
+        Input::ExistingKey(index) => await_index(x, index, stay(x)),
+        Input::Tk1Expires => request(x, TK1_AND_TK2),
+        Input::Tk2Expires => request(x, ONLY_TK2),
+        _ => stay(x),
+    }
+}
+
+fn in_kl2(x: KeyExchange, input: Input) -> Answer
+    ensures { λ r. ⌜ r ≡ inKl2 x input ⌝ }
+{
+    match input {
+        Input::Tk1Expires => accept(FRESH, SILENT, NO_TIMER, NO_TIMER),
+        Input::BeginToSend => confirm_new(in_state(KL3, x)),
+        _ => stay(x),
+    }
+}
+
+fn in_kl3(x: KeyExchange, input: Input) -> Answer
+    ensures { λ r. ⌜ r ≡ inKl3 x input ⌝ }
+{
+    match input {
+        Input::NewKey(index) => await_index(x, index, stay(x)),
+        Input::ExistingKey(index) => await_index(
+            x,
+            index,
+            accept(in_state(KL4, x), SILENT, NO_TIMER, TK1_AND_TK3),
+        ),
+        Input::Tk1Expires => accept(FRESH, SILENT, NO_TIMER, ONLY_TK3),
+        Input::Tk2Expires => confirm_new(x),
+        Input::Tk3Expires => confirm_new(x),
+        _ => stay(x),
+    }
+}
+
+fn in_kl4(x: KeyExchange, input: Input) -> Answer
+    ensures { λ r. ⌜ r ≡ inKl4 x input ⌝ }
+{
+    match input {
+        Input::NewKey(index) => await_index(x, index, stay(x)),
+        Input::ExistingKey(index) => await_index(x, index, stay(x)),
+        Input::Rekey => request(requesting(x.new), TK1_AND_TK2),
+        Input::KeyCheck => accept(x, confirm(x.new), NO_TIMER, NO_TIMER),
+        _ => stay(x),
+    }
+}
+
+pub fn step(x: KeyExchange, input: Input) -> Answer
+    ensures { λ r. ⌜ r ≡ stepOf x input ⌝ }
+{
+    let state = state_of(x);
+    match state {
+        State::KL0 => in_kl0(x, input),
+        State::KL1 => in_kl1(x, input),
+        State::KL2 => in_kl2(x, input),
+        State::KL3 => in_kl3(x, input),
+        State::KL4 => in_kl4(x, input),
+        State::Outside => refuse(x, Refusal::OutOfRange),
+    }
+}

@@ -3,3 +3,5 @@ pub mod Timers
 pub mod Answers
 pub mod Moves
 pub mod Keys
+pub mod Run
+pub mod Laws

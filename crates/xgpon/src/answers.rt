@@ -8,7 +8,7 @@ use crate::values::KeyExchange;
 use refusal::Refusal;
 use refusal::number;
 
-pub const SILENT: KeyControl = KeyControl { kind: 0, index: 0 };
+pub(crate) const SILENT: KeyControl = KeyControl { kind: 0, index: 0 };
 
 pub const GENERATE: u8 = 1;
 
@@ -31,7 +31,7 @@ pub struct Answer {
     pub stops: Timers,
 }
 
-pub fn generate(index: u8) -> KeyControl
+pub(crate) fn generate(index: u8) -> KeyControl
     ensures { λ r. ⌜ r ≡ generate index ⌝ }
 {
     KeyControl {
@@ -40,7 +40,7 @@ pub fn generate(index: u8) -> KeyControl
     }
 }
 
-pub fn confirm(index: u8) -> KeyControl
+pub(crate) fn confirm(index: u8) -> KeyControl
     ensures { λ r. ⌜ r ≡ confirm index ⌝ }
 {
     KeyControl {
@@ -49,7 +49,12 @@ pub fn confirm(index: u8) -> KeyControl
     }
 }
 
-pub fn accept(next: KeyExchange, message: KeyControl, starts: Timers, stops: Timers) -> Answer
+pub(crate) fn accept(
+    next: KeyExchange,
+    message: KeyControl,
+    starts: Timers,
+    stops: Timers,
+) -> Answer
     ensures { λ r. ⌜ r ≡ accepted next message starts stops ⌝ }
 {
     Answer {
@@ -61,7 +66,7 @@ pub fn accept(next: KeyExchange, message: KeyControl, starts: Timers, stops: Tim
     }
 }
 
-pub fn stay(exchange: KeyExchange) -> Answer
+pub(crate) fn stay(exchange: KeyExchange) -> Answer
     ensures { λ r. ⌜ r ≡ stays exchange ⌝ }
 {
     accept(exchange, SILENT, NO_TIMER, NO_TIMER)
@@ -80,7 +85,7 @@ pub fn refuse(exchange: KeyExchange, refusal: Refusal) -> Answer
 }
 
 // A report of the awaited index, the new key's, gets the answer, one of another index 25.
-pub fn await_index(exchange: KeyExchange, index: u8, answer: Answer) -> Answer
+pub(crate) fn await_index(exchange: KeyExchange, index: u8, answer: Answer) -> Answer
     ensures { λ r. ⌜ r ≡ awaited exchange index answer ⌝ }
 {
     if index == exchange.new {

@@ -1,7 +1,9 @@
 // The moves of the OLT, state by state (003, 15.5.3.2).
 ghost use mathlib.Core.Path.{_≡_};
-ghost use Rattle.xgpon.specs.Answers.{accepted, confirm, generate};
+ghost use Rattle.xgpon.specs.Answers.{accepted, confirm, generate, silent};
 ghost use Rattle.xgpon.specs.Timers.{noTimer, onlyTk3};
+ghost use Rattle.xgpon.specs.Laws.{Laws};
+ghost use Rattle.xgpon.specs.Values.{freshExchange, inState};
 ghost use Rattle.xgpon.specs.Moves.{inKl0, inKl1, inKl2, inKl3, inKl4, stepOf};
 use crate::answers::Answer;
 use crate::answers::SILENT;
@@ -42,6 +44,13 @@ pub enum Input {
     KeyCheck,
 }
 
+// The awaited report has come.
+fn move_on(state: u8, x: KeyExchange, stops: Timers) -> Answer
+    ensures { λ r. ⌜ r ≡ accepted (inState state x) silent noTimer stops ⌝ }
+{
+    accept(in_state(state, x), SILENT, NO_TIMER, stops)
+}
+
 // Generate is sent for the new key.
 fn request(next: KeyExchange, starts: Timers) -> Answer
     ensures { λ r. ⌜ r ≡ accepted next (generate (next .new)) starts noTimer ⌝ }
@@ -69,11 +78,7 @@ fn in_kl1(x: KeyExchange, input: Input) -> Answer
     ensures { λ r. ⌜ r ≡ inKl1 x input ⌝ }
 {
     match input {
-        Input::NewKey(index) => await_index(
-            x,
-            index,
-            accept(in_state(KL2, x), SILENT, NO_TIMER, ONLY_TK2),
-        ),
+        Input::NewKey(index) => await_index(x, index, move_on(KL2, x, ONLY_TK2)),
         Input::ExistingKey(index) => await_index(x, index, stay(x)),
         Input::Tk1Expires => request(x, TK1_AND_TK2),
         Input::Tk2Expires => request(x, ONLY_TK2),
@@ -96,11 +101,7 @@ fn in_kl3(x: KeyExchange, input: Input) -> Answer
 {
     match input {
         Input::NewKey(index) => await_index(x, index, stay(x)),
-        Input::ExistingKey(index) => await_index(
-            x,
-            index,
-            accept(in_state(KL4, x), SILENT, NO_TIMER, TK1_AND_TK3),
-        ),
+        Input::ExistingKey(index) => await_index(x, index, move_on(KL4, x, TK1_AND_TK3)),
         Input::Tk1Expires => accept(FRESH, SILENT, NO_TIMER, ONLY_TK3),
         Input::Tk2Expires => confirm_new(x),
         Input::Tk3Expires => confirm_new(x),
@@ -118,6 +119,14 @@ fn in_kl4(x: KeyExchange, input: Input) -> Answer
         Input::KeyCheck => accept(x, confirm(x.new), NO_TIMER, NO_TIMER),
         _ => stay(x),
     }
+}
+
+// A key exchange that has not begun. What holds of every step, and of every run from here, stands in the contract.
+pub fn fresh() -> KeyExchange
+    ensures { λ r. ⌜ r ≡ freshExchange ⌝ }
+    ensures laws { λ r. ⌜ Laws ⌝ }
+{
+    FRESH
 }
 
 pub fn step(x: KeyExchange, input: Input) -> Answer

@@ -34,12 +34,32 @@ pub fn recommended_starts() -> TimerStarts
     }
 }
 
-pub const NO_TIMER: Timers = Timers { tk1: 0, tk2: 0, tk3: 0 };
+pub(crate) const NO_TIMER: Timers = Timers {
+    tk1: 0,
+    tk2: 0,
+    tk3: 0,
+};
 
-pub const ONLY_TK2: Timers = Timers { tk1: 0, tk2: 1, tk3: 0 };
+pub(crate) const ONLY_TK2: Timers = Timers {
+    tk1: 0,
+    tk2: 1,
+    tk3: 0,
+};
 
-pub const ONLY_TK3: Timers = Timers { tk1: 0, tk2: 0, tk3: 1 };
+pub(crate) const ONLY_TK3: Timers = Timers {
+    tk1: 0,
+    tk2: 0,
+    tk3: 1,
+};
 
-pub const TK1_AND_TK2: Timers = Timers { tk1: 1, tk2: 1, tk3: 0 };
+pub(crate) const TK1_AND_TK2: Timers = Timers {
+    tk1: 1,
+    tk2: 1,
+    tk3: 0,
+};
 
-pub const TK1_AND_TK3: Timers = Timers { tk1: 1, tk2: 0, tk3: 1 };
+pub(crate) const TK1_AND_TK3: Timers = Timers {
+    tk1: 1,
+    tk2: 0,
+    tk3: 1,
+};

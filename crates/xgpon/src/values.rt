@@ -12,11 +12,11 @@ pub const KL3: u8 = 3;
 
 pub const KL4: u8 = 4;
 
-pub const NO_KEY: u8 = 0;
+pub(crate) const NO_KEY: u8 = 0;
 
-pub const FIRST_INDEX: u8 = 1;
+pub(crate) const FIRST_INDEX: u8 = 1;
 
-pub const SECOND_INDEX: u8 = 2;
+pub(crate) const SECOND_INDEX: u8 = 2;
 
 #[repr(C)]
 pub struct KeyExchange {
@@ -28,7 +28,7 @@ pub struct KeyExchange {
     pub new: u8,
 }
 
-pub const FRESH: KeyExchange = KeyExchange {
+pub(crate) const FRESH: KeyExchange = KeyExchange {
     state: KL0,
     old: NO_KEY,
     new: NO_KEY,
@@ -45,7 +45,7 @@ pub enum State {
 }
 
 // The index of the key that is asked for while the key at `active` is in use.
-pub fn index_after(active: u8) -> u8
+pub(crate) fn index_after(active: u8) -> u8
     ensures { λ r. ⌜ r ≡ indexAfter active ⌝ }
 {
     if active == FIRST_INDEX {
@@ -77,7 +77,7 @@ fn keys_fit(state: State, old: u8, new: u8) -> bool
     }
 }
 
-pub fn state_of(exchange: KeyExchange) -> State
+pub(crate) fn state_of(exchange: KeyExchange) -> State
     ensures { λ r. ⌜ r ≡ stateOf exchange ⌝ }
 {
     let state = state_named(exchange.state);
@@ -87,7 +87,7 @@ pub fn state_of(exchange: KeyExchange) -> State
     State::Outside
 }
 
-pub fn in_state(state: u8, exchange: KeyExchange) -> KeyExchange
+pub(crate) fn in_state(state: u8, exchange: KeyExchange) -> KeyExchange
     ensures { λ r. ⌜ r ≡ inState state exchange ⌝ }
 {
     KeyExchange {
@@ -97,7 +97,7 @@ pub fn in_state(state: u8, exchange: KeyExchange) -> KeyExchange
     }
 }
 
-pub fn requesting(active: u8) -> KeyExchange
+pub(crate) fn requesting(active: u8) -> KeyExchange
     ensures { λ r. ⌜ r ≡ requesting active ⌝ }
 {
     KeyExchange {

@@ -31,7 +31,7 @@ rest x Rekey h = refl
 rest x KeyCheck h = refl
 
 returns : tie.Need-returns
-returns c = rw (c .before .before .before .before .input .given .1) cc
+returns c = rw (c .before .before .before .input .given .1) cc
 
 returns-2 : tie.Need-returns-2
 returns-2 c = rw (c .before .before .before .input2 .given .1) cc
@@ -50,7 +50,6 @@ in-kl1-spec =
     tie.close
     (tie.spec
     (λ c. search needs)
-    (λ c κs. search needs)
     (λ c κs. search needs)
     (λ c κs. search needs)
     (λ c. search needs)

@@ -34,7 +34,7 @@ returns : tie.Need-returns
 returns c = rw (c .before .before .before .input .given .1) cc
 
 returns-2 : tie.Need-returns-2
-returns-2 c = rw (c .before .before .before .before .input2 .given .1) cc
+returns-2 c = rw (c .before .before .before .input2 .given .1) cc
 
 returns-3 : tie.Need-returns-3
 returns-3 c = rw (c .before .enum-told .given .1) cc
@@ -56,7 +56,6 @@ in-kl3-spec =
     (λ c κs. search needs)
     (λ c κs. search needs)
     (λ c. search needs)
-    (λ c κs. search needs)
     (λ c κs. search needs)
     (λ c κs. search needs)
     (λ c. search needs)

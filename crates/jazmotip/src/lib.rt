@@ -5,3 +5,4 @@ pub mod at_olt;
 pub mod at_onu;
 pub mod blocks;
 pub mod payloads;
+pub mod xgpon;

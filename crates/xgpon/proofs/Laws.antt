@@ -58,8 +58,8 @@ mute true a c f g = f
 mute false a c f g = g
 
 asks-kl1 : (x : KeyExchange) (input : Input) → inKl1 x input .message .kind ≡ generateKind → Asking x (inKl1 x input) KL1
-asks-kl1 x (NewKey i) e = let m : inKl1 x (NewKey i) .message .kind ≡ 0 = mute (eqb i (x .new)) _ _ refl refl in absurd (omega arith)
-asks-kl1 x (ExistingKey i) e = let m : inKl1 x (ExistingKey i) .message .kind ≡ 0 = mute (eqb i (x .new)) _ _ refl refl in absurd (omega arith)
+asks-kl1 x (NewKey i) e = let m : inKl1 x (NewKey i) .message .kind ≡ 0 = mute (eqb i (x .newkey)) _ _ refl refl in absurd (omega arith)
+asks-kl1 x (ExistingKey i) e = let m : inKl1 x (ExistingKey i) .message .kind ≡ 0 = mute (eqb i (x .newkey)) _ _ refl refl in absurd (omega arith)
 asks-kl1 x Tk1Expires e = again refl
 asks-kl1 x Tk2Expires e = again refl
 asks-kl1 x Tk3Expires e = absurd (omega arith)
@@ -80,8 +80,8 @@ asks-kl2 x Rekey e = omega arith
 asks-kl2 x KeyCheck e = omega arith
 
 asks-kl3 : (x : KeyExchange) (input : Input) → inKl3 x input .message .kind ≡ generateKind → ⊥
-asks-kl3 x (NewKey i) e = let m : inKl3 x (NewKey i) .message .kind ≡ 0 = mute (eqb i (x .new)) _ _ refl refl in omega arith
-asks-kl3 x (ExistingKey i) e = let m : inKl3 x (ExistingKey i) .message .kind ≡ 0 = mute (eqb i (x .new)) _ _ refl refl in omega arith
+asks-kl3 x (NewKey i) e = let m : inKl3 x (NewKey i) .message .kind ≡ 0 = mute (eqb i (x .newkey)) _ _ refl refl in omega arith
+asks-kl3 x (ExistingKey i) e = let m : inKl3 x (ExistingKey i) .message .kind ≡ 0 = mute (eqb i (x .newkey)) _ _ refl refl in omega arith
 asks-kl3 x Tk1Expires e = omega arith
 asks-kl3 x Tk2Expires e = omega arith
 asks-kl3 x Tk3Expires e = omega arith
@@ -102,7 +102,7 @@ asks x input Outside e = absurd (omega arith)
 old-apart : {o n : ℕ} → Pair o n → Among (validKeys noKey n) o → ⊥
 old-apart pair a = ⊎-elim (λ e. omega (arith, a .index)) (λ e. pair-apart pair e) (a .one)
 
-old-invalid : {x : KeyExchange} → Valued x → Among (validKeys noKey (x .new)) (x .old) → ⊥
+old-invalid : {x : KeyExchange} → Valued x → Among (validKeys noKey (x .newkey)) (x .oldkey) → ⊥
 old-invalid none a = omega (arith, a .index)
 old-invalid (requesting pair) a = old-apart pair a
 old-invalid (knowing pair) a = old-apart pair a

@@ -37,7 +37,7 @@ pair-next second = third
 pair-next third = second
 
 abbrev pub exchange : ℕ → ℕ → ℕ → KeyExchange
-exchange state old new = record { state = state; old = old; new = new }
+exchange state oldkey newkey = record { state = state; oldkey = oldkey; newkey = newkey }
 
 -- the values of the five states
 pub data Valued : KeyExchange → Type 0 where
@@ -70,4 +70,4 @@ valued-at (suc (suc (suc (suc zero)))) o n true e h = activated (pair-of o n e)
 valued-at (suc (suc (suc (suc (suc s))))) o n true e h = absurd (h refl)
 
 pub valued : (x : KeyExchange) → (stateOf x ≡ Outside → ⊥) → Valued x
-valued x h = valued-at (x .state) (x .old) (x .new) (keysOf (x .old) (x .new)) refl h
+valued x h = valued-at (x .state) (x .oldkey) (x .newkey) (keysOf (x .oldkey) (x .newkey)) refl h

@@ -25,7 +25,7 @@ pub record Held (reported : ℕ → Bool) (i : ℕ) : Type 0 where
   pub known : 1 ≤ i → reported i ≡ true
 
 abbrev past : ℕ → ℕ → ℕ → Timers → (ℕ → Bool) → Past
-past state old new t k = record { exchange = exchange state old new; running = t; reported = k }
+past state oldkey newkey t k = record { exchange = exchange state oldkey newkey; running = t; reported = k }
 
 pub data Sound : Past → Type 0 where
   inactive : (k : ℕ → Bool) → Sound (past kl0 noKey noKey noTimer k)

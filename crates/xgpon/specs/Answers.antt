@@ -46,4 +46,4 @@ answerIf true answer otherwise = answer
 answerIf false answer otherwise = otherwise
 
 abbrev pub awaited : KeyExchange → ℕ → Answer → Answer
-awaited x index answer = answerIf (eqb index (x .new)) answer (refused x OtherKeyIndex)
+awaited x index answer = answerIf (eqb index (x .newkey)) answer (refused x OtherKeyIndex)

@@ -21,7 +21,7 @@ use Rattle.xgpon.specs.declared.values.State.the-variants.{KL0, KL1, KL4
 -- the key at that index is one of those that are valid
 pub record Among (keys : ValidKeys) (i : ℕ) : Type 0 where
   pub index : 1 ≤ i
-  pub one : (i ≡ keys .old) ⊎ (i ≡ keys .new)
+  pub one : (i ≡ keys .oldkey) ⊎ (i ≡ keys .newkey)
 
 -- where a Generate is sent: an exchange begins in KL0 and KL4 alone; in KL1 the key of the exchange that is under way is asked for again
 pub data Asking (x : KeyExchange) (a : Answer) : State → Type 0 where
@@ -45,8 +45,8 @@ pub record Laws : Type 0 where
   -- and so was one that may be received under
   pub reportedToReceive : (inputs : List Input) (i : ℕ) → Among (receivedUnder (after inputs .exchange)) i → after inputs .reported i ≡ true
   -- the old key is never valid in KL4
-  pub oldNotSent : (x : KeyExchange) → stateOf x ≡ KL4 → Among (sentUnder x) (x .old) → ⊥
-  pub oldNotReceived : (x : KeyExchange) → stateOf x ≡ KL4 → Among (receivedUnder x) (x .old) → ⊥
+  pub oldNotSent : (x : KeyExchange) → stateOf x ≡ KL4 → Among (sentUnder x) (x .oldkey) → ⊥
+  pub oldNotReceived : (x : KeyExchange) → stateOf x ≡ KL4 → Among (receivedUnder x) (x .oldkey) → ⊥
   -- Generate begins an exchange only from KL0 and KL4
   pub begins : (x : KeyExchange) (input : Input) (i : ℕ) → stepOf x input .message ≡ generate i → Asking x (stepOf x input) (stateOf x)
   -- timers named as stopped were running

@@ -31,9 +31,9 @@ abbrev pub inKl1 : KeyExchange → Input → Answer
 inKl1 x (NewKey i) = awaited x i (accepted (inState kl2 x) silent noTimer onlyTk2)
 inKl1 x (ExistingKey i) = awaited x i (stays x)
 -- b) "If timer TK1 expires and no Key_Report(NewKey) message is received, the OLT initiates a new key request"; figure: Set TK1, Set TK2
-inKl1 x Tk1Expires = accepted x (generate (x .new)) tk1AndTk2 noTimer
+inKl1 x Tk1Expires = accepted x (generate (x .newkey)) tk1AndTk2 noTimer
 -- figure: "Timer TK2 expires" leads back to KL1: Send Key_Control (new), Set TK2
-inKl1 x Tk2Expires = accepted x (generate (x .new)) onlyTk2 noTimer
+inKl1 x Tk2Expires = accepted x (generate (x .newkey)) onlyTk2 noTimer
 inKl1 x Tk3Expires = stays x
 inKl1 x Begin = stays x
 inKl1 x BeginToSend = stays x
@@ -50,7 +50,7 @@ inKl2 x Tk2Expires = stays x
 inKl2 x Tk3Expires = stays x
 inKl2 x Begin = stays x
 -- c) "The OLT selects the moment to begin encrypting XGEM payload with the new key"; d) Confirm; figure: Set TK3
-inKl2 x BeginToSend = accepted (inState kl3 x) (confirm (x .new)) onlyTk3 noTimer
+inKl2 x BeginToSend = accepted (inState kl3 x) (confirm (x .newkey)) onlyTk3 noTimer
 inKl2 x Rekey = stays x
 inKl2 x KeyCheck = stays x
 
@@ -62,9 +62,9 @@ inKl3 x (ExistingKey i) = awaited x i (accepted (inState kl4 x) silent noTimer t
 -- figure: "Timer TK1 expires" leads to KL0
 inKl3 x Tk1Expires = accepted freshExchange silent noTimer onlyTk3
 -- d) "If timer TK2 expires and no Key_Report(ExistingKey) has been received, the OLT sends a new Key_Control(Confirm)"; figure: Set TK3
-inKl3 x Tk2Expires = accepted x (confirm (x .new)) onlyTk3 noTimer
+inKl3 x Tk2Expires = accepted x (confirm (x .newkey)) onlyTk3 noTimer
 -- figure: "Timer TK3 expires" leads back to KL3: Send Key_Control (confirm), Set TK3
-inKl3 x Tk3Expires = accepted x (confirm (x .new)) onlyTk3 noTimer
+inKl3 x Tk3Expires = accepted x (confirm (x .newkey)) onlyTk3 noTimer
 inKl3 x Begin = stays x
 inKl3 x BeginToSend = stays x
 inKl3 x Rekey = stays x
@@ -80,9 +80,9 @@ inKl4 x Tk3Expires = stays x
 inKl4 x Begin = stays x
 inKl4 x BeginToSend = stays x
 -- e) "If a rekey is required, the OLT moves to the Key Request state"; b) Generate; figure: Set TK1, Set TK2
-inKl4 x Rekey = accepted (requesting (x .new)) (generate (indexAfter (x .new))) tk1AndTk2 noTimer
+inKl4 x Rekey = accepted (requesting (x .newkey)) (generate (indexAfter (x .newkey))) tk1AndTk2 noTimer
 -- e) "If a key check is required, the OLT sends a Key_Control(Confirm) PLOAM message, but no state transition occurs"
-inKl4 x KeyCheck = accepted x (confirm (x .new)) noTimer noTimer
+inKl4 x KeyCheck = accepted x (confirm (x .newkey)) noTimer noTimer
 
 -- a lent state outside its values is refused 1 and stays (02, C-21)
 abbrev pub moveIn : State → KeyExchange → Input → Answer

@@ -1,4 +1,4 @@
--- The values of a state (003, 15.5.3.2; 02, C-21). Assumes nothing.
+-- The states of the OLT, and the values that an exchange has in each (003, 15.5.3.2; 02, C-21). Assumes nothing.
 use mathlib.Core.Bool.{Bool, true, false, _&&_}
 use Prim.Native.Nat.{ℕ, zero, suc}
 use lib.Dec.{eqb, leb}
@@ -22,34 +22,6 @@ kl3 = 3
 abbrev pub kl4 : ℕ
 kl4 = 4
 
-abbrev pub noKey : ℕ
-noKey = 0
-
-abbrev pub freshExchange : KeyExchange
-freshExchange = record { state = kl0; old = noKey; new = noKey }
-
--- the other of the two indices, and the first where there is no key
-abbrev pub otherIndex : Bool → ℕ
-otherIndex true = 2
-otherIndex false = 1
-
-abbrev pub indexAfter : ℕ → ℕ
-indexAfter active = otherIndex (eqb active 1)
-
-abbrev pub noKeys : ℕ → ℕ → Bool
-noKeys old new = eqb old noKey && eqb new noKey
-
-abbrev pub keysOf : ℕ → ℕ → Bool
-keysOf old new = leb old 2 && eqb new (indexAfter old)
-
-abbrev pub keysFit : State → ℕ → ℕ → Bool
-keysFit KL0 old new = noKeys old new
-keysFit KL1 old new = keysOf old new
-keysFit KL2 old new = keysOf old new
-keysFit KL3 old new = keysOf old new
-keysFit KL4 old new = keysOf old new
-keysFit Outside old new = false
-
 abbrev pub stateNamed : ℕ → State
 stateNamed zero = KL0
 stateNamed (suc zero) = KL1
@@ -58,17 +30,56 @@ stateNamed (suc (suc (suc zero))) = KL3
 stateNamed (suc (suc (suc (suc zero)))) = KL4
 stateNamed (suc (suc (suc (suc (suc n))))) = Outside
 
-abbrev pub within : Bool → State → State
-within true s = s
-within false s = Outside
+-- the OLT and the ONU have two keys each (003, 15.5.1: "an indexed array of two data encryption key entries"); 0 is no key's index
+abbrev pub noKey : ℕ
+noKey = 0
 
-abbrev pub stateOf : KeyExchange → State
-stateOf x = within (keysFit (stateNamed (x .state)) (x .old) (x .new)) (stateNamed (x .state))
+abbrev pub firstIndex : ℕ
+firstIndex = 1
 
--- with the keys that it has, in that state
-abbrev pub inState : ℕ → KeyExchange → KeyExchange
-inState state x = record { state = state; old = x .old; new = x .new }
+abbrev pub secondIndex : ℕ
+secondIndex = 2
+
+abbrev pub otherThanFirst : Bool → ℕ
+otherThanFirst true = secondIndex
+otherThanFirst false = firstIndex
+
+-- the index of the key that is asked for while the one at `active` is in use: the first where there is none, else the other of the two
+abbrev pub indexAfter : ℕ → ℕ
+indexAfter active = otherThanFirst (eqb active firstIndex)
+
+-- an exchange that has not begun: no keys
+abbrev pub freshExchange : KeyExchange
+freshExchange = record { state = kl0; oldkey = noKey; newkey = noKey }
 
 -- a new key is requested
 abbrev pub requesting : ℕ → KeyExchange
-requesting active = record { state = kl1; old = active; new = indexAfter active }
+requesting active = record { state = kl1; oldkey = active; newkey = indexAfter active }
+
+-- that state, with the keys as they are
+abbrev pub inState : ℕ → KeyExchange → KeyExchange
+inState state x = record { state = state; oldkey = x .oldkey; newkey = x .newkey }
+
+-- in KL0 there are no keys
+abbrev pub noKeys : ℕ → ℕ → Bool
+noKeys oldkey newkey = eqb oldkey noKey && eqb newkey noKey
+
+-- from KL1 on there may be an old key, and the new one follows on it
+abbrev pub keysOf : ℕ → ℕ → Bool
+keysOf oldkey newkey = leb oldkey secondIndex && eqb newkey (indexAfter oldkey)
+
+abbrev pub keysFit : State → ℕ → ℕ → Bool
+keysFit KL0 oldkey newkey = noKeys oldkey newkey
+keysFit KL1 oldkey newkey = keysOf oldkey newkey
+keysFit KL2 oldkey newkey = keysOf oldkey newkey
+keysFit KL3 oldkey newkey = keysOf oldkey newkey
+keysFit KL4 oldkey newkey = keysOf oldkey newkey
+keysFit Outside oldkey newkey = false
+
+abbrev pub stateIf : Bool → State → State
+stateIf true s = s
+stateIf false s = Outside
+
+-- the state that the numbers of an exchange stand for, none if they are outside their values
+abbrev pub stateOf : KeyExchange → State
+stateOf x = stateIf (keysFit (stateNamed (x .state)) (x .oldkey) (x .newkey)) (stateNamed (x .state))

@@ -88,7 +88,7 @@ pub fn refuse(exchange: KeyExchange, refusal: Refusal) -> Answer
 pub(crate) fn await_index(exchange: KeyExchange, index: u8, answer: Answer) -> Answer
     ensures { λ r. ⌜ r ≡ awaited exchange index answer ⌝ }
 {
-    if index == exchange.new {
+    if index == exchange.newkey {
         return answer;
     }
     refuse(exchange, Refusal::OtherKeyIndex)

@@ -13,17 +13,17 @@ use refusal::number;
 pub struct ValidKeys {
     // 0, or the refusal's number
     pub number: u8,
-    pub old: u8,
-    pub new: u8,
+    pub oldkey: u8,
+    pub newkey: u8,
 }
 
-fn valid_keys(old: u8, new: u8) -> ValidKeys
-    ensures { λ r. ⌜ r ≡ validKeys old new ⌝ }
+fn valid_keys(oldkey: u8, newkey: u8) -> ValidKeys
+    ensures { λ r. ⌜ r ≡ validKeys oldkey newkey ⌝ }
 {
     ValidKeys {
         number: 0,
-        old,
-        new,
+        oldkey,
+        newkey,
     }
 }
 
@@ -32,8 +32,8 @@ fn outside() -> ValidKeys
 {
     ValidKeys {
         number: number(Refusal::OutOfRange),
-        old: NO_KEY,
-        new: NO_KEY,
+        oldkey: NO_KEY,
+        newkey: NO_KEY,
     }
 }
 
@@ -43,10 +43,10 @@ pub fn sent_under(x: KeyExchange) -> ValidKeys
     let state = state_of(x);
     match state {
         State::KL0 => valid_keys(NO_KEY, NO_KEY),
-        State::KL1 => valid_keys(x.old, NO_KEY),
-        State::KL2 => valid_keys(x.old, x.new),
-        State::KL3 => valid_keys(NO_KEY, x.new),
-        State::KL4 => valid_keys(NO_KEY, x.new),
+        State::KL1 => valid_keys(x.oldkey, NO_KEY),
+        State::KL2 => valid_keys(x.oldkey, x.newkey),
+        State::KL3 => valid_keys(NO_KEY, x.newkey),
+        State::KL4 => valid_keys(NO_KEY, x.newkey),
         State::Outside => outside(),
     }
 }
@@ -57,10 +57,10 @@ pub fn received_under(x: KeyExchange) -> ValidKeys
     let state = state_of(x);
     match state {
         State::KL0 => valid_keys(NO_KEY, NO_KEY),
-        State::KL1 => valid_keys(x.old, NO_KEY),
-        State::KL2 => valid_keys(x.old, NO_KEY),
-        State::KL3 => valid_keys(x.old, x.new),
-        State::KL4 => valid_keys(NO_KEY, x.new),
+        State::KL1 => valid_keys(x.oldkey, NO_KEY),
+        State::KL2 => valid_keys(x.oldkey, NO_KEY),
+        State::KL3 => valid_keys(x.oldkey, x.newkey),
+        State::KL4 => valid_keys(NO_KEY, x.newkey),
         State::Outside => outside(),
     }
 }

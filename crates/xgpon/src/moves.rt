@@ -53,16 +53,16 @@ fn move_on(state: u8, x: KeyExchange, stops: Timers) -> Answer
 
 // Generate is sent for the new key.
 fn request(next: KeyExchange, starts: Timers) -> Answer
-    ensures { λ r. ⌜ r ≡ accepted next (generate (next .new)) starts noTimer ⌝ }
+    ensures { λ r. ⌜ r ≡ accepted next (generate (next .newkey)) starts noTimer ⌝ }
 {
-    accept(next, generate(next.new), starts, NO_TIMER)
+    accept(next, generate(next.newkey), starts, NO_TIMER)
 }
 
 // Confirm is sent for the new key, and its report awaited.
 fn confirm_new(next: KeyExchange) -> Answer
-    ensures { λ r. ⌜ r ≡ accepted next (confirm (next .new)) onlyTk3 noTimer ⌝ }
+    ensures { λ r. ⌜ r ≡ accepted next (confirm (next .newkey)) onlyTk3 noTimer ⌝ }
 {
-    accept(next, confirm(next.new), ONLY_TK3, NO_TIMER)
+    accept(next, confirm(next.newkey), ONLY_TK3, NO_TIMER)
 }
 
 fn in_kl0(x: KeyExchange, input: Input) -> Answer
@@ -115,8 +115,8 @@ fn in_kl4(x: KeyExchange, input: Input) -> Answer
     match input {
         Input::NewKey(index) => await_index(x, index, stay(x)),
         Input::ExistingKey(index) => await_index(x, index, stay(x)),
-        Input::Rekey => request(requesting(x.new), TK1_AND_TK2),
-        Input::KeyCheck => accept(x, confirm(x.new), NO_TIMER, NO_TIMER),
+        Input::Rekey => request(requesting(x.newkey), TK1_AND_TK2),
+        Input::KeyCheck => accept(x, confirm(x.newkey), NO_TIMER, NO_TIMER),
         _ => stay(x),
     }
 }

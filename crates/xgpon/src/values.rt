@@ -23,15 +23,15 @@ pub struct KeyExchange {
     // 0 to 4, for KL0 to KL4
     pub state: u8,
     // the index of the key that was active before the exchange, 0 if there is none
-    pub old: u8,
+    pub oldkey: u8,
     // the index of the key that the exchange brings, 0 in KL0
-    pub new: u8,
+    pub newkey: u8,
 }
 
 pub(crate) const FRESH: KeyExchange = KeyExchange {
     state: KL0,
-    old: NO_KEY,
-    new: NO_KEY,
+    oldkey: NO_KEY,
+    newkey: NO_KEY,
 };
 
 // The states, and what any other numbers stand for.
@@ -67,13 +67,13 @@ fn state_named(state: u8) -> State
     }
 }
 
-fn keys_fit(state: State, old: u8, new: u8) -> bool
-    ensures { λ r. ⌜ r ≡ keysFit state old new ⌝ }
+fn keys_fit(state: State, oldkey: u8, newkey: u8) -> bool
+    ensures { λ r. ⌜ r ≡ keysFit state oldkey newkey ⌝ }
 {
     match state {
-        State::KL0 => (old == NO_KEY) & (new == NO_KEY),
+        State::KL0 => (oldkey == NO_KEY) & (newkey == NO_KEY),
         State::Outside => false,
-        _ => (old <= SECOND_INDEX) & (new == index_after(old)),
+        _ => (oldkey <= SECOND_INDEX) & (newkey == index_after(oldkey)),
     }
 }
 
@@ -81,7 +81,7 @@ pub(crate) fn state_of(exchange: KeyExchange) -> State
     ensures { λ r. ⌜ r ≡ stateOf exchange ⌝ }
 {
     let state = state_named(exchange.state);
-    if keys_fit(state, exchange.old, exchange.new) {
+    if keys_fit(state, exchange.oldkey, exchange.newkey) {
         return state;
     }
     State::Outside
@@ -92,8 +92,8 @@ pub(crate) fn in_state(state: u8, exchange: KeyExchange) -> KeyExchange
 {
     KeyExchange {
         state,
-        old: exchange.old,
-        new: exchange.new,
+        oldkey: exchange.oldkey,
+        newkey: exchange.newkey,
     }
 }
 
@@ -102,7 +102,7 @@ pub(crate) fn requesting(active: u8) -> KeyExchange
 {
     KeyExchange {
         state: KL1,
-        old: active,
-        new: index_after(active),
+        oldkey: active,
+        newkey: index_after(active),
     }
 }

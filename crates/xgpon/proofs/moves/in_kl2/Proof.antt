@@ -31,7 +31,7 @@ rest x Rekey h = refl
 rest x KeyCheck h = refl
 
 returns : tie.Need-returns
-returns c = rw (c .before .enum-told .given .1) cc
+returns c = rw (c .accept .ensures, c .before .enum-told .given .1)
 
 returns-2 : tie.Need-returns-2
 returns-2 c = rw (c .confirm-new .ensures, c .before .in-state .ensures, c .before .before .enum-told2 .given .1)

@@ -31,19 +31,19 @@ rest x Rekey h = refl
 rest x KeyCheck h = refl
 
 returns : tie.Need-returns
-returns c = rw (c .before .before .before .input .given .1) cc
+returns c = rw (c .await-index .ensures, c .before .stay .ensures, c .before .before .before .input .given .1)
 
 returns-2 : tie.Need-returns-2
-returns-2 c = rw (c .before .before .before .input2 .given .1) cc
+returns-2 c = rw (c .await-index2 .ensures, c .before .move-on .ensures, c .before .before .before .input2 .given .1)
 
 returns-3 : tie.Need-returns-3
-returns-3 c = rw (c .before .enum-told .given .1) cc
+returns-3 c = rw (c .accept .ensures, c .before .enum-told .given .1)
 
 returns-4 : tie.Need-returns-4
-returns-4 c = rw (c .before .enum-told2 .given .1) cc
+returns-4 c = rw (c .confirm-new .ensures, c .before .enum-told2 .given .1)
 
 returns-5 : tie.Need-returns-5
-returns-5 c = rw (c .before .enum-told3 .given .1) cc
+returns-5 c = rw (c .confirm-new2 .ensures, c .before .enum-told3 .given .1)
 
 returns-6 : tie.Need-returns-6
 returns-6 c = rw (c .stay2 .ensures) (rest _ (c .before .before .args .input) (c .before .match .keys6))

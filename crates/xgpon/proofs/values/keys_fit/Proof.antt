@@ -17,13 +17,13 @@ use Rattle.xgpon.proofs.values.keys_fit.Tie as tie
 abbrev tags : List ℕ
 tags = 1 ∷ 2 ∷ 3 ∷ 4 ∷ []
 
-rest : (s : State) (old new : ℕ) → OneOf tags (tagOf the-type s) → keysOf old new ≡ keysFit s old new
-rest KL0 old new h = absurd (miss tags 0 tt h)
-rest KL1 old new h = refl
-rest KL2 old new h = refl
-rest KL3 old new h = refl
-rest KL4 old new h = refl
-rest Outside old new h = absurd (miss tags 5 tt h)
+rest : (s : State) (oldkey newkey : ℕ) → OneOf tags (tagOf the-type s) → keysOf oldkey newkey ≡ keysFit s oldkey newkey
+rest KL0 oldkey newkey h = absurd (miss tags 0 tt h)
+rest KL1 oldkey newkey h = refl
+rest KL2 oldkey newkey h = refl
+rest KL3 oldkey newkey h = refl
+rest KL4 oldkey newkey h = refl
+rest Outside oldkey newkey h = absurd (miss tags 5 tt h)
 
 returns : tie.Need-returns
 returns c = rw (c .enum-told .given .1)

@@ -1,3 +1,3 @@
 pub mod Payloads
 pub mod Blocks
-pub mod Xgpon
+pub mod KeyExchange

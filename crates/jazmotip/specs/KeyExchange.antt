@@ -8,8 +8,8 @@ use Rattle.xgpon.specs.Moves.{stepOf}
 use Rattle.xgpon.specs.declared.answers.Answer.{Answer}
 use Rattle.xgpon.specs.declared.moves.Input.the-variants.{NewKey, ExistingKey, Tk1Expires, Tk2Expires, Tk3Expires, Begin, BeginToSend, Rekey, KeyCheck}
 use Rattle.xgpon.specs.declared.values.KeyExchange.{KeyExchange}
-use Rattle.jazmotip.specs.declared.xgpon.ReadInput.{ReadInput}
-use Rattle.jazmotip.specs.declared.xgpon.ReadInput.the-variants.{Known, Unknown}
+use Rattle.jazmotip.specs.declared.key_exchange.ReadInput.{ReadInput}
+use Rattle.jazmotip.specs.declared.key_exchange.ReadInput.the-variants.{Known, Unknown}
 
 -- the inputs in the order of their kinds, from 1
 abbrev pub inputs : ℕ → List ReadInput

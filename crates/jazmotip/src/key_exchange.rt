@@ -4,7 +4,7 @@ ghost use Rattle.xgpon.specs.Keys.{receivedUnder, sentUnder};
 ghost use Rattle.xgpon.specs.Laws.{Laws};
 ghost use Rattle.xgpon.specs.Timers.{recommendedStarts};
 ghost use Rattle.xgpon.specs.Values.{freshExchange};
-ghost use Rattle.jazmotip.specs.Xgpon.{inputOf, stepByKind};
+ghost use Rattle.jazmotip.specs.KeyExchange.{inputOf, stepByKind};
 use refusal::Refusal;
 use xgpon::answers::Answer;
 use xgpon::answers::refuse;

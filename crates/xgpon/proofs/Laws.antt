@@ -2,12 +2,12 @@
 use mathlib.Core.Bool.{Bool, true, false}
 use mathlib.Core.List.{List, [], _∷_, _++_}
 use mathlib.Core.Logic.{_⊎_, ⊎-elim}
-use mathlib.Core.Path.{_≡_, refl, sym, _∙_, ap}
-use Prim.Native.Nat.{ℕ, _≤_}
+use mathlib.Core.Path.{_≡_, refl, sym, ap}
+use Prim.Native.Nat.{ℕ}
 use native.Mathlib.Omega.{arith}
 use lib.Dec.{eqb}
 use lib.ListN.{take}
-use Rattle.xgpon.specs.Answers.{answerIf, generate, generateKind}
+use Rattle.xgpon.specs.Answers.{answerIf, generateKind}
 use Rattle.xgpon.specs.Keys.{receivedUnder, sentUnder, validKeys}
 use Rattle.xgpon.specs.Laws.{Among, Asking, Laws, after, again, anew, begun}
 use Rattle.xgpon.specs.Moves.{inKl1, inKl2, inKl3, moveIn}

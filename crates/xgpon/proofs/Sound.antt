@@ -1,13 +1,12 @@
 -- What a run keeps: the state tells which timers run and which keys were reported. Each step keeps it, row by row, and stops only timers
 -- that run. Assumes nothing.
-use mathlib.Core.Bool.{Bool, true, false, _||_, or-true}
+use mathlib.Core.Bool.{Bool, true, false, or-true}
 use mathlib.Core.List.{List, [], _∷_}
-use mathlib.Core.Path.{_≡_, refl, sym, subst}
+use mathlib.Core.Path.{_≡_, refl}
 use Prim.Native.Nat.{ℕ, _≤_}
 use native.Mathlib.Omega.{arith}
 use lib.Dec.{eqb}
-use Rattle.refusal.specs.declared.Refusal.the-variants.{OtherKeyIndex}
-use Rattle.xgpon.specs.Answers.{answerIf, refused, stays}
+use Rattle.xgpon.specs.Answers.{answerIf}
 use Rattle.xgpon.specs.Laws.{Within}
 use Rattle.xgpon.specs.Moves.{inKl0, inKl1, inKl2, inKl3, inKl4, stepOf}
 use Rattle.xgpon.specs.Run.{Past, answered, asksFor, played, reportedAfter, reports, runningAt, start}
@@ -17,7 +16,6 @@ use Rattle.xgpon.specs.declared.answers.Answer.{Answer}
 use Rattle.xgpon.specs.declared.moves.Input.{Input}
 use Rattle.xgpon.specs.declared.moves.Input.the-variants.{NewKey, ExistingKey, Tk1Expires, Tk2Expires, Tk3Expires, Begin, BeginToSend, Rekey, KeyCheck}
 use Rattle.xgpon.specs.declared.timers.Timers.{Timers}
-use Rattle.xgpon.specs.declared.values.KeyExchange.{KeyExchange}
 use Rattle.xgpon.proofs.Pairs.{Pair, exchange, first, pair-fits, pair-next, second, third}
 
 -- if there is a key at that index, it was reported

@@ -1,6 +1,5 @@
 // What a step answers (02, C-21): the number, the next state, the message to send, and the timers to start and to stop.
 ghost use mathlib.Core.Path.{_≡_};
-ghost use lib.Dec.{eqb};
 ghost use Rattle.xgpon.specs.Answers.{accepted, awaited, confirm, generate, refused, stays};
 use crate::timers::NO_TIMER;
 use crate::timers::Timers;

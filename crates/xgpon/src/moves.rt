@@ -1,10 +1,10 @@
 // The moves of the OLT, state by state (003, 15.5.3.2).
 ghost use mathlib.Core.Path.{_≡_};
 ghost use Rattle.xgpon.specs.Answers.{accepted, confirm, generate, silent};
-ghost use Rattle.xgpon.specs.Timers.{noTimer, onlyTk3};
 ghost use Rattle.xgpon.specs.Laws.{Laws};
-ghost use Rattle.xgpon.specs.Values.{freshExchange, inState};
 ghost use Rattle.xgpon.specs.Moves.{inKl0, inKl1, inKl2, inKl3, inKl4, stepOf};
+ghost use Rattle.xgpon.specs.Timers.{noTimer, onlyTk3};
+ghost use Rattle.xgpon.specs.Values.{freshExchange, inState};
 use crate::answers::Answer;
 use crate::answers::SILENT;
 use crate::answers::accept;

@@ -16,24 +16,6 @@ pub struct Timers {
     pub tk3: u8,
 }
 
-// What each timer starts from, in milliseconds.
-#[repr(C)]
-pub struct TimerStarts {
-    pub tk1: u32,
-    pub tk2: u32,
-    pub tk3: u32,
-}
-
-pub fn recommended_starts() -> TimerStarts
-    ensures { λ r. ⌜ r ≡ recommendedStarts ⌝ }
-{
-    TimerStarts {
-        tk1: TK1_START_MS,
-        tk2: TK2_START_MS,
-        tk3: TK3_START_MS,
-    }
-}
-
 pub(crate) const NO_TIMER: Timers = Timers {
     tk1: 0,
     tk2: 0,
@@ -63,3 +45,21 @@ pub(crate) const TK1_AND_TK3: Timers = Timers {
     tk2: 0,
     tk3: 1,
 };
+
+// What each timer starts from, in milliseconds.
+#[repr(C)]
+pub struct TimerStarts {
+    pub tk1: u32,
+    pub tk2: u32,
+    pub tk3: u32,
+}
+
+pub fn recommended_starts() -> TimerStarts
+    ensures { λ r. ⌜ r ≡ recommendedStarts ⌝ }
+{
+    TimerStarts {
+        tk1: TK1_START_MS,
+        tk2: TK2_START_MS,
+        tk3: TK3_START_MS,
+    }
+}

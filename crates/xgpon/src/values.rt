@@ -1,6 +1,6 @@
 // The state of a key exchange, and the values that it has (02, C-21).
 ghost use mathlib.Core.Path.{_≡_};
-ghost use Rattle.xgpon.specs.Values.{freshExchange, indexAfter, inState, keysFit, requesting, stateNamed, stateOf};
+ghost use Rattle.xgpon.specs.Values.{indexAfter, inState, keysFit, requesting, stateNamed, stateOf};
 
 pub const KL0: u8 = 0;
 

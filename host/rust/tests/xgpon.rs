@@ -3,10 +3,13 @@
 use crate::random::{cases, Random};
 use crate::tally::Tally;
 use jazmotip::calls;
-use jazmotip::xgpon::{Answer, Input, InputRecord, KeyControl, KeyExchange, Keys, Message, Step, TimerStarts, Timers, ValidKeys};
-use jazmotip::xgpon::{TK1_START_MS, TK2_START_MS, TK3_START_MS};
+use jazmotip::xgpon::{
+    Answer, Input, InputRecord, KeyControl, KeyExchange, Keys, Message, Step, TimerStarts, Timers, ValidKeys, TK1_START_MS,
+    TK2_START_MS, TK3_START_MS,
+};
 use jazmotip::Refusal;
 use std::collections::BTreeSet;
+use std::fmt::Write as _;
 
 /// A row for each input in the order of its kind, then the one for a report that names another index than the awaited one; a column
 /// for each of KL0 to KL4. A cell has the next state, the message, and the timers that start and stop, or the refusal.
@@ -29,6 +32,10 @@ const REPORTS: [u8; 2] = [1, 2];
 const BEGIN: u8 = 6;
 const REKEY: u8 = 8;
 const ANOTHER_INDEX: u8 = 10;
+
+fn flags(timers: Timers) -> [u8; 3] {
+    [timers.tk1, timers.tk2, timers.tk3]
+}
 
 fn set(timers: &mut Timers, name: &str) {
     match name {
@@ -91,30 +98,51 @@ fn reached() -> BTreeSet<(u8, u8, u8)> {
     found
 }
 
+const BOUNDS: [u8; 8] = [0, 1, 2, 3, 4, 5, 254, 255];
+
+fn known(kind: u8) -> bool {
+    (1..=9).contains(&kind)
+}
+
+fn check_steps(tally: &mut Tally, sound: bool, exchange: KeyExchange) {
+    for kind in (0..=11).chain([255]) {
+        for index in BOUNDS {
+            let input = InputRecord { kind, index };
+            let refused = Answer { number: 1, exchange, ..Answer::default() };
+            let answer = calls::xgpon_step(exchange, input);
+            assert_eq!(
+                answer,
+                if sound && known(kind) { expected(exchange, input) } else { refused },
+                "{exchange:?} {input:?}"
+            );
+            tally.note("step", answer.number);
+        }
+    }
+}
+
+fn check_keys(sound: bool, exchange: KeyExchange) {
+    let refused = ValidKeys { number: 1, ..ValidKeys::default() };
+    let keys = |table| if sound { valid_keys(table, exchange) } else { refused };
+    assert_eq!(calls::xgpon_sent_under(exchange), keys(TO_SEND), "{exchange:?}");
+    assert_eq!(calls::xgpon_received_under(exchange), keys(TO_RECEIVE), "{exchange:?}");
+}
+
 #[test]
 fn every_state_with_every_input() {
     let (reached, mut tally) = (reached(), Tally::default());
-    let bounds = || (0..=5).chain([254, 255]);
-    for exchange in bounds().flat_map(|state| {
-        bounds().flat_map(move |oldkey| bounds().map(move |newkey| KeyExchange { state, oldkey, newkey }))
-    }) {
-        let sound = reached.contains(&fields(exchange));
-        for input in (0..=11).chain([255]).flat_map(|kind| bounds().map(move |index| InputRecord { kind, index })) {
-            let answer = calls::xgpon_step(exchange, input);
-            let known = (1..=9).contains(&input.kind);
-            let refused = Answer { number: 1, exchange, ..Answer::default() };
-            assert_eq!(answer, if sound && known { expected(exchange, input) } else { refused }, "{exchange:?} {input:?}");
-            tally.note("step", answer.number);
+    for (state, oldkey) in BOUNDS.iter().flat_map(|state| BOUNDS.map(|oldkey| (*state, oldkey))) {
+        for newkey in BOUNDS {
+            let exchange = KeyExchange { state, oldkey, newkey };
+            let sound = reached.contains(&fields(exchange));
+            check_steps(&mut tally, sound, exchange);
+            check_keys(sound, exchange);
         }
-        let refused = ValidKeys { number: 1, ..ValidKeys::default() };
-        let keys = |table| if sound { valid_keys(table, exchange) } else { refused };
-        assert_eq!(calls::xgpon_sent_under(exchange), keys(TO_SEND), "{exchange:?}");
-        assert_eq!(calls::xgpon_received_under(exchange), keys(TO_RECEIVE), "{exchange:?}");
     }
     assert_eq!(reached.len(), 13);
-    tally.gave("step", 0, 13 * 7 * 8);
+    // a report in KL1, KL3 or KL4 that names one of seven other indices; kinds 0, 10, 11 and 255
     tally.gave("step", 25, 9 * 2 * 7);
-    tally.gave("step", 1, 499 * 13 * 8);
+    tally.gave("step", 1, (512 - 13) * 13 * 8 + 13 * 4 * 8);
+    tally.gave("step", 0, 13 * 9 * 8 - 9 * 2 * 7);
 }
 
 /// An exchange is refused exactly where no inputs lead to it.
@@ -164,10 +192,10 @@ impl Seen {
         if let Some(Message::Generate(index)) = step.message {
             self.reported.remove(&index);
         }
-        let (starts, stops) = (step.starts, step.stops);
-        for (timer, flags) in [(starts.tk1, stops.tk1), (starts.tk2, stops.tk2), (starts.tk3, stops.tk3)].into_iter().enumerate() {
-            assert!(flags.1 == 0 || self.running[timer], "TK{} is stopped and does not run", timer + 1);
-            self.running[timer] = flags.0 == 1 || flags.1 == 0 && self.running[timer];
+        let (starts, stops) = (flags(step.starts), flags(step.stops));
+        for (k, running) in self.running.iter_mut().enumerate() {
+            assert!(stops[k] == 0 || *running, "TK{} is stopped and does not run", k + 1);
+            *running = starts[k] == 1 || stops[k] == 0 && *running;
         }
     }
 
@@ -184,7 +212,10 @@ fn step_of(answer: Answer) -> Result<Step, u8> {
         1 => Some(Message::Generate(answer.message.index)),
         _ => Some(Message::Confirm(answer.message.index)),
     };
-    if answer.number == 0 { Ok(Step { message, starts: answer.starts, stops: answer.stops }) } else { Err(answer.number) }
+    match answer.number {
+        0 => Ok(Step { message, starts: answer.starts, stops: answer.stops }),
+        number => Err(number),
+    }
 }
 
 #[test]
@@ -225,35 +256,24 @@ fn the_recommended_starts() {
     assert_eq!(starts, TimerStarts { tk1: 100, tk2: 10, tk3: 10 });
 }
 
-/// What the C program `xgpon` must print for inputs of two octets each.
+/// What the C program `xgpon` must print for a list of inputs.
 pub fn played(inputs: &[InputRecord]) -> String {
     let mut exchange = KeyExchange::default();
-    let rows = inputs.iter().map(|&input| {
-        let known = (1..=9).contains(&input.kind);
-        let answer =
-            if known { expected(exchange, input) } else { Answer { number: 1, exchange, ..Answer::default() } };
+    let mut text = "starts 100 10 10\n".to_string();
+    for &input in inputs {
+        let refused = Answer { number: 1, exchange, ..Answer::default() };
+        let answer = if known(input.kind) { expected(exchange, input) } else { refused };
         exchange = answer.exchange;
-        let (KeyControl { kind, index }, starts, stops) = (answer.message, answer.starts, answer.stops);
+        let KeyExchange { state, oldkey, newkey } = exchange;
+        let (KeyControl { kind, index }, starts, stops) = (answer.message, flags(answer.starts), flags(answer.stops));
+        write!(text, "{}: KL{state} {oldkey} {newkey} message {kind} {index}", answer.number).expect("text");
+        write!(text, " starts {}{}{} stops {}{}{}", starts[0], starts[1], starts[2], stops[0], stops[1], stops[2])
+            .expect("text");
         let (sent, received) = (valid_keys(TO_SEND, exchange), valid_keys(TO_RECEIVE, exchange));
-        format!(
-            "{}: KL{} {} {} message {kind} {index} starts {}{}{} stops {}{}{} send {} {} receive {} {}\n",
-            answer.number,
-            exchange.state,
-            exchange.oldkey,
-            exchange.newkey,
-            starts.tk1,
-            starts.tk2,
-            starts.tk3,
-            stops.tk1,
-            stops.tk2,
-            stops.tk3,
-            sent.oldkey,
-            sent.newkey,
-            received.oldkey,
-            received.newkey,
-        )
-    });
-    format!("starts 100 10 10\n{}", rows.collect::<String>())
+        write!(text, " send {} {}", sent.oldkey, sent.newkey).expect("text");
+        writeln!(text, " receive {} {}", received.oldkey, received.newkey).expect("text");
+    }
+    text
 }
 
 pub fn random_inputs(random: &mut Random) -> Vec<InputRecord> {

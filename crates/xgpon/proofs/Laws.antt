@@ -20,16 +20,12 @@ use Rattle.xgpon.specs.declared.moves.Input.the-variants.{NewKey, Existi
 use Rattle.xgpon.specs.declared.values.KeyExchange.{KeyExchange}
 use Rattle.xgpon.specs.declared.values.State.{State}
 use Rattle.xgpon.specs.declared.values.State.the-variants.{KL0, KL1, KL2, KL3, KL4, Outside}
-use Rattle.xgpon.proofs.Pairs.{Pair, Valued, confirming, first, knowing, none, pair-apart, pair-fits, requesting, second, third, activated, valued}
-use Rattle.xgpon.proofs.Sound.{Held, Sound, active, confirm, inactive, played-sound, request, start-sound, step-kept, waiting}
+use Rattle.xgpon.proofs.Pairs.{Pair, Valued, activated, confirming, first, knowing, none, pair-apart, pair-fits, requesting, second, third, valued}
+use Rattle.xgpon.proofs.Sound.{Held, Sound, active, confirm, held-none, inactive, played-sound, request, start-sound, step-kept, waiting}
 
 -- a valid key was reported, where both of those named were
 among-held : {k : ℕ → Bool} {o n i : ℕ} → Held k o → Held k n → Among (validKeys o n) i → k i ≡ true
 among-held {i = i} h g a = ⊎-elim (λ e. rw e (h .known (rw (sym e) (a .index)))) (λ e. rw e (g .known (rw (sym e) (a .index)))) (a .one)
-
--- there is no key at index 0
-held-none : {k : ℕ → Bool} → Held k 0
-held-none = record { known = λ l. absurd (omega arith) }
 
 sent-reported : {p : Past} (i : ℕ) → Sound p → Among (sentUnder (p .exchange)) i → p .reported i ≡ true
 sent-reported i (inactive k) a = among-held {k = k} held-none held-none a
@@ -47,10 +43,10 @@ received-reported i (active k pair g) a = among-held held-none g (rw (pair-fits 
 
 sound-inside : {p : Past} → Sound p → stateOf (p .exchange) ≡ Outside → ⊥
 sound-inside (inactive k) e = let z : _≡_ {A = ℕ} 0 1 = cc in omega arith
-sound-inside (request k pair h) e = let f : KL1 ≡ Outside = rw (pair-fits pair) at e in let z : _≡_ {A = ℕ} 0 1 = cc in omega arith
-sound-inside (confirm k pair h g) e = let f : KL2 ≡ Outside = rw (pair-fits pair) at e in let z : _≡_ {A = ℕ} 0 1 = cc in omega arith
-sound-inside (waiting k pair h g) e = let f : KL3 ≡ Outside = rw (pair-fits pair) at e in let z : _≡_ {A = ℕ} 0 1 = cc in omega arith
-sound-inside (active k pair g) e = let f : KL4 ≡ Outside = rw (pair-fits pair) at e in let z : _≡_ {A = ℕ} 0 1 = cc in omega arith
+sound-inside (request k pair h) e = let f = rw (pair-fits pair) at e in let z : _≡_ {A = ℕ} 0 1 = cc in omega arith
+sound-inside (confirm k pair h g) e = let f = rw (pair-fits pair) at e in let z : _≡_ {A = ℕ} 0 1 = cc in omega arith
+sound-inside (waiting k pair h g) e = let f = rw (pair-fits pair) at e in let z : _≡_ {A = ℕ} 0 1 = cc in omega arith
+sound-inside (active k pair g) e = let f = rw (pair-fits pair) at e in let z : _≡_ {A = ℕ} 0 1 = cc in omega arith
 
 -- whichever index a report names, its answer sends nothing
 mute : (b : Bool) (a c : Answer) → a .message .kind ≡ 0 → c .message .kind ≡ 0 → answerIf b a c .message .kind ≡ 0

@@ -3,6 +3,7 @@ use mathlib.Core.Bool.{Bool, true, false, false≢true}
 use mathlib.Core.Path.{_≡_, refl, sym, subst}
 use Prim.Native.Nat.{ℕ, zero, suc}
 use native.Mathlib.Omega.{arith}
+use lib.Dec.{eqb}
 use borrow.Author.Tests.{eqb-true, lt-leb, ne-eqb}
 use Rattle.xgpon.specs.Values.{keysOf, kl0, kl1, kl2, kl3, kl4, noKey, stateOf, indexAfter}
 use Rattle.xgpon.specs.declared.values.KeyExchange.{KeyExchange}
@@ -25,10 +26,14 @@ pair-of (suc zero) n e = subst (Pair 1) (sym (eqb-true n 2 e)) second
 pair-of (suc (suc zero)) n e = subst (Pair 2) (sym (eqb-true n 1 e)) third
 pair-of (suc (suc (suc o))) n e = absurd (false≢true (rw (lt-leb (suc (suc (suc o))) 2 (omega arith)) at e))
 
+-- the two indices differ
 pub pair-apart : {o n : ℕ} → Pair o n → o ≡ n → ⊥
 pair-apart first e = omega arith
 pair-apart second e = omega arith
 pair-apart third e = omega arith
+
+pub pair-differ : {o n : ℕ} → Pair o n → eqb n o ≡ false
+pair-differ pair = ne-eqb _ _ (λ e. pair-apart pair (sym e))
 
 -- a rekey takes the other index
 pub pair-next : {o n : ℕ} → Pair o n → Pair n (indexAfter n)

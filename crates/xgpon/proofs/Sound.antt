@@ -16,11 +16,15 @@ use Rattle.xgpon.specs.declared.answers.Answer.{Answer}
 use Rattle.xgpon.specs.declared.moves.Input.{Input}
 use Rattle.xgpon.specs.declared.moves.Input.the-variants.{NewKey, ExistingKey, Tk1Expires, Tk2Expires, Tk3Expires, Begin, BeginToSend, Rekey, KeyCheck}
 use Rattle.xgpon.specs.declared.timers.Timers.{Timers}
-use Rattle.xgpon.proofs.Pairs.{Pair, exchange, first, pair-fits, pair-next, second, third}
+use Rattle.xgpon.proofs.Pairs.{Pair, exchange, first, pair-differ, pair-fits, pair-next}
 
 -- if there is a key at that index, it was reported
 pub record Held (reported : ℕ → Bool) (i : ℕ) : Type 0 where
   pub known : 1 ≤ i → reported i ≡ true
+
+-- there is no key at index 0
+pub held-none : {k : ℕ → Bool} → Held k noKey
+held-none = record { known = λ l. absurd (omega arith) }
 
 abbrev past : ℕ → ℕ → ℕ → Timers → (ℕ → Bool) → Past
 past state oldkey newkey t k = record { exchange = exchange state oldkey newkey; running = t; reported = k }
@@ -56,19 +60,13 @@ by-index : (P : Answer → Type 0) (b : Bool) (a c : Answer) → (b ≡ true →
 by-index P true a c f g = f refl
 by-index P false a c f g = g refl
 
--- the indices of a pair differ
-pair-differ : {o n : ℕ} → Pair o n → eqb n o ≡ false
-pair-differ first = refl
-pair-differ second = refl
-pair-differ third = refl
-
 from-kl0 : (k : ℕ → Bool) (input : Input) → Kept (past kl0 noKey noKey noTimer k) input (inKl0 (exchange kl0 noKey noKey) input)
 from-kl0 k (NewKey i) = kept refl (inactive _)
 from-kl0 k (ExistingKey i) = kept refl (inactive _)
 from-kl0 k Tk1Expires = kept refl (inactive _)
 from-kl0 k Tk2Expires = kept refl (inactive _)
 from-kl0 k Tk3Expires = kept refl (inactive _)
-from-kl0 k Begin = kept refl (request _ first (record { known = λ l. absurd (omega arith) }))
+from-kl0 k Begin = kept refl (request _ first held-none)
 from-kl0 k BeginToSend = kept refl (inactive _)
 from-kl0 k Rekey = kept refl (inactive _)
 from-kl0 k KeyCheck = kept refl (inactive _)

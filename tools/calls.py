@@ -1,6 +1,6 @@
 #!/usr/bin/env python3
-"""What the program `calls` must print: every exported call, played on the ends of tools/olt.py and tools/onu.py and the reader of
-tools/capture_blocks.py.
+"""What the program `calls` must print: every exported call, played on the ends of tools/olt.py and tools/onu.py, the reader of
+tools/capture_blocks.py and the key exchange of tools/xgpon_moves.py.
 
 usage: tools/calls.py > crates/calls/stdout
 Shares no code with the engine. What those do not give, the faults of a directory, is written here from document 01.
@@ -11,6 +11,7 @@ from ends import LOCAL, TURN, Named
 from olt import fresh_olt
 from onu import fresh_onu
 from sealing import seal
+import xgpon_moves as xgpon
 
 OLT_MAC, UNIT = 0x020000000001, Named(0x020000000002, [5, 6])
 PAYLOAD = bytes([0x00, *range(0x10, 0x18), 0x81, *range(0x20, 0x28), 0x01, *range(0x30, 0x38)])
@@ -193,7 +194,56 @@ def blocks():
     print(f"jazmotip_capture_list {len(text)}\n{text}", end="")
 
 
+# ---- the key exchange on an XG-PON line
+
+KINDS = (None, xgpon.NEW, xgpon.EXISTING, "TK1 expires", "TK2 expires", "TK3 expires", xgpon.BEGIN, xgpon.TO_SEND, xgpon.REKEY, xgpon.CHECK)
+
+
+def flags(acts, sign):
+    return " ".join(str(int(f"{sign}TK{n}" in acts)) for n in (1, 2, 3))
+
+
+def step_row(lent, kind, index=None):
+    """The exchange that the step leaves."""
+    olt = xgpon.Olt(*lent)
+    if 1 <= kind < len(KINDS):
+        olt.step(KINDS[kind], index)
+    else:
+        olt.number = 1
+    message = [f"{k} {act.split()[1]}" for act in olt.acts for k, name in enumerate(("Generate", "Confirm"), 1) if act.startswith(name)]
+    shown = [*message, "0 0"][0]
+    show("xgpon_step", olt.number, f" {olt.state} {olt.old} {olt.new} {shown} {flags(olt.acts, '+')} {flags(olt.acts, '-')}")
+    return olt.state, olt.old, olt.new
+
+
+def key_rows(lent):
+    print(f"jazmotip_xgpon_sent_under {xgpon.valid(xgpon.SENT_UNDER, *lent)}")
+    print(f"jazmotip_xgpon_received_under {xgpon.valid(xgpon.RECEIVED_UNDER, *lent)}")
+
+
+def key_exchange():
+    exchange = (0, 0, 0)
+    print("jazmotip_xgpon_fresh 0 0 0")
+    for kind, index in ((6, 0), (1, 2), (1, 1)):
+        exchange = step_row(exchange, kind, index)
+    key_rows(exchange)
+    for kind, index in ((7, 0), (2, 1)):
+        exchange = step_row(exchange, kind, index)
+    active = exchange
+    for kind, index in ((9, 0), (8, 0), (4, 0), (3, 0), (1, 2), (7, 0)):
+        exchange = step_row(exchange, kind, index)
+    key_rows(exchange)
+    for kind in (5, 3):
+        exchange = step_row(exchange, kind)
+    step_row(active, 0)
+    step_row(active, 10)
+    step_row((5, 0, 1), 6)
+    key_rows((5, 0, 1))
+    print("jazmotip_xgpon_recommended_starts " + " ".join(str(start) for start in xgpon.STARTS.values()))
+
+
 if __name__ == "__main__":
     ends()
     payloads()
     blocks()
+    key_exchange()

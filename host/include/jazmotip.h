@@ -2,8 +2,8 @@
  * jazmotip.h: the Jazmotip link engine, for firmware in C.
  *
  * Seals and opens the payloads of SIEPON.4 envelopes (AES-128 in counter mode under the control mask), plays either end of a
- * 25G/50G EPON line, and opens capture blocks. Link with libjazmotip.a, which needs one function from outside, memcpy. x86-64,
- * System V calling convention.
+ * 25G/50G EPON line, opens capture blocks, and keeps the OLT's key exchange of an XG-PON line. Link with libjazmotip.a, which needs
+ * one function from outside, memcpy. x86-64, System V calling convention.
  *
  * What holds of every call
  *   - It ends, and asks nothing of the values handed to it: whatever is malformed, untimely, unknown or too long is refused by a
@@ -66,7 +66,8 @@ enum {
     JAZMOTIP_BAD_LENGTH = 14,         /* payload no multiple of 9 or too long; output of another length; settings not 41 octets */
     JAZMOTIP_BAD_DIRECTORY = 15,      /* capture directory bad */
     JAZMOTIP_CAPTURE_TOO_OLD = 16,    /* clock capture older than a second */
-    JAZMOTIP_AT_END = 17              /* tick or key number at its end */
+    JAZMOTIP_AT_END = 17,             /* tick or key number at its end */
+    JAZMOTIP_OTHER_KEY_INDEX = 25     /* a report names a key index other than the awaited one */
 };
 
 /* ----------------------------------------------------------------------------------------------------------------- Limits */
@@ -434,6 +435,104 @@ jazmotip_payload_answer jazmotip_capture_open(const uint8_t *settings, size_t se
 size_t jazmotip_capture_list(const uint8_t *settings, size_t settings_length, const uint8_t *block, size_t block_length,
                              uint8_t text[JAZMOTIP_LISTING_OCTETS]);
 
+/* ------------------------------------------------------------------------------------------------ Key exchange on XG-PON
+ * The OLT's key exchange with one ONU (ITU-T G.987.3, 15.5.3.2). The host carries the PLOAM messages and keeps the three timers:
+ * it hands in each report, each expiry and each decision to begin, sends the message of the answer, and starts and stops the
+ * timers that it names; starting one that runs sets it anew. The exchange is a plain value without keys: store the answer's, for
+ * acceptance and refusal alike. Key indices are 1 and 2. */
+
+enum {
+    JAZMOTIP_XGPON_KL0 = 0, /* Key Inactive */
+    JAZMOTIP_XGPON_KL1 = 1, /* Key Request */
+    JAZMOTIP_XGPON_KL2 = 2, /* Key Confirm */
+    JAZMOTIP_XGPON_KL3 = 3, /* Key Confirm Waiting */
+    JAZMOTIP_XGPON_KL4 = 4  /* Key Active */
+};
+
+typedef struct jazmotip_xgpon_key_exchange {
+    uint8_t state;  /* JAZMOTIP_XGPON_KL0 to KL4 */
+    uint8_t oldkey; /* index of the key that was active before the exchange, 0 if there is none */
+    uint8_t newkey; /* index of the key that the exchange brings, in KL4 of the active key; 0 in KL0 */
+} jazmotip_xgpon_key_exchange;
+
+/* What is handed in. */
+enum {
+    JAZMOTIP_XGPON_NEW_KEY = 1,      /* Key_Report(NewKey) was received, with the index that it names */
+    JAZMOTIP_XGPON_EXISTING_KEY = 2, /* Key_Report(ExistingKey) was received, with the index that it names */
+    JAZMOTIP_XGPON_TK1_EXPIRES = 3,
+    JAZMOTIP_XGPON_TK2_EXPIRES = 4,
+    JAZMOTIP_XGPON_TK3_EXPIRES = 5,
+    JAZMOTIP_XGPON_BEGIN = 6,         /* begin key exchange */
+    JAZMOTIP_XGPON_BEGIN_TO_SEND = 7, /* begin to send with the new key */
+    JAZMOTIP_XGPON_REKEY = 8,
+    JAZMOTIP_XGPON_KEY_CHECK = 9
+};
+
+typedef struct jazmotip_xgpon_input {
+    uint8_t kind;
+    uint8_t index; /* of a report; ignored with any other kind */
+} jazmotip_xgpon_input;
+
+enum {
+    JAZMOTIP_XGPON_GENERATE = 1, /* Key_Control(Generate) */
+    JAZMOTIP_XGPON_CONFIRM = 2   /* Key_Control(Confirm) */
+};
+
+/* The message to send. */
+typedef struct jazmotip_xgpon_key_control {
+    uint8_t kind; /* 0 none */
+    uint8_t index;
+} jazmotip_xgpon_key_control;
+
+/* A flag for each timer. */
+typedef struct jazmotip_xgpon_timers {
+    uint8_t tk1;
+    uint8_t tk2;
+    uint8_t tk3;
+} jazmotip_xgpon_timers;
+
+typedef struct jazmotip_xgpon_answer {
+    uint8_t number;
+    jazmotip_xgpon_key_exchange exchange;
+    jazmotip_xgpon_key_control message;
+    jazmotip_xgpon_timers starts;
+    jazmotip_xgpon_timers stops;
+} jazmotip_xgpon_answer;
+
+/* The keys that are valid: the index of each, 0 where it is not. With neither, frames go without encryption (Key_Index 0). */
+typedef struct jazmotip_xgpon_valid_keys {
+    uint8_t number;
+    uint8_t oldkey;
+    uint8_t newkey;
+} jazmotip_xgpon_valid_keys;
+
+/* What the timers start from, in milliseconds. */
+#define JAZMOTIP_XGPON_TK1_START_MS 100u
+#define JAZMOTIP_XGPON_TK2_START_MS 10u
+#define JAZMOTIP_XGPON_TK3_START_MS 10u
+
+typedef struct jazmotip_xgpon_timer_starts {
+    uint32_t tk1;
+    uint32_t tk2;
+    uint32_t tk3;
+} jazmotip_xgpon_timer_starts;
+
+/* KL0, without keys. */
+jazmotip_xgpon_key_exchange jazmotip_xgpon_fresh(void);
+
+/* Answers an input. One that the state has no move for is accepted and changes nothing. Order: 1 for an exchange outside its values
+ * and for an unknown kind, 25 (in KL1, KL3 and KL4). */
+jazmotip_xgpon_answer jazmotip_xgpon_step(jazmotip_xgpon_key_exchange exchange, jazmotip_xgpon_input input);
+
+/* The keys that the OLT may send under. Order: 1. */
+jazmotip_xgpon_valid_keys jazmotip_xgpon_sent_under(jazmotip_xgpon_key_exchange exchange);
+
+/* The keys that the OLT may receive under. Order: 1. */
+jazmotip_xgpon_valid_keys jazmotip_xgpon_received_under(jazmotip_xgpon_key_exchange exchange);
+
+/* The recommended starts: JAZMOTIP_XGPON_TK1_START_MS and so on. */
+jazmotip_xgpon_timer_starts jazmotip_xgpon_recommended_starts(void);
+
 /* ----------------------------------------------------------------------------------------------------------------- Layout
  * The archive's layout is the C layout of these structs on x86-64; a compiler that lays them out otherwise stops here. */
 #if defined(__cplusplus)
@@ -546,6 +645,27 @@ JAZMOTIP_LAYOUT(offsetof(jazmotip_block_verdict, clock) == 8);
 JAZMOTIP_LAYOUT(sizeof(jazmotip_block_part) == 24);
 JAZMOTIP_LAYOUT(offsetof(jazmotip_block_part, offset) == 8);
 JAZMOTIP_LAYOUT(offsetof(jazmotip_block_part, length) == 16);
+JAZMOTIP_LAYOUT(sizeof(jazmotip_xgpon_key_exchange) == 3);
+JAZMOTIP_LAYOUT(offsetof(jazmotip_xgpon_key_exchange, oldkey) == 1);
+JAZMOTIP_LAYOUT(offsetof(jazmotip_xgpon_key_exchange, newkey) == 2);
+JAZMOTIP_LAYOUT(sizeof(jazmotip_xgpon_input) == 2);
+JAZMOTIP_LAYOUT(offsetof(jazmotip_xgpon_input, index) == 1);
+JAZMOTIP_LAYOUT(sizeof(jazmotip_xgpon_key_control) == 2);
+JAZMOTIP_LAYOUT(offsetof(jazmotip_xgpon_key_control, index) == 1);
+JAZMOTIP_LAYOUT(sizeof(jazmotip_xgpon_timers) == 3);
+JAZMOTIP_LAYOUT(offsetof(jazmotip_xgpon_timers, tk2) == 1);
+JAZMOTIP_LAYOUT(offsetof(jazmotip_xgpon_timers, tk3) == 2);
+JAZMOTIP_LAYOUT(sizeof(jazmotip_xgpon_answer) == 12);
+JAZMOTIP_LAYOUT(offsetof(jazmotip_xgpon_answer, exchange) == 1);
+JAZMOTIP_LAYOUT(offsetof(jazmotip_xgpon_answer, message) == 4);
+JAZMOTIP_LAYOUT(offsetof(jazmotip_xgpon_answer, starts) == 6);
+JAZMOTIP_LAYOUT(offsetof(jazmotip_xgpon_answer, stops) == 9);
+JAZMOTIP_LAYOUT(sizeof(jazmotip_xgpon_valid_keys) == 3);
+JAZMOTIP_LAYOUT(offsetof(jazmotip_xgpon_valid_keys, oldkey) == 1);
+JAZMOTIP_LAYOUT(offsetof(jazmotip_xgpon_valid_keys, newkey) == 2);
+JAZMOTIP_LAYOUT(sizeof(jazmotip_xgpon_timer_starts) == 12);
+JAZMOTIP_LAYOUT(offsetof(jazmotip_xgpon_timer_starts, tk2) == 4);
+JAZMOTIP_LAYOUT(offsetof(jazmotip_xgpon_timer_starts, tk3) == 8);
 #undef JAZMOTIP_LAYOUT
 
 #ifdef __cplusplus

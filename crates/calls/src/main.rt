@@ -7,9 +7,11 @@ mod onu_calls;
 mod payload_calls;
 mod show;
 mod values;
+mod xgpon_calls;
 
 fn main() {
     line::play();
     payload_calls::play();
     block_calls::play();
+    xgpon_calls::play();
 }

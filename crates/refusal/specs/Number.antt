@@ -1,7 +1,7 @@
--- The number of each refusal (01, 'When the reader says no'). Assumes nothing.
+-- The number of each refusal (01, 'When the reader says no'; 02, C-21). Assumes nothing.
 use Prim.Native.Nat.{ℕ}
 use Rattle.refusal.specs.declared.Refusal.{Refusal}
-use Rattle.refusal.specs.declared.Refusal.the-variants.{OutOfRange, UnknownLlid, RepeatedLlid, TableFull, ClockNotSet, OfferPending, SameKey, NothingOutstanding, NoKey, EpamDiffers, ClearEnvelope, ChannelTaken, KeyTooOld, BadLength, BadDirectory, CaptureTooOld, AtEnd}
+use Rattle.refusal.specs.declared.Refusal.the-variants.{OutOfRange, UnknownLlid, RepeatedLlid, TableFull, ClockNotSet, OfferPending, SameKey, NothingOutstanding, NoKey, EpamDiffers, ClearEnvelope, ChannelTaken, KeyTooOld, BadLength, BadDirectory, CaptureTooOld, AtEnd, OtherKeyIndex}
 use Rattle.refusal.specs.declared.Verdict.{Verdict}
 use Rattle.refusal.specs.declared.Verdict.the-variants.{Accepted, Refused}
 
@@ -23,6 +23,7 @@ numberOf BadLength = 14
 numberOf BadDirectory = 15
 numberOf CaptureTooOld = 16
 numberOf AtEnd = 17
+numberOf OtherKeyIndex = 25
 
 -- acceptance returns 0
 abbrev pub verdictNumber : Verdict → ℕ

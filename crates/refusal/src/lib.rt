@@ -1,4 +1,4 @@
-// The refusals of 01, 'When the reader says no', in the order of its table, and the number of each.
+// The refusals of 01, 'When the reader says no', in the order of its table, then those of 02, and the number of each.
 ghost use mathlib.Core.Path.{_≡_};
 ghost use Rattle.refusal.specs.Number.{numberOf, verdictNumber};
 
@@ -37,6 +37,8 @@ pub enum Refusal {
     CaptureTooOld,
     // 17: tick or key number at its end
     AtEnd,
+    // 25: a report names a key index other than the awaited one (02, C-21)
+    OtherKeyIndex,
 }
 
 // The number that a refusal returns.
@@ -61,6 +63,7 @@ pub fn number(refusal: Refusal) -> u8
         Refusal::BadDirectory => 15,
         Refusal::CaptureTooOld => 16,
         Refusal::AtEnd => 17,
+        Refusal::OtherKeyIndex => 25,
     }
 }
 

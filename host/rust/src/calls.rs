@@ -1,12 +1,13 @@
 //! The calls of the C header, one function each: values and slices in, the answer's record out, refusals by number.
 //!
-//! For a host that wants the records as they cross. [`Olt`], [`Onu`], [`RoundKeys`] and [`capture`](crate::capture) say the same
-//! with `Result`.
+//! For a host that wants the records as they cross. [`Olt`], [`Onu`], [`RoundKeys`], [`capture`](crate::capture) and
+//! [`xgpon`](crate::xgpon) say the same with `Result`.
 
 // Every block marked unsafe here lends slices and arrays for the time of one call: they are valid for their lengths, and `&mut`
 // keeps an output apart from what is read. The engine asks nothing else of its caller.
 
 use crate::raw;
+use crate::records::xgpon::{Answer, InputRecord, KeyExchange, TimerStarts, ValidKeys};
 use crate::records::*;
 use crate::LISTING_OCTETS;
 
@@ -152,4 +153,27 @@ pub fn capture_open(settings: &[u8], block: &[u8], output: &mut [u8]) -> Payload
 /// Gives the length of the listing; `text` past it stays.
 pub fn capture_list(settings: &[u8], block: &[u8], text: &mut [u8; LISTING_OCTETS]) -> usize {
     unsafe { raw::jazmotip_capture_list(settings.as_ptr(), settings.len(), block.as_ptr(), block.len(), text.as_mut_ptr()) }
+}
+
+pub fn xgpon_fresh() -> KeyExchange {
+    unsafe { raw::jazmotip_xgpon_fresh() }
+}
+
+/// Order of refusals: 1 for an exchange outside its values and for an unknown kind, 25.
+pub fn xgpon_step(exchange: KeyExchange, input: InputRecord) -> Answer {
+    unsafe { raw::jazmotip_xgpon_step(exchange, input) }
+}
+
+/// Order of refusals: 1.
+pub fn xgpon_sent_under(exchange: KeyExchange) -> ValidKeys {
+    unsafe { raw::jazmotip_xgpon_sent_under(exchange) }
+}
+
+/// Order of refusals: 1.
+pub fn xgpon_received_under(exchange: KeyExchange) -> ValidKeys {
+    unsafe { raw::jazmotip_xgpon_received_under(exchange) }
+}
+
+pub fn xgpon_recommended_starts() -> TimerStarts {
+    unsafe { raw::jazmotip_xgpon_recommended_starts() }
 }

@@ -5,6 +5,7 @@
 //! but null. A key is 16 octets, a listing's text [`LISTING_OCTETS`](crate::LISTING_OCTETS). An output overlaps nothing else that
 //! is lent in the same call.
 
+use crate::records::xgpon::{Answer, InputRecord, KeyExchange, TimerStarts, ValidKeys};
 use crate::records::*;
 
 extern "C" {
@@ -115,4 +116,10 @@ extern "C" {
         block_length: usize,
         text: *mut u8,
     ) -> usize;
+
+    pub fn jazmotip_xgpon_fresh() -> KeyExchange;
+    pub fn jazmotip_xgpon_step(exchange: KeyExchange, input: InputRecord) -> Answer;
+    pub fn jazmotip_xgpon_sent_under(exchange: KeyExchange) -> ValidKeys;
+    pub fn jazmotip_xgpon_received_under(exchange: KeyExchange) -> ValidKeys;
+    pub fn jazmotip_xgpon_recommended_starts() -> TimerStarts;
 }

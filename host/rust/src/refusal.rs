@@ -23,11 +23,12 @@ pub enum Refusal {
     BadDirectory = 15,
     CaptureTooOld = 16,
     AtEnd = 17,
+    OtherKeyIndex = 25,
 }
 
 impl Refusal {
-    /// All refusals, in the order of their numbers from 1.
-    pub const ALL: [Refusal; 17] = [
+    /// All refusals, in the order of their numbers.
+    pub const ALL: [Refusal; 18] = [
         Refusal::OutOfRange,
         Refusal::UnknownLlid,
         Refusal::RepeatedLlid,
@@ -45,9 +46,10 @@ impl Refusal {
         Refusal::BadDirectory,
         Refusal::CaptureTooOld,
         Refusal::AtEnd,
+        Refusal::OtherKeyIndex,
     ];
 
-    /// The number that the engine returns for it, 1 to 17.
+    /// The number that the engine returns for it, 1 to 17 or 25.
     pub fn number(self) -> u8 {
         self as u8
     }
@@ -56,7 +58,7 @@ impl Refusal {
     pub(crate) fn verdict(number: u8) -> Result<(), Refusal> {
         match number {
             0 => Ok(()),
-            n => Err(Refusal::ALL[usize::from(n) - 1]),
+            n => Err(*Refusal::ALL.iter().find(|refusal| refusal.number() == n).expect("a number of the table")),
         }
     }
 }
@@ -81,6 +83,7 @@ impl fmt::Display for Refusal {
             Refusal::BadDirectory => "capture directory bad",
             Refusal::CaptureTooOld => "clock capture older than a second",
             Refusal::AtEnd => "tick or key number at its end",
+            Refusal::OtherKeyIndex => "a report names a key index other than the awaited one",
         };
         write!(f, "refused {}: {}", self.number(), cause)
     }

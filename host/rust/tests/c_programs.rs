@@ -1,10 +1,11 @@
 //! The C programs of `host/c`, compiled against the header and the archive, and run. The header itself checks the layout of every
-//! struct. `exchange` must print `exchange.stdout`; what `capture` must print is the reference's.
+//! struct. `exchange` must print `exchange.stdout`; what `capture` and `xgpon` must print is the tests' own.
 
 use crate::captures::answers;
 use crate::captures::blocks::{random_block, settings};
 use crate::random::cases;
 use crate::reference::capture;
+use crate::xgpon;
 use jazmotip::{BlockDirectory, BlockPart, BlockVerdict};
 use std::fmt::Write as _;
 use std::io::Write as _;
@@ -109,5 +110,15 @@ fn capture_opens_and_seals_back() {
             block[place] = block[place].wrapping_add(1);
         }
         assert_eq!(printed(&program, &[&settings[..], &block].concat()), capture_text(&settings, &block));
+    });
+}
+
+#[test]
+fn xgpon_plays_its_inputs() {
+    let program = compiled("xgpon", "-O2");
+    cases(40, |random| {
+        let inputs = xgpon::random_inputs(random);
+        let octets: Vec<u8> = inputs.iter().flat_map(|input| [input.kind, input.index]).collect();
+        assert_eq!(printed(&program, &octets), xgpon::played(&inputs));
     });
 }

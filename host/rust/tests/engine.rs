@@ -11,3 +11,4 @@ mod reference;
 mod sealing;
 mod tally;
 mod values;
+mod xgpon;

@@ -1,5 +1,6 @@
 //! Every record is laid out as the archive has it.
 
+use super::xgpon::*;
 use super::*;
 use core::mem::{offset_of, size_of};
 
@@ -47,3 +48,10 @@ layout!(PayloadAnswer, 16, number: 0, count: 8);
 layout!(BlockDirectory, 24, number: 0, fault: 1, records: 8, pair: 16);
 layout!(BlockVerdict, 16, number: 0, encenabled: 1, enckey: 2, clock: 8);
 layout!(BlockPart, 24, number: 0, offset: 8, length: 16);
+layout!(KeyExchange, 3, state: 0, oldkey: 1, newkey: 2);
+layout!(InputRecord, 2, kind: 0, index: 1);
+layout!(KeyControl, 2, kind: 0, index: 1);
+layout!(Timers, 3, tk1: 0, tk2: 1, tk3: 2);
+layout!(Answer, 12, number: 0, exchange: 1, message: 4, starts: 6, stops: 9);
+layout!(ValidKeys, 3, number: 0, oldkey: 1, newkey: 2);
+layout!(TimerStarts, 12, tk1: 0, tk2: 4, tk3: 8);

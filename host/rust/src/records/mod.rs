@@ -7,6 +7,7 @@ mod ends;
 mod layout;
 mod messages;
 mod payloads;
+pub(crate) mod xgpon;
 
 pub use ends::*;
 pub use messages::*;

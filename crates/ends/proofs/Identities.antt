@@ -1,6 +1,6 @@
 -- Laws of LLIDs. Assumes nothing.
 use mathlib.Core.Path.{_≡_, refl, sym, _∙_, ap}
-use mathlib.Core.Bool.{true, false}
+use mathlib.Core.Bool.{Bool, true, false}
 use mathlib.Core.List.{List, [], _∷_, _++_}
 use mathlib.Core.Logic.{⊎-elim}
 use Prim.Native.Nat.{ℕ, zero, suc, _≤_, _<_}
@@ -8,7 +8,7 @@ use native.Mathlib.Nat.{zero-add}
 use native.Mathlib.Omega.{arith}
 use lib.Dec.{ltb, eqb}
 use lib.ListN.{getD}
-use borrow.Author.Tests.{eqb-true, eq-eqb, leb-true, lt-ltb, not-true}
+use borrow.Author.Tests.{eqb-true, eq-eqb, ne-eqb, leb-true, lt-ltb, not-true}
 use Rattle.octets.specs.Choice.{both, either, pick}
 use Rattle.octets.specs.Lists.{tabulate}
 use Rattle.octets.proofs.Choice.{both-left, both-right, both-true, either-false, pick-true, true-false, either-left, either-right, either-none, either-cases, either-assoc, not-of-false}
@@ -60,6 +60,33 @@ distinct-apart (y ∷ xs) ys x d a =
     ⊎-elim (λ e. ap (λ (z : ℕ). among z ys) (sym (eqb-true y x e)) ∙ new .1)
     (λ e. distinct-apart xs ys x (both-right _ _ d) e)
     (either-cases (eqb y x) (among x xs) a)
+
+-- a number of the first part once more
+pub distinct-again : (xs : List ℕ) (x : ℕ) (ys : List ℕ) → among x xs ≡ true → distinct (xs ++ (x ∷ ys)) ≡ false
+distinct-again xs x ys a = by-case (distinct (xs ++ (x ∷ ys))) refl where
+  by-case : (t : Bool) → distinct (xs ++ (x ∷ ys)) ≡ t → distinct (xs ++ (x ∷ ys)) ≡ false
+  by-case true q = true-false (sym (among-head x ys) ∙ distinct-apart xs (x ∷ ys) x q a)
+  by-case false q = q
+
+pub distinct-more : (xs : List ℕ) (x : ℕ) → distinct xs ≡ true → among x xs ≡ false → distinct (xs ++ (x ∷ [])) ≡ true
+unfolding distinct among both
+distinct-more xs x d a =
+    distinct-append xs (x ∷ []) d refl
+    (λ y b. either-none (ne-eqb x y (λ e. true-false (sym b ∙ ap (λ (z : ℕ). among z xs) (sym e) ∙ a))) refl)
+
+distinct-left : (xs ys : List ℕ) → distinct (xs ++ ys) ≡ true → distinct xs ≡ true
+unfolding distinct
+distinct-left [] ys d = refl
+distinct-left (x ∷ xs) ys d =
+    let new = either-false _ _ (sym (among-append x xs ys) ∙ not-true _ (both-left _ _ d)) in
+    both-true (not-of-false (new .0)) (distinct-left xs ys (both-right _ _ d))
+
+-- a number twice in the first part
+pub distinct-no : (xs ys : List ℕ) → distinct xs ≡ false → distinct (xs ++ ys) ≡ false
+distinct-no xs ys e = by-case (distinct (xs ++ ys)) refl where
+  by-case : (t : Bool) → distinct (xs ++ ys) ≡ t → distinct (xs ++ ys) ≡ false
+  by-case true q = true-false (sym (distinct-left xs ys q) ∙ e)
+  by-case false q = q
 
 ---- identities
 

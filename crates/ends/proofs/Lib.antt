@@ -4,6 +4,7 @@ pub mod Identities
 pub mod KeyMessages
 pub mod Keys
 pub mod Lift
+pub mod Marks
 pub mod Occupancy
 pub mod OltAdvance
 pub mod OltCalls

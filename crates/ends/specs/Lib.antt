@@ -5,6 +5,7 @@ pub mod Keys
 pub mod Messages
 pub mod Occupancy
 pub mod Identities
+pub mod Marks
 pub mod Records
 pub mod Table
 pub mod Validity

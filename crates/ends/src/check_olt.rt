@@ -1,18 +1,20 @@
 // Whether an OLT that is lent is valid (01, 'When the reader says no': Ahead of each list comes 1).
 ghost use mathlib.Core.Path.{_≡_};
-ghost use mathlib.Core.Bool.{true, false, not};
+ghost use mathlib.Core.Bool.{true, not};
 ghost use mathlib.Core.List.{_++_};
-ghost use Prim.Native.Nat.{ℕ, _+_, _≤_, _<_};
-ghost use lib.ListN.{length, getD, take, drop};
+ghost use Prim.Native.Nat.{_+_, _≤_, _<_};
+ghost use lib.ListN.{length, take};
 ghost use Rattle.refusal.specs.Number.{verdictNumber};
 ghost use Rattle.refusal.specs.declared.Refusal.the-variants.{UnknownLlid};
 ghost use Rattle.refusal.specs.declared.Verdict.the-variants.{Accepted};
 ghost use Rattle.ends.specs.Identities.{among, distinct, llidsOf, meets};
 ghost use Rattle.ends.specs.Limits.{maxLlids, maxTableLlids, maxUnits};
+ghost use Rattle.ends.specs.Marks.{Marked, Names, byMark, markPlace, nextMark};
 ghost use Rattle.ends.specs.Replies.{refuseIf};
 ghost use Rattle.ends.specs.Timers.{validInterval, validTimer};
+ghost use Rattle.octets.specs.Choice.{both};
 ghost use Rattle.octets.specs.Lists.{all};
-ghost use Rattle.ends.specs.Table.{findFrom, foundNumber, pastUnit, tableLlids};
+ghost use Rattle.ends.specs.Table.{findFrom, foundNumber, tableLlids};
 ghost use Rattle.ends.specs.Validity.{validKeys, validNumbers, validOlt, validShared, validUnit, validUnitClock};
 use crate::Found;
 use crate::Identity;
@@ -97,67 +99,29 @@ pub fn valid_shared(shared: Shared) -> bool
     mac & ((shared.tick <= MAX_TICK) & ((shared.clock < CLOCK_TURN) & channels))
 }
 
-fn valid_units(tick: u64, units: [UnitRecord; MAX_UNITS as usize], count: u8) -> bool
-    requires { ⌜ count ≤ maxUnits ⌝ }
-    ensures { λ r. ⌜ r ≡ all (validUnit tick) (take count units) ⌝ }
-{
-    let n = count as usize;
-    let mut i: usize = 0;
-    while i < n {
-        let unit = units[i];
-        if !valid_unit(tick, unit) {
-            return false;
-        }
-        i += 1;
-    }
-    true
-}
-
 // LLIDs of a full table.
 const TABLE_LLIDS: usize = MAX_UNITS as usize * MAX_LLIDS as usize;
 
-// The LLIDs of a table, of which the first `count` places are in use.
-struct TableLlids {
-    list: [u16; TABLE_LLIDS],
-    count: usize,
+const MARK_PLACES: usize = 256;
+
+// The mark of a place that several LLIDs have.
+const CROWDED: u8 = 255;
+
+// Where an LLID leaves its mark.
+fn mark_place(llid: u16) -> usize
+    ensures { λ r. ⌜ r ≡ markPlace llid ⌝ }
+{
+    (llid as u32 * 40503 % 65536) as usize / MARK_PLACES
 }
 
-fn with_llids(table: TableLlids, identity: Identity) -> TableLlids
-    requires { ⌜ table .count + maxLlids ≤ maxTableLlids ⌝ }
-    requires { ⌜ identity .count ≤ maxLlids ⌝ }
-    ensures { λ r. ⌜ (take (r .count) (r .list) ≡ take (table .count) (table .list) ++ llidsOf identity) × (r .count ≡ table .count + identity .count) ⌝ }
+fn next_mark(mark: u8, k: usize) -> u8
+    requires { ⌜ k < maxTableLlids ⌝ }
+    ensures { λ r. ⌜ r ≡ nextMark mark k ⌝ }
 {
-    let mut r = table;
-    let n = table.count;
-    let count = identity.count as usize;
-    let llids = identity.llids;
-    let mut j: usize = 0;
-    while j < count {
-        let place = n + j;
-        r.list[place] = llids[j];
-        j += 1;
+    if mark == 0 {
+        return k as u8 + 1;
     }
-    r.count = n + count;
-    r
-}
-
-fn table_llids(units: [UnitRecord; MAX_UNITS as usize], count: u8) -> TableLlids
-    requires { ⌜ count ≤ maxUnits ⌝ }
-    requires { ⌜ ((i : ℕ) → i < count → getD units i pastUnit .identity .count ≤ maxLlids) ⌝ }
-    ensures { λ r. ⌜ (take (r .count) (r .list) ≡ tableLlids (take count units)) × (r .count ≤ maxTableLlids) ⌝ }
-{
-    let mut table = TableLlids {
-        list: [0; TABLE_LLIDS],
-        count: 0,
-    };
-    let n = count as usize;
-    let mut i: usize = 0;
-    while i < n {
-        let unit = units[i];
-        table = with_llids(table, unit.identity);
-        i += 1;
-    }
-    table
+    CROWDED
 }
 
 fn contains(list: &[u16], x: u16) -> bool
@@ -173,33 +137,70 @@ fn contains(list: &[u16], x: u16) -> bool
     false
 }
 
-// Whether x stands in the list from place i on. A mark of 0 says that it does not, and spares the search.
-fn stands(list: &[u16], i: usize, x: u16, mark: u8) -> bool
-    requires { ⌜ i ≤ length (now list) ⌝ }
-    requires { ⌜ (mark ≡ 0 → among x (drop i (now list)) ≡ false) ⌝ }
-    ensures { λ r. ⌜ r ≡ among x (drop i (now (list .entry))) ⌝ }
+// Whether x is one of the first n. Only where several have its place are they searched.
+fn stands(list: &[u16], n: usize, x: u16, mark: u8) -> bool
+    requires { ⌜ n ≤ length (now list) ⌝ }
+    requires { ⌜ Names (take n (now list)) mark ⌝ }
+    requires { ⌜ among x (take n (now list)) ≡ byMark (take n (now list)) x mark ⌝ }
+    ensures { λ r. ⌜ r ≡ among x (take n (now (list .entry))) ⌝ }
 {
     if mark == 0 {
         return false;
     }
-    let rest = &list[i..];
-    contains(rest, x)
+    if mark == CROWDED {
+        return contains(&list[..n], x);
+    }
+    let k = mark as usize - 1;
+    list[k] == x
 }
 
-// From the last to the first, each LLID leaves a mark at its value modulo 256: only where a mark stands already are the later ones searched.
-fn all_distinct(list: &[u16]) -> bool
-    ensures { λ r. ⌜ r ≡ distinct (now (list .entry)) ⌝ }
+// Puts a unit's LLIDs behind the first n, which stand once each, and leaves their marks; false where one stands already.
+fn added(identity: Identity, list: &mut [u16], marks: &mut [u8], n: usize) -> bool
+    requires { ⌜ (n + maxLlids ≤ length (now list)) × (length (now list) ≡ maxTableLlids) ⌝ }
+    requires { ⌜ identity .count ≤ maxLlids ⌝ }
+    requires { ⌜ Marked (take n (now list)) (now marks) ⌝ }
+    requires { ⌜ distinct (take n (now list)) ≡ true ⌝ }
+    ensures { λ r. ⌜ r ≡ distinct (take n (now (list .entry)) ++ llidsOf identity) ⌝ }
+    ensures { λ r. ⌜ (r ≡ true → take (n + identity .count) (now (list .exit)) ≡ take n (now (list .entry)) ++ llidsOf identity) ⌝ }
+    ensures { λ r. ⌜ (r ≡ true → Marked (take (n + identity .count) (now (list .exit))) (now (marks .exit))) ⌝ }
 {
-    let mut marks = [0u8; 256];
-    let mut i: usize = list.len();
-    while 0 < i {
-        let x = list[i - 1];
-        let m = (x % 256) as usize;
-        if stands(list, i, x, marks[m]) {
+    let llids = identity.llids;
+    let count = identity.count as usize;
+    let mut j: usize = 0;
+    while j < count {
+        let place = n + j;
+        let x = llids[j];
+        let m = mark_place(x);
+        let mark = marks[m];
+        if stands(list, place, x, mark) {
             return false;
         }
-        marks[m] = 1;
-        i -= 1;
+        list[place] = x;
+        marks[m] = next_mark(mark, place);
+        j += 1;
+    }
+    true
+}
+
+// Whether the units are valid and no LLID of theirs stands twice, in one pass.
+fn valid_table(tick: u64, units: [UnitRecord; MAX_UNITS as usize], count: usize) -> bool
+    requires { ⌜ count ≤ maxUnits ⌝ }
+    ensures { λ r. ⌜ r ≡ both (all (validUnit tick) (take count units)) (distinct (tableLlids (take count units))) ⌝ }
+{
+    let mut list = [0u16; TABLE_LLIDS];
+    let mut marks = [0u8; MARK_PLACES];
+    let mut n: usize = 0;
+    let mut i: usize = 0;
+    while i < count {
+        let unit = units[i];
+        if !valid_unit(tick, unit) {
+            return false;
+        }
+        if !added(unit.identity, &mut list, &mut marks, n) {
+            return false;
+        }
+        n += unit.identity.count as usize;
+        i += 1;
     }
     true
 }
@@ -215,13 +216,7 @@ pub fn valid_olt(olt: Olt) -> bool
         return false;
     }
     let units = olt.units;
-    if !valid_units(olt.shared.tick, units, count) {
-        return false;
-    }
-    let table = table_llids(units, count);
-    let list = table.list;
-    let n = table.count;
-    all_distinct(&list[..n])
+    valid_table(olt.shared.tick, units, count as usize)
 }
 
 // Which of the first `count` units has the LLID.

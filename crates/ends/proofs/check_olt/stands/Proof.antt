@@ -1,38 +1,44 @@
--- `ends::check_olt::stands` meets its contract: what the mark says, or what the search finds in the part from i on.
+-- `ends::check_olt::stands` meets its contract: what the mark says, or what the search finds among the first n.
 -- Assumes nothing.
-use mathlib.Core.List.{List}
 use mathlib.Core.Path.{sym, ap, _∙_}
-use Prim.Native.Nat.{ℕ}
+use Prim.Native.Nat.{ℕ, _-_, _<_}
+use native.Mathlib.Omega.{arith}
+use lib.Dec.{eqb}
+use lib.Seq.{length-take-le, getD-take}
 use borrow.Author.Needs.{needs}
-use Rattle.octets.proofs.Lists.{tail-part}
-use Rattle.ends.specs.Identities.{among}
+use Rattle.ends.proofs.Marks.{by-none, by-own}
 use Rattle.ends.proofs.check_olt.stands.Statement.{statement}
 use Rattle.ends.proofs.check_olt.stands.Tie as tie
 
 returns : tie.Need-returns
-returns c = sym (c .before .before .pre .1 (c .if1 .taken))
+returns c = sym (c .before .before .pre .1 .1 ∙ by-none _ _ _ (c .if1 .taken))
 
-mul-rest : tie.Need-mul-rest
-mul-rest c = search needs
+slice-aggregate-contains : tie.Need-slice-aggregate-contains
+slice-aggregate-contains c = sym (length-take-le _ _ (c .before .before .before .before .pre .0))
 
-sub-rest : tie.Need-sub-rest
-sub-rest c = search needs
-
-part-rest-start : tie.Need-part-rest-start
-part-rest-start c = search needs
-
-part-rest-end : tie.Need-part-rest-end
-part-rest-end c = search needs
-
-contains-requires : tie.Need-contains-requires
-contains-requires c κs = search needs
-
-returns-2 : tie.Need-returns-2
-returns-2 c =
+shared-slice-read-result : tie.Need-shared-slice-read-result
+shared-slice-read-result c =
     let a = c .before .before .before .before .args in
-    c .contains .ensures ∙ ap (λ (l : List ℕ). among (a .x) l) (tail-part (a .i) (a .list .now))
+    let p = c .before .before .before .before .pre in
+    omega (arith, p .1 .0 (c .before .if2 .left), length-take-le (a .n) (a .list .now) (p .0))
+
+returns-3 : tie.Need-returns-3
+returns-3 c =
+    let a = c .before .before .before .before .args in
+    let p = c .before .before .before .before .pre in
+    let some = c .before .before .if1 .left in
+    let low : a .mark - 1 < a .n = omega (arith, p .1 .0 (c .before .if2 .left), length-take-le (a .n) (a .list .now) (p .0)) in
+    sym (p .1 .1 ∙ by-own _ _ _ some (c .before .if2 .left) ∙ ap (λ (w : ℕ). eqb w (a .x)) (getD-take (a .n) (a .list .now) (a .mark - 1) 0 low))
 
 pub stands-spec : {M : Type 1} → statement M
 stands-spec =
     tie.close
-    (tie.spec returns mul-rest sub-rest part-rest-start part-rest-end contains-requires returns-2)
+    (tie.spec
+    returns
+    slice-aggregate-contains
+    (λ c κs. search needs)
+    (λ c. search needs)
+    (λ c. search needs)
+    (λ c. search needs)
+    shared-slice-read-result
+    returns-3)

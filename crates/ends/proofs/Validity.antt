@@ -13,12 +13,14 @@ use Rattle.ends.specs.Keys.{validFirst}
 use Rattle.ends.specs.Occupancy.{validChannels}
 use Rattle.ends.specs.Identities.{distinct, llidsOf, validMac, validIdentity}
 use Rattle.ends.specs.Table.{registered, tableLlids}
-use Rattle.ends.specs.Validity.{validNumbers, validKeys, validUnitClock, validUnit, validShared, validOlt, validOnuKeys, validOnuClock, validOnu}
+use Rattle.ends.specs.Validity.{judged, validNumbers, validKeys, validUnitClock, validUnit, validShared, validOlt, validOnuKeys, validOnuClock, validOnu}
 use Rattle.ends.specs.declared.UnitClock.{UnitClock}
 use Rattle.ends.specs.declared.UnitRecord.{UnitRecord}
 use Rattle.ends.specs.declared.Shared.{Shared}
 use Rattle.ends.specs.declared.Olt.{Olt}
 use Rattle.ends.specs.declared.Onu.{Onu}
+use Rattle.ends.specs.declared.Found.{Found}
+use Rattle.ends.specs.declared.Found.the-variants.{Nowhere}
 use mathlib.Core.Logic.{⊎-elim}
 use native.Mathlib.Omega.{arith}
 use Rattle.octets.specs.Lists.{all}
@@ -214,3 +216,12 @@ onu-valid o r =
     (both-true (r .oltmac)
     (both-true (le-leb _ _ (r .tick))
     (both-true (r .clock) (both-true (r .keys) (both-true (r .first) (r .channels)))))))
+
+---- what is found in a valid table
+
+pub judged-no : (t : Bool) (f : Found) → t ≡ false → judged t f ≡ judged false Nowhere
+unfolding judged pick
+judged-no t f e = rw e
+
+pub judged-yes : (t : Bool) (f : Found) → t ≡ true → judged t f ≡ judged true f
+judged-yes t f e = rw e

@@ -1,20 +1,21 @@
 -- One step of a walk along LLIDs and units, and its end: what the loops of this crate go by. Assumes nothing.
-use mathlib.Core.Path.{_≡_, refl}
-use mathlib.Core.Bool.{true, false}
+use mathlib.Core.Path.{_≡_, refl, _∙_}
+use mathlib.Core.Bool.{Bool, true, false}
 use mathlib.Core.List.{List, [], _∷_, _++_}
 use Prim.Native.Nat.{ℕ, suc, _+_, _-_, _<_, _≤_}
 use native.Mathlib.Numerals.{add-one}
 use native.Mathlib.Omega.{arith}
+use lib.Dec.{ltb}
 use lib.ListN.{length, getD, set, take, drop, drop-of-length-le}
 use lib.Seq.{take-suc-set}
-use borrow.Author.Tests.{eq-eqb, ne-eqb, leb-true}
+use borrow.Author.Tests.{lt-ltb, eq-eqb, ne-eqb, leb-true}
 use Rattle.octets.specs.Choice.{both, either, pick}
 use Rattle.octets.specs.Lists.{tabulate}
 use Rattle.octets.proofs.Choice.{both-left, both-right}
 use Rattle.octets.proofs.Steps.{tabulate-step, tabulate-end, drop-step, first-step, first-end}
-use Rattle.ends.specs.Limits.{maxLlids}
+use Rattle.ends.specs.Limits.{maxLlids, maxUnits}
 use Rattle.ends.specs.Identities.{among, distinct, has, llidsOf, meets, validIdentity}
-use Rattle.ends.specs.Table.{findFrom, tableLlids}
+use Rattle.ends.specs.Table.{findFrom, firstPlace, foundBelow, tableLlids}
 use Rattle.ends.specs.Validity.{validUnit}
 use Rattle.ends.specs.declared.UnitRecord.{UnitRecord}
 use Rattle.ends.specs.declared.Found.the-variants.{At, Nowhere}
@@ -80,6 +81,19 @@ pub find-miss : (n : ℕ) (l : List UnitRecord) (i : ℕ) (d : UnitRecord) (llid
     → findFrom i (drop i (take n l)) llid ≡ findFrom (i + 1) (drop (i + 1) (take n l)) llid
 unfolding findFrom pick
 find-miss n l i d llid h k e = rw (first-step n l i d h k, e, add-one)
+
+-- the unit at i is passed, and none before it is forgotten
+pub find-step : (n : ℕ) (l : List UnitRecord) (i : ℕ) (d : UnitRecord) (llid place : ℕ) → i < n → i < length l → i < maxUnits
+    → foundBelow place (findFrom i (drop i (take n l)) llid)
+    ≡ foundBelow (firstPlace place i (has (getD l i d .identity) llid)) (findFrom (i + 1) (drop (i + 1) (take n l)) llid)
+unfolding pick
+find-step n l i d llid place h k m = by-case (ltb place maxUnits) (has (getD l i d .identity) llid) refl refl where
+  by-case : (t u : Bool) → ltb place maxUnits ≡ t → has (getD l i d .identity) llid ≡ u
+      → pick t (At place) (findFrom i (drop i (take n l)) llid)
+      ≡ foundBelow (pick t place (pick u i maxUnits)) (findFrom (i + 1) (drop (i + 1) (take n l)) llid)
+  by-case true u p q = rw p
+  by-case false true p q = find-hit n l i d llid h k q ∙ rw (lt-ltb i maxUnits m)
+  by-case false false p q = find-miss n l i d llid h k q
 
 pub find-none : (i : ℕ) (l : List UnitRecord) (llid : ℕ) → l ≡ [] → findFrom i l llid ≡ Nowhere
 unfolding findFrom

@@ -2,10 +2,12 @@
 use mathlib.Core.Bool.{Bool}
 use mathlib.Core.List.{List, [], _∷_, _++_}
 use Prim.Native.Nat.{ℕ, suc, _+_}
+use lib.Dec.{ltb}
 use lib.ListN.{take, getD, set}
 use Rattle.octets.specs.Choice.{pick}
 use Rattle.refusal.specs.Number.{numberOf}
 use Rattle.refusal.specs.declared.Refusal.the-variants.{UnknownLlid}
+use Rattle.ends.specs.Limits.{maxUnits}
 use Rattle.ends.specs.Identities.{among, llidsOf, has}
 use Rattle.ends.specs.Records.{withChannels}
 use Rattle.ends.specs.declared.Channels.{Channels}
@@ -34,6 +36,14 @@ findFrom i (u ∷ us) llid = pick (has (u .identity) llid) (At i) (findFrom (suc
 
 unfoldable pub find : Olt → ℕ → Found
 find o llid = findFrom 0 (registered o) llid
+
+-- a place in the table, or one past it where there is none
+abbrev pub foundBelow : ℕ → Found → Found
+foundBelow place f = pick (ltb place maxUnits) (At place) f
+
+-- the first place where a unit has the LLID, or one past the table, once the unit at i is passed
+abbrev pub firstPlace : ℕ → ℕ → Bool → ℕ
+firstPlace place i here = pick (ltb place maxUnits) place (pick here i maxUnits)
 
 -- the paper's number for what is found
 abbrev pub foundNumber : Found → ℕ

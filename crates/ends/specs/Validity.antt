@@ -3,6 +3,7 @@
 -- allowed; A, C, O and a are u32, so key numbers or 0; a key is sixteen u8. A place that is not in use is no field of the end.
 -- Assumes nothing.
 use mathlib.Core.Bool.{Bool}
+use mathlib.Core.List.{List}
 use Prim.Native.Nat.{ℕ, _+_}
 use lib.Dec.{leb, ltb, eqb}
 use Rattle.octets.specs.Choice.{both, either, pick}
@@ -14,12 +15,15 @@ use Rattle.ends.specs.Timers.{validTimer}
 use Rattle.ends.specs.Keys.{validFirst}
 use Rattle.ends.specs.Occupancy.{validChannels}
 use Rattle.ends.specs.Identities.{distinct, llidsOf, validMac, validIdentity}
-use Rattle.ends.specs.Table.{registered, tableLlids}
+use Rattle.ends.specs.Table.{registered, tableLlids, findFrom, find}
 use Rattle.ends.specs.declared.UnitKeys.{UnitKeys}
 use Rattle.ends.specs.declared.UnitClock.{UnitClock}
 use Rattle.ends.specs.declared.UnitRecord.{UnitRecord}
 use Rattle.ends.specs.declared.Shared.{Shared}
 use Rattle.ends.specs.declared.Olt.{Olt}
+use Rattle.ends.specs.declared.Found.{Found}
+use Rattle.ends.specs.declared.Found.the-variants.{Nowhere}
+use Rattle.ends.specs.declared.Judged.{Judged}
 use Rattle.ends.specs.declared.OnuKeys.{OnuKeys}
 use Rattle.ends.specs.declared.OnuClock.{OnuClock}
 use Rattle.ends.specs.declared.Onu.{Onu}
@@ -63,6 +67,17 @@ validOlt o =
     (both (validShared (o .shared))
     (both (all (validUnit (o .shared .tick)) (registered o))
     (distinct (tableLlids (registered o)))))  -- an LLID twice
+
+-- whether an OLT is valid and, if so, where the unit stands that has the LLID
+unfoldable pub judged : Bool → Found → Judged
+judged valid f = record { valid = valid; found = pick valid f Nowhere }
+
+-- of the units alone
+unfoldable pub judgedTable : ℕ → List UnitRecord → ℕ → Judged
+judgedTable tick us llid = judged (both (all (validUnit tick) us) (distinct (tableLlids us))) (findFrom 0 us llid)
+
+unfoldable pub judgedOf : Olt → ℕ → Judged
+judgedOf o llid = judged (validOlt o) (find o llid)
 
 unfoldable pub validOnuKeys : OnuKeys → Bool
 validOnuKeys k =

@@ -1,23 +1,23 @@
 // Whether an OLT that is lent is valid (01, 'When the reader says no': Ahead of each list comes 1).
 ghost use mathlib.Core.Path.{_≡_};
-ghost use mathlib.Core.Bool.{true, not};
+ghost use mathlib.Core.Bool.{true, false, not};
 ghost use mathlib.Core.List.{_++_};
 ghost use Prim.Native.Nat.{_+_, _≤_, _<_};
 ghost use lib.ListN.{length, take};
 ghost use Rattle.refusal.specs.Number.{verdictNumber};
 ghost use Rattle.refusal.specs.declared.Refusal.the-variants.{UnknownLlid};
 ghost use Rattle.refusal.specs.declared.Verdict.the-variants.{Accepted};
-ghost use Rattle.ends.specs.Identities.{among, distinct, llidsOf, meets};
+ghost use Rattle.ends.specs.Identities.{among, distinct, has, llidsOf, meets};
 ghost use Rattle.ends.specs.Limits.{maxLlids, maxTableLlids, maxUnits};
 ghost use Rattle.ends.specs.Marks.{Marked, Names, byMark, markPlace, nextMark};
 ghost use Rattle.ends.specs.Replies.{refuseIf};
 ghost use Rattle.ends.specs.Timers.{validInterval, validTimer};
-ghost use Rattle.octets.specs.Choice.{both};
-ghost use Rattle.octets.specs.Lists.{all};
-ghost use Rattle.ends.specs.Table.{findFrom, foundNumber, tableLlids};
-ghost use Rattle.ends.specs.Validity.{validKeys, validNumbers, validOlt, validShared, validUnit, validUnitClock};
+ghost use Rattle.ends.specs.Table.{findFrom, firstPlace, foundBelow, foundNumber, tableLlids};
+ghost use Rattle.ends.specs.declared.Found.the-variants.{Nowhere};
+ghost use Rattle.ends.specs.Validity.{judged, judgedOf, judgedTable, validKeys, validNumbers, validOlt, validShared, validUnit, validUnitClock};
 use crate::Found;
 use crate::Identity;
+use crate::Judged;
 use crate::MAX_LLIDS;
 use crate::MAX_UNITS;
 use crate::Olt;
@@ -182,41 +182,95 @@ fn added(identity: Identity, list: &mut [u16], marks: &mut [u8], n: usize) -> bo
     true
 }
 
-// Whether the units are valid and no LLID of theirs stands twice, in one pass.
-fn valid_table(tick: u64, units: [UnitRecord; MAX_UNITS as usize], count: usize) -> bool
+// The first place where a unit has the LLID, or one past the table.
+fn first_place(place: usize, i: usize, identity: Identity, llid: u16) -> usize
+    ensures { λ r. ⌜ r ≡ firstPlace place i (has identity llid) ⌝ }
+{
+    if place < MAX_UNITS as usize {
+        return place;
+    }
+    if has(identity, llid) {
+        return i;
+    }
+    MAX_UNITS as usize
+}
+
+fn found_below(place: usize) -> Found
+    ensures { λ r. ⌜ r ≡ foundBelow place Nowhere ⌝ }
+{
+    if place < MAX_UNITS as usize {
+        return Found::At(place);
+    }
+    Found::Nowhere
+}
+
+fn invalid() -> Judged
+    ensures { λ r. ⌜ r ≡ judged false Nowhere ⌝ }
+{
+    let found = Found::Nowhere;
+    Judged {
+        valid: false,
+        found,
+    }
+}
+
+fn valid_with(place: usize) -> Judged
+    ensures { λ r. ⌜ r ≡ judged true (foundBelow place Nowhere) ⌝ }
+{
+    let found = found_below(place);
+    Judged { valid: true, found }
+}
+
+// Whether the units are valid and no LLID of theirs stands twice, and which of them has the LLID, in one pass.
+fn judge_table(
+    tick: u64,
+    units: [UnitRecord; MAX_UNITS as usize],
+    count: usize,
+    llid: u16,
+) -> Judged
     requires { ⌜ count ≤ maxUnits ⌝ }
-    ensures { λ r. ⌜ r ≡ both (all (validUnit tick) (take count units)) (distinct (tableLlids (take count units))) ⌝ }
+    ensures { λ r. ⌜ r ≡ judgedTable tick (take count units) llid ⌝ }
 {
     let mut list = [0u16; TABLE_LLIDS];
     let mut marks = [0u8; MARK_PLACES];
     let mut n: usize = 0;
+    let mut place: usize = MAX_UNITS as usize;
     let mut i: usize = 0;
     while i < count {
         let unit = units[i];
         if !valid_unit(tick, unit) {
-            return false;
+            return invalid();
         }
         if !added(unit.identity, &mut list, &mut marks, n) {
-            return false;
+            return invalid();
         }
+        place = first_place(place, i, unit.identity, llid);
         n += unit.identity.count as usize;
         i += 1;
     }
-    true
+    valid_with(place)
+}
+
+// Whether the OLT is valid and, if so, which unit has the LLID.
+pub fn judge(olt: Olt, llid: u16) -> Judged
+    ensures { λ r. ⌜ r ≡ judgedOf olt llid ⌝ }
+{
+    let count = olt.count;
+    if MAX_UNITS < count {
+        return invalid();
+    }
+    if !valid_shared(olt.shared) {
+        return invalid();
+    }
+    let units = olt.units;
+    judge_table(olt.shared.tick, units, count as usize, llid)
 }
 
 pub fn valid_olt(olt: Olt) -> bool
     ensures { λ r. ⌜ r ≡ validOlt olt ⌝ }
 {
-    let count = olt.count;
-    if MAX_UNITS < count {
-        return false;
-    }
-    if !valid_shared(olt.shared) {
-        return false;
-    }
-    let units = olt.units;
-    valid_table(olt.shared.tick, units, count as usize)
+    let answer = judge(olt, 0);
+    answer.valid
 }
 
 // Which of the first `count` units has the LLID.

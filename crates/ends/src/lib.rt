@@ -169,6 +169,12 @@ pub enum Found {
     Nowhere,
 }
 
+// Whether an OLT is valid and, if so, where the unit stands that has an LLID.
+pub struct Judged {
+    pub valid: bool,
+    pub found: Found,
+}
+
 // Under which key an envelope goes.
 pub enum KeyChoice {
     // none

@@ -9,8 +9,7 @@ use crate::Located;
 use ends::Found;
 use ends::Olt;
 use ends::UnitRecord;
-use ends::check_olt::find;
-use ends::check_olt::valid_olt;
+use ends::check_olt::judge;
 use refusal::Refusal;
 use refusal::Verdict;
 
@@ -18,14 +17,14 @@ pub fn locate(olt: Olt, ahead: Verdict, llid: u16) -> Located
     ensures { λ r. ⌜ r ≡ locatedOf olt ahead llid ⌝ }
     ensures order { λ r. ⌜ locatedNumber r ≡ verdictNumber (locateOrder olt ahead llid) ⌝ }
 {
-    if !valid_olt(olt) {
+    let judged = judge(olt, llid);
+    if !judged.valid {
         return Located::Denied(Refusal::OutOfRange);
     }
     match ahead {
         Verdict::Refused(refusal) => Located::Denied(refusal),
         Verdict::Accepted => {
-            let units = olt.units;
-            let found = find(units, olt.count, llid);
+            let found = judged.found;
             match found {
                 Found::Nowhere => Located::Denied(Refusal::UnknownLlid),
                 Found::At(i) => Located::Place(i),

@@ -1,4 +1,5 @@
--- `ends::check_olt::valid_table` meets its contract: the first i units are valid, and their n LLIDs stand in the list, none twice, and are marked.
+-- `ends::check_olt::judge_table` meets its contract: the first i units are valid, their n LLIDs stand in the list, none twice, and are marked,
+-- and `place` is that of the first of them that has the LLID.
 -- Assumes nothing.
 use mathlib.Core.Bool.{true, false}
 use mathlib.Core.List.{_++_, append-nil, append-assoc}
@@ -8,44 +9,49 @@ use native.Mathlib.Omega.{arith}
 use lib.ListN.{length, take, drop, getD}
 use borrow.Author.Needs.{needs}
 use borrow.Author.Tests.{not-true, not-false}
+use Rattle.octets.specs.Choice.{pick}
 use Rattle.octets.specs.Lists.{all}
 use Rattle.octets.proofs.Choice.{both-true, both-false-left, both-false-right}
-use Rattle.octets.proofs.Steps.{all-hit, all-miss, all-end}
+use Rattle.octets.proofs.Steps.{all-hit, all-miss, all-end, first-end}
 use Rattle.ends.specs.Limits.{maxLlids, maxTableLlids, maxUnits}
 use Rattle.ends.specs.Identities.{distinct, llidsOf}
 use Rattle.ends.specs.Marks.{Marked}
-use Rattle.ends.specs.Table.{pastUnit, tableLlids}
-use Rattle.ends.specs.Validity.{validUnit}
+use Rattle.ends.specs.Table.{findFrom, foundBelow, pastUnit, tableLlids}
+use Rattle.ends.specs.Validity.{judged, judgedTable, validUnit}
+use Rattle.ends.specs.declared.Found.{Found}
 use Rattle.ends.proofs.Identities.{distinct-no}
 use Rattle.ends.proofs.Marks.{marked-none}
-use Rattle.ends.proofs.Walks.{llids-step, llids-end, unit-few}
-use Rattle.ends.proofs.check_olt.valid_table.Statement.{statement}
-use Rattle.ends.proofs.check_olt.valid_table.Tie as tie
+use Rattle.ends.proofs.Validity.{judged-no, judged-yes}
+use Rattle.ends.proofs.Walks.{find-none, find-step, llids-step, llids-end, unit-few}
+use Rattle.ends.proofs.check_olt.judge_table.Statement.{statement}
+use Rattle.ends.proofs.check_olt.judge_table.Tie as tie
 
 abbrev Inv-loop : tie.InvT-loop
-Inv-loop tick count units list₀ marks₀ n₀ i₀ list marks n i =
+Inv-loop tick count llid units list₀ marks₀ n₀ place₀ i₀ list marks n place i =
     (i ≤ count) × (n ≤ maxLlids * i) × (length list ≡ maxTableLlids)
     × (all (validUnit tick) (take count units) ≡ all (validUnit tick) (drop i (take count units)))
     × (take n list ++ tableLlids (drop i (take count units)) ≡ tableLlids (take count units))
     × (distinct (take n list) ≡ true) × Marked (take n list) marks
+    × (findFrom 0 (take count units) llid ≡ foundBelow place (findFrom i (drop i (take count units)) llid))
 
 abbrev μ-loop : tie.MeasureT-loop
-μ-loop tick count units list₀ marks₀ n₀ i₀ list marks n i = count - i
+μ-loop tick count llid units list₀ marks₀ n₀ place₀ i₀ list marks n place i = count - i
 
 loop-holds : tie.Need-loop-holds Inv-loop μ-loop
-unfolding distinct
-loop-holds c = (omega arith, omega arith, refl, refl, refl, refl, marked-none)
+unfolding distinct pick
+loop-holds c = (omega arith, omega arith, refl, refl, refl, refl, marked-none, refl)
 
 returns : tie.Need-returns Inv-loop μ-loop
-unfolding pastUnit
+unfolding pastUnit judgedTable
 returns c =
-    let a = c .before .before .before .before .before .args in
-    let here = c .before .before .before .before .loop in
+    let a = c .before .before .before .before .before .before .args in
+    let here = c .before .before .before .before .before .loop in
     let len : length (a .t2) ≡ maxUnits = search needs in
-    sym (both-false-left _
+    c .invalid .ensures
+    ∙ sym (judged-no _ _ (both-false-left _
     (here .inv .3
     ∙ all-miss (validUnit (a .tick)) (a .count) (a .t2) (here .i) pastUnit (omega arith) (omega arith)
-    (sym (c .before .valid-unit .ensures) ∙ not-true (c .before .valid-unit .result) (c .if1 .taken))))
+    (sym (c .before .before .valid-unit .ensures) ∙ not-true (c .before .before .valid-unit .result) (c .before .if1 .taken)))))
 
 valid : (c : tie.Else1 Inv-loop μ-loop)
     → validUnit (c .before .before .before .before .before .args .tick) (getD (c .before .before .before .before .before .args .t2) (c .before .before .before .before .loop .i) pastUnit)
@@ -70,67 +76,80 @@ added-requires c κs =
     ((omega (arith, v .1, v .2), v .2), (few (c .before .before), (v .6, v .5)))
 
 returns-2 : tie.Need-returns-2 Inv-loop μ-loop
-unfolding pastUnit
+unfolding pastUnit judgedTable
 returns-2 c =
-    let a = c .before .before .before .before .before .before .before .before .before .before .before .args in
-    let here = c .before .before .before .before .before .before .before .before .before .before .loop in
+    let a = c .before .before .before .before .before .before .before .before .before .before .before .before .args in
+    let here = c .before .before .before .before .before .before .before .before .before .before .before .loop in
     let u = getD (a .t2) (here .i) pastUnit in
+    let call = c .before .before .before .before .added in
     let len : length (a .t2) ≡ maxUnits = search needs in
     let twice : distinct (take (here .n) (here .list) ++ llidsOf (u .identity)) ≡ false =
-    sym (c .before .before .before .added .ensures .0) ∙ not-true (c .before .before .before .added .result) (c .if2 .taken) in
+    sym (call .ensures .0) ∙ not-true (call .result) (c .before .if2 .taken) in
     let all-of : (take (here .n) (here .list) ++ llidsOf (u .identity)) ++ tableLlids (drop (here .i + 1) (take (a .count) (a .t2)))
     ≡ tableLlids (take (a .count) (a .t2)) =
     rw append-assoc (rw (llids-step (a .count) (a .t2) (here .i) pastUnit (omega arith) (omega arith)) at (here .inv .4)) in
-    sym (both-false-right _ (sym (ap distinct all-of) ∙ distinct-no _ _ twice))
+    c .invalid2 .ensures ∙ sym (judged-no _ _ (both-false-right _ (sym (ap distinct all-of) ∙ distinct-no _ _ twice)))
 
 add-n : tie.Need-add-n Inv-loop μ-loop
 unfolding pastUnit
-add-n c = omega (arith, few (c .before .before .before .before .before .before .before), c .before .before .before .before .before .before .before .before .before .before .before .loop .inv .1)
+add-n c = omega (arith, few (c .before .before .before .before .before .before .before .before), c .before .before .before .before .before .before .before .before .before .before .before .before .loop .inv .1)
 
 loop-again : tie.Need-loop-again Inv-loop μ-loop
 unfolding pastUnit
 loop-again c =
-    let a = c .before .before .before .before .before .before .before .before .before .before .before .before .args in
-    let here = c .before .before .before .before .before .before .before .before .before .before .before .loop in
+    let a = c .before .before .before .before .before .before .before .before .before .before .before .before .before .args in
+    let here = c .before .before .before .before .before .before .before .before .before .before .before .before .loop in
     let v = here .inv in
-    let call = c .before .before .before .before .added in
-    let added : call .result ≡ true = not-false (call .result) (c .before .if2 .left) in
+    let call = c .before .before .before .before .before .added in
+    let added : call .result ≡ true = not-false (call .result) (c .before .before .if2 .left) in
     let len : length (a .t2) ≡ maxUnits = search needs in (
       omega arith,
-      omega (arith, few (c .before .before .before .before .before .before .before), v .1),
+      omega (arith, few (c .before .before .before .before .before .before .before .before), v .1),
       call .kept .1 .0 ∙ v .2,
-      v .3 ∙ all-hit (validUnit (a .tick)) (a .count) (a .t2) (here .i) pastUnit (omega arith) (omega arith) (valid (c .before .before .before .before .before .before .before)),
+      v .3 ∙ all-hit (validUnit (a .tick)) (a .count) (a .t2) (here .i) pastUnit (omega arith) (omega arith) (valid (c .before .before .before .before .before .before .before .before)),
       rw (call .ensures .1 .0 added, append-assoc, sym (llids-step (a .count) (a .t2) (here .i) pastUnit (omega arith) (omega arith))) (v .4),
       ap distinct (call .ensures .1 .0 added) ∙ sym (call .ensures .0) ∙ added,
       call .ensures .1 .1 added,
+      rw (c .before .first-place .ensures)
+          (v .7 ∙ find-step (a .count) (a .t2) (here .i) pastUnit (a .llid) (here .place) (omega arith) (omega arith) (omega arith)),
     )
 
 returns-3 : tie.Need-returns-3 Inv-loop μ-loop
+unfolding judgedTable
 returns-3 c =
-    let a = c .before .before .args in
-    let here = c .before .loop in
+    let a = c .before .before .before .args in
+    let here = c .before .before .loop in
     let all-of : take (here .n) (here .list) ≡ tableLlids (take (a .count) (a .t2)) =
     rw (llids-end (a .count) (a .t2) (here .i) (omega arith), append-nil) at (here .inv .4) in
-    sym (both-true (here .inv .3 ∙ all-end (validUnit (a .tick)) (a .count) (a .t2) (here .i) (omega arith)) (rw all-of at (here .inv .5)))
+    let units = here .inv .3 ∙ all-end (validUnit (a .tick)) (a .count) (a .t2) (here .i) (omega arith) in
+    let none = find-none (here .i) (drop (here .i) (take (a .count) (a .t2))) (a .llid) (first-end (a .count) (a .t2) (here .i) (omega arith)) in
+    c .valid-with .ensures
+    ∙ sym (judged-yes _ _ (both-true units (rw all-of at (here .inv .5)))
+    ∙ ap (judged true) (here .inv .7 ∙ ap (λ (f : Found). foundBelow (here .place) f) none))
 
-pub valid-table-spec : {M : Type 1} → statement M
-valid-table-spec =
+pub judge-table-spec : {M : Type 1} → statement M
+judge-table-spec =
     tie.close
     (tie.spec
     Inv-loop
     μ-loop
+    (λ c. omega arith)
     loop-holds
     (λ c. omega arith)
     (λ c. omega arith)
+    (λ c κs. search needs)
     (λ c κs. search needs)
     returns
     slice-aggregate-added
     slice-aggregate-added-2
     added-requires
+    (λ c κs. search needs)
     returns-2
+    (λ c κs. search needs)
     (λ c. omega arith)
     add-n
     (λ c. omega arith)
     (λ c. omega arith)
     loop-again
+    (λ c κs. search needs)
     returns-3)

@@ -1,0 +1,46 @@
+-- `ends::check_olt::judge` meets its contract: one test of the definition after the other.
+-- Assumes nothing.
+use mathlib.Core.Bool.{true}
+use mathlib.Core.Path.{_≡_, sym, _∙_}
+use borrow.Author.Needs.{needs}
+use borrow.Author.Tests.{le-leb, lt-leb, not-true, not-false}
+use Rattle.octets.specs.Choice.{both}
+use Rattle.octets.proofs.Choice.{both-false-left, both-false-right}
+use Rattle.ends.specs.Table.{find}
+use Rattle.ends.specs.Validity.{judgedOf, judgedTable, validOlt, validShared}
+use Rattle.ends.proofs.Validity.{judged-no}
+use Rattle.ends.proofs.check_olt.judge.Statement.{statement}
+use Rattle.ends.proofs.check_olt.judge.Tie as tie
+
+returns : tie.Need-returns
+unfolding judgedOf validOlt
+returns c = c .invalid .ensures ∙ sym (judged-no _ _ (both-false-left _ (lt-leb _ _ (c .before .if1 .taken))))
+
+returns-2 : tie.Need-returns-2
+unfolding judgedOf validOlt
+returns-2 c =
+    let call = c .before .before .valid-shared in
+    let no = sym (call .ensures) ∙ not-true (call .result) (c .before .if2 .taken) in
+    c .invalid2 .ensures ∙ sym (judged-no _ _ (both-false-right _ (both-false-left _ no)))
+
+shared-valid : (c : tie.Else2) → validShared (c .before .before .before .args .olt .shared) ≡ true
+shared-valid c = sym (c .before .valid-shared .ensures) ∙ not-false (c .before .valid-shared .result) (c .if2 .left)
+
+returns-3 : tie.Need-returns-3
+unfolding judgedOf judgedTable validOlt both find
+returns-3 c =
+    let passed = c .before .before in
+    rw (le-leb _ _ (passed .before .before .if1 .left), shared-valid passed) (c .judge-table .ensures)
+
+pub judge-spec : {M : Type 1} → statement M
+judge-spec =
+    tie.close
+    (tie.spec
+    (λ c κs. search needs)
+    returns
+    (λ c κs. search needs)
+    (λ c κs. search needs)
+    returns-2
+    (λ c. search needs)
+    (λ c κs. search needs)
+    returns-3)

@@ -77,6 +77,7 @@ loop-again c =
     let here = c .before .before .before .before .before .before .before .loop in
     let v = here .inv in
     let f : ℕ → ℕ = λ k. getD (a .identity .llids) k 0 in
+    let at-place = c .before .before .before .before .before .mark-place .ensures in
     let low : a .n + here .j < length (here .list) = omega (arith, v .1) in
     let new : among (f (here .j)) (take (a .n + here .j) (here .list)) ≡ false = sym (c .before .before .stands .ensures) ∙ c .before .if1 .left in (
       omega arith,
@@ -85,7 +86,7 @@ loop-again c =
       rw (take-more (here .list) (a .n) (here .j) (f (here .j)) low, append-assoc)
           (rw (tabulate-step (here .j) (a .identity .count) f (omega arith)) at (v .3)),
       rw (take-more (here .list) (a .n) (here .j) (f (here .j)) low) (distinct-more _ (f (here .j)) (v .4) new),
-      marked-step (here .list) (here .marks) (a .n) (here .j) (f (here .j)) _ _ low (omega arith) (c .before .before .before .before .before .mark-place .ensures)
+      marked-step (here .list) (here .marks) (a .n) (here .j) (f (here .j)) _ _ low (omega arith) at-place
           (c .next-mark .ensures) (v .5),
     )
 

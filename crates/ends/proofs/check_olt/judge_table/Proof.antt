@@ -19,6 +19,7 @@ use Rattle.ends.specs.Marks.{Marked}
 use Rattle.ends.specs.Table.{findFrom, foundBelow, pastUnit, tableLlids}
 use Rattle.ends.specs.Validity.{judged, judgedTable, validUnit}
 use Rattle.ends.specs.declared.Found.{Found}
+use Rattle.ends.specs.declared.UnitRecord.{UnitRecord}
 use Rattle.ends.proofs.Identities.{distinct-no}
 use Rattle.ends.proofs.Marks.{marked-none}
 use Rattle.ends.proofs.Validity.{judged-no, judged-yes}
@@ -53,14 +54,14 @@ returns c =
     ∙ all-miss (validUnit (a .tick)) (a .count) (a .t2) (here .i) pastUnit (omega arith) (omega arith)
     (sym (c .before .before .valid-unit .ensures) ∙ not-true (c .before .before .valid-unit .result) (c .before .if1 .taken)))))
 
-valid : (c : tie.Else1 Inv-loop μ-loop)
-    → validUnit (c .before .before .before .before .before .args .tick) (getD (c .before .before .before .before .before .args .t2) (c .before .before .before .before .loop .i) pastUnit)
-    ≡ true
+abbrev unit-at : tie.Else1 Inv-loop μ-loop → UnitRecord
+unit-at c = getD (c .before .before .before .before .before .args .t2) (c .before .before .before .before .loop .i) pastUnit
+
+valid : (c : tie.Else1 Inv-loop μ-loop) → validUnit (c .before .before .before .before .before .args .tick) (unit-at c) ≡ true
 unfolding pastUnit
 valid c = sym (c .before .valid-unit .ensures) ∙ not-false (c .before .valid-unit .result) (c .if1 .left)
 
-few : (c : tie.Else1 Inv-loop μ-loop)
-    → getD (c .before .before .before .before .before .args .t2) (c .before .before .before .before .loop .i) pastUnit .identity .count ≤ maxLlids
+few : (c : tie.Else1 Inv-loop μ-loop) → unit-at c .identity .count ≤ maxLlids
 few c = unit-few _ _ (valid c)
 
 slice-aggregate-added : tie.Need-slice-aggregate-added Inv-loop μ-loop
@@ -92,21 +93,24 @@ returns-2 c =
 
 add-n : tie.Need-add-n Inv-loop μ-loop
 unfolding pastUnit
-add-n c = omega (arith, few (c .before .before .before .before .before .before .before .before), c .before .before .before .before .before .before .before .before .before .before .before .before .loop .inv .1)
+add-n c =
+    let passed = c .before .before .before .before .before .before .before .before in
+    omega (arith, few passed, passed .before .before .before .before .loop .inv .1)
 
 loop-again : tie.Need-loop-again Inv-loop μ-loop
 unfolding pastUnit
 loop-again c =
-    let a = c .before .before .before .before .before .before .before .before .before .before .before .before .before .args in
-    let here = c .before .before .before .before .before .before .before .before .before .before .before .before .loop in
+    let passed = c .before .before .before .before .before .before .before .before in
+    let a = passed .before .before .before .before .before .args in
+    let here = passed .before .before .before .before .loop in
     let v = here .inv in
     let call = c .before .before .before .before .before .added in
     let added : call .result ≡ true = not-false (call .result) (c .before .before .if2 .left) in
     let len : length (a .t2) ≡ maxUnits = search needs in (
       omega arith,
-      omega (arith, few (c .before .before .before .before .before .before .before .before), v .1),
+      omega (arith, few passed, v .1),
       call .kept .1 .0 ∙ v .2,
-      v .3 ∙ all-hit (validUnit (a .tick)) (a .count) (a .t2) (here .i) pastUnit (omega arith) (omega arith) (valid (c .before .before .before .before .before .before .before .before)),
+      v .3 ∙ all-hit (validUnit (a .tick)) (a .count) (a .t2) (here .i) pastUnit (omega arith) (omega arith) (valid passed),
       rw (call .ensures .1 .0 added, append-assoc, sym (llids-step (a .count) (a .t2) (here .i) pastUnit (omega arith) (omega arith))) (v .4),
       ap distinct (call .ensures .1 .0 added) ∙ sym (call .ensures .0) ∙ added,
       call .ensures .1 .1 added,

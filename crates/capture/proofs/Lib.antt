@@ -1,4 +1,5 @@
 pub mod Pairs
+pub mod Broken
 pub mod Records
 pub mod Openings
 pub mod Reopening

@@ -3,7 +3,7 @@ use mathlib.Core.Path.{_≡_, refl, sym, _∙_}
 use mathlib.Core.Bool.{Bool, true, false}
 use mathlib.Core.List.{List, []}
 use Prim.Native.Nat.{ℕ, zero, suc, _+_, _-_, _≤_, _<_}
-use native.Mathlib.Nat.{zero-add}
+use native.Mathlib.Nat.{add-zero, zero-add, add-suc, suc-add}
 use native.Mathlib.Omega.{arith}
 use lib.Dec.{leb}
 use lib.ListN.{length}
@@ -55,6 +55,13 @@ good-pairs b i (suc m) n e =
     let g = good-pair (pairOf b i) (suc i) (pairsFrom b (suc i) m) n e in
     let r = good-pairs b (suc i) m n (g .1) in
     (omega (arith, r .0), λ j l h. from-first b i m j (leb (suc i) j) (g .0) (r .1) refl l h)
+
+-- and conversely
+pub all-fit : (b : List ℕ) (i m : ℕ) → ((j : ℕ) → i ≤ j → j < i + m → pairOf b j ≡ Fits) → pairsFrom b i m ≡ Good (i + m)
+unfolding pairsFrom withPair
+all-fit b i zero f = rw add-zero
+all-fit b i (suc m) f =
+    rw (f i (omega arith) (omega arith)) (all-fit b (suc i) m (λ j l h. f j (omega arith) (omega arith)) ∙ rw (suc-add, add-suc))
 
 pub good : (b : List ℕ) (n : ℕ) → directoryOf b ≡ Good n → Records b n
 unfolding directoryOf

@@ -4,6 +4,7 @@ ghost use Prim.Native.Nat.{_+_, _*_, _^_, _≤_, _<_};
 ghost use lib.ListN.{length};
 ghost use Rattle.records.specs.Record.{sized};
 ghost use Rattle.capture.specs.Directory.{countOctets, directoryOctets, recordsIn, offsetOf, lengthOf, pairOf, sizeFits, directoryOf, verdictOn};
+ghost use Rattle.capture.specs.Broken.{Judged};
 ghost use Rattle.capture.specs.Duties.{Due};
 use crate::fields::number16;
 use crate::fields::number32;
@@ -113,6 +114,7 @@ fn is_size_right(block: &[u8]) -> bool
 // What the directory of a block is found to be: bounds first, then pair by pair, chain before length at each, in one pass.
 pub fn check(block: &[u8]) -> Directory
     ensures { λ r. ⌜ r ≡ directoryOf (now (block .entry)) ⌝ }
+    ensures { λ _. ⌜ Judged (now (block .entry)) ⌝ }
 {
     if !is_size_right(block) {
         return Directory::Bad(Refusal::BadDirectory);

@@ -18,7 +18,9 @@ use Rattle.capture.specs.declared.directory.Directory.{Directory}
 use Rattle.capture.specs.declared.directory.Directory.the-variants.{Good, Bad}
 use Rattle.capture.specs.Directory.{recordsIn, recordOf, chained, pairOf, sizeFits, withPair, pairsFrom, directoryOf}
 use Rattle.capture.specs.Broken.{Keeps, OffChainAt, OffLengthAt, Judged}
+use Rattle.capture.proofs.Pairs.{is-fit}
 use Rattle.capture.proofs.Records.{good, all-fit}
+use Rattle.capture.proofs.Trimming.{trimmed-good, same-record}
 
 ---- the rules of one pair
 
@@ -52,10 +54,6 @@ module _ (b : List ℕ) (i : ℕ) where
   off-length : pairOf b i ≡ OffLength → (chained b i ≡ true) × (sized (recordOf b i) ≡ false)
   unfolding pairOf
   off-length e = length-by (chained b i) (sized (recordOf b i)) e
-
-  is-fit : chained b i ≡ true → sized (recordOf b i) ≡ true → pairOf b i ≡ Fits
-  unfolding pairOf pick
-  is-fit c s = rw (c, s)
 
   is-off-chain : chained b i ≡ false → pairOf b i ≡ OffChain
   unfolding pairOf pick
@@ -220,4 +218,6 @@ module _ (b : List ℕ) where
         unsuitedLength = λ i o.
             of-pairs (o .before .bounds)
             ∙ names b 0 (recordsIn b) i OffLength length-off (first-broken i OffLength (o .before) (o .among) (is-off-length b i (o .kept) (o .broken)));
+        trimmable = λ m k h. trimmed-good b m k h;
+        sameRecords = λ m i k h l. same-record b m k h i l;
       }

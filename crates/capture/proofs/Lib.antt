@@ -1,4 +1,5 @@
 pub mod Pairs
+pub mod Trimming
 pub mod Broken
 pub mod Records
 pub mod Openings

@@ -64,11 +64,11 @@ enum {
     JAZMOTIP_CHANNEL_TAKEN = 12,      /* channel still taken by the envelope before */
     JAZMOTIP_KEY_TOO_OLD = 13,        /* 2^48 ticks since the first send under the key */
     JAZMOTIP_BAD_LENGTH = 14,         /* payload no multiple of 9 or too long; output of another length; settings not 41 octets */
-    JAZMOTIP_BAD_DIRECTORY = 15,      /* capture block too large, of too many records, shorter than its directory, or empty with octets left */
+    JAZMOTIP_BAD_DIRECTORY = 15,      /* capture block over a limit, shorter than its directory, or empty with octets left */
     JAZMOTIP_CAPTURE_TOO_OLD = 16,    /* clock capture older than a second */
     JAZMOTIP_AT_END = 17,             /* tick or key number at its end */
-    JAZMOTIP_BROKEN_CHAIN = 18,       /* a capture's pair off the chain of offsets, ending past the block, or the last ending short of it */
-    JAZMOTIP_UNSUITED_LENGTH = 19,    /* a capture's pair with a length under 16 or unequal to 16 + 9 x EQs */
+    JAZMOTIP_BROKEN_CHAIN = 18,       /* a capture's pair off the chain of offsets, past the block's end, or the last short of it */
+    JAZMOTIP_UNSUITED_LENGTH = 19,    /* a capture's pair whose length is under 16 or not 16 + 9 x EQs */
     JAZMOTIP_OTHER_KEY_INDEX = 25     /* a report names a key index other than the awaited one */
 };
 

@@ -3,7 +3,7 @@
 tools/capture_blocks.py and the key exchange of tools/xgpon_moves.py.
 
 usage: tools/calls.py > crates/calls/stdout
-Shares no code with the engine. What those do not give, the faults of a directory, is written here from document 01.
+Shares no code with the engine.
 """
 import capture_blocks as reader
 from capture_blocks import CLEAR, ONE
@@ -130,32 +130,14 @@ def payloads():
 
 # ---- capture blocks
 
-def directory(block):
-    """The fault, 1 for the size, 2 for the chain, 3 for a length, and the first bad pair."""
-    good = reader.directory(block)
-    if good is not None:
-        return 0, 0, len(good), 0
-    count = int.from_bytes(block[:2], "big")
-    if not 2 <= len(block) <= 65536 or count > 256 or 2 + 8 * count > len(block) or count == 0:
-        return 15, 1, 0, 0
-    due = 2 + 8 * count
-    for k in range(1, count + 1):
-        offset, length = (int.from_bytes(block[8 * k - 6 + i : 8 * k - 2 + i], "big") for i in (0, 4))
-        end = offset + length
-        if offset != due or end > len(block) or k == count and end != len(block):
-            return 15, 2, 0, k
-        if length < 16 or length != 16 + 9 * int.from_bytes(block[offset + 12 : offset + 16], "big"):
-            return 15, 3, 0, k
-        due = end
-
-
 def directory_row(block):
-    number, fault, records, pair = directory(block)
-    show("capture_directory", number, f" {fault} {records} {pair}")
+    number, pair, pairs = reader.directory(block)
+    show("capture_directory", number, f" {pair} {len(pairs)}")
 
 
 def verdict_row(settings, block, k):
-    pairs, enabled, enckey, clock = reader.directory(block), 0, 0, 0
+    number, pair, pairs = reader.directory(block)
+    enabled, enckey, clock = 0, 0, 0
     if 1 <= k <= len(pairs):
         offset, length = pairs[k - 1]
         record = block[offset : offset + length]
@@ -163,19 +145,19 @@ def verdict_row(settings, block, k):
         if number == 0 and record[4] & 1:
             enabled, enckey, clock = 1, record[4] >> 1, int.from_bytes(record[6:12], "big")
     else:
-        number = 1
-    show("capture_verdict", number, f" {enabled} {enckey} {clock:012x}")
+        number = number or 1
+    show("capture_verdict", number, f" {pair} {enabled} {enckey} {clock:012x}")
 
 
 def payload_row(block, k):
-    number, octets = reader.payload(block, k)
-    offset = 0 if number else reader.directory(block)[k - 1][0] + 16
-    show("capture_payload", number, f" {offset} {len(octets)}")
+    number, pair, octets = reader.payload(block, k)
+    offset = 0 if number else reader.directory(block)[2][k - 1][0] + 16
+    show("capture_payload", number, f" {pair} {offset} {len(octets)}")
 
 
 def open_row(settings, block):
-    number, count, octets = reader.opened(settings, block, b"\xaa" * 59)
-    show("capture_open", number, passed(count, octets))
+    number, pair, count, octets = reader.opened(settings, block, b"\xaa" * 59)
+    show("capture_open", number, f" {pair}" + passed(count, octets))
 
 
 def blocks():
@@ -190,6 +172,10 @@ def blocks():
     for k in (1, 2, 3):
         payload_row(good, k)
     open_row(settings, good)
+    broken = reader.block(CLEAR, ONE, pairs=[(18, 16), (35, 25)])
+    verdict_row(settings, broken, 1)
+    payload_row(broken, 1)
+    open_row(settings, broken)
     text = reader.listing(*reader.PAPER)
     print(f"jazmotip_capture_list {len(text)}\n{text}", end="")
 

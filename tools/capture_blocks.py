@@ -78,27 +78,28 @@ def sealed(key, channel, mac, clock, payload):
     return bytes(out), count
 
 
-# ---------------------------------------------------------------- the reader (01, Capture block)
+# ---------------------------------------------------------------- the reader (01, Capture block; 02, C-11)
 
 
 def directory(block):
-    """The records as (offset, length), or None where the directory is bad."""
+    """Number, the broken pair from 1 or 0, and the records as (offset, length)."""
     if not 2 <= len(block) <= 65536:
-        return None
+        return 15, 0, []
     n = int.from_bytes(block[:2], "big")
-    if n > 256 or 2 + 8 * n > len(block):
-        return None
+    if n > 256 or 2 + 8 * n > len(block) or n == 0 and len(block) > 2:
+        return 15, 0, []
     due, pairs = 2 + 8 * n, []
-    for i in range(n):
-        pair = block[2 + 8 * i : 10 + 8 * i]
+    for k in range(1, n + 1):
+        pair = block[8 * k - 6 : 8 * k + 2]
         offset, length = int.from_bytes(pair[:4], "big"), int.from_bytes(pair[4:], "big")
-        if offset != due or offset + length > len(block) or length < 16:
-            return None
-        if length != 16 + 9 * int.from_bytes(block[offset + 12 : offset + 16], "big"):
-            return None
+        end = offset + length
+        if offset != due or end > len(block) or k == n and end < len(block):
+            return 18, k, []
+        if length < 16 or length != 16 + 9 * int.from_bytes(block[offset + 12 : offset + 16], "big"):
+            return 19, k, []
         pairs.append((offset, length))
-        due = offset + length
-    return pairs if due == len(block) else None
+        due = end
+    return 0, 0, pairs
 
 
 def record_number(settings, record):
@@ -115,14 +116,14 @@ def record_number(settings, record):
 
 
 def opened(settings, block, lent):
-    """Number, count and output of opening a block into a lent output."""
+    """Number, broken pair, count and output of opening a block into a lent output."""
     if len(settings) != 41 or len(lent) != len(block):
-        return 14, 0, lent
+        return 14, 0, 0, lent
     if settings[0] > 3:
-        return 1, 0, lent
-    pairs = directory(block)
-    if pairs is None:
-        return 15, 0, lent
+        return 1, 0, 0, lent
+    number, pair, pairs = directory(block)
+    if number:
+        return number, pair, 0, lent
     out, total = bytearray(block), 0
     for offset, length in pairs:
         record = block[offset : offset + length]
@@ -138,16 +139,21 @@ def opened(settings, block, lent):
             out[offset + 4] = 0
             out[offset + 16 : offset + length] = payload
             total += count
-    return 0, total, bytes(out)
+    return 0, 0, total, bytes(out)
+
+
+def numbered(number, pair):
+    """A number, and the broken pair where there is one."""
+    return f"{number} {pair}" if pair else f"{number}"
 
 
 def listing(settings, block):
     """What the program prints."""
-    number = opened(settings, block, bytes(len(block)))[0]
+    number, pair, _, _ = opened(settings, block, bytes(len(block)))
     if number:
-        return f"no llid ch key eqs result\nrefused {number}\n"
+        return f"no llid ch key eqs result\nrefused {numbered(number, pair)}\n"
     lines = ["no llid ch key eqs result\n"]
-    for k, (offset, length) in enumerate(directory(block), 1):
+    for k, (offset, length) in enumerate(directory(block)[2], 1):
         record = block[offset : offset + length]
         key = str(record[4] >> 1 & 1) if record[4] & 1 else "-"
         number = record_number(settings, record)
@@ -158,14 +164,14 @@ def listing(settings, block):
 
 
 def payload(block, k):
-    """Number and payload of record k."""
-    pairs = directory(block)
-    if pairs is None:
-        return 15, b""
+    """Number, broken pair and payload of record k."""
+    number, pair, pairs = directory(block)
+    if number:
+        return number, pair, b""
     if not 1 <= k <= len(pairs):
-        return 1, b""
+        return 1, 0, b""
     offset, length = pairs[k - 1]
-    return 0, block[offset + 16 : offset + length]
+    return 0, 0, block[offset + 16 : offset + length]
 
 
 # ---------------------------------------------------------------- building blocks

@@ -1,7 +1,7 @@
 #!/usr/bin/env python3
 """Capture blocks, good, damaged and odd, and what each must give; tools/capture_blocks.py makes and reads them.
 
-usage: capture_cases.py write     writes the test files of the programs `reader` and `captures`, and the sample
+usage: capture_cases.py write     writes the test files of the programs `reader` and `captures`, and the samples
        capture_cases.py check     says whether those files are what this script makes (exit status 1 if not)
        capture_cases.py show      prints each case: title, octets (long ones cut), and what is expected
 """
@@ -9,7 +9,7 @@ import pathlib
 import sys
 import zlib
 
-from capture_blocks import CLEAR, ONE, PAPER, block, captured, listing, opened, payload, quanta, record, settings
+from capture_blocks import CLEAR, ONE, PAPER, block, captured, listing, numbered, opened, payload, quanta, record, settings
 
 ROOT = pathlib.Path(__file__).resolve().parent.parent
 
@@ -33,12 +33,15 @@ SAMPLE = (
         captured(b"\x81I opened" + b"\x00 the rec" + b"\x00ording. ", kind=1, channel=0x81, clock=0x123456789ABC),
     ),
 )
+# the same with an EQ too many in record 3
+BROKEN_SAMPLE = (SAMPLE[0], SAMPLE[1].replace(bytes.fromhex("000000000080" "00000002"), bytes.fromhex("000000000080" "00000003")))
 GOOD = block(CLEAR, ONE)
 
 
 def add_call_cases():
     case("the example of 01", *PAPER)
     case("the sample capture", *SAMPLE, ask=3)
+    case("the broken sample capture", *BROKEN_SAMPLE, ask=2)
     case("no input at all", b"", b"")
     case("settings of 40 octets", settings()[:40], b"")
     case("settings of 40 octets with a block", settings()[:40], GOOD)
@@ -99,6 +102,41 @@ def add_directory_cases():
     broken("count 65535", block(CLEAR, count=65535))
 
 
+def add_pair_cases():
+    """Which pair is broken (02, C-11): each cause at the first, a middle and the last pair of three, then two at once."""
+
+    def broken(title, octets, ask=1):
+        case(title, settings(), octets, ask)
+
+    good = [(26, 16), (42, 25), (67, 16)]
+
+    def paired(*changed):
+        pairs = list(good)
+        for k, pair in changed:
+            pairs[k] = pair
+        return block(CLEAR, ONE, CLEAR, pairs=pairs)
+
+    for k, which in enumerate(("first", "middle", "last")):
+        offset, length = good[k]
+        broken(f"{which} offset not the chain's", paired((k, (offset + 1, length))))
+        broken(f"{which} pair ends past the block", paired((k, (offset, 84 - offset))))
+        for title, odd in (("length is 15", CLEAR[:15]), ("length is 0", b""), ("record has an EQ too few", record(quanta(1), eqs=2))):
+            records = [CLEAR, ONE, CLEAR]
+            records[k] = odd
+            broken(f"{which} {title}", block(*records))
+    three = block(CLEAR, ONE, CLEAR)
+    broken("last pair ends short", three + b"\0", 3)
+    broken("last pair ends short, its length being 15", paired((2, (67, 15))))
+    broken("three records cut by an octet, and record 0", three[:-1], 0)
+    broken("a directory with nothing behind it", block(b"", pairs=[(10, 16)]))
+    broken("EQs wrong at 1, offset wrong at 2", block(record(eqs=1), ONE, CLEAR, pairs=[(26, 16), (43, 25), (67, 16)]))
+    broken("offset wrong at 1, EQs wrong at 2", block(CLEAR, record(quanta(1), eqs=2), CLEAR, pairs=[(27, 16), (42, 25), (67, 16)]))
+    broken("offset and EQs wrong at 2", block(CLEAR, record(quanta(1), eqs=2), CLEAR, pairs=[(26, 16), (43, 25), (67, 16)]))
+    broken("EQs wrong at 2 and 3", block(CLEAR, record(quanta(1), eqs=2), record(eqs=1)))
+    broken("9 times EQs is 5 modulo 2^32", block(CLEAR, record(bytes(5), eqs=0x1C71C71D)))
+    broken("the last of 256 pairs", block(*[CLEAR] * 255, record(eqs=1)), 256)
+
+
 def add_record_cases():
     def row(title, *records, presence=3, ask=1, **fields):
         case(title, settings(presence, **fields), block(*records), ask)
@@ -148,7 +186,7 @@ def add_record_cases():
     row("the wrong sender's MAC", captured(quanta(1)), mac=bytes.fromhex("020000000002"))
     before = block(ONE, CLEAR, captured(quanta(4), epam=3), captured(quanta(2), key=0))
     case("a block", settings(), before)
-    case("that block, opened, again", settings(), opened(settings(), before, bytes(len(before)))[2])
+    case("that block, opened, again", settings(), opened(settings(), before, bytes(len(before)))[3])
 
 
 def add_size_cases():
@@ -167,12 +205,12 @@ def add_size_cases():
 
 def expected(given, octets, ask, lent):
     """What the program `captures` prints of a case, below its title."""
-    number, count, out = opened(given, octets, b"\xa5" * lent)
-    asked, body = payload(octets, ask)
+    number, pair, count, out = opened(given, octets, b"\xa5" * lent)
+    asked, asked_pair, body = payload(octets, ask)
     return (
         listing(given, octets)
-        + f"call {number} count {count} sum {zlib.adler32(out):08x}\n"
-        + f"payload {ask} number {asked} octets {len(body)} sum {zlib.adler32(body):08x}\n"
+        + f"call {numbered(number, pair)} count {count} sum {zlib.adler32(out):08x}\n"
+        + f"payload {ask} number {numbered(asked, asked_pair)} octets {len(body)} sum {zlib.adler32(body):08x}\n"
     )
 
 
@@ -190,11 +228,12 @@ def files():
         "crates/captures/stdin": b"".join(framed(*c) for c in CASES),
         "crates/captures/stdout": "".join(f"# {c[0]}\n{expected(*c[1:])}" for c in CASES).encode(),
         "samples/line.capture": SAMPLE[0] + SAMPLE[1],
+        "samples/broken.capture": BROKEN_SAMPLE[0] + BROKEN_SAMPLE[1],
     }
 
 
 def main(words):
-    for add in (add_call_cases, add_directory_cases, add_record_cases, add_size_cases):
+    for add in (add_call_cases, add_directory_cases, add_pair_cases, add_record_cases, add_size_cases):
         add()
     if words == ["write"]:
         for name, octets in files().items():

@@ -101,7 +101,7 @@ CALL(directory, jazmotip_block_directory, jazmotip_capture_directory(s->work->in
 CALL(verdict, jazmotip_block_verdict,
      jazmotip_capture_verdict(work_settings, 41, s->work->input, s->work->length, s->work->records), 0)
 CALL(payload, jazmotip_block_part, jazmotip_capture_payload(s->work->input, s->work->length, s->work->records), 0)
-CALL(open, jazmotip_payload_answer,
+CALL(open, jazmotip_block_answer,
      jazmotip_capture_open(work_settings, 41, s->work->input, s->work->length, s->work->output, s->work->length), 0)
 
 static void list(void *job)

@@ -43,9 +43,9 @@ int main(void)
 
     fwrite(text, 1, jazmotip_capture_list(settings, settings_length, block, block_length, text), stdout);
     jazmotip_block_directory directory = jazmotip_capture_directory(block, block_length);
-    printf("directory %u fault %u records %zu pair %zu\n", directory.number, directory.fault, directory.records, directory.pair);
-    jazmotip_payload_answer open = jazmotip_capture_open(settings, settings_length, block, block_length, opened, block_length);
-    printf("open %u count %" PRIu64 "\n", open.number, open.count);
+    printf("directory %u pair %u records %zu\n", directory.number, directory.pair, directory.records);
+    jazmotip_block_answer open = jazmotip_capture_open(settings, settings_length, block, block_length, opened, block_length);
+    printf("open %u pair %u count %" PRIu64 "\n", open.number, open.pair, open.count);
     for (size_t k = 1; k <= directory.records; k++) {
         jazmotip_block_verdict verdict = jazmotip_capture_verdict(settings, settings_length, block, block_length, k);
         jazmotip_block_part part = jazmotip_capture_payload(block, block_length, k);

@@ -47,7 +47,7 @@ static void ends(void)
 static void blocks(void)
 {
     jazmotip_block_directory directory = jazmotip_capture_directory(NULL, 0);
-    printf("directory: %u fault %u\n", directory.number, directory.fault);
+    printf("directory: %u pair %u\n", directory.number, directory.pair);
     printf("verdict: %u", jazmotip_capture_verdict(NULL, 0, NULL, 0, 1).number);
     printf(" %u\n", jazmotip_capture_verdict(settings, sizeof settings, NULL, 0, 1).number);
     printf("payload: %u\n", jazmotip_capture_payload(NULL, 0, 1).number);

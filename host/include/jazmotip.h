@@ -64,9 +64,11 @@ enum {
     JAZMOTIP_CHANNEL_TAKEN = 12,      /* channel still taken by the envelope before */
     JAZMOTIP_KEY_TOO_OLD = 13,        /* 2^48 ticks since the first send under the key */
     JAZMOTIP_BAD_LENGTH = 14,         /* payload no multiple of 9 or too long; output of another length; settings not 41 octets */
-    JAZMOTIP_BAD_DIRECTORY = 15,      /* capture directory bad */
+    JAZMOTIP_BAD_DIRECTORY = 15,      /* capture block over a limit, shorter than its directory, or empty with octets left */
     JAZMOTIP_CAPTURE_TOO_OLD = 16,    /* clock capture older than a second */
     JAZMOTIP_AT_END = 17,             /* tick or key number at its end */
+    JAZMOTIP_BROKEN_CHAIN = 18,       /* a capture's pair off the chain of offsets, past the block's end, or the last short of it */
+    JAZMOTIP_UNSUITED_LENGTH = 19,    /* a capture's pair whose length is under 16 or not 16 + 9 x EQs */
     JAZMOTIP_OTHER_KEY_INDEX = 25     /* a report names a key index other than the awaited one */
 };
 
@@ -393,45 +395,54 @@ uint64_t jazmotip_count(const uint8_t *payload, size_t payload_length);
 
 /* --------------------------------------------------------------------------------------------------------- Capture blocks
  * Settings are 41 octets: presence (bit 0 key 0, bit 1 key 1), key 0 (16), key 1 (16), the sender's MAC (6), LLID (2). Records and
- * pairs count from 1. */
+ * pairs count from 1. In every answer, pair is the first broken pair where the number is 18 or 19, else 0; pairs are judged in
+ * order, 18 before 19 at each, so every pair before it is good and a block of those records alone is whole. */
 
 typedef struct jazmotip_block_directory {
-    uint8_t number; /* 0 or 15 */
-    uint8_t fault;  /* 0 none; 1 sizes; 2 a pair off the chain of offsets; 3 a pair off its record's length */
+    uint8_t number; /* 0, 15, 18 or 19 */
+    uint16_t pair;
     size_t records; /* how many, 0 if refused */
-    size_t pair;    /* the first bad pair, for faults 2 and 3; else 0 */
 } jazmotip_block_directory;
 
 typedef struct jazmotip_block_verdict {
     uint8_t number;
     uint8_t encenabled; /* 1 where opening deciphers the record; then enckey and clock are what it uses, else 0 */
     uint8_t enckey;
+    uint16_t pair;
     uint64_t clock;
 } jazmotip_block_verdict;
 
 typedef struct jazmotip_block_part {
     uint8_t number;
+    uint16_t pair;
     size_t offset; /* the payload is block[offset] to block[offset + length - 1] */
     size_t length;
 } jazmotip_block_part;
 
-/* What the directory of a block is found to be. */
+typedef struct jazmotip_block_answer {
+    uint8_t number;
+    uint16_t pair;
+    uint64_t count; /* octets deciphered */
+} jazmotip_block_answer;
+
+/* What the directory of a block is found to be. Order: 15, then 18 and 19. */
 jazmotip_block_directory jazmotip_capture_directory(const uint8_t *block, size_t block_length);
 
-/* Whether opening opens record k. Order: 14 and 1 for the settings, 15, 1 for k, then the record's own 1, 2, 10, 9. */
+/* Whether opening opens record k. Order: 14 and 1 for the settings, 15, 18 and 19, 1 for k, then the record's own 1, 2,
+ * 10, 9. */
 jazmotip_block_verdict jazmotip_capture_verdict(const uint8_t *settings, size_t settings_length, const uint8_t *block,
                                                 size_t block_length, size_t k);
 
-/* Where the payload of record k lies, opened or not. Order: 15, 1. Refused, offset and length are 0. */
+/* Where the payload of record k lies, opened or not. Order: 15, 18 and 19, 1. Refused, offset and length are 0. */
 jazmotip_block_part jazmotip_capture_payload(const uint8_t *block, size_t block_length, size_t k);
 
 /* Opens every record that can be into output, of the block's length; the others are copied. Opened records have their flags
- * cleared. The count is the sum over opened records. Order: 14, 1, 15. */
-jazmotip_payload_answer jazmotip_capture_open(const uint8_t *settings, size_t settings_length, const uint8_t *block,
-                                              size_t block_length, uint8_t *output, size_t output_length);
+ * cleared. The count is the sum over opened records. Order: 14, 1, 15, then 18 and 19. */
+jazmotip_block_answer jazmotip_capture_open(const uint8_t *settings, size_t settings_length, const uint8_t *block,
+                                            size_t block_length, uint8_t *output, size_t output_length);
 
 /* Writes the listing of a block, plain ASCII lines with no 0 at the end, and gives its length; text past it stays. A refused
- * call is the heading and a line such as "refused 15". */
+ * call is the heading and a line such as "refused 15", or "refused 18 2" with the broken pair. */
 size_t jazmotip_capture_list(const uint8_t *settings, size_t settings_length, const uint8_t *block, size_t block_length,
                              uint8_t text[JAZMOTIP_LISTING_OCTETS]);
 
@@ -634,17 +645,21 @@ JAZMOTIP_LAYOUT(offsetof(jazmotip_nonce, clock) == 16);
 JAZMOTIP_LAYOUT(sizeof(jazmotip_round_keys) == 176);
 JAZMOTIP_LAYOUT(sizeof(jazmotip_payload_answer) == 16);
 JAZMOTIP_LAYOUT(offsetof(jazmotip_payload_answer, count) == 8);
-JAZMOTIP_LAYOUT(sizeof(jazmotip_block_directory) == 24);
-JAZMOTIP_LAYOUT(offsetof(jazmotip_block_directory, fault) == 1);
+JAZMOTIP_LAYOUT(sizeof(jazmotip_block_directory) == 16);
+JAZMOTIP_LAYOUT(offsetof(jazmotip_block_directory, pair) == 2);
 JAZMOTIP_LAYOUT(offsetof(jazmotip_block_directory, records) == 8);
-JAZMOTIP_LAYOUT(offsetof(jazmotip_block_directory, pair) == 16);
 JAZMOTIP_LAYOUT(sizeof(jazmotip_block_verdict) == 16);
 JAZMOTIP_LAYOUT(offsetof(jazmotip_block_verdict, encenabled) == 1);
 JAZMOTIP_LAYOUT(offsetof(jazmotip_block_verdict, enckey) == 2);
+JAZMOTIP_LAYOUT(offsetof(jazmotip_block_verdict, pair) == 4);
 JAZMOTIP_LAYOUT(offsetof(jazmotip_block_verdict, clock) == 8);
 JAZMOTIP_LAYOUT(sizeof(jazmotip_block_part) == 24);
+JAZMOTIP_LAYOUT(offsetof(jazmotip_block_part, pair) == 2);
 JAZMOTIP_LAYOUT(offsetof(jazmotip_block_part, offset) == 8);
 JAZMOTIP_LAYOUT(offsetof(jazmotip_block_part, length) == 16);
+JAZMOTIP_LAYOUT(sizeof(jazmotip_block_answer) == 16);
+JAZMOTIP_LAYOUT(offsetof(jazmotip_block_answer, pair) == 2);
+JAZMOTIP_LAYOUT(offsetof(jazmotip_block_answer, count) == 8);
 JAZMOTIP_LAYOUT(sizeof(jazmotip_xgpon_key_exchange) == 3);
 JAZMOTIP_LAYOUT(offsetof(jazmotip_xgpon_key_exchange, oldkey) == 1);
 JAZMOTIP_LAYOUT(offsetof(jazmotip_xgpon_key_exchange, newkey) == 2);

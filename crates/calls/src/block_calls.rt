@@ -12,15 +12,15 @@ use libc::STDOUT_FILENO;
 fn directory(block: &[u8]) {
     let answer = jazmotip_capture_directory(block);
     show::begin(b"capture_directory", answer.number);
-    show::octet(answer.fault);
-    show::decimal(answer.records as u64);
     show::decimal(answer.pair as u64);
+    show::decimal(answer.records as u64);
     show::end();
 }
 
 fn show_verdict(settings: &[u8], block: &[u8], k: usize) {
     let answer = jazmotip_capture_verdict(settings, block, k);
     show::begin(b"capture_verdict", answer.number);
+    show::decimal(answer.pair as u64);
     show::octet(answer.encenabled);
     show::octet(answer.enckey);
     show::hex(answer.clock, 12);
@@ -30,6 +30,7 @@ fn show_verdict(settings: &[u8], block: &[u8], k: usize) {
 fn payload(block: &[u8], k: usize) {
     let answer = jazmotip_capture_payload(block, k);
     show::begin(b"capture_payload", answer.number);
+    show::decimal(answer.pair as u64);
     show::decimal(answer.offset as u64);
     show::decimal(answer.length as u64);
     show::end();
@@ -39,6 +40,7 @@ fn open(settings: &[u8], block: &[u8]) {
     let mut output = [0xaau8; 59];
     let answer = jazmotip_capture_open(settings, block, &mut output);
     show::begin(b"capture_open", answer.number);
+    show::decimal(answer.pair as u64);
     show::passed(answer.count, &output);
 }
 
@@ -82,6 +84,15 @@ fn two_records() {
     records(&settings, &block);
 }
 
+// Pair 2 is off the chain.
+fn broken_pair() {
+    let settings = values::settings();
+    let block = values::block(18, 16, 35, 1);
+    show_verdict(&settings, &block, 1);
+    payload(&block, 1);
+    open(&settings, &block);
+}
+
 // 01's example.
 fn example() {
     let settings = values::example_settings();
@@ -92,5 +103,6 @@ fn example() {
 pub(crate) fn play() {
     directories();
     two_records();
+    broken_pair();
     example();
 }

@@ -37,7 +37,7 @@ use Rattle.records.specs.declared.header.RecordVerdict.{RecordVerdict}
 use Rattle.records.specs.declared.header.RecordVerdict.the-variants.{Clear, Sealed}
 use Rattle.records.specs.declared.header.Header.{Header}
 use Rattle.capture.specs.declared.directory.Directory.{Directory}
-use Rattle.capture.specs.declared.directory.Directory.the-variants.{Good, BadSize, BadChain, BadRecord}
+use Rattle.capture.specs.declared.directory.Directory.the-variants.{Good, Bad}
 use Rattle.capture.specs.declared.opening.Keys.{Keys}
 use Rattle.capture.specs.declared.opening.OpenAnswer.{OpenAnswer}
 use Rattle.capture.specs.declared.opening.OpenAnswer.the-variants.{Denied}
@@ -240,9 +240,7 @@ then-both (Verdict.Refused r) v e = (e, cc)
 
 counted : (b : List ℕ) (d : Directory) → directoryOf b ≡ d → verdictOn d ≡ Accepted → directoryOf b ≡ Good (recordsIn b)
 counted b (Good n) q e = q ∙ ap Good (good b n q .count)
-counted b BadSize q e = cc
-counted b (BadChain k) q e = cc
-counted b (BadRecord k) q e = cc
+counted b (Bad r) q e = cc
 
 pub callable : (s b : List ℕ) (m : ℕ) → openVerdict s b m ≡ Accepted → Callable s b m
 unfolding openVerdict

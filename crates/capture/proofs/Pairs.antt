@@ -53,6 +53,11 @@ pair-fits b i e =
       sizes = s .0;
     }
 
+-- a pair that keeps both rules fits
+pub is-fit : (b : List ℕ) (i : ℕ) → chained b i ≡ true → sized (recordOf b i) ≡ true → pairOf b i ≡ Fits
+unfolding pairOf pick
+is-fit b i c s = rw (c, s)
+
 -- what a block of the right size holds
 pub record Sizes (b : List ℕ) : Type 0 where
   pub some : 2 ≤ length b

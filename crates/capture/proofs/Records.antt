@@ -3,7 +3,7 @@ use mathlib.Core.Path.{_≡_, refl, sym, _∙_}
 use mathlib.Core.Bool.{Bool, true, false}
 use mathlib.Core.List.{List, []}
 use Prim.Native.Nat.{ℕ, zero, suc, _+_, _-_, _≤_, _<_}
-use native.Mathlib.Nat.{zero-add}
+use native.Mathlib.Nat.{add-zero, zero-add, add-suc, suc-add}
 use native.Mathlib.Omega.{arith}
 use lib.Dec.{leb}
 use lib.ListN.{length}
@@ -13,7 +13,7 @@ use Rattle.octets.specs.Lists.{part}
 use Rattle.octets.proofs.Choice.{both-left, both-right, pick-first}
 use Rattle.octets.proofs.Lists.{part-length, drop-part}
 use Rattle.refusal.specs.declared.Refusal.{Refusal}
-use Rattle.refusal.specs.declared.Refusal.the-variants.{OutOfRange}
+use Rattle.refusal.specs.declared.Refusal.the-variants.{OutOfRange, BadDirectory}
 use Rattle.refusal.specs.declared.Verdict.{Verdict}
 use Rattle.refusal.specs.declared.Verdict.the-variants.{Accepted, Refused}
 use Rattle.records.specs.Record.{payloadOf, sized}
@@ -23,7 +23,7 @@ use Rattle.capture.specs.Payload.{recordAsked, payloadVerdict, boundsOf,
 use Rattle.capture.specs.declared.directory.Pair.{Pair}
 use Rattle.capture.specs.declared.directory.Pair.the-variants.{Fits, OffChain, OffLength}
 use Rattle.capture.specs.declared.directory.Directory.{Directory}
-use Rattle.capture.specs.declared.directory.Directory.the-variants.{Good, BadSize, BadChain, BadRecord}
+use Rattle.capture.specs.declared.directory.Directory.the-variants.{Good, Bad}
 use Rattle.capture.specs.declared.payload.Bounds.{Bounds}
 use Rattle.capture.specs.declared.payload.Bounds.the-variants.{Within}
 use Rattle.capture.proofs.Pairs.{Sizes, size-fits, pair-fits}
@@ -56,10 +56,17 @@ good-pairs b i (suc m) n e =
     let r = good-pairs b (suc i) m n (g .1) in
     (omega (arith, r .0), λ j l h. from-first b i m j (leb (suc i) j) (g .0) (r .1) refl l h)
 
+-- and conversely
+pub all-fit : (b : List ℕ) (i m : ℕ) → ((j : ℕ) → i ≤ j → j < i + m → pairOf b j ≡ Fits) → pairsFrom b i m ≡ Good (i + m)
+unfolding pairsFrom withPair
+all-fit b i zero f = rw add-zero
+all-fit b i (suc m) f =
+    rw (f i (omega arith) (omega arith)) (all-fit b (suc i) m (λ j l h. f j (omega arith) (omega arith)) ∙ rw (suc-add, add-suc))
+
 pub good : (b : List ℕ) (n : ℕ) → directoryOf b ≡ Good n → Records b n
 unfolding directoryOf
 good b n e =
-    let s = pick-first (sizeFits b) (pairsFrom b 0 (recordsIn b)) BadSize (Good n) (λ z. cc) e in
+    let s = pick-first (sizeFits b) (pairsFrom b 0 (recordsIn b)) (Bad BadDirectory) (Good n) (λ z. cc) e in
     let p = good-pairs b 0 (recordsIn b) n (s .1) in
     record { count = p .0 ∙ zero-add (recordsIn b); right = s .0; sizes = size-fits b (s .0); fit = λ i h. p .1 i (omega arith) (omega (arith, p .0)) }
 
@@ -92,9 +99,7 @@ by-directory : (b : List ℕ) (k : ℕ) (d : Directory) → directoryOf b ≡ d 
 by-directory b k (Good n) q e =
     let t = pick-first (both (leb 1 k) (leb k n)) Accepted (Refused OutOfRange) Accepted (λ z. cc) e .0 in
     record { count = n; records = good b n q; first = leb-true _ _ (both-left _ _ t); last = leb-true _ _ (both-right _ _ t) }
-by-directory b k BadSize q e = absurd (never _ e)
-by-directory b k (BadChain i) q e = absurd (never _ e)
-by-directory b k (BadRecord i) q e = absurd (never _ e)
+by-directory b k (Bad r) q e = absurd (never r e)
 
 pub asked-for : (b : List ℕ) (k : ℕ) → payloadVerdict b k ≡ Accepted → Asked b k
 unfolding payloadVerdict

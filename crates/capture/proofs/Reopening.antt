@@ -28,12 +28,12 @@ use Rattle.capture.specs.declared.directory.Directory.the-variants.{Good
 use Rattle.capture.specs.declared.opening.OpenAnswer.the-variants.{Done}
 use Rattle.records.specs.Settings.{keyOf, presenceOf, llidOf, settingsVerdict}
 use Rattle.records.specs.Record.{recordHeader, payloadOf, sized}
-use Rattle.capture.specs.Directory.{recordsIn, offsetOf, lengthOf, endOf, dueOf, recordOf, chained, pairOf, sizeFits, withPair, pairsFrom, directoryOf}
+use Rattle.capture.specs.Directory.{recordsIn, offsetOf, lengthOf, endOf, dueOf, recordOf, chained, pairOf, sizeFits, directoryOf}
 use Rattle.records.specs.Verdict.{encEnabled, clearedFlags, flagsFit, headerFits, recordVerdict, verdictFor, verdictOf}
 use Rattle.capture.specs.Opening.{recordNonce, cleared, writtenAs, openedRecord, recordCount, openedFrom, openedBlock, blockCount, openVerdict, opening}
 use Rattle.capture.specs.Claims.{Opened}
 use Rattle.capture.proofs.Pairs.{pair-fits, due-next}
-use Rattle.capture.proofs.Records.{Records, good, placed, records-end}
+use Rattle.capture.proofs.Records.{Records, all-fit, good, placed, records-end}
 use Rattle.records.proofs.Verdicts.{Openable, openable, by-key, is-clear}
 use Rattle.capture.proofs.Openings.{upTo, none-opened, up-to-next, opened-length, clear-record, refused-record, callable, opening-done}
 
@@ -189,12 +189,6 @@ same-eqs s r (Sealed i t) h e =
 same-sized : (s r : List ℕ) → 16 ≤ length r → sized (openedRecord s r) ≡ sized r
 unfolding sized
 same-sized s r h = rw (opened-length s r h, same-eqs s r (verdictOf s r) h refl)
-
-all-fit : (b : List ℕ) (i m : ℕ) → ((j : ℕ) → i ≤ j → j < i + m → pairOf b j ≡ Fits) → pairsFrom b i m ≡ Good (i + m)
-unfolding pairsFrom withPair
-all-fit b i zero f = rw add-zero
-all-fit b i (suc m) f =
-    rw (f i (omega arith) (omega arith)) (all-fit b (suc i) m (λ j l h. f j (omega arith) (omega arith)) ∙ rw (suc-add, add-suc))
 
 no-sum : (i n : ℕ) → sum i n (λ (j : ℕ). 0) ≡ 0
 no-sum i zero = refl

@@ -1,4 +1,4 @@
--- The directory of a capture block b (01, Capture block). Pair i and record i have i others before them, so 01's pair
+-- The directory of a capture block b (01, Capture block; 02, C-11). Pair i and record i have i others before them, so 01's pair
 -- k and record k are pair and record k - 1 here. Assumes nothing.
 use mathlib.Core.Bool.{Bool, not}
 use mathlib.Core.List.{List}
@@ -8,13 +8,13 @@ use lib.ListN.{length}
 use Rattle.octets.specs.BigEndian.{numberAt}
 use Rattle.octets.specs.Choice.{both, either, pick}
 use Rattle.octets.specs.Lists.{part}
-use Rattle.refusal.specs.declared.Refusal.the-variants.{BadDirectory}
+use Rattle.refusal.specs.declared.Refusal.the-variants.{BadDirectory, BrokenChain, UnsuitedLength}
 use Rattle.refusal.specs.declared.Verdict.{Verdict}
 use Rattle.refusal.specs.declared.Verdict.the-variants.{Accepted, Refused}
 use Rattle.capture.specs.declared.directory.Pair.{Pair}
 use Rattle.capture.specs.declared.directory.Pair.the-variants.{Fits, OffChain, OffLength}
 use Rattle.capture.specs.declared.directory.Directory.{Directory}
-use Rattle.capture.specs.declared.directory.Directory.the-variants.{Good, BadSize, BadChain, BadRecord}
+use Rattle.capture.specs.declared.directory.Directory.the-variants.{Good, Bad}
 use Rattle.records.specs.Record.{sized}
 use Rattle.records.specs.Place.{endFits}
 
@@ -57,7 +57,7 @@ dueOf b (suc i) = endOf b i
 unfoldable pub recordOf : List ℕ → ℕ → List ℕ
 recordOf b i = part b (offsetOf b i) (lengthOf b i)
 
--- pair i stands in the chain of offsets
+-- pair i stands in the chain of offsets: it starts where the chain says, ends within the block, and at its end if it is the last
 unfoldable pub chained : List ℕ → ℕ → Bool
 chained b i = both (eqb (offsetOf b i) (dueOf b i)) (endFits (eqb (i + 1) (recordsIn b)) (endOf b i) (length b))
 
@@ -72,23 +72,21 @@ sizeFits b =
     (both (leb (recordsIn b) mostRecords)
     (both (leb (directoryOctets (recordsIn b)) (length b)) (either (not (eqb (recordsIn b) 0)) (eqb (length b) countOctets))))
 
--- what the pair with this number, counted from 1, makes of the verdict on the pairs behind it
+-- what the pair with this number, counted from 1, makes of the verdict on the pairs behind it: 18 or 19 and the number (02, C-11)
 unfoldable pub withPair : Pair → ℕ → Directory → Directory
 withPair Fits k rest = rest
-withPair OffChain k rest = BadChain k
-withPair OffLength k rest = BadRecord k
+withPair OffChain k rest = Bad (BrokenChain k)
+withPair OffLength k rest = Bad (UnsuitedLength k)
 
 -- the first pair that does not fit, of the m from pair i on
 unfoldable pub pairsFrom : List ℕ → ℕ → ℕ → Directory
 pairsFrom b i zero = Good i
 pairsFrom b i (suc m) = withPair (pairOf b i) (suc i) (pairsFrom b (suc i) m)
 
+-- 15 comes ahead of both
 unfoldable pub directoryOf : List ℕ → Directory
-directoryOf b = pick (sizeFits b) (pairsFrom b 0 (recordsIn b)) BadSize
+directoryOf b = pick (sizeFits b) (pairsFrom b 0 (recordsIn b)) (Bad BadDirectory)
 
--- any break of the directory is refused alike
 abbrev pub verdictOn : Directory → Verdict
 verdictOn (Good n) = Accepted
-verdictOn BadSize = Refused BadDirectory
-verdictOn (BadChain k) = Refused BadDirectory
-verdictOn (BadRecord k) = Refused BadDirectory
+verdictOn (Bad r) = Refused r

@@ -1,4 +1,5 @@
 pub mod Directory
+pub mod Broken
 pub mod Payload
 pub mod Verdict
 pub mod Opening

@@ -9,7 +9,7 @@ use Rattle.octets.specs.Output.{WithOutput}
 use Rattle.refusal.specs.declared.Refusal.the-variants.{BadLength}
 use Rattle.refusal.specs.declared.Verdict.{Verdict}
 use Rattle.refusal.specs.declared.Verdict.the-variants.{Accepted, Refused}
-use Rattle.refusal.specs.Number.{numberOf}
+use Rattle.refusal.specs.Number.{numberOf, pairNumber}
 use Rattle.envelope.specs.ControlMask.{countEnciphered}
 use Rattle.envelope.specs.declared.Nonce.{Nonce}
 use Rattle.sealing.specs.KeyExpansion.{keyExpansion}
@@ -66,7 +66,7 @@ abbrev pub andThen : Verdict → Verdict → Verdict
 andThen Accepted v = v
 andThen (Verdict.Refused r) v = Verdict.Refused r
 
--- 14, 1, 15
+-- 14, 1, 15, then 18 and 19
 unfoldable pub openVerdict : List ℕ → List ℕ → ℕ → Verdict
 openVerdict s b outputOctets =
     pick (eqb outputOctets (length b)) (andThen (settingsVerdict s) (verdictOn (directoryOf b))) (Verdict.Refused BadLength)
@@ -79,10 +79,14 @@ openingAfter (Verdict.Refused r) s b out = record { answer = Denied r; output = 
 unfoldable pub opening : List ℕ → List ℕ → List ℕ → WithOutput OpenAnswer
 opening s b out = openingAfter (openVerdict s b (length out)) s b out
 
--- the paper's number of an answer, and its count
+-- the paper's number of an answer, the pair that a refusal names, else 0, and its count
 abbrev pub openNumber : OpenAnswer → ℕ
 openNumber (Done count) = 0
 openNumber (Denied r) = numberOf r
+
+abbrev pub openPair : OpenAnswer → ℕ
+openPair (Done count) = 0
+openPair (Denied r) = pairNumber r
 
 abbrev pub openCount : OpenAnswer → ℕ
 openCount (Done count) = count

@@ -10,20 +10,18 @@ use Rattle.octets.specs.Lists.{part}
 use Rattle.refusal.specs.declared.Refusal.the-variants.{OutOfRange}
 use Rattle.refusal.specs.declared.Verdict.{Verdict}
 use Rattle.refusal.specs.declared.Verdict.the-variants.{Accepted, Refused}
-use Rattle.refusal.specs.Number.{numberOf}
+use Rattle.refusal.specs.Number.{numberOf, pairNumber}
 use Rattle.capture.specs.declared.directory.Directory.{Directory}
-use Rattle.capture.specs.declared.directory.Directory.the-variants.{Good, BadSize, BadChain, BadRecord}
+use Rattle.capture.specs.declared.directory.Directory.the-variants.{Good, Bad}
 use Rattle.capture.specs.declared.payload.Bounds.{Bounds}
 use Rattle.capture.specs.declared.payload.Bounds.the-variants.{Within}
 use Rattle.records.specs.Record.{headerOctets, payloadOf}
-use Rattle.capture.specs.Directory.{offsetOf, lengthOf, recordOf, verdictOn, directoryOf}
+use Rattle.capture.specs.Directory.{offsetOf, lengthOf, recordOf, directoryOf}
 
--- 15, then 1 for k outside 1 to n
+-- 15, 18 or 19, then 1 for k outside 1 to n
 abbrev pub recordAsked : Directory → ℕ → Verdict
 recordAsked (Good n) k = pick (both (leb 1 k) (leb k n)) Accepted (Refused OutOfRange)
-recordAsked BadSize k = verdictOn BadSize
-recordAsked (BadChain i) k = verdictOn (BadChain i)
-recordAsked (BadRecord i) k = verdictOn (BadRecord i)
+recordAsked (Bad r) k = Refused r
 
 unfoldable pub payloadVerdict : List ℕ → ℕ → Verdict
 payloadVerdict b k = recordAsked (directoryOf b) k
@@ -39,10 +37,14 @@ boundsAfter (Refused r) p = Bounds.Refused r
 unfoldable pub payloadBounds : List ℕ → ℕ → Bounds
 payloadBounds b k = boundsAfter (payloadVerdict b k) (boundsOf b (k - 1))
 
--- the paper's number of bounds, and where they are: a refused payload is at 0, for no octets
+-- the paper's number of bounds, the pair that a refusal names, else 0, and where they are: a refused payload is at 0, for no octets
 abbrev pub boundsNumber : Bounds → ℕ
 boundsNumber (Within from n) = 0
 boundsNumber (Bounds.Refused r) = numberOf r
+
+abbrev pub boundsPair : Bounds → ℕ
+boundsPair (Within from n) = 0
+boundsPair (Bounds.Refused r) = pairNumber r
 
 abbrev pub boundsOffset : Bounds → ℕ
 boundsOffset (Within from n) = from

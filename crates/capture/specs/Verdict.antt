@@ -15,7 +15,7 @@ abbrev pub afterCall : Verdict → RecordVerdict → RecordVerdict
 afterCall Accepted v = v
 afterCall (Verdict.Refused r) v = Refused r
 
--- the verdict on the record with number k, from 1: 14 and 1 for the settings, 15, 1 for k, then the record's own
+-- the verdict on the record with number k, from 1: 14 and 1 for the settings, 15, 18 or 19, 1 for k, then the record's own
 unfoldable pub verdictAsked : List ℕ → List ℕ → ℕ → RecordVerdict
 verdictAsked s b k =
     afterCall (settingsVerdict s) (afterCall (payloadVerdict b k) (verdictOf s (recordOf b (k - 1))))

@@ -4,6 +4,7 @@ ghost use Prim.Native.Nat.{_+_, _*_, _^_, _≤_, _<_};
 ghost use lib.ListN.{length};
 ghost use Rattle.records.specs.Record.{sized};
 ghost use Rattle.capture.specs.Directory.{countOctets, directoryOctets, recordsIn, offsetOf, lengthOf, pairOf, sizeFits, directoryOf, verdictOn};
+ghost use Rattle.capture.specs.Broken.{Judged};
 ghost use Rattle.capture.specs.Duties.{Due};
 use crate::fields::number16;
 use crate::fields::number32;
@@ -33,16 +34,12 @@ pub enum Pair {
     OffLength,
 }
 
-// What a directory is found to be. Pairs count from 1.
+// What a directory is found to be.
 pub enum Directory {
     // so many records
     Good(usize),
-    // the block or its count is out of bounds, the block is shorter than its directory, or an empty one has octets left
-    BadSize,
-    // the first pair that does not fit is off the chain
-    BadChain(usize),
-    // the first pair that does not fit is off its record's length
-    BadRecord(usize),
+    // the refusal that it earns: 15 for its bounds, then 18 or 19 with the first pair that does not fit
+    Bad(Refusal),
 }
 
 // Whether a record is as long as its EQs say.
@@ -114,12 +111,13 @@ fn is_size_right(block: &[u8]) -> bool
     (COUNT_OCTETS + PAIR_OCTETS * n <= block.len()) & ((n != 0) | (block.len() == COUNT_OCTETS))
 }
 
-// What the directory of a block is found to be: bounds first, then pair by pair, in one pass.
+// What the directory of a block is found to be: bounds first, then pair by pair, chain before length at each, in one pass.
 pub fn check(block: &[u8]) -> Directory
     ensures { λ r. ⌜ r ≡ directoryOf (now (block .entry)) ⌝ }
+    ensures { λ _. ⌜ Judged (now (block .entry)) ⌝ }
 {
     if !is_size_right(block) {
-        return Directory::BadSize;
+        return Directory::Bad(Refusal::BadDirectory);
     }
     let n = count(block);
     let mut due = COUNT_OCTETS + PAIR_OCTETS * n;
@@ -127,8 +125,8 @@ pub fn check(block: &[u8]) -> Directory
     while i < n {
         match pair_of(block, n, i, due) {
             Pair::Fits => {}
-            Pair::OffChain => return Directory::BadChain(i + 1),
-            Pair::OffLength => return Directory::BadRecord(i + 1),
+            Pair::OffChain => return Directory::Bad(Refusal::BrokenChain((i + 1) as u16)),
+            Pair::OffLength => return Directory::Bad(Refusal::UnsuitedLength((i + 1) as u16)),
         }
         due += length_of(block, i);
         i += 1;
@@ -136,14 +134,12 @@ pub fn check(block: &[u8]) -> Directory
     Directory::Good(n)
 }
 
-// The refusal that a directory earns: 15 for any break of it.
+// A good directory is accepted.
 pub fn verdict_on(directory: Directory) -> Verdict
     ensures { λ r. ⌜ r ≡ verdictOn directory ⌝ }
 {
     match directory {
         Directory::Good(_) => Verdict::Accepted,
-        Directory::BadSize => Verdict::Refused(Refusal::BadDirectory),
-        Directory::BadChain(_) => Verdict::Refused(Refusal::BadDirectory),
-        Directory::BadRecord(_) => Verdict::Refused(Refusal::BadDirectory),
+        Directory::Bad(refusal) => Verdict::Refused(refusal),
     }
 }

@@ -12,7 +12,7 @@ ghost use Rattle.sealing.specs.KeyExpansion.{keyExpansion};
 ghost use Rattle.records.specs.Record.{payloadOf};
 ghost use Rattle.records.specs.Settings.{settingsOctets, settingsKeys, presenceOf, keyPresent, keyOf};
 ghost use Rattle.capture.specs.Directory.{mostOctets, recordOf};
-ghost use Rattle.capture.specs.Opening.{recordCount, openedBlock, blockCount, openVerdict, opening, openNumber, openCount};
+ghost use Rattle.capture.specs.Opening.{recordCount, openedBlock, blockCount, openVerdict, opening, openNumber, openPair, openCount};
 ghost use Rattle.capture.specs.Claims.{OpenedIfAccepted};
 ghost use Rattle.capture.specs.Duties.{Placed, Expanded, Ready, withPart, withRecord, Copied};
 use crate::directory::check;
@@ -172,6 +172,16 @@ pub fn number(answer: OpenAnswer) -> u8
     match answer {
         OpenAnswer::Done(_) => 0,
         OpenAnswer::Denied(refusal) => refusal::number(refusal),
+    }
+}
+
+// The pair that a refusal names, or 0.
+pub fn pair(answer: OpenAnswer) -> u16
+    ensures { λ r. ⌜ r ≡ openPair answer ⌝ }
+{
+    match answer {
+        OpenAnswer::Done(_) => 0,
+        OpenAnswer::Denied(refusal) => refusal::pair(refusal),
     }
 }
 

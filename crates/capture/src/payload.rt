@@ -1,6 +1,6 @@
 // The payload of a record, as a part of the caller's block. Records count from 1.
 ghost use mathlib.Core.Path.{_≡_};
-ghost use Rattle.capture.specs.Payload.{recordAsked, payloadVerdict, payloadBounds, boundsNumber, boundsOffset, boundsLength, PartOf, payloadPart};
+ghost use Rattle.capture.specs.Payload.{recordAsked, payloadVerdict, payloadBounds, boundsNumber, boundsPair, boundsOffset, boundsLength, PartOf, payloadPart};
 use crate::directory::Directory;
 use crate::directory::check;
 use crate::directory::length_of;
@@ -28,9 +28,7 @@ fn asked(directory: Directory, k: usize) -> Verdict
                 Verdict::Refused(Refusal::OutOfRange)
             }
         }
-        Directory::BadSize => Verdict::Refused(Refusal::BadDirectory),
-        Directory::BadChain(_) => Verdict::Refused(Refusal::BadDirectory),
-        Directory::BadRecord(_) => Verdict::Refused(Refusal::BadDirectory),
+        Directory::Bad(refusal) => Verdict::Refused(refusal),
     }
 }
 
@@ -64,6 +62,16 @@ pub fn number(bounds: Bounds) -> u8
     match bounds {
         Bounds::Within(_, _) => 0,
         Bounds::Refused(refusal) => refusal::number(refusal),
+    }
+}
+
+// The pair that a refusal names, or 0.
+pub fn pair(bounds: Bounds) -> u16
+    ensures { λ r. ⌜ r ≡ boundsPair bounds ⌝ }
+{
+    match bounds {
+        Bounds::Within(_, _) => 0,
+        Bounds::Refused(refusal) => refusal::pair(refusal),
     }
 }
 

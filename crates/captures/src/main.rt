@@ -42,10 +42,22 @@ fn print_listing(settings: &[u8], block: &[u8]) {
     io::write_all(1, &text[..n]);
 }
 
+// A number, and the broken pair where there is one.
+fn print_number(number: u8, pair: u16) {
+    io::print_decimal(1, wide(number));
+    if pair != 0 {
+        io::write_all(1, b" ");
+        io::print_decimal(1, pair as u64);
+    }
+}
+
 fn print_opened(settings: &[u8], block: &[u8], output: &mut [u8]) {
     let answer = capture::opening::open(settings, block, output);
     io::write_all(1, b"call ");
-    io::print_decimal(1, wide(capture::opening::number(answer)));
+    print_number(
+        capture::opening::number(answer),
+        capture::opening::pair(answer),
+    );
     io::write_all(1, b" count ");
     io::print_decimal(1, capture::opening::octets_opened(answer));
     print_sum(output);
@@ -71,7 +83,10 @@ fn print_payload(block: &[u8], k: usize) {
     io::write_all(1, b"payload ");
     io::print_decimal(1, k as u64);
     io::write_all(1, b" number ");
-    io::print_decimal(1, wide(refusal::verdict_number(verdict)));
+    print_number(
+        refusal::verdict_number(verdict),
+        refusal::verdict_pair(verdict),
+    );
     io::write_all(1, b" octets ");
     io::print_decimal(1, part.len() as u64);
     print_sum(part);

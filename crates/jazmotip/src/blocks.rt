@@ -6,16 +6,15 @@ ghost use lib.ListN.{length, take, drop};
 ghost use Rattle.octets.specs.Lists.{part};
 ghost use Rattle.octets.specs.Output.{withOutput};
 ghost use Rattle.capture.specs.Directory.{directoryOf};
+ghost use Rattle.capture.specs.Broken.{Judged};
 ghost use Rattle.capture.specs.Verdict.{verdictAsked};
 ghost use Rattle.capture.specs.Payload.{payloadBounds, payloadPart};
 ghost use Rattle.capture.specs.Opening.{opening};
 ghost use Rattle.capture.specs.Claims.{OpenedIfAccepted};
 ghost use Rattle.capture.specs.Listing.{listingOf};
 ghost use Rattle.jazmotip.specs.Blocks.{blockDirectory, blockVerdict, blockPart, openedInNumbers};
-use super::payloads::PayloadAnswer;
 use capture::directory::Directory;
 use capture::directory::check;
-use capture::directory::verdict_on;
 use capture::listing::LISTING_OCTETS;
 use capture::listing::list;
 use capture::opening::octets_opened;
@@ -24,25 +23,14 @@ use capture::payload::Bounds;
 use capture::payload::locate;
 use capture::verdict::ask;
 use records::header::RecordVerdict;
-use refusal::verdict_number;
 
-// What is wrong with a directory.
-const NO_FAULT: u8 = 0;
-
-const SIZE_FAULT: u8 = 1;
-
-const CHAIN_FAULT: u8 = 2;
-
-const LENGTH_FAULT: u8 = 3;
-
+// In each answer, `pair` is the first pair that does not fit, from 1, for 18 and 19, else 0.
 #[repr(C)]
 pub struct BlockDirectory {
     pub number: u8,
-    pub fault: u8,
+    pub pair: u16,
     // of a good directory, else 0
     pub records: usize,
-    // the first that does not fit, from 1, else 0
-    pub pair: usize,
 }
 
 // Where a record is to be opened, EncEnabled is 1 and its key index and clock follow; else all three are 0.
@@ -51,6 +39,7 @@ pub struct BlockVerdict {
     pub number: u8,
     pub encenabled: u8,
     pub enckey: u8,
+    pub pair: u16,
     pub clock: u64,
 }
 
@@ -58,38 +47,32 @@ pub struct BlockVerdict {
 #[repr(C)]
 pub struct BlockPart {
     pub number: u8,
+    pub pair: u16,
     pub offset: usize,
     pub length: usize,
+}
+
+// The count is of the octets deciphered, 0 where the call was refused.
+#[repr(C)]
+pub struct BlockAnswer {
+    pub number: u8,
+    pub pair: u16,
+    pub count: u64,
 }
 
 fn directory_in_numbers(directory: Directory) -> BlockDirectory
     ensures { λ r. ⌜ r ≡ blockDirectory directory ⌝ }
 {
-    let number = verdict_number(verdict_on(directory));
     match directory {
         Directory::Good(n) => BlockDirectory {
-            number,
-            fault: NO_FAULT,
+            number: 0,
+            pair: 0,
             records: n,
-            pair: 0,
         },
-        Directory::BadSize => BlockDirectory {
-            number,
-            fault: SIZE_FAULT,
+        Directory::Bad(refusal) => BlockDirectory {
+            number: refusal::number(refusal),
+            pair: refusal::pair(refusal),
             records: 0,
-            pair: 0,
-        },
-        Directory::BadChain(k) => BlockDirectory {
-            number,
-            fault: CHAIN_FAULT,
-            records: 0,
-            pair: k,
-        },
-        Directory::BadRecord(k) => BlockDirectory {
-            number,
-            fault: LENGTH_FAULT,
-            records: 0,
-            pair: k,
         },
     }
 }
@@ -98,23 +81,27 @@ fn verdict_in_numbers(verdict: RecordVerdict) -> BlockVerdict
     ensures { λ r. ⌜ r ≡ blockVerdict verdict ⌝ }
 {
     let number = records::header::number(verdict);
+    let pair = records::header::pair(verdict);
     match verdict {
         RecordVerdict::Clear => BlockVerdict {
             number,
             encenabled: 0,
             enckey: 0,
+            pair,
             clock: 0,
         },
         RecordVerdict::Sealed(index, clock) => BlockVerdict {
             number,
             encenabled: 1,
             enckey: index,
+            pair,
             clock,
         },
         RecordVerdict::Refused(_) => BlockVerdict {
             number,
             encenabled: 0,
             enckey: 0,
+            pair,
             clock: 0,
         },
     }
@@ -124,14 +111,17 @@ fn part_in_numbers(bounds: Bounds) -> BlockPart
     ensures { λ r. ⌜ r ≡ blockPart bounds ⌝ }
 {
     let number = capture::payload::number(bounds);
+    let pair = capture::payload::pair(bounds);
     match bounds {
         Bounds::Within(from, octets) => BlockPart {
             number,
+            pair,
             offset: from,
             length: octets,
         },
         Bounds::Refused(_) => BlockPart {
             number,
+            pair,
             offset: 0,
             length: 0,
         },
@@ -141,6 +131,7 @@ fn part_in_numbers(bounds: Bounds) -> BlockPart
 #[no_mangle]
 pub extern "C" fn jazmotip_capture_directory(block: &[u8]) -> BlockDirectory
     ensures { λ r. ⌜ r ≡ blockDirectory (directoryOf (now (block .entry))) ⌝ }
+    ensures { λ _. ⌜ Judged (now (block .entry)) ⌝ }
 {
     directory_in_numbers(check(block))
 }
@@ -168,13 +159,14 @@ pub extern "C" fn jazmotip_capture_open(
     settings: &[u8],
     block: &[u8],
     output: &mut [u8],
-) -> PayloadAnswer
+) -> BlockAnswer
     ensures { λ r. ⌜ withOutput r (now (output .exit)) ≡ openedInNumbers (opening (now (settings .entry)) (now (block .entry)) (now (output .entry))) ⌝ }
     ensures { λ _. ⌜ OpenedIfAccepted (now (settings .entry)) (now (block .entry)) (length (now (output .entry))) ⌝ }
 {
     let answer = open(settings, block, output);
-    PayloadAnswer {
+    BlockAnswer {
         number: capture::opening::number(answer),
+        pair: capture::opening::pair(answer),
         count: octets_opened(answer),
     }
 }

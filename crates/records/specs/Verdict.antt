@@ -6,7 +6,7 @@ use lib.Dec.{ltb, eqb}
 use Rattle.octets.specs.Bits.{bitOf, lowCleared}
 use Rattle.octets.specs.Choice.{both, either, pick}
 use Rattle.refusal.specs.declared.Refusal.the-variants.{OutOfRange, UnknownLlid, NoKey, EpamDiffers}
-use Rattle.refusal.specs.Number.{numberOf}
+use Rattle.refusal.specs.Number.{numberOf, pairNumber}
 use Rattle.clock.specs.Ticks.{epamOf}
 use Rattle.envelope.specs.Acceptance.{channelFits}
 use Rattle.records.specs.declared.header.Header.{Header}
@@ -71,3 +71,9 @@ abbrev pub recordNumber : RecordVerdict → ℕ
 recordNumber Clear = 0
 recordNumber (Sealed i t) = 0
 recordNumber (Refused r) = numberOf r
+
+-- the pair that a refusal names, else 0 (02, C-11)
+abbrev pub recordPair : RecordVerdict → ℕ
+recordPair Clear = 0
+recordPair (Sealed i t) = 0
+recordPair (Refused r) = pairNumber r

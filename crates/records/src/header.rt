@@ -1,6 +1,6 @@
 // The header of a record, and the verdict on a record.
 ghost use mathlib.Core.Path.{_≡_};
-ghost use Rattle.records.specs.Verdict.{encEnabled, encKey, clearedFlags, flagsFit, headerFits, keyVerdict, recordVerdict, recordNumber};
+ghost use Rattle.records.specs.Verdict.{encEnabled, encKey, clearedFlags, flagsFit, headerFits, keyVerdict, recordVerdict, recordNumber, recordPair};
 use envelope::channel_fits;
 use refusal::Refusal;
 
@@ -105,5 +105,16 @@ pub fn number(verdict: RecordVerdict) -> u8
         RecordVerdict::Clear => 0,
         RecordVerdict::Sealed(_, _) => 0,
         RecordVerdict::Refused(refusal) => refusal::number(refusal),
+    }
+}
+
+// The pair that a verdict names, or 0.
+pub fn pair(verdict: RecordVerdict) -> u16
+    ensures { λ r. ⌜ r ≡ recordPair verdict ⌝ }
+{
+    match verdict {
+        RecordVerdict::Clear => 0,
+        RecordVerdict::Sealed(_, _) => 0,
+        RecordVerdict::Refused(refusal) => refusal::pair(refusal),
     }
 }

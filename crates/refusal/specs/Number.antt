@@ -1,7 +1,7 @@
--- The number of each refusal (01, 'When the reader says no'; 02, C-21). Assumes nothing.
+-- The number of each refusal (01, 'When the reader says no'; 02, C-11, C-21), and the pair that it names. Assumes nothing.
 use Prim.Native.Nat.{ℕ}
 use Rattle.refusal.specs.declared.Refusal.{Refusal}
-use Rattle.refusal.specs.declared.Refusal.the-variants.{OutOfRange, UnknownLlid, RepeatedLlid, TableFull, ClockNotSet, OfferPending, SameKey, NothingOutstanding, NoKey, EpamDiffers, ClearEnvelope, ChannelTaken, KeyTooOld, BadLength, BadDirectory, CaptureTooOld, AtEnd, OtherKeyIndex}
+use Rattle.refusal.specs.declared.Refusal.the-variants.{OutOfRange, UnknownLlid, RepeatedLlid, TableFull, ClockNotSet, OfferPending, SameKey, NothingOutstanding, NoKey, EpamDiffers, ClearEnvelope, ChannelTaken, KeyTooOld, BadLength, BadDirectory, CaptureTooOld, AtEnd, BrokenChain, UnsuitedLength, OtherKeyIndex}
 use Rattle.refusal.specs.declared.Verdict.{Verdict}
 use Rattle.refusal.specs.declared.Verdict.the-variants.{Accepted, Refused}
 
@@ -23,9 +23,38 @@ numberOf BadLength = 14
 numberOf BadDirectory = 15
 numberOf CaptureTooOld = 16
 numberOf AtEnd = 17
+numberOf (BrokenChain k) = 18
+numberOf (UnsuitedLength k) = 19
 numberOf OtherKeyIndex = 25
+
+-- the pair of a capture's directory, from 1, 0 where there is none (02, C-11)
+abbrev pub pairNumber : Refusal → ℕ
+pairNumber OutOfRange = 0
+pairNumber UnknownLlid = 0
+pairNumber RepeatedLlid = 0
+pairNumber TableFull = 0
+pairNumber ClockNotSet = 0
+pairNumber OfferPending = 0
+pairNumber SameKey = 0
+pairNumber NothingOutstanding = 0
+pairNumber NoKey = 0
+pairNumber EpamDiffers = 0
+pairNumber ClearEnvelope = 0
+pairNumber ChannelTaken = 0
+pairNumber KeyTooOld = 0
+pairNumber BadLength = 0
+pairNumber BadDirectory = 0
+pairNumber CaptureTooOld = 0
+pairNumber AtEnd = 0
+pairNumber (BrokenChain k) = k
+pairNumber (UnsuitedLength k) = k
+pairNumber OtherKeyIndex = 0
 
 -- acceptance returns 0
 abbrev pub verdictNumber : Verdict → ℕ
 verdictNumber Accepted = 0
 verdictNumber (Refused r) = numberOf r
+
+abbrev pub verdictPair : Verdict → ℕ
+verdictPair Accepted = 0
+verdictPair (Refused r) = pairNumber r

@@ -1,6 +1,6 @@
 // The refusals of 01, 'When the reader says no', in the order of its table, then those of 02, and the number of each.
 ghost use mathlib.Core.Path.{_≡_};
-ghost use Rattle.refusal.specs.Number.{numberOf, verdictNumber};
+ghost use Rattle.refusal.specs.Number.{numberOf, pairNumber, verdictNumber, verdictPair};
 
 pub enum Refusal {
     // 1: a value outside its range
@@ -37,6 +37,10 @@ pub enum Refusal {
     CaptureTooOld,
     // 17: tick or key number at its end
     AtEnd,
+    // 18: a capture block's chain of offsets is broken at this pair, from 1
+    BrokenChain(u16),
+    // 19: this pair's length, from 1, does not suit the EQs of its record
+    UnsuitedLength(u16),
     // 25: a report names a key index other than the awaited one (02, C-21)
     OtherKeyIndex,
 }
@@ -63,7 +67,37 @@ pub fn number(refusal: Refusal) -> u8
         Refusal::BadDirectory => 15,
         Refusal::CaptureTooOld => 16,
         Refusal::AtEnd => 17,
+        Refusal::BrokenChain(_) => 18,
+        Refusal::UnsuitedLength(_) => 19,
         Refusal::OtherKeyIndex => 25,
+    }
+}
+
+// The pair of a capture's directory that a refusal names, from 1, or 0 where it names none.
+pub fn pair(refusal: Refusal) -> u16
+    ensures { λ r. ⌜ r ≡ pairNumber refusal ⌝ }
+{
+    match refusal {
+        Refusal::OutOfRange => 0,
+        Refusal::UnknownLlid => 0,
+        Refusal::RepeatedLlid => 0,
+        Refusal::TableFull => 0,
+        Refusal::ClockNotSet => 0,
+        Refusal::OfferPending => 0,
+        Refusal::SameKey => 0,
+        Refusal::NothingOutstanding => 0,
+        Refusal::NoKey => 0,
+        Refusal::EpamDiffers => 0,
+        Refusal::ClearEnvelope => 0,
+        Refusal::ChannelTaken => 0,
+        Refusal::KeyTooOld => 0,
+        Refusal::BadLength => 0,
+        Refusal::BadDirectory => 0,
+        Refusal::CaptureTooOld => 0,
+        Refusal::AtEnd => 0,
+        Refusal::BrokenChain(k) => k,
+        Refusal::UnsuitedLength(k) => k,
+        Refusal::OtherKeyIndex => 0,
     }
 }
 
@@ -80,5 +114,15 @@ pub fn verdict_number(verdict: Verdict) -> u8
     match verdict {
         Verdict::Accepted => 0,
         Verdict::Refused(refusal) => number(refusal),
+    }
+}
+
+// The pair that a verdict names, or 0.
+pub fn verdict_pair(verdict: Verdict) -> u16
+    ensures { λ r. ⌜ r ≡ verdictPair verdict ⌝ }
+{
+    match verdict {
+        Verdict::Accepted => 0,
+        Verdict::Refused(refusal) => pair(refusal),
     }
 }

@@ -1,29 +1,33 @@
 -- Laws of lines that grow by pieces of text. Assumes nothing.
-use mathlib.Core.Path.{_≡_, refl, ap, _∙_}
+use mathlib.Core.Path.{_≡_, refl, ap, sym, _∙_}
 use mathlib.Core.Bool.{Bool, true, false}
-use mathlib.Core.List.{List, [], _∷_, _++_, append-assoc}
+use mathlib.Core.List.{List, [], _∷_, _++_, append-assoc, append-nil}
 use Prim.Native.Nat.{ℕ, zero, suc, _+_, _/_, _%_, _^_, _≤_, _<_}
 use native.Mathlib.Nat.{pow-suc}
 use native.Mathlib.Numerals.{add-one}
 use native.Mathlib.Omega.{arith}
-use lib.Dec.{ltb}
+use lib.Dec.{ltb, eqb}
 use lib.ListN.{length, length-append}
 use borrow.Author.Tests.{lt-ltb, le-ltb, ltb-false}
 use Rattle.octets.proofs.Choice.{pick-true, pick-false, pick-holds, pick-same}
-use Rattle.refusal.specs.Number.{numberOf}
+use Rattle.refusal.specs.Number.{numberOf, pairNumber}
 use Rattle.refusal.specs.declared.Refusal.{Refusal}
-use Rattle.refusal.specs.declared.Refusal.the-variants.{OutOfRange, UnknownLlid, RepeatedLlid, TableFull, ClockNotSet, OfferPending, SameKey, NothingOutstanding, NoKey, EpamDiffers, ClearEnvelope, ChannelTaken, KeyTooOld, BadLength, BadDirectory, CaptureTooOld, AtEnd, OtherKeyIndex}
+use Rattle.refusal.specs.declared.Refusal.the-variants.{OutOfRange, UnknownLlid, RepeatedLlid, TableFull, ClockNotSet, OfferPending, SameKey, NothingOutstanding, NoKey, EpamDiffers, ClearEnvelope, ChannelTaken, KeyTooOld, BadLength, BadDirectory, CaptureTooOld, AtEnd, BrokenChain, UnsuitedLength, OtherKeyIndex}
 use Rattle.records.specs.declared.header.Header.{Header}
 use Rattle.records.specs.declared.header.RecordVerdict.{RecordVerdict}
 use Rattle.records.specs.declared.header.RecordVerdict.the-variants.{Clear, Sealed}
 use Rattle.rows.specs.declared.Line.{Line}
-use Rattle.rows.specs.Text.{glyphOf, digits, mostDigits, digitsWithin, digitCount, decimalOf, refusedText, resultText, rowHead, rowTail, rowOf, refusedRow, textOf}
+use Rattle.rows.specs.Text.{glyphOf, digits, mostDigits, digitsWithin, digitCount, decimalOf, refusedText, pairText, resultText, rowHead, rowTail, rowOf, refusedRow, textOf}
 use Rattle.rows.specs.Duties.{Grown}
 
 -- one piece after the other
 pub both-grown : {l m n : Line} {p q : List ℕ} → Grown l m p → Grown m n q → Grown l n (p ++ q)
 both-grown {l} {m} {n} {p} {q} a b =
     record { text = b .text ∙ rw (a .text) (append-assoc (textOf l) p q); used = omega (arith, a .used, b .used, length-append p q) }
+
+-- nothing at all
+pub none-grown : (l : Line) → Grown l l []
+none-grown l = record { text = sym (append-nil (textOf l)); used = omega arith }
 
 -- the same piece, written otherwise
 pub grown-as : {l m : Line} {p q : List ℕ} → Grown l m p → p ≡ q → Grown l m q
@@ -90,6 +94,8 @@ number-few BadLength = omega arith
 number-few BadDirectory = omega arith
 number-few CaptureTooOld = omega arith
 number-few AtEnd = omega arith
+number-few (BrokenChain k) = omega arith
+number-few (UnsuitedLength k) = omega arith
 number-few OtherKeyIndex = omega arith
 
 pub number-digits : (r : Refusal) → length (decimalOf (numberOf r)) ≤ 2
@@ -99,9 +105,13 @@ pub refused-few : (r : Refusal) → length (refusedText r) ≤ 10
 unfolding refusedText
 refused-few r = omega (arith, number-digits r)
 
-pub refused-row-few : (r : Refusal) → length (refusedRow r) ≤ 11
+pub pair-few : (r : Refusal) → length (pairText r) ≤ 21
+unfolding pairText
+pair-few r = pick-holds (λ t. length t ≤ 21) (eqb (pairNumber r) 0) [] _ (λ e. omega arith) (λ e. omega (arith, decimal-few (pairNumber r)))
+
+pub refused-row-few : (r : Refusal) → length (refusedRow r) ≤ 32
 unfolding refusedRow
-refused-row-few r = simp length-append (omega (arith, refused-few r))
+refused-row-few r = simp length-append (omega (arith, refused-few r, pair-few r))
 
 pub result-few : (v : RecordVerdict) → length (resultText v) ≤ 10
 unfolding resultText

@@ -2,11 +2,11 @@
 use mathlib.Core.Path.{_≡_}
 use mathlib.Core.List.{List, [], _∷_, _++_}
 use Prim.Native.Nat.{ℕ, zero, suc, _+_, _/_, _%_, _^_, _≤_}
-use lib.Dec.{ltb}
+use lib.Dec.{ltb, eqb}
 use lib.ListN.{length, take}
 use Rattle.octets.specs.Choice.{pick}
 use Rattle.refusal.specs.declared.Refusal.{Refusal}
-use Rattle.refusal.specs.Number.{numberOf}
+use Rattle.refusal.specs.Number.{numberOf, pairNumber}
 use Rattle.records.specs.declared.header.Header.{Header}
 use Rattle.records.specs.declared.header.RecordVerdict.{RecordVerdict}
 use Rattle.records.specs.declared.header.RecordVerdict.the-variants.{Clear, Sealed, Refused}
@@ -63,9 +63,13 @@ rowTail h v = keyGlyph h ∷ 32 ∷ (decimalOf (h .eqs) ++ (32 ∷ (resultText v
 unfoldable pub rowOf : ℕ → Header → RecordVerdict → List ℕ
 rowOf k h v = rowHead k h ++ rowTail h v
 
+-- a blank and the pair that a refused call names, nothing where it names none (02, C-11)
+unfoldable pub pairText : Refusal → List ℕ
+pairText r = pick (eqb (pairNumber r) 0) [] (32 ∷ decimalOf (pairNumber r))
+
 -- the row of a call that is refused
 unfoldable pub refusedRow : Refusal → List ℕ
-refusedRow r = refusedText r ++ (10 ∷ [])
+refusedRow r = (refusedText r ++ pairText r) ++ (10 ∷ [])
 
 -- the most octets of a row: two decimal numbers, and 23 beside them
 abbrev pub rowOctets : ℕ

@@ -3,7 +3,7 @@ ghost use mathlib.Core.Path.{_≡_};
 ghost use mathlib.Core.List.{[], _∷_};
 ghost use Prim.Native.Nat.{_+_, _/_, _%_, _^_, _≤_, _<_};
 ghost use lib.ListN.{length};
-ghost use Rattle.rows.specs.Text.{glyphOf, digits, digitCount, decimalOf, rowOctets, keyGlyph, refusedText, resultText, rowHead, rowTail, rowOf, refusedRow, Holds};
+ghost use Rattle.rows.specs.Text.{glyphOf, digits, digitCount, decimalOf, rowOctets, keyGlyph, refusedText, pairText, resultText, rowHead, rowTail, rowOf, refusedRow, Holds};
 ghost use Rattle.rows.specs.Duties.{Grown};
 use records::header::Header;
 use records::header::RecordVerdict;
@@ -123,6 +123,18 @@ fn refused(line: Line, refusal: Refusal) -> Line
     decimal(word, refusal::number(refusal) as u64)
 }
 
+// A blank and the pair that a refusal names, nothing where it names none.
+fn pair(line: Line, refusal: Refusal) -> Line
+    requires { ⌜ line .used + 21 ≤ rowOctets ⌝ }
+    ensures { λ r. ⌜ Grown line r (pairText refusal) ⌝ }
+{
+    let k = refusal::pair(refusal);
+    if k == 0 {
+        return line;
+    }
+    decimal(push(line, b' '), k as u64)
+}
+
 fn result(line: Line, verdict: RecordVerdict) -> Line
     requires { ⌜ line .used + 10 ≤ rowOctets ⌝ }
     ensures { λ r. ⌜ Grown line r (resultText verdict) ⌝ }
@@ -173,5 +185,5 @@ pub fn refused_row(refusal: Refusal) -> Line
         octets: [0u8; ROW_OCTETS],
         used: 0,
     };
-    push(refused(line, refusal), b'\n')
+    push(pair(refused(line, refusal), refusal), b'\n')
 }

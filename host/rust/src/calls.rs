@@ -122,22 +122,23 @@ pub fn count(payload: &[u8]) -> u64 {
     unsafe { raw::jazmotip_count(payload.as_ptr(), payload.len()) }
 }
 
+/// Order of refusals: 15, then 18 and 19.
 pub fn capture_directory(block: &[u8]) -> BlockDirectory {
     unsafe { raw::jazmotip_capture_directory(block.as_ptr(), block.len()) }
 }
 
-/// Order of refusals: 14 and 1 for the settings, 15, 1 for `k`, then the record's own 1, 2, 10, 9.
+/// Order of refusals: 14 and 1 for the settings, 15, 18 and 19, 1 for `k`, then the record's own 1, 2, 10, 9.
 pub fn capture_verdict(settings: &[u8], block: &[u8], k: usize) -> BlockVerdict {
     unsafe { raw::jazmotip_capture_verdict(settings.as_ptr(), settings.len(), block.as_ptr(), block.len(), k) }
 }
 
-/// Order of refusals: 15, 1.
+/// Order of refusals: 15, 18 and 19, 1.
 pub fn capture_payload(block: &[u8], k: usize) -> BlockPart {
     unsafe { raw::jazmotip_capture_payload(block.as_ptr(), block.len(), k) }
 }
 
-/// Order of refusals: 14, 1, 15.
-pub fn capture_open(settings: &[u8], block: &[u8], output: &mut [u8]) -> PayloadAnswer {
+/// Order of refusals: 14, 1, 15, then 18 and 19.
+pub fn capture_open(settings: &[u8], block: &[u8], output: &mut [u8]) -> BlockAnswer {
     unsafe {
         raw::jazmotip_capture_open(
             settings.as_ptr(),

@@ -2,7 +2,6 @@
 //! sender's MAC (6), LLID (2). Records count from 1.
 
 use crate::calls;
-use crate::records::BlockDirectory;
 use crate::refusal::Refusal;
 use crate::LISTING_OCTETS;
 
@@ -14,34 +13,32 @@ pub struct Opening {
 }
 
 /// How many records a block has, or what is wrong with its directory.
-pub fn records(block: &[u8]) -> Result<usize, BlockDirectory> {
+pub fn records(block: &[u8]) -> Result<usize, Refusal> {
     let directory = calls::capture_directory(block);
-    match directory.number {
-        0 => Ok(directory.records),
-        _ => Err(directory),
-    }
+    Refusal::block_verdict(directory.number, directory.pair).map(|()| directory.records)
 }
 
 /// Whether opening opens record `k`: under what, or `None` where it is clear.
 pub fn verdict(settings: &[u8], block: &[u8], k: usize) -> Result<Option<Opening>, Refusal> {
     let verdict = calls::capture_verdict(settings, block, k);
-    Refusal::verdict(verdict.number)
+    Refusal::block_verdict(verdict.number, verdict.pair)
         .map(|()| (verdict.encenabled == 1).then_some(Opening { enckey: verdict.enckey, clock: verdict.clock }))
 }
 
 /// The payload of record `k`, opened or not.
 pub fn payload(block: &[u8], k: usize) -> Result<&[u8], Refusal> {
     let part = calls::capture_payload(block, k);
-    Refusal::verdict(part.number).map(|()| &block[part.offset..part.offset + part.length])
+    Refusal::block_verdict(part.number, part.pair).map(|()| &block[part.offset..part.offset + part.length])
 }
 
 /// Opens every record that can be into `output`, of the block's length, and copies the others; gives the octets deciphered.
 pub fn open(settings: &[u8], block: &[u8], output: &mut [u8]) -> Result<u64, Refusal> {
     let answer = calls::capture_open(settings, block, output);
-    Refusal::verdict(answer.number).map(|()| answer.count)
+    Refusal::block_verdict(answer.number, answer.pair).map(|()| answer.count)
 }
 
-/// The listing of a block: a heading, then a line for each record; of a refused call, the heading and a line such as `refused 15`.
+/// The listing of a block: a heading, then a line for each record; of a refused call, the heading and a line such as
+/// `refused 15`, or `refused 18 2` with the broken pair.
 pub fn list<'a>(settings: &[u8], block: &[u8], text: &'a mut [u8; LISTING_OCTETS]) -> &'a str {
     let length = calls::capture_list(settings, block, text);
     core::str::from_utf8(&text[..length]).expect("a listing is plain ASCII")

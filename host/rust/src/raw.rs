@@ -108,7 +108,7 @@ extern "C" {
         block_length: usize,
         output: *mut u8,
         output_length: usize,
-    ) -> PayloadAnswer;
+    ) -> BlockAnswer;
     pub fn jazmotip_capture_list(
         settings: *const u8,
         settings_length: usize,

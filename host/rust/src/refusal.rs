@@ -3,32 +3,35 @@
 use core::fmt;
 
 /// Why a call was refused. A refused call changes nothing: neither the end nor the output.
-#[repr(u8)]
 #[derive(Clone, Copy, Debug, PartialEq, Eq, Hash)]
 pub enum Refusal {
-    OutOfRange = 1,
-    UnknownLlid = 2,
-    RepeatedLlid = 3,
-    TableFull = 4,
-    ClockNotSet = 5,
-    OfferPending = 6,
-    SameKey = 7,
-    NothingOutstanding = 8,
-    NoKey = 9,
-    EpamDiffers = 10,
-    ClearEnvelope = 11,
-    ChannelTaken = 12,
-    KeyTooOld = 13,
-    BadLength = 14,
-    BadDirectory = 15,
-    CaptureTooOld = 16,
-    AtEnd = 17,
-    OtherKeyIndex = 25,
+    OutOfRange,
+    UnknownLlid,
+    RepeatedLlid,
+    TableFull,
+    ClockNotSet,
+    OfferPending,
+    SameKey,
+    NothingOutstanding,
+    NoKey,
+    EpamDiffers,
+    ClearEnvelope,
+    ChannelTaken,
+    KeyTooOld,
+    BadLength,
+    BadDirectory,
+    CaptureTooOld,
+    AtEnd,
+    /// The first broken pair of a capture's directory, from 1: every pair before it is good.
+    BrokenChain(u16),
+    /// The same, where the pair's length does not suit the EQs of its record.
+    UnsuitedLength(u16),
+    OtherKeyIndex,
 }
 
 impl Refusal {
-    /// All refusals, in the order of their numbers.
-    pub const ALL: [Refusal; 18] = [
+    /// The refusals that name no pair, in the order of their numbers.
+    const WITHOUT_PAIR: [Refusal; 18] = [
         Refusal::OutOfRange,
         Refusal::UnknownLlid,
         Refusal::RepeatedLlid,
@@ -49,16 +52,52 @@ impl Refusal {
         Refusal::OtherKeyIndex,
     ];
 
-    /// The number that the engine returns for it, 1 to 17 or 25.
+    /// The number that the engine returns for it, 1 to 19 or 25.
     pub fn number(self) -> u8 {
-        self as u8
+        match self {
+            Refusal::OutOfRange => 1,
+            Refusal::UnknownLlid => 2,
+            Refusal::RepeatedLlid => 3,
+            Refusal::TableFull => 4,
+            Refusal::ClockNotSet => 5,
+            Refusal::OfferPending => 6,
+            Refusal::SameKey => 7,
+            Refusal::NothingOutstanding => 8,
+            Refusal::NoKey => 9,
+            Refusal::EpamDiffers => 10,
+            Refusal::ClearEnvelope => 11,
+            Refusal::ChannelTaken => 12,
+            Refusal::KeyTooOld => 13,
+            Refusal::BadLength => 14,
+            Refusal::BadDirectory => 15,
+            Refusal::CaptureTooOld => 16,
+            Refusal::AtEnd => 17,
+            Refusal::BrokenChain(_) => 18,
+            Refusal::UnsuitedLength(_) => 19,
+            Refusal::OtherKeyIndex => 25,
+        }
+    }
+
+    /// The pair of a capture's directory that it names.
+    pub fn pair(self) -> Option<u16> {
+        match self {
+            Refusal::BrokenChain(pair) | Refusal::UnsuitedLength(pair) => Some(pair),
+            _ => None,
+        }
     }
 
     /// The engine's number as a result: 0 is acceptance.
     pub(crate) fn verdict(number: u8) -> Result<(), Refusal> {
+        Refusal::block_verdict(number, 0)
+    }
+
+    /// The same for a call on a capture block, which answers with the broken pair too.
+    pub(crate) fn block_verdict(number: u8, pair: u16) -> Result<(), Refusal> {
         match number {
             0 => Ok(()),
-            n => Err(*Refusal::ALL.iter().find(|refusal| refusal.number() == n).expect("a number of the table")),
+            18 => Err(Refusal::BrokenChain(pair)),
+            19 => Err(Refusal::UnsuitedLength(pair)),
+            n => Err(*Refusal::WITHOUT_PAIR.iter().find(|refusal| refusal.number() == n).expect("a number of the table")),
         }
     }
 }
@@ -83,9 +122,15 @@ impl fmt::Display for Refusal {
             Refusal::BadDirectory => "capture directory bad",
             Refusal::CaptureTooOld => "clock capture older than a second",
             Refusal::AtEnd => "tick or key number at its end",
+            Refusal::BrokenChain(_) => "pair off the chain of offsets",
+            Refusal::UnsuitedLength(_) => "length does not suit the record's EQs",
             Refusal::OtherKeyIndex => "a report names a key index other than the awaited one",
         };
-        write!(f, "refused {}: {}", self.number(), cause)
+        write!(f, "refused {}", self.number())?;
+        if let Some(pair) = self.pair() {
+            write!(f, " {pair}")?;
+        }
+        write!(f, ": {cause}")
     }
 }
 

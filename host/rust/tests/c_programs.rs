@@ -6,7 +6,7 @@ use crate::captures::blocks::{random_block, settings};
 use crate::random::cases;
 use crate::reference::capture;
 use crate::xgpon;
-use jazmotip::{BlockDirectory, BlockPart, BlockVerdict};
+use jazmotip::{BlockAnswer, BlockDirectory, BlockPart, BlockVerdict};
 use std::fmt::Write as _;
 use std::io::Write as _;
 use std::path::{Path, PathBuf};
@@ -64,7 +64,7 @@ fn nothing_is_null_with_length_0() {
                     onu receive: 0\n\
                     onu send: 0, count 0\n\
                     olt receive: 0\n\
-                    directory: 15 fault 1\n\
+                    directory: 15 pair 0\n\
                     verdict: 14 15\n\
                     payload: 15\n\
                     open: 14 15 14\n\
@@ -77,16 +77,13 @@ fn nothing_is_null_with_length_0() {
 /// What `capture` must print.
 fn capture_text(settings: &[u8], block: &[u8]) -> String {
     let mut text = capture::listing(settings, block);
-    let BlockDirectory { number, fault, records, pair } = answers::directory(block);
-    writeln!(text, "directory {number} fault {fault} records {records} pair {pair}").expect("text");
-    let (number, count) = match capture::open(settings, block, block.len()) {
-        Ok((_, count)) => (0, count),
-        Err(number) => (number, 0),
-    };
-    writeln!(text, "open {number} count {count}").expect("text");
+    let BlockDirectory { number, pair, records } = answers::directory(block);
+    writeln!(text, "directory {number} pair {pair} records {records}").expect("text");
+    let (BlockAnswer { number, pair, count }, _) = answers::open(settings, block, block.len());
+    writeln!(text, "open {number} pair {pair} count {count}").expect("text");
     for k in 1..=records {
-        let BlockVerdict { number, encenabled, enckey, clock } = answers::verdict(settings, block, k);
-        let BlockPart { number: found, offset, length } = answers::part(block, k);
+        let BlockVerdict { number, encenabled, enckey, clock, .. } = answers::verdict(settings, block, k);
+        let BlockPart { number: found, offset, length, .. } = answers::part(block, k);
         write!(text, "record {k}: {number} key {encenabled} {enckey} clock {clock} payload {found} {offset} {length}")
             .expect("text");
         text.push_str(if encenabled == 1 { ", seals back\n" } else { "\n" });
@@ -101,6 +98,10 @@ fn capture_opens_and_seals_back() {
     let (settings_of, block_of) = sample.split_at(41);
     assert_eq!(printed(&program, &sample), capture_text(settings_of, block_of));
     assert_eq!(printed(&program, &sample[..40]), capture_text(&sample[..40], &[]));
+    let broken = std::fs::read(host().join("../samples/broken.capture")).expect("the broken sample");
+    let (settings_of, block_of) = broken.split_at(41);
+    assert_eq!(printed(&program, &broken), capture_text(settings_of, block_of));
+    assert!(printed(&program, &broken).contains("\nrefused 19 3\n"));
     cases(40, |random| {
         let settings = settings(random, 3);
         let records = random.within(1, 12) as usize;

@@ -31,14 +31,12 @@ pub struct PayloadAnswer {
 #[repr(C)]
 #[derive(Clone, Copy, Debug, Default, PartialEq, Eq)]
 pub struct BlockDirectory {
-    /// 0 or 15.
+    /// 0, 15, 18 or 19.
     pub number: u8,
-    /// 0 none; 1 sizes; 2 a pair off the chain of offsets; 3 a pair off its record's length.
-    pub fault: u8,
+    /// The first broken pair from 1, for 18 and 19; else 0.
+    pub pair: u16,
     /// How many records, 0 if refused.
     pub records: usize,
-    /// The first bad pair from 1, for faults 2 and 3; else 0.
-    pub pair: usize,
 }
 
 /// Whether opening opens a record.
@@ -49,6 +47,8 @@ pub struct BlockVerdict {
     /// 1 where opening deciphers the record; then `enckey` and `clock` are what it uses, else 0.
     pub encenabled: u8,
     pub enckey: u8,
+    /// The first broken pair from 1, for 18 and 19; else 0.
+    pub pair: u16,
     pub clock: u64,
 }
 
@@ -57,6 +57,19 @@ pub struct BlockVerdict {
 #[derive(Clone, Copy, Debug, Default, PartialEq, Eq)]
 pub struct BlockPart {
     pub number: u8,
+    /// The first broken pair from 1, for 18 and 19; else 0.
+    pub pair: u16,
     pub offset: usize,
     pub length: usize,
+}
+
+/// What opening a block gave.
+#[repr(C)]
+#[derive(Clone, Copy, Debug, Default, PartialEq, Eq)]
+pub struct BlockAnswer {
+    pub number: u8,
+    /// The first broken pair from 1, for 18 and 19; else 0.
+    pub pair: u16,
+    /// Octets deciphered.
+    pub count: u64,
 }

@@ -4,22 +4,15 @@ use super::answers;
 use crate::random::Random;
 use crate::reference::capture;
 use crate::tally::Tally;
-use jazmotip::{calls, PayloadAnswer, LISTING_OCTETS};
+use jazmotip::{calls, LISTING_OCTETS};
 
 fn check_opening(random: &mut Random, tally: &mut Tally, settings: &[u8], block: &[u8], output: usize) {
     let mut lent = random.lent(output);
     let answer = calls::capture_open(settings, block, lent.part());
     tally.note("open", answer.number);
-    match capture::open(settings, block, output) {
-        Ok((octets, count)) => {
-            assert_eq!(answer, PayloadAnswer { number: 0, count });
-            lent.check(Some(&octets));
-        }
-        Err(number) => {
-            assert_eq!(answer, PayloadAnswer { number, count: 0 });
-            lent.check(None);
-        }
-    }
+    let (expected, octets) = answers::open(settings, block, output);
+    assert_eq!(answer, expected);
+    lent.check(octets.as_deref());
 }
 
 pub fn check_record(tally: &mut Tally, settings: &[u8], block: &[u8], k: usize) {
@@ -42,7 +35,7 @@ fn check_listing(settings: &[u8], block: &[u8]) {
 pub fn check(random: &mut Random, tally: &mut Tally, settings: &[u8], block: &[u8]) {
     let directory = calls::capture_directory(block);
     assert_eq!(directory, answers::directory(block));
-    tally.note("fault", directory.fault);
+    tally.note("directory", directory.number);
     let n = directory.records;
     let mut asked = vec![0, 1, n, n + 1, usize::MAX, random.below(300) as usize];
     if random.once_in(4) {

@@ -47,10 +47,10 @@ fn full_blocks() {
         check(random, &mut tally, &settings, &longest);
         // sizes alone: 65,537 octets, and 257 records
         let too_long = block(&[record(random, &settings, 7279)]);
-        assert_eq!((too_long.len(), calls::capture_directory(&too_long).fault), (65_537, 1));
+        assert_eq!((too_long.len(), calls::capture_directory(&too_long).number), (65_537, 15));
         check(random, &mut tally, &settings, &too_long);
         let too_many = random_block(random, &settings, 257, 2);
-        assert_eq!(calls::capture_directory(&too_many).fault, 1);
+        assert_eq!(calls::capture_directory(&too_many).number, 15);
         check(random, &mut tally, &settings, &too_many);
         let octets = random.octets(65_536);
         check(random, &mut tally, &settings, &octets);
@@ -75,7 +75,7 @@ fn damaged_directories() {
         }
         // each record's EQs, up to 2^32 - 1
         for record in capture::directory(&sound).expect("sound") {
-            for eqs in [record.eqs + 1, record.eqs.wrapping_sub(1), 0xFFFF_FFFF, 0x1C71_C71C, 1 << 31] {
+            for eqs in [record.eqs + 1, record.eqs.wrapping_sub(1), 0xFFFF_FFFF, 0x1C71_C71C, 0x1C71_C71D, 1 << 31] {
                 let mut damaged = sound.clone();
                 damaged[record.offset + 12..record.offset + 16].copy_from_slice(&(eqs as u32).to_be_bytes());
                 check(random, &mut tally, &settings, &damaged);
@@ -95,10 +95,10 @@ fn damaged_directories() {
         check(&mut Random::new(1), &mut tally, &[0; 41], &vec![0; octets]);
     }
     if all {
-        for fault in 1..=3 {
-            tally.gave("fault", fault, 500);
+        for number in [15, 18, 19] {
+            tally.gave("directory", number, 500);
+            tally.gave("open", number, 500);
         }
-        tally.gave("open", 15, 2000);
         tally.gave("open", 14, 500);
     }
 }
@@ -114,23 +114,46 @@ fn the_first_bad_pair() {
     let length = |block: &mut Vec<u8>, pair: usize| block[records[pair - 1].offset + 15] ^= 1;
     let found = |block: &[u8]| {
         let directory = calls::capture_directory(block);
-        assert_eq!((directory.number, directory.records), (15, 0));
-        (directory.fault, directory.pair)
+        assert_eq!(directory.records, 0);
+        (directory.number, directory.pair)
     };
-    for pair in [1, 2, 255, 256] {
+    for pair in [1, 2, 128, 255, 256] {
         let mut damaged = sound.clone();
         length(&mut damaged, pair);
-        assert_eq!(found(&damaged), (3, pair));
+        assert_eq!(found(&damaged), (19, pair as u16));
         length(&mut damaged, 256.min(pair + 1));
         chain(&mut damaged, 256);
-        assert_eq!(found(&damaged), if pair == 256 { (2, 256) } else { (3, pair) });
+        assert_eq!(found(&damaged), if pair == 256 { (18, 256) } else { (19, pair as u16) });
         chain(&mut damaged, pair.min(255));
-        assert_eq!(found(&damaged), if pair == 256 { (2, 255) } else { (2, pair) });
+        assert_eq!(found(&damaged), if pair == 256 { (18, 255) } else { (18, pair as u16) });
     }
     // the last pair ends short of the block, or past it
     let longer = [sound.clone(), vec![0]].concat();
-    assert_eq!(found(&longer), (2, 256));
-    assert_eq!(found(&sound[..sound.len() - 1]), (2, 256));
+    assert_eq!(found(&longer), (18, 256));
+    assert_eq!(found(&sound[..sound.len() - 1]), (18, 256));
+}
+
+/// A broken pair is told by every call, and by the package as a case with its number; 9 times EQs does not wrap onto a length.
+#[test]
+fn the_broken_pair_everywhere() {
+    let mut random = Random::new(1);
+    let settings = settings(&mut random, 3);
+    let mut wrapping = vec![0, 1, 0, 0, 0, 10, 0, 0, 0, 21];
+    wrapping.extend([0; 12]);
+    wrapping.extend([0x1C, 0x71, 0xC7, 0x1D]);
+    wrapping.extend([0; 5]);
+    let refusal = jazmotip::Refusal::UnsuitedLength(1);
+    assert_eq!((refusal.number(), refusal.pair()), (19, Some(1)));
+    assert_eq!(refusal.to_string(), "refused 19 1: length does not suit the record's EQs");
+    assert_eq!(jazmotip::capture::records(&wrapping), Err(refusal));
+    assert_eq!(jazmotip::capture::verdict(&settings, &wrapping, 9), Err(refusal));
+    assert_eq!(jazmotip::capture::payload(&wrapping, 9), Err(refusal));
+    assert_eq!(jazmotip::capture::open(&settings, &wrapping, &mut [0; 31]), Err(refusal));
+    let sound = random_block(&mut random, &settings, 3, 3);
+    let cut = &sound[..sound.len() - 1];
+    assert_eq!(jazmotip::capture::payload(cut, 0), Err(jazmotip::Refusal::BrokenChain(3)));
+    let mut text = [0; LISTING_OCTETS];
+    assert_eq!(jazmotip::capture::list(&settings, cut, &mut text), "no llid ch key eqs result\nrefused 18 3\n");
 }
 
 #[test]

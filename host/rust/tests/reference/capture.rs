@@ -1,16 +1,30 @@
-//! The capture reader (01, Capture block). What is wrong with a directory is told as 02, C-11 has it: sizes, then pair by pair the
-//! chain before the length.
+//! The capture reader (01, Capture block). What is wrong with a directory is told as 02, C-11 has it: 15 for the sizes, then pair
+//! by pair 18 for the chain before 19 for the length.
 
 use super::{payload, refuse_if, Key, Reply, CLOCK};
-use std::fmt::Write;
+use std::fmt::{Display, Formatter, Write};
 use std::ops::Range;
 
 #[derive(Clone, Copy, Debug, PartialEq, Eq)]
-pub enum Fault {
-    Sizes,
-    /// The first such pair, from 1.
-    Chain(usize),
-    Length(usize),
+pub struct Refused {
+    pub number: u8,
+    /// The first broken pair, from 1; 0 where there is none.
+    pub pair: u16,
+}
+
+impl From<u8> for Refused {
+    fn from(number: u8) -> Refused {
+        Refused { number, pair: 0 }
+    }
+}
+
+impl Display for Refused {
+    fn fmt(&self, f: &mut Formatter<'_>) -> std::fmt::Result {
+        match self.pair {
+            0 => write!(f, "{}", self.number),
+            pair => write!(f, "{} {pair}", self.number),
+        }
+    }
 }
 
 #[derive(Clone, Debug)]
@@ -32,13 +46,13 @@ fn number(octets: &[u8]) -> u64 {
 }
 
 /// The records of a block, in order.
-pub fn directory(block: &[u8]) -> Result<Vec<Record>, Fault> {
+pub fn directory(block: &[u8]) -> Result<Vec<Record>, Refused> {
     if block.len() < 2 || block.len() > 65_536 {
-        return Err(Fault::Sizes);
+        return Err(Refused::from(15));
     }
     let n = number(&block[..2]) as usize;
     if n > 256 || block.len() < 2 + 8 * n || (n == 0 && block.len() != 2) {
-        return Err(Fault::Sizes);
+        return Err(Refused::from(15));
     }
     let mut next = 2 + 8 * n;
     let mut records = Vec::new();
@@ -47,11 +61,11 @@ pub fn directory(block: &[u8]) -> Result<Vec<Record>, Fault> {
         let (offset, length) = (number(&entry[..4]) as usize, number(&entry[4..]) as usize);
         let end = offset + length;
         if offset != next || end > block.len() || (pair == n && end != block.len()) {
-            return Err(Fault::Chain(pair));
+            return Err(Refused { number: 18, pair: pair as u16 });
         }
         let record = &block[offset..end];
         if length < 16 || length as u64 != 16 + 9 * number(&record[12..16]) {
-            return Err(Fault::Length(pair));
+            return Err(Refused { number: 19, pair: pair as u16 });
         }
         records.push(Record {
             kind: record[0],
@@ -96,26 +110,26 @@ pub fn judge(settings: &Settings, record: &Record) -> Reply<Option<(u8, Key)>> {
 }
 
 /// The verdict on record `k`, asked for alone.
-pub fn verdict(octets: &[u8], block: &[u8], k: usize) -> Reply<Option<(u8, u64)>> {
+pub fn verdict(octets: &[u8], block: &[u8], k: usize) -> Result<Option<(u8, u64)>, Refused> {
     let settings = settings(octets)?;
-    let records = directory(block).map_err(|_| 15)?;
+    let records = directory(block)?;
     refuse_if(k < 1 || k > records.len(), 1)?;
     let record = &records[k - 1];
     Ok(judge(&settings, record)?.map(|(enckey, _)| (enckey, record.clock)))
 }
 
 /// The payload of record `k`, as bounds in the block.
-pub fn part(block: &[u8], k: usize) -> Reply<Range<usize>> {
-    let records = directory(block).map_err(|_| 15)?;
+pub fn part(block: &[u8], k: usize) -> Result<Range<usize>, Refused> {
+    let records = directory(block)?;
     refuse_if(k < 1 || k > records.len(), 1)?;
     Ok(records[k - 1].payload.clone())
 }
 
 /// The block with every record opened that can be, and the octets deciphered.
-pub fn open(octets: &[u8], block: &[u8], output: usize) -> Reply<(Vec<u8>, u64)> {
+pub fn open(octets: &[u8], block: &[u8], output: usize) -> Result<(Vec<u8>, u64), Refused> {
     refuse_if(octets.len() != 41 || output != block.len(), 14)?;
     let settings = settings(octets)?;
-    let records = directory(block).map_err(|_| 15)?;
+    let records = directory(block)?;
     let mut out = block.to_vec();
     let mut total = 0;
     for record in records {
@@ -133,7 +147,7 @@ pub fn open(octets: &[u8], block: &[u8], output: usize) -> Reply<(Vec<u8>, u64)>
 /// What the reader program prints.
 pub fn listing(octets: &[u8], block: &[u8]) -> String {
     let mut text = String::from("no llid ch key eqs result\n");
-    let read = settings(octets).and_then(|settings| Ok((settings, directory(block).map_err(|_| 15)?)));
+    let read = settings(octets).map_err(Refused::from).and_then(|settings| Ok((settings, directory(block)?)));
     match read {
         Err(refusal) => writeln!(text, "refused {refusal}").expect("text"),
         Ok((settings, records)) => {

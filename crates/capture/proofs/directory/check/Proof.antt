@@ -12,6 +12,7 @@ use Rattle.octets.proofs.Choice.{pick-true, pick-false}
 use Rattle.capture.specs.declared.directory.Directory.the-variants.{Good}
 use Rattle.capture.specs.Directory.{dueOf, withPair, pairsFrom, directoryOf}
 use Rattle.capture.proofs.Pairs.{Sizes, size-fits, pairs-at, pairs-end, next-due}
+use Rattle.capture.proofs.Broken.{judged}
 use Rattle.capture.proofs.directory.check.Statement.{statement}
 use Rattle.capture.proofs.directory.check.Tie as tie
 
@@ -27,7 +28,7 @@ is-size-right-requires c κs = search needs
 
 returns : tie.Need-returns Inv-loop μ-loop
 unfolding directoryOf
-returns c = sym (pick-false _ _ (sym (c .before .is-size-right .ensures) ∙ not-true _ (c .if1 .taken)))
+returns c = (sym (pick-false _ _ (sym (c .before .is-size-right .ensures) ∙ not-true _ (c .if1 .taken))), judged _)
 
 sizes : (c : tie.Else1 Inv-loop μ-loop) → Sizes (now (c .before .before .before .args .block))
 sizes c = size-fits _ (sym (c .before .is-size-right .ensures) ∙ not-false _ (c .if1 .left))
@@ -77,22 +78,28 @@ enum-told c = search needs
 enum-told-2 : tie.Need-enum-told-2 Inv-loop μ-loop
 enum-told-2 c = search needs
 
-add-t10 : tie.Need-add-t10 Inv-loop μ-loop
-add-t10 c = search needs
+add-t11 : tie.Need-add-t11 Inv-loop μ-loop
+add-t11 c = search needs
+
+cast-t12 : tie.Need-cast-t12 Inv-loop μ-loop
+cast-t12 c = search needs
 
 returns-2 : tie.Need-returns-2 Inv-loop μ-loop
 unfolding withPair
-returns-2 c = sym (seen (c .before .before) ∙ rw (c .enum-told2 .given .1))
+returns-2 c = (sym (seen (c .before .before) ∙ rw (c .enum-told2 .given .1)), judged _)
 
 enum-told-3 : tie.Need-enum-told-3 Inv-loop μ-loop
 enum-told-3 c = search needs
 
-add-t11 : tie.Need-add-t11 Inv-loop μ-loop
-add-t11 c = search needs
+add-t14 : tie.Need-add-t14 Inv-loop μ-loop
+add-t14 c = search needs
+
+cast-t15 : tie.Need-cast-t15 Inv-loop μ-loop
+cast-t15 c = search needs
 
 returns-3 : tie.Need-returns-3 Inv-loop μ-loop
 unfolding withPair
-returns-3 c = sym (seen (c .before .before) ∙ rw (c .enum-told3 .given .1))
+returns-3 c = (sym (seen (c .before .before) ∙ rw (c .enum-told3 .given .1)), judged _)
 
 length-of-requires : tie.Need-length-of-requires Inv-loop μ-loop
 length-of-requires c κs =
@@ -119,7 +126,7 @@ returns-4 c =
     let n = c .before .before .count .result in
     let i = c .before .loop .i in
     let e : i ≡ n = omega arith in
-    sym (c .before .loop .inv .3 ∙ pairs-end b n i (c .loop-test .left) ∙ ap Good e)
+    (sym (c .before .loop .inv .3 ∙ pairs-end b n i (c .loop-test .left) ∙ ap Good e), judged b)
 
 pub check-spec : {M : Type 1} → statement M
 check-spec =
@@ -136,10 +143,12 @@ check-spec =
     pair-of-requires
     enum-told
     enum-told-2
-    add-t10
+    add-t11
+    cast-t12
     returns-2
     enum-told-3
-    add-t11
+    add-t14
+    cast-t15
     returns-3
     length-of-requires
     add-due-2

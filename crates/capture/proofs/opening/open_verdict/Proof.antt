@@ -36,7 +36,7 @@ returns-3 : tie.Need-returns-3
 unfolding openVerdict
 returns-3 c =
     c .verdict-on .ensures
-    ∙ sym (pick-true _ _ (eq-eqb _ _ (c .before .before .before .before .before .if1 .left)) ∙ rw (← c .before .before .before .before .settings-verdict .ensures, c .before .before .enum-told .given .1, c .before .check .ensures))
+    ∙ sym (pick-true _ _ (eq-eqb _ _ (c .before .before .before .before .before .if1 .left)) ∙ rw (← c .before .before .before .before .settings-verdict .ensures, c .before .before .enum-told .given .1, c .before .check .ensures .0))
 
 pub open-verdict-spec : {M : Type 1} → statement M
 open-verdict-spec =

@@ -10,14 +10,8 @@ use Rattle.capture.proofs.payload.asked.Tie as tie
 enum-known-directory : tie.Need-enum-known-directory
 enum-known-directory c = search needs
 
-enum-told : tie.Need-enum-told
-enum-told c = search needs
-
-enum-told-2 : tie.Need-enum-told-2
-enum-told-2 c = search needs
-
-enum-told-3 : tie.Need-enum-told-3
-enum-told-3 c = search needs
+enum-known-directory-2 : tie.Need-enum-known-directory-2
+enum-known-directory-2 c = search needs
 
 returns : tie.Need-returns
 unfolding both
@@ -28,24 +22,8 @@ unfolding both
 returns-2 c = rw (c .before .before .directory .given .1) (sym (pick-false _ _ (c .if1 .left)))
 
 returns-3 : tie.Need-returns-3
-returns-3 c = rw (c .enum-told .given .1)
-
-returns-4 : tie.Need-returns-4
-returns-4 c = rw (c .enum-told2 .given .1)
-
-returns-5 : tie.Need-returns-5
-returns-5 c = rw (c .enum-told3 .given .1)
+returns-3 c = rw (c .before .directory2 .given .1)
 
 pub asked-spec : {M : Type 1} → statement M
 asked-spec =
-    tie.close
-    (tie.spec
-    enum-known-directory
-    enum-told
-    enum-told-2
-    enum-told-3
-    returns
-    returns-2
-    returns-3
-    returns-4
-    returns-5)
+    tie.close (tie.spec enum-known-directory enum-known-directory-2 returns returns-2 returns-3)

@@ -14,7 +14,7 @@ asked-requires c κs = search needs
 
 returns : tie.Need-returns
 unfolding payloadVerdict
-returns c = c .asked .ensures ∙ rw (c .before .check .ensures)
+returns c = c .asked .ensures ∙ rw (c .before .check .ensures .0)
 
 pub payload-verdict-spec : {M : Type 1} → statement M
 payload-verdict-spec = tie.close (tie.spec check-requires asked-requires returns)

@@ -12,7 +12,7 @@ directory-in-numbers-requires : tie.Need-directory-in-numbers-requires
 directory-in-numbers-requires c κs = search needs
 
 returns : tie.Need-returns
-returns c = c .directory-in-numbers .ensures ∙ rw (c .before .check .ensures)
+returns c = let e = c .before .check .ensures in (c .directory-in-numbers .ensures ∙ rw (e .0), e .1)
 
 pub jazmotip-capture-directory-spec : {M : Type 1} → statement M
 jazmotip-capture-directory-spec =

@@ -1,4 +1,4 @@
--- `jazmotip::blocks::jazmotip_capture_open` meets its contract: number and count of the answer of `open`.
+-- `jazmotip::blocks::jazmotip_capture_open` meets its contract: number, pair and count of the answer of `open`.
 -- Assumes nothing.
 use mathlib.Core.Path.{ap}
 use Rattle.jazmotip.specs.Blocks.{openedInNumbers}
@@ -12,6 +12,9 @@ open-requires c κs = search needs
 number-requires : tie.Need-number-requires
 number-requires c κs = search needs
 
+pair-requires : tie.Need-pair-requires
+pair-requires c κs = search needs
+
 octets-opened-requires : tie.Need-octets-opened-requires
 octets-opened-requires c κs = search needs
 
@@ -20,9 +23,9 @@ same-length c = search needs
 
 returns : tie.Need-returns
 returns c =
-    let opened = c .before .before .before .before .«open» .ensures in
-    (rw (c .before .number .ensures, c .octets-opened .ensures) (ap openedInNumbers (opened .0)), opened .1)
+    let opened = c .before .before .before .before .before .«open» .ensures in
+    (rw (c .before .before .number .ensures, c .before .pair .ensures, c .octets-opened .ensures) (ap openedInNumbers (opened .0)), opened .1)
 
 pub jazmotip-capture-open-spec : {M : Type 1} → statement M
 jazmotip-capture-open-spec =
-    tie.close (tie.spec open-requires number-requires octets-opened-requires same-length returns)
+    tie.close (tie.spec open-requires number-requires pair-requires octets-opened-requires same-length returns)

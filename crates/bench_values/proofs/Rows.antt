@@ -9,10 +9,11 @@ use Rattle.octets.specs.Choice.{both, either, pick}
 use Rattle.envelope.specs.CounterBlock.{counterBlock}
 use Rattle.envelope.specs.ControlMask.{masked, countEnciphered}
 use Rattle.clock.specs.Stamping.{capturedAt, raiseOf, movedBy, raisedTo}
-use Rattle.ends.specs.Replies.{refuseIf}
+use Rattle.refusal.specs.Order.{refuseIf}
 use Rattle.ends.specs.Identities.{among, llidsOf, has}
 use Rattle.ends.specs.Keys.{aged}
-use Rattle.ends.specs.Occupancy.{upstream, onZero, freeFrom, occupied, taken}
+use Rattle.envelope.specs.Channels.{upstream}
+use Rattle.ends.specs.Occupancy.{onZero, freeFrom, occupied, taken}
 use Rattle.ends.specs.Records.{freshUnit, withKeys}
 use Rattle.ends.specs.Timers.{timerAdvanced, freshTimer}
 use Rattle.ends.specs.Headers.{choiceAged}

@@ -12,16 +12,18 @@ use lib.Seq.{drop-set-add, take-set-le, take-set-lt, drop-set-lt, take-add, take
 use lib.Count.{ones}
 use lib.Dec.{eqb}
 use borrow.Rule.Slice.PartMut.{putMid}
-use borrow.Author.Tests.{eq-eqb, eqb-true, le-leb, lt-ltb}
+use borrow.Author.Tests.{eq-eqb, eqb-true, le-leb, lt-ltb, not-false}
 use Rattle.octets.specs.Choice.{pick}
 use Rattle.octets.specs.Lists.{part, replaced, sum}
 use Rattle.octets.specs.Eqs.{maxEqs}
 use Rattle.octets.proofs.Lists.{sum-below, sum-suc, part-length, part-below}
-use Rattle.octets.proofs.Choice.{both-left, both-right, both-true, pick-true, pick-first}
+use Rattle.octets.proofs.Choice.{both-left, both-right, both-true, not-of-true}
 use Rattle.octets.specs.Output.{WithOutput, withOutput}
 use Rattle.refusal.specs.declared.Refusal.{Refusal}
+use Rattle.refusal.specs.declared.Refusal.the-variants.{OutOfRange, BadLength}
 use Rattle.refusal.specs.declared.Verdict.{Verdict}
 use Rattle.refusal.specs.declared.Verdict.the-variants.{Accepted}
+use Rattle.refusal.proofs.Order.{refuse-accepted, refuse-passed, then-accepted}
 use Rattle.envelope.specs.Acceptance.{lengthsFit, nonceFits, sealVerdict}
 use Rattle.envelope.specs.Answer.{sealCount}
 use Rattle.envelope.specs.ControlMask.{controlOctet, countEnciphered}
@@ -44,7 +46,7 @@ use Rattle.capture.specs.declared.opening.OpenAnswer.the-variants.{Denie
 use Rattle.records.specs.Settings.{settingsOctets, presenceOf, keyPresent, keyOf, macOf, settingsVerdict}
 use Rattle.records.specs.Record.{recordHeader, payloadOf}
 use Rattle.capture.specs.Directory.{recordsIn, offsetOf, lengthOf, endOf, dueOf, recordOf, verdictOn, directoryOf}
-use Rattle.capture.specs.Opening.{recordNonce, writtenAs, countAs, openedRecord, recordCount, openedFrom, openedBlock, blockCount, andThen, openVerdict, openingAfter, opening}
+use Rattle.capture.specs.Opening.{recordNonce, writtenAs, countAs, openedRecord, recordCount, openedFrom, openedBlock, blockCount, openVerdict, openingAfter, opening}
 use Rattle.records.specs.Verdict.{clearedFlags, headerFits, verdictOf}
 use Rattle.capture.specs.Duties.{Placed, Expanded}
 use Rattle.records.proofs.Verdicts.{settings-octets}
@@ -55,7 +57,8 @@ use Rattle.capture.proofs.Records.{Records, good, placed, records-end}
 seal-accepted : (n m : ℕ) (nonce : Nonce) → n % 9 ≡ 0 → n ≤ 65536 → m ≡ n → nonceFits nonce ≡ true → sealVerdict n m nonce ≡ Accepted
 unfolding sealVerdict lengthsFit
 seal-accepted n m nonce whole most same fits =
-    pick-true _ _ (both-true (eq-eqb _ _ whole) (both-true (le-leb n (9 * maxEqs) (omega arith)) (eq-eqb _ _ same))) ∙ pick-true _ _ fits
+    refuse-passed _ BadLength _ (not-of-true (both-true (eq-eqb _ _ whole) (both-true (le-leb n (9 * maxEqs) (omega arith)) (eq-eqb _ _ same))))
+    ∙ refuse-passed _ OutOfRange _ (not-of-true fits)
 
 -- what an accepted call answers, and its output
 seal-done : (w : List ℕ) (n : Nonce) (p out o : List ℕ) (a : SealAnswer) → sealVerdict (length p) (length out) n ≡ Accepted
@@ -234,10 +237,6 @@ pub record Callable (s b : List ℕ) (m : ℕ) : Type 0 where
   pub settings : length s ≡ settingsOctets
   pub good : directoryOf b ≡ Good (recordsIn b)
 
-then-both : (u v : Verdict) → andThen u v ≡ Accepted → (u ≡ Accepted) × (v ≡ Accepted)
-then-both Accepted v e = (refl, e)
-then-both (Verdict.Refused r) v e = (e, cc)
-
 counted : (b : List ℕ) (d : Directory) → directoryOf b ≡ d → verdictOn d ≡ Accepted → directoryOf b ≡ Good (recordsIn b)
 counted b (Good n) q e = q ∙ ap Good (good b n q .count)
 counted b (Bad r) q e = cc
@@ -245,10 +244,10 @@ counted b (Bad r) q e = cc
 pub callable : (s b : List ℕ) (m : ℕ) → openVerdict s b m ≡ Accepted → Callable s b m
 unfolding openVerdict
 callable s b m e =
-    let p = pick-first (eqb m (length b)) _ (Verdict.Refused Refusal.BadLength) Accepted (λ z. cc) e in
-    let q = then-both (settingsVerdict s) (verdictOn (directoryOf b)) (p .1) in
+    let p = refuse-accepted (not (eqb m (length b))) BadLength _ e in
+    let q = then-accepted (settingsVerdict s) (verdictOn (directoryOf b)) (p .1) in
     record {
-      size = eqb-true _ _ (p .0);
+      size = eqb-true _ _ (not-false _ (p .0));
       accepted = q .0;
       settings = settings-octets s (q .0);
       good = counted b (directoryOf b) refl (q .1);

@@ -14,10 +14,13 @@ use Rattle.octets.specs.Bits.{bitOf, lowCleared}
 use Rattle.octets.specs.Choice.{both, either, pick}
 use Rattle.octets.specs.Lists.{part, sum}
 use Rattle.octets.proofs.BigEndian.{number-same}
-use Rattle.octets.proofs.Choice.{both-left, both-right, both-true, pick-true}
+use Rattle.octets.proofs.Choice.{both-left, both-right, both-true, not-of-true, pick-true}
 use Rattle.octets.proofs.Lists.{sum-ext}
 use Rattle.octets.specs.Output.{withOutput}
+use Rattle.refusal.specs.declared.Refusal.the-variants.{BadLength}
 use Rattle.refusal.specs.declared.Verdict.the-variants.{Accepted}
+use Rattle.refusal.specs.Order.{andThen}
+use Rattle.refusal.proofs.Order.{refuse-passed}
 use Rattle.sealing.specs.KeyExpansion.{keyExpansion}
 use Rattle.sealing.specs.Payload.{sealed}
 use Rattle.records.specs.declared.header.Header.{Header}
@@ -248,8 +251,8 @@ module _ (s b : List ℕ) (n : ℕ) (r : Records b n) where
       ∙ no-sum 0 n)
 
 accepts-again : (s b : List ℕ) (m n : ℕ) → settingsVerdict s ≡ Accepted → m ≡ length b → directoryOf b ≡ Good n → openVerdict s b m ≡ Accepted
-unfolding openVerdict
-accepts-again s b m n t e d = pick-true _ _ (eq-eqb _ _ e) ∙ rw (t, d)
+unfolding openVerdict andThen
+accepts-again s b m n t e d = refuse-passed _ BadLength _ (not-of-true (eq-eqb _ _ e)) ∙ rw (t, d)
 
 -- the claims of an accepted call
 pub opened : (s b : List ℕ) (size : ℕ) → openVerdict s b size ≡ Accepted → Opened s b

@@ -1,15 +1,16 @@
 -- Opening a capture block b under the settings s (01, Capture block). Assumes nothing.
+use mathlib.Core.Bool.{not}
 use mathlib.Core.List.{List, [], _++_}
 use Prim.Native.Nat.{ℕ, zero, suc}
 use lib.Dec.{eqb}
 use lib.ListN.{length, take, set}
-use Rattle.octets.specs.Choice.{pick}
 use Rattle.octets.specs.Lists.{sum}
 use Rattle.octets.specs.Output.{WithOutput}
 use Rattle.refusal.specs.declared.Refusal.the-variants.{BadLength}
 use Rattle.refusal.specs.declared.Verdict.{Verdict}
 use Rattle.refusal.specs.declared.Verdict.the-variants.{Accepted, Refused}
 use Rattle.refusal.specs.Number.{numberOf, pairNumber}
+use Rattle.refusal.specs.Order.{refuseIf, andThen}
 use Rattle.envelope.specs.ControlMask.{countEnciphered}
 use Rattle.envelope.specs.declared.Nonce.{Nonce}
 use Rattle.sealing.specs.KeyExpansion.{keyExpansion}
@@ -62,14 +63,10 @@ openedBlock s b = take (directoryOctets (recordsIn b)) b ++ openedFrom s b 0 (re
 unfoldable pub blockCount : List ℕ → List ℕ → ℕ
 blockCount s b = sum 0 (recordsIn b) (λ i. recordCount s (recordOf b i))
 
-abbrev pub andThen : Verdict → Verdict → Verdict
-andThen Accepted v = v
-andThen (Verdict.Refused r) v = Verdict.Refused r
-
 -- 14, 1, 15, then 18 and 19
 unfoldable pub openVerdict : List ℕ → List ℕ → ℕ → Verdict
 openVerdict s b outputOctets =
-    pick (eqb outputOctets (length b)) (andThen (settingsVerdict s) (verdictOn (directoryOf b))) (Verdict.Refused BadLength)
+    refuseIf (not (eqb outputOctets (length b))) BadLength (andThen (settingsVerdict s) (verdictOn (directoryOf b)))
 
 unfoldable pub openingAfter : Verdict → List ℕ → List ℕ → List ℕ → WithOutput OpenAnswer
 openingAfter Accepted s b out = record { answer = Done (blockCount s b); output = openedBlock s b }

@@ -3,12 +3,18 @@ ghost use mathlib.Core.Path.{_≡_};
 ghost use Rattle.clock.specs.Ticks.{advanced, rewound, localOf, localAdvanced, epamOf};
 ghost use Rattle.clock.specs.Stamping.{capturedAt, raiseOf, movedBy, raisedTo};
 ghost use Rattle.clock.specs.Loop.{Stops, Leaves};
+use octets::SIX_OCTETS;
 
-pub const CLOCK_TURN: u64 = 0x1_0000_0000_0000;
+pub const TICKS_PER_SECOND: u64 = 390_625_000;
+
+pub const CLOCK_TURN: u64 = SIX_OCTETS;
 
 pub const LOCAL_TURN: u64 = 0x1_0000_0000;
 
 pub const EPAM_TURN: u8 = 64;
+
+// Sends under a key stop this many ticks after its first: in fewer, no clock returns.
+pub const KEY_LIFE: u64 = CLOCK_TURN;
 
 // A clock message: the OLT's clock at the capture, and that clock plus the round trip. After the raise, a unit's Rx and Tx clocks.
 #[repr(C)]

@@ -22,7 +22,8 @@ use Rattle.ends.specs.declared.Found.{Found}
 use Rattle.ends.specs.declared.Found.the-variants.{At}
 use Rattle.ends.specs.declared.Olt.{Olt}
 use Rattle.ends.specs.declared.OltAnswer.{OltAnswer}
-use Rattle.ends.proofs.Replies.{number-accepted, reply-keeps}
+use Rattle.refusal.proofs.Numbers.{number-accepted}
+use Rattle.ends.proofs.Replies.{reply-keeps}
 use Rattle.ends.proofs.Table.{identityOf, from-same, find-at}
 use Rattle.ends.proofs.Validity.{olt-in-range, shared-in-range}
 use Rattle.ends.proofs.Lift.{lift-accepted, lift-beside, lift-find, lift-itself}

@@ -23,7 +23,8 @@ use Rattle.ends.specs.declared.OnuKeys.{OnuKeys}
 use Rattle.ends.specs.declared.Onu.{Onu}
 use Rattle.ends.specs.declared.KeyMessage.{KeyMessage}
 use Rattle.ends.specs.declared.Acknowledgement.{Acknowledgement}
-use Rattle.ends.proofs.Replies.{number-accepted, refuse-accepted, refuse-passed}
+use Rattle.refusal.proofs.Order.{refuse-accepted, refuse-passed}
+use Rattle.refusal.proofs.Numbers.{number-accepted}
 use Rattle.ends.proofs.Keys.{key-stored}
 use Rattle.ends.proofs.Validity.{onu-in-range, onu-valid}
 use Rattle.ends.proofs.OnuCalls.{onu-accepted, onu-accepts, onu-keeps}

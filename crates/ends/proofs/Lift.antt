@@ -12,7 +12,8 @@ use Rattle.refusal.specs.declared.Refusal.{Refusal}
 use Rattle.refusal.specs.declared.Refusal.the-variants.{OutOfRange, UnknownLlid}
 use Rattle.refusal.specs.declared.Verdict.{Verdict}
 use Rattle.refusal.specs.declared.Verdict.the-variants.{Accepted, Refused}
-use Rattle.ends.specs.Replies.{refuseIf, andThen, onValid, Reply, reply}
+use Rattle.refusal.specs.Order.{refuseIf, andThen}
+use Rattle.ends.specs.Replies.{onValid, Reply, reply}
 use Rattle.ends.specs.Identities.{distinct}
 use Rattle.ends.specs.Occupancy.{validChannels}
 use Rattle.ends.specs.Records.{withChannels}
@@ -25,7 +26,8 @@ use Rattle.ends.specs.declared.Shared.{Shared}
 use Rattle.ends.specs.declared.Olt.{Olt}
 use Rattle.ends.specs.declared.Found.{Found}
 use Rattle.ends.specs.declared.Found.the-variants.{At, Nowhere}
-use Rattle.ends.proofs.Replies.{refused-accepts, refuse-passed, refuse-stopped, reply-verdict, reply-accepted, reply-refused, Untouched}
+use Rattle.refusal.proofs.Order.{refused-accepts, refuse-passed, refuse-stopped}
+use Rattle.ends.proofs.Replies.{reply-verdict, reply-accepted, reply-refused, Untouched}
 use Rattle.ends.proofs.Table.{Registered, find-at, registered-found, registered-nowhere, identities, SameUnits, find-same, table-same, with-unit, with-other, with-twice, with-channels, with-same-units, with-beside, Beside}
 use Rattle.ends.proofs.Validity.{shared-in-range, shared-valid, olt-in-range, olt-valid}
 

@@ -10,7 +10,7 @@ use Rattle.octets.specs.Eqs.{maxEqs}
 use Rattle.octets.proofs.Choice.{both-left, both-right, both-true}
 use Rattle.clock.specs.Ticks.{maxTick}
 use Rattle.ends.specs.Limits.{maxFree}
-use Rattle.ends.specs.Occupancy.{downstream, upstream, freeChannels, onZero, freeFrom, taken, occupied, validChannels}
+use Rattle.ends.specs.Occupancy.{freeChannels, onZero, freeFrom, taken, occupied, validChannels}
 use Rattle.ends.specs.declared.Channels.{Channels}
 
 -- a header's own channel is free from the tick after its last EQ
@@ -63,14 +63,3 @@ occupied-valid c channel tick eqs h k e = by-channel (onZero channel) where
   by-channel : (t : Bool) → both (leb (pick t (tick + eqs + 1) (c .zero)) maxFree) (leb (pick t (c .one) (tick + eqs + 1)) maxFree) ≡ true
   by-channel true = both-true new (both-right _ _ e)
   by-channel false = both-true (both-left _ _ e) new
-
----- directions
-
--- the channel indices of the two directions
-pub downstream-below : (channel : ℕ) → downstream channel ≡ true → channel ≤ 1
-unfolding downstream
-downstream-below channel e = leb-true channel 1 e
-
-pub upstream-between : (channel : ℕ) → upstream channel ≡ true → (128 ≤ channel) × (channel ≤ 129)
-unfolding upstream
-upstream-between channel e = (leb-true 128 channel (both-left _ _ e), leb-true channel 129 (both-right _ _ e))

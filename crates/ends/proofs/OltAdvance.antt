@@ -22,7 +22,9 @@ use Rattle.ends.specs.OltCalls.{oltAnswer, sharedAdvanced, oltAdvanced, 
 use Rattle.ends.specs.declared.UnitRecord.{UnitRecord}
 use Rattle.ends.specs.declared.Shared.{Shared}
 use Rattle.ends.specs.declared.Olt.{Olt}
-use Rattle.ends.proofs.Replies.{number-accepted, refuse-accepted, refuse-passed, reply-verdict, reply-accepted, reply-keeps, advance-accepted, advance-accepts}
+use Rattle.refusal.proofs.Order.{refuse-accepted, refuse-passed}
+use Rattle.refusal.proofs.Numbers.{number-accepted}
+use Rattle.ends.proofs.Replies.{reply-verdict, reply-accepted, reply-keeps, advance-accepted, advance-accepts}
 use Rattle.ends.proofs.Table.{identityOf, llids-same, Registered}
 use Rattle.ends.proofs.Validity.{shared-in-range, shared-valid, olt-in-range, olt-valid}
 use Rattle.ends.proofs.UnitCalls.{unit-sum, unit-advanced-valid}

@@ -15,7 +15,8 @@ use Rattle.refusal.specs.declared.Verdict.{Verdict}
 use Rattle.refusal.specs.declared.Verdict.the-variants.{Accepted}
 use Rattle.clock.specs.Ticks.{clockTurn}
 use Rattle.ends.specs.Limits.{maxUnits}
-use Rattle.ends.specs.Replies.{refuseIf, andThen, onValid, silent}
+use Rattle.refusal.specs.Order.{refuseIf, andThen}
+use Rattle.ends.specs.Replies.{onValid, silent}
 use Rattle.ends.specs.Messages.{noStamps, noKeyMessage}
 use Rattle.ends.specs.Identities.{distinct, validMac}
 use Rattle.ends.specs.Records.{noUnit, newOlt}
@@ -30,7 +31,9 @@ use Rattle.ends.specs.declared.Acknowledgement.{Acknowledgement}
 use Rattle.ends.specs.declared.OltAnswer.{OltAnswer}
 use Rattle.ends.specs.declared.ClockSent.{ClockSent}
 use Rattle.ends.specs.declared.KeySent.{KeySent}
-use Rattle.ends.proofs.Replies.{number-accepted, number-refused, refuse-accepted, reply-keeps, reply-untouched}
+use Rattle.refusal.proofs.Order.{refuse-accepted}
+use Rattle.refusal.proofs.Numbers.{number-accepted}
+use Rattle.ends.proofs.Replies.{number-refused, reply-keeps, reply-untouched}
 use Rattle.ends.proofs.Occupancy.{free-valid}
 use Rattle.ends.proofs.Table.{with-itself}
 use Rattle.ends.proofs.Validity.{shared-valid, olt-valid}

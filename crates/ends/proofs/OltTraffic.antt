@@ -9,8 +9,9 @@ use Rattle.refusal.specs.declared.Refusal.{Refusal}
 use Rattle.refusal.specs.declared.Refusal.the-variants.{OutOfRange, BadLength}
 use Rattle.refusal.specs.declared.Verdict.{Verdict}
 use Rattle.refusal.specs.declared.Verdict.the-variants.{Accepted, Refused}
-use Rattle.ends.specs.Replies.{refuseIf, onValid}
-use Rattle.ends.specs.Occupancy.{downstream, upstream}
+use Rattle.refusal.specs.Order.{refuseIf}
+use Rattle.ends.specs.Replies.{onValid}
+use Rattle.envelope.specs.Channels.{downstream, upstream}
 use Rattle.ends.specs.Table.{find, unitAt}
 use Rattle.ends.specs.Validity.{validOlt}
 use Rattle.ends.specs.Lift.{outcome}
@@ -20,7 +21,8 @@ use Rattle.ends.specs.OltTraffic.{sendOrder, sendingOlt, receiveOrder, r
 use Rattle.ends.specs.declared.Olt.{Olt}
 use Rattle.ends.specs.declared.Header.{Header}
 use Rattle.ends.specs.declared.Found.the-variants.{At}
-use Rattle.ends.proofs.Replies.{refuse-accepted, refuse-passed, two-then, Untouched}
+use Rattle.refusal.proofs.Order.{refuse-accepted, refuse-passed, two-then}
+use Rattle.ends.proofs.Replies.{Untouched}
 use Rattle.ends.proofs.Lift.{Lifted, lift-verdict, lift-accepts, lift-untouched, lift-valid}
 use Rattle.ends.proofs.UnitTraffic.{send-keeps, receive-keeps}
 use Rattle.ends.proofs.UnitChoices.{Receives, receive-accepts}

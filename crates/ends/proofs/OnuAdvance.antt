@@ -15,7 +15,8 @@ use Rattle.ends.specs.Validity.{validOnuClock, validOnu}
 use Rattle.ends.specs.OnuCalls.{onuAnswer, onuClockAdvanced, onuAdvanced, advancingOnu, advanceOnuOf}
 use Rattle.ends.specs.declared.OnuClock.{OnuClock}
 use Rattle.ends.specs.declared.Onu.{Onu}
-use Rattle.ends.proofs.Replies.{number-accepted, advance-accepted, advance-accepts}
+use Rattle.refusal.proofs.Numbers.{number-accepted}
+use Rattle.ends.proofs.Replies.{advance-accepted, advance-accepts}
 use Rattle.ends.proofs.Keys.{first-later-valid}
 use Rattle.ends.proofs.Validity.{onu-in-range, onu-valid}
 use Rattle.ends.proofs.OnuCalls.{onu-accepted, onu-accepts, onu-keeps}

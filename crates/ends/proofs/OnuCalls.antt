@@ -25,7 +25,9 @@ use Rattle.ends.specs.OnuCalls.{onuAnswer, onuAcknowledged, onuReply, fr
 use Rattle.ends.specs.declared.Identity.{Identity}
 use Rattle.ends.specs.declared.Onu.{Onu}
 use Rattle.ends.specs.declared.KeyMessage.{KeyMessage}
-use Rattle.ends.proofs.Replies.{number-accepted, number-refused, refuse-accepted, refuse-passed, reply-verdict, reply-accepted, reply-keeps, reply-untouched, Untouched}
+use Rattle.refusal.proofs.Order.{refuse-accepted, refuse-passed}
+use Rattle.refusal.proofs.Numbers.{number-accepted}
+use Rattle.ends.proofs.Replies.{number-refused, reply-verdict, reply-accepted, reply-keeps, reply-untouched, Untouched}
 use Rattle.ends.proofs.Keys.{first-none-valid}
 use Rattle.ends.proofs.Occupancy.{free-valid}
 use Rattle.ends.proofs.Identities.{none-invalid, identity-valid, kept-llids, kept-valid}

@@ -11,7 +11,8 @@ use Rattle.refusal.specs.declared.Refusal.the-variants.{OutOfRange, UnknownLlid
 use Rattle.refusal.specs.declared.Verdict.the-variants.{Accepted}
 use Rattle.clock.specs.Ticks.{epamOf}
 use Rattle.ends.specs.Replies.{isUp}
-use Rattle.ends.specs.Occupancy.{downstream, upstream, taken}
+use Rattle.envelope.specs.Channels.{downstream, upstream}
+use Rattle.ends.specs.Occupancy.{taken}
 use Rattle.ends.specs.Identities.{has}
 use Rattle.ends.specs.Headers.{validHeader, choiceVerdict, choiceAged}
 use Rattle.ends.specs.OnuTraffic.{onuSendChoice, onuSendVerdict, onuReceiveChoice, onuReceiveVerdict}
@@ -19,7 +20,7 @@ use Rattle.ends.specs.declared.OnuKeys.{OnuKeys}
 use Rattle.ends.specs.declared.Onu.{Onu}
 use Rattle.ends.specs.declared.Header.{Header}
 use Rattle.ends.specs.declared.KeyChoice.the-variants.{Clear, Current, Next, Barred}
-use Rattle.ends.proofs.Replies.{refuse-accepted, refuse-passed}
+use Rattle.refusal.proofs.Order.{refuse-accepted, refuse-passed}
 
 ---- which key a send goes under
 

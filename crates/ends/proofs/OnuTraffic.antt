@@ -10,8 +10,8 @@ use Rattle.octets.proofs.Choice.{both-true}
 use Rattle.refusal.specs.declared.Refusal.{Refusal}
 use Rattle.refusal.specs.declared.Refusal.the-variants.{OutOfRange, UnknownLlid, BadLength}
 use Rattle.refusal.specs.declared.Verdict.the-variants.{Refused}
-use Rattle.ends.specs.Replies.{refuseIf}
-use Rattle.ends.specs.Occupancy.{downstream, upstream}
+use Rattle.refusal.specs.Order.{refuseIf}
+use Rattle.envelope.specs.Channels.{downstream, upstream}
 use Rattle.ends.specs.Identities.{has}
 use Rattle.ends.specs.Records.{withOnuKeys, withOnuFirst, withOnuChannels}
 use Rattle.ends.specs.Validity.{validOnuKeys, validOnu}
@@ -21,9 +21,11 @@ use Rattle.ends.specs.declared.Onu.{Onu}
 use Rattle.ends.specs.declared.Header.{Header}
 use Rattle.ends.specs.declared.KeyChoice.{KeyChoice}
 use Rattle.ends.specs.declared.KeyChoice.the-variants.{Clear, Current, Next, Barred}
-use Rattle.ends.proofs.Replies.{refuse-accepted, Untouched}
+use Rattle.refusal.proofs.Order.{refuse-accepted}
+use Rattle.ends.proofs.Replies.{Untouched}
 use Rattle.ends.proofs.Keys.{first-send-valid, first-none-valid}
-use Rattle.ends.proofs.Occupancy.{occupied-valid, upstream-between}
+use Rattle.envelope.proofs.Channels.{upstream-between}
+use Rattle.ends.proofs.Occupancy.{occupied-valid}
 use Rattle.ends.proofs.Validity.{onu-in-range, onu-valid}
 use Rattle.ends.proofs.OnuCalls.{onu-untouched, onu-keeps}
 

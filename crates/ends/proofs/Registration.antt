@@ -25,7 +25,8 @@ use Rattle.ends.specs.OltCalls.{oltAnswer, validRegistration, registerVe
 use Rattle.ends.specs.declared.Identity.{Identity}
 use Rattle.ends.specs.declared.UnitRecord.{UnitRecord}
 use Rattle.ends.specs.declared.Olt.{Olt}
-use Rattle.ends.proofs.Replies.{refuse-accepted, reply-keeps}
+use Rattle.refusal.proofs.Order.{refuse-accepted}
+use Rattle.ends.proofs.Replies.{reply-keeps}
 use Rattle.ends.proofs.Timers.{timer-fresh-valid}
 use Rattle.ends.proofs.Keys.{first-none-valid}
 use Rattle.ends.proofs.Identities.{meets-apart, distinct-append, identity-valid, kept-llids, kept-valid}

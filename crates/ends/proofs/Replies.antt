@@ -1,43 +1,16 @@
 -- Laws of replies: what each verdict leaves, once for all calls. Assumes nothing.
 use mathlib.Core.Path.{_≡_, refl, ap}
-use mathlib.Core.Bool.{Bool, true, false}
 use Prim.Native.Nat.{ℕ, _+_, _≤_}
 use native.Mathlib.Omega.{arith}
 use borrow.Author.Tests.{ltb-false, le-ltb}
 use Rattle.refusal.specs.declared.Refusal.{Refusal}
-use Rattle.refusal.specs.Number.{numberOf, verdictNumber}
-use Rattle.refusal.specs.declared.Refusal.the-variants.{OutOfRange, UnknownLlid, RepeatedLlid, TableFull, ClockNotSet, OfferPending, SameKey, NothingOutstanding, NoKey, EpamDiffers, ClearEnvelope, ChannelTaken, KeyTooOld, BadLength, BadDirectory, CaptureTooOld, AtEnd, BrokenChain, UnsuitedLength, OtherKeyIndex}
+use Rattle.refusal.specs.Number.{verdictNumber}
+use Rattle.refusal.specs.declared.Refusal.the-variants.{AtEnd}
 use Rattle.refusal.specs.declared.Verdict.{Verdict}
 use Rattle.refusal.specs.declared.Verdict.the-variants.{Accepted, Refused}
 use Rattle.clock.specs.Ticks.{maxTick}
-use Rattle.ends.specs.Replies.{refuseIf, andThen, Reply, reply, advanceVerdict}
-
----- the order of refusals
-
-pub refused-accepts : {P : Type 0} (r : Refusal) → Refused r ≡ Accepted → P
-refused-accepts r e = let z : _≡_ {A = ℕ} 0 1 = cc in absurd (omega arith)
-
--- what is accepted has passed the first cause, and goes on
-pub refuse-accepted : (cause : Bool) (r : Refusal) (v : Verdict) → refuseIf cause r v ≡ Accepted → (cause ≡ false) × (v ≡ Accepted)
-unfolding refuseIf
-refuse-accepted true r v e = refused-accepts r e
-refuse-accepted false r v e = (refl, e)
-
-pub refuse-passed : (cause : Bool) (r : Refusal) (v : Verdict) → cause ≡ false → refuseIf cause r v ≡ v
-unfolding refuseIf
-refuse-passed cause r v e = rw e
-
-pub refuse-stopped : (cause : Bool) (r : Refusal) (v : Verdict) → cause ≡ true → refuseIf cause r v ≡ Refused r
-unfolding refuseIf
-refuse-stopped cause r v e = rw e
-
--- a list of two causes goes on with the list that follows it
-pub two-then : (a : Bool) (r : Refusal) (b : Bool) (s : Refusal) (v : Verdict)
-    → andThen (refuseIf a r (refuseIf b s Accepted)) v ≡ refuseIf a r (refuseIf b s v)
-unfolding andThen refuseIf
-two-then true r b s v = refl
-two-then false r true s v = refl
-two-then false r false s v = refl
+use Rattle.refusal.proofs.Order.{refuse-accepted, refuse-passed}
+use Rattle.ends.specs.Replies.{Reply, reply, advanceVerdict}
 
 ---- what a verdict leaves
 
@@ -86,32 +59,6 @@ unfolding advanceVerdict
 advance-accepts tick n h = refuse-passed _ AtEnd Accepted (le-ltb maxTick (tick + n) h)
 
 ---- numbers
-
--- only acceptance has number 0
-pub number-accepted : (v : Verdict) → verdictNumber v ≡ 0 → v ≡ Accepted
-number-accepted Accepted e = refl
-number-accepted (Refused r) e = absurd (by-refusal r e) where
-  by-refusal : (r : Refusal) → numberOf r ≡ 0 → ⊥
-  by-refusal OutOfRange e = omega arith
-  by-refusal UnknownLlid e = omega arith
-  by-refusal RepeatedLlid e = omega arith
-  by-refusal TableFull e = omega arith
-  by-refusal ClockNotSet e = omega arith
-  by-refusal OfferPending e = omega arith
-  by-refusal SameKey e = omega arith
-  by-refusal NothingOutstanding e = omega arith
-  by-refusal NoKey e = omega arith
-  by-refusal EpamDiffers e = omega arith
-  by-refusal ClearEnvelope e = omega arith
-  by-refusal ChannelTaken e = omega arith
-  by-refusal KeyTooOld e = omega arith
-  by-refusal BadLength e = omega arith
-  by-refusal BadDirectory e = omega arith
-  by-refusal CaptureTooOld e = omega arith
-  by-refusal AtEnd e = omega arith
-  by-refusal (BrokenChain k) e = omega arith
-  by-refusal (UnsuitedLength k) e = omega arith
-  by-refusal OtherKeyIndex e = omega arith
 
 -- a reply that does not accept is refused
 pub not-accepted : {E H : Type 0} (lent : E) (nothing : H) (r : Reply E H) → ((x : Refusal) → r .verdict ≡ Refused x → Untouched lent nothing r)

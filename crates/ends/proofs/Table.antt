@@ -15,7 +15,7 @@ use Rattle.refusal.specs.Number.{verdictNumber}
 use Rattle.refusal.specs.declared.Refusal.the-variants.{UnknownLlid}
 use Rattle.refusal.specs.declared.Verdict.{Verdict}
 use Rattle.refusal.specs.declared.Verdict.the-variants.{Accepted}
-use Rattle.ends.specs.Replies.{refuseIf}
+use Rattle.refusal.specs.Order.{refuseIf}
 use Rattle.ends.specs.Identities.{among, distinct, llidsOf, has}
 use Rattle.ends.specs.Records.{withChannels}
 use Rattle.ends.specs.Table.{registered, tableLlids, isRegistered, findFrom, find, foundNumber, pastUnit, unitAt, withUnit, withOneMore}
@@ -25,7 +25,7 @@ use Rattle.ends.specs.declared.UnitRecord.{UnitRecord}
 use Rattle.ends.specs.declared.Olt.{Olt}
 use Rattle.ends.specs.declared.Found.{Found}
 use Rattle.ends.specs.declared.Found.the-variants.{At, Nowhere}
-use Rattle.ends.proofs.Replies.{refuse-passed, refuse-stopped}
+use Rattle.refusal.proofs.Order.{refuse-passed, refuse-stopped}
 use Rattle.ends.proofs.Identities.{among-append, distinct-right, distinct-apart}
 
 ---- who is found

@@ -14,7 +14,8 @@ use Rattle.refusal.specs.declared.Refusal.the-variants.{NothingOutstanding}
 use Rattle.refusal.specs.declared.Verdict.the-variants.{Accepted, Refused}
 use Rattle.clock.specs.Ticks.{ticksPerSecond}
 use Rattle.ends.specs.Limits.{maxKeyNumber}
-use Rattle.ends.specs.Replies.{isUp, refuseIf, Silence, silent}
+use Rattle.refusal.specs.Order.{refuseIf}
+use Rattle.ends.specs.Replies.{isUp, Silence, silent}
 use Rattle.ends.specs.Keys.{keyIn}
 use Rattle.ends.specs.Messages.{clockKind, keyKind}
 use Rattle.ends.specs.Records.{withKeys, withConfirmation, withClock, withTimer}
@@ -26,7 +27,7 @@ use Rattle.ends.specs.declared.UnitClock.{UnitClock}
 use Rattle.ends.specs.declared.UnitRecord.{UnitRecord}
 use Rattle.ends.specs.declared.Shared.{Shared}
 use Rattle.ends.specs.declared.Acknowledgement.{Acknowledgement}
-use Rattle.ends.proofs.Replies.{refuse-accepted}
+use Rattle.refusal.proofs.Order.{refuse-accepted}
 use Rattle.ends.proofs.Timers.{timer-sum, timer-advanced-valid}
 use Rattle.ends.proofs.Keys.{first-later-valid}
 use Rattle.ends.proofs.Validity.{ClockInRange, clock-in-range, clock-valid, unit-in-range, unit-valid, shared-in-range}

@@ -14,7 +14,7 @@ use Rattle.ends.specs.declared.UnitRecord.{UnitRecord}
 use Rattle.ends.specs.declared.Shared.{Shared}
 use Rattle.ends.specs.declared.Header.{Header}
 use Rattle.ends.specs.declared.KeyChoice.the-variants.{Clear, Current, Next}
-use Rattle.ends.proofs.Replies.{refuse-passed}
+use Rattle.refusal.proofs.Order.{refuse-passed}
 
 -- an envelope's header by its number: 0 is clear, C is the key in use, and A = C + 1 comes into use
 pub receive-clear : (u : UnitRecord) (h : Header) → h .encenabled ≡ 0 → u .confirmation .confirmed ≡ 0 → unitReceiveChoice u h ≡ Clear

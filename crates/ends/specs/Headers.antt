@@ -8,7 +8,7 @@ use Rattle.refusal.specs.declared.Refusal.the-variants.{ChannelTaken, KeyTooOld
 use Rattle.refusal.specs.declared.Verdict.{Verdict}
 use Rattle.refusal.specs.declared.Verdict.the-variants.{Accepted, Refused}
 use Rattle.clock.specs.Ticks.{epamTurn, epamOf}
-use Rattle.ends.specs.Replies.{refuseIf}
+use Rattle.refusal.specs.Order.{refuseIf}
 use Rattle.ends.specs.Keys.{noKey, keyIn, aged}
 use Rattle.ends.specs.Occupancy.{taken}
 use Rattle.ends.specs.declared.Channels.{Channels}

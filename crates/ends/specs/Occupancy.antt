@@ -1,18 +1,10 @@
--- Channel indices, and how long a header keeps its channel (01, Counter block; Keys). Assumes nothing.
+-- The two channels, and how long a header keeps its own (01, Keys). Assumes nothing.
 use mathlib.Core.Bool.{Bool}
 use Prim.Native.Nat.{ℕ, _+_, _%_}
 use lib.Dec.{leb, ltb, eqb}
 use Rattle.octets.specs.Choice.{both, pick}
 use Rattle.ends.specs.Limits.{maxFree}
 use Rattle.ends.specs.declared.Channels.{Channels}
-
--- the channel indices of the OLT's sends
-unfoldable pub downstream : ℕ → Bool
-downstream channel = leb channel 1
-
--- the channel indices of a unit's sends
-unfoldable pub upstream : ℕ → Bool
-upstream channel = both (leb 128 channel) (leb channel 129)
 
 abbrev pub freeChannels : Channels
 freeChannels = record { zero = 0; one = 0 }

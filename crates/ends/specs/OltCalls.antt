@@ -13,7 +13,8 @@ use Rattle.refusal.specs.declared.Verdict.the-variants.{Accepted}
 use Rattle.clock.specs.Ticks.{clockTurn, maxRoundTrip, advanced}
 use Rattle.clock.specs.declared.Stamps.{Stamps}
 use Rattle.ends.specs.Limits.{maxUnits}
-use Rattle.ends.specs.Replies.{refuseIf, onValid, Silence, silent, Reply, reply, advanceVerdict}
+use Rattle.refusal.specs.Order.{refuseIf}
+use Rattle.ends.specs.Replies.{onValid, Silence, silent, Reply, reply, advanceVerdict}
 use Rattle.ends.specs.Timers.{validInterval}
 use Rattle.ends.specs.Messages.{noStamps, noKeyMessage}
 use Rattle.ends.specs.Identities.{distinct, meets, llidsOf, validMac, validIdentity}

@@ -6,8 +6,9 @@ use Rattle.octets.specs.Choice.{both}
 use Rattle.refusal.specs.declared.Refusal.the-variants.{OutOfRange, UnknownLlid, BadLength}
 use Rattle.refusal.specs.declared.Verdict.{Verdict}
 use Rattle.refusal.specs.declared.Verdict.the-variants.{Accepted}
-use Rattle.ends.specs.Replies.{refuseIf, onValid, Reply}
-use Rattle.ends.specs.Occupancy.{downstream, upstream}
+use Rattle.refusal.specs.Order.{refuseIf}
+use Rattle.ends.specs.Replies.{onValid, Reply}
+use Rattle.envelope.specs.Channels.{downstream, upstream}
 use Rattle.ends.specs.Table.{isRegistered, unitNamed}
 use Rattle.ends.specs.Validity.{validOlt}
 use Rattle.ends.specs.Lift.{lift}

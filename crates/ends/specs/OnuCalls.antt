@@ -13,7 +13,8 @@ use Rattle.clock.specs.Ticks.{clockTurn, localTurn, advanced, localAdvanced, lo
 use Rattle.clock.specs.Stamping.{raisedTo}
 use Rattle.clock.specs.declared.Stamps.{Stamps}
 use Rattle.ends.specs.Limits.{maxKeyNumber}
-use Rattle.ends.specs.Replies.{isUp, refuseIf, onValid, Silence, silent, Reply, reply, advanceVerdict}
+use Rattle.refusal.specs.Order.{refuseIf}
+use Rattle.ends.specs.Replies.{isUp, onValid, Silence, silent, Reply, reply, advanceVerdict}
 use Rattle.ends.specs.Keys.{keyIn, withKey}
 use Rattle.ends.specs.Identities.{noIdentity, distinct, llidsOf, has, validMac, validIdentity}
 use Rattle.ends.specs.Records.{newOnu, withOnuClock, withOnuKeys}

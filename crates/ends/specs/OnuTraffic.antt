@@ -7,9 +7,11 @@ use Rattle.octets.specs.Choice.{both, pick}
 use Rattle.refusal.specs.declared.Refusal.the-variants.{OutOfRange, UnknownLlid, ClockNotSet, NoKey, EpamDiffers, ClearEnvelope, BadLength}
 use Rattle.refusal.specs.declared.Verdict.{Verdict}
 use Rattle.clock.specs.Ticks.{epamOf}
-use Rattle.ends.specs.Replies.{isUp, refuseIf, Reply}
+use Rattle.refusal.specs.Order.{refuseIf}
+use Rattle.ends.specs.Replies.{isUp, Reply}
 use Rattle.ends.specs.Keys.{onlyKey, notNoted, firstSend}
-use Rattle.ends.specs.Occupancy.{downstream, upstream, occupied}
+use Rattle.envelope.specs.Channels.{downstream, upstream}
+use Rattle.ends.specs.Occupancy.{occupied}
 use Rattle.ends.specs.Identities.{has}
 use Rattle.ends.specs.Records.{withOnuKeys, withOnuFirst, withOnuChannels}
 use Rattle.ends.specs.Headers.{validHeader, choiceVerdict, channelThenKey, passageOf, sendingOf, noPassage, noSending}

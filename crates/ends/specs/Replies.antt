@@ -1,26 +1,16 @@
 -- What a call decides and leaves (01, 'When the reader says no'). Assumes nothing.
-use mathlib.Core.Bool.{Bool, true, false, not}
+use mathlib.Core.Bool.{Bool, not}
 use Prim.Native.Nat.{ℕ, _+_}
 use lib.Dec.{ltb, eqb}
-use Rattle.refusal.specs.declared.Refusal.{Refusal}
 use Rattle.refusal.specs.declared.Refusal.the-variants.{OutOfRange, AtEnd}
 use Rattle.refusal.specs.declared.Verdict.{Verdict}
 use Rattle.refusal.specs.declared.Verdict.the-variants.{Accepted, Refused}
+use Rattle.refusal.specs.Order.{refuseIf}
 use Rattle.clock.specs.Ticks.{maxTick}
 
 -- a flag is up
 abbrev pub isUp : ℕ → Bool
 isUp flag = eqb flag 1
-
--- that refusal where its cause holds, else what follows in the order
-unfoldable pub refuseIf : Bool → Refusal → Verdict → Verdict
-refuseIf true r v = Refused r
-refuseIf false r v = v
-
--- one list of refusals after another
-unfoldable pub andThen : Verdict → Verdict → Verdict
-andThen Accepted v = v
-andThen (Refused r) v = Refused r
 
 -- ahead of each list comes 1, for an end that is not valid
 abbrev pub onValid : Bool → Verdict → Verdict

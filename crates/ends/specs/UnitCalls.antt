@@ -12,7 +12,8 @@ use Rattle.clock.specs.Ticks.{ticksPerSecond, rewound}
 use Rattle.clock.specs.Stamping.{capturedAt}
 use Rattle.clock.specs.declared.Stamps.{Stamps}
 use Rattle.ends.specs.Limits.{maxKeyNumber}
-use Rattle.ends.specs.Replies.{isUp, refuseIf, Silence, silent}
+use Rattle.refusal.specs.Order.{refuseIf}
+use Rattle.ends.specs.Replies.{isUp, Silence, silent}
 use Rattle.ends.specs.Timers.{timerAdvanced}
 use Rattle.ends.specs.Keys.{keyIn, withKey}
 use Rattle.ends.specs.Messages.{clockKind, keyKind}

@@ -6,7 +6,8 @@ use Rattle.octets.specs.Choice.{both, pick}
 use Rattle.refusal.specs.declared.Refusal.the-variants.{NoKey, EpamDiffers, ClearEnvelope}
 use Rattle.refusal.specs.declared.Verdict.{Verdict}
 use Rattle.clock.specs.Ticks.{epamOf}
-use Rattle.ends.specs.Replies.{isUp, refuseIf}
+use Rattle.refusal.specs.Order.{refuseIf}
+use Rattle.ends.specs.Replies.{isUp}
 use Rattle.ends.specs.Timers.{timerFallen}
 use Rattle.ends.specs.Keys.{onlyKey, notedAt, firstSend}
 use Rattle.ends.specs.Occupancy.{occupied}

@@ -10,7 +10,7 @@ ghost use Rattle.refusal.specs.declared.Verdict.the-variants.{Accepted};
 ghost use Rattle.ends.specs.Identities.{among, distinct, has, llidsOf, meets};
 ghost use Rattle.ends.specs.Limits.{maxLlids, maxTableLlids, maxUnits};
 ghost use Rattle.ends.specs.Marks.{Marked, Names, byMark, markPlace, nextMark};
-ghost use Rattle.ends.specs.Replies.{refuseIf};
+ghost use Rattle.refusal.specs.Order.{refuseIf};
 ghost use Rattle.ends.specs.Timers.{validInterval, validTimer};
 ghost use Rattle.ends.specs.Table.{findFrom, firstPlace, foundBelow, foundNumber, tableLlids};
 ghost use Rattle.ends.specs.declared.Found.the-variants.{Nowhere};

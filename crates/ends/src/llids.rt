@@ -9,7 +9,7 @@ ghost use Rattle.ends.specs.Identities.{among, distinct, has, kept, llid
 use crate::Identity;
 use crate::MAX_LLIDS;
 
-pub const MAC_TURN: u64 = 0x1_0000_0000_0000;
+pub const MAC_TURN: u64 = octets::SIX_OCTETS;
 
 pub fn valid_mac(mac: u64) -> bool
     ensures { λ r. ⌜ r ≡ validMac mac ⌝ }

@@ -1,13 +1,14 @@
 -- Laws of acceptance: what an accepted call tells. Assumes nothing.
 use mathlib.Core.Path.{_≡_}
-use mathlib.Core.Bool.{true}
+use mathlib.Core.Bool.{true, not}
 use Prim.Native.Nat.{ℕ, _*_, _%_, _^_, _≤_, _<_}
 use native.Mathlib.Omega.{arith}
-use borrow.Author.Tests.{eqb-true, leb-true}
+use borrow.Author.Tests.{eqb-true, leb-true, not-false}
 use Rattle.octets.specs.Eqs.{maxEqs}
-use Rattle.octets.proofs.Choice.{both-left, both-right, pick-first}
+use Rattle.octets.proofs.Choice.{both-left, both-right}
 use Rattle.refusal.specs.declared.Refusal.the-variants.{OutOfRange, BadLength}
-use Rattle.refusal.specs.declared.Verdict.the-variants.{Accepted, Refused}
+use Rattle.refusal.specs.declared.Verdict.the-variants.{Accepted}
+use Rattle.refusal.proofs.Order.{refuse-accepted}
 use Rattle.envelope.specs.Acceptance.{lengthsFit, nonceFits, sealVerdict}
 use Rattle.envelope.specs.ControlMask.{maxBlocks, blocksOf}
 use Rattle.envelope.specs.declared.Nonce.{Nonce}
@@ -38,5 +39,5 @@ few-blocks n m e =
 pub accepted : (n m : ℕ) (nonce : Nonce) → sealVerdict n m nonce ≡ Accepted → (lengthsFit n m ≡ true) × (nonceFits nonce ≡ true)
 unfolding sealVerdict
 accepted n m nonce e =
-    let a = pick-first (lengthsFit n m) _ (Refused BadLength) Accepted (λ z. cc) e in
-    (a .0, pick-first (nonceFits nonce) Accepted (Refused OutOfRange) Accepted (λ z. cc) (a .1) .0)
+    let a = refuse-accepted (not (lengthsFit n m)) BadLength _ e in
+    (not-false _ (a .0), not-false _ (refuse-accepted (not (nonceFits nonce)) OutOfRange Accepted (a .1) .0))

@@ -1,3 +1,4 @@
 pub mod Acceptance
+pub mod Channels
 pub mod ControlMask
 pub mod CounterBlock

@@ -1,20 +1,21 @@
 // What sealing takes and answers that needs no cipher (01, Counter block and mask, When the reader says no: 14, 1): the counter
 // block, the control mask, the count, and the verdict on a call.
 ghost use mathlib.Core.Path.{_≡_};
-ghost use Rattle.envelope.specs.Acceptance.{channelFits, lengthsFit, nonceFits, sealVerdict};
+ghost use Rattle.envelope.specs.Acceptance.{lengthsFit, nonceFits, sealVerdict};
 ghost use Rattle.envelope.specs.Answer.{sealNumber, sealCount};
+ghost use Rattle.envelope.specs.Channels.{channelFits, downstream, upstream};
 ghost use Rattle.envelope.specs.ControlMask.{masked, countEnciphered};
 ghost use Rattle.envelope.specs.CounterBlock.{counterBlock};
 use octets::EQ_OCTETS;
+use octets::MAX_EQS;
+use octets::SIX_OCTETS;
 use octets::bit;
 use refusal::Refusal;
 use refusal::Verdict;
+use refusal::refuse_if;
 
-// The longest payload, 4,194,303 EQs of nine octets.
-const MAX_OCTETS: usize = 37_748_727;
-
-// A MAC and a cipher clock, of six octets each, are below this.
-const SIX_OCTETS: u64 = 0x1_0000_0000_0000;
+// The longest payload.
+const MAX_OCTETS: usize = EQ_OCTETS * MAX_EQS;
 
 // Channel index, sender's MAC and cipher clock at the header: what tells one envelope's counter blocks from another's.
 #[repr(C)]
@@ -77,11 +78,24 @@ pub fn count(payload: &[u8]) -> u64
     sum
 }
 
-// Whether a channel index is 00 or 01, or 80 or 81 hex.
+// Whether a channel index is 00 or 01 hex.
+pub fn downstream(channel: u8) -> bool
+    ensures { λ r. ⌜ r ≡ downstream channel ⌝ }
+{
+    channel <= 1
+}
+
+// Whether a channel index is 80 or 81 hex.
+pub fn upstream(channel: u8) -> bool
+    ensures { λ r. ⌜ r ≡ upstream channel ⌝ }
+{
+    (128 <= channel) & (channel <= 129)
+}
+
 pub fn channel_fits(channel: u8) -> bool
     ensures { λ r. ⌜ r ≡ channelFits channel ⌝ }
 {
-    (channel < 2) | ((128 <= channel) & (channel < 130))
+    downstream(channel) | upstream(channel)
 }
 
 pub fn nonce_fits(nonce: Nonce) -> bool
@@ -100,13 +114,11 @@ pub fn lengths_fit(n: usize, m: usize) -> bool
 pub fn seal_verdict(n: usize, m: usize, nonce: Nonce) -> Verdict
     ensures { λ r. ⌜ r ≡ sealVerdict n m nonce ⌝ }
 {
-    if lengths_fit(n, m) {
-        if nonce_fits(nonce) {
-            return Verdict::Accepted;
-        }
-        return Verdict::Refused(Refusal::OutOfRange);
-    }
-    Verdict::Refused(Refusal::BadLength)
+    refuse_if(
+        !lengths_fit(n, m),
+        Refusal::BadLength,
+        refuse_if(!nonce_fits(nonce), Refusal::OutOfRange, Verdict::Accepted),
+    )
 }
 
 // 0, or the refusal's number.

@@ -31,7 +31,8 @@ use Rattle.ends.specs.declared.Shared.{Shared}
 use Rattle.ends.specs.declared.Timer.{Timer}
 use Rattle.ends.specs.declared.UnitRecord.{UnitRecord}
 use Rattle.ends.specs.declared.UnitClock.{UnitClock}
-use Rattle.ends.proofs.Replies.{number-accepted, advance-accepted, advance-accepts}
+use Rattle.refusal.proofs.Numbers.{number-accepted}
+use Rattle.ends.proofs.Replies.{advance-accepted, advance-accepts}
 use Rattle.ends.proofs.Validity.{olt-in-range}
 use Rattle.ends.proofs.OltCalls.{advance-olt-refused}
 use Rattle.ends.proofs.OnuCalls.{onu-accepted, onu-accepts, advance-onu-refused}

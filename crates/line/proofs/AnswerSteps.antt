@@ -19,7 +19,7 @@ use Rattle.ends.specs.declared.Acknowledgement.{Acknowledgement}
 use Rattle.ends.specs.declared.Onu.{Onu}
 use Rattle.ends.specs.declared.Shared.{Shared}
 use Rattle.ends.specs.declared.UnitRecord.{UnitRecord}
-use Rattle.ends.proofs.Replies.{refused-accepts}
+use Rattle.refusal.proofs.Order.{refused-accepts}
 use Rattle.ends.proofs.UnitCalls.{key-acknowledged-accepted, key-kind, clock-kind, no-kind}
 use Rattle.line.specs.Setting.{Setting}
 use Rattle.line.specs.History.{Answered, Lane, due, laneWith, laneAcknowledged}

@@ -18,7 +18,7 @@ use Rattle.ends.specs.Identities.{validMac, validIdentity}
 use Rattle.ends.specs.declared.Onu.{Onu}
 use Rattle.ends.specs.declared.Shared.{Shared}
 use Rattle.ends.specs.declared.UnitRecord.{UnitRecord}
-use Rattle.ends.proofs.Occupancy.{downstream-below, upstream-between}
+use Rattle.envelope.proofs.Channels.{downstream-below, upstream-between}
 use Rattle.ends.proofs.Validity.{shared-in-range, olt-in-range, onu-in-range}
 use Rattle.line.specs.Setting.{Site, Setting}
 use Rattle.line.specs.History.{Way, downward, upward, Envelope, Lane}

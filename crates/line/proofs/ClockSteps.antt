@@ -29,7 +29,7 @@ use Rattle.ends.specs.declared.OnuClock.{OnuClock}
 use Rattle.ends.specs.declared.Shared.{Shared}
 use Rattle.ends.specs.declared.UnitRecord.{UnitRecord}
 use Rattle.ends.specs.declared.UnitClock.{UnitClock}
-use Rattle.ends.proofs.Replies.{refuse-passed}
+use Rattle.refusal.proofs.Order.{refuse-passed}
 use Rattle.ends.proofs.UnitCalls.{ClockSends, clock-send-accepted}
 use Rattle.ends.proofs.OnuCalls.{onu-accepts, onu-keeps, onu-synced-valid}
 use Rattle.line.specs.Setting.{Site, Setting}

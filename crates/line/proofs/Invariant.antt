@@ -14,7 +14,8 @@ use Rattle.envelope.specs.Acceptance.{lengthsFit}
 use Rattle.ends.specs.Identities.{has}
 use Rattle.ends.specs.Keys.{keyIn}
 use Rattle.ends.specs.Messages.{keyKind}
-use Rattle.ends.specs.Occupancy.{freeFrom, downstream, upstream}
+use Rattle.envelope.specs.Channels.{downstream, upstream}
+use Rattle.ends.specs.Occupancy.{freeFrom}
 use Rattle.ends.specs.Table.{unitAt}
 use Rattle.ends.specs.Validity.{validOlt, validOnu}
 use Rattle.ends.specs.declared.Channels.{Channels}

@@ -28,7 +28,7 @@ use Rattle.ends.specs.declared.Slots.{Slots}
 use Rattle.ends.specs.declared.UnitRecord.{UnitRecord}
 use Rattle.ends.proofs.Keys.{key-stored, key-beside}
 use Rattle.ends.proofs.OnuCalls.{key-message-refused}
-use Rattle.ends.proofs.Replies.{number-accepted}
+use Rattle.refusal.proofs.Numbers.{number-accepted}
 use Rattle.ends.proofs.UnitCalls.{offer-accepted, retry-accepted}
 use Rattle.ends.proofs.KeyMessages.{TakesKey, key-message-met, key-message-taken, withHeld, taken-new, taken-other}
 use Rattle.line.specs.Setting.{Setting}

@@ -27,7 +27,8 @@ use Rattle.ends.specs.declared.Olt.{Olt}
 use Rattle.ends.specs.declared.Onu.{Onu}
 use Rattle.ends.specs.declared.Shared.{Shared}
 use Rattle.ends.specs.declared.UnitRecord.{UnitRecord}
-use Rattle.ends.proofs.Replies.{number-accepted, refused-accepts}
+use Rattle.refusal.proofs.Order.{refused-accepts}
+use Rattle.refusal.proofs.Numbers.{number-accepted}
 use Rattle.ends.proofs.Table.{find-at, with-unit, with-other, with-beside}
 use Rattle.ends.proofs.Validity.{olt-in-range}
 use Rattle.ends.proofs.Lift.{Lifted, Ends, accepted, refused, lift-ends}

@@ -21,7 +21,8 @@ use Rattle.ends.specs.OltCalls.{oltAnswer, clockSent, keySent, captureOf, clock
 use Rattle.ends.specs.OltTraffic.{sendingOlt, receivingOlt}
 use Rattle.ends.specs.declared.Acknowledgement.{Acknowledgement}
 use Rattle.ends.specs.declared.Header.{Header}
-use Rattle.ends.proofs.Replies.{number-refused, refuse-accepted}
+use Rattle.refusal.proofs.Order.{refuse-accepted}
+use Rattle.ends.proofs.Replies.{number-refused}
 use Rattle.ends.proofs.Table.{find-at}
 use Rattle.ends.proofs.Lift.{unit-at-valid}
 use Rattle.ends.proofs.UnitCalls.{acknowledged-channels}

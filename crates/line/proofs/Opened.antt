@@ -12,13 +12,15 @@ use Rattle.ends.specs.Headers.{validHeader, choiceNumber, choiceVerdict, choice
 use Rattle.ends.specs.Identities.{among, meets, distinct, llidsOf, has, kept, validMac, validIdentity}
 use Rattle.ends.specs.Keys.{keyIn, withKey, onlyKey, firstSend, aged, validFirst}
 use Rattle.ends.specs.Lift.{outcome, putBack, atUnit, after, lift}
-use Rattle.ends.specs.Occupancy.{downstream, upstream, onZero, freeFrom, taken, occupied, validChannels}
+use Rattle.envelope.specs.Channels.{downstream, upstream}
+use Rattle.ends.specs.Occupancy.{onZero, freeFrom, taken, occupied, validChannels}
 use Rattle.ends.specs.OltCalls.{oltAnswer, clockSent, keySent, freshOltOf, validRegistration, registerVerdict, registering, registerOf, sharedAdvanced, oltAdvanced, advancingOlt, advanceOltOf, captureOf, clockSendOf, offerOf, retryOf, acknowledgeOf}
 use Rattle.ends.specs.OltTraffic.{sendingOlt, receivingOlt}
 use Rattle.ends.specs.OnuCalls.{onuAnswer, onuAcknowledged, onuReply, freshOnuVerdict, freshOnuOf, onuClockAdvanced, onuAdvanced, advancingOnu, advanceOnuOf, clockMessageVerdict, clockFrom, onuSynced, clockMessageTo, clockMessageAt, newKey, heldKey, activeKey, keyMessageVerdict, keysTaken, keyMessageTo, keyMessageAt}
 use Rattle.ends.specs.OnuTraffic.{onuSendChoice, onuSendVerdict, onuNoted, onuAfterSend, sendingOnu, onuReceiveChoice, onuReceiveVerdict, onuMoved, onuAfterReceipt, receivingOnu}
 use Rattle.ends.specs.Records.{withKeys, withConfirmation, withClock, withTimer, withSlots, withFirst, freshUnit, noUnit, withChannels, newOlt, withOnuClock, withOnuKeys, withOnuFirst, withOnuChannels, newOnu}
-use Rattle.ends.specs.Replies.{refuseIf, reply, advanceVerdict}
+use Rattle.refusal.specs.Order.{refuseIf}
+use Rattle.ends.specs.Replies.{reply, advanceVerdict}
 use Rattle.ends.specs.Table.{tableLlids, findFrom, find, pastUnit, withUnit, withOneMore}
 use Rattle.ends.specs.Timers.{freshTimer, timerAdvanced, timerFallen, validInterval, validTimer}
 use Rattle.ends.specs.UnitCalls.{unitAdvanced, clockCaptured, captureUnit, clockSendVerdict, clockAfterSend, clockMessageOf, clockSendUnit, offerVerdict, keysOffered, unitOffered, keyMessageOf, offerUnit, retryVerdict, retryUnit, clockAcknowledgedUnit, keyAcknowledgedUnit, acknowledgeUnit}

@@ -10,9 +10,9 @@ use Rattle.refusal.specs.declared.Refusal.the-variants.{OutOfRange, BadLength}
 use Rattle.refusal.specs.declared.Verdict.the-variants.{Refused}
 use Rattle.ends.specs.Headers.{validHeader, envelopeHeader}
 use Rattle.ends.specs.Identities.{has}
-use Rattle.ends.specs.Occupancy.{downstream, upstream}
+use Rattle.envelope.specs.Channels.{downstream, upstream}
 use Rattle.ends.specs.OnuTraffic.{onuReceiveVerdict}
-use Rattle.ends.specs.Replies.{refuseIf}
+use Rattle.refusal.specs.Order.{refuseIf}
 use Rattle.ends.specs.Table.{unitAt}
 use Rattle.ends.specs.declared.Header.{Header}
 use Rattle.ends.specs.declared.Onu.{Onu}
@@ -20,7 +20,7 @@ use Rattle.ends.specs.declared.Shared.{Shared}
 use Rattle.ends.specs.declared.UnitRecord.{UnitRecord}
 use Rattle.ends.proofs.Headers.{header-valid}
 use Rattle.ends.proofs.OnuTraffic.{overheard-down, overheard-up}
-use Rattle.ends.proofs.Replies.{refuse-passed}
+use Rattle.refusal.proofs.Order.{refuse-passed}
 use Rattle.traffic.specs.Passages.{misfit}
 use Rattle.traffic.specs.Receipts.{onuNotReceived}
 use Rattle.traffic.proofs.Receipts.{onu-receive-refused}

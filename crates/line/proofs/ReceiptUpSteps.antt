@@ -10,7 +10,7 @@ use Rattle.clock.specs.Ticks.{clockTurn}
 use Rattle.ends.specs.Headers.{validHeader, envelopeHeader, keyFor, passageOf}
 use Rattle.ends.specs.Identities.{has}
 use Rattle.ends.specs.Lift.{outcome}
-use Rattle.ends.specs.Occupancy.{upstream}
+use Rattle.envelope.specs.Channels.{upstream}
 use Rattle.ends.specs.OltTraffic.{receivingOlt}
 use Rattle.ends.specs.Records.{withKeys, withConfirmation, withSlots}
 use Rattle.ends.specs.UnitTraffic.{unitReceiveChoice, receiveUnit}

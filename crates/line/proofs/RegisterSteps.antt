@@ -24,7 +24,9 @@ use Rattle.ends.specs.declared.Shared.{Shared}
 use Rattle.ends.specs.declared.Olt.{Olt}
 use Rattle.ends.specs.declared.UnitRecord.{UnitRecord}
 use Rattle.ends.proofs.Identities.{meets-apart, identity-valid, first-has, kept-has}
-use Rattle.ends.proofs.Replies.{number-accepted, refuse-accepted, reply-verdict, reply-accepted}
+use Rattle.refusal.proofs.Order.{refuse-accepted}
+use Rattle.refusal.proofs.Numbers.{number-accepted}
+use Rattle.ends.proofs.Replies.{reply-verdict, reply-accepted}
 use Rattle.ends.proofs.Table.{among-found, more-unit, more-other, more-places}
 use Rattle.ends.proofs.OltCalls.{register-refused}
 use Rattle.ends.proofs.Registration.{Registers, register-accepted, registered-valid}

@@ -12,7 +12,8 @@ use Rattle.envelope.specs.ControlMask.{eqsOf}
 use Rattle.envelope.specs.Acceptance.{lengthsFit}
 use Rattle.ends.specs.Headers.{keyFor, passageOf, sendingOf}
 use Rattle.ends.specs.Identities.{has}
-use Rattle.ends.specs.Occupancy.{downstream, upstream, freeFrom, occupied}
+use Rattle.envelope.specs.Channels.{downstream, upstream}
+use Rattle.ends.specs.Occupancy.{freeFrom, occupied}
 use Rattle.ends.specs.OltTraffic.{sendingOlt}
 use Rattle.ends.specs.Records.{withKeys, withChannels}
 use Rattle.ends.specs.UnitTraffic.{unitSendChoice, unitSendVerdict, keysAfterSend, sendUnit}
@@ -27,7 +28,7 @@ use Rattle.ends.specs.declared.UnitRecord.{UnitRecord}
 use Rattle.ends.specs.declared.UnitKeys.{UnitKeys}
 use Rattle.ends.proofs.Headers.{key-for}
 use Rattle.ends.proofs.Occupancy.{free-own, taken-false, free-later}
-use Rattle.ends.proofs.Replies.{refuse-accepted}
+use Rattle.refusal.proofs.Order.{refuse-accepted}
 use Rattle.traffic.specs.Passages.{misfit, outputAfter}
 use Rattle.traffic.specs.Sends.{oltSent, oltSendOf}
 use Rattle.line.specs.Setting.{Setting}

@@ -14,7 +14,8 @@ use Rattle.envelope.specs.ControlMask.{eqsOf}
 use Rattle.envelope.specs.Acceptance.{lengthsFit}
 use Rattle.ends.specs.Headers.{envelopeHeader, keyFor, passageOf, sendingOf, noSending}
 use Rattle.ends.specs.Identities.{has}
-use Rattle.ends.specs.Occupancy.{downstream, upstream, freeFrom, occupied}
+use Rattle.envelope.specs.Channels.{downstream, upstream}
+use Rattle.ends.specs.Occupancy.{freeFrom, occupied}
 use Rattle.ends.specs.OnuTraffic.{onuSendChoice, onuSendVerdict, onuAfterSend, sendingOnu}
 use Rattle.ends.specs.Records.{withOnuFirst, withOnuChannels}
 use Rattle.ends.specs.Validity.{validOnu}
@@ -31,7 +32,8 @@ use Rattle.ends.proofs.Occupancy.{free-own, taken-false, free-later}
 use Rattle.ends.proofs.OnuCalls.{onu-accepted, onu-accepts, onu-keeps}
 use Rattle.ends.proofs.OnuChoices.{onu-send-accepted}
 use Rattle.ends.proofs.OnuTraffic.{onu-sent-valid}
-use Rattle.ends.proofs.Replies.{number-accepted, refuse-accepted}
+use Rattle.refusal.proofs.Order.{refuse-accepted}
+use Rattle.refusal.proofs.Numbers.{number-accepted}
 use Rattle.ends.proofs.Validity.{onu-in-range}
 use Rattle.traffic.specs.Passages.{misfit, outputAfter}
 use Rattle.traffic.specs.Sends.{onuSent, onuSendOf}

@@ -19,7 +19,9 @@ use Rattle.ends.specs.declared.Identity.{Identity}
 use Rattle.ends.specs.declared.Olt.{Olt}
 use Rattle.ends.specs.declared.Onu.{Onu}
 use Rattle.ends.proofs.Identities.{identity-valid, kept-has}
-use Rattle.ends.proofs.Replies.{number-accepted, refuse-accepted, reply-verdict, reply-accepted}
+use Rattle.refusal.proofs.Order.{refuse-accepted}
+use Rattle.refusal.proofs.Numbers.{number-accepted}
+use Rattle.ends.proofs.Replies.{reply-verdict, reply-accepted}
 use Rattle.ends.proofs.OltCalls.{fresh-valid, fresh-places}
 use Rattle.ends.proofs.OnuCalls.{new-onu-valid}
 use Rattle.line.specs.Setting.{Site, Setting}

@@ -12,3 +12,7 @@ numberAt (suc k) s at = numberAt k s at * 256 + getD s (at + k) 0
 abbrev pub octetsOf : ℕ → ℕ → List ℕ
 octetsOf zero n = []
 octetsOf (suc k) n = n / 256 ^ k % 256 ∷ octetsOf k n
+
+-- numbers of six octets, as a MAC and a cipher clock are, are below this
+abbrev pub sixOctets : ℕ
+sixOctets = 2 ^ 48

@@ -1,4 +1,4 @@
-// Octets: the test of a bit, numbers in octets, the first octet highest, a copy, and how many an EQ has.
+// Octets: the test of a bit, numbers in octets, the first octet highest, a copy, EQs, and what six octets hold.
 ghost use mathlib.Core.Path.{_≡_};
 ghost use Prim.Native.Nat.{_<_};
 ghost use Rattle.octets.specs.Bits.{bitOf};
@@ -7,6 +7,12 @@ ghost use Rattle.octets.specs.Lists.{copied};
 
 // An EQ is a control octet, then eight data octets.
 pub const EQ_OCTETS: usize = 9;
+
+// The most EQs of a payload.
+pub const MAX_EQS: usize = 4_194_303;
+
+// A MAC and a cipher clock, of six octets each, are below this.
+pub const SIX_OCTETS: u64 = 0x1_0000_0000_0000;
 
 // Bit j of x, bit 0 the lowest: the one test of a bit, for control octets and header flags.
 pub fn bit(x: u8, j: u8) -> u8

@@ -9,7 +9,8 @@ use Rattle.refusal.specs.declared.Refusal.the-variants.{OutOfRange, UnknownLlid
 use Rattle.refusal.specs.declared.Verdict.{Verdict}
 use Rattle.refusal.specs.declared.Verdict.the-variants.{Accepted, Refused}
 use Rattle.ends.specs.Limits.{maxUnits}
-use Rattle.ends.specs.Replies.{refuseIf, andThen, onValid, Reply, reply}
+use Rattle.refusal.specs.Order.{refuseIf, andThen}
+use Rattle.ends.specs.Replies.{onValid, Reply, reply}
 use Rattle.ends.specs.Table.{isRegistered, find, unitAt, withUnit}
 use Rattle.ends.specs.Validity.{validOlt}
 use Rattle.ends.specs.Lift.{Outcome, putBack, atUnit, after, lift}

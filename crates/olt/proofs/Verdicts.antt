@@ -6,7 +6,7 @@ use Rattle.ends.specs.Limits.{maxUnits}
 use Rattle.ends.specs.OltCalls.{registerOrder}
 use Rattle.ends.specs.declared.Identity.{Identity}
 use Rattle.ends.specs.declared.Olt.{Olt}
-use Rattle.ends.proofs.Replies.{refuse-accepted}
+use Rattle.refusal.proofs.Order.{refuse-accepted}
 use Rattle.ends.proofs.Registration.{register-accepted}
 
 -- a registration is accepted only where a place is left

@@ -6,7 +6,8 @@ use Rattle.refusal.specs.Number.{numberOf}
 use Rattle.refusal.specs.declared.Refusal.the-variants.{UnknownLlid}
 use Rattle.refusal.specs.declared.Verdict.{Verdict}
 use Rattle.refusal.specs.declared.Verdict.the-variants.{Accepted, Refused}
-use Rattle.ends.specs.Replies.{refuseIf, andThen, onValid}
+use Rattle.refusal.specs.Order.{refuseIf, andThen}
+use Rattle.ends.specs.Replies.{onValid}
 use Rattle.ends.specs.Table.{isRegistered, find}
 use Rattle.ends.specs.Validity.{validOlt}
 use Rattle.ends.specs.declared.Olt.{Olt}

@@ -1,10 +1,7 @@
 // New ends and new units (01, Clock; Keys).
 ghost use mathlib.Core.Path.{_≡_};
 ghost use Prim.Native.Nat.{_<_};
-ghost use Rattle.refusal.specs.declared.Refusal.the-variants.{OutOfRange, RepeatedLlid, TableFull};
-ghost use Rattle.refusal.specs.declared.Verdict.the-variants.{Accepted};
 ghost use Rattle.ends.specs.Limits.{maxUnits};
-ghost use Rattle.ends.specs.Replies.{refuseIf};
 ghost use Rattle.ends.specs.Records.{freshUnit, newOlt, noUnit};
 ghost use Rattle.ends.specs.Table.{withOneMore};
 ghost use Rattle.ends.specs.OltCalls.{registerOrder, validRegistration};
@@ -30,6 +27,7 @@ use ends::llids::kept_identity;
 use ends::llids::valid_identity;
 use refusal::Refusal;
 use refusal::Verdict;
+use refusal::refuse_if;
 
 // Numbers 0, flags down.
 pub(crate) fn fresh_unit(identity: Identity, trip: u64, interval: u64) -> UnitRecord
@@ -110,24 +108,6 @@ fn valid_registration(identity: Identity, trip: u64, interval: u64) -> bool
     who & ((trip <= MAX_ROUND_TRIP) & when)
 }
 
-fn first_of(invalid: bool, wrong: bool, repeated: bool, full: bool) -> Verdict
-    ensures { λ r. ⌜ r ≡ refuseIf invalid OutOfRange (refuseIf wrong OutOfRange (refuseIf repeated RepeatedLlid (refuseIf full TableFull Accepted))) ⌝ }
-{
-    if invalid {
-        return Verdict::Refused(Refusal::OutOfRange);
-    }
-    if wrong {
-        return Verdict::Refused(Refusal::OutOfRange);
-    }
-    if repeated {
-        return Verdict::Refused(Refusal::RepeatedLlid);
-    }
-    if full {
-        return Verdict::Refused(Refusal::TableFull);
-    }
-    Verdict::Accepted
-}
-
 // 1 for the end that is lent, then register's own 1, 3 and 4.
 pub(crate) fn register_verdict(olt: Olt, identity: Identity, trip: u64, interval: u64) -> Verdict
     ensures { λ r. ⌜ r ≡ registerOrder olt identity trip interval ⌝ }
@@ -137,7 +117,23 @@ pub(crate) fn register_verdict(olt: Olt, identity: Identity, trip: u64, interval
     let distinct = distinct_llids(identity);
     let units = olt.units;
     let met = meets_table(units, olt.count, identity);
-    first_of(!valid, !ranged, !distinct | met, MAX_UNITS <= olt.count)
+    refuse_if(
+        !valid,
+        Refusal::OutOfRange,
+        refuse_if(
+            !ranged,
+            Refusal::OutOfRange,
+            refuse_if(
+                !distinct | met,
+                Refusal::RepeatedLlid,
+                refuse_if(
+                    MAX_UNITS <= olt.count,
+                    Refusal::TableFull,
+                    Verdict::Accepted,
+                ),
+            ),
+        ),
+    )
 }
 
 // One unit more, in the first place that is not in use.

@@ -1,10 +1,9 @@
 // The calls of the ONU but send and receive, by value (01, Clock; Keys; 'When the reader says no').
 ghost use mathlib.Core.Path.{_≡_};
-ghost use Rattle.refusal.specs.declared.Refusal.the-variants.{UnknownLlid, ClockNotSet, NothingOutstanding};
 ghost use Rattle.refusal.specs.declared.Verdict.the-variants.{Accepted};
 ghost use Rattle.clock.specs.Ticks.{localOf};
 ghost use Rattle.clock.specs.Stamping.{raisedTo};
-ghost use Rattle.ends.specs.Replies.{refuseIf, onValid, advanceVerdict};
+ghost use Rattle.ends.specs.Replies.{onValid, advanceVerdict};
 ghost use Rattle.ends.specs.Records.{newOnu};
 ghost use Rattle.ends.specs.Validity.{validOnu};
 ghost use Rattle.ends.specs.OnuCalls.{freshOnuVerdict, freshOnuOf, onuClockAdvanced, onuAdvanced, advanceOnuOf, clockMessageVerdict, clockFrom, clockMessageAt, newKey, heldKey, activeKey, keyMessageVerdict, keysTaken, keyMessageAt};
@@ -26,18 +25,11 @@ use ends::OnuClock;
 use ends::OnuKeys;
 use ends::Slots;
 use ends::check_olt::MAX_KEY_NUMBER;
+use ends::check_onu::valid_onu;
+use ends::ticks::advance_verdict;
 use refusal::Refusal;
 use refusal::Verdict;
-
-// 1 for a lent end that is not valid, ahead of what the call refuses.
-fn judged(o: Onu, verdict: Verdict) -> Verdict
-    ensures { λ r. ⌜ r ≡ onValid (validOnu o) verdict ⌝ }
-{
-    if !ends::check_onu::valid_onu(o) {
-        return Verdict::Refused(Refusal::OutOfRange);
-    }
-    verdict
-}
+use refusal::refuse_if;
 
 fn new_onu(identity: Identity, oltmac: u64, time: u64) -> Onu
     ensures { λ r. ⌜ r ≡ newOnu identity oltmac time ⌝ }
@@ -70,13 +62,12 @@ fn fresh_verdict(identity: Identity, oltmac: u64, time: u64) -> Verdict
 {
     let named = ends::llids::valid_identity(identity);
     let ok = named & (ends::llids::valid_mac(oltmac) & (time < LOCAL_TURN));
-    if !ok {
-        return Verdict::Refused(Refusal::OutOfRange);
-    }
-    if !ends::llids::distinct_llids(identity) {
-        return Verdict::Refused(Refusal::RepeatedLlid);
-    }
-    Verdict::Accepted
+    let distinct = ends::llids::distinct_llids(identity);
+    refuse_if(
+        !ok,
+        Refusal::OutOfRange,
+        refuse_if(!distinct, Refusal::RepeatedLlid, Verdict::Accepted),
+    )
 }
 
 // A fresh ONU is given its MAC and LLIDs, the OLT's MAC and LocalTime. Refused: an end of zeros.
@@ -135,7 +126,11 @@ fn advanced(o: Onu, n: u64) -> Onu
 pub fn advance(o: Onu, n: u64) -> OnuAnswer
     ensures { λ r. ⌜ r ≡ advanceOnuOf o n ⌝ }
 {
-    let verdict = judged(o, ends::ticks::advance_verdict(o.tick, n));
+    let verdict = refuse_if(
+        !valid_onu(o),
+        Refusal::OutOfRange,
+        advance_verdict(o.tick, n),
+    );
     match verdict {
         Verdict::Accepted => {
             let onu = advanced(o, n);
@@ -148,14 +143,17 @@ pub fn advance(o: Onu, n: u64) -> OnuAnswer
     }
 }
 
-fn clock_message_verdict(s: Stamps) -> Verdict
-    ensures { λ r. ⌜ r ≡ clockMessageVerdict s ⌝ }
+// 1 for a lent end that is not valid, then for stamps past the clock's turn.
+fn clock_message_verdict(o: Onu, s: Stamps) -> Verdict
+    ensures { λ r. ⌜ r ≡ onValid (validOnu o) (clockMessageVerdict s) ⌝ }
 {
+    let valid = valid_onu(o);
     let ok = (s.rx < CLOCK_TURN) & (s.tx < CLOCK_TURN);
-    if !ok {
-        return Verdict::Refused(Refusal::OutOfRange);
-    }
-    Verdict::Accepted
+    refuse_if(
+        !valid,
+        Refusal::OutOfRange,
+        refuse_if(!ok, Refusal::OutOfRange, Verdict::Accepted),
+    )
 }
 
 // LocalTime is the low half of the one field that both share.
@@ -173,7 +171,7 @@ fn clock_from(time: u64, s: Stamps) -> OnuClock
 pub fn clock_message(o: Onu, message: Stamps) -> OnuAcknowledged
     ensures { λ r. ⌜ r ≡ clockMessageAt o message ⌝ }
 {
-    let verdict = judged(o, clock_message_verdict(message));
+    let verdict = clock_message_verdict(o, message);
     match verdict {
         Verdict::Accepted => {
             let clock = clock_from(o.clock.time, message);
@@ -225,29 +223,30 @@ fn active_key(keys: OnuKeys, message: KeyMessage) -> bool
     (1 <= keys.active) & ((message.number == keys.active) & same)
 }
 
-fn key_message_chain(unknown: bool, unsynced: bool, misfit: bool) -> Verdict
-    ensures { λ r. ⌜ r ≡ refuseIf unknown UnknownLlid (refuseIf unsynced ClockNotSet (refuseIf misfit NothingOutstanding Accepted)) ⌝ }
-{
-    if unknown {
-        return Verdict::Refused(Refusal::UnknownLlid);
-    }
-    if unsynced {
-        return Verdict::Refused(Refusal::ClockNotSet);
-    }
-    if misfit {
-        return Verdict::Refused(Refusal::NothingOutstanding);
-    }
-    Verdict::Accepted
-}
-
+// 1 for a lent end that is not valid, then 2, 5 and 8.
 fn key_message_verdict(o: Onu, message: KeyMessage) -> Verdict
-    ensures { λ r. ⌜ r ≡ keyMessageVerdict o message ⌝ }
+    ensures { λ r. ⌜ r ≡ onValid (validOnu o) (keyMessageVerdict o message) ⌝ }
 {
+    let valid = valid_onu(o);
     let known = ends::llids::has(o.identity, message.llid);
+    let unsynced = !(o.clock.synced == 1);
     let new = new_key(o.keys, message);
     let held = held_key(o.keys, message);
     let active = active_key(o.keys, message);
-    key_message_chain(!known, !(o.clock.synced == 1), !(new | (held | active)))
+    let misfit = !(new | (held | active));
+    refuse_if(
+        !valid,
+        Refusal::OutOfRange,
+        refuse_if(
+            !known,
+            Refusal::UnknownLlid,
+            refuse_if(
+                unsynced,
+                Refusal::ClockNotSet,
+                refuse_if(misfit, Refusal::NothingOutstanding, Verdict::Accepted),
+            ),
+        ),
+    )
 }
 
 // A new key is kept; anything else that is accepted changes nothing.
@@ -269,7 +268,7 @@ fn keys_taken(keys: OnuKeys, message: KeyMessage) -> OnuKeys
 pub fn key_message(o: Onu, message: KeyMessage) -> OnuAcknowledged
     ensures { λ r. ⌜ r ≡ keyMessageAt o message ⌝ }
 {
-    let verdict = judged(o, key_message_verdict(o, message));
+    let verdict = key_message_verdict(o, message);
     match verdict {
         Verdict::Accepted => {
             let keys = keys_taken(o.keys, message);

@@ -8,7 +8,7 @@ use Rattle.octets.specs.Choice.{both, either, pick}
 use Rattle.refusal.specs.declared.Refusal.the-variants.{OutOfRange, UnknownLlid, NoKey, EpamDiffers}
 use Rattle.refusal.specs.Number.{numberOf, pairNumber}
 use Rattle.clock.specs.Ticks.{epamOf}
-use Rattle.envelope.specs.Acceptance.{channelFits}
+use Rattle.envelope.specs.Channels.{channelFits}
 use Rattle.records.specs.declared.header.Header.{Header}
 use Rattle.records.specs.declared.header.RecordVerdict.{RecordVerdict}
 use Rattle.records.specs.declared.header.RecordVerdict.the-variants.{Clear, Sealed, Refused}

@@ -1,6 +1,7 @@
 // The refusals of 01, 'When the reader says no', in the order of its table, then those of 02, and the number of each.
 ghost use mathlib.Core.Path.{_≡_};
 ghost use Rattle.refusal.specs.Number.{numberOf, pairNumber, verdictNumber, verdictPair};
+ghost use Rattle.refusal.specs.Order.{refuseIf};
 
 pub enum Refusal {
     // 1: a value outside its range
@@ -125,4 +126,14 @@ pub fn verdict_pair(verdict: Verdict) -> u16
         Verdict::Accepted => 0,
         Verdict::Refused(refusal) => pair(refusal),
     }
+}
+
+// That refusal where its cause holds, else the rest of the order.
+pub fn refuse_if(cause: bool, refusal: Refusal, rest: Verdict) -> Verdict
+    ensures { λ r. ⌜ r ≡ refuseIf cause refusal rest ⌝ }
+{
+    if cause {
+        return Verdict::Refused(refusal);
+    }
+    rest
 }

@@ -7,13 +7,15 @@ use native.Mathlib.Omega.{arith}
 use lib.ListN.{length}
 use borrow.Author.Tests.{le-leb, lt-ltb, not-false}
 use Rattle.octets.specs.Eqs.{maxEqs}
-use Rattle.octets.proofs.Choice.{both-left, both-true, pick-true, either-left, either-right}
+use Rattle.octets.proofs.Choice.{both-left, both-true, either-left, either-right, not-of-true}
 use Rattle.octets.specs.Output.{WithOutput, withOutput}
 use Rattle.refusal.specs.declared.Verdict.{Verdict}
+use Rattle.refusal.specs.declared.Refusal.the-variants.{OutOfRange, BadLength}
 use Rattle.refusal.specs.declared.Verdict.the-variants.{Accepted}
+use Rattle.refusal.proofs.Order.{refuse-passed}
 use Rattle.clock.specs.Ticks.{clockTurn}
 use Rattle.envelope.specs.ControlMask.{eqsOf}
-use Rattle.envelope.specs.Acceptance.{channelFits, nonceFits, sealVerdict}
+use Rattle.envelope.specs.Acceptance.{nonceFits, sealVerdict}
 use Rattle.envelope.specs.Answer.{sealCount}
 use Rattle.envelope.specs.declared.Nonce.{Nonce}
 use Rattle.envelope.specs.declared.SealAnswer.{SealAnswer}
@@ -21,8 +23,7 @@ use Rattle.envelope.proofs.Acceptance.{lengths-fit}
 use Rattle.sealing.specs.Seal.{carried, countCarried, sealingAfter, sealing}
 use Rattle.ends.specs.Identities.{validMac, validIdentity}
 use Rattle.ends.specs.declared.Identity.{Identity}
-use Rattle.ends.specs.Occupancy.{downstream, upstream}
-use Rattle.ends.proofs.Occupancy.{downstream-below, upstream-between}
+use Rattle.envelope.specs.Channels.{channelFits, downstream, upstream}
 use Rattle.traffic.specs.Passages.{misfit}
 
 -- a payload whose length is not refused has at most the most EQs
@@ -36,21 +37,17 @@ identity-mac i e = both-left _ _ e
 
 pub judged : (p out : List ℕ) (n : Nonce) → misfit p out ≡ false → nonceFits n ≡ true → sealVerdict (length p) (length out) n ≡ Accepted
 unfolding misfit sealVerdict
-judged p out n f e = pick-true _ _ (not-false _ f) ∙ pick-true _ _ e
+judged p out n f e = refuse-passed _ BadLength _ f ∙ refuse-passed _ OutOfRange _ (not-of-true e)
 
 -- what the OLT sends, and a unit receives
 pub down-fits : (n : Nonce) → downstream (n .channel) ≡ true → validMac (n .mac) ≡ true → n .clock < clockTurn → nonceFits n ≡ true
 unfolding nonceFits channelFits validMac
-down-fits n d m c =
-    both-true (either-left _ (lt-ltb (n .channel) 2 (omega (arith, downstream-below (n .channel) d)))) (both-true m (lt-ltb (n .clock) (2 ^ 48) c))
+down-fits n d m c = both-true (either-left _ d) (both-true m (lt-ltb (n .clock) clockTurn c))
 
 -- what a unit sends, and the OLT receives
 pub up-fits : (n : Nonce) → upstream (n .channel) ≡ true → validMac (n .mac) ≡ true → n .clock < clockTurn → nonceFits n ≡ true
 unfolding nonceFits channelFits validMac
-up-fits n u m c =
-    let between = upstream-between (n .channel) u in
-    both-true (either-right _ (both-true (le-leb 128 (n .channel) (between .0)) (lt-ltb (n .channel) 130 (omega arith))))
-    (both-true m (lt-ltb (n .clock) (2 ^ 48) c))
+up-fits n u m c = both-true (either-right _ u) (both-true m (lt-ltb (n .clock) clockTurn c))
 
 -- accepted, sealing answers with the count and writes the payload sealed or opened
 pub sealing-carried : (enciphered : Bool) (w : List ℕ) (n : Nonce) (p out : List ℕ) (a : SealAnswer) (o : List ℕ)

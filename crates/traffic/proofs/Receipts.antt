@@ -17,7 +17,7 @@ use Rattle.envelope.specs.Acceptance.{sealVerdict}
 use Rattle.sealing.specs.Seal.{countCarried}
 use Rattle.ends.specs.Limits.{maxKeyNumber}
 use Rattle.ends.specs.Replies.{onValid, Reply, reply}
-use Rattle.ends.specs.Occupancy.{upstream}
+use Rattle.envelope.specs.Channels.{upstream}
 use Rattle.ends.specs.Table.{find, unitAt, withUnit}
 use Rattle.ends.specs.Validity.{validOlt, validOnu}
 use Rattle.ends.specs.Lift.{outcome, putBack}
@@ -32,7 +32,8 @@ use Rattle.ends.specs.declared.Header.{Header}
 use Rattle.ends.specs.declared.KeyChoice.the-variants.{Next}
 use Rattle.ends.specs.declared.Passage.{Passage}
 use Rattle.ends.specs.declared.Found.the-variants.{At}
-use Rattle.ends.proofs.Replies.{refuse-accepted, reply-accepted, reply-refused}
+use Rattle.refusal.proofs.Order.{refuse-accepted}
+use Rattle.ends.proofs.Replies.{reply-accepted, reply-refused}
 use Rattle.ends.proofs.Table.{find-at}
 use Rattle.ends.proofs.Validity.{olt-in-range, shared-in-range, unit-in-range, onu-in-range, onu-clock-in-range, onu-keys-in-range}
 use Rattle.ends.proofs.Lift.{lift-unit, unit-at-valid}

@@ -17,7 +17,8 @@ use Rattle.envelope.specs.ControlMask.{eqsOf}
 use Rattle.envelope.specs.Acceptance.{sealVerdict}
 use Rattle.sealing.specs.Seal.{countCarried}
 use Rattle.ends.specs.Replies.{onValid, Reply, reply}
-use Rattle.ends.specs.Occupancy.{downstream, occupied}
+use Rattle.envelope.specs.Channels.{downstream}
+use Rattle.ends.specs.Occupancy.{occupied}
 use Rattle.ends.specs.Records.{withKeys}
 use Rattle.ends.specs.Table.{unitAt, withUnit}
 use Rattle.ends.specs.Validity.{validOlt, validOnu}
@@ -30,7 +31,8 @@ use Rattle.ends.specs.OnuTraffic.{onuSendChoice, onuSendVerdict, onuAfterSend, 
 use Rattle.ends.specs.declared.Olt.{Olt}
 use Rattle.ends.specs.declared.Onu.{Onu}
 use Rattle.ends.specs.declared.Sending.{Sending}
-use Rattle.ends.proofs.Replies.{refuse-accepted, reply-accepted, reply-refused}
+use Rattle.refusal.proofs.Order.{refuse-accepted}
+use Rattle.ends.proofs.Replies.{reply-accepted, reply-refused}
 use Rattle.ends.proofs.Validity.{olt-in-range, shared-in-range, onu-in-range, onu-clock-in-range}
 use Rattle.ends.proofs.Lift.{lift-unit}
 use Rattle.ends.proofs.OltTraffic.{sendAhead, sending-valid, send-order}

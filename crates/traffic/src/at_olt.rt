@@ -13,9 +13,10 @@ ghost use Rattle.ends.specs.Lift.{putBack};
 ghost use Rattle.ends.specs.Limits.{maxUnits};
 ghost use Rattle.octets.specs.Eqs.{maxEqs};
 ghost use Rattle.octets.specs.Output.{withOutput};
-ghost use Rattle.ends.specs.Occupancy.{downstream, occupied, upstream};
+ghost use Rattle.envelope.specs.Channels.{downstream, upstream};
+ghost use Rattle.ends.specs.Occupancy.{occupied};
 ghost use Rattle.ends.specs.Records.{withKeys};
-ghost use Rattle.ends.specs.Replies.{refuseIf};
+ghost use Rattle.refusal.specs.Order.{refuseIf};
 ghost use Rattle.ends.specs.Table.{find, unitAt, withUnit};
 ghost use Rattle.ends.specs.UnitTraffic.{keysAfterSend, receiveUnit, sendUnit, unitSendChoice};
 ghost use Rattle.ends.specs.Validity.{validOlt};
@@ -30,29 +31,25 @@ use ends::Channels;
 use ends::Header;
 use ends::Olt;
 use ends::UnitRecord;
+use envelope::downstream;
+use envelope::upstream;
+use octets::EQ_OCTETS;
 use refusal::Refusal;
 use refusal::Verdict;
+use refusal::refuse_if;
 use unit::passing::valid_header;
 use unit::traffic;
-
-fn first_of(misfit: bool, wrong: bool) -> Verdict
-    ensures { λ r. ⌜ r ≡ refuseIf misfit BadLength (refuseIf wrong OutOfRange Accepted) ⌝ }
-{
-    if misfit {
-        return Verdict::Refused(Refusal::BadLength);
-    }
-    if wrong {
-        return Verdict::Refused(Refusal::OutOfRange);
-    }
-    Verdict::Accepted
-}
 
 // What a send refuses ahead of 2.
 pub(crate) fn send_ahead(n: usize, m: usize, channel: u8) -> Verdict
     ensures { λ r. ⌜ r ≡ refuseIf (not (lengthsFit n m)) BadLength (refuseIf (not (downstream channel)) OutOfRange Accepted) ⌝ }
 {
     let misfit = carrying::misfit(n, m);
-    first_of(misfit, !(channel <= 1))
+    refuse_if(
+        misfit,
+        Refusal::BadLength,
+        refuse_if(!downstream(channel), Refusal::OutOfRange, Verdict::Accepted),
+    )
 }
 
 // What a receipt refuses ahead of 2.
@@ -60,9 +57,12 @@ pub(crate) fn receive_ahead(n: usize, m: usize, header: Header) -> Verdict
     ensures { λ r. ⌜ r ≡ refuseIf (not (lengthsFit n m)) BadLength (refuseIf (not (both (upstream (header .channel)) (validHeader header))) OutOfRange Accepted) ⌝ }
 {
     let misfit = carrying::misfit(n, m);
-    let channel = header.channel;
-    let valid = valid_header(header);
-    first_of(misfit, !(((128 <= channel) & (channel <= 129)) & valid))
+    let right = upstream(header.channel) & valid_header(header);
+    refuse_if(
+        misfit,
+        Refusal::BadLength,
+        refuse_if(!right, Refusal::OutOfRange, Verdict::Accepted),
+    )
 }
 
 pub(crate) fn not_sent(olt: Olt, refusal: Refusal) -> OltSent
@@ -142,7 +142,7 @@ pub(crate) fn send_at(
 {
     let unit = unit_at(olt, i);
     let shared = olt.shared;
-    let next = after_send(olt, i, unit, channel, (payload.len() / 9) as u64);
+    let next = after_send(olt, i, unit, channel, (payload.len() / EQ_OCTETS) as u64);
     let verdict = traffic::send_verdict(shared, unit, channel);
     match verdict {
         Verdict::Refused(refusal) => not_sent(olt, refusal),

@@ -2,12 +2,11 @@
 ghost use mathlib.Core.Path.{_≡_};
 ghost use mathlib.Core.Bool.{true};
 ghost use Prim.Native.Nat.{ℕ, _≤_, _<_};
-ghost use Rattle.refusal.specs.declared.Refusal.the-variants.{BadLength, ClockNotSet, EpamDiffers, OutOfRange, UnknownLlid};
 ghost use Rattle.clock.specs.Ticks.{maxTick};
 ghost use Rattle.octets.specs.Eqs.{maxEqs};
 ghost use Rattle.ends.specs.Limits.{maxKeyNumber};
 ghost use Rattle.ends.specs.OnuTraffic.{onuMoved, onuReceiveChoice, onuReceiveVerdict, onuAfterReceipt, onuSendChoice, onuSendVerdict, onuAfterSend};
-ghost use Rattle.ends.specs.Replies.{onValid, refuseIf};
+ghost use Rattle.ends.specs.Replies.{onValid};
 ghost use Rattle.ends.specs.Validity.{validOnu, validOnuKeys};
 ghost use Rattle.ends.specs.declared.KeyChoice.the-variants.{Next};
 ghost use Rattle.traffic.specs.Receipts.{onuNotReceived};
@@ -24,8 +23,11 @@ use ends::OnuKeys;
 use ends::check_onu::valid_onu;
 use ends::keyslots::only_key;
 use ends::llids::has;
+use envelope::downstream;
+use envelope::upstream;
 use refusal::Refusal;
 use refusal::Verdict;
+use refusal::refuse_if;
 use unit::passing;
 
 pub(crate) fn not_sent(onu: Onu, refusal: Refusal) -> OnuSent
@@ -64,22 +66,6 @@ pub(crate) fn send_choice(keys: OnuKeys) -> KeyChoice
     KeyChoice::Current(keys.active)
 }
 
-// 14, 1 and 2, ahead of the rest.
-fn named(misfit: bool, wrong: bool, unknown: bool, rest: Verdict) -> Verdict
-    ensures { λ r. ⌜ r ≡ refuseIf misfit BadLength (refuseIf wrong OutOfRange (refuseIf unknown UnknownLlid rest)) ⌝ }
-{
-    if misfit {
-        return Verdict::Refused(Refusal::BadLength);
-    }
-    if wrong {
-        return Verdict::Refused(Refusal::OutOfRange);
-    }
-    if unknown {
-        return Verdict::Refused(Refusal::UnknownLlid);
-    }
-    rest
-}
-
 // 1 for a lent end that is not valid, then what the send refuses.
 pub(crate) fn send_verdict(onu: Onu, misfit: bool, llid: u16, channel: u8) -> Verdict
     ensures { λ r. ⌜ r ≡ onValid (validOnu onu) (onuSendVerdict onu misfit llid channel) ⌝ }
@@ -87,10 +73,19 @@ pub(crate) fn send_verdict(onu: Onu, misfit: bool, llid: u16, channel: u8) -> Ve
     if !valid_onu(onu) {
         return Verdict::Refused(Refusal::OutOfRange);
     }
+    let right = upstream(channel);
     let known = has(onu.identity, llid);
     let choice = send_choice(onu.keys);
     let rest = passing::channel_then_key(onu.channels, channel, choice, onu.first, onu.tick);
-    named(misfit, !((128 <= channel) & (channel <= 129)), !known, rest)
+    refuse_if(
+        misfit,
+        Refusal::BadLength,
+        refuse_if(
+            !right,
+            Refusal::OutOfRange,
+            refuse_if(!known, Refusal::UnknownLlid, rest),
+        ),
+    )
 }
 
 // The end that a send leaves, where it is accepted.
@@ -131,19 +126,6 @@ pub(crate) fn receive_choice(keys: OnuKeys, header: Header) -> KeyChoice
     KeyChoice::Barred(Refusal::NoKey)
 }
 
-// 10 and 5, ahead of the rest.
-fn timed(off: bool, unset: bool, rest: Verdict) -> Verdict
-    ensures { λ r. ⌜ r ≡ refuseIf off EpamDiffers (refuseIf unset ClockNotSet rest) ⌝ }
-{
-    if off {
-        return Verdict::Refused(Refusal::EpamDiffers);
-    }
-    if unset {
-        return Verdict::Refused(Refusal::ClockNotSet);
-    }
-    rest
-}
-
 // 1 for a lent end that is not valid, then what the receipt refuses.
 pub(crate) fn receive_verdict(onu: Onu, misfit: bool, header: Header) -> Verdict
     ensures { λ r. ⌜ r ≡ onValid (validOnu onu) (onuReceiveVerdict onu misfit header) ⌝ }
@@ -151,16 +133,30 @@ pub(crate) fn receive_verdict(onu: Onu, misfit: bool, header: Header) -> Verdict
     if !valid_onu(onu) {
         return Verdict::Refused(Refusal::OutOfRange);
     }
-    let valid = passing::valid_header(header);
+    let right = downstream(header.channel) & passing::valid_header(header);
     let known = has(onu.identity, header.llid);
     let epam = epam_of(onu.clock.rx);
     let synced = onu.clock.synced == 1;
-    let rest = timed(
-        synced & !(header.epam == epam),
-        (header.encenabled == 1) & !synced,
-        passing::choice_verdict(receive_choice(onu.keys, header)),
-    );
-    named(misfit, !((header.channel <= 1) & valid), !known, rest)
+    let late = synced & !(header.epam == epam);
+    let unset = (header.encenabled == 1) & !synced;
+    let rest = passing::choice_verdict(receive_choice(onu.keys, header));
+    refuse_if(
+        misfit,
+        Refusal::BadLength,
+        refuse_if(
+            !right,
+            Refusal::OutOfRange,
+            refuse_if(
+                !known,
+                Refusal::UnknownLlid,
+                refuse_if(
+                    late,
+                    Refusal::EpamDiffers,
+                    refuse_if(unset, Refusal::ClockNotSet, rest),
+                ),
+            ),
+        ),
+    )
 }
 
 // The key a + 1 comes into use: the old one is wiped, and the new one has had no send.

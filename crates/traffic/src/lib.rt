@@ -14,6 +14,7 @@ ghost use Rattle.traffic.specs.Sends.{oltSendOf, onuSendOf};
 use ends::Header;
 use ends::Olt;
 use ends::Onu;
+use octets::EQ_OCTETS;
 use olt::Located;
 use olt::place::locate;
 use refusal::Verdict;
@@ -81,7 +82,7 @@ pub fn onu_send(onu: Onu, llid: u16, channel: u8, payload: &[u8], output: &mut [
     match verdict {
         Verdict::Refused(refusal) => at_onu::not_sent(onu, refusal),
         Verdict::Accepted => {
-            let next = at_onu::after_send(onu, channel, (payload.len() / 9) as u64);
+            let next = at_onu::after_send(onu, channel, (payload.len() / EQ_OCTETS) as u64);
             let choice = at_onu::send_choice(onu.keys);
             let mac = onu.identity.mac;
             let time = onu.clock.time;

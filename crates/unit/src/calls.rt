@@ -1,12 +1,10 @@
 // The clock and key calls of the OLT on one unit (01, Clock; Keys).
 ghost use mathlib.Core.Path.{_≡_};
-ghost use Rattle.refusal.specs.declared.Refusal.the-variants.{AtEnd, ClockNotSet, OfferPending, SameKey};
-ghost use Rattle.refusal.specs.declared.Verdict.the-variants.{Accepted};
-ghost use Rattle.ends.specs.Replies.{refuseIf};
 ghost use Rattle.ends.specs.Records.{withClock};
 ghost use Rattle.ends.specs.UnitCalls.{acknowledgeUnit, clockCaptured, clockMessageOf, clockAfterSend, clockSendVerdict, keyMessageOf, offerVerdict, outstanding, retryVerdict};
 use crate::ticks::since;
 use clock::Stamps;
+use clock::TICKS_PER_SECOND;
 use ends::Acknowledgement;
 use ends::CLOCK_KIND;
 use ends::KEY_KIND;
@@ -20,8 +18,7 @@ use ends::keyslots::key_in;
 use ends::keyslots::same_key;
 use refusal::Refusal;
 use refusal::Verdict;
-
-const TICKS_PER_SECOND: u64 = 390_625_000;
+use refusal::refuse_if;
 
 pub fn captured(unit: UnitRecord, tick: u64) -> UnitRecord
     ensures { λ r. ⌜ r ≡ withClock unit (clockCaptured (unit .clock) tick) ⌝ }
@@ -35,13 +32,16 @@ pub fn captured(unit: UnitRecord, tick: u64) -> UnitRecord
 pub fn clock_send_verdict(clock: UnitClock, tick: u64) -> Verdict
     ensures { λ r. ⌜ r ≡ clockSendVerdict clock tick ⌝ }
 {
-    if clock.captured != 1 {
-        return Verdict::Refused(Refusal::NothingOutstanding);
-    }
-    if TICKS_PER_SECOND < since(clock.tick, tick) {
-        return Verdict::Refused(Refusal::CaptureTooOld);
-    }
-    Verdict::Accepted
+    let age = since(clock.tick, tick);
+    refuse_if(
+        !(clock.captured == 1),
+        Refusal::NothingOutstanding,
+        refuse_if(
+            TICKS_PER_SECOND < age,
+            Refusal::CaptureTooOld,
+            Verdict::Accepted,
+        ),
+    )
 }
 
 // The stamps of the capture's tick.
@@ -60,24 +60,6 @@ pub fn clock_sent(unit: UnitRecord) -> UnitRecord
     r
 }
 
-fn first_of(unset: bool, pending: bool, same: bool, ended: bool) -> Verdict
-    ensures { λ r. ⌜ r ≡ refuseIf unset ClockNotSet (refuseIf pending OfferPending (refuseIf same SameKey (refuseIf ended AtEnd Accepted))) ⌝ }
-{
-    if unset {
-        return Verdict::Refused(Refusal::ClockNotSet);
-    }
-    if pending {
-        return Verdict::Refused(Refusal::OfferPending);
-    }
-    if same {
-        return Verdict::Refused(Refusal::SameKey);
-    }
-    if ended {
-        return Verdict::Refused(Refusal::AtEnd);
-    }
-    Verdict::Accepted
-}
-
 pub fn offer_verdict(unit: UnitRecord, key: [u8; 16]) -> Verdict
     ensures { λ r. ⌜ r ≡ offerVerdict unit key ⌝ }
 {
@@ -86,11 +68,18 @@ pub fn offer_verdict(unit: UnitRecord, key: [u8; 16]) -> Verdict
     let held = key_in(keys.slots, active);
     let same = same_key(key, held);
     let pending = (active < keys.offered) | (unit.confirmation.confirmed < active);
-    first_of(
+    refuse_if(
         !(unit.clock.acknowledged == 1),
-        pending,
-        (1 <= active) & same,
-        MAX_KEY_NUMBER <= active,
+        Refusal::ClockNotSet,
+        refuse_if(
+            pending,
+            Refusal::OfferPending,
+            refuse_if(
+                (1 <= active) & same,
+                Refusal::SameKey,
+                refuse_if(MAX_KEY_NUMBER <= active, Refusal::AtEnd, Verdict::Accepted),
+            ),
+        ),
     )
 }
 
@@ -109,10 +98,11 @@ pub fn key_message(llid: u16, keys: UnitKeys) -> KeyMessage
 pub fn retry_verdict(keys: UnitKeys) -> Verdict
     ensures { λ r. ⌜ r ≡ retryVerdict keys ⌝ }
 {
-    if keys.offered == keys.active {
-        return Verdict::Refused(Refusal::NothingOutstanding);
-    }
-    Verdict::Accepted
+    refuse_if(
+        keys.offered == keys.active,
+        Refusal::NothingOutstanding,
+        Verdict::Accepted,
+    )
 }
 
 // Whether what is acknowledged is outstanding: a clock message that was sent, or key O, which is 1 or more.
@@ -139,10 +129,8 @@ pub fn acknowledge_verdict(
 ) -> Verdict
     ensures { λ r. ⌜ r ≡ acknowledgeUnit acknowledgement shared unit .verdict ⌝ }
 {
-    if is_outstanding(acknowledgement, unit) {
-        return Verdict::Accepted;
-    }
-    Verdict::Refused(Refusal::NothingOutstanding)
+    let outstanding = is_outstanding(acknowledgement, unit);
+    refuse_if(!outstanding, Refusal::NothingOutstanding, Verdict::Accepted)
 }
 
 pub fn acknowledged(

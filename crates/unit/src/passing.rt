@@ -5,6 +5,7 @@ ghost use Rattle.ends.specs.Keys.{aged, firstSend};
 ghost use Rattle.ends.specs.Occupancy.{taken};
 use crate::ticks::since;
 use clock::EPAM_TURN;
+use clock::KEY_LIFE;
 use clock::epam_of;
 use ends::Channels;
 use ends::FirstSend;
@@ -16,9 +17,7 @@ use ends::Slots;
 use ends::keyslots::key_in;
 use refusal::Refusal;
 use refusal::Verdict;
-
-// Sends under a key stop this many ticks after its first.
-const KEY_LIFE: u64 = 0x1_0000_0000_0000;
+use refusal::refuse_if;
 
 pub fn valid_header(header: Header) -> bool
     ensures { λ r. ⌜ r ≡ validHeader header ⌝ }
@@ -66,13 +65,11 @@ pub fn channel_then_key(
 {
     let busy = taken(channels, channel, tick);
     let old = choice_aged(choice, first, tick);
-    if busy {
-        return Verdict::Refused(Refusal::ChannelTaken);
-    }
-    if old {
-        return Verdict::Refused(Refusal::KeyTooOld);
-    }
-    Verdict::Accepted
+    refuse_if(
+        busy,
+        Refusal::ChannelTaken,
+        refuse_if(old, Refusal::KeyTooOld, Verdict::Accepted),
+    )
 }
 
 pub fn first_send(first: FirstSend, tick: u64) -> FirstSend

@@ -15,6 +15,7 @@ use ends::UnitRecord;
 use ends::keyslots::only_key;
 use refusal::Refusal;
 use refusal::Verdict;
+use refusal::refuse_if;
 
 // Whether the next accepted send switches.
 fn switches(unit: UnitRecord) -> bool
@@ -125,10 +126,11 @@ pub fn receive_verdict(shared: Shared, unit: UnitRecord, header: Header) -> Verd
     ensures { λ r. ⌜ r ≡ unitReceiveVerdict shared unit header ⌝ }
 {
     let epam = epam_of(shared.clock);
-    if header.epam != epam {
-        return Verdict::Refused(Refusal::EpamDiffers);
-    }
-    passing::choice_verdict(receive_choice(unit, header))
+    refuse_if(
+        !(header.epam == epam),
+        Refusal::EpamDiffers,
+        passing::choice_verdict(receive_choice(unit, header)),
+    )
 }
 
 // C becomes A, and the key before A is wiped.

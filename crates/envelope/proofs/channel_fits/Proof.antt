@@ -1,14 +1,14 @@
--- `envelope::channel_fits` meets its contract: it computes the tests of `channelFits`.
+-- `envelope::channel_fits` meets its contract: either direction's test.
 -- Assumes nothing.
-use mathlib.Core.Path.{refl}
-use Rattle.octets.specs.Choice.{both, either}
-use Rattle.envelope.specs.Acceptance.{channelFits}
+use borrow.Author.Needs.{needs}
+use Rattle.octets.specs.Choice.{either}
+use Rattle.envelope.specs.Channels.{channelFits}
 use Rattle.envelope.proofs.channel_fits.Statement.{statement}
 use Rattle.envelope.proofs.channel_fits.Tie as tie
 
 returns : tie.Need-returns
-unfolding channelFits both either
-returns c = refl
+unfolding channelFits either
+returns c = cc
 
 pub channel-fits-spec : {M : Type 1} → statement M
-channel-fits-spec = tie.close (tie.spec returns)
+channel-fits-spec = tie.close (tie.spec (λ c κs. search needs) (λ c κs. search needs) returns)

@@ -8,7 +8,8 @@ use borrow.Author.Needs.{needs}
 use borrow.Author.Tests.{not-true, not-false, lt-ltb, le-ltb}
 use Rattle.clock.specs.Ticks.{maxTick}
 use Rattle.ends.specs.OltCalls.{advanceOltOf, advancingOlt, oltAnswer}
-use Rattle.ends.specs.Replies.{refuseIf, reply, advanceVerdict}
+use Rattle.refusal.specs.Order.{refuseIf}
+use Rattle.ends.specs.Replies.{reply, advanceVerdict}
 use Rattle.ends.specs.Validity.{validOlt}
 use Rattle.olt.proofs.Advancing.{olt-tick}
 use Rattle.olt.proofs.advance.Statement.{statement}

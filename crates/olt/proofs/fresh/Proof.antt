@@ -4,7 +4,8 @@ use mathlib.Core.Path.{sym}
 use borrow.Author.Needs.{needs}
 use Rattle.octets.specs.Choice.{both}
 use Rattle.ends.specs.OltCalls.{freshOltOf, oltAnswer}
-use Rattle.ends.specs.Replies.{refuseIf, reply}
+use Rattle.refusal.specs.Order.{refuseIf}
+use Rattle.ends.specs.Replies.{reply}
 use Rattle.olt.proofs.fresh.Statement.{statement}
 use Rattle.olt.proofs.fresh.Tie as tie
 

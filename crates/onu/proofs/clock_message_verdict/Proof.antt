@@ -1,17 +1,13 @@
--- `clock_message_verdict` meets its contract: its test is that of the definition. Assumes nothing.
+-- `clock_message_verdict` meets its contract: its tests are those of the definition, in its order. Assumes nothing.
+use borrow.Author.Needs.{needs}
 use Rattle.octets.specs.Choice.{both}
-use Rattle.ends.specs.Replies.{refuseIf}
 use Rattle.ends.specs.OnuCalls.{clockMessageVerdict}
 use Rattle.onu.proofs.clock_message_verdict.Statement.{statement}
 use Rattle.onu.proofs.clock_message_verdict.Tie as tie
 
 returns : tie.Need-returns
-unfolding clockMessageVerdict both refuseIf
-returns c = rw (c .if1 .taken)
-
-returns-2 : tie.Need-returns-2
-unfolding clockMessageVerdict both refuseIf
-returns-2 c = rw (c .if1 .left)
+unfolding clockMessageVerdict both
+returns c = cc
 
 pub clock-message-verdict-spec : {M : Type 1} → statement M
-clock-message-verdict-spec = tie.close (tie.spec returns returns-2)
+clock-message-verdict-spec = tie.close (tie.spec (λ c κs. search needs) (λ c κs. search needs) (λ c κs. search needs) returns)

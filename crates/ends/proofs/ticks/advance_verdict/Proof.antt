@@ -3,7 +3,8 @@ use Prim.Native.Nat.{_+_, _≤_, _<_}
 use native.Mathlib.Omega.{arith}
 use borrow.Author.Tests.{lt-ltb, le-ltb}
 use Rattle.clock.specs.Ticks.{maxTick}
-use Rattle.ends.specs.Replies.{refuseIf, advanceVerdict}
+use Rattle.refusal.specs.Order.{refuseIf}
+use Rattle.ends.specs.Replies.{advanceVerdict}
 use Rattle.ends.proofs.ticks.advance_verdict.Statement.{statement}
 use Rattle.ends.proofs.ticks.advance_verdict.Tie as tie
 

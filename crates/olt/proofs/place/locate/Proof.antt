@@ -5,7 +5,7 @@ use mathlib.Core.Path.{_≡_, sym, ap, _∙_}
 use borrow.Author.Needs.{needs}
 use borrow.Author.Tests.{not-true, not-false}
 use Rattle.octets.specs.Choice.{pick}
-use Rattle.ends.specs.Replies.{refuseIf}
+use Rattle.refusal.specs.Order.{refuseIf}
 use Rattle.ends.specs.Table.{find}
 use Rattle.ends.specs.Validity.{judged, judgedOf, validOlt}
 use Rattle.ends.specs.declared.Found.{Found}

@@ -1,59 +1,48 @@
 -- `traffic::at_onu::receive_verdict` meets its contract: the causes are those of the definition, in its order.
 -- Assumes nothing.
 use mathlib.Core.Path.{sym, _∙_}
+use borrow.Author.Needs.{needs}
 use borrow.Author.Tests.{not-false}
 use Rattle.octets.specs.Choice.{both}
-use Rattle.ends.specs.Replies.{refuseIf}
-use Rattle.ends.specs.Occupancy.{downstream}
+use Rattle.refusal.specs.Order.{refuseIf}
 use Rattle.ends.specs.OnuTraffic.{onuReceiveVerdict}
 use Rattle.ends.proofs.Validity.{onu-in-range}
-use borrow.Author.Needs.{needs}
 use Rattle.traffic.proofs.at_onu.receive_verdict.Statement.{statement}
 use Rattle.traffic.proofs.at_onu.receive_verdict.Tie as tie
-
-valid-onu-requires : tie.Need-valid-onu-requires
-valid-onu-requires c κs = search needs
 
 returns : tie.Need-returns
 unfolding refuseIf
 returns c = rw (sym (c .before .valid-onu .ensures), c .if1 .taken)
 
-valid-header-requires : tie.Need-valid-header-requires
-valid-header-requires c κs = search needs
-
-has-requires : tie.Need-has-requires
-has-requires c κs = search needs
-
-epam-of-requires : tie.Need-epam-of-requires
-epam-of-requires c κs = search needs
-
 receive-choice-requires : tie.Need-receive-choice-requires
-receive-choice-requires c κs = onu-in-range _ (sym (c .before .before .before .before .before .before .before .valid-onu .ensures) ∙ not-false _ (c .before .before .before .before .before .before .if1 .left)) .keys
-
-choice-verdict-requires : tie.Need-choice-verdict-requires
-choice-verdict-requires c κs = search needs
-
-timed-requires : tie.Need-timed-requires
-timed-requires c κs = search needs
-
-named-requires : tie.Need-named-requires
-named-requires c κs = search needs
+receive-choice-requires c κs =
+    let valid = c .before .before .before .before .before .before .before in
+    onu-in-range _ (sym (valid .before .valid-onu .ensures) ∙ not-false _ (valid .if1 .left)) .keys
 
 returns-2 : tie.Need-returns-2
-unfolding refuseIf onuReceiveVerdict downstream both
-returns-2 c = rw (sym (c .before .before .before .before .before .before .before .before .before .before .before .before .valid-onu .ensures), c .before .before .before .before .before .before .before .before .before .before .before .if1 .left, c .named .ensures, c .before .before .timed .ensures, c .before .before .before .choice-verdict .ensures, c .before .before .before .before .receive-choice .ensures, c .before .before .before .before .before .before .before .before .epam-of .ensures, c .before .before .before .before .before .before .before .before .before .has .ensures, c .before .before .before .before .before .before .before .before .before .before .valid-header .ensures)
+unfolding refuseIf onuReceiveVerdict both
+returns-2 c =
+    let chosen = c .before .before .before .before .before in
+    let timed = chosen .before .before .before .before .before in
+    let named = timed .before in
+    let valid = named .before .before .before in
+    rw (
+      sym (valid .before .valid-onu .ensures),
+      valid .if1 .left,
+      c .refuse-if5 .ensures,
+      c .before .refuse-if4 .ensures,
+      c .before .before .refuse-if3 .ensures,
+      c .before .before .before .refuse-if2 .ensures,
+      c .before .before .before .before .refuse-if .ensures,
+      chosen .choice-verdict .ensures,
+      chosen .before .receive-choice .ensures,
+      timed .epam-of .ensures,
+      named .has .ensures,
+      named .before .valid-header .ensures,
+      named .before .before .downstream .ensures,
+    )
 
 pub receive-verdict-spec : {M : Type 1} → statement M
 receive-verdict-spec =
     tie.close
-    (tie.spec
-    valid-onu-requires
-    returns
-    valid-header-requires
-    has-requires
-    epam-of-requires
-    receive-choice-requires
-    choice-verdict-requires
-    timed-requires
-    named-requires
-    returns-2)
+    (tie.spec (λ c κs. search needs) returns (λ c κs. search needs) (λ c κs. search needs) (λ c κs. search needs) (λ c κs. search needs) receive-choice-requires (λ c κs. search needs) (λ c κs. search needs) (λ c κs. search needs) (λ c κs. search needs) (λ c κs. search needs) (λ c κs. search needs) returns-2)

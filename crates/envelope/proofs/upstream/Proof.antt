@@ -1,0 +1,14 @@
+-- `envelope::upstream` meets its contract: it computes the tests of its definition.
+-- Assumes nothing.
+use mathlib.Core.Path.{refl}
+use Rattle.octets.specs.Choice.{both}
+use Rattle.envelope.specs.Channels.{upstream}
+use Rattle.envelope.proofs.upstream.Statement.{statement}
+use Rattle.envelope.proofs.upstream.Tie as tie
+
+returns : tie.Need-returns
+unfolding upstream both
+returns c = refl
+
+pub upstream-spec : {M : Type 1} → statement M
+upstream-spec = tie.close (tie.spec returns)

@@ -149,6 +149,14 @@ def verdict_row(settings, block, k):
     show("capture_verdict", number, f" {pair} {enabled} {enckey} {clock:012x}")
 
 
+def verdicts_row(settings, block, output):
+    number, pair, pairs = reader.directory(block)
+    if len(output) != 256:
+        number, pair, pairs = 14, 0, []
+    numbers = bytes(reader.record_number(settings, block[offset : offset + length]) for offset, length in pairs)
+    show("capture_verdicts", number, f" {pair} {len(pairs)} {(numbers + output[len(numbers) :])[:4].hex()}")
+
+
 def payload_row(block, k):
     number, pair, octets = reader.payload(block, k)
     offset = 0 if number else reader.directory(block)[2][k - 1][0] + 16
@@ -169,11 +177,14 @@ def blocks():
     directory_row(reader.block(CLEAR, reader.captured(reader.quanta(1), eqs=2)))
     for k in (1, 2, 3):
         verdict_row(settings, good, k)
+    for output in (b"\xaa" * 256, b"\xaa" * 255):
+        verdicts_row(settings, good, output)
     for k in (1, 2, 3):
         payload_row(good, k)
     open_row(settings, good)
     broken = reader.block(CLEAR, ONE, pairs=[(18, 16), (35, 25)])
     verdict_row(settings, broken, 1)
+    verdicts_row(settings, broken, b"\xaa" * 256)
     payload_row(broken, 1)
     open_row(settings, broken)
     text = reader.listing(*reader.PAPER)

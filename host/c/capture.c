@@ -46,8 +46,14 @@ int main(void)
     printf("directory %u pair %u records %zu\n", directory.number, directory.pair, directory.records);
     jazmotip_block_answer open = jazmotip_capture_open(settings, settings_length, block, block_length, opened, block_length);
     printf("open %u pair %u count %" PRIu64 "\n", open.number, open.pair, open.count);
+    uint8_t numbers[JAZMOTIP_RECORDS];
+    jazmotip_block_directory judged =
+        jazmotip_capture_verdicts(settings, settings_length, block, block_length, numbers, sizeof numbers);
     for (size_t k = 1; k <= directory.records; k++) {
-        jazmotip_block_verdict verdict = jazmotip_capture_verdict(settings, settings_length, block, block_length, k);
+        /* Only of a record that opens are the key and the clock asked for. */
+        jazmotip_block_verdict verdict = {.number = judged.number ? judged.number : numbers[k - 1]};
+        if (verdict.number == JAZMOTIP_ACCEPTED)
+            verdict = jazmotip_capture_verdict(settings, settings_length, block, block_length, k);
         jazmotip_block_part part = jazmotip_capture_payload(block, block_length, k);
         printf("record %zu: %u key %u %u clock %" PRIu64 " payload %u %zu %zu", k, verdict.number, verdict.encenabled,
                verdict.enckey, verdict.clock, part.number, part.offset, part.length);

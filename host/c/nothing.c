@@ -50,6 +50,9 @@ static void blocks(void)
     printf("directory: %u pair %u\n", directory.number, directory.pair);
     printf("verdict: %u", jazmotip_capture_verdict(NULL, 0, NULL, 0, 1).number);
     printf(" %u\n", jazmotip_capture_verdict(settings, sizeof settings, NULL, 0, 1).number);
+    static uint8_t numbers[JAZMOTIP_RECORDS];
+    printf("verdicts: %u", jazmotip_capture_verdicts(settings, sizeof settings, NULL, 0, NULL, 0).number);
+    printf(" %u\n", jazmotip_capture_verdicts(settings, sizeof settings, NULL, 0, numbers, sizeof numbers).number);
     printf("payload: %u\n", jazmotip_capture_payload(NULL, 0, 1).number);
     printf("open: %u", jazmotip_capture_open(NULL, 0, NULL, 0, NULL, 0).number);
     printf(" %u", jazmotip_capture_open(settings, sizeof settings, NULL, 0, NULL, 0).number);

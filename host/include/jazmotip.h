@@ -399,7 +399,7 @@ uint64_t jazmotip_count(const uint8_t *payload, size_t payload_length);
  * order, 18 before 19 at each, so every pair before it is good and a block of those records alone is whole. */
 
 typedef struct jazmotip_block_directory {
-    uint8_t number; /* 0, 15, 18 or 19 */
+    uint8_t number;
     uint16_t pair;
     size_t records; /* how many, 0 if refused */
 } jazmotip_block_directory;
@@ -432,6 +432,12 @@ jazmotip_block_directory jazmotip_capture_directory(const uint8_t *block, size_t
  * 10, 9. */
 jazmotip_block_verdict jazmotip_capture_verdict(const uint8_t *settings, size_t settings_length, const uint8_t *block,
                                                 size_t block_length, size_t k);
+
+/* The verdicts on all records in one pass: output[k - 1] is the number that jazmotip_capture_verdict gives for record k. The output
+ * has JAZMOTIP_RECORDS octets, and those behind the records stay. Order: 14 for the output, 14 and 1 for the settings, 15, then 18
+ * and 19. */
+jazmotip_block_directory jazmotip_capture_verdicts(const uint8_t *settings, size_t settings_length, const uint8_t *block,
+                                                   size_t block_length, uint8_t *output, size_t output_length);
 
 /* Where the payload of record k lies, opened or not. Order: 15, 18 and 19, 1. Refused, offset and length are 0. */
 jazmotip_block_part jazmotip_capture_payload(const uint8_t *block, size_t block_length, size_t k);

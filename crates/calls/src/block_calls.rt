@@ -7,6 +7,7 @@ use jazmotip::blocks::jazmotip_capture_list;
 use jazmotip::blocks::jazmotip_capture_open;
 use jazmotip::blocks::jazmotip_capture_payload;
 use jazmotip::blocks::jazmotip_capture_verdict;
+use jazmotip::blocks::jazmotip_capture_verdicts;
 use libc::STDOUT_FILENO;
 
 fn directory(block: &[u8]) {
@@ -25,6 +26,16 @@ fn show_verdict(settings: &[u8], block: &[u8], k: usize) {
     show::octet(answer.enckey);
     show::hex(answer.clock, 12);
     show::end();
+}
+
+// The first four octets of what an output of the size holds then.
+fn verdicts(settings: &[u8], block: &[u8], size: usize) {
+    let mut output = [0xaau8; 256];
+    let answer = jazmotip_capture_verdicts(settings, block, &mut output[..size]);
+    show::begin(b"capture_verdicts", answer.number);
+    show::decimal(answer.pair as u64);
+    show::decimal(answer.records as u64);
+    show::octets(&output[..4]);
 }
 
 fn payload(block: &[u8], k: usize) {
@@ -72,6 +83,8 @@ fn records(settings: &[u8], block: &[u8]) {
     show_verdict(settings, block, 1);
     show_verdict(settings, block, 2);
     show_verdict(settings, block, 3);
+    verdicts(settings, block, 256);
+    verdicts(settings, block, 255);
     payload(block, 1);
     payload(block, 2);
     payload(block, 3);
@@ -89,6 +102,7 @@ fn broken_pair() {
     let settings = values::settings();
     let block = values::block(18, 16, 35, 1);
     show_verdict(&settings, &block, 1);
+    verdicts(&settings, &block, 256);
     payload(&block, 1);
     open(&settings, &block);
 }

@@ -16,7 +16,8 @@ use Rattle.capture.specs.declared.directory.Pair.{Pair}
 use Rattle.capture.specs.declared.directory.Pair.the-variants.{Fits, OffChain, OffLength}
 use Rattle.capture.specs.declared.directory.Directory.{Directory}
 use Rattle.capture.specs.declared.directory.Directory.the-variants.{Good, Bad}
-use Rattle.capture.specs.Directory.{recordsIn, recordOf, chained, pairOf, sizeFits, withPair, pairsFrom, directoryOf}
+use Rattle.records.specs.Block.{recordsIn, recordOf}
+use Rattle.capture.specs.Directory.{chained, pairOf, sizeFits, withPair, pairsFrom, directoryOf}
 use Rattle.capture.specs.Broken.{Keeps, OffChainAt, OffLengthAt, Judged}
 use Rattle.capture.proofs.Pairs.{is-fit}
 use Rattle.capture.proofs.Records.{good, all-fit}

@@ -5,3 +5,4 @@ pub mod Records
 pub mod Openings
 pub mod Reopening
 pub mod Lines
+pub mod Numbers

@@ -1,7 +1,7 @@
 -- Laws of opening: what the sealing call does for a record, and how the opened records make up the output.
 -- Assumes nothing.
 use mathlib.Core.Path.{_≡_, refl, sym, ap, _∙_}
-use mathlib.Core.Bool.{true}
+use mathlib.Core.Bool.{Bool, true, false, not}
 use mathlib.Core.List.{List, _++_, append-assoc, append-nil}
 use Prim.Native.Nat.{ℕ, zero, suc, _+_, _-_, _*_, _/_, _%_, _^_, _≤_, _<_}
 use native.Mathlib.Nat.{add-zero, zero-add, add-suc, suc-add}
@@ -16,13 +16,16 @@ use borrow.Author.Tests.{eq-eqb, eqb-true, le-leb, lt-ltb, not-false}
 use Rattle.octets.specs.Choice.{pick}
 use Rattle.octets.specs.Lists.{part, replaced, sum}
 use Rattle.octets.specs.Eqs.{maxEqs}
-use Rattle.octets.proofs.Lists.{sum-below, sum-suc, part-length, part-below}
-use Rattle.octets.proofs.Choice.{both-left, both-right, both-true, not-of-true}
+use Rattle.octets.specs.BigEndian.{sixOctets}
+use Rattle.octets.proofs.Bits.{bit-below}
+use Rattle.octets.proofs.Lists.{sum-below, sum-suc, part-length, part-below, drop-part}
+use Rattle.octets.proofs.Choice.{both-left, both-right, both-true, not-of-true, pick-first}
 use Rattle.octets.specs.Output.{WithOutput, withOutput}
 use Rattle.refusal.specs.declared.Refusal.{Refusal}
 use Rattle.refusal.specs.declared.Refusal.the-variants.{OutOfRange, BadLength}
 use Rattle.refusal.specs.declared.Verdict.{Verdict}
 use Rattle.refusal.specs.declared.Verdict.the-variants.{Accepted}
+use Rattle.refusal.specs.Order.{refuseIf, andThen}
 use Rattle.refusal.proofs.Order.{refuse-accepted, refuse-passed, then-accepted}
 use Rattle.envelope.specs.Acceptance.{lengthsFit, nonceFits, sealVerdict}
 use Rattle.envelope.specs.Answer.{sealCount}
@@ -43,15 +46,18 @@ use Rattle.capture.specs.declared.directory.Directory.the-variants.{Good
 use Rattle.capture.specs.declared.opening.Keys.{Keys}
 use Rattle.capture.specs.declared.opening.OpenAnswer.{OpenAnswer}
 use Rattle.capture.specs.declared.opening.OpenAnswer.the-variants.{Denied}
-use Rattle.records.specs.Settings.{settingsOctets, presenceOf, keyPresent, keyOf, macOf, settingsVerdict}
-use Rattle.records.specs.Record.{recordHeader, payloadOf}
-use Rattle.capture.specs.Directory.{recordsIn, offsetOf, lengthOf, endOf, dueOf, recordOf, verdictOn, directoryOf}
+use Rattle.records.specs.Settings.{settingsOctets, presenceOf, keyPresent, keyOf, macOf, llidOf, settingsVerdict}
+use Rattle.records.specs.Record.{recordHeader, recordOctets, payloadOf}
+use Rattle.records.specs.Block.{recordsIn, offsetOf, lengthOf, endOf, dueOf, recordOf, headerFrom, recordFrom}
+use Rattle.capture.specs.Directory.{verdictOn, directoryOf}
 use Rattle.capture.specs.Opening.{recordNonce, writtenAs, countAs, openedRecord, recordCount, openedFrom, openedBlock, blockCount, openVerdict, openingAfter, opening}
-use Rattle.records.specs.Verdict.{clearedFlags, headerFits, verdictOf}
-use Rattle.capture.specs.Duties.{Placed, Expanded}
-use Rattle.records.proofs.Verdicts.{settings-octets}
+use Rattle.records.specs.Verdict.{clearedFlags, headerFits, verdictFor, verdictOf}
+use Rattle.capture.specs.Verdict.{afterSettings, callDirectory}
+use Rattle.capture.specs.Duties.{Expanded, Opens, written}
+use Rattle.records.proofs.Verdicts.{settings-octets, openable}
+use Rattle.records.proofs.Headers.{header-taken}
 use Rattle.capture.proofs.Pairs.{pair-fits, due-next}
-use Rattle.capture.proofs.Records.{Records, good, placed, records-end}
+use Rattle.capture.proofs.Records.{Records, good, placed, At, at-due, records-end}
 
 -- a record's payload is accepted for opening
 seal-accepted : (n m : ℕ) (nonce : Nonce) → n % 9 ≡ 0 → n ≤ 65536 → m ≡ n → nonceFits nonce ≡ true → sealVerdict n m nonce ≡ Accepted
@@ -106,28 +112,34 @@ pub refused-record : (s r : List ℕ) (c : Refusal) → verdictOf s r ≡ Record
 unfolding openedRecord recordCount writtenAs countAs
 refused-record s r c e = (rw e, rw e)
 
-module _ (s b out : List ℕ) (i : ℕ) (same : drop (offsetOf b i) out ≡ drop (offsetOf b i) b) where
-  -- the output holds a record that is written as it is
-  pub record-kept : openedRecord s (recordOf b i) ≡ recordOf b i
-      → out ≡ take (offsetOf b i) out ++ (openedRecord s (recordOf b i) ++ drop (endOf b i) b)
-  unfolding recordOf endOf
-  record-kept e = rw e (kept-in-place b out (offsetOf b i) (lengthOf b i) same)
+module _ (s b out : List ℕ) (from : ℕ) (same : drop from out ≡ drop from b) where
+  -- an output that still is the block holds a record that is written as it is
+  pub clear-kept : out ≡ written s b out from Clear
+  unfolding writtenAs recordFrom
+  clear-kept = kept-in-place b out from (recordOctets (headerFrom b from .eqs)) same
 
-  -- the output holds an opened record once its flags are stored and its payload is replaced
-  pub record-opened : (j t : ℕ) → Placed b i → verdictOf s (recordOf b i) ≡ Sealed j t
-      → replaced (set out (offsetOf b i + 4) (clearedFlags (recordHeader (recordOf b i) .flags))) (offsetOf b i + 16)
-      (sealed (keyExpansion (keyOf s j)) (recordNonce s (recordHeader (recordOf b i)) t) (payloadOf (recordOf b i)))
-      ≡ take (offsetOf b i) out ++ (openedRecord s (recordOf b i) ++ drop (endOf b i) b)
-  unfolding openedRecord writtenAs payloadOf recordOf endOf
-  record-opened j t p e =
-      let o = offsetOf b i in
-      let l = lengthOf b i in
-      let q = drop 16 (part b o l) in
-      rw e (opened-in-place b out _ o l _ (omega (arith, p .size)) same (omega (arith, p .size, p .octets, length-drop 16 (part b o l), sealed-length (keyExpansion (keyOf s j)) (recordNonce s (recordHeader (part b o l)) t) q)))
+  pub refused-kept : (c : Refusal) → out ≡ written s b out from (RecordVerdict.Refused c)
+  unfolding writtenAs recordFrom
+  refused-kept c = kept-in-place b out from (recordOctets (headerFrom b from .eqs)) same
 
-pub opened-count : (s r : List ℕ) (j t : ℕ) → verdictOf s r ≡ Sealed j t → countEnciphered (payloadOf r) ≡ recordCount s r
-unfolding recordCount countAs
-opened-count s r j t e = rw e
+  -- and an opened record once its flags are stored and its payload is replaced
+  pub opened-by : (j t m f : ℕ) (h : Header) (w : List ℕ) (to : ℕ) → h ≡ headerFrom b from → to ≡ from + recordOctets (h .eqs)
+      → from + recordOctets (h .eqs) ≤ length b → f ≡ clearedFlags (h .flags) → m ≡ macOf s → w ≡ keyExpansion (keyOf s j)
+      → (countEnciphered (part b (from + 16) (to - (from + 16))) ≡ countAs (recordFrom b from) (Sealed j t))
+      × (replaced (set out (from + 4) f) (from + 16) (sealed w (record { channel = h .channel; mac = m; clock = t }) (part b (from + 16) (to - (from + 16))))
+      ≡ written s b out from (Sealed j t))
+  unfolding writtenAs countAs recordFrom headerFrom payloadOf
+  opened-by j t m f h w to eh et inside ef em ew =
+      let len = recordOctets (recordHeader (drop from b) .eqs) in
+      let end : to ≡ from + len = et ∙ ap (λ (q : Header). from + recordOctets (q .eqs)) eh in
+      let head : recordHeader (part b from len) ≡ recordHeader (drop from b) = header-taken len (drop from b) (omega arith) in
+      let rest : drop 16 (part b from len) ≡ part b (from + 16) (to - (from + 16)) = drop-part b from len 16 (omega arith) ∙ rw end in
+      let ys = sealed w (record { channel = h .channel; mac = m; clock = t }) (part b (from + 16) (to - (from + 16))) in
+      let size : length ys + 16 ≡ len =
+      omega (arith, end, ap (λ (q : Header). q .eqs) eh, sealed-length w (record { channel = h .channel; mac = m; clock = t }) (part b (from + 16) (to - (from + 16))), part-length b (from + 16) (to - (from + 16)) (omega arith)) in (
+        ap countEnciphered (sym rest),
+        opened-in-place b out ys from len f (omega arith) same size ∙ rw (rest, head, ef, em, ew, eh),
+      )
 
 -- the key chosen for an index is that of the settings, expanded
 pub key-expanded : (s : List ℕ) (keys : Keys) (j : ℕ) → Expanded s keys → keyPresent (presenceOf s) j ≡ true → j < 2
@@ -142,14 +154,28 @@ pub nonce-fits : (h : Header) (m t : ℕ) → headerFits h ≡ true → m < 2 ^ 
 unfolding nonceFits headerFits
 nonce-fits h m t f p q = both-true (both-left _ _ (both-right _ _ f)) (both-true (lt-ltb _ _ p) (lt-ltb _ _ q))
 
--- the same of what was read of a record: its header and flags, the MAC and the expanded key
-pub opened-by : (s b out : List ℕ) (i : ℕ) → drop (offsetOf b i) out ≡ drop (offsetOf b i) b → Placed b i
-    → (j t m f : ℕ) (h : Header) (w : List ℕ) → verdictOf s (recordOf b i) ≡ Sealed j t
-    → h ≡ recordHeader (recordOf b i) → f ≡ clearedFlags (h .flags) → m ≡ macOf s → w ≡ keyExpansion (keyOf s j)
-    → replaced (set out (offsetOf b i + 4) f) (offsetOf b i + 16)
-    (sealed w (record { channel = h .channel; mac = m; clock = t }) (payloadOf (recordOf b i)))
-    ≡ take (offsetOf b i) out ++ (openedRecord s (recordOf b i) ++ drop (endOf b i) b)
-opened-by s b out i same p j t m f h w v eh eg em ew = rw (eg, eh, em, ew) (record-opened s b out i same j t p v)
+-- what is counted at a place is the count of the record there
+pub counted-at : (s b : List ℕ) (i from : ℕ) (h : Header) → At b i from → h ≡ headerFrom b from
+    → countAs (recordFrom b from) (verdictFor s h) ≡ recordCount s (recordOf b i)
+unfolding recordCount
+counted-at s b i from h x e = rw (e, x .octets, x .header)
+
+-- and what is written there is by the verdict for the settings
+pub written-at : (s b out : List ℕ) (from due : ℕ) (h : Header) (v : RecordVerdict) → v ≡ verdictFor s h → h ≡ headerFrom b from → from ≡ due
+    → written s b out from v ≡ written s b out due (verdictFor s (headerFrom b due))
+written-at s b out from due h v ev eh ef = rw (ev, eh, ef)
+
+-- a record that the settings have opened can be
+pub verdict-opens : (s : List ℕ) (h : Header) → h .clock < sixOctets → (i t : ℕ) → verdictFor s h ≡ Sealed i t → Opens s h i t
+unfolding verdictFor
+verdict-opens s h c i t e =
+    let o = openable (presenceOf s) (llidOf s) (h .clock) h i t e in
+    record {
+      fits = o .fits;
+      present = o .present;
+      index = omega (arith, o .index, bit-below (h .flags) 1);
+      clock = omega (arith, o .clock);
+    }
 
 -- opening keeps a record's length
 written-length : (s r : List ℕ) (v : RecordVerdict) → 16 ≤ length r → length (writtenAs s r v) ≡ length r
@@ -208,20 +234,20 @@ none-opened s b h =
 module _ (s b out : List ℕ) (n i : ℕ) (r : Records b n) (h : i < n) (opened : out ≡ upTo s b i ++ drop (dueOf b i) b)
     (l : length (upTo s b i) ≡ dueOf b i) where
   -- from record i on the output is the block
-  pub still-block : drop (offsetOf b i) out ≡ drop (offsetOf b i) b
-  still-block = rw (pair-fits b i (r .fit i h) .place, opened) (drop-at (upTo s b i) (drop (dueOf b i) b) (dueOf b i) l)
+  pub still-block : drop (dueOf b i) out ≡ drop (dueOf b i) b
+  still-block = rw opened (drop-at (upTo s b i) (drop (dueOf b i) b) (dueOf b i) l)
 
   -- one turn of the loop over the records
-  pub one-opened : (next : List ℕ) → next ≡ take (offsetOf b i) out ++ (openedRecord s (recordOf b i) ++ drop (endOf b i) b)
+  pub one-opened : (next : List ℕ) → next ≡ written s b out (dueOf b i) (verdictFor s (headerFrom b (dueOf b i)))
       → (next ≡ upTo s b (i + 1) ++ drop (dueOf b (i + 1)) b) × (length (upTo s b (i + 1)) ≡ dueOf b (i + 1))
-  unfolding endOf
+  unfolding endOf openedRecord
   one-opened next e =
+      let x = at-due b n i (dueOf b i) r h refl in
       let w = pair-fits b i (r .fit i h) in
       let p = placed b n i r h in
-      let front : take (offsetOf b i) out ≡ upTo s b i =
-      rw (w .place, opened) (take-at (upTo s b i) (drop (dueOf b i) b) (dueOf b i) l) in
+      let front : take (dueOf b i) out ≡ upTo s b i = rw opened (take-at (upTo s b i) (drop (dueOf b i) b) (dueOf b i) l) in
       let size = opened-length s (recordOf b i) (omega (arith, p .octets, p .size)) in (
-        e ∙ rw (front, due-next b i, up-to-next s b i) (simp append-assoc),
+        e ∙ rw (front, x .next, x .octets, x .header, up-to-next s b i) (simp append-assoc),
         rw (up-to-next s b i, due-next b i, length-append, l, size, p .octets, w .place),
       )
 
@@ -252,6 +278,41 @@ callable s b m e =
       settings = settings-octets s (q .0);
       good = counted b (directoryOf b) refl (q .1);
     }
+
+-- what a call that goes on has found
+pub call-good : (suits : Bool) (s b : List ℕ) (n : ℕ) → callDirectory suits s b ≡ Good n
+    → (suits ≡ true) × (settingsVerdict s ≡ Accepted) × (directoryOf b ≡ Good n)
+unfolding callDirectory
+call-good suits s b n e =
+    let p = pick-first suits _ (Bad BadLength) (Good n) (λ z. cc) e in
+    let q = by-settings (settingsVerdict s) (directoryOf b) n (p .1) in
+    (p .0, q .0, q .1) where
+      by-settings : (v : Verdict) (d : Directory) (n : ℕ) → afterSettings v d ≡ Good n → (v ≡ Accepted) × (d ≡ Good n)
+      by-settings Accepted d n e = (refl, e)
+      by-settings (Verdict.Refused r) d n e = (cc, cc)
+
+found-by : (t : Bool) (v : Verdict) (d : Directory)
+    → refuseIf (not t) BadLength (andThen v (verdictOn d)) ≡ verdictOn (pick t (afterSettings v d) (Bad BadLength))
+unfolding refuseIf andThen pick
+found-by true Accepted d = refl
+found-by true (Verdict.Refused r) d = refl
+found-by false v d = refl
+
+-- the verdict on the opening call is that on what it finds
+open-found : (s b : List ℕ) (m : ℕ) → openVerdict s b m ≡ verdictOn (callDirectory (eqb m (length b)) s b)
+unfolding openVerdict callDirectory
+open-found s b m = found-by (eqb m (length b)) (settingsVerdict s) (directoryOf b)
+
+module _ (s b : List ℕ) (m : ℕ) where
+  pub found-bad : (r : Refusal) → callDirectory (eqb m (length b)) s b ≡ Bad r → openVerdict s b m ≡ Verdict.Refused r
+  found-bad r e = open-found s b m ∙ ap verdictOn e
+
+  pub found-good : (n : ℕ) → callDirectory (eqb m (length b)) s b ≡ Good n → openVerdict s b m ≡ Accepted
+  found-good n e = open-found s b m ∙ ap verdictOn e
+
+-- a listing has no output that could be of another length
+pub listing-found : (s b : List ℕ) → callDirectory (eqb (length b) (length b)) s b ≡ callDirectory true s b
+listing-found s b = rw (eq-eqb (length b) (length b) refl)
 
 module _ (s b out : List ℕ) where
   pub opening-refused : (r : Refusal) → openVerdict s b (length out) ≡ Verdict.Refused r → withOutput (Denied r) out ≡ opening s b out

@@ -13,7 +13,8 @@ use Rattle.octets.proofs.Choice.{both-left, both-right, pick-first}
 use Rattle.records.specs.Record.{sized}
 use Rattle.records.specs.Place.{endFits}
 use Rattle.records.proofs.Places.{end-within, end-at}
-use Rattle.capture.specs.Directory.{mostOctets, mostRecords, recordsIn, offsetOf, lengthOf, endOf, dueOf, recordOf, chained, pairOf, sizeFits, withPair, pairsFrom}
+use Rattle.records.specs.Block.{mostOctets, mostRecords, recordsIn, offsetOf, lengthOf, endOf, dueOf, recordOf}
+use Rattle.capture.specs.Directory.{chained, pairOf, sizeFits, withPair, pairsFrom}
 use Rattle.capture.specs.declared.directory.Pair.the-variants.{Fits, OffChain, OffLength}
 use Rattle.capture.specs.declared.directory.Directory.the-variants.{Good}
 

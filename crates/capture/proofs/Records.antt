@@ -1,12 +1,12 @@
 -- Laws of the records of a good directory: where they stand and how long they are. Assumes nothing.
-use mathlib.Core.Path.{_≡_, refl, sym, _∙_}
+use mathlib.Core.Path.{_≡_, refl, sym, ap, ap₂, _∙_}
 use mathlib.Core.Bool.{Bool, true, false}
 use mathlib.Core.List.{List, []}
 use Prim.Native.Nat.{ℕ, zero, suc, _+_, _-_, _≤_, _<_}
 use native.Mathlib.Nat.{add-zero, zero-add, add-suc, suc-add}
 use native.Mathlib.Omega.{arith}
 use lib.Dec.{leb}
-use lib.ListN.{length}
+use lib.ListN.{length, drop}
 use borrow.Author.Tests.{leb-true, leb-false, eqb-true}
 use Rattle.octets.specs.Choice.{both}
 use Rattle.octets.specs.Lists.{part}
@@ -16,8 +16,11 @@ use Rattle.refusal.specs.declared.Refusal.{Refusal}
 use Rattle.refusal.specs.declared.Refusal.the-variants.{OutOfRange, BadDirectory}
 use Rattle.refusal.specs.declared.Verdict.{Verdict}
 use Rattle.refusal.specs.declared.Verdict.the-variants.{Accepted, Refused}
-use Rattle.records.specs.Record.{payloadOf, sized}
-use Rattle.capture.specs.Directory.{recordsIn, offsetOf, lengthOf, endOf, dueOf, recordOf, pairOf, sizeFits, withPair, pairsFrom, directoryOf}
+use Rattle.records.specs.declared.header.Header.{Header}
+use Rattle.records.specs.Record.{recordOctets, recordHeader, payloadOf, sized}
+use Rattle.records.specs.Block.{mostRecords, recordsIn, offsetOf, lengthOf, endOf, dueOf, recordOf, headerFrom, recordFrom}
+use Rattle.records.proofs.Headers.{header-taken}
+use Rattle.capture.specs.Directory.{pairOf, sizeFits, withPair, pairsFrom, directoryOf}
 use Rattle.capture.specs.Duties.{Placed}
 use Rattle.capture.specs.Payload.{recordAsked, payloadVerdict, boundsOf, boundsAfter, payloadBounds, boundsOffset, boundsLength, unlessRefused, payloadPart}
 use Rattle.capture.specs.declared.directory.Pair.{Pair}
@@ -26,7 +29,7 @@ use Rattle.capture.specs.declared.directory.Directory.{Directory}
 use Rattle.capture.specs.declared.directory.Directory.the-variants.{Good, Bad}
 use Rattle.capture.specs.declared.payload.Bounds.{Bounds}
 use Rattle.capture.specs.declared.payload.Bounds.the-variants.{Within}
-use Rattle.capture.proofs.Pairs.{Sizes, size-fits, pair-fits}
+use Rattle.capture.proofs.Pairs.{Sizes, size-fits, pair-fits, due-next}
 
 -- what a good directory of n records says of its block
 pub record Records (b : List ℕ) (n : ℕ) : Type 0 where
@@ -80,10 +83,32 @@ placed b n i r h =
     record { pair = omega (arith, r .sizes .pairs, r .count); inside = w .inside; octets = l; size = sym l ∙ q }
 
 -- the payload of record i, as a part of the block
-pub payload-part : (b : List ℕ) (i : ℕ) → Placed b i
+payload-part : (b : List ℕ) (i : ℕ) → Placed b i
     → payloadOf (recordOf b i) ≡ part b (offsetOf b i + 16) (offsetOf b i + lengthOf b i - (offsetOf b i + 16))
 unfolding payloadOf recordOf
 payload-part b i p = drop-part b (offsetOf b i) (lengthOf b i) 16 (omega (arith, p .size))
+
+-- what is found by going from record to record: record i starts at `from`, and the next where it ends
+pub record At (b : List ℕ) (i from : ℕ) : Type 0 where
+  pub header : headerFrom b from ≡ recordHeader (recordOf b i)
+  pub octets : recordFrom b from ≡ recordOf b i
+  pub next : from + recordOctets (headerFrom b from .eqs) ≡ dueOf b (i + 1)
+  pub inside : from + recordOctets (headerFrom b from .eqs) ≤ length b
+
+pub at-due : (b : List ℕ) (n i from : ℕ) → Records b n → i < n → from ≡ dueOf b i → At b i from
+unfolding headerFrom recordFrom recordOf endOf
+at-due b n i from r h e =
+    let p = placed b n i r h in
+    let start : from ≡ offsetOf b i = e ∙ sym (pair-fits b i (r .fit i h) .place) in
+    let head : recordHeader (drop from b) ≡ recordHeader (part b (offsetOf b i) (lengthOf b i)) =
+    ap (λ (x : ℕ). recordHeader (drop x b)) start ∙ sym (header-taken (lengthOf b i) (drop (offsetOf b i) b) (omega (arith, p .size))) in
+    let size : recordOctets (recordHeader (drop from b) .eqs) ≡ lengthOf b i = ap (λ (q : Header). recordOctets (q .eqs)) head ∙ sym (p .size) in
+    record {
+      header = head;
+      octets = ap₂ (λ (x l : ℕ). part b x l) start size;
+      next = ap₂ (λ (x l : ℕ). x + l) start size ∙ sym (due-next b i);
+      inside = omega (arith, start, size, p .inside);
+    }
 
 -- an accepted number is that of a record
 pub record Asked (b : List ℕ) (k : ℕ) : Type 0 where
@@ -104,6 +129,9 @@ by-directory b k (Bad r) q e = absurd (never r e)
 pub asked-for : (b : List ℕ) (k : ℕ) → payloadVerdict b k ≡ Accepted → Asked b k
 unfolding payloadVerdict
 asked-for b k e = by-directory b k (directoryOf b) refl e
+
+pub asked-few : {b : List ℕ} {k : ℕ} → Asked b k → k ≤ mostRecords
+asked-few a = omega (arith, a .last, a .records .count, a .records .sizes .few)
 
 -- where the payload of an accepted number lies
 pub record Bounded (b : List ℕ) (k from n : ℕ) : Type 0 where

@@ -20,7 +20,8 @@ use Rattle.records.specs.Record.{sized}
 use Rattle.records.specs.Place.{endFits}
 use Rattle.capture.specs.declared.directory.Pair.the-variants.{Fits}
 use Rattle.capture.specs.declared.directory.Directory.the-variants.{Good}
-use Rattle.capture.specs.Directory.{mostOctets, mostRecords, directoryOctets, recordsIn, offsetOf, lengthOf, endOf, dueOf, recordOf, chained, pairOf, sizeFits, directoryOf}
+use Rattle.records.specs.Block.{mostOctets, mostRecords, directoryOctets, recordsIn, offsetOf, lengthOf, endOf, dueOf, recordOf}
+use Rattle.capture.specs.Directory.{chained, pairOf, sizeFits, directoryOf}
 use Rattle.capture.specs.Broken.{Keeps, startOf, pairsRebuilt, recordsFrom, trimmed}
 use Rattle.capture.proofs.Pairs.{Sizes, size-fits, Within, pair-fits, is-fit}
 use Rattle.capture.proofs.Records.{all-fit}

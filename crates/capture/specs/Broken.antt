@@ -7,7 +7,8 @@ use Rattle.octets.specs.BigEndian.{octetsOf}
 use Rattle.refusal.specs.declared.Refusal.the-variants.{BadDirectory, BrokenChain, UnsuitedLength}
 use Rattle.records.specs.Record.{sized}
 use Rattle.capture.specs.declared.directory.Directory.the-variants.{Good, Bad}
-use Rattle.capture.specs.Directory.{countOctets, directoryOctets, recordsIn, lengthOf, recordOf, chained, sizeFits, directoryOf}
+use Rattle.records.specs.Block.{countOctets, directoryOctets, recordsIn, lengthOf, recordOf}
+use Rattle.capture.specs.Directory.{chained, sizeFits, directoryOf}
 
 -- the block is within its bounds, and its first m pairs keep both rules
 pub record Keeps (b : List ℕ) (m : ℕ) : Type 0 where

@@ -7,7 +7,7 @@ use Rattle.octets.specs.Lists.{part}
 use Rattle.octets.specs.Output.{withOutput}
 use Rattle.refusal.specs.declared.Verdict.the-variants.{Accepted}
 use Rattle.capture.specs.declared.opening.OpenAnswer.the-variants.{Done}
-use Rattle.capture.specs.Directory.{directoryOctets, recordsIn, offsetOf, lengthOf, recordOf}
+use Rattle.records.specs.Block.{directoryOctets, recordsIn, offsetOf, lengthOf, recordOf}
 use Rattle.capture.specs.Opening.{openedRecord, openedBlock, openVerdict, opening}
 
 pub record Opened (s b : List ℕ) : Type 0 where

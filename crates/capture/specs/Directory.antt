@@ -1,13 +1,10 @@
--- The directory of a capture block b (01, Capture block; 02, C-11). Pair i and record i have i others before them, so 01's pair
--- k and record k are pair and record k - 1 here. Assumes nothing.
+-- The verdict on the directory of a capture block b (01, Capture block; 02, C-11). Assumes nothing.
 use mathlib.Core.Bool.{Bool, not}
 use mathlib.Core.List.{List}
-use Prim.Native.Nat.{ℕ, zero, suc, _+_, _*_}
+use Prim.Native.Nat.{ℕ, zero, suc, _+_}
 use lib.Dec.{leb, eqb}
 use lib.ListN.{length}
-use Rattle.octets.specs.BigEndian.{numberAt}
 use Rattle.octets.specs.Choice.{both, either, pick}
-use Rattle.octets.specs.Lists.{part}
 use Rattle.refusal.specs.declared.Refusal.the-variants.{BadDirectory, BrokenChain, UnsuitedLength}
 use Rattle.refusal.specs.declared.Verdict.{Verdict}
 use Rattle.refusal.specs.declared.Verdict.the-variants.{Accepted, Refused}
@@ -17,45 +14,7 @@ use Rattle.capture.specs.declared.directory.Directory.{Directory}
 use Rattle.capture.specs.declared.directory.Directory.the-variants.{Good, Bad}
 use Rattle.records.specs.Record.{sized}
 use Rattle.records.specs.Place.{endFits}
-
--- the most octets of a block
-abbrev pub mostOctets : ℕ
-mostOctets = 65536
-
-abbrev pub mostRecords : ℕ
-mostRecords = 256
-
--- the count has two octets, and a pair eight: offset (4) and length (4)
-abbrev pub countOctets : ℕ
-countOctets = 2
-
-abbrev pub pairOctets : ℕ
-pairOctets = 8
-
--- the octets of the count and n pairs, behind which pair n begins
-abbrev pub directoryOctets : ℕ → ℕ
-directoryOctets n = countOctets + pairOctets * n
-
-unfoldable pub recordsIn : List ℕ → ℕ
-recordsIn b = numberAt countOctets b 0
-
-unfoldable pub offsetOf : List ℕ → ℕ → ℕ
-offsetOf b i = numberAt 4 b (directoryOctets i)
-
-unfoldable pub lengthOf : List ℕ → ℕ → ℕ
-lengthOf b i = numberAt 4 b (directoryOctets i + 4)
-
--- where record i ends
-unfoldable pub endOf : List ℕ → ℕ → ℕ
-endOf b i = offsetOf b i + lengthOf b i
-
--- where record i is to start: the first behind the directory, each next where the previous ends
-unfoldable pub dueOf : List ℕ → ℕ → ℕ
-dueOf b zero = directoryOctets (recordsIn b)
-dueOf b (suc i) = endOf b i
-
-unfoldable pub recordOf : List ℕ → ℕ → List ℕ
-recordOf b i = part b (offsetOf b i) (lengthOf b i)
+use Rattle.records.specs.Block.{mostOctets, mostRecords, countOctets, directoryOctets, recordsIn, offsetOf, endOf, dueOf, recordOf}
 
 -- pair i stands in the chain of offsets: it starts where the chain says, ends within the block, and at its end if it is the last
 unfoldable pub chained : List ℕ → ℕ → Bool

@@ -7,7 +7,7 @@ use Rattle.refusal.specs.declared.Verdict.the-variants.{Accepted, Refused}
 use Rattle.records.specs.Record.{recordHeader}
 use Rattle.records.specs.Verdict.{verdictOf}
 use Rattle.rows.specs.Text.{rowOf, refusedRow}
-use Rattle.capture.specs.Directory.{mostRecords, recordsIn, recordOf}
+use Rattle.records.specs.Block.{mostRecords, recordsIn, recordOf}
 use Rattle.capture.specs.Opening.{openVerdict}
 
 -- the row of record i

@@ -22,7 +22,8 @@ use Rattle.capture.specs.declared.opening.OpenAnswer.{OpenAnswer}
 use Rattle.capture.specs.declared.opening.OpenAnswer.the-variants.{Done, Denied}
 use Rattle.records.specs.Settings.{keyOf, macOf, settingsVerdict}
 use Rattle.records.specs.Record.{headerOctets, flagsAt, recordHeader, payloadOf}
-use Rattle.capture.specs.Directory.{directoryOctets, recordsIn, recordOf, verdictOn, directoryOf}
+use Rattle.records.specs.Block.{directoryOctets, recordsIn, recordOf}
+use Rattle.capture.specs.Directory.{verdictOn, directoryOf}
 use Rattle.records.specs.Verdict.{clearedFlags, verdictOf}
 
 -- what the counter blocks of a record with the header h are made of, at the clock t

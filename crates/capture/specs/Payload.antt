@@ -16,7 +16,8 @@ use Rattle.capture.specs.declared.directory.Directory.the-variants.{Good
 use Rattle.capture.specs.declared.payload.Bounds.{Bounds}
 use Rattle.capture.specs.declared.payload.Bounds.the-variants.{Within}
 use Rattle.records.specs.Record.{headerOctets, payloadOf}
-use Rattle.capture.specs.Directory.{offsetOf, lengthOf, recordOf, directoryOf}
+use Rattle.records.specs.Block.{offsetOf, lengthOf, recordOf}
+use Rattle.capture.specs.Directory.{directoryOf}
 
 -- 15, 18 or 19, then 1 for k outside 1 to n
 abbrev pub recordAsked : Directory → ℕ → Verdict

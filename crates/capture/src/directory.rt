@@ -1,29 +1,20 @@
-// The directory of a capture block: a count, and for each record a pair of its offset and its length.
+// The verdict on the directory of a capture block: a count, and for each record a pair of its offset and its length.
 ghost use mathlib.Core.Path.{_≡_};
-ghost use Prim.Native.Nat.{_+_, _*_, _^_, _≤_, _<_};
-ghost use lib.ListN.{length};
-ghost use Rattle.records.specs.Record.{sized};
-ghost use Rattle.capture.specs.Directory.{countOctets, directoryOctets, recordsIn, offsetOf, lengthOf, pairOf, sizeFits, directoryOf, verdictOn};
+ghost use Rattle.records.specs.Block.{recordsIn};
+ghost use Rattle.capture.specs.Directory.{pairOf, sizeFits, directoryOf, verdictOn};
 ghost use Rattle.capture.specs.Broken.{Judged};
 ghost use Rattle.capture.specs.Duties.{Due};
-use crate::fields::number16;
-use crate::fields::number32;
-use crate::header::EQS;
-use octets::EQ_OCTETS;
-use records::header::HEADER_OCTETS;
+use records::block::COUNT_OCTETS;
+use records::block::MOST_OCTETS;
+use records::block::MOST_RECORDS;
+use records::block::count;
+use records::block::directory_octets;
+use records::block::length_of;
+use records::block::offset;
+use records::header::is_sized;
 use records::place::ends_right;
 use refusal::Refusal;
 use refusal::Verdict;
-
-// The most octets of a block.
-const MOST_OCTETS: usize = 65536;
-
-const MOST_RECORDS: usize = 256;
-
-// The octets of the count, and of a pair.
-const COUNT_OCTETS: usize = 2;
-
-const PAIR_OCTETS: usize = 8;
 
 // What a pair is found to be.
 pub enum Pair {
@@ -37,50 +28,16 @@ pub enum Pair {
 // What a directory is found to be.
 pub enum Directory {
     // so many records
-    Good(usize),
+    Good(u16),
     // the refusal that it earns: 15 for its bounds, then 18 or 19 with the first pair that does not fit
     Bad(Refusal),
 }
 
-// Whether a record is as long as its EQs say.
-fn is_sized(r: &[u8]) -> bool
-    ensures { λ q. ⌜ q ≡ sized (now (r .entry)) ⌝ }
-{
-    if r.len() < HEADER_OCTETS {
-        return false;
-    }
-    r.len() == HEADER_OCTETS + EQ_OCTETS * number32(r, EQS) as usize
-}
-
-// The count of records, in the first two octets.
-pub(crate) fn count(block: &[u8]) -> usize
-    requires { ⌜ countOctets ≤ length (now block) ⌝ }
-    ensures { λ r. ⌜ (r ≡ recordsIn (now (block .entry))) × (r < 256 ^ countOctets) ⌝ }
-{
-    number16(block, 0) as usize
-}
-
-pub(crate) fn offset(block: &[u8], i: usize) -> usize
-    requires { ⌜ directoryOctets (i + 1) ≤ length (now block) ⌝ }
-    ensures { λ r. ⌜ (r ≡ offsetOf (now (block .entry)) i) × (r < 2 ^ 32) ⌝ }
-{
-    number32(block, COUNT_OCTETS + PAIR_OCTETS * i) as usize
-}
-
-pub(crate) fn length_of(block: &[u8], i: usize) -> usize
-    requires { ⌜ directoryOctets (i + 1) ≤ length (now block) ⌝ }
-    ensures { λ r. ⌜ (r ≡ lengthOf (now (block .entry)) i) × (r < 2 ^ 32) ⌝ }
-{
-    number32(block, COUNT_OCTETS + PAIR_OCTETS * i + 4) as usize
-}
-
-// The verdict on pair i of n, whose record is due at `due`.
-fn pair_of(block: &[u8], n: usize, i: usize, due: usize) -> Pair
-    requires { ⌜ Due (now block) n i due ⌝ }
+// The verdict on pair i of n, whose record is due at `due` and goes by the pair from `from` to `to`.
+fn pair_of(block: &[u8], n: u16, i: u16, due: usize, from: usize, to: usize) -> Pair
+    requires { ⌜ Due (now block) n i due from to ⌝ }
     ensures { λ r. ⌜ r ≡ pairOf (now (block .entry)) i ⌝ }
 {
-    let from = offset(block, i);
-    let to = from + length_of(block, i);
     if from != due {
         return Pair::OffChain;
     }
@@ -94,21 +51,15 @@ fn pair_of(block: &[u8], n: usize, i: usize, due: usize) -> Pair
     }
 }
 
-// Whether the block and its count are within their bounds, the pairs are all there, and an empty block is two octets.
-fn is_size_right(block: &[u8]) -> bool
+// Whether a block of n records and its count are within their bounds, the pairs are all there, and an empty block is two octets.
+fn is_size_right(block: &[u8], n: u16) -> bool
+    requires { ⌜ n ≡ recordsIn (now block) ⌝ }
     ensures { λ r. ⌜ r ≡ sizeFits (now (block .entry)) ⌝ }
 {
-    if block.len() < COUNT_OCTETS {
-        return false;
-    }
-    if MOST_OCTETS < block.len() {
-        return false;
-    }
-    let n = count(block);
-    if MOST_RECORDS < n {
-        return false;
-    }
-    (COUNT_OCTETS + PAIR_OCTETS * n <= block.len()) & ((n != 0) | (block.len() == COUNT_OCTETS))
+    let size = block.len();
+    let alone = (n != 0) | (size == COUNT_OCTETS);
+    ((COUNT_OCTETS <= size) & (size <= MOST_OCTETS))
+        & ((n <= MOST_RECORDS) & ((directory_octets(n) <= size) & alone))
 }
 
 // What the directory of a block is found to be: bounds first, then pair by pair, chain before length at each, in one pass.
@@ -116,19 +67,21 @@ pub fn check(block: &[u8]) -> Directory
     ensures { λ r. ⌜ r ≡ directoryOf (now (block .entry)) ⌝ }
     ensures { λ _. ⌜ Judged (now (block .entry)) ⌝ }
 {
-    if !is_size_right(block) {
+    let n = count(block);
+    if !is_size_right(block, n) {
         return Directory::Bad(Refusal::BadDirectory);
     }
-    let n = count(block);
-    let mut due = COUNT_OCTETS + PAIR_OCTETS * n;
+    let mut due = directory_octets(n);
     let mut i = 0;
     while i < n {
-        match pair_of(block, n, i, due) {
+        let from = offset(block, i) as usize;
+        let to = from + length_of(block, i) as usize;
+        match pair_of(block, n, i, due, from, to) {
             Pair::Fits => {}
-            Pair::OffChain => return Directory::Bad(Refusal::BrokenChain((i + 1) as u16)),
-            Pair::OffLength => return Directory::Bad(Refusal::UnsuitedLength((i + 1) as u16)),
+            Pair::OffChain => return Directory::Bad(Refusal::BrokenChain(i + 1)),
+            Pair::OffLength => return Directory::Bad(Refusal::UnsuitedLength(i + 1)),
         }
-        due += length_of(block, i);
+        due = to;
         i += 1;
     }
     Directory::Good(n)

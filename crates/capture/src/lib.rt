@@ -1,9 +1,6 @@
 // The capture reader (01, Capture block): the directory of a capture block, the payloads of its records, opening and listing it.
 pub mod directory;
-mod fields;
-mod header;
 pub mod listing;
 pub mod opening;
 pub mod payload;
-mod settings;
 pub mod verdict;

@@ -3,17 +3,18 @@ ghost use mathlib.Core.Path.{_≡_};
 ghost use mathlib.Core.List.{_++_};
 ghost use Prim.Native.Nat.{_+_, _≤_, _<_};
 ghost use lib.ListN.{length, take, drop};
-ghost use Rattle.rows.specs.Text.{textOf};
-ghost use Rattle.capture.specs.Listing.{lineOctets, bodyOctets, rowAt, rowsFrom, bodyOf, listingOf};
-ghost use Rattle.records.specs.Settings.{settingsOctets};
+ghost use Rattle.records.specs.Verdict.{verdictFor};
+ghost use Rattle.rows.specs.Text.{textOf, rowOf};
+ghost use Rattle.capture.specs.Listing.{lineOctets, bodyOctets, rowsFrom, bodyOf, listingOf};
 ghost use Rattle.capture.specs.declared.directory.Directory.the-variants.{Good};
-ghost use Rattle.capture.specs.Directory.{mostOctets, mostRecords, directoryOf};
-ghost use Rattle.capture.specs.Duties.{Placed};
-use crate::directory::count;
-use crate::opening::open_verdict;
-use crate::verdict::header_of;
-use crate::verdict::verdict_for;
-use refusal::Verdict;
+ghost use Rattle.capture.specs.Directory.{directoryOf};
+use crate::directory::Directory;
+use crate::verdict::call_directory;
+use records::block::directory_octets;
+use records::block::header_from;
+use records::header::Header;
+use records::header::record_octets;
+use records::header::verdict_for;
 use rows::Line;
 use rows::refused_row;
 use rows::row;
@@ -28,9 +29,7 @@ fn append(text: &mut [u8], at: usize, piece: &[u8]) -> usize
     ensures { λ r. ⌜ take r (now (text .exit)) ≡ take at (now (text .entry)) ++ now (piece .entry) ⌝ }
     ensures { λ r. ⌜ drop r (now (text .exit)) ≡ drop r (now (text .entry)) ⌝ }
 {
-    for j in 0..piece.len() {
-        text[at + j] = piece[j];
-    }
+    octets::copy(piece, &mut text[at..]);
     at + piece.len()
 }
 
@@ -45,22 +44,17 @@ fn put_line(text: &mut [u8], at: usize, line: Line) -> usize
     append(text, at, &octets[..used])
 }
 
-// The row of record i, which has i others before it.
-fn put_row(settings: &[u8], block: &[u8], text: &mut [u8], at: usize, i: usize) -> usize
-    requires { ⌜ length (now settings) ≡ settingsOctets ⌝ }
-    requires { ⌜ Placed (now block) i ⌝ }
-    requires { ⌜ (length (now block) ≤ mostOctets) × (i < mostRecords) ⌝ }
-    requires { ⌜ at + lineOctets ≤ length (now text) ⌝ }
+// The row of the record with number k and the header h, numbers of at most four digits.
+fn put_row(settings: &[u8], text: &mut [u8], at: usize, k: u64, h: Header) -> usize
+    requires { ⌜ (k < 10000) × (h .eqs < 10000) × (at + lineOctets ≤ length (now text)) ⌝ }
     ensures { λ r. ⌜ (at ≤ r) × (r ≤ at + lineOctets) ⌝ }
-    ensures { λ r. ⌜ take r (now (text .exit)) ≡ take at (now (text .entry)) ++ rowAt (now (settings .entry)) (now (block .entry)) i ⌝ }
+    ensures { λ r. ⌜ take r (now (text .exit)) ≡ take at (now (text .entry)) ++ rowOf k h (verdictFor (now (settings .entry)) h) ⌝ }
     ensures { λ r. ⌜ drop r (now (text .exit)) ≡ drop r (now (text .entry)) ⌝ }
 {
-    let h = header_of(block, i);
-    put_line(text, at, row(i as u64 + 1, h, verdict_for(settings, h)))
+    put_line(text, at, row(k, h, verdict_for(settings, h)))
 }
 
-fn put_rows(settings: &[u8], block: &[u8], text: &mut [u8], at: usize, n: usize) -> usize
-    requires { ⌜ length (now settings) ≡ settingsOctets ⌝ }
+fn put_rows(settings: &[u8], block: &[u8], text: &mut [u8], at: usize, n: u16) -> usize
     requires { ⌜ directoryOf (now block) ≡ Good n ⌝ }
     requires { ⌜ at + bodyOctets ≤ length (now text) ⌝ }
     ensures { λ r. ⌜ (at ≤ r) × (r ≤ at + bodyOctets) ⌝ }
@@ -68,9 +62,12 @@ fn put_rows(settings: &[u8], block: &[u8], text: &mut [u8], at: usize, n: usize)
     ensures { λ r. ⌜ drop r (now (text .exit)) ≡ drop r (now (text .entry)) ⌝ }
 {
     let mut end = at;
+    let mut from = directory_octets(n);
     let mut i = 0;
     while i < n {
-        end = put_row(settings, block, text, end, i);
+        let h = header_from(block, from);
+        end = put_row(settings, text, end, i as u64 + 1, h);
+        from += record_octets(h.eqs);
         i += 1;
     }
     end
@@ -83,9 +80,9 @@ fn put_body(settings: &[u8], block: &[u8], text: &mut [u8], at: usize) -> usize
     ensures { λ r. ⌜ take r (now (text .exit)) ≡ take at (now (text .entry)) ++ bodyOf (now (settings .entry)) (now (block .entry)) ⌝ }
     ensures { λ r. ⌜ drop r (now (text .exit)) ≡ drop r (now (text .entry)) ⌝ }
 {
-    match open_verdict(settings, block, block.len()) {
-        Verdict::Refused(refusal) => put_line(text, at, refused_row(refusal)),
-        Verdict::Accepted => put_rows(settings, block, text, at, count(block)),
+    match call_directory(true, settings, block) {
+        Directory::Bad(refusal) => put_line(text, at, refused_row(refusal)),
+        Directory::Good(n) => put_rows(settings, block, text, at, n),
     }
 }
 

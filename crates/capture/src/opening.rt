@@ -1,38 +1,39 @@
 // Opening a capture block into an output of the same length.
 ghost use mathlib.Core.Path.{_≡_};
 ghost use mathlib.Core.Bool.{true};
-ghost use Prim.Native.Nat.{_≤_, _<_};
-ghost use lib.ListN.{length};
+ghost use Prim.Native.Nat.{_+_, _-_, _<_};
+ghost use lib.ListN.{length, set};
 ghost use lib.Dec.{eqb};
 ghost use Rattle.octets.specs.Choice.{pick};
+ghost use Rattle.octets.specs.Lists.{part, replaced};
 ghost use Rattle.octets.specs.Output.{withOutput};
 ghost use Rattle.envelope.specs.ControlMask.{countEnciphered};
 ghost use Rattle.envelope.specs.Acceptance.{nonceFits};
 ghost use Rattle.sealing.specs.KeyExpansion.{keyExpansion};
-ghost use Rattle.records.specs.Record.{payloadOf};
-ghost use Rattle.records.specs.Settings.{settingsOctets, settingsKeys, presenceOf, keyPresent, keyOf};
-ghost use Rattle.capture.specs.Directory.{mostOctets, recordOf};
-ghost use Rattle.capture.specs.Opening.{recordCount, openedBlock, blockCount, openVerdict, opening, openNumber, openPair, openCount};
+ghost use Rattle.sealing.specs.Payload.{sealed};
+ghost use Rattle.records.specs.Record.{headerOctets, flagsAt};
+ghost use Rattle.records.specs.Settings.{settingsKeys, presenceOf, keyPresent, keyOf};
+ghost use Rattle.records.specs.Block.{recordFrom};
+ghost use Rattle.capture.specs.Opening.{countAs, openedBlock, blockCount, opening, openNumber, openPair, openCount};
 ghost use Rattle.capture.specs.Claims.{OpenedIfAccepted};
-ghost use Rattle.capture.specs.Duties.{Placed, Expanded, Ready, withPart, withRecord, Copied};
-use crate::directory::check;
-use crate::directory::count;
-use crate::directory::length_of;
-use crate::directory::offset;
-use crate::directory::verdict_on;
-use crate::header::FLAGS;
-use crate::settings::key;
-use crate::settings::mac;
-use crate::settings::presence;
-use crate::verdict::header_of;
-use crate::verdict::verdict_for;
+ghost use Rattle.capture.specs.Duties.{Span, Expanded, Ready, Settled, written, Copied};
+use crate::directory::Directory;
+use crate::verdict::call_directory;
 use envelope::Nonce;
 use envelope::seal_count;
+use records::block::directory_octets;
+use records::block::header_from;
+use records::header::FLAGS;
 use records::header::HEADER_OCTETS;
+use records::header::Header;
 use records::header::RecordVerdict;
 use records::header::cleared;
+use records::header::record_octets;
+use records::header::verdict_for;
+use records::settings::key;
+use records::settings::mac;
+use records::settings::presence;
 use refusal::Refusal;
-use refusal::Verdict;
 use sealing::aes128::RoundKeys;
 use sealing::counter_mode::seal_expanded;
 use sealing::key_expansion::expand_key;
@@ -49,23 +50,21 @@ struct Keys {
     pub second: RoundKeys,
 }
 
-// Opens the payload of record i into its place in the output, sets the flags there, and counts the octets.
+// Opens the payload of the record from `from` to `to` into its place in the output, sets the flags there, and counts the octets.
 fn open_part(
     keys: RoundKeys,
     nonce: Nonce,
     flags: u8,
     block: &[u8],
     output: &mut [u8],
-    i: usize,
+    from: usize,
+    to: usize,
 ) -> u64
-    requires { ⌜ Placed (now block) i ⌝ }
-    requires { ⌜ (length (now output) ≡ length (now block)) × (length (now block) ≤ mostOctets) ⌝ }
+    requires { ⌜ Span (now block) (now output) from to ⌝ }
     requires { ⌜ nonceFits nonce ≡ true ⌝ }
-    ensures { λ r. ⌜ r ≡ countEnciphered (payloadOf (recordOf (now (block .entry)) i)) ⌝ }
-    ensures { λ _. ⌜ now (output .exit) ≡ withPart (keys .octets) nonce flags (now (block .entry)) (now (output .entry)) i ⌝ }
+    ensures { λ r. ⌜ r ≡ countEnciphered (part (now (block .entry)) (from + headerOctets) (to - (from + headerOctets))) ⌝ }
+    ensures { λ _. ⌜ now (output .exit) ≡ replaced (set (now (output .entry)) (from + flagsAt) flags) (from + headerOctets) (sealed (keys .octets) nonce (part (now (block .entry)) (from + headerOctets) (to - (from + headerOctets)))) ⌝ }
 {
-    let from = offset(block, i);
-    let to = from + length_of(block, i);
     output[from + FLAGS] = flags;
     let start = from + HEADER_OCTETS;
     let input = &block[start..to];
@@ -79,14 +78,23 @@ fn key_for(keys: Keys, index: u8) -> RoundKeys
     if index == 0 { keys.first } else { keys.second }
 }
 
-// Opens record i, which has i others before it, and counts its octets; a clear or refused record stays as it is.
-fn open_record(settings: &[u8], keys: Keys, block: &[u8], output: &mut [u8], i: usize) -> u64
-    requires { ⌜ Ready (now settings) keys (now block) (now output) i ⌝ }
-    ensures { λ r. ⌜ r ≡ recordCount (now (settings .entry)) (recordOf (now (block .entry)) i) ⌝ }
-    ensures { λ _. ⌜ now (output .exit) ≡ withRecord (now (settings .entry)) (now (block .entry)) (now (output .entry)) i ⌝ }
+// Writes the record with the header h, which starts at `from`, as the verdict on it says, and counts the octets deciphered; a clear
+// or refused record stays as it is.
+fn open_as(
+    settings: &[u8],
+    keys: Keys,
+    block: &[u8],
+    output: &mut [u8],
+    from: usize,
+    h: Header,
+    verdict: RecordVerdict,
+) -> u64
+    requires { ⌜ Ready (now settings) keys (now block) (now output) from ⌝ }
+    requires { ⌜ Settled (now settings) (now block) from h verdict ⌝ }
+    ensures { λ r. ⌜ r ≡ countAs (recordFrom (now (block .entry)) from) verdict ⌝ }
+    ensures { λ _. ⌜ now (output .exit) ≡ written (now (settings .entry)) (now (block .entry)) (now (output .entry)) from verdict ⌝ }
 {
-    let h = header_of(block, i);
-    match verdict_for(settings, h) {
+    match verdict {
         RecordVerdict::Clear => 0,
         RecordVerdict::Refused(_) => 0,
         RecordVerdict::Sealed(index, clock) => {
@@ -95,22 +103,41 @@ fn open_record(settings: &[u8], keys: Keys, block: &[u8], output: &mut [u8], i: 
                 mac: mac(settings),
                 clock,
             };
-            let flags = cleared(h.flags);
-            open_part(key_for(keys, index), nonce, flags, block, output, i)
+            let to = from + record_octets(h.eqs);
+            open_part(
+                key_for(keys, index),
+                nonce,
+                cleared(h.flags),
+                block,
+                output,
+                from,
+                to,
+            )
         }
     }
 }
 
-// Opens the n records of an output that is a copy of the block, and counts their octets.
-fn open_records(settings: &[u8], keys: Keys, block: &[u8], output: &mut [u8], n: usize) -> u64
+// Opens the n records of an output that is a copy of the block, each where the one before it ends, and counts their octets.
+fn open_records(settings: &[u8], keys: Keys, block: &[u8], output: &mut [u8], n: u16) -> u64
     requires { ⌜ Copied (now settings) keys (now block) (now output) n ⌝ }
     ensures { λ r. ⌜ r ≡ blockCount (now (settings .entry)) (now (block .entry)) ⌝ }
     ensures { λ _. ⌜ now (output .exit) ≡ openedBlock (now (settings .entry)) (now (block .entry)) ⌝ }
 {
     let mut total: u64 = 0;
+    let mut from = directory_octets(n);
     let mut i = 0;
     while i < n {
-        total += open_record(settings, keys, block, output, i);
+        let h = header_from(block, from);
+        total += open_as(
+            settings,
+            keys,
+            block,
+            output,
+            from,
+            h,
+            verdict_for(settings, h),
+        );
+        from += record_octets(h.eqs);
         i += 1;
     }
     total
@@ -118,17 +145,15 @@ fn open_records(settings: &[u8], keys: Keys, block: &[u8], output: &mut [u8], n:
 
 // Key i of the settings, expanded where it is present.
 fn expand(settings: &[u8], i: u8) -> RoundKeys
-    requires { ⌜ (length (now settings) ≡ settingsOctets) × (i < settingsKeys) ⌝ }
     ensures { λ r. ⌜ (keyPresent (presenceOf (now (settings .entry))) i ≡ true → r .octets ≡ keyExpansion (keyOf (now (settings .entry)) i)) ⌝ }
 {
     if octets::bit(presence(settings), i) != 1 {
         return RoundKeys { octets: [0u8; 176] };
     }
-    expand_key(key(settings, i as usize))
+    expand_key(key(settings, i))
 }
 
 fn expand_keys(settings: &[u8]) -> Keys
-    requires { ⌜ length (now settings) ≡ settingsOctets ⌝ }
     ensures { λ r. ⌜ Expanded (now (settings .entry)) r ⌝ }
 {
     let first = expand(settings, 0);
@@ -136,29 +161,15 @@ fn expand_keys(settings: &[u8]) -> Keys
     Keys { first, second }
 }
 
-// The verdict on the call, for an output of `size` octets.
-pub(crate) fn open_verdict(settings: &[u8], block: &[u8], size: usize) -> Verdict
-    ensures { λ r. ⌜ r ≡ openVerdict (now (settings .entry)) (now (block .entry)) size ⌝ }
-{
-    if size != block.len() {
-        return Verdict::Refused(Refusal::BadLength);
-    }
-    match records::settings::settings_verdict(settings) {
-        Verdict::Refused(refusal) => Verdict::Refused(refusal),
-        Verdict::Accepted => verdict_on(check(block)),
-    }
-}
-
 // Opens a block into an output of its length. Each present key is expanded once.
 pub fn open(settings: &[u8], block: &[u8], output: &mut [u8]) -> OpenAnswer
     ensures { λ r. ⌜ withOutput r (now (output .exit)) ≡ opening (now (settings .entry)) (now (block .entry)) (now (output .entry)) ⌝ }
     ensures { λ _. ⌜ OpenedIfAccepted (now (settings .entry)) (now (block .entry)) (length (now (output .entry))) ⌝ }
 {
-    match open_verdict(settings, block, output.len()) {
-        Verdict::Refused(refusal) => OpenAnswer::Denied(refusal),
-        Verdict::Accepted => {
+    match call_directory(output.len() == block.len(), settings, block) {
+        Directory::Bad(refusal) => OpenAnswer::Denied(refusal),
+        Directory::Good(n) => {
             let keys = expand_keys(settings);
-            let n = count(block);
             octets::copy(block, output);
             OpenAnswer::Done(open_records(settings, keys, block, output, n))
         }

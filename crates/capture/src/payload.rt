@@ -3,8 +3,8 @@ ghost use mathlib.Core.Path.{_≡_};
 ghost use Rattle.capture.specs.Payload.{recordAsked, payloadVerdict, payloadBounds, boundsNumber, boundsPair, boundsOffset, boundsLength, PartOf, payloadPart};
 use crate::directory::Directory;
 use crate::directory::check;
-use crate::directory::length_of;
-use crate::directory::offset;
+use records::block::length_of;
+use records::block::offset;
 use records::header::HEADER_OCTETS;
 use refusal::Refusal;
 use refusal::Verdict;
@@ -22,7 +22,7 @@ fn asked(directory: Directory, k: usize) -> Verdict
 {
     match directory {
         Directory::Good(n) => {
-            if (1 <= k) & (k <= n) {
+            if (1 <= k) & (k <= n as usize) {
                 Verdict::Accepted
             } else {
                 Verdict::Refused(Refusal::OutOfRange)
@@ -45,10 +45,9 @@ pub fn locate(block: &[u8], k: usize) -> Bounds
 {
     match payload_verdict(block, k) {
         Verdict::Accepted => {
-            let i = k - 1;
-            let offset = offset(block, i);
-            let from = offset + HEADER_OCTETS;
-            let octets = length_of(block, i) - HEADER_OCTETS;
+            let i = (k - 1) as u16;
+            let from = offset(block, i) as usize + HEADER_OCTETS;
+            let octets = length_of(block, i) as usize - HEADER_OCTETS;
             Bounds::Within(from, octets)
         }
         Verdict::Refused(refusal) => Bounds::Refused(refusal),

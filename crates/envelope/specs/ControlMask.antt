@@ -26,6 +26,10 @@ blocksOf n = (n + 17) / 18
 abbrev pub controlOctet : List ℕ → ℕ → ℕ
 controlOctet p e = getD p (eqOctets * e) 0
 
+-- data octet j of EQ e
+abbrev pub dataOctet : List ℕ → ℕ → ℕ → ℕ
+dataOctet p e j = getD p (eqOctets * e + 1 + j) 0
+
 -- data octet x at place j under the control octet c and the cipher octet k: a control character, where bit j is set, passes
 unfoldable pub masked : ℕ → ℕ → ℕ → ℕ → ℕ
 masked c j k x = pick (eqb (bitOf c j) 1) x (bitXor x k)

@@ -4,12 +4,13 @@ ghost use mathlib.Core.Path.{_≡_};
 ghost use Rattle.envelope.specs.Acceptance.{lengthsFit, nonceFits, sealVerdict};
 ghost use Rattle.envelope.specs.Answer.{sealNumber, sealCount};
 ghost use Rattle.envelope.specs.Channels.{channelFits, downstream, upstream};
-ghost use Rattle.envelope.specs.ControlMask.{masked, countEnciphered};
+ghost use Rattle.envelope.specs.ControlMask.{controlOctet, dataOctet, masked, countEnciphered};
 ghost use Rattle.envelope.specs.CounterBlock.{counterBlock};
 use octets::EQ_OCTETS;
 use octets::MAX_EQS;
 use octets::SIX_OCTETS;
 use octets::bit;
+use octets::octet_at;
 use refusal::Refusal;
 use refusal::Verdict;
 use refusal::refuse_if;
@@ -56,6 +57,19 @@ pub fn counter_block(nonce: Nonce, index: u64) -> [u8; 16]
         k[1],
         k[2],
     ]
+}
+
+// The control octet of EQ e of a payload, and its data octet j: 0 where the payload has none.
+pub fn control_octet(payload: &[u8], e: u32) -> u8
+    ensures { λ r. ⌜ r ≡ controlOctet (now (payload .entry)) e ⌝ }
+{
+    octet_at(payload, EQ_OCTETS * e as usize)
+}
+
+pub fn data_octet(payload: &[u8], e: u32, j: u8) -> u8
+    ensures { λ r. ⌜ r ≡ dataOctet (now (payload .entry)) e j ⌝ }
+{
+    octet_at(payload, EQ_OCTETS * e as usize + 1 + j as usize)
 }
 
 // One data octet: no branch on its value or on the control octet's.

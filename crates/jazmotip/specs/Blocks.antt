@@ -20,6 +20,9 @@ abbrev pub blockDirectory : Directory → BlockDirectory
 blockDirectory (Good n) = record { number = 0; pair = 0; records = n }
 blockDirectory (Bad r) = record { number = numberOf r; pair = pairNumber r; records = 0 }
 
+abbrev pub judgedInNumbers : WithOutput Directory → WithOutput BlockDirectory
+judgedInNumbers o = withOutput (blockDirectory (o .answer)) (o .output)
+
 -- EncEnabled 1 with the key's index and the clock where a record is to be opened
 abbrev pub blockVerdict : RecordVerdict → BlockVerdict
 blockVerdict Clear = record { number = recordNumber Clear; pair = recordPair Clear; encenabled = 0; enckey = 0; clock = 0 }

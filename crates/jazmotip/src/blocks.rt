@@ -7,12 +7,12 @@ ghost use Rattle.octets.specs.Lists.{part};
 ghost use Rattle.octets.specs.Output.{withOutput};
 ghost use Rattle.capture.specs.Directory.{directoryOf};
 ghost use Rattle.capture.specs.Broken.{Judged};
-ghost use Rattle.capture.specs.Verdict.{verdictAsked};
+ghost use Rattle.capture.specs.Verdict.{verdictAsked, verdictsOf};
 ghost use Rattle.capture.specs.Payload.{payloadBounds, payloadPart};
 ghost use Rattle.capture.specs.Opening.{opening};
 ghost use Rattle.capture.specs.Claims.{OpenedIfAccepted};
 ghost use Rattle.capture.specs.Listing.{listingOf};
-ghost use Rattle.jazmotip.specs.Blocks.{blockDirectory, blockVerdict, blockPart, openedInNumbers};
+ghost use Rattle.jazmotip.specs.Blocks.{blockDirectory, blockVerdict, blockPart, judgedInNumbers, openedInNumbers};
 use capture::directory::Directory;
 use capture::directory::check;
 use capture::listing::LISTING_OCTETS;
@@ -22,6 +22,7 @@ use capture::opening::open;
 use capture::payload::Bounds;
 use capture::payload::locate;
 use capture::verdict::ask;
+use capture::verdict::verdicts;
 use records::header::RecordVerdict;
 
 // In each answer, `pair` is the first pair that does not fit, from 1, for 18 and 19, else 0.
@@ -67,7 +68,7 @@ fn directory_in_numbers(directory: Directory) -> BlockDirectory
         Directory::Good(n) => BlockDirectory {
             number: 0,
             pair: 0,
-            records: n,
+            records: n as usize,
         },
         Directory::Bad(refusal) => BlockDirectory {
             number: refusal::number(refusal),
@@ -142,6 +143,19 @@ pub extern "C" fn jazmotip_capture_verdict(settings: &[u8], block: &[u8], k: usi
     ensures { λ r. ⌜ r ≡ blockVerdict (verdictAsked (now (settings .entry)) (now (block .entry)) k) ⌝ }
 {
     verdict_in_numbers(ask(settings, block, k))
+}
+
+// The number of the verdict on each record, that on record k, from 1, at octet k - 1 of an output of 256 octets; the octets behind
+// them stay.
+#[no_mangle]
+pub extern "C" fn jazmotip_capture_verdicts(
+    settings: &[u8],
+    block: &[u8],
+    output: &mut [u8],
+) -> BlockDirectory
+    ensures { λ r. ⌜ withOutput r (now (output .exit)) ≡ judgedInNumbers (verdictsOf (now (settings .entry)) (now (block .entry)) (now (output .entry))) ⌝ }
+{
+    directory_in_numbers(verdicts(settings, block, output))
 }
 
 // Where the payload of record k, from 1, lies in the block.

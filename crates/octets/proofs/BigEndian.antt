@@ -1,11 +1,12 @@
 -- Laws of numbers in octets. Assumes nothing.
 use mathlib.Core.Path.{_≡_, refl, ap, ap₂, sym, _∙_}
 use mathlib.Core.List.{List}
-use Prim.Native.Nat.{ℕ, zero, suc, _+_, _*_, _/_, _%_, _<_, _^_}
-use native.Mathlib.Nat.{mod-eq-of-lt, mod-one, pow-suc, mul-comm, one-le-pow, zero-lt-suc}
+use Prim.Native.Nat.{ℕ, zero, suc, _+_, _*_, _/_, _%_, _≤_, _<_, _^_}
+use native.Mathlib.Nat.{mod-eq-of-lt, mod-one, pow-suc, mul-comm, one-le-pow, zero-lt-suc, zero-add}
 use native.Mathlib.Omega.{arith}
 use lib.Arith.{mod-mul}
-use lib.ListN.{length, getD}
+use lib.ListN.{length, getD, drop, List·getD-eq-default}
+use lib.Seq.{getD-drop}
 use Rattle.octets.specs.BigEndian.{numberAt, octetsOf}
 
 pub octets-length : (k n : ℕ) → length (octetsOf k n) ≡ k
@@ -41,3 +42,14 @@ number-below zero s a h = omega arith
 number-below (suc k) s a h =
     let more = number-below k s a (λ j l. h j (omega arith)) in
     omega (arith, more, h k (omega arith), pow-suc 256 k)
+
+-- where no octet is there, the number is 0
+pub number-past : (k : ℕ) (s : List ℕ) (at : ℕ) → length s ≤ at → numberAt k s at ≡ 0
+number-past zero s at h = refl
+number-past (suc k) s at h =
+    let last : getD s (at + k) 0 ≡ 0 = List·getD-eq-default s 0 (omega arith) in
+    omega (arith, number-past k s at h)
+
+-- the number at a place is the first of what is from there on
+pub number-from : (k at : ℕ) (s : List ℕ) → numberAt k (drop at s) 0 ≡ numberAt k s at
+number-from k at s = number-same k (drop at s) s 0 at (λ j h. rw zero-add (getD-drop at s j 0))

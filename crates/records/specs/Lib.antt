@@ -2,3 +2,4 @@ pub mod Settings
 pub mod Record
 pub mod Place
 pub mod Verdict
+pub mod Block

@@ -33,6 +33,10 @@ recordHeader r =
 unfoldable pub payloadOf : List ℕ → List ℕ
 payloadOf r = drop headerOctets r
 
+-- the octets of a record of so many EQs
+abbrev pub recordOctets : ℕ → ℕ
+recordOctets eqs = headerOctets + eqOctets * eqs
+
 -- the payload is of 9 × EQs, no more and no less
 unfoldable pub sized : List ℕ → Bool
-sized r = both (leb headerOctets (length r)) (eqb (length r) (headerOctets + eqOctets * recordHeader r .eqs))
+sized r = both (leb headerOctets (length r)) (eqb (length r) (recordOctets (recordHeader r .eqs)))

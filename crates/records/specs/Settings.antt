@@ -3,11 +3,11 @@ use mathlib.Core.Bool.{Bool}
 use mathlib.Core.List.{List}
 use Prim.Native.Nat.{ℕ, _+_, _*_}
 use lib.Dec.{eqb}
-use lib.ListN.{length, getD}
+use lib.ListN.{length, getD, replicate}
 use Rattle.octets.specs.BigEndian.{numberAt}
 use Rattle.octets.specs.Bits.{bitOf, lowCleared}
 use Rattle.octets.specs.Choice.{pick}
-use Rattle.octets.specs.Lists.{part}
+use Rattle.octets.specs.Lists.{part, copied}
 use Rattle.refusal.specs.declared.Refusal.the-variants.{OutOfRange, BadLength}
 use Rattle.refusal.specs.declared.Verdict.{Verdict}
 use Rattle.refusal.specs.declared.Verdict.the-variants.{Accepted, Refused}
@@ -39,8 +39,9 @@ presenceOf s = getD s 0 0
 unfoldable pub keyPresent : ℕ → ℕ → Bool
 keyPresent presence i = eqb (bitOf presence i) 1
 
+-- key i; an octet that is not there is 0
 unfoldable pub keyOf : List ℕ → ℕ → List ℕ
-keyOf s i = part s (keysAt + keyOctets * i) keyOctets
+keyOf s i = copied (part s (keysAt + keyOctets * i) keyOctets) (replicate keyOctets 0)
 
 unfoldable pub macOf : List ℕ → ℕ
 macOf s = numberAt 6 s macAt

@@ -1,4 +1,5 @@
-// The records of a capture (01, Capture block), each by itself: the settings that judge it, its header, and its place.
+// The records of a capture (01, Capture block), each by itself: the settings that judge it, its header, and its place in any block.
+pub mod block;
 pub mod header;
 pub mod place;
 pub mod settings;

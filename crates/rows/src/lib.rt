@@ -152,7 +152,7 @@ fn row_head(line: Line, k: u64, h: Header) -> Line
     ensures { λ r. ⌜ Grown line r (rowHead k h) ⌝ }
 {
     let a = push(decimal(line, k), b' ');
-    let b = push(put_digits(a, 16, 4, h.llid), b' ');
+    let b = push(put_digits(a, 16, 4, h.llid as u64), b' ');
     push(put_digits(b, 16, 2, h.channel as u64), b' ')
 }
 
@@ -162,7 +162,7 @@ fn row_tail(line: Line, h: Header, verdict: RecordVerdict) -> Line
     ensures { λ r. ⌜ Grown line r (rowTail h verdict) ⌝ }
 {
     let a = push2(line, key_glyph(h), b' ');
-    let b = push(decimal(a, h.eqs), b' ');
+    let b = push(decimal(a, h.eqs as u64), b' ');
     push(result(b, verdict), b'\n')
 }
 

@@ -132,6 +132,21 @@ pub fn capture_verdict(settings: &[u8], block: &[u8], k: usize) -> BlockVerdict 
     unsafe { raw::jazmotip_capture_verdict(settings.as_ptr(), settings.len(), block.as_ptr(), block.len(), k) }
 }
 
+/// The number of the verdict on record `k` at octet `k - 1` of an output of 256. Order of refusals: 14 for the output, 14 and 1 for
+/// the settings, 15, then 18 and 19.
+pub fn capture_verdicts(settings: &[u8], block: &[u8], output: &mut [u8]) -> BlockDirectory {
+    unsafe {
+        raw::jazmotip_capture_verdicts(
+            settings.as_ptr(),
+            settings.len(),
+            block.as_ptr(),
+            block.len(),
+            output.as_mut_ptr(),
+            output.len(),
+        )
+    }
+}
+
 /// Order of refusals: 15, 18 and 19, 1.
 pub fn capture_payload(block: &[u8], k: usize) -> BlockPart {
     unsafe { raw::jazmotip_capture_payload(block.as_ptr(), block.len(), k) }

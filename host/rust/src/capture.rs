@@ -3,7 +3,7 @@
 
 use crate::calls;
 use crate::refusal::Refusal;
-use crate::LISTING_OCTETS;
+use crate::{LISTING_OCTETS, RECORDS};
 
 /// The key and clock that a sealed record opens under.
 #[derive(Clone, Copy, Debug, PartialEq, Eq)]
@@ -23,6 +23,12 @@ pub fn verdict(settings: &[u8], block: &[u8], k: usize) -> Result<Option<Opening
     let verdict = calls::capture_verdict(settings, block, k);
     Refusal::block_verdict(verdict.number, verdict.pair)
         .map(|()| (verdict.encenabled == 1).then_some(Opening { enckey: verdict.enckey, clock: verdict.clock }))
+}
+
+/// The numbers of the verdicts on all records, 0 for acceptance, that on record `k` at `k - 1`; `numbers` past them stay.
+pub fn verdicts<'a>(settings: &[u8], block: &[u8], numbers: &'a mut [u8; RECORDS]) -> Result<&'a [u8], Refusal> {
+    let directory = calls::capture_verdicts(settings, block, numbers);
+    Refusal::block_verdict(directory.number, directory.pair).map(|()| &numbers[..directory.records])
 }
 
 /// The payload of record `k`, opened or not.

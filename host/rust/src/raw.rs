@@ -100,6 +100,14 @@ extern "C" {
         block_length: usize,
         k: usize,
     ) -> BlockVerdict;
+    pub fn jazmotip_capture_verdicts(
+        settings: *const u8,
+        settings_length: usize,
+        block: *const u8,
+        block_length: usize,
+        output: *mut u8,
+        output_length: usize,
+    ) -> BlockDirectory;
     pub fn jazmotip_capture_payload(block: *const u8, block_length: usize, k: usize) -> BlockPart;
     pub fn jazmotip_capture_open(
         settings: *const u8,

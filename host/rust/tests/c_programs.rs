@@ -66,6 +66,7 @@ fn nothing_is_null_with_length_0() {
                     olt receive: 0\n\
                     directory: 15 pair 0\n\
                     verdict: 14 15\n\
+                    verdicts: 14 15\n\
                     payload: 15\n\
                     open: 14 15 14\n\
                     list: no llid ch key eqs result\nrefused 14\n";

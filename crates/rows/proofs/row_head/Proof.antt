@@ -20,21 +20,22 @@ push-requires c κs = omega (arith, c .decimal .ensures .used, decimal-few (c .b
 
 put-digits-requires : tie.Need-put-digits-requires
 put-digits-requires c κs =
-    (omega arith, omega arith, omega (arith, c .push .ensures .used, c .before .decimal .ensures .used, decimal-few (c .before .before .args .k)))
+    let d = c .before in
+    (omega arith, omega arith, omega (arith, d .push .ensures .used, d .before .decimal .ensures .used, decimal-few (d .before .before .args .k)))
 
 push-requires-2 : tie.Need-push-requires-2
 push-requires-2 c κs =
-    let d = c .before .before in
-    omega (arith, c .put-digits .ensures .used, c .before .push .ensures .used, d .decimal .ensures .used, decimal-few (d .before .args .k))
+    let d = c .before .before .before in
+    omega (arith, c .put-digits .ensures .used, c .before .before .push .ensures .used, d .decimal .ensures .used, decimal-few (d .before .args .k))
 
 -- number and LLID, each with a space behind it
 abbrev through-llid : ℕ → Header → List ℕ
 through-llid k h = decimalOf k ++ (32 ∷ (digits 16 4 (h .llid) ++ (32 ∷ [])))
 
 to-llid : (c : tie.After-push2)
-    → let a = c .before .before .before .before .args in Grown (a .line) (c .push2 .result) (through-llid (a .k) (a .h))
+    → let a = c .before .before .before .before .before .args in Grown (a .line) (c .push2 .result) (through-llid (a .k) (a .h))
 to-llid c =
-    let number = both-grown (c .before .before .before .decimal .ensures) (c .before .before .push .ensures) in
+    let number = both-grown (c .before .before .before .before .decimal .ensures) (c .before .before .before .push .ensures) in
     grown-as (both-grown (both-grown number (c .before .put-digits .ensures)) (c .push2 .ensures)) (simp append-assoc)
 
 few-to-llid : (k : ℕ) (h : Header) → length (through-llid k h) ≤ mostDigits + 6
@@ -42,13 +43,13 @@ few-to-llid k h = simp length-append (omega (arith, decimal-few k))
 
 put-digits-requires-2 : tie.Need-put-digits-requires-2
 put-digits-requires-2 c κs =
-    let a = c .before .before .before .before .before .args in
+    let a = c .before .before .before .before .before .before .args in
     (omega arith, omega arith, omega (arith, to-llid (c .before) .used, few-to-llid (a .k) (a .h)))
 
 push-requires-3 : tie.Need-push-requires-3
 push-requires-3 c κs =
     let d = c .before .before in
-    let a = d .before .before .before .before .args in
+    let a = d .before .before .before .before .before .args in
     omega (arith, c .put-digits2 .ensures .used, to-llid d .used, few-to-llid (a .k) (a .h))
 
 returns : tie.Need-returns
@@ -63,6 +64,7 @@ row-head-spec =
     (tie.spec
     decimal-requires
     push-requires
+    (λ c. search needs)
     put-digits-requires
     push-requires-2
     (λ c. search needs)

@@ -18,6 +18,14 @@ pub fn verdict(settings: &[u8], block: &[u8], k: usize) -> BlockVerdict {
     }
 }
 
+/// The answer of the call for all verdicts, into an output of so many octets, and the numbers, if they are written.
+pub fn verdicts(settings: &[u8], block: &[u8], output: usize) -> (BlockDirectory, Option<Vec<u8>>) {
+    match capture::verdicts(settings, block, output) {
+        Ok(numbers) => (BlockDirectory { number: 0, pair: 0, records: numbers.len() }, Some(numbers)),
+        Err(Refused { number, pair }) => (BlockDirectory { number, pair, records: 0 }, None),
+    }
+}
+
 pub fn part(block: &[u8], k: usize) -> BlockPart {
     match capture::part(block, k) {
         Ok(range) => BlockPart { number: 0, pair: 0, offset: range.start, length: range.len() },

@@ -4,7 +4,7 @@ use super::answers;
 use crate::random::Random;
 use crate::reference::capture;
 use crate::tally::Tally;
-use jazmotip::{calls, LISTING_OCTETS};
+use jazmotip::{calls, LISTING_OCTETS, RECORDS};
 
 fn check_opening(random: &mut Random, tally: &mut Tally, settings: &[u8], block: &[u8], output: usize) {
     let mut lent = random.lent(output);
@@ -22,6 +22,16 @@ pub fn check_record(tally: &mut Tally, settings: &[u8], block: &[u8], k: usize) 
     let part = calls::capture_payload(block, k);
     assert_eq!(part, answers::part(block, k), "payload of record {k}");
     tally.note("payload", part.number);
+}
+
+fn check_verdicts(random: &mut Random, tally: &mut Tally, settings: &[u8], block: &[u8], output: usize) {
+    let mut lent = random.lent(output);
+    let rest = lent.part().to_vec();
+    let answer = calls::capture_verdicts(settings, block, lent.part());
+    tally.note("verdicts", answer.number);
+    let (expected, numbers) = answers::verdicts(settings, block, output);
+    assert_eq!(answer, expected);
+    lent.check(numbers.map(|numbers| [&numbers[..], &rest[numbers.len()..]].concat()).as_deref());
 }
 
 fn check_listing(settings: &[u8], block: &[u8]) {
@@ -49,6 +59,11 @@ pub fn check(random: &mut Random, tally: &mut Tally, settings: &[u8], block: &[u
         let off = random.pick(&[1, 9, 16]);
         check_opening(random, tally, settings, block, block.len() + off);
         check_opening(random, tally, settings, block, block.len().saturating_sub(off));
+    }
+    check_verdicts(random, tally, settings, block, RECORDS);
+    if random.once_in(8) {
+        let other = random.pick(&[0, 255, 257]);
+        check_verdicts(random, tally, settings, block, other);
     }
     check_listing(settings, block);
 }

@@ -238,6 +238,7 @@ fn the_listing_of_document_01() {
     assert_eq!(jazmotip::capture::records(&block), Ok(2));
     assert_eq!(jazmotip::capture::verdict(&settings, &block, 1), Ok(None));
     assert_eq!(jazmotip::capture::verdict(&settings, &block, 2), Err(jazmotip::Refusal::NoKey));
+    assert_eq!(jazmotip::capture::verdicts(&settings, &block, &mut [7; 256]), Ok(&[0, 9][..]));
     assert_eq!(jazmotip::capture::payload(&block, 2), Ok(&[][..]));
     assert_eq!(jazmotip::capture::open(&settings, &block, &mut [0; 50]), Ok(0));
 }

@@ -118,6 +118,14 @@ pub fn verdict(octets: &[u8], block: &[u8], k: usize) -> Result<Option<(u8, u64)
     Ok(judge(&settings, record)?.map(|(enckey, _)| (enckey, record.clock)))
 }
 
+/// The numbers of the verdicts on all records, for an output of so many octets.
+pub fn verdicts(octets: &[u8], block: &[u8], output: usize) -> Result<Vec<u8>, Refused> {
+    refuse_if(output != 256, 14)?;
+    let settings = settings(octets)?;
+    let records = directory(block)?;
+    Ok(records.iter().map(|record| judge(&settings, record).err().unwrap_or(0)).collect())
+}
+
 /// The payload of record `k`, as bounds in the block.
 pub fn part(block: &[u8], k: usize) -> Result<Range<usize>, Refused> {
     let records = directory(block)?;

@@ -1,83 +1,70 @@
 -- `capture::listing::put_body` meets its contract: the number of a refused call, the rows of an accepted one.
 -- Assumes nothing.
-use mathlib.Core.Path.{sym, ap, _∙_}
+use mathlib.Core.Path.{_≡_, sym, ap, _∙_}
+use mathlib.Core.Bool.{true}
 use mathlib.Core.List.{List, _++_}
 use Prim.Native.Nat.{ℕ}
 use native.Mathlib.Omega.{arith}
 use lib.ListN.{length, take}
+use borrow.Author.Needs.{needs}
 use denote.Ref.{now}
 use Rattle.rows.proofs.Lines.{refused-row-few}
 use Rattle.capture.specs.declared.directory.Directory.the-variants.{Good}
 use Rattle.capture.specs.Listing.{bodyAfter}
+use Rattle.capture.specs.Verdict.{callDirectory}
 use Rattle.capture.proofs.Records.{good}
-use Rattle.capture.proofs.Openings.{Callable, callable}
-use borrow.Author.Needs.{needs}
+use Rattle.capture.proofs.Openings.{call-good, found-bad, found-good, listing-found}
 use Rattle.capture.proofs.listing.put_body.Statement.{statement}
 use Rattle.capture.proofs.listing.put_body.Tie as tie
 
-open-verdict-requires : tie.Need-open-verdict-requires
-open-verdict-requires c κs = search needs
-
-enum-known-refusal : tie.Need-enum-known-refusal
-enum-known-refusal c = search needs
-
-refused-row-requires : tie.Need-refused-row-requires
-refused-row-requires c κs = search needs
+-- what the call found, and what that tells
+found : (c : tie.After-n)
+    → let a = c .before .before .before .before .before .before .args in callDirectory (true) (now (a .settings)) (now (a .block)) ≡ Good (c .n .given .0 .0)
+found c = sym (c .before .before .call-directory .ensures) ∙ c .n .given .1
 
 put-line-requires : tie.Need-put-line-requires
 put-line-requires c κs =
     (omega (arith, c .refused-row .ensures .used, refused-row-few (c .before .before .before .refusal .given .0 .0)), omega arith)
 
-enum-told : tie.Need-enum-told
-enum-told c = search needs
-
-can-call : (c : tie.After-enum-told)
-    → Callable (now (c .before .before .before .before .before .before .args .settings)) (now (c .before .before .before .before .before .before .args .block)) (length (now (c .before .before .before .before .before .before .args .block)))
-can-call c = callable _ _ _ (sym (c .before .before .open-verdict .ensures) ∙ c .enum-told .given .1)
-
-count-requires : tie.Need-count-requires
-count-requires c κs = good _ _ (can-call (c .before) .good) .sizes .some
-
 put-rows-requires : tie.Need-put-rows-requires
-put-rows-requires c κs =
-    let x = can-call (c .before .before) in
-    (x .settings, (x .good ∙ ap Good (sym (c .count .ensures .0)), omega arith))
-
-same-length : tie.Need-same-length
-same-length c = search needs
+put-rows-requires c κs = let x = c .before .before in (call-good _ _ _ _ (found x) .2, x .before .before .before .before .before .before .pre)
 
 returns : tie.Need-returns
 unfolding bodyAfter
 returns c =
+    let row = c .before .before .before in
+    let x = row .before .before .before in
+    let a = x .before .before .before .before .before .before .args in
+    let s = now (a .settings) in
+    let block = now (a .block) in
     let q = c .before .before .put-line .ensures in
-    let g = c .before .before .before .before .before .before .before .before .before .before .before .before in
-    let e = sym (c .before .before .before .before .before .before .before .before .open-verdict .ensures) ∙ c .before .before .before .before .before .before .refusal .given .1 in (
+    let judged = found-bad s block (length block) _ (listing-found s block ∙ sym (x .before .before .call-directory .ensures) ∙ x .refusal .given .1) in (
       (q .0 .0, omega (arith, q .0 .1)),
-      (q .1 .0 ∙ rw e (ap (λ (t : List ℕ). take (g .args .at) (now (g .args .text)) ++ t) (c .before .before .before .refused-row .ensures .octets)), q .1 .1),
+      (q .1 .0 ∙ rw judged (ap (λ (t : List ℕ). take (a .at) (now (a .text)) ++ t) (row .refused-row .ensures .octets)), q .1 .1),
     )
-
-same-length-2 : tie.Need-same-length-2
-same-length-2 c = search needs
 
 returns-2 : tie.Need-returns-2
 unfolding bodyAfter
 returns-2 c =
-    let e = sym (c .before .before .before .before .before .before .before .open-verdict .ensures) ∙ c .before .before .before .before .before .enum-told .given .1 in
+    let x = c .before .before .before .before .before in
+    let a = x .before .before .before .before .before .before .args in
+    let s = now (a .settings) in
+    let block = now (a .block) in
+    let judged = found-good s block (length block) _ (listing-found s block ∙ found x) in
     let q = c .before .before .put-rows .ensures in
-    (q .0, (q .1 .0 ∙ rw (e, c .before .before .before .count .ensures .0), q .1 .1))
+    (q .0, (q .1 .0 ∙ rw (judged, good _ _ (call-good _ _ _ _ (found x) .2) .count), q .1 .1))
 
 pub put-body-spec : {M : Type 1} → statement M
 put-body-spec =
     tie.close
     (tie.spec
-    open-verdict-requires
-    enum-known-refusal
-    refused-row-requires
+    (λ c κs. search needs)
+    (λ c. search needs)
+    (λ c κs. search needs)
     put-line-requires
-    enum-told
-    count-requires
+    (λ c. search needs)
     put-rows-requires
-    same-length
+    (λ c. search needs)
     returns
-    same-length-2
+    (λ c. search needs)
     returns-2)

@@ -7,27 +7,13 @@ use Rattle.records.specs.Settings.{keyPresent}
 use Rattle.capture.proofs.opening.expand.Statement.{statement}
 use Rattle.capture.proofs.opening.expand.Tie as tie
 
-presence-requires : tie.Need-presence-requires
-presence-requires c κs = search needs
-
-bit-requires : tie.Need-bit-requires
-bit-requires c κs = search needs
-
 returns : tie.Need-returns
 unfolding keyPresent
 returns c e =
     absurd (c .if1 .taken (c .before .bit .ensures ∙ rw (c .before .before .presence .ensures) (eqb-true _ _ e)))
 
-key-requires : tie.Need-key-requires
-key-requires c κs = search needs
-
-expand-key-requires : tie.Need-expand-key-requires
-expand-key-requires c κs = search needs
-
 returns-2 : tie.Need-returns-2
 returns-2 c e = c .expand-key .ensures ∙ rw (c .before .key .ensures)
 
 pub expand-spec : {M : Type 1} → statement M
-expand-spec =
-    tie.close
-    (tie.spec presence-requires bit-requires returns key-requires expand-key-requires returns-2)
+expand-spec = tie.close (tie.spec (λ c κs. search needs) (λ c κs. search needs) returns (λ c κs. search needs) (λ c κs. search needs) returns-2)

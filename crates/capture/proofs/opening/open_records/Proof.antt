@@ -1,5 +1,5 @@
--- `capture::opening::open_records` meets its contract. The loop's invariant: the records before i are opened, the rest
--- of the output is the block's, and the total is theirs.
+-- `capture::opening::open_records` meets its contract: the loop's invariant: record i starts at `from`, the records before it
+-- are opened, the rest of the output is the block's, and the total is theirs.
 -- Assumes nothing.
 use mathlib.Core.Path.{_≡_, refl, sym, ap, _∙_}
 use mathlib.Core.List.{_++_}
@@ -9,85 +9,117 @@ use lib.ListN.{length, drop}
 use borrow.Author.Needs.{needs}
 use denote.Ref.{now}
 use Rattle.octets.specs.Lists.{sum}
-use Rattle.capture.specs.Directory.{dueOf, recordOf}
+use Rattle.records.specs.declared.header.Header.{Header}
+use Rattle.records.specs.Block.{dueOf, recordOf}
 use Rattle.capture.specs.Opening.{recordCount, blockCount}
-use Rattle.capture.proofs.Records.{good, placed}
-use Rattle.capture.proofs.Openings.{upTo, none-opened, still-block, one-opened, all-opened, total-below, one-below, one-more}
+use Rattle.capture.proofs.Records.{Records, good, At, at-due}
+use Rattle.capture.proofs.Openings.{upTo, none-opened, still-block, one-opened, all-opened, total-below, one-below, one-more, counted-at, written-at, verdict-opens}
 use Rattle.capture.proofs.opening.open_records.Statement.{statement}
 use Rattle.capture.proofs.opening.open_records.Tie as tie
 
 abbrev Inv-loop : tie.InvT-loop
-Inv-loop settings keys block output₀ n total₀ i₀ output total i =
-    (i ≤ n) × (length output ≡ length block) × (total ≡ sum 0 i (λ j. recordCount settings (recordOf block j)))
+Inv-loop settings keys block output₀ n total₀ from₀ i₀ output total from i =
+    (i ≤ n) × (length output ≡ length block) × (total ≡ sum 0 i (λ j. recordCount settings (recordOf block j))) × (from ≡ dueOf block i)
     × (output ≡ upTo settings block i ++ drop (dueOf block i) block) × (length (upTo settings block i) ≡ dueOf block i)
 
 abbrev μ-loop : tie.MeasureT-loop
-μ-loop settings keys block output₀ n total₀ i₀ output total i = n - i
+μ-loop settings keys block output₀ n total₀ from₀ i₀ output total from i = n - i
 
 loop-holds : tie.Need-loop-holds Inv-loop μ-loop
+unfolding dueOf
 loop-holds c =
-    let g = c .before .before .before in
+    let g = c .before .before .before .before in
     let r = good _ _ (g .pre .good) in
     let o = none-opened (now (g .args .settings)) (now (g .args .block)) (r .sizes .pairs) in
-    (search needs, rw (g .pre .copied), refl, g .pre .copied ∙ o .0, o .1)
+    (search needs, rw (g .pre .copied), refl, c .directory-octets .ensures ∙ rw (r .count), g .pre .copied ∙ o .0, o .1)
 
-open-record-requires : tie.Need-open-record-requires Inv-loop μ-loop
-open-record-requires c κs =
-    let g = c .before .before .before .before .before .before in
-    let r = good _ _ (g .pre .good) in
-    let v = c .before .before .loop .inv in
-    record {
-      settings = g .pre .settings;
-      expanded = g .pre .expanded;
-      most = r .sizes .most;
-      placed = placed _ _ _ r (c .before .loop-test .taken);
-      size = v .1;
-      same = still-block (now (g .args .settings)) (now (g .args .block)) _ (g .args .n) _ r (c .before .loop-test .taken) (v .3) (v .4);
-    }
+abbrev start : tie.In-loop Inv-loop μ-loop → tie.Start Inv-loop μ-loop
+start c = c .before .before .before .before .before .before
+
+records : (c : tie.In-loop Inv-loop μ-loop) → Records (now (start c .args .block)) (start c .args .n)
+records c = good _ _ (start c .pre .good)
+
+-- record i starts at `from`
+here : (c : tie.In-loop Inv-loop μ-loop) → At (now (start c .args .block)) (c .before .loop .i) (c .before .loop .from)
+here c = at-due _ _ _ _ (records c) (c .loop-test .taken) (c .before .loop .inv .3)
+
+open-as-requires : tie.Need-open-as-requires Inv-loop μ-loop
+open-as-requires c κs =
+    let h = c .before .before .header-from in
+    let at-test = c .before .before .before in
+    let g = start at-test in
+    let r = records at-test in
+    let v = at-test .before .loop .inv in (
+      record {
+        expanded = g .pre .expanded;
+        inside = here at-test .inside;
+        size = v .1;
+        most = r .sizes .most;
+        same = rw (v .3) (still-block (now (g .args .settings)) (now (g .args .block)) _ (g .args .n) _ r (at-test .loop-test .taken) (v .4) (v .5));
+      },
+      record {
+        header = h .ensures .0;
+        opens = λ i t e. verdict-opens _ _ (h .ensures .1) i t (sym (c .verdict-for .ensures) ∙ e);
+      },
+    )
+
+-- what a record adds is its own count
+counted : (c : tie.After-open-as Inv-loop μ-loop)
+    → let at-test = c .before .before .before .before in
+    c .open-as .result ≡ recordCount (now (start at-test .args .settings)) (recordOf (now (start at-test .args .block)) (at-test .before .loop .i))
+counted c =
+    let at-test = c .before .before .before .before in
+    c .open-as .ensures .0 ∙ rw (c .before .verdict-for .ensures) (counted-at _ _ _ _ _ (here at-test) (c .before .before .before .header-from .ensures .0))
 
 add-total : tie.Need-add-total Inv-loop μ-loop
 add-total c =
-    let g = c .before .before .before .before .before .before .before .before .before in
-    let r = good _ _ (g .pre .good) in
-    let q = c .before .before .before .before .before in
-    let s = now (g .args .settings) in
-    let b = now (g .args .block) in
-    record { fits = omega (arith, q .loop .inv .2, r .count, r .sizes .few, r .sizes .most, total-below s b (q .loop .i) (r .sizes .most), c .before .before .open-record .ensures .0, one-below s b (q .loop .i) (r .sizes .most)) }
+    let at-test = c .before .before .before .before .before .before in
+    let r = records at-test in
+    let s = now (start at-test .args .settings) in
+    let b = now (start at-test .args .block) in
+    let i = at-test .before .loop .i in
+    record { fits = omega (arith, at-test .before .loop .inv .2, r .count, r .sizes .few, total-below s b i (r .sizes .most), counted (c .before .before), one-below s b i (r .sizes .most)) }
 
-add-i : tie.Need-add-i Inv-loop μ-loop
-add-i c = search needs
-
-loop-less : tie.Need-loop-less Inv-loop μ-loop
-loop-less c = omega arith
+add-from : tie.Need-add-from Inv-loop μ-loop
+add-from c =
+    let at-header = c .before .before .before .before .before .before in
+    let at-test = at-header .before in
+    let eqs = ap (λ (h : Header). h .eqs) (at-header .header-from .ensures .0) in
+    record { fits = omega (arith, eqs, c .record-octets .ensures, here at-test .inside, records at-test .sizes .most) }
 
 loop-again : tie.Need-loop-again Inv-loop μ-loop
 loop-again c =
-    let g = c .before .before .before .before .before .before .before .before .before in
-    let r = good _ _ (g .pre .good) in
-    let q = c .before .before .before .before .before in
+    let q = c .before .before .before in
+    let h = q .before .before .before .header-from in
+    let at-test = q .before .before .before .before in
+    let g = start at-test in
+    let r = records at-test in
+    let v = at-test .before .loop .inv in
     let s = now (g .args .settings) in
     let b = now (g .args .block) in
-    let i = q .loop .i in
-    let o = one-opened s b (q .loop .output) (g .args .n) i r (c .before .before .before .before .loop-test .taken) (q .loop .inv .3) (q .loop .inv .4) _ (c .before .before .open-record .ensures .1) in (
+    let i = at-test .before .loop .i in
+    let x = here at-test in
+    let o =
+    one-opened s b (at-test .before .loop .output) (g .args .n) i r (at-test .loop-test .taken) (v .4) (v .5) _ (q .open-as .ensures .1 ∙ written-at s b _ _ _ _ _ (q .before .verdict-for .ensures) (h .ensures .0) (v .3)) in (
       search needs,
-      c .before .before .open-record .kept .1 .1 .1 .0 ∙ q .loop .inv .1,
-      rw (q .loop .inv .2, c .before .before .open-record .ensures .0) (sym (one-more s b i)),
+      q .open-as .kept .1 .1 .1 .0 ∙ v .1,
+      rw (v .2, counted q) (sym (one-more s b i)),
+      omega (arith, ap (λ (h : Header). h .eqs) (h .ensures .0), c .record-octets .ensures, x .next),
       o .0,
       o .1,
     )
 
 same-length : tie.Need-same-length Inv-loop μ-loop
-same-length c = c .before .loop .inv .1 ∙ sym (ap length (c .before .before .before .before .before .pre .copied))
+same-length c = c .before .loop .inv .1 ∙ sym (ap length (c .before .before .before .before .before .before .pre .copied))
 
 returns : tie.Need-returns Inv-loop μ-loop
 unfolding blockCount
 returns c =
-    let g = c .before .before .before .before .before in
+    let g = c .before .before .before .before .before .before in
     let r = good _ _ (g .pre .good) in
     let v = c .before .loop .inv in
-    let i = c .before .loop .i in
-    let e : i ≡ g .args .n = omega arith in
-    (v .2 ∙ rw (e, r .count), all-opened (now (g .args .settings)) (now (g .args .block)) _ (g .args .n) r (v .3 ∙ rw e))
+    let e : c .before .loop .i ≡ g .args .n = omega arith in
+    (v .2 ∙ rw (e, r .count), all-opened (now (g .args .settings)) (now (g .args .block)) _ (g .args .n) r (v .4 ∙ rw e))
 
 pub open-records-spec : {M : Type 1} → statement M
 open-records-spec =
@@ -95,11 +127,16 @@ open-records-spec =
     (tie.spec
     Inv-loop
     μ-loop
+    (λ c κs. search needs)
     loop-holds
-    open-record-requires
+    (λ c κs. search needs)
+    (λ c κs. search needs)
+    open-as-requires
     add-total
-    add-i
-    loop-less
+    (λ c κs. search needs)
+    add-from
+    (λ c. search needs)
+    (λ c. omega arith)
     loop-again
     same-length
     returns)

@@ -7,12 +7,6 @@ use Rattle.octets.proofs.Choice.{pick-true, pick-false}
 use Rattle.capture.proofs.payload.asked.Statement.{statement}
 use Rattle.capture.proofs.payload.asked.Tie as tie
 
-enum-known-directory : tie.Need-enum-known-directory
-enum-known-directory c = search needs
-
-enum-known-directory-2 : tie.Need-enum-known-directory-2
-enum-known-directory-2 c = search needs
-
 returns : tie.Need-returns
 unfolding both
 returns c = rw (c .before .before .directory .given .1) (sym (pick-true _ _ (c .if1 .taken)))
@@ -25,5 +19,4 @@ returns-3 : tie.Need-returns-3
 returns-3 c = rw (c .before .directory2 .given .1)
 
 pub asked-spec : {M : Type 1} → statement M
-asked-spec =
-    tie.close (tie.spec enum-known-directory enum-known-directory-2 returns returns-2 returns-3)
+asked-spec = tie.close (tie.spec (λ c. search needs) (λ c. search needs) (λ c. search needs) returns returns-2 returns-3)

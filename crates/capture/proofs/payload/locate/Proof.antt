@@ -6,47 +6,25 @@ use native.Mathlib.Omega.{arith}
 use borrow.Author.Needs.{needs}
 use denote.Ref.{now}
 use Rattle.capture.specs.Payload.{boundsOf, payloadBounds}
-use Rattle.capture.specs.Duties.{Placed}
-use Rattle.capture.proofs.Records.{Asked, asked-for, placed}
+use Rattle.capture.proofs.Records.{Asked, asked-for, asked-few, placed}
 use Rattle.capture.proofs.payload.locate.Statement.{statement}
 use Rattle.capture.proofs.payload.locate.Tie as tie
 
-payload-verdict-requires : tie.Need-payload-verdict-requires
-payload-verdict-requires c κs = search needs
-
-enum-told : tie.Need-enum-told
-enum-told c = search needs
-
-is-asked : (c : tie.After-enum-told) → Asked (now (c .before .before .before .before .args .block)) (c .before .before .before .before .args .k)
+is-asked : (c : tie.After-enum-told) → let a = c .before .before .before .before .args in Asked (now (a .block)) (a .k)
 is-asked c = asked-for _ _ (sym (c .before .before .payload-verdict .ensures) ∙ c .enum-told .given .1)
 
-is-placed : (c : tie.After-enum-told) → Placed (now (c .before .before .before .before .args .block)) (c .before .before .before .before .args .k - 1)
-is-placed c =
-    let a = is-asked c in
-    placed _ (a .count) _ (a .records) (omega (arith, a .first, a .last))
-
-sub-i : tie.Need-sub-i
-sub-i c = is-asked c .first
-
-offset-requires : tie.Need-offset-requires
-offset-requires c κs = is-placed c .pair
-
-add-from : tie.Need-add-from
-add-from c = search needs
-
-length-of-requires : tie.Need-length-of-requires
-length-of-requires c κs = is-placed (c .before) .pair
-
 sub-octets : tie.Need-sub-octets
-sub-octets c = omega (arith, c .length-of .ensures .0, is-placed (c .before .before) .size)
-
-enum-known-refusal : tie.Need-enum-known-refusal
-enum-known-refusal c = search needs
+sub-octets c =
+    let told = c .before .before in
+    let g = told .before .before .before .before in
+    let a = is-asked told in
+    omega (arith, c .length-of .ensures, placed (now (g .args .block)) (a .count) (g .args .k - 1) (a .records) (omega (arith, a .first, a .last)) .size)
 
 returns : tie.Need-returns
 unfolding payloadBounds boundsOf
 returns c =
-    rw (← c .before .before .before .before .payload-verdict .ensures, c .before .before .enum-told .given .1, c .before .offset .ensures .0, c .length-of .ensures .0)
+    let told = c .before .before in
+    rw (← told .before .before .payload-verdict .ensures, told .enum-told .given .1, c .before .offset .ensures, c .length-of .ensures)
 
 returns-2 : tie.Need-returns-2
 unfolding payloadBounds
@@ -56,13 +34,16 @@ pub locate-spec : {M : Type 1} → statement M
 locate-spec =
     tie.close
     (tie.spec
-    payload-verdict-requires
-    enum-told
-    sub-i
-    offset-requires
-    add-from
-    length-of-requires
+    (λ c κs. search needs)
+    (λ c. search needs)
+    (λ c. is-asked c .first)
+    (λ c. omega (arith, asked-few (is-asked c)))
+    (λ c κs. search needs)
+    (λ c. search needs)
+    (λ c. search needs)
+    (λ c κs. search needs)
+    (λ c. search needs)
     sub-octets
-    enum-known-refusal
+    (λ c. search needs)
     returns
     returns-2)

@@ -13,4 +13,4 @@ returns-2 c = rw (c .pair .ensures, c .before .number .ensures, c .before .befor
 pub directory-in-numbers-spec : {M : Type 1} → statement M
 directory-in-numbers-spec =
     tie.close
-    (tie.spec (λ c. search needs) (λ c. search needs) (λ c κs. search needs) (λ c κs. search needs) returns returns-2)
+    (tie.spec (λ c. search needs) (λ c. search needs) (λ c. search needs) (λ c κs. search needs) (λ c κs. search needs) returns returns-2)

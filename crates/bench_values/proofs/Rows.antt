@@ -12,8 +12,8 @@ use Rattle.clock.specs.Stamping.{capturedAt, raiseOf, movedBy, raisedTo}
 use Rattle.refusal.specs.Order.{refuseIf}
 use Rattle.ends.specs.Identities.{among, llidsOf, has}
 use Rattle.ends.specs.Keys.{aged}
-use Rattle.envelope.specs.Channels.{upstream}
-use Rattle.ends.specs.Occupancy.{onZero, freeFrom, occupied, taken}
+use Rattle.envelope.specs.Channels.{upstream, onZero}
+use Rattle.ends.specs.Occupancy.{freeFrom, occupied, taken}
 use Rattle.ends.specs.Records.{freshUnit, withKeys}
 use Rattle.ends.specs.Timers.{timerAdvanced, freshTimer}
 use Rattle.ends.specs.Headers.{choiceAged}
@@ -33,7 +33,9 @@ xored (suc (suc (suc (suc (suc (suc zero)))))) k x h l = refl
 xored (suc (suc (suc (suc (suc (suc (suc j))))))) k x h l = absurd (omega arith)
 
 pub rows-hold : Rows
-unfolding counterBlock capturedAt raiseOf movedBy raisedTo timerAdvanced pick onZero freeFrom occupied taken both either aged refuseIf freshUnit withKeys freshTimer choiceAged switches unitSendChoice unitSendVerdict among llidsOf has upstream onuSendChoice onuSendVerdict masked bitOf countEnciphered ones onesIn
+unfolding counterBlock capturedAt raiseOf movedBy raisedTo timerAdvanced pick onZero freeFrom occupied taken both either aged refuseIf
+    freshUnit withKeys freshTimer choiceAged switches unitSendChoice unitSendVerdict among llidsOf has upstream onuSendChoice onuSendVerdict
+    masked bitOf countEnciphered ones onesIn
 rows-hold =
     record {
       p1 = refl;

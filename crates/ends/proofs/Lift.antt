@@ -182,7 +182,9 @@ with-valid o i c u h e v w k =
 pub unit-at-valid : (o : Olt) (llid i : ℕ) → validOlt o ≡ true → Registered o llid i → validUnit (o .shared .tick) (unitAt o i) ≡ true
 unit-at-valid o llid i v r =
     rw (getD-take (o .count) (o .units) i pastUnit (r .used))
-    at (all-at (validUnit (o .shared .tick)) (registered o) i pastUnit (olt-in-range o v .units) (omega (arith, length-take (o .count) (o .units), r .used, r .place)))
+    at
+    (all-at (validUnit (o .shared .tick)) (registered o) i pastUnit (olt-in-range o v .units)
+    (omega (arith, length-take (o .count) (o .units), r .used, r .place)))
 
 module _ {H : Type 0} (o : Olt) (nothing : H) (ahead : Verdict) (llid : ℕ) (call : Shared → UnitRecord → Outcome H) where
   pub lift-valid : (ahead ≡ Accepted → Keeps call) → validOlt o ≡ true → validOlt (lift o nothing ahead llid call .end) ≡ true

@@ -10,7 +10,8 @@ use Rattle.octets.specs.Eqs.{maxEqs}
 use Rattle.octets.proofs.Choice.{both-left, both-right, both-true}
 use Rattle.clock.specs.Ticks.{maxTick}
 use Rattle.ends.specs.Limits.{maxFree}
-use Rattle.ends.specs.Occupancy.{freeChannels, onZero, freeFrom, taken, occupied, validChannels}
+use Rattle.envelope.specs.Channels.{onZero}
+use Rattle.ends.specs.Occupancy.{freeChannels, freeFrom, taken, occupied, validChannels}
 use Rattle.ends.specs.declared.Channels.{Channels}
 
 -- a header's own channel is free from the tick after its last EQ

@@ -124,13 +124,6 @@ pub found-number : (us : List UnitRecord) (llid : ℕ) (x : Found) → x ≡ fin
 found-number us llid (At i) e = sym (ap verdictNumber (refuse-passed _ UnknownLlid Accepted (not-of-true (among-found 0 us llid i (sym e)))))
 found-number us llid Nowhere e = sym (ap verdictNumber (refuse-stopped _ UnknownLlid Accepted (not-of-false (among-nowhere 0 us llid (sym e)))))
 
-from-absent : (k : ℕ) (us : List UnitRecord) (llid : ℕ) → among llid (tableLlids us) ≡ false → findFrom k us llid ≡ Nowhere
-unfolding findFrom tableLlids has
-from-absent k [] llid e = refl
-from-absent k (u ∷ us) llid e =
-    let a = either-false _ _ (sym (among-append llid (llidsOf (u .identity)) (tableLlids us)) ∙ e) in
-    pick-false _ _ (a .0) ∙ from-absent (suc k) us llid (a .1)
-
 ---- the table goes by the identities alone
 
 abbrev pub identityOf : UnitRecord → Identity
@@ -221,25 +214,6 @@ with-twice o i c d u v = rw (set-set (o .units) i u v)
 pub more-registered : (o : Olt) (u : UnitRecord) → o .count < length (o .units) → registered (withOneMore o u) ≡ registered o ++ (u ∷ [])
 unfolding withOneMore
 more-registered o u h = rw (add-one, take-suc-set (o .units) (o .count) u h)
-
-from-append : (k : ℕ) (us vs : List UnitRecord) (llid i : ℕ) → findFrom k us llid ≡ At i → findFrom k (us ++ vs) llid ≡ At i
-unfolding findFrom pick
-from-append k [] vs llid i e = let z : _≡_ {A = ℕ} 0 1 = cc in absurd (omega arith)
-from-append k (u ∷ us) vs llid i e = by-head (has (u .identity) llid) (from-append (suc k) us vs llid i) e where
-  by-head : (t : Bool) → (findFrom (suc k) us llid ≡ At i → findFrom (suc k) (us ++ vs) llid ≡ At i)
-      → pick t (At k) (findFrom (suc k) us llid) ≡ At i → pick t (At k) (findFrom (suc k) (us ++ vs) llid) ≡ At i
-  by-head true more f = f
-  by-head false more f = more f
-
-from-past : (k : ℕ) (us vs : List UnitRecord) (llid : ℕ) → findFrom k us llid ≡ Nowhere → findFrom k (us ++ vs) llid ≡ findFrom (k + length us) vs llid
-unfolding findFrom pick
-from-past k [] vs llid e = rw add-zero
-from-past k (u ∷ us) vs llid e = by-head (has (u .identity) llid) (from-past (suc k) us vs llid) e where
-  by-head : (t : Bool) → (findFrom (suc k) us llid ≡ Nowhere → findFrom (suc k) (us ++ vs) llid ≡ findFrom (suc k + length us) vs llid)
-      → pick t (At k) (findFrom (suc k) us llid) ≡ Nowhere
-      → pick t (At k) (findFrom (suc k) (us ++ vs) llid) ≡ findFrom (k + suc (length us)) vs llid
-  by-head true more f = let z : _≡_ {A = ℕ} 0 1 = cc in absurd (omega arith)
-  by-head false more f = more f ∙ ap (λ (n : ℕ). findFrom n vs llid) (rw (suc-add, add-suc))
 
 pub more-unit : (o : Olt) (u : UnitRecord) → o .count < length (o .units) → unitAt (withOneMore o u) (o .count) ≡ u
 unfolding withOneMore

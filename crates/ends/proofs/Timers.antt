@@ -118,7 +118,8 @@ since-advanced interval now fall n h k =
       old : Bool
       old = ltb (fall / interval) (now / interval)
 
-      by-reached : (t : Bool) → leb interval (now % interval + n) ≡ t → _≡_ {A = ℕ} (pick t 1 (pick old 1 0)) (pick (ltb (fall / interval) ((now + n) / interval)) 1 0)
+      by-reached : (t : Bool) → leb interval (now % interval + n) ≡ t
+          → _≡_ {A = ℕ} (pick t 1 (pick old 1 0)) (pick (ltb (fall / interval) ((now + n) / interval)) 1 0)
       by-reached true e =
           let one : 1 * interval ≤ now % interval + n = omega (arith, leb-true interval (now % interval + n) e) in
           let more = le-div-iff-mul-le h .1 one in
@@ -140,7 +141,8 @@ since-up interval now fall k h a b =
 pub since-multiple : (interval now fall : ℕ) → 1 ≤ interval → timerSince interval now fall .flag ≡ 1
     → (fall < now / interval * interval) × (now / interval * interval ≤ now)
 since-multiple interval now fall h e = by-up (ltb (fall / interval) (now / interval)) refl e where
-  by-up : (t : Bool) → ltb (fall / interval) (now / interval) ≡ t → _≡_ {A = ℕ} (pick t 1 0) 1 → (fall < now / interval * interval) × (now / interval * interval ≤ now)
+  by-up : (t : Bool) → ltb (fall / interval) (now / interval) ≡ t → _≡_ {A = ℕ} (pick t 1 0) 1
+      → (fall < now / interval * interval) × (now / interval * interval ≤ now)
   by-up true f g = (div-lt-iff-lt-mul h .0 (ltb-true _ _ f), div-mul-le-self now interval)
   by-up false f g =
       let z : _≡_ {A = ℕ} 0 1 = sym (pick-false 1 0 refl) ∙ g in

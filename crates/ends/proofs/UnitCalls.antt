@@ -48,7 +48,9 @@ clock-later tick later c h e =
     (record {
       trip = r .trip;
       captured = r .captured;
-      since = ⊎-elim (λ n. either-left _ n) (λ l. either-right _ (le-leb (c .tick) later (omega (arith, leb-true (c .tick) tick l)))) (either-cases _ _ (r .since));
+      since =
+          ⊎-elim (λ n. either-left _ n) (λ l. either-right _ (le-leb (c .tick) later (omega (arith, leb-true (c .tick) tick l))))
+          (either-cases _ _ (r .since));
       sent = r .sent;
       acknowledged = r .acknowledged;
     })
@@ -100,7 +102,13 @@ capture-keeps =
       unit = λ s u v a.
           let r = clock-in-range (s .tick) (u .clock) (unit-in-range (s .tick) u v .clock) in
           clock-replaced (s .tick) u (clockCaptured (u .clock) (s .tick))
-          (record { trip = r .trip; captured = omega arith; since = either-right _ (le-leb (s .tick) (s .tick) (omega arith)); sent = r .sent; acknowledged = r .acknowledged })
+          (record {
+            trip = r .trip;
+            captured = omega arith;
+            since = either-right _ (le-leb (s .tick) (s .tick) (omega arith));
+            sent = r .sent;
+            acknowledged = r .acknowledged;
+          })
           v;
       channels = λ s u v. stay s v;
     }
@@ -171,7 +179,8 @@ unfolding acknowledgeUnit clockAcknowledgedUnit keyAcknowledgedUnit acknowledgeV
 acknowledge-verdict a s u = by-kind (eqb (a .kind) clockKind) (eqb (a .kind) keyKind) where
   by-kind : (t k : Bool)
       → pick t (clockAcknowledgedUnit s u) (pick k (keyAcknowledgedUnit (a .number) s u) (outcome s (Refused NothingOutstanding) u silent)) .verdict
-      ≡ refuseIf (not (pick t (isUp (u .clock .sent)) (pick k (both (leb 1 (a .number)) (eqb (a .number) (u .keys .offered))) false))) NothingOutstanding Accepted
+      ≡ refuseIf (not (pick t (isUp (u .clock .sent)) (pick k (both (leb 1 (a .number)) (eqb (a .number) (u .keys .offered))) false)))
+      NothingOutstanding Accepted
   by-kind true k = refl
   by-kind false true = refl
   by-kind false false = refl

@@ -19,7 +19,8 @@ use Rattle.ends.proofs.Validity.{unit-in-range, unit-valid, shared-in-r
 use Rattle.ends.proofs.Lift.{Keeps}
 
 -- whatever the choice, the keys after a send are in range
-sent-valid : (choice : KeyChoice) (tick : ℕ) (u : UnitRecord) → validUnit tick u ≡ true → validUnit tick (withKeys u (keysAfterSend choice (u .keys) tick)) ≡ true
+sent-valid : (choice : KeyChoice) (tick : ℕ) (u : UnitRecord) → validUnit tick u ≡ true
+    → validUnit tick (withKeys u (keysAfterSend choice (u .keys) tick)) ≡ true
 unfolding withKeys keysAfterSend withFirst keysSwitched
 sent-valid Clear tick u v = v
 sent-valid (Barred r) tick u v = v

@@ -1,17 +1,14 @@
 -- The two channels, and how long a header keeps its own (01, Keys). Assumes nothing.
 use mathlib.Core.Bool.{Bool}
-use Prim.Native.Nat.{ℕ, _+_, _%_}
-use lib.Dec.{leb, ltb, eqb}
+use Prim.Native.Nat.{ℕ, _+_}
+use lib.Dec.{leb, ltb}
 use Rattle.octets.specs.Choice.{both, pick}
+use Rattle.envelope.specs.Channels.{onZero}
 use Rattle.ends.specs.Limits.{maxFree}
 use Rattle.ends.specs.declared.Channels.{Channels}
 
 abbrev pub freeChannels : Channels
 freeChannels = record { zero = 0; one = 0 }
-
--- the low seven bits of a channel index are the channel
-unfoldable pub onZero : ℕ → Bool
-onZero channel = eqb (channel % 128) 0
 
 -- the tick from which the channel of a channel index is free
 unfoldable pub freeFrom : Channels → ℕ → ℕ

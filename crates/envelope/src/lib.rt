@@ -3,7 +3,7 @@
 ghost use mathlib.Core.Path.{_≡_};
 ghost use Rattle.envelope.specs.Acceptance.{lengthsFit, nonceFits, sealVerdict};
 ghost use Rattle.envelope.specs.Answer.{sealNumber, sealCount};
-ghost use Rattle.envelope.specs.Channels.{channelFits, downstream, upstream};
+ghost use Rattle.envelope.specs.Channels.{channelFits, downstream, upstream, onZero};
 ghost use Rattle.envelope.specs.ControlMask.{controlOctet, dataOctet, masked, countEnciphered};
 ghost use Rattle.envelope.specs.CounterBlock.{counterBlock};
 use octets::EQ_OCTETS;
@@ -17,6 +17,12 @@ use refusal::refuse_if;
 
 // The longest payload.
 const MAX_OCTETS: usize = EQ_OCTETS * MAX_EQS;
+
+// The high bit of a channel index: 1 is upstream.
+const UPSTREAM_BIT: u8 = 128;
+
+// The channels are 0 and this.
+const MAX_CHANNEL: u8 = 1;
 
 // Channel index, sender's MAC and cipher clock at the header: what tells one envelope's counter blocks from another's.
 #[repr(C)]
@@ -96,14 +102,21 @@ pub fn count(payload: &[u8]) -> u64
 pub fn downstream(channel: u8) -> bool
     ensures { λ r. ⌜ r ≡ downstream channel ⌝ }
 {
-    channel <= 1
+    channel <= MAX_CHANNEL
 }
 
 // Whether a channel index is 80 or 81 hex.
 pub fn upstream(channel: u8) -> bool
     ensures { λ r. ⌜ r ≡ upstream channel ⌝ }
 {
-    (128 <= channel) & (channel <= 129)
+    (UPSTREAM_BIT <= channel) & (channel <= UPSTREAM_BIT + MAX_CHANNEL)
+}
+
+// Whether the channel of a channel index is 0.
+pub fn on_zero(channel: u8) -> bool
+    ensures { λ r. ⌜ r ≡ onZero channel ⌝ }
+{
+    channel % UPSTREAM_BIT == 0
 }
 
 pub fn channel_fits(channel: u8) -> bool

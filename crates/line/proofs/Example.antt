@@ -200,7 +200,8 @@ module _ {s : State} (c : Claim example s) where
         numbered = number;
       }
 
-  agreed : (u n : ℕ) {place : ℕ} {key : List ℕ} {i : Identity} → leb 1 n ≡ true → laneAt s u .site .identity ≡ i → laneAt s u .entry .place ≡ place → laneAt s u .keys .switches ≡ n
+  agreed : (u n : ℕ) {place : ℕ} {key : List ℕ} {i : Identity} → leb 1 n ≡ true → laneAt s u .site .identity ≡ i
+      → laneAt s u .entry .place ≡ place → laneAt s u .keys .switches ≡ n
       → keyOf (laneAt s u .keys) n ≡ key → ArrivedNumbered (laneAt s u) downward n → ArrivedNumbered (laneAt s u) upward n
       → Agreed s u place n key i
   agreed u n {i = i} some who at switches hkey down up =

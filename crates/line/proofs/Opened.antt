@@ -12,8 +12,8 @@ use Rattle.ends.specs.Headers.{validHeader, choiceNumber, choiceVerdict, choice
 use Rattle.ends.specs.Identities.{among, meets, distinct, llidsOf, has, kept, validMac, validIdentity}
 use Rattle.ends.specs.Keys.{keyIn, withKey, onlyKey, firstSend, aged, validFirst}
 use Rattle.ends.specs.Lift.{outcome, putBack, atUnit, after, lift}
-use Rattle.envelope.specs.Channels.{downstream, upstream}
-use Rattle.ends.specs.Occupancy.{onZero, freeFrom, taken, occupied, validChannels}
+use Rattle.envelope.specs.Channels.{downstream, upstream, onZero}
+use Rattle.ends.specs.Occupancy.{freeFrom, taken, occupied, validChannels}
 use Rattle.ends.specs.OltCalls.{oltAnswer, clockSent, keySent, freshOltOf, validRegistration, registerVerdict, registering, registerOf, sharedAdvanced, oltAdvanced, advancingOlt, advanceOltOf, captureOf, clockSendOf, offerOf, retryOf, acknowledgeOf}
 use Rattle.ends.specs.OltTraffic.{sendingOlt, receivingOlt}
 use Rattle.ends.specs.OnuCalls.{onuAnswer, onuAcknowledged, onuReply, freshOnuVerdict, freshOnuOf, onuClockAdvanced, onuAdvanced, advancingOnu, advanceOnuOf, clockMessageVerdict, clockFrom, onuSynced, clockMessageTo, clockMessageAt, newKey, heldKey, activeKey, keyMessageVerdict, keysTaken, keyMessageTo, keyMessageAt}

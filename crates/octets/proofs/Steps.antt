@@ -26,9 +26,6 @@ tabulate-end j n f h = let e : n - j ≡ 0 = omega arith in rw e
 pub drop-step : {A : Type 0} (l : List A) (i : ℕ) (d : A) → i < length l → drop i l ≡ getD l i d ∷ drop (i + 1) l
 drop-step l i d h = rw add-one (drop-cons l i d h)
 
-pub drop-back : (l : List ℕ) (i : ℕ) → 0 < i → i ≤ length l → drop (i - 1) l ≡ getD l (i - 1) 0 ∷ drop i l
-drop-back l i h k = let e : i - 1 + 1 ≡ i = omega arith in rw e at (drop-step l (i - 1) 0 (omega arith))
-
 pub same-hit : (a b : List ℕ) (i : ℕ) → i < length a → i < length b → getD a i 0 ≡ getD b i 0
     → same (drop i a) (drop i b) ≡ same (drop (i + 1) a) (drop (i + 1) b)
 unfolding same both
@@ -72,15 +69,6 @@ unfolding all
 all-end p n l i h = rw (first-end n l i h)
 
 ---- a list that grows
-
--- a list that grows by what is tabulated
-pub grow : (n j : ℕ) (a p : List ℕ) (f : ℕ → ℕ) → n + j < length a → take (n + j) a ≡ p ++ tabulate 0 j f
-    → take (n + (j + 1)) (set a (n + j) (f j)) ≡ p ++ tabulate 0 (j + 1) f
-grow n j a p f h e =
-    let s : n + (j + 1) ≡ suc (n + j) = omega arith in
-    let t : tabulate 0 (suc j) f ≡ tabulate 0 j f ++ (f j ∷ []) =
-    sym (append-nil (tabulate 0 (suc j) f)) ∙ rw zero-add at (tabulate-suc 0 j f []) in
-    rw (s, take-suc-set a (n + j) (f j) h, add-one, t, e, append-assoc)
 
 -- one turn of a loop that writes a piece behind the first `at` elements
 pub append-more : (s t piece : List ℕ) (at j : ℕ) → at + j < length t → j < length piece → take (at + j) t ≡ take at s ++ take j piece

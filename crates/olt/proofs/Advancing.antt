@@ -1,40 +1,114 @@
 -- The walk of an advance along the table. Assumes nothing.
-use mathlib.Core.Path.{_≡_}
+use mathlib.Core.Path.{_≡_, refl, sym, ap, _∙_}
 use mathlib.Core.Bool.{true}
-use Prim.Native.Nat.{ℕ, _<_, _≤_}
-use lib.ListN.{take}
-use borrow.Author.Tests.{leb-true, ltb-true}
-use Rattle.octets.specs.Lists.{all}
-use Rattle.octets.proofs.Choice.{both-left, both-right}
-use Rattle.octets.proofs.Tests.{all-weaker}
+use mathlib.Core.List.{List, [], _∷_, map, _++_}
+use Prim.Native.Nat.{ℕ, suc, _+_, _<_, _≤_}
+use native.Mathlib.Numerals.{add-one}
+use native.Mathlib.Omega.{arith}
+use lib.ListN.{length, take, drop, getD, set}
+use lib.Seq.{getD-set-same, set-set}
+use borrow.Author.Tests.{ltb-false, not-false}
+use Rattle.octets.proofs.Maps.{first-at, first-more, length-first}
+use Rattle.octets.proofs.Tests.{all-one}
+use Rattle.refusal.specs.Number.{verdictNumber}
+use Rattle.refusal.specs.declared.Verdict.{Verdict}
+use Rattle.refusal.specs.declared.Verdict.the-variants.{Accepted, Refused}
+use Rattle.refusal.proofs.Order.{refuse-accepted}
 use Rattle.clock.specs.Ticks.{maxTick}
-use Rattle.ends.specs.Limits.{maxInterval}
-use Rattle.ends.specs.Timers.{validInterval, validTimer}
+use Rattle.ends.specs.Limits.{maxUnits}
+use Rattle.ends.specs.OltCalls.{advanceOltOf, advanceOrder, advancingOlt, oltAdvanced, oltAnswer, sharedAdvanced}
+use Rattle.ends.specs.Replies.{silent, reply, advanceVerdict}
+use Rattle.ends.specs.Table.{pastUnit}
+use Rattle.ends.specs.Records.{withKeys, withTimer}
+use Rattle.ends.specs.Timers.{timerAdvanced, validTimer}
+use Rattle.ends.specs.UnitCalls.{unitAdvanced}
 use Rattle.ends.specs.Validity.{validOlt, validUnit}
 use Rattle.ends.specs.declared.Timer.{Timer}
 use Rattle.ends.specs.declared.UnitRecord.{UnitRecord}
 use Rattle.ends.specs.declared.Olt.{Olt}
-use Rattle.ends.proofs.Validity.{olt-in-range, shared-in-range, unit-in-range}
+use Rattle.ends.proofs.Validity.{olt-in-range, unit-in-range}
+use Rattle.unit.specs.Reached.{ifAccepted}
 
--- the ranges of a valid timer
-pub record Timed (t : Timer) : Type 0 where
-  pub some : 1 ≤ t .interval
-  pub most : t .interval ≤ maxInterval
-  pub within : t .count < t .interval
+-- an array whose elements are read one by one is as long as what is read
+pub length-mapped : {A B : Type 0} (f : A → B) (l : List A) (n : ℕ) → length (map f l) ≡ n → length l ≡ n
+length-mapped f [] n e = e
+length-mapped f (x ∷ xs) n e = sym (ap suc (sym (length-mapped f xs (length (map f xs)) refl))) ∙ e
 
-pub timed : (t : Timer) → validTimer t ≡ true → Timed t
-unfolding validTimer validInterval
-timed t e =
-    let i = both-left _ _ e in
-    record { some = leb-true _ _ (both-left _ _ i); most = leb-true _ _ (both-right _ _ i); within = ltb-true _ _ (both-left _ _ (both-right _ _ e)) }
+-- the first i units are moved
+abbrev pub movedTo : ℕ → ℕ → Olt → Olt
+movedTo n i o = record { shared = o .shared; count = o .count; units = map (unitAdvanced n) (take i (o .units)) ++ drop i (o .units) }
 
-unit-timed : (tick : ℕ) (u : UnitRecord) → validUnit tick u ≡ true → validTimer (u .keys .timer) ≡ true
-unit-timed tick u e = unit-in-range tick u e .timer
+-- what an accepted advance has met
+pub advance-met : (o : Olt) (n : ℕ) → advanceOrder o n ≡ Accepted → (validOlt o ≡ true) × (o .shared .tick + n ≤ maxTick)
+unfolding advanceVerdict
+advance-met o n e =
+    let a = refuse-accepted _ _ _ e in
+    (not-false _ (a .0), ltb-false _ _ (refuse-accepted _ _ _ (a .1) .0))
 
--- the timers of a valid end
-pub units-timed : (o : Olt) → validOlt o ≡ true → all (λ (u : UnitRecord). validTimer (u .keys .timer)) (take (o .count) (o .units)) ≡ true
-units-timed o e =
-    all-weaker (validUnit (o .shared .tick)) (λ (u : UnitRecord). validTimer (u .keys .timer)) (unit-timed (o .shared .tick)) _ (olt-in-range o e .units)
+-- only an accepted advance moves units
+pub moving : (v : Verdict) (count i : ℕ) → i < ifAccepted v count 0 → (v ≡ Accepted) × (i < count)
+unfolding ifAccepted
+moving Accepted count i h = (refl, h)
+moving (Refused r) count i h = absurd (omega arith)
 
-pub olt-tick : (o : Olt) → validOlt o ≡ true → o .shared .tick ≤ maxTick
-olt-tick o e = shared-in-range (o .shared) (olt-in-range o e .shared) .tick
+-- the timer of a unit that is not moved yet is that of a valid end
+pub timer-valid : (o : Olt) (n i : ℕ) → validOlt o ≡ true → i < o .count → i < maxUnits → length (o .units) ≡ maxUnits
+    → validTimer (getD (movedTo n i o .units) i pastUnit .keys .timer) ≡ true
+timer-valid o n i v h k len =
+    ap (λ (u : UnitRecord). validTimer (u .keys .timer)) (first-at (unitAdvanced n) i (o .units) pastUnit)
+    ∙ unit-in-range _ _ (all-one (validUnit (o .shared .tick)) (o .count) (o .units) pastUnit (olt-in-range o v .units) i (omega arith) (omega arith)) .timer
+
+---- the two stores into a unit's timer
+
+unfoldable pub counted : UnitRecord → ℕ → UnitRecord
+counted u x =
+    withKeys u (withTimer (u .keys) (record { interval = u .keys .timer .interval; count = x; flag = u .keys .timer .flag }))
+
+unfoldable pub flagged : UnitRecord → ℕ → UnitRecord
+flagged u x =
+    withKeys u (withTimer (u .keys) (record { interval = u .keys .timer .interval; count = u .keys .timer .count; flag = x }))
+
+both-stored : (n : ℕ) (u : UnitRecord) (t : Timer) → t ≡ timerAdvanced (u .keys .timer) n → flagged (counted u (t .count)) (t .flag) ≡ unitAdvanced n u
+unfolding counted flagged unitAdvanced withKeys withTimer timerAdvanced
+both-stored n u t e = rw e
+
+stored-twice : (l : List UnitRecord) (i : ℕ) (a : UnitRecord) (x : ℕ) → i < length l
+    → set (set l i a) i (flagged (getD (set l i a) i pastUnit) x) ≡ set l i (flagged a x)
+stored-twice l i a x h = set-set l i a _ ∙ ap (λ (u : UnitRecord). set l i (flagged u x)) (getD-set-same l i a pastUnit h)
+
+-- one unit more is moved
+pub moves-on : (o r : Olt) (n i : ℕ) (t : Timer) → r ≡ movedTo n i o → i < length (o .units)
+    → t ≡ timerAdvanced (getD (r .units) i pastUnit .keys .timer) n
+    → record {
+      shared = r .shared;
+      count = r .count;
+      units =
+          set (set (r .units) i (counted (getD (r .units) i pastUnit) (t .count))) i
+          (flagged (getD (set (r .units) i (counted (getD (r .units) i pastUnit) (t .count))) i pastUnit) (t .flag));
+    }
+    ≡ movedTo n (i + 1) o
+moves-on o r n i t e h f =
+    let k : i < length (r .units) = rw (e, length-first) h in
+    let same : getD (r .units) i pastUnit ≡ getD (o .units) i pastUnit =
+    ap (λ (x : Olt). getD (x .units) i pastUnit) e ∙ first-at (unitAdvanced n) i (o .units) pastUnit in
+    let units : set (set (r .units) i (counted (getD (r .units) i pastUnit) (t .count))) i
+    (flagged (getD (set (r .units) i (counted (getD (r .units) i pastUnit) (t .count))) i pastUnit) (t .flag)) ≡ movedTo n (i + 1) o .units =
+    stored-twice (r .units) i _ (t .flag) k
+    ∙ ap (set (r .units) i) (both-stored n _ t f ∙ ap (unitAdvanced n) same)
+    ∙ ap (λ (x : Olt). set (x .units) i (unitAdvanced n (getD (o .units) i pastUnit))) e
+    ∙ rw add-one (first-more (unitAdvanced n) i (o .units) pastUnit h) in
+    rw (units, ap (λ (x : Olt). x .shared) e, ap (λ (x : Olt). x .count) e)
+
+-- what an advance leaves, by its verdict: all the units in use are moved, or none
+pub advanced : (o : Olt) (n : ℕ) (v : Verdict) (number : ℕ) (r : Olt) (i : ℕ) → v ≡ advanceOrder o n
+    → r ≡ movedTo n i (record { shared = ifAccepted v (sharedAdvanced (o .shared) n) (o .shared); count = o .count; units = o .units })
+    → i ≡ ifAccepted v (o .count) 0 → number ≡ verdictNumber v → record { number = number; olt = r } ≡ advanceOltOf o n
+unfolding advanceOltOf advancingOlt oltAdvanced oltAnswer reply ifAccepted
+advanced o n v number r i e f g h = rw (h, f, g, ← e) (by-verdict v) where
+  by-verdict : (w : Verdict) → record {
+    number = verdictNumber w;
+    olt = movedTo n (ifAccepted w (o .count) 0) (record { shared = ifAccepted w (sharedAdvanced (o .shared) n) (o .shared); count = o .count; units = o .units });
+  }
+      ≡ oltAnswer (reply w o silent (oltAdvanced o n) silent)
+  by-verdict Accepted = refl
+  by-verdict (Refused x) = refl

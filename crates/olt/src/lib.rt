@@ -2,7 +2,6 @@
 // the number, the end and what is handed over; refused, the end is the one that was lent.
 mod answers;
 mod making;
-mod offering;
 pub mod place;
 mod timing;
 
@@ -17,17 +16,21 @@ use ends::Identity;
 use ends::KeySent;
 use ends::Olt;
 use ends::OltAnswer;
-use ends::check_olt::MAX_TICK;
+use ends::Timer;
 use ends::check_olt::valid_olt;
 use ends::llids::valid_mac;
+use ends::ticks::advance_verdict;
 use refusal::Refusal;
 use refusal::Verdict;
+use refusal::refuse_if;
+use refusal::verdict_number;
 use unit::calls;
+use unit::timing::timer_advanced;
 
-// Where the unit stands that a call names, or why the call goes no further.
-pub enum Located {
-    Place(usize),
-    Denied(Refusal),
+// Where the unit stands that a call names, and the verdict on the way there: refused, place 0.
+pub struct Located {
+    pub verdict: Verdict,
+    pub place: usize,
 }
 
 // A fresh OLT of that MAC and first clock. Refused, it is an end of zeros.
@@ -53,17 +56,34 @@ pub fn register(olt: Olt, identity: Identity, trip: u64, interval: u64) -> OltAn
     }
 }
 
-// Ticks, clock and the timers of all units.
+// Ticks, clock and the timers of all units. What it costs does not depend on the ticks.
 pub fn advance(olt: Olt, n: u64) -> OltAnswer
     ensures { λ r. ⌜ r ≡ advanceOltOf olt n ⌝ }
 {
-    if !valid_olt(olt) {
-        return answers::refused(olt, Refusal::OutOfRange);
+    let mut r = olt;
+    let valid = valid_olt(r);
+    let verdict = refuse_if(
+        !valid,
+        Refusal::OutOfRange,
+        advance_verdict(r.shared.tick, n),
+    );
+    let number = verdict_number(verdict);
+    let end = timing::units_moved(verdict, r.count);
+    let shared = timing::shared_after(verdict, r.shared, n);
+    r.shared = shared;
+    let mut i: usize = 0;
+    while i < end {
+        let timer = Timer {
+            interval: r.units[i].keys.timer.interval,
+            count: r.units[i].keys.timer.count,
+            flag: r.units[i].keys.timer.flag,
+        };
+        let next = timer_advanced(timer, n);
+        r.units[i].keys.timer.count = next.count;
+        r.units[i].keys.timer.flag = next.flag;
+        i += 1;
     }
-    if MAX_TICK - olt.shared.tick < n {
-        return answers::refused(olt, Refusal::AtEnd);
-    }
-    answers::accepted(timing::advanced(olt, n))
+    OltAnswer { number, olt: r }
 }
 
 // The unit's stamps are those of this tick, whenever they are sent.
@@ -72,31 +92,38 @@ pub fn capture(olt: Olt, llid: u16) -> OltAnswer
     ensures order { λ r. ⌜ r .number ≡ verdictNumber (captureOrder olt llid) ⌝ }
     ensures stamps { λ r. ⌜ Captures olt llid r ⌝ }
 {
-    let at = place::locate(olt, Verdict::Accepted, llid);
-    match at {
-        Located::Denied(refusal) => answers::refused(olt, refusal),
-        Located::Place(i) => {
-            let unit = place::unit_at(olt, i);
-            let next = calls::captured(unit, olt.shared.tick);
-            answers::accepted(place::with_unit(olt, i, next))
-        }
-    }
+    let mut r = olt;
+    let at = place::locate(r, Verdict::Accepted, llid);
+    let i = at.place;
+    let way = at.verdict;
+    let unit = r.units[i];
+    let done = calls::capture(way, r.shared, unit);
+    let verdict = done.verdict;
+    let number = verdict_number(verdict);
+    let next = done.unit;
+    r.units[i] = next;
+    OltAnswer { number, olt: r }
 }
 
 pub fn clock_send(olt: Olt, llid: u16) -> ClockSent
     ensures { λ r. ⌜ r ≡ clockSendOf olt llid ⌝ }
     ensures order { λ r. ⌜ r .number ≡ verdictNumber (clockSendOrder olt llid) ⌝ }
 {
-    let at = place::locate(olt, Verdict::Accepted, llid);
-    match at {
-        Located::Denied(refusal) => answers::clock_refused(olt, refusal),
-        Located::Place(i) => {
-            let unit = place::unit_at(olt, i);
-            let verdict = calls::clock_send_verdict(unit.clock, olt.shared.tick);
-            let message = calls::clock_message(olt.shared, unit.clock);
-            let next = calls::clock_sent(unit);
-            answers::clock_sent(olt, i, verdict, next, message)
-        }
+    let mut r = olt;
+    let at = place::locate(r, Verdict::Accepted, llid);
+    let i = at.place;
+    let way = at.verdict;
+    let unit = r.units[i];
+    let done = calls::clock_send(way, r.shared, unit);
+    let verdict = done.verdict;
+    let number = verdict_number(verdict);
+    let next = done.unit;
+    let message = done.message;
+    r.units[i] = next;
+    ClockSent {
+        number,
+        olt: r,
+        message,
     }
 }
 
@@ -104,20 +131,21 @@ pub fn offer(olt: Olt, llid: u16, key: [u8; 16]) -> KeySent
     ensures { λ r. ⌜ r ≡ offerOf olt llid key ⌝ }
     ensures order { λ r. ⌜ r .number ≡ verdictNumber (offerOrder olt llid key) ⌝ }
 {
-    let at = place::locate(olt, Verdict::Accepted, llid);
-    match at {
-        Located::Denied(refusal) => answers::key_refused(olt, refusal),
-        Located::Place(i) => {
-            let unit = place::unit_at(olt, i);
-            let verdict = calls::offer_verdict(unit, key);
-            match verdict {
-                Verdict::Refused(refusal) => answers::key_refused(olt, refusal),
-                Verdict::Accepted => {
-                    let next = offering::offered(unit, key);
-                    answers::key_sent(olt, i, next, llid)
-                }
-            }
-        }
+    let mut r = olt;
+    let at = place::locate(r, Verdict::Accepted, llid);
+    let i = at.place;
+    let way = at.verdict;
+    let unit = r.units[i];
+    let done = calls::offer(way, r.shared, unit, llid, key);
+    let verdict = done.verdict;
+    let number = verdict_number(verdict);
+    let next = done.unit;
+    let message = done.message;
+    r.units[i] = next;
+    KeySent {
+        number,
+        olt: r,
+        message,
     }
 }
 
@@ -126,17 +154,21 @@ pub fn retry(olt: Olt, llid: u16) -> KeySent
     ensures { λ r. ⌜ r ≡ retryOf olt llid ⌝ }
     ensures order { λ r. ⌜ r .number ≡ verdictNumber (retryOrder olt llid) ⌝ }
 {
-    let at = place::locate(olt, Verdict::Accepted, llid);
-    match at {
-        Located::Denied(refusal) => answers::key_refused(olt, refusal),
-        Located::Place(i) => {
-            let unit = place::unit_at(olt, i);
-            let verdict = calls::retry_verdict(unit.keys);
-            match verdict {
-                Verdict::Refused(refusal) => answers::key_refused(olt, refusal),
-                Verdict::Accepted => answers::key_sent(olt, i, unit, llid),
-            }
-        }
+    let mut r = olt;
+    let at = place::locate(r, Verdict::Accepted, llid);
+    let i = at.place;
+    let way = at.verdict;
+    let unit = r.units[i];
+    let done = calls::retry(way, r.shared, unit, llid);
+    let verdict = done.verdict;
+    let number = verdict_number(verdict);
+    let next = done.unit;
+    let message = done.message;
+    r.units[i] = next;
+    KeySent {
+        number,
+        olt: r,
+        message,
     }
 }
 
@@ -144,14 +176,15 @@ pub fn acknowledge(olt: Olt, llid: u16, acknowledgement: Acknowledgement) -> Olt
     ensures { λ r. ⌜ r ≡ acknowledgeOf olt llid acknowledgement ⌝ }
     ensures order { λ r. ⌜ r .number ≡ verdictNumber (acknowledgeOrder olt llid acknowledgement) ⌝ }
 {
-    let at = place::locate(olt, Verdict::Accepted, llid);
-    match at {
-        Located::Denied(refusal) => answers::refused(olt, refusal),
-        Located::Place(i) => {
-            let unit = place::unit_at(olt, i);
-            let verdict = calls::acknowledge_verdict(acknowledgement, olt.shared, unit);
-            let next = calls::acknowledged(acknowledgement, olt.shared, unit);
-            answers::put_back(olt, i, verdict, next)
-        }
-    }
+    let mut r = olt;
+    let at = place::locate(r, Verdict::Accepted, llid);
+    let i = at.place;
+    let way = at.verdict;
+    let unit = r.units[i];
+    let done = calls::acknowledge(way, r.shared, unit, acknowledgement);
+    let verdict = done.verdict;
+    let number = verdict_number(verdict);
+    let next = done.unit;
+    r.units[i] = next;
+    OltAnswer { number, olt: r }
 }

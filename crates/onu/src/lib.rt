@@ -224,13 +224,13 @@ fn active_key(keys: OnuKeys, message: KeyMessage) -> bool
 }
 
 // 1 for a lent end that is not valid, then 2, 5 and 8.
-fn key_message_verdict(o: Onu, message: KeyMessage) -> Verdict
+fn key_message_verdict(o: Onu, message: KeyMessage, new: bool) -> Verdict
+    requires { ⌜ new ≡ newKey (o .keys) message ⌝ }
     ensures { λ r. ⌜ r ≡ onValid (validOnu o) (keyMessageVerdict o message) ⌝ }
 {
     let valid = valid_onu(o);
     let known = ends::llids::has(o.identity, message.llid);
     let unsynced = !(o.clock.synced == 1);
-    let new = new_key(o.keys, message);
     let held = held_key(o.keys, message);
     let active = active_key(o.keys, message);
     let misfit = !(new | (held | active));
@@ -250,10 +250,11 @@ fn key_message_verdict(o: Onu, message: KeyMessage) -> Verdict
 }
 
 // A new key is kept; anything else that is accepted changes nothing.
-fn keys_taken(keys: OnuKeys, message: KeyMessage) -> OnuKeys
+fn keys_taken(keys: OnuKeys, message: KeyMessage, new: bool) -> OnuKeys
+    requires { ⌜ new ≡ newKey keys message ⌝ }
     ensures { λ r. ⌜ r ≡ keysTaken keys message ⌝ }
 {
-    if new_key(keys, message) {
+    if new {
         let key = message.key;
         let slots = ends::keyslots::with_key(keys.slots, message.number, key);
         return OnuKeys {
@@ -268,10 +269,11 @@ fn keys_taken(keys: OnuKeys, message: KeyMessage) -> OnuKeys
 pub fn key_message(o: Onu, message: KeyMessage) -> OnuAcknowledged
     ensures { λ r. ⌜ r ≡ keyMessageAt o message ⌝ }
 {
-    let verdict = key_message_verdict(o, message);
+    let new = new_key(o.keys, message);
+    let verdict = key_message_verdict(o, message, new);
     match verdict {
         Verdict::Accepted => {
-            let keys = keys_taken(o.keys, message);
+            let keys = keys_taken(o.keys, message, new);
             let mut onu = o;
             onu.keys = keys;
             OnuAcknowledged {

@@ -1,7 +1,7 @@
 // The refusals of 01, 'When the reader says no', in the order of its table, then those of 02, and the number of each.
 ghost use mathlib.Core.Path.{_≡_};
 ghost use Rattle.refusal.specs.Number.{numberOf, pairNumber, verdictNumber, verdictPair};
-ghost use Rattle.refusal.specs.Order.{refuseIf};
+ghost use Rattle.refusal.specs.Order.{andThen, refuseIf};
 
 pub enum Refusal {
     // 1: a value outside its range
@@ -136,4 +136,14 @@ pub fn refuse_if(cause: bool, refusal: Refusal, rest: Verdict) -> Verdict
         return Verdict::Refused(refusal);
     }
     rest
+}
+
+// The first verdict where it refuses, else the second.
+pub fn and_then(first: Verdict, second: Verdict) -> Verdict
+    ensures { λ r. ⌜ r ≡ andThen first second ⌝ }
+{
+    match first {
+        Verdict::Accepted => second,
+        Verdict::Refused(refusal) => Verdict::Refused(refusal),
+    }
 }

@@ -1,30 +1,35 @@
 -- Laws of what an end's decision makes of a payload: what a decision accepts, sealing accepts too. Assumes nothing.
-use mathlib.Core.Path.{_≡_, ap, _∙_}
+use mathlib.Core.Path.{_≡_, refl, ap, _∙_}
 use mathlib.Core.Bool.{Bool, true, false}
-use mathlib.Core.List.{List}
+use mathlib.Core.List.{List, [], _∷_}
 use Prim.Native.Nat.{ℕ, _≤_, _<_, _^_}
 use native.Mathlib.Omega.{arith}
 use lib.ListN.{length}
 use borrow.Author.Tests.{le-leb, lt-ltb, not-false}
+use Rattle.octets.specs.Choice.{both, pick}
 use Rattle.octets.specs.Eqs.{maxEqs}
 use Rattle.octets.proofs.Choice.{both-left, both-true, either-left, either-right, not-of-true}
 use Rattle.octets.specs.Output.{WithOutput, withOutput}
 use Rattle.refusal.specs.declared.Verdict.{Verdict}
 use Rattle.refusal.specs.declared.Refusal.the-variants.{OutOfRange, BadLength}
-use Rattle.refusal.specs.declared.Verdict.the-variants.{Accepted}
+use Rattle.refusal.specs.declared.Verdict.the-variants.{Accepted, Refused}
 use Rattle.refusal.proofs.Order.{refuse-passed}
 use Rattle.clock.specs.Ticks.{clockTurn}
-use Rattle.envelope.specs.ControlMask.{eqsOf}
+use Rattle.envelope.specs.ControlMask.{countEnciphered, eqsOf}
 use Rattle.envelope.specs.Acceptance.{nonceFits, sealVerdict}
 use Rattle.envelope.specs.Answer.{sealCount}
 use Rattle.envelope.specs.declared.Nonce.{Nonce}
 use Rattle.envelope.specs.declared.SealAnswer.{SealAnswer}
 use Rattle.envelope.proofs.Acceptance.{lengths-fit}
+use Rattle.sealing.specs.Payload.{sealed}
 use Rattle.sealing.specs.Seal.{carried, countCarried, sealingAfter, sealing}
 use Rattle.ends.specs.Identities.{validMac, validIdentity}
+use Rattle.ends.specs.Replies.{reply}
+use Rattle.ends.specs.Headers.{noPassage}
 use Rattle.ends.specs.declared.Identity.{Identity}
+use Rattle.ends.specs.declared.Passage.{Passage}
 use Rattle.envelope.specs.Channels.{channelFits, downstream, upstream}
-use Rattle.traffic.specs.Passages.{misfit}
+use Rattle.traffic.specs.Passages.{misfit, choiceEnciphered, passed, passedCount, outputAfter, carriedAfter}
 
 -- a payload whose length is not refused has at most the most EQs
 pub few-eqs : (p out : List ℕ) → misfit p out ≡ false → eqsOf p ≤ maxEqs
@@ -56,3 +61,22 @@ pub sealing-carried : (enciphered : Bool) (w : List ℕ) (n : Nonce) (p out : Li
 unfolding sealing sealingAfter
 sealing-carried enciphered w n p out a o e j =
     ap (λ (s : WithOutput SealAnswer). withOutput (sealCount (s .answer)) (s .output)) (e ∙ ap (λ (v : Verdict). sealingAfter v enciphered w n p out) j)
+
+-- a refused call hands over nothing, so that nothing is counted
+pub reply-carried : {E H : Type 0} (passage : H → Passage) (v : Verdict) (lent next : E) (nothing handed : H) (channel : ℕ) (p out : List ℕ)
+    → passage nothing ≡ noPassage
+    → let r = reply v lent nothing next handed in
+    carriedAfter (r .verdict) channel (passage (r .handed)) p out
+    ≡ withOutput (passedCount (passage (r .handed)) p) (outputAfter (r .verdict) (passed channel (passage (r .handed)) p) out)
+unfolding reply carriedAfter outputAfter passedCount choiceEnciphered countCarried pick
+reply-carried passage Accepted lent next nothing handed channel p out e = refl
+reply-carried passage (Refused r) lent next nothing handed channel p out e = rw e
+
+-- an empty payload passes enciphered as it passes clear
+pub empty-clear : (b some : Bool) (w : List ℕ) (n : Nonce) (p : List ℕ) → (some ≡ false → length p ≡ 0)
+    → withOutput (countCarried (both b some) p) (carried (both b some) w n p) ≡ withOutput (countCarried b p) (carried b w n p)
+unfolding both countCarried carried countEnciphered sealed pick
+empty-clear false some w n p h = refl
+empty-clear true true w n p h = refl
+empty-clear true false w n [] h = refl
+empty-clear true false w n (x ∷ p) h = let z = h refl in absurd (omega arith)

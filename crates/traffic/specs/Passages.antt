@@ -3,6 +3,7 @@ use mathlib.Core.Bool.{Bool, true, false, not}
 use mathlib.Core.List.{List}
 use Prim.Native.Nat.{ℕ}
 use lib.ListN.{length}
+use Rattle.octets.specs.Output.{WithOutput, withOutput}
 use Rattle.refusal.specs.declared.Verdict.{Verdict}
 use Rattle.refusal.specs.declared.Verdict.the-variants.{Accepted, Refused}
 use Rattle.envelope.specs.Acceptance.{lengthsFit}
@@ -38,3 +39,8 @@ passedCount q p = countCarried (choiceEnciphered (q .choice)) p
 unfoldable pub outputAfter : Verdict → List ℕ → List ℕ → List ℕ
 outputAfter Accepted next lent = next
 outputAfter (Refused r) next lent = lent
+
+-- what a verdict leaves of a payload that would pass: refused, nothing is counted and the output stays
+unfoldable pub carriedAfter : Verdict → ℕ → Passage → List ℕ → List ℕ → WithOutput ℕ
+carriedAfter Accepted channel q p out = withOutput (passedCount q p) (passed channel q p)
+carriedAfter (Refused r) channel q p out = withOutput 0 out

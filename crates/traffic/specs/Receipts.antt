@@ -5,7 +5,9 @@ use Prim.Native.Nat.{ℕ}
 use Rattle.octets.specs.Output.{WithOutput}
 use Rattle.refusal.specs.Number.{numberOf, verdictNumber}
 use Rattle.refusal.specs.declared.Refusal.{Refusal}
+use Rattle.refusal.specs.declared.Verdict.the-variants.{Refused}
 use Rattle.ends.specs.Replies.{Reply}
+use Rattle.ends.specs.Headers.{noPassage}
 use Rattle.ends.specs.OltTraffic.{receivingOlt}
 use Rattle.ends.specs.OnuTraffic.{receivingOnu}
 use Rattle.ends.specs.declared.Header.{Header}
@@ -15,6 +17,7 @@ use Rattle.ends.specs.declared.Passage.{Passage}
 use Rattle.traffic.specs.Passages.{misfit, passed, passedCount, outputAfter}
 use Rattle.traffic.specs.declared.OltReceived.{OltReceived}
 use Rattle.traffic.specs.declared.OnuReceived.{OnuReceived}
+use Rattle.traffic.specs.declared.at_onu.OnuReceiving.{OnuReceiving}
 
 unfoldable pub oltReceived : Reply Olt Passage → ℕ → List ℕ → List ℕ → WithOutput OltReceived
 oltReceived r channel p out =
@@ -22,10 +25,6 @@ oltReceived r channel p out =
       answer = record { number = verdictNumber (r .verdict); olt = r .end; count = passedCount (r .handed) p };
       output = outputAfter (r .verdict) (passed channel (r .handed) p) out;
     }
-
--- refused: the end as it was lent, count 0
-unfoldable pub oltNotReceived : Olt → Refusal → OltReceived
-oltNotReceived o r = record { number = numberOf r; olt = o; count = 0 }
 
 unfoldable pub oltReceiveOf : Olt → Header → List ℕ → List ℕ → WithOutput OltReceived
 oltReceiveOf o h p out = oltReceived (receivingOlt o (misfit p out) h) (h .channel) p out
@@ -37,8 +36,16 @@ onuReceived r channel p out =
       output = outputAfter (r .verdict) (passed channel (r .handed) p) out;
     }
 
+-- refused: the end as it was lent, count 0
 unfoldable pub onuNotReceived : Onu → Refusal → OnuReceived
 onuNotReceived o r = record { number = numberOf r; onu = o; count = 0 }
+
+-- what an ONU's receipt decides, but for its octets
+unfoldable pub onuReceiving : Reply Onu Passage → OnuReceiving
+onuReceiving r = record { verdict = r .verdict; onu = r .end; passage = r .handed }
+
+unfoldable pub onuNotReceiving : Onu → Refusal → OnuReceiving
+onuNotReceiving o r = record { verdict = Refused r; onu = o; passage = noPassage }
 
 unfoldable pub onuReceiveOf : Onu → Header → List ℕ → List ℕ → WithOutput OnuReceived
 onuReceiveOf o h p out = onuReceived (receivingOnu o (misfit p out) h) (h .channel) p out

@@ -16,6 +16,7 @@ use Rattle.ends.specs.declared.Sending.{Sending}
 use Rattle.traffic.specs.Passages.{misfit, passed, passedCount, outputAfter}
 use Rattle.traffic.specs.declared.OltSent.{OltSent}
 use Rattle.traffic.specs.declared.OnuSent.{OnuSent}
+use Rattle.traffic.specs.declared.at_onu.OnuSending.{OnuSending}
 
 unfoldable pub oltSent : Reply Olt Sending → ℕ → List ℕ → List ℕ → WithOutput OltSent
 oltSent r channel p out =
@@ -29,10 +30,6 @@ oltSent r channel p out =
           };
       output = outputAfter (r .verdict) (passed channel (r .handed .passage) p) out;
     }
-
--- refused: the end as it was lent, a header of zeros, count 0
-unfoldable pub oltNotSent : Olt → Refusal → OltSent
-oltNotSent o r = record { number = numberOf r; olt = o; header = noSending .header; count = 0 }
 
 unfoldable pub oltSendOf : Olt → ℕ → ℕ → List ℕ → List ℕ → WithOutput OltSent
 oltSendOf o llid channel p out = oltSent (sendingOlt o (misfit p out) llid channel (eqsOf p)) channel p out
@@ -50,8 +47,9 @@ onuSent r channel p out =
       output = outputAfter (r .verdict) (passed channel (r .handed .passage) p) out;
     }
 
-unfoldable pub onuNotSent : Onu → Refusal → OnuSent
-onuNotSent o r = record { number = numberOf r; onu = o; header = noSending .header; count = 0 }
+-- what an ONU's send decides, but for its octets
+unfoldable pub onuSending : Reply Onu Sending → OnuSending
+onuSending r = record { verdict = r .verdict; onu = r .end; sending = r .handed }
 
 unfoldable pub onuSendOf : Onu → ℕ → ℕ → List ℕ → List ℕ → WithOutput OnuSent
 onuSendOf o llid channel p out = onuSent (sendingOnu o (misfit p out) llid channel (eqsOf p)) channel p out

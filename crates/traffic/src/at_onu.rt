@@ -1,25 +1,24 @@
 // Send and receive of the ONU (01, Keys; 'When the reader says no').
 ghost use mathlib.Core.Path.{_≡_};
-ghost use mathlib.Core.Bool.{true};
+ghost use mathlib.Core.Bool.{true, false};
 ghost use Prim.Native.Nat.{ℕ, _≤_, _<_};
 ghost use Rattle.clock.specs.Ticks.{maxTick};
 ghost use Rattle.octets.specs.Eqs.{maxEqs};
 ghost use Rattle.ends.specs.Limits.{maxKeyNumber};
-ghost use Rattle.ends.specs.OnuTraffic.{onuMoved, onuReceiveChoice, onuReceiveVerdict, onuAfterReceipt, onuSendChoice, onuSendVerdict, onuAfterSend};
+ghost use Rattle.ends.specs.OnuTraffic.{onuMoved, onuReceiveChoice, onuReceiveVerdict, onuAfterReceipt, receivingOnu, onuSendChoice, onuSendVerdict, onuAfterSend, sendingOnu};
 ghost use Rattle.ends.specs.Replies.{onValid};
 ghost use Rattle.ends.specs.Validity.{validOnu, validOnuKeys};
 ghost use Rattle.ends.specs.declared.KeyChoice.the-variants.{Next};
-ghost use Rattle.traffic.specs.Receipts.{onuNotReceived};
-ghost use Rattle.traffic.specs.Sends.{onuNotSent};
-use crate::OnuReceived;
-use crate::OnuSent;
-use crate::carrying;
+ghost use Rattle.traffic.specs.Receipts.{onuReceiving, onuNotReceiving};
+ghost use Rattle.traffic.specs.Sends.{onuSending};
 use clock::epam_of;
 use ends::FirstSend;
 use ends::Header;
 use ends::KeyChoice;
 use ends::Onu;
 use ends::OnuKeys;
+use ends::Passage;
+use ends::Sending;
 use ends::check_onu::valid_onu;
 use ends::keyslots::only_key;
 use ends::llids::has;
@@ -30,34 +29,21 @@ use refusal::Verdict;
 use refusal::refuse_if;
 use unit::passing;
 
-pub(crate) fn not_sent(onu: Onu, refusal: Refusal) -> OnuSent
-    ensures { λ r. ⌜ r ≡ onuNotSent onu refusal ⌝ }
-{
-    OnuSent {
-        number: refusal::number(refusal),
-        onu,
-        header: Header {
-            channel: 0,
-            llid: 0,
-            encenabled: 0,
-            enckey: 0,
-            epam: 0,
-        },
-        count: 0,
-    }
+// What a send decides: its verdict, the end that it leaves, and what its payload goes under.
+pub(crate) struct OnuSending {
+    pub verdict: Verdict,
+    pub onu: Onu,
+    pub sending: Sending,
 }
 
-pub(crate) fn not_received(onu: Onu, refusal: Refusal) -> OnuReceived
-    ensures { λ r. ⌜ r ≡ onuNotReceived onu refusal ⌝ }
-{
-    OnuReceived {
-        number: refusal::number(refusal),
-        onu,
-        count: 0,
-    }
+// What a receipt decides: its verdict, the end that it leaves, and what its payload comes under.
+pub(crate) struct OnuReceiving {
+    pub verdict: Verdict,
+    pub onu: Onu,
+    pub passage: Passage,
 }
 
-pub(crate) fn send_choice(keys: OnuKeys) -> KeyChoice
+fn send_choice(keys: OnuKeys) -> KeyChoice
     ensures { λ r. ⌜ r ≡ onuSendChoice keys ⌝ }
 {
     if keys.active == 0 {
@@ -67,45 +53,82 @@ pub(crate) fn send_choice(keys: OnuKeys) -> KeyChoice
 }
 
 // 1 for a lent end that is not valid, then what the send refuses.
-pub(crate) fn send_verdict(onu: Onu, misfit: bool, llid: u16, channel: u8) -> Verdict
+fn send_verdict(onu: Onu, misfit: bool, llid: u16, channel: u8, choice: KeyChoice) -> Verdict
+    requires { ⌜ choice ≡ onuSendChoice (onu .keys) ⌝ }
     ensures { λ r. ⌜ r ≡ onValid (validOnu onu) (onuSendVerdict onu misfit llid channel) ⌝ }
 {
-    if !valid_onu(onu) {
-        return Verdict::Refused(Refusal::OutOfRange);
-    }
+    let valid = valid_onu(onu);
     let right = upstream(channel);
     let known = has(onu.identity, llid);
-    let choice = send_choice(onu.keys);
     let rest = passing::channel_then_key(onu.channels, channel, choice, onu.first, onu.tick);
     refuse_if(
-        misfit,
-        Refusal::BadLength,
+        !valid,
+        Refusal::OutOfRange,
         refuse_if(
-            !right,
-            Refusal::OutOfRange,
-            refuse_if(!known, Refusal::UnknownLlid, rest),
+            misfit,
+            Refusal::BadLength,
+            refuse_if(
+                !right,
+                Refusal::OutOfRange,
+                refuse_if(!known, Refusal::UnknownLlid, rest),
+            ),
         ),
     )
 }
 
 // The end that a send leaves, where it is accepted.
-pub(crate) fn after_send(onu: Onu, channel: u8, eqs: u64) -> Onu
+fn after_send(choice: KeyChoice, onu: Onu, channel: u8, eqs: u64) -> Onu
+    requires { ⌜ choice ≡ onuSendChoice (onu .keys) ⌝ }
     requires { ⌜ onu .tick ≤ maxTick ⌝ }
     requires { ⌜ eqs ≤ maxEqs ⌝ }
     ensures { λ r. ⌜ r ≡ onuAfterSend onu channel eqs ⌝ }
 {
-    let channels = carrying::occupied(onu.channels, channel, onu.tick, eqs);
+    let channels = passing::occupied(onu.channels, channel, onu.tick, eqs);
     let mut r = onu;
     r.channels = channels;
-    if onu.keys.active == 0 {
-        return r;
+    match choice {
+        KeyChoice::Clear => r,
+        KeyChoice::Current(_) => {
+            r.first = passing::first_send(onu.first, onu.tick);
+            r
+        }
+        KeyChoice::Next(_) => r,
+        KeyChoice::Barred(_) => r,
     }
-    r.first = passing::first_send(onu.first, onu.tick);
-    r
+}
+
+// A send, but for its octets: the key is chosen once, and the verdict, the end and the header follow from that choice.
+pub(crate) fn send(onu: Onu, misfit: bool, llid: u16, channel: u8, eqs: u64) -> OnuSending
+    requires { ⌜ (misfit ≡ false → eqs ≤ maxEqs) ⌝ }
+    ensures { λ r. ⌜ r ≡ onuSending (sendingOnu onu misfit llid channel eqs) ⌝ }
+{
+    let choice = send_choice(onu.keys);
+    let verdict = send_verdict(onu, misfit, llid, channel, choice);
+    match verdict {
+        Verdict::Accepted => {
+            let next = after_send(choice, onu, channel, eqs);
+            let mac = onu.identity.mac;
+            let time = onu.clock.time;
+            let sending = passing::sending_of(choice, onu.keys.slots, mac, time, channel, llid);
+            OnuSending {
+                verdict: Verdict::Accepted,
+                onu: next,
+                sending,
+            }
+        }
+        Verdict::Refused(refusal) => {
+            let sending = passing::no_sending();
+            OnuSending {
+                verdict: Verdict::Refused(refusal),
+                onu,
+                sending,
+            }
+        }
+    }
 }
 
 // The index of key a + 1 is the one that a does not have.
-pub(crate) fn receive_choice(keys: OnuKeys, header: Header) -> KeyChoice
+fn receive_choice(keys: OnuKeys, header: Header) -> KeyChoice
     requires { ⌜ validOnuKeys keys ≡ true ⌝ }
     ensures { λ r. ⌜ r ≡ onuReceiveChoice keys header ⌝ }
 {
@@ -126,20 +149,18 @@ pub(crate) fn receive_choice(keys: OnuKeys, header: Header) -> KeyChoice
     KeyChoice::Barred(Refusal::NoKey)
 }
 
-// 1 for a lent end that is not valid, then what the receipt refuses.
-pub(crate) fn receive_verdict(onu: Onu, misfit: bool, header: Header) -> Verdict
-    ensures { λ r. ⌜ r ≡ onValid (validOnu onu) (onuReceiveVerdict onu misfit header) ⌝ }
+// What a receipt at a valid end refuses.
+fn receive_verdict(onu: Onu, misfit: bool, header: Header, choice: KeyChoice) -> Verdict
+    requires { ⌜ choice ≡ onuReceiveChoice (onu .keys) header ⌝ }
+    ensures { λ r. ⌜ r ≡ onuReceiveVerdict onu misfit header ⌝ }
 {
-    if !valid_onu(onu) {
-        return Verdict::Refused(Refusal::OutOfRange);
-    }
     let right = downstream(header.channel) & passing::valid_header(header);
     let known = has(onu.identity, header.llid);
     let epam = epam_of(onu.clock.rx);
     let synced = onu.clock.synced == 1;
     let late = synced & !(header.epam == epam);
     let unset = (header.encenabled == 1) & !synced;
-    let rest = passing::choice_verdict(receive_choice(onu.keys, header));
+    let rest = passing::choice_verdict(choice);
     refuse_if(
         misfit,
         Refusal::BadLength,
@@ -179,7 +200,7 @@ fn moved(onu: Onu) -> Onu
 }
 
 // The end that a receipt leaves, where it is accepted.
-pub(crate) fn after_receive(choice: KeyChoice, onu: Onu) -> Onu
+fn after_receive(choice: KeyChoice, onu: Onu) -> Onu
     requires { ⌜ ((n : ℕ) → choice ≡ Next n → onu .keys .active < maxKeyNumber) ⌝ }
     ensures { λ r. ⌜ r ≡ onuAfterReceipt choice onu ⌝ }
 {
@@ -188,5 +209,40 @@ pub(crate) fn after_receive(choice: KeyChoice, onu: Onu) -> Onu
         KeyChoice::Current(_) => onu,
         KeyChoice::Next(_) => moved(onu),
         KeyChoice::Barred(_) => onu,
+    }
+}
+
+fn not_received(onu: Onu, refusal: Refusal) -> OnuReceiving
+    ensures { λ r. ⌜ r ≡ onuNotReceiving onu refusal ⌝ }
+{
+    let passage = passing::no_passage();
+    OnuReceiving {
+        verdict: Verdict::Refused(refusal),
+        onu,
+        passage,
+    }
+}
+
+// A receipt, but for its octets: 1 for a lent end that is not valid; then the key is chosen once, and all else follows from that choice.
+pub(crate) fn receive(onu: Onu, misfit: bool, header: Header) -> OnuReceiving
+    ensures { λ r. ⌜ r ≡ onuReceiving (receivingOnu onu misfit header) ⌝ }
+{
+    if !valid_onu(onu) {
+        return not_received(onu, Refusal::OutOfRange);
+    }
+    let choice = receive_choice(onu.keys, header);
+    let verdict = receive_verdict(onu, misfit, header, choice);
+    match verdict {
+        Verdict::Accepted => {
+            let next = after_receive(choice, onu);
+            let mac = onu.oltmac;
+            let passage = passing::passage_of(choice, onu.keys.slots, mac, onu.clock.rx);
+            OnuReceiving {
+                verdict: Verdict::Accepted,
+                onu: next,
+                passage,
+            }
+        }
+        Verdict::Refused(refusal) => not_received(onu, refusal),
     }
 }

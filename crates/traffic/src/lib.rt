@@ -15,10 +15,9 @@ use ends::Header;
 use ends::Olt;
 use ends::Onu;
 use octets::EQ_OCTETS;
-use olt::Located;
 use olt::place::locate;
-use refusal::Verdict;
-use unit::passing;
+use refusal::verdict_number;
+use unit::traffic;
 
 #[repr(C)]
 pub struct OltSent {
@@ -54,11 +53,31 @@ pub fn olt_send(olt: Olt, llid: u16, channel: u8, payload: &[u8], output: &mut [
     ensures { λ r. ⌜ withOutput r (now (output .exit)) ≡ oltSendOf olt llid channel (now (payload .entry)) (now (output .entry)) ⌝ }
     ensures order { λ r. ⌜ r .number ≡ verdictNumber (sendOrder olt (misfit (now (payload .entry)) (now (output .entry))) llid channel) ⌝ }
 {
+    let mut r = olt;
     let ahead = at_olt::send_ahead(payload.len(), output.len(), channel);
-    let at = locate(olt, ahead, llid);
-    match at {
-        Located::Denied(refusal) => at_olt::not_sent(olt, refusal),
-        Located::Place(i) => at_olt::send_at(olt, i, llid, channel, payload, output),
+    let at = locate(r, ahead, llid);
+    let i = at.place;
+    let way = at.verdict;
+    let unit = r.units[i];
+    let eqs = (payload.len() / EQ_OCTETS) as u64;
+    let done = traffic::send(way, r.shared, unit, llid, channel, eqs);
+    let verdict = done.verdict;
+    let next = done.unit;
+    let channels = done.channels;
+    let sending = done.sending;
+    let header = sending.header;
+    let passage = sending.passage;
+    let count = carrying::carry_accepted(verdict, passage, channel, payload, output);
+    let number = verdict_number(verdict);
+    let mut shared = r.shared;
+    shared.channels = channels;
+    r.shared = shared;
+    r.units[i] = next;
+    OltSent {
+        number,
+        olt: r,
+        header,
+        count,
     }
 }
 
@@ -66,11 +85,23 @@ pub fn olt_receive(olt: Olt, header: Header, octets: &[u8], output: &mut [u8]) -
     ensures { λ r. ⌜ withOutput r (now (output .exit)) ≡ oltReceiveOf olt header (now (octets .entry)) (now (output .entry)) ⌝ }
     ensures order { λ r. ⌜ r .number ≡ verdictNumber (receiveOrder olt (misfit (now (octets .entry)) (now (output .entry))) header) ⌝ }
 {
+    let mut r = olt;
     let ahead = at_olt::receive_ahead(octets.len(), output.len(), header);
-    let at = locate(olt, ahead, header.llid);
-    match at {
-        Located::Denied(refusal) => at_olt::not_received(olt, refusal),
-        Located::Place(i) => at_olt::receive_at(olt, i, header, octets, output),
+    let at = locate(r, ahead, header.llid);
+    let i = at.place;
+    let way = at.verdict;
+    let unit = r.units[i];
+    let done = traffic::receive(way, r.shared, unit, header);
+    let verdict = done.verdict;
+    let next = done.unit;
+    let passage = done.passage;
+    let count = carrying::carry_accepted(verdict, passage, header.channel, octets, output);
+    let number = verdict_number(verdict);
+    r.units[i] = next;
+    OltReceived {
+        number,
+        olt: r,
+        count,
     }
 }
 
@@ -78,25 +109,23 @@ pub fn onu_send(onu: Onu, llid: u16, channel: u8, payload: &[u8], output: &mut [
     ensures { λ r. ⌜ withOutput r (now (output .exit)) ≡ onuSendOf onu llid channel (now (payload .entry)) (now (output .entry)) ⌝ }
 {
     let misfit = carrying::misfit(payload.len(), output.len());
-    let verdict = at_onu::send_verdict(onu, misfit, llid, channel);
-    match verdict {
-        Verdict::Refused(refusal) => at_onu::not_sent(onu, refusal),
-        Verdict::Accepted => {
-            let next = at_onu::after_send(onu, channel, (payload.len() / EQ_OCTETS) as u64);
-            let choice = at_onu::send_choice(onu.keys);
-            let mac = onu.identity.mac;
-            let time = onu.clock.time;
-            let sending = passing::sending_of(choice, onu.keys.slots, mac, time, channel, llid);
-            let header = sending.header;
-            let passage = sending.passage;
-            let count = carrying::carry(passage, channel, payload, output);
-            OnuSent {
-                number: 0,
-                onu: next,
-                header,
-                count,
-            }
-        }
+    let decided = at_onu::send(
+        onu,
+        misfit,
+        llid,
+        channel,
+        (payload.len() / EQ_OCTETS) as u64,
+    );
+    let verdict = decided.verdict;
+    let next = decided.onu;
+    let header = decided.sending.header;
+    let passage = decided.sending.passage;
+    let count = carrying::carry_accepted(verdict, passage, channel, payload, output);
+    OnuSent {
+        number: verdict_number(verdict),
+        onu: next,
+        header,
+        count,
     }
 }
 
@@ -104,20 +133,14 @@ pub fn onu_receive(onu: Onu, header: Header, octets: &[u8], output: &mut [u8]) -
     ensures { λ r. ⌜ withOutput r (now (output .exit)) ≡ onuReceiveOf onu header (now (octets .entry)) (now (output .entry)) ⌝ }
 {
     let misfit = carrying::misfit(octets.len(), output.len());
-    let verdict = at_onu::receive_verdict(onu, misfit, header);
-    match verdict {
-        Verdict::Refused(refusal) => at_onu::not_received(onu, refusal),
-        Verdict::Accepted => {
-            let choice = at_onu::receive_choice(onu.keys, header);
-            let next = at_onu::after_receive(choice, onu);
-            let mac = onu.oltmac;
-            let passage = passing::passage_of(choice, onu.keys.slots, mac, onu.clock.rx);
-            let count = carrying::carry(passage, header.channel, octets, output);
-            OnuReceived {
-                number: 0,
-                onu: next,
-                count,
-            }
-        }
+    let decided = at_onu::receive(onu, misfit, header);
+    let verdict = decided.verdict;
+    let next = decided.onu;
+    let passage = decided.passage;
+    let count = carrying::carry_accepted(verdict, passage, header.channel, octets, output);
+    OnuReceived {
+        number: verdict_number(verdict),
+        onu: next,
+        count,
     }
 }

@@ -1,1 +1,3 @@
 pub mod Elapsed
+pub mod Reached
+pub mod Timed

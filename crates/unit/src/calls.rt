@@ -1,7 +1,15 @@
 // The clock and key calls of the OLT on one unit (01, Clock; Keys).
 ghost use mathlib.Core.Path.{_≡_};
-ghost use Rattle.ends.specs.Records.{withClock};
-ghost use Rattle.ends.specs.UnitCalls.{acknowledgeUnit, clockCaptured, clockMessageOf, clockAfterSend, clockSendVerdict, keyMessageOf, offerVerdict, outstanding, retryVerdict};
+ghost use Prim.Native.Nat.{_<_};
+ghost use Rattle.ends.specs.Lift.{outcome};
+ghost use Rattle.ends.specs.Limits.{maxKeyNumber};
+ghost use Rattle.ends.specs.Messages.{noKeyMessage, noStamps};
+ghost use Rattle.ends.specs.Replies.{silent};
+ghost use Rattle.ends.specs.UnitCalls.{acknowledgeUnit, captureUnit, clockMessageOf, clockSendUnit, clockSendVerdict, keyMessageOf, keysOffered, offerUnit, offerVerdict, outstanding, retryUnit, unitOffered};
+ghost use Rattle.unit.specs.Reached.{reached};
+use crate::UnitAnswer;
+use crate::UnitClockSent;
+use crate::UnitKeySent;
 use crate::ticks::since;
 use clock::Stamps;
 use clock::TICKS_PER_SECOND;
@@ -16,20 +24,34 @@ use ends::UnitRecord;
 use ends::check_olt::MAX_KEY_NUMBER;
 use ends::keyslots::key_in;
 use ends::keyslots::same_key;
+use ends::keyslots::with_key;
 use refusal::Refusal;
 use refusal::Verdict;
+use refusal::and_then;
 use refusal::refuse_if;
 
-pub fn captured(unit: UnitRecord, tick: u64) -> UnitRecord
-    ensures { λ r. ⌜ r ≡ withClock unit (clockCaptured (unit .clock) tick) ⌝ }
+// The unit's stamps are those of this tick.
+pub fn capture(way: Verdict, shared: Shared, unit: UnitRecord) -> UnitAnswer
+    ensures { λ r. ⌜ outcome shared (r .verdict) (r .unit) silent ≡ reached way silent shared unit (captureUnit shared unit) ⌝ }
 {
-    let mut r = unit;
-    r.clock.captured = 1;
-    r.clock.tick = tick;
-    r
+    match way {
+        Verdict::Refused(refusal) => UnitAnswer {
+            verdict: Verdict::Refused(refusal),
+            unit,
+        },
+        Verdict::Accepted => {
+            let mut next = unit;
+            next.clock.captured = 1;
+            next.clock.tick = shared.tick;
+            UnitAnswer {
+                verdict: Verdict::Accepted,
+                unit: next,
+            }
+        }
+    }
 }
 
-pub fn clock_send_verdict(clock: UnitClock, tick: u64) -> Verdict
+fn clock_send_verdict(clock: UnitClock, tick: u64) -> Verdict
     ensures { λ r. ⌜ r ≡ clockSendVerdict clock tick ⌝ }
 {
     let age = since(clock.tick, tick);
@@ -45,22 +67,37 @@ pub fn clock_send_verdict(clock: UnitClock, tick: u64) -> Verdict
 }
 
 // The stamps of the capture's tick.
-pub fn clock_message(shared: Shared, clock: UnitClock) -> Stamps
+fn clock_message(shared: Shared, clock: UnitClock) -> Stamps
     ensures { λ r. ⌜ r ≡ clockMessageOf shared clock ⌝ }
 {
     let then = clock::clock_before(shared.clock, since(clock.tick, shared.tick));
     clock::captured(then, clock.trip)
 }
 
-pub fn clock_sent(unit: UnitRecord) -> UnitRecord
-    ensures { λ r. ⌜ r ≡ withClock unit (clockAfterSend (unit .clock)) ⌝ }
+pub fn clock_send(way: Verdict, shared: Shared, unit: UnitRecord) -> UnitClockSent
+    ensures { λ r. ⌜ outcome shared (r .verdict) (r .unit) (r .message) ≡ reached way noStamps shared unit (clockSendUnit shared unit) ⌝ }
 {
-    let mut r = unit;
-    r.clock.sent = 1;
-    r
+    let verdict = and_then(way, clock_send_verdict(unit.clock, shared.tick));
+    match verdict {
+        Verdict::Refused(refusal) => UnitClockSent {
+            verdict: Verdict::Refused(refusal),
+            unit,
+            message: Stamps { rx: 0, tx: 0 },
+        },
+        Verdict::Accepted => {
+            let message = clock_message(shared, unit.clock);
+            let mut next = unit;
+            next.clock.sent = 1;
+            UnitClockSent {
+                verdict: Verdict::Accepted,
+                unit: next,
+                message,
+            }
+        }
+    }
 }
 
-pub fn offer_verdict(unit: UnitRecord, key: [u8; 16]) -> Verdict
+fn offer_verdict(unit: UnitRecord, key: [u8; 16]) -> Verdict
     ensures { λ r. ⌜ r ≡ offerVerdict unit key ⌝ }
 {
     let keys = unit.keys;
@@ -83,8 +120,32 @@ pub fn offer_verdict(unit: UnitRecord, key: [u8; 16]) -> Verdict
     )
 }
 
+fn keys_offered(keys: UnitKeys, key: [u8; 16]) -> UnitKeys
+    requires { ⌜ keys .active < maxKeyNumber ⌝ }
+    ensures { λ r. ⌜ r ≡ keysOffered keys key ⌝ }
+{
+    let number = keys.active + 1;
+    let slots = with_key(keys.slots, number, key);
+    let mut r = keys;
+    r.offered = number;
+    r.slots = slots;
+    r
+}
+
+// A new offer starts unacknowledged.
+fn offered(unit: UnitRecord, key: [u8; 16]) -> UnitRecord
+    requires { ⌜ unit .keys .active < maxKeyNumber ⌝ }
+    ensures { λ r. ⌜ r ≡ unitOffered unit key ⌝ }
+{
+    let keys = keys_offered(unit.keys, key);
+    let mut r = unit;
+    r.keys = keys;
+    r.confirmation.acknowledged = 0;
+    r
+}
+
 // The message of the outstanding offer.
-pub fn key_message(llid: u16, keys: UnitKeys) -> KeyMessage
+fn key_message(llid: u16, keys: UnitKeys) -> KeyMessage
     ensures { λ r. ⌜ r ≡ keyMessageOf llid keys ⌝ }
 {
     let key = key_in(keys.slots, keys.offered);
@@ -95,14 +156,68 @@ pub fn key_message(llid: u16, keys: UnitKeys) -> KeyMessage
     }
 }
 
-pub fn retry_verdict(keys: UnitKeys) -> Verdict
-    ensures { λ r. ⌜ r ≡ retryVerdict keys ⌝ }
+fn no_key_message() -> KeyMessage
+    ensures { λ r. ⌜ r ≡ noKeyMessage ⌝ }
 {
-    refuse_if(
-        keys.offered == keys.active,
-        Refusal::NothingOutstanding,
-        Verdict::Accepted,
-    )
+    KeyMessage {
+        llid: 0,
+        number: 0,
+        key: [0; 16],
+    }
+}
+
+pub fn offer(
+    way: Verdict,
+    shared: Shared,
+    unit: UnitRecord,
+    llid: u16,
+    key: [u8; 16],
+) -> UnitKeySent
+    ensures { λ r. ⌜ outcome shared (r .verdict) (r .unit) (r .message) ≡ reached way noKeyMessage shared unit (offerUnit llid key shared unit) ⌝ }
+{
+    let verdict = and_then(way, offer_verdict(unit, key));
+    match verdict {
+        Verdict::Refused(refusal) => UnitKeySent {
+            verdict: Verdict::Refused(refusal),
+            unit,
+            message: no_key_message(),
+        },
+        Verdict::Accepted => {
+            let next = offered(unit, key);
+            let message = key_message(llid, next.keys);
+            UnitKeySent {
+                verdict: Verdict::Accepted,
+                unit: next,
+                message,
+            }
+        }
+    }
+}
+
+// The offer's number and key again.
+pub fn retry(way: Verdict, shared: Shared, unit: UnitRecord, llid: u16) -> UnitKeySent
+    ensures { λ r. ⌜ outcome shared (r .verdict) (r .unit) (r .message) ≡ reached way noKeyMessage shared unit (retryUnit llid shared unit) ⌝ }
+{
+    let none = unit.keys.offered == unit.keys.active;
+    let verdict = and_then(
+        way,
+        refuse_if(none, Refusal::NothingOutstanding, Verdict::Accepted),
+    );
+    match verdict {
+        Verdict::Refused(refusal) => UnitKeySent {
+            verdict: Verdict::Refused(refusal),
+            unit,
+            message: no_key_message(),
+        },
+        Verdict::Accepted => {
+            let message = key_message(llid, unit.keys);
+            UnitKeySent {
+                verdict: Verdict::Accepted,
+                unit,
+                message,
+            }
+        }
+    }
 }
 
 // Whether what is acknowledged is outstanding: a clock message that was sent, or key O, which is 1 or more.
@@ -122,22 +237,7 @@ fn is_outstanding(acknowledgement: Acknowledgement, unit: UnitRecord) -> bool
     false
 }
 
-pub fn acknowledge_verdict(
-    acknowledgement: Acknowledgement,
-    shared: Shared,
-    unit: UnitRecord,
-) -> Verdict
-    ensures { λ r. ⌜ r ≡ acknowledgeUnit acknowledgement shared unit .verdict ⌝ }
-{
-    let outstanding = is_outstanding(acknowledgement, unit);
-    refuse_if(!outstanding, Refusal::NothingOutstanding, Verdict::Accepted)
-}
-
-pub fn acknowledged(
-    acknowledgement: Acknowledgement,
-    shared: Shared,
-    unit: UnitRecord,
-) -> UnitRecord
+fn acknowledged(acknowledgement: Acknowledgement, shared: Shared, unit: UnitRecord) -> UnitRecord
     ensures { λ r. ⌜ r ≡ acknowledgeUnit acknowledgement shared unit .unit ⌝ }
 {
     let mut r = unit;
@@ -150,4 +250,32 @@ pub fn acknowledged(
         return r;
     }
     r
+}
+
+pub fn acknowledge(
+    way: Verdict,
+    shared: Shared,
+    unit: UnitRecord,
+    acknowledgement: Acknowledgement,
+) -> UnitAnswer
+    ensures { λ r. ⌜ outcome shared (r .verdict) (r .unit) silent ≡ reached way silent shared unit (acknowledgeUnit acknowledgement shared unit) ⌝ }
+{
+    let outstanding = is_outstanding(acknowledgement, unit);
+    let verdict = and_then(
+        way,
+        refuse_if(!outstanding, Refusal::NothingOutstanding, Verdict::Accepted),
+    );
+    match verdict {
+        Verdict::Refused(refusal) => UnitAnswer {
+            verdict: Verdict::Refused(refusal),
+            unit,
+        },
+        Verdict::Accepted => {
+            let next = acknowledged(acknowledgement, shared, unit);
+            UnitAnswer {
+                verdict: Verdict::Accepted,
+                unit: next,
+            }
+        }
+    }
 }

@@ -1,8 +1,11 @@
 // What an envelope goes under, its header, and whether its channel is free: what both ends do alike (01, Keys).
 ghost use mathlib.Core.Path.{_≡_};
-ghost use Rattle.ends.specs.Headers.{channelThenKey, choiceAged, choiceNumber, choiceVerdict, envelopeHeader, keyFor, passageOf, sendingOf, validHeader};
+ghost use Prim.Native.Nat.{_≤_};
+ghost use Rattle.octets.specs.Eqs.{maxEqs};
+ghost use Rattle.clock.specs.Ticks.{maxTick};
+ghost use Rattle.ends.specs.Headers.{channelThenKey, choiceAged, choiceNumber, choiceVerdict, envelopeHeader, keyFor, noPassage, noSending, passageOf, sendingOf, validHeader};
 ghost use Rattle.ends.specs.Keys.{aged, firstSend};
-ghost use Rattle.ends.specs.Occupancy.{taken};
+ghost use Rattle.ends.specs.Occupancy.{occupied, taken};
 use crate::ticks::since;
 use clock::EPAM_TURN;
 use clock::KEY_LIFE;
@@ -15,9 +18,14 @@ use ends::Passage;
 use ends::Sending;
 use ends::Slots;
 use ends::keyslots::key_in;
+use envelope::on_zero;
 use refusal::Refusal;
 use refusal::Verdict;
 use refusal::refuse_if;
+use std::num::wrapping_add_u64;
+
+// A header keeps its channel for its own tick, beside one for each EQ.
+const HEADER_TICKS: u64 = 1;
 
 pub fn valid_header(header: Header) -> bool
     ensures { λ r. ⌜ r ≡ validHeader header ⌝ }
@@ -28,10 +36,27 @@ pub fn valid_header(header: Header) -> bool
 fn taken(channels: Channels, channel: u8, tick: u64) -> bool
     ensures { λ r. ⌜ r ≡ taken channels channel tick ⌝ }
 {
-    if channel % 128 == 0 {
+    if on_zero(channel) {
         return tick < channels.zero;
     }
     tick < channels.one
+}
+
+// Of a valid end and a payload that fits, the sum is far from its end.
+pub fn occupied(channels: Channels, channel: u8, tick: u64, eqs: u64) -> Channels
+    ensures { λ r. ⌜ (tick ≤ maxTick → eqs ≤ maxEqs → r ≡ occupied channels channel tick eqs) ⌝ }
+{
+    let free = wrapping_add_u64(wrapping_add_u64(tick, eqs), HEADER_TICKS);
+    if on_zero(channel) {
+        return Channels {
+            zero: free,
+            one: channels.one,
+        };
+    }
+    Channels {
+        zero: channels.zero,
+        one: free,
+    }
 }
 
 fn aged(first: FirstSend, tick: u64) -> bool
@@ -160,5 +185,30 @@ pub fn sending_of(
 {
     let header = header_of(choice, channel, llid, clock);
     let passage = passage_of(choice, slots, mac, clock);
+    Sending { header, passage }
+}
+
+pub fn no_passage() -> Passage
+    ensures { λ r. ⌜ r ≡ noPassage ⌝ }
+{
+    Passage {
+        choice: KeyChoice::Clear,
+        key: [0; 16],
+        mac: 0,
+        clock: 0,
+    }
+}
+
+pub fn no_sending() -> Sending
+    ensures { λ r. ⌜ r ≡ noSending ⌝ }
+{
+    let header = Header {
+        channel: 0,
+        llid: 0,
+        encenabled: 0,
+        enckey: 0,
+        epam: 0,
+    };
+    let passage = no_passage();
     Sending { header, passage }
 }

@@ -1,20 +1,26 @@
 // Send and receive of the OLT on the record of one unit: the verdict, the record after, and what the payload passes under (01, Keys).
 ghost use mathlib.Core.Path.{_≡_};
-ghost use Rattle.ends.specs.Headers.{passageOf, sendingOf};
-ghost use Rattle.ends.specs.Records.{withKeys};
-ghost use Rattle.ends.specs.UnitTraffic.{keysAfterSend, keysSwitched, switches, unitConfirmed, unitReceiveChoice, unitReceiveVerdict, unitAfterReceipt, unitSendChoice, unitSendVerdict};
+ghost use Prim.Native.Nat.{_≤_};
+ghost use Rattle.octets.specs.Eqs.{maxEqs};
+ghost use Rattle.refusal.specs.declared.Verdict.the-variants.{Accepted};
+ghost use Rattle.clock.specs.Ticks.{maxTick};
+ghost use Rattle.ends.specs.Headers.{noPassage, noSending};
+ghost use Rattle.ends.specs.Lift.{outcome};
+ghost use Rattle.ends.specs.UnitTraffic.{keysAfterSend, keysSwitched, receiveUnit, sendUnit, switches, unitAfterReceipt, unitConfirmed, unitReceiveChoice, unitSendChoice};
+ghost use Rattle.unit.specs.Reached.{reached, sentOutcome};
+use crate::UnitReceived;
+use crate::UnitSent;
 use crate::passing;
 use clock::epam_of;
 use ends::Header;
 use ends::KeyChoice;
-use ends::Passage;
-use ends::Sending;
 use ends::Shared;
 use ends::UnitKeys;
 use ends::UnitRecord;
 use ends::keyslots::only_key;
 use refusal::Refusal;
 use refusal::Verdict;
+use refusal::and_then;
 use refusal::refuse_if;
 
 // Whether the next accepted send switches.
@@ -36,19 +42,6 @@ fn send_choice(unit: UnitRecord) -> KeyChoice
         return KeyChoice::Clear;
     }
     KeyChoice::Current(unit.keys.active)
-}
-
-pub fn send_verdict(shared: Shared, unit: UnitRecord, channel: u8) -> Verdict
-    ensures { λ r. ⌜ r ≡ unitSendVerdict shared unit channel ⌝ }
-{
-    let choice = send_choice(unit);
-    passing::channel_then_key(
-        shared.channels,
-        channel,
-        choice,
-        unit.keys.first,
-        shared.tick,
-    )
 }
 
 fn keys_switched(keys: UnitKeys, tick: u64) -> UnitKeys
@@ -78,27 +71,50 @@ fn keys_sent(choice: KeyChoice, keys: UnitKeys, tick: u64) -> UnitKeys
     }
 }
 
-pub fn unit_sent(unit: UnitRecord, tick: u64) -> UnitRecord
-    ensures { λ r. ⌜ r ≡ withKeys unit (keysAfterSend (unitSendChoice unit) (unit .keys) tick) ⌝ }
+// 12, 13. A valid end's tick and a payload that fits are what the way to the unit has judged.
+pub fn send(
+    way: Verdict,
+    shared: Shared,
+    unit: UnitRecord,
+    llid: u16,
+    channel: u8,
+    eqs: u64,
+) -> UnitSent
+    ensures { λ r. ⌜ ((way ≡ Accepted → (shared .tick ≤ maxTick) × (eqs ≤ maxEqs)) → sentOutcome r ≡ reached way noSending shared unit (sendUnit llid channel eqs shared unit)) ⌝ }
 {
-    let keys = keys_sent(send_choice(unit), unit.keys, tick);
-    let mut r = unit;
-    r.keys = keys;
-    r
-}
-
-pub fn sending(shared: Shared, unit: UnitRecord, channel: u8, llid: u16) -> Sending
-    ensures { λ r. ⌜ r ≡ sendingOf (unitSendChoice unit) (unit .keys .slots) (shared .mac) (shared .clock) channel llid ⌝ }
-{
+    let channels = shared.channels;
+    let tick = shared.tick;
+    let keys = unit.keys;
     let choice = send_choice(unit);
-    passing::sending_of(
-        choice,
-        unit.keys.slots,
-        shared.mac,
-        shared.clock,
-        channel,
-        llid,
-    )
+    let verdict = and_then(
+        way,
+        passing::channel_then_key(channels, channel, choice, keys.first, tick),
+    );
+    match verdict {
+        Verdict::Refused(refusal) => UnitSent {
+            verdict: Verdict::Refused(refusal),
+            unit,
+            channels,
+            sending: passing::no_sending(),
+        },
+        Verdict::Accepted => {
+            let mut next = unit;
+            next.keys = keys_sent(choice, keys, tick);
+            UnitSent {
+                verdict: Verdict::Accepted,
+                unit: next,
+                channels: passing::occupied(channels, channel, tick, eqs),
+                sending: passing::sending_of(
+                    choice,
+                    keys.slots,
+                    shared.mac,
+                    shared.clock,
+                    channel,
+                    llid,
+                ),
+            }
+        }
+    }
 }
 
 fn receive_choice(unit: UnitRecord, header: Header) -> KeyChoice
@@ -122,17 +138,6 @@ fn receive_choice(unit: UnitRecord, header: Header) -> KeyChoice
     KeyChoice::Barred(Refusal::NoKey)
 }
 
-pub fn receive_verdict(shared: Shared, unit: UnitRecord, header: Header) -> Verdict
-    ensures { λ r. ⌜ r ≡ unitReceiveVerdict shared unit header ⌝ }
-{
-    let epam = epam_of(shared.clock);
-    refuse_if(
-        !(header.epam == epam),
-        Refusal::EpamDiffers,
-        passing::choice_verdict(receive_choice(unit, header)),
-    )
-}
-
 // C becomes A, and the key before A is wiped.
 fn confirmed(unit: UnitRecord) -> UnitRecord
     ensures { λ r. ⌜ r ≡ unitConfirmed unit ⌝ }
@@ -145,10 +150,9 @@ fn confirmed(unit: UnitRecord) -> UnitRecord
     r
 }
 
-pub fn unit_received(unit: UnitRecord, header: Header) -> UnitRecord
-    ensures { λ r. ⌜ r ≡ unitAfterReceipt (unitReceiveChoice unit header) unit ⌝ }
+fn unit_received(choice: KeyChoice, unit: UnitRecord) -> UnitRecord
+    ensures { λ r. ⌜ r ≡ unitAfterReceipt choice unit ⌝ }
 {
-    let choice = receive_choice(unit, header);
     match choice {
         KeyChoice::Clear => unit,
         KeyChoice::Current(_) => unit,
@@ -157,9 +161,30 @@ pub fn unit_received(unit: UnitRecord, header: Header) -> UnitRecord
     }
 }
 
-pub fn passage(shared: Shared, unit: UnitRecord, header: Header) -> Passage
-    ensures { λ r. ⌜ r ≡ passageOf (unitReceiveChoice unit header) (unit .keys .slots) (unit .identity .mac) (shared .clock) ⌝ }
+// 10, 11, 9.
+pub fn receive(way: Verdict, shared: Shared, unit: UnitRecord, header: Header) -> UnitReceived
+    ensures { λ r. ⌜ outcome shared (r .verdict) (r .unit) (r .passage) ≡ reached way noPassage shared unit (receiveUnit header shared unit) ⌝ }
 {
     let choice = receive_choice(unit, header);
-    passing::passage_of(choice, unit.keys.slots, unit.identity.mac, shared.clock)
+    let epam = epam_of(shared.clock);
+    let verdict = and_then(
+        way,
+        refuse_if(
+            !(header.epam == epam),
+            Refusal::EpamDiffers,
+            passing::choice_verdict(choice),
+        ),
+    );
+    match verdict {
+        Verdict::Refused(refusal) => UnitReceived {
+            verdict: Verdict::Refused(refusal),
+            unit,
+            passage: passing::no_passage(),
+        },
+        Verdict::Accepted => UnitReceived {
+            verdict: Verdict::Accepted,
+            unit: unit_received(choice, unit),
+            passage: passing::passage_of(choice, unit.keys.slots, unit.identity.mac, shared.clock),
+        },
+    }
 }

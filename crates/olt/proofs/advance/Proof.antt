@@ -1,70 +1,87 @@
--- `olt::advance` meets its contract: the ticks that are left are compared with those to go, so that no sum can wrap.
+-- `olt::advance` meets its contract: the verdict says whether anything moves, and the first i units are moved where they stand.
 -- Assumes nothing.
 use mathlib.Core.Bool.{true}
-use mathlib.Core.Path.{_≡_, sym, _∙_}
-use Prim.Native.Nat.{_+_, _≤_, _<_}
+use mathlib.Core.Path.{_≡_, refl, sym, ap, _∙_}
+use Prim.Native.Nat.{_+_, _-_, _≤_, _<_}
 use native.Mathlib.Omega.{arith}
+use lib.ListN.{length, getD}
 use borrow.Author.Needs.{needs}
-use borrow.Author.Tests.{not-true, not-false, lt-ltb, le-ltb}
 use Rattle.clock.specs.Ticks.{maxTick}
-use Rattle.ends.specs.OltCalls.{advanceOltOf, advancingOlt, oltAnswer}
-use Rattle.refusal.specs.Order.{refuseIf}
-use Rattle.ends.specs.Replies.{reply, advanceVerdict}
+use Rattle.ends.specs.Limits.{maxUnits}
+use Rattle.ends.specs.OltCalls.{advanceOrder}
+use Rattle.ends.specs.Records.{withKeys, withTimer}
+use Rattle.ends.specs.Table.{pastUnit}
+use Rattle.ends.specs.Timers.{validTimer}
 use Rattle.ends.specs.Validity.{validOlt}
-use Rattle.olt.proofs.Advancing.{olt-tick}
+use Rattle.ends.specs.declared.Olt.{Olt}
+use Rattle.ends.proofs.Validity.{olt-in-range}
+use Rattle.olt.proofs.Advancing.{length-mapped, movedTo, advance-met, moving, timer-valid, advanced, counted, flagged, moves-on}
 use Rattle.olt.proofs.advance.Statement.{statement}
 use Rattle.olt.proofs.advance.Tie as tie
 
-valid-olt-requires : tie.Need-valid-olt-requires
-valid-olt-requires c κs = search needs
+abbrev Inv-loop : tie.InvT-loop
+Inv-loop n r₀ valid number end i₀ r i = (i ≤ end) × (r ≡ movedTo n i r₀)
 
-refused-requires : tie.Need-refused-requires
-refused-requires c κs = search needs
+abbrev μ-loop : tie.MeasureT-loop
+μ-loop n r₀ valid number end i₀ r i = end - i
 
-returns : tie.Need-returns
-unfolding advanceOltOf advancingOlt oltAnswer reply refuseIf
+places : (c : tie.After-valid-olt Inv-loop μ-loop) → length (c .before .args .olt .units) ≡ maxUnits
+places c = search (needs, length-mapped)
+
+-- the verdict is the definition's
+judged : (c : tie.After-refuse-if Inv-loop μ-loop) → let a = c .before .before .before .args in c .refuse-if .result ≡ advanceOrder (a .olt) (a .n)
+judged c = rw (c .refuse-if .ensures, c .before .advance-verdict .ensures, c .before .before .valid-olt .ensures)
+
+shared-after-requires : tie.Need-shared-after-requires Inv-loop μ-loop
+shared-after-requires c κs = λ v.
+    let on = c .before .before .before in
+    let a = on .before .before .before .args in
+    advance-met (a .olt) (a .n) (sym (judged on) ∙ v) .1
+
+-- a unit that moves is one of a valid end, and the sum does not wrap
+met : (c : tie.In-loop Inv-loop μ-loop) → let on = c .before .before .before .before .before .before in let a = on .before .before .before .args in
+    (validOlt (a .olt) ≡ true) × (a .olt .shared .tick + a .n ≤ maxTick) × (c .before .loop .i < a .olt .count) × (c .before .loop .i < maxUnits)
+met c =
+    let moves = c .before .before .before .before in
+    let on = moves .before .before in
+    let a = on .before .before .before .args in
+    let m = moving (on .refuse-if .result) (a .olt .count) (c .before .loop .i) (rw (moves .units-moved .ensures) at (c .loop-test .taken)) in
+    let v = advance-met (a .olt) (a .n) (sym (judged on) ∙ m .0) in
+    let few = olt-in-range (a .olt) (v .0) .count in
+    (v .0, v .1, m .1, omega (arith, m .1))
+
+loop-again : tie.Need-loop-again Inv-loop μ-loop
+unfolding pastUnit counted flagged withKeys withTimer
+loop-again c =
+    let turn = c .before .before .before in
+    let here = turn .before .loop in
+    let on = turn .before .before .before .before .before .before in
+    let a = on .before .before .before .args in
+    let m = met turn in
+    let len = places (on .before .before) in
+    let valid = ap (λ (x : Olt). validTimer (getD (x .units) (here .i) pastUnit .keys .timer)) (here .inv .1)
+    ∙ timer-valid (a .olt) (a .n) (here .i) (m .0) (m .2) (m .3) len in (
+      omega arith,
+      moves-on _ (here .r) (a .n) (here .i) (c .before .before .timer-advanced .result) (here .inv .1) (omega arith)
+          (c .before .before .timer-advanced .ensures valid (omega arith)),
+    )
+
+returns : tie.Need-returns Inv-loop μ-loop
 returns c =
-    rw (sym (c .before .before .valid-olt .ensures), not-true (c .before .before .valid-olt .result) (c .before .if1 .taken)) (c .refused .ensures)
-
-valid : (c : tie.Else1) → validOlt (c .before .before .args .olt) ≡ true
-valid c = sym (c .before .valid-olt .ensures) ∙ not-false (c .before .valid-olt .result) (c .if1 .left)
-
-sub-if2 : tie.Need-sub-if2
-sub-if2 c = omega (arith, olt-tick _ (valid (c .before)))
-
-refused-requires-2 : tie.Need-refused-requires-2
-refused-requires-2 c κs = search needs
-
-returns-2 : tie.Need-returns-2
-unfolding advanceOltOf advancingOlt advanceVerdict oltAnswer reply refuseIf
-returns-2 c =
-    let a = c .before .before .before .before .before .args in
-    let past : maxTick < a .olt .shared .tick + a .n = omega (arith, olt-tick _ (valid (c .before .before .before))) in
-    rw (valid (c .before .before .before), lt-ltb _ _ past) (c .refused2 .ensures)
-
-advanced-requires : tie.Need-advanced-requires
-advanced-requires c κs = (valid (c .before .before), omega (arith, olt-tick _ (valid (c .before .before))))
-
-accepted-requires : tie.Need-accepted-requires
-accepted-requires c κs = search needs
-
-returns-3 : tie.Need-returns-3
-unfolding advanceOltOf advancingOlt advanceVerdict oltAnswer reply refuseIf
-returns-3 c =
-    let a = c .before .before .before .before .before .before .args in
-    let within : a .olt .shared .tick + a .n ≤ maxTick = omega (arith, olt-tick _ (valid (c .before .before .before .before))) in
-    rw (valid (c .before .before .before .before), le-ltb _ _ within, c .accepted .ensures, c .before .advanced .ensures)
+    let moved = c .before .before in
+    let moves = moved .before .before in
+    let on = moves .before .before in
+    let a = on .before .before .before .args in
+    let here = c .before .loop in
+    advanced (a .olt) (a .n) (on .refuse-if .result) _ (here .r) (here .i) (judged on)
+    (rw (moved .shared-after .ensures) at (here .inv .1)) (omega (arith, moves .units-moved .ensures)) (moves .before .verdict-number .ensures)
 
 pub advance-spec : {M : Type 1} → statement M
 advance-spec =
-    tie.close
-    (tie.spec
-    valid-olt-requires
-    refused-requires
-    returns
-    sub-if2
-    refused-requires-2
-    returns-2
-    advanced-requires
-    accepted-requires
-    returns-3)
+    tie.close (tie.spec Inv-loop μ-loop (λ c κs. search needs) (λ c κs. search needs) (λ c κs. search needs) (λ c κs. search needs)
+    (λ c κs. search needs) shared-after-requires (λ c. (omega arith, refl)) (λ c. let m = met c .3 in search needs)
+    (λ c. let m = met c .3 in search needs) (λ c. let m = met c .3 in search needs) (λ c. let m = met c .3 in search needs)
+    (λ c. let m = met c .3 in search needs) (λ c. let m = met c .3 in search needs) (λ c κs. search needs)
+    (λ c. let m = met (c .before) .3 in search needs) (λ c. let m = met (c .before) .3 in search needs)
+    (λ c. let m = met (c .before .before) .3 in search needs) (λ c. let m = met (c .before .before) .3 in search needs)
+    (λ c. let m = met (c .before .before .before) .3 in omega arith) (λ c. omega arith) loop-again returns)

@@ -9,25 +9,10 @@ use Rattle.ends.specs.Replies.{reply}
 use Rattle.olt.proofs.fresh.Statement.{statement}
 use Rattle.olt.proofs.fresh.Tie as tie
 
-valid-mac-requires : tie.Need-valid-mac-requires
-valid-mac-requires c κs = search needs
-
-new-olt-requires : tie.Need-new-olt-requires
-new-olt-requires c κs = search needs
-
-accepted-requires : tie.Need-accepted-requires
-accepted-requires c κs = search needs
-
 returns : tie.Need-returns
 unfolding freshOltOf oltAnswer reply refuseIf both
 returns c =
     rw (sym (c .before .before .before .valid-mac .ensures), c .before .before .if1 .taken, c .accepted .ensures, c .before .new-olt .ensures)
-
-new-olt-requires-2 : tie.Need-new-olt-requires-2
-new-olt-requires-2 c κs = search needs
-
-refused-requires : tie.Need-refused-requires
-refused-requires c κs = search needs
 
 returns-2 : tie.Need-returns-2
 unfolding freshOltOf oltAnswer reply refuseIf both
@@ -36,12 +21,5 @@ returns-2 c =
 
 pub fresh-spec : {M : Type 1} → statement M
 fresh-spec =
-    tie.close
-    (tie.spec
-    valid-mac-requires
-    new-olt-requires
-    accepted-requires
-    returns
-    new-olt-requires-2
-    refused-requires
-    returns-2)
+    tie.close (tie.spec (λ c κs. search needs) (λ c κs. search needs) (λ c κs. search needs) returns (λ c κs. search needs)
+    (λ c κs. search needs) returns-2)

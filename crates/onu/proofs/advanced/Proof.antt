@@ -6,9 +6,6 @@ use Rattle.ends.proofs.Replies.{advance-accepted}
 use Rattle.onu.proofs.advanced.Statement.{statement}
 use Rattle.onu.proofs.advanced.Tie as tie
 
-clock-advanced-requires : tie.Need-clock-advanced-requires
-clock-advanced-requires c κs = search needs
-
 add-next : tie.Need-add-next
 add-next c = omega (arith, advance-accepted _ _ (c .before .before .pre))
 
@@ -17,4 +14,4 @@ unfolding onuAdvanced
 returns c = rw (c .before .clock-advanced .ensures)
 
 pub advanced-spec : {M : Type 1} → statement M
-advanced-spec = tie.close (tie.spec clock-advanced-requires add-next returns)
+advanced-spec = tie.close (tie.spec (λ c κs. search needs) add-next returns)

@@ -6,18 +6,9 @@ use Rattle.ends.specs.OnuCalls.{onuClockAdvanced}
 use Rattle.onu.proofs.clock_advanced.Statement.{statement}
 use Rattle.onu.proofs.clock_advanced.Tie as tie
 
-clock-after-requires : tie.Need-clock-after-requires
-clock-after-requires c κs = search needs
-
-clock-after-requires-2 : tie.Need-clock-after-requires-2
-clock-after-requires-2 c κs = search needs
-
 returns : tie.Need-returns
 unfolding onuClockAdvanced pick
 returns c = rw (eq-eqb _ _ (c .before .before .if1 .taken), c .before .clock-after .ensures, c .clock-after2 .ensures)
-
-local-after-requires : tie.Need-local-after-requires
-local-after-requires c κs = search needs
 
 returns-2 : tie.Need-returns-2
 unfolding onuClockAdvanced pick
@@ -25,5 +16,4 @@ returns-2 c = rw (ne-eqb _ _ (c .before .if1 .left), c .local-after .ensures)
 
 pub clock-advanced-spec : {M : Type 1} → statement M
 clock-advanced-spec =
-    tie.close
-    (tie.spec clock-after-requires clock-after-requires-2 returns local-after-requires returns-2)
+    tie.close (tie.spec (λ c κs. search needs) (λ c κs. search needs) returns (λ c κs. search needs) returns-2)

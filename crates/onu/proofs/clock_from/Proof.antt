@@ -4,15 +4,9 @@ use Rattle.ends.specs.OnuCalls.{clockFrom}
 use Rattle.onu.proofs.clock_from.Statement.{statement}
 use Rattle.onu.proofs.clock_from.Tie as tie
 
-local-of-requires : tie.Need-local-of-requires
-local-of-requires c κs = search needs
-
-raised-requires : tie.Need-raised-requires
-raised-requires c κs = search needs
-
 returns : tie.Need-returns
 unfolding clockFrom
 returns c = rw (c .raised .ensures .0, c .before .local-of .ensures)
 
 pub clock-from-spec : {M : Type 1} → statement M
-clock-from-spec = tie.close (tie.spec local-of-requires raised-requires returns)
+clock-from-spec = tie.close (tie.spec (λ c κs. search needs) (λ c κs. search needs) returns)

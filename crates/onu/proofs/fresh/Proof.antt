@@ -6,24 +6,6 @@ use Rattle.ends.specs.OnuCalls.{onuAnswer, freshOnuOf}
 use Rattle.onu.proofs.fresh.Statement.{statement}
 use Rattle.onu.proofs.fresh.Tie as tie
 
-fresh-verdict-requires : tie.Need-fresh-verdict-requires
-fresh-verdict-requires c κs = search needs
-
-enum-told : tie.Need-enum-told
-enum-told c = search needs
-
-new-onu-requires : tie.Need-new-onu-requires
-new-onu-requires c κs = search needs
-
-enum-known-verdict : tie.Need-enum-known-verdict
-enum-known-verdict c = search needs
-
-new-onu-requires-2 : tie.Need-new-onu-requires-2
-new-onu-requires-2 c κs = search needs
-
-number-requires : tie.Need-number-requires
-number-requires c κs = search needs
-
 returns : tie.Need-returns
 unfolding freshOnuOf onuAnswer reply
 returns c =
@@ -40,11 +22,11 @@ pub fresh-spec : {M : Type 1} → statement M
 fresh-spec =
     tie.close
     (tie.spec
-    fresh-verdict-requires
-    enum-told
-    new-onu-requires
-    enum-known-verdict
-    new-onu-requires-2
-    number-requires
+    (λ c κs. search needs)
+    (λ c. search needs)
+    (λ c κs. search needs)
+    (λ c. search needs)
+    (λ c κs. search needs)
+    (λ c κs. search needs)
     returns
     returns-2)

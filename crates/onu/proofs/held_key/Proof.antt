@@ -9,24 +9,6 @@ use Rattle.ends.proofs.Keys.{key-index}
 use Rattle.onu.proofs.held_key.Statement.{statement}
 use Rattle.onu.proofs.held_key.Tie as tie
 
-cast-next : tie.Need-cast-next
-cast-next c = search needs
-
-add-next : tie.Need-add-next
-add-next c = search needs
-
-sub-key-in : tie.Need-sub-key-in
-sub-key-in c = search needs
-
-key-in-requires : tie.Need-key-in-requires
-key-in-requires c κs = search needs
-
-same-key-requires : tie.Need-same-key-requires
-same-key-requires c κs = search needs
-
-cast-result : tie.Need-cast-result
-cast-result c = search needs
-
 returns : tie.Need-returns
 unfolding heldKey both
 returns c =
@@ -36,5 +18,4 @@ returns c =
 
 pub held-key-spec : {M : Type 1} → statement M
 held-key-spec =
-    tie.close
-    (tie.spec cast-next add-next sub-key-in key-in-requires same-key-requires cast-result returns)
+    tie.close (tie.spec (λ c. search needs) (λ c. search needs) (λ c. search needs) (λ c κs. search needs) (λ c κs. search needs) (λ c. search needs) returns)

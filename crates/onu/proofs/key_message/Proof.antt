@@ -1,4 +1,4 @@
--- `key_message` meets its contract: its verdict is that of the reply. Assumes nothing.
+-- `key_message` meets its contract: its verdict is that of the reply, and the test of a new key serves verdict and keys. Assumes nothing.
 use mathlib.Core.Path.{sym, _∙_}
 use borrow.Author.Needs.{needs}
 use Rattle.ends.specs.Replies.{reply}
@@ -18,4 +18,13 @@ returns-2 c =
 
 pub key-message-spec : {M : Type 1} → statement M
 key-message-spec =
-    tie.close (tie.spec (λ c κs. search needs) (λ c. search needs) (λ c κs. search needs) (λ c. search needs) (λ c κs. search needs) returns returns-2)
+    tie.close
+    (tie.spec
+    (λ c κs. search needs)
+    (λ c κs. search needs)
+    (λ c. search needs)
+    (λ c κs. search needs)
+    (λ c. search needs)
+    (λ c κs. search needs)
+    returns
+    returns-2)

@@ -10,24 +10,19 @@ use Rattle.onu.proofs.OnuCalls.{new-key-number}
 use Rattle.onu.proofs.keys_taken.Statement.{statement}
 use Rattle.onu.proofs.keys_taken.Tie as tie
 
-new-key-requires : tie.Need-new-key-requires
-new-key-requires c κs = search needs
-
-with-key-requires : tie.Need-with-key-requires
-with-key-requires c κs = search needs
-
 returns : tie.Need-returns
 unfolding keysTaken pick
 returns c =
-    let a = c .before .before .before .before .args in
-    let t : newKey (a .keys) (a .message) ≡ true = sym (c .before .before .before .new-key .ensures) ∙ c .before .before .if1 .taken in
+    let new = c .before .before in
+    let a = new .before .args in
+    let t : newKey (a .keys) (a .message) ≡ true = sym (new .before .pre) ∙ new .if1 .taken in
     let s : c .with-key .result ≡ withKey (a .keys .slots) (a .keys .active + 1) (a .message .key) =
     c .with-key .ensures ∙ ap (λ (n : ℕ). withKey (a .keys .slots) n (a .message .key)) (new-key-number _ _ t) in
     rw (t, s)
 
 returns-2 : tie.Need-returns-2
 unfolding keysTaken pick
-returns-2 c = rw (sym (c .before .new-key .ensures), c .if1 .left)
+returns-2 c = rw (sym (c .before .pre), c .if1 .left)
 
 pub keys-taken-spec : {M : Type 1} → statement M
-keys-taken-spec = tie.close (tie.spec new-key-requires with-key-requires returns returns-2)
+keys-taken-spec = tie.close (tie.spec (λ c κs. search needs) returns returns-2)

@@ -4,12 +4,9 @@ use Rattle.ends.specs.Records.{newOnu}
 use Rattle.onu.proofs.new_onu.Statement.{statement}
 use Rattle.onu.proofs.new_onu.Tie as tie
 
-kept-identity-requires : tie.Need-kept-identity-requires
-kept-identity-requires c κs = search needs
-
 returns : tie.Need-returns
 unfolding newOnu
 returns c = rw (c .kept-identity .ensures)
 
 pub new-onu-spec : {M : Type 1} → statement M
-new-onu-spec = tie.close (tie.spec kept-identity-requires returns)
+new-onu-spec = tie.close (tie.spec (λ c κs. search needs) returns)

@@ -1,70 +1,66 @@
--- `traffic::olt_send` meets its contract: the unit that is found decides.
+-- `traffic::olt_send` meets its contract: the unit is found, decides, and is put back, and the payload is sealed where it accepts.
 -- Assumes nothing.
-use mathlib.Core.Path.{_≡_, sym, ap, _∙_}
-use Rattle.refusal.specs.declared.Verdict.{Verdict}
-use Rattle.olt.specs.Lookup.{locatedOf}
-use Rattle.traffic.specs.Passages.{misfit}
-use Rattle.ends.proofs.OltTraffic.{sendAhead}
-use Rattle.traffic.proofs.Sends.{olt-send-ordered, olt-send-absent, olt-send-at, send-passed}
+use mathlib.Core.Path.{_≡_, ap, _∙_}
+use Prim.Native.Nat.{_<_}
 use borrow.Author.Needs.{needs}
-use Rattle.olt.proofs.Lookup.{reaches}
+use Rattle.refusal.specs.declared.Verdict.{Verdict}
+use Rattle.ends.specs.Limits.{maxUnits}
+use Rattle.ends.specs.Records.{withChannels}
+use Rattle.ends.specs.Table.{pastUnit, withUnit}
+use Rattle.ends.proofs.OltTraffic.{sendAhead}
+use Rattle.unit.specs.Reached.{sentOutcome}
+use Rattle.olt.specs.Lookup.{locatedOf}
+use Rattle.olt.proofs.Lookup.{located-below}
+use Rattle.traffic.specs.Passages.{misfit}
+use Rattle.traffic.proofs.Sends.{sendDecided, send-within, send-fits, olt-send-done, olt-send-ordered}
 use Rattle.traffic.proofs.olt_send.Statement.{statement}
 use Rattle.traffic.proofs.olt_send.Tie as tie
 
 -- where the unit stands
-here : (c : tie.After-locate) → let a = c .before .before .before .before .args in c .locate .result ≡ locatedOf (a .olt) (sendAhead (misfit (a .payload .now) (a .output .now)) (a .channel)) (a .llid)
+here : (c : tie.After-locate) → let a = c .before .before .before .before .args in
+    c .locate .result ≡ locatedOf (a .olt) (sendAhead (misfit (a .payload .now) (a .output .now)) (a .channel)) (a .llid)
 unfolding misfit
 here c =
     let a = c .before .before .before .before .args in
     c .locate .ensures .0 ∙ ap (λ (v : Verdict). locatedOf (a .olt) v (a .llid)) (c .before .send-ahead .ensures)
 
-send-ahead-requires : tie.Need-send-ahead-requires
-send-ahead-requires c κs = search needs
+below : (c : tie.After-locate) → c .locate .result .place < maxUnits
+below c = located-below _ _ _ _ (here c)
 
-locate-requires : tie.Need-locate-requires
-locate-requires c κs = search needs
+-- what the unit decides
+decided : (c : tie.After-send) → let at = c .before .before .before in let a = at .before .before .before .before .args in
+    sentOutcome (c .send .result) ≡ sendDecided (a .olt) (a .llid) (a .channel) (a .payload .now) (a .output .now) (at .locate .result)
+unfolding pastUnit
+decided c =
+    let at = c .before .before .before in
+    let a = at .before .before .before .before .args in
+    c .send .ensures (send-within (a .olt) (a .llid) (a .channel) (a .payload .now) (a .output .now) (at .locate .result) (here at))
 
-enum-known-at : tie.Need-enum-known-at
-enum-known-at c = search needs
-
-not-sent-requires : tie.Need-not-sent-requires
-not-sent-requires c κs = search needs
-
-enum-known-at-2 : tie.Need-enum-known-at-2
-enum-known-at-2 c = search needs
-
-send-at-requires : tie.Need-send-at-requires
-send-at-requires c κs =
-    let a = c .before .before .before .before .before .before .before .before .args in
-    let l = reaches _ _ _ _ (sym (here (c .before .before .before .before)) ∙ c .before .before .at2 .given .1) in
-    let q = send-passed (a .olt) (a .llid) (a .channel) (a .payload .now) (a .output .now) _ l in
-    (l .valid, (l .found, (q .0, q .1)))
+carry-accepted-requires : tie.Need-carry-accepted-requires
+unfolding sentOutcome
+carry-accepted-requires c κs =
+    let sent = c .before .before .before .before .before .before in
+    let at = sent .before .before .before in
+    let a = at .before .before .before .before .args in
+    send-fits (a .olt) (a .llid) (a .channel) (a .payload .now) (a .output .now) (at .locate .result) (here at) (sentOutcome (sent .send .result)) (decided sent)
 
 returns : tie.Need-returns
+unfolding sentOutcome withUnit withChannels
 returns c =
-    let a = c .before .before .before .before .before .before .before .before .args in
+    let numbered = c .before in
+    let carried = numbered .before .before .before in
+    let sent = carried .before .before .before .before .before .before .before in
+    let at = sent .before .before .before in
+    let a = at .before .before .before .before .args in
     olt-send-ordered (a .olt) (a .llid) (a .channel) (a .payload .now) (a .output .now) _ _
-    (rw (c .not-sent .ensures) (olt-send-absent (a .olt) (a .llid) (a .channel) (a .payload .now) (a .output .now) _ (sym (here (c .before .before .before .before)) ∙ c .before .before .at .given .1)))
-
-same-length : tie.Need-same-length
-same-length c = search needs
-
-returns-2 : tie.Need-returns-2
-returns-2 c =
-    let a = c .before .before .before .before .before .before .before .before .before .before .before .args in
-    olt-send-ordered (a .olt) (a .llid) (a .channel) (a .payload .now) (a .output .now) _ _
-    (c .before .before .send-at .ensures ∙ olt-send-at (a .olt) (a .llid) (a .channel) (a .payload .now) (a .output .now) _ (reaches _ _ _ _ (sym (here (c .before .before .before .before .before .before .before)) ∙ c .before .before .before .before .before .at2 .given .1)))
+    (rw (numbered .verdict-number .ensures)
+    (olt-send-done (a .olt) (a .llid) (a .channel) (a .payload .now) (a .output .now) (at .locate .result) (here at) (sentOutcome (sent .send .result)) (decided sent) _ _
+    (carried .carry-accepted .ensures)))
 
 pub olt-send-spec : {M : Type 1} → statement M
 olt-send-spec =
-    tie.close
-    (tie.spec
-    send-ahead-requires
-    locate-requires
-    enum-known-at
-    not-sent-requires
-    enum-known-at-2
-    send-at-requires
-    returns
-    same-length
-    returns-2)
+    tie.close (tie.spec (λ c κs. search needs) (λ c κs. search needs) (λ c. let h = below c in search needs)
+    (λ c. let h = below c in search needs) (λ c κs. search needs) carry-accepted-requires (λ c κs. search needs)
+    (λ c. let h = below (c .before .before .before .before .before .before .before .before .before .before .before .before .before .before) in search needs)
+    (λ c. let h = below (c .before .before .before .before .before .before .before .before .before .before .before .before .before .before) in search needs)
+    (λ c. search needs) returns)

@@ -1,81 +1,51 @@
--- `traffic::onu_send` meets its contract: what `send_verdict` tells is the verdict of the reply, and what it accepts fits.
+-- `traffic::onu_send` meets its contract: what `send` decides is the reply, and what is then carried is what the reply leaves.
 -- Assumes nothing.
 use mathlib.Core.Bool.{Bool}
 use mathlib.Core.Path.{_≡_, sym, ap, _∙_}
-use Rattle.ends.specs.Replies.{onValid}
-use Rattle.ends.specs.Validity.{validOnu}
-use Rattle.traffic.specs.Passages.{misfit}
-use Rattle.ends.specs.OnuTraffic.{onuSendVerdict}
-use Rattle.traffic.proofs.Sends.{onuSendJudged, onu-send-refused, onu-send-done, onu-send-within, onu-send-fits}
 use borrow.Author.Needs.{needs}
+use Rattle.envelope.specs.ControlMask.{eqsOf}
+use Rattle.ends.specs.OnuTraffic.{sendingOnu}
+use Rattle.traffic.specs.Passages.{misfit}
+use Rattle.traffic.specs.Sends.{onuSending}
+use Rattle.traffic.proofs.Passages.{few-eqs}
+use Rattle.traffic.proofs.Sends.{onuSendDecided, onu-send-fits, onu-send-done}
 use Rattle.traffic.proofs.onu_send.Statement.{statement}
 use Rattle.traffic.proofs.onu_send.Tie as tie
 
--- the verdict on the end and the call
-judged : (c : tie.After-send-verdict) → let a = c .before .before .before .before .args in c .send-verdict .result ≡ onuSendJudged (a .onu) (a .llid) (a .channel) (a .payload .now) (a .output .now)
+-- what is decided
+decided : (c : tie.After-send) → let a = c .before .before .before .before .args in
+    c .send .result ≡ onuSending (onuSendDecided (a .onu) (a .llid) (a .channel) (a .payload .now) (a .output .now))
 unfolding misfit
-judged c =
+decided c =
     let a = c .before .before .before .before .args in
-    c .send-verdict .ensures ∙ ap (λ (t : Bool). onValid (validOnu (a .onu)) (onuSendVerdict (a .onu) t (a .llid) (a .channel))) (c .before .misfit .ensures)
+    c .send .ensures
+    ∙ ap (λ (t : Bool). onuSending (sendingOnu (a .onu) t (a .llid) (a .channel) (eqsOf (a .payload .now)))) (c .before .misfit .ensures)
 
-misfit-requires : tie.Need-misfit-requires
-misfit-requires c κs = search needs
+send-requires : tie.Need-send-requires
+unfolding misfit
+send-requires c κs =
+    let a = c .before .before .before .args in
+    λ e. few-eqs (a .payload .now) (a .output .now) (sym (c .misfit .ensures) ∙ e)
 
-send-verdict-requires : tie.Need-send-verdict-requires
-send-verdict-requires c κs = search needs
-
-enum-known-verdict : tie.Need-enum-known-verdict
-enum-known-verdict c = search needs
-
-not-sent-requires : tie.Need-not-sent-requires
-not-sent-requires c κs = search needs
-
-enum-told : tie.Need-enum-told
-enum-told c = search needs
-
-after-send-requires : tie.Need-after-send-requires
-after-send-requires c κs =
-    let a = c .before .before .before .before .before .before .args in
-    onu-send-within (a .onu) (a .llid) (a .channel) (a .payload .now) (a .output .now) (sym (judged (c .before .before)) ∙ c .enum-told .given .1)
-
-send-choice-requires : tie.Need-send-choice-requires
-send-choice-requires c κs = search needs
-
-sending-of-requires : tie.Need-sending-of-requires
-sending-of-requires c κs = search needs
-
-carry-requires : tie.Need-carry-requires
-carry-requires c κs =
-    let a = c .before .before .before .before .before .before .before .before .before .before .before .before .args in
-    onu-send-fits (a .onu) (a .llid) (a .channel) (a .payload .now) (a .output .now) (c .before .before .before .sending-of .result) (sym (judged (c .before .before .before .before .before .before .before .before)) ∙ c .before .before .before .before .before .before .enum-told .given .1) (rw (sym (c .before .before .before .before .send-choice .ensures)) (c .before .before .before .sending-of .ensures))
+carry-accepted-requires : tie.Need-carry-accepted-requires
+unfolding onuSending
+carry-accepted-requires c κs =
+    let at-send = c .before .before .before .before in
+    let a = at-send .before .before .before .before .args in
+    let d = decided at-send in
+    rw d (onu-send-fits (a .onu) (a .llid) (a .channel) (a .payload .now) (a .output .now))
 
 returns : tie.Need-returns
+unfolding onuSending
 returns c =
-    let a = c .before .before .before .before .before .before .before .before .args in
-    rw (c .not-sent .ensures) (onu-send-refused (a .onu) (a .llid) (a .channel) (a .payload .now) (a .output .now) _ (sym (judged (c .before .before .before .before)) ∙ c .before .before .verdict .given .1))
-
-same-length : tie.Need-same-length
-same-length c = search needs
-
-returns-2 : tie.Need-returns-2
-returns-2 c =
-    let a = c .before .before .before .before .before .before .before .before .before .before .before .before .before .before .before .args in
-    onu-send-done (a .onu) (a .llid) (a .channel) (a .payload .now) (a .output .now) _ _ _ _ (sym (judged (c .before .before .before .before .before .before .before .before .before .before .before)) ∙ c .before .before .before .before .before .before .before .before .before .enum-told .given .1)
-    (c .before .before .before .before .before .before .before .before .after-send .ensures) (rw (sym (c .before .before .before .before .before .before .before .send-choice .ensures)) (c .before .before .before .before .before .before .sending-of .ensures)) (c .before .before .carry .ensures)
+    let carried = c .before .before .before in
+    let at-send = carried .before .before .before .before .before in
+    let a = at-send .before .before .before .before .args in
+    let d = decided at-send in
+    rw (c .verdict-number .ensures, d)
+    (onu-send-done (a .onu) (a .llid) (a .channel) (a .payload .now) (a .output .now) _ _ (rw d at (carried .carry-accepted .ensures)))
 
 pub onu-send-spec : {M : Type 1} → statement M
 onu-send-spec =
     tie.close
-    (tie.spec
-    misfit-requires
-    send-verdict-requires
-    enum-known-verdict
-    not-sent-requires
-    enum-told
-    after-send-requires
-    send-choice-requires
-    sending-of-requires
-    carry-requires
-    returns
-    same-length
-    returns-2)
+    (tie.spec (λ c κs. search needs) send-requires carry-accepted-requires (λ c κs. search needs) (λ c. search needs) returns)

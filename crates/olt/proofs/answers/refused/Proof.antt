@@ -6,12 +6,9 @@ use Rattle.ends.specs.Replies.{reply}
 use Rattle.olt.proofs.answers.refused.Statement.{statement}
 use Rattle.olt.proofs.answers.refused.Tie as tie
 
-number-requires : tie.Need-number-requires
-number-requires c κs = search needs
-
 returns : tie.Need-returns
 unfolding oltAnswer reply
 returns c = rw (c .number .ensures)
 
 pub refused-spec : {M : Type 1} → statement M
-refused-spec = tie.close (tie.spec number-requires returns)
+refused-spec = tie.close (tie.spec (λ c κs. search needs) returns)

@@ -6,12 +6,9 @@ use Rattle.ends.specs.Timers.{freshTimer}
 use Rattle.olt.proofs.making.fresh_unit.Statement.{statement}
 use Rattle.olt.proofs.making.fresh_unit.Tie as tie
 
-kept-identity-requires : tie.Need-kept-identity-requires
-kept-identity-requires c κs = search needs
-
 returns : tie.Need-returns
 unfolding freshUnit freshTimer
 returns c = rw (c .kept-identity .ensures)
 
 pub fresh-unit-spec : {M : Type 1} → statement M
-fresh-unit-spec = tie.close (tie.spec kept-identity-requires returns)
+fresh-unit-spec = tie.close (tie.spec (λ c κs. search needs) returns)

@@ -5,12 +5,9 @@ use Rattle.ends.specs.Records.{newOlt}
 use Rattle.olt.proofs.making.new_olt.Statement.{statement}
 use Rattle.olt.proofs.making.new_olt.Tie as tie
 
-no-unit-requires : tie.Need-no-unit-requires
-no-unit-requires c κs = search needs
-
 returns : tie.Need-returns
 unfolding newOlt
 returns c = rw (c .no-unit .ensures)
 
 pub new-olt-spec : {M : Type 1} → statement M
-new-olt-spec = tie.close (tie.spec no-unit-requires returns)
+new-olt-spec = tie.close (tie.spec (λ c κs. search needs) returns)

@@ -5,12 +5,9 @@ use Rattle.ends.specs.Records.{noUnit}
 use Rattle.olt.proofs.making.no_unit.Statement.{statement}
 use Rattle.olt.proofs.making.no_unit.Tie as tie
 
-fresh-unit-requires : tie.Need-fresh-unit-requires
-fresh-unit-requires c κs = search needs
-
 returns : tie.Need-returns
 unfolding noUnit
 returns c = c .fresh-unit .ensures
 
 pub no-unit-spec : {M : Type 1} → statement M
-no-unit-spec = tie.close (tie.spec fresh-unit-requires returns)
+no-unit-spec = tie.close (tie.spec (λ c κs. search needs) returns)

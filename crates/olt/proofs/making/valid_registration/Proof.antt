@@ -6,16 +6,9 @@ use Rattle.ends.specs.OltCalls.{validRegistration}
 use Rattle.olt.proofs.making.valid_registration.Statement.{statement}
 use Rattle.olt.proofs.making.valid_registration.Tie as tie
 
-valid-identity-requires : tie.Need-valid-identity-requires
-valid-identity-requires c κs = search needs
-
-valid-interval-requires : tie.Need-valid-interval-requires
-valid-interval-requires c κs = search needs
-
 returns : tie.Need-returns
 unfolding validRegistration both
 returns c = rw (c .valid-interval .ensures, c .before .valid-identity .ensures)
 
 pub valid-registration-spec : {M : Type 1} → statement M
-valid-registration-spec =
-    tie.close (tie.spec valid-identity-requires valid-interval-requires returns)
+valid-registration-spec = tie.close (tie.spec (λ c κs. search needs) (λ c κs. search needs) returns)

@@ -6,21 +6,9 @@ use Rattle.ends.specs.Table.{withOneMore}
 use Rattle.olt.proofs.making.with_one_more.Statement.{statement}
 use Rattle.olt.proofs.making.with_one_more.Tie as tie
 
-cast-place : tie.Need-cast-place
-cast-place c = search needs
-
-mul-unit : tie.Need-mul-unit
-mul-unit c = search needs
-
-element-set-from-unit : tie.Need-element-set-from-unit
-element-set-from-unit c = search needs
-
-add-r : tie.Need-add-r
-add-r c = search needs
-
 returns : tie.Need-returns
 unfolding withOneMore
 returns c = refl
 
 pub with-one-more-spec : {M : Type 1} → statement M
-with-one-more-spec = tie.close (tie.spec cast-place mul-unit element-set-from-unit add-r returns)
+with-one-more-spec = tie.close (tie.spec (λ c. search needs) (λ c. search needs) (λ c. search needs) (λ c. search needs) returns)

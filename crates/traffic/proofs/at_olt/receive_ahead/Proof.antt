@@ -10,4 +10,6 @@ unfolding both
 returns c = cc
 
 pub receive-ahead-spec : {M : Type 1} → statement M
-receive-ahead-spec = tie.close (tie.spec (λ c κs. search needs) (λ c κs. search needs) (λ c κs. search needs) (λ c κs. search needs) (λ c κs. search needs) returns)
+receive-ahead-spec =
+    tie.close (tie.spec (λ c κs. search needs) (λ c κs. search needs) (λ c κs. search needs) (λ c κs. search needs) (λ c κs. search needs)
+    returns)

@@ -5,20 +5,8 @@ use borrow.Author.Needs.{needs}
 use Rattle.traffic.proofs.at_onu.after_receive.Statement.{statement}
 use Rattle.traffic.proofs.at_onu.after_receive.Tie as tie
 
-enum-told : tie.Need-enum-told
-enum-told c = search needs
-
-enum-told-2 : tie.Need-enum-told-2
-enum-told-2 c = search needs
-
-enum-told-3 : tie.Need-enum-told-3
-enum-told-3 c = search needs
-
 moved-requires : tie.Need-moved-requires
 moved-requires c κs = c .before .before .pre _ (c .enum-told3 .given .1)
-
-enum-told-4 : tie.Need-enum-told-4
-enum-told-4 c = search needs
 
 returns : tie.Need-returns
 unfolding onuAfterReceipt
@@ -38,14 +26,4 @@ returns-4 c = rw (c .enum-told4 .given .1)
 
 pub after-receive-spec : {M : Type 1} → statement M
 after-receive-spec =
-    tie.close
-    (tie.spec
-    enum-told
-    enum-told-2
-    enum-told-3
-    moved-requires
-    enum-told-4
-    returns
-    returns-2
-    returns-3
-    returns-4)
+    tie.close (tie.spec (λ c. search needs) (λ c. search needs) (λ c. search needs) moved-requires (λ c. search needs) returns returns-2 returns-3 returns-4)

@@ -1,26 +1,47 @@
--- `traffic::at_onu::after_send` meets its contract: the first send and the channels are those of the definition.
+-- `traffic::at_onu::after_send` meets its contract: by the choice; a send under a key may be its first.
 -- Assumes nothing.
+use mathlib.Core.Path.{sym, _∙_}
 use borrow.Author.Needs.{needs}
-use borrow.Author.Tests.{eq-eqb, ne-eqb}
-use Rattle.octets.specs.Choice.{pick}
 use Rattle.ends.specs.Records.{withOnuChannels, withOnuFirst}
-use Rattle.ends.specs.OnuTraffic.{onuNoted, onuSendChoice, onuAfterSend}
+use Rattle.ends.specs.OnuTraffic.{onuNoted, onuAfterSend}
 use Rattle.traffic.proofs.at_onu.after_send.Statement.{statement}
 use Rattle.traffic.proofs.at_onu.after_send.Tie as tie
 
-occupied-requires : tie.Need-occupied-requires
-occupied-requires c κs = search needs
-
 returns : tie.Need-returns
-unfolding onuAfterSend onuNoted onuSendChoice pick withOnuChannels
-returns c = rw (eq-eqb _ _ (c .if1 .taken), c .before .before .occupied .ensures)
-
-first-send-requires : tie.Need-first-send-requires
-first-send-requires c κs = search needs
+unfolding onuAfterSend onuNoted withOnuChannels
+returns c =
+    let taken = c .before .before in
+    rw (sym (taken .before .pre .0) ∙ c .enum-told .given .1, taken .occupied .ensures (taken .before .pre .1 .0) (taken .before .pre .1 .1))
 
 returns-2 : tie.Need-returns-2
-unfolding onuAfterSend onuNoted onuSendChoice pick withOnuChannels withOnuFirst
-returns-2 c = rw (ne-eqb _ _ (c .before .if1 .left), c .first-send .ensures, c .before .before .before .occupied .ensures)
+unfolding onuAfterSend onuNoted withOnuChannels withOnuFirst
+returns-2 c =
+    let taken = c .before .before .before in
+    rw (sym (taken .before .pre .0) ∙ c .before .enum-told2 .given .1, c .first-send .ensures, taken .occupied .ensures (taken .before .pre .1 .0) (taken .before .pre .1 .1))
+
+returns-3 : tie.Need-returns-3
+unfolding onuAfterSend onuNoted withOnuChannels
+returns-3 c =
+    let taken = c .before .before in
+    rw (sym (taken .before .pre .0) ∙ c .enum-told3 .given .1, taken .occupied .ensures (taken .before .pre .1 .0) (taken .before .pre .1 .1))
+
+returns-4 : tie.Need-returns-4
+unfolding onuAfterSend onuNoted withOnuChannels
+returns-4 c =
+    let taken = c .before .before in
+    rw (sym (taken .before .pre .0) ∙ c .enum-told4 .given .1, taken .occupied .ensures (taken .before .pre .1 .0) (taken .before .pre .1 .1))
 
 pub after-send-spec : {M : Type 1} → statement M
-after-send-spec = tie.close (tie.spec occupied-requires returns first-send-requires returns-2)
+after-send-spec =
+    tie.close
+    (tie.spec
+    (λ c κs. search needs)
+    (λ c. search needs)
+    (λ c. search needs)
+    (λ c κs. search needs)
+    (λ c. search needs)
+    (λ c. search needs)
+    returns
+    returns-2
+    returns-3
+    returns-4)

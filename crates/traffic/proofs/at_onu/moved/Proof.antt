@@ -6,15 +6,9 @@ use borrow.Author.Needs.{needs}
 use Rattle.traffic.proofs.at_onu.moved.Statement.{statement}
 use Rattle.traffic.proofs.at_onu.moved.Tie as tie
 
-add-active : tie.Need-add-active
-add-active c = search needs
-
-only-key-requires : tie.Need-only-key-requires
-only-key-requires c κs = search needs
-
 returns : tie.Need-returns
 unfolding onuMoved withOnuKeys withOnuFirst
 returns c = rw (c .only-key .ensures)
 
 pub moved-spec : {M : Type 1} → statement M
-moved-spec = tie.close (tie.spec add-active only-key-requires returns)
+moved-spec = tie.close (tie.spec (λ c. search needs) (λ c κs. search needs) returns)

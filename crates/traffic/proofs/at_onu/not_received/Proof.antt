@@ -1,16 +1,13 @@
--- `traffic::at_onu::not_received` meets its contract: the number is the refusal's.
+-- `traffic::at_onu::not_received` meets its contract: the end as it was lent, and nothing handed over.
 -- Assumes nothing.
-use Rattle.traffic.specs.Receipts.{onuNotReceived}
 use borrow.Author.Needs.{needs}
+use Rattle.traffic.specs.Receipts.{onuNotReceiving}
 use Rattle.traffic.proofs.at_onu.not_received.Statement.{statement}
 use Rattle.traffic.proofs.at_onu.not_received.Tie as tie
 
-number-requires : tie.Need-number-requires
-number-requires c κs = search needs
-
 returns : tie.Need-returns
-unfolding onuNotReceived
-returns c = rw (c .number .ensures)
+unfolding onuNotReceiving
+returns c = rw (c .no-passage .ensures)
 
 pub not-received-spec : {M : Type 1} → statement M
-not-received-spec = tie.close (tie.spec number-requires returns)
+not-received-spec = tie.close (tie.spec (λ c κs. search needs) returns)

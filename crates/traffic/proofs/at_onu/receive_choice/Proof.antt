@@ -20,22 +20,15 @@ returns-2 : tie.Need-returns-2
 unfolding onuReceiveChoice pick
 returns-2 c = rw (eq-eqb _ _ (c .before .if1 .taken), ne-eqb _ _ (c .if2 .left))
 
-sub-other : tie.Need-sub-other
-sub-other c = search needs
-
-cast-if3 : tie.Need-cast-if3
-cast-if3 c = search needs
-
 returns-3 : tie.Need-returns-3
 unfolding onuReceiveChoice both pick
 returns-3 c = rw (ne-eqb _ _ (c .before .before .if1 .left), c .if3 .taken)
 
-cast-if4 : tie.Need-cast-if4
-cast-if4 c = search needs
-
 add-t12 : tie.Need-add-t12
 unfolding both
-add-t12 c = omega (arith, onu-keys-in-range (c .before .before .before .before .before .before .before .args .keys) (c .before .before .before .before .before .before .before .pre) .below (eqb-true _ _ (both-left _ _ (c .if4 .taken))))
+add-t12 c =
+    let start = c .before .before .before .before .before .before .before in
+    omega (arith, onu-keys-in-range (start .args .keys) (start .pre) .below (eqb-true _ _ (both-left _ _ (c .if4 .taken))))
 
 returns-4 : tie.Need-returns-4
 unfolding onuReceiveChoice both pick
@@ -53,14 +46,4 @@ returns-5 c =
 
 pub receive-choice-spec : {M : Type 1} → statement M
 receive-choice-spec =
-    tie.close
-    (tie.spec
-    returns
-    returns-2
-    sub-other
-    cast-if3
-    returns-3
-    cast-if4
-    add-t12
-    returns-4
-    returns-5)
+    tie.close (tie.spec returns returns-2 (λ c. search needs) (λ c. search needs) returns-3 (λ c. search needs) add-t12 returns-4 returns-5)

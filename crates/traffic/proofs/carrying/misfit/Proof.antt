@@ -6,11 +6,8 @@ use borrow.Author.Needs.{needs}
 use Rattle.traffic.proofs.carrying.misfit.Statement.{statement}
 use Rattle.traffic.proofs.carrying.misfit.Tie as tie
 
-lengths-fit-requires : tie.Need-lengths-fit-requires
-lengths-fit-requires c κs = search needs
-
 returns : tie.Need-returns
 returns c = ap not (c .lengths-fit .ensures)
 
 pub misfit-spec : {M : Type 1} → statement M
-misfit-spec = tie.close (tie.spec lengths-fit-requires returns)
+misfit-spec = tie.close (tie.spec (λ c κs. search needs) returns)

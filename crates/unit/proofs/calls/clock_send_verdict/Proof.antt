@@ -1,6 +1,5 @@
 -- `unit::calls::clock_send_verdict` meets its contract: the causes are those of the definition, in its order.
 -- Assumes nothing.
-use mathlib.Core.Path.{sym}
 use borrow.Author.Needs.{needs}
 use Rattle.clock.specs.Ticks.{ticksPerSecond}
 use Rattle.ends.specs.UnitCalls.{clockSendVerdict}

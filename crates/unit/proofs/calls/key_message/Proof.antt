@@ -5,12 +5,9 @@ use Rattle.ends.specs.UnitCalls.{keyMessageOf}
 use Rattle.unit.proofs.calls.key_message.Statement.{statement}
 use Rattle.unit.proofs.calls.key_message.Tie as tie
 
-key-in-requires : tie.Need-key-in-requires
-key-in-requires c κs = search needs
-
 returns : tie.Need-returns
 unfolding keyMessageOf
 returns c = rw (c .key-in .ensures)
 
 pub key-message-spec : {M : Type 1} → statement M
-key-message-spec = tie.close (tie.spec key-in-requires returns)
+key-message-spec = tie.close (tie.spec (λ c κs. search needs) returns)

@@ -9,9 +9,6 @@ use Rattle.unit.proofs.Elapsed.{least-since}
 use Rattle.unit.proofs.passing.aged.Statement.{statement}
 use Rattle.unit.proofs.passing.aged.Tie as tie
 
-since-requires : tie.Need-since-requires
-since-requires c κs = search needs
-
 returns : tie.Need-returns
 unfolding aged both
 returns c =
@@ -19,4 +16,4 @@ returns c =
     rw (c .since .ensures, least-since (a .first .tick) keyLife (a .tick) (omega arith))
 
 pub aged-spec : {M : Type 1} → statement M
-aged-spec = tie.close (tie.spec since-requires returns)
+aged-spec = tie.close (tie.spec (λ c κs. search needs) returns)

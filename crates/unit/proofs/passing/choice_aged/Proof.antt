@@ -5,21 +5,6 @@ use borrow.Author.Needs.{needs}
 use Rattle.unit.proofs.passing.choice_aged.Statement.{statement}
 use Rattle.unit.proofs.passing.choice_aged.Tie as tie
 
-aged-requires : tie.Need-aged-requires
-aged-requires c κs = search needs
-
-enum-told : tie.Need-enum-told
-enum-told c = search needs
-
-enum-told-2 : tie.Need-enum-told-2
-enum-told-2 c = search needs
-
-enum-told-3 : tie.Need-enum-told-3
-enum-told-3 c = search needs
-
-enum-told-4 : tie.Need-enum-told-4
-enum-told-4 c = search needs
-
 returns : tie.Need-returns
 unfolding choiceAged
 returns c = rw (c .enum-told .given .1)
@@ -38,14 +23,5 @@ returns-4 c = rw (c .enum-told4 .given .1)
 
 pub choice-aged-spec : {M : Type 1} → statement M
 choice-aged-spec =
-    tie.close
-    (tie.spec
-    aged-requires
-    enum-told
-    enum-told-2
-    enum-told-3
-    enum-told-4
-    returns
-    returns-2
-    returns-3
-    returns-4)
+    tie.close (tie.spec (λ c κs. search needs) (λ c. search needs) (λ c. search needs) (λ c. search needs) (λ c. search needs) returns
+    returns-2 returns-3 returns-4)

@@ -5,18 +5,6 @@ use borrow.Author.Needs.{needs}
 use Rattle.unit.proofs.passing.choice_number.Statement.{statement}
 use Rattle.unit.proofs.passing.choice_number.Tie as tie
 
-enum-told : tie.Need-enum-told
-enum-told c = search needs
-
-enum-known-choice : tie.Need-enum-known-choice
-enum-known-choice c = search needs
-
-enum-known-choice-2 : tie.Need-enum-known-choice-2
-enum-known-choice-2 c = search needs
-
-enum-told-2 : tie.Need-enum-told-2
-enum-told-2 c = search needs
-
 returns : tie.Need-returns
 unfolding choiceNumber
 returns c = rw (c .enum-told .given .1)
@@ -35,13 +23,5 @@ returns-4 c = rw (c .enum-told2 .given .1)
 
 pub choice-number-spec : {M : Type 1} → statement M
 choice-number-spec =
-    tie.close
-    (tie.spec
-    enum-told
-    enum-known-choice
-    enum-known-choice-2
-    enum-told-2
-    returns
-    returns-2
-    returns-3
+    tie.close (tie.spec (λ c. search needs) (λ c. search needs) (λ c. search needs) (λ c. search needs) returns returns-2 returns-3
     returns-4)

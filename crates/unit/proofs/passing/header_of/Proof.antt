@@ -8,15 +8,6 @@ use borrow.Author.Needs.{needs}
 use Rattle.unit.proofs.passing.header_of.Statement.{statement}
 use Rattle.unit.proofs.passing.header_of.Tie as tie
 
-choice-number-requires : tie.Need-choice-number-requires
-choice-number-requires c κs = search needs
-
-cast-enckey : tie.Need-cast-enckey
-cast-enckey c = search needs
-
-epam-of-requires : tie.Need-epam-of-requires
-epam-of-requires c κs = search needs
-
 returns : tie.Need-returns
 unfolding envelopeHeader pick
 returns c = rw (sym (c .before .before .choice-number .ensures), eq-eqb _ _ (c .if1 .taken), c .before .epam-of .ensures)
@@ -26,11 +17,4 @@ unfolding envelopeHeader pick
 returns-2 c = rw (sym (c .before .before .choice-number .ensures), ne-eqb _ _ (c .if1 .left), c .before .epam-of .ensures)
 
 pub header-of-spec : {M : Type 1} → statement M
-header-of-spec =
-    tie.close
-    (tie.spec
-    choice-number-requires
-    cast-enckey
-    epam-of-requires
-    returns
-    returns-2)
+header-of-spec = tie.close (tie.spec (λ c κs. search needs) (λ c. search needs) (λ c κs. search needs) returns returns-2)

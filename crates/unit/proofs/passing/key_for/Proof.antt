@@ -11,12 +11,9 @@ returns : tie.Need-returns
 unfolding keyFor pick
 returns c = rw (eq-eqb _ _ (c .if1 .taken))
 
-key-in-requires : tie.Need-key-in-requires
-key-in-requires c κs = search needs
-
 returns-2 : tie.Need-returns-2
 unfolding keyFor pick
 returns-2 c = rw (ne-eqb _ _ (c .before .if1 .left)) (c .key-in .ensures)
 
 pub key-for-spec : {M : Type 1} → statement M
-key-for-spec = tie.close (tie.spec returns key-in-requires returns-2)
+key-for-spec = tie.close (tie.spec returns (λ c κs. search needs) returns-2)

@@ -5,15 +5,9 @@ use Rattle.ends.specs.Headers.{sendingOf}
 use Rattle.unit.proofs.passing.sending_of.Statement.{statement}
 use Rattle.unit.proofs.passing.sending_of.Tie as tie
 
-header-of-requires : tie.Need-header-of-requires
-header-of-requires c κs = search needs
-
-passage-of-requires : tie.Need-passage-of-requires
-passage-of-requires c κs = search needs
-
 returns : tie.Need-returns
 unfolding sendingOf
 returns c = rw (c .passage-of .ensures, c .before .header-of .ensures)
 
 pub sending-of-spec : {M : Type 1} → statement M
-sending-of-spec = tie.close (tie.spec header-of-requires passage-of-requires returns)
+sending-of-spec = tie.close (tie.spec (λ c κs. search needs) (λ c κs. search needs) returns)

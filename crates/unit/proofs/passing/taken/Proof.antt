@@ -1,18 +1,19 @@
 -- `unit::passing::taken` meets its contract: by the channel.
 -- Assumes nothing.
-use borrow.Author.Tests.{eq-eqb, ne-eqb}
+use mathlib.Core.Path.{sym}
+use borrow.Author.Needs.{needs}
 use Rattle.octets.specs.Choice.{pick}
-use Rattle.ends.specs.Occupancy.{onZero, freeFrom, taken}
+use Rattle.ends.specs.Occupancy.{freeFrom, taken}
 use Rattle.unit.proofs.passing.taken.Statement.{statement}
 use Rattle.unit.proofs.passing.taken.Tie as tie
 
 returns : tie.Need-returns
-unfolding taken freeFrom onZero pick
-returns c = rw (eq-eqb _ _ (c .before .if1 .taken))
+unfolding taken freeFrom pick
+returns c = let chosen = c .before in rw (sym (chosen .before .on-zero .ensures), chosen .if1 .taken)
 
 returns-2 : tie.Need-returns-2
-unfolding taken freeFrom onZero pick
-returns-2 c = rw (ne-eqb _ _ (c .before .if1 .left))
+unfolding taken freeFrom pick
+returns-2 c = let chosen = c .before in rw (sym (chosen .before .on-zero .ensures), chosen .if1 .left)
 
 pub taken-spec : {M : Type 1} → statement M
-taken-spec = tie.close (tie.spec returns returns-2)
+taken-spec = tie.close (tie.spec (λ c κs. search needs) returns returns-2)

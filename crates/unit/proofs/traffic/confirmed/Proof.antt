@@ -6,12 +6,9 @@ use borrow.Author.Needs.{needs}
 use Rattle.unit.proofs.traffic.confirmed.Statement.{statement}
 use Rattle.unit.proofs.traffic.confirmed.Tie as tie
 
-only-key-requires : tie.Need-only-key-requires
-only-key-requires c κs = search needs
-
 returns : tie.Need-returns
 unfolding unitConfirmed withKeys withSlots withConfirmation
 returns c = rw (c .before .only-key .ensures)
 
 pub confirmed-spec : {M : Type 1} → statement M
-confirmed-spec = tie.close (tie.spec only-key-requires returns)
+confirmed-spec = tie.close (tie.spec (λ c κs. search needs) returns)

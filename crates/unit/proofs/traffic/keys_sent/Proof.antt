@@ -6,24 +6,6 @@ use borrow.Author.Needs.{needs}
 use Rattle.unit.proofs.traffic.keys_sent.Statement.{statement}
 use Rattle.unit.proofs.traffic.keys_sent.Tie as tie
 
-enum-told : tie.Need-enum-told
-enum-told c = search needs
-
-enum-told-2 : tie.Need-enum-told-2
-enum-told-2 c = search needs
-
-first-send-requires : tie.Need-first-send-requires
-first-send-requires c κs = search needs
-
-enum-told-3 : tie.Need-enum-told-3
-enum-told-3 c = search needs
-
-keys-switched-requires : tie.Need-keys-switched-requires
-keys-switched-requires c κs = search needs
-
-enum-told-4 : tie.Need-enum-told-4
-enum-told-4 c = search needs
-
 returns : tie.Need-returns
 unfolding keysAfterSend
 returns c = rw (c .enum-told .given .1)
@@ -42,15 +24,5 @@ returns-4 c = rw (c .enum-told4 .given .1)
 
 pub keys-sent-spec : {M : Type 1} → statement M
 keys-sent-spec =
-    tie.close
-    (tie.spec
-    enum-told
-    enum-told-2
-    first-send-requires
-    enum-told-3
-    keys-switched-requires
-    enum-told-4
-    returns
-    returns-2
-    returns-3
-    returns-4)
+    tie.close (tie.spec (λ c. search needs) (λ c. search needs) (λ c κs. search needs) (λ c. search needs) (λ c κs. search needs)
+    (λ c. search needs) returns returns-2 returns-3 returns-4)

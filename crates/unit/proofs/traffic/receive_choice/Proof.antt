@@ -15,24 +15,9 @@ returns-2 : tie.Need-returns-2
 unfolding unitReceiveChoice pick
 returns-2 c = rw (eq-eqb _ _ (c .before .if1 .taken), ne-eqb (c .before .before .before .args .unit .confirmation .confirmed) 0 (c .if2 .left))
 
-cast-next : tie.Need-cast-next
-cast-next c = search needs
-
-add-next : tie.Need-add-next
-add-next c = search needs
-
-cast-if3 : tie.Need-cast-if3
-cast-if3 c = search needs
-
 returns-3 : tie.Need-returns-3
 unfolding unitReceiveChoice both pick
 returns-3 c = rw (ne-eqb _ _ (c .before .before .if1 .left), c .if3 .taken)
-
-cast-if4 : tie.Need-cast-if4
-cast-if4 c = search needs
-
-cast-if4-2 : tie.Need-cast-if4-2
-cast-if4-2 c = search needs
 
 returns-4 : tie.Need-returns-4
 unfolding unitReceiveChoice both pick
@@ -44,15 +29,5 @@ returns-5 c = rw (ne-eqb _ _ (c .before .before .before .before .if1 .left), c .
 
 pub receive-choice-spec : {M : Type 1} → statement M
 receive-choice-spec =
-    tie.close
-    (tie.spec
-    returns
-    returns-2
-    cast-next
-    add-next
-    cast-if3
-    returns-3
-    cast-if4
-    cast-if4-2
-    returns-4
-    returns-5)
+    tie.close (tie.spec returns returns-2 (λ c. search needs) (λ c. search needs) (λ c. search needs) returns-3 (λ c. search needs)
+    (λ c. search needs) returns-4 returns-5)

@@ -8,9 +8,6 @@ use borrow.Author.Needs.{needs}
 use Rattle.unit.proofs.traffic.send_choice.Statement.{statement}
 use Rattle.unit.proofs.traffic.send_choice.Tie as tie
 
-switches-requires : tie.Need-switches-requires
-switches-requires c κs = search needs
-
 returns : tie.Need-returns
 unfolding unitSendChoice pick
 returns c = rw (sym (c .before .switches .ensures), c .if1 .taken)
@@ -24,4 +21,4 @@ unfolding unitSendChoice pick
 returns-3 c = rw (sym (c .before .before .before .switches .ensures), c .before .before .if1 .left, ne-eqb _ _ (c .if2 .left))
 
 pub send-choice-spec : {M : Type 1} → statement M
-send-choice-spec = tie.close (tie.spec switches-requires returns returns-2 returns-3)
+send-choice-spec = tie.close (tie.spec (λ c κs. search needs) returns returns-2 returns-3)

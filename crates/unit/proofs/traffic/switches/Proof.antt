@@ -7,18 +7,9 @@ use borrow.Author.Needs.{needs}
 use Rattle.unit.proofs.traffic.switches.Statement.{statement}
 use Rattle.unit.proofs.traffic.switches.Tie as tie
 
-cast-next : tie.Need-cast-next
-cast-next c = search needs
-
-add-next : tie.Need-add-next
-add-next c = search needs
-
-cast-result : tie.Need-cast-result
-cast-result c = search needs
-
 returns : tie.Need-returns
 unfolding switches both
 returns c = refl
 
 pub switches-spec : {M : Type 1} → statement M
-switches-spec = tie.close (tie.spec cast-next add-next cast-result returns)
+switches-spec = tie.close (tie.spec (λ c. search needs) (λ c. search needs) (λ c. search needs) returns)

@@ -6,6 +6,7 @@
 #include "jazmotip.h"
 #include "measure.h"
 #include "openssl.h"
+#include "wordcipher.h"
 #include "work.h"
 #include "yardstick.h"
 
@@ -43,23 +44,43 @@ static void engine_open(void *work)
 static void c_seal(void *work)
 {
     struct work *w = work;
-    c_count = bytecipher_seal(work_key, c_nonce, w->input, w->length, w->output, w->length).count;
+    c_count = wordcipher_seal(work_key, c_nonce, w->input, w->length, w->output, w->length).count;
 }
 
 static void c_seal_expanded(void *work)
 {
     struct work *w = work;
+    c_count = wordcipher_seal_expanded(expanded.octets, c_nonce, w->input, w->length, w->output, w->length).count;
+}
+
+static void tables_seal(void *work)
+{
+    struct work *w = work;
+    c_count = bytecipher_seal(work_key, c_nonce, w->input, w->length, w->output, w->length).count;
+}
+
+static void tables_seal_expanded(void *work)
+{
+    struct work *w = work;
     c_count = bytecipher_seal_expanded(expanded.octets, c_nonce, w->input, w->length, w->output, w->length).count;
+}
+
+static void open_by(bytecipher_sealer *seal, struct work *w)
+{
+    uint8_t keys[2][176];
+    bytecipher_expand(work_settings + 1, keys[0]);
+    bytecipher_expand(work_settings + 17, keys[1]);
+    c_count = bytecipher_open_block(seal, keys[0], keys[1], work_settings, 41, w->input, w->length, w->output, w->length).count;
 }
 
 static void c_open(void *work)
 {
-    struct work *w = work;
-    uint8_t keys[2][176];
-    bytecipher_expand(work_settings + 1, keys[0]);
-    bytecipher_expand(work_settings + 17, keys[1]);
-    c_count = bytecipher_open_block(bytecipher_seal_eqs, keys[0], keys[1], work_settings, 41, w->input, w->length, w->output,
-                                    w->length).count;
+    open_by(wordcipher_seal_eqs, work);
+}
+
+static void tables_open(void *work)
+{
+    open_by(bytecipher_seal_eqs, work);
 }
 
 /* ----------------------------------------------------------------------------------------------------------------- Equality */
@@ -88,9 +109,12 @@ static void check_works(void)
         uint64_t engine = hash_after(block ? engine_open : engine_seal, w);
         same(hash_after(block ? c_open : c_seal, w), engine, w, "the C cipher");
         same(c_count, engine_count, w, "the C cipher's count");
+        same(hash_after(block ? tables_open : tables_seal, w), engine, w, "the C cipher of two tables");
+        same(c_count, engine_count, w, "its count");
         if (!block) {
             same(hash_after(engine_seal_expanded, w), engine, w, "the expanded key");
             same(hash_after(c_seal_expanded, w), engine, w, "the C cipher's expanded key");
+            same(hash_after(tables_seal_expanded, w), engine, w, "the expanded key of the C cipher of two tables");
             same(jazmotip_count(w->input, w->length), engine_count, w, "count");
         }
         if (openssl != NULL) {
@@ -102,7 +126,7 @@ static void check_works(void)
 
 /* ------------------------------------------------------------------------------------------------------------------ Sealing */
 
-enum { ENGINE, C, BARE, OPENSSL, ENGINE_EXPANDED, C_EXPANDED, CONTESTANTS };
+enum { ENGINE, C, TABLES, BARE, OPENSSL, ENGINE_EXPANDED, C_EXPANDED, TABLES_EXPANDED, CONTESTANTS };
 
 static struct rounds rounds[WORKS];
 
@@ -118,10 +142,12 @@ static void measure_work(int i)
     struct contestant all[CONTESTANTS] = {
         [ENGINE] = {.here = block ? engine_open : engine_seal, .job = w},
         [C] = {.here = block ? c_open : c_seal, .job = w},
+        [TABLES] = {.here = block ? tables_open : tables_seal, .job = w},
         [BARE] = {.there = openssl != NULL ? openssl->bare_seal : NULL, .job = w},
         [OPENSSL] = {.here = openssl != NULL ? openssl->seal : NULL, .job = w},
         [ENGINE_EXPANDED] = {.here = expanding ? engine_seal_expanded : NULL, .job = w},
         [C_EXPANDED] = {.here = expanding ? c_seal_expanded : NULL, .job = w},
+        [TABLES_EXPANDED] = {.here = expanding ? tables_seal_expanded : NULL, .job = w},
     };
     measure_rounds(&rounds[i], all, CONTESTANTS, is_largest(w) ? 15 : 151, 1e6);
 }
@@ -154,10 +180,10 @@ static void print_ratio(int i, int k, int of)
 
 static void print_sealing(void)
 {
-    printf("| EQs | octets | engine, ns a call | ns an EQ | MB/s | C, MB/s | engine of C |");
+    printf("| EQs | octets | engine, ns a call | ns an EQ | MB/s | C, MB/s | engine of C | C of two tables, MB/s | engine of it |");
     if (openssl != NULL)
         printf(" OpenSSL without AES instructions, MB/s | engine of it | OpenSSL with them, MB/s | engine of it |");
-    printf("\n|---|---:|---:|---:|---:|---:|---:|%s\n", openssl != NULL ? "---:|---:|---:|---:|" : "");
+    printf("\n|---|---:|---:|---:|---:|---:|---:|---:|---:|%s\n", openssl != NULL ? "---:|---:|---:|---:|" : "");
     for (int i = 0; i < WORKS; i++) {
         double ns = measure_cost(&rounds[i], ENGINE).median;
         printf("| %s | %s | %s | %.1f |", name_of(i), measure_commas((double)works[i].length), measure_commas(ns),
@@ -165,6 +191,8 @@ static void print_sealing(void)
         print_rate(i, ENGINE);
         print_rate(i, C);
         print_ratio(i, ENGINE, C);
+        print_rate(i, TABLES);
+        print_ratio(i, ENGINE, TABLES);
         if (openssl != NULL) {
             print_rate(i, BARE);
             print_ratio(i, ENGINE, BARE);
@@ -173,12 +201,15 @@ static void print_sealing(void)
         }
         printf("\n");
     }
-    printf("\n| EQs, the key expanded before | engine, ns a call | MB/s | C, MB/s | engine of C |\n|---|---:|---:|---:|---:|\n");
+    printf("\n| EQs, the key expanded before | engine, ns a call | MB/s | C, MB/s | engine of C | C of two tables, MB/s | engine of it |\n"
+           "|---|---:|---:|---:|---:|---:|---:|\n");
     for (int i = 0; i < WORKS_PAYLOADS && !is_largest(&works[i]); i++) {
         printf("| %s | %s |", name_of(i), measure_commas(measure_cost(&rounds[i], ENGINE_EXPANDED).median));
         print_rate(i, ENGINE_EXPANDED);
         print_rate(i, C_EXPANDED);
         print_ratio(i, ENGINE_EXPANDED, C_EXPANDED);
+        print_rate(i, TABLES_EXPANDED);
+        print_ratio(i, ENGINE_EXPANDED, TABLES_EXPANDED);
         printf("\n");
     }
     printf("\n");
@@ -239,7 +270,8 @@ static void print_method(void)
     printf("%s.\n\n", openssl != NULL ? openssl->version : "OpenSSL's headers are not on this machine: no column for it");
     printf("Contestants take turns in rounds on one processor; a figure is the median over the rounds, by processor time, and\n"
            "beside a ratio stand its lowest and highest tenth. MB are 10^6 octets of payload, control octets too. Key set-up is\n"
-           "in every figure but where the key was expanded before. C is the same byte-table cipher (bytecipher.c)%s.\n"
+           "in every figure but where the key was expanded before. C is the same cipher (wordcipher.c: one table, doublings worked\n"
+           "out, the rows of two blocks in words); C of two tables looks doublings up (bytecipher.c)%s.\n"
            "All contestants' octets were compared and are equal. Stack is what a call writes below its caller's: what is handed\n"
            "over by value counts, the answer does not.\n\n",
            openssl != NULL ? "; OpenSSL makes\nthe key stream in bulk (AES-128-CTR), and the mask of bytecipher.c follows" : "");

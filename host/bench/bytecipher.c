@@ -8,8 +8,10 @@
 
 #include <string.h>
 
+#define sbox bytecipher_sbox
+
 /* FIPS 197, 5.1.1. */
-static const uint8_t sbox[256] = {
+const uint8_t bytecipher_sbox[256] = {
     0x63, 0x7c, 0x77, 0x7b, 0xf2, 0x6b, 0x6f, 0xc5, 0x30, 0x01, 0x67, 0x2b, 0xfe, 0xd7, 0xab, 0x76,
     0xca, 0x82, 0xc9, 0x7d, 0xfa, 0x59, 0x47, 0xf0, 0xad, 0xd4, 0xa2, 0xaf, 0x9c, 0xa4, 0x72, 0xc0,
     0xb7, 0xfd, 0x93, 0x26, 0x36, 0x3f, 0xf7, 0xcc, 0x34, 0xa5, 0xe5, 0xf1, 0x71, 0xd8, 0x31, 0x15,
@@ -115,28 +117,18 @@ void bytecipher_counter(struct bytecipher_nonce nonce, uint8_t block[16])
     block[13] = block[14] = block[15] = 0;
 }
 
-static inline unsigned ones(uint8_t octet)
+static inline uint64_t half_of(const uint8_t *stream)
 {
-    unsigned n = octet - (octet >> 1 & 0x55u);
-    n = (n & 0x33u) + (n >> 2 & 0x33u);
-    return (n + (n >> 4)) & 0x0fu;
-}
-
-/* One EQ; gives the octets enciphered. */
-static inline unsigned mask_eq(const uint8_t *stream, const uint8_t *input, uint8_t *output)
-{
-    uint8_t control = input[0];
-    output[0] = control;
-    for (int j = 0; j < 8; j++)
-        output[1 + j] = input[1 + j] ^ (stream[j] & (255 * (1 - (control >> j & 1))));
-    return 8 - ones(control);
+    uint64_t half;
+    memcpy(&half, stream, 8);
+    return half;
 }
 
 uint64_t bytecipher_mask(const uint8_t *stream, const uint8_t *input, uint8_t *output, size_t eqs)
 {
     uint64_t count = 0;
     for (size_t i = 0; i < eqs; i++)
-        count += mask_eq(stream + 8 * i, input + 9 * i, output + 9 * i);
+        count += bytecipher_mask_eq(half_of(stream + 8 * i), input + 9 * i, output + 9 * i);
     return count;
 }
 
@@ -151,14 +143,14 @@ uint64_t bytecipher_seal_eqs(const void *round_keys, struct bytecipher_nonce non
         counter[14] = (uint8_t)(i >> 8);
         counter[15] = (uint8_t)i;
         encrypt(round_keys, counter, stream);
-        count += mask_eq(stream, input + 18 * i, output + 18 * i);
+        count += bytecipher_mask_eq(half_of(stream), input + 18 * i, output + 18 * i);
         if (2 * i + 1 < eqs)
-            count += mask_eq(stream + 8, input + 18 * i + 9, output + 18 * i + 9);
+            count += bytecipher_mask_eq(half_of(stream + 8), input + 18 * i + 9, output + 18 * i + 9);
     }
     return count;
 }
 
-static uint8_t judge(struct bytecipher_nonce nonce, size_t input_length, size_t output_length)
+uint8_t bytecipher_judge(struct bytecipher_nonce nonce, size_t input_length, size_t output_length)
 {
     if (input_length % 9 != 0 || input_length > 37748727 || output_length != input_length)
         return 14;
@@ -171,7 +163,7 @@ struct bytecipher_answer bytecipher_seal_expanded(const uint8_t round_keys[176],
                                                   const uint8_t *input, size_t input_length, uint8_t *output,
                                                   size_t output_length)
 {
-    struct bytecipher_answer answer = {judge(nonce, input_length, output_length), 0};
+    struct bytecipher_answer answer = {bytecipher_judge(nonce, input_length, output_length), 0};
     if (answer.number == 0)
         answer.count = bytecipher_seal_eqs(round_keys, nonce, input, output, input_length / 9);
     return answer;
@@ -180,7 +172,7 @@ struct bytecipher_answer bytecipher_seal_expanded(const uint8_t round_keys[176],
 struct bytecipher_answer bytecipher_seal(const uint8_t key[16], struct bytecipher_nonce nonce, const uint8_t *input,
                                          size_t input_length, uint8_t *output, size_t output_length)
 {
-    struct bytecipher_answer answer = {judge(nonce, input_length, output_length), 0};
+    struct bytecipher_answer answer = {bytecipher_judge(nonce, input_length, output_length), 0};
     if (answer.number == 0) {
         uint8_t round_keys[176];
         bytecipher_expand(key, round_keys);

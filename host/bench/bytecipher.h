@@ -6,6 +6,7 @@
 
 #include <stddef.h>
 #include <stdint.h>
+#include <string.h>
 
 struct bytecipher_nonce {
     uint8_t channel;
@@ -17,6 +18,29 @@ struct bytecipher_answer {
     uint8_t number; /* 0, or the refusal's */
     uint64_t count; /* octets enciphered */
 };
+
+/* FIPS 197, 5.1.1. */
+extern const uint8_t bytecipher_sbox[256];
+
+/* 0, 14 or 1. */
+uint8_t bytecipher_judge(struct bytecipher_nonce nonce, size_t input_length, size_t output_length);
+
+/* One EQ under eight cipher octets, the first lowest; gives the octets enciphered. */
+static inline unsigned bytecipher_mask_eq(uint64_t half, const uint8_t *input, uint8_t *output)
+{
+    uint8_t control = input[0];
+    uint64_t spread = control, word;
+    spread = (spread | spread << 28) & 0x0000000f0000000f;
+    spread = (spread | spread << 14) & 0x0003000300030003;
+    spread = (spread | spread << 7) & 0x0101010101010101;
+    memcpy(&word, input + 1, 8);
+    word ^= half & ((spread ^ 0x0101010101010101) * 255);
+    output[0] = control;
+    memcpy(output + 1, &word, 8);
+    unsigned n = control - (control >> 1 & 0x55u);
+    n = (n & 0x33u) + (n >> 2 & 0x33u);
+    return 8 - ((n + (n >> 4)) & 0x0fu);
+}
 
 /* The eleven round keys of a key. */
 void bytecipher_expand(const uint8_t key[16], uint8_t round_keys[176]);

@@ -1,15 +1,14 @@
 // What sealing takes and answers that needs no cipher (01, Counter block and mask, When the reader says no: 14, 1): the counter
-// block, the control mask, the count, and the verdict on a call.
+// block, the count, and the verdict on a call. The control mask is defined here, and made where the cipher is.
 ghost use mathlib.Core.Path.{_≡_};
 ghost use Rattle.envelope.specs.Acceptance.{lengthsFit, nonceFits, sealVerdict};
 ghost use Rattle.envelope.specs.Answer.{sealNumber, sealCount};
 ghost use Rattle.envelope.specs.Channels.{channelFits, downstream, upstream, onZero};
-ghost use Rattle.envelope.specs.ControlMask.{controlOctet, dataOctet, masked, countEnciphered};
+ghost use Rattle.envelope.specs.ControlMask.{controlOctet, dataOctet, countEnciphered};
 ghost use Rattle.envelope.specs.CounterBlock.{counterBlock};
 use octets::EQ_OCTETS;
 use octets::MAX_EQS;
 use octets::SIX_OCTETS;
-use octets::bit;
 use octets::octet_at;
 use refusal::Refusal;
 use refusal::Verdict;
@@ -76,13 +75,6 @@ pub fn data_octet(payload: &[u8], e: u32, j: u8) -> u8
     ensures { λ r. ⌜ r ≡ dataOctet (now (payload .entry)) e j ⌝ }
 {
     octet_at(payload, EQ_OCTETS * e as usize + 1 + j as usize)
-}
-
-// One data octet: no branch on its value or on the control octet's.
-pub fn mask(control: u8, j: u8, key: u8, octet: u8) -> u8
-    ensures { λ r. ⌜ r ≡ masked control j key octet ⌝ }
-{
-    octet ^ (key & (255 * (1 - bit(control, j))))
 }
 
 // The octets that sealing enciphers.

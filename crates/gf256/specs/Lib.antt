@@ -1,3 +1,4 @@
 pub mod Field
+pub mod Lanes
 pub mod Substitution
 pub mod Table

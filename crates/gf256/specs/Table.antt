@@ -13,10 +13,6 @@ table f = tabulate 0 256 f
 abbrev pub sboxTable : List ℕ
 sboxTable = table sbox
 
--- each octet times x (FIPS 197, 4.2)
-abbrev pub doublesTable : List ℕ
-doublesTable = table xTimes
-
 -- x^n
 unfoldable pub powerOfX : ℕ → ℕ
 powerOfX zero = 1

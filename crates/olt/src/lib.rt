@@ -6,6 +6,7 @@ pub mod place;
 mod timing;
 
 ghost use mathlib.Core.Path.{_≡_};
+ghost use Rattle.octets.specs.Choice.{pick};
 ghost use Rattle.refusal.specs.Number.{verdictNumber};
 ghost use Rattle.ends.specs.ClockCaptures.{Captures};
 ghost use Rattle.ends.specs.OltCalls.{acknowledgeOf, acknowledgeOrder, advanceOltOf, captureOf, captureOrder, clockSendOf, clockSendOrder, freshOltOf, offerOf, offerOrder, registerOf, retryOf, retryOrder};
@@ -33,14 +34,25 @@ pub struct Located {
     pub place: usize,
 }
 
-// A fresh OLT of that MAC and first clock. Refused, it is an end of zeros.
+fn or_zero(keep: bool, x: u64) -> u64
+    ensures { λ r. ⌜ r ≡ pick keep x 0 ⌝ }
+{
+    if keep {
+        return x;
+    }
+    0
+}
+
+// A fresh OLT of that MAC and first clock. Refused, it is an end of zeros. One call makes either, so that the code has its sixteen units once.
 pub fn fresh(mac: u64, clock: u64) -> OltAnswer
     ensures { λ r. ⌜ r ≡ freshOltOf mac clock ⌝ }
 {
-    if valid_mac(mac) & (clock < CLOCK_TURN) {
-        return answers::accepted(making::new_olt(mac, clock));
+    let good = valid_mac(mac) & (clock < CLOCK_TURN);
+    let olt = making::new_olt(or_zero(good, mac), or_zero(good, clock));
+    if good {
+        return answers::accepted(olt);
     }
-    answers::refused(making::new_olt(0, 0), Refusal::OutOfRange)
+    answers::refused(olt, Refusal::OutOfRange)
 }
 
 pub fn register(olt: Olt, identity: Identity, trip: u64, interval: u64) -> OltAnswer

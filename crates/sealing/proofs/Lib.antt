@@ -1,4 +1,8 @@
 pub mod Cipher
+pub mod DataOctets
+pub mod FirstRound
 pub mod KeyExpansion
 pub mod Payload
+pub mod RowWords
 pub mod Seal
+pub mod Sums

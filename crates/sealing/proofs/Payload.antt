@@ -2,13 +2,13 @@
 -- Assumes nothing.
 use mathlib.Core.Path.{_≡_, ap, ap₂, sym, _∙_}
 use mathlib.Core.List.{List, _∷_}
-use Prim.Native.Nat.{ℕ, zero, suc, _+_, _-_, _*_, _/_, _%_, _<_, _≤_}
+use Prim.Native.Nat.{ℕ, zero, suc, _+_, _-_, _*_, _/_, _%_, _<_, _≤_, min}
 use native.Mathlib.Nat.{zero-add}
 use native.Mathlib.Numerals.{add-one}
 use native.Mathlib.Omega.{arith}
 use lib.Count.{ones}
-use lib.ListN.{length, getD, take, drop, length-drop}
-use lib.Seq.{ext-getD, getD-drop}
+use lib.ListN.{length, getD, take, drop, length-drop, List·getD-append}
+use lib.Seq.{ext-getD, getD-append-add, getD-drop}
 use Rattle.octets.specs.Bits.{bitOf}
 use Rattle.octets.specs.Choice.{pick}
 use Rattle.octets.specs.Lists.{tabulate, replaced, written}
@@ -17,7 +17,12 @@ use Rattle.envelope.specs.ControlMask.{controlOctet, masked, maskedAt, countEnc
 use Rattle.envelope.specs.declared.Nonce.{Nonce}
 use Rattle.envelope.proofs.ControlMask.{masked-at-twice}
 use Rattle.sealing.specs.Payload.{cipherBlock, halfOf, sealedOctet, sealed, SealedLaws}
-use Rattle.sealing.specs.Steps.{maskedEq}
+use Rattle.envelope.specs.CounterBlock.{counterBlock}
+use Rattle.gf256.specs.Lanes.{octetAt}
+use Rattle.sealing.specs.Cipher.{cipher}
+use Rattle.sealing.specs.RowWords.{blockOctets, maskedEq}
+use Rattle.sealing.specs.Steps.{blockSealed}
+use Rattle.sealing.specs.declared.rows.Block.{Block}
 
 pub sealed-length : (w : List ℕ) (n : Nonce) (p : List ℕ) → length (sealed w n p) ≡ length p
 unfolding sealed
@@ -86,14 +91,45 @@ sealed-laws w n p = record {
   count = count-sealed w n p;
 }
 
+-- h has the eight cipher octets that serve EQ e
+pub record Serves (w : List ℕ) (n : Nonce) (e h : ℕ) : Type 0 where
+  pub octet : (j : ℕ) → j < 8 → octetAt h j ≡ getD (cipherBlock w n e) (halfOf e + j) 0
+
+-- the lower half of block i serves EQ 2i, and the upper half EQ 2i + 1
+module _ (w : List ℕ) (n : Nonce) (b : Block) (i : ℕ) (enciphered : blockOctets b ≡ cipher w (counterBlock n i)) where
+  served : (e k : ℕ) → e / 2 ≡ i → getD (blockOctets b) k 0 ≡ getD (cipherBlock w n e) k 0
+  served e k h = ap (λ (l : List ℕ). getD l k 0) (enciphered ∙ ap (λ (m : ℕ). cipher w (counterBlock n m)) (sym h))
+
+  pub low-serves : Serves w n (2 * i) (b .low)
+  low-serves =
+      record {
+        octet = λ j l.
+            let half : halfOf (2 * i) + j ≡ j = omega arith in
+            sym (rw zero-add at (tabulate-at 0 8 (octetAt (b .low)) j 0 l))
+            ∙ sym (List·getD-append (tabulate 0 8 (octetAt (b .low))) (tabulate 0 8 (octetAt (b .high))) 0 j l)
+            ∙ served (2 * i) j (omega arith)
+            ∙ ap (λ (k : ℕ). getD (cipherBlock w n (2 * i)) k 0) (sym half);
+      }
+
+  pub high-serves : Serves w n (2 * i + 1) (b .high)
+  high-serves =
+      record {
+        octet = λ j l.
+            let half : halfOf (2 * i + 1) + j ≡ 8 + j = omega arith in
+            sym (rw zero-add at (tabulate-at 0 8 (octetAt (b .high)) j 0 l))
+            ∙ sym (getD-append-add (tabulate 0 8 (octetAt (b .low))) (tabulate 0 8 (octetAt (b .high))) j 0)
+            ∙ served (2 * i + 1) (8 + j) (omega arith)
+            ∙ ap (λ (k : ℕ). getD (cipherBlock w n (2 * i + 1)) k 0) (sym half);
+      }
+
 -- the nine octets of EQ e
-pub sealed-eq : (w : List ℕ) (n : Nonce) (p : List ℕ) (e : ℕ) → 9 * e + 9 ≤ length p
-    → maskedEq (cipherBlock w n e) (halfOf e) p (9 * e) ≡ take 9 (drop (9 * e) (sealed w n p))
+sealed-eq : (w : List ℕ) (n : Nonce) (p : List ℕ) (e h : ℕ) → Serves w n e h → 9 * e + 9 ≤ length p
+    → maskedEq h p (9 * e) ≡ take 9 (drop (9 * e) (sealed w n p))
 unfolding sealedOctet maskedAt
-sealed-eq w n p e h =
-    ext-getD 0 _ (take 9 (drop (9 * e) (sealed w n p))) (sym (part-length (sealed w n p) (9 * e) 9 (rw sealed-length h))) octet where
+sealed-eq w n p e h serves fits =
+    ext-getD 0 _ (take 9 (drop (9 * e) (sealed w n p))) (sym (part-length (sealed w n p) (9 * e) 9 (rw sealed-length fits))) octet where
       dataOctet : ℕ → ℕ
-      dataOctet j = masked (controlOctet p e) j (getD (cipherBlock w n e) (halfOf e + j) 0) (getD p (9 * e + (j + 1)) 0)
+      dataOctet j = masked (controlOctet p e) j (octetAt h j) (getD p (9 * e + (j + 1)) 0)
 
       there : (i : ℕ) → i < 9 → getD (take 9 (drop (9 * e) (sealed w n p))) i 0 ≡ sealedOctet w n p (9 * e + i)
       there i l = part-at (sealed w n p) (9 * e) 9 i 0 l ∙ sealed-at w n p (9 * e + i) (omega arith)
@@ -103,18 +139,19 @@ sealed-eq w n p e h =
       octet (suc j) l =
           let place : (9 * e + suc j) % 9 ≡ suc j = omega arith in
           let eq : (9 * e + suc j) / 9 ≡ e = omega arith in
-          let same : sealedOctet w n p (9 * e + suc j) ≡ dataOctet j = rw (place, eq, add-one) in
+          let key : octetAt h j ≡ getD (cipherBlock w n e) (halfOf e + j) 0 = serves .octet j (omega arith) in
+          let same : sealedOctet w n p (9 * e + suc j) ≡ dataOctet j = rw (place, eq, add-one, key) in
           let here : getD (tabulate 0 8 dataOctet) j 0 ≡ dataOctet j = rw zero-add at (tabulate-at 0 8 dataOctet j 0 (omega arith)) in
           here ∙ sym (there (suc j) l ∙ same)
 
 ---- a payload sealed in its place, from the front
 
 -- one EQ masked in its place is that EQ of the sealed payload
-pub eq-written : (w : List ℕ) (n : Nonce) (p block : List ℕ) (at half e : ℕ) → at ≡ 9 * e → half ≡ halfOf e → block ≡ cipherBlock w n e
-    → at + 9 ≤ length p → replaced p at (maskedEq block half p at) ≡ written (sealed w n p) at (at + 9) p
-eq-written w n p block at half e ea eh ek h =
-    let fits : 9 * e + 9 ≤ length p = omega arith in
-    rw (ek, eh, ea) (written-part (sealed w n p) (9 * e) 9 p _ (sealed-eq w n p e fits))
+pub eq-written : (w : List ℕ) (n : Nonce) (p : List ℕ) (at e : ℕ) {h : ℕ} → at ≡ 9 * e → Serves w n e h
+    → at + 9 ≤ length p → replaced p at (maskedEq h p at) ≡ written (sealed w n p) at (at + 9) p
+eq-written w n p at e {h} ea serves fits =
+    let room : 9 * e + 9 ≤ length p = omega arith in
+    rw ea (written-part (sealed w n p) (9 * e) 9 p _ (sealed-eq w n p e h serves room))
 
 -- from an EQ on, the sealed payload is made of the payload from that EQ on
 sealed-from : (w : List ℕ) (n : Nonce) (p q : List ℕ) (a : ℕ) → a % 9 ≡ 0 → length q ≡ length p → drop a q ≡ drop a p
@@ -141,3 +178,25 @@ sealed-more w n p b a e whole g h k =
     let long : length q ≡ length p = written-length s b a p g (omega arith) (omega (arith, sealed-length w n p)) in
     let rest : drop a q ≡ drop a p = written-rest s b a p g (omega arith) (omega (arith, sealed-length w n p)) in
     rw (sealed-from w n p q a whole long rest) (written-more s b a e p g h k (omega (arith, sealed-length w n p)))
+
+-- one block more
+pub block-more : (w : List ℕ) (n : Nonce) (p : List ℕ) (k : ℕ) → length p % 9 ≡ 0 → 18 * k < length p
+    → blockSealed w n (written (sealed w n p) 0 (18 * k) p) k ≡ written (sealed w n p) 0 (min (18 * k + 18) (length p)) p
+block-more w n p k whole h =
+    let s = sealed w n p in
+    let long : length (written s 0 (18 * k) p) ≡ length p = written-length s 0 (18 * k) p (omega arith) (omega arith) (omega (arith, sealed-length w n p)) in
+    rw long (sealed-more w n p 0 (18 * k) (min (18 * k + 18) (length p)) (omega arith) (omega arith) (omega arith) (omega arith))
+
+-- two blocks more
+pub pair-more : (w : List ℕ) (n : Nonce) (p : List ℕ) (i : ℕ) → length p % 9 ≡ 0 → 18 * (2 * i + 1) < length p
+    → blockSealed w n (blockSealed w n (written (sealed w n p) 0 (36 * i) p) (2 * i)) (2 * i + 1)
+    ≡ written (sealed w n p) 0 (min (36 * (i + 1)) (length p)) p
+pair-more w n p i whole h =
+    let start : 36 * i ≡ 18 * (2 * i) = omega arith in
+    let next : min (18 * (2 * i) + 18) (length p) ≡ 18 * (2 * i + 1) = omega arith in
+    let end : min (18 * (2 * i + 1) + 18) (length p) ≡ min (36 * (i + 1)) (length p) = omega arith in
+    let first : blockSealed w n (written (sealed w n p) 0 (36 * i) p) (2 * i) ≡ written (sealed w n p) 0 (18 * (2 * i + 1)) p =
+    rw start (rw next at (block-more w n p (2 * i) whole (omega arith))) in
+    ap (λ (q : List ℕ). blockSealed w n q (2 * i + 1)) first
+    ∙ block-more w n p (2 * i + 1) whole h
+    ∙ ap (λ (m : ℕ). written (sealed w n p) 0 m p) end

@@ -6,78 +6,136 @@ ghost use lib.ListN.{length};
 ghost use Rattle.octets.specs.Lists.{replaced};
 ghost use Rattle.octets.specs.Output.{withOutput};
 ghost use Rattle.refusal.specs.declared.Verdict.the-variants.{Accepted};
-ghost use Rattle.gf256.specs.Table.{sboxTable, doublesTable};
+ghost use Rattle.gf256.specs.Table.{sboxTable};
 ghost use Rattle.envelope.specs.Acceptance.{sealVerdict};
 ghost use Rattle.envelope.specs.ControlMask.{maxBlocks, blocksOf};
+ghost use Rattle.sealing.specs.Cipher.{Nr};
 ghost use Rattle.sealing.specs.KeyExpansion.{keyExpansion};
 ghost use Rattle.sealing.specs.Payload.{sealed, SealedLaws};
+ghost use Rattle.sealing.specs.FirstRound.{PairSealed};
+ghost use Rattle.sealing.specs.RowWords.{Masked, PairKeys, maskedEq};
 ghost use Rattle.sealing.specs.Seal.{sealing};
-ghost use Rattle.sealing.specs.Steps.{maskedEq, blockSealed};
+ghost use Rattle.sealing.specs.Steps.{blockSealed, pairsSealed};
 use super::aes128::RoundKeys;
-use super::aes128::encrypt_with;
+use super::first_round::kept_rows;
 use super::key_expansion::expand_key;
+use super::mask::eight_at;
+use super::mask::mask_eight;
+use super::rows::Block;
+use super::rows::Rows;
+use super::rows::encrypt_lone;
+use super::rows::encrypt_pair;
+use super::rows::octet;
+use super::rows::pair_keys;
 use envelope::Nonce;
 use envelope::SealAnswer;
 use envelope::count;
 use envelope::counter_block;
 use envelope::lengths_fit;
-use envelope::mask;
 use envelope::nonce_fits;
 use envelope::seal_verdict;
 use refusal::Verdict;
 
-// The EQ that starts at `at`, under the half of a cipher block that starts at `half`. Its control octet stays.
-fn mask_eq(payload: &mut [u8], block: [u8; 16], at: usize, half: usize)
+// The EQ that starts at `at`, under the eight octets of a cipher block that serve it. Its control octet stays.
+fn mask_eq(payload: &mut [u8], half: u64, at: usize)
     requires { ⌜ at + 9 ≤ length (now payload) ⌝ }
-    requires { ⌜ half ≤ 8 ⌝ }
-    ensures { λ _. ⌜ now (payload .exit) ≡ replaced (now (payload .entry)) at (maskedEq block half (now (payload .entry)) at) ⌝ }
+    ensures { λ _. ⌜ now (payload .exit) ≡ replaced (now (payload .entry)) at (maskedEq half (now (payload .entry)) at) ⌝ }
 {
-    let control = payload[at];
+    let word = mask_eight(payload[at], half, eight_at(payload, at + 1));
     for j in 0..8usize {
-        payload[at + (j + 1)] = mask(control, j as u8, block[half + j], payload[at + (j + 1)]);
+        payload[at + (j + 1)] = octet(word, j as u64);
     }
 }
 
-// The one or two EQs that cipher block `i` serves.
-fn seal_block<'a>(
-    subs: &'a [u8; 256],
-    doubles: &'a [u8; 256],
-    keys: RoundKeys,
-    nonce: Nonce,
-    payload: &mut [u8],
-    i: usize,
-)
-    requires { ⌜ (now subs ≡ sboxTable) × (now doubles ≡ doublesTable) ⌝ }
+// The one or two EQs that cipher block `i` serves, under that block.
+fn mask_block(payload: &mut [u8], block: Block, i: usize)
     requires { ⌜ length (now payload) % 9 ≡ 0 ⌝ }
     requires { ⌜ (18 * i < length (now payload)) × (i < maxBlocks) ⌝ }
-    ensures { λ _. ⌜ now (payload .exit) ≡ blockSealed (keys .octets) nonce (now (payload .entry)) i ⌝ }
+    ensures { λ _. ⌜ Masked block i (now (payload .entry)) (now (payload .exit)) ⌝ }
 {
-    let block = encrypt_with(subs, doubles, keys, counter_block(nonce, i as u64));
     let at = 18 * i;
-    mask_eq(payload, block, at, 0);
+    mask_eq(payload, block.low, at);
     if at + 9 < payload.len() {
-        mask_eq(payload, block, at + 9, 8);
+        mask_eq(payload, block.high, at + 9);
     }
 }
 
-fn seal_blocks<'a>(
+// Block `i` by itself.
+fn seal_lone<'a>(subs: &'a [u8; 256], w: &'a [u8; 176], nonce: Nonce, payload: &mut [u8], i: usize)
+    requires { ⌜ now subs ≡ sboxTable ⌝ }
+    requires { ⌜ length (now payload) % 9 ≡ 0 ⌝ }
+    requires { ⌜ (18 * i < length (now payload)) × (i < maxBlocks) ⌝ }
+    ensures { λ _. ⌜ now (payload .exit) ≡ blockSealed (now (w .entry)) nonce (now (payload .entry)) i ⌝ }
+{
+    let block = encrypt_lone(subs, w, counter_block(nonce, i as u64));
+    mask_block(payload, block, i);
+}
+
+// The blocks `i` and `j`, which are enciphered together.
+fn seal_pair<'a>(
     subs: &'a [u8; 256],
-    doubles: &'a [u8; 256],
-    keys: RoundKeys,
-    nonce: Nonce,
+    w: &'a [u8; 176],
+    keys: [Rows; 10],
+    kept: Rows,
     payload: &mut [u8],
+    i: usize,
+    j: usize,
 )
-    requires { ⌜ (now subs ≡ sboxTable) × (now doubles ≡ doublesTable) ⌝ }
+    requires { ⌜ (now subs ≡ sboxTable) × PairKeys (now w) Nr keys ⌝ }
+    requires { ⌜ length (now payload) % 9 ≡ 0 ⌝ }
+    requires { ⌜ ((18 * i < length (now payload)) × (i < maxBlocks)) × ((18 * j < length (now payload)) × (j < maxBlocks)) ⌝ }
+    ensures { λ _. ⌜ PairSealed (now (w .entry)) kept i j (now (payload .entry)) (now (payload .exit)) ⌝ }
+{
+    let blocks = encrypt_pair(subs, w, keys, kept, i as u64, j as u64);
+    mask_block(payload, blocks.first, i);
+    mask_block(payload, blocks.second, j);
+}
+
+// The blocks from the first on, two at a time: all, or all but an odd last one.
+fn seal_pairs<'a>(subs: &'a [u8; 256], w: &'a [u8; 176], nonce: Nonce, payload: &mut [u8])
+    requires { ⌜ now subs ≡ sboxTable ⌝ }
     requires { ⌜ length (now payload) % 9 ≡ 0 ⌝ }
     requires { ⌜ blocksOf (length (now payload)) ≤ maxBlocks ⌝ }
-    ensures { λ _. ⌜ now (payload .exit) ≡ sealed (keys .octets) nonce (now (payload .entry)) ⌝ }
+    ensures { λ _. ⌜ now (payload .exit) ≡ pairsSealed (now (w .entry)) nonce (now (payload .entry)) ⌝ }
 {
-    let n = payload.len();
+    let pairs = (payload.len() + 17) / 18 / 2;
+    let keys = pair_keys(w);
+    let kept = kept_rows(subs, w, nonce);
     let mut i: usize = 0;
-    while i < (n + 17) / 18 {
-        seal_block(subs, doubles, keys, nonce, payload, i);
+    while i < pairs {
+        seal_pair(subs, w, keys, kept, payload, 2 * i, 2 * i + 1);
         i += 1;
     }
+}
+
+// One block alone needs no keys for two.
+fn seal_blocks<'a>(subs: &'a [u8; 256], w: &'a [u8; 176], nonce: Nonce, payload: &mut [u8])
+    requires { ⌜ now subs ≡ sboxTable ⌝ }
+    requires { ⌜ length (now payload) % 9 ≡ 0 ⌝ }
+    requires { ⌜ blocksOf (length (now payload)) ≤ maxBlocks ⌝ }
+    ensures { λ _. ⌜ now (payload .exit) ≡ sealed (now (w .entry)) nonce (now (payload .entry)) ⌝ }
+{
+    let blocks = (payload.len() + 17) / 18;
+    if 1 < blocks {
+        seal_pairs(subs, w, nonce, payload);
+    }
+    if 0 < blocks % 2 {
+        seal_lone(subs, w, nonce, payload, blocks - 1);
+    }
+}
+
+// An accepted payload, sealed or opened in its place where the envelope is enciphered.
+fn carry<'a>(enciphered: bool, w: &'a [u8; 176], nonce: Nonce, payload: &mut [u8]) -> SealAnswer
+    requires { ⌜ sealVerdict (length (now payload)) (length (now payload)) nonce ≡ Accepted ⌝ }
+    ensures { λ r. ⌜ withOutput r (now (payload .exit)) ≡ sealing enciphered (now (w .entry)) nonce (now (payload .entry)) (now (payload .entry)) ⌝ }
+{
+    if enciphered {
+        let enciphering = count(payload);
+        let subs = gf256::sbox_table();
+        seal_blocks(&subs, w, nonce, payload);
+        return SealAnswer::Done(enciphering);
+    }
+    SealAnswer::Done(0)
 }
 
 // Seals or opens a payload in its place under an expanded key; a clear envelope's stays as it is.
@@ -92,16 +150,7 @@ pub fn seal_expanded_in_place(
     let n = payload.len();
     match seal_verdict(n, n, nonce) {
         Verdict::Refused(refusal) => SealAnswer::Denied(refusal),
-        Verdict::Accepted => {
-            if enciphered {
-                let enciphering = count(payload);
-                let subs = gf256::sbox_table();
-                let doubles = gf256::doubles_table();
-                seal_blocks(&subs, &doubles, keys, nonce, payload);
-                return SealAnswer::Done(enciphering);
-            }
-            SealAnswer::Done(0)
-        }
+        Verdict::Accepted => carry(enciphered, &keys.octets, nonce, payload),
     }
 }
 
@@ -119,7 +168,7 @@ pub fn seal_expanded(
         Verdict::Refused(refusal) => SealAnswer::Denied(refusal),
         Verdict::Accepted => {
             octets::copy(input, output);
-            seal_expanded_in_place(enciphered, keys, nonce, output)
+            carry(enciphered, &keys.octets, nonce, output)
         }
     }
 }

@@ -1,8 +1,8 @@
--- `olt::fresh` meets its contract: the tests are those of the definition.
+-- `olt::fresh` meets its contract: the tests are those of the definition, and decide what the record is made of.
 -- Assumes nothing.
 use mathlib.Core.Path.{sym}
 use borrow.Author.Needs.{needs}
-use Rattle.octets.specs.Choice.{both}
+use Rattle.octets.specs.Choice.{both, pick}
 use Rattle.ends.specs.OltCalls.{freshOltOf, oltAnswer}
 use Rattle.refusal.specs.Order.{refuseIf}
 use Rattle.ends.specs.Replies.{reply}
@@ -10,16 +10,46 @@ use Rattle.olt.proofs.fresh.Statement.{statement}
 use Rattle.olt.proofs.fresh.Tie as tie
 
 returns : tie.Need-returns
-unfolding freshOltOf oltAnswer reply refuseIf both
+unfolding freshOltOf oltAnswer reply refuseIf both pick
 returns c =
-    rw (sym (c .before .before .before .valid-mac .ensures), c .before .before .if1 .taken, c .accepted .ensures, c .before .new-olt .ensures)
+    let made = c .before .before in
+    let clocked = made .before in
+    let named = clocked .before in
+    let valid = named .before in
+    rw (
+      sym (valid .valid-mac .ensures),
+      c .accepted .ensures,
+      made .new-olt .ensures,
+      clocked .or-zero2 .ensures,
+      named .or-zero .ensures,
+      c .before .if1 .taken,
+    )
 
 returns-2 : tie.Need-returns-2
-unfolding freshOltOf oltAnswer reply refuseIf both
+unfolding freshOltOf oltAnswer reply refuseIf both pick
 returns-2 c =
-    rw (sym (c .before .before .before .valid-mac .ensures), c .before .before .if1 .left, c .refused .ensures, c .before .new-olt2 .ensures)
+    let made = c .before .before in
+    let clocked = made .before in
+    let named = clocked .before in
+    let valid = named .before in
+    rw (
+      sym (valid .valid-mac .ensures),
+      c .refused .ensures,
+      made .new-olt .ensures,
+      clocked .or-zero2 .ensures,
+      named .or-zero .ensures,
+      c .before .if1 .left,
+    )
 
 pub fresh-spec : {M : Type 1} → statement M
 fresh-spec =
-    tie.close (tie.spec (λ c κs. search needs) (λ c κs. search needs) (λ c κs. search needs) returns (λ c κs. search needs)
-    (λ c κs. search needs) returns-2)
+    tie.close
+    (tie.spec
+    (λ c κs. search needs)
+    (λ c κs. search needs)
+    (λ c κs. search needs)
+    (λ c κs. search needs)
+    (λ c κs. search needs)
+    returns
+    (λ c κs. search needs)
+    returns-2)

@@ -1,74 +1,85 @@
--- `sealing::counter_mode::seal_blocks` meets its contract: after i blocks the first 18 i octets, or all, are sealed.
+-- `sealing::counter_mode::seal_blocks` meets its contract: the pairs are sealed, or there are none, and then an odd last block.
 -- Assumes nothing.
-use Prim.Native.Nat.{ℕ, _+_, _-_, _*_, _/_, _%_, _≤_, min}
-use Rattle.octets.proofs.Lists.{written-all}
+use Prim.Native.Nat.{ℕ, _+_, _-_, _*_, _/_, min}
+use Rattle.octets.proofs.Lists.{written-all, written-length}
 use Rattle.octets.specs.Lists.{written}
-use Rattle.envelope.specs.ControlMask.{maxBlocks, blocksOf}
-use Rattle.sealing.proofs.Payload.{sealed-length, sealed-more}
+use Rattle.envelope.specs.ControlMask.{blocksOf}
+use Rattle.sealing.proofs.Payload.{sealed-length, block-more}
 use Rattle.sealing.specs.Payload.{sealed}
-use Rattle.sealing.specs.Steps.{blockSealed}
-use borrow.Author.Needs.{needs}
+use Rattle.sealing.specs.Steps.{blockSealed, pairsSealed}
 use lib.ListN.{length}
 use mathlib.Core.List.{List}
-use mathlib.Core.Path.{_≡_, refl, ap, sym, _∙_}
+use mathlib.Core.Logic.{⊎-elim}
+use mathlib.Core.Path.{_≡_, ap, _∙_}
 use native.Mathlib.Omega.{arith}
+use borrow.Author.Needs.{needs}
 use Rattle.sealing.proofs.counter_mode.seal_blocks.Statement.{statement}
 use Rattle.sealing.proofs.counter_mode.seal_blocks.Tie as tie
 
-abbrev Inv-loop : tie.InvT-loop
-Inv-loop subs doubles keys nonce payload₀ n i₀ payload i =
-    (n ≡ length payload₀) × (length payload₀ % 9 ≡ 0) × (blocksOf n ≤ maxBlocks) × (i ≤ blocksOf n) × (length payload ≡ length payload₀)
-    × (payload ≡ written (sealed (keys .octets) nonce payload₀) 0 (min (18 * i) n) payload₀)
+-- the payload after the pairs
+front : (c : tie.Joined1) → let a = c .before .before .args in c .if1 .payload ≡ pairsSealed (a .w .now) (a .nonce) (a .payload .now)
+front c =
+    let p = c .before .before .args .payload .now in
+    ⊎-elim (λ made. made .5 ∙ made .2 .ensures)
+    (λ none.
+    let few : min (36 * (blocksOf (length p) / 2)) (length p) ≡ 0 = omega (arith, none .0 .left) in
+    rw few (none .1))
+    (c .if1 .came)
 
-abbrev μ-loop : tie.MeasureT-loop
-μ-loop subs doubles keys nonce payload₀ n i₀ payload i = blocksOf n - i
-
-loop-holds : tie.Need-loop-holds Inv-loop μ-loop
-loop-holds c =
-    let pre = c .before .pre .1 in
-    let none : min 0 (length (c .before .args .payload .now)) ≡ 0 = omega arith in
-    (refl, pre .0, pre .1, search needs, refl, rw none)
-
-seal-block-requires : tie.Need-seal-block-requires Inv-loop μ-loop
-seal-block-requires c κs = (c .before .before .before .before .pre .0, (omega arith, (omega arith, omega arith)))
-
-loop-again : tie.Need-loop-again Inv-loop μ-loop
-loop-again c =
-    let a = c .before .before .before .before .before .before .before .args in
-    let loop = c .before .before .before .before .before .loop in
+front-length : (c : tie.Joined1) → length (c .if1 .payload) ≡ length (c .before .before .args .payload .now)
+front-length c =
+    let a = c .before .before .args in
     let p = a .payload .now in
-    let s = sealed (a .keys .octets) (a .nonce) p in
-    let now : min (18 * loop .i) (length p) ≡ 18 * loop .i = omega arith in
-    let end : min (18 * (loop .i + 1)) (length p) ≡ min (18 * loop .i + 18) (length p) = omega arith in
-    let so-far : loop .payload ≡ written s 0 (18 * loop .i) p = rw now at (loop .inv .5) in
-    let more : c .before .before .seal-block .last .1 .1 .1 .1 .0 ≡ written s 0 (min (18 * (loop .i + 1)) (length p)) p =
-    rw end
-    (rw (loop .inv .4, so-far) at (c .before .before .seal-block .ensures)
-    ∙ sealed-more (a .keys .octets) (a .nonce) p 0 (18 * loop .i) (min (18 * loop .i + 18) (length p))
-    (omega arith) (omega arith) (omega arith) (omega arith)) in
-    (refl, loop .inv .1, loop .inv .2, omega arith, c .before .before .seal-block .kept .1 .1 .1 .1 .0 ∙ loop .inv .4, more)
+    ap length (front c)
+    ∙ written-length (sealed (a .w .now) (a .nonce) p) 0 (min (36 * (blocksOf (length p) / 2)) (length p)) p (omega arith) (omega arith)
+    (omega (arith, sealed-length (a .w .now) (a .nonce) p))
 
-same-length : tie.Need-same-length Inv-loop μ-loop
-same-length c = search needs
+seal-lone-requires : tie.Need-seal-lone-requires
+seal-lone-requires c κs =
+    let joined = c .before .before in
+    let long = front-length joined in
+    (joined .before .before .pre .0, (omega arith, (omega arith, omega arith)))
 
-returns : tie.Need-returns Inv-loop μ-loop
+same-length : tie.Need-same-length
+same-length c = c .before .before .seal-lone .kept .1 .1 .1 .0 ∙ front-length (c .before .before .before .before .before)
+
+returns : tie.Need-returns
 returns c =
+    let joined = c .before .before .before .before .before in
+    let a = joined .before .before .args in
+    let p = a .payload .now in
+    let w = a .w .now in
+    let k = blocksOf (length p) - 1 in
+    let start : min (36 * (blocksOf (length p) / 2)) (length p) ≡ 18 * k = omega arith in
+    let all : min (18 * k + 18) (length p) ≡ length p = omega arith in
+    c .before .before .seal-lone .ensures
+    ∙ ap (λ (q : List ℕ). blockSealed w (a .nonce) q k) (front joined ∙ ap (λ (m : ℕ). written (sealed w (a .nonce) p) 0 m p) start)
+    ∙ block-more w (a .nonce) p k (joined .before .before .pre .1 .0) (omega arith)
+    ∙ ap (λ (m : ℕ). written (sealed w (a .nonce) p) 0 m p) all
+    ∙ written-all (sealed w (a .nonce) p) p (sealed-length w (a .nonce) p)
+
+same-length-2 : tie.Need-same-length-2
+same-length-2 c = front-length (c .before)
+
+returns-2 : tie.Need-returns-2
+returns-2 c =
     let a = c .before .before .before .args in
-    let s = sealed (a .keys .octets) (a .nonce) (a .payload .now) in
-    let all : min (18 * c .before .loop .i) (length (a .payload .now)) ≡ length (a .payload .now) = omega arith in
-    rw all at (c .before .loop .inv .5) ∙ written-all s (a .payload .now) (sealed-length (a .keys .octets) (a .nonce) (a .payload .now))
+    let p = a .payload .now in
+    let w = a .w .now in
+    let all : min (36 * (blocksOf (length p) / 2)) (length p) ≡ length p = omega arith in
+    front (c .before)
+    ∙ ap (λ (m : ℕ). written (sealed w (a .nonce) p) 0 m p) all
+    ∙ written-all (sealed w (a .nonce) p) p (sealed-length w (a .nonce) p)
 
 pub seal-blocks-spec : {M : Type 1} → statement M
 seal-blocks-spec =
     tie.close
     (tie.spec
-    Inv-loop
-    μ-loop
-    loop-holds
     (λ c. search needs)
-    seal-block-requires
+    (λ c κs. search needs)
     (λ c. search needs)
-    (λ c. search needs)
-    loop-again
+    seal-lone-requires
     same-length
-    returns)
+    returns
+    same-length-2
+    returns-2)

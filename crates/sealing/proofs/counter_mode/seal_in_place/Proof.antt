@@ -13,8 +13,7 @@ returns c =
     let expanded = sealed .before .before in
     let a = expanded .before .before .args in
     sealed .seal-expanded-in-place .ensures
-    ∙ sealing-key (a .enciphered) (expanded .expand-for .result .octets) (keyExpansion (a .key)) (a .nonce) (a .payload .now) (a .payload .now)
-    (expanded .expand-for .ensures)
+    ∙ sealing-key (a .enciphered) (expanded .expand-for .result .octets) (keyExpansion (a .key)) (a .nonce) (a .payload .now) (a .payload .now) (expanded .expand-for .ensures)
 
 pub seal-in-place-spec : {M : Type 1} → statement M
 seal-in-place-spec =

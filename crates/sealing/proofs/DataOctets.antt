@@ -1,0 +1,90 @@
+-- Laws of the mask on eight octets at once: the one computed test, of the 256 control octets, and the mask octet by octet.
+-- Assumes nothing.
+use mathlib.Core.Path.{_≡_, refl, ap, sym, _∙_}
+use Prim.Native.Nat.{ℕ, zero, suc, _+_, _-_, _*_, _/_, _%_, _^_, _<_}
+use native.Mathlib.Omega.{arith}
+use lib.Bits.{bitAnd, bitOr, bitXor}
+use lib.Dec.{T, eqb→eq}
+use lib.ListN.{getD}
+use Rattle.octets.specs.Bits.{bitOf}
+use Rattle.octets.specs.Choice.{pick}
+use Rattle.octets.proofs.Bits.{bit-below}
+use Rattle.octets.proofs.Table.{at, every}
+use Rattle.envelope.specs.ControlMask.{masked}
+use Rattle.envelope.proofs.ControlMask.{masked-by-factor}
+use Rattle.gf256.specs.Lanes.{octetAt}
+use Rattle.gf256.specs.Table.{table}
+use Rattle.gf256.proofs.Lanes.{octet-and, octet-below, octet-xor}
+use Rattle.gf256.proofs.Table.{follows, table-at}
+use Rattle.sealing.specs.RowWords.{Four, Both, Eight}
+use Rattle.sealing.proofs.RowWords.{four-octets, both-octets}
+
+-- eight octets, from two fours
+pub eight : {f : ℕ → ℕ} {l u r : ℕ} → Four f l → Four (λ j. f (4 + j)) u → Both l u r → Eight f r
+eight {f} {l} {u} {r} a b both = record { octet = octet } where
+  octet : (j : ℕ) → j < 8 → octetAt r j ≡ f j
+  octet zero h = both .low 0 (omega arith) ∙ a .octet 0 (omega arith)
+  octet (suc zero) h = both .low 1 (omega arith) ∙ a .octet 1 (omega arith)
+  octet (suc (suc zero)) h = both .low 2 (omega arith) ∙ a .octet 2 (omega arith)
+  octet (suc (suc (suc zero))) h = both .low 3 (omega arith) ∙ a .octet 3 (omega arith)
+  octet (suc (suc (suc (suc zero)))) h = both .high 0 (omega arith) ∙ b .octet 0 (omega arith)
+  octet (suc (suc (suc (suc (suc zero))))) h = both .high 1 (omega arith) ∙ b .octet 1 (omega arith)
+  octet (suc (suc (suc (suc (suc (suc zero)))))) h = both .high 2 (omega arith) ∙ b .octet 2 (omega arith)
+  octet (suc (suc (suc (suc (suc (suc (suc zero))))))) h = both .high 3 (omega arith) ∙ b .octet 3 (omega arith)
+  octet (suc (suc (suc (suc (suc (suc (suc (suc j)))))))) h = absurd (omega arith)
+
+---- the octets that are data
+
+-- 255 where octet j is data, 0 where it is a control character
+abbrev factor : ℕ → ℕ → ℕ
+factor c j = 255 * (1 - bitOf c j)
+
+unfoldable factors : ℕ → ℕ → ℕ
+factors c j = factor c (j + 0) + factor c (j + 1) * 256 + (factor c (j + 2) + factor c (j + 3) * 256) * 65536
+
+unfoldable together : ℕ → ℕ
+together c = factors c 0 + factors c 4 * 4294967296
+
+-- bit j at octet j: the two halves of the octet apart, then their pairs of bits, then the bits
+abbrev pub halves : ℕ → ℕ
+halves c = bitAnd (bitOr c (c * 2 ^ 28 % 2 ^ 64)) 0x0000000f0000000f
+
+abbrev pub pairs : ℕ → ℕ
+pairs c = bitAnd (bitOr (halves c) (halves c * 2 ^ 14 % 2 ^ 64)) 0x0003000300030003
+
+abbrev bits : ℕ → ℕ
+bits c = bitAnd (bitOr (pairs c) (pairs c * 2 ^ 7 % 2 ^ 64)) 0x0101010101010101
+
+unfoldable pub worked : ℕ → ℕ
+worked c = 255 * (0x0101010101010101 - bits c)
+
+-- the one computed test, of the 256 control octets
+right : T (every (follows together) 0 (table worked))
+unfolding table worked together factors bitOf
+right = tt
+
+factor-below : (c j : ℕ) → factor c j < 256
+factor-below c j = omega arith
+
+pub worked-octets : (c : ℕ) → c < 256 → Eight (λ j. 255 * (1 - bitOf c j)) (worked c)
+unfolding table together factors
+worked-octets c h =
+    rw (sym (table-at worked c h) ∙ eqb→eq (getD (table worked) c 0) (together c) (at (follows together) (table worked) right c h))
+    (eight low high (both-octets (factors c 0) (factors c 4) (low .below))) where
+      low : Four (factor c) (factors c 0)
+      low = four-octets (factor-below c 0) (factor-below c 1) (factor-below c 2) (factor-below c 3) refl refl refl refl refl
+
+      high : Four (λ j. factor c (4 + j)) (factors c 4)
+      high = four-octets (factor-below c 4) (factor-below c 5) (factor-below c 6) (factor-below c 7) refl refl refl refl refl
+
+---- the mask
+
+pub masked-octets : (c k x : ℕ) {d : ℕ} → Eight (factor c) d → Eight (λ j. masked c j (octetAt k j) (octetAt x j)) (bitXor x (bitAnd k d))
+unfolding masked
+masked-octets c k x {d} f =
+    record {
+      octet = λ j h.
+          octet-xor x (bitAnd k d) j
+          ∙ ap (bitXor (octetAt x j)) (octet-and k d j ∙ ap (bitAnd (octetAt k j)) (f .octet j h))
+          ∙ masked-by-factor (bitOf c j) (octetAt k j) (octetAt x j) (bit-below c j) (octet-below k j);
+    }

@@ -1,0 +1,32 @@
+-- `sealing::counter_mode::seal_pair` meets its contract: its blocks are those of the counter blocks i and j, and mask one after the other.
+-- Assumes nothing.
+use mathlib.Core.Path.{ap, _∙_}
+use mathlib.Core.List.{List}
+use Prim.Native.Nat.{ℕ}
+use Rattle.sealing.specs.Steps.{blockSealed}
+use borrow.Author.Needs.{needs}
+use Rattle.sealing.proofs.counter_mode.seal_pair.Statement.{statement}
+use Rattle.sealing.proofs.counter_mode.seal_pair.Tie as tie
+
+returns : tie.Need-returns
+returns c =
+    let second = c .before .before in
+    let first = second .before .before .before .before in
+    let enciphered = first .before .before in
+    let a = enciphered .before .before .args in
+    let w = a .w .now in
+    record {
+      sealed = λ n share.
+          second .mask-block2 .ensures .sealed w n (enciphered .encrypt-pair .ensures .second n share)
+          ∙ ap (λ (p : List ℕ). blockSealed w n p (a .j)) (first .mask-block .ensures .sealed w n (enciphered .encrypt-pair .ensures .first n share));
+    }
+
+pub seal-pair-spec : {M : Type 1} → statement M
+seal-pair-spec =
+    tie.close
+    (tie.spec
+    (λ c κs. search needs)
+    (λ c κs. search needs)
+    (λ c κs. search needs)
+    (λ c. search needs)
+    returns)

@@ -1,0 +1,34 @@
+-- `mask::four_at` meets its contract: four octets of the slice, joined.
+-- Assumes nothing.
+use Rattle.sealing.proofs.RowWords.{four-octets}
+use borrow.Author.Needs.{needs}
+use Rattle.sealing.proofs.mask.four_at.Statement.{statement}
+use Rattle.sealing.proofs.mask.four_at.Tie as tie
+
+returns : tie.Need-returns
+returns c =
+    let fourth = c .before in
+    let third = fourth .before .before in
+    let second = third .before .before in
+    let first = second .before .before in
+    four-octets (first .wide .ensures .1) (second .wide2 .ensures .1) (third .wide3 .ensures .1) (fourth .wide4 .ensures .1)
+    (first .wide .ensures .0) (second .wide2 .ensures .0) (third .wide3 .ensures .0) (fourth .wide4 .ensures .0) (c .four .ensures .0)
+
+pub four-at-spec : {M : Type 1} → statement M
+four-at-spec =
+    tie.close
+    (tie.spec
+    (λ c. search needs)
+    (λ c. search needs)
+    (λ c κs. search needs)
+    (λ c. search needs)
+    (λ c. search needs)
+    (λ c κs. search needs)
+    (λ c. search needs)
+    (λ c. search needs)
+    (λ c κs. search needs)
+    (λ c. search needs)
+    (λ c. search needs)
+    (λ c κs. search needs)
+    (λ c κs. search needs)
+    returns)

@@ -1,0 +1,30 @@
+-- `rows::last_columns` meets its contract: the columns and the key, each joined of two fours, and their sum.
+-- Assumes nothing.
+use Rattle.sealing.proofs.RowWords.{last-columns}
+use borrow.Author.Needs.{needs}
+use Rattle.sealing.proofs.rows.last_columns.Statement.{statement}
+use Rattle.sealing.proofs.rows.last_columns.Tie as tie
+
+returns : tie.Need-returns
+returns c =
+    let right = c .before in
+    let left = right .before in
+    let keyed = left .before in
+    let other = keyed .before in
+    last-columns (other .before .gathered .ensures) (other .gathered2 .ensures) (keyed .both .ensures) (left .shifted-column .ensures)
+    (right .shifted-column2 .ensures) (c .both2 .ensures)
+
+pub last-columns-spec : {M : Type 1} → statement M
+last-columns-spec =
+    tie.close
+    (tie.spec
+    (λ c. search needs)
+    (λ c κs. search needs)
+    (λ c. search needs)
+    (λ c κs. search needs)
+    (λ c κs. search needs)
+    (λ c κs. search needs)
+    (λ c. search needs)
+    (λ c κs. search needs)
+    (λ c κs. search needs)
+    returns)

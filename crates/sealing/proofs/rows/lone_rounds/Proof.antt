@@ -1,0 +1,48 @@
+-- `rows::lone_rounds` meets its contract. The loop's invariant: the rounds below n are done. The measure is what is left of ten.
+-- Assumes nothing.
+use mathlib.Core.Path.{_≡_, refl, _∙_}
+use Prim.Native.Nat.{_-_, _≤_}
+use native.Mathlib.Omega.{arith}
+use Rattle.sealing.specs.Cipher.{rounds}
+use Rattle.sealing.specs.RowWords.{state}
+use Rattle.sealing.proofs.RowWords.{onward-one}
+use borrow.Author.Needs.{needs}
+use Rattle.sealing.proofs.rows.lone_rounds.Statement.{statement}
+use Rattle.sealing.proofs.rows.lone_rounds.Tie as tie
+
+abbrev Inv-loop : tie.InvT-loop
+Inv-loop subs w s₀ n₀ s n = ((1 ≤ n) × (n ≤ 10)) × (state s 0 ≡ rounds w (n - 1) (state s₀ 0))
+
+abbrev μ-loop : tie.MeasureT-loop
+μ-loop subs w s₀ n₀ s n = 10 - n
+
+loop-holds : tie.Need-loop-holds Inv-loop μ-loop
+unfolding rounds
+loop-holds c = ((omega arith, omega arith), refl)
+
+loop-again : tie.Need-loop-again Inv-loop μ-loop
+loop-again c =
+    let loop = c .before .before .before .before .loop in
+    let a = c .before .before .before .before .before .args in
+    let key = c .before .rows-of .ensures ∙ c .before .before .round-key .ensures in
+    ((omega arith, omega arith), onward-one (a .w .now) (loop .n) (a .start) (loop .inv .0 .0) (loop .inv .1) key (c .lone-round .ensures))
+
+returns : tie.Need-returns Inv-loop μ-loop
+returns c =
+    let done : c .before .loop .n - 1 ≡ 9 = omega arith in
+    rw done at (c .before .loop .inv .1)
+
+pub lone-rounds-spec : {M : Type 1} → statement M
+lone-rounds-spec =
+    tie.close
+    (tie.spec
+    Inv-loop
+    μ-loop
+    loop-holds
+    (λ c κs. search needs)
+    (λ c κs. search needs)
+    (λ c κs. search needs)
+    (λ c. search needs)
+    (λ c. search needs)
+    loop-again
+    returns)

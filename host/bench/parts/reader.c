@@ -1,0 +1,4 @@
+/* Firmware that reads captures. */
+#include "calls.h"
+
+KEEPS(jazmotip_capture_directory, jazmotip_capture_verdict, jazmotip_capture_payload, jazmotip_capture_open, jazmotip_capture_list)

@@ -6,6 +6,7 @@
 #include "jazmotip.h"
 #include "measure.h"
 #include "openssl.h"
+#include "planes.h"
 #include "wordcipher.h"
 #include "work.h"
 #include "yardstick.h"
@@ -301,6 +302,7 @@ int main(int argc, char **argv)
     double flatness = print_flatness();
     yardstick_print();
     calls_print();
+    planes_print();
     print_goals(flatness);
     return 0;
 }

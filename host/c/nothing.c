@@ -28,6 +28,8 @@ static void payloads(void)
     printf("seal into nothing: %u\n", jazmotip_seal(1, key, nonce, eq, sizeof eq, NULL, 0).number);
     printf("seal of nothing: %u\n", jazmotip_seal(1, key, nonce, NULL, 0, eq, sizeof eq).number);
     printf("count: %" PRIu64 "\n", jazmotip_count(NULL, 0));
+    printf("rearrange: %u %u\n", jazmotip_rearrange(NULL, 0, NULL, 0), jazmotip_rearrange(eq, sizeof eq, NULL, 0));
+    printf("restore: %u %u\n", jazmotip_restore(NULL, 0, NULL, 0), jazmotip_restore(NULL, 0, eq, sizeof eq));
 }
 
 /* An envelope of no EQs each way. */
@@ -57,6 +59,10 @@ static void blocks(void)
     printf("open: %u", jazmotip_capture_open(NULL, 0, NULL, 0, NULL, 0).number);
     printf(" %u", jazmotip_capture_open(settings, sizeof settings, NULL, 0, NULL, 0).number);
     printf(" %u\n", jazmotip_capture_open(settings, sizeof settings, empty_block, sizeof empty_block, NULL, 0).number);
+    printf("rearrange: %u", jazmotip_capture_rearrange(NULL, 0, NULL, 0).number);
+    printf(" %u\n", jazmotip_capture_rearrange(empty_block, sizeof empty_block, NULL, 0).number);
+    printf("restore: %u", jazmotip_capture_restore(NULL, 0, NULL, 0).number);
+    printf(" %u\n", jazmotip_capture_restore(empty_block, sizeof empty_block, NULL, 0).number);
     static uint8_t text[JAZMOTIP_LISTING_OCTETS];
     size_t length = jazmotip_capture_list(NULL, 0, NULL, 0, text);
     printf("list: %.*s", (int)length, (const char *)text);

@@ -2,8 +2,8 @@
  * jazmotip.h: the Jazmotip link engine, for firmware in C.
  *
  * Seals and opens the payloads of SIEPON.4 envelopes (AES-128 in counter mode under the control mask), plays either end of a
- * 25G/50G EPON line, opens capture blocks, and keeps the OLT's key exchange of an XG-PON line. Link with libjazmotip.a, which needs
- * one function from outside, memcpy. x86-64, System V calling convention.
+ * 25G/50G EPON line, opens capture blocks, rearranges payloads for the store, and keeps the OLT's key exchange of an XG-PON line. Link
+ * with libjazmotip.a, which needs one function from outside, memcpy. x86-64, System V calling convention.
  *
  * What holds of every call
  *   - It ends, and asks nothing of the values handed to it: whatever is malformed, untimely, unknown or too long is refused by a
@@ -452,6 +452,24 @@ jazmotip_block_answer jazmotip_capture_open(const uint8_t *settings, size_t sett
 size_t jazmotip_capture_list(const uint8_t *settings, size_t settings_length, const uint8_t *block, size_t block_length,
                              uint8_t text[JAZMOTIP_LISTING_OCTETS]);
 
+/* --------------------------------------------------------------------------------------------------------------- The store
+ * Octets of one kind side by side compress better. Rearranged, a payload is its planes: all control octets, then data octet 0 of
+ * every EQ, then data octet 1, up to 7. Restoring is the inverse; the two undo each other for every number of EQs, 0 too, and what
+ * was rearranged and restored opens as it did. */
+
+/* The planes of a payload, or the payload of its planes, into output, of the same length. 0 or 14. */
+uint8_t jazmotip_rearrange(const uint8_t *payload, size_t payload_length, uint8_t *output, size_t output_length);
+uint8_t jazmotip_restore(const uint8_t *payload, size_t payload_length, uint8_t *output, size_t output_length);
+
+typedef struct jazmotip_store_answer {
+    uint8_t number;
+    uint16_t pair; /* as in the answers on capture blocks */
+} jazmotip_store_answer;
+
+/* All payloads of a capture block, into output, of the block's length; directory and headers stay. Order: 14, 15, then 18 and 19. */
+jazmotip_store_answer jazmotip_capture_rearrange(const uint8_t *block, size_t block_length, uint8_t *output, size_t output_length);
+jazmotip_store_answer jazmotip_capture_restore(const uint8_t *block, size_t block_length, uint8_t *output, size_t output_length);
+
 /* ------------------------------------------------------------------------------------------------ Key exchange on XG-PON
  * The OLT's key exchange with one ONU (ITU-T G.987.3, 15.5.3.2). The host carries the PLOAM messages and keeps the three timers:
  * it hands in each report, each expiry and each decision to begin, sends the message of the answer, and starts and stops the
@@ -666,6 +684,8 @@ JAZMOTIP_LAYOUT(offsetof(jazmotip_block_part, length) == 16);
 JAZMOTIP_LAYOUT(sizeof(jazmotip_block_answer) == 16);
 JAZMOTIP_LAYOUT(offsetof(jazmotip_block_answer, pair) == 2);
 JAZMOTIP_LAYOUT(offsetof(jazmotip_block_answer, count) == 8);
+JAZMOTIP_LAYOUT(sizeof(jazmotip_store_answer) == 4);
+JAZMOTIP_LAYOUT(offsetof(jazmotip_store_answer, pair) == 2);
 JAZMOTIP_LAYOUT(sizeof(jazmotip_xgpon_key_exchange) == 3);
 JAZMOTIP_LAYOUT(offsetof(jazmotip_xgpon_key_exchange, oldkey) == 1);
 JAZMOTIP_LAYOUT(offsetof(jazmotip_xgpon_key_exchange, newkey) == 2);

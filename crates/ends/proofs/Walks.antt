@@ -1,12 +1,12 @@
 -- One step of a walk along LLIDs and units, and its end: what the loops of this crate go by. Assumes nothing.
-use mathlib.Core.Path.{_≡_, refl, _∙_}
+use mathlib.Core.Path.{_≡_, refl, sym, _∙_}
 use mathlib.Core.Bool.{Bool, true, false}
-use mathlib.Core.List.{List, [], _∷_, _++_}
+use mathlib.Core.List.{List, [], _∷_, _++_, map}
 use Prim.Native.Nat.{ℕ, suc, _+_, _-_, _<_, _≤_}
 use native.Mathlib.Numerals.{add-one}
 use native.Mathlib.Omega.{arith}
 use lib.Dec.{ltb}
-use lib.ListN.{length, getD, set, take, drop, drop-of-length-le}
+use lib.ListN.{length, length-map, getD, set, take, drop, drop-of-length-le}
 use lib.Seq.{take-suc-set}
 use borrow.Author.Tests.{lt-ltb, eq-eqb, ne-eqb, leb-true}
 use Rattle.octets.specs.Choice.{both, either, pick}
@@ -19,6 +19,10 @@ use Rattle.ends.specs.Table.{findFrom, firstPlace, foundBelow, tableLlid
 use Rattle.ends.specs.Validity.{validUnit}
 use Rattle.ends.specs.declared.UnitRecord.{UnitRecord}
 use Rattle.ends.specs.declared.Found.the-variants.{At, Nowhere}
+
+-- an array whose elements are read one by one is as long as what is read
+pub length-mapped : {A B : Type 0} (f : A → B) (l : List A) (n : ℕ) → length (map f l) ≡ n → length l ≡ n
+length-mapped f l n e = sym (length-map l f) ∙ e
 
 ---- along what is tabulated
 

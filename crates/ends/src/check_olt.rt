@@ -222,14 +222,9 @@ fn valid_with(place: usize) -> Judged
 }
 
 // Whether the units are valid and no LLID of theirs stands twice, and which of them has the LLID, in one pass.
-fn judge_table(
-    tick: u64,
-    units: [UnitRecord; MAX_UNITS as usize],
-    count: usize,
-    llid: u16,
-) -> Judged
+fn judge_table(olt: Olt, count: usize, llid: u16) -> Judged
     requires { ⌜ count ≤ maxUnits ⌝ }
-    ensures { λ r. ⌜ r ≡ judgedTable tick (take count units) llid ⌝ }
+    ensures { λ r. ⌜ r ≡ judgedTable (olt .shared .tick) (take count (olt .units)) llid ⌝ }
 {
     let mut list = [0u16; TABLE_LLIDS];
     let mut marks = [0u8; MARK_PLACES];
@@ -237,8 +232,8 @@ fn judge_table(
     let mut place: usize = MAX_UNITS as usize;
     let mut i: usize = 0;
     while i < count {
-        let unit = units[i];
-        if !valid_unit(tick, unit) {
+        let unit = olt.units[i];
+        if !valid_unit(olt.shared.tick, unit) {
             return invalid();
         }
         if !added(unit.identity, &mut list, &mut marks, n) {
@@ -262,8 +257,7 @@ pub fn judge(olt: Olt, llid: u16) -> Judged
     if !valid_shared(olt.shared) {
         return invalid();
     }
-    let units = olt.units;
-    judge_table(olt.shared.tick, units, count as usize, llid)
+    judge_table(olt, count as usize, llid)
 }
 
 pub fn valid_olt(olt: Olt) -> bool

@@ -1,3 +1,4 @@
 pub mod Payloads
 pub mod Blocks
 pub mod KeyExchange
+pub mod Stored

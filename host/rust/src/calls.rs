@@ -171,6 +171,26 @@ pub fn capture_list(settings: &[u8], block: &[u8], text: &mut [u8; LISTING_OCTET
     unsafe { raw::jazmotip_capture_list(settings.as_ptr(), settings.len(), block.as_ptr(), block.len(), text.as_mut_ptr()) }
 }
 
+/// 0 or 14.
+pub fn rearrange(payload: &[u8], output: &mut [u8]) -> u8 {
+    unsafe { raw::jazmotip_rearrange(payload.as_ptr(), payload.len(), output.as_mut_ptr(), output.len()) }
+}
+
+/// 0 or 14.
+pub fn restore(payload: &[u8], output: &mut [u8]) -> u8 {
+    unsafe { raw::jazmotip_restore(payload.as_ptr(), payload.len(), output.as_mut_ptr(), output.len()) }
+}
+
+/// Order of refusals: 14, 15, then 18 and 19.
+pub fn capture_rearrange(block: &[u8], output: &mut [u8]) -> StoreAnswer {
+    unsafe { raw::jazmotip_capture_rearrange(block.as_ptr(), block.len(), output.as_mut_ptr(), output.len()) }
+}
+
+/// Order of refusals: 14, 15, then 18 and 19.
+pub fn capture_restore(block: &[u8], output: &mut [u8]) -> StoreAnswer {
+    unsafe { raw::jazmotip_capture_restore(block.as_ptr(), block.len(), output.as_mut_ptr(), output.len()) }
+}
+
 pub fn xgpon_fresh() -> KeyExchange {
     unsafe { raw::jazmotip_xgpon_fresh() }
 }

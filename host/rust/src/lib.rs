@@ -1,7 +1,7 @@
 //! The Jazmotip link engine for firmware in Rust: sealed SIEPON.4 envelopes (AES-128 in counter mode under the control mask),
-//! both ends of a 25G/50G EPON line, the capture reader, and the OLT's key exchange of an XG-PON line ([`xgpon`]). The engine is
-//! `libjazmotip.a`, proved in Rattle; this crate declares it, checks at build time that its records are laid out alike, and gives
-//! it a face with slices and `Result`. It needs no `std`, no heap and no other crate.
+//! both ends of a 25G/50G EPON line, the capture reader, payloads rearranged for the store ([`store`]), and the OLT's key exchange of
+//! an XG-PON line ([`xgpon`]). The engine is `libjazmotip.a`, proved in Rattle; this crate declares it, checks at build time that its
+//! records are laid out alike, and gives it a face with slices and `Result`. It needs no `std`, no heap and no other crate.
 //!
 //! ```
 //! use jazmotip::{Identity, Olt, Onu};
@@ -40,6 +40,7 @@ mod ends;
 pub mod raw;
 mod records;
 mod refusal;
+pub mod store;
 pub mod xgpon;
 
 pub use ends::Sent;

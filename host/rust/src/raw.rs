@@ -125,6 +125,21 @@ extern "C" {
         text: *mut u8,
     ) -> usize;
 
+    pub fn jazmotip_rearrange(payload: *const u8, payload_length: usize, output: *mut u8, output_length: usize) -> u8;
+    pub fn jazmotip_restore(payload: *const u8, payload_length: usize, output: *mut u8, output_length: usize) -> u8;
+    pub fn jazmotip_capture_rearrange(
+        block: *const u8,
+        block_length: usize,
+        output: *mut u8,
+        output_length: usize,
+    ) -> StoreAnswer;
+    pub fn jazmotip_capture_restore(
+        block: *const u8,
+        block_length: usize,
+        output: *mut u8,
+        output_length: usize,
+    ) -> StoreAnswer;
+
     pub fn jazmotip_xgpon_fresh() -> KeyExchange;
     pub fn jazmotip_xgpon_step(exchange: KeyExchange, input: InputRecord) -> Answer;
     pub fn jazmotip_xgpon_sent_under(exchange: KeyExchange) -> ValidKeys;

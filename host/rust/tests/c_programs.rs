@@ -60,6 +60,8 @@ fn nothing_is_null_with_length_0() {
                     seal into nothing: 14\n\
                     seal of nothing: 14\n\
                     count: 0\n\
+                    rearrange: 0 14\n\
+                    restore: 0 14\n\
                     olt send: 0, count 0\n\
                     onu receive: 0\n\
                     onu send: 0, count 0\n\
@@ -69,6 +71,8 @@ fn nothing_is_null_with_length_0() {
                     verdicts: 14 15\n\
                     payload: 15\n\
                     open: 14 15 14\n\
+                    rearrange: 15 14\n\
+                    restore: 15 14\n\
                     list: no llid ch key eqs result\nrefused 14\n";
     for level in ["-O0", "-O2"] {
         assert_eq!(printed(&compiled("nothing", level), &[]), expected, "{level}");

@@ -9,6 +9,7 @@ mod pairs;
 mod random;
 mod reference;
 mod sealing;
+mod store;
 mod tally;
 mod values;
 mod xgpon;

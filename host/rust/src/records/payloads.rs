@@ -73,3 +73,12 @@ pub struct BlockAnswer {
     /// Octets deciphered.
     pub count: u64,
 }
+
+/// What rearranging or restoring a block gave.
+#[repr(C)]
+#[derive(Clone, Copy, Debug, Default, PartialEq, Eq)]
+pub struct StoreAnswer {
+    pub number: u8,
+    /// The first broken pair from 1, for 18 and 19; else 0.
+    pub pair: u16,
+}

@@ -8,6 +8,7 @@ pub mod olt;
 pub mod onu;
 pub mod payload;
 pub mod records;
+pub mod store;
 
 /// What a call hands over, or the number that it is refused by.
 pub type Reply<T> = Result<T, u8>;

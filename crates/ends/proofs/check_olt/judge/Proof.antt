@@ -29,7 +29,7 @@ shared-valid c = sym (c .before .valid-shared .ensures) ∙ not-false (c .before
 returns-3 : tie.Need-returns-3
 unfolding judgedOf judgedTable validOlt both find
 returns-3 c =
-    let passed = c .before .before in
+    let passed = c .before in
     rw (le-leb _ _ (passed .before .before .if1 .left), shared-valid passed) (c .judge-table .ensures)
 
 pub judge-spec : {M : Type 1} → statement M

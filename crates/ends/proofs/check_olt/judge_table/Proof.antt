@@ -23,20 +23,23 @@ use Rattle.ends.specs.declared.UnitRecord.{UnitRecord}
 use Rattle.ends.proofs.Identities.{distinct-no}
 use Rattle.ends.proofs.Marks.{marked-none}
 use Rattle.ends.proofs.Validity.{judged-no, judged-yes}
-use Rattle.ends.proofs.Walks.{find-none, find-step, llids-step, llids-end, unit-few}
+use Rattle.ends.proofs.Walks.{length-mapped, find-none, find-step, llids-step, llids-end, unit-few}
 use Rattle.ends.proofs.check_olt.judge_table.Statement.{statement}
 use Rattle.ends.proofs.check_olt.judge_table.Tie as tie
 
 abbrev Inv-loop : tie.InvT-loop
-Inv-loop tick count llid units list₀ marks₀ n₀ place₀ i₀ list marks n place i =
+Inv-loop count llid olt list₀ marks₀ n₀ place₀ i₀ list marks n place i =
     (i ≤ count) × (n ≤ maxLlids * i) × (length list ≡ maxTableLlids)
-    × (all (validUnit tick) (take count units) ≡ all (validUnit tick) (drop i (take count units)))
-    × (take n list ++ tableLlids (drop i (take count units)) ≡ tableLlids (take count units))
+    × (all (validUnit (olt .shared .tick)) (take count (olt .units)) ≡ all (validUnit (olt .shared .tick)) (drop i (take count (olt .units))))
+    × (take n list ++ tableLlids (drop i (take count (olt .units))) ≡ tableLlids (take count (olt .units)))
     × (distinct (take n list) ≡ true) × Marked (take n list) marks
-    × (findFrom 0 (take count units) llid ≡ foundBelow place (findFrom i (drop i (take count units)) llid))
+    × (findFrom 0 (take count (olt .units)) llid ≡ foundBelow place (findFrom i (drop i (take count (olt .units))) llid))
 
 abbrev μ-loop : tie.MeasureT-loop
-μ-loop tick count llid units list₀ marks₀ n₀ place₀ i₀ list marks n place i = count - i
+μ-loop count llid olt list₀ marks₀ n₀ place₀ i₀ list marks n place i = count - i
+
+places : (c : tie.At-loop Inv-loop μ-loop) → length (c .before .args .t1 .units) ≡ maxUnits
+places c = search (needs, length-mapped)
 
 loop-holds : tie.Need-loop-holds Inv-loop μ-loop
 unfolding distinct pick
@@ -47,17 +50,17 @@ unfolding pastUnit judgedTable
 returns c =
     let a = c .before .before .before .before .before .before .args in
     let here = c .before .before .before .before .before .loop in
-    let len : length (a .t2) ≡ maxUnits = search needs in
+    let len = places (c .before .before .before .before .before) in
     c .invalid .ensures
     ∙ sym (judged-no _ _ (both-false-left _
     (here .inv .3
-    ∙ all-miss (validUnit (a .tick)) (a .count) (a .t2) (here .i) pastUnit (omega arith) (omega arith)
+    ∙ all-miss (validUnit (a .t1 .shared .tick)) (a .count) (a .t1 .units) (here .i) pastUnit (omega arith) (omega arith)
     (sym (c .before .before .valid-unit .ensures) ∙ not-true (c .before .before .valid-unit .result) (c .before .if1 .taken)))))
 
 abbrev unit-at : tie.Else1 Inv-loop μ-loop → UnitRecord
-unit-at c = getD (c .before .before .before .before .before .args .t2) (c .before .before .before .before .loop .i) pastUnit
+unit-at c = getD (c .before .before .before .before .before .args .t1 .units) (c .before .before .before .before .loop .i) pastUnit
 
-valid : (c : tie.Else1 Inv-loop μ-loop) → validUnit (c .before .before .before .before .before .args .tick) (unit-at c) ≡ true
+valid : (c : tie.Else1 Inv-loop μ-loop) → validUnit (c .before .before .before .before .before .args .t1 .shared .tick) (unit-at c) ≡ true
 unfolding pastUnit
 valid c = sym (c .before .valid-unit .ensures) ∙ not-false (c .before .valid-unit .result) (c .if1 .left)
 
@@ -81,14 +84,14 @@ unfolding pastUnit judgedTable
 returns-2 c =
     let a = c .before .before .before .before .before .before .before .before .before .before .before .before .args in
     let here = c .before .before .before .before .before .before .before .before .before .before .before .loop in
-    let u = getD (a .t2) (here .i) pastUnit in
+    let u = getD (a .t1 .units) (here .i) pastUnit in
     let call = c .before .before .before .before .added in
-    let len : length (a .t2) ≡ maxUnits = search needs in
+    let len = places (c .before .before .before .before .before .before .before .before .before .before .before) in
     let twice : distinct (take (here .n) (here .list) ++ llidsOf (u .identity)) ≡ false =
     sym (call .ensures .0) ∙ not-true (call .result) (c .before .if2 .taken) in
-    let all-of : (take (here .n) (here .list) ++ llidsOf (u .identity)) ++ tableLlids (drop (here .i + 1) (take (a .count) (a .t2)))
-    ≡ tableLlids (take (a .count) (a .t2)) =
-    rw append-assoc (rw (llids-step (a .count) (a .t2) (here .i) pastUnit (omega arith) (omega arith)) at (here .inv .4)) in
+    let all-of : (take (here .n) (here .list) ++ llidsOf (u .identity)) ++ tableLlids (drop (here .i + 1) (take (a .count) (a .t1 .units)))
+    ≡ tableLlids (take (a .count) (a .t1 .units)) =
+    rw append-assoc (rw (llids-step (a .count) (a .t1 .units) (here .i) pastUnit (omega arith) (omega arith)) at (here .inv .4)) in
     c .invalid2 .ensures ∙ sym (judged-no _ _ (both-false-right _ (sym (ap distinct all-of) ∙ distinct-no _ _ twice)))
 
 add-n : tie.Need-add-n Inv-loop μ-loop
@@ -106,16 +109,16 @@ loop-again c =
     let v = here .inv in
     let call = c .before .before .before .before .before .added in
     let added : call .result ≡ true = not-false (call .result) (c .before .before .if2 .left) in
-    let len : length (a .t2) ≡ maxUnits = search needs in (
+    let len = places (passed .before .before .before .before) in (
       omega arith,
       omega (arith, few passed, v .1),
       call .kept .1 .0 ∙ v .2,
-      v .3 ∙ all-hit (validUnit (a .tick)) (a .count) (a .t2) (here .i) pastUnit (omega arith) (omega arith) (valid passed),
-      rw (call .ensures .1 .0 added, append-assoc, sym (llids-step (a .count) (a .t2) (here .i) pastUnit (omega arith) (omega arith))) (v .4),
+      v .3 ∙ all-hit (validUnit (a .t1 .shared .tick)) (a .count) (a .t1 .units) (here .i) pastUnit (omega arith) (omega arith) (valid passed),
+      rw (call .ensures .1 .0 added, append-assoc, sym (llids-step (a .count) (a .t1 .units) (here .i) pastUnit (omega arith) (omega arith))) (v .4),
       ap distinct (call .ensures .1 .0 added) ∙ sym (call .ensures .0) ∙ added,
       call .ensures .1 .1 added,
       rw (c .before .first-place .ensures)
-          (v .7 ∙ find-step (a .count) (a .t2) (here .i) pastUnit (a .llid) (here .place) (omega arith) (omega arith) (omega arith)),
+          (v .7 ∙ find-step (a .count) (a .t1 .units) (here .i) pastUnit (a .llid) (here .place) (omega arith) (omega arith) (omega arith)),
     )
 
 returns-3 : tie.Need-returns-3 Inv-loop μ-loop
@@ -123,10 +126,10 @@ unfolding judgedTable
 returns-3 c =
     let a = c .before .before .before .args in
     let here = c .before .before .loop in
-    let all-of : take (here .n) (here .list) ≡ tableLlids (take (a .count) (a .t2)) =
-    rw (llids-end (a .count) (a .t2) (here .i) (omega arith), append-nil) at (here .inv .4) in
-    let units = here .inv .3 ∙ all-end (validUnit (a .tick)) (a .count) (a .t2) (here .i) (omega arith) in
-    let none = find-none (here .i) (drop (here .i) (take (a .count) (a .t2))) (a .llid) (first-end (a .count) (a .t2) (here .i) (omega arith)) in
+    let all-of : take (here .n) (here .list) ≡ tableLlids (take (a .count) (a .t1 .units)) =
+    rw (llids-end (a .count) (a .t1 .units) (here .i) (omega arith), append-nil) at (here .inv .4) in
+    let units = here .inv .3 ∙ all-end (validUnit (a .t1 .shared .tick)) (a .count) (a .t1 .units) (here .i) (omega arith) in
+    let none = find-none (here .i) (drop (here .i) (take (a .count) (a .t1 .units))) (a .llid) (first-end (a .count) (a .t1 .units) (here .i) (omega arith)) in
     c .valid-with .ensures
     ∙ sym (judged-yes _ _ (both-true units (rw all-of at (here .inv .5)))
     ∙ ap (judged true) (here .inv .7 ∙ ap (λ (f : Found). foundBelow (here .place) f) none))

@@ -1,0 +1,4 @@
+pub mod Places
+pub mod Planes
+pub mod Moves
+pub mod Calls

@@ -1,0 +1,5 @@
+pub mod Places
+pub mod Planes
+pub mod Calls
+pub mod Claims
+pub mod Duties

@@ -1,0 +1,4 @@
+pub mod Payloads
+pub mod Blocks
+pub mod Moves
+pub mod Directories

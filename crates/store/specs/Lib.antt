@@ -1,0 +1,4 @@
+pub mod Blocks
+pub mod Calls
+pub mod Claims
+pub mod Duties

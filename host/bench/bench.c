@@ -8,6 +8,7 @@
 #include "openssl.h"
 #include "planes.h"
 #include "wordcipher.h"
+#include "recordings.h"
 #include "work.h"
 #include "yardstick.h"
 
@@ -303,6 +304,7 @@ int main(int argc, char **argv)
     yardstick_print();
     calls_print();
     planes_print();
+    recordings_print();
     print_goals(flatness);
     return 0;
 }

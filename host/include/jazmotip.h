@@ -69,6 +69,7 @@ enum {
     JAZMOTIP_AT_END = 17,             /* tick or key number at its end */
     JAZMOTIP_BROKEN_CHAIN = 18,       /* a capture's pair off the chain of offsets, past the block's end, or the last short of it */
     JAZMOTIP_UNSUITED_LENGTH = 19,    /* a capture's pair whose length is under 16 or not 16 + 9 x EQs */
+    JAZMOTIP_REPEATED_RECORD = 22,    /* two records of one capture block agree in channel index, LLID and clock */
     JAZMOTIP_OTHER_KEY_INDEX = 25     /* a report names a key index other than the awaited one */
 };
 
@@ -86,6 +87,7 @@ enum {
 #define JAZMOTIP_SETTINGS_OCTETS 41u         /* settings of the capture reader */
 #define JAZMOTIP_BLOCK_OCTETS 65536u         /* octets of a capture block, at most */
 #define JAZMOTIP_RECORDS 256u                /* records of a capture block, at most */
+#define JAZMOTIP_ENTRIES 512u                /* the output that comparing two blocks needs, an octet for each entry */
 #define JAZMOTIP_LISTING_OCTETS 10266u       /* the buffer that a listing needs */
 
 /* ------------------------------------------------------------------------------------------------------------------- Ends
@@ -470,6 +472,32 @@ typedef struct jazmotip_store_answer {
 jazmotip_store_answer jazmotip_capture_rearrange(const uint8_t *block, size_t block_length, uint8_t *output, size_t output_length);
 jazmotip_store_answer jazmotip_capture_restore(const uint8_t *block, size_t block_length, uint8_t *output, size_t output_length);
 
+/* --------------------------------------------------------------------------------------------------------- Two recordings
+ * Two blocks of one line, recorded at its two ends, held against each other. Records pair when channel index, LLID and clock
+ * agree; kind, flags and EPAM play no part. */
+
+enum {
+    JAZMOTIP_ALONE = 0,    /* no record of the other block pairs with it */
+    JAZMOTIP_SAME = 1,     /* it is paired: the EQ count and the eight data octets of every EQ agree */
+    JAZMOTIP_DIFFERENT = 2 /* it is paired, and they do not */
+};
+
+typedef struct jazmotip_comparison {
+    uint8_t number;
+    uint8_t block;    /* the block that is refused, 1 or 2; 0 for 14 and where nothing is refused */
+    uint16_t pair;    /* the first broken pair of that block for 18 and 19, else 0 */
+    uint16_t entries; /* octets written, 0 if refused */
+    uint16_t total;   /* records of the LLID asked for that are alone, in both blocks; 0 if refused */
+} jazmotip_comparison;
+
+/* Writes an entry each, JAZMOTIP_ALONE, JAZMOTIP_SAME or JAZMOTIP_DIFFERENT, for the records of the first block in order, then for
+ * those of the second that are alone; output past them stays. Order: 14 for an output that is not JAZMOTIP_ENTRIES octets; the
+ * first block's 15, 18 and 19, 1 for any of its records (kind, channel index, flags, EncKey without EncEnabled); the second's; 22
+ * for the first block, 22 for the second. Refused, output stays as it was. In the other order the same records pair with the same
+ * sameness, and the total is the same. */
+jazmotip_comparison jazmotip_capture_compare(uint16_t llid, const uint8_t *first, size_t first_length, const uint8_t *second,
+                                             size_t second_length, uint8_t *output, size_t output_length);
+
 /* ------------------------------------------------------------------------------------------------ Key exchange on XG-PON
  * The OLT's key exchange with one ONU (ITU-T G.987.3, 15.5.3.2). The host carries the PLOAM messages and keeps the three timers:
  * it hands in each report, each expiry and each decision to begin, sends the message of the answer, and starts and stops the
@@ -686,6 +714,11 @@ JAZMOTIP_LAYOUT(offsetof(jazmotip_block_answer, pair) == 2);
 JAZMOTIP_LAYOUT(offsetof(jazmotip_block_answer, count) == 8);
 JAZMOTIP_LAYOUT(sizeof(jazmotip_store_answer) == 4);
 JAZMOTIP_LAYOUT(offsetof(jazmotip_store_answer, pair) == 2);
+JAZMOTIP_LAYOUT(sizeof(jazmotip_comparison) == 8);
+JAZMOTIP_LAYOUT(offsetof(jazmotip_comparison, block) == 1);
+JAZMOTIP_LAYOUT(offsetof(jazmotip_comparison, pair) == 2);
+JAZMOTIP_LAYOUT(offsetof(jazmotip_comparison, entries) == 4);
+JAZMOTIP_LAYOUT(offsetof(jazmotip_comparison, total) == 6);
 JAZMOTIP_LAYOUT(sizeof(jazmotip_xgpon_key_exchange) == 3);
 JAZMOTIP_LAYOUT(offsetof(jazmotip_xgpon_key_exchange, oldkey) == 1);
 JAZMOTIP_LAYOUT(offsetof(jazmotip_xgpon_key_exchange, newkey) == 2);

@@ -7,3 +7,4 @@ pub mod blocks;
 pub mod key_exchange;
 pub mod payloads;
 pub mod stored;
+pub mod two_blocks;

@@ -1,7 +1,7 @@
--- The number of each refusal (01, 'When the reader says no'; 02, C-11, C-21), and the pair that it names. Assumes nothing.
+-- The number of each refusal (01, 'When the reader says no'; 02, C-11, C-15, C-21), and the pair that it names. Assumes nothing.
 use Prim.Native.Nat.{ℕ}
 use Rattle.refusal.specs.declared.Refusal.{Refusal}
-use Rattle.refusal.specs.declared.Refusal.the-variants.{OutOfRange, UnknownLlid, RepeatedLlid, TableFull, ClockNotSet, OfferPending, SameKey, NothingOutstanding, NoKey, EpamDiffers, ClearEnvelope, ChannelTaken, KeyTooOld, BadLength, BadDirectory, CaptureTooOld, AtEnd, BrokenChain, UnsuitedLength, OtherKeyIndex}
+use Rattle.refusal.specs.declared.Refusal.the-variants.{OutOfRange, UnknownLlid, RepeatedLlid, TableFull, ClockNotSet, OfferPending, SameKey, NothingOutstanding, NoKey, EpamDiffers, ClearEnvelope, ChannelTaken, KeyTooOld, BadLength, BadDirectory, CaptureTooOld, AtEnd, BrokenChain, UnsuitedLength, RepeatedRecord, OtherKeyIndex}
 use Rattle.refusal.specs.declared.Verdict.{Verdict}
 use Rattle.refusal.specs.declared.Verdict.the-variants.{Accepted, Refused}
 
@@ -25,6 +25,7 @@ numberOf CaptureTooOld = 16
 numberOf AtEnd = 17
 numberOf (BrokenChain k) = 18
 numberOf (UnsuitedLength k) = 19
+numberOf RepeatedRecord = 22
 numberOf OtherKeyIndex = 25
 
 -- the pair of a capture's directory, from 1, 0 where there is none (02, C-11)
@@ -48,6 +49,7 @@ pairNumber CaptureTooOld = 0
 pairNumber AtEnd = 0
 pairNumber (BrokenChain k) = k
 pairNumber (UnsuitedLength k) = k
+pairNumber RepeatedRecord = 0
 pairNumber OtherKeyIndex = 0
 
 -- acceptance returns 0

@@ -42,6 +42,8 @@ pub enum Refusal {
     BrokenChain(u16),
     // 19: this pair's length, from 1, does not suit the EQs of its record
     UnsuitedLength(u16),
+    // 22: two records of one capture block agree in channel index, LLID and clock (02, C-15)
+    RepeatedRecord,
     // 25: a report names a key index other than the awaited one (02, C-21)
     OtherKeyIndex,
 }
@@ -70,6 +72,7 @@ pub fn number(refusal: Refusal) -> u8
         Refusal::AtEnd => 17,
         Refusal::BrokenChain(_) => 18,
         Refusal::UnsuitedLength(_) => 19,
+        Refusal::RepeatedRecord => 22,
         Refusal::OtherKeyIndex => 25,
     }
 }
@@ -98,6 +101,7 @@ pub fn pair(refusal: Refusal) -> u16
         Refusal::AtEnd => 0,
         Refusal::BrokenChain(k) => k,
         Refusal::UnsuitedLength(k) => k,
+        Refusal::RepeatedRecord => 0,
         Refusal::OtherKeyIndex => 0,
     }
 }

@@ -5,6 +5,9 @@ ghost use Prim.Native.Nat.{_+_, _/_, _%_, _^_, _≤_, _<_};
 ghost use lib.ListN.{length};
 ghost use Rattle.rows.specs.Text.{glyphOf, digits, digitCount, decimalOf, rowOctets, keyGlyph, refusedText, pairText, resultText, rowHead, rowTail, rowOf, refusedRow, Holds};
 ghost use Rattle.rows.specs.Duties.{Grown};
+
+pub mod entries;
+
 use records::header::Header;
 use records::header::RecordVerdict;
 use records::header::enc_enabled;

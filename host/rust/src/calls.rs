@@ -191,6 +191,22 @@ pub fn capture_restore(block: &[u8], output: &mut [u8]) -> StoreAnswer {
     unsafe { raw::jazmotip_capture_restore(block.as_ptr(), block.len(), output.as_mut_ptr(), output.len()) }
 }
 
+/// Order of refusals: 14 for an output that is not [`ENTRIES`](crate::ENTRIES) octets; the first block's 15, 18 and 19, 1 for any of
+/// its records; the second's; 22 for the first block, 22 for the second.
+pub fn capture_compare(llid: u16, first: &[u8], second: &[u8], output: &mut [u8]) -> Comparison {
+    unsafe {
+        raw::jazmotip_capture_compare(
+            llid,
+            first.as_ptr(),
+            first.len(),
+            second.as_ptr(),
+            second.len(),
+            output.as_mut_ptr(),
+            output.len(),
+        )
+    }
+}
+
 pub fn xgpon_fresh() -> KeyExchange {
     unsafe { raw::jazmotip_xgpon_fresh() }
 }

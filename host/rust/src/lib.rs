@@ -38,6 +38,7 @@ pub mod calls;
 pub mod capture;
 mod ends;
 pub mod raw;
+pub mod recordings;
 mod records;
 mod refusal;
 pub mod store;
@@ -73,5 +74,7 @@ pub const SETTINGS_OCTETS: usize = 41;
 pub const BLOCK_OCTETS: usize = 65_536;
 /// Records of a capture block, at most.
 pub const RECORDS: usize = 256;
+/// Octets of the output that comparing two blocks needs, one for each entry.
+pub const ENTRIES: usize = 512;
 /// The room that a listing needs.
 pub const LISTING_OCTETS: usize = 10_266;

@@ -139,6 +139,15 @@ extern "C" {
         output: *mut u8,
         output_length: usize,
     ) -> StoreAnswer;
+    pub fn jazmotip_capture_compare(
+        llid: u16,
+        first: *const u8,
+        first_length: usize,
+        second: *const u8,
+        second_length: usize,
+        output: *mut u8,
+        output_length: usize,
+    ) -> Comparison;
 
     pub fn jazmotip_xgpon_fresh() -> KeyExchange;
     pub fn jazmotip_xgpon_step(exchange: KeyExchange, input: InputRecord) -> Answer;

@@ -26,12 +26,13 @@ pub enum Refusal {
     BrokenChain(u16),
     /// The same, where the pair's length does not suit the EQs of its record.
     UnsuitedLength(u16),
+    RepeatedRecord,
     OtherKeyIndex,
 }
 
 impl Refusal {
     /// The refusals that name no pair, in the order of their numbers.
-    const WITHOUT_PAIR: [Refusal; 18] = [
+    const WITHOUT_PAIR: [Refusal; 19] = [
         Refusal::OutOfRange,
         Refusal::UnknownLlid,
         Refusal::RepeatedLlid,
@@ -49,10 +50,11 @@ impl Refusal {
         Refusal::BadDirectory,
         Refusal::CaptureTooOld,
         Refusal::AtEnd,
+        Refusal::RepeatedRecord,
         Refusal::OtherKeyIndex,
     ];
 
-    /// The number that the engine returns for it, 1 to 19 or 25.
+    /// The number that the engine returns for it, 1 to 19, 22 or 25.
     pub fn number(self) -> u8 {
         match self {
             Refusal::OutOfRange => 1,
@@ -74,6 +76,7 @@ impl Refusal {
             Refusal::AtEnd => 17,
             Refusal::BrokenChain(_) => 18,
             Refusal::UnsuitedLength(_) => 19,
+            Refusal::RepeatedRecord => 22,
             Refusal::OtherKeyIndex => 25,
         }
     }
@@ -124,6 +127,7 @@ impl fmt::Display for Refusal {
             Refusal::AtEnd => "tick or key number at its end",
             Refusal::BrokenChain(_) => "pair off the chain of offsets",
             Refusal::UnsuitedLength(_) => "length does not suit the record's EQs",
+            Refusal::RepeatedRecord => "two records of one block agree in channel index, LLID and clock",
             Refusal::OtherKeyIndex => "a report names a key index other than the awaited one",
         };
         write!(f, "refused {}", self.number())?;

@@ -7,6 +7,7 @@ mod lent;
 mod line;
 mod pairs;
 mod random;
+mod recordings;
 mod reference;
 mod sealing;
 mod store;

@@ -64,10 +64,14 @@ returns-19 c = rw (c .before .refusal2 .given .1)
 returns-20 : tie.Need-returns-20
 returns-20 c = rw (c .enum-told18 .given .1)
 
+returns-21 : tie.Need-returns-21
+returns-21 c = rw (c .enum-told19 .given .1)
+
 pub pair-spec : {M : Type 1} → statement M
 pair-spec =
     tie.close
     (tie.spec
+    (λ c. search needs)
     (λ c. search needs)
     (λ c. search needs)
     (λ c. search needs)
@@ -107,4 +111,5 @@ pair-spec =
     returns-17
     returns-18
     returns-19
-    returns-20)
+    returns-20
+    returns-21)

@@ -50,6 +50,7 @@ layout!(BlockVerdict, 16, number: 0, encenabled: 1, enckey: 2, pair: 4, clock: 8
 layout!(BlockPart, 24, number: 0, pair: 2, offset: 8, length: 16);
 layout!(BlockAnswer, 16, number: 0, pair: 2, count: 8);
 layout!(StoreAnswer, 4, number: 0, pair: 2);
+layout!(Comparison, 8, number: 0, block: 1, pair: 2, entries: 4, total: 6);
 layout!(KeyExchange, 3, state: 0, oldkey: 1, newkey: 2);
 layout!(InputRecord, 2, kind: 0, index: 1);
 layout!(KeyControl, 2, kind: 0, index: 1);

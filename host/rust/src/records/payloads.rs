@@ -82,3 +82,18 @@ pub struct StoreAnswer {
     /// The first broken pair from 1, for 18 and 19; else 0.
     pub pair: u16,
 }
+
+/// What holding two blocks against each other gave.
+#[repr(C)]
+#[derive(Clone, Copy, Debug, Default, PartialEq, Eq)]
+pub struct Comparison {
+    pub number: u8,
+    /// The block that is refused, 1 or 2; 0 for 14 and where nothing is refused.
+    pub block: u8,
+    /// The first broken pair of that block from 1, for 18 and 19; else 0.
+    pub pair: u16,
+    /// Octets written.
+    pub entries: u16,
+    /// Records of the LLID asked for that are alone, in both blocks.
+    pub total: u16,
+}

@@ -7,6 +7,7 @@ pub mod capture;
 pub mod olt;
 pub mod onu;
 pub mod payload;
+pub mod recordings;
 pub mod records;
 pub mod store;
 

@@ -1,0 +1,42 @@
+-- Laws of a test of each of some numbers. Assumes nothing.
+use mathlib.Core.Path.{_≡_, refl}
+use mathlib.Core.Bool.{Bool, true, false}
+use Prim.Native.Nat.{ℕ, zero, suc, _+_, _-_, _≤_, _<_}
+use native.Mathlib.Numerals.{add-one}
+use native.Mathlib.Omega.{arith}
+use lib.Dec.{leb}
+use borrow.Author.Tests.{leb-true, leb-false}
+use Rattle.octets.specs.Choice.{both}
+use Rattle.octets.proofs.Choice.{both-left, both-right, both-true, both-false-left}
+use Rattle.recordings.specs.Each.{each}
+
+each-at-by : (t : Bool) (i n : ℕ) (p : ℕ → Bool) (k : ℕ) → leb (suc i) k ≡ t → each i n p ≡ true → i ≤ k → k < i + n → p k ≡ true
+unfolding each
+each-at-by t i zero p k d e l h = absurd (omega arith)
+each-at-by true i (suc n) p k d e l h =
+    each-at-by (leb (suc (suc i)) k) (suc i) n p k refl (both-right _ _ e) (leb-true _ _ d) (omega arith)
+each-at-by false i (suc n) p k d e l h = let q : k ≡ i = omega (arith, leb-false (suc i) k d) in rw q (both-left _ _ e)
+
+-- it holds of one of them
+pub each-at : (i n : ℕ) (p : ℕ → Bool) (k : ℕ) → each i n p ≡ true → i ≤ k → k < i + n → p k ≡ true
+each-at i n p k e l h = each-at-by (leb (suc i) k) i n p k refl e l h
+
+-- and conversely
+pub each-true : (i n : ℕ) (p : ℕ → Bool) → ((k : ℕ) → i ≤ k → k < i + n → p k ≡ true) → each i n p ≡ true
+unfolding each
+each-true i zero p f = refl
+each-true i (suc n) p f = both-true (f i (omega arith) (omega arith)) (each-true (suc i) n p (λ k l h. f k (omega arith) (omega arith)))
+
+---- a loop over the n numbers
+
+pub each-step : (i n : ℕ) (p : ℕ → Bool) → i < n → p i ≡ true → each i (n - i) p ≡ each (i + 1) (n - (i + 1)) p
+unfolding each both
+each-step i n p h e = let m : n - i ≡ suc (n - suc i) = omega arith in rw (m, add-one, e)
+
+pub each-stop : (i n : ℕ) (p : ℕ → Bool) → i < n → p i ≡ false → each i (n - i) p ≡ false
+unfolding each
+each-stop i n p h e = let m : n - i ≡ suc (n - suc i) = omega arith in rw m (both-false-left _ e)
+
+pub each-end : (i n : ℕ) (p : ℕ → Bool) → n ≤ i → each i (n - i) p ≡ true
+unfolding each
+each-end i n p h = let m : n - i ≡ 0 = omega arith in rw m

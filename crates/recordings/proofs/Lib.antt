@@ -1,0 +1,7 @@
+pub mod Each
+pub mod Pieces
+pub mod Pairing
+pub mod Matching
+pub mod Sameness
+pub mod Comparing
+pub mod Entries

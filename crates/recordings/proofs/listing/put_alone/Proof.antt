@@ -1,0 +1,52 @@
+-- `recordings::listing::put_alone` meets its contract: the row of a record without a partner, nothing for one that has it.
+-- Assumes nothing.
+use mathlib.Core.Path.{_≡_, refl, sym, ap, _∙_}
+use mathlib.Core.Bool.{true, false}
+use mathlib.Core.List.{List, _++_, append-nil}
+use Prim.Native.Nat.{ℕ}
+use native.Mathlib.Omega.{arith}
+use lib.Dec.{eqb}
+use lib.ListN.{take}
+use denote.Ref.{now}
+use borrow.Author.Needs.{needs}
+use borrow.Author.Tests.{eq-eqb, ne-eqb}
+use Rattle.octets.proofs.Choice.{pick-true, pick-false}
+use Rattle.records.specs.Block.{recordsIn}
+use Rattle.recordings.proofs.listing.put_alone.Statement.{statement}
+use Rattle.recordings.proofs.listing.put_alone.Tie as tie
+
+put-line-requires : tie.Need-put-line-requires
+put-line-requires c κs =
+    let start = c .before .before .before .before .before .before .before .before in
+    (c .entry-row .ensures .inside, start .pre .1)
+
+returns : tie.Need-returns
+returns c =
+    let put = c .before .before in
+    let made = put .before in
+    let then = made .before .before .before in
+    let start = then .before .before .before .before .before in
+    let q = put .put-line .ensures in
+    let e : eqb (start .args .p) (recordsIn (now (start .args .a))) ≡ true = rw (← then .before .count .ensures) (eq-eqb _ _ (then .if1 .taken)) in
+    let row = rw (made .before .header-at .ensures .0) at (made .entry-row .ensures .octets) in
+    (q .0, (q .1 .0 ∙ ap (λ (t : List ℕ). take (start .args .at) (now (start .args .text)) ++ t) (row ∙ sym (pick-true _ _ e)), q .1 .1))
+
+returns-2 : tie.Need-returns-2
+returns-2 c =
+    let start = c .before .before .before .before .before in
+    let e : eqb (start .args .p) (recordsIn (now (start .args .a))) ≡ false = rw (← c .before .count .ensures) (ne-eqb _ _ (c .if1 .left)) in
+    let nothing = ap (λ (t : List ℕ). take (start .args .at) (now (start .args .text)) ++ t) (pick-false _ _ e) in
+    ((omega arith, omega arith), (sym (nothing ∙ append-nil _), refl))
+
+pub put-alone-spec : {M : Type 1} → statement M
+put-alone-spec =
+    tie.close
+    (tie.spec
+    (λ c κs. search needs)
+    (λ c. search needs)
+    (λ c κs. search needs)
+    (λ c κs. search needs)
+    put-line-requires
+    (λ c. search needs)
+    returns
+    returns-2)

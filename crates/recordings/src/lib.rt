@@ -1,0 +1,6 @@
+// Two recordings of one line, held against each other (02, C-15).
+pub mod compare;
+pub mod listing;
+mod partners;
+mod payloads;
+pub mod verdict;

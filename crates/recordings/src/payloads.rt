@@ -1,0 +1,44 @@
+// Whether two paired records hold the same.
+ghost use mathlib.Core.Path.{_≡_};
+ghost use Rattle.records.specs.Block.{recordOf};
+ghost use Rattle.recordings.specs.Sameness.{sameEq, same};
+use envelope::data_octet;
+use records::block::header_at;
+use records::block::payload_at;
+
+// The data octets of an EQ.
+const DATA_OCTETS: u8 = 8;
+
+// Whether EQ e has the same data octets in both payloads.
+fn is_same_eq(p: &[u8], q: &[u8], e: u32) -> bool
+    ensures { λ r. ⌜ r ≡ sameEq (now (p .entry)) (now (q .entry)) e ⌝ }
+{
+    let mut j: u8 = 0;
+    while j < DATA_OCTETS {
+        if data_octet(p, e, j) != data_octet(q, e, j) {
+            return false;
+        }
+        j += 1;
+    }
+    true
+}
+
+// Whether record i of a and record j of b hold the same.
+pub(crate) fn is_same(a: &[u8], i: u16, b: &[u8], j: u16) -> bool
+    ensures { λ r. ⌜ r ≡ same (recordOf (now (a .entry)) i) (recordOf (now (b .entry)) j) ⌝ }
+{
+    let eqs = header_at(a, i).eqs;
+    if eqs != header_at(b, j).eqs {
+        return false;
+    }
+    let p = payload_at(a, i);
+    let q = payload_at(b, j);
+    let mut e: u32 = 0;
+    while e < eqs {
+        if !is_same_eq(p, q, e) {
+            return false;
+        }
+        e += 1;
+    }
+    true
+}

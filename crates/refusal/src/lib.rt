@@ -46,6 +46,8 @@ pub enum Refusal {
     RepeatedRecord,
     // 25: a report names a key index other than the awaited one (02, C-21)
     OtherKeyIndex,
+    // 26: more steps than a script may have, or a step that is unknown or not whole (02, C-23)
+    BadScript,
 }
 
 // The number that a refusal returns.
@@ -74,6 +76,7 @@ pub fn number(refusal: Refusal) -> u8
         Refusal::UnsuitedLength(_) => 19,
         Refusal::RepeatedRecord => 22,
         Refusal::OtherKeyIndex => 25,
+        Refusal::BadScript => 26,
     }
 }
 
@@ -103,6 +106,7 @@ pub fn pair(refusal: Refusal) -> u16
         Refusal::UnsuitedLength(k) => k,
         Refusal::RepeatedRecord => 0,
         Refusal::OtherKeyIndex => 0,
+        Refusal::BadScript => 0,
     }
 }
 

@@ -12,7 +12,7 @@ use borrow.Author.Tests.{lt-ltb, le-ltb, ltb-false}
 use Rattle.octets.proofs.Choice.{pick-true, pick-false, pick-holds, pick-same}
 use Rattle.refusal.specs.Number.{numberOf, pairNumber}
 use Rattle.refusal.specs.declared.Refusal.{Refusal}
-use Rattle.refusal.specs.declared.Refusal.the-variants.{OutOfRange, UnknownLlid, RepeatedLlid, TableFull, ClockNotSet, OfferPending, SameKey, NothingOutstanding, NoKey, EpamDiffers, ClearEnvelope, ChannelTaken, KeyTooOld, BadLength, BadDirectory, CaptureTooOld, AtEnd, BrokenChain, UnsuitedLength, RepeatedRecord, OtherKeyIndex}
+use Rattle.refusal.specs.declared.Refusal.the-variants.{OutOfRange, UnknownLlid, RepeatedLlid, TableFull, ClockNotSet, OfferPending, SameKey, NothingOutstanding, NoKey, EpamDiffers, ClearEnvelope, ChannelTaken, KeyTooOld, BadLength, BadDirectory, CaptureTooOld, AtEnd, BrokenChain, UnsuitedLength, RepeatedRecord, OtherKeyIndex, BadScript}
 use Rattle.records.specs.declared.header.Header.{Header}
 use Rattle.records.specs.declared.header.RecordVerdict.{RecordVerdict}
 use Rattle.records.specs.declared.header.RecordVerdict.the-variants.{Clear, Sealed}
@@ -98,6 +98,7 @@ number-few (BrokenChain k) = omega arith
 number-few (UnsuitedLength k) = omega arith
 number-few RepeatedRecord = omega arith
 number-few OtherKeyIndex = omega arith
+number-few BadScript = omega arith
 
 pub number-digits : (r : Refusal) → length (decimalOf (numberOf r)) ≤ 2
 number-digits r = decimal-below 1 (numberOf r) (number-few r)

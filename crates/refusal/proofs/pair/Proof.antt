@@ -67,10 +67,14 @@ returns-20 c = rw (c .enum-told18 .given .1)
 returns-21 : tie.Need-returns-21
 returns-21 c = rw (c .enum-told19 .given .1)
 
+returns-22 : tie.Need-returns-22
+returns-22 c = rw (c .enum-told20 .given .1)
+
 pub pair-spec : {M : Type 1} → statement M
 pair-spec =
     tie.close
     (tie.spec
+    (λ c. search needs)
     (λ c. search needs)
     (λ c. search needs)
     (λ c. search needs)
@@ -112,4 +116,5 @@ pair-spec =
     returns-18
     returns-19
     returns-20
-    returns-21)
+    returns-21
+    returns-22)

@@ -1,0 +1,4 @@
+pub mod Script
+pub mod Play
+pub mod Losses
+pub mod Listed

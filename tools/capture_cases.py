@@ -1,7 +1,7 @@
 #!/usr/bin/env python3
 """Capture blocks, good, damaged and odd, and what each must give; tools/capture_blocks.py makes and reads them.
 
-usage: capture_cases.py write     writes the test files of the programs `reader` and `captures`, and the samples
+usage: capture_cases.py write     writes the test files of the programs `reader` and `test_capture`, and the samples
        capture_cases.py check     says whether those files are what this script makes (exit status 1 if not)
        capture_cases.py show      prints each case: title, octets (long ones cut), and what is expected
 """
@@ -204,7 +204,7 @@ def add_size_cases():
 
 
 def expected(given, octets, ask, lent):
-    """What the program `captures` prints of a case, below its title."""
+    """What the program `test_capture` prints of a case, below its title."""
     number, pair, count, out = opened(given, octets, b"\xa5" * lent)
     asked, asked_pair, body = payload(octets, ask)
     return (
@@ -225,8 +225,8 @@ def files():
     return {
         "crates/reader/stdin": PAPER[0] + PAPER[1],
         "crates/reader/stdout": listing(*PAPER).encode(),
-        "crates/captures/stdin": b"".join(framed(*c) for c in CASES),
-        "crates/captures/stdout": "".join(f"# {c[0]}\n{expected(*c[1:])}" for c in CASES).encode(),
+        "crates/test_capture/stdin": b"".join(framed(*c) for c in CASES),
+        "crates/test_capture/stdout": "".join(f"# {c[0]}\n{expected(*c[1:])}" for c in CASES).encode(),
         "samples/line.capture": SAMPLE[0] + SAMPLE[1],
         "samples/broken.capture": BROKEN_SAMPLE[0] + BROKEN_SAMPLE[1],
     }

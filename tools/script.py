@@ -1,4 +1,4 @@
-"""Reads the script of the program `exchange`; its grammar stands at the top of crates/exchange/src/script.rt and main.rt.
+"""Reads the script of the program `test_exchange`; its grammar stands at the top of crates/test_exchange/src/script.rt and main.rt.
 
 A player has command(word, numbers), the number of its last call, and shown(word), the text of what a row shows.
 """

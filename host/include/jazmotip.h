@@ -70,7 +70,8 @@ enum {
     JAZMOTIP_BROKEN_CHAIN = 18,       /* a capture's pair off the chain of offsets, past the block's end, or the last short of it */
     JAZMOTIP_UNSUITED_LENGTH = 19,    /* a capture's pair whose length is under 16 or not 16 + 9 x EQs */
     JAZMOTIP_REPEATED_RECORD = 22,    /* two records of one capture block agree in channel index, LLID and clock */
-    JAZMOTIP_OTHER_KEY_INDEX = 25     /* a report names a key index other than the awaited one */
+    JAZMOTIP_OTHER_KEY_INDEX = 25,    /* a report names a key index other than the awaited one */
+    JAZMOTIP_BAD_SCRIPT = 26          /* more than 64 steps, or a step that is unknown or not whole */
 };
 
 /* ----------------------------------------------------------------------------------------------------------------- Limits */
@@ -498,6 +499,29 @@ typedef struct jazmotip_comparison {
 jazmotip_comparison jazmotip_capture_compare(uint16_t llid, const uint8_t *first, size_t first_length, const uint8_t *second,
                                              size_t second_length, uint8_t *output, size_t output_length);
 
+/* --------------------------------------------------------------------------------------------------------------- Exercises
+ * A script: the key timer's interval (8 octets), then at most 64 steps of a kind (1 octet) and ticks (8 octets; 0 but for an advance),
+ * all big-endian. It is played on fresh ends with one unit, delays 0, a key of its own for each offer, and envelopes of no EQs. */
+
+enum {
+    JAZMOTIP_STEP_CLOCK_MESSAGE = 0, /* captured and sent */
+    JAZMOTIP_STEP_OFFER = 1,
+    JAZMOTIP_STEP_RETRY = 2,
+    JAZMOTIP_STEP_CLOCK_ACKNOWLEDGEMENT = 3, /* of the latest clock message, if the unit took it */
+    JAZMOTIP_STEP_KEY_ACKNOWLEDGEMENT = 4,   /* of the latest offer or retry, if the unit took it */
+    JAZMOTIP_STEP_ENVELOPE_DOWN = 5,
+    JAZMOTIP_STEP_ENVELOPE_UP = 6,
+    JAZMOTIP_STEP_ADVANCE = 7 /* can't be lost */
+};
+
+typedef struct jazmotip_loss {
+    uint8_t number;
+    size_t step; /* from 1; 0 where no single loss matters, and if refused */
+} jazmotip_loss;
+
+/* The first step whose loss alone changes the final A, C or a. Order: 1 for the interval, 26. */
+jazmotip_loss jazmotip_first_loss(const uint8_t *script, size_t script_length);
+
 /* ------------------------------------------------------------------------------------------------ Key exchange on XG-PON
  * The OLT's key exchange with one ONU (ITU-T G.987.3, 15.5.3.2). The host carries the PLOAM messages and keeps the three timers:
  * it hands in each report, each expiry and each decision to begin, sends the message of the answer, and starts and stops the
@@ -719,6 +743,8 @@ JAZMOTIP_LAYOUT(offsetof(jazmotip_comparison, block) == 1);
 JAZMOTIP_LAYOUT(offsetof(jazmotip_comparison, pair) == 2);
 JAZMOTIP_LAYOUT(offsetof(jazmotip_comparison, entries) == 4);
 JAZMOTIP_LAYOUT(offsetof(jazmotip_comparison, total) == 6);
+JAZMOTIP_LAYOUT(sizeof(jazmotip_loss) == 16);
+JAZMOTIP_LAYOUT(offsetof(jazmotip_loss, step) == 8);
 JAZMOTIP_LAYOUT(sizeof(jazmotip_xgpon_key_exchange) == 3);
 JAZMOTIP_LAYOUT(offsetof(jazmotip_xgpon_key_exchange, oldkey) == 1);
 JAZMOTIP_LAYOUT(offsetof(jazmotip_xgpon_key_exchange, newkey) == 2);

@@ -16,9 +16,9 @@ use Rattle.envelope.specs.Channels.{upstream, onZero}
 use Rattle.ends.specs.Occupancy.{freeFrom, occupied, taken}
 use Rattle.ends.specs.Records.{freshUnit, withKeys}
 use Rattle.ends.specs.Timers.{timerAdvanced, freshTimer}
-use Rattle.ends.specs.Headers.{choiceAged}
-use Rattle.ends.specs.UnitTraffic.{switches, unitSendChoice, unitSendVerdict}
-use Rattle.ends.specs.OnuTraffic.{onuSendChoice, onuSendVerdict}
+use Rattle.protocol.specs.Headers.{choiceAged}
+use Rattle.protocol.specs.UnitTraffic.{switches, unitSendChoice, unitSendVerdict}
+use Rattle.protocol.specs.OnuTraffic.{onuSendChoice, onuSendVerdict}
 use Rattle.bench_values.specs.Rows.{Rows}
 
 xored : (j k x : ℕ) → 0 < j → j < 7 → masked 0x81 j k x ≡ bitXor x k

@@ -15,8 +15,8 @@ use Rattle.ends.specs.Limits.{maxLlids}
 use Rattle.ends.specs.Occupancy.{occupied, freeChannels}
 use Rattle.ends.specs.Records.{freshUnit, withKeys}
 use Rattle.ends.specs.Timers.{timerAdvanced, freshTimer}
-use Rattle.ends.specs.UnitTraffic.{unitSendVerdict}
-use Rattle.ends.specs.OnuTraffic.{onuSendVerdict}
+use Rattle.protocol.specs.UnitTraffic.{unitSendVerdict}
+use Rattle.protocol.specs.OnuTraffic.{onuSendVerdict}
 use Rattle.ends.specs.declared.Channels.{Channels}
 use Rattle.ends.specs.declared.Onu.{Onu}
 use Rattle.ends.specs.declared.Timer.{Timer}

@@ -1,5 +1,5 @@
 -- Laws of the broken pair: the verdict on a directory names the first pair that breaks a rule, and no other. Assumes nothing.
-use mathlib.Core.Path.{_≡_, refl, sym, ap, _∙_}
+use mathlib.Core.Path.{_≡_, refl, ap, _∙_}
 use mathlib.Core.Bool.{Bool, true, false}
 use mathlib.Core.List.{List}
 use mathlib.Core.Logic.{_⊎_, inl, inr}
@@ -9,7 +9,7 @@ use native.Mathlib.Omega.{arith}
 use lib.Dec.{leb}
 use borrow.Author.Tests.{leb-true, leb-false}
 use Rattle.octets.specs.Choice.{pick}
-use Rattle.octets.proofs.Choice.{true-false, pick-true, pick-false, pick-first}
+use Rattle.octets.proofs.Choice.{pick-true, pick-false, pick-first}
 use Rattle.refusal.specs.declared.Refusal.the-variants.{BadDirectory, BrokenChain, UnsuitedLength}
 use Rattle.records.specs.Record.{sized}
 use Rattle.capture.specs.declared.directory.Pair.{Pair}
@@ -18,7 +18,7 @@ use Rattle.capture.specs.declared.directory.Directory.{Directory}
 use Rattle.capture.specs.declared.directory.Directory.the-variants.{Good, Bad}
 use Rattle.records.specs.Block.{recordsIn, recordOf}
 use Rattle.capture.specs.Directory.{chained, pairOf, sizeFits, withPair, pairsFrom, directoryOf}
-use Rattle.capture.specs.Broken.{Keeps, OffChainAt, OffLengthAt, Judged}
+use Rattle.capture.specs.Broken.{Keeps, Judged}
 use Rattle.capture.proofs.Pairs.{is-fit}
 use Rattle.capture.proofs.Records.{good, all-fit}
 use Rattle.capture.proofs.Trimming.{trimmed-good, same-record}

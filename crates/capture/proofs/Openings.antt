@@ -1,5 +1,4 @@
--- Laws of opening: what the sealing call does for a record, and how the opened records make up the output.
--- Assumes nothing.
+-- Laws of opening: what the sealing call does for a record, and how the opened records make up the output. Assumes nothing.
 use mathlib.Core.Path.{_≡_, refl, sym, ap, _∙_}
 use mathlib.Core.Bool.{Bool, true, false, not}
 use mathlib.Core.List.{List, _++_, append-assoc, append-nil}
@@ -50,7 +49,7 @@ use Rattle.records.specs.Settings.{settingsOctets, presenceOf, keyPresent, keyO
 use Rattle.records.specs.Record.{recordHeader, recordOctets, payloadOf}
 use Rattle.records.specs.Block.{recordsIn, offsetOf, lengthOf, endOf, dueOf, recordOf, headerFrom, recordFrom}
 use Rattle.capture.specs.Directory.{verdictOn, directoryOf}
-use Rattle.capture.specs.Opening.{recordNonce, writtenAs, countAs, openedRecord, recordCount, openedFrom, openedBlock, blockCount, openVerdict, openingAfter, opening}
+use Rattle.capture.specs.Opening.{writtenAs, countAs, openedRecord, recordCount, openedFrom, openedBlock, blockCount, openVerdict, openingAfter, opening}
 use Rattle.records.specs.Verdict.{clearedFlags, headerFits, verdictFor, verdictOf}
 use Rattle.capture.specs.Verdict.{afterSettings, callDirectory}
 use Rattle.capture.specs.Duties.{Expanded, Opens, written}
@@ -95,7 +94,8 @@ opened-in-place b out ys at len f h same l =
     take-add at 16 (set out (at + 4) f) ∙ rw (stored, front, ← take-set-lt len (drop at b) 4 f (omega arith), take-take 16 len (set (drop at b) 4 f) h) in
     let end : at + 16 + length ys ≡ at + len = omega arith in
     let rest : drop (length ys) (drop (at + 16) (set out (at + 4) f)) ≡ drop (at + len) b =
-    drop-drop (length ys) (at + 16) (set out (at + 4) f) ∙ rw end (sym (drop-drop len at (set out (at + 4) f)) ∙ rw (stored, drop-set-lt len (drop at b) 4 f (omega arith)) (drop-drop len at b)) in
+    drop-drop (length ys) (at + 16) (set out (at + 4) f)
+    ∙ rw end (sym (drop-drop len at (set out (at + 4) f)) ∙ rw (stored, drop-set-lt len (drop at b) 4 f (omega arith)) (drop-drop len at b)) in
     rw (head, rest) (simp append-assoc)
 
 -- an output that is the block from `at` on holds the record there
@@ -136,7 +136,13 @@ module _ (s b out : List ℕ) (from : ℕ) (same : drop from out ≡ drop from b
       let rest : drop 16 (part b from len) ≡ part b (from + 16) (to - (from + 16)) = drop-part b from len 16 (omega arith) ∙ rw end in
       let ys = sealed w (record { channel = h .channel; mac = m; clock = t }) (part b (from + 16) (to - (from + 16))) in
       let size : length ys + 16 ≡ len =
-      omega (arith, end, ap (λ (q : Header). q .eqs) eh, sealed-length w (record { channel = h .channel; mac = m; clock = t }) (part b (from + 16) (to - (from + 16))), part-length b (from + 16) (to - (from + 16)) (omega arith)) in (
+      omega (
+        arith,
+        end,
+        ap (λ (q : Header). q .eqs) eh,
+        sealed-length w (record { channel = h .channel; mac = m; clock = t }) (part b (from + 16) (to - (from + 16))),
+        part-length b (from + 16) (to - (from + 16)) (omega arith),
+      ) in (
         ap countEnciphered (sym rest),
         opened-in-place b out ys from len f (omega arith) same size ∙ rw (rest, head, ef, em, ew, eh),
       )

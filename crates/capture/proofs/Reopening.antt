@@ -69,7 +69,8 @@ module _ (s b : List ℕ) (n : ℕ) (r : Records b n) where
   -- the octets of the directory stay
   pub same-directory : take (2 + 8 * n) (openedBlock s b) ≡ take (2 + 8 * n) b
   unfolding openedBlock
-  same-directory = rw (← r .count) (take-at (take (2 + 8 * n) b) (openedFrom s b 0 n) (2 + 8 * n) (length-take-le (2 + 8 * n) b (omega (arith, r .sizes .pairs, r .count))))
+  same-directory =
+      rw (← r .count) (take-at (take (2 + 8 * n) b) (openedFrom s b 0 n) (2 + 8 * n) (length-take-le (2 + 8 * n) b (omega (arith, r .sizes .pairs, r .count))))
 
   same-octet : (p : ℕ) → p < 2 + 8 * n → getD (openedBlock s b) p 0 ≡ getD b p 0
   same-octet p h =
@@ -128,7 +129,15 @@ module _ (r ys : List ℕ) (f : ℕ) (h : 16 ≤ length r) where
   flags-only : recordHeader (take 16 (set r 4 f) ++ ys) ≡ withFlags (recordHeader r) f
   unfolding recordHeader withFlags
   flags-only =
-      rw (kept-octet 0 (omega arith) (λ e. omega arith), kept-octet 1 (omega arith) (λ e. omega arith), kept-number 2 2 (omega arith) (λ j g e. omega arith), header-octet 4 (omega arith) ∙ getD-set-same r 4 f 0 (omega arith), kept-octet 5 (omega arith) (λ e. omega arith), kept-number 6 6 (omega arith) (λ j g e. omega arith), kept-number 4 12 (omega arith) (λ j g e. omega arith))
+      rw (
+        kept-octet 0 (omega arith) (λ e. omega arith),
+        kept-octet 1 (omega arith) (λ e. omega arith),
+        kept-number 2 2 (omega arith) (λ j g e. omega arith),
+        header-octet 4 (omega arith) ∙ getD-set-same r 4 f 0 (omega arith),
+        kept-octet 5 (omega arith) (λ e. omega arith),
+        kept-number 6 6 (omega arith) (λ j g e. omega arith),
+        kept-number 4 12 (omega arith) (λ j g e. omega arith),
+      )
 
 none-set : flagsFit 0 ≡ true
 unfolding flagsFit encEnabled bitOf lowCleared both either pick
@@ -218,7 +227,15 @@ module _ (s b : List ℕ) (n : ℕ) (r : Records b n) where
   fits-again : (i : ℕ) → i < n → pairOf (openedBlock s b) i ≡ Fits
   unfolding pairOf chained
   fits-again i h =
-      rw (same-offset s b n r i h, same-due i h, same-end i h, same-count s b n r, opened-octets s b n r, opened-record s b n r i h, same-sized s (recordOf b i) (header-there i h))
+      rw (
+        same-offset s b n r i h,
+        same-due i h,
+        same-end i h,
+        same-count s b n r,
+        opened-octets s b n r,
+        opened-record s b n r i h,
+        same-sized s (recordOf b i) (header-there i h),
+      )
       (r .fit i h)
 
   right-again : sizeFits (openedBlock s b) ≡ true
@@ -269,5 +286,6 @@ opened s b size v =
           → opening s (openedBlock s b) out ≡ withOutput (Done 0) (openedBlock s b)
       again out l t r =
           let g = good-again s b (recordsIn b) r in
-          sym (opening-done s (openedBlock s b) out (accepts-again s (openedBlock s b) (length out) (recordsIn b) t (l ∙ sym (opened-octets s b (recordsIn b) r)) g))
+          sym (opening-done s (openedBlock s b) out
+          (accepts-again s (openedBlock s b) (length out) (recordsIn b) t (l ∙ sym (opened-octets s b (recordsIn b) r)) g))
           ∙ rw (count-again s b (recordsIn b) r, block-again s b (recordsIn b) r)

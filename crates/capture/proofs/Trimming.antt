@@ -8,7 +8,7 @@ use native.Mathlib.Nat.{zero-add, add-zero}
 use native.Mathlib.Numerals.{add-one}
 use native.Mathlib.Omega.{arith}
 use lib.Dec.{eqb}
-use lib.ListN.{length, take, drop, getD, length-append}
+use lib.ListN.{length, drop, getD, length-append}
 use lib.Seq.{drop-drop, drop-at, take-at, getD-drop}
 use borrow.Author.Tests.{le-leb, eq-eqb, eqb-true}
 use Rattle.octets.specs.BigEndian.{numberAt, octetsOf}
@@ -16,7 +16,6 @@ use Rattle.octets.specs.Choice.{either}
 use Rattle.octets.proofs.BigEndian.{number-same}
 use Rattle.octets.proofs.Choice.{both-true, pick-true}
 use Rattle.octets.proofs.Lists.{part-length}
-use Rattle.records.specs.Record.{sized}
 use Rattle.records.specs.Place.{endFits}
 use Rattle.capture.specs.declared.directory.Pair.the-variants.{Fits}
 use Rattle.capture.specs.declared.directory.Directory.the-variants.{Good}

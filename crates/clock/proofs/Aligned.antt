@@ -1,6 +1,6 @@
 -- A message captured at most a second before it was sent aligns the unit's clocks, and they stay aligned. Assumes nothing.
 use mathlib.Core.Path.{_≡_, sym}
-use Prim.Native.Nat.{ℕ, _+_, _-_, _≤_}
+use Prim.Native.Nat.{ℕ, _+_, _≤_}
 use native.Mathlib.Omega.{arith}
 use Rattle.clock.specs.Ticks.{ticksPerSecond, advanced, localOf}
 use Rattle.clock.specs.Stamping.{capturedAt, raiseOf, movedBy, raisedTo}

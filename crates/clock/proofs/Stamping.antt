@@ -1,6 +1,6 @@
 -- Laws of stamps. Assumes nothing.
 use mathlib.Core.Path.{_≡_}
-use Prim.Native.Nat.{ℕ, _+_, _-_, _%_, _<_}
+use Prim.Native.Nat.{ℕ, _+_, _%_, _<_}
 use native.Mathlib.Omega.{arith}
 use Rattle.clock.specs.Ticks.{localTurn, localOf}
 use Rattle.clock.specs.Stamping.{raiseOf}

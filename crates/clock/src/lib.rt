@@ -16,6 +16,12 @@ pub const EPAM_TURN: u8 = 64;
 // Sends under a key stop this many ticks after its first: in fewer, no clock returns.
 pub const KEY_LIFE: u64 = CLOCK_TURN;
 
+// The highest tick that an end counts to.
+pub const MAX_TICK: u64 = 0x4000_0000_0000_0000;
+
+// The longest round trip, in ticks.
+pub const MAX_ROUND_TRIP: u64 = 1_000_000;
+
 // A clock message: the OLT's clock at the capture, and that clock plus the round trip. After the raise, a unit's Rx and Tx clocks.
 #[repr(C)]
 pub struct Stamps {

@@ -10,7 +10,7 @@ use borrow.Author.Tests.{leb-true, leb-false, eqb-true, eqb-false, le-leb, eq-eq
 use Rattle.octets.specs.Choice.{both, either, pick}
 use Rattle.octets.proofs.Choice.{both-left, both-right, both-true, pick-true, pick-false, either-left, either-right, either-cases, pick-holds}
 use Rattle.clock.specs.Ticks.{keyLife}
-use Rattle.ends.specs.Replies.{isUp}
+use Rattle.ends.specs.Flags.{isUp}
 use Rattle.ends.specs.Keys.{noKey, keyIn, withKey, onlyKey, notNoted, notedAt, firstSend, aged, validFirst}
 use Rattle.ends.specs.declared.Slots.{Slots}
 use Rattle.ends.specs.declared.FirstSend.{FirstSend}

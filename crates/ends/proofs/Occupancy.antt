@@ -4,7 +4,7 @@ use mathlib.Core.Bool.{Bool, true, false}
 use Prim.Native.Nat.{ℕ, _+_, _≤_}
 use native.Mathlib.Omega.{arith}
 use lib.Dec.{leb}
-use borrow.Author.Tests.{leb-true, ltb-false, le-leb, lt-ltb, le-ltb}
+use borrow.Author.Tests.{ltb-false, le-leb, lt-ltb, le-ltb}
 use Rattle.octets.specs.Choice.{both, pick}
 use Rattle.octets.specs.Eqs.{maxEqs}
 use Rattle.octets.proofs.Choice.{both-left, both-right, both-true}

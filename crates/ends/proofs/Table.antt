@@ -9,11 +9,10 @@ use native.Mathlib.Omega.{arith}
 use lib.ListN.{length, getD, take, length-take, length-set}
 use lib.Seq.{getD-take, getD-set-same, getD-set-other, set-getD, set-set, map-set-same, take-suc-set}
 use Rattle.octets.specs.Choice.{pick}
-use Rattle.octets.proofs.Choice.{pick-true, pick-false, either-false, not-both, either-left, either-right, either-none, not-of-true, not-of-false}
+use Rattle.octets.proofs.Choice.{pick-true, pick-false, not-both, either-left, either-right, either-none, not-of-true, not-of-false}
 use Rattle.octets.proofs.Maps.{map-take}
 use Rattle.refusal.specs.Number.{verdictNumber}
 use Rattle.refusal.specs.declared.Refusal.the-variants.{UnknownLlid}
-use Rattle.refusal.specs.declared.Verdict.{Verdict}
 use Rattle.refusal.specs.declared.Verdict.the-variants.{Accepted}
 use Rattle.refusal.specs.Order.{refuseIf}
 use Rattle.ends.specs.Identities.{among, distinct, llidsOf, has}

@@ -24,7 +24,7 @@ use Rattle.ends.specs.declared.Found.the-variants.{Nowhere}
 use mathlib.Core.Logic.{⊎-elim}
 use native.Mathlib.Omega.{arith}
 use Rattle.octets.specs.Lists.{all}
-use Rattle.ends.specs.Replies.{isUp}
+use Rattle.ends.specs.Flags.{isUp}
 use Rattle.ends.specs.declared.OnuKeys.{OnuKeys}
 use Rattle.ends.specs.declared.OnuClock.{OnuClock}
 

@@ -6,7 +6,7 @@ use lib.Dec.{leb, eqb}
 use lib.ListN.{replicate}
 use Rattle.octets.specs.Choice.{both, either, pick}
 use Rattle.clock.specs.Ticks.{keyLife}
-use Rattle.ends.specs.Replies.{isUp}
+use Rattle.ends.specs.Flags.{isUp}
 use Rattle.ends.specs.declared.Slots.{Slots}
 use Rattle.ends.specs.declared.FirstSend.{FirstSend}
 

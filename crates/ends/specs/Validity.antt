@@ -10,7 +10,7 @@ use Rattle.octets.specs.Choice.{both, either, pick}
 use Rattle.octets.specs.Lists.{all}
 use Rattle.clock.specs.Ticks.{maxTick, clockTurn, localTurn, maxRoundTrip}
 use Rattle.ends.specs.Limits.{maxUnits, maxKeyNumber}
-use Rattle.ends.specs.Replies.{isUp}
+use Rattle.ends.specs.Flags.{isUp}
 use Rattle.ends.specs.Timers.{validTimer}
 use Rattle.ends.specs.Keys.{validFirst}
 use Rattle.ends.specs.Occupancy.{validChannels}

@@ -1,46 +1,36 @@
 // Whether an OLT that is lent is valid (01, 'When the reader says no': Ahead of each list comes 1).
 ghost use mathlib.Core.Path.{_≡_};
-ghost use mathlib.Core.Bool.{true, false, not};
+ghost use mathlib.Core.Bool.{true, false};
 ghost use mathlib.Core.List.{_++_};
 ghost use Prim.Native.Nat.{_+_, _≤_, _<_};
 ghost use lib.ListN.{length, take};
-ghost use Rattle.refusal.specs.Number.{verdictNumber};
-ghost use Rattle.refusal.specs.declared.Refusal.the-variants.{UnknownLlid};
-ghost use Rattle.refusal.specs.declared.Verdict.the-variants.{Accepted};
-ghost use Rattle.ends.specs.Identities.{among, distinct, has, llidsOf, meets};
+ghost use Rattle.ends.specs.Identities.{among, distinct, has, llidsOf};
 ghost use Rattle.ends.specs.Limits.{maxLlids, maxTableLlids, maxUnits};
 ghost use Rattle.ends.specs.Marks.{Marked, Names, byMark, markPlace, nextMark};
-ghost use Rattle.refusal.specs.Order.{refuseIf};
 ghost use Rattle.ends.specs.Timers.{validInterval, validTimer};
-ghost use Rattle.ends.specs.Table.{findFrom, firstPlace, foundBelow, foundNumber, tableLlids};
+ghost use Rattle.ends.specs.Table.{firstPlace, foundBelow};
 ghost use Rattle.ends.specs.declared.Found.the-variants.{Nowhere};
 ghost use Rattle.ends.specs.Validity.{judged, judgedOf, judgedTable, validKeys, validNumbers, validOlt, validShared, validUnit, validUnitClock};
 use crate::Found;
 use crate::Identity;
 use crate::Judged;
-use crate::MAX_LLIDS;
-use crate::MAX_UNITS;
 use crate::Olt;
 use crate::Shared;
 use crate::Timer;
 use crate::UnitClock;
 use crate::UnitKeys;
 use crate::UnitRecord;
-use crate::keyslots::valid_channels;
-use crate::keyslots::valid_first;
-use crate::llids::at;
+use crate::limits::MAX_INTERVAL;
+use crate::limits::MAX_LLIDS;
+use crate::limits::MAX_UNITS;
 use crate::llids::has;
 use crate::llids::valid_identity;
 use crate::llids::valid_mac;
+use crate::sends::valid_channels;
+use crate::sends::valid_first;
 use clock::CLOCK_TURN;
-
-pub const MAX_TICK: u64 = 0x4000_0000_0000_0000;
-
-pub const MAX_INTERVAL: u64 = 0x8000_0000_0000;
-
-pub const MAX_ROUND_TRIP: u64 = 1_000_000;
-
-pub const MAX_KEY_NUMBER: u32 = 0xffff_ffff;
+use clock::MAX_ROUND_TRIP;
+use clock::MAX_TICK;
 
 pub fn valid_interval(interval: u64) -> bool
     ensures { λ r. ⌜ r ≡ validInterval interval ⌝ }
@@ -265,49 +255,4 @@ pub fn valid_olt(olt: Olt) -> bool
 {
     let answer = judge(olt, 0);
     answer.valid
-}
-
-// Which of the first `count` units has the LLID.
-pub fn find(units: [UnitRecord; MAX_UNITS as usize], count: u8, llid: u16) -> Found
-    ensures { λ r. ⌜ r ≡ findFrom 0 (take count units) llid ⌝ }
-    ensures number { λ r. ⌜ foundNumber r ≡ verdictNumber (refuseIf (not (among llid (tableLlids (take count units)))) UnknownLlid Accepted) ⌝ }
-{
-    let mut i: usize = 0;
-    while i < MAX_UNITS as usize {
-        if count as usize <= i {
-            return Found::Nowhere;
-        }
-        let unit = units[i];
-        if has(unit.identity, llid) {
-            return Found::At(i);
-        }
-        i += 1;
-    }
-    Found::Nowhere
-}
-
-fn stands_in(units: [UnitRecord; MAX_UNITS as usize], count: u8, llid: u16) -> bool
-    ensures { λ r. ⌜ r ≡ among llid (tableLlids (take count units)) ⌝ }
-{
-    let found = find(units, count, llid);
-    match found {
-        Found::At(_) => true,
-        Found::Nowhere => false,
-    }
-}
-
-// Whether one of the LLIDs is that of a registered unit.
-pub fn meets_table(units: [UnitRecord; MAX_UNITS as usize], count: u8, identity: Identity) -> bool
-    ensures { λ r. ⌜ r ≡ meets (llidsOf identity) (tableLlids (take count units)) ⌝ }
-{
-    let llids = identity.llids;
-    let n = identity.count;
-    let mut j: u8 = 0;
-    while j < n {
-        if stands_in(units, count, at(llids, j)) {
-            return true;
-        }
-        j += 1;
-    }
-    false
 }

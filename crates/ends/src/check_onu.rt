@@ -4,15 +4,15 @@ ghost use Rattle.ends.specs.Validity.{validOnu, validOnuKeys, validOnuCl
 use crate::Onu;
 use crate::OnuClock;
 use crate::OnuKeys;
-use crate::check_olt::MAX_KEY_NUMBER;
-use crate::check_olt::MAX_TICK;
-use crate::keyslots::valid_channels;
-use crate::keyslots::valid_first;
+use crate::limits::MAX_KEY_NUMBER;
 use crate::llids::distinct_llids;
 use crate::llids::valid_identity;
 use crate::llids::valid_mac;
+use crate::sends::valid_channels;
+use crate::sends::valid_first;
 use clock::CLOCK_TURN;
 use clock::LOCAL_TURN;
+use clock::MAX_TICK;
 
 pub fn valid_onu_keys(keys: OnuKeys) -> bool
     ensures { λ r. ⌜ r ≡ validOnuKeys keys ⌝ }

@@ -1,14 +1,8 @@
-// Keys by number, the first send under one, and channels (01, Keys).
+// Keys by number (01, Keys).
 ghost use mathlib.Core.Path.{_≡_};
 ghost use Rattle.octets.specs.Lists.{same};
-ghost use Rattle.ends.specs.Keys.{keyIn, onlyKey, validFirst, withKey};
-ghost use Rattle.ends.specs.Occupancy.{validChannels};
-use crate::Channels;
-use crate::FirstSend;
+ghost use Rattle.ends.specs.Keys.{keyIn, onlyKey, withKey};
 use crate::Slots;
-
-// The latest tick from which a channel can be free.
-pub const MAX_FREE: u64 = 0x4000_0000_0040_0000;
 
 // The key kept under number n.
 pub fn key_in(slots: Slots, n: u32) -> [u8; 16]
@@ -49,16 +43,4 @@ pub fn same_key(a: [u8; 16], b: [u8; 16]) -> bool
         i += 1;
     }
     true
-}
-
-pub fn valid_first(first: FirstSend, tick: u64) -> bool
-    ensures { λ r. ⌜ r ≡ validFirst first tick ⌝ }
-{
-    (first.noted <= 1) & ((first.noted == 0) | (first.tick <= tick))
-}
-
-pub fn valid_channels(channels: Channels) -> bool
-    ensures { λ r. ⌜ r ≡ validChannels channels ⌝ }
-{
-    (channels.zero <= MAX_FREE) & (channels.one <= MAX_FREE)
 }

@@ -1,15 +1,17 @@
-// The records of both ends and what crosses between them (01, Clock and Keys). A flag is a u8, 0 or 1. A place that is not in use
+// The records of both ends (01, Clock and Keys). A flag is a u8, 0 or 1. A place that is not in use
 // holds zeros: a unit's place past the count, an LLID's place past the count, the tick of a first send that was not noted or of
 // a capture that was not made, Rx while unsynced, a key that is no longer in use.
 
 pub mod check_olt;
 pub mod check_onu;
 pub mod keyslots;
+pub mod limits;
 pub mod llids;
-pub mod ticks;
+pub mod search;
+pub mod sends;
 
-use clock::Stamps;
-use refusal::Refusal;
+use crate::limits::MAX_LLIDS;
+use crate::limits::MAX_UNITS;
 
 // The key timer of a unit.
 #[repr(C)]
@@ -39,12 +41,6 @@ pub struct Channels {
     pub zero: u64,
     pub one: u64,
 }
-
-// LLIDs of a unit.
-pub const MAX_LLIDS: u8 = 4;
-
-// Units of an OLT.
-pub const MAX_UNITS: u8 = 16;
 
 // A unit's MAC and its 1 to 4 LLIDs.
 #[repr(C)]
@@ -133,36 +129,6 @@ pub struct Onu {
     pub channels: Channels,
 }
 
-// A key message. A clock message is a `clock::Stamps`.
-#[repr(C)]
-pub struct KeyMessage {
-    pub llid: u16,
-    pub number: u32,
-    pub key: [u8; 16],
-}
-
-// The kinds of acknowledgements: of a clock message, and of a key message.
-pub const CLOCK_KIND: u8 = 1;
-
-pub const KEY_KIND: u8 = 2;
-
-// What a unit answers: its kind, with the key's number to a key message. Kind 0 is none.
-#[repr(C)]
-pub struct Acknowledgement {
-    pub kind: u8,
-    pub number: u32,
-}
-
-// An envelope's header, start or continuation; `channel` is the channel index.
-#[repr(C)]
-pub struct Header {
-    pub channel: u8,
-    pub llid: u16,
-    pub encenabled: u8,
-    pub enckey: u8,
-    pub epam: u8,
-}
-
 // Which place of the table has an LLID.
 pub enum Found {
     At(usize),
@@ -173,63 +139,4 @@ pub enum Found {
 pub struct Judged {
     pub valid: bool,
     pub found: Found,
-}
-
-// Under which key an envelope goes.
-pub enum KeyChoice {
-    // none
-    Clear,
-    // the key in use
-    Current(u32),
-    // the key that this envelope brings into use
-    Next(u32),
-    // it does not go
-    Barred(Refusal),
-}
-
-// What an envelope is sealed or opened with, beside its channel index.
-pub struct Passage {
-    pub choice: KeyChoice,
-    pub key: [u8; 16],
-    pub mac: u64,
-    pub clock: u64,
-}
-
-// What a send decides: the header, and what the payload is sealed with.
-pub struct Sending {
-    pub header: Header,
-    pub passage: Passage,
-}
-
-#[repr(C)]
-pub struct OltAnswer {
-    pub number: u8,
-    pub olt: Olt,
-}
-
-#[repr(C)]
-pub struct ClockSent {
-    pub number: u8,
-    pub olt: Olt,
-    pub message: Stamps,
-}
-
-#[repr(C)]
-pub struct KeySent {
-    pub number: u8,
-    pub olt: Olt,
-    pub message: KeyMessage,
-}
-
-#[repr(C)]
-pub struct OnuAnswer {
-    pub number: u8,
-    pub onu: Onu,
-}
-
-#[repr(C)]
-pub struct OnuAcknowledged {
-    pub number: u8,
-    pub onu: Onu,
-    pub acknowledgement: Acknowledgement,
 }

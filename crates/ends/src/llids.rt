@@ -7,9 +7,8 @@ ghost use Rattle.octets.specs.Choice.{pick};
 ghost use Rattle.octets.specs.Lists.{tabulate};
 ghost use Rattle.ends.specs.Identities.{among, distinct, has, kept, llidsOf, validIdentity, validMac};
 use crate::Identity;
-use crate::MAX_LLIDS;
-
-pub const MAC_TURN: u64 = octets::SIX_OCTETS;
+use crate::limits::MAC_TURN;
+use crate::limits::MAX_LLIDS;
 
 pub fn valid_mac(mac: u64) -> bool
     ensures { λ r. ⌜ r ≡ validMac mac ⌝ }

@@ -1,48 +1,40 @@
 -- Each step of a play is a few events that meet the premises and leave both ends as the step does. Assumes nothing.
-use mathlib.Core.Path.{_≡_, refl, sym, ap, _∙_, subst}
+use mathlib.Core.Path.{_≡_, refl, sym, ap, _∙_}
 use mathlib.Core.Bool.{Bool, true, false, not}
-use mathlib.Core.List.{List, [], _∷_, _++_, map}
-use mathlib.Core.Logic.{_⊎_, inl, inr, ⊎-elim}
+use mathlib.Core.List.{List, [], _∷_, _++_}
+use mathlib.Core.Logic.{_⊎_, ⊎-elim}
 use Prim.Native.Nat.{ℕ, zero, suc, _+_, _≤_, _<_}
-use native.Mathlib.Nat.{not-suc-le-zero}
 use native.Mathlib.Omega.{arith}
 use lib.Dec.{eqb}
-use lib.ListN.{length, getD, set, drop, length-append}
+use lib.ListN.{length, getD, length-append}
 use lib.Seq.{getD-at}
 use borrow.Author.Tests.{eqb-true, eqb-false}
-use Rattle.octets.specs.Choice.{both, either, pick}
-use Rattle.octets.specs.Output.{WithOutput}
-use Rattle.octets.proofs.Choice.{both-left, both-right, either-false, pick-true, pick-false, pick-holds, true-false}
-use Rattle.refusal.specs.declared.Refusal.{Refusal}
+use Rattle.octets.specs.Choice.{either, pick}
+use Rattle.octets.proofs.Choice.{both-right, either-false, pick-holds, true-false}
 use Rattle.refusal.specs.declared.Verdict.{Verdict}
 use Rattle.refusal.specs.declared.Verdict.the-variants.{Accepted, Refused}
-use Rattle.ends.specs.declared.Acknowledgement.{Acknowledgement}
-use Rattle.ends.specs.declared.ClockSent.{ClockSent}
-use Rattle.ends.specs.declared.KeySent.{KeySent}
-use Rattle.ends.specs.declared.KeyMessage.{KeyMessage}
+use Rattle.protocol.specs.declared.Acknowledgement.{Acknowledgement}
+use Rattle.protocol.specs.declared.KeyMessage.{KeyMessage}
 use Rattle.ends.specs.declared.Olt.{Olt}
 use Rattle.ends.specs.declared.Onu.{Onu}
-use Rattle.ends.specs.declared.OnuAcknowledged.{OnuAcknowledged}
 use Rattle.clock.specs.declared.Stamps.{Stamps}
-use Rattle.ends.specs.Messages.{noAcknowledgement}
-use Rattle.ends.specs.Replies.{Reply, reply}
-use Rattle.ends.specs.OltCalls.{advanceOltOf, captureOf, clockSendOf, offerOf, retryOf, acknowledgeOf}
-use Rattle.ends.specs.OnuCalls.{advanceOnuOf, onuAcknowledged, onuReply, clockMessageTo, clockMessageAt, keyMessageTo, keyMessageAt}
+use Rattle.protocol.specs.Messages.{noAcknowledgement}
+use Rattle.protocol.specs.Replies.{reply}
+use Rattle.protocol.specs.OltCalls.{advanceOltOf, captureOf, clockSendOf, offerOf, retryOf, acknowledgeOf}
+use Rattle.protocol.specs.OnuCalls.{onuAcknowledged, onuReply, clockMessageTo, clockMessageAt, keyMessageTo, keyMessageAt}
 use Rattle.sealing.proofs.Seal.{carried-length}
-use Rattle.traffic.specs.declared.OltSent.{OltSent}
-use Rattle.traffic.specs.declared.OnuSent.{OnuSent}
 use Rattle.traffic.specs.Passages.{passed, outputAfter}
 use Rattle.traffic.specs.Sends.{oltSent, onuSent, oltSendOf, onuSendOf}
 use Rattle.traffic.specs.Receipts.{oltReceiveOf, onuReceiveOf}
 use Rattle.line.specs.Setting.{Setting}
 use Rattle.line.specs.Events.{Event, advance, capture, clockSend, offer, retry, sendDown, sendUp, arriveDown, arriveUp, arriveAnswer}
-use Rattle.line.specs.History.{History, Lane, Envelope, Thing, clockMessage, keyMessage, envelope, laneCaptured, laneLeaving, laneOffered, laneTaken, laneAnswered, laneAcknowledged, laneSentDown, laneSentUp, laneArrivedDown, laneArrivedUp, laneWith, leaving, sending, arriving, numberDown}
-use Rattle.line.specs.Premises.{NewKey, DueDown, DueUp, DueAnswer, FittingBuffer, Fits, Meets}
-use Rattle.line.specs.Run.{State, step, run, accepted, noted, named, withLanes, atOlt, atOnu, atOltFor, laneAt, onuAt, thingAt, answerAt, envelopeAt, clockSending, offering, retrying, sendingDown, sendingUp, envelopeDown, envelopeUp, messageArriving, thingArriving, envelopeArriving, receiptDown, receiptUp, arrivingUp, answering, advancing, freshLane, noSite, noEnvelope}
+use Rattle.line.specs.History.{Lane, Envelope, Thing, clockMessage, keyMessage, envelope, laneCaptured, laneLeaving, laneOffered, laneTaken, laneAnswered, laneAcknowledged, laneSentDown, laneSentUp, laneArrivedDown, laneArrivedUp, laneWith, leaving, numberDown}
+use Rattle.line.specs.Premises.{NewKey, DueDown, DueAnswer, Meets}
+use Rattle.line.specs.Run.{State, step, run, accepted, noted, named, withLanes, atOlt, atOnu, atOltFor, laneAt, thingAt, envelopeAt, clockSending, offering, retrying, sendingDown, sendingUp, envelopeDown, envelopeUp, messageArriving, thingArriving, envelopeArriving, receiptDown, receiptUp, arrivingUp, answering, advancing, freshLane, noEnvelope}
 use Rattle.exercise.specs.declared.Play.{Play}
 use Rattle.exercise.specs.Play.{unitLlid, keyOfStep, channelDown, channelUp, withOlt, withOnu, withClockAnswer, withKeyAnswer, arrives, clockAnswered, clockSent, clockStepped, keyAnswered, keySent, answered, sentDown, sentUp, advanced}
 use Rattle.exercise.specs.Listed.{setting}
-use Rattle.exercise.proofs.Lanes.{site, OfStep, noAnswered, Given, Latest, Kept, kept-on, clock-given, key-given, clock-none, key-none, key-offered, noted-either, named-either, noted-on, named-on, unit-has}
+use Rattle.exercise.proofs.Lanes.{site, Given, Latest, Kept, kept-on, clock-given, key-given, clock-none, key-none, key-offered, noted-either, named-either, noted-on, named-on, unit-has}
 
 -- the state of a list in which the ends are those of a play, at the tick n, with the one line l
 abbrev pub at : Play → ℕ → ℕ → Lane → State
@@ -209,7 +201,8 @@ module _ (p : Play) (n r k : ℕ) (l : Lane) (x : Kept l n k (p .clock) (p .key)
   first-kept : Kept first n k (p .clock) (p .key)
   unfolding first
   first-kept =
-      named-either (λ (z : Lane). Kept z n k (p .clock) (p .key)) (captureOf (p .olt) unitLlid .number) unitLlid (laneCaptured n) l x (captured-kept l n k (p .clock) (p .key) x)
+      named-either (λ (z : Lane). Kept z n k (p .clock) (p .key)) (captureOf (p .olt) unitLlid .number) unitLlid (laneCaptured n) l x
+      (captured-kept l n k (p .clock) (p .key) x)
 
   clock-lost : Goes p n r l (withClockAnswer (withOlt p (clockSendOf (captureOf (p .olt) unitLlid .olt) unitLlid .olt)) noAcknowledgement) k
   unfolding step run withOlt withClockAnswer atOlt withLanes clockSending first
@@ -223,7 +216,8 @@ module _ (p : Play) (n r k : ℕ) (l : Lane) (x : Kept l n k (p .clock) (p .key)
         runs = refl;
         kept =
             clock-none _ n k (p .clock) (p .key) noAcknowledgement refl
-            (named-either (λ (z : Lane). Kept z n k (p .clock) (p .key)) (q .number) unitLlid _ first first-kept (left-kept _ _ n k (p .clock) (p .key) first-kept));
+            (named-either (λ (z : Lane). Kept z n k (p .clock) (p .key)) (q .number) unitLlid _ first first-kept
+            (left-kept _ _ n k (p .clock) (p .key) first-kept));
       }
 
   clock-leaves : clockSendOf (captureOf (p .olt) unitLlid .olt) unitLlid .number ≡ 0
@@ -236,7 +230,8 @@ module _ (p : Play) (n r k : ℕ) (l : Lane) (x : Kept l n k (p .clock) (p .key)
         now = n;
         lane = laneLeaving (clockMessage (q .message) (first .captured) n) first;
         meets = (tt, (tt, tt));
-        runs = rw (named-on (q .number) (λ (z : Lane). laneLeaving (clockMessage (q .message) (z .captured) n) z) first e (first-kept .place) (first-kept .registered)) refl;
+        runs = rw (named-on (q .number) (λ (z : Lane). laneLeaving (clockMessage (q .message) (z .captured) n) z) first e (first-kept .place)
+            (first-kept .registered)) refl;
         kept = left-kept first _ n k (p .clock) (p .key) first-kept;
       }
 
@@ -295,7 +290,8 @@ module _ (p : Play) (n r k : ℕ) (l : Lane) (x : Kept l n k (p .clock) (p .key)
         now = n;
         lane = laneLeaving (keyMessage (q .message) n) (laneOffered (keyOfStep (suc k)) l);
         meets = ((λ _. new-key p n r k l x), tt);
-        runs = rw (named-on (q .number) (λ (z : Lane). laneLeaving (keyMessage (q .message) n) (laneOffered (keyOfStep (suc k)) z)) l e (x .place) (x .registered)) refl;
+        runs = rw (named-on (q .number) (λ (z : Lane). laneLeaving (keyMessage (q .message) n) (laneOffered (keyOfStep (suc k)) z)) l e (x .place)
+            (x .registered)) refl;
         kept = left-kept _ _ n (suc k) (p .clock) (p .key) offer-kept;
       }
 
@@ -428,14 +424,17 @@ module _ (p : Play) (n r k : ℕ) (l : Lane) (x : Kept l n k (p .clock) (p .key)
   last-down = getD-at (l .transit .towards) (envelope (down l)) [] (envelope noEnvelope) (length (l .transit .towards)) refl
 
   down-arrives : Goes (withOlt p (oltSendOf (p .olt) unitLlid channelDown [] [] .answer .olt)) n r (laneSentDown n (down l) l)
-      (withOnu (withOlt p (oltSendOf (p .olt) unitLlid channelDown [] [] .answer .olt)) (onuReceiveOf (p .onu) (oltSendOf (p .olt) unitLlid channelDown [] [] .answer .header) [] [] .answer .onu)) k
+      (withOnu (withOlt p (oltSendOf (p .olt) unitLlid channelDown [] [] .answer .olt))
+      (onuReceiveOf (p .onu) (oltSendOf (p .olt) unitLlid channelDown [] [] .answer .header) [] [] .answer .onu)) k
   unfolding step run withOlt withOnu thingArriving envelopeArriving atOnu withLanes laneSentDown laneWith leaving laneTaken laneArrivedDown down envelopeDown
   down-arrives =
       let j = length (l .transit .towards) in
       record {
         events = arriveDown 0 j [] ∷ [];
         now = n;
-        lane = laneArrivedDown (receiptDown (at (withOlt p (oltSendOf (p .olt) unitLlid channelDown [] [] .answer .olt)) n r (laneSentDown n (down l) l)) 0 (down l) []) (laneTaken j (laneSentDown n (down l) l));
+        lane = laneArrivedDown
+            (receiptDown (at (withOlt p (oltSendOf (p .olt) unitLlid channelDown [] [] .answer .olt)) n r (laneSentDown n (down l) l)) 0 (down l) [])
+            (laneTaken j (laneSentDown n (down l) l));
         meets = (
           record {
             some = last-some (l .transit .towards) (envelope (down l));
@@ -488,14 +487,16 @@ module _ (p : Play) (n r k : ℕ) (l : Lane) (x : Kept l n k (p .clock) (p .key)
   last-up = getD-at (l .transit .from) (up l) [] noEnvelope (length (l .transit .from)) refl
 
   up-arrives : Goes (withOnu p (onuSendOf (p .onu) unitLlid channelUp [] [] .answer .onu)) n r (laneSentUp (up l) l)
-      (withOlt (withOnu p (onuSendOf (p .onu) unitLlid channelUp [] [] .answer .onu)) (oltReceiveOf (p .olt) (onuSendOf (p .onu) unitLlid channelUp [] [] .answer .header) [] [] .answer .olt)) k
+      (withOlt (withOnu p (onuSendOf (p .onu) unitLlid channelUp [] [] .answer .onu))
+      (oltReceiveOf (p .olt) (onuSendOf (p .onu) unitLlid channelUp [] [] .answer .header) [] [] .answer .olt)) k
   unfolding step run withOlt withOnu arrivingUp atOltFor withLanes laneSentUp laneWith laneArrivedUp up envelopeUp
   up-arrives =
       let j = length (l .transit .from) in
       record {
         events = arriveUp 0 j [] ∷ [];
         now = n;
-        lane = laneArrivedUp j (receiptUp (at (withOnu p (onuSendOf (p .onu) unitLlid channelUp [] [] .answer .onu)) n r (laneSentUp (up l) l)) (up l) []) (laneSentUp (up l) l);
+        lane = laneArrivedUp j (receiptUp (at (withOnu p (onuSendOf (p .onu) unitLlid channelUp [] [] .answer .onu)) n r (laneSentUp (up l) l)) (up l) [])
+            (laneSentUp (up l) l);
         meets = (
           record {
             some = last-some (l .transit .from) (up l);

@@ -4,20 +4,19 @@ use mathlib.Core.Path.{_≡_, refl, sym, ap, _∙_, subst}
 use mathlib.Core.Bool.{Bool, true, false}
 use mathlib.Core.List.{List, [], _∷_, _++_}
 use mathlib.Core.Logic.{_⊎_, inl, inr, ⊎-elim}
-use Prim.Native.Nat.{ℕ, zero, suc, _+_, _≤_, _<_}
+use Prim.Native.Nat.{ℕ, suc, _+_, _≤_, _<_}
 use native.Mathlib.Omega.{arith}
-use lib.Dec.{eqb, ltb}
+use lib.Dec.{ltb}
 use lib.ListN.{length, getD, length-append, List·getD-append}
 use lib.Seq.{getD-at}
 use borrow.Author.Tests.{ltb-true, ltb-false, eq-eqb}
 use Rattle.octets.specs.Choice.{either}
 use Rattle.octets.proofs.Choice.{pick-holds, pick-true, both-true}
-use Rattle.ends.specs.declared.Acknowledgement.{Acknowledgement}
+use Rattle.protocol.specs.declared.Acknowledgement.{Acknowledgement}
 use Rattle.ends.specs.Identities.{has, llidsOf, among}
 use Rattle.line.specs.History.{Answered, Lane, laneAnswered, laneOffered, laneWith}
 use Rattle.line.specs.Setting.{Site}
-use Rattle.line.specs.Run.{State, accepted, noted, named}
-use Rattle.exercise.specs.declared.Play.{Play}
+use Rattle.line.specs.Run.{accepted, noted, named}
 use Rattle.exercise.specs.Play.{unitLlid, unitIdentity, oltMac, keyOfStep}
 
 -- the unit of every play

@@ -1,13 +1,13 @@
 -- Every play is a list that meets the premises of demand 3: step by step. Assumes nothing.
 use mathlib.Core.Path.{_≡_, refl, sym, ap, _∙_, subst}
-use mathlib.Core.Bool.{Bool, true, false, not}
-use mathlib.Core.List.{List, [], _∷_, _++_}
+use mathlib.Core.Bool.{Bool, true}
+use mathlib.Core.List.{List, [], _∷_}
 use mathlib.Core.Logic.{inl}
 use Prim.Native.Nat.{ℕ, zero, suc, _+_, _<_}
 use native.Mathlib.Nat.{add-zero}
 use native.Mathlib.Omega.{arith}
 use lib.Dec.{eqb}
-use lib.ListN.{length, getD}
+use lib.ListN.{getD}
 use borrow.Author.Tests.{not-false}
 use Rattle.octets.specs.Choice.{both, either, pick}
 use Rattle.octets.specs.Lists.{all}
@@ -16,24 +16,23 @@ use Rattle.exercise.specs.declared.Play.{Play}
 use Rattle.exercise.specs.declared.Step.{Step}
 use Rattle.exercise.specs.Script.{intervalOf, stepsIn, stepAt, intervalFits, scriptVerdict}
 use Rattle.exercise.specs.Play.{oltMac, unitIdentity, started, stepped, playedFrom, played}
-use Rattle.exercise.specs.Listed.{setting, Listed, EveryPlayListed}
+use Rattle.exercise.specs.Listed.{setting, EveryPlayListed}
 use Rattle.refusal.specs.declared.Verdict.the-variants.{Accepted}
-use Rattle.ends.specs.Messages.{noAcknowledgement}
-use Rattle.ends.specs.OltCalls.{freshOltOf, registerOf, registering, oltAnswer, registerVerdict, validRegistration}
+use Rattle.protocol.specs.OltCalls.{freshOltOf, registerOf, registering, oltAnswer, registerVerdict, validRegistration}
 use Rattle.ends.specs.Identities.{among, meets, distinct, llidsOf, validMac, validIdentity}
 use Rattle.ends.specs.Occupancy.{validChannels}
 use Rattle.ends.specs.Table.{tableLlids}
 use Rattle.ends.specs.Validity.{validShared, validOlt}
 use Rattle.ends.specs.Records.{newOlt}
 use Rattle.refusal.specs.Order.{refuseIf}
-use Rattle.ends.specs.Replies.{reply}
+use Rattle.protocol.specs.Replies.{reply}
 use Rattle.ends.specs.Timers.{validInterval}
 use Rattle.line.specs.History.{Lane, laneRegistered}
 use Rattle.line.specs.Premises.{Agrees, Fresh}
 use Rattle.line.specs.Run.{State, onuAt, start, step, run, entering, accepted, freshLane, freshOnu, noted}
 use Rattle.line.specs.Setting.{Site}
 use Rattle.line.specs.Events.{register}
-use Rattle.ends.specs.OnuCalls.{freshOnuOf, freshOnuVerdict, onuAnswer}
+use Rattle.protocol.specs.OnuCalls.{freshOnuOf, freshOnuVerdict, onuAnswer}
 use Rattle.refusal.proofs.Order.{refuse-accepted}
 use Rattle.exercise.proofs.Lanes.{Kept, site, noted-on}
 use Rattle.exercise.proofs.Goes.{at, Goes, then, later, stays, clock-stepped, offer-stepped, retry-stepped, answer-stepped, down-stepped, up-stepped, advance-stepped}
@@ -69,7 +68,8 @@ one-more s lost i m p = refl
 
 -- the m steps from step i on
 steps : (s : List ℕ) (lost i m : ℕ) (p : Play) (n r : ℕ) (l : Lane) → Kept l n i (p .clock) (p .key) → Goes p n r l (playedFrom s lost i m p) (i + m)
-steps s lost i zero p n r l h = subst (λ (z : Play). Goes p n r l z (i + 0)) (sym (none-more s lost i p)) (subst (Goes p n r l p) (sym (add-zero i)) (stays p n r i l h))
+steps s lost i zero p n r l h =
+    subst (λ (z : Play). Goes p n r l z (i + 0)) (sym (none-more s lost i p)) (subst (Goes p n r l p) (sym (add-zero i)) (stays p n r i l h))
 steps s lost i (suc m) p n r l h =
     let e : suc i + m ≡ i + suc m = omega arith in
     subst (λ (z : Play). Goes p n r l z (i + suc m)) (sym (one-more s lost i m p))
@@ -78,7 +78,8 @@ steps s lost i (suc m) p n r l h =
 
 -- the unit is registered where its interval is in range
 is-registered : (interval : ℕ) → validInterval interval ≡ true → registerOf (freshOltOf oltMac 0 .olt) unitIdentity 0 interval .number ≡ 0
-unfolding registerOf registering oltAnswer registerVerdict validRegistration reply refuseIf freshOltOf newOlt validOlt both validMac validShared validChannels all distinct tableLlids validIdentity either llidsOf among meets
+unfolding registerOf registering oltAnswer registerVerdict validRegistration reply refuseIf freshOltOf newOlt validOlt both validMac validShared validChannels
+    all distinct tableLlids validIdentity either llidsOf among meets
 is-registered interval h = rw h refl
 
 first-lane : ℕ → Lane
@@ -126,7 +127,8 @@ pub listed : (s : List ℕ) → EveryPlayListed s
 unfolding run played
 listed s h lost =
     let v = intervalOf s in
-    let g = steps s lost 0 (stepsIn s) (started v) 0 (pick (accepted (registerOf (freshOltOf oltMac 0 .olt) unitIdentity 0 v .number)) 1 0) (first-lane v) (start-kept v (in-range s h)) in
+    let g = steps s lost 0 (stepsIn s) (started v) 0 (pick (accepted (registerOf (freshOltOf oltMac 0 .olt) unitIdentity 0 v .number)) 1 0) (first-lane v)
+    (start-kept v (in-range s h)) in
     record {
       events = g .events;
       fresh = fresh;

@@ -1,17 +1,16 @@
 -- Scripts by their steps: what a loop over them has done and what is left. Assumes nothing.
 use mathlib.Core.Path.{_≡_, ap}
-use mathlib.Core.Bool.{Bool, true, false}
+use mathlib.Core.Bool.{true, false}
 use mathlib.Core.List.{List}
 use Prim.Native.Nat.{ℕ, suc, _+_, _*_, _-_, _≤_, _<_}
 use native.Mathlib.Omega.{arith}
-use lib.Dec.{eqb, leb}
+use lib.Dec.{eqb}
 use lib.ListN.{length}
 use borrow.Author.Tests.{leb-true, not-false}
 use Rattle.octets.specs.Choice.{both, pick}
 use Rattle.octets.proofs.Choice.{both-left, both-right, pick-true, pick-false}
 use Rattle.refusal.specs.declared.Verdict.the-variants.{Accepted}
 use Rattle.refusal.proofs.Order.{refuse-accepted}
-use Rattle.exercise.specs.declared.Answer.{Answer}
 use Rattle.exercise.specs.declared.Answer.the-variants.{First, None}
 use Rattle.exercise.specs.declared.Play.{Play}
 use Rattle.exercise.specs.declared.Step.{Step}

@@ -8,7 +8,7 @@ use lib.Dec.{eqb}
 use lib.ListN.{length}
 use Rattle.octets.specs.Choice.{pick}
 use Rattle.refusal.specs.declared.Verdict.the-variants.{Accepted}
-use Rattle.ends.specs.declared.Acknowledgement.{Acknowledgement}
+use Rattle.protocol.specs.declared.Acknowledgement.{Acknowledgement}
 use Rattle.line.specs.Setting.{Setting}
 use Rattle.line.specs.Events.{Event, register, capture, clockSend, sendDown, sendUp, arriveDown, arriveUp, arriveAnswer}
 use Rattle.line.specs.Premises.{Fresh, Meets}

@@ -8,17 +8,17 @@ use lib.ListN.{replicate}
 use Rattle.octets.specs.Choice.{both, either, pick}
 use Rattle.octets.specs.Output.{WithOutput}
 use Rattle.clock.specs.declared.Stamps.{Stamps}
-use Rattle.ends.specs.declared.Acknowledgement.{Acknowledgement}
-use Rattle.ends.specs.declared.ClockSent.{ClockSent}
-use Rattle.ends.specs.declared.Header.{Header}
+use Rattle.protocol.specs.declared.Acknowledgement.{Acknowledgement}
+use Rattle.protocol.specs.declared.ClockSent.{ClockSent}
+use Rattle.protocol.specs.declared.Header.{Header}
 use Rattle.ends.specs.declared.Identity.{Identity}
-use Rattle.ends.specs.declared.KeySent.{KeySent}
+use Rattle.protocol.specs.declared.KeySent.{KeySent}
 use Rattle.ends.specs.declared.Olt.{Olt}
 use Rattle.ends.specs.declared.Onu.{Onu}
-use Rattle.ends.specs.declared.OnuAcknowledged.{OnuAcknowledged}
-use Rattle.ends.specs.Messages.{noAcknowledgement}
-use Rattle.ends.specs.OltCalls.{freshOltOf, registerOf, advanceOltOf, captureOf, clockSendOf, offerOf, retryOf, acknowledgeOf}
-use Rattle.ends.specs.OnuCalls.{freshOnuOf, advanceOnuOf, clockMessageAt, keyMessageAt}
+use Rattle.protocol.specs.declared.OnuAcknowledged.{OnuAcknowledged}
+use Rattle.protocol.specs.Messages.{noAcknowledgement}
+use Rattle.protocol.specs.OltCalls.{freshOltOf, registerOf, advanceOltOf, captureOf, clockSendOf, offerOf, retryOf, acknowledgeOf}
+use Rattle.protocol.specs.OnuCalls.{freshOnuOf, advanceOnuOf, clockMessageAt, keyMessageAt}
 use Rattle.ends.specs.Table.{unitAt}
 use Rattle.traffic.specs.declared.OltSent.{OltSent}
 use Rattle.traffic.specs.declared.OnuSent.{OnuSent}

@@ -11,9 +11,9 @@ ghost use Rattle.exercise.specs.Script.{stepsIn, scriptVerdict};
 ghost use Rattle.exercise.specs.Play.{played, figuresOf};
 ghost use Rattle.exercise.specs.Losses.{sameFigures, firstFrom, firstLoss, answerNumber, answerStep, Meant};
 ghost use Rattle.exercise.specs.Listed.{EveryPlayListed};
-use ends::Acknowledgement;
 use ends::Olt;
 use ends::Onu;
+use protocol::Acknowledgement;
 use refusal::Refusal;
 use refusal::Verdict;
 

@@ -5,14 +5,14 @@ ghost use Rattle.ends.specs.Limits.{maxUnits};
 ghost use Rattle.exercise.specs.Script.{mostSteps};
 ghost use Rattle.exercise.specs.Play.{unitIdentity, unitLlid, channelDown, channelUp, started, keyOfStep, arrives, clockStepped, keySent, answered, sentDown, sentUp, advanced, stepped, figuresOf};
 ghost use mathlib.Core.List.{[]};
-ghost use Rattle.ends.specs.Messages.{noAcknowledgement};
+ghost use Rattle.protocol.specs.Messages.{noAcknowledgement};
 ghost use Rattle.traffic.specs.Sends.{oltSendOf, onuSendOf};
 use crate::Figures;
 use crate::Play;
 use crate::Step;
-use ends::Acknowledgement;
 use ends::Identity;
-use ends::KeySent;
+use protocol::Acknowledgement;
+use protocol::KeySent;
 
 const OLT_MAC: u64 = 0x0200_0000_0001;
 

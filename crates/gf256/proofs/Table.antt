@@ -1,5 +1,4 @@
--- Laws of the tables: how one computed test over all entries makes a list a table, and what a table holds at an octet.
--- Assumes nothing.
+-- Laws of the tables: how one computed test over all entries makes a list a table, and what a table holds at an octet. Assumes nothing.
 use mathlib.Core.Path.{_≡_, sym, _∙_}
 use mathlib.Core.Bool.{Bool}
 use mathlib.Core.List.{List}

@@ -9,16 +9,16 @@ use denote.Struct.Declared as declared
 use denote.Struct.Field.{rows, u8-field}
 use denote.Struct.Laws.{Laws, Lowered}
 use denote.Struct.Struct.{Plains}
-use Rattle.ends.specs.OltCalls.{advanceOltOf}
-use Rattle.ends.specs.OnuCalls.{advanceOnuOf}
-use Rattle.ends.specs.declared.OltAnswer.{OltAnswer}
-use Rattle.ends.specs.declared.OnuAnswer.{OnuAnswer}
+use Rattle.protocol.specs.OltCalls.{advanceOltOf}
+use Rattle.protocol.specs.OnuCalls.{advanceOnuOf}
+use Rattle.protocol.specs.declared.OltAnswer.{OltAnswer}
+use Rattle.protocol.specs.declared.OnuAnswer.{OnuAnswer}
 use Rattle.ends.proofs.Olt as olt-end
 use Rattle.ends.proofs.Olt.Laws as olt-laws
-use Rattle.ends.proofs.OltAnswer as olt-answer
+use Rattle.protocol.proofs.OltAnswer as olt-answer
 use Rattle.ends.proofs.Onu as onu-end
 use Rattle.ends.proofs.Onu.Laws as onu-laws
-use Rattle.ends.proofs.OnuAnswer as onu-answer
+use Rattle.protocol.proofs.OnuAnswer as onu-answer
 
 -- an end's struct, the struct of number and end that the advance by value answers with, and the definition that it equals
 pub record End : Type 2 where

@@ -2,3 +2,4 @@ pub mod Payloads
 pub mod Blocks
 pub mod KeyExchange
 pub mod Stored
+pub mod Exercises

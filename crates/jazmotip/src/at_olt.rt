@@ -1,16 +1,16 @@
 // The calls of the OLT. All take the end by value but advance, which changes the end that is lent (01, Clock).
 ghost use mathlib.Core.Path.{_≡_};
 ghost use Rattle.octets.specs.Output.{withOutput};
-ghost use Rattle.ends.specs.OltCalls.{acknowledgeOf, advanceOltOf, captureOf, clockSendOf, freshOltOf, offerOf, registerOf, retryOf};
+ghost use Rattle.protocol.specs.OltCalls.{acknowledgeOf, advanceOltOf, captureOf, clockSendOf, freshOltOf, offerOf, registerOf, retryOf};
 ghost use Rattle.traffic.specs.Receipts.{oltReceiveOf};
 ghost use Rattle.traffic.specs.Sends.{oltSendOf};
-use ends::Acknowledgement;
-use ends::ClockSent;
-use ends::Header;
 use ends::Identity;
-use ends::KeySent;
 use ends::Olt;
-use ends::OltAnswer;
+use protocol::Acknowledgement;
+use protocol::ClockSent;
+use protocol::Header;
+use protocol::KeySent;
+use protocol::OltAnswer;
 use traffic::OltReceived;
 use traffic::OltSent;
 

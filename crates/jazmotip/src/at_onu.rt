@@ -1,16 +1,16 @@
 // The calls of the ONU. All take the end by value but advance, which changes the end that is lent (01, Clock).
 ghost use mathlib.Core.Path.{_≡_};
 ghost use Rattle.octets.specs.Output.{withOutput};
-ghost use Rattle.ends.specs.OnuCalls.{advanceOnuOf, clockMessageAt, freshOnuOf, keyMessageAt};
+ghost use Rattle.protocol.specs.OnuCalls.{advanceOnuOf, clockMessageAt, freshOnuOf, keyMessageAt};
 ghost use Rattle.traffic.specs.Receipts.{onuReceiveOf};
 ghost use Rattle.traffic.specs.Sends.{onuSendOf};
 use clock::Stamps;
-use ends::Header;
 use ends::Identity;
-use ends::KeyMessage;
 use ends::Onu;
-use ends::OnuAcknowledged;
-use ends::OnuAnswer;
+use protocol::Header;
+use protocol::KeyMessage;
+use protocol::OnuAcknowledged;
+use protocol::OnuAnswer;
 use traffic::OnuReceived;
 use traffic::OnuSent;
 

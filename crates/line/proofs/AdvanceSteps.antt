@@ -14,15 +14,16 @@ use Rattle.octets.proofs.Maps.{length-first, getD-first, map-at}
 use Rattle.clock.specs.Ticks.{maxTick, localTurn, advanced, localAdvanced}
 use Rattle.clock.specs.Stamping.{movedBy}
 use Rattle.clock.proofs.Aligned.{aligned-moved}
-use Rattle.ends.specs.Replies.{isUp, Silence, silent, Reply, advanceVerdict}
+use Rattle.ends.specs.Flags.{isUp}
+use Rattle.protocol.specs.Replies.{Silence, silent, Reply, advanceVerdict}
 use Rattle.ends.specs.Identities.{noIdentity}
 use Rattle.ends.specs.Records.{withKeys, withTimer, newOnu}
 use Rattle.ends.specs.Timers.{timerAdvanced}
-use Rattle.ends.specs.UnitCalls.{unitAdvanced}
+use Rattle.protocol.specs.UnitCalls.{unitAdvanced}
 use Rattle.ends.specs.Table.{pastUnit, unitAt}
 use Rattle.ends.specs.Validity.{validOnu}
-use Rattle.ends.specs.OltCalls.{oltAnswer, sharedAdvanced, oltAdvanced, advanceOltOf}
-use Rattle.ends.specs.OnuCalls.{onuAnswer, onuClockAdvanced, onuAdvanced, advancingOnu, advanceOnuOf}
+use Rattle.protocol.specs.OltCalls.{oltAnswer, sharedAdvanced, oltAdvanced, advanceOltOf}
+use Rattle.protocol.specs.OnuCalls.{onuAnswer, onuClockAdvanced, onuAdvanced, advancingOnu, advanceOnuOf}
 use Rattle.ends.specs.declared.Olt.{Olt}
 use Rattle.ends.specs.declared.Onu.{Onu}
 use Rattle.ends.specs.declared.OnuClock.{OnuClock}
@@ -32,12 +33,12 @@ use Rattle.ends.specs.declared.Timer.{Timer}
 use Rattle.ends.specs.declared.UnitRecord.{UnitRecord}
 use Rattle.ends.specs.declared.UnitClock.{UnitClock}
 use Rattle.refusal.proofs.Numbers.{number-accepted}
-use Rattle.ends.proofs.Replies.{advance-accepted, advance-accepts}
+use Rattle.protocol.proofs.Replies.{advance-accepted, advance-accepts}
 use Rattle.ends.proofs.Validity.{olt-in-range}
-use Rattle.ends.proofs.OltCalls.{advance-olt-refused}
-use Rattle.ends.proofs.OnuCalls.{onu-accepted, onu-accepts, advance-onu-refused}
-use Rattle.ends.proofs.OltAdvance.{olt-advanced-valid, advancing-accepted, advancing-accepts}
-use Rattle.ends.proofs.OnuAdvance.{onu-advanced-valid}
+use Rattle.protocol.proofs.OltCalls.{advance-olt-refused}
+use Rattle.protocol.proofs.OnuCalls.{onu-accepted, onu-accepts, advance-onu-refused}
+use Rattle.protocol.proofs.OltAdvance.{olt-advanced-valid, advancing-accepted, advancing-accepts}
+use Rattle.protocol.proofs.OnuAdvance.{onu-advanced-valid}
 use Rattle.line.specs.Setting.{Site, Setting}
 use Rattle.line.specs.History.{Answered, Entry, Keys, Lane, due}
 use Rattle.line.specs.Events.{advance}

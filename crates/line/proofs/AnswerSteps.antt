@@ -10,17 +10,17 @@ use borrow.Author.Tests.{eqb-true, eq-eqb, ne-eqb}
 use Rattle.octets.proofs.Choice.{both-true, pick-true, pick-false, both-false-left}
 use Rattle.refusal.specs.declared.Refusal.the-variants.{NothingOutstanding}
 use Rattle.refusal.specs.declared.Verdict.the-variants.{Accepted}
-use Rattle.ends.specs.Lift.{Outcome, outcome}
-use Rattle.ends.specs.Messages.{clockKind, keyKind}
+use Rattle.protocol.specs.Lift.{Outcome, outcome}
+use Rattle.protocol.specs.Messages.{clockKind, keyKind}
 use Rattle.ends.specs.Records.{withConfirmation, withClock}
-use Rattle.ends.specs.Replies.{Silence}
-use Rattle.ends.specs.UnitCalls.{keyAcknowledgedUnit, clockAcknowledgedUnit, acknowledgeUnit}
-use Rattle.ends.specs.declared.Acknowledgement.{Acknowledgement}
+use Rattle.protocol.specs.Replies.{Silence}
+use Rattle.protocol.specs.UnitCalls.{keyAcknowledgedUnit, clockAcknowledgedUnit, acknowledgeUnit}
+use Rattle.protocol.specs.declared.Acknowledgement.{Acknowledgement}
 use Rattle.ends.specs.declared.Onu.{Onu}
 use Rattle.ends.specs.declared.Shared.{Shared}
 use Rattle.ends.specs.declared.UnitRecord.{UnitRecord}
 use Rattle.refusal.proofs.Order.{refused-accepts}
-use Rattle.ends.proofs.UnitCalls.{key-acknowledged-accepted, key-kind, clock-kind, no-kind}
+use Rattle.protocol.proofs.UnitCalls.{key-acknowledged-accepted, key-kind, clock-kind, no-kind}
 use Rattle.line.specs.Setting.{Setting}
 use Rattle.line.specs.History.{Answered, Lane, due, laneWith, laneAcknowledged}
 use Rattle.line.proofs.Invariant.{reachOf, Joined, AtTick}

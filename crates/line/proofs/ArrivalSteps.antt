@@ -6,17 +6,17 @@ use Prim.Native.Nat.{ℕ}
 use native.Mathlib.Omega.{arith}
 use lib.ListN.{length, set}
 use Rattle.ends.specs.Records.{withChannels}
-use Rattle.ends.specs.Replies.{Reply}
+use Rattle.protocol.specs.Replies.{Reply}
 use Rattle.ends.specs.Table.{unitAt, withUnit}
 use Rattle.ends.specs.Validity.{validOlt}
-use Rattle.ends.specs.Lift.{outcome}
-use Rattle.ends.specs.Headers.{noPassage}
-use Rattle.ends.specs.UnitTraffic.{receiveUnit}
-use Rattle.ends.specs.OltTraffic.{receivingOlt}
+use Rattle.protocol.specs.Lift.{outcome}
+use Rattle.protocol.specs.Headers.{noPassage}
+use Rattle.protocol.specs.UnitTraffic.{receiveUnit}
+use Rattle.protocol.specs.OltTraffic.{receivingOlt}
 use Rattle.ends.specs.declared.Olt.{Olt}
-use Rattle.ends.specs.declared.Passage.{Passage}
-use Rattle.ends.proofs.Lift.{Lifted}
-use Rattle.ends.proofs.OltTraffic.{receiveAhead, receiving-valid, receiving-accepts}
+use Rattle.protocol.specs.declared.Passage.{Passage}
+use Rattle.protocol.proofs.Lift.{Lifted}
+use Rattle.protocol.proofs.OltTraffic.{receiveAhead, receiving-valid, receiving-accepts}
 use Rattle.traffic.specs.Passages.{misfit}
 use Rattle.traffic.specs.Receipts.{oltReceived, oltReceiveOf}
 use Rattle.line.specs.Setting.{Setting}

@@ -16,22 +16,22 @@ use Rattle.clock.specs.Aligned.{Aligned}
 use Rattle.clock.specs.declared.Stamps.{Stamps}
 use Rattle.clock.proofs.Ticks.{rewound-at, advanced-below, advanced-mod}
 use Rattle.clock.proofs.Aligned.{raise-aligns}
-use Rattle.ends.specs.Replies.{isUp}
-use Rattle.ends.specs.Lift.{outcome}
-use Rattle.ends.specs.Messages.{noAcknowledgement, ofClock}
+use Rattle.ends.specs.Flags.{isUp}
+use Rattle.protocol.specs.Lift.{outcome}
+use Rattle.protocol.specs.Messages.{noAcknowledgement, ofClock}
 use Rattle.ends.specs.Records.{withClock, withOnuClock}
 use Rattle.ends.specs.Validity.{validOnu}
-use Rattle.ends.specs.UnitCalls.{clockCaptured, captureUnit, clockAfterSend, clockMessageOf, clockSendUnit}
-use Rattle.ends.specs.OnuCalls.{onuAcknowledged, clockMessageVerdict, clockFrom, onuSynced, clockMessageTo, clockMessageAt}
+use Rattle.protocol.specs.UnitCalls.{clockCaptured, captureUnit, clockAfterSend, clockMessageOf, clockSendUnit}
+use Rattle.protocol.specs.OnuCalls.{onuAcknowledged, clockMessageVerdict, clockFrom, onuSynced, clockMessageTo, clockMessageAt}
 use Rattle.ends.specs.declared.Onu.{Onu}
-use Rattle.ends.specs.declared.OnuAcknowledged.{OnuAcknowledged}
+use Rattle.protocol.specs.declared.OnuAcknowledged.{OnuAcknowledged}
 use Rattle.ends.specs.declared.OnuClock.{OnuClock}
 use Rattle.ends.specs.declared.Shared.{Shared}
 use Rattle.ends.specs.declared.UnitRecord.{UnitRecord}
 use Rattle.ends.specs.declared.UnitClock.{UnitClock}
 use Rattle.refusal.proofs.Order.{refuse-passed}
-use Rattle.ends.proofs.UnitCalls.{ClockSends, clock-send-accepted}
-use Rattle.ends.proofs.OnuCalls.{onu-accepts, onu-keeps, onu-synced-valid}
+use Rattle.protocol.proofs.UnitCalls.{ClockSends, clock-send-accepted}
+use Rattle.protocol.proofs.OnuCalls.{onu-accepts, onu-keeps, onu-synced-valid}
 use Rattle.line.specs.Setting.{Site, Setting}
 use Rattle.line.specs.History.{Thing, clockMessage, Lane, laneWith, laneCaptured, laneLeaving, laneTaken, laneAnswered}
 use Rattle.line.proofs.Invariant.{Clocks, ClockRight, Joined, Common, AtTick}

@@ -1,5 +1,4 @@
--- What an envelope carries under the key and counter block of its number, and what the end that opens it gives back.
--- Assumes nothing.
+-- What an envelope carries under the key and counter block of its number, and what the end that opens it gives back. Assumes nothing.
 use mathlib.Core.Path.{_≡_, refl, sym, _∙_, ap, ap₂}
 use mathlib.Core.Bool.{Bool, true, false}
 use mathlib.Core.List.{List, List·Memᴰ}
@@ -13,8 +12,8 @@ use Rattle.envelope.specs.Acceptance.{lengthsFit}
 use Rattle.sealing.specs.KeyExpansion.{keyExpansion}
 use Rattle.sealing.specs.Seal.{carried, countCarried}
 use Rattle.sealing.proofs.Seal.{carried-length, carried-twice, count-carried}
-use Rattle.ends.specs.declared.Passage.{Passage}
-use Rattle.ends.specs.declared.Sending.{Sending}
+use Rattle.protocol.specs.declared.Passage.{Passage}
+use Rattle.protocol.specs.declared.Sending.{Sending}
 use Rattle.traffic.specs.Passages.{misfit, passed, passedCount}
 use Rattle.line.specs.Setting.{Setting}
 use Rattle.line.specs.History.{Way, downward, upward, Envelope, Lane, keyOf, Arrival}

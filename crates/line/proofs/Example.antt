@@ -15,9 +15,9 @@ use Rattle.refusal.specs.Number.{numberOf}
 use Rattle.envelope.specs.declared.Nonce.{Nonce}
 use Rattle.sealing.specs.KeyExpansion.{keyExpansion}
 use Rattle.sealing.specs.Seal.{carried, countCarried}
-use Rattle.ends.specs.Headers.{envelopeHeader}
+use Rattle.protocol.specs.Headers.{envelopeHeader}
 use Rattle.ends.specs.Identities.{has}
-use Rattle.ends.specs.OnuCalls.{freshOnuOf}
+use Rattle.protocol.specs.OnuCalls.{freshOnuOf}
 use Rattle.ends.specs.declared.Identity.{Identity}
 use Rattle.traffic.specs.Passages.{misfit}
 use Rattle.traffic.specs.Receipts.{onuNotReceived}

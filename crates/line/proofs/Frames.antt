@@ -4,8 +4,8 @@ use mathlib.Core.List.{List, [], _∷_, _++_, List·Memᴰ·append-cases, List·
 use mathlib.Core.Logic.{⊎-elim}
 use Prim.Native.Nat.{ℕ, suc, _≤_}
 use native.Mathlib.Omega.{arith}
-use Rattle.ends.specs.Messages.{keyKind}
-use Rattle.ends.specs.declared.Acknowledgement.{Acknowledgement}
+use Rattle.protocol.specs.Messages.{keyKind}
+use Rattle.protocol.specs.declared.Acknowledgement.{Acknowledgement}
 use Rattle.ends.specs.declared.Onu.{Onu}
 use Rattle.ends.specs.declared.OnuClock.{OnuClock}
 use Rattle.ends.specs.declared.OnuKeys.{OnuKeys}

@@ -1,6 +1,5 @@
 -- The invariant: what holds of the ends and the history after every list of events. One record for each subject, over just the
--- fields that it speaks of, so that a call that leaves these leaves the record.
--- Assumes nothing.
+-- fields that it speaks of, so that a call that leaves these leaves the record. Assumes nothing.
 use mathlib.Core.Path.{_≡_}
 use mathlib.Core.Bool.{Bool, true, false}
 use mathlib.Core.List.{List, [], _∷_, List·Memᴰ}
@@ -13,7 +12,7 @@ use Rattle.clock.specs.declared.Stamps.{Stamps}
 use Rattle.envelope.specs.Acceptance.{lengthsFit}
 use Rattle.ends.specs.Identities.{has}
 use Rattle.ends.specs.Keys.{keyIn}
-use Rattle.ends.specs.Messages.{keyKind}
+use Rattle.protocol.specs.Messages.{keyKind}
 use Rattle.envelope.specs.Channels.{downstream, upstream}
 use Rattle.ends.specs.Occupancy.{freeFrom}
 use Rattle.ends.specs.Table.{unitAt}
@@ -21,7 +20,7 @@ use Rattle.ends.specs.Validity.{validOlt, validOnu}
 use Rattle.ends.specs.declared.Channels.{Channels}
 use Rattle.ends.specs.declared.FirstSend.{FirstSend}
 use Rattle.ends.specs.declared.Identity.{Identity}
-use Rattle.ends.specs.declared.KeyMessage.{KeyMessage}
+use Rattle.protocol.specs.declared.KeyMessage.{KeyMessage}
 use Rattle.ends.specs.declared.Olt.{Olt}
 use Rattle.ends.specs.declared.Onu.{Onu}
 use Rattle.ends.specs.declared.OnuClock.{OnuClock}

@@ -14,23 +14,23 @@ use Rattle.octets.proofs.Choice.{both-left, both-right, true-false, either-case
 use Rattle.refusal.specs.declared.Verdict.the-variants.{Accepted}
 use Rattle.ends.specs.Identities.{has}
 use Rattle.ends.specs.Keys.{keyIn, withKey}
-use Rattle.ends.specs.Lift.{outcome}
-use Rattle.ends.specs.Messages.{ofKey}
-use Rattle.ends.specs.OnuCalls.{newKey, heldKey, activeKey, keysTaken, keyMessageAt, onuAcknowledged}
+use Rattle.protocol.specs.Lift.{outcome}
+use Rattle.protocol.specs.Messages.{ofKey}
+use Rattle.protocol.specs.OnuCalls.{newKey, heldKey, activeKey, keysTaken, keyMessageAt, onuAcknowledged}
 use Rattle.ends.specs.Records.{withKeys, withConfirmation, withOnuKeys}
-use Rattle.ends.specs.Replies.{Reply}
-use Rattle.ends.specs.UnitCalls.{keysOffered, unitOffered, keyMessageOf, offerUnit, retryUnit}
-use Rattle.ends.specs.declared.Acknowledgement.{Acknowledgement}
-use Rattle.ends.specs.declared.KeyMessage.{KeyMessage}
+use Rattle.protocol.specs.Replies.{Reply}
+use Rattle.protocol.specs.UnitCalls.{keysOffered, unitOffered, keyMessageOf, offerUnit, retryUnit}
+use Rattle.protocol.specs.declared.Acknowledgement.{Acknowledgement}
+use Rattle.protocol.specs.declared.KeyMessage.{KeyMessage}
 use Rattle.ends.specs.declared.Onu.{Onu}
 use Rattle.ends.specs.declared.Shared.{Shared}
 use Rattle.ends.specs.declared.Slots.{Slots}
 use Rattle.ends.specs.declared.UnitRecord.{UnitRecord}
 use Rattle.ends.proofs.Keys.{key-stored, key-beside}
-use Rattle.ends.proofs.OnuCalls.{key-message-refused}
+use Rattle.protocol.proofs.OnuCalls.{key-message-refused}
 use Rattle.refusal.proofs.Numbers.{number-accepted}
-use Rattle.ends.proofs.UnitCalls.{offer-accepted, retry-accepted}
-use Rattle.ends.proofs.KeyMessages.{TakesKey, key-message-met, key-message-taken, withHeld, taken-new, taken-other}
+use Rattle.protocol.proofs.UnitCalls.{offer-accepted, retry-accepted}
+use Rattle.protocol.proofs.KeyMessages.{TakesKey, key-message-met, key-message-taken, withHeld, taken-new, taken-other}
 use Rattle.line.specs.Setting.{Setting}
 use Rattle.line.specs.History.{Thing, keyMessage, Keys, Lane, keyOf, due, laneWith, leaving, laneLeaving, laneOffered, laneTaken, laneAnswered}
 use Rattle.line.proofs.Invariant.{reachOf, Joined, Common, AtTick}

@@ -20,7 +20,7 @@ use Rattle.ends.specs.Occupancy.{freeFrom}
 use Rattle.ends.specs.Records.{withChannels}
 use Rattle.ends.specs.Table.{find, unitAt, withUnit}
 use Rattle.ends.specs.Validity.{validOlt}
-use Rattle.ends.specs.Lift.{Outcome, lift}
+use Rattle.protocol.specs.Lift.{Outcome, lift}
 use Rattle.ends.specs.declared.Channels.{Channels}
 use Rattle.ends.specs.declared.Found.the-variants.{At}
 use Rattle.ends.specs.declared.Olt.{Olt}
@@ -31,7 +31,7 @@ use Rattle.refusal.proofs.Order.{refused-accepts}
 use Rattle.refusal.proofs.Numbers.{number-accepted}
 use Rattle.ends.proofs.Table.{find-at, with-unit, with-other, with-beside}
 use Rattle.ends.proofs.Validity.{olt-in-range}
-use Rattle.ends.proofs.Lift.{Lifted, Ends, accepted, refused, lift-ends}
+use Rattle.protocol.proofs.Lift.{Lifted, Ends, accepted, refused, lift-ends}
 use Rattle.line.specs.Setting.{Setting}
 use Rattle.line.specs.History.{Entry, Lane}
 use Rattle.line.specs.Run.{State, laneAt, onuAt, noSite, freshLane, noted, named, withLanes, atOlt}

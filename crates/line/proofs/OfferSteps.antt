@@ -16,12 +16,12 @@ use Rattle.refusal.specs.declared.Verdict.the-variants.{Accepted}
 use Rattle.ends.specs.Identities.{has}
 use Rattle.ends.specs.Records.{withChannels}
 use Rattle.ends.specs.Table.{find, unitAt}
-use Rattle.ends.specs.Lift.{outcome, lift}
-use Rattle.ends.specs.Messages.{noKeyMessage}
-use Rattle.ends.specs.UnitCalls.{offerUnit}
-use Rattle.ends.specs.OltCalls.{keySent, offerOf}
+use Rattle.protocol.specs.Lift.{outcome, lift}
+use Rattle.protocol.specs.Messages.{noKeyMessage}
+use Rattle.protocol.specs.UnitCalls.{offerUnit}
+use Rattle.protocol.specs.OltCalls.{keySent, offerOf}
 use Rattle.ends.specs.declared.Found.the-variants.{At}
-use Rattle.ends.proofs.OltCalls.{offer-valid}
+use Rattle.protocol.proofs.OltCalls.{offer-valid}
 use Rattle.line.specs.Setting.{Setting}
 use Rattle.line.specs.History.{keyMessage, Lane, laneWith, laneLeaving, laneOffered}
 use Rattle.line.specs.Events.{offer}

@@ -1,5 +1,4 @@
--- The calls on the OLT keep the invariant: captures, clock messages, retries, acknowledgements, sends, and refused receipts.
--- Assumes nothing.
+-- The calls on the OLT keep the invariant: captures, clock messages, retries, acknowledgements, sends, and refused receipts. Assumes nothing.
 use mathlib.Core.Path.{_≡_, refl, sym, _∙_, ap, subst}
 use mathlib.Core.List.{List, List·Memᴰ}
 use Prim.Native.Nat.{ℕ}
@@ -10,24 +9,24 @@ use Rattle.octets.proofs.Members.{mem-at}
 use Rattle.refusal.specs.declared.Verdict.the-variants.{Accepted}
 use Rattle.envelope.specs.ControlMask.{eqsOf}
 use Rattle.ends.specs.Records.{withChannels}
-use Rattle.ends.specs.Replies.{silent}
+use Rattle.protocol.specs.Replies.{silent}
 use Rattle.ends.specs.Table.{unitAt}
-use Rattle.ends.specs.Lift.{outcome, lift}
-use Rattle.ends.specs.Headers.{noPassage, noSending}
-use Rattle.ends.specs.Messages.{noStamps, noKeyMessage}
-use Rattle.ends.specs.UnitCalls.{captureUnit, clockSendUnit, retryUnit, acknowledgeUnit}
-use Rattle.ends.specs.UnitTraffic.{sendUnit}
-use Rattle.ends.specs.OltCalls.{oltAnswer, clockSent, keySent, captureOf, clockSendOf, retryOf, acknowledgeOf}
-use Rattle.ends.specs.OltTraffic.{sendingOlt, receivingOlt}
-use Rattle.ends.specs.declared.Acknowledgement.{Acknowledgement}
-use Rattle.ends.specs.declared.Header.{Header}
+use Rattle.protocol.specs.Lift.{outcome, lift}
+use Rattle.protocol.specs.Headers.{noPassage, noSending}
+use Rattle.protocol.specs.Messages.{noStamps, noKeyMessage}
+use Rattle.protocol.specs.UnitCalls.{captureUnit, clockSendUnit, retryUnit, acknowledgeUnit}
+use Rattle.protocol.specs.UnitTraffic.{sendUnit}
+use Rattle.protocol.specs.OltCalls.{oltAnswer, clockSent, keySent, captureOf, clockSendOf, retryOf, acknowledgeOf}
+use Rattle.protocol.specs.OltTraffic.{sendingOlt, receivingOlt}
+use Rattle.protocol.specs.declared.Acknowledgement.{Acknowledgement}
+use Rattle.protocol.specs.declared.Header.{Header}
 use Rattle.refusal.proofs.Order.{refuse-accepted}
-use Rattle.ends.proofs.Replies.{number-refused}
+use Rattle.protocol.proofs.Replies.{number-refused}
 use Rattle.ends.proofs.Table.{find-at}
-use Rattle.ends.proofs.Lift.{unit-at-valid}
-use Rattle.ends.proofs.UnitCalls.{acknowledged-channels}
-use Rattle.ends.proofs.OltCalls.{capture-valid, clock-send-valid, retry-valid, acknowledge-valid, acknowledge-refused}
-use Rattle.ends.proofs.OltTraffic.{sendAhead, sending-valid, receiving-untouched}
+use Rattle.protocol.proofs.Lift.{unit-at-valid}
+use Rattle.protocol.proofs.UnitCalls.{acknowledged-channels}
+use Rattle.protocol.proofs.OltCalls.{capture-valid, clock-send-valid, retry-valid, acknowledge-valid, acknowledge-refused}
+use Rattle.protocol.proofs.OltTraffic.{sendAhead, sending-valid, receiving-untouched}
 use Rattle.traffic.specs.Passages.{misfit}
 use Rattle.traffic.specs.Receipts.{oltReceived, oltReceiveOf}
 use Rattle.traffic.specs.Sends.{oltSent, oltSendOf}

@@ -1,5 +1,4 @@
--- The calls on a unit keep the invariant: they touch that unit and its lane alone, and one that is refused leaves both.
--- Assumes nothing.
+-- The calls on a unit keep the invariant: they touch that unit and its lane alone, and one that is refused leaves both. Assumes nothing.
 use mathlib.Core.Path.{_≡_, refl, sym, _∙_, ap, subst}
 use mathlib.Core.Bool.{Bool, true, false}
 use mathlib.Core.List.{List}
@@ -12,21 +11,21 @@ use borrow.Author.Tests.{eqb-true, eqb-false}
 use Rattle.octets.proofs.Choice.{pick-holds}
 use Rattle.octets.specs.Output.{WithOutput}
 use Rattle.clock.specs.declared.Stamps.{Stamps}
-use Rattle.ends.specs.Headers.{noPassage, noSending}
+use Rattle.protocol.specs.Headers.{noPassage, noSending}
 use Rattle.ends.specs.Identities.{noIdentity}
-use Rattle.ends.specs.Messages.{noAcknowledgement, ofKey}
-use Rattle.ends.specs.OnuCalls.{onuAcknowledged, clockMessageAt, keyMessageVerdict, keysTaken, keyMessageTo, keyMessageAt}
+use Rattle.protocol.specs.Messages.{noAcknowledgement, ofKey}
+use Rattle.protocol.specs.OnuCalls.{onuAcknowledged, clockMessageAt, keyMessageVerdict, keysTaken, keyMessageTo, keyMessageAt}
 use Rattle.ends.specs.Records.{newOnu, withOnuKeys}
 use Rattle.ends.specs.Table.{unitAt}
-use Rattle.ends.specs.declared.Header.{Header}
-use Rattle.ends.specs.declared.KeyMessage.{KeyMessage}
+use Rattle.protocol.specs.declared.Header.{Header}
+use Rattle.protocol.specs.declared.KeyMessage.{KeyMessage}
 use Rattle.ends.specs.declared.Onu.{Onu}
-use Rattle.ends.specs.declared.OnuAcknowledged.{OnuAcknowledged}
-use Rattle.ends.proofs.OnuCalls.{onu-keeps, clock-message-refused, key-message-refused}
-use Rattle.ends.proofs.OnuTraffic.{sending-onu-untouched, receiving-onu-untouched}
-use Rattle.ends.proofs.Replies.{number-refused}
+use Rattle.protocol.specs.declared.OnuAcknowledged.{OnuAcknowledged}
+use Rattle.protocol.proofs.OnuCalls.{onu-keeps, clock-message-refused, key-message-refused}
+use Rattle.protocol.proofs.OnuTraffic.{sending-onu-untouched, receiving-onu-untouched}
+use Rattle.protocol.proofs.Replies.{number-refused}
 use Rattle.ends.proofs.Validity.{onu-in-range}
-use Rattle.ends.proofs.KeyMessages.{keys-taken-valid, keys-replaced-valid}
+use Rattle.protocol.proofs.KeyMessages.{keys-taken-valid, keys-replaced-valid}
 use Rattle.traffic.specs.Receipts.{onuReceived, onuNotReceived, onuReceiveOf}
 use Rattle.traffic.specs.Sends.{onuSent, onuSendOf}
 use Rattle.traffic.specs.declared.OnuReceived.{OnuReceived}

@@ -1,5 +1,4 @@
--- What a call computes with: every definition but those of the cipher's octets, module by module in the order of the imports.
--- Assumes nothing.
+-- What a call computes with: every definition but those of the cipher's octets, module by module in the order of the imports. Assumes nothing.
 use lib.Count.{ones}
 use Rattle.octets.specs.Choice.{both, either, pick}
 use Rattle.octets.specs.Lists.{same, all}
@@ -8,23 +7,23 @@ use Rattle.envelope.specs.ControlMask.{countEnciphered}
 use Rattle.envelope.specs.Acceptance.{lengthsFit}
 use Rattle.sealing.specs.Payload.{sealed}
 use Rattle.sealing.specs.Seal.{carried, countCarried}
-use Rattle.ends.specs.Headers.{validHeader, choiceNumber, choiceVerdict, choiceAged, envelopeHeader, keyFor, passageOf, sendingOf}
+use Rattle.protocol.specs.Headers.{validHeader, choiceNumber, choiceVerdict, choiceAged, envelopeHeader, keyFor, passageOf, sendingOf}
 use Rattle.ends.specs.Identities.{among, meets, distinct, llidsOf, has, kept, validMac, validIdentity}
 use Rattle.ends.specs.Keys.{keyIn, withKey, onlyKey, firstSend, aged, validFirst}
-use Rattle.ends.specs.Lift.{outcome, putBack, atUnit, after, lift}
+use Rattle.protocol.specs.Lift.{outcome, putBack, atUnit, after, lift}
 use Rattle.envelope.specs.Channels.{downstream, upstream, onZero}
 use Rattle.ends.specs.Occupancy.{freeFrom, taken, occupied, validChannels}
-use Rattle.ends.specs.OltCalls.{oltAnswer, clockSent, keySent, freshOltOf, validRegistration, registerVerdict, registering, registerOf, sharedAdvanced, oltAdvanced, advancingOlt, advanceOltOf, captureOf, clockSendOf, offerOf, retryOf, acknowledgeOf}
-use Rattle.ends.specs.OltTraffic.{sendingOlt, receivingOlt}
-use Rattle.ends.specs.OnuCalls.{onuAnswer, onuAcknowledged, onuReply, freshOnuVerdict, freshOnuOf, onuClockAdvanced, onuAdvanced, advancingOnu, advanceOnuOf, clockMessageVerdict, clockFrom, onuSynced, clockMessageTo, clockMessageAt, newKey, heldKey, activeKey, keyMessageVerdict, keysTaken, keyMessageTo, keyMessageAt}
-use Rattle.ends.specs.OnuTraffic.{onuSendChoice, onuSendVerdict, onuNoted, onuAfterSend, sendingOnu, onuReceiveChoice, onuReceiveVerdict, onuMoved, onuAfterReceipt, receivingOnu}
+use Rattle.protocol.specs.OltCalls.{oltAnswer, clockSent, keySent, freshOltOf, validRegistration, registerVerdict, registering, registerOf, sharedAdvanced, oltAdvanced, advancingOlt, advanceOltOf, captureOf, clockSendOf, offerOf, retryOf, acknowledgeOf}
+use Rattle.protocol.specs.OltTraffic.{sendingOlt, receivingOlt}
+use Rattle.protocol.specs.OnuCalls.{onuAnswer, onuAcknowledged, onuReply, freshOnuVerdict, freshOnuOf, onuClockAdvanced, onuAdvanced, advancingOnu, advanceOnuOf, clockMessageVerdict, clockFrom, onuSynced, clockMessageTo, clockMessageAt, newKey, heldKey, activeKey, keyMessageVerdict, keysTaken, keyMessageTo, keyMessageAt}
+use Rattle.protocol.specs.OnuTraffic.{onuSendChoice, onuSendVerdict, onuNoted, onuAfterSend, sendingOnu, onuReceiveChoice, onuReceiveVerdict, onuMoved, onuAfterReceipt, receivingOnu}
 use Rattle.ends.specs.Records.{withKeys, withConfirmation, withClock, withTimer, withSlots, withFirst, freshUnit, noUnit, withChannels, newOlt, withOnuClock, withOnuKeys, withOnuFirst, withOnuChannels, newOnu}
 use Rattle.refusal.specs.Order.{refuseIf}
-use Rattle.ends.specs.Replies.{reply, advanceVerdict}
+use Rattle.protocol.specs.Replies.{reply, advanceVerdict}
 use Rattle.ends.specs.Table.{tableLlids, findFrom, find, pastUnit, withUnit, withOneMore}
 use Rattle.ends.specs.Timers.{freshTimer, timerAdvanced, timerFallen, validInterval, validTimer}
-use Rattle.ends.specs.UnitCalls.{unitAdvanced, clockCaptured, captureUnit, clockSendVerdict, clockAfterSend, clockMessageOf, clockSendUnit, offerVerdict, keysOffered, unitOffered, keyMessageOf, offerUnit, retryVerdict, retryUnit, clockAcknowledgedUnit, keyAcknowledgedUnit, acknowledgeUnit}
-use Rattle.ends.specs.UnitTraffic.{switches, unitSendChoice, unitSendVerdict, keysSwitched, keysAfterSend, sendUnit, unitReceiveChoice, unitReceiveVerdict, unitConfirmed, unitAfterReceipt, receiveUnit}
+use Rattle.protocol.specs.UnitCalls.{unitAdvanced, clockCaptured, captureUnit, clockSendVerdict, clockAfterSend, clockMessageOf, clockSendUnit, offerVerdict, keysOffered, unitOffered, keyMessageOf, offerUnit, retryVerdict, retryUnit, clockAcknowledgedUnit, keyAcknowledgedUnit, acknowledgeUnit}
+use Rattle.protocol.specs.UnitTraffic.{switches, unitSendChoice, unitSendVerdict, keysSwitched, keysAfterSend, sendUnit, unitReceiveChoice, unitReceiveVerdict, unitConfirmed, unitAfterReceipt, receiveUnit}
 use Rattle.ends.specs.Validity.{validNumbers, validKeys, validUnitClock, validUnit, validShared, validOlt, validOnuKeys, validOnuClock, validOnu}
 use Rattle.traffic.specs.Passages.{misfit, choiceEnciphered, passed, passedCount, outputAfter}
 use Rattle.traffic.specs.Receipts.{oltReceived, oltReceiveOf, onuReceived, onuReceiveOf}

@@ -8,18 +8,18 @@ use Rattle.octets.proofs.Members.{mem-at}
 use Rattle.octets.specs.Output.{withOutput}
 use Rattle.refusal.specs.declared.Refusal.the-variants.{OutOfRange, BadLength}
 use Rattle.refusal.specs.declared.Verdict.the-variants.{Refused}
-use Rattle.ends.specs.Headers.{validHeader, envelopeHeader}
+use Rattle.protocol.specs.Headers.{validHeader, envelopeHeader}
 use Rattle.ends.specs.Identities.{has}
 use Rattle.envelope.specs.Channels.{downstream, upstream}
-use Rattle.ends.specs.OnuTraffic.{onuReceiveVerdict}
+use Rattle.protocol.specs.OnuTraffic.{onuReceiveVerdict}
 use Rattle.refusal.specs.Order.{refuseIf}
 use Rattle.ends.specs.Table.{unitAt}
-use Rattle.ends.specs.declared.Header.{Header}
+use Rattle.protocol.specs.declared.Header.{Header}
 use Rattle.ends.specs.declared.Onu.{Onu}
 use Rattle.ends.specs.declared.Shared.{Shared}
 use Rattle.ends.specs.declared.UnitRecord.{UnitRecord}
-use Rattle.ends.proofs.Headers.{header-valid}
-use Rattle.ends.proofs.OnuTraffic.{overheard-down, overheard-up}
+use Rattle.protocol.proofs.Headers.{header-valid}
+use Rattle.protocol.proofs.OnuTraffic.{overheard-down, overheard-up}
 use Rattle.refusal.proofs.Order.{refuse-passed}
 use Rattle.traffic.specs.Passages.{misfit}
 use Rattle.traffic.specs.Receipts.{onuNotReceived}

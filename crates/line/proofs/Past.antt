@@ -15,7 +15,7 @@ use Rattle.sealing.specs.Seal.{carried}
 use Rattle.ends.specs.Identities.{has}
 use Rattle.ends.specs.declared.Channels.{Channels}
 use Rattle.ends.specs.declared.Onu.{Onu}
-use Rattle.ends.specs.declared.Passage.{Passage}
+use Rattle.protocol.specs.declared.Passage.{Passage}
 use Rattle.ends.specs.declared.UnitRecord.{UnitRecord}
 use Rattle.line.specs.Setting.{Site, Setting}
 use Rattle.line.specs.History.{Way, downward, upward, Envelope, Arrival, Past, Lane, keyOf}

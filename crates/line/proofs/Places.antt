@@ -1,5 +1,4 @@
--- Who has which place: the lane of the unit in a place, found by any of its LLIDs, and what is replaced of one lane alone.
--- Assumes nothing.
+-- Who has which place: the lane of the unit in a place, found by any of its LLIDs, and what is replaced of one lane alone. Assumes nothing.
 use mathlib.Core.Path.{_≡_, refl, sym, _∙_, ap, subst}
 use mathlib.Core.Bool.{Bool, true, false}
 use mathlib.Core.List.{List, [], _∷_}

@@ -6,7 +6,7 @@ use Prim.Native.Nat.{ℕ, zero, suc, _<_, _≤_}
 use native.Mathlib.Nat.{le-of-suc-le-suc, not-suc-le-zero}
 use native.Mathlib.Omega.{arith}
 use lib.ListN.{length, getD, drop}
-use Rattle.ends.specs.declared.KeyMessage.{KeyMessage}
+use Rattle.protocol.specs.declared.KeyMessage.{KeyMessage}
 use Rattle.clock.specs.declared.Stamps.{Stamps}
 use Rattle.line.specs.Setting.{Site}
 use Rattle.line.specs.History.{Way, downward, upward, Envelope, Thing, clockMessage, keyMessage, envelope, Lane, keyOf}

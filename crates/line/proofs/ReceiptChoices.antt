@@ -7,23 +7,23 @@ use native.Mathlib.Omega.{arith}
 use lib.Dec.{eqb, leb}
 use borrow.Author.Tests.{le-leb, eqb-true, eqb-false}
 use Rattle.refusal.specs.declared.Verdict.the-variants.{Accepted}
-use Rattle.ends.specs.Headers.{choiceNumber, choiceVerdict, envelopeHeader}
+use Rattle.protocol.specs.Headers.{choiceNumber, choiceVerdict, envelopeHeader}
 use Rattle.ends.specs.Keys.{keyIn, onlyKey, notNoted}
-use Rattle.ends.specs.OnuTraffic.{onuReceiveChoice, onuMoved, onuAfterReceipt}
+use Rattle.protocol.specs.OnuTraffic.{onuReceiveChoice, onuMoved, onuAfterReceipt}
 use Rattle.ends.specs.Records.{withKeys, withConfirmation, withSlots, withOnuKeys, withOnuFirst}
-use Rattle.ends.specs.UnitTraffic.{unitReceiveChoice, unitConfirmed, unitAfterReceipt}
+use Rattle.protocol.specs.UnitTraffic.{unitReceiveChoice, unitConfirmed, unitAfterReceipt}
 use Rattle.ends.specs.declared.FirstSend.{FirstSend}
-use Rattle.ends.specs.declared.Header.{Header}
-use Rattle.ends.specs.declared.KeyChoice.{KeyChoice}
-use Rattle.ends.specs.declared.KeyChoice.the-variants.{Clear, Current, Next}
+use Rattle.protocol.specs.declared.Header.{Header}
+use Rattle.protocol.specs.declared.KeyChoice.{KeyChoice}
+use Rattle.protocol.specs.declared.KeyChoice.the-variants.{Clear, Current, Next}
 use Rattle.ends.specs.declared.Onu.{Onu}
 use Rattle.ends.specs.declared.OnuKeys.{OnuKeys}
 use Rattle.ends.specs.declared.Slots.{Slots}
 use Rattle.ends.specs.declared.UnitRecord.{UnitRecord}
-use Rattle.ends.proofs.Headers.{header-clear, header-sealed}
+use Rattle.protocol.proofs.Headers.{header-clear, header-sealed}
 use Rattle.ends.proofs.Keys.{only-kept}
-use Rattle.ends.proofs.OnuChoices.{onu-receive-clear, onu-receive-current, onu-receive-next}
-use Rattle.ends.proofs.UnitChoices.{receive-clear, receive-current, receive-next}
+use Rattle.protocol.proofs.OnuChoices.{onu-receive-clear, onu-receive-current, onu-receive-next}
+use Rattle.protocol.proofs.UnitChoices.{receive-clear, receive-current, receive-next}
 use Rattle.traffic.specs.Passages.{choiceEnciphered}
 use Rattle.line.proofs.Invariant.{reachOf}
 

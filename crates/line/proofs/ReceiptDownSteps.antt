@@ -11,21 +11,21 @@ use Rattle.refusal.specs.declared.Verdict.the-variants.{Accepted}
 use Rattle.clock.specs.Ticks.{epamOf}
 use Rattle.clock.specs.Aligned.{Aligned}
 use Rattle.clock.specs.declared.Stamps.{Stamps}
-use Rattle.ends.specs.Headers.{validHeader, envelopeHeader, keyFor, passageOf, noPassage}
+use Rattle.protocol.specs.Headers.{validHeader, envelopeHeader, keyFor, passageOf, noPassage}
 use Rattle.ends.specs.Identities.{has}
-use Rattle.ends.specs.OnuTraffic.{onuReceiveChoice, onuMoved, onuAfterReceipt, receivingOnu}
+use Rattle.protocol.specs.OnuTraffic.{onuReceiveChoice, onuMoved, onuAfterReceipt, receivingOnu}
 use Rattle.ends.specs.Records.{withOnuKeys, withOnuFirst}
 use Rattle.ends.specs.declared.FirstSend.{FirstSend}
-use Rattle.ends.specs.declared.Header.{Header}
-use Rattle.ends.specs.declared.KeyChoice.{KeyChoice}
-use Rattle.ends.specs.declared.KeyChoice.the-variants.{Clear, Current, Next, Barred}
+use Rattle.protocol.specs.declared.Header.{Header}
+use Rattle.protocol.specs.declared.KeyChoice.{KeyChoice}
+use Rattle.protocol.specs.declared.KeyChoice.the-variants.{Clear, Current, Next, Barred}
 use Rattle.ends.specs.declared.Onu.{Onu}
 use Rattle.ends.specs.declared.Shared.{Shared}
 use Rattle.ends.specs.declared.UnitRecord.{UnitRecord}
-use Rattle.ends.proofs.Headers.{header-clear, header-valid, key-for}
-use Rattle.ends.proofs.OnuCalls.{onu-accepts, onu-keeps}
-use Rattle.ends.proofs.OnuTraffic.{onu-moved-valid}
-use Rattle.ends.proofs.OnuChoices.{OnuReceives, onu-receive-accepts}
+use Rattle.protocol.proofs.Headers.{header-clear, header-valid, key-for}
+use Rattle.protocol.proofs.OnuCalls.{onu-accepts, onu-keeps}
+use Rattle.protocol.proofs.OnuTraffic.{onu-moved-valid}
+use Rattle.protocol.proofs.OnuChoices.{OnuReceives, onu-receive-accepts}
 use Rattle.traffic.specs.Passages.{misfit, outputAfter}
 use Rattle.traffic.specs.Receipts.{onuReceived, onuReceiveOf}
 use Rattle.line.specs.Setting.{Setting, clockDown}

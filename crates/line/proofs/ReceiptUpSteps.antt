@@ -7,21 +7,21 @@ use native.Mathlib.Omega.{arith}
 use lib.ListN.{length, getD, drop}
 use Rattle.refusal.specs.declared.Verdict.the-variants.{Accepted}
 use Rattle.clock.specs.Ticks.{clockTurn}
-use Rattle.ends.specs.Headers.{validHeader, envelopeHeader, keyFor, passageOf}
+use Rattle.protocol.specs.Headers.{validHeader, envelopeHeader, keyFor, passageOf}
 use Rattle.ends.specs.Identities.{has}
-use Rattle.ends.specs.Lift.{outcome}
+use Rattle.protocol.specs.Lift.{outcome}
 use Rattle.envelope.specs.Channels.{upstream}
-use Rattle.ends.specs.OltTraffic.{receivingOlt}
+use Rattle.protocol.specs.OltTraffic.{receivingOlt}
 use Rattle.ends.specs.Records.{withKeys, withConfirmation, withSlots}
-use Rattle.ends.specs.UnitTraffic.{unitReceiveChoice, receiveUnit}
-use Rattle.ends.specs.declared.Header.{Header}
-use Rattle.ends.specs.declared.KeyChoice.{KeyChoice}
+use Rattle.protocol.specs.UnitTraffic.{unitReceiveChoice, receiveUnit}
+use Rattle.protocol.specs.declared.Header.{Header}
+use Rattle.protocol.specs.declared.KeyChoice.{KeyChoice}
 use Rattle.ends.specs.declared.Onu.{Onu}
-use Rattle.ends.specs.declared.Passage.{Passage}
+use Rattle.protocol.specs.declared.Passage.{Passage}
 use Rattle.ends.specs.declared.Shared.{Shared}
 use Rattle.ends.specs.declared.UnitRecord.{UnitRecord}
-use Rattle.ends.proofs.Headers.{header-valid, key-for}
-use Rattle.ends.proofs.UnitChoices.{Receives}
+use Rattle.protocol.proofs.Headers.{header-valid, key-for}
+use Rattle.protocol.proofs.UnitChoices.{Receives}
 use Rattle.traffic.specs.Passages.{misfit, outputAfter}
 use Rattle.traffic.specs.Receipts.{oltReceived, oltReceiveOf}
 use Rattle.line.specs.Setting.{Setting, clockUp}

@@ -15,8 +15,8 @@ use Rattle.clock.specs.Ticks.{localTurn}
 use Rattle.ends.specs.Identities.{llidsOf, has, kept, validIdentity}
 use Rattle.ends.specs.Records.{freshUnit}
 use Rattle.ends.specs.Timers.{freshTimer, validInterval}
-use Rattle.ends.specs.OltCalls.{oltAnswer, registering, registerOf}
-use Rattle.ends.specs.Replies.{silent}
+use Rattle.protocol.specs.OltCalls.{oltAnswer, registering, registerOf}
+use Rattle.protocol.specs.Replies.{silent}
 use Rattle.ends.specs.Table.{registered, tableLlids, find, unitAt, withOneMore}
 use Rattle.ends.specs.declared.Identity.{Identity}
 use Rattle.ends.specs.declared.Onu.{Onu}
@@ -26,10 +26,10 @@ use Rattle.ends.specs.declared.UnitRecord.{UnitRecord}
 use Rattle.ends.proofs.Identities.{meets-apart, identity-valid, first-has, kept-has}
 use Rattle.refusal.proofs.Order.{refuse-accepted}
 use Rattle.refusal.proofs.Numbers.{number-accepted}
-use Rattle.ends.proofs.Replies.{reply-verdict, reply-accepted}
+use Rattle.protocol.proofs.Replies.{reply-verdict, reply-accepted}
 use Rattle.ends.proofs.Table.{among-found, more-unit, more-other, more-places}
-use Rattle.ends.proofs.OltCalls.{register-refused}
-use Rattle.ends.proofs.Registration.{Registers, register-accepted, registered-valid}
+use Rattle.protocol.proofs.OltCalls.{register-refused}
+use Rattle.protocol.proofs.Registration.{Registers, register-accepted, registered-valid}
 use Rattle.line.specs.Setting.{Setting}
 use Rattle.line.specs.History.{Entry, Keys, Lane, due, laneRegistered}
 use Rattle.line.specs.Events.{register}

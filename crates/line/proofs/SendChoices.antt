@@ -9,17 +9,17 @@ use lib.ListN.{length}
 use borrow.Author.Tests.{ltb-true, ltb-false, eqb-true, eqb-false, le-leb, le-ltb, eq-eqb, ne-eqb}
 use Rattle.octets.specs.Choice.{both, pick}
 use Rattle.octets.proofs.Choice.{both-left, both-right}
-use Rattle.ends.specs.Headers.{choiceNumber, choiceAged}
+use Rattle.protocol.specs.Headers.{choiceNumber, choiceAged}
 use Rattle.ends.specs.Keys.{firstSend, validFirst}
-use Rattle.ends.specs.OnuTraffic.{onuSendChoice, onuNoted}
+use Rattle.protocol.specs.OnuTraffic.{onuSendChoice, onuNoted}
 use Rattle.ends.specs.Records.{withFirst, withOnuFirst}
-use Rattle.ends.specs.Replies.{isUp}
+use Rattle.ends.specs.Flags.{isUp}
 use Rattle.ends.specs.Timers.{timerFallen}
-use Rattle.ends.specs.UnitTraffic.{switches, unitSendChoice, keysSwitched, keysAfterSend}
+use Rattle.protocol.specs.UnitTraffic.{switches, unitSendChoice, keysSwitched, keysAfterSend}
 use Rattle.ends.specs.Validity.{validUnit, validKeys}
 use Rattle.ends.specs.declared.FirstSend.{FirstSend}
-use Rattle.ends.specs.declared.KeyChoice.{KeyChoice}
-use Rattle.ends.specs.declared.KeyChoice.the-variants.{Clear, Current, Next}
+use Rattle.protocol.specs.declared.KeyChoice.{KeyChoice}
+use Rattle.protocol.specs.declared.KeyChoice.the-variants.{Clear, Current, Next}
 use Rattle.ends.specs.declared.Onu.{Onu}
 use Rattle.ends.specs.declared.Shared.{Shared}
 use Rattle.ends.specs.declared.Timer.{Timer}

@@ -10,23 +10,23 @@ use Rattle.octets.proofs.Members.{each-more}
 use Rattle.refusal.specs.declared.Verdict.the-variants.{Accepted}
 use Rattle.envelope.specs.ControlMask.{eqsOf}
 use Rattle.envelope.specs.Acceptance.{lengthsFit}
-use Rattle.ends.specs.Headers.{keyFor, passageOf, sendingOf}
+use Rattle.protocol.specs.Headers.{keyFor, passageOf, sendingOf}
 use Rattle.ends.specs.Identities.{has}
 use Rattle.envelope.specs.Channels.{downstream, upstream}
 use Rattle.ends.specs.Occupancy.{freeFrom, occupied}
-use Rattle.ends.specs.OltTraffic.{sendingOlt}
+use Rattle.protocol.specs.OltTraffic.{sendingOlt}
 use Rattle.ends.specs.Records.{withKeys, withChannels}
-use Rattle.ends.specs.UnitTraffic.{unitSendChoice, unitSendVerdict, keysAfterSend, sendUnit}
+use Rattle.protocol.specs.UnitTraffic.{unitSendChoice, unitSendVerdict, keysAfterSend, sendUnit}
 use Rattle.ends.specs.Validity.{validUnit}
 use Rattle.ends.specs.declared.Channels.{Channels}
-use Rattle.ends.specs.declared.KeyChoice.{KeyChoice}
+use Rattle.protocol.specs.declared.KeyChoice.{KeyChoice}
 use Rattle.ends.specs.declared.Olt.{Olt}
 use Rattle.ends.specs.declared.Onu.{Onu}
-use Rattle.ends.specs.declared.Sending.{Sending}
+use Rattle.protocol.specs.declared.Sending.{Sending}
 use Rattle.ends.specs.declared.Shared.{Shared}
 use Rattle.ends.specs.declared.UnitRecord.{UnitRecord}
 use Rattle.ends.specs.declared.UnitKeys.{UnitKeys}
-use Rattle.ends.proofs.Headers.{key-for}
+use Rattle.protocol.proofs.Headers.{key-for}
 use Rattle.ends.proofs.Occupancy.{free-own, taken-false, free-later}
 use Rattle.refusal.proofs.Order.{refuse-accepted}
 use Rattle.traffic.specs.Passages.{misfit, outputAfter}

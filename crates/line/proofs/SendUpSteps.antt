@@ -12,26 +12,26 @@ use Rattle.refusal.specs.declared.Verdict.the-variants.{Accepted}
 use Rattle.clock.specs.Ticks.{epamOf}
 use Rattle.envelope.specs.ControlMask.{eqsOf}
 use Rattle.envelope.specs.Acceptance.{lengthsFit}
-use Rattle.ends.specs.Headers.{envelopeHeader, keyFor, passageOf, sendingOf, noSending}
+use Rattle.protocol.specs.Headers.{envelopeHeader, keyFor, passageOf, sendingOf, noSending}
 use Rattle.ends.specs.Identities.{has}
 use Rattle.envelope.specs.Channels.{downstream, upstream}
 use Rattle.ends.specs.Occupancy.{freeFrom, occupied}
-use Rattle.ends.specs.OnuTraffic.{onuSendChoice, onuSendVerdict, onuAfterSend, sendingOnu}
+use Rattle.protocol.specs.OnuTraffic.{onuSendChoice, onuSendVerdict, onuAfterSend, sendingOnu}
 use Rattle.ends.specs.Records.{withOnuFirst, withOnuChannels}
 use Rattle.ends.specs.Validity.{validOnu}
 use Rattle.ends.specs.declared.Channels.{Channels}
 use Rattle.ends.specs.declared.FirstSend.{FirstSend}
 use Rattle.ends.specs.declared.Onu.{Onu}
 use Rattle.ends.specs.declared.OnuClock.{OnuClock}
-use Rattle.ends.specs.declared.Sending.{Sending}
+use Rattle.protocol.specs.declared.Sending.{Sending}
 use Rattle.ends.specs.declared.Shared.{Shared}
 use Rattle.ends.specs.declared.UnitRecord.{UnitRecord}
 use Rattle.ends.specs.declared.UnitClock.{UnitClock}
-use Rattle.ends.proofs.Headers.{key-for, header-epam}
+use Rattle.protocol.proofs.Headers.{key-for, header-epam}
 use Rattle.ends.proofs.Occupancy.{free-own, taken-false, free-later}
-use Rattle.ends.proofs.OnuCalls.{onu-accepted, onu-accepts, onu-keeps}
-use Rattle.ends.proofs.OnuChoices.{onu-send-accepted}
-use Rattle.ends.proofs.OnuTraffic.{onu-sent-valid}
+use Rattle.protocol.proofs.OnuCalls.{onu-accepted, onu-accepts, onu-keeps}
+use Rattle.protocol.proofs.OnuChoices.{onu-send-accepted}
+use Rattle.protocol.proofs.OnuTraffic.{onu-sent-valid}
 use Rattle.refusal.proofs.Order.{refuse-accepted}
 use Rattle.refusal.proofs.Numbers.{number-accepted}
 use Rattle.ends.proofs.Validity.{onu-in-range}

@@ -15,7 +15,7 @@ use Rattle.octets.proofs.Members.{mem-at}
 use Rattle.clock.specs.Ticks.{keyLife}
 use Rattle.ends.specs.Keys.{notedAt, firstSend, aged, validFirst}
 use Rattle.ends.specs.Occupancy.{freeFrom}
-use Rattle.ends.specs.Replies.{isUp}
+use Rattle.ends.specs.Flags.{isUp}
 use Rattle.ends.specs.declared.Channels.{Channels}
 use Rattle.ends.specs.declared.FirstSend.{FirstSend}
 use Rattle.ends.proofs.Keys.{aged-false, first-stays, first-noted}

@@ -10,20 +10,20 @@ use borrow.Author.Tests.{ltb-true, not-false}
 use Rattle.octets.proofs.Choice.{both-left, both-right, true-false}
 use Rattle.refusal.specs.declared.Verdict.the-variants.{Accepted}
 use Rattle.clock.specs.Ticks.{clockTurn, localTurn}
-use Rattle.ends.specs.Replies.{Silence, silent, Reply}
+use Rattle.protocol.specs.Replies.{Silence, silent, Reply}
 use Rattle.ends.specs.Identities.{kept, noIdentity, validIdentity}
 use Rattle.ends.specs.Records.{newOlt, newOnu}
-use Rattle.ends.specs.OltCalls.{oltAnswer, freshOltOf}
-use Rattle.ends.specs.OnuCalls.{onuAnswer, freshOnuVerdict, freshOnuOf}
+use Rattle.protocol.specs.OltCalls.{oltAnswer, freshOltOf}
+use Rattle.protocol.specs.OnuCalls.{onuAnswer, freshOnuVerdict, freshOnuOf}
 use Rattle.ends.specs.declared.Identity.{Identity}
 use Rattle.ends.specs.declared.Olt.{Olt}
 use Rattle.ends.specs.declared.Onu.{Onu}
 use Rattle.ends.proofs.Identities.{identity-valid, kept-has}
 use Rattle.refusal.proofs.Order.{refuse-accepted}
 use Rattle.refusal.proofs.Numbers.{number-accepted}
-use Rattle.ends.proofs.Replies.{reply-verdict, reply-accepted}
-use Rattle.ends.proofs.OltCalls.{fresh-valid, fresh-places}
-use Rattle.ends.proofs.OnuCalls.{new-onu-valid}
+use Rattle.protocol.proofs.Replies.{reply-verdict, reply-accepted}
+use Rattle.protocol.proofs.OltCalls.{fresh-valid, fresh-places}
+use Rattle.protocol.proofs.OnuCalls.{new-onu-valid}
 use Rattle.line.specs.Setting.{Site, Setting}
 use Rattle.line.specs.History.{Lane}
 use Rattle.line.specs.Run.{laneAt, noSite, freshLane, freshOnu, start}

@@ -15,8 +15,8 @@ use Rattle.octets.proofs.Lists.{same-refl}
 use Rattle.octets.proofs.Tests.{all-at}
 use Rattle.clock.specs.Ticks.{localTurn}
 use Rattle.ends.specs.Identities.{among, has, llidsOf}
-use Rattle.ends.specs.OltCalls.{registerOf, offerOf, acknowledgeOf}
-use Rattle.ends.specs.OnuCalls.{clockMessageAt, keyMessageAt}
+use Rattle.protocol.specs.OltCalls.{registerOf, offerOf, acknowledgeOf}
+use Rattle.protocol.specs.OnuCalls.{clockMessageAt, keyMessageAt}
 use Rattle.ends.specs.declared.Identity.{Identity}
 use Rattle.traffic.specs.Sends.{onuSendOf}
 use Rattle.traffic.specs.Receipts.{oltReceiveOf, onuReceiveOf}

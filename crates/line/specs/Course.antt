@@ -5,8 +5,8 @@ use Prim.Native.Nat.{ℕ}
 use Rattle.clock.specs.Ticks.{maxTick}
 use Rattle.octets.specs.Choice.{pick}
 use Rattle.ends.specs.Limits.{maxUnits}
-use Rattle.ends.specs.OltCalls.{registerOf, advanceOltOf, captureOf, clockSendOf, offerOf, retryOf, acknowledgeOf}
-use Rattle.ends.specs.OnuCalls.{clockMessageAt, keyMessageAt}
+use Rattle.protocol.specs.OltCalls.{registerOf, advanceOltOf, captureOf, clockSendOf, offerOf, retryOf, acknowledgeOf}
+use Rattle.protocol.specs.OnuCalls.{clockMessageAt, keyMessageAt}
 use Rattle.ends.specs.declared.Onu.{Onu}
 use Rattle.traffic.specs.Sends.{oltSendOf, onuSendOf}
 use Rattle.traffic.specs.Receipts.{oltReceiveOf, onuReceiveOf}

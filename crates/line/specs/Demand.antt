@@ -9,7 +9,7 @@ use Rattle.envelope.specs.CounterBlock.{counterBlock}
 use Rattle.envelope.specs.declared.Nonce.{Nonce}
 use Rattle.sealing.specs.KeyExpansion.{keyExpansion}
 use Rattle.sealing.specs.Seal.{carried}
-use Rattle.ends.specs.Headers.{envelopeHeader, noPassage}
+use Rattle.protocol.specs.Headers.{envelopeHeader, noPassage}
 use Rattle.ends.specs.Identities.{has}
 use Rattle.ends.specs.Keys.{keyIn}
 use Rattle.ends.specs.Limits.{maxInterval}

@@ -3,10 +3,10 @@
 use mathlib.Core.List.{List}
 use Prim.Native.Nat.{ℕ}
 use Rattle.clock.specs.declared.Stamps.{Stamps}
-use Rattle.ends.specs.declared.Acknowledgement.{Acknowledgement}
-use Rattle.ends.specs.declared.Header.{Header}
+use Rattle.protocol.specs.declared.Acknowledgement.{Acknowledgement}
+use Rattle.protocol.specs.declared.Header.{Header}
 use Rattle.ends.specs.declared.Identity.{Identity}
-use Rattle.ends.specs.declared.KeyMessage.{KeyMessage}
+use Rattle.protocol.specs.declared.KeyMessage.{KeyMessage}
 
 pub data Event : Type 0 where
   -- by n ticks, at all ends

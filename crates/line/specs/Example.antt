@@ -9,10 +9,10 @@ use Rattle.clock.specs.Ticks.{clockTurn, localTurn, maxRoundTrip, maxTick, epam
 use Rattle.clock.specs.declared.Stamps.{Stamps}
 use Rattle.octets.specs.Lists.{tabulate}
 use Rattle.ends.specs.Limits.{maxInterval}
-use Rattle.ends.specs.Messages.{ofClock, ofKey}
-use Rattle.ends.specs.declared.Header.{Header}
+use Rattle.protocol.specs.Messages.{ofClock, ofKey}
+use Rattle.protocol.specs.declared.Header.{Header}
 use Rattle.ends.specs.declared.Identity.{Identity}
-use Rattle.ends.specs.declared.KeyMessage.{KeyMessage}
+use Rattle.protocol.specs.declared.KeyMessage.{KeyMessage}
 use Rattle.line.specs.Setting.{Site, Setting, clockDown}
 use Rattle.line.specs.Events.{Event, advance, register, capture, clockSend, offer, retry, sendDown, sendUp, arriveDown, arriveUp, arriveAnswer, overhear, strayClock, strayKey, strayAnswer, strayDown, strayUp}
 

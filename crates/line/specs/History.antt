@@ -7,11 +7,11 @@ use lib.Dec.{eqb, ltb}
 use lib.ListN.{length, getD, drop}
 use Rattle.octets.specs.Choice.{both, pick}
 use Rattle.clock.specs.declared.Stamps.{Stamps}
-use Rattle.ends.specs.Messages.{keyKind}
-use Rattle.ends.specs.declared.Acknowledgement.{Acknowledgement}
-use Rattle.ends.specs.declared.Header.{Header}
-use Rattle.ends.specs.declared.KeyMessage.{KeyMessage}
-use Rattle.ends.specs.declared.Passage.{Passage}
+use Rattle.protocol.specs.Messages.{keyKind}
+use Rattle.protocol.specs.declared.Acknowledgement.{Acknowledgement}
+use Rattle.protocol.specs.declared.Header.{Header}
+use Rattle.protocol.specs.declared.KeyMessage.{KeyMessage}
+use Rattle.protocol.specs.declared.Passage.{Passage}
 use Rattle.line.specs.Setting.{Site}
 
 -- which way an envelope goes

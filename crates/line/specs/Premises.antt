@@ -7,8 +7,8 @@ use Prim.Native.Nat.{ℕ, _+_, _%_, _<_, _≤_}
 use lib.ListN.{length, getD}
 use Rattle.clock.specs.Ticks.{localTurn}
 use Rattle.ends.specs.Identities.{has}
-use Rattle.ends.specs.OltCalls.{freshOltOf, registerOf, offerOf, acknowledgeOf}
-use Rattle.ends.specs.OnuCalls.{freshOnuOf, clockMessageAt, keyMessageAt}
+use Rattle.protocol.specs.OltCalls.{freshOltOf, registerOf, offerOf, acknowledgeOf}
+use Rattle.protocol.specs.OnuCalls.{freshOnuOf, clockMessageAt, keyMessageAt}
 use Rattle.ends.specs.declared.Identity.{Identity}
 use Rattle.traffic.specs.Sends.{onuSendOf}
 use Rattle.traffic.specs.Receipts.{oltReceiveOf, onuReceiveOf}

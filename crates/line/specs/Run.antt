@@ -8,19 +8,19 @@ use lib.ListN.{getD, set}
 use Rattle.octets.specs.Choice.{both, pick}
 use Rattle.octets.specs.Output.{WithOutput}
 use Rattle.envelope.specs.ControlMask.{eqsOf}
-use Rattle.ends.specs.Headers.{noSending}
+use Rattle.protocol.specs.Headers.{noSending}
 use Rattle.ends.specs.Identities.{has, noIdentity}
 use Rattle.ends.specs.Records.{newOnu}
-use Rattle.ends.specs.OltCalls.{freshOltOf, registerOf, advanceOltOf, captureOf, clockSendOf, offerOf, retryOf, acknowledgeOf}
-use Rattle.ends.specs.OnuCalls.{freshOnuOf, advanceOnuOf, clockMessageAt, keyMessageAt}
-use Rattle.ends.specs.OltTraffic.{sendingOlt, receivingOlt}
-use Rattle.ends.specs.OnuTraffic.{sendingOnu, receivingOnu}
-use Rattle.ends.specs.declared.Acknowledgement.{Acknowledgement}
-use Rattle.ends.specs.declared.ClockSent.{ClockSent}
-use Rattle.ends.specs.declared.KeySent.{KeySent}
+use Rattle.protocol.specs.OltCalls.{freshOltOf, registerOf, advanceOltOf, captureOf, clockSendOf, offerOf, retryOf, acknowledgeOf}
+use Rattle.protocol.specs.OnuCalls.{freshOnuOf, advanceOnuOf, clockMessageAt, keyMessageAt}
+use Rattle.protocol.specs.OltTraffic.{sendingOlt, receivingOlt}
+use Rattle.protocol.specs.OnuTraffic.{sendingOnu, receivingOnu}
+use Rattle.protocol.specs.declared.Acknowledgement.{Acknowledgement}
+use Rattle.protocol.specs.declared.ClockSent.{ClockSent}
+use Rattle.protocol.specs.declared.KeySent.{KeySent}
 use Rattle.ends.specs.declared.Olt.{Olt}
 use Rattle.ends.specs.declared.Onu.{Onu}
-use Rattle.ends.specs.declared.OnuAcknowledged.{OnuAcknowledged}
+use Rattle.protocol.specs.declared.OnuAcknowledged.{OnuAcknowledged}
 use Rattle.traffic.specs.Passages.{misfit}
 use Rattle.traffic.specs.Sends.{oltSendOf, onuSendOf}
 use Rattle.traffic.specs.Receipts.{oltReceiveOf, onuReceiveOf}

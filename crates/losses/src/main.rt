@@ -21,7 +21,9 @@ fn write_number(n: usize) {
 fn write_answer(answer: Answer) {
     match answer {
         Answer::First(step) => write_number(step),
-        Answer::None => io::write_all(1, b"none"),
+        Answer::None => {
+            io::write_all(1, b"none");
+        }
         Answer::Refused(refusal) => {
             io::write_all(1, b"refused ");
             write_number(refusal::number(refusal) as usize);

@@ -1,5 +1,4 @@
--- Laws of lists by their elements: what a loop fills from the front, parts, and sums.
--- Assumes nothing.
+-- Laws of lists by their elements: what a loop fills from the front, parts, and sums. Assumes nothing.
 use mathlib.Core.Path.{_≡_, refl, ap, ap₂, sym, _∙_}
 use mathlib.Core.Bool.{true, false}
 use mathlib.Core.List.{List, [], _∷_, _++_, append-assoc, append-nil}

@@ -1,9 +1,8 @@
 -- One step of a walk along a list, and its end: what loops go by. Assumes nothing.
-use mathlib.Core.Path.{_≡_, sym, _∙_}
+use mathlib.Core.Path.{_≡_, _∙_}
 use mathlib.Core.Bool.{Bool, true, false}
-use mathlib.Core.List.{List, [], _∷_, _++_, append-assoc, append-nil}
+use mathlib.Core.List.{List, [], _∷_, _++_, append-assoc}
 use Prim.Native.Nat.{ℕ, suc, _+_, _-_, _<_, _≤_}
-use native.Mathlib.Nat.{zero-add}
 use native.Mathlib.Numerals.{add-one}
 use native.Mathlib.Omega.{arith}
 use lib.ListN.{length, getD, set, take, drop, length-take, drop-of-length-le}
@@ -11,7 +10,6 @@ use lib.Seq.{drop-cons, getD-take, take-suc-set, take-suc}
 use borrow.Author.Tests.{eq-eqb, ne-eqb}
 use Rattle.octets.specs.Choice.{both}
 use Rattle.octets.specs.Lists.{tabulate, same, all}
-use Rattle.octets.proofs.Lists.{tabulate-suc}
 
 ---- along what is tabulated
 

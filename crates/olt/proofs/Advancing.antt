@@ -16,12 +16,12 @@ use Rattle.refusal.specs.declared.Verdict.the-variants.{Accepted, Refused}
 use Rattle.refusal.proofs.Order.{refuse-accepted}
 use Rattle.clock.specs.Ticks.{maxTick}
 use Rattle.ends.specs.Limits.{maxUnits}
-use Rattle.ends.specs.OltCalls.{advanceOltOf, advanceOrder, advancingOlt, oltAdvanced, oltAnswer, sharedAdvanced}
-use Rattle.ends.specs.Replies.{silent, reply, advanceVerdict}
+use Rattle.protocol.specs.OltCalls.{advanceOltOf, advanceOrder, advancingOlt, oltAdvanced, oltAnswer, sharedAdvanced}
+use Rattle.protocol.specs.Replies.{silent, reply, advanceVerdict}
 use Rattle.ends.specs.Table.{pastUnit}
 use Rattle.ends.specs.Records.{withKeys, withTimer}
 use Rattle.ends.specs.Timers.{timerAdvanced, validTimer}
-use Rattle.ends.specs.UnitCalls.{unitAdvanced}
+use Rattle.protocol.specs.UnitCalls.{unitAdvanced}
 use Rattle.ends.specs.Validity.{validOlt, validUnit}
 use Rattle.ends.specs.declared.Timer.{Timer}
 use Rattle.ends.specs.declared.UnitRecord.{UnitRecord}
@@ -107,7 +107,8 @@ unfolding advanceOltOf advancingOlt oltAdvanced oltAnswer reply ifAccepted
 advanced o n v number r i e f g h = rw (h, f, g, ← e) (by-verdict v) where
   by-verdict : (w : Verdict) → record {
     number = verdictNumber w;
-    olt = movedTo n (ifAccepted w (o .count) 0) (record { shared = ifAccepted w (sharedAdvanced (o .shared) n) (o .shared); count = o .count; units = o .units });
+    olt = movedTo n (ifAccepted w (o .count) 0)
+        (record { shared = ifAccepted w (sharedAdvanced (o .shared) n) (o .shared); count = o .count; units = o .units });
   }
       ≡ oltAnswer (reply w o silent (oltAdvanced o n) silent)
   by-verdict Accepted = refl

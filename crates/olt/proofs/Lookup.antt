@@ -11,10 +11,10 @@ use Rattle.refusal.specs.declared.Verdict.the-variants.{Accepted, Refused}
 use Rattle.refusal.specs.Order.{refuseIf, andThen}
 use Rattle.refusal.proofs.Order.{refused-accepts}
 use Rattle.ends.specs.Limits.{maxUnits}
-use Rattle.ends.specs.Replies.{onValid, Reply, reply}
+use Rattle.protocol.specs.Replies.{onValid, Reply, reply}
 use Rattle.ends.specs.Table.{isRegistered, find, unitAt, withUnit}
 use Rattle.ends.specs.Validity.{validOlt}
-use Rattle.ends.specs.Lift.{Outcome, putBack, atUnit, after, lift}
+use Rattle.protocol.specs.Lift.{Outcome, putBack, atUnit, after, lift}
 use Rattle.ends.specs.declared.UnitRecord.{UnitRecord}
 use Rattle.ends.specs.declared.Shared.{Shared}
 use Rattle.ends.specs.declared.Olt.{Olt}
@@ -38,14 +38,17 @@ located-judged false v f = refl
 pub located-ordered : (o : Olt) (ahead : Verdict) (llid : ℕ) (l : Located) → l ≡ locatedOf o ahead llid
     → (l ≡ locatedOf o ahead llid) × (l .verdict ≡ locateOrder o ahead llid)
 unfolding locatedOf locatedAfter locateOrder andThen refuseIf
-located-ordered o ahead llid l e =
-    (e, ap (λ (x : Located). x .verdict) e ∙ by-case (validOlt o) ahead (find o llid) (isRegistered o llid) (registered-found o llid) (registered-nowhere o llid)) where
-      by-case : (t : Bool) (v : Verdict) (f : Found) (r : Bool) → ((i : ℕ) → f ≡ At i → r ≡ true) → (f ≡ Nowhere → r ≡ false)
-          → locatedAfter (onValid t v) f .verdict ≡ onValid t (andThen v (refuseIf (not r) UnknownLlid Accepted))
-      by-case true Accepted (At i) r k a = rw (k i refl)
-      by-case true Accepted Nowhere r k a = rw (a refl)
-      by-case true (Refused x) f r k a = refl
-      by-case false v f r k a = refl
+located-ordered o ahead llid l e = (
+  e,
+  ap (λ (x : Located). x .verdict) e
+      ∙ by-case (validOlt o) ahead (find o llid) (isRegistered o llid) (registered-found o llid) (registered-nowhere o llid),
+) where
+  by-case : (t : Bool) (v : Verdict) (f : Found) (r : Bool) → ((i : ℕ) → f ≡ At i → r ≡ true) → (f ≡ Nowhere → r ≡ false)
+      → locatedAfter (onValid t v) f .verdict ≡ onValid t (andThen v (refuseIf (not r) UnknownLlid Accepted))
+  by-case true Accepted (At i) r k a = rw (k i refl)
+  by-case true Accepted Nowhere r k a = rw (a refl)
+  by-case true (Refused x) f r k a = refl
+  by-case false v f r k a = refl
 
 -- the place of a unit is one of the table's
 pub found-below : (o : Olt) (llid i : ℕ) → validOlt o ≡ true → find o llid ≡ At i → i < maxUnits

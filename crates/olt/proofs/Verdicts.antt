@@ -3,11 +3,11 @@ use mathlib.Core.Path.{_≡_}
 use Prim.Native.Nat.{ℕ, _<_}
 use Rattle.refusal.specs.declared.Verdict.the-variants.{Accepted}
 use Rattle.ends.specs.Limits.{maxUnits}
-use Rattle.ends.specs.OltCalls.{registerOrder}
+use Rattle.protocol.specs.OltCalls.{registerOrder}
 use Rattle.ends.specs.declared.Identity.{Identity}
 use Rattle.ends.specs.declared.Olt.{Olt}
 use Rattle.refusal.proofs.Order.{refuse-accepted}
-use Rattle.ends.proofs.Registration.{register-accepted}
+use Rattle.protocol.proofs.Registration.{register-accepted}
 
 -- a registration is accepted only where a place is left
 pub register-room : (o : Olt) (i : Identity) (trip interval : ℕ)

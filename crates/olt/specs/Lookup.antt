@@ -6,7 +6,7 @@ use Rattle.refusal.specs.declared.Refusal.the-variants.{UnknownLlid}
 use Rattle.refusal.specs.declared.Verdict.{Verdict}
 use Rattle.refusal.specs.declared.Verdict.the-variants.{Accepted, Refused}
 use Rattle.refusal.specs.Order.{refuseIf, andThen}
-use Rattle.ends.specs.Replies.{onValid}
+use Rattle.protocol.specs.Replies.{onValid}
 use Rattle.ends.specs.Table.{isRegistered, find}
 use Rattle.ends.specs.Validity.{validOlt}
 use Rattle.ends.specs.declared.Olt.{Olt}

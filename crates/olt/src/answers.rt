@@ -1,10 +1,10 @@
 // Answers of the calls: a refusal gives back the end that was lent.
 ghost use mathlib.Core.Path.{_≡_};
 ghost use Rattle.refusal.specs.declared.Verdict.the-variants.{Accepted, Refused};
-ghost use Rattle.ends.specs.Replies.{silent, reply};
-ghost use Rattle.ends.specs.OltCalls.{oltAnswer};
+ghost use Rattle.protocol.specs.Replies.{silent, reply};
+ghost use Rattle.protocol.specs.OltCalls.{oltAnswer};
 use ends::Olt;
-use ends::OltAnswer;
+use protocol::OltAnswer;
 use refusal::Refusal;
 use refusal::number;
 

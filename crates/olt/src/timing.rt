@@ -4,7 +4,7 @@ ghost use Prim.Native.Nat.{_+_, _≤_};
 ghost use Rattle.refusal.specs.declared.Verdict.the-variants.{Accepted};
 ghost use Rattle.clock.specs.Ticks.{maxTick};
 ghost use Rattle.unit.specs.Reached.{ifAccepted};
-ghost use Rattle.ends.specs.OltCalls.{sharedAdvanced};
+ghost use Rattle.protocol.specs.OltCalls.{sharedAdvanced};
 use ends::Shared;
 use refusal::Verdict;
 

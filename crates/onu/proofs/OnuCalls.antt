@@ -4,9 +4,9 @@ use mathlib.Core.Bool.{true}
 use Prim.Native.Nat.{_+_}
 use borrow.Author.Tests.{eqb-true}
 use Rattle.octets.proofs.Choice.{both-right}
-use Rattle.ends.specs.OnuCalls.{newKey}
+use Rattle.protocol.specs.OnuCalls.{newKey}
 use Rattle.ends.specs.declared.OnuKeys.{OnuKeys}
-use Rattle.ends.specs.declared.KeyMessage.{KeyMessage}
+use Rattle.protocol.specs.declared.KeyMessage.{KeyMessage}
 
 -- a new key has the number a + 1
 pub new-key-number : (k : OnuKeys) (m : KeyMessage) → newKey k m ≡ true → m .number ≡ k .active + 1

@@ -1,7 +1,7 @@
 -- Laws of places: each octet has one place in the EQs and one in the planes. Assumes nothing.
-use mathlib.Core.Path.{_≡_, refl, ap₂, sym, _∙_}
+use mathlib.Core.Path.{_≡_, sym, _∙_}
 use mathlib.Core.List.{List}
-use Prim.Native.Nat.{ℕ, _+_, _*_, _/_, _%_, _≤_, _<_}
+use Prim.Native.Nat.{ℕ, _+_, _*_, _/_, _%_, _<_}
 use native.Mathlib.Nat.{mod-lt, mod-eq-of-lt, div-eq-of-lt, div-add-mod, mul-add-div, mul-add-mod-self-left, mul-le-mul-left, div-lt-iff-lt-mul, add-zero, mul-add}
 use native.Mathlib.Omega.{arith}
 use lib.ListN.{length}

@@ -7,7 +7,6 @@ use native.Mathlib.Omega.{arith}
 use lib.ListN.{length, getD}
 use lib.Seq.{ext-getD}
 use Rattle.octets.specs.Eqs.{eqOctets}
-use Rattle.octets.specs.Lists.{tabulate}
 use Rattle.octets.proofs.Lists.{tabulate-length, tabulate-at}
 use Rattle.envelope.specs.ControlMask.{eqsOf}
 use Rattle.planes.specs.Places.{placeInEqs, placeInPlanes, toPlanes, toEqs}

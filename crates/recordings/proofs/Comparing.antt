@@ -1,7 +1,7 @@
 -- Laws of two blocks that are accepted: what `Compared` says of them. Assumes nothing.
 use mathlib.Core.Path.{_≡_, refl, sym, ap, _∙_}
 use mathlib.Core.Bool.{true, false, not}
-use mathlib.Core.List.{List, [], _++_, append-nil}
+use mathlib.Core.List.{List, [], append-nil}
 use Prim.Native.Nat.{ℕ, zero, suc, _+_, _≤_, _<_}
 use native.Mathlib.Nat.{add-comm}
 use native.Mathlib.Omega.{arith}
@@ -24,7 +24,7 @@ use Rattle.capture.proofs.Records.{good}
 use Rattle.recordings.specs.declared.verdict.Ruling.{Ruling}
 use Rattle.recordings.specs.declared.verdict.Ruling.the-variants.{Taken, Denied}
 use Rattle.recordings.specs.Pieces.{pieces}
-use Rattle.recordings.specs.Pairing.{paired, partnerOf, alone, distinct}
+use Rattle.recordings.specs.Pairing.{partnerOf, alone, distinct}
 use Rattle.recordings.specs.Sameness.{same}
 use Rattle.recordings.specs.Comparing.{outputOctets, sameMark, differentMark, markAt, markOf, aloneEntry, entriesOf, aloneAt, aloneOf, totalOf, blockVerdict, repeatVerdict, ruled, rulingOn}
 use Rattle.recordings.specs.Laws.{Pairs, Compared}

@@ -1,9 +1,9 @@
 -- Laws of the entries and of the total, one record at a time. Assumes nothing.
-use mathlib.Core.Path.{_≡_, refl, sym, ap, ap₂, _∙_}
+use mathlib.Core.Path.{_≡_, sym, ap, ap₂, _∙_}
 use mathlib.Core.Bool.{true, false}
-use mathlib.Core.List.{List, [], _∷_, _++_, append-assoc, append-nil}
-use Prim.Native.Nat.{ℕ, zero, suc, _+_, _≤_, _<_}
-use native.Mathlib.Nat.{add-zero, zero-add, add-suc, suc-add}
+use mathlib.Core.List.{List, [], _∷_, _++_, append-nil}
+use Prim.Native.Nat.{ℕ, suc, _+_, _<_}
+use native.Mathlib.Nat.{zero-add}
 use native.Mathlib.Numerals.{add-one}
 use native.Mathlib.Omega.{arith}
 use lib.Dec.{eqb}
@@ -11,7 +11,7 @@ use lib.ListN.{length, getD, take, drop, set, length-append, take-append-drop}
 use lib.Seq.{drop-at, drop-cons, drop-drop, drop-set-lt, set-at, take-at, take-suc-set}
 use Rattle.octets.specs.Choice.{both, pick}
 use Rattle.octets.specs.Lists.{tabulate, sum}
-use Rattle.octets.proofs.Choice.{pick-true, pick-false, pick-holds}
+use Rattle.octets.proofs.Choice.{pick-true, pick-false}
 use Rattle.octets.proofs.Lists.{tabulate-length, tabulate-suc, sum-suc}
 use Rattle.records.specs.declared.header.Header.{Header}
 use Rattle.records.specs.Record.{recordHeader}

@@ -10,7 +10,6 @@ use lib.ListN.{length, getD, set}
 use lib.Seq.{getD-set-same, getD-set-other}
 use borrow.Author.Count.{below-more}
 use borrow.Author.Tests.{eqb-true, eqb-false}
-use Rattle.octets.proofs.Choice.{true-false}
 use Rattle.records.specs.Block.{recordsIn, recordOf}
 use Rattle.recordings.specs.Pairing.{paired, partnerOf, distinct}
 use Rattle.recordings.specs.Duties.{Listed, Met}

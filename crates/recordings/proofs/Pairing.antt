@@ -1,5 +1,4 @@
--- Laws of pairing: it is an equality of keys, so that in a block without two records alike a record has at most one partner.
--- Assumes nothing.
+-- Laws of pairing: it is an equality of keys, so that in a block without two records alike a record has at most one partner. Assumes nothing.
 use mathlib.Core.Path.{_≡_, refl, sym, _∙_}
 use mathlib.Core.Bool.{Bool, true, false}
 use mathlib.Core.List.{List}
@@ -9,10 +8,8 @@ use native.Mathlib.Numerals.{add-one}
 use native.Mathlib.Omega.{arith}
 use lib.Dec.{leb, ltb, eqb}
 use borrow.Author.Tests.{leb-true, leb-false, ltb-true, ltb-false, eqb-true, eq-eqb, ne-eqb}
-use Rattle.octets.specs.Choice.{pick}
 use Rattle.octets.proofs.Choice.{true-false, both-left, both-right, both-true, pick-true, pick-false, pick-holds}
 use Rattle.records.specs.declared.header.Header.{Header}
-use Rattle.records.specs.Record.{recordHeader}
 use Rattle.records.specs.Block.{recordsIn, recordOf}
 use Rattle.recordings.specs.Pairing.{keysAgree, paired, firstFrom, partnerOf, alone, unlikeRest, distinct}
 use Rattle.recordings.proofs.Each.{each-at}

@@ -19,4 +19,12 @@ module _ (l : ℕ) (r : List ℕ) (h : headerOctets ≤ l) where
   pub header-taken : recordHeader (take l r) ≡ recordHeader r
   unfolding recordHeader
   header-taken =
-      rw (octet-taken 0 (omega arith), octet-taken 1 (omega arith), number-taken 2 2 (omega arith), octet-taken 4 (omega arith), octet-taken 5 (omega arith), number-taken 6 6 (omega arith), number-taken 4 12 (omega arith))
+      rw (
+        octet-taken 0 (omega arith),
+        octet-taken 1 (omega arith),
+        number-taken 2 2 (omega arith),
+        octet-taken 4 (omega arith),
+        octet-taken 5 (omega arith),
+        number-taken 6 6 (omega arith),
+        number-taken 4 12 (omega arith),
+      )

@@ -1,14 +1,13 @@
 -- Laws of the rows of two recordings: how long their pieces can be. Assumes nothing.
-use mathlib.Core.Path.{_≡_}
-use mathlib.Core.List.{[], _∷_, _++_}
-use Prim.Native.Nat.{ℕ, _+_, _≤_, _<_}
+use mathlib.Core.List.{[], _∷_}
+use Prim.Native.Nat.{ℕ, _≤_, _<_}
 use native.Mathlib.Omega.{arith}
 use lib.Dec.{eqb}
 use lib.ListN.{length, length-append}
 use Rattle.octets.proofs.Choice.{pick-holds}
 use Rattle.refusal.specs.declared.Refusal.{Refusal}
 use Rattle.records.specs.declared.header.Header.{Header}
-use Rattle.rows.specs.Entries.{numberText, aloneText, sameText, differentText, markText, entryHead, entryTail, entryRow, blockText, deniedRow, totalRow}
+use Rattle.rows.specs.Entries.{numberText, aloneText, sameText, differentText, markText, entryHead, entryTail, blockText, deniedRow, totalRow}
 use Rattle.rows.proofs.Lines.{decimal-below, decimal-few, refused-few, pair-few}
 
 pub number-text-few : (k : ℕ) → k < 65536 → length (numberText k) ≤ 5

@@ -1,13 +1,11 @@
--- Laws of the mask on eight octets at once: the one computed test, of the 256 control octets, and the mask octet by octet.
--- Assumes nothing.
+-- Laws of the mask on eight octets at once: the one computed test, of the 256 control octets, and the mask octet by octet. Assumes nothing.
 use mathlib.Core.Path.{_≡_, refl, ap, sym, _∙_}
-use Prim.Native.Nat.{ℕ, zero, suc, _+_, _-_, _*_, _/_, _%_, _^_, _<_}
+use Prim.Native.Nat.{ℕ, zero, suc, _+_, _-_, _*_, _%_, _^_, _<_}
 use native.Mathlib.Omega.{arith}
 use lib.Bits.{bitAnd, bitOr, bitXor}
 use lib.Dec.{T, eqb→eq}
 use lib.ListN.{getD}
 use Rattle.octets.specs.Bits.{bitOf}
-use Rattle.octets.specs.Choice.{pick}
 use Rattle.octets.proofs.Bits.{bit-below}
 use Rattle.octets.proofs.Table.{at, every}
 use Rattle.envelope.specs.ControlMask.{masked}

@@ -20,7 +20,7 @@ use Rattle.gf256.specs.Lanes.{octetAt}
 use Rattle.gf256.specs.Substitution.{sbox}
 use Rattle.gf256.proofs.Lanes.{octet-and, octet-below, octet-xor}
 use Rattle.sealing.specs.Cipher.{cell, roundKey, round}
-use Rattle.sealing.specs.FirstRound.{FirstRound, IndexOctets, Kept, KeptRow, entered, ofTwo}
+use Rattle.sealing.specs.FirstRound.{FirstRound, IndexOctets, KeptRow, entered, ofTwo}
 use Rattle.sealing.specs.RowWords.{Both, Four, Mixed, rowOf, state}
 use Rattle.sealing.specs.declared.rows.Rows.{Rows}
 use Rattle.sealing.proofs.RowWords.{four-octets, rounded-from, state-at, state-self}
@@ -161,7 +161,8 @@ unfolding pick
 first-round w k kept i j {b} {c} {d} {x} ib ic id m =
     record {
       states = λ n share z h.
-          rounded-from 2 (omega arith) (λ z r c. cell (entered w n (ofTwo z i j)) r c) k record { a = kept .a; b = kept .b ⊕ b; c = kept .c ⊕ c; d = kept .d ⊕ d } x
+          rounded-from 2 (omega arith)
+          (λ z r c. cell (entered w n (ofTwo z i j)) r c) k record { a = kept .a; b = kept .b ⊕ b; c = kept .c ⊕ c; d = kept .d ⊕ d } x
           (λ z e y l. share .first .octet (ofTwo z i j) z e y l ∙ all n z e l (eqb e 4) refl)
           (row-of-both w n 1 2 (getD w 13 0) i j refl (high-octet w n) (share .second) ib)
           (row-of-both w n 2 1 (getD w 14 0) i j refl (middle-octet w n) (share .third) ic)

@@ -8,12 +8,11 @@ use lib.ListN.{length, getD, take, drop, length-append, length-drop, take-append
 use lib.Seq.{getD-append-add, length-take-le, drop-at}
 use Rattle.octets.specs.Choice.{pick}
 use Rattle.octets.specs.Lists.{tabulate, replaced}
-use Rattle.octets.proofs.Lists.{tabulate-self}
+use Rattle.octets.proofs.Lists.{tabulate-self, replaced-next}
 use Rattle.gf256.specs.Table.{powerOfX}
 use Rattle.sealing.specs.KeyExpansion.{constantWord, rcon, nextWord, expanded}
 use Rattle.sealing.specs.Steps.{nextKey}
 use Rattle.sealing.specs.Words.{word, xorWords, rotWord, subWord}
-use Rattle.octets.proofs.Lists.{replaced-next}
 
 -- a round key, from its four words
 pub key-words : (k : List ℕ) (x : ℕ) {t a b c d : List ℕ} → t ≡ xorWords (subWord (rotWord (word k 3))) (constantWord x)
@@ -74,7 +73,8 @@ module _ (q : List ℕ) (m : ℕ) (sized : length q ≡ 16 * m) where
       let k₃ = k₂ ++ made k₂ 6 in
       let last : m + 1 - 1 ≡ m = omega arith in
       grown key k₃ (suc (suc (suc n))) 7
-      (grown key k₂ (suc (suc n)) 6 (grown key k₁ (suc n) 5 (grown key k n 4 e (omega arith) (omega arith)) (omega arith) (omega arith)) (omega arith) (omega arith))
+      (grown key k₂ (suc (suc n)) 6 (grown key k₁ (suc n) 5 (grown key k n 4 e (omega arith) (omega arith)) (omega arith) (omega arith)) (omega arith)
+      (omega arith))
       (omega arith)
       (omega arith)
       ∙ rw last

@@ -1,5 +1,4 @@
--- Laws of sealed payloads: what the ends, the line and the capture reader cite.
--- Assumes nothing.
+-- Laws of sealed payloads: what the ends, the line and the capture reader cite. Assumes nothing.
 use mathlib.Core.Path.{_≡_, ap, ap₂, sym, _∙_}
 use mathlib.Core.List.{List, _∷_}
 use Prim.Native.Nat.{ℕ, zero, suc, _+_, _-_, _*_, _/_, _%_, _<_, _≤_, min}

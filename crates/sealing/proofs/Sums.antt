@@ -1,5 +1,4 @@
--- Laws of MixColumns: the double of a sum, and the image of one column with the sums that serve two rows made once and doubled.
--- Assumes nothing.
+-- Laws of MixColumns: the double of a sum, and the image of one column with the sums that serve two rows made once and doubled. Assumes nothing.
 use mathlib.Core.Path.{_≡_, refl, ap, ap₂, sym, _∙_}
 use Prim.Native.Nat.{ℕ, zero, suc, _*_, _/_, _%_, _^_, _<_}
 use native.Mathlib.Nat.{add-zero}

@@ -1,12 +1,10 @@
--- Laws of a good directory: its records stand as the loop asks, and those with changed payloads earn the same verdict.
--- Assumes nothing.
+-- Laws of a good directory: its records stand as the loop asks, and those with changed payloads earn the same verdict. Assumes nothing.
 use mathlib.Core.Path.{_≡_, refl, sym, ap, _∙_}
 use mathlib.Core.Bool.{true}
 use mathlib.Core.List.{List}
 use Prim.Native.Nat.{ℕ, _%_, _≤_, _<_}
 use native.Mathlib.Nat.{zero-add}
 use native.Mathlib.Omega.{arith}
-use lib.Dec.{eqb}
 use lib.ListN.{length, length-drop}
 use borrow.Author.Tests.{eqb-true, leb-true, not-false}
 use Rattle.octets.specs.Eqs.{eqOctets}
@@ -24,12 +22,12 @@ use Rattle.capture.specs.declared.directory.Directory.the-variants.{Good, Bad}
 use Rattle.capture.specs.Opening.{openedRecord, recordCount, opening}
 use Rattle.capture.proofs.Pairs.{pair-fits}
 use Rattle.capture.proofs.Records.{Records, all-fit, good, placed, records-end}
-use Rattle.store.specs.Blocks.{withPayload, blockWith}
+use Rattle.store.specs.Blocks.{blockWith}
 use Rattle.store.specs.Calls.{storeVerdict}
 use Rattle.store.specs.Claims.{OpensAlike, Undone}
 use Rattle.store.specs.Duties.{Standing}
 use Rattle.store.proofs.Payloads.{with-header, with-payload, with-undone, with-sized}
-use Rattle.store.proofs.Blocks.{header-there, same-size, same-directory, same-count, same-offset, same-length, same-end, same-due, own-record, undone-block}
+use Rattle.store.proofs.Blocks.{header-there, same-size, same-directory, same-count, same-offset, same-end, same-due, own-record, undone-block}
 use Rattle.store.proofs.Moves.{payload-in}
 
 pub standing : (b : List ℕ) (n : ℕ) → Records b n → Standing b n

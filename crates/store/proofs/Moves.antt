@@ -1,5 +1,5 @@
 -- Laws of a payload that is moved into its place in the output. Assumes nothing.
-use mathlib.Core.Path.{_≡_, ap, sym, _∙_}
+use mathlib.Core.Path.{_≡_, ap}
 use mathlib.Core.Bool.{Bool, true, false}
 use mathlib.Core.List.{List}
 use Prim.Native.Nat.{ℕ, _+_, _-_, _%_, _≤_, _<_}
@@ -12,7 +12,7 @@ use Rattle.refusal.specs.declared.Verdict.the-variants.{Accepted}
 use Rattle.planes.specs.Calls.{lengthVerdict}
 use Rattle.planes.proofs.Calls.{accepts}
 use Rattle.planes.proofs.Planes.{rearranged-length, restored-length}
-use Rattle.records.specs.Block.{mostOctets, offsetOf, lengthOf, endOf, recordOf}
+use Rattle.records.specs.Block.{mostOctets, offsetOf, endOf, recordOf}
 use Rattle.records.specs.Record.{headerOctets, payloadOf}
 use Rattle.store.specs.Duties.{Standing, moved}
 

@@ -23,14 +23,17 @@ fn play(script: &[u8]) {
 
 fn play_all(s: &[u8]) {
     let mut at = 0;
-    while at < s.len() && 2 <= s.len() - at {
+    while at < s.len() {
+        let left = s.len() - at;
         let n = octets::number16(s, at) as usize;
-        let from = at + 2;
-        if s.len() - from < n {
+        let whole = n + 2;
+        if left < whole {
             return;
         }
-        play(&s[from..from + n]);
-        at = from + n;
+        let from = at + 2;
+        let to = at + whole;
+        play(&s[from..to]);
+        at = to;
     }
 }
 

@@ -2,10 +2,10 @@
 use mathlib.Core.Path.{_≡_, refl, ap, _∙_}
 use mathlib.Core.Bool.{Bool, true, false}
 use mathlib.Core.List.{List, [], _∷_}
-use Prim.Native.Nat.{ℕ, _≤_, _<_, _^_}
+use Prim.Native.Nat.{ℕ, _≤_, _<_}
 use native.Mathlib.Omega.{arith}
 use lib.ListN.{length}
-use borrow.Author.Tests.{le-leb, lt-ltb, not-false}
+use borrow.Author.Tests.{lt-ltb, not-false}
 use Rattle.octets.specs.Choice.{both, pick}
 use Rattle.octets.specs.Eqs.{maxEqs}
 use Rattle.octets.proofs.Choice.{both-left, both-true, either-left, either-right, not-of-true}
@@ -24,10 +24,10 @@ use Rattle.envelope.proofs.Acceptance.{lengths-fit}
 use Rattle.sealing.specs.Payload.{sealed}
 use Rattle.sealing.specs.Seal.{carried, countCarried, sealingAfter, sealing}
 use Rattle.ends.specs.Identities.{validMac, validIdentity}
-use Rattle.ends.specs.Replies.{reply}
-use Rattle.ends.specs.Headers.{noPassage}
+use Rattle.protocol.specs.Replies.{reply}
+use Rattle.protocol.specs.Headers.{noPassage}
 use Rattle.ends.specs.declared.Identity.{Identity}
-use Rattle.ends.specs.declared.Passage.{Passage}
+use Rattle.protocol.specs.declared.Passage.{Passage}
 use Rattle.envelope.specs.Channels.{channelFits, downstream, upstream}
 use Rattle.traffic.specs.Passages.{misfit, choiceEnciphered, passed, passedCount, outputAfter, carriedAfter}
 

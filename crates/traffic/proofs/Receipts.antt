@@ -1,6 +1,6 @@
 -- Laws of receive: what each verdict makes of it. Assumes nothing.
 use mathlib.Core.Path.{_≡_, refl, sym, ap, _∙_, subst}
-use mathlib.Core.Bool.{true, false}
+use mathlib.Core.Bool.{true}
 use mathlib.Core.List.{List}
 use Prim.Native.Nat.{ℕ, _<_}
 use native.Mathlib.Omega.{arith}
@@ -16,31 +16,30 @@ use Rattle.refusal.specs.declared.Verdict.the-variants.{Accepted, Refused}
 use Rattle.envelope.specs.Acceptance.{sealVerdict}
 use Rattle.sealing.specs.Seal.{countCarried}
 use Rattle.ends.specs.Limits.{maxKeyNumber}
-use Rattle.ends.specs.Replies.{onValid, Reply, reply}
+use Rattle.protocol.specs.Replies.{onValid, Reply}
 use Rattle.ends.specs.Table.{unitAt, withUnit}
 use Rattle.ends.specs.Validity.{validOlt, validOnu}
-use Rattle.ends.specs.Lift.{Outcome, outcome}
-use Rattle.ends.specs.Headers.{passageOf, noPassage}
-use Rattle.ends.specs.UnitTraffic.{receiveUnit}
-use Rattle.ends.specs.OltTraffic.{receiveOrder, receivingOlt}
-use Rattle.ends.specs.OnuCalls.{onuReply}
-use Rattle.ends.specs.OnuTraffic.{onuReceiveChoice, onuReceiveVerdict, onuAfterReceipt, receivingOnu}
+use Rattle.protocol.specs.Lift.{Outcome, outcome}
+use Rattle.protocol.specs.Headers.{passageOf, noPassage}
+use Rattle.protocol.specs.UnitTraffic.{receiveUnit}
+use Rattle.protocol.specs.OltTraffic.{receiveOrder, receivingOlt}
+use Rattle.protocol.specs.OnuCalls.{onuReply}
+use Rattle.protocol.specs.OnuTraffic.{onuReceiveChoice, onuReceiveVerdict, receivingOnu}
 use Rattle.ends.specs.declared.Olt.{Olt}
 use Rattle.ends.specs.declared.Onu.{Onu}
-use Rattle.ends.specs.declared.Header.{Header}
-use Rattle.ends.specs.declared.KeyChoice.the-variants.{Next}
-use Rattle.ends.specs.declared.Passage.{Passage}
+use Rattle.protocol.specs.declared.Header.{Header}
+use Rattle.protocol.specs.declared.KeyChoice.the-variants.{Next}
+use Rattle.protocol.specs.declared.Passage.{Passage}
 use Rattle.ends.specs.declared.Shared.{Shared}
 use Rattle.ends.specs.declared.UnitRecord.{UnitRecord}
 use Rattle.refusal.specs.Order.{andThen}
 use Rattle.refusal.proofs.Order.{refuse-accepted, then-accepted}
-use Rattle.ends.proofs.Replies.{reply-verdict, reply-accepted, reply-refused}
+use Rattle.protocol.proofs.Replies.{reply-verdict, reply-accepted, reply-refused}
 use Rattle.ends.proofs.Table.{find-at}
 use Rattle.ends.proofs.Validity.{olt-in-range, shared-in-range, unit-in-range, onu-in-range, onu-clock-in-range, onu-keys-in-range}
-use Rattle.ends.proofs.Lift.{unit-at-valid}
-use Rattle.ends.proofs.OltTraffic.{receiveAhead, receiving-valid, receive-order}
-use Rattle.ends.proofs.OnuTraffic.{receiving-onu-valid}
-use Rattle.ends.proofs.OnuChoices.{OnuReceiveCase, onuClear, onuLate, onuCurrent, onuNext, onuUnknown, onu-receive-case, onu-receive-accepted}
+use Rattle.protocol.proofs.Lift.{unit-at-valid}
+use Rattle.protocol.proofs.OltTraffic.{receiveAhead, receiving-valid, receive-order}
+use Rattle.protocol.proofs.OnuChoices.{OnuReceiveCase, onuClear, onuLate, onuCurrent, onuNext, onuUnknown, onu-receive-case, onu-receive-accepted}
 use Rattle.unit.specs.Reached.{ifAccepted, reached}
 use Rattle.unit.proofs.Reached.{reached-accepted}
 use Rattle.olt.specs.Lookup.{locatedOf}
@@ -91,7 +90,8 @@ module _ (o : Olt) (h : Header) (p out : List ℕ) where
         subst (λ (y : Outcome Passage). sealVerdict (length p) (length out) (passageNonce (h .channel) (y .handed)) ≡ Accepted)
         (sym (f ∙ reached-accepted (l .verdict) noPassage (o .shared) (unitAt o (l .place)) call v))
         (judged p out _ (passed .0)
-        (up-fits _ (both-left _ _ (not-false _ (refuse-accepted _ _ _ (passed .1) .0))) (identity-mac (unitAt o (l .place) .identity) (u .identity)) (s .clock)))
+        (up-fits _ (both-left _ _ (not-false _ (refuse-accepted _ _ _ (passed .1) .0))) (identity-mac (unitAt o (l .place) .identity) (u .identity))
+        (s .clock)))
 
     pub olt-receive-done : (x : Outcome Passage) → x ≡ receiveDecided l → (n : ℕ) (octets : List ℕ)
         → withOutput n octets ≡ carriedAfter (x .verdict) (h .channel) (x .handed) p out

@@ -1,6 +1,6 @@
 -- Laws of send: what each verdict makes of it. Assumes nothing.
 use mathlib.Core.Path.{_≡_, refl, sym, ap, _∙_, subst}
-use mathlib.Core.Bool.{true, false}
+use mathlib.Core.Bool.{true}
 use mathlib.Core.List.{List}
 use Prim.Native.Nat.{ℕ, _≤_}
 use lib.ListN.{length}
@@ -9,34 +9,32 @@ use Rattle.octets.specs.Choice.{pick}
 use Rattle.octets.specs.Eqs.{maxEqs}
 use Rattle.octets.specs.Output.{WithOutput, withOutput}
 use Rattle.refusal.specs.Number.{verdictNumber}
-use Rattle.refusal.specs.declared.Refusal.{Refusal}
 use Rattle.refusal.specs.declared.Verdict.{Verdict}
 use Rattle.refusal.specs.declared.Verdict.the-variants.{Accepted, Refused}
 use Rattle.clock.specs.Ticks.{maxTick}
 use Rattle.envelope.specs.ControlMask.{eqsOf}
 use Rattle.envelope.specs.Acceptance.{sealVerdict}
 use Rattle.sealing.specs.Seal.{countCarried}
-use Rattle.ends.specs.Replies.{onValid, Reply, reply}
+use Rattle.protocol.specs.Replies.{Reply}
 use Rattle.ends.specs.Table.{unitAt, withUnit}
-use Rattle.ends.specs.Validity.{validOlt, validOnu}
-use Rattle.ends.specs.Lift.{Outcome}
-use Rattle.ends.specs.Headers.{passageOf, sendingOf, noSending}
-use Rattle.ends.specs.UnitTraffic.{sendUnit}
-use Rattle.ends.specs.OltTraffic.{sendOrder, sendingOlt}
-use Rattle.ends.specs.OnuCalls.{onuReply}
-use Rattle.ends.specs.OnuTraffic.{onuSendChoice, onuSendVerdict, onuAfterSend, sendingOnu}
+use Rattle.ends.specs.Validity.{validOlt}
+use Rattle.protocol.specs.Lift.{Outcome}
+use Rattle.protocol.specs.Headers.{passageOf, sendingOf, noSending}
+use Rattle.protocol.specs.UnitTraffic.{sendUnit}
+use Rattle.protocol.specs.OltTraffic.{sendOrder, sendingOlt}
+use Rattle.protocol.specs.OnuCalls.{onuReply}
+use Rattle.protocol.specs.OnuTraffic.{sendingOnu}
 use Rattle.ends.specs.declared.Olt.{Olt}
 use Rattle.ends.specs.declared.Onu.{Onu}
-use Rattle.ends.specs.declared.Sending.{Sending}
+use Rattle.protocol.specs.declared.Sending.{Sending}
 use Rattle.ends.specs.declared.Shared.{Shared}
 use Rattle.ends.specs.declared.UnitRecord.{UnitRecord}
 use Rattle.refusal.specs.Order.{andThen}
 use Rattle.refusal.proofs.Order.{refuse-accepted, then-accepted}
-use Rattle.ends.proofs.Replies.{reply-verdict, reply-accepted, reply-refused}
+use Rattle.protocol.proofs.Replies.{reply-verdict, reply-accepted}
 use Rattle.ends.proofs.Validity.{olt-in-range, shared-in-range, onu-in-range, onu-clock-in-range}
-use Rattle.ends.proofs.OltTraffic.{sendAhead, sending-valid, send-order}
-use Rattle.ends.proofs.OnuTraffic.{sending-onu-valid}
-use Rattle.ends.proofs.OnuChoices.{onu-send-accepted}
+use Rattle.protocol.proofs.OltTraffic.{sendAhead, sending-valid, send-order}
+use Rattle.protocol.proofs.OnuChoices.{onu-send-accepted}
 use Rattle.unit.specs.Reached.{ifAccepted, reached}
 use Rattle.unit.proofs.Reached.{reached-accepted}
 use Rattle.olt.specs.Lookup.{locatedOf}

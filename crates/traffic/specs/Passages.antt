@@ -10,9 +10,9 @@ use Rattle.envelope.specs.Acceptance.{lengthsFit}
 use Rattle.envelope.specs.declared.Nonce.{Nonce}
 use Rattle.sealing.specs.KeyExpansion.{keyExpansion}
 use Rattle.sealing.specs.Seal.{carried, countCarried}
-use Rattle.ends.specs.declared.KeyChoice.{KeyChoice}
-use Rattle.ends.specs.declared.KeyChoice.the-variants.{Clear, Current, Next, Barred}
-use Rattle.ends.specs.declared.Passage.{Passage}
+use Rattle.protocol.specs.declared.KeyChoice.{KeyChoice}
+use Rattle.protocol.specs.declared.KeyChoice.the-variants.{Clear, Current, Next, Barred}
+use Rattle.protocol.specs.declared.Passage.{Passage}
 
 -- 14: the lengths of payload and output
 unfoldable pub misfit : List ℕ → List ℕ → Bool

@@ -6,14 +6,14 @@ use Rattle.octets.specs.Output.{WithOutput}
 use Rattle.refusal.specs.Number.{numberOf, verdictNumber}
 use Rattle.refusal.specs.declared.Refusal.{Refusal}
 use Rattle.refusal.specs.declared.Verdict.the-variants.{Refused}
-use Rattle.ends.specs.Replies.{Reply}
-use Rattle.ends.specs.Headers.{noPassage}
-use Rattle.ends.specs.OltTraffic.{receivingOlt}
-use Rattle.ends.specs.OnuTraffic.{receivingOnu}
-use Rattle.ends.specs.declared.Header.{Header}
+use Rattle.protocol.specs.Replies.{Reply}
+use Rattle.protocol.specs.Headers.{noPassage}
+use Rattle.protocol.specs.OltTraffic.{receivingOlt}
+use Rattle.protocol.specs.OnuTraffic.{receivingOnu}
+use Rattle.protocol.specs.declared.Header.{Header}
 use Rattle.ends.specs.declared.Olt.{Olt}
 use Rattle.ends.specs.declared.Onu.{Onu}
-use Rattle.ends.specs.declared.Passage.{Passage}
+use Rattle.protocol.specs.declared.Passage.{Passage}
 use Rattle.traffic.specs.Passages.{misfit, passed, passedCount, outputAfter}
 use Rattle.traffic.specs.declared.OltReceived.{OltReceived}
 use Rattle.traffic.specs.declared.OnuReceived.{OnuReceived}

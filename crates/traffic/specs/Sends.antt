@@ -6,13 +6,13 @@ use Rattle.octets.specs.Output.{WithOutput}
 use Rattle.refusal.specs.Number.{numberOf, verdictNumber}
 use Rattle.refusal.specs.declared.Refusal.{Refusal}
 use Rattle.envelope.specs.ControlMask.{eqsOf}
-use Rattle.ends.specs.Replies.{Reply}
-use Rattle.ends.specs.Headers.{noSending}
-use Rattle.ends.specs.OltTraffic.{sendingOlt}
-use Rattle.ends.specs.OnuTraffic.{sendingOnu}
+use Rattle.protocol.specs.Replies.{Reply}
+use Rattle.protocol.specs.Headers.{noSending}
+use Rattle.protocol.specs.OltTraffic.{sendingOlt}
+use Rattle.protocol.specs.OnuTraffic.{sendingOnu}
 use Rattle.ends.specs.declared.Olt.{Olt}
 use Rattle.ends.specs.declared.Onu.{Onu}
-use Rattle.ends.specs.declared.Sending.{Sending}
+use Rattle.protocol.specs.declared.Sending.{Sending}
 use Rattle.traffic.specs.Passages.{misfit, passed, passedCount, outputAfter}
 use Rattle.traffic.specs.declared.OltSent.{OltSent}
 use Rattle.traffic.specs.declared.OnuSent.{OnuSent}

@@ -6,11 +6,11 @@ ghost use Rattle.refusal.specs.declared.Verdict.the-variants.{Accepted};
 ghost use Rattle.envelope.specs.Acceptance.{sealVerdict, lengthsFit};
 ghost use Rattle.octets.specs.Output.{withOutput};
 ghost use Rattle.traffic.specs.Passages.{choiceEnciphered, passageNonce, passed, passedCount, carriedAfter};
-use ends::KeyChoice;
-use ends::Passage;
 use envelope::Nonce;
 use envelope::lengths_fit;
 use envelope::seal_count;
+use protocol::KeyChoice;
+use protocol::Passage;
 use refusal::Verdict;
 use sealing::counter_mode::seal;
 

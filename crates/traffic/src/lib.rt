@@ -7,15 +7,15 @@ mod carrying;
 ghost use mathlib.Core.Path.{_≡_};
 ghost use Rattle.octets.specs.Output.{withOutput};
 ghost use Rattle.refusal.specs.Number.{verdictNumber};
-ghost use Rattle.ends.specs.OltTraffic.{receiveOrder, sendOrder};
+ghost use Rattle.protocol.specs.OltTraffic.{receiveOrder, sendOrder};
 ghost use Rattle.traffic.specs.Passages.{misfit};
 ghost use Rattle.traffic.specs.Receipts.{oltReceiveOf, onuReceiveOf};
 ghost use Rattle.traffic.specs.Sends.{oltSendOf, onuSendOf};
-use ends::Header;
 use ends::Olt;
 use ends::Onu;
 use octets::EQ_OCTETS;
 use olt::place::locate;
+use protocol::Header;
 use refusal::verdict_number;
 use unit::traffic;
 

@@ -4,7 +4,7 @@ use Rattle.refusal.specs.Order.{andThen}
 use Rattle.refusal.specs.declared.Refusal.{Refusal}
 use Rattle.refusal.specs.declared.Verdict.{Verdict}
 use Rattle.refusal.specs.declared.Verdict.the-variants.{Accepted, Refused}
-use Rattle.ends.specs.Lift.{Outcome, outcome}
+use Rattle.protocol.specs.Lift.{Outcome, outcome}
 use Rattle.ends.specs.declared.Shared.{Shared}
 use Rattle.ends.specs.declared.UnitRecord.{UnitRecord}
 use Rattle.unit.specs.Reached.{ifAccepted, reached}

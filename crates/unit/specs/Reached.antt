@@ -4,8 +4,8 @@
 use Rattle.refusal.specs.Order.{andThen}
 use Rattle.refusal.specs.declared.Verdict.{Verdict}
 use Rattle.refusal.specs.declared.Verdict.the-variants.{Accepted, Refused}
-use Rattle.ends.specs.Lift.{Outcome}
-use Rattle.ends.specs.declared.Sending.{Sending}
+use Rattle.protocol.specs.Lift.{Outcome}
+use Rattle.protocol.specs.declared.Sending.{Sending}
 use Rattle.ends.specs.declared.Shared.{Shared}
 use Rattle.ends.specs.declared.UnitRecord.{UnitRecord}
 use Rattle.unit.specs.declared.UnitSent.{UnitSent}

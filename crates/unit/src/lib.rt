@@ -9,10 +9,10 @@ pub mod traffic;
 
 use clock::Stamps;
 use ends::Channels;
-use ends::KeyMessage;
-use ends::Passage;
-use ends::Sending;
 use ends::UnitRecord;
+use protocol::KeyMessage;
+use protocol::Passage;
+use protocol::Sending;
 use refusal::Verdict;
 
 // A call that hands over nothing.

@@ -229,3 +229,8 @@ pub fn xgpon_received_under(exchange: KeyExchange) -> ValidKeys {
 pub fn xgpon_recommended_starts() -> TimerStarts {
     unsafe { raw::jazmotip_xgpon_recommended_starts() }
 }
+
+/// Order of refusals: 1 for the interval, 26.
+pub fn first_loss(script: &[u8]) -> Loss {
+    unsafe { raw::jazmotip_first_loss(script.as_ptr(), script.len()) }
+}

@@ -37,6 +37,7 @@
 pub mod calls;
 pub mod capture;
 mod ends;
+pub mod exercises;
 pub mod raw;
 pub mod recordings;
 mod records;

@@ -148,6 +148,7 @@ extern "C" {
         output: *mut u8,
         output_length: usize,
     ) -> Comparison;
+    pub fn jazmotip_first_loss(script: *const u8, script_length: usize) -> Loss;
 
     pub fn jazmotip_xgpon_fresh() -> KeyExchange;
     pub fn jazmotip_xgpon_step(exchange: KeyExchange, input: InputRecord) -> Answer;

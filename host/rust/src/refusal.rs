@@ -28,11 +28,12 @@ pub enum Refusal {
     UnsuitedLength(u16),
     RepeatedRecord,
     OtherKeyIndex,
+    BadScript,
 }
 
 impl Refusal {
     /// The refusals that name no pair, in the order of their numbers.
-    const WITHOUT_PAIR: [Refusal; 19] = [
+    const WITHOUT_PAIR: [Refusal; 20] = [
         Refusal::OutOfRange,
         Refusal::UnknownLlid,
         Refusal::RepeatedLlid,
@@ -52,9 +53,10 @@ impl Refusal {
         Refusal::AtEnd,
         Refusal::RepeatedRecord,
         Refusal::OtherKeyIndex,
+        Refusal::BadScript,
     ];
 
-    /// The number that the engine returns for it, 1 to 19, 22 or 25.
+    /// The number that the engine returns for it, 1 to 19, 22, 25 or 26.
     pub fn number(self) -> u8 {
         match self {
             Refusal::OutOfRange => 1,
@@ -78,6 +80,7 @@ impl Refusal {
             Refusal::UnsuitedLength(_) => 19,
             Refusal::RepeatedRecord => 22,
             Refusal::OtherKeyIndex => 25,
+            Refusal::BadScript => 26,
         }
     }
 
@@ -129,6 +132,7 @@ impl fmt::Display for Refusal {
             Refusal::UnsuitedLength(_) => "length does not suit the record's EQs",
             Refusal::RepeatedRecord => "two records of one block agree in channel index, LLID and clock",
             Refusal::OtherKeyIndex => "a report names a key index other than the awaited one",
+            Refusal::BadScript => "more than 64 steps, or a step that is unknown or not whole",
         };
         write!(f, "refused {}", self.number())?;
         if let Some(pair) = self.pair() {

@@ -5,6 +5,7 @@ mod c_programs;
 mod captures;
 mod lent;
 mod line;
+mod losses;
 mod pairs;
 mod random;
 mod recordings;

@@ -179,7 +179,17 @@ fn what_counts() {
         assert_eq!(entry(&mut random, &mut tally, &with(place, octet)), 0, "octet {place}");
     }
     // 22 comes last: two records that differ in kind alone, and a second block of no octets
-    let twice = block(&[ours.clone(), { let mut other = ours.clone(); other[0] = 1; other }]);
-    assert_eq!(check(&mut random, &mut tally, 5, &twice, &[], ENTRIES), Comparison { number: 15, block: 2, ..Default::default() });
-    assert_eq!(check(&mut random, &mut tally, 5, &twice, &twice, ENTRIES), Comparison { number: 22, block: 1, ..Default::default() });
+    let twice = block(&[ours.clone(), {
+        let mut other = ours.clone();
+        other[0] = 1;
+        other
+    }]);
+    assert_eq!(
+        check(&mut random, &mut tally, 5, &twice, &[], ENTRIES),
+        Comparison { number: 15, block: 2, ..Default::default() }
+    );
+    assert_eq!(
+        check(&mut random, &mut tally, 5, &twice, &twice, ENTRIES),
+        Comparison { number: 22, block: 1, ..Default::default() }
+    );
 }

@@ -1,12 +1,8 @@
--- `bench_values::row_count` meets its contract, which cites the table.
--- Assumes nothing.
+-- `bench_values::row_count` meets its contract, which cites the table. Assumes nothing.
 use mathlib.Core.Path.{refl}
 use Rattle.bench_values.proofs.Rows.{rows-hold}
 use Rattle.bench_values.proofs.row_count.Statement.{statement}
 use Rattle.bench_values.proofs.row_count.Tie as tie
 
-returns : tie.Need-returns
-returns c = (refl, rows-hold)
-
 pub row-count-spec : {M : Type 1} → statement M
-row-count-spec = tie.close (tie.spec returns)
+row-count-spec = tie.close (tie.spec (λ c. (refl, rows-hold)))

@@ -1,16 +1,8 @@
--- `clock::captured` meets its contract: the fields are those of the definition.
--- Assumes nothing.
+-- `clock::captured` meets its contract: the fields are those of the definition. Assumes nothing.
 use borrow.Author.Needs.{needs}
 use Rattle.clock.specs.Stamping.{capturedAt}
 use Rattle.clock.proofs.captured.Statement.{statement}
 use Rattle.clock.proofs.captured.Tie as tie
 
-clock-after-requires : tie.Need-clock-after-requires
-clock-after-requires c κs = search needs
-
-returns : tie.Need-returns
-unfolding capturedAt
-returns c = cc
-
 pub captured-spec : {M : Type 1} → statement M
-captured-spec = tie.close (tie.spec clock-after-requires returns)
+captured-spec = tie.close (tie.spec (λ c κs. search needs) (λ c. unfold capturedAt in cc))

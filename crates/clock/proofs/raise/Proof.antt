@@ -1,5 +1,4 @@
--- `clock::raise` meets its contract: what the wrapping subtraction ensures makes it the raise, and the raise is where the loop stops.
--- Assumes nothing.
+-- `clock::raise` meets its contract: what the wrapping subtraction ensures makes it the raise, and the raise is where the loop stops. Assumes nothing.
 use mathlib.Core.Path.{_≡_}
 use Prim.Native.Nat.{_<_}
 use borrow.Author.Needs.{needs}
@@ -9,12 +8,6 @@ use Rattle.clock.proofs.Stamping.{raise-is}
 use Rattle.clock.proofs.Loop.{raise-stops}
 use Rattle.clock.proofs.raise.Statement.{statement}
 use Rattle.clock.proofs.raise.Tie as tie
-
-local-of-requires : tie.Need-local-of-requires
-local-of-requires c κs = search needs
-
-wrapping-sub-u32-requires : tie.Need-wrapping-sub-u32-requires
-wrapping-sub-u32-requires c κs = search needs
 
 returns : tie.Need-returns
 returns c =
@@ -27,4 +20,4 @@ returns c =
     (e, rw e (raise-stops time s small))
 
 pub raise-spec : {M : Type 1} → statement M
-raise-spec = tie.close (tie.spec local-of-requires wrapping-sub-u32-requires returns)
+raise-spec = tie.close (tie.spec (λ c κs. search needs) (λ c κs. search needs) returns)

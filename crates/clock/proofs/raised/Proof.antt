@@ -1,5 +1,4 @@
--- `clock::raised` meets its contract: both stamps are moved by the raise, and so they are by the loop.
--- Assumes nothing.
+-- `clock::raised` meets its contract: both stamps are moved by the raise, and so they are by the loop. Assumes nothing.
 use mathlib.Core.Path.{_≡_}
 use Prim.Native.Nat.{_<_}
 use borrow.Author.Needs.{needs}
@@ -8,15 +7,6 @@ use Rattle.clock.specs.Stamping.{raisedTo}
 use Rattle.clock.proofs.Loop.{loop-raises}
 use Rattle.clock.proofs.raised.Statement.{statement}
 use Rattle.clock.proofs.raised.Tie as tie
-
-raise-requires : tie.Need-raise-requires
-raise-requires c κs = search needs
-
-cast-moved : tie.Need-cast-moved
-cast-moved c = search needs
-
-moved-requires : tie.Need-moved-requires
-moved-requires c κs = search needs
 
 returns : tie.Need-returns
 unfolding raisedTo
@@ -27,4 +17,4 @@ returns c =
     (e, rw e (loop-raises (a .time) (a .stamps) small))
 
 pub raised-spec : {M : Type 1} → statement M
-raised-spec = tie.close (tie.spec raise-requires cast-moved moved-requires returns)
+raised-spec = tie.close (tie.spec (λ c κs. search needs) (λ c. search needs) (λ c κs. search needs) returns)

@@ -1,15 +1,12 @@
--- `envelope::count` meets its contract: the sum over the EQs counted.
--- Assumes nothing.
-use Prim.Native.Nat.{_*_}
-use Prim.Native.Nat.{_≤_, _-_, _/_}
+-- `envelope::count` meets its contract: the sum over the EQs counted. Assumes nothing.
+use Prim.Native.Nat.{_*_, _≤_, _-_, _/_}
 use Rattle.octets.proofs.Lists.{sum-suc, sum-below}
 use Rattle.octets.specs.Lists.{sum}
 use Rattle.envelope.specs.ControlMask.{controlOctet, countEnciphered}
 use borrow.Author.Needs.{needs}
 use lib.Count.{ones, ones-le}
 use lib.ListN.{length}
-use mathlib.Core.Path.{_≡_}
-use mathlib.Core.Path.{refl}
+use mathlib.Core.Path.{_≡_, refl}
 use native.Mathlib.Nat.{zero-add}
 use native.Mathlib.Numerals.{add-one}
 use native.Mathlib.Omega.{arith}
@@ -22,34 +19,14 @@ Inv-loop payload eqs sum₀ e₀ sum e = (e ≤ eqs) × (eqs ≡ length payload 
 abbrev μ-loop : tie.MeasureT-loop
 μ-loop payload eqs sum₀ e₀ sum e = eqs - e
 
-loop-holds : tie.Need-loop-holds Inv-loop μ-loop
-loop-holds c = search needs
-
-mul-ones : tie.Need-mul-ones Inv-loop μ-loop
-mul-ones c = search needs
-
-shared-slice-read-ones : tie.Need-shared-slice-read-ones Inv-loop μ-loop
-shared-slice-read-ones c = search needs
-
-sub-sum : tie.Need-sub-sum Inv-loop μ-loop
-sub-sum c = ones-le 8 _ (c .shared-slice-known .given (9 * c .before .before .loop .e) .fits)
-
-cast-sum : tie.Need-cast-sum Inv-loop μ-loop
-cast-sum c = omega arith
-
 add-sum : tie.Need-add-sum Inv-loop μ-loop
 add-sum c =
+    let start = c .before .before .before in
     omega (
       arith,
-      c .before .before .before .good,
-      sum-below 0 (c .before .before .loop .e) 8 (λ i. 8 - ones (controlOctet (c .before .before .before .args .payload .now) i)) (λ k. omega arith),
+      start .good,
+      sum-below 0 (c .before .before .loop .e) 8 (λ i. 8 - ones (controlOctet (start .args .payload .now) i)) (λ k. omega arith),
     )
-
-add-e : tie.Need-add-e Inv-loop μ-loop
-add-e c = search needs
-
-loop-less : tie.Need-loop-less Inv-loop μ-loop
-loop-less c = search needs
 
 loop-again : tie.Need-loop-again Inv-loop μ-loop
 loop-again c = (
@@ -67,16 +44,6 @@ returns c =
 pub count-spec : {M : Type 1} → statement M
 count-spec =
     tie.close
-    (tie.spec
-    Inv-loop
-    μ-loop
-    loop-holds
-    mul-ones
-    shared-slice-read-ones
-    sub-sum
-    cast-sum
-    add-sum
-    add-e
-    loop-less
-    loop-again
-    returns)
+    (tie.spec Inv-loop μ-loop (λ c. search needs) (λ c. search needs) (λ c. search needs)
+    (λ c. ones-le 8 _ (c .shared-slice-known .given (9 * c .before .before .loop .e) .fits))
+    (λ c. omega arith) add-sum (λ c. search needs) (λ c. search needs) loop-again returns)

@@ -1,13 +1,8 @@
--- `envelope::on_zero` meets its contract: it computes the test of its definition.
--- Assumes nothing.
+-- `envelope::on_zero` meets its contract: it computes the test of its definition. Assumes nothing.
 use mathlib.Core.Path.{refl}
 use Rattle.envelope.specs.Channels.{onZero}
 use Rattle.envelope.proofs.on_zero.Statement.{statement}
 use Rattle.envelope.proofs.on_zero.Tie as tie
 
-returns : tie.Need-returns
-unfolding onZero
-returns c = refl
-
 pub on-zero-spec : {M : Type 1} → statement M
-on-zero-spec = tie.close (tie.spec returns)
+on-zero-spec = tie.close (tie.spec (λ c. unfold onZero in refl))

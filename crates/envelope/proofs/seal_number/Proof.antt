@@ -1,11 +1,10 @@
--- `envelope::seal_number` meets its contract: a refusal's number is the one that `refusal::number` gives.
--- Assumes nothing.
+-- `envelope::seal_number` meets its contract: a refusal's number is the one that `refusal::number` gives. Assumes nothing.
 use borrow.Author.Needs.{needs}
 use Rattle.envelope.proofs.seal_number.Statement.{statement}
 use Rattle.envelope.proofs.seal_number.Tie as tie
 
-returns-2 : tie.Need-returns-2
-returns-2 c = rw (c .number .ensures, c .before .before .answer .given .1)
-
 pub seal-number-spec : {M : Type 1} → statement M
-seal-number-spec = tie.close (tie.spec (λ c. search needs) (λ c. search needs) (λ c κs. search needs) (λ c. search needs) returns-2)
+seal-number-spec =
+    tie.close
+    (tie.spec (λ c. search needs) (λ c. search needs) (λ c κs. search needs) (λ c. search needs)
+    (λ c. rw (c .number .ensures, c .before .before .answer .given .1)))

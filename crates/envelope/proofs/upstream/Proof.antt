@@ -1,5 +1,4 @@
--- `envelope::upstream` meets its contract: it computes the tests of its definition.
--- Assumes nothing.
+-- `envelope::upstream` meets its contract: it computes the tests of its definition. Assumes nothing.
 use mathlib.Core.Path.{refl}
 use borrow.Author.Needs.{needs}
 use Rattle.octets.specs.Choice.{both}
@@ -7,9 +6,5 @@ use Rattle.envelope.specs.Channels.{upstream}
 use Rattle.envelope.proofs.upstream.Statement.{statement}
 use Rattle.envelope.proofs.upstream.Tie as tie
 
-returns : tie.Need-returns
-unfolding upstream both
-returns c = refl
-
 pub upstream-spec : {M : Type 1} → statement M
-upstream-spec = tie.close (tie.spec (λ c. search needs) returns)
+upstream-spec = tie.close (tie.spec (λ c. search needs) (λ c. unfold upstream both in refl))

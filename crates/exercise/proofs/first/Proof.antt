@@ -1,5 +1,5 @@
 -- `exercise::first` meets its contract. The loop's invariant: no step that is passed matters. Assumes nothing.
-use mathlib.Core.Path.{_≡_, sym, ap, _∙_}
+use mathlib.Core.Path.{_≡_, sym, _∙_}
 use mathlib.Core.Bool.{not}
 use Prim.Native.Nat.{_+_, _-_, _≤_}
 use native.Mathlib.Omega.{arith}
@@ -45,18 +45,6 @@ returns-2 c =
 pub first-spec : {M : Type 1} → statement M
 first-spec =
     tie.close
-    (tie.spec
-    Inv-loop
-    μ-loop
-    (λ c κs. sizes _ (c .before .pre) .interval)
-    (λ c κs. c .before .before .pre)
-    (λ c. (search needs, from-start (firstFrom _ 0) _))
-    (λ c. search needs)
-    (λ c κs. c .before .before .before .before .before .pre)
-    (λ c κs. search needs)
-    (λ c. search needs)
-    returns
-    (λ c. search needs)
-    (λ c. search needs)
-    loop-again
-    returns-2)
+    (tie.spec Inv-loop μ-loop (λ c κs. sizes _ (c .before .pre) .interval) (λ c κs. c .before .before .pre) (λ c. (search needs, from-start (firstFrom _ 0) _))
+    (λ c. search needs) (λ c κs. c .before .before .before .before .before .pre) (λ c κs. search needs) (λ c. search needs) returns (λ c. search needs)
+    (λ c. search needs) loop-again returns-2)

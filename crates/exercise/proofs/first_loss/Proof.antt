@@ -1,9 +1,9 @@
 -- `exercise::first_loss` meets its contract: the verdict on the script, then the first step that matters. Assumes nothing.
-use mathlib.Core.Path.{_≡_, sym, _∙_}
+use mathlib.Core.Path.{sym, _∙_}
 use borrow.Author.Needs.{needs}
 use Rattle.exercise.proofs.first_loss.Statement.{statement}
 use Rattle.exercise.proofs.first_loss.Tie as tie
-use Rattle.exercise.specs.Losses.{answerAfter, firstLoss}
+use Rattle.exercise.specs.Losses.{firstLoss}
 use Rattle.exercise.proofs.Losses.{meant}
 use Rattle.exercise.proofs.Listed.{listed}
 
@@ -22,10 +22,6 @@ returns-2 c =
 pub first-loss-spec : {M : Type 1} → statement M
 first-loss-spec =
     tie.close
-    (tie.spec
-    (λ c κs. search needs)
-    (λ c. search needs)
-    (λ c. search needs)
+    (tie.spec (λ c κs. search needs) (λ c. search needs) (λ c. search needs)
     (λ c κs. sym (c .before .before .verdict .ensures) ∙ c .enum-told .given .1)
-    returns
-    returns-2)
+    returns returns-2)

@@ -1,11 +1,9 @@
--- `exercise::play_without` meets its contract. The loop's invariant: what is left of the script, played on, comes to the whole play.
--- Assumes nothing.
+-- `exercise::play_without` meets its contract. The loop's invariant: what is left of the script, played on, comes to the whole play. Assumes nothing.
 use mathlib.Core.Path.{_≡_, sym, ap, _∙_}
 use Prim.Native.Nat.{_-_, _≤_}
 use native.Mathlib.Omega.{arith}
 use borrow.Author.Needs.{needs}
-use Rattle.exercise.specs.Script.{stepsIn, intervalOf}
-use Rattle.exercise.specs.Play.{started, playedFrom, played, figuresOf}
+use Rattle.exercise.specs.Play.{playedFrom, played, figuresOf}
 use Rattle.exercise.proofs.Scripts.{sizes, played-start, played-on, played-end}
 use Rattle.exercise.proofs.play_without.Statement.{statement}
 use Rattle.exercise.proofs.play_without.Tie as tie
@@ -43,19 +41,6 @@ returns c =
 pub play-without-spec : {M : Type 1} → statement M
 play-without-spec =
     tie.close
-    (tie.spec
-    Inv-loop
-    μ-loop
-    (λ c κs. sizes _ (c .before .pre) .interval)
-    (λ c κs. sizes _ (c .before .before .pre) .interval)
-    (λ c κs. search needs)
-    (λ c. (search needs, played-start _ _ _ _))
-    step-at-requires
-    (λ c. search needs)
-    (λ c. search needs)
-    step-requires
-    (λ c. search needs)
-    (λ c. search needs)
-    loop-again
-    (λ c κs. search needs)
-    returns)
+    (tie.spec Inv-loop μ-loop (λ c κs. sizes _ (c .before .pre) .interval) (λ c κs. sizes _ (c .before .before .pre) .interval) (λ c κs. search needs)
+    (λ c. (search needs, played-start _ _ _ _)) step-at-requires (λ c. search needs) (λ c. search needs) step-requires (λ c. search needs) (λ c. search needs)
+    loop-again (λ c κs. search needs) returns)

@@ -5,9 +5,5 @@ use Rattle.exercise.specs.Losses.{sameFigures}
 use Rattle.exercise.proofs.same_figures.Statement.{statement}
 use Rattle.exercise.proofs.same_figures.Tie as tie
 
-returns : tie.Need-returns
-unfolding sameFigures both
-returns c = search needs
-
 pub same-figures-spec : {M : Type 1} → statement M
-same-figures-spec = tie.close (tie.spec returns)
+same-figures-spec = tie.close (tie.spec (λ c. unfold sameFigures both in search needs))

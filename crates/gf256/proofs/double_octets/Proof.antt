@@ -1,6 +1,5 @@
 -- `gf256::double_octets` meets its contract: the masks bound both products, so the shift to the left is a product and loses no bit, and the law of
--- octets doubled at once is cited at eight.
--- Assumes nothing.
+-- octets doubled at once is cited at eight. Assumes nothing.
 use mathlib.Core.Path.{_≡_}
 use Prim.Native.Nat.{_*_, _/_, _%_, _^_}
 use native.Mathlib.Omega.{arith}

@@ -1,5 +1,4 @@
--- `gf256::sbox_table` meets its contract: the test of every entry against the inverse and the affine map computes.
--- Assumes nothing.
+-- `gf256::sbox_table` meets its contract: the test of every entry against the inverse and the affine map computes. Assumes nothing.
 use mathlib.Core.Path.{refl}
 use Rattle.octets.specs.Bits.{bitOf}
 use Rattle.octets.specs.Choice.{pick}

@@ -1,5 +1,4 @@
--- `octets::bit` meets its contract: a bit past the octet is 0, and the mask 1 takes what is left modulo 2.
--- Assumes nothing.
+-- `octets::bit` meets its contract: a bit past the octet is 0, and the mask 1 takes what is left modulo 2. Assumes nothing.
 use Prim.Native.Nat.{_<_, _^_}
 use native.Mathlib.Nat.{div-eq-of-lt, lt-of-lt-of-le}
 use lib.Bits.{and-mask}
@@ -16,12 +15,5 @@ returns c =
     lt-of-lt-of-le (c .before .fits .x .fits) (pow-mono (c .if1 .taken)) in
     rw (div-eq-of-lt small)
 
-shr-result : tie.Need-shr-result
-shr-result c = search needs
-
-returns-2 : tie.Need-returns-2
-unfolding bitOf
-returns-2 c = and-mask _ 1
-
 pub bit-spec : {M : Type 1} → statement M
-bit-spec = tie.close (tie.spec returns shr-result returns-2)
+bit-spec = tie.close (tie.spec returns (λ c. search needs) (λ c. unfold bitOf in and-mask _ 1))

@@ -1,5 +1,4 @@
--- `octets::copy` meets its contract: the first i octets are copied, and n, where the loop ends, is the lesser of the lengths.
--- Assumes nothing.
+-- `octets::copy` meets its contract: the first i octets are copied, and n, where the loop ends, is the lesser of the lengths. Assumes nothing.
 use Prim.Native.Nat.{ℕ, _≤_, _-_}
 use Rattle.octets.proofs.Lists.{copy-more, copied-short, copied-long}
 use Rattle.octets.specs.Lists.{copied}
@@ -35,18 +34,6 @@ loop-holds c =
     (c .if1 .came) in
     (search needs, least, refl, refl)
 
-shared-slice-read-output : tie.Need-shared-slice-read-output Inv-loop μ-loop
-shared-slice-read-output c = search needs
-
-slice-write-output : tie.Need-slice-write-output Inv-loop μ-loop
-slice-write-output c = search needs
-
-add-i : tie.Need-add-i Inv-loop μ-loop
-add-i c = search needs
-
-loop-less : tie.Need-loop-less Inv-loop μ-loop
-loop-less c = search needs
-
 loop-again : tie.Need-loop-again Inv-loop μ-loop
 loop-again c =
     let a = c .before .before .before .before .args in
@@ -57,9 +44,6 @@ loop-again c =
       rw (loop .inv .3) (copy-more (a .input .now) (a .output .now) 0 (loop .i) (omega arith) (omega arith)),
     )
 
-same-length : tie.Need-same-length Inv-loop μ-loop
-same-length c = search needs
-
 returns : tie.Need-returns Inv-loop μ-loop
 returns c =
     let end : c .before .loop .i ≡ c .before .before .if1 .n = omega arith in
@@ -68,14 +52,4 @@ returns c =
 pub copy-spec : {M : Type 1} → statement M
 copy-spec =
     tie.close
-    (tie.spec
-    Inv-loop
-    μ-loop
-    loop-holds
-    shared-slice-read-output
-    slice-write-output
-    add-i
-    loop-less
-    loop-again
-    same-length
-    returns)
+    (tie.spec Inv-loop μ-loop loop-holds (λ c. search needs) (λ c. search needs) (λ c. search needs) (λ c. search needs) loop-again (λ c. search needs) returns)

@@ -1,5 +1,4 @@
--- `octets::number16` meets its contract: its octets are those from the place on.
--- Assumes nothing.
+-- `octets::number16` meets its contract: its octets are those from the place on. Assumes nothing.
 use mathlib.Core.Path.{sym, _∙_}
 use borrow.Author.Needs.{needs}
 use denote.Ref.{now}
@@ -7,9 +6,6 @@ use Rattle.octets.proofs.BigEndian.{number-past, number-from}
 use Rattle.octets.proofs.Lists.{tail-part}
 use Rattle.octets.proofs.number16.Statement.{statement}
 use Rattle.octets.proofs.number16.Tie as tie
-
-returns : tie.Need-returns
-returns c = sym (number-past 2 (now (c .before .before .args .s)) _ (c .if1 .taken))
 
 returns-2 : tie.Need-returns-2
 returns-2 c =
@@ -19,12 +15,5 @@ returns-2 c =
 pub number16-spec : {M : Type 1} → statement M
 number16-spec =
     tie.close
-    (tie.spec
-    returns
-    (λ c. search needs)
-    (λ c. search needs)
-    (λ c. search needs)
-    (λ c κs. search needs)
-    (λ c κs. search needs)
-    (λ c κs. search needs)
-    returns-2)
+    (tie.spec (λ c. sym (number-past 2 (now (c .before .before .args .s)) _ (c .if1 .taken)))
+    (λ c. search needs) (λ c. search needs) (λ c. search needs) (λ c κs. search needs) (λ c κs. search needs) (λ c κs. search needs) returns-2)

@@ -1,6 +1,5 @@
--- `octets::number48` meets its contract: the number is made of that of two octets and that of the four behind.
--- Assumes nothing.
-use mathlib.Core.Path.{_≡_, refl, sym, _∙_}
+-- `octets::number48` meets its contract: the number is made of that of two octets and that of the four behind. Assumes nothing.
+use mathlib.Core.Path.{_≡_, sym, _∙_}
 use mathlib.Core.List.{List}
 use Prim.Native.Nat.{ℕ, _+_, _*_}
 use native.Mathlib.Omega.{arith}
@@ -13,9 +12,6 @@ use Rattle.octets.proofs.Lists.{tail-part}
 use Rattle.octets.proofs.number48.Statement.{statement}
 use Rattle.octets.proofs.number48.Tie as tie
 
-returns : tie.Need-returns
-returns c = (sym (number-past 6 (now (c .before .before .args .s)) _ (c .if1 .taken)), search needs)
-
 joined : (s : List ℕ) → numberAt 2 s 0 * 4294967296 + numberAt 4 s 2 ≡ numberAt 6 s 0
 joined s = omega arith
 
@@ -27,15 +23,6 @@ returns-2 c =
 pub number48-spec : {M : Type 1} → statement M
 number48-spec =
     tie.close
-    (tie.spec
-    returns
-    (λ c. search needs)
-    (λ c. search needs)
-    (λ c. search needs)
-    (λ c κs. search needs)
-    (λ c. search needs)
-    (λ c. search needs)
-    (λ c κs. search needs)
-    (λ c. search needs)
-    (λ c. search needs)
-    returns-2)
+    (tie.spec (λ c. (sym (number-past 6 (now (c .before .before .args .s)) _ (c .if1 .taken)), search needs))
+    (λ c. search needs) (λ c. search needs) (λ c. search needs) (λ c κs. search needs) (λ c. search needs) (λ c. search needs) (λ c κs. search needs)
+    (λ c. search needs) (λ c. search needs) returns-2)

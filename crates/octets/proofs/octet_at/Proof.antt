@@ -1,5 +1,4 @@
--- `octets::octet_at` meets its contract: past the end there is no octet.
--- Assumes nothing.
+-- `octets::octet_at` meets its contract: past the end there is no octet. Assumes nothing.
 use mathlib.Core.Path.{sym}
 use lib.ListN.{List·getD-eq-default}
 use borrow.Author.Needs.{needs}
@@ -7,8 +6,8 @@ use denote.Ref.{now}
 use Rattle.octets.proofs.octet_at.Statement.{statement}
 use Rattle.octets.proofs.octet_at.Tie as tie
 
-returns-2 : tie.Need-returns-2
-returns-2 c = sym (List·getD-eq-default (now (c .before .args .s)) 0 (c .if1 .left))
-
 pub octet-at-spec : {M : Type 1} → statement M
-octet-at-spec = tie.close (tie.spec (λ c. search needs) (λ c. search needs) returns-2)
+octet-at-spec =
+    tie.close
+    (tie.spec (λ c. search needs) (λ c. search needs)
+    (λ c. sym (List·getD-eq-default (now (c .before .args .s)) 0 (c .if1 .left))))

@@ -1,17 +1,16 @@
--- `olt::acknowledge` meets its contract: the unit is found, decides, and is put back.
--- Assumes nothing.
+-- `olt::acknowledge` meets its contract: the unit is found, decides, and is put back. Assumes nothing.
 use mathlib.Core.Path.{ap}
 use Prim.Native.Nat.{_<_}
 use borrow.Author.Needs.{needs}
 use Rattle.refusal.specs.declared.Verdict.the-variants.{Accepted}
-use Rattle.ends.specs.Lift.{outcome}
+use Rattle.protocol.specs.Lift.{outcome}
 use Rattle.ends.specs.Limits.{maxUnits}
-use Rattle.ends.specs.Replies.{silent}
+use Rattle.protocol.specs.Replies.{silent}
 use Rattle.ends.specs.Records.{withChannels}
 use Rattle.ends.specs.Table.{pastUnit, withUnit}
-use Rattle.ends.specs.OltCalls.{acknowledgeOf, oltAnswer}
-use Rattle.ends.specs.UnitCalls.{acknowledgeUnit}
-use Rattle.ends.proofs.OltCalls.{acknowledge-ordered}
+use Rattle.protocol.specs.OltCalls.{acknowledgeOf, oltAnswer}
+use Rattle.protocol.specs.UnitCalls.{acknowledgeUnit}
+use Rattle.protocol.proofs.OltCalls.{acknowledge-ordered}
 use Rattle.olt.proofs.Lookup.{located-below, lift-decided}
 use Rattle.olt.proofs.acknowledge.Statement.{statement}
 use Rattle.olt.proofs.acknowledge.Tie as tie
@@ -28,10 +27,14 @@ returns c =
     let a = at .before .args in
     let x = outcome (a .olt .shared) (done .result .verdict) (done .result .unit) silent in
     acknowledge-ordered (a .olt) (a .llid) (a .acknowledgement) _
-    (rw (numbered .verdict-number .ensures) (ap oltAnswer (lift-decided (a .olt) silent Accepted (a .llid) (acknowledgeUnit (a .acknowledgement)) (at .locate .result) x (at .locate .ensures .0) (done .ensures))))
+    (rw (numbered .verdict-number .ensures)
+    (ap oltAnswer
+    (lift-decided (a .olt) silent Accepted (a .llid) (acknowledgeUnit (a .acknowledgement)) (at .locate .result) x (at .locate .ensures .0) (done .ensures))))
 
 pub acknowledge-spec : {M : Type 1} → statement M
 acknowledge-spec =
-    tie.close (tie.spec (λ c κs. search needs) (λ c. let h = below c in search needs) (λ c. let h = below c in search needs)
-    (λ c κs. search needs) (λ c κs. search needs) (λ c. let h = below (c .before .before .before .before .before) in search needs)
-    (λ c. let h = below (c .before .before .before .before .before) in search needs) returns)
+    tie.close
+    (tie.spec (λ c κs. search needs) (λ c. let h = below c in search needs) (λ c. let h = below c in search needs) (λ c κs. search needs) (λ c κs. search needs)
+    (λ c. let h = below (c .before .before .before .before .before) in search needs)
+    (λ c. let h = below (c .before .before .before .before .before) in search needs)
+    returns)

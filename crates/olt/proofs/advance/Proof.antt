@@ -1,5 +1,4 @@
--- `olt::advance` meets its contract: the verdict says whether anything moves, and the first i units are moved where they stand.
--- Assumes nothing.
+-- `olt::advance` meets its contract: the verdict says whether anything moves, and the first i units are moved where they stand. Assumes nothing.
 use mathlib.Core.Bool.{true}
 use mathlib.Core.Path.{_≡_, refl, sym, ap, _∙_}
 use Prim.Native.Nat.{_+_, _-_, _≤_, _<_}
@@ -8,7 +7,7 @@ use lib.ListN.{length, getD}
 use borrow.Author.Needs.{needs}
 use Rattle.clock.specs.Ticks.{maxTick}
 use Rattle.ends.specs.Limits.{maxUnits}
-use Rattle.ends.specs.OltCalls.{advanceOrder}
+use Rattle.protocol.specs.OltCalls.{advanceOrder}
 use Rattle.ends.specs.Records.{withKeys, withTimer}
 use Rattle.ends.specs.Table.{pastUnit}
 use Rattle.ends.specs.Timers.{validTimer}
@@ -78,10 +77,11 @@ returns c =
 
 pub advance-spec : {M : Type 1} → statement M
 advance-spec =
-    tie.close (tie.spec Inv-loop μ-loop (λ c κs. search needs) (λ c κs. search needs) (λ c κs. search needs) (λ c κs. search needs)
-    (λ c κs. search needs) shared-after-requires (λ c. (omega arith, refl)) (λ c. let m = met c .3 in search needs)
+    tie.close
+    (tie.spec Inv-loop μ-loop (λ c κs. search needs) (λ c κs. search needs) (λ c κs. search needs) (λ c κs. search needs) (λ c κs. search needs)
+    shared-after-requires (λ c. (omega arith, refl)) (λ c. let m = met c .3 in search needs) (λ c. let m = met c .3 in search needs)
     (λ c. let m = met c .3 in search needs) (λ c. let m = met c .3 in search needs) (λ c. let m = met c .3 in search needs)
-    (λ c. let m = met c .3 in search needs) (λ c. let m = met c .3 in search needs) (λ c κs. search needs)
-    (λ c. let m = met (c .before) .3 in search needs) (λ c. let m = met (c .before) .3 in search needs)
-    (λ c. let m = met (c .before .before) .3 in search needs) (λ c. let m = met (c .before .before) .3 in search needs)
-    (λ c. let m = met (c .before .before .before) .3 in omega arith) (λ c. omega arith) loop-again returns)
+    (λ c. let m = met c .3 in search needs) (λ c κs. search needs) (λ c. let m = met (c .before) .3 in search needs)
+    (λ c. let m = met (c .before) .3 in search needs) (λ c. let m = met (c .before .before) .3 in search needs)
+    (λ c. let m = met (c .before .before) .3 in search needs) (λ c. let m = met (c .before .before .before) .3 in omega arith) (λ c. omega arith) loop-again
+    returns)

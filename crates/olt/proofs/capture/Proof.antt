@@ -1,17 +1,16 @@
--- `olt::capture` meets its contract: the unit is found, decides, and is put back.
--- Assumes nothing.
+-- `olt::capture` meets its contract: the unit is found, decides, and is put back. Assumes nothing.
 use mathlib.Core.Path.{ap}
 use Prim.Native.Nat.{_<_}
 use borrow.Author.Needs.{needs}
 use Rattle.refusal.specs.declared.Verdict.the-variants.{Accepted}
-use Rattle.ends.specs.Lift.{outcome}
+use Rattle.protocol.specs.Lift.{outcome}
 use Rattle.ends.specs.Limits.{maxUnits}
-use Rattle.ends.specs.Replies.{silent}
+use Rattle.protocol.specs.Replies.{silent}
 use Rattle.ends.specs.Records.{withChannels}
 use Rattle.ends.specs.Table.{pastUnit, withUnit}
-use Rattle.ends.specs.OltCalls.{captureOf, oltAnswer}
-use Rattle.ends.specs.UnitCalls.{captureUnit}
-use Rattle.ends.proofs.ClockCaptures.{capture-answered}
+use Rattle.protocol.specs.OltCalls.{captureOf, oltAnswer}
+use Rattle.protocol.specs.UnitCalls.{captureUnit}
+use Rattle.protocol.proofs.ClockCaptures.{capture-answered}
 use Rattle.olt.proofs.Lookup.{located-below, lift-decided}
 use Rattle.olt.proofs.capture.Statement.{statement}
 use Rattle.olt.proofs.capture.Tie as tie
@@ -28,10 +27,13 @@ returns c =
     let a = at .before .args in
     let x = outcome (a .olt .shared) (done .result .verdict) (done .result .unit) silent in
     capture-answered (a .olt) (a .llid) _
-    (rw (numbered .verdict-number .ensures) (ap oltAnswer (lift-decided (a .olt) silent Accepted (a .llid) captureUnit (at .locate .result) x (at .locate .ensures .0) (done .ensures))))
+    (rw (numbered .verdict-number .ensures)
+    (ap oltAnswer (lift-decided (a .olt) silent Accepted (a .llid) captureUnit (at .locate .result) x (at .locate .ensures .0) (done .ensures))))
 
 pub capture-spec : {M : Type 1} → statement M
 capture-spec =
-    tie.close (tie.spec (λ c κs. search needs) (λ c. let h = below c in search needs) (λ c. let h = below c in search needs)
-    (λ c κs. search needs) (λ c κs. search needs) (λ c. let h = below (c .before .before .before .before .before) in search needs)
-    (λ c. let h = below (c .before .before .before .before .before) in search needs) returns)
+    tie.close
+    (tie.spec (λ c κs. search needs) (λ c. let h = below c in search needs) (λ c. let h = below c in search needs) (λ c κs. search needs) (λ c κs. search needs)
+    (λ c. let h = below (c .before .before .before .before .before) in search needs)
+    (λ c. let h = below (c .before .before .before .before .before) in search needs)
+    returns)

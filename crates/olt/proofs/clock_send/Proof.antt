@@ -1,17 +1,16 @@
--- `olt::clock_send` meets its contract: the unit is found, decides, and is put back.
--- Assumes nothing.
+-- `olt::clock_send` meets its contract: the unit is found, decides, and is put back. Assumes nothing.
 use mathlib.Core.Path.{ap}
 use Prim.Native.Nat.{_<_}
 use borrow.Author.Needs.{needs}
 use Rattle.refusal.specs.declared.Verdict.the-variants.{Accepted}
-use Rattle.ends.specs.Lift.{outcome}
+use Rattle.protocol.specs.Lift.{outcome}
 use Rattle.ends.specs.Limits.{maxUnits}
-use Rattle.ends.specs.Messages.{noStamps}
+use Rattle.protocol.specs.Messages.{noStamps}
 use Rattle.ends.specs.Records.{withChannels}
 use Rattle.ends.specs.Table.{pastUnit, withUnit}
-use Rattle.ends.specs.OltCalls.{clockSendOf, clockSent}
-use Rattle.ends.specs.UnitCalls.{clockSendUnit}
-use Rattle.ends.proofs.OltCalls.{clock-send-ordered}
+use Rattle.protocol.specs.OltCalls.{clockSendOf, clockSent}
+use Rattle.protocol.specs.UnitCalls.{clockSendUnit}
+use Rattle.protocol.proofs.OltCalls.{clock-send-ordered}
 use Rattle.olt.proofs.Lookup.{located-below, lift-decided}
 use Rattle.olt.proofs.clock_send.Statement.{statement}
 use Rattle.olt.proofs.clock_send.Tie as tie
@@ -28,10 +27,13 @@ returns c =
     let a = at .before .args in
     let x = outcome (a .olt .shared) (done .result .verdict) (done .result .unit) (done .result .message) in
     clock-send-ordered (a .olt) (a .llid) _
-    (rw (numbered .verdict-number .ensures) (ap clockSent (lift-decided (a .olt) noStamps Accepted (a .llid) clockSendUnit (at .locate .result) x (at .locate .ensures .0) (done .ensures))))
+    (rw (numbered .verdict-number .ensures)
+    (ap clockSent (lift-decided (a .olt) noStamps Accepted (a .llid) clockSendUnit (at .locate .result) x (at .locate .ensures .0) (done .ensures))))
 
 pub clock-send-spec : {M : Type 1} → statement M
 clock-send-spec =
-    tie.close (tie.spec (λ c κs. search needs) (λ c. let h = below c in search needs) (λ c. let h = below c in search needs)
-    (λ c κs. search needs) (λ c κs. search needs) (λ c. let h = below (c .before .before .before .before .before .before) in search needs)
-    (λ c. let h = below (c .before .before .before .before .before .before) in search needs) returns)
+    tie.close
+    (tie.spec (λ c κs. search needs) (λ c. let h = below c in search needs) (λ c. let h = below c in search needs) (λ c κs. search needs) (λ c κs. search needs)
+    (λ c. let h = below (c .before .before .before .before .before .before) in search needs)
+    (λ c. let h = below (c .before .before .before .before .before .before) in search needs)
+    returns)

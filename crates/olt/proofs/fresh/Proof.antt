@@ -1,11 +1,10 @@
--- `olt::fresh` meets its contract: the tests are those of the definition, and decide what the record is made of.
--- Assumes nothing.
+-- `olt::fresh` meets its contract: the tests are those of the definition, and decide what the record is made of. Assumes nothing.
 use mathlib.Core.Path.{sym}
 use borrow.Author.Needs.{needs}
 use Rattle.octets.specs.Choice.{both, pick}
-use Rattle.ends.specs.OltCalls.{freshOltOf, oltAnswer}
+use Rattle.protocol.specs.OltCalls.{freshOltOf, oltAnswer}
 use Rattle.refusal.specs.Order.{refuseIf}
-use Rattle.ends.specs.Replies.{reply}
+use Rattle.protocol.specs.Replies.{reply}
 use Rattle.olt.proofs.fresh.Statement.{statement}
 use Rattle.olt.proofs.fresh.Tie as tie
 
@@ -44,12 +43,5 @@ returns-2 c =
 pub fresh-spec : {M : Type 1} → statement M
 fresh-spec =
     tie.close
-    (tie.spec
-    (λ c κs. search needs)
-    (λ c κs. search needs)
-    (λ c κs. search needs)
-    (λ c κs. search needs)
-    (λ c κs. search needs)
-    returns
-    (λ c κs. search needs)
+    (tie.spec (λ c κs. search needs) (λ c κs. search needs) (λ c κs. search needs) (λ c κs. search needs) (λ c κs. search needs) returns (λ c κs. search needs)
     returns-2)

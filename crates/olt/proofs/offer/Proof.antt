@@ -1,17 +1,16 @@
--- `olt::offer` meets its contract: the unit is found, decides, and is put back.
--- Assumes nothing.
+-- `olt::offer` meets its contract: the unit is found, decides, and is put back. Assumes nothing.
 use mathlib.Core.Path.{ap}
 use Prim.Native.Nat.{_<_}
 use borrow.Author.Needs.{needs}
 use Rattle.refusal.specs.declared.Verdict.the-variants.{Accepted}
-use Rattle.ends.specs.Lift.{outcome}
+use Rattle.protocol.specs.Lift.{outcome}
 use Rattle.ends.specs.Limits.{maxUnits}
-use Rattle.ends.specs.Messages.{noKeyMessage}
+use Rattle.protocol.specs.Messages.{noKeyMessage}
 use Rattle.ends.specs.Records.{withChannels}
 use Rattle.ends.specs.Table.{pastUnit, withUnit}
-use Rattle.ends.specs.OltCalls.{offerOf, keySent}
-use Rattle.ends.specs.UnitCalls.{offerUnit}
-use Rattle.ends.proofs.OltCalls.{offer-ordered}
+use Rattle.protocol.specs.OltCalls.{offerOf, keySent}
+use Rattle.protocol.specs.UnitCalls.{offerUnit}
+use Rattle.protocol.proofs.OltCalls.{offer-ordered}
 use Rattle.olt.proofs.Lookup.{located-below, lift-decided}
 use Rattle.olt.proofs.offer.Statement.{statement}
 use Rattle.olt.proofs.offer.Tie as tie
@@ -28,10 +27,14 @@ returns c =
     let a = at .before .args in
     let x = outcome (a .olt .shared) (done .result .verdict) (done .result .unit) (done .result .message) in
     offer-ordered (a .olt) (a .llid) (a .key) _
-    (rw (numbered .verdict-number .ensures) (ap keySent (lift-decided (a .olt) noKeyMessage Accepted (a .llid) (offerUnit (a .llid) (a .key)) (at .locate .result) x (at .locate .ensures .0) (done .ensures))))
+    (rw (numbered .verdict-number .ensures)
+    (ap keySent (lift-decided (a .olt) noKeyMessage Accepted (a .llid) (offerUnit (a .llid) (a .key)) (at .locate .result) x (at .locate .ensures .0)
+    (done .ensures))))
 
 pub offer-spec : {M : Type 1} → statement M
 offer-spec =
-    tie.close (tie.spec (λ c κs. search needs) (λ c. let h = below c in search needs) (λ c. let h = below c in search needs)
-    (λ c κs. search needs) (λ c κs. search needs) (λ c. let h = below (c .before .before .before .before .before .before) in search needs)
-    (λ c. let h = below (c .before .before .before .before .before .before) in search needs) returns)
+    tie.close
+    (tie.spec (λ c κs. search needs) (λ c. let h = below c in search needs) (λ c. let h = below c in search needs) (λ c κs. search needs) (λ c κs. search needs)
+    (λ c. let h = below (c .before .before .before .before .before .before) in search needs)
+    (λ c. let h = below (c .before .before .before .before .before .before) in search needs)
+    returns)

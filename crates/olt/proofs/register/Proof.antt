@@ -1,9 +1,8 @@
--- `olt::register` meets its contract: the verdict decides, and a fresh unit takes the next place.
--- Assumes nothing.
+-- `olt::register` meets its contract: the verdict decides, and a fresh unit takes the next place. Assumes nothing.
 use mathlib.Core.Path.{sym, _∙_}
 use borrow.Author.Needs.{needs}
-use Rattle.ends.specs.OltCalls.{registerOf, registering, oltAnswer}
-use Rattle.ends.specs.Replies.{reply}
+use Rattle.protocol.specs.OltCalls.{registerOf, registering, oltAnswer}
+use Rattle.protocol.specs.Replies.{reply}
 use Rattle.olt.proofs.Verdicts.{register-room}
 use Rattle.olt.proofs.register.Statement.{statement}
 use Rattle.olt.proofs.register.Tie as tie
@@ -25,5 +24,6 @@ returns-2 c =
 
 pub register-spec : {M : Type 1} → statement M
 register-spec =
-    tie.close (tie.spec (λ c κs. search needs) (λ c. search needs) (λ c κs. search needs) (λ c. search needs) (λ c κs. search needs)
-    with-one-more-requires (λ c κs. search needs) returns returns-2)
+    tie.close
+    (tie.spec (λ c κs. search needs) (λ c. search needs) (λ c κs. search needs) (λ c. search needs) (λ c κs. search needs) with-one-more-requires
+    (λ c κs. search needs) returns returns-2)

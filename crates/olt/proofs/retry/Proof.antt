@@ -1,17 +1,16 @@
--- `olt::retry` meets its contract: the unit is found, decides, and is put back.
--- Assumes nothing.
+-- `olt::retry` meets its contract: the unit is found, decides, and is put back. Assumes nothing.
 use mathlib.Core.Path.{ap}
 use Prim.Native.Nat.{_<_}
 use borrow.Author.Needs.{needs}
 use Rattle.refusal.specs.declared.Verdict.the-variants.{Accepted}
-use Rattle.ends.specs.Lift.{outcome}
+use Rattle.protocol.specs.Lift.{outcome}
 use Rattle.ends.specs.Limits.{maxUnits}
-use Rattle.ends.specs.Messages.{noKeyMessage}
+use Rattle.protocol.specs.Messages.{noKeyMessage}
 use Rattle.ends.specs.Records.{withChannels}
 use Rattle.ends.specs.Table.{pastUnit, withUnit}
-use Rattle.ends.specs.OltCalls.{retryOf, keySent}
-use Rattle.ends.specs.UnitCalls.{retryUnit}
-use Rattle.ends.proofs.OltCalls.{retry-ordered}
+use Rattle.protocol.specs.OltCalls.{retryOf, keySent}
+use Rattle.protocol.specs.UnitCalls.{retryUnit}
+use Rattle.protocol.proofs.OltCalls.{retry-ordered}
 use Rattle.olt.proofs.Lookup.{located-below, lift-decided}
 use Rattle.olt.proofs.retry.Statement.{statement}
 use Rattle.olt.proofs.retry.Tie as tie
@@ -28,10 +27,13 @@ returns c =
     let a = at .before .args in
     let x = outcome (a .olt .shared) (done .result .verdict) (done .result .unit) (done .result .message) in
     retry-ordered (a .olt) (a .llid) _
-    (rw (numbered .verdict-number .ensures) (ap keySent (lift-decided (a .olt) noKeyMessage Accepted (a .llid) (retryUnit (a .llid)) (at .locate .result) x (at .locate .ensures .0) (done .ensures))))
+    (rw (numbered .verdict-number .ensures)
+    (ap keySent (lift-decided (a .olt) noKeyMessage Accepted (a .llid) (retryUnit (a .llid)) (at .locate .result) x (at .locate .ensures .0) (done .ensures))))
 
 pub retry-spec : {M : Type 1} → statement M
 retry-spec =
-    tie.close (tie.spec (λ c κs. search needs) (λ c. let h = below c in search needs) (λ c. let h = below c in search needs)
-    (λ c κs. search needs) (λ c κs. search needs) (λ c. let h = below (c .before .before .before .before .before .before) in search needs)
-    (λ c. let h = below (c .before .before .before .before .before .before) in search needs) returns)
+    tie.close
+    (tie.spec (λ c κs. search needs) (λ c. let h = below c in search needs) (λ c. let h = below c in search needs) (λ c κs. search needs) (λ c κs. search needs)
+    (λ c. let h = below (c .before .before .before .before .before .before) in search needs)
+    (λ c. let h = below (c .before .before .before .before .before .before) in search needs)
+    returns)

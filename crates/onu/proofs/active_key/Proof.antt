@@ -1,7 +1,7 @@
 -- `active_key` meets its contract: its tests are those of the definition. Assumes nothing.
 use borrow.Author.Needs.{needs}
 use Rattle.octets.specs.Choice.{both}
-use Rattle.ends.specs.OnuCalls.{activeKey}
+use Rattle.protocol.specs.OnuCalls.{activeKey}
 use Rattle.onu.proofs.active_key.Statement.{statement}
 use Rattle.onu.proofs.active_key.Tie as tie
 

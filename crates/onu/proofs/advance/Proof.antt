@@ -1,10 +1,9 @@
--- `advance` meets its contract: its verdict is that of the reply, and an accepted advance passes its own test too.
--- Assumes nothing.
-use mathlib.Core.Path.{_≡_, sym, _∙_}
+-- `advance` meets its contract: its verdict is that of the reply, and an accepted advance passes its own test too. Assumes nothing.
+use mathlib.Core.Path.{sym, _∙_}
 use borrow.Author.Needs.{needs}
 use Rattle.refusal.proofs.Order.{refuse-accepted}
-use Rattle.ends.specs.Replies.{reply}
-use Rattle.ends.specs.OnuCalls.{onuAnswer, onuReply, advancingOnu, advanceOnuOf}
+use Rattle.protocol.specs.Replies.{reply}
+use Rattle.protocol.specs.OnuCalls.{onuAnswer, onuReply, advancingOnu, advanceOnuOf}
 use Rattle.onu.proofs.advance.Statement.{statement}
 use Rattle.onu.proofs.advance.Tie as tie
 
@@ -31,13 +30,5 @@ returns-2 c =
 pub advance-spec : {M : Type 1} → statement M
 advance-spec =
     tie.close
-    (tie.spec
-    (λ c κs. search needs)
-    (λ c κs. search needs)
-    (λ c κs. search needs)
-    (λ c. search needs)
-    advanced-requires
-    (λ c. search needs)
-    (λ c κs. search needs)
-    returns
-    returns-2)
+    (tie.spec (λ c κs. search needs) (λ c κs. search needs) (λ c κs. search needs) (λ c. search needs) advanced-requires (λ c. search needs)
+    (λ c κs. search needs) returns returns-2)

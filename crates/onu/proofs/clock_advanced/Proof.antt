@@ -2,7 +2,7 @@
 use borrow.Author.Needs.{needs}
 use borrow.Author.Tests.{eq-eqb, ne-eqb}
 use Rattle.octets.specs.Choice.{pick}
-use Rattle.ends.specs.OnuCalls.{onuClockAdvanced}
+use Rattle.protocol.specs.OnuCalls.{onuClockAdvanced}
 use Rattle.onu.proofs.clock_advanced.Statement.{statement}
 use Rattle.onu.proofs.clock_advanced.Tie as tie
 
@@ -15,5 +15,4 @@ unfolding onuClockAdvanced pick
 returns-2 c = rw (ne-eqb _ _ (c .before .if1 .left), c .local-after .ensures)
 
 pub clock-advanced-spec : {M : Type 1} → statement M
-clock-advanced-spec =
-    tie.close (tie.spec (λ c κs. search needs) (λ c κs. search needs) returns (λ c κs. search needs) returns-2)
+clock-advanced-spec = tie.close (tie.spec (λ c κs. search needs) (λ c κs. search needs) returns (λ c κs. search needs) returns-2)

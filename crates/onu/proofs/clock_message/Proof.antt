@@ -1,9 +1,9 @@
 -- `clock_message` meets its contract: its verdict is that of the reply. Assumes nothing.
 use mathlib.Core.Path.{sym, _∙_}
 use borrow.Author.Needs.{needs}
-use Rattle.ends.specs.Replies.{reply}
+use Rattle.protocol.specs.Replies.{reply}
 use Rattle.ends.specs.Records.{withOnuClock}
-use Rattle.ends.specs.OnuCalls.{onuAcknowledged, onuReply, onuSynced, clockMessageTo, clockMessageAt}
+use Rattle.protocol.specs.OnuCalls.{onuAcknowledged, onuReply, onuSynced, clockMessageTo, clockMessageAt}
 use Rattle.onu.proofs.clock_message.Statement.{statement}
 use Rattle.onu.proofs.clock_message.Tie as tie
 

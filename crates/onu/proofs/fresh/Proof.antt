@@ -1,8 +1,8 @@
 -- `fresh` meets its contract: what `fresh_verdict` tells is the verdict of the reply. Assumes nothing.
 use mathlib.Core.Path.{sym, _∙_}
 use borrow.Author.Needs.{needs}
-use Rattle.ends.specs.Replies.{reply}
-use Rattle.ends.specs.OnuCalls.{onuAnswer, freshOnuOf}
+use Rattle.protocol.specs.Replies.{reply}
+use Rattle.protocol.specs.OnuCalls.{onuAnswer, freshOnuOf}
 use Rattle.onu.proofs.fresh.Statement.{statement}
 use Rattle.onu.proofs.fresh.Tie as tie
 
@@ -21,12 +21,5 @@ returns-2 c =
 pub fresh-spec : {M : Type 1} → statement M
 fresh-spec =
     tie.close
-    (tie.spec
-    (λ c κs. search needs)
-    (λ c. search needs)
-    (λ c κs. search needs)
-    (λ c. search needs)
-    (λ c κs. search needs)
-    (λ c κs. search needs)
-    returns
+    (tie.spec (λ c κs. search needs) (λ c. search needs) (λ c κs. search needs) (λ c. search needs) (λ c κs. search needs) (λ c κs. search needs) returns
     returns-2)

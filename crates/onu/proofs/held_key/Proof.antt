@@ -4,7 +4,7 @@ use Prim.Native.Nat.{_+_, _-_, _%_}
 use native.Mathlib.Omega.{arith}
 use borrow.Author.Needs.{needs}
 use Rattle.octets.specs.Choice.{both}
-use Rattle.ends.specs.OnuCalls.{heldKey}
+use Rattle.protocol.specs.OnuCalls.{heldKey}
 use Rattle.ends.proofs.Keys.{key-index}
 use Rattle.onu.proofs.held_key.Statement.{statement}
 use Rattle.onu.proofs.held_key.Tie as tie

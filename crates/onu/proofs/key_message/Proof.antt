@@ -1,9 +1,9 @@
 -- `key_message` meets its contract: its verdict is that of the reply, and the test of a new key serves verdict and keys. Assumes nothing.
 use mathlib.Core.Path.{sym, _∙_}
 use borrow.Author.Needs.{needs}
-use Rattle.ends.specs.Replies.{reply}
+use Rattle.protocol.specs.Replies.{reply}
 use Rattle.ends.specs.Records.{withOnuKeys}
-use Rattle.ends.specs.OnuCalls.{onuAcknowledged, onuReply, keyMessageTo, keyMessageAt}
+use Rattle.protocol.specs.OnuCalls.{onuAcknowledged, onuReply, keyMessageTo, keyMessageAt}
 use Rattle.onu.proofs.key_message.Statement.{statement}
 use Rattle.onu.proofs.key_message.Tie as tie
 
@@ -19,12 +19,5 @@ returns-2 c =
 pub key-message-spec : {M : Type 1} → statement M
 key-message-spec =
     tie.close
-    (tie.spec
-    (λ c κs. search needs)
-    (λ c κs. search needs)
-    (λ c. search needs)
-    (λ c κs. search needs)
-    (λ c. search needs)
-    (λ c κs. search needs)
-    returns
+    (tie.spec (λ c κs. search needs) (λ c κs. search needs) (λ c. search needs) (λ c κs. search needs) (λ c. search needs) (λ c κs. search needs) returns
     returns-2)

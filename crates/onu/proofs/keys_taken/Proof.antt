@@ -4,7 +4,7 @@ use mathlib.Core.Path.{_≡_, sym, _∙_, ap}
 use Prim.Native.Nat.{ℕ, _+_}
 use borrow.Author.Needs.{needs}
 use Rattle.octets.specs.Choice.{pick}
-use Rattle.ends.specs.OnuCalls.{newKey, keysTaken}
+use Rattle.protocol.specs.OnuCalls.{newKey, keysTaken}
 use Rattle.ends.specs.Keys.{withKey}
 use Rattle.onu.proofs.OnuCalls.{new-key-number}
 use Rattle.onu.proofs.keys_taken.Statement.{statement}
@@ -20,9 +20,8 @@ returns c =
     c .with-key .ensures ∙ ap (λ (n : ℕ). withKey (a .keys .slots) n (a .message .key)) (new-key-number _ _ t) in
     rw (t, s)
 
-returns-2 : tie.Need-returns-2
-unfolding keysTaken pick
-returns-2 c = rw (sym (c .before .pre), c .if1 .left)
-
 pub keys-taken-spec : {M : Type 1} → statement M
-keys-taken-spec = tie.close (tie.spec (λ c κs. search needs) returns returns-2)
+keys-taken-spec =
+    tie.close
+    (tie.spec (λ c κs. search needs) returns
+    (λ c. unfold keysTaken pick in rw (sym (c .before .pre), c .if1 .left)))

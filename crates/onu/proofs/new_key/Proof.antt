@@ -2,13 +2,9 @@
 use mathlib.Core.Path.{refl}
 use borrow.Author.Needs.{needs}
 use Rattle.octets.specs.Choice.{both}
-use Rattle.ends.specs.OnuCalls.{newKey}
+use Rattle.protocol.specs.OnuCalls.{newKey}
 use Rattle.onu.proofs.new_key.Statement.{statement}
 use Rattle.onu.proofs.new_key.Tie as tie
 
-returns : tie.Need-returns
-unfolding newKey both
-returns c = refl
-
 pub new-key-spec : {M : Type 1} → statement M
-new-key-spec = tie.close (tie.spec (λ c. search needs) (λ c. search needs) (λ c. search needs) returns)
+new-key-spec = tie.close (tie.spec (λ c. search needs) (λ c. search needs) (λ c. search needs) (λ c. unfold newKey both in refl))

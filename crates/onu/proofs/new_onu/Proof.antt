@@ -4,9 +4,5 @@ use Rattle.ends.specs.Records.{newOnu}
 use Rattle.onu.proofs.new_onu.Statement.{statement}
 use Rattle.onu.proofs.new_onu.Tie as tie
 
-returns : tie.Need-returns
-unfolding newOnu
-returns c = rw (c .kept-identity .ensures)
-
 pub new-onu-spec : {M : Type 1} → statement M
-new-onu-spec = tie.close (tie.spec (λ c κs. search needs) returns)
+new-onu-spec = tie.close (tie.spec (λ c κs. search needs) (λ c. unfold newOnu in rw (c .kept-identity .ensures)))

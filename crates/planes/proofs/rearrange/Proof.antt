@@ -1,5 +1,4 @@
--- `planes::rearrange` meets its contract: a refusal, or all octets moved; the laws hold of every payload.
--- Assumes nothing.
+-- `planes::rearrange` meets its contract: a refusal, or all octets moved; the laws hold of every payload. Assumes nothing.
 use Rattle.planes.proofs.Calls.{accepted-size, writing-accepted, writing-refused}
 use Rattle.planes.proofs.Planes.{planes-laws}
 use borrow.Author.Needs.{needs}
@@ -26,12 +25,4 @@ returns-2 c =
 
 pub rearrange-spec : {M : Type 1} → statement M
 rearrange-spec =
-    tie.close
-    (tie.spec
-    (λ c κs. search needs)
-    (λ c. search needs)
-    (λ c. search needs)
-    rearrange-blocks-requires
-    returns
-    (λ c. search needs)
-    returns-2)
+    tie.close (tie.spec (λ c κs. search needs) (λ c. search needs) (λ c. search needs) rearrange-blocks-requires returns (λ c. search needs) returns-2)

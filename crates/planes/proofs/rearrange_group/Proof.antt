@@ -1,5 +1,4 @@
--- `planes::rearrange_group` meets its contract: the three octets of the EQs before e are moved.
--- Assumes nothing.
+-- `planes::rearrange_group` meets its contract: the three octets of the EQs before e are moved. Assumes nothing.
 use Prim.Native.Nat.{_+_, _-_}
 use native.Mathlib.Omega.{arith}
 use lib.ListN.{length-set}
@@ -26,28 +25,7 @@ loop-again c =
 pub rearrange-group-spec : {M : Type 1} → statement M
 rearrange-group-spec =
     tie.close
-    (tie.spec
-    Inv-loop
-    μ-loop
-    (λ c. unmoved _ _ _ _ _ _ _ (omega arith))
-    (λ c. search needs)
-    (λ c. search needs)
-    (λ c. search needs)
-    (λ c. search needs)
-    (λ c. search needs)
-    (λ c. search needs)
-    (λ c. search needs)
-    (λ c. search needs)
-    (λ c. search needs)
-    (λ c. simp length-set (omega arith))
-    (λ c. search needs)
-    (λ c. search needs)
-    (λ c. search needs)
-    (λ c. search needs)
-    (λ c. search needs)
-    (λ c. simp length-set (omega arith))
-    (λ c. search needs)
-    (λ c. search needs)
-    loop-again
-    (λ c. search needs)
-    (λ c. fewer _ (omega arith) (c .before .loop .inv)))
+    (tie.spec Inv-loop μ-loop (λ c. unmoved _ _ _ _ _ _ _ (omega arith)) (λ c. search needs) (λ c. search needs) (λ c. search needs) (λ c. search needs)
+    (λ c. search needs) (λ c. search needs) (λ c. search needs) (λ c. search needs) (λ c. search needs) (λ c. simp length-set (omega arith)) (λ c. search needs)
+    (λ c. search needs) (λ c. search needs) (λ c. search needs) (λ c. search needs) (λ c. simp length-set (omega arith)) (λ c. search needs) (λ c. search needs)
+    loop-again (λ c. search needs) (λ c. fewer _ (omega arith) (c .before .loop .inv)))

@@ -1,5 +1,4 @@
--- `planes::restore` meets its contract: a refusal, or all octets moved; the laws hold of every payload.
--- Assumes nothing.
+-- `planes::restore` meets its contract: a refusal, or all octets moved; the laws hold of every payload. Assumes nothing.
 use Rattle.planes.proofs.Calls.{accepted-size, writing-accepted, writing-refused}
 use Rattle.planes.proofs.Planes.{planes-laws}
 use borrow.Author.Needs.{needs}
@@ -25,13 +24,4 @@ returns-2 c =
     (writing-accepted _ _ _ _ judged (moved .restore-blocks .ensures), planes-laws _)
 
 pub restore-spec : {M : Type 1} → statement M
-restore-spec =
-    tie.close
-    (tie.spec
-    (λ c κs. search needs)
-    (λ c. search needs)
-    (λ c. search needs)
-    restore-blocks-requires
-    returns
-    (λ c. search needs)
-    returns-2)
+restore-spec = tie.close (tie.spec (λ c κs. search needs) (λ c. search needs) (λ c. search needs) restore-blocks-requires returns (λ c. search needs) returns-2)

@@ -1,5 +1,4 @@
--- `planes::restore_block` meets its contract: the three groups are all nine octets.
--- Assumes nothing.
+-- `planes::restore_block` meets its contract: the three groups are all nine octets. Assumes nothing.
 use Rattle.planes.proofs.Moves.{more-octets}
 use borrow.Author.Needs.{needs}
 use Rattle.planes.proofs.restore_block.Statement.{statement}
@@ -15,11 +14,4 @@ returns c =
 pub restore-block-spec : {M : Type 1} → statement M
 restore-block-spec =
     tie.close
-    (tie.spec
-    (λ c κs. search needs)
-    (λ c. search needs)
-    (λ c κs. search needs)
-    (λ c. search needs)
-    (λ c κs. search needs)
-    (λ c. search needs)
-    returns)
+    (tie.spec (λ c κs. search needs) (λ c. search needs) (λ c κs. search needs) (λ c. search needs) (λ c κs. search needs) (λ c. search needs) returns)

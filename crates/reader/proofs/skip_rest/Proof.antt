@@ -1,5 +1,4 @@
--- `reader::skip_rest` is safe and ends: the measure is the number of turns that are left.
--- Assumes nothing.
+-- `reader::skip_rest` is safe and ends: the measure is the number of turns that are left. Assumes nothing.
 use native.Mathlib.Omega.{arith}
 use Rattle.reader.proofs.skip_rest.Statement.{statement}
 use Rattle.reader.proofs.skip_rest.Tie as tie
@@ -10,28 +9,5 @@ Inv-loop turns₀ turns = Unit {0}
 abbrev μ-loop : tie.MeasureT-loop
 μ-loop turns₀ turns = turns
 
-loop-holds : tie.Need-loop-holds Inv-loop μ-loop
-loop-holds c = tt
-
-skip-some-requires : tie.Need-skip-some-requires Inv-loop μ-loop
-skip-some-requires c κs = tt
-
-sub-turns : tie.Need-sub-turns Inv-loop μ-loop
-sub-turns c = omega arith
-
-loop-less : tie.Need-loop-less Inv-loop μ-loop
-loop-less c = omega arith
-
-loop-again : tie.Need-loop-again Inv-loop μ-loop
-loop-again c = tt
-
-returns : tie.Need-returns Inv-loop μ-loop
-returns c = tt
-
-returns-2 : tie.Need-returns-2 Inv-loop μ-loop
-returns-2 c = tt
-
 pub skip-rest-spec : {M : Type 1} → statement M
-skip-rest-spec =
-    tie.close
-    (tie.spec Inv-loop μ-loop loop-holds skip-some-requires sub-turns loop-less loop-again returns returns-2)
+skip-rest-spec = tie.close (tie.spec Inv-loop μ-loop (λ c. tt) (λ c κs. tt) (λ c. omega arith) (λ c. omega arith) (λ c. tt) (λ c. tt) (λ c. tt))

@@ -1,5 +1,4 @@
--- `refusal::refuse_if` meets its contract: either way of its test is that of `refuseIf`.
--- Assumes nothing.
+-- `refusal::refuse_if` meets its contract: either way of its test is that of `refuseIf`. Assumes nothing.
 use mathlib.Core.Path.{sym}
 use Rattle.refusal.proofs.Order.{refuse-passed, refuse-stopped}
 use Rattle.refusal.proofs.refuse_if.Statement.{statement}

@@ -1,11 +1,10 @@
--- `refusal::verdict_number` meets its contract: a refusal's number is the one that `number` gives.
--- Assumes nothing.
+-- `refusal::verdict_number` meets its contract: a refusal's number is the one that `number` gives. Assumes nothing.
 use borrow.Author.Needs.{needs}
 use Rattle.refusal.proofs.verdict_number.Statement.{statement}
 use Rattle.refusal.proofs.verdict_number.Tie as tie
 
-returns-2 : tie.Need-returns-2
-returns-2 c = rw (c .number .ensures, c .before .before .verdict .given .1)
-
 pub verdict-number-spec : {M : Type 1} → statement M
-verdict-number-spec = tie.close (tie.spec (λ c. search needs) (λ c. search needs) (λ c κs. search needs) (λ c. search needs) returns-2)
+verdict-number-spec =
+    tie.close
+    (tie.spec (λ c. search needs) (λ c. search needs) (λ c κs. search needs) (λ c. search needs)
+    (λ c. rw (c .number .ensures, c .before .before .verdict .given .1)))

@@ -1,5 +1,4 @@
--- `rows::decimal` meets its contract: as many digits as the number has.
--- Assumes nothing.
+-- `rows::decimal` meets its contract: as many digits as the number has. Assumes nothing.
 use native.Mathlib.Omega.{arith}
 use borrow.Author.Needs.{needs}
 use Rattle.rows.specs.Text.{digitCount, decimalOf}
@@ -13,9 +12,8 @@ put-digits-requires c κs =
     let n = c .before .args .n in
     (omega arith, omega arith, omega (arith, c .digit-count .ensures, digits-length 10 (digitCount n) n))
 
-returns : tie.Need-returns
-unfolding decimalOf
-returns c = rw (c .before .digit-count .ensures) at (c .put-digits .ensures)
-
 pub decimal-spec : {M : Type 1} → statement M
-decimal-spec = tie.close (tie.spec (λ c κs. search needs) put-digits-requires returns)
+decimal-spec =
+    tie.close
+    (tie.spec (λ c κs. search needs) put-digits-requires
+    (λ c. unfold decimalOf in rw (c .before .digit-count .ensures) at (c .put-digits .ensures)))

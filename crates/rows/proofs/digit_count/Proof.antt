@@ -1,5 +1,4 @@
--- `rows::digit_count` meets its contract. The loop's invariant: the digits counted and those of the rest are all.
--- Assumes nothing.
+-- `rows::digit_count` meets its contract. The loop's invariant: the digits counted and those of the rest are all. Assumes nothing.
 use mathlib.Core.Path.{_≡_}
 use Prim.Native.Nat.{suc, _+_, _-_, _/_, _≤_}
 use native.Mathlib.Omega.{arith}
@@ -14,20 +13,10 @@ Inv-loop n rest₀ count₀ rest count = (1 ≤ count) × (count ≤ mostDigits)
 abbrev μ-loop : tie.MeasureT-loop
 μ-loop n rest₀ count₀ rest count = mostDigits - count
 
-loop-holds : tie.Need-loop-holds Inv-loop μ-loop
-unfolding digitCount
-loop-holds c = (omega arith, omega arith, omega arith)
-
 returns : tie.Need-returns Inv-loop μ-loop
 returns c =
     let v = c .before .before .loop in
     omega (arith, v .inv .2, one-digit-only (mostDigits - v .count) (v .rest) (c .if1 .taken))
-
-add-count : tie.Need-add-count Inv-loop μ-loop
-add-count c = omega arith
-
-loop-less : tie.Need-loop-less Inv-loop μ-loop
-loop-less c = omega arith
 
 loop-again : tie.Need-loop-again Inv-loop μ-loop
 loop-again c =
@@ -46,4 +35,5 @@ returns-2 c =
 pub digit-count-spec : {M : Type 1} → statement M
 digit-count-spec =
     tie.close
-    (tie.spec Inv-loop μ-loop loop-holds returns add-count loop-less loop-again returns-2)
+    (tie.spec Inv-loop μ-loop (λ c. unfold digitCount in (omega arith, omega arith, omega arith)) returns (λ c. omega arith) (λ c. omega arith) loop-again
+    returns-2)

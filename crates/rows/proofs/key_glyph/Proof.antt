@@ -1,5 +1,4 @@
--- `rows::key_glyph` meets its contract: its test is that of `keyGlyph`.
--- Assumes nothing.
+-- `rows::key_glyph` meets its contract: its test is that of `keyGlyph`. Assumes nothing.
 use mathlib.Core.Path.{sym, _∙_}
 use native.Mathlib.Omega.{arith}
 use borrow.Author.Needs.{needs}
@@ -8,9 +7,6 @@ use Rattle.octets.proofs.Choice.{pick-true, pick-false}
 use Rattle.rows.specs.Text.{keyGlyph}
 use Rattle.rows.proofs.key_glyph.Statement.{statement}
 use Rattle.rows.proofs.key_glyph.Tie as tie
-
-add-result : tie.Need-add-result
-add-result c = omega (arith, c .enc-key .ensures, bit-below (c .before .before .before .args .h .flags) 1)
 
 returns : tie.Need-returns
 unfolding keyGlyph
@@ -23,4 +19,7 @@ returns-2 c = sym (pick-false _ _ (sym (c .before .enc-enabled .ensures) ∙ c .
 
 pub key-glyph-spec : {M : Type 1} → statement M
 key-glyph-spec =
-    tie.close (tie.spec (λ c κs. search needs) (λ c κs. search needs) add-result returns returns-2)
+    tie.close
+    (tie.spec (λ c κs. search needs) (λ c κs. search needs)
+    (λ c. omega (arith, c .enc-key .ensures, bit-below (c .before .before .before .args .h .flags) 1))
+    returns returns-2)

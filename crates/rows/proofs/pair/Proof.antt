@@ -1,5 +1,4 @@
--- `rows::pair` meets its contract: nothing for no pair, else a blank and its number.
--- Assumes nothing.
+-- `rows::pair` meets its contract: nothing for no pair, else a blank and its number. Assumes nothing.
 use mathlib.Core.Path.{sym, _∙_}
 use native.Mathlib.Omega.{arith}
 use borrow.Author.Needs.{needs}
@@ -10,21 +9,9 @@ use Rattle.rows.proofs.Lines.{both-grown, grown-as, none-grown, decimal
 use Rattle.rows.proofs.pair.Statement.{statement}
 use Rattle.rows.proofs.pair.Tie as tie
 
-pair-requires : tie.Need-pair-requires
-pair-requires c κs = search needs
-
 returns : tie.Need-returns
 unfolding pairText
 returns c = grown-as (none-grown _) (sym (pick-true _ _ (eq-eqb _ _ (sym (c .before .pair .ensures) ∙ c .if1 .taken))))
-
-push-requires : tie.Need-push-requires
-push-requires c κs = search needs
-
-cast-decimal : tie.Need-cast-decimal
-cast-decimal c = search needs
-
-decimal-requires : tie.Need-decimal-requires
-decimal-requires c κs = omega (arith, c .push .ensures .used, decimal-few (c .before .before .pair .result))
 
 returns-2 : tie.Need-returns-2
 unfolding pairText
@@ -34,4 +21,8 @@ returns-2 c =
     (rw (k .ensures) (sym (pick-false _ _ (ne-eqb _ _ (λ z. c .before .before .if1 .left (k .ensures ∙ z))))))
 
 pub pair-spec : {M : Type 1} → statement M
-pair-spec = tie.close (tie.spec pair-requires returns push-requires cast-decimal decimal-requires returns-2)
+pair-spec =
+    tie.close
+    (tie.spec (λ c κs. search needs) returns (λ c κs. search needs) (λ c. search needs)
+    (λ c κs. omega (arith, c .push .ensures .used, decimal-few (c .before .before .pair .result)))
+    returns-2)

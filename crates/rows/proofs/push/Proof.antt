@@ -1,5 +1,4 @@
--- `rows::push` meets its contract: the octet is stored behind what the line holds.
--- Assumes nothing.
+-- `rows::push` meets its contract: the octet is stored behind what the line holds. Assumes nothing.
 use mathlib.Core.Path.{refl}
 use Prim.Native.Nat.{_<_}
 use native.Mathlib.Numerals.{add-one}
@@ -9,12 +8,6 @@ use borrow.Author.Needs.{needs}
 use Rattle.rows.proofs.push.Statement.{statement}
 use Rattle.rows.proofs.push.Tie as tie
 
-element-write-next : tie.Need-element-write-next
-element-write-next c = search needs
-
-add-next : tie.Need-add-next
-add-next c = search needs
-
 returns : tie.Need-returns
 returns c =
     let l = c .args .line in
@@ -22,4 +15,4 @@ returns c =
     record { text = rw add-one (take-suc-set (l .octets) (l .used) (c .args .octet) h); used = refl }
 
 pub push-spec : {M : Type 1} → statement M
-push-spec = tie.close (tie.spec element-write-next add-next returns)
+push-spec = tie.close (tie.spec (λ c. search needs) (λ c. search needs) returns)

@@ -1,5 +1,4 @@
--- `rows::put_digits` meets its contract. The loop's invariant: what is written and the digits left are all.
--- Assumes nothing.
+-- `rows::put_digits` meets its contract. The loop's invariant: what is written and the digits left are all. Assumes nothing.
 use mathlib.Core.Path.{_≡_, refl, _∙_}
 use mathlib.Core.List.{_++_, append-nil}
 use Prim.Native.Nat.{_+_, _-_}
@@ -15,21 +14,6 @@ Inv-loop base count n next₀ left₀ next left =
 
 abbrev μ-loop : tie.MeasureT-loop
 μ-loop base count n next₀ left₀ next left = left
-
-loop-holds : tie.Need-loop-holds Inv-loop μ-loop
-loop-holds c = (refl, refl)
-
-sub-left : tie.Need-sub-left Inv-loop μ-loop
-sub-left c = omega arith
-
-digit-requires : tie.Need-digit-requires Inv-loop μ-loop
-digit-requires c κs = (omega arith, omega arith)
-
-push-requires : tie.Need-push-requires Inv-loop μ-loop
-push-requires c κs = omega arith
-
-loop-less : tie.Need-loop-less Inv-loop μ-loop
-loop-less c = omega arith
 
 loop-again : tie.Need-loop-again Inv-loop μ-loop
 loop-again c =
@@ -52,13 +36,5 @@ returns c =
 pub put-digits-spec : {M : Type 1} → statement M
 put-digits-spec =
     tie.close
-    (tie.spec
-    Inv-loop
-    μ-loop
-    loop-holds
-    sub-left
-    digit-requires
-    push-requires
-    loop-less
-    loop-again
+    (tie.spec Inv-loop μ-loop (λ c. (refl, refl)) (λ c. omega arith) (λ c κs. (omega arith, omega arith)) (λ c κs. omega arith) (λ c. omega arith) loop-again
     returns)

@@ -1,5 +1,4 @@
--- `rows::refused` meets its contract: the word, then the number.
--- Assumes nothing.
+-- `rows::refused` meets its contract: the word, then the number. Assumes nothing.
 use Prim.Native.Nat.{_≤_}
 use native.Mathlib.Omega.{arith}
 use lib.ListN.{length}
@@ -8,18 +7,6 @@ use Rattle.rows.proofs.Lines.{both-grown, grown-as, number-digits}
 use borrow.Author.Needs.{needs}
 use Rattle.rows.proofs.refused.Statement.{statement}
 use Rattle.rows.proofs.refused.Tie as tie
-
-push4-requires : tie.Need-push4-requires
-push4-requires c κs = search needs
-
-push4-requires-2 : tie.Need-push4-requires-2
-push4-requires-2 c κs = search needs
-
-number-requires : tie.Need-number-requires
-number-requires c κs = search needs
-
-cast-decimal : tie.Need-cast-decimal
-cast-decimal c = search needs
 
 decimal-requires : tie.Need-decimal-requires
 decimal-requires c κs =
@@ -34,12 +21,4 @@ returns c =
     (rw (c .before .number .ensures))
 
 pub refused-spec : {M : Type 1} → statement M
-refused-spec =
-    tie.close
-    (tie.spec
-    push4-requires
-    push4-requires-2
-    number-requires
-    cast-decimal
-    decimal-requires
-    returns)
+refused-spec = tie.close (tie.spec (λ c κs. search needs) (λ c κs. search needs) (λ c κs. search needs) (λ c. search needs) decimal-requires returns)

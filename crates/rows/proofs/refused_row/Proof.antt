@@ -1,17 +1,10 @@
--- `rows::refused_row` meets its contract: the text of the refusal, its pair and a line feed, on an empty line.
--- Assumes nothing.
+-- `rows::refused_row` meets its contract: the text of the refusal, its pair and a line feed, on an empty line. Assumes nothing.
 use native.Mathlib.Omega.{arith}
 use Rattle.rows.specs.Text.{refusedRow}
 use Rattle.rows.proofs.Lines.{both-grown, refused-few, pair-few, refused-row-few}
 use borrow.Author.Needs.{needs}
 use Rattle.rows.proofs.refused_row.Statement.{statement}
 use Rattle.rows.proofs.refused_row.Tie as tie
-
-refused-requires : tie.Need-refused-requires
-refused-requires c κs = search needs
-
-pair-requires : tie.Need-pair-requires
-pair-requires c κs = omega (arith, c .refused .ensures .used, refused-few (c .before .args .refusal))
 
 push-requires : tie.Need-push-requires
 push-requires c κs =
@@ -26,4 +19,8 @@ returns c =
     record { octets = g .text; used = omega (arith, g .used); inside = omega (arith, g .used, few) }
 
 pub refused-row-spec : {M : Type 1} → statement M
-refused-row-spec = tie.close (tie.spec refused-requires pair-requires push-requires returns)
+refused-row-spec =
+    tie.close
+    (tie.spec (λ c κs. search needs)
+    (λ c κs. omega (arith, c .refused .ensures .used, refused-few (c .before .args .refusal)))
+    push-requires returns)

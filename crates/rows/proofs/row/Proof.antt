@@ -1,14 +1,10 @@
--- `rows::row` meets its contract: head and tail on an empty line.
--- Assumes nothing.
+-- `rows::row` meets its contract: head and tail on an empty line. Assumes nothing.
 use native.Mathlib.Omega.{arith}
 use Rattle.rows.specs.Text.{rowOf}
 use Rattle.rows.proofs.Lines.{both-grown, decimal-few, head-few, row-few}
 use borrow.Author.Needs.{needs}
 use Rattle.rows.proofs.row.Statement.{statement}
 use Rattle.rows.proofs.row.Tie as tie
-
-row-head-requires : tie.Need-row-head-requires
-row-head-requires c κs = search needs
 
 row-tail-requires : tie.Need-row-tail-requires
 row-tail-requires c κs =
@@ -27,4 +23,4 @@ returns c =
     }
 
 pub row-spec : {M : Type 1} → statement M
-row-spec = tie.close (tie.spec row-head-requires row-tail-requires returns)
+row-spec = tie.close (tie.spec (λ c κs. search needs) row-tail-requires returns)

@@ -1,5 +1,4 @@
--- `rows::row_head` meets its contract: the pieces in their order.
--- Assumes nothing.
+-- `rows::row_head` meets its contract: the pieces in their order. Assumes nothing.
 use mathlib.Core.List.{List, [], _∷_, _++_, append-assoc}
 use Prim.Native.Nat.{ℕ, _+_, _≤_}
 use native.Mathlib.Omega.{arith}
@@ -11,12 +10,6 @@ use Rattle.rows.specs.Duties.{Grown}
 use Rattle.rows.proofs.Lines.{both-grown, grown-as, decimal-few}
 use Rattle.rows.proofs.row_head.Statement.{statement}
 use Rattle.rows.proofs.row_head.Tie as tie
-
-decimal-requires : tie.Need-decimal-requires
-decimal-requires c κs = omega (arith, decimal-few (c .args .k))
-
-push-requires : tie.Need-push-requires
-push-requires c κs = omega (arith, c .decimal .ensures .used, decimal-few (c .before .args .k))
 
 put-digits-requires : tie.Need-put-digits-requires
 put-digits-requires c κs =
@@ -61,13 +54,6 @@ returns c =
 pub row-head-spec : {M : Type 1} → statement M
 row-head-spec =
     tie.close
-    (tie.spec
-    decimal-requires
-    push-requires
-    (λ c. search needs)
-    put-digits-requires
-    push-requires-2
-    (λ c. search needs)
-    put-digits-requires-2
-    push-requires-3
-    returns)
+    (tie.spec (λ c κs. omega (arith, decimal-few (c .args .k)))
+    (λ c κs. omega (arith, c .decimal .ensures .used, decimal-few (c .before .args .k)))
+    (λ c. search needs) put-digits-requires push-requires-2 (λ c. search needs) put-digits-requires-2 push-requires-3 returns)

@@ -1,5 +1,4 @@
--- `rows::row_tail` meets its contract: the pieces in their order.
--- Assumes nothing.
+-- `rows::row_tail` meets its contract: the pieces in their order. Assumes nothing.
 use native.Mathlib.Omega.{arith}
 use borrow.Author.Needs.{needs}
 use Rattle.rows.specs.Text.{decimalOf, resultText, rowTail}

@@ -1,5 +1,4 @@
--- `store::move_octets` meets its contract: either call accepts.
--- Assumes nothing.
+-- `store::move_octets` meets its contract: either call accepts. Assumes nothing.
 use Rattle.planes.proofs.Calls.{wrote}
 use Rattle.store.specs.Duties.{moved}
 use borrow.Author.Needs.{needs}
@@ -19,12 +18,4 @@ returns-2 c =
     rw (call .before .before .if1 .left) (wrote _ _ _ _ _ (call .rearrange .ensures .0) (call .before .before .before .before .before .pre))
 
 pub move-octets-spec : {M : Type 1} → statement M
-move-octets-spec =
-    tie.close
-    (tie.spec
-    (λ c κs. search needs)
-    (λ c κs. search needs)
-    (λ c. search needs)
-    returns
-    (λ c. search needs)
-    returns-2)
+move-octets-spec = tie.close (tie.spec (λ c κs. search needs) (λ c κs. search needs) (λ c. search needs) returns (λ c. search needs) returns-2)

@@ -1,7 +1,5 @@
--- `store::move_payload` meets its contract: the part of the output has the payload's length, and comes back in its place.
--- Assumes nothing.
+-- `store::move_payload` meets its contract: the part of the output has the payload's length, and comes back in its place. Assumes nothing.
 use Rattle.store.proofs.Moves.{in-output, part-accepts, part-back}
-use native.Mathlib.Omega.{arith}
 use borrow.Author.Needs.{needs}
 use Rattle.store.proofs.move_payload.Statement.{statement}
 use Rattle.store.proofs.move_payload.Tie as tie
@@ -31,15 +29,5 @@ returns c =
 pub move-payload-spec : {M : Type 1} → statement M
 move-payload-spec =
     tie.close
-    (tie.spec
-    (λ c κs. search needs)
-    (λ c κs. search needs)
-    (λ c. search needs)
-    (λ c. search needs)
-    (λ c. search needs)
-    (λ c. search needs)
-    (λ c. search needs)
-    part-move-octets-end
-    move-octets-requires
-    (λ c. search needs)
-    returns)
+    (tie.spec (λ c κs. search needs) (λ c κs. search needs) (λ c. search needs) (λ c. search needs) (λ c. search needs) (λ c. search needs) (λ c. search needs)
+    part-move-octets-end move-octets-requires (λ c. search needs) returns)

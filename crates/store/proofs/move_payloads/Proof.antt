@@ -1,5 +1,4 @@
--- `store::move_payloads` meets its contract: the payloads of the records before i are moved, the rest of the output is the block's.
--- Assumes nothing.
+-- `store::move_payloads` meets its contract: the payloads of the records before i are moved, the rest of the output is the block's. Assumes nothing.
 use mathlib.Core.Path.{_≡_, sym, ap, _∙_}
 use mathlib.Core.List.{_++_}
 use Prim.Native.Nat.{_-_, _≤_}
@@ -45,9 +44,6 @@ loop-again c =
       call .move-payload .ensures ∙ done (loop .output) (loop .i) (omega (arith, at-loop .before .count .ensures)) (loop .inv .2),
     )
 
-same-length : tie.Need-same-length Inv-loop μ-loop
-same-length c = c .before .loop .inv .1 ∙ sym (ap length (c .before .before .before .before .before .pre .1))
-
 returns : tie.Need-returns Inv-loop μ-loop
 returns c =
     let at-loop = c .before in
@@ -59,14 +55,6 @@ returns c =
 pub move-payloads-spec : {M : Type 1} → statement M
 move-payloads-spec =
     tie.close
-    (tie.spec
-    Inv-loop
-    μ-loop
-    (λ c κs. search needs)
-    loop-holds
-    move-payload-requires
-    (λ c. search needs)
-    (λ c. search needs)
-    loop-again
-    same-length
+    (tie.spec Inv-loop μ-loop (λ c κs. search needs) loop-holds move-payload-requires (λ c. search needs) (λ c. search needs) loop-again
+    (λ c. c .before .loop .inv .1 ∙ sym (ap length (c .before .before .before .before .before .pre .1)))
     returns)

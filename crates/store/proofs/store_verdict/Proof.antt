@@ -1,5 +1,4 @@
--- `store::store_verdict` meets its contract.
--- Assumes nothing.
+-- `store::store_verdict` meets its contract. Assumes nothing.
 use Rattle.store.specs.Calls.{storeVerdict}
 use borrow.Author.Needs.{needs}
 use Rattle.store.proofs.store_verdict.Statement.{statement}

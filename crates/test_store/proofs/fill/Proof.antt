@@ -1,5 +1,4 @@
--- `test_store::fill` is safe and ends: as many octets are read as there is room for.
--- Assumes nothing.
+-- `test_store::fill` is safe and ends: as many octets are read as there is room for. Assumes nothing.
 use mathlib.Core.Path.{sym}
 use mathlib.Core.List.{_++_}
 use Prim.Native.Nat.{_≤_}
@@ -23,12 +22,4 @@ returns c =
     (within, sym (length-take-le _ (t ++ rest) within))
 
 pub fill-spec : {M : Type 1} → statement M
-fill-spec =
-    tie.close
-    (tie.spec
-    (λ c κs. search needs)
-    (λ c. search needs)
-    slice-aggregate-read-full
-    (λ c κs. search needs)
-    (λ c. search needs)
-    returns)
+fill-spec = tie.close (tie.spec (λ c κs. search needs) (λ c. search needs) slice-aggregate-read-full (λ c κs. search needs) (λ c. search needs) returns)

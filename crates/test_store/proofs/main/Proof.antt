@@ -1,5 +1,4 @@
--- `test_store::main` is safe and ends: the measure is the number of turns that are left.
--- Assumes nothing.
+-- `test_store::main` is safe and ends: the measure is the number of turns that are left. Assumes nothing.
 use native.Mathlib.Omega.{arith}
 use Rattle.test_store.proofs.main.Statement.{statement}
 use Rattle.test_store.proofs.main.Tie as tie
@@ -11,6 +10,4 @@ abbrev μ-loop : tie.MeasureT-loop
 μ-loop turns₀ turns = turns
 
 pub main-spec : {M : Type 1} → statement M
-main-spec =
-    tie.close
-    (tie.spec Inv-loop μ-loop (λ c. tt) (λ c κs. tt) (λ c. omega arith) (λ c. omega arith) (λ c. tt) (λ c. tt) (λ c. tt))
+main-spec = tie.close (tie.spec Inv-loop μ-loop (λ c. tt) (λ c κs. tt) (λ c. omega arith) (λ c. omega arith) (λ c. tt) (λ c. tt) (λ c. tt))

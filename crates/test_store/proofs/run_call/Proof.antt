@@ -1,5 +1,4 @@
--- `test_store::run_call` is safe and ends: what is lent is within the space.
--- Assumes nothing.
+-- `test_store::run_call` is safe and ends: what is lent is within the space. Assumes nothing.
 use mathlib.Core.Path.{sym}
 use native.Mathlib.Omega.{arith}
 use lib.Seq.{length-take-le}
@@ -13,11 +12,4 @@ slice-aggregate-show-case c =
 
 pub run-call-spec : {M : Type 1} → statement M
 run-call-spec =
-    tie.close
-    (tie.spec
-    (λ c κs. search needs)
-    (λ c κs. search needs)
-    (λ c. search needs)
-    slice-aggregate-show-case
-    (λ c κs. search needs)
-    (λ c. search needs))
+    tie.close (tie.spec (λ c κs. search needs) (λ c κs. search needs) (λ c. search needs) slice-aggregate-show-case (λ c κs. search needs) (λ c. search needs))

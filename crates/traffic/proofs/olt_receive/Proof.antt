@@ -1,15 +1,14 @@
--- `traffic::olt_receive` meets its contract: the unit is found, decides, and is put back, and the payload is opened where it accepts.
--- Assumes nothing.
+-- `traffic::olt_receive` meets its contract: the unit is found, decides, and is put back, and the payload is opened where it accepts. Assumes nothing.
 use mathlib.Core.Path.{_≡_, ap, _∙_}
 use Prim.Native.Nat.{_<_}
 use borrow.Author.Needs.{needs}
 use Rattle.refusal.specs.declared.Verdict.{Verdict}
-use Rattle.ends.specs.Lift.{Outcome, outcome}
+use Rattle.protocol.specs.Lift.{Outcome, outcome}
 use Rattle.ends.specs.Limits.{maxUnits}
 use Rattle.ends.specs.Records.{withChannels}
 use Rattle.ends.specs.Table.{pastUnit, withUnit}
-use Rattle.ends.specs.declared.Passage.{Passage}
-use Rattle.ends.proofs.OltTraffic.{receiveAhead}
+use Rattle.protocol.specs.declared.Passage.{Passage}
+use Rattle.protocol.proofs.OltTraffic.{receiveAhead}
 use Rattle.olt.specs.Lookup.{locatedOf}
 use Rattle.olt.proofs.Lookup.{located-below}
 use Rattle.traffic.specs.Passages.{misfit}
@@ -30,7 +29,8 @@ below c = located-below _ _ _ _ (here c)
 
 -- what the unit decides
 abbrev answer : tie.After-receive → Outcome Passage
-answer c = let d = c .receive .result in outcome (c .before .before .before .before .before .before .before .args .olt .shared) (d .verdict) (d .unit) (d .passage)
+answer c = let d = c .receive .result in
+    outcome (c .before .before .before .before .before .before .before .args .olt .shared) (d .verdict) (d .unit) (d .passage)
 
 decided : (c : tie.After-receive) → let at = c .before .before .before in let a = at .before .before .before .before .args in
     answer c ≡ receiveDecided (a .olt) (a .header) (a .octets .now) (a .output .now) (at .locate .result)
@@ -59,8 +59,9 @@ returns c =
 
 pub olt-receive-spec : {M : Type 1} → statement M
 olt-receive-spec =
-    tie.close (tie.spec (λ c κs. search needs) (λ c κs. search needs) (λ c. let h = below c in search needs)
-    (λ c. let h = below c in search needs) (λ c κs. search needs) carry-accepted-requires (λ c κs. search needs)
+    tie.close
+    (tie.spec (λ c κs. search needs) (λ c κs. search needs) (λ c. let h = below c in search needs) (λ c. let h = below c in search needs) (λ c κs. search needs)
+    carry-accepted-requires (λ c κs. search needs)
     (λ c. let h = below (c .before .before .before .before .before .before .before .before .before .before) in search needs)
     (λ c. let h = below (c .before .before .before .before .before .before .before .before .before .before) in search needs)
     (λ c. search needs) returns)

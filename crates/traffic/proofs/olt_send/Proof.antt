@@ -1,5 +1,4 @@
--- `traffic::olt_send` meets its contract: the unit is found, decides, and is put back, and the payload is sealed where it accepts.
--- Assumes nothing.
+-- `traffic::olt_send` meets its contract: the unit is found, decides, and is put back, and the payload is sealed where it accepts. Assumes nothing.
 use mathlib.Core.Path.{_≡_, ap, _∙_}
 use Prim.Native.Nat.{_<_}
 use borrow.Author.Needs.{needs}
@@ -7,7 +6,7 @@ use Rattle.refusal.specs.declared.Verdict.{Verdict}
 use Rattle.ends.specs.Limits.{maxUnits}
 use Rattle.ends.specs.Records.{withChannels}
 use Rattle.ends.specs.Table.{pastUnit, withUnit}
-use Rattle.ends.proofs.OltTraffic.{sendAhead}
+use Rattle.protocol.proofs.OltTraffic.{sendAhead}
 use Rattle.unit.specs.Reached.{sentOutcome}
 use Rattle.olt.specs.Lookup.{locatedOf}
 use Rattle.olt.proofs.Lookup.{located-below}
@@ -42,7 +41,8 @@ carry-accepted-requires c κs =
     let sent = c .before .before .before .before .before .before in
     let at = sent .before .before .before in
     let a = at .before .before .before .before .args in
-    send-fits (a .olt) (a .llid) (a .channel) (a .payload .now) (a .output .now) (at .locate .result) (here at) (sentOutcome (sent .send .result)) (decided sent)
+    send-fits (a .olt) (a .llid) (a .channel) (a .payload .now) (a .output .now) (at .locate .result) (here at) (sentOutcome (sent .send .result))
+    (decided sent)
 
 returns : tie.Need-returns
 unfolding sentOutcome withUnit withChannels
@@ -54,13 +54,15 @@ returns c =
     let a = at .before .before .before .before .args in
     olt-send-ordered (a .olt) (a .llid) (a .channel) (a .payload .now) (a .output .now) _ _
     (rw (numbered .verdict-number .ensures)
-    (olt-send-done (a .olt) (a .llid) (a .channel) (a .payload .now) (a .output .now) (at .locate .result) (here at) (sentOutcome (sent .send .result)) (decided sent) _ _
+    (olt-send-done (a .olt) (a .llid) (a .channel) (a .payload .now) (a .output .now) (at .locate .result) (here at) (sentOutcome (sent .send .result))
+    (decided sent) _ _
     (carried .carry-accepted .ensures)))
 
 pub olt-send-spec : {M : Type 1} → statement M
 olt-send-spec =
-    tie.close (tie.spec (λ c κs. search needs) (λ c κs. search needs) (λ c. let h = below c in search needs)
-    (λ c. let h = below c in search needs) (λ c κs. search needs) carry-accepted-requires (λ c κs. search needs)
+    tie.close
+    (tie.spec (λ c κs. search needs) (λ c κs. search needs) (λ c. let h = below c in search needs) (λ c. let h = below c in search needs) (λ c κs. search needs)
+    carry-accepted-requires (λ c κs. search needs)
     (λ c. let h = below (c .before .before .before .before .before .before .before .before .before .before .before .before .before .before) in search needs)
     (λ c. let h = below (c .before .before .before .before .before .before .before .before .before .before .before .before .before .before) in search needs)
     (λ c. search needs) returns)

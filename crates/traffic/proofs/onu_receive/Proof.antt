@@ -1,9 +1,8 @@
--- `traffic::onu_receive` meets its contract: what `receive` decides is the reply, and what is then carried is what the reply leaves.
--- Assumes nothing.
+-- `traffic::onu_receive` meets its contract: what `receive` decides is the reply, and what is then carried is what the reply leaves. Assumes nothing.
 use mathlib.Core.Bool.{Bool}
 use mathlib.Core.Path.{_≡_, ap, _∙_}
 use borrow.Author.Needs.{needs}
-use Rattle.ends.specs.OnuTraffic.{receivingOnu}
+use Rattle.protocol.specs.OnuTraffic.{receivingOnu}
 use Rattle.traffic.specs.Passages.{misfit}
 use Rattle.traffic.specs.Receipts.{onuReceiving}
 use Rattle.traffic.proofs.Receipts.{onuReceiveDecided, onu-receive-fits, onu-receive-done}
@@ -37,6 +36,4 @@ returns c =
     (onu-receive-done (a .onu) (a .header) (a .octets .now) (a .output .now) _ _ (rw d at (carried .carry-accepted .ensures)))
 
 pub onu-receive-spec : {M : Type 1} → statement M
-onu-receive-spec =
-    tie.close
-    (tie.spec (λ c κs. search needs) (λ c κs. search needs) carry-accepted-requires (λ c κs. search needs) (λ c. search needs) returns)
+onu-receive-spec = tie.close (tie.spec (λ c κs. search needs) (λ c κs. search needs) carry-accepted-requires (λ c κs. search needs) (λ c. search needs) returns)

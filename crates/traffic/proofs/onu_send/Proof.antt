@@ -1,10 +1,9 @@
--- `traffic::onu_send` meets its contract: what `send` decides is the reply, and what is then carried is what the reply leaves.
--- Assumes nothing.
+-- `traffic::onu_send` meets its contract: what `send` decides is the reply, and what is then carried is what the reply leaves. Assumes nothing.
 use mathlib.Core.Bool.{Bool}
 use mathlib.Core.Path.{_≡_, sym, ap, _∙_}
 use borrow.Author.Needs.{needs}
 use Rattle.envelope.specs.ControlMask.{eqsOf}
-use Rattle.ends.specs.OnuTraffic.{sendingOnu}
+use Rattle.protocol.specs.OnuTraffic.{sendingOnu}
 use Rattle.traffic.specs.Passages.{misfit}
 use Rattle.traffic.specs.Sends.{onuSending}
 use Rattle.traffic.proofs.Passages.{few-eqs}
@@ -46,6 +45,4 @@ returns c =
     (onu-send-done (a .onu) (a .llid) (a .channel) (a .payload .now) (a .output .now) _ _ (rw d at (carried .carry-accepted .ensures)))
 
 pub onu-send-spec : {M : Type 1} → statement M
-onu-send-spec =
-    tie.close
-    (tie.spec (λ c κs. search needs) send-requires carry-accepted-requires (λ c κs. search needs) (λ c. search needs) returns)
+onu-send-spec = tie.close (tie.spec (λ c κs. search needs) send-requires carry-accepted-requires (λ c κs. search needs) (λ c. search needs) returns)

@@ -51,6 +51,7 @@ layout!(BlockPart, 24, number: 0, pair: 2, offset: 8, length: 16);
 layout!(BlockAnswer, 16, number: 0, pair: 2, count: 8);
 layout!(StoreAnswer, 4, number: 0, pair: 2);
 layout!(Comparison, 8, number: 0, block: 1, pair: 2, entries: 4, total: 6);
+layout!(Loss, 16, number: 0, step: 8);
 layout!(KeyExchange, 3, state: 0, oldkey: 1, newkey: 2);
 layout!(InputRecord, 2, kind: 0, index: 1);
 layout!(KeyControl, 2, kind: 0, index: 1);

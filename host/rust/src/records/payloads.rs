@@ -97,3 +97,12 @@ pub struct Comparison {
     /// Records of the LLID asked for that are alone, in both blocks.
     pub total: u16,
 }
+
+/// What a script comes to.
+#[repr(C)]
+#[derive(Clone, Copy, Debug, Default, PartialEq, Eq)]
+pub struct Loss {
+    pub number: u8,
+    /// From 1; 0 where no single loss matters, and if refused.
+    pub step: usize,
+}

@@ -4,6 +4,7 @@
 
 pub mod aes;
 pub mod capture;
+pub mod losses;
 pub mod olt;
 pub mod onu;
 pub mod payload;

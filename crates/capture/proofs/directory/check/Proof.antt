@@ -1,6 +1,5 @@
 -- `capture::directory::check` meets its contract: the loop's invariant: the next record is due at `due`, and the
--- verdict on the whole directory is that on the pairs from i on.
--- Assumes nothing.
+-- verdict on the whole directory is that on the pairs from i on. Assumes nothing.
 use mathlib.Core.Path.{_≡_, sym, ap, _∙_}
 use Prim.Native.Nat.{_+_, _-_, _≤_}
 use native.Mathlib.Omega.{arith}
@@ -59,14 +58,6 @@ seen : (c : tie.After-pair-of Inv-loop μ-loop)
 seen c =
     c .before .before .before .before .loop .inv .2 ∙ pairs-at _ _ _ (c .before .before .before .loop-test .taken) ∙ rw (c .pair-of .ensures)
 
-returns-2 : tie.Need-returns-2 Inv-loop μ-loop
-unfolding withPair
-returns-2 c = (sym (seen (c .before .before) ∙ rw (c .enum-told2 .given .1)), judged _)
-
-returns-3 : tie.Need-returns-3 Inv-loop μ-loop
-unfolding withPair
-returns-3 c = (sym (seen (c .before .before) ∙ rw (c .enum-told3 .given .1)), judged _)
-
 loop-again : tie.Need-loop-again Inv-loop μ-loop
 unfolding withPair endOf
 loop-again c =
@@ -88,28 +79,10 @@ returns-4 c =
 pub check-spec : {M : Type 1} → statement M
 check-spec =
     tie.close
-    (tie.spec
-    Inv-loop
-    μ-loop
-    (λ c κs. search needs)
-    (λ c κs. c .count .ensures)
-    returns
-    (λ c κs. search needs)
-    loop-holds
-    (λ c κs. search needs)
+    (tie.spec Inv-loop μ-loop (λ c κs. search needs) (λ c κs. c .count .ensures) returns (λ c κs. search needs) loop-holds (λ c κs. search needs)
+    (λ c. search needs) (λ c κs. search needs) (λ c. search needs) (λ c. search needs) pair-of-requires (λ c. search needs) (λ c. search needs)
     (λ c. search needs)
-    (λ c κs. search needs)
-    (λ c. search needs)
-    (λ c. search needs)
-    pair-of-requires
-    (λ c. search needs)
-    (λ c. search needs)
-    (λ c. search needs)
-    returns-2
-    (λ c. search needs)
-    (λ c. search needs)
-    returns-3
-    (λ c. search needs)
-    (λ c. omega arith)
-    loop-again
-    returns-4)
+    (λ c. unfold withPair in (sym (seen (c .before .before) ∙ rw (c .enum-told2 .given .1)), judged _))
+    (λ c. search needs) (λ c. search needs)
+    (λ c. unfold withPair in (sym (seen (c .before .before) ∙ rw (c .enum-told3 .given .1)), judged _))
+    (λ c. search needs) (λ c. omega arith) loop-again returns-4)

@@ -1,5 +1,4 @@
--- `capture::directory::pair_of` meets its contract: each test that leads to a return is one of `pairOf`.
--- Assumes nothing.
+-- `capture::directory::pair_of` meets its contract: each test that leads to a return is one of `pairOf`. Assumes nothing.
 use mathlib.Core.Path.{_≡_, sym, ap, _∙_}
 use mathlib.Core.Bool.{Bool}
 use mathlib.Core.List.{List}
@@ -38,9 +37,6 @@ tested c = let pre = c .before .before .before .pre in rw (← pre .end, ← pre
 returns-2 : tie.Need-returns-2
 returns-2 c = pair-off-end _ _ (placed (c .before .before)) (tested (c .before) ∙ not-true _ (c .if2 .taken))
 
-part-is-sized-end : tie.Need-part-is-sized-end
-part-is-sized-end c = end-within _ _ _ (sym (c .before .ends-right .ensures) ∙ not-false _ (c .if2 .left))
-
 abbrev start : tie.After-is-sized → tie.Start
 start c = c .before .before .before .before .before .before
 
@@ -59,23 +55,9 @@ in-chain c =
     ap (λ (t : Bool). pick t Fits OffLength) (handed c)
     ∙ pair-chained _ _ (placed (at-end .before .before)) (tested (at-end .before) ∙ not-false _ (at-end .if2 .left))
 
-returns-3 : tie.Need-returns-3
-returns-3 c = sym (pick-true _ _ (c .if3 .taken)) ∙ in-chain (c .before)
-
-returns-4 : tie.Need-returns-4
-returns-4 c = sym (pick-false _ _ (c .if3 .left)) ∙ in-chain (c .before)
-
 pub pair-of-spec : {M : Type 1} → statement M
 pair-of-spec =
     tie.close
-    (tie.spec
-    returns
-    (λ c. search needs)
-    (λ c κs. search needs)
-    returns-2
-    (λ c. search needs)
-    (λ c. search needs)
-    part-is-sized-end
-    (λ c κs. search needs)
-    returns-3
-    returns-4)
+    (tie.spec returns (λ c. search needs) (λ c κs. search needs) returns-2 (λ c. search needs) (λ c. search needs)
+    (λ c. end-within _ _ _ (sym (c .before .ends-right .ensures) ∙ not-false _ (c .if2 .left)))
+    (λ c κs. search needs) (λ c. sym (pick-true _ _ (c .if3 .taken)) ∙ in-chain (c .before)) (λ c. sym (pick-false _ _ (c .if3 .left)) ∙ in-chain (c .before)))

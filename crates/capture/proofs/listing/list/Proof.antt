@@ -1,5 +1,4 @@
--- `capture::listing::list` meets its contract: the heading, then what stands behind it.
--- Assumes nothing.
+-- `capture::listing::list` meets its contract: the heading, then what stands behind it. Assumes nothing.
 use mathlib.Core.Path.{sym, ap, _∙_}
 use mathlib.Core.List.{List, _++_}
 use Prim.Native.Nat.{ℕ, _≤_}
@@ -12,15 +11,6 @@ use Rattle.capture.proofs.Lines.{same-behind}
 use borrow.Author.Needs.{needs}
 use Rattle.capture.proofs.listing.list.Statement.{statement}
 use Rattle.capture.proofs.listing.list.Tie as tie
-
-slice-aggregate-append : tie.Need-slice-aggregate-append
-slice-aggregate-append c = search needs
-
-append-requires : tie.Need-append-requires
-append-requires c κs = search needs
-
-put-body-requires : tie.Need-put-body-requires
-put-body-requires c κs = search needs
 
 returns : tie.Need-returns
 unfolding listingOf
@@ -35,4 +25,4 @@ returns c =
     )
 
 pub list-spec : {M : Type 1} → statement M
-list-spec = tie.close (tie.spec slice-aggregate-append append-requires put-body-requires returns)
+list-spec = tie.close (tie.spec (λ c. search needs) (λ c κs. search needs) (λ c κs. search needs) returns)

@@ -1,5 +1,4 @@
--- `capture::listing::put_body` meets its contract: the number of a refused call, the rows of an accepted one.
--- Assumes nothing.
+-- `capture::listing::put_body` meets its contract: the number of a refused call, the rows of an accepted one. Assumes nothing.
 use mathlib.Core.Path.{_≡_, sym, ap, _∙_}
 use mathlib.Core.Bool.{true}
 use mathlib.Core.List.{List, _++_}
@@ -57,14 +56,5 @@ returns-2 c =
 pub put-body-spec : {M : Type 1} → statement M
 put-body-spec =
     tie.close
-    (tie.spec
-    (λ c κs. search needs)
-    (λ c. search needs)
-    (λ c κs. search needs)
-    put-line-requires
-    (λ c. search needs)
-    put-rows-requires
-    (λ c. search needs)
-    returns
-    (λ c. search needs)
-    returns-2)
+    (tie.spec (λ c κs. search needs) (λ c. search needs) (λ c κs. search needs) put-line-requires (λ c. search needs) put-rows-requires (λ c. search needs)
+    returns (λ c. search needs) returns-2)

@@ -1,5 +1,4 @@
--- `capture::listing::put_line` meets its contract: the line's own octets are appended.
--- Assumes nothing.
+-- `capture::listing::put_line` meets its contract: the line's own octets are appended. Assumes nothing.
 use mathlib.Core.Path.{_≡_, sym}
 use native.Mathlib.Omega.{arith}
 use lib.ListN.{length}
@@ -17,18 +16,6 @@ room c = search needs
 used : (c : tie.Start) → length (textOf (c .args .line)) ≡ c .args .line .used
 used c = length-take-le (c .args .line .used) (c .args .line .octets) (omega (arith, room c))
 
-array-share-prefix-octets : tie.Need-array-share-prefix-octets
-array-share-prefix-octets c = omega (arith, room (c .before .before .before))
-
-slice-aggregate-append : tie.Need-slice-aggregate-append
-slice-aggregate-append c = sym (used (c .before .before .before .before))
-
-append-requires : tie.Need-append-requires
-append-requires c κs = omega (arith, used (c .before .before .before .before))
-
-same-length : tie.Need-same-length
-same-length c = search needs
-
 returns : tie.Need-returns
 returns c =
     let g = c .before .before .before .before .before .before .before in
@@ -38,4 +25,5 @@ returns c =
 pub put-line-spec : {M : Type 1} → statement M
 put-line-spec =
     tie.close
-    (tie.spec array-share-prefix-octets slice-aggregate-append append-requires same-length returns)
+    (tie.spec (λ c. omega (arith, room (c .before .before .before))) (λ c. sym (used (c .before .before .before .before)))
+    (λ c κs. omega (arith, used (c .before .before .before .before))) (λ c. search needs) returns)

@@ -1,5 +1,4 @@
--- `capture::listing::put_row` meets its contract: the row of the header and its verdict is appended.
--- Assumes nothing.
+-- `capture::listing::put_row` meets its contract: the row of the header and its verdict is appended. Assumes nothing.
 use mathlib.Core.Path.{_≡_, ap, _∙_}
 use mathlib.Core.List.{List, _++_}
 use Prim.Native.Nat.{ℕ}

@@ -1,6 +1,5 @@
 -- `capture::listing::put_rows` meets its contract: the loop's invariant: record i starts at `from`, and the rows of the
--- records before it stand behind the first `at` octets.
--- Assumes nothing.
+-- records before it stand behind the first `at` octets. Assumes nothing.
 use mathlib.Core.Path.{_≡_, refl, ap, _∙_}
 use mathlib.Core.List.{List, _++_, append-nil}
 use Prim.Native.Nat.{ℕ, _+_, _-_, _*_, _≤_}
@@ -94,19 +93,5 @@ returns c =
 pub put-rows-spec : {M : Type 1} → statement M
 put-rows-spec =
     tie.close
-    (tie.spec
-    Inv-loop
-    μ-loop
-    (λ c κs. search needs)
-    loop-holds
-    (λ c κs. search needs)
-    (λ c. search needs)
-    (λ c. search needs)
-    put-row-requires
-    (λ c κs. search needs)
-    add-from
-    (λ c. search needs)
-    (λ c. omega arith)
-    loop-again
-    (λ c. c .before .loop .inv .1)
-    returns)
+    (tie.spec Inv-loop μ-loop (λ c κs. search needs) loop-holds (λ c κs. search needs) (λ c. search needs) (λ c. search needs) put-row-requires
+    (λ c κs. search needs) add-from (λ c. search needs) (λ c. omega arith) loop-again (λ c. c .before .loop .inv .1) returns)

@@ -1,5 +1,4 @@
--- `capture::opening::expand` meets its contract: its test is the presence of the key.
--- Assumes nothing.
+-- `capture::opening::expand` meets its contract: its test is the presence of the key. Assumes nothing.
 use mathlib.Core.Path.{_∙_}
 use borrow.Author.Needs.{needs}
 use borrow.Author.Tests.{eqb-true}
@@ -12,8 +11,8 @@ unfolding keyPresent
 returns c e =
     absurd (c .if1 .taken (c .before .bit .ensures ∙ rw (c .before .before .presence .ensures) (eqb-true _ _ e)))
 
-returns-2 : tie.Need-returns-2
-returns-2 c e = c .expand-key .ensures ∙ rw (c .before .key .ensures)
-
 pub expand-spec : {M : Type 1} → statement M
-expand-spec = tie.close (tie.spec (λ c κs. search needs) (λ c κs. search needs) returns (λ c κs. search needs) (λ c κs. search needs) returns-2)
+expand-spec =
+    tie.close
+    (tie.spec (λ c κs. search needs) (λ c κs. search needs) returns (λ c κs. search needs) (λ c κs. search needs)
+    (λ c e. c .expand-key .ensures ∙ rw (c .before .key .ensures)))

@@ -1,5 +1,4 @@
--- `capture::opening::open` meets its contract: a refused call changes nothing, an accepted one copies and opens.
--- Assumes nothing.
+-- `capture::opening::open` meets its contract: a refused call changes nothing, an accepted one copies and opens. Assumes nothing.
 use mathlib.Core.Path.{_≡_, sym, ap₂, _∙_}
 use mathlib.Core.List.{List}
 use Prim.Native.Nat.{ℕ}
@@ -20,7 +19,8 @@ use Rattle.capture.proofs.opening.open.Tie as tie
 
 -- what the call found, and what that tells
 found : (c : tie.After-n)
-    → let a = c .before .before .before .before .before .before .args in callDirectory (eqb (length (now (a .output))) (length (now (a .block)))) (now (a .settings)) (now (a .block)) ≡ Good (c .n .given .0 .0)
+    → let a = c .before .before .before .before .before .before .args in
+    callDirectory (eqb (length (now (a .output))) (length (now (a .block)))) (now (a .settings)) (now (a .block)) ≡ Good (c .n .given .0 .0)
 found c = sym (c .before .before .call-directory .ensures) ∙ c .n .given .1
 
 open-records-requires : tie.Need-open-records-requires
@@ -46,19 +46,13 @@ returns-2 c =
     let q = c .before .before .open-records .ensures in
     let x = c .before .before .before .before .before .before .before .before .before .before in
     let a = x .before .before .before .before .before .before .args in
-    let judged = found-good (now (a .settings)) (now (a .block)) _ _ (found x) in
-    (ap₂ (λ (n : ℕ) (o : List ℕ). withOutput (Done n) o) (q .0) (q .1) ∙ opening-done (now (a .settings)) (now (a .block)) (now (a .output)) judged, opened _ _ _)
+    let judged = found-good (now (a .settings)) (now (a .block)) _ _ (found x) in (
+      ap₂ (λ (n : ℕ) (o : List ℕ). withOutput (Done n) o) (q .0) (q .1) ∙ opening-done (now (a .settings)) (now (a .block)) (now (a .output)) judged,
+      opened _ _ _,
+    )
 
 pub open-spec : {M : Type 1} → statement M
 open-spec =
     tie.close
-    (tie.spec
-    (λ c κs. search needs)
-    (λ c. search needs)
-    (λ c. search needs)
-    (λ c κs. search needs)
-    (λ c κs. search needs)
-    open-records-requires
-    returns
-    (λ c. search needs)
-    returns-2)
+    (tie.spec (λ c κs. search needs) (λ c. search needs) (λ c. search needs) (λ c κs. search needs) (λ c κs. search needs) open-records-requires returns
+    (λ c. search needs) returns-2)

@@ -1,6 +1,5 @@
--- `capture::opening::open_as` meets its contract: what the verdict says is done, and the output is kept or opened in place accordingly.
--- Assumes nothing.
-use mathlib.Core.Path.{_≡_, refl, sym, ap, _∙_}
+-- `capture::opening::open_as` meets its contract: what the verdict says is done, and the output is kept or opened in place accordingly. Assumes nothing.
+use mathlib.Core.Path.{refl, ap, _∙_}
 use Prim.Native.Nat.{_+_}
 use native.Mathlib.Omega.{arith}
 use borrow.Author.Needs.{needs}
@@ -53,8 +52,9 @@ returns-2 c =
 
 returns-3 : tie.Need-returns-3
 returns-3 c =
+    let at-cleared = c .before .before .before .before in
     let q = c .before .before .open-part .ensures in
-    let at-key = c .before .before .before .before .before in
+    let at-key = at-cleared .before in
     let at-octets = at-key .before in
     let x = at-octets .before .before .before in
     let g = start x in
@@ -63,23 +63,14 @@ returns-3 c =
     let size = at-octets .record-octets .ensures in
     let key = ap (λ (w : RoundKeys). w .octets) (at-key .key-for .ensures) ∙ key-expanded _ _ j (g .pre .0 .expanded) (opens x .present) (opens x .index) in
     let o =
-    opened-by (now (a .settings)) (now (a .block)) (now (a .output)) (a .from) (g .pre .0 .same) j (x .verdict .given .0 .1 .0) (at-octets .before .mac .result) (c .before .before .before .before .cleared .result) (a .h) (at-key .key-for .result .octets) (a .from + at-octets .record-octets .result) (g .pre .1 .header) (rw size) (omega (arith, ap (λ (q : Header). q .eqs) (g .pre .1 .header), g .pre .0 .inside)) (c .before .before .before .before .cleared .ensures) (at-octets .before .mac .ensures .0) key in
+    opened-by (now (a .settings)) (now (a .block)) (now (a .output)) (a .from) (g .pre .0 .same) j (x .verdict .given .0 .1 .0) (at-octets .before .mac .result)
+    (at-cleared .cleared .result) (a .h) (at-key .key-for .result .octets) (a .from + at-octets .record-octets .result) (g .pre .1 .header) (rw size)
+    (omega (arith, ap (λ (q : Header). q .eqs) (g .pre .1 .header), g .pre .0 .inside)) (at-cleared .cleared .ensures)
+    (at-octets .before .mac .ensures .0) key in
     rw (x .verdict .given .1) (q .0 ∙ o .0, q .1 ∙ o .1)
 
 pub open-as-spec : {M : Type 1} → statement M
 open-as-spec =
     tie.close
-    (tie.spec
-    (λ c. search needs)
-    (λ c. search needs)
-    (λ c. search needs)
-    (λ c κs. search needs)
-    (λ c κs. search needs)
-    (λ c. search needs)
-    (λ c κs. search needs)
-    (λ c κs. search needs)
-    open-part-requires
-    returns
-    returns-2
-    (λ c. search needs)
-    returns-3)
+    (tie.spec (λ c. search needs) (λ c. search needs) (λ c. search needs) (λ c κs. search needs) (λ c κs. search needs) (λ c. search needs)
+    (λ c κs. search needs) (λ c κs. search needs) open-part-requires returns returns-2 (λ c. search needs) returns-3)

@@ -1,6 +1,5 @@
 -- `capture::opening::open_records` meets its contract: the loop's invariant: record i starts at `from`, the records before it
--- are opened, the rest of the output is the block's, and the total is theirs.
--- Assumes nothing.
+-- are opened, the rest of the output is the block's, and the total is theirs. Assumes nothing.
 use mathlib.Core.Path.{_≡_, refl, sym, ap, _∙_}
 use mathlib.Core.List.{_++_}
 use Prim.Native.Nat.{_-_, _≤_}
@@ -78,7 +77,17 @@ add-total c =
     let s = now (start at-test .args .settings) in
     let b = now (start at-test .args .block) in
     let i = at-test .before .loop .i in
-    record { fits = omega (arith, at-test .before .loop .inv .2, r .count, r .sizes .few, total-below s b i (r .sizes .most), counted (c .before .before), one-below s b i (r .sizes .most)) }
+    record {
+      fits = omega (
+        arith,
+        at-test .before .loop .inv .2,
+        r .count,
+        r .sizes .few,
+        total-below s b i (r .sizes .most),
+        counted (c .before .before),
+        one-below s b i (r .sizes .most),
+      );
+    }
 
 add-from : tie.Need-add-from Inv-loop μ-loop
 add-from c =
@@ -100,7 +109,8 @@ loop-again c =
     let i = at-test .before .loop .i in
     let x = here at-test in
     let o =
-    one-opened s b (at-test .before .loop .output) (g .args .n) i r (at-test .loop-test .taken) (v .4) (v .5) _ (q .open-as .ensures .1 ∙ written-at s b _ _ _ _ _ (q .before .verdict-for .ensures) (h .ensures .0) (v .3)) in (
+    one-opened s b (at-test .before .loop .output) (g .args .n) i r (at-test .loop-test .taken) (v .4) (v .5) _
+    (q .open-as .ensures .1 ∙ written-at s b _ _ _ _ _ (q .before .verdict-for .ensures) (h .ensures .0) (v .3)) in (
       search needs,
       q .open-as .kept .1 .1 .1 .0 ∙ v .1,
       rw (v .2, counted q) (sym (one-more s b i)),
@@ -124,19 +134,5 @@ returns c =
 pub open-records-spec : {M : Type 1} → statement M
 open-records-spec =
     tie.close
-    (tie.spec
-    Inv-loop
-    μ-loop
-    (λ c κs. search needs)
-    loop-holds
-    (λ c κs. search needs)
-    (λ c κs. search needs)
-    open-as-requires
-    add-total
-    (λ c κs. search needs)
-    add-from
-    (λ c. search needs)
-    (λ c. omega arith)
-    loop-again
-    same-length
-    returns)
+    (tie.spec Inv-loop μ-loop (λ c κs. search needs) loop-holds (λ c κs. search needs) (λ c κs. search needs) open-as-requires add-total (λ c κs. search needs)
+    add-from (λ c. search needs) (λ c. omega arith) loop-again same-length returns)

@@ -1,5 +1,4 @@
--- `capture::payload::asked` meets its contract: a clause of `recordAsked` at each arm.
--- Assumes nothing.
+-- `capture::payload::asked` meets its contract: a clause of `recordAsked` at each arm. Assumes nothing.
 use mathlib.Core.Path.{sym}
 use borrow.Author.Needs.{needs}
 use Rattle.octets.specs.Choice.{both}
@@ -15,8 +14,5 @@ returns-2 : tie.Need-returns-2
 unfolding both
 returns-2 c = rw (c .before .before .directory .given .1) (sym (pick-false _ _ (c .if1 .left)))
 
-returns-3 : tie.Need-returns-3
-returns-3 c = rw (c .before .directory2 .given .1)
-
 pub asked-spec : {M : Type 1} → statement M
-asked-spec = tie.close (tie.spec (λ c. search needs) (λ c. search needs) (λ c. search needs) returns returns-2 returns-3)
+asked-spec = tie.close (tie.spec (λ c. search needs) (λ c. search needs) (λ c. search needs) returns returns-2 (λ c. rw (c .before .directory2 .given .1)))

@@ -1,5 +1,4 @@
--- `capture::payload::locate` meets its contract: an accepted number is that of a record, whose pair gives the bounds.
--- Assumes nothing.
+-- `capture::payload::locate` meets its contract: an accepted number is that of a record, whose pair gives the bounds. Assumes nothing.
 use mathlib.Core.Path.{sym, _∙_}
 use Prim.Native.Nat.{_-_}
 use native.Mathlib.Omega.{arith}
@@ -33,17 +32,5 @@ returns-2 c = rw (← c .before .before .before .payload-verdict .ensures, c .be
 pub locate-spec : {M : Type 1} → statement M
 locate-spec =
     tie.close
-    (tie.spec
-    (λ c κs. search needs)
-    (λ c. search needs)
-    (λ c. is-asked c .first)
-    (λ c. omega (arith, asked-few (is-asked c)))
-    (λ c κs. search needs)
-    (λ c. search needs)
-    (λ c. search needs)
-    (λ c κs. search needs)
-    (λ c. search needs)
-    sub-octets
-    (λ c. search needs)
-    returns
-    returns-2)
+    (tie.spec (λ c κs. search needs) (λ c. search needs) (λ c. is-asked c .first) (λ c. omega (arith, asked-few (is-asked c))) (λ c κs. search needs)
+    (λ c. search needs) (λ c. search needs) (λ c κs. search needs) (λ c. search needs) sub-octets (λ c. search needs) returns returns-2)

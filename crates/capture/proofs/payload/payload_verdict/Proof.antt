@@ -1,20 +1,12 @@
--- `capture::payload::payload_verdict` meets its contract by those of its two steps.
--- Assumes nothing.
+-- `capture::payload::payload_verdict` meets its contract by those of its two steps. Assumes nothing.
 use mathlib.Core.Path.{_∙_}
 use borrow.Author.Needs.{needs}
 use Rattle.capture.specs.Payload.{payloadVerdict}
 use Rattle.capture.proofs.payload.payload_verdict.Statement.{statement}
 use Rattle.capture.proofs.payload.payload_verdict.Tie as tie
 
-check-requires : tie.Need-check-requires
-check-requires c κs = search needs
-
-asked-requires : tie.Need-asked-requires
-asked-requires c κs = search needs
-
-returns : tie.Need-returns
-unfolding payloadVerdict
-returns c = c .asked .ensures ∙ rw (c .before .check .ensures .0)
-
 pub payload-verdict-spec : {M : Type 1} → statement M
-payload-verdict-spec = tie.close (tie.spec check-requires asked-requires returns)
+payload-verdict-spec =
+    tie.close
+    (tie.spec (λ c κs. search needs) (λ c κs. search needs)
+    (λ c. unfold payloadVerdict in c .asked .ensures ∙ rw (c .before .check .ensures .0)))

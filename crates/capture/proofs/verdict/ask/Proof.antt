@@ -1,5 +1,4 @@
--- `capture::verdict::ask` meets its contract: each verdict on the way is a clause of `verdictAsked`.
--- Assumes nothing.
+-- `capture::verdict::ask` meets its contract: each verdict on the way is a clause of `verdictAsked`. Assumes nothing.
 use mathlib.Core.Path.{sym, _∙_}
 use native.Mathlib.Omega.{arith}
 use borrow.Author.Needs.{needs}
@@ -35,17 +34,5 @@ returns-3 c =
 pub ask-spec : {M : Type 1} → statement M
 ask-spec =
     tie.close
-    (tie.spec
-    (λ c κs. search needs)
-    (λ c. search needs)
-    returns
-    (λ c. search needs)
-    (λ c κs. search needs)
-    (λ c. search needs)
-    (λ c. search needs)
-    (λ c. is-asked c .first)
-    (λ c. omega (arith, asked-few (is-asked c)))
-    (λ c κs. search needs)
-    (λ c κs. search needs)
-    returns-2
-    returns-3)
+    (tie.spec (λ c κs. search needs) (λ c. search needs) returns (λ c. search needs) (λ c κs. search needs) (λ c. search needs) (λ c. search needs)
+    (λ c. is-asked c .first) (λ c. omega (arith, asked-few (is-asked c))) (λ c κs. search needs) (λ c κs. search needs) returns-2 returns-3)

@@ -1,5 +1,4 @@
--- `capture::verdict::call_directory` meets its contract: the steps of `callDirectory`, one after the other.
--- Assumes nothing.
+-- `capture::verdict::call_directory` meets its contract: the steps of `callDirectory`, one after the other. Assumes nothing.
 use mathlib.Core.Path.{sym, _∙_}
 use borrow.Author.Needs.{needs}
 use borrow.Author.Tests.{not-true, not-false}
@@ -7,10 +6,6 @@ use Rattle.octets.proofs.Choice.{pick-true, pick-false}
 use Rattle.capture.specs.Verdict.{callDirectory}
 use Rattle.capture.proofs.verdict.call_directory.Statement.{statement}
 use Rattle.capture.proofs.verdict.call_directory.Tie as tie
-
-returns : tie.Need-returns
-unfolding callDirectory
-returns c = sym (pick-false _ _ (not-true _ (c .if1 .taken)))
 
 returns-2 : tie.Need-returns-2
 unfolding callDirectory
@@ -28,11 +23,5 @@ returns-3 c =
 pub call-directory-spec : {M : Type 1} → statement M
 call-directory-spec =
     tie.close
-    (tie.spec
-    returns
-    (λ c κs. search needs)
-    (λ c. search needs)
-    (λ c. search needs)
-    (λ c κs. search needs)
-    returns-2
-    returns-3)
+    (tie.spec (λ c. unfold callDirectory in sym (pick-false _ _ (not-true _ (c .if1 .taken))))
+    (λ c κs. search needs) (λ c. search needs) (λ c. search needs) (λ c κs. search needs) returns-2 returns-3)

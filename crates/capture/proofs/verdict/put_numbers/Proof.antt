@@ -1,6 +1,5 @@
 -- `capture::verdict::put_numbers` meets its contract: the loop's invariant: record i starts at `from`, and the numbers of the
--- records before it fill the output from the front.
--- Assumes nothing.
+-- records before it fill the output from the front. Assumes nothing.
 use mathlib.Core.Path.{_≡_, refl, sym, ap, _∙_}
 use mathlib.Core.List.{_++_}
 use Prim.Native.Nat.{ℕ, _+_, _-_, _≤_, _<_}
@@ -85,19 +84,5 @@ returns c =
 pub put-numbers-spec : {M : Type 1} → statement M
 put-numbers-spec =
     tie.close
-    (tie.spec
-    Inv-loop
-    μ-loop
-    (λ c κs. search needs)
-    loop-holds
-    (λ c κs. search needs)
-    (λ c κs. search needs)
-    (λ c. search needs)
-    slice-write-output
-    (λ c κs. search needs)
-    add-from
-    (λ c. search needs)
-    (λ c. omega arith)
-    loop-again
-    (λ c. c .before .loop .inv .1)
-    returns)
+    (tie.spec Inv-loop μ-loop (λ c κs. search needs) loop-holds (λ c κs. search needs) (λ c κs. search needs) (λ c. search needs) slice-write-output
+    (λ c κs. search needs) add-from (λ c. search needs) (λ c. omega arith) loop-again (λ c. c .before .loop .inv .1) returns)

@@ -1,5 +1,4 @@
--- `capture::verdict::verdicts` meets its contract: the numbers of an accepted call, a refused one changing nothing.
--- Assumes nothing.
+-- `capture::verdict::verdicts` meets its contract: the numbers of an accepted call, a refused one changing nothing. Assumes nothing.
 use mathlib.Core.Path.{_≡_, sym, ap, _∙_}
 use lib.Dec.{eqb}
 use lib.ListN.{length}
@@ -16,7 +15,8 @@ use Rattle.capture.proofs.verdict.verdicts.Tie as tie
 
 -- what the call found, and what that tells
 found : (c : tie.After-n)
-    → let a = c .before .before .before .before .before .before .args in callDirectory (eqb (length (now (a .output))) mostRecords) (now (a .settings)) (now (a .block)) ≡ Good (c .n .given .0 .0)
+    → let a = c .before .before .before .before .before .before .args in
+    callDirectory (eqb (length (now (a .output))) mostRecords) (now (a .settings)) (now (a .block)) ≡ Good (c .n .given .0 .0)
 found c = sym (c .before .before .call-directory .ensures) ∙ c .n .given .1
 
 put-numbers-requires : tie.Need-put-numbers-requires
@@ -33,12 +33,4 @@ returns-2 c = let q = c .before .before in rw (found (q .before .before .before)
 pub verdicts-spec : {M : Type 1} → statement M
 verdicts-spec =
     tie.close
-    (tie.spec
-    (λ c. search needs)
-    (λ c κs. search needs)
-    (λ c. search needs)
-    (λ c. search needs)
-    put-numbers-requires
-    returns
-    (λ c. search needs)
-    returns-2)
+    (tie.spec (λ c. search needs) (λ c κs. search needs) (λ c. search needs) (λ c. search needs) put-numbers-requires returns (λ c. search needs) returns-2)

@@ -30,8 +30,9 @@ abbrev μ-loop : tie.MeasureT-loop
 
 loop-holds : tie.Need-loop-holds Inv-loop μ-loop
 loop-holds c =
-    let p = c .before .before .before .before .pre in
-    let n = c .before .before .before .before .args .identity .count in
+    let start = c .before .before .before .before in
+    let p = start .pre in
+    let n = start .args .identity .count in
     let e : n - 0 ≡ n = omega arith in
     (omega arith, refl, refl, rw (add-zero, e), rw add-zero (p .1 .1 .1), rw add-zero (p .1 .1 .0))
 
@@ -48,12 +49,6 @@ stands-requires c κs =
     let e = c .before .before .mark-place .ensures in
     (omega (arith, l .inv .1), (rw e (l .inv .5 .names x), rw e (l .inv .5 .tells x)))
 
-same-length : tie.Need-same-length Inv-loop μ-loop
-same-length c = c .before .before .before .before .before .before .loop .inv .1
-
-same-length-2 : tie.Need-same-length-2 Inv-loop μ-loop
-same-length-2 c = c .before .before .before .before .before .before .loop .inv .2
-
 returns : tie.Need-returns Inv-loop μ-loop
 unfolding llidsOf
 returns c =
@@ -67,17 +62,21 @@ returns c =
 
 slice-write-marks : tie.Need-slice-write-marks Inv-loop μ-loop
 slice-write-marks c =
-    let l = c .before .before .before .before .before .before .before .loop in
-    let x = getD (c .before .before .before .before .before .before .before .before .before .before .before .before .args .identity .llids) (l .j) 0 in
-    omega (arith, c .before .before .before .before .before .mark-place .ensures, place-below x, l .inv .5 .places)
+    let at-mark-place = c .before .before .before .before .before in
+    let at-loop = at-mark-place .before .before in
+    let l = at-loop .loop in
+    let x = getD (at-loop .before .before .before .before .before .args .identity .llids) (l .j) 0 in
+    omega (arith, at-mark-place .mark-place .ensures, place-below x, l .inv .5 .places)
 
 loop-again : tie.Need-loop-again Inv-loop μ-loop
 loop-again c =
-    let a = c .before .before .before .before .before .before .before .before .before .before .before .before .args in
-    let here = c .before .before .before .before .before .before .before .loop in
+    let at-mark-place = c .before .before .before .before .before in
+    let at-loop = at-mark-place .before .before in
+    let a = at-loop .before .before .before .before .before .args in
+    let here = at-loop .loop in
     let v = here .inv in
     let f : ℕ → ℕ = λ k. getD (a .identity .llids) k 0 in
-    let at-place = c .before .before .before .before .before .mark-place .ensures in
+    let at-place = at-mark-place .mark-place .ensures in
     let low : a .n + here .j < length (here .list) = omega (arith, v .1) in
     let new : among (f (here .j)) (take (a .n + here .j) (here .list)) ≡ false = sym (c .before .before .stands .ensures) ∙ c .before .if1 .left in (
       omega arith,
@@ -89,12 +88,6 @@ loop-again c =
       marked-step (here .list) (here .marks) (a .n) (here .j) (f (here .j)) _ _ low (omega arith) at-place
           (c .next-mark .ensures) (v .5),
     )
-
-same-length-3 : tie.Need-same-length-3 Inv-loop μ-loop
-same-length-3 c = c .before .loop .inv .1
-
-same-length-4 : tie.Need-same-length-4 Inv-loop μ-loop
-same-length-4 c = c .before .loop .inv .2
 
 returns-2 : tie.Need-returns-2 Inv-loop μ-loop
 unfolding llidsOf
@@ -109,27 +102,7 @@ returns-2 c =
 pub added-spec : {M : Type 1} → statement M
 added-spec =
     tie.close
-    (tie.spec
-    Inv-loop
-    μ-loop
-    (λ c. omega arith)
-    loop-holds
-    (λ c. omega arith)
-    (λ c. omega arith)
-    (λ c. omega arith)
-    (λ c κs. search needs)
-    slice-read-mark
-    stands-requires
-    same-length
-    same-length-2
-    returns
-    (λ c. omega arith)
-    (λ c. omega arith)
-    (λ c κs. omega arith)
-    slice-write-marks
-    (λ c. omega arith)
-    (λ c. omega arith)
-    loop-again
-    same-length-3
-    same-length-4
-    returns-2)
+    (tie.spec Inv-loop μ-loop (λ c. omega arith) loop-holds (λ c. omega arith) (λ c. omega arith) (λ c. omega arith) (λ c κs. search needs) slice-read-mark
+    stands-requires (λ c. c .before .before .before .before .before .before .loop .inv .1)
+    (λ c. c .before .before .before .before .before .before .loop .inv .2) returns (λ c. omega arith) (λ c. omega arith) (λ c κs. omega arith) slice-write-marks
+    (λ c. omega arith) (λ c. omega arith) loop-again (λ c. c .before .loop .inv .1) (λ c. c .before .loop .inv .2) returns-2)

@@ -1,15 +1,10 @@
--- `ends::check_olt::first_place` meets its contract: a test of the place, then one of the unit.
--- Assumes nothing.
+-- `ends::check_olt::first_place` meets its contract: a test of the place, then one of the unit. Assumes nothing.
 use mathlib.Core.Path.{sym}
 use borrow.Author.Needs.{needs}
 use borrow.Author.Tests.{lt-ltb, le-ltb}
 use Rattle.octets.specs.Choice.{pick}
 use Rattle.ends.proofs.check_olt.first_place.Statement.{statement}
 use Rattle.ends.proofs.check_olt.first_place.Tie as tie
-
-returns : tie.Need-returns
-unfolding pick
-returns c = rw (lt-ltb _ _ (c .if1 .taken))
 
 returns-2 : tie.Need-returns-2
 unfolding pick
@@ -21,4 +16,5 @@ returns-3 c = rw (le-ltb _ _ (c .before .before .if1 .left), sym (c .before .has
 
 pub first-place-spec : {M : Type 1} → statement M
 first-place-spec =
-    tie.close (tie.spec (λ c. search needs) returns (λ c κs. search needs) returns-2 (λ c. search needs) returns-3)
+    tie.close
+    (tie.spec (λ c. search needs) (λ c. unfold pick in rw (lt-ltb _ _ (c .if1 .taken))) (λ c κs. search needs) returns-2 (λ c. search needs) returns-3)

@@ -1,6 +1,5 @@
 -- `ends::check_olt::judge_table` meets its contract: the first i units are valid, their n LLIDs stand in the list, none twice, and are marked,
--- and `place` is that of the first of them that has the LLID.
--- Assumes nothing.
+-- and `place` is that of the first of them that has the LLID. Assumes nothing.
 use mathlib.Core.Bool.{true, false}
 use mathlib.Core.List.{_++_, append-nil, append-assoc}
 use mathlib.Core.Path.{_≡_, refl, sym, ap, _∙_}
@@ -41,16 +40,13 @@ abbrev μ-loop : tie.MeasureT-loop
 places : (c : tie.At-loop Inv-loop μ-loop) → length (c .before .args .t1 .units) ≡ maxUnits
 places c = search (needs, length-mapped)
 
-loop-holds : tie.Need-loop-holds Inv-loop μ-loop
-unfolding distinct pick
-loop-holds c = (omega arith, omega arith, refl, refl, refl, refl, marked-none, refl)
-
 returns : tie.Need-returns Inv-loop μ-loop
 unfolding pastUnit judgedTable
 returns c =
-    let a = c .before .before .before .before .before .before .args in
-    let here = c .before .before .before .before .before .loop in
-    let len = places (c .before .before .before .before .before) in
+    let at-loop = c .before .before .before .before .before in
+    let a = at-loop .before .args in
+    let here = at-loop .loop in
+    let len = places at-loop in
     c .invalid .ensures
     ∙ sym (judged-no _ _ (both-false-left _
     (here .inv .3
@@ -67,12 +63,6 @@ valid c = sym (c .before .valid-unit .ensures) ∙ not-false (c .before .valid-u
 few : (c : tie.Else1 Inv-loop μ-loop) → unit-at c .identity .count ≤ maxLlids
 few c = unit-few _ _ (valid c)
 
-slice-aggregate-added : tie.Need-slice-aggregate-added Inv-loop μ-loop
-slice-aggregate-added c = sym (c .before .before .before .before .before .loop .inv .2)
-
-slice-aggregate-added-2 : tie.Need-slice-aggregate-added-2 Inv-loop μ-loop
-slice-aggregate-added-2 c = sym (c .before .before .before .before .before .before .loop .inv .6 .places)
-
 added-requires : tie.Need-added-requires Inv-loop μ-loop
 unfolding pastUnit
 added-requires c κs =
@@ -82,11 +72,12 @@ added-requires c κs =
 returns-2 : tie.Need-returns-2 Inv-loop μ-loop
 unfolding pastUnit judgedTable
 returns-2 c =
-    let a = c .before .before .before .before .before .before .before .before .before .before .before .before .args in
-    let here = c .before .before .before .before .before .before .before .before .before .before .before .loop in
+    let at-loop = c .before .before .before .before .before .before .before .before .before .before .before in
+    let a = at-loop .before .args in
+    let here = at-loop .loop in
     let u = getD (a .t1 .units) (here .i) pastUnit in
     let call = c .before .before .before .before .added in
-    let len = places (c .before .before .before .before .before .before .before .before .before .before .before) in
+    let len = places at-loop in
     let twice : distinct (take (here .n) (here .list) ++ llidsOf (u .identity)) ≡ false =
     sym (call .ensures .0) ∙ not-true (call .result) (c .before .if2 .taken) in
     let all-of : (take (here .n) (here .list) ++ llidsOf (u .identity)) ++ tableLlids (drop (here .i + 1) (take (a .count) (a .t1 .units)))
@@ -137,26 +128,10 @@ returns-3 c =
 pub judge-table-spec : {M : Type 1} → statement M
 judge-table-spec =
     tie.close
-    (tie.spec
-    Inv-loop
-    μ-loop
-    (λ c. omega arith)
-    loop-holds
-    (λ c. omega arith)
-    (λ c. omega arith)
-    (λ c κs. search needs)
-    (λ c κs. search needs)
-    returns
-    slice-aggregate-added
-    slice-aggregate-added-2
-    added-requires
-    (λ c κs. search needs)
-    returns-2
-    (λ c κs. search needs)
-    (λ c. omega arith)
-    add-n
-    (λ c. omega arith)
-    (λ c. omega arith)
-    loop-again
-    (λ c κs. search needs)
-    returns-3)
+    (tie.spec Inv-loop μ-loop (λ c. omega arith)
+    (λ c. unfold distinct pick in (omega arith, omega arith, refl, refl, refl, refl, marked-none, refl))
+    (λ c. omega arith) (λ c. omega arith) (λ c κs. search needs) (λ c κs. search needs) returns
+    (λ c. sym (c .before .before .before .before .before .loop .inv .2))
+    (λ c. sym (c .before .before .before .before .before .before .loop .inv .6 .places))
+    added-requires (λ c κs. search needs) returns-2 (λ c κs. search needs) (λ c. omega arith) add-n (λ c. omega arith) (λ c. omega arith) loop-again
+    (λ c κs. search needs) returns-3)

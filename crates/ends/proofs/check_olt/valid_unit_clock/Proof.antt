@@ -1,13 +1,8 @@
--- `ends::check_olt::valid_unit_clock` meets its contract: the tests are those of the definition.
--- Assumes nothing.
+-- `ends::check_olt::valid_unit_clock` meets its contract: the tests are those of the definition. Assumes nothing.
 use Rattle.octets.specs.Choice.{both, either}
 use Rattle.ends.specs.Validity.{validUnitClock}
 use Rattle.ends.proofs.check_olt.valid_unit_clock.Statement.{statement}
 use Rattle.ends.proofs.check_olt.valid_unit_clock.Tie as tie
 
-returns : tie.Need-returns
-unfolding validUnitClock both either
-returns c = cc
-
 pub valid-unit-clock-spec : {M : Type 1} → statement M
-valid-unit-clock-spec = tie.close (tie.spec returns)
+valid-unit-clock-spec = tie.close (tie.spec (λ c. unfold validUnitClock both either in cc))

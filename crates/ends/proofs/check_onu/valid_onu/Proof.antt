@@ -5,36 +5,16 @@ use Rattle.ends.specs.Validity.{validOnu}
 use Rattle.ends.proofs.check_onu.valid_onu.Statement.{statement}
 use Rattle.ends.proofs.check_onu.valid_onu.Tie as tie
 
-valid-identity-requires : tie.Need-valid-identity-requires
-valid-identity-requires c κs = search needs
-
-distinct-llids-requires : tie.Need-distinct-llids-requires
-distinct-llids-requires c κs = search needs
-
-valid-mac-requires : tie.Need-valid-mac-requires
-valid-mac-requires c κs = search needs
-
-valid-onu-clock-requires : tie.Need-valid-onu-clock-requires
-valid-onu-clock-requires c κs = search needs
-
-valid-onu-keys-requires : tie.Need-valid-onu-keys-requires
-valid-onu-keys-requires c κs = search needs
-
-valid-first-requires : tie.Need-valid-first-requires
-valid-first-requires c κs = search needs
-
-valid-channels-requires : tie.Need-valid-channels-requires
-valid-channels-requires c κs = search needs
-
 returns : tie.Need-returns
 unfolding validOnu both
 returns c =
+    let at-valid-onu-keys = c .before .before .before in
     rw (
-      c .before .before .before .before .before .before .before .valid-identity .ensures,
-      c .before .before .before .before .before .before .distinct-llids .ensures,
-      c .before .before .before .before .before .valid-mac .ensures,
-      c .before .before .before .before .valid-onu-clock .ensures,
-      c .before .before .before .valid-onu-keys .ensures,
+      at-valid-onu-keys .before .before .before .before .valid-identity .ensures,
+      at-valid-onu-keys .before .before .before .distinct-llids .ensures,
+      at-valid-onu-keys .before .before .valid-mac .ensures,
+      at-valid-onu-keys .before .valid-onu-clock .ensures,
+      at-valid-onu-keys .valid-onu-keys .ensures,
       c .before .before .valid-first .ensures,
       c .before .valid-channels .ensures,
     )
@@ -42,12 +22,5 @@ returns c =
 pub valid-onu-spec : {M : Type 1} → statement M
 valid-onu-spec =
     tie.close
-    (tie.spec
-    valid-identity-requires
-    distinct-llids-requires
-    valid-mac-requires
-    valid-onu-clock-requires
-    valid-onu-keys-requires
-    valid-first-requires
-    valid-channels-requires
-    returns)
+    (tie.spec (λ c κs. search needs) (λ c κs. search needs) (λ c κs. search needs) (λ c κs. search needs) (λ c κs. search needs) (λ c κs. search needs)
+    (λ c κs. search needs) returns)

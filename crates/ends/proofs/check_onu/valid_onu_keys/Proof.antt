@@ -5,9 +5,5 @@ use Rattle.ends.specs.Validity.{validOnuKeys}
 use Rattle.ends.proofs.check_onu.valid_onu_keys.Statement.{statement}
 use Rattle.ends.proofs.check_onu.valid_onu_keys.Tie as tie
 
-returns : tie.Need-returns
-unfolding validOnuKeys both either
-returns c = refl
-
 pub valid-onu-keys-spec : {M : Type 1} → statement M
-valid-onu-keys-spec = tie.close (tie.spec returns)
+valid-onu-keys-spec = tie.close (tie.spec (λ c. unfold validOnuKeys both either in refl))

@@ -1,5 +1,4 @@
--- `ends::keyslots::only_key` meets its contract: the slot that is not n's is that of n + 1.
--- Assumes nothing.
+-- `ends::keyslots::only_key` meets its contract: the slot that is not n's is that of n + 1. Assumes nothing.
 use mathlib.Core.Path.{_≡_}
 use Prim.Native.Nat.{_+_, _-_, _%_}
 use native.Mathlib.Omega.{arith}
@@ -7,12 +6,6 @@ use borrow.Author.Needs.{needs}
 use Rattle.ends.specs.Keys.{onlyKey, withKey}
 use Rattle.ends.proofs.keyslots.only_key.Statement.{statement}
 use Rattle.ends.proofs.keyslots.only_key.Tie as tie
-
-sub-with-key : tie.Need-sub-with-key
-sub-with-key c = search needs
-
-with-key-requires : tie.Need-with-key-requires
-with-key-requires c κs = search needs
 
 returns : tie.Need-returns
 unfolding onlyKey withKey
@@ -22,4 +15,4 @@ returns c =
     rw e at (c .with-key .ensures)
 
 pub only-key-spec : {M : Type 1} → statement M
-only-key-spec = tie.close (tie.spec sub-with-key with-key-requires returns)
+only-key-spec = tie.close (tie.spec (λ c. search needs) (λ c κs. search needs) returns)

@@ -1,5 +1,4 @@
--- `ends::llids::again` meets its contract: none of the LLIDs between j and k is it, so that the others decide.
--- Assumes nothing.
+-- `ends::llids::again` meets its contract: none of the LLIDs between j and k is it, so that the others decide. Assumes nothing.
 use mathlib.Core.Path.{_≡_, sym, _∙_}
 use Prim.Native.Nat.{_+_, _≤_, _-_}
 use native.Mathlib.Omega.{arith}
@@ -19,30 +18,12 @@ Inv-loop llids j count llid k₀ k =
 abbrev μ-loop : tie.MeasureT-loop
 μ-loop llids j count llid k₀ k = count - k
 
-at-requires : tie.Need-at-requires Inv-loop μ-loop
-at-requires c κs = search needs
-
-add-k : tie.Need-add-k Inv-loop μ-loop
-add-k c = omega arith
-
-loop-holds : tie.Need-loop-holds Inv-loop μ-loop
-loop-holds c = (omega arith, rw (c .at .ensures))
-
-at-requires-2 : tie.Need-at-requires-2 Inv-loop μ-loop
-at-requires-2 c κs = search needs
-
 returns : tie.Need-returns Inv-loop μ-loop
 returns c =
     let a = c .before .before .before .before .before .args in
     let here = c .before .before .before .loop in
     sym (here .inv .1
     ∙ among-hit _ (here .k) (a .count) (λ i. getD (a .llids) i 0) (omega arith) (sym (c .before .at2 .ensures) ∙ c .if1 .taken))
-
-add-k-2 : tie.Need-add-k-2 Inv-loop μ-loop
-add-k-2 c = omega arith
-
-loop-less : tie.Need-loop-less Inv-loop μ-loop
-loop-less c = omega arith
 
 loop-again : tie.Need-loop-again Inv-loop μ-loop
 loop-again c =
@@ -61,15 +42,5 @@ returns-2 c =
 pub again-spec : {M : Type 1} → statement M
 again-spec =
     tie.close
-    (tie.spec
-    Inv-loop
-    μ-loop
-    at-requires
-    add-k
-    loop-holds
-    at-requires-2
-    returns
-    add-k-2
-    loop-less
-    loop-again
-    returns-2)
+    (tie.spec Inv-loop μ-loop (λ c κs. search needs) (λ c. omega arith) (λ c. (omega arith, rw (c .at .ensures))) (λ c κs. search needs) returns
+    (λ c. omega arith) (λ c. omega arith) loop-again returns-2)

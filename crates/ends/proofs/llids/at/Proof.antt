@@ -1,5 +1,4 @@
--- `ends::llids::at` meets its contract: there is no fifth place.
--- Assumes nothing.
+-- `ends::llids::at` meets its contract: there is no fifth place. Assumes nothing.
 use mathlib.Core.Path.{_≡_, sym}
 use native.Mathlib.Omega.{arith}
 use lib.ListN.{length, List·getD-eq-default}
@@ -7,19 +6,10 @@ use borrow.Author.Needs.{needs}
 use Rattle.ends.proofs.llids.at.Statement.{statement}
 use Rattle.ends.proofs.llids.at.Tie as tie
 
-mul-result : tie.Need-mul-result
-mul-result c = search needs
-
-array-read-result : tie.Need-array-read-result
-array-read-result c = search needs
-
-returns : tie.Need-returns
-returns c = search needs
-
 returns-2 : tie.Need-returns-2
 returns-2 c =
     let len : length (c .before .args .t1) ≡ 4 = search needs in
     sym (List·getD-eq-default (c .before .args .t1) 0 (omega arith))
 
 pub at-spec : {M : Type 1} → statement M
-at-spec = tie.close (tie.spec mul-result array-read-result returns returns-2)
+at-spec = tie.close (tie.spec (λ c. search needs) (λ c. search needs) (λ c. search needs) returns-2)

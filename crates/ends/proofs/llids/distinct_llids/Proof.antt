@@ -1,5 +1,4 @@
--- `ends::llids::distinct_llids` meets its contract: none of the first j LLIDs stands again after it, so that the others decide.
--- Assumes nothing.
+-- `ends::llids::distinct_llids` meets its contract: none of the first j LLIDs stands again after it, so that the others decide. Assumes nothing.
 use mathlib.Core.Path.{_≡_, sym, _∙_}
 use Prim.Native.Nat.{_≤_, _-_}
 use native.Mathlib.Omega.{arith}
@@ -23,9 +22,6 @@ loop-holds c =
     let e : p .count - 0 ≡ p .count = omega arith in
     (omega arith, rw e)
 
-again-requires : tie.Need-again-requires Inv-loop μ-loop
-again-requires c κs = omega arith
-
 returns : tie.Need-returns Inv-loop μ-loop
 unfolding llidsOf
 returns c =
@@ -33,12 +29,6 @@ returns c =
     let here = c .before .before .before .loop in
     sym (here .inv .1
     ∙ distinct-hit (here .j) (p .count) (λ k. getD (p .llids) k 0) (omega arith) (sym (c .before .again .ensures) ∙ c .if1 .taken))
-
-add-j : tie.Need-add-j Inv-loop μ-loop
-add-j c = omega arith
-
-loop-less : tie.Need-loop-less Inv-loop μ-loop
-loop-less c = omega arith
 
 loop-again : tie.Need-loop-again Inv-loop μ-loop
 loop-again c =
@@ -56,15 +46,4 @@ returns-2 c =
     sym (c .before .loop .inv .1 ∙ distinct-end (c .before .loop .j) (p .count) (λ k. getD (p .llids) k 0) (omega arith))
 
 pub distinct-llids-spec : {M : Type 1} → statement M
-distinct-llids-spec =
-    tie.close
-    (tie.spec
-    Inv-loop
-    μ-loop
-    loop-holds
-    again-requires
-    returns
-    add-j
-    loop-less
-    loop-again
-    returns-2)
+distinct-llids-spec = tie.close (tie.spec Inv-loop μ-loop loop-holds (λ c κs. omega arith) returns (λ c. omega arith) (λ c. omega arith) loop-again returns-2)

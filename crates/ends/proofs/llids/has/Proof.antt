@@ -1,5 +1,4 @@
--- `ends::llids::has` meets its contract: none of the first j LLIDs is it, so that the others decide.
--- Assumes nothing.
+-- `ends::llids::has` meets its contract: none of the first j LLIDs is it, so that the others decide. Assumes nothing.
 use mathlib.Core.Path.{_≡_, sym, _∙_}
 use Prim.Native.Nat.{_≤_, _-_}
 use native.Mathlib.Omega.{arith}
@@ -24,9 +23,6 @@ loop-holds c =
     let e : p .count - 0 ≡ p .count = omega arith in
     (omega arith, rw e)
 
-at-requires : tie.Need-at-requires Inv-loop μ-loop
-at-requires c κs = search needs
-
 returns : tie.Need-returns Inv-loop μ-loop
 unfolding has llidsOf
 returns c =
@@ -34,12 +30,6 @@ returns c =
     let here = c .before .before .before .loop in
     sym (here .inv .1
     ∙ among-hit _ (here .j) (p .count) (λ k. getD (p .llids) k 0) (omega arith) (sym (c .before .at .ensures) ∙ c .if1 .taken))
-
-add-j : tie.Need-add-j Inv-loop μ-loop
-add-j c = omega arith
-
-loop-less : tie.Need-loop-less Inv-loop μ-loop
-loop-less c = omega arith
 
 loop-again : tie.Need-loop-again Inv-loop μ-loop
 loop-again c =
@@ -57,6 +47,4 @@ returns-2 c =
     sym (c .before .loop .inv .1 ∙ among-end _ (c .before .loop .j) (p .count) (λ k. getD (p .llids) k 0) (omega arith))
 
 pub has-spec : {M : Type 1} → statement M
-has-spec =
-    tie.close
-    (tie.spec Inv-loop μ-loop loop-holds at-requires returns add-j loop-less loop-again returns-2)
+has-spec = tie.close (tie.spec Inv-loop μ-loop loop-holds (λ c κs. search needs) returns (λ c. omega arith) (λ c. omega arith) loop-again returns-2)

@@ -4,9 +4,5 @@ use Rattle.exercise.specs.Script.{intervalOf}
 use Rattle.exercise.proofs.script.interval.Statement.{statement}
 use Rattle.exercise.proofs.script.interval.Tie as tie
 
-returns : tie.Need-returns
-unfolding intervalOf
-returns c = search needs
-
 pub interval-spec : {M : Type 1} → statement M
-interval-spec = tie.close (tie.spec (λ c κs. search needs) returns)
+interval-spec = tie.close (tie.spec (λ c κs. search needs) (λ c. unfold intervalOf in search needs))

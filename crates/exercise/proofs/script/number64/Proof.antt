@@ -1,5 +1,4 @@
--- `exercise::script::number64` meets its contract: the number is made of those of four octets and of the four behind.
--- Assumes nothing.
+-- `exercise::script::number64` meets its contract: the number is made of those of four octets and of the four behind. Assumes nothing.
 use mathlib.Core.Path.{_≡_}
 use mathlib.Core.List.{List}
 use Prim.Native.Nat.{ℕ, _+_, _*_}
@@ -21,9 +20,9 @@ joined s at =
 returns : tie.Need-returns
 returns c =
     let a = c .before .before .before .args in
-    rw (c .before .number32 .ensures .0, c .number322 .ensures .0) (joined (now (a .s)) (a .at))
+    rw (c .before .number32 .ensures, c .number322 .ensures) (joined (now (a .s)) (a .at))
 
 pub number64-spec : {M : Type 1} → statement M
 number64-spec =
-    tie.close
-    (tie.spec (λ c κs. search needs) (λ c. search needs) (λ c. search needs) (λ c κs. search needs) (λ c. search needs) returns)
+    tie.close (tie.spec (λ c κs. search needs) (λ c. search needs) (λ c. search needs) (λ c. search needs) (λ c κs. search needs)
+    (λ c. search needs) (λ c. search needs) returns)

@@ -9,10 +9,6 @@ use Rattle.exercise.proofs.Scripts.{steps-whole}
 use Rattle.exercise.proofs.script.script_fits.Statement.{statement}
 use Rattle.exercise.proofs.script.script_fits.Tie as tie
 
-returns : tie.Need-returns
-unfolding scriptFits both
-returns c = rw (ne-eqb _ 0 (c .if1 .taken))
-
 returns-2 : tie.Need-returns-2
 unfolding scriptFits both
 returns-2 c = rw (eq-eqb _ 0 (c .before .before .if1 .left), ← c .before .steps-in .ensures, lt-leb _ _ (c .if2 .taken))
@@ -30,4 +26,6 @@ returns-3 c =
 
 pub script-fits-spec : {M : Type 1} → statement M
 script-fits-spec =
-    tie.close (tie.spec (λ c. search needs) returns (λ c κs. search needs) returns-2 steps-fit-requires returns-3)
+    tie.close
+    (tie.spec (λ c. search needs) (λ c. unfold scriptFits both in rw (ne-eqb _ 0 (c .if1 .taken))) (λ c κs. search needs) returns-2 steps-fit-requires
+    returns-3)

@@ -4,11 +4,8 @@ use Rattle.exercise.specs.Script.{stepAt}
 use Rattle.exercise.proofs.script.step_at.Statement.{statement}
 use Rattle.exercise.proofs.script.step_at.Tie as tie
 
-returns : tie.Need-returns
-unfolding stepAt
-returns c = rw (c .number64 .ensures)
-
 pub step-at-spec : {M : Type 1} → statement M
 step-at-spec =
     tie.close
-    (tie.spec (λ c. search needs) (λ c. search needs) (λ c. search needs) (λ c. search needs) (λ c κs. search needs) returns)
+    (tie.spec (λ c. search needs) (λ c. search needs) (λ c. search needs) (λ c. search needs) (λ c κs. search needs)
+    (λ c. unfold stepAt in rw (c .number64 .ensures)))

@@ -16,11 +16,9 @@ Inv-loop s steps i₀ i = (i ≤ steps) × (stepsFit s 0 steps ≡ stepsFit s i 
 abbrev μ-loop : tie.MeasureT-loop
 μ-loop s steps i₀ i = steps - i
 
-loop-holds : tie.Need-loop-holds Inv-loop μ-loop
-loop-holds c = (search needs, from-start (stepsFit _ 0) _)
-
 -- the step of this turn
-fits-told : (c : tie.After-step-fits Inv-loop μ-loop) → stepFits (stepAt (now (c .before .before .before .before .before .args .s)) (c .before .before .before .loop .i)) ≡ c .step-fits .result
+fits-told : (c : tie.After-step-fits Inv-loop μ-loop)
+    → stepFits (stepAt (now (c .before .before .before .before .before .args .s)) (c .before .before .before .loop .i)) ≡ c .step-fits .result
 fits-told c = ap stepFits (sym (c .before .step-at .ensures)) ∙ sym (c .step-fits .ensures)
 
 returns : tie.Need-returns Inv-loop μ-loop
@@ -33,20 +31,8 @@ loop-again c =
     let turn = c .before .before .before in
     (omega arith, turn .before .loop .inv .1 ∙ fits-on _ _ _ (turn .loop-test .taken) (fits-told (c .before) ∙ not-false _ (c .if1 .left)))
 
-returns-2 : tie.Need-returns-2 Inv-loop μ-loop
-returns-2 c = sym (c .before .loop .inv .1 ∙ fits-end _ _ _ (omega arith))
-
 pub steps-fit-spec : {M : Type 1} → statement M
 steps-fit-spec =
     tie.close
-    (tie.spec
-    Inv-loop
-    μ-loop
-    loop-holds
-    (λ c κs. search needs)
-    (λ c κs. search needs)
-    returns
-    (λ c. search needs)
-    (λ c. search needs)
-    loop-again
-    returns-2)
+    (tie.spec Inv-loop μ-loop (λ c. (search needs, from-start (stepsFit _ 0) _)) (λ c κs. search needs) (λ c κs. search needs) returns (λ c. search needs)
+    (λ c. search needs) loop-again (λ c. sym (c .before .loop .inv .1 ∙ fits-end _ _ _ (omega arith))))

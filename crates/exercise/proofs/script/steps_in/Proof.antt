@@ -4,9 +4,5 @@ use Rattle.exercise.specs.Script.{stepsIn}
 use Rattle.exercise.proofs.script.steps_in.Statement.{statement}
 use Rattle.exercise.proofs.script.steps_in.Tie as tie
 
-returns : tie.Need-returns
-unfolding stepsIn
-returns c = search needs
-
 pub steps-in-spec : {M : Type 1} → statement M
-steps-in-spec = tie.close (tie.spec (λ c. search needs) returns)
+steps-in-spec = tie.close (tie.spec (λ c. search needs) (λ c. unfold stepsIn in search needs))

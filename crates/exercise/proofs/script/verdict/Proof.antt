@@ -1,7 +1,6 @@
 -- `exercise::script::verdict` meets its contract: 1, then 26. Assumes nothing.
 use mathlib.Core.Path.{_≡_, sym, _∙_}
 use mathlib.Core.Bool.{true}
-use lib.ListN.{length}
 use borrow.Author.Tests.{not-true, not-false, leb-true}
 use borrow.Author.Needs.{needs}
 use denote.Ref.{now}
@@ -19,10 +18,6 @@ returns c = let e = sym (c .before .interval-fits .ensures) ∙ not-true _ (c .i
 in-range : (c : tie.Else1) → intervalFits (now (c .before .before .before .args .s)) ≡ true
 in-range c = sym (c .before .interval-fits .ensures) ∙ not-false _ (c .if1 .left)
 
-script-fits-requires : tie.Need-script-fits-requires
-unfolding intervalFits
-script-fits-requires c κs = leb-true intervalOctets _ (both-left _ _ (in-range c))
-
 returns-2 : tie.Need-returns-2
 unfolding scriptVerdict refuseIf
 returns-2 c =
@@ -39,4 +34,7 @@ returns-3 c =
 
 pub verdict-spec : {M : Type 1} → statement M
 verdict-spec =
-    tie.close (tie.spec (λ c κs. search needs) returns script-fits-requires returns-2 returns-3)
+    tie.close
+    (tie.spec (λ c κs. search needs) returns
+    (λ c κs. unfold intervalFits in leb-true intervalOctets _ (both-left _ _ (in-range c)))
+    returns-2 returns-3)

@@ -3,7 +3,6 @@ use borrow.Author.Needs.{needs}
 use Rattle.exercise.specs.Play.{advanced, withOlt, withOnu}
 use Rattle.exercise.proofs.steps.advance_step.Statement.{statement}
 use Rattle.exercise.proofs.steps.advance_step.Tie as tie
-use Rattle.onu.proofs.advance.Reads as advance-reads′
 
 returns : tie.Need-returns
 unfolding advanced withOnu withOlt

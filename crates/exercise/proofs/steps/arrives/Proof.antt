@@ -4,9 +4,5 @@ use Rattle.octets.specs.Choice.{both}
 use Rattle.exercise.proofs.steps.arrives.Statement.{statement}
 use Rattle.exercise.proofs.steps.arrives.Tie as tie
 
-returns : tie.Need-returns
-unfolding both
-returns c = search needs
-
 pub arrives-spec : {M : Type 1} → statement M
-arrives-spec = tie.close (tie.spec returns)
+arrives-spec = tie.close (tie.spec (λ c. unfold both in search needs))

@@ -1,5 +1,5 @@
 -- `exercise::steps::clock_step` meets its contract: the message is captured and sent, and arrives or not. Assumes nothing.
-use mathlib.Core.Path.{_≡_, sym, _∙_}
+use mathlib.Core.Path.{sym, _∙_}
 use borrow.Author.Needs.{needs}
 use Rattle.octets.specs.Choice.{pick}
 use Rattle.exercise.specs.Play.{clockStepped, clockSent, clockAnswered, withClockAnswer, withOnu, withOlt}
@@ -12,7 +12,12 @@ returns c =
     let got = c .before .before in
     let asked = got .before .before in
     let sent = asked .before .before in
-    rw (← sent .before .capture .ensures .0, ← sent .clock-send .ensures .0, sym (asked .arrives .ensures) ∙ got .before .if1 .taken, ← got .clock-message .ensures)
+    rw (
+      ← sent .before .capture .ensures .0,
+      ← sent .clock-send .ensures .0,
+      sym (asked .arrives .ensures) ∙ got .before .if1 .taken,
+      ← got .clock-message .ensures,
+    )
 
 returns-2 : tie.Need-returns-2
 unfolding clockStepped clockSent withClockAnswer withOlt pick
@@ -23,12 +28,4 @@ returns-2 c =
 
 pub clock-step-spec : {M : Type 1} → statement M
 clock-step-spec =
-    tie.close
-    (tie.spec
-    (λ c κs. search needs)
-    (λ c κs. search needs)
-    (λ c κs. search needs)
-    (λ c κs. search needs)
-    returns
-    (λ c κs. search needs)
-    returns-2)
+    tie.close (tie.spec (λ c κs. search needs) (λ c κs. search needs) (λ c κs. search needs) (λ c κs. search needs) returns (λ c κs. search needs) returns-2)

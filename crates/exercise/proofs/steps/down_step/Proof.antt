@@ -1,5 +1,5 @@
 -- `exercise::steps::down_step` meets its contract: the envelope arrives or not. Assumes nothing.
-use mathlib.Core.Path.{_≡_, sym, ap, _∙_}
+use mathlib.Core.Path.{sym, ap, _∙_}
 use borrow.Author.Needs.{needs}
 use Rattle.octets.specs.Choice.{pick}
 use Rattle.octets.specs.Output.{WithOutput}
@@ -15,7 +15,11 @@ returns c =
     let got = c .before .before in
     let asked = got .before .before .before .before .before in
     let sent = asked .before .before .before in
-    rw (← ap (λ (z : WithOutput OltSent). z .answer) (sent .olt-send .ensures .0), sym (asked .arrives .ensures) ∙ got .before .before .before .before .if1 .taken, ← ap (λ (z : WithOutput OnuReceived). z .answer) (got .onu-receive .ensures))
+    rw (
+      ← ap (λ (z : WithOutput OltSent). z .answer) (sent .olt-send .ensures .0),
+      sym (asked .arrives .ensures) ∙ got .before .before .before .before .if1 .taken,
+      ← ap (λ (z : WithOutput OnuReceived). z .answer) (got .onu-receive .ensures),
+    )
 
 returns-2 : tie.Need-returns-2
 unfolding sentDown withOnu withOlt pick
@@ -27,21 +31,6 @@ returns-2 c =
 pub down-step-spec : {M : Type 1} → statement M
 down-step-spec =
     tie.close
-    (tie.spec
-    (λ c. search needs)
-    (λ c. search needs)
-    (λ c. search needs)
-    (λ c. search needs)
-    (λ c. search needs)
-    (λ c. search needs)
-    (λ c κs. search needs)
-    (λ c κs. search needs)
-    (λ c. search needs)
-    (λ c. search needs)
-    (λ c. search needs)
-    (λ c. search needs)
-    (λ c. search needs)
-    (λ c. search needs)
-    (λ c κs. search needs)
-    returns
-    returns-2)
+    (tie.spec (λ c. search needs) (λ c. search needs) (λ c. search needs) (λ c. search needs) (λ c. search needs) (λ c. search needs) (λ c κs. search needs)
+    (λ c κs. search needs) (λ c. search needs) (λ c. search needs) (λ c. search needs) (λ c. search needs) (λ c. search needs) (λ c. search needs)
+    (λ c κs. search needs) returns returns-2)

@@ -5,9 +5,5 @@ use Rattle.ends.specs.Table.{pastUnit}
 use Rattle.exercise.proofs.steps.figures.Statement.{statement}
 use Rattle.exercise.proofs.steps.figures.Tie as tie
 
-returns : tie.Need-returns
-unfolding figuresOf pastUnit
-returns c = search needs
-
 pub figures-spec : {M : Type 1} → statement M
-figures-spec = tie.close (tie.spec (λ c. search needs) returns)
+figures-spec = tie.close (tie.spec (λ c. search needs) (λ c. unfold figuresOf pastUnit in search needs))

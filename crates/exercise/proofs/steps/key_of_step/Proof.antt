@@ -4,9 +4,5 @@ use Rattle.exercise.specs.Play.{keyOfStep}
 use Rattle.exercise.proofs.steps.key_of_step.Statement.{statement}
 use Rattle.exercise.proofs.steps.key_of_step.Tie as tie
 
-returns : tie.Need-returns
-unfolding keyOfStep
-returns c = search needs
-
 pub key-of-step-spec : {M : Type 1} → statement M
-key-of-step-spec = tie.close (tie.spec (λ c. search needs) returns)
+key-of-step-spec = tie.close (tie.spec (λ c. search needs) (λ c. unfold keyOfStep in search needs))

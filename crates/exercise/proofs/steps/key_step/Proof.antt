@@ -1,5 +1,5 @@
 -- `exercise::steps::key_step` meets its contract: the message arrives or not. Assumes nothing.
-use mathlib.Core.Path.{_≡_, sym, _∙_}
+use mathlib.Core.Path.{sym, _∙_}
 use borrow.Author.Needs.{needs}
 use Rattle.octets.specs.Choice.{pick}
 use Rattle.exercise.specs.Play.{keySent, keyAnswered, withKeyAnswer, withOnu, withOlt}
@@ -17,5 +17,4 @@ unfolding keySent withKeyAnswer withOlt pick
 returns-2 c = rw (sym (c .before .before .arrives .ensures) ∙ c .before .if1 .left, c .no-answer .ensures)
 
 pub key-step-spec : {M : Type 1} → statement M
-key-step-spec =
-    tie.close (tie.spec (λ c κs. search needs) (λ c κs. search needs) returns (λ c κs. search needs) returns-2)
+key-step-spec = tie.close (tie.spec (λ c κs. search needs) (λ c κs. search needs) returns (λ c κs. search needs) returns-2)

@@ -9,17 +9,18 @@ unfolding started
 returns c =
     let onu = c .before .before .before .before in
     let olt = onu .before .before in
-    rw (c .before .no-answer .ensures, c .no-answer2 .ensures, onu .fresh2 .ensures, onu .before .unit-identity2 .ensures, olt .register .ensures, olt .before .unit-identity .ensures, olt .before .before .fresh .ensures)
+    rw (
+      c .before .no-answer .ensures,
+      c .no-answer2 .ensures,
+      onu .fresh2 .ensures,
+      onu .before .unit-identity2 .ensures,
+      olt .register .ensures,
+      olt .before .unit-identity .ensures,
+      olt .before .before .fresh .ensures,
+    )
 
 pub start-spec : {M : Type 1} → statement M
 start-spec =
     tie.close
-    (tie.spec
-    (λ c κs. search needs)
-    (λ c κs. search needs)
-    (λ c κs. search needs)
-    (λ c κs. search needs)
-    (λ c κs. search needs)
-    (λ c κs. search needs)
-    (λ c κs. search needs)
-    returns)
+    (tie.spec (λ c κs. search needs) (λ c κs. search needs) (λ c κs. search needs) (λ c κs. search needs) (λ c κs. search needs) (λ c κs. search needs)
+    (λ c κs. search needs) returns)

@@ -1,5 +1,5 @@
 -- `exercise::steps::up_step` meets its contract: the envelope arrives or not. Assumes nothing.
-use mathlib.Core.Path.{_≡_, sym, ap, _∙_}
+use mathlib.Core.Path.{sym, ap, _∙_}
 use borrow.Author.Needs.{needs}
 use Rattle.octets.specs.Choice.{pick}
 use Rattle.octets.specs.Output.{WithOutput}
@@ -15,7 +15,11 @@ returns c =
     let got = c .before .before in
     let asked = got .before .before .before .before .before in
     let sent = asked .before .before .before in
-    rw (← ap (λ (z : WithOutput OnuSent). z .answer) (sent .onu-send .ensures), sym (asked .arrives .ensures) ∙ got .before .before .before .before .if1 .taken, ← ap (λ (z : WithOutput OltReceived). z .answer) (got .olt-receive .ensures .0))
+    rw (
+      ← ap (λ (z : WithOutput OnuSent). z .answer) (sent .onu-send .ensures),
+      sym (asked .arrives .ensures) ∙ got .before .before .before .before .if1 .taken,
+      ← ap (λ (z : WithOutput OltReceived). z .answer) (got .olt-receive .ensures .0),
+    )
 
 returns-2 : tie.Need-returns-2
 unfolding sentUp withOnu withOlt pick
@@ -27,21 +31,6 @@ returns-2 c =
 pub up-step-spec : {M : Type 1} → statement M
 up-step-spec =
     tie.close
-    (tie.spec
-    (λ c. search needs)
-    (λ c. search needs)
-    (λ c. search needs)
-    (λ c. search needs)
-    (λ c. search needs)
-    (λ c. search needs)
-    (λ c κs. search needs)
-    (λ c κs. search needs)
-    (λ c. search needs)
-    (λ c. search needs)
-    (λ c. search needs)
-    (λ c. search needs)
-    (λ c. search needs)
-    (λ c. search needs)
-    (λ c κs. search needs)
-    returns
-    returns-2)
+    (tie.spec (λ c. search needs) (λ c. search needs) (λ c. search needs) (λ c. search needs) (λ c. search needs) (λ c. search needs) (λ c κs. search needs)
+    (λ c κs. search needs) (λ c. search needs) (λ c. search needs) (λ c. search needs) (λ c. search needs) (λ c. search needs) (λ c. search needs)
+    (λ c κs. search needs) returns returns-2)

@@ -1,25 +1,9 @@
--- `jazmotip::blocks::jazmotip_capture_open` meets its contract: number, pair and count of the answer of `open`.
--- Assumes nothing.
+-- `jazmotip::blocks::jazmotip_capture_open` meets its contract: number, pair and count of the answer of `open`. Assumes nothing.
 use mathlib.Core.Path.{ap}
 use Rattle.jazmotip.specs.Blocks.{openedInNumbers}
 use borrow.Author.Needs.{needs}
 use Rattle.jazmotip.proofs.blocks.jazmotip_capture_open.Statement.{statement}
 use Rattle.jazmotip.proofs.blocks.jazmotip_capture_open.Tie as tie
-
-open-requires : tie.Need-open-requires
-open-requires c κs = search needs
-
-number-requires : tie.Need-number-requires
-number-requires c κs = search needs
-
-pair-requires : tie.Need-pair-requires
-pair-requires c κs = search needs
-
-octets-opened-requires : tie.Need-octets-opened-requires
-octets-opened-requires c κs = search needs
-
-same-length : tie.Need-same-length
-same-length c = search needs
 
 returns : tie.Need-returns
 returns c =
@@ -28,4 +12,4 @@ returns c =
 
 pub jazmotip-capture-open-spec : {M : Type 1} → statement M
 jazmotip-capture-open-spec =
-    tie.close (tie.spec open-requires number-requires pair-requires octets-opened-requires same-length returns)
+    tie.close (tie.spec (λ c κs. search needs) (λ c κs. search needs) (λ c κs. search needs) (λ c κs. search needs) (λ c. search needs) returns)

@@ -1,5 +1,4 @@
--- `jazmotip::blocks::jazmotip_capture_payload` meets its contract by those of its two steps; the bounds name the payload.
--- Assumes nothing.
+-- `jazmotip::blocks::jazmotip_capture_payload` meets its contract by those of its two steps; the bounds name the payload. Assumes nothing.
 use mathlib.Core.Path.{_≡_, _∙_}
 use denote.Ref.{now}
 use Rattle.capture.specs.Payload.{payloadBounds}
@@ -9,12 +8,6 @@ use borrow.Author.Needs.{needs}
 use Rattle.jazmotip.proofs.blocks.jazmotip_capture_payload.Statement.{statement}
 use Rattle.jazmotip.proofs.blocks.jazmotip_capture_payload.Tie as tie
 
-locate-requires : tie.Need-locate-requires
-locate-requires c κs = search needs
-
-part-in-numbers-requires : tie.Need-part-in-numbers-requires
-part-in-numbers-requires c κs = search needs
-
 returns : tie.Need-returns
 returns c =
     let a = c .before .before .before .args in
@@ -23,5 +16,4 @@ returns c =
     (e, (rw e (n .0), rw e (n .1)))
 
 pub jazmotip-capture-payload-spec : {M : Type 1} → statement M
-jazmotip-capture-payload-spec =
-    tie.close (tie.spec locate-requires part-in-numbers-requires returns)
+jazmotip-capture-payload-spec = tie.close (tie.spec (λ c κs. search needs) (λ c κs. search needs) returns)

@@ -1,19 +1,9 @@
--- `jazmotip::blocks::jazmotip_capture_verdict` meets its contract by those of its two steps.
--- Assumes nothing.
+-- `jazmotip::blocks::jazmotip_capture_verdict` meets its contract by those of its two steps. Assumes nothing.
 use mathlib.Core.Path.{_∙_}
 use borrow.Author.Needs.{needs}
 use Rattle.jazmotip.proofs.blocks.jazmotip_capture_verdict.Statement.{statement}
 use Rattle.jazmotip.proofs.blocks.jazmotip_capture_verdict.Tie as tie
 
-ask-requires : tie.Need-ask-requires
-ask-requires c κs = search needs
-
-verdict-in-numbers-requires : tie.Need-verdict-in-numbers-requires
-verdict-in-numbers-requires c κs = search needs
-
-returns : tie.Need-returns
-returns c = c .verdict-in-numbers .ensures ∙ rw (c .before .ask .ensures)
-
 pub jazmotip-capture-verdict-spec : {M : Type 1} → statement M
 jazmotip-capture-verdict-spec =
-    tie.close (tie.spec ask-requires verdict-in-numbers-requires returns)
+    tie.close (tie.spec (λ c κs. search needs) (λ c κs. search needs) (λ c. c .verdict-in-numbers .ensures ∙ rw (c .before .ask .ensures)))

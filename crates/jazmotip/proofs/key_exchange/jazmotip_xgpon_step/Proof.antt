@@ -1,5 +1,4 @@
--- `jazmotip::key_exchange::jazmotip_xgpon_step` meets its contract: a known kind is the exchange's own step, an unknown one refused.
--- Assumes nothing.
+-- `jazmotip::key_exchange::jazmotip_xgpon_step` meets its contract: a known kind is the exchange's own step, an unknown one refused. Assumes nothing.
 use mathlib.Core.Path.{sym}
 use borrow.Author.Needs.{needs}
 use Rattle.jazmotip.proofs.key_exchange.jazmotip_xgpon_step.Statement.{statement}
@@ -13,5 +12,4 @@ returns-2 c = rw (c .refuse .ensures, sym (c .before .before .before .input-of .
 
 pub jazmotip-xgpon-step-spec : {M : Type 1} → statement M
 jazmotip-xgpon-step-spec =
-    tie.close
-    (tie.spec (λ c κs. search needs) (λ c. search needs) (λ c κs. search needs) (λ c. search needs) (λ c κs. search needs) returns returns-2)
+    tie.close (tie.spec (λ c κs. search needs) (λ c. search needs) (λ c κs. search needs) (λ c. search needs) (λ c κs. search needs) returns returns-2)

@@ -1,5 +1,4 @@
--- `jazmotip::payloads::deny_flag` meets its contract: the lengths decide.
--- Assumes nothing.
+-- `jazmotip::payloads::deny_flag` meets its contract: the lengths decide. Assumes nothing.
 use mathlib.Core.Path.{ap, sym, _∙_}
 use Rattle.octets.proofs.Choice.{pick-true, pick-false}
 use Rattle.envelope.specs.declared.SealAnswer.the-variants.{Denied}
@@ -7,9 +6,6 @@ use Rattle.jazmotip.specs.Payloads.{flagDenied}
 use borrow.Author.Needs.{needs}
 use Rattle.jazmotip.proofs.payloads.deny_flag.Statement.{statement}
 use Rattle.jazmotip.proofs.payloads.deny_flag.Tie as tie
-
-lengths-fit-requires : tie.Need-lengths-fit-requires
-lengths-fit-requires c κs = search needs
 
 returns : tie.Need-returns
 unfolding flagDenied
@@ -20,4 +16,4 @@ unfolding flagDenied
 returns-2 c = ap Denied (sym (pick-false _ _ (sym (c .before .lengths-fit .ensures) ∙ c .if1 .left)))
 
 pub deny-flag-spec : {M : Type 1} → statement M
-deny-flag-spec = tie.close (tie.spec lengths-fit-requires returns returns-2)
+deny-flag-spec = tie.close (tie.spec (λ c κs. search needs) returns returns-2)

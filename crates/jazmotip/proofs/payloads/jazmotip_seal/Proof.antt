@@ -1,5 +1,4 @@
--- `jazmotip::payloads::jazmotip_seal` meets its contract: a flag above 1 is denied, 0 and 1 are sealing's own.
--- Assumes nothing.
+-- `jazmotip::payloads::jazmotip_seal` meets its contract: a flag above 1 is denied, 0 and 1 are sealing's own. Assumes nothing.
 use native.Mathlib.Omega.{arith}
 use Rattle.sealing.specs.KeyExpansion.{keyExpansion}
 use Rattle.jazmotip.proofs.Flags.{flag-denied, flag-sealed}
@@ -7,26 +6,11 @@ use borrow.Author.Needs.{needs}
 use Rattle.jazmotip.proofs.payloads.jazmotip_seal.Statement.{statement}
 use Rattle.jazmotip.proofs.payloads.jazmotip_seal.Tie as tie
 
-deny-flag-requires : tie.Need-deny-flag-requires
-deny-flag-requires c κs = search needs
-
-numbered-requires : tie.Need-numbered-requires
-numbered-requires c κs = search needs
-
 returns : tie.Need-returns
 returns c =
     let a = c .before .before .before .before .before .args in
     rw (c .numbered .ensures, c .before .deny-flag .ensures)
     (flag-denied (keyExpansion (a .key .now)) (a .nonce) (a .input .now) (a .output .now) (a .encenabled) (omega (arith, c .before .before .if1 .taken)))
-
-seal-requires : tie.Need-seal-requires
-seal-requires c κs = search needs
-
-numbered-requires-2 : tie.Need-numbered-requires-2
-numbered-requires-2 c κs = search needs
-
-same-length : tie.Need-same-length
-same-length c = search needs
 
 returns-2 : tie.Need-returns-2
 returns-2 c =
@@ -39,12 +23,4 @@ returns-2 c =
 
 pub jazmotip-seal-spec : {M : Type 1} → statement M
 jazmotip-seal-spec =
-    tie.close
-    (tie.spec
-    deny-flag-requires
-    numbered-requires
-    returns
-    seal-requires
-    numbered-requires-2
-    same-length
-    returns-2)
+    tie.close (tie.spec (λ c κs. search needs) (λ c κs. search needs) returns (λ c κs. search needs) (λ c κs. search needs) (λ c. search needs) returns-2)

@@ -1,5 +1,4 @@
--- `jazmotip::payloads::jazmotip_seal_in_place` meets its contract: a flag above 1 is denied, 0 and 1 are sealing's own.
--- Assumes nothing.
+-- `jazmotip::payloads::jazmotip_seal_in_place` meets its contract: a flag above 1 is denied, 0 and 1 are sealing's own. Assumes nothing.
 use native.Mathlib.Omega.{arith}
 use Rattle.sealing.specs.KeyExpansion.{keyExpansion}
 use Rattle.jazmotip.proofs.Flags.{flag-denied, flag-sealed}
@@ -24,12 +23,4 @@ returns-2 c =
 
 pub jazmotip-seal-in-place-spec : {M : Type 1} → statement M
 jazmotip-seal-in-place-spec =
-    tie.close
-    (tie.spec
-    (λ c κs. search needs)
-    (λ c κs. search needs)
-    returns
-    (λ c κs. search needs)
-    (λ c κs. search needs)
-    (λ c. search needs)
-    returns-2)
+    tie.close (tie.spec (λ c κs. search needs) (λ c κs. search needs) returns (λ c κs. search needs) (λ c κs. search needs) (λ c. search needs) returns-2)

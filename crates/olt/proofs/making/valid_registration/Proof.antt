@@ -1,8 +1,7 @@
--- `olt::making::valid_registration` meets its contract: the tests are those of the definition.
--- Assumes nothing.
+-- `olt::making::valid_registration` meets its contract: the tests are those of the definition. Assumes nothing.
 use borrow.Author.Needs.{needs}
 use Rattle.octets.specs.Choice.{both}
-use Rattle.ends.specs.OltCalls.{validRegistration}
+use Rattle.protocol.specs.OltCalls.{validRegistration}
 use Rattle.olt.proofs.making.valid_registration.Statement.{statement}
 use Rattle.olt.proofs.making.valid_registration.Tie as tie
 

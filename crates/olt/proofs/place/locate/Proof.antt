@@ -1,5 +1,4 @@
--- `olt::place::locate` meets its contract: the end is judged, then what the call refuses ahead of 2, then what was found.
--- Assumes nothing.
+-- `olt::place::locate` meets its contract: the end is judged, then what the call refuses ahead of 2, then what was found. Assumes nothing.
 use borrow.Author.Needs.{needs}
 use Rattle.ends.specs.Table.{find}
 use Rattle.ends.specs.Validity.{judged, judgedOf, validOlt}
@@ -13,7 +12,9 @@ unfolding locatedOf judged judgedOf
 returns c =
     let way = c .before in
     let a = way .before .before .before .args in
-    located-ordered _ _ _ _ (rw (c .located-after .ensures, way .refuse-if .ensures, way .before .before .judge .ensures) (located-judged (validOlt (a .olt)) (a .ahead) (find (a .olt) (a .llid))))
+    located-ordered _ _ _ _
+    (rw (c .located-after .ensures, way .refuse-if .ensures, way .before .before .judge .ensures)
+    (located-judged (validOlt (a .olt)) (a .ahead) (find (a .olt) (a .llid))))
 
 pub locate-spec : {M : Type 1} → statement M
 locate-spec = tie.close (tie.spec (λ c κs. search needs) (λ c κs. search needs) (λ c κs. search needs) returns)

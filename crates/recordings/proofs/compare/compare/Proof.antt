@@ -1,5 +1,4 @@
--- `recordings::compare::compare` meets its contract: what the ruling says, and the laws of two blocks.
--- Assumes nothing.
+-- `recordings::compare::compare` meets its contract: what the ruling says, and the laws of two blocks. Assumes nothing.
 use mathlib.Core.Path.{sym, _∙_}
 use borrow.Author.Needs.{needs}
 use Rattle.recordings.specs.Comparing.{comparedAfter, comparing}
@@ -28,12 +27,5 @@ returns-2 c =
 pub compare-spec : {M : Type 1} → statement M
 compare-spec =
     tie.close
-    (tie.spec
-    (λ c κs. search needs)
-    (λ c. search needs)
-    (λ c κs. search needs)
-    (λ c. search needs)
-    write-entries-requires
-    returns
-    (λ c. search needs)
+    (tie.spec (λ c κs. search needs) (λ c. search needs) (λ c κs. search needs) (λ c. search needs) write-entries-requires returns (λ c. search needs)
     returns-2)

@@ -1,8 +1,7 @@
--- `recordings::compare::count_alone` meets its contract. The loop's invariant: the sum over the records before i.
--- Assumes nothing.
-use mathlib.Core.Path.{_≡_, refl, sym, ap, _∙_}
+-- `recordings::compare::count_alone` meets its contract. The loop's invariant: the sum over the records before i. Assumes nothing.
+use mathlib.Core.Path.{_≡_, refl, sym, _∙_}
 use mathlib.Core.Logic.{⊎-elim}
-use Prim.Native.Nat.{ℕ, _+_, _-_, _≤_}
+use Prim.Native.Nat.{_-_, _≤_}
 use native.Mathlib.Nat.{add-zero}
 use native.Mathlib.Omega.{arith}
 use denote.Ref.{now}
@@ -62,18 +61,5 @@ returns c =
 pub count-alone-spec : {M : Type 1} → statement M
 count-alone-spec =
     tie.close
-    (tie.spec
-    Inv-loop
-    μ-loop
-    (λ c κs. search needs)
-    (λ c κs. search needs)
-    (λ c. (omega arith, omega arith, refl))
-    (λ c. search needs)
-    (λ c. search needs)
-    element-copy-out
-    (λ c κs. search needs)
-    (λ c. search needs)
-    (λ c. search needs)
-    (λ c. omega arith)
-    loop-again
-    returns)
+    (tie.spec Inv-loop μ-loop (λ c κs. search needs) (λ c κs. search needs) (λ c. (omega arith, omega arith, refl)) (λ c. search needs) (λ c. search needs)
+    element-copy-out (λ c κs. search needs) (λ c. search needs) (λ c. search needs) (λ c. omega arith) loop-again returns)

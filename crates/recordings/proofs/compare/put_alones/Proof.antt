@@ -1,10 +1,9 @@
 -- `recordings::compare::put_alones` meets its contract. The loop's invariant: the entries of the records before j that are alone
--- stand behind the first `at` octets.
--- Assumes nothing.
-use mathlib.Core.Path.{_≡_, refl, sym, ap, _∙_}
+-- stand behind the first `at` octets. Assumes nothing.
+use mathlib.Core.Path.{_≡_, refl, ap, _∙_}
 use mathlib.Core.List.{[], _∷_, _++_, append-nil, append-assoc}
 use mathlib.Core.Logic.{⊎-elim}
-use Prim.Native.Nat.{ℕ, _+_, _-_, _≤_, _<_}
+use Prim.Native.Nat.{_+_, _-_, _≤_, _<_}
 use native.Mathlib.Omega.{arith}
 use lib.ListN.{length, take, drop, length-set, length-append}
 use denote.Ref.{now}
@@ -24,10 +23,6 @@ Inv-loop b a table output₀ at n m end₀ j₀ output end j =
 
 abbrev μ-loop : tie.MeasureT-loop
 μ-loop b a table output₀ at n m end₀ j₀ output end j = m - j
-
-loop-holds : tie.Need-loop-holds Inv-loop μ-loop
-unfolding pieces
-loop-holds c = (omega arith, refl, omega arith, omega arith, rw append-nil, refl)
 
 element-copy-out : tie.Need-element-copy-out-if1 Inv-loop μ-loop
 element-copy-out c =
@@ -83,19 +78,7 @@ returns c =
 pub put-alones-spec : {M : Type 1} → statement M
 put-alones-spec =
     tie.close
-    (tie.spec
-    Inv-loop
-    μ-loop
-    (λ c κs. search needs)
-    (λ c κs. search needs)
-    loop-holds
-    (λ c. search needs)
-    (λ c. search needs)
-    element-copy-out
-    (λ c. room (c .before .before))
-    (λ c. search needs)
-    (λ c. search needs)
-    (λ c. omega arith)
-    loop-again
-    (λ c. search needs)
-    returns)
+    (tie.spec Inv-loop μ-loop (λ c κs. search needs) (λ c κs. search needs)
+    (λ c. unfold pieces in (omega arith, refl, omega arith, omega arith, rw append-nil, refl))
+    (λ c. search needs) (λ c. search needs) element-copy-out (λ c. room (c .before .before)) (λ c. search needs) (λ c. search needs) (λ c. omega arith)
+    loop-again (λ c. search needs) returns)

@@ -1,15 +1,14 @@
 -- `recordings::compare::put_marks` meets its contract. The loop's invariant: the output has the entries of the records before i, and
--- behind them stays as it was.
--- Assumes nothing.
-use mathlib.Core.Path.{_≡_, refl, sym, ap, _∙_}
-use mathlib.Core.List.{List, _++_}
-use Prim.Native.Nat.{ℕ, _-_, _≤_, _<_}
+-- behind them stays as it was. Assumes nothing.
+use mathlib.Core.Path.{_≡_, refl, ap, _∙_}
+use mathlib.Core.List.{_++_}
+use Prim.Native.Nat.{_-_, _≤_, _<_}
 use native.Mathlib.Omega.{arith}
-use lib.ListN.{length, drop, set, length-set}
+use lib.ListN.{length, drop, length-set}
 use denote.Ref.{now}
 use borrow.Author.Needs.{needs}
 use Rattle.octets.specs.Lists.{tabulate}
-use Rattle.records.specs.Block.{recordsIn, recordOf}
+use Rattle.records.specs.Block.{recordsIn}
 use Rattle.recordings.specs.Comparing.{markAt, markOf}
 use Rattle.recordings.proofs.Entries.{fill-more}
 use Rattle.recordings.proofs.compare.put_marks.Statement.{statement}
@@ -55,19 +54,7 @@ returns c =
 pub put-marks-spec : {M : Type 1} → statement M
 put-marks-spec =
     tie.close
-    (tie.spec
-    Inv-loop
-    μ-loop
-    (λ c κs. search needs)
-    (λ c. (omega arith, refl, refl))
-    (λ c. search needs)
-    (λ c. search needs)
-    element-copy-out
-    (λ c κs. search needs)
-    (λ c. search needs)
+    (tie.spec Inv-loop μ-loop (λ c κs. search needs) (λ c. (omega arith, refl, refl)) (λ c. search needs) (λ c. search needs) element-copy-out
+    (λ c κs. search needs) (λ c. search needs)
     (λ c. omega (arith, within (c .before .before) .1, c .before .before .before .loop .inv .1))
-    (λ c. search needs)
-    (λ c. omega arith)
-    loop-again
-    (λ c. search needs)
-    returns)
+    (λ c. search needs) (λ c. omega arith) loop-again (λ c. search needs) returns)

@@ -1,5 +1,4 @@
--- `recordings::listing::list` meets its contract: the heading, then what stands behind it.
--- Assumes nothing.
+-- `recordings::listing::list` meets its contract: the heading, then what stands behind it. Assumes nothing.
 use mathlib.Core.Path.{sym, ap, _∙_}
 use mathlib.Core.List.{List, _++_}
 use Prim.Native.Nat.{ℕ, _≤_}

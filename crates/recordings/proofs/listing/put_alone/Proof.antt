@@ -1,5 +1,4 @@
--- `recordings::listing::put_alone` meets its contract: the row of a record without a partner, nothing for one that has it.
--- Assumes nothing.
+-- `recordings::listing::put_alone` meets its contract: the row of a record without a partner, nothing for one that has it. Assumes nothing.
 use mathlib.Core.Path.{_≡_, refl, sym, ap, _∙_}
 use mathlib.Core.Bool.{true, false}
 use mathlib.Core.List.{List, _++_, append-nil}
@@ -41,12 +40,4 @@ returns-2 c =
 pub put-alone-spec : {M : Type 1} → statement M
 put-alone-spec =
     tie.close
-    (tie.spec
-    (λ c κs. search needs)
-    (λ c. search needs)
-    (λ c κs. search needs)
-    (λ c κs. search needs)
-    put-line-requires
-    (λ c. search needs)
-    returns
-    returns-2)
+    (tie.spec (λ c κs. search needs) (λ c. search needs) (λ c κs. search needs) (λ c κs. search needs) put-line-requires (λ c. search needs) returns returns-2)

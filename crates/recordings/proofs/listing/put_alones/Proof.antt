@@ -1,9 +1,8 @@
 -- `recordings::listing::put_alones` meets its contract. The loop's invariant: the rows of the records before j that are alone stand
--- behind the first `at` octets.
--- Assumes nothing.
+-- behind the first `at` octets. Assumes nothing.
 use mathlib.Core.Path.{_≡_, refl, _∙_}
 use mathlib.Core.List.{_++_, append-nil}
-use Prim.Native.Nat.{ℕ, _+_, _-_, _*_, _≤_, _<_}
+use Prim.Native.Nat.{_+_, _-_, _*_, _≤_, _<_}
 use native.Mathlib.Omega.{arith}
 use lib.ListN.{length, take, drop}
 use denote.Ref.{now}
@@ -26,16 +25,9 @@ Inv-loop b a table text₀ at m end₀ j₀ text end j =
 abbrev μ-loop : tie.MeasureT-loop
 μ-loop b a table text₀ at m end₀ j₀ text end j = m - j
 
-loop-holds : tie.Need-loop-holds Inv-loop μ-loop
-unfolding pieces
-loop-holds c = (omega arith, refl, omega arith, omega arith, rw append-nil, refl)
-
 -- record j is among those of b
 among : (c : tie.In-loop Inv-loop μ-loop) → c .before .loop .j < recordsIn (now (c .before .before .before .before .before .before .args .b))
 among c = omega (arith, c .loop-test .taken, c .before .before .count .ensures)
-
-element-copy-out : tie.Need-element-copy-out-p Inv-loop μ-loop
-element-copy-out c = omega (arith, among c, c .before .before .before .before .before .before .pre .0)
 
 put-alone-requires : tie.Need-put-alone-requires Inv-loop μ-loop
 put-alone-requires c κs =
@@ -76,17 +68,8 @@ returns c =
 pub put-alones-spec : {M : Type 1} → statement M
 put-alones-spec =
     tie.close
-    (tie.spec
-    Inv-loop
-    μ-loop
-    (λ c κs. search needs)
-    loop-holds
-    (λ c. search needs)
-    (λ c. search needs)
-    element-copy-out
-    put-alone-requires
-    (λ c. search needs)
-    (λ c. omega arith)
-    loop-again
-    (λ c. c .before .loop .inv .1)
-    returns)
+    (tie.spec Inv-loop μ-loop (λ c κs. search needs)
+    (λ c. unfold pieces in (omega arith, refl, omega arith, omega arith, rw append-nil, refl))
+    (λ c. search needs) (λ c. search needs)
+    (λ c. omega (arith, among c, c .before .before .before .before .before .before .pre .0))
+    put-alone-requires (λ c. search needs) (λ c. omega arith) loop-again (λ c. c .before .loop .inv .1) returns)

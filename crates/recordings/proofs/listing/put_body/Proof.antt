@@ -1,5 +1,4 @@
--- `recordings::listing::put_body` meets its contract: the number of a refused call, the rows of an accepted one.
--- Assumes nothing.
+-- `recordings::listing::put_body` meets its contract: the number of a refused call, the rows of an accepted one. Assumes nothing.
 use mathlib.Core.Path.{sym, ap, _∙_}
 use mathlib.Core.List.{List, _++_}
 use Prim.Native.Nat.{ℕ}
@@ -43,14 +42,5 @@ returns-2 c =
 pub put-body-spec : {M : Type 1} → statement M
 put-body-spec =
     tie.close
-    (tie.spec
-    (λ c κs. search needs)
-    (λ c. search needs)
-    (λ c κs. search needs)
-    (λ c κs. search needs)
-    (λ c. search needs)
-    put-rows-requires
-    (λ c. search needs)
-    returns
-    (λ c. search needs)
-    returns-2)
+    (tie.spec (λ c κs. search needs) (λ c. search needs) (λ c κs. search needs) (λ c κs. search needs) (λ c. search needs) put-rows-requires (λ c. search needs)
+    returns (λ c. search needs) returns-2)

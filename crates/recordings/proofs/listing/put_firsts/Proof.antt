@@ -1,9 +1,8 @@
 -- `recordings::listing::put_firsts` meets its contract. The loop's invariant: the rows of the records before i stand behind the first
--- `at` octets.
--- Assumes nothing.
+-- `at` octets. Assumes nothing.
 use mathlib.Core.Path.{_≡_, refl, ap, _∙_}
 use mathlib.Core.List.{_++_, append-nil}
-use Prim.Native.Nat.{ℕ, _+_, _-_, _*_, _≤_, _<_}
+use Prim.Native.Nat.{_+_, _-_, _*_, _≤_, _<_}
 use native.Mathlib.Omega.{arith}
 use lib.ListN.{length, take, drop}
 use denote.Ref.{now}
@@ -26,16 +25,9 @@ Inv-loop a b table text₀ at n end₀ i₀ text end i =
 abbrev μ-loop : tie.MeasureT-loop
 μ-loop a b table text₀ at n end₀ i₀ text end i = n - i
 
-loop-holds : tie.Need-loop-holds Inv-loop μ-loop
-unfolding pieces
-loop-holds c = (omega arith, refl, omega arith, omega arith, rw append-nil, refl)
-
 -- record i is among those of a
 among : (c : tie.In-loop Inv-loop μ-loop) → c .before .loop .i < recordsIn (now (c .before .before .before .before .before .before .args .a))
 among c = omega (arith, c .loop-test .taken, c .before .before .count .ensures)
-
-element-copy-out : tie.Need-element-copy-out-p Inv-loop μ-loop
-element-copy-out c = omega (arith, among c, c .before .before .before .before .before .before .pre .0 .few)
 
 entry-line-requires : tie.Need-entry-line-requires Inv-loop μ-loop
 entry-line-requires c κs =
@@ -87,18 +79,8 @@ returns c =
 pub put-firsts-spec : {M : Type 1} → statement M
 put-firsts-spec =
     tie.close
-    (tie.spec
-    Inv-loop
-    μ-loop
-    (λ c κs. search needs)
-    loop-holds
-    (λ c. search needs)
-    (λ c. search needs)
-    element-copy-out
-    entry-line-requires
-    put-line-requires
-    (λ c. search needs)
-    (λ c. omega arith)
-    loop-again
-    (λ c. c .before .loop .inv .1)
-    returns)
+    (tie.spec Inv-loop μ-loop (λ c κs. search needs)
+    (λ c. unfold pieces in (omega arith, refl, omega arith, omega arith, rw append-nil, refl))
+    (λ c. search needs) (λ c. search needs)
+    (λ c. omega (arith, among c, c .before .before .before .before .before .before .pre .0 .few))
+    entry-line-requires put-line-requires (λ c. search needs) (λ c. omega arith) loop-again (λ c. c .before .loop .inv .1) returns)

@@ -1,5 +1,4 @@
--- `recordings::listing::put_input` meets its contract: what is read of the input is its LLID and its two blocks.
--- Assumes nothing.
+-- `recordings::listing::put_input` meets its contract: what is read of the input is its LLID and its two blocks. Assumes nothing.
 use mathlib.Core.Path.{_≡_, sym, ap, _∙_}
 use mathlib.Core.List.{List, _++_}
 use Prim.Native.Nat.{ℕ, _+_, _≤_, _<_}
@@ -14,7 +13,7 @@ use Rattle.octets.proofs.Choice.{pick-true, pick-false}
 use Rattle.refusal.specs.declared.Refusal.the-variants.{BadLength}
 use Rattle.rows.specs.Entries.{deniedRow}
 use Rattle.recordings.specs.Comparing.{outputOctets, rulingOn}
-use Rattle.recordings.specs.Listing.{headOctets, askedLlid, firstLength, firstBlock, secondBlock, bodyAfter, bodyOf}
+use Rattle.recordings.specs.Listing.{headOctets, askedLlid, firstLength, bodyAfter, bodyOf}
 use Rattle.recordings.proofs.listing.put_input.Statement.{statement}
 use Rattle.recordings.proofs.listing.put_input.Tie as tie
 
@@ -52,24 +51,12 @@ returns-2 c =
     let else = asked .before in
     let start = else .before .before .before .before in
     let q = put .put-body .ensures in
-    let e =
-    two-blocks (now (start .args .input)) _ _ _ _ (else .before .number32 .ensures) (else .if1 .left) (asked .number16 .ensures) (first .part-of .ensures) (second .part-of2 .ensures) in
+    let whole = two-blocks (now (start .args .input)) _ _ _ _ (else .before .number32 .ensures) (else .if1 .left) in
+    let e = whole (asked .number16 .ensures) (first .part-of .ensures) (second .part-of2 .ensures) in
     (q .0, (q .1 .0 ∙ ap (λ (t : List ℕ). take (start .args .at) (now (start .args .text)) ++ t) e, q .1 .1))
 
 pub put-input-spec : {M : Type 1} → statement M
 put-input-spec =
     tie.close
-    (tie.spec
-    (λ c κs. search needs)
-    (λ c. search needs)
-    (λ c. search needs)
-    (λ c κs. search needs)
-    (λ c κs. search needs)
-    (λ c. search needs)
-    returns
-    (λ c κs. search needs)
-    (λ c κs. search needs)
-    (λ c κs. search needs)
-    (λ c κs. search needs)
-    (λ c. search needs)
-    returns-2)
+    (tie.spec (λ c κs. search needs) (λ c. search needs) (λ c. search needs) (λ c κs. search needs) (λ c κs. search needs) (λ c. search needs) returns
+    (λ c κs. search needs) (λ c κs. search needs) (λ c κs. search needs) (λ c κs. search needs) (λ c. search needs) returns-2)

@@ -1,5 +1,4 @@
--- `recordings::listing::put_rows` meets its contract: the rows of a, then those of b that are alone, then the total.
--- Assumes nothing.
+-- `recordings::listing::put_rows` meets its contract: the rows of a, then those of b that are alone, then the total. Assumes nothing.
 use mathlib.Core.Path.{_≡_, _∙_}
 use mathlib.Core.List.{List, _++_, append-assoc}
 use Prim.Native.Nat.{ℕ}
@@ -72,14 +71,5 @@ returns c =
 pub put-rows-spec : {M : Type 1} → statement M
 put-rows-spec =
     tie.close
-    (tie.spec
-    (λ c κs. search needs)
-    put-firsts-requires
-    put-alones-requires
-    (λ c κs. search needs)
-    (λ c κs. search needs)
-    (λ c. search needs)
-    (λ c κs. search needs)
-    put-line-requires
-    (λ c. search needs)
-    returns)
+    (tie.spec (λ c κs. search needs) put-firsts-requires put-alones-requires (λ c κs. search needs) (λ c κs. search needs) (λ c. search needs)
+    (λ c κs. search needs) put-line-requires (λ c. search needs) returns)

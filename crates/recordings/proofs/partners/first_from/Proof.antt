@@ -1,5 +1,4 @@
--- `recordings::partners::first_from` meets its contract. The loop's invariant: the first that pairs is the first from j on.
--- Assumes nothing.
+-- `recordings::partners::first_from` meets its contract. The loop's invariant: the first that pairs is the first from j on. Assumes nothing.
 use mathlib.Core.Path.{_≡_, refl, sym, _∙_}
 use mathlib.Core.Bool.{Bool}
 use mathlib.Core.List.{List}
@@ -39,21 +38,9 @@ loop-again c =
     let e = tested _ _ _ _ _ (at-loop .before .header-at .ensures .0) (called .before .header-at2 .ensures .0) (called .keys-agree .ensures) in
     at-loop .loop .inv ∙ first-step _ _ _ _ (called .before .before .loop-test .taken) (e ∙ c .if1 .left)
 
-returns-2 : tie.Need-returns-2 Inv-loop μ-loop
-returns-2 c = sym (c .before .loop .inv ∙ first-end _ _ _ _ (c .loop-test .left))
-
 pub first-from-spec : {M : Type 1} → statement M
 first-from-spec =
     tie.close
-    (tie.spec
-    Inv-loop
-    μ-loop
-    (λ c κs. search needs)
-    (λ c. refl)
-    (λ c κs. search needs)
-    (λ c κs. search needs)
-    returns
-    (λ c. search needs)
-    (λ c. omega arith)
+    (tie.spec Inv-loop μ-loop (λ c κs. search needs) (λ c. refl) (λ c κs. search needs) (λ c κs. search needs) returns (λ c. search needs) (λ c. omega arith)
     loop-again
-    returns-2)
+    (λ c. sym (c .before .loop .inv ∙ first-end _ _ _ _ (c .loop-test .left))))

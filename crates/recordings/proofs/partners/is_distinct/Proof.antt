@@ -1,5 +1,4 @@
--- `recordings::partners::is_distinct` meets its contract. The loop's invariant: what is left to test is the records from i on.
--- Assumes nothing.
+-- `recordings::partners::is_distinct` meets its contract. The loop's invariant: what is left to test is the records from i on. Assumes nothing.
 use mathlib.Core.Path.{_≡_, sym, _∙_}
 use Prim.Native.Nat.{_-_}
 use native.Mathlib.Omega.{arith}
@@ -40,21 +39,9 @@ loop-again c =
     let e = unlike-tested _ _ _ _ (at-loop .before .count .ensures) (called .first-from .ensures) in
     at-loop .loop .inv ∙ each-step _ _ (unlikeRest _) (called .before .loop-test .taken) (e ∙ eq-eqb _ _ (c .if1 .left))
 
-returns-2 : tie.Need-returns-2 Inv-loop μ-loop
-returns-2 c = sym (c .before .loop .inv ∙ each-end _ _ _ (c .loop-test .left))
-
 pub is-distinct-spec : {M : Type 1} → statement M
 is-distinct-spec =
     tie.close
-    (tie.spec
-    Inv-loop
-    μ-loop
-    (λ c κs. search needs)
-    loop-holds
-    (λ c. search needs)
-    (λ c κs. search needs)
-    returns
-    (λ c. search needs)
-    (λ c. omega arith)
+    (tie.spec Inv-loop μ-loop (λ c κs. search needs) loop-holds (λ c. search needs) (λ c κs. search needs) returns (λ c. search needs) (λ c. omega arith)
     loop-again
-    returns-2)
+    (λ c. sym (c .before .loop .inv ∙ each-end _ _ _ (c .loop-test .left))))

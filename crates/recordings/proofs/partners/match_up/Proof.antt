@@ -1,7 +1,6 @@
 -- `recordings::partners::match_up` meets its contract. The loop's invariant: the partners of the records of a before i are listed,
--- and each record of b has met its partner among them, if it is there.
--- Assumes nothing.
-use mathlib.Core.Path.{_≡_, sym, _∙_}
+-- and each record of b has met its partner among them, if it is there. Assumes nothing.
+use mathlib.Core.Path.{_≡_, _∙_}
 use mathlib.Core.Logic.{inr, ⊎-elim}
 use Prim.Native.Nat.{ℕ, _-_, _≤_, _<_}
 use native.Mathlib.Omega.{arith}
@@ -91,20 +90,5 @@ returns c =
 pub match-up-spec : {M : Type 1} → statement M
 match-up-spec =
     tie.close
-    (tie.spec
-    Inv-loop
-    μ-loop
-    (λ c κs. search needs)
-    (λ c κs. search needs)
-    loop-holds
-    (λ c κs. search needs)
-    (λ c. search needs)
-    (λ c. search needs)
-    array-write-first
-    (λ c. search needs)
-    (λ c. search needs)
-    array-write-second
-    (λ c. search needs)
-    (λ c. omega arith)
-    loop-again
-    returns)
+    (tie.spec Inv-loop μ-loop (λ c κs. search needs) (λ c κs. search needs) loop-holds (λ c κs. search needs) (λ c. search needs) (λ c. search needs)
+    array-write-first (λ c. search needs) (λ c. search needs) array-write-second (λ c. search needs) (λ c. omega arith) loop-again returns)

@@ -1,5 +1,4 @@
--- `recordings::payloads::is_same` meets its contract. The loop's invariant: what is left to test is the EQs from e on.
--- Assumes nothing.
+-- `recordings::payloads::is_same` meets its contract. The loop's invariant: what is left to test is the EQs from e on. Assumes nothing.
 use mathlib.Core.Path.{_≡_, sym, _∙_}
 use mathlib.Core.Bool.{false}
 use mathlib.Core.List.{List}
@@ -63,24 +62,9 @@ loop-again c =
     let e = sym (called .is-same-eq .ensures) ∙ not-false _ (c .if2 .left) in
     at-loop .loop .inv ∙ each-step _ _ (sameEq _ _) (called .before .loop-test .taken) e
 
-returns-3 : tie.Need-returns-3 Inv-loop μ-loop
-returns-3 c = sym (c .before .loop .inv ∙ each-end _ _ _ (c .loop-test .left))
-
 pub is-same-spec : {M : Type 1} → statement M
 is-same-spec =
     tie.close
-    (tie.spec
-    Inv-loop
-    μ-loop
-    (λ c κs. search needs)
-    (λ c κs. search needs)
-    returns
-    (λ c κs. search needs)
-    (λ c κs. search needs)
-    loop-holds
-    (λ c κs. search needs)
-    returns-2
-    (λ c. search needs)
-    (λ c. omega arith)
-    loop-again
-    returns-3)
+    (tie.spec Inv-loop μ-loop (λ c κs. search needs) (λ c κs. search needs) returns (λ c κs. search needs) (λ c κs. search needs) loop-holds
+    (λ c κs. search needs) returns-2 (λ c. search needs) (λ c. omega arith) loop-again
+    (λ c. sym (c .before .loop .inv ∙ each-end _ _ _ (c .loop-test .left))))

@@ -1,5 +1,4 @@
--- `recordings::payloads::is_same_eq` meets its contract. The loop's invariant: what is left to test is the data octets from j on.
--- Assumes nothing.
+-- `recordings::payloads::is_same_eq` meets its contract. The loop's invariant: what is left to test is the data octets from j on. Assumes nothing.
 use mathlib.Core.Path.{_≡_, refl, sym, _∙_}
 use mathlib.Core.Bool.{Bool}
 use mathlib.Core.List.{List}
@@ -26,10 +25,6 @@ Inv-loop p q e j₀ j = sameEq p q e ≡ each j (dataOctets - j) (Same p q e)
 abbrev μ-loop : tie.MeasureT-loop
 μ-loop p q e j₀ j = dataOctets - j
 
-loop-holds : tie.Need-loop-holds Inv-loop μ-loop
-unfolding sameEq
-loop-holds c = refl
-
 returns : tie.Need-returns Inv-loop μ-loop
 returns c =
     let read = c .before in
@@ -47,20 +42,9 @@ loop-again c =
     let hit = sym (read .before .data-octet .ensures) ∙ c .if1 .left ∙ read .data-octet2 .ensures in
     at-loop .loop .inv ∙ each-step _ dataOctets (Same (now (a .p)) (now (a .q)) (a .e)) (read .before .before .loop-test .taken) (eq-eqb _ _ hit)
 
-returns-2 : tie.Need-returns-2 Inv-loop μ-loop
-returns-2 c = sym (c .before .loop .inv ∙ each-end _ dataOctets _ (c .loop-test .left))
-
 pub is-same-eq-spec : {M : Type 1} → statement M
 is-same-eq-spec =
     tie.close
-    (tie.spec
-    Inv-loop
-    μ-loop
-    loop-holds
-    (λ c κs. search needs)
-    (λ c κs. search needs)
-    returns
-    (λ c. search needs)
-    (λ c. omega arith)
+    (tie.spec Inv-loop μ-loop (λ c. unfold sameEq in refl) (λ c κs. search needs) (λ c κs. search needs) returns (λ c. search needs) (λ c. omega arith)
     loop-again
-    returns-2)
+    (λ c. sym (c .before .loop .inv ∙ each-end _ dataOctets _ (c .loop-test .left))))

@@ -1,5 +1,4 @@
--- `recordings::verdict::are_headers_fit` meets its contract. The loop's invariant: what is left to test is the records from i on.
--- Assumes nothing.
+-- `recordings::verdict::are_headers_fit` meets its contract. The loop's invariant: what is left to test is the records from i on. Assumes nothing.
 use mathlib.Core.Path.{_≡_, sym, _∙_}
 use mathlib.Core.Bool.{Bool}
 use mathlib.Core.List.{List}
@@ -51,21 +50,9 @@ loop-again c =
     let e = tested _ _ _ _ (called .before .header-at .ensures .0) (called .is-well-formed .ensures) in
     at-loop .loop .inv ∙ each-step _ _ (Fit _) (called .before .before .loop-test .taken) (e ∙ not-false _ (c .if1 .left))
 
-returns-2 : tie.Need-returns-2 Inv-loop μ-loop
-returns-2 c = sym (c .before .loop .inv ∙ each-end _ _ _ (c .loop-test .left))
-
 pub are-headers-fit-spec : {M : Type 1} → statement M
 are-headers-fit-spec =
     tie.close
-    (tie.spec
-    Inv-loop
-    μ-loop
-    (λ c κs. search needs)
-    loop-holds
-    (λ c κs. search needs)
-    (λ c κs. search needs)
-    returns
-    (λ c. search needs)
-    (λ c. omega arith)
+    (tie.spec Inv-loop μ-loop (λ c κs. search needs) loop-holds (λ c κs. search needs) (λ c κs. search needs) returns (λ c. search needs) (λ c. omega arith)
     loop-again
-    returns-2)
+    (λ c. sym (c .before .loop .inv ∙ each-end _ _ _ (c .loop-test .left))))

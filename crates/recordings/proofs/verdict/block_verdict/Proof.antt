@@ -1,5 +1,4 @@
--- `recordings::verdict::block_verdict` meets its contract: a bad directory is refused, a good one judged by its headers.
--- Assumes nothing.
+-- `recordings::verdict::block_verdict` meets its contract: a bad directory is refused, a good one judged by its headers. Assumes nothing.
 use mathlib.Core.Path.{_∙_}
 use borrow.Author.Needs.{needs}
 use Rattle.refusal.specs.Order.{andThen}
@@ -19,12 +18,4 @@ returns-2 c =
 
 pub block-verdict-spec : {M : Type 1} → statement M
 block-verdict-spec =
-    tie.close
-    (tie.spec
-    (λ c κs. search needs)
-    (λ c. search needs)
-    (λ c. search needs)
-    (λ c κs. search needs)
-    (λ c κs. search needs)
-    returns
-    returns-2)
+    tie.close (tie.spec (λ c κs. search needs) (λ c. search needs) (λ c. search needs) (λ c κs. search needs) (λ c κs. search needs) returns returns-2)

@@ -1,5 +1,4 @@
--- `recordings::verdict::rule` meets its contract: each cause on the way is one of `rulingOn`, in its order.
--- Assumes nothing.
+-- `recordings::verdict::rule` meets its contract: each cause on the way is one of `rulingOn`, in its order. Assumes nothing.
 use mathlib.Core.Path.{_≡_, sym, _∙_}
 use mathlib.Core.List.{List}
 use Prim.Native.Nat.{ℕ}
@@ -25,10 +24,6 @@ past-blocks a b = ruled 1 (repeatVerdict a) (ruled 2 (repeatVerdict b) Taken)
 right-length : (size : ℕ) (a b : List ℕ) → size ≡ outputOctets → rulingOn size a b ≡ past-length a b
 unfolding rulingOn ruled refuseIf
 right-length size a b e = rw (eq-eqb _ _ e)
-
-returns : tie.Need-returns
-unfolding rulingOn ruled refuseIf
-returns c = rw (ne-eqb _ _ (c .if1 .taken))
 
 -- the first block is good
 first-good : (c : tie.After-enum-told) → let start = c .before .before .before .before .before .before in
@@ -80,18 +75,6 @@ returns-6 c =
 pub rule-spec : {M : Type 1} → statement M
 rule-spec =
     tie.close
-    (tie.spec
-    returns
-    (λ c κs. search needs)
-    (λ c. search needs)
-    returns-2
-    (λ c. search needs)
-    (λ c κs. search needs)
-    (λ c. search needs)
-    returns-3
-    (λ c. search needs)
-    (λ c κs. search needs)
-    returns-4
-    (λ c κs. search needs)
-    returns-5
-    returns-6)
+    (tie.spec (λ c. unfold rulingOn ruled refuseIf in rw (ne-eqb _ _ (c .if1 .taken)))
+    (λ c κs. search needs) (λ c. search needs) returns-2 (λ c. search needs) (λ c κs. search needs) (λ c. search needs) returns-3 (λ c. search needs)
+    (λ c κs. search needs) returns-4 (λ c κs. search needs) returns-5 returns-6)

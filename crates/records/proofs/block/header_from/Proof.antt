@@ -1,5 +1,4 @@
--- `records::block::header_from` meets its contract: a header is read of as many octets as it has.
--- Assumes nothing.
+-- `records::block::header_from` meets its contract: a header is read of as many octets as it has. Assumes nothing.
 use mathlib.Core.Path.{_∙_}
 use native.Mathlib.Omega.{arith}
 use borrow.Author.Needs.{needs}

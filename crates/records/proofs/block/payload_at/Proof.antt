@@ -1,5 +1,4 @@
--- `records::block::payload_at` meets its contract: what is behind the header of the octets that its pair names.
--- Assumes nothing.
+-- `records::block::payload_at` meets its contract: what is behind the header of the octets that its pair names. Assumes nothing.
 use mathlib.Core.Path.{_∙_}
 use native.Mathlib.Omega.{arith}
 use lib.ListN.{length, drop, length-drop}

@@ -1,5 +1,4 @@
--- `records::header::flags_fit` meets its contract: it computes the tests of `flagsFit`.
--- Assumes nothing.
+-- `records::header::flags_fit` meets its contract: it computes the tests of `flagsFit`. Assumes nothing.
 use borrow.Author.Needs.{needs}
 use Rattle.octets.specs.Choice.{both, either}
 use Rattle.records.specs.Verdict.{flagsFit}

@@ -1,5 +1,4 @@
--- `records::header::is_sized` meets its contract: the two tests of `sized`.
--- Assumes nothing.
+-- `records::header::is_sized` meets its contract: the two tests of `sized`. Assumes nothing.
 use Rattle.octets.specs.Choice.{both}
 use Rattle.records.specs.Record.{recordHeader, sized}
 use borrow.Author.Needs.{needs}

@@ -1,5 +1,4 @@
--- `records::header::key_verdict` meets its contract: the tests of `keyVerdict`, one after the other.
--- Assumes nothing.
+-- `records::header::key_verdict` meets its contract: the tests of `keyVerdict`, one after the other. Assumes nothing.
 use mathlib.Core.Path.{_≡_, sym, _∙_}
 use mathlib.Core.Bool.{true}
 use borrow.Author.Needs.{needs}
@@ -9,9 +8,6 @@ use Rattle.records.specs.Verdict.{encEnabled}
 use Rattle.records.proofs.Verdicts.{is-clear, lacks-key, is-sealed}
 use Rattle.records.proofs.header.key_verdict.Statement.{statement}
 use Rattle.records.proofs.header.key_verdict.Tie as tie
-
-returns : tie.Need-returns
-returns c = is-clear _ _ _ (sym (c .before .enc-enabled .ensures) ∙ not-true _ (c .if1 .taken))
 
 -- the record is enciphered
 enciphered : (c : tie.Else1) → encEnabled (c .before .before .args .flags) ≡ true
@@ -32,4 +28,6 @@ returns-3 c =
 pub key-verdict-spec : {M : Type 1} → statement M
 key-verdict-spec =
     tie.close
-    (tie.spec (λ c κs. search needs) returns (λ c κs. search needs) (λ c κs. search needs) returns-2 returns-3)
+    (tie.spec (λ c κs. search needs)
+    (λ c. is-clear _ _ _ (sym (c .before .enc-enabled .ensures) ∙ not-true _ (c .if1 .taken)))
+    (λ c κs. search needs) (λ c κs. search needs) returns-2 returns-3)

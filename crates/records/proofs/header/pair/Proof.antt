@@ -1,21 +1,11 @@
--- `records::header::pair` meets its contract by that of `refusal::pair`.
--- Assumes nothing.
+-- `records::header::pair` meets its contract by that of `refusal::pair`. Assumes nothing.
 use mathlib.Core.Path.{_∙_}
 use borrow.Author.Needs.{needs}
 use Rattle.records.proofs.header.pair.Statement.{statement}
 use Rattle.records.proofs.header.pair.Tie as tie
 
-returns-3 : tie.Need-returns-3
-returns-3 c = c .pair .ensures ∙ rw (c .before .before .verdict .given .1)
-
 pub pair-spec : {M : Type 1} → statement M
 pair-spec =
     tie.close
-    (tie.spec
-    (λ c. search needs)
-    (λ c. search needs)
-    (λ c. search needs)
-    (λ c κs. search needs)
-    (λ c. search needs)
-    (λ c. search needs)
-    returns-3)
+    (tie.spec (λ c. search needs) (λ c. search needs) (λ c. search needs) (λ c κs. search needs) (λ c. search needs) (λ c. search needs)
+    (λ c. c .pair .ensures ∙ rw (c .before .before .verdict .given .1)))

@@ -1,5 +1,4 @@
--- `records::header::record_verdict` meets its contract: the tests of `recordVerdict`, one after the other.
--- Assumes nothing.
+-- `records::header::record_verdict` meets its contract: the tests of `recordVerdict`, one after the other. Assumes nothing.
 use mathlib.Core.Path.{_≡_, sym, _∙_}
 use mathlib.Core.Bool.{true}
 use borrow.Author.Needs.{needs}
@@ -9,15 +8,9 @@ use Rattle.records.proofs.Verdicts.{malformed, other-llid, other-epam, 
 use Rattle.records.proofs.header.record_verdict.Statement.{statement}
 use Rattle.records.proofs.header.record_verdict.Tie as tie
 
-returns : tie.Need-returns
-returns c = malformed _ _ _ _ (sym (c .before .is-well-formed .ensures) ∙ not-true _ (c .if1 .taken))
-
 -- the header is of its values
 formed : (c : tie.Else1) → headerFits (c .before .before .args .h) ≡ true
 formed c = sym (c .before .is-well-formed .ensures) ∙ not-false _ (c .if1 .left)
-
-returns-2 : tie.Need-returns-2
-returns-2 c = other-llid _ _ _ _ (formed (c .before .before)) (c .if2 .taken)
 
 returns-3 : tie.Need-returns-3
 returns-3 c =
@@ -34,4 +27,6 @@ returns-4 c =
 pub record-verdict-spec : {M : Type 1} → statement M
 record-verdict-spec =
     tie.close
-    (tie.spec (λ c κs. search needs) returns returns-2 (λ c κs. search needs) returns-3 (λ c κs. search needs) returns-4)
+    (tie.spec (λ c κs. search needs)
+    (λ c. malformed _ _ _ _ (sym (c .before .is-well-formed .ensures) ∙ not-true _ (c .if1 .taken)))
+    (λ c. other-llid _ _ _ _ (formed (c .before .before)) (c .if2 .taken)) (λ c κs. search needs) returns-3 (λ c κs. search needs) returns-4)

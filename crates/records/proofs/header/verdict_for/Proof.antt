@@ -1,5 +1,4 @@
--- `records::header::verdict_for` meets its contract: presence and LLID are those of the settings.
--- Assumes nothing.
+-- `records::header::verdict_for` meets its contract: presence and LLID are those of the settings. Assumes nothing.
 use mathlib.Core.Path.{_∙_}
 use borrow.Author.Needs.{needs}
 use Rattle.records.specs.Verdict.{verdictFor}

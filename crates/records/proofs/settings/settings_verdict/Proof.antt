@@ -1,5 +1,4 @@
--- `records::settings::settings_verdict` meets its contract: the tests of `settingsVerdict`, one after the other.
--- Assumes nothing.
+-- `records::settings::settings_verdict` meets its contract: the tests of `settingsVerdict`, one after the other. Assumes nothing.
 use mathlib.Core.Path.{_≡_, sym, _∙_}
 use borrow.Author.Needs.{needs}
 use borrow.Author.Tests.{eq-eqb, ne-eqb}
@@ -9,10 +8,6 @@ use Rattle.octets.proofs.Bits.{mask-clears}
 use Rattle.records.specs.Settings.{settingsKeys, presenceFits, settingsVerdict}
 use Rattle.records.proofs.settings.settings_verdict.Statement.{statement}
 use Rattle.records.proofs.settings.settings_verdict.Tie as tie
-
-returns : tie.Need-returns
-unfolding settingsVerdict pick
-returns c = rw (ne-eqb _ _ (c .if1 .taken))
 
 returns-2 : tie.Need-returns-2
 unfolding settingsVerdict presenceFits pick
@@ -29,4 +24,4 @@ returns-3 c =
     rw (eq-eqb _ _ (at-presence .before .if1 .left), ← at-presence .presence .ensures, none)
 
 pub settings-verdict-spec : {M : Type 1} → statement M
-settings-verdict-spec = tie.close (tie.spec returns (λ c κs. search needs) returns-2 returns-3)
+settings-verdict-spec = tie.close (tie.spec (λ c. unfold settingsVerdict pick in rw (ne-eqb _ _ (c .if1 .taken))) (λ c κs. search needs) returns-2 returns-3)

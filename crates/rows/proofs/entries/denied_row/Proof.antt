@@ -1,5 +1,4 @@
--- `rows::entries::denied_row` meets its contract: the text of the refusal, its pair and block, on an empty line.
--- Assumes nothing.
+-- `rows::entries::denied_row` meets its contract: the text of the refusal, its pair and block, on an empty line. Assumes nothing.
 use native.Mathlib.Omega.{arith}
 use borrow.Author.Needs.{needs}
 use Rattle.rows.specs.Entries.{deniedRow}
@@ -7,9 +6,6 @@ use Rattle.rows.proofs.Lines.{both-grown, refused-few, pair-few}
 use Rattle.rows.proofs.EntryTexts.{block-few, denied-few}
 use Rattle.rows.proofs.entries.denied_row.Statement.{statement}
 use Rattle.rows.proofs.entries.denied_row.Tie as tie
-
-pair-requires : tie.Need-pair-requires
-pair-requires c κs = omega (arith, c .refused .ensures .used, refused-few (c .before .args .refusal))
 
 put-block-requires : tie.Need-put-block-requires
 put-block-requires c κs =
@@ -31,4 +27,8 @@ returns c =
     record { octets = g .text; used = omega (arith, g .used); inside = omega (arith, g .used, denied-few (a .refusal) (a .block)) }
 
 pub denied-row-spec : {M : Type 1} → statement M
-denied-row-spec = tie.close (tie.spec (λ c κs. search needs) pair-requires put-block-requires push-requires returns)
+denied-row-spec =
+    tie.close
+    (tie.spec (λ c κs. search needs)
+    (λ c κs. omega (arith, c .refused .ensures .used, refused-few (c .before .args .refusal)))
+    put-block-requires push-requires returns)

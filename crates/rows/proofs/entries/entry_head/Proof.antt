@@ -1,5 +1,4 @@
--- `rows::entries::entry_head` meets its contract: the pieces in their order.
--- Assumes nothing.
+-- `rows::entries::entry_head` meets its contract: the pieces in their order. Assumes nothing.
 use mathlib.Core.List.{List, [], _∷_, _++_, append-assoc}
 use Prim.Native.Nat.{ℕ, _≤_}
 use native.Mathlib.Omega.{arith}
@@ -9,9 +8,6 @@ use Rattle.rows.specs.Duties.{Grown}
 use Rattle.rows.proofs.Lines.{both-grown, grown-as}
 use Rattle.rows.proofs.entries.entry_head.Statement.{statement}
 use Rattle.rows.proofs.entries.entry_head.Tie as tie
-
-push-requires : tie.Need-push-requires
-push-requires c κs = omega (arith, c .put-number .ensures .0 .used, c .put-number .ensures .1)
 
 put-number-requires-2 : tie.Need-put-number-requires-2
 put-number-requires-2 c κs = omega (arith, c .push .ensures .used, c .before .put-number .ensures .0 .used, c .before .put-number .ensures .1)
@@ -33,15 +29,11 @@ to-numbers c =
 
 few-numbers : (c : tie.After-push2) → c .push2 .result .used ≤ 12
 few-numbers c =
-    let first = c .before .before .before in
     let second = c .before in
-    omega (arith, first .put-number .ensures .0 .used, first .put-number .ensures .1, first .before .pre, c .before .before .push .ensures .used, second .put-number2 .ensures .0 .used, second .put-number2 .ensures .1, c .push2 .ensures .used)
-
-put-digits-requires : tie.Need-put-digits-requires
-put-digits-requires c κs = (omega arith, omega arith, omega (arith, few-numbers (c .before)))
-
-push-requires-3 : tie.Need-push-requires-3
-push-requires-3 c κs = omega (arith, c .put-digits .ensures .used, few-numbers (c .before .before))
+    let first = second .before .before in
+    let one = first .put-number .ensures in
+    let two = second .put-number2 .ensures in
+    omega (arith, one .0 .used, one .1, first .before .pre, second .before .push .ensures .used, two .0 .used, two .1, c .push2 .ensures .used)
 
 put-digits-requires-2 : tie.Need-put-digits-requires-2
 put-digits-requires-2 c κs =
@@ -63,15 +55,9 @@ returns c =
 pub entry-head-spec : {M : Type 1} → statement M
 entry-head-spec =
     tie.close
-    (tie.spec
-    (λ c κs. omega arith)
-    push-requires
-    put-number-requires-2
-    push-requires-2
-    (λ c. search needs)
-    put-digits-requires
-    push-requires-3
-    (λ c. search needs)
-    put-digits-requires-2
-    push-requires-4
-    returns)
+    (tie.spec (λ c κs. omega arith)
+    (λ c κs. omega (arith, c .put-number .ensures .0 .used, c .put-number .ensures .1))
+    put-number-requires-2 push-requires-2 (λ c. search needs)
+    (λ c κs. (omega arith, omega arith, omega (arith, few-numbers (c .before))))
+    (λ c κs. omega (arith, c .put-digits .ensures .used, few-numbers (c .before .before)))
+    (λ c. search needs) put-digits-requires-2 push-requires-4 returns)

@@ -1,8 +1,7 @@
--- `rows::entries::entry_row` meets its contract: head and tail on an empty line.
--- Assumes nothing.
+-- `rows::entries::entry_row` meets its contract: head and tail on an empty line. Assumes nothing.
 use native.Mathlib.Omega.{arith}
 use borrow.Author.Needs.{needs}
-use lib.ListN.{length, length-append}
+use lib.ListN.{length-append}
 use Rattle.rows.specs.Entries.{entryHead, entryTail, entryRow}
 use Rattle.rows.proofs.Lines.{both-grown}
 use Rattle.rows.proofs.EntryTexts.{head-text-few, tail-text-few}

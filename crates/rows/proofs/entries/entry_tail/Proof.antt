@@ -1,5 +1,4 @@
--- `rows::entries::entry_tail` meets its contract: the pieces in their order.
--- Assumes nothing.
+-- `rows::entries::entry_tail` meets its contract: the pieces in their order. Assumes nothing.
 use mathlib.Core.List.{append-assoc}
 use native.Mathlib.Omega.{arith}
 use Rattle.rows.specs.Entries.{entryTail}
@@ -7,12 +6,6 @@ use Rattle.rows.proofs.Lines.{both-grown, grown-as, decimal-few}
 use Rattle.rows.proofs.EntryTexts.{mark-few}
 use Rattle.rows.proofs.entries.entry_tail.Statement.{statement}
 use Rattle.rows.proofs.entries.entry_tail.Tie as tie
-
-decimal-requires : tie.Need-decimal-requires
-decimal-requires c κs = omega (arith, decimal-few (c .args .clock))
-
-push-requires : tie.Need-push-requires
-push-requires c κs = omega (arith, c .decimal .ensures .used, decimal-few (c .before .args .clock))
 
 put-mark-requires : tie.Need-put-mark-requires
 put-mark-requires c κs = omega (arith, c .push .ensures .used, c .before .decimal .ensures .used, decimal-few (c .before .before .args .clock))
@@ -30,4 +23,8 @@ returns c =
     grown-as (both-grown (both-grown clock (c .before .put-mark .ensures)) (c .push2 .ensures)) (simp append-assoc)
 
 pub entry-tail-spec : {M : Type 1} → statement M
-entry-tail-spec = tie.close (tie.spec decimal-requires push-requires put-mark-requires push-requires-2 returns)
+entry-tail-spec =
+    tie.close
+    (tie.spec (λ c κs. omega (arith, decimal-few (c .args .clock)))
+    (λ c κs. omega (arith, c .decimal .ensures .used, decimal-few (c .before .args .clock)))
+    put-mark-requires push-requires-2 returns)

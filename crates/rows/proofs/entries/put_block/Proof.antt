@@ -1,5 +1,4 @@
--- `rows::entries::put_block` meets its contract: nothing, or a blank and the block.
--- Assumes nothing.
+-- `rows::entries::put_block` meets its contract: nothing, or a blank and the block. Assumes nothing.
 use native.Mathlib.Omega.{arith}
 use borrow.Author.Needs.{needs}
 use borrow.Author.Tests.{eq-eqb, ne-eqb}
@@ -9,10 +8,6 @@ use Rattle.rows.proofs.Lines.{both-grown, none-grown, grown-as, decimal
 use Rattle.rows.proofs.entries.put_block.Statement.{statement}
 use Rattle.rows.proofs.entries.put_block.Tie as tie
 
-returns : tie.Need-returns
-unfolding blockText pick
-returns c = grown-as (none-grown _) (rw (eq-eqb _ _ (c .if1 .taken)))
-
 returns-2 : tie.Need-returns-2
 unfolding blockText pick
 returns-2 c = grown-as (both-grown (c .before .push .ensures) (c .decimal .ensures)) (rw (ne-eqb _ _ (c .before .before .if1 .left)))
@@ -20,8 +15,7 @@ returns-2 c = grown-as (both-grown (c .before .push .ensures) (c .decimal .ensur
 pub put-block-spec : {M : Type 1} → statement M
 put-block-spec =
     tie.close
-    (tie.spec
-    returns
+    (tie.spec (λ c. unfold blockText pick in grown-as (none-grown _) (rw (eq-eqb _ _ (c .if1 .taken))))
     (λ c κs. search needs)
     (λ c κs. omega (arith, c .push .ensures .used, decimal-few (c .before .before .args .block)))
     returns-2)

@@ -1,5 +1,4 @@
--- `rows::entries::put_number` meets its contract: a dash, or the number's digits.
--- Assumes nothing.
+-- `rows::entries::put_number` meets its contract: a dash, or the number's digits. Assumes nothing.
 use native.Mathlib.Omega.{arith}
 use borrow.Author.Needs.{needs}
 use borrow.Author.Tests.{eq-eqb, ne-eqb}
@@ -21,4 +20,6 @@ returns-2 c = (grown-as (c .decimal .ensures) (rw (ne-eqb _ _ (c .before .if1 .l
 pub put-number-spec : {M : Type 1} → statement M
 put-number-spec =
     tie.close
-    (tie.spec (λ c κs. search needs) returns (λ c κs. omega (arith, decimal-below 4 (c .before .args .k) (omega arith))) returns-2)
+    (tie.spec (λ c κs. search needs) returns
+    (λ c κs. omega (arith, decimal-below 4 (c .before .args .k) (omega arith)))
+    returns-2)

@@ -1,5 +1,4 @@
--- `rows::entries::total_row` meets its contract: the word, then the number, on an empty line.
--- Assumes nothing.
+-- `rows::entries::total_row` meets its contract: the word, then the number, on an empty line. Assumes nothing.
 use native.Mathlib.Omega.{arith}
 use borrow.Author.Needs.{needs}
 use Rattle.rows.specs.Entries.{totalRow}

@@ -1,5 +1,4 @@
--- `aes128::substitute` meets its contract: the entry of the lent table at an octet is its substitution.
--- Assumes nothing.
+-- `aes128::substitute` meets its contract: the entry of the lent table at an octet is its substitution. Assumes nothing.
 use mathlib.Core.Path.{ap, _∙_}
 use mathlib.Core.List.{List}
 use Prim.Native.Nat.{ℕ}
@@ -10,11 +9,8 @@ use borrow.Author.Needs.{needs}
 use Rattle.sealing.proofs.aes128.substitute.Statement.{statement}
 use Rattle.sealing.proofs.aes128.substitute.Tie as tie
 
-element-copy-out-result : tie.Need-element-copy-out-result
-element-copy-out-result c = search needs
-
 returns : tie.Need-returns
 returns c = ap (λ (t : List ℕ). getD t (c .before .args .x) 0) (c .before .pre) ∙ table-at sbox (c .before .args .x) (search needs)
 
 pub substitute-spec : {M : Type 1} → statement M
-substitute-spec = tie.close (tie.spec element-copy-out-result returns)
+substitute-spec = tie.close (tie.spec (λ c. search needs) returns)

@@ -1,12 +1,11 @@
--- `sealing::counter_mode::carry` meets its contract: the sealed payload, or the payload as it came.
--- Assumes nothing.
+-- `sealing::counter_mode::carry` meets its contract: the sealed payload, or the payload as it came. Assumes nothing.
 use Prim.Native.Nat.{ℕ}
 use Rattle.octets.specs.Output.{withOutput}
 use Rattle.envelope.proofs.Acceptance.{accepted, lengths-fit, few-blocks}
 use Rattle.envelope.specs.declared.SealAnswer.the-variants.{Done}
 use Rattle.sealing.proofs.Seal.{sealing-done, sealing-clear}
 use mathlib.Core.List.{List}
-use mathlib.Core.Path.{_≡_, ap₂, _∙_}
+use mathlib.Core.Path.{ap₂, _∙_}
 use borrow.Author.Needs.{needs}
 use Rattle.sealing.proofs.counter_mode.carry.Statement.{statement}
 use Rattle.sealing.proofs.counter_mode.carry.Tie as tie
@@ -34,12 +33,4 @@ returns-2 c =
     sealing-clear (a .w .now) (a .nonce) (a .payload .now) (a .payload .now) (a .enciphered) (c .if1 .left) (start .pre)
 
 pub carry-spec : {M : Type 1} → statement M
-carry-spec =
-    tie.close
-    (tie.spec
-    (λ c κs. search needs)
-    (λ c κs. search needs)
-    seal-blocks-requires
-    (λ c. search needs)
-    returns
-    returns-2)
+carry-spec = tie.close (tie.spec (λ c κs. search needs) (λ c κs. search needs) seal-blocks-requires (λ c. search needs) returns returns-2)

@@ -1,5 +1,4 @@
--- `sealing::counter_mode::expand_for` meets its contract: an accepted call's lengths and nonce fit, so its key is expanded.
--- Assumes nothing.
+-- `sealing::counter_mode::expand_for` meets its contract: an accepted call's lengths and nonce fit, so its key is expanded. Assumes nothing.
 use Rattle.envelope.proofs.Acceptance.{accepted}
 use borrow.Author.Needs.{needs}
 use mathlib.Core.Bool.{true, false}
@@ -16,11 +15,4 @@ returns-2 c e v =
     cc
 
 pub expand-for-spec : {M : Type 1} → statement M
-expand-for-spec =
-    tie.close
-    (tie.spec
-    (λ c κs. search needs)
-    (λ c κs. search needs)
-    (λ c κs. search needs)
-    (λ c. search needs)
-    returns-2)
+expand-for-spec = tie.close (tie.spec (λ c κs. search needs) (λ c κs. search needs) (λ c κs. search needs) (λ c. search needs) returns-2)

@@ -1,6 +1,5 @@
 -- `sealing::counter_mode::mask_block` meets its contract: EQ 2i, and EQ 2i + 1 where there is one, are those of the sealed payload.
--- The second is masked in a payload whose EQs before it are sealed already, which tells it nothing.
--- Assumes nothing.
+-- The second is masked in a payload whose EQs before it are sealed already, which tells it nothing. Assumes nothing.
 use Prim.Native.Nat.{ℕ, _+_, _*_, min}
 use Rattle.octets.specs.Lists.{written}
 use Rattle.envelope.specs.CounterBlock.{counterBlock}
@@ -23,8 +22,8 @@ sealedFrom c w n b e = let p = c .before .before .before .args .payload .now in 
 
 -- EQ 2i, as it came back
 first : (c : tie.After-mask-eq) (w : List ℕ) (n : Nonce)
-    → blockOctets (c .before .before .before .args .block) ≡ cipher w (counterBlock n (c .before .before .before .args .i))
-    → (b : ℕ) → b ≡ 18 * c .before .before .before .args .i → c .mask-eq .last .0 ≡ sealedFrom c w n b (b + 9)
+    → let a = c .before .before .before .args in
+    blockOctets (a .block) ≡ cipher w (counterBlock n (a .i)) → (b : ℕ) → b ≡ 18 * a .i → c .mask-eq .last .0 ≡ sealedFrom c w n b (b + 9)
 first c w n enciphered b start =
     let a = c .before .before .before .args in
     rw start
@@ -56,13 +55,5 @@ returns-2 c =
 pub mask-block-spec : {M : Type 1} → statement M
 mask-block-spec =
     tie.close
-    (tie.spec
-    (λ c. search needs)
-    (λ c κs. search needs)
-    (λ c. search needs)
-    (λ c. search needs)
-    (λ c κs. search needs)
-    (λ c. search needs)
-    returns
-    (λ c. search needs)
-    returns-2)
+    (tie.spec (λ c. search needs) (λ c κs. search needs) (λ c. search needs) (λ c. search needs) (λ c κs. search needs) (λ c. search needs) returns
+    (λ c. search needs) returns-2)

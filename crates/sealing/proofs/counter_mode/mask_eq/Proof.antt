@@ -1,6 +1,5 @@
 -- `sealing::counter_mode::mask_eq` meets its contract: the octets below j are those of the word, which has the data octets masked, and the others,
--- like the control octet, are still as they came.
--- Assumes nothing.
+-- like the control octet, are still as they came. Assumes nothing.
 use Prim.Native.Nat.{ℕ, _+_, _-_, _≤_, _<_}
 use Rattle.octets.proofs.Lists.{paste-all, tabulate-at}
 use Rattle.octets.specs.Lists.{tabulate, replaced}
@@ -87,20 +86,5 @@ returns c =
 pub mask-eq-spec : {M : Type 1} → statement M
 mask-eq-spec =
     tie.close
-    (tie.spec
-    Inv-loop
-    μ-loop
-    (λ c. search needs)
-    (λ c. search needs)
-    (λ c κs. search needs)
-    (λ c κs. search needs)
-    loop-holds
-    (λ c κs. search needs)
-    (λ c. search needs)
-    (λ c. search needs)
-    (λ c. search needs)
-    (λ c. search needs)
-    (λ c. search needs)
-    loop-again
-    (λ c. search needs)
-    returns)
+    (tie.spec Inv-loop μ-loop (λ c. search needs) (λ c. search needs) (λ c κs. search needs) (λ c κs. search needs) loop-holds (λ c κs. search needs)
+    (λ c. search needs) (λ c. search needs) (λ c. search needs) (λ c. search needs) (λ c. search needs) loop-again (λ c. search needs) returns)

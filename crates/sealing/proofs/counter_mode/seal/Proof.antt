@@ -1,5 +1,4 @@
--- `sealing::counter_mode::seal` meets its contract: the key is expanded wherever it matters, and the laws hold of every payload.
--- Assumes nothing.
+-- `sealing::counter_mode::seal` meets its contract: the key is expanded wherever it matters, and the laws hold of every payload. Assumes nothing.
 use Rattle.sealing.proofs.Payload.{sealed-laws}
 use Rattle.sealing.proofs.Seal.{sealing-key}
 use Rattle.sealing.specs.KeyExpansion.{keyExpansion}
@@ -20,10 +19,4 @@ returns c =
     )
 
 pub seal-spec : {M : Type 1} → statement M
-seal-spec =
-    tie.close
-    (tie.spec
-    (λ c κs. search needs)
-    (λ c κs. search needs)
-    (λ c. search needs)
-    returns)
+seal-spec = tie.close (tie.spec (λ c κs. search needs) (λ c κs. search needs) (λ c. search needs) returns)

@@ -1,5 +1,4 @@
--- `sealing::counter_mode::seal_blocks` meets its contract: the pairs are sealed, or there are none, and then an odd last block.
--- Assumes nothing.
+-- `sealing::counter_mode::seal_blocks` meets its contract: the pairs are sealed, or there are none, and then an odd last block. Assumes nothing.
 use Prim.Native.Nat.{ℕ, _+_, _-_, _*_, _/_, min}
 use Rattle.octets.proofs.Lists.{written-all, written-length}
 use Rattle.octets.specs.Lists.{written}
@@ -58,9 +57,6 @@ returns c =
     ∙ ap (λ (m : ℕ). written (sealed w (a .nonce) p) 0 m p) all
     ∙ written-all (sealed w (a .nonce) p) p (sealed-length w (a .nonce) p)
 
-same-length-2 : tie.Need-same-length-2
-same-length-2 c = front-length (c .before)
-
 returns-2 : tie.Need-returns-2
 returns-2 c =
     let a = c .before .before .before .args in
@@ -74,12 +70,4 @@ returns-2 c =
 pub seal-blocks-spec : {M : Type 1} → statement M
 seal-blocks-spec =
     tie.close
-    (tie.spec
-    (λ c. search needs)
-    (λ c κs. search needs)
-    (λ c. search needs)
-    seal-lone-requires
-    same-length
-    returns
-    same-length-2
-    returns-2)
+    (tie.spec (λ c. search needs) (λ c κs. search needs) (λ c. search needs) seal-lone-requires same-length returns (λ c. front-length (c .before)) returns-2)

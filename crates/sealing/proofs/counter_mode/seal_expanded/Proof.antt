@@ -1,5 +1,4 @@
--- `sealing::counter_mode::seal_expanded` meets its contract: a refusal, or what an accepted payload becomes in the output.
--- Assumes nothing.
+-- `sealing::counter_mode::seal_expanded` meets its contract: a refusal, or what an accepted payload becomes in the output. Assumes nothing.
 use Rattle.octets.proofs.Lists.{copied-whole}
 use Rattle.refusal.specs.declared.Verdict.the-variants.{Accepted}
 use Rattle.envelope.proofs.Acceptance.{accepted, lengths-fit}
@@ -50,12 +49,4 @@ returns-2 c =
 pub seal-expanded-spec : {M : Type 1} → statement M
 seal-expanded-spec =
     tie.close
-    (tie.spec
-    (λ c κs. search needs)
-    (λ c. search needs)
-    (λ c. search needs)
-    (λ c κs. search needs)
-    carry-requires
-    returns
-    (λ c. search needs)
-    returns-2)
+    (tie.spec (λ c κs. search needs) (λ c. search needs) (λ c. search needs) (λ c κs. search needs) carry-requires returns (λ c. search needs) returns-2)

@@ -1,5 +1,4 @@
--- `sealing::counter_mode::seal_expanded_in_place` meets its contract: a refusal, or what an accepted payload becomes.
--- Assumes nothing.
+-- `sealing::counter_mode::seal_expanded_in_place` meets its contract: a refusal, or what an accepted payload becomes. Assumes nothing.
 use Rattle.refusal.specs.declared.Verdict.the-variants.{Accepted}
 use Rattle.envelope.specs.Acceptance.{sealVerdict}
 use Rattle.sealing.proofs.Seal.{sealing-refused}
@@ -24,11 +23,5 @@ returns c =
 pub seal-expanded-in-place-spec : {M : Type 1} → statement M
 seal-expanded-in-place-spec =
     tie.close
-    (tie.spec
-    (λ c κs. search needs)
-    (λ c. search needs)
-    (λ c. search needs)
-    (λ c κs. judged (c .before .before .before))
-    returns
-    (λ c. search needs)
+    (tie.spec (λ c κs. search needs) (λ c. search needs) (λ c. search needs) (λ c κs. judged (c .before .before .before)) returns (λ c. search needs)
     (λ c. search needs))

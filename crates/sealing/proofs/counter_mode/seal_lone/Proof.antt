@@ -1,5 +1,4 @@
--- `sealing::counter_mode::seal_lone` meets its contract: its block is that of the counter block i.
--- Assumes nothing.
+-- `sealing::counter_mode::seal_lone` meets its contract: its block is that of the counter block i. Assumes nothing.
 use mathlib.Core.Path.{ap, _∙_}
 use Rattle.sealing.specs.Cipher.{cipher}
 use borrow.Author.Needs.{needs}
@@ -15,11 +14,4 @@ returns c =
     masked .mask-block .ensures .sealed (a .w .now) (a .nonce) (enciphered .encrypt-lone .ensures ∙ ap (cipher (a .w .now)) (counted .counter-block .ensures))
 
 pub seal-lone-spec : {M : Type 1} → statement M
-seal-lone-spec =
-    tie.close
-    (tie.spec
-    (λ c κs. search needs)
-    (λ c κs. search needs)
-    (λ c κs. search needs)
-    (λ c. search needs)
-    returns)
+seal-lone-spec = tie.close (tie.spec (λ c κs. search needs) (λ c κs. search needs) (λ c κs. search needs) (λ c. search needs) returns)

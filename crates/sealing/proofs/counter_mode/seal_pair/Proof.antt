@@ -1,5 +1,4 @@
--- `sealing::counter_mode::seal_pair` meets its contract: its blocks are those of the counter blocks i and j, and mask one after the other.
--- Assumes nothing.
+-- `sealing::counter_mode::seal_pair` meets its contract: its blocks are those of the counter blocks i and j, and mask one after the other. Assumes nothing.
 use mathlib.Core.Path.{ap, _∙_}
 use mathlib.Core.List.{List}
 use Prim.Native.Nat.{ℕ}
@@ -22,11 +21,4 @@ returns c =
     }
 
 pub seal-pair-spec : {M : Type 1} → statement M
-seal-pair-spec =
-    tie.close
-    (tie.spec
-    (λ c κs. search needs)
-    (λ c κs. search needs)
-    (λ c κs. search needs)
-    (λ c. search needs)
-    returns)
+seal-pair-spec = tie.close (tie.spec (λ c κs. search needs) (λ c κs. search needs) (λ c κs. search needs) (λ c. search needs) returns)

@@ -1,5 +1,4 @@
--- `sealing::counter_mode::seal_pairs` meets its contract: after i pairs the first 36 i octets, or all, are sealed.
--- Assumes nothing.
+-- `sealing::counter_mode::seal_pairs` meets its contract: after i pairs the first 36 i octets, or all, are sealed. Assumes nothing.
 use Prim.Native.Nat.{ℕ, _+_, _-_, _*_, _/_, _%_, _≤_, min}
 use Rattle.octets.specs.Lists.{written}
 use Rattle.envelope.specs.ControlMask.{maxBlocks, blocksOf}
@@ -71,19 +70,5 @@ returns c =
 pub seal-pairs-spec : {M : Type 1} → statement M
 seal-pairs-spec =
     tie.close
-    (tie.spec
-    Inv-loop
-    μ-loop
-    (λ c. search needs)
-    (λ c κs. search needs)
-    (λ c κs. search needs)
-    loop-holds
-    (λ c. search needs)
-    (λ c. search needs)
-    (λ c. search needs)
-    seal-pair-requires
-    (λ c. search needs)
-    (λ c. search needs)
-    loop-again
-    (λ c. search needs)
-    returns)
+    (tie.spec Inv-loop μ-loop (λ c. search needs) (λ c κs. search needs) (λ c κs. search needs) loop-holds (λ c. search needs) (λ c. search needs)
+    (λ c. search needs) seal-pair-requires (λ c. search needs) (λ c. search needs) loop-again (λ c. search needs) returns)

@@ -1,5 +1,4 @@
--- `first_round::first_round` meets its contract: what is kept and what the index decides make up each row, and the rest is a round.
--- Assumes nothing.
+-- `first_round::first_round` meets its contract: what is kept and what the index decides make up each row, and the rest is a round. Assumes nothing.
 use Rattle.sealing.proofs.FirstRound.{first-round}
 use borrow.Author.Needs.{needs}
 use Rattle.sealing.proofs.first_round.first_round.Statement.{statement}
@@ -17,12 +16,5 @@ returns c =
 pub first-round-spec : {M : Type 1} → statement M
 first-round-spec =
     tie.close
-    (tie.spec
-    (λ c. search needs)
-    (λ c κs. search needs)
-    (λ c. search needs)
-    (λ c κs. search needs)
-    (λ c. search needs)
-    (λ c κs. search needs)
-    (λ c κs. search needs)
-    returns)
+    (tie.spec (λ c. search needs) (λ c κs. search needs) (λ c. search needs) (λ c κs. search needs) (λ c. search needs) (λ c κs. search needs)
+    (λ c κs. search needs) returns)

@@ -1,5 +1,4 @@
--- `first_round::index_octet` meets its contract: the entry of the lent table at the sum of two octets, moved to column k.
--- Assumes nothing.
+-- `first_round::index_octet` meets its contract: the entry of the lent table at the sum of two octets, moved to column k. Assumes nothing.
 use mathlib.Core.Path.{ap, _∙_}
 use mathlib.Core.List.{List}
 use Prim.Native.Nat.{ℕ, _<_}
@@ -34,11 +33,5 @@ returns c =
 pub index-octet-spec : {M : Type 1} → statement M
 index-octet-spec =
     tie.close
-    (tie.spec
-    (λ c κs. search needs)
-    (λ c. omega (arith, below c))
-    (λ c. omega (arith, below c))
-    (λ c κs. search needs)
-    (λ c. search needs)
-    (λ c. search needs)
+    (tie.spec (λ c κs. search needs) (λ c. omega (arith, below c)) (λ c. omega (arith, below c)) (λ c κs. search needs) (λ c. search needs) (λ c. search needs)
     returns)

@@ -1,5 +1,4 @@
--- `first_round::index_octets` meets its contract: the two joined.
--- Assumes nothing.
+-- `first_round::index_octets` meets its contract: the two joined. Assumes nothing.
 use Rattle.sealing.proofs.FirstRound.{index-octets}
 use borrow.Author.Needs.{needs}
 use Rattle.sealing.proofs.first_round.index_octets.Statement.{statement}
@@ -12,10 +11,4 @@ returns c =
     index-octets (a .key) (a .i) (a .j) (a .k) (upper .before .index-octet .ensures) (upper .index-octet2 .ensures) (c .both .ensures)
 
 pub index-octets-spec : {M : Type 1} → statement M
-index-octets-spec =
-    tie.close
-    (tie.spec
-    (λ c κs. search needs)
-    (λ c κs. search needs)
-    (λ c κs. search needs)
-    returns)
+index-octets-spec = tie.close (tie.spec (λ c κs. search needs) (λ c κs. search needs) (λ c κs. search needs) returns)

@@ -1,8 +1,5 @@
--- `first_round::kept_rows` meets its contract: what block 0 has where the index does not matter, every block has.
--- Assumes nothing.
+-- `first_round::kept_rows` meets its contract: what block 0 has where the index does not matter, every block has. Assumes nothing.
 use mathlib.Core.Path.{ap, _∙_}
-use mathlib.Core.List.{List}
-use Prim.Native.Nat.{ℕ}
 use native.Mathlib.Omega.{arith}
 use lib.Bits.{and-le-r}
 use Rattle.sealing.specs.Cipher.{addRoundKey, roundKey}
@@ -27,23 +24,19 @@ returns c =
     let s = rows .rows-of .result in
     record {
       first = kept-row w n s entry 0 4 (omega arith) (λ k l t. omega arith) (b .before .shifted-row .ensures) (whole-row _) (first .twice .ensures);
-      second = kept-row w n s entry 1 2 (omega arith) (λ k l t. fixed-columns 1 2 k (omega arith) l t) (b .shifted-row2 .ensures) (without-2 _) (second .twice2 .ensures);
-      third = kept-row w n s entry 2 1 (omega arith) (λ k l t. fixed-columns 2 1 k (omega arith) l t) (d .before .shifted-row3 .ensures) (without-1 _) (third .twice3 .ensures);
-      fourth = kept-row w n s entry 3 0 (omega arith) (λ k l t. fixed-columns 3 0 k (omega arith) l t) (d .shifted-row4 .ensures) (without-0 _) (c .twice4 .ensures);
+      second = kept-row w n s entry 1 2 (omega arith) (λ k l t. fixed-columns 1 2 k (omega arith) l t) (b .shifted-row2 .ensures) (without-2 _)
+          (second .twice2 .ensures);
+      third = kept-row w n s entry 2 1 (omega arith) (λ k l t. fixed-columns 2 1 k (omega arith) l t) (d .before .shifted-row3 .ensures) (without-1 _)
+          (third .twice3 .ensures);
+      fourth = kept-row w n s entry 3 0 (omega arith) (λ k l t. fixed-columns 3 0 k (omega arith) l t) (d .shifted-row4 .ensures) (without-0 _)
+          (c .twice4 .ensures);
     }
 
 pub kept-rows-spec : {M : Type 1} → statement M
 kept-rows-spec =
     tie.close
-    (tie.spec
-    (λ c κs. search needs)
-    (λ c κs. search needs)
-    (λ c κs. search needs)
-    (λ c κs. search needs)
-    (λ c κs. search needs)
-    (λ c κs. search needs)
-    (λ c κs. search needs)
-    (λ c κs. search needs)
+    (tie.spec (λ c κs. search needs) (λ c κs. search needs) (λ c κs. search needs) (λ c κs. search needs) (λ c κs. search needs) (λ c κs. search needs)
+    (λ c κs. search needs) (λ c κs. search needs)
     (λ c κs. omega (arith, and-le-r (c .before .before .before .shifted-row2 .result) 0xff00ffff))
     (λ c κs. omega (arith, and-le-r (c .before .before .before .shifted-row3 .result) 0xffff00ff))
     (λ c κs. omega (arith, and-le-r (c .before .before .before .shifted-row4 .result) 0xffffff00))

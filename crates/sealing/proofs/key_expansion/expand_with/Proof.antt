@@ -1,5 +1,4 @@
--- `key_expansion::expand_with` meets its contract. The loop keeps the array at the round keys made so far, and k at the last of them.
--- Assumes nothing.
+-- `key_expansion::expand_with` meets its contract. The loop keeps the array at the round keys made so far, and k at the last of them. Assumes nothing.
 use mathlib.Core.Path.{_≡_, refl, ap, _∙_}
 use mathlib.Core.List.{List, _++_, append-nil}
 use Prim.Native.Nat.{ℕ, _≤_, _+_, _*_, _-_}
@@ -22,12 +21,6 @@ Inv-loop subs constants w₀ k₀ n₀ w k n =
 abbrev μ-loop : tie.MeasureT-loop
 μ-loop subs constants w₀ k₀ n₀ w k n = 10 - n
 
-round-constants-requires : tie.Need-round-constants-requires Inv-loop μ-loop
-round-constants-requires c κs = search needs
-
-put-requires : tie.Need-put-requires Inv-loop μ-loop
-put-requires c κs = search needs
-
 loop-holds : tie.Need-loop-holds Inv-loop μ-loop
 unfolding expanded
 loop-holds c =
@@ -39,30 +32,12 @@ loop-holds c =
       c .put .ensures ∙ ap (λ (i : ℕ). key ++ drop i (replicate 176 0)) sized,
     )
 
-array-read-next-key : tie.Need-array-read-next-key Inv-loop μ-loop
-array-read-next-key c = search needs
-
-next-key-requires : tie.Need-next-key-requires Inv-loop μ-loop
-next-key-requires c κs = search needs
-
-add-put : tie.Need-add-put Inv-loop μ-loop
-add-put c = search needs
-
-mul-put : tie.Need-mul-put Inv-loop μ-loop
-mul-put c = search needs
-
 put-requires-2 : tie.Need-put-requires-2 Inv-loop μ-loop
 put-requires-2 c κs =
     let at = c .before .before .before in
     let l = at .loop in
     let key = at .before .before .before .before .args .key in
     (search needs, schedule-length key (replicate 176 0) (l .w) (l .n) (l .inv .1) (omega arith) (l .inv .3))
-
-add-n : tie.Need-add-n Inv-loop μ-loop
-add-n c = search needs
-
-loop-less : tie.Need-loop-less Inv-loop μ-loop
-loop-less c = search needs
 
 loop-again : tie.Need-loop-again Inv-loop μ-loop
 unfolding roundConstants
@@ -76,7 +51,8 @@ loop-again c =
     ap (λ (t : List ℕ). getD t (l .n) 0) (start .round-constants .ensures)
     ∙ tabulate-at 0 10 powerOfX (l .n) 0 (search needs)
     ∙ rw zero-add in
-    let turn = turned (start .before .args .key) (replicate 176 0) (l .w) (l .k) (made .result) (l .n) x (l .inv .1) (l .inv .2) (l .inv .3) (made .ensures) power in
+    let turn = turned (start .before .args .key) (replicate 176 0) (l .w) (l .k) (made .result) (l .n) x (l .inv .1) (l .inv .2) (l .inv .3)
+    (made .ensures) power in
     (search needs, l .inv .1, turn .0, c .put2 .ensures ∙ turn .1)
 
 returns : tie.Need-returns Inv-loop μ-loop
@@ -89,18 +65,5 @@ returns c =
 pub expand-with-spec : {M : Type 1} → statement M
 expand-with-spec =
     tie.close
-    (tie.spec
-    Inv-loop
-    μ-loop
-    round-constants-requires
-    put-requires
-    loop-holds
-    array-read-next-key
-    next-key-requires
-    add-put
-    mul-put
-    put-requires-2
-    add-n
-    loop-less
-    loop-again
-    returns)
+    (tie.spec Inv-loop μ-loop (λ c κs. search needs) (λ c κs. search needs) loop-holds (λ c. search needs) (λ c κs. search needs) (λ c. search needs)
+    (λ c. search needs) put-requires-2 (λ c. search needs) (λ c. search needs) loop-again returns)

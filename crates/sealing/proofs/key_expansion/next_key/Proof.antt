@@ -1,5 +1,4 @@
--- `key_expansion::next_key` meets its contract, word by word.
--- Assumes nothing.
+-- `key_expansion::next_key` meets its contract, word by word. Assumes nothing.
 use mathlib.Core.Path.{ap, ap₂, _∙_}
 use mathlib.Core.List.{List}
 use Prim.Native.Nat.{ℕ}
@@ -8,48 +7,6 @@ use Rattle.sealing.proofs.KeyExpansion.{key-words}
 use borrow.Author.Needs.{needs}
 use Rattle.sealing.proofs.key_expansion.next_key.Statement.{statement}
 use Rattle.sealing.proofs.key_expansion.next_key.Tie as tie
-
-word-of-requires : tie.Need-word-of-requires
-word-of-requires c κs = search needs
-
-rot-word-requires : tie.Need-rot-word-requires
-rot-word-requires c κs = search needs
-
-sub-word-requires : tie.Need-sub-word-requires
-sub-word-requires c κs = search needs
-
-constant-word-requires : tie.Need-constant-word-requires
-constant-word-requires c κs = search needs
-
-xor-words-requires : tie.Need-xor-words-requires
-xor-words-requires c κs = search needs
-
-word-of-requires-2 : tie.Need-word-of-requires-2
-word-of-requires-2 c κs = search needs
-
-xor-words-requires-2 : tie.Need-xor-words-requires-2
-xor-words-requires-2 c κs = search needs
-
-word-of-requires-3 : tie.Need-word-of-requires-3
-word-of-requires-3 c κs = search needs
-
-xor-words-requires-3 : tie.Need-xor-words-requires-3
-xor-words-requires-3 c κs = search needs
-
-word-of-requires-4 : tie.Need-word-of-requires-4
-word-of-requires-4 c κs = search needs
-
-xor-words-requires-4 : tie.Need-xor-words-requires-4
-xor-words-requires-4 c κs = search needs
-
-word-of-requires-5 : tie.Need-word-of-requires-5
-word-of-requires-5 c κs = search needs
-
-xor-words-requires-5 : tie.Need-xor-words-requires-5
-xor-words-requires-5 c κs = search needs
-
-joined-requires : tie.Need-joined-requires
-joined-requires c κs = search needs
 
 returns : tie.Need-returns
 returns c =
@@ -74,19 +31,6 @@ returns c =
 pub next-key-spec : {M : Type 1} → statement M
 next-key-spec =
     tie.close
-    (tie.spec
-    word-of-requires
-    rot-word-requires
-    sub-word-requires
-    constant-word-requires
-    xor-words-requires
-    word-of-requires-2
-    xor-words-requires-2
-    word-of-requires-3
-    xor-words-requires-3
-    word-of-requires-4
-    xor-words-requires-4
-    word-of-requires-5
-    xor-words-requires-5
-    joined-requires
-    returns)
+    (tie.spec (λ c κs. search needs) (λ c κs. search needs) (λ c κs. search needs) (λ c κs. search needs) (λ c κs. search needs) (λ c κs. search needs)
+    (λ c κs. search needs) (λ c κs. search needs) (λ c κs. search needs) (λ c κs. search needs) (λ c κs. search needs) (λ c κs. search needs)
+    (λ c κs. search needs) (λ c κs. search needs) returns)

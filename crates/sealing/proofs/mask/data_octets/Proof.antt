@@ -1,5 +1,4 @@
--- `mask::data_octets` meets its contract: what it works out is what the computed test of all control octets holds.
--- Assumes nothing.
+-- `mask::data_octets` meets its contract: what it works out is what the computed test of all control octets holds. Assumes nothing.
 use Prim.Native.Nat.{_*_, _%_, _^_}
 use native.Mathlib.Omega.{arith}
 use lib.Bits.{bitOr, and-le-r}
@@ -18,10 +17,4 @@ unfolding worked
 returns c = rw (c .wide .ensures .0) (worked-octets (c .before .args .control) (c .before .fits .control .fits))
 
 pub data-octets-spec : {M : Type 1} → statement M
-data-octets-spec =
-    tie.close
-    (tie.spec
-    (λ c κs. search needs)
-    sub-result
-    (λ c. search needs)
-    returns)
+data-octets-spec = tie.close (tie.spec (λ c κs. search needs) sub-result (λ c. search needs) returns)

@@ -1,5 +1,4 @@
--- `mask::eight_at` meets its contract: four octets and then four more.
--- Assumes nothing.
+-- `mask::eight_at` meets its contract: four octets and then four more. Assumes nothing.
 use mathlib.Core.Path.{_≡_, ap, _∙_}
 use Prim.Native.Nat.{ℕ, _+_}
 use native.Mathlib.Omega.{arith}
@@ -24,11 +23,4 @@ returns c =
     (c .both .ensures)
 
 pub eight-at-spec : {M : Type 1} → statement M
-eight-at-spec =
-    tie.close
-    (tie.spec
-    (λ c κs. search needs)
-    (λ c. search needs)
-    (λ c κs. search needs)
-    (λ c κs. search needs)
-    returns)
+eight-at-spec = tie.close (tie.spec (λ c κs. search needs) (λ c. search needs) (λ c κs. search needs) (λ c κs. search needs) returns)

@@ -1,5 +1,4 @@
--- `mask::four_at` meets its contract: four octets of the slice, joined.
--- Assumes nothing.
+-- `mask::four_at` meets its contract: four octets of the slice, joined. Assumes nothing.
 use Rattle.sealing.proofs.RowWords.{four-octets}
 use borrow.Author.Needs.{needs}
 use Rattle.sealing.proofs.mask.four_at.Statement.{statement}
@@ -17,18 +16,5 @@ returns c =
 pub four-at-spec : {M : Type 1} → statement M
 four-at-spec =
     tie.close
-    (tie.spec
-    (λ c. search needs)
-    (λ c. search needs)
-    (λ c κs. search needs)
-    (λ c. search needs)
-    (λ c. search needs)
-    (λ c κs. search needs)
-    (λ c. search needs)
-    (λ c. search needs)
-    (λ c κs. search needs)
-    (λ c. search needs)
-    (λ c. search needs)
-    (λ c κs. search needs)
-    (λ c κs. search needs)
-    returns)
+    (tie.spec (λ c. search needs) (λ c. search needs) (λ c κs. search needs) (λ c. search needs) (λ c. search needs) (λ c κs. search needs) (λ c. search needs)
+    (λ c. search needs) (λ c κs. search needs) (λ c. search needs) (λ c. search needs) (λ c κs. search needs) (λ c κs. search needs) returns)

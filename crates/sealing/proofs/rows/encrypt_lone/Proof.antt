@@ -1,5 +1,4 @@
--- `rows::encrypt_lone` meets its contract: AddRoundKey, the nine rounds and the last.
--- Assumes nothing.
+-- `rows::encrypt_lone` meets its contract: AddRoundKey, the nine rounds and the last. Assumes nothing.
 use mathlib.Core.Path.{ap, ap₂, _∙_}
 use Rattle.sealing.specs.Cipher.{rounds, lastRound, cipher}
 use borrow.Author.Needs.{needs}
@@ -20,11 +19,4 @@ returns c =
 
 pub encrypt-lone-spec : {M : Type 1} → statement M
 encrypt-lone-spec =
-    tie.close
-    (tie.spec
-    (λ c κs. search needs)
-    (λ c κs. search needs)
-    (λ c κs. search needs)
-    (λ c κs. search needs)
-    (λ c κs. search needs)
-    returns)
+    tie.close (tie.spec (λ c κs. search needs) (λ c κs. search needs) (λ c κs. search needs) (λ c κs. search needs) (λ c κs. search needs) returns)

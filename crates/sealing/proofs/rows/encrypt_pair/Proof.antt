@@ -1,5 +1,4 @@
--- `rows::encrypt_pair` meets its contract: round 1 of both from what they share, the rounds to the ninth of both, and the last of each.
--- Assumes nothing.
+-- `rows::encrypt_pair` meets its contract: round 1 of both from what they share, the rounds to the ninth of both, and the last of each. Assumes nothing.
 use mathlib.Core.Path.{_≡_, refl, ap₂, _∙_}
 use Prim.Native.Nat.{ℕ, _<_}
 use native.Mathlib.Omega.{arith}
@@ -40,12 +39,5 @@ returns c =
 pub encrypt-pair-spec : {M : Type 1} → statement M
 encrypt-pair-spec =
     tie.close
-    (tie.spec
-    (λ c. search needs)
-    (λ c κs. search needs)
-    (λ c κs. search needs)
-    (λ c κs. search needs)
-    (λ c κs. search needs)
-    (λ c κs. search needs)
-    (λ c κs. search needs)
-    returns)
+    (tie.spec (λ c. search needs) (λ c κs. search needs) (λ c κs. search needs) (λ c κs. search needs) (λ c κs. search needs) (λ c κs. search needs)
+    (λ c κs. search needs) returns)

@@ -1,5 +1,4 @@
--- `rows::last_columns` meets its contract: the columns and the key, each joined of two fours, and their sum.
--- Assumes nothing.
+-- `rows::last_columns` meets its contract: the columns and the key, each joined of two fours, and their sum. Assumes nothing.
 use Rattle.sealing.proofs.RowWords.{last-columns}
 use borrow.Author.Needs.{needs}
 use Rattle.sealing.proofs.rows.last_columns.Statement.{statement}
@@ -17,14 +16,5 @@ returns c =
 pub last-columns-spec : {M : Type 1} → statement M
 last-columns-spec =
     tie.close
-    (tie.spec
-    (λ c. search needs)
-    (λ c κs. search needs)
-    (λ c. search needs)
-    (λ c κs. search needs)
-    (λ c κs. search needs)
-    (λ c κs. search needs)
-    (λ c. search needs)
-    (λ c κs. search needs)
-    (λ c κs. search needs)
-    returns)
+    (tie.spec (λ c. search needs) (λ c κs. search needs) (λ c. search needs) (λ c κs. search needs) (λ c κs. search needs) (λ c κs. search needs)
+    (λ c. search needs) (λ c κs. search needs) (λ c κs. search needs) returns)

@@ -1,5 +1,4 @@
--- `rows::last_round` meets its contract: the columns by two.
--- Assumes nothing.
+-- `rows::last_round` meets its contract: the columns by two. Assumes nothing.
 use Rattle.sealing.proofs.RowWords.{last-block}
 use borrow.Author.Needs.{needs}
 use Rattle.sealing.proofs.rows.last_round.Statement.{statement}
@@ -9,9 +8,4 @@ returns : tie.Need-returns
 returns c = last-block (c .before .before .args .k) (c .before .before .args .s) _ (c .before .last-columns .ensures) (c .last-columns2 .ensures)
 
 pub last-round-spec : {M : Type 1} → statement M
-last-round-spec =
-    tie.close
-    (tie.spec
-    (λ c κs. search needs)
-    (λ c κs. search needs)
-    returns)
+last-round-spec = tie.close (tie.spec (λ c κs. search needs) (λ c κs. search needs) returns)

@@ -1,5 +1,4 @@
--- `rows::lone_round` meets its contract: a round of the first state, row by row.
--- Assumes nothing.
+-- `rows::lone_round` meets its contract: a round of the first state, row by row. Assumes nothing.
 use native.Mathlib.Omega.{arith}
 use Rattle.sealing.proofs.RowWords.{rounded, shifted-one}
 use borrow.Author.Needs.{needs}
@@ -18,11 +17,4 @@ returns c =
 
 pub lone-round-spec : {M : Type 1} → statement M
 lone-round-spec =
-    tie.close
-    (tie.spec
-    (λ c κs. search needs)
-    (λ c κs. search needs)
-    (λ c κs. search needs)
-    (λ c κs. search needs)
-    (λ c κs. search needs)
-    returns)
+    tie.close (tie.spec (λ c κs. search needs) (λ c κs. search needs) (λ c κs. search needs) (λ c κs. search needs) (λ c κs. search needs) returns)

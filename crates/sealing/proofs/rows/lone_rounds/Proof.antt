@@ -1,5 +1,4 @@
--- `rows::lone_rounds` meets its contract. The loop's invariant: the rounds below n are done. The measure is what is left of ten.
--- Assumes nothing.
+-- `rows::lone_rounds` meets its contract. The loop's invariant: the rounds below n are done. The measure is what is left of ten. Assumes nothing.
 use mathlib.Core.Path.{_≡_, refl, _∙_}
 use Prim.Native.Nat.{_-_, _≤_}
 use native.Mathlib.Omega.{arith}
@@ -16,10 +15,6 @@ Inv-loop subs w s₀ n₀ s n = ((1 ≤ n) × (n ≤ 10)) × (state s 0 ≡ roun
 abbrev μ-loop : tie.MeasureT-loop
 μ-loop subs w s₀ n₀ s n = 10 - n
 
-loop-holds : tie.Need-loop-holds Inv-loop μ-loop
-unfolding rounds
-loop-holds c = ((omega arith, omega arith), refl)
-
 loop-again : tie.Need-loop-again Inv-loop μ-loop
 loop-again c =
     let loop = c .before .before .before .before .loop in
@@ -35,14 +30,5 @@ returns c =
 pub lone-rounds-spec : {M : Type 1} → statement M
 lone-rounds-spec =
     tie.close
-    (tie.spec
-    Inv-loop
-    μ-loop
-    loop-holds
-    (λ c κs. search needs)
-    (λ c κs. search needs)
-    (λ c κs. search needs)
-    (λ c. search needs)
-    (λ c. search needs)
-    loop-again
-    returns)
+    (tie.spec Inv-loop μ-loop (λ c. unfold rounds in ((omega arith, omega arith), refl)) (λ c κs. search needs) (λ c κs. search needs) (λ c κs. search needs)
+    (λ c. search needs) (λ c. search needs) loop-again returns)

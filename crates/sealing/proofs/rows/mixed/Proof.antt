@@ -1,5 +1,4 @@
--- `rows::mixed` meets its contract, row by row.
--- Assumes nothing.
+-- `rows::mixed` meets its contract, row by row. Assumes nothing.
 use Rattle.sealing.proofs.RowWords.{mixed-rows}
 use borrow.Author.Needs.{needs}
 use Rattle.sealing.proofs.rows.mixed.Statement.{statement}
@@ -14,10 +13,4 @@ returns c =
     mixed-rows (a .s) (a .k) (first .double-octets .ensures) (second .double-octets2 .ensures) (third .double-octets3 .ensures)
 
 pub mixed-spec : {M : Type 1} → statement M
-mixed-spec =
-    tie.close
-    (tie.spec
-    (λ c κs. search needs)
-    (λ c κs. search needs)
-    (λ c κs. search needs)
-    returns)
+mixed-spec = tie.close (tie.spec (λ c κs. search needs) (λ c κs. search needs) (λ c κs. search needs) returns)

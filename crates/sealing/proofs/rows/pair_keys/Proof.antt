@@ -1,5 +1,4 @@
--- `rows::pair_keys` meets its contract. The loop's invariant: the keys below n are made. The measure is what is left of ten.
--- Assumes nothing.
+-- `rows::pair_keys` meets its contract. The loop's invariant: the keys below n are made. The measure is what is left of ten. Assumes nothing.
 use mathlib.Core.Path.{_≡_, refl, _∙_}
 use Prim.Native.Nat.{_-_, _≤_}
 use native.Mathlib.Omega.{arith}
@@ -15,9 +14,6 @@ Inv-loop w keys₀ n₀ keys n = ((n ≤ 10) × (length keys ≡ 10)) × PairKey
 
 abbrev μ-loop : tie.MeasureT-loop
 μ-loop w keys₀ n₀ keys n = 10 - n
-
-loop-holds : tie.Need-loop-holds Inv-loop μ-loop
-loop-holds c = ((omega arith, refl), no-keys _ _)
 
 loop-again : tie.Need-loop-again Inv-loop μ-loop
 loop-again c =
@@ -37,15 +33,5 @@ returns c =
 pub pair-keys-spec : {M : Type 1} → statement M
 pair-keys-spec =
     tie.close
-    (tie.spec
-    Inv-loop
-    μ-loop
-    loop-holds
-    (λ c κs. search needs)
-    (λ c κs. search needs)
-    (λ c. search needs)
-    (λ c. search needs)
-    (λ c. search needs)
-    (λ c. search needs)
-    loop-again
-    returns)
+    (tie.spec Inv-loop μ-loop (λ c. ((omega arith, refl), no-keys _ _)) (λ c κs. search needs) (λ c κs. search needs) (λ c. search needs) (λ c. search needs)
+    (λ c. search needs) (λ c. search needs) loop-again returns)

@@ -1,5 +1,4 @@
--- `rows::pair_round` meets its contract: a round of both states, row by row.
--- Assumes nothing.
+-- `rows::pair_round` meets its contract: a round of both states, row by row. Assumes nothing.
 use native.Mathlib.Omega.{arith}
 use Rattle.sealing.proofs.RowWords.{rounded}
 use borrow.Author.Needs.{needs}
@@ -18,11 +17,4 @@ returns c =
 
 pub pair-round-spec : {M : Type 1} → statement M
 pair-round-spec =
-    tie.close
-    (tie.spec
-    (λ c κs. search needs)
-    (λ c κs. search needs)
-    (λ c κs. search needs)
-    (λ c κs. search needs)
-    (λ c κs. search needs)
-    returns)
+    tie.close (tie.spec (λ c κs. search needs) (λ c κs. search needs) (λ c κs. search needs) (λ c κs. search needs) (λ c κs. search needs) returns)

@@ -1,5 +1,4 @@
--- `rows::pair_rounds` meets its contract. The loop's invariant: the rounds below n are done. The measure is what is left of ten.
--- Assumes nothing.
+-- `rows::pair_rounds` meets its contract. The loop's invariant: the rounds below n are done. The measure is what is left of ten. Assumes nothing.
 use mathlib.Core.Path.{_≡_}
 use Prim.Native.Nat.{_-_, _≤_}
 use native.Mathlib.Omega.{arith}
@@ -15,9 +14,6 @@ Inv-loop subs keys s₀ n₀ s n = ((2 ≤ n) × (n ≤ 10)) × Reached keys (n 
 abbrev μ-loop : tie.MeasureT-loop
 μ-loop subs keys s₀ n₀ s n = 10 - n
 
-loop-holds : tie.Need-loop-holds Inv-loop μ-loop
-loop-holds c = ((omega arith, omega arith), begun _ _)
-
 loop-again : tie.Need-loop-again Inv-loop μ-loop
 loop-again c =
     let loop = c .before .before .before .loop in
@@ -31,14 +27,5 @@ returns c =
 pub pair-rounds-spec : {M : Type 1} → statement M
 pair-rounds-spec =
     tie.close
-    (tie.spec
-    Inv-loop
-    μ-loop
-    loop-holds
-    (λ c. search needs)
-    (λ c. search needs)
-    (λ c κs. search needs)
-    (λ c. search needs)
-    (λ c. search needs)
-    loop-again
-    returns)
+    (tie.spec Inv-loop μ-loop (λ c. ((omega arith, omega arith), begun _ _)) (λ c. search needs) (λ c. search needs) (λ c κs. search needs) (λ c. search needs)
+    (λ c. search needs) loop-again returns)

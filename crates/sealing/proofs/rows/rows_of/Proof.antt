@@ -1,5 +1,4 @@
--- `rows::rows_of` meets its contract, row by row.
--- Assumes nothing.
+-- `rows::rows_of` meets its contract, row by row. Assumes nothing.
 use mathlib.Core.Path.{_≡_}
 use lib.ListN.{length}
 use Rattle.sealing.proofs.RowWords.{gathered-state}
@@ -17,11 +16,4 @@ returns c =
     gathered-state s _ long (first .gathered .ensures) (second .gathered2 .ensures) (third .gathered3 .ensures) (c .gathered4 .ensures)
 
 pub rows-of-spec : {M : Type 1} → statement M
-rows-of-spec =
-    tie.close
-    (tie.spec
-    (λ c κs. search needs)
-    (λ c κs. search needs)
-    (λ c κs. search needs)
-    (λ c κs. search needs)
-    returns)
+rows-of-spec = tie.close (tie.spec (λ c κs. search needs) (λ c κs. search needs) (λ c κs. search needs) (λ c κs. search needs) returns)

@@ -1,5 +1,4 @@
--- `rows::rows_twice` meets its contract, row by row.
--- Assumes nothing.
+-- `rows::rows_twice` meets its contract, row by row. Assumes nothing.
 use mathlib.Core.Path.{_≡_}
 use lib.ListN.{length}
 use Rattle.sealing.proofs.RowWords.{first-state, second-state}
@@ -21,11 +20,4 @@ returns c =
     )
 
 pub rows-twice-spec : {M : Type 1} → statement M
-rows-twice-spec =
-    tie.close
-    (tie.spec
-    (λ c κs. search needs)
-    (λ c κs. search needs)
-    (λ c κs. search needs)
-    (λ c κs. search needs)
-    returns)
+rows-twice-spec = tie.close (tie.spec (λ c κs. search needs) (λ c κs. search needs) (λ c κs. search needs) (λ c κs. search needs) returns)

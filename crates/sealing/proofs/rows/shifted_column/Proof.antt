@@ -1,5 +1,4 @@
--- `rows::shifted_column` meets its contract: four octets, substituted and joined.
--- Assumes nothing.
+-- `rows::shifted_column` meets its contract: four octets, substituted and joined. Assumes nothing.
 use Rattle.sealing.proofs.RowWords.{four-octets}
 use borrow.Author.Needs.{needs}
 use Rattle.sealing.proofs.rows.shifted_column.Statement.{statement}
@@ -18,14 +17,5 @@ returns c =
 pub shifted-column-spec : {M : Type 1} → statement M
 shifted-column-spec =
     tie.close
-    (tie.spec
-    (λ c. search needs)
-    (λ c κs. search needs)
-    (λ c. search needs)
-    (λ c κs. search needs)
-    (λ c. search needs)
-    (λ c κs. search needs)
-    (λ c. search needs)
-    (λ c κs. search needs)
-    (λ c κs. search needs)
-    returns)
+    (tie.spec (λ c. search needs) (λ c κs. search needs) (λ c. search needs) (λ c κs. search needs) (λ c. search needs) (λ c κs. search needs)
+    (λ c. search needs) (λ c κs. search needs) (λ c κs. search needs) returns)

@@ -1,5 +1,4 @@
--- `rows::shifted_row` meets its contract: four octets, substituted and joined.
--- Assumes nothing.
+-- `rows::shifted_row` meets its contract: four octets, substituted and joined. Assumes nothing.
 use Rattle.sealing.proofs.RowWords.{four-octets}
 use borrow.Author.Needs.{needs}
 use Rattle.sealing.proofs.rows.shifted_row.Statement.{statement}
@@ -18,22 +17,6 @@ returns c =
 pub shifted-row-spec : {M : Type 1} → statement M
 shifted-row-spec =
     tie.close
-    (tie.spec
-    (λ c. search needs)
-    (λ c. search needs)
-    (λ c. search needs)
-    (λ c κs. search needs)
-    (λ c. search needs)
-    (λ c. search needs)
-    (λ c. search needs)
-    (λ c κs. search needs)
-    (λ c. search needs)
-    (λ c. search needs)
-    (λ c. search needs)
-    (λ c κs. search needs)
-    (λ c. search needs)
-    (λ c. search needs)
-    (λ c. search needs)
-    (λ c κs. search needs)
-    (λ c κs. search needs)
-    returns)
+    (tie.spec (λ c. search needs) (λ c. search needs) (λ c. search needs) (λ c κs. search needs) (λ c. search needs) (λ c. search needs) (λ c. search needs)
+    (λ c κs. search needs) (λ c. search needs) (λ c. search needs) (λ c. search needs) (λ c κs. search needs) (λ c. search needs) (λ c. search needs)
+    (λ c. search needs) (λ c κs. search needs) (λ c κs. search needs) returns)

@@ -1,5 +1,4 @@
--- `rows::shifted_rows` meets its contract: the row of each state, joined.
--- Assumes nothing.
+-- `rows::shifted_rows` meets its contract: the row of each state, joined. Assumes nothing.
 use Rattle.sealing.proofs.RowWords.{shifted-two}
 use borrow.Author.Needs.{needs}
 use Rattle.sealing.proofs.rows.shifted_rows.Statement.{statement}
@@ -9,10 +8,4 @@ returns : tie.Need-returns
 returns c = shifted-two (c .before .before .shifted-row .ensures) (c .before .shifted-row2 .ensures) (c .both .ensures)
 
 pub shifted-rows-spec : {M : Type 1} → statement M
-shifted-rows-spec =
-    tie.close
-    (tie.spec
-    (λ c κs. search needs)
-    (λ c κs. search needs)
-    (λ c κs. search needs)
-    returns)
+shifted-rows-spec = tie.close (tie.spec (λ c κs. search needs) (λ c κs. search needs) (λ c κs. search needs) returns)

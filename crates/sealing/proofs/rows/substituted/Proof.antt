@@ -1,5 +1,4 @@
--- `rows::substituted` meets its contract: the entry of the lent table at an octet is its substitution.
--- Assumes nothing.
+-- `rows::substituted` meets its contract: the entry of the lent table at an octet is its substitution. Assumes nothing.
 use mathlib.Core.Path.{ap, _∙_}
 use mathlib.Core.List.{List}
 use Prim.Native.Nat.{ℕ, _*_, _/_, _%_, _^_}
@@ -24,11 +23,4 @@ returns c =
     )
 
 pub substituted-spec : {M : Type 1} → statement M
-substituted-spec =
-    tie.close
-    (tie.spec
-    (λ c. search needs)
-    (λ c. search needs)
-    (λ c. search needs)
-    (λ c κs. search needs)
-    returns)
+substituted-spec = tie.close (tie.spec (λ c. search needs) (λ c. search needs) (λ c. search needs) (λ c κs. search needs) returns)

@@ -1,15 +1,10 @@
--- `traffic::at_olt::receive_ahead` meets its contract: the causes are those of the definition, in its order.
--- Assumes nothing.
+-- `traffic::at_olt::receive_ahead` meets its contract: the causes are those of the definition, in its order. Assumes nothing.
 use borrow.Author.Needs.{needs}
 use Rattle.octets.specs.Choice.{both}
 use Rattle.traffic.proofs.at_olt.receive_ahead.Statement.{statement}
 use Rattle.traffic.proofs.at_olt.receive_ahead.Tie as tie
 
-returns : tie.Need-returns
-unfolding both
-returns c = cc
-
 pub receive-ahead-spec : {M : Type 1} → statement M
 receive-ahead-spec =
-    tie.close (tie.spec (λ c κs. search needs) (λ c κs. search needs) (λ c κs. search needs) (λ c κs. search needs) (λ c κs. search needs)
-    returns)
+    tie.close
+    (tie.spec (λ c κs. search needs) (λ c κs. search needs) (λ c κs. search needs) (λ c κs. search needs) (λ c κs. search needs) (λ c. unfold both in cc))

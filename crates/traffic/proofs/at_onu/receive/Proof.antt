@@ -1,14 +1,12 @@
--- `traffic::at_onu::receive` meets its contract: its verdict is that of the reply; at a valid end only a held key comes into use.
--- Assumes nothing.
+-- `traffic::at_onu::receive` meets its contract: its verdict is that of the reply; at a valid end only a held key comes into use. Assumes nothing.
 use mathlib.Core.Path.{sym, _∙_}
 use borrow.Author.Needs.{needs}
 use borrow.Author.Tests.{not-false}
-use Rattle.octets.proofs.Choice.{not-of-true}
 use Rattle.refusal.specs.declared.Refusal.the-variants.{OutOfRange}
 use Rattle.refusal.proofs.Order.{refuse-passed, refuse-stopped}
-use Rattle.ends.specs.Replies.{reply}
-use Rattle.ends.specs.OnuCalls.{onuReply}
-use Rattle.ends.specs.OnuTraffic.{receivingOnu}
+use Rattle.protocol.specs.Replies.{reply}
+use Rattle.protocol.specs.OnuCalls.{onuReply}
+use Rattle.protocol.specs.OnuTraffic.{receivingOnu}
 use Rattle.ends.proofs.Validity.{onu-in-range}
 use Rattle.traffic.specs.Receipts.{onuReceiving, onuNotReceiving}
 use Rattle.traffic.proofs.Receipts.{next-below}
@@ -20,9 +18,6 @@ unfolding onuReceiving receivingOnu onuReply reply onuNotReceiving
 returns c =
     let lent = c .before in
     rw (sym (lent .before .valid-onu .ensures), refuse-stopped _ OutOfRange _ (lent .if1 .taken), c .not-received .ensures)
-
-receive-choice-requires : tie.Need-receive-choice-requires
-receive-choice-requires c κs = onu-in-range _ (sym (c .before .valid-onu .ensures) ∙ not-false _ (c .if1 .left)) .keys
 
 after-receive-requires : tie.Need-after-receive-requires
 after-receive-requires c κs =
@@ -63,16 +58,6 @@ returns-3 c =
 pub receive-spec : {M : Type 1} → statement M
 receive-spec =
     tie.close
-    (tie.spec
-    (λ c κs. search needs)
-    (λ c κs. search needs)
-    returns
-    receive-choice-requires
-    (λ c κs. search needs)
-    (λ c. search needs)
-    after-receive-requires
-    (λ c κs. search needs)
-    (λ c. search needs)
-    (λ c κs. search needs)
-    returns-2
-    returns-3)
+    (tie.spec (λ c κs. search needs) (λ c κs. search needs) returns
+    (λ c κs. onu-in-range _ (sym (c .before .valid-onu .ensures) ∙ not-false _ (c .if1 .left)) .keys)
+    (λ c κs. search needs) (λ c. search needs) after-receive-requires (λ c κs. search needs) (λ c. search needs) (λ c κs. search needs) returns-2 returns-3)

@@ -5,7 +5,7 @@ use Prim.Native.Nat.{_+_, _-_, _%_}
 use borrow.Author.Tests.{eqb-true, eq-eqb, ne-eqb}
 use Rattle.octets.specs.Choice.{both, pick}
 use Rattle.octets.proofs.Choice.{both-left}
-use Rattle.ends.specs.OnuTraffic.{onuReceiveChoice}
+use Rattle.protocol.specs.OnuTraffic.{onuReceiveChoice}
 use Rattle.ends.proofs.Validity.{onu-keys-in-range}
 use borrow.Author.Needs.{needs}
 use native.Mathlib.Omega.{arith}
@@ -45,5 +45,4 @@ returns-5 c =
     rw (ne-eqb _ _ (c .before .before .before .before .before .if1 .left), c .before .before .before .if3 .left, sym e, c .if4 .left)
 
 pub receive-choice-spec : {M : Type 1} → statement M
-receive-choice-spec =
-    tie.close (tie.spec returns returns-2 (λ c. search needs) (λ c. search needs) returns-3 (λ c. search needs) add-t12 returns-4 returns-5)
+receive-choice-spec = tie.close (tie.spec returns returns-2 (λ c. search needs) (λ c. search needs) returns-3 (λ c. search needs) add-t12 returns-4 returns-5)

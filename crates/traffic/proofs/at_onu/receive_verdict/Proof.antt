@@ -1,8 +1,7 @@
--- `traffic::at_onu::receive_verdict` meets its contract: the causes are those of the definition, in its order.
--- Assumes nothing.
+-- `traffic::at_onu::receive_verdict` meets its contract: the causes are those of the definition, in its order. Assumes nothing.
 use borrow.Author.Needs.{needs}
 use Rattle.octets.specs.Choice.{both}
-use Rattle.ends.specs.OnuTraffic.{onuReceiveVerdict}
+use Rattle.protocol.specs.OnuTraffic.{onuReceiveVerdict}
 use Rattle.traffic.proofs.at_onu.receive_verdict.Statement.{statement}
 use Rattle.traffic.proofs.at_onu.receive_verdict.Tie as tie
 
@@ -29,15 +28,5 @@ returns c =
 pub receive-verdict-spec : {M : Type 1} → statement M
 receive-verdict-spec =
     tie.close
-    (tie.spec
-    (λ c κs. search needs)
-    (λ c κs. search needs)
-    (λ c κs. search needs)
-    (λ c κs. search needs)
-    (λ c κs. search needs)
-    (λ c κs. search needs)
-    (λ c κs. search needs)
-    (λ c κs. search needs)
-    (λ c κs. search needs)
-    (λ c κs. search needs)
-    returns)
+    (tie.spec (λ c κs. search needs) (λ c κs. search needs) (λ c κs. search needs) (λ c κs. search needs) (λ c κs. search needs) (λ c κs. search needs)
+    (λ c κs. search needs) (λ c κs. search needs) (λ c κs. search needs) (λ c κs. search needs) returns)

@@ -1,14 +1,13 @@
--- `traffic::at_onu::send` meets its contract: its verdict is that of the reply, and an accepted send has a valid end and a payload that fits.
--- Assumes nothing.
+-- `traffic::at_onu::send` meets its contract: its verdict is that of the reply, and an accepted send has a valid end and a payload that fits. Assumes nothing.
 use mathlib.Core.Path.{sym, _∙_}
 use borrow.Author.Needs.{needs}
 use borrow.Author.Tests.{not-false}
 use Rattle.refusal.proofs.Order.{refuse-accepted}
-use Rattle.ends.specs.Replies.{reply}
-use Rattle.ends.specs.OnuCalls.{onuReply}
-use Rattle.ends.specs.OnuTraffic.{sendingOnu}
+use Rattle.protocol.specs.Replies.{reply}
+use Rattle.protocol.specs.OnuCalls.{onuReply}
+use Rattle.protocol.specs.OnuTraffic.{sendingOnu}
 use Rattle.ends.proofs.Validity.{onu-in-range}
-use Rattle.ends.proofs.OnuChoices.{onu-send-accepted}
+use Rattle.protocol.proofs.OnuChoices.{onu-send-accepted}
 use Rattle.traffic.specs.Sends.{onuSending}
 use Rattle.traffic.proofs.at_onu.send.Statement.{statement}
 use Rattle.traffic.proofs.at_onu.send.Tie as tie
@@ -46,13 +45,5 @@ returns-2 c =
 pub send-spec : {M : Type 1} → statement M
 send-spec =
     tie.close
-    (tie.spec
-    (λ c κs. search needs)
-    (λ c κs. search needs)
-    (λ c. search needs)
-    after-send-requires
-    (λ c κs. search needs)
-    (λ c. search needs)
-    (λ c κs. search needs)
-    returns
-    returns-2)
+    (tie.spec (λ c κs. search needs) (λ c κs. search needs) (λ c. search needs) after-send-requires (λ c κs. search needs) (λ c. search needs)
+    (λ c κs. search needs) returns returns-2)

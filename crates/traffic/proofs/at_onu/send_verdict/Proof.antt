@@ -1,8 +1,6 @@
--- `traffic::at_onu::send_verdict` meets its contract: the causes are those of the definition, in its order.
--- Assumes nothing.
-use mathlib.Core.Path.{sym}
+-- `traffic::at_onu::send_verdict` meets its contract: the causes are those of the definition, in its order. Assumes nothing.
 use borrow.Author.Needs.{needs}
-use Rattle.ends.specs.OnuTraffic.{onuSendVerdict}
+use Rattle.protocol.specs.OnuTraffic.{onuSendVerdict}
 use Rattle.traffic.proofs.at_onu.send_verdict.Statement.{statement}
 use Rattle.traffic.proofs.at_onu.send_verdict.Tie as tie
 
@@ -27,13 +25,5 @@ returns c =
 pub send-verdict-spec : {M : Type 1} → statement M
 send-verdict-spec =
     tie.close
-    (tie.spec
-    (λ c κs. search needs)
-    (λ c κs. search needs)
-    (λ c κs. search needs)
-    (λ c κs. search needs)
-    (λ c κs. search needs)
-    (λ c κs. search needs)
-    (λ c κs. search needs)
-    (λ c κs. search needs)
-    returns)
+    (tie.spec (λ c κs. search needs) (λ c κs. search needs) (λ c κs. search needs) (λ c κs. search needs) (λ c κs. search needs) (λ c κs. search needs)
+    (λ c κs. search needs) (λ c κs. search needs) returns)

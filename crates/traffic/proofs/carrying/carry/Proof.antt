@@ -1,5 +1,4 @@
--- `traffic::carrying::carry` meets its contract: sealing accepts, and then answers with the count. An empty payload is sealed as a clear one.
--- Assumes nothing.
+-- `traffic::carrying::carry` meets its contract: sealing accepts, and then answers with the count. An empty payload is sealed as a clear one. Assumes nothing.
 use mathlib.Core.Path.{sym, _∙_}
 use native.Mathlib.Omega.{arith}
 use lib.Dec.{ltb}
@@ -27,5 +26,4 @@ returns c =
     (a .payload .now) (λ e. let z = ltb-false 0 (length (a .payload .now)) e in omega arith))
 
 pub carry-spec : {M : Type 1} → statement M
-carry-spec =
-    tie.close (tie.spec (λ c κs. search needs) (λ c κs. search needs) (λ c κs. search needs) (λ c. search needs) returns)
+carry-spec = tie.close (tie.spec (λ c κs. search needs) (λ c κs. search needs) (λ c κs. search needs) (λ c. search needs) returns)

@@ -1,5 +1,4 @@
--- `traffic::carrying::carry_accepted` meets its contract: accepted, by `carry`; refused, the output is not touched.
--- Assumes nothing.
+-- `traffic::carrying::carry_accepted` meets its contract: accepted, by `carry`; refused, the output is not touched. Assumes nothing.
 use borrow.Author.Needs.{needs}
 use Rattle.traffic.specs.Passages.{carriedAfter}
 use Rattle.traffic.proofs.carrying.carry_accepted.Statement.{statement}
@@ -16,10 +15,7 @@ returns c =
     let carried = c .before .before in
     rw (carried .before .before .enum-told .given .1) (carried .carry .ensures)
 
-returns-2 : tie.Need-returns-2
-unfolding carriedAfter
-returns-2 c = rw (c .enum-told2 .given .1)
-
 pub carry-accepted-spec : {M : Type 1} → statement M
 carry-accepted-spec =
-    tie.close (tie.spec (λ c. search needs) carry-requires (λ c. search needs) (λ c. search needs) returns returns-2)
+    tie.close
+    (tie.spec (λ c. search needs) carry-requires (λ c. search needs) (λ c. search needs) returns (λ c. unfold carriedAfter in rw (c .enum-told2 .given .1)))

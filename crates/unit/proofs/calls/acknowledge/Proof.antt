@@ -1,12 +1,11 @@
--- `unit::calls::acknowledge` meets its contract: 8 where nothing is outstanding, and what is acknowledged goes by its kind.
--- Assumes nothing.
+-- `unit::calls::acknowledge` meets its contract: 8 where nothing is outstanding, and what is acknowledged goes by its kind. Assumes nothing.
 use mathlib.Core.Path.{_≡_, refl, sym, _∙_}
 use borrow.Author.Needs.{needs}
 use Rattle.refusal.specs.Order.{andThen}
-use Rattle.ends.specs.Lift.{outcome}
-use Rattle.ends.specs.Replies.{Silence, silent}
-use Rattle.ends.specs.UnitCalls.{acknowledgeUnit, acknowledgeVerdict}
-use Rattle.ends.proofs.UnitCalls.{acknowledge-verdict, acknowledged-channels}
+use Rattle.protocol.specs.Lift.{outcome}
+use Rattle.protocol.specs.Replies.{Silence, silent}
+use Rattle.protocol.specs.UnitCalls.{acknowledgeUnit, acknowledgeVerdict}
+use Rattle.protocol.proofs.UnitCalls.{acknowledge-verdict, acknowledged-channels}
 use Rattle.unit.proofs.Reached.{reached-refused, reached-accepted}
 use Rattle.unit.proofs.calls.acknowledge.Statement.{statement}
 use Rattle.unit.proofs.calls.acknowledge.Tie as tie
@@ -34,5 +33,6 @@ returns-2 c =
 
 pub acknowledge-spec : {M : Type 1} → statement M
 acknowledge-spec =
-    tie.close (tie.spec (λ c κs. search needs) (λ c κs. search needs) (λ c κs. search needs) (λ c. search needs) (λ c. search needs)
-    (λ c κs. search needs) returns returns-2)
+    tie.close
+    (tie.spec (λ c κs. search needs) (λ c κs. search needs) (λ c κs. search needs) (λ c. search needs) (λ c. search needs) (λ c κs. search needs) returns
+    returns-2)

@@ -1,10 +1,9 @@
--- `unit::calls::acknowledged` meets its contract: by its kind.
--- Assumes nothing.
+-- `unit::calls::acknowledged` meets its contract: by its kind. Assumes nothing.
 use borrow.Author.Tests.{eq-eqb, ne-eqb}
 use Rattle.octets.specs.Choice.{pick}
-use Rattle.ends.specs.Lift.{outcome}
+use Rattle.protocol.specs.Lift.{outcome}
 use Rattle.ends.specs.Records.{withClock, withConfirmation}
-use Rattle.ends.specs.UnitCalls.{acknowledgeUnit, clockAcknowledgedUnit, keyAcknowledgedUnit}
+use Rattle.protocol.specs.UnitCalls.{acknowledgeUnit, clockAcknowledgedUnit, keyAcknowledgedUnit}
 use Rattle.unit.proofs.calls.acknowledged.Statement.{statement}
 use Rattle.unit.proofs.calls.acknowledged.Tie as tie
 

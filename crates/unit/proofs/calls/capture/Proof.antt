@@ -1,11 +1,10 @@
--- `unit::calls::capture` meets its contract: nothing but the way to the unit refuses.
--- Assumes nothing.
+-- `unit::calls::capture` meets its contract: nothing but the way to the unit refuses. Assumes nothing.
 use mathlib.Core.Path.{sym}
 use borrow.Author.Needs.{needs}
 use Rattle.refusal.specs.Order.{andThen}
-use Rattle.ends.specs.Lift.{outcome}
+use Rattle.protocol.specs.Lift.{outcome}
 use Rattle.ends.specs.Records.{withClock}
-use Rattle.ends.specs.UnitCalls.{captureUnit, clockCaptured}
+use Rattle.protocol.specs.UnitCalls.{captureUnit, clockCaptured}
 use Rattle.unit.proofs.Reached.{reached-refused, reached-accepted}
 use Rattle.unit.proofs.calls.capture.Statement.{statement}
 use Rattle.unit.proofs.calls.capture.Tie as tie

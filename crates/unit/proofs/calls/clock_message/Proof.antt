@@ -1,7 +1,6 @@
--- `unit::calls::clock_message` meets its contract: the clock of the capture's tick is stamped.
--- Assumes nothing.
+-- `unit::calls::clock_message` meets its contract: the clock of the capture's tick is stamped. Assumes nothing.
 use borrow.Author.Needs.{needs}
-use Rattle.ends.specs.UnitCalls.{clockMessageOf}
+use Rattle.protocol.specs.UnitCalls.{clockMessageOf}
 use Rattle.unit.proofs.calls.clock_message.Statement.{statement}
 use Rattle.unit.proofs.calls.clock_message.Tie as tie
 

@@ -1,10 +1,9 @@
--- `unit::calls::clock_send` meets its contract: the unit decides, and the stamps of its capture are handed over.
--- Assumes nothing.
+-- `unit::calls::clock_send` meets its contract: the unit decides, and the stamps of its capture are handed over. Assumes nothing.
 use mathlib.Core.Path.{sym, _∙_}
 use borrow.Author.Needs.{needs}
-use Rattle.ends.specs.Lift.{outcome}
+use Rattle.protocol.specs.Lift.{outcome}
 use Rattle.ends.specs.Records.{withClock}
-use Rattle.ends.specs.UnitCalls.{clockSendUnit, clockAfterSend}
+use Rattle.protocol.specs.UnitCalls.{clockSendUnit, clockAfterSend}
 use Rattle.unit.proofs.Reached.{reached-refused, reached-accepted}
 use Rattle.unit.proofs.calls.clock_send.Statement.{statement}
 use Rattle.unit.proofs.calls.clock_send.Tie as tie
@@ -26,5 +25,4 @@ returns-2 c =
 
 pub clock-send-spec : {M : Type 1} → statement M
 clock-send-spec =
-    tie.close (tie.spec (λ c κs. search needs) (λ c κs. search needs) (λ c. search needs) (λ c. search needs) (λ c κs. search needs) returns
-    returns-2)
+    tie.close (tie.spec (λ c κs. search needs) (λ c κs. search needs) (λ c. search needs) (λ c. search needs) (λ c κs. search needs) returns returns-2)

@@ -1,22 +1,16 @@
--- `unit::calls::is_outstanding` meets its contract: by the kind.
--- Assumes nothing.
+-- `unit::calls::is_outstanding` meets its contract: by the kind. Assumes nothing.
 use borrow.Author.Tests.{eq-eqb, ne-eqb}
 use Rattle.octets.specs.Choice.{both, pick}
-use Rattle.ends.specs.UnitCalls.{outstanding}
+use Rattle.protocol.specs.UnitCalls.{outstanding}
 use Rattle.unit.proofs.calls.is_outstanding.Statement.{statement}
 use Rattle.unit.proofs.calls.is_outstanding.Tie as tie
-
-returns : tie.Need-returns
-unfolding outstanding pick
-returns c = rw (eq-eqb _ _ (c .if1 .taken))
 
 returns-2 : tie.Need-returns-2
 unfolding outstanding pick both
 returns-2 c = rw (ne-eqb _ _ (c .before .if1 .left), eq-eqb _ _ (c .if2 .taken))
 
-returns-3 : tie.Need-returns-3
-unfolding outstanding pick
-returns-3 c = rw (ne-eqb _ _ (c .before .if1 .left), ne-eqb _ _ (c .if2 .left))
-
 pub is-outstanding-spec : {M : Type 1} → statement M
-is-outstanding-spec = tie.close (tie.spec returns returns-2 returns-3)
+is-outstanding-spec =
+    tie.close
+    (tie.spec (λ c. unfold outstanding pick in rw (eq-eqb _ _ (c .if1 .taken))) returns-2
+    (λ c. unfold outstanding pick in rw (ne-eqb _ _ (c .before .if1 .left), ne-eqb _ _ (c .if2 .left))))

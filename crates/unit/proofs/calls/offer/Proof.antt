@@ -1,12 +1,11 @@
--- `unit::calls::offer` meets its contract: the unit decides, and its key message is handed over.
--- Assumes nothing.
+-- `unit::calls::offer` meets its contract: the unit decides, and its key message is handed over. Assumes nothing.
 use mathlib.Core.Path.{sym, _∙_}
 use borrow.Author.Needs.{needs}
 use Rattle.refusal.proofs.Order.{then-accepted}
-use Rattle.ends.specs.Lift.{outcome}
+use Rattle.protocol.specs.Lift.{outcome}
 use Rattle.ends.specs.Records.{withKeys, withConfirmation}
-use Rattle.ends.specs.UnitCalls.{offerUnit, unitOffered}
-use Rattle.ends.proofs.UnitCalls.{offer-accepted}
+use Rattle.protocol.specs.UnitCalls.{offerUnit, unitOffered}
+use Rattle.protocol.proofs.UnitCalls.{offer-accepted}
 use Rattle.unit.proofs.Reached.{reached-refused, reached-accepted}
 use Rattle.unit.proofs.calls.offer.Statement.{statement}
 use Rattle.unit.proofs.calls.offer.Tie as tie
@@ -34,5 +33,6 @@ returns-2 c =
 
 pub offer-spec : {M : Type 1} → statement M
 offer-spec =
-    tie.close (tie.spec (λ c κs. search needs) (λ c κs. search needs) (λ c. search needs) (λ c κs. search needs) (λ c. search needs)
-    offered-requires (λ c κs. search needs) returns returns-2)
+    tie.close
+    (tie.spec (λ c κs. search needs) (λ c κs. search needs) (λ c. search needs) (λ c κs. search needs) (λ c. search needs) offered-requires
+    (λ c κs. search needs) returns returns-2)

@@ -1,9 +1,8 @@
--- `unit::calls::retry` meets its contract: the unit stays, and the message of its offer is handed over again.
--- Assumes nothing.
+-- `unit::calls::retry` meets its contract: the unit stays, and the message of its offer is handed over again. Assumes nothing.
 use mathlib.Core.Path.{sym, _∙_}
 use borrow.Author.Needs.{needs}
-use Rattle.ends.specs.Lift.{outcome}
-use Rattle.ends.specs.UnitCalls.{retryUnit, retryVerdict}
+use Rattle.protocol.specs.Lift.{outcome}
+use Rattle.protocol.specs.UnitCalls.{retryUnit, retryVerdict}
 use Rattle.unit.proofs.Reached.{reached-refused, reached-accepted}
 use Rattle.unit.proofs.calls.retry.Statement.{statement}
 use Rattle.unit.proofs.calls.retry.Tie as tie
@@ -25,5 +24,6 @@ returns-2 c =
 
 pub retry-spec : {M : Type 1} → statement M
 retry-spec =
-    tie.close (tie.spec (λ c κs. search needs) (λ c κs. search needs) (λ c. search needs) (λ c κs. search needs) (λ c. search needs)
-    (λ c κs. search needs) returns returns-2)
+    tie.close
+    (tie.spec (λ c κs. search needs) (λ c κs. search needs) (λ c. search needs) (λ c κs. search needs) (λ c. search needs) (λ c κs. search needs) returns
+    returns-2)

@@ -1,5 +1,4 @@
--- `unit::passing::aged` meets its contract: the ticks since the first send are compared, and not the sum.
--- Assumes nothing.
+-- `unit::passing::aged` meets its contract: the ticks since the first send are compared, and not the sum. Assumes nothing.
 use native.Mathlib.Omega.{arith}
 use borrow.Author.Needs.{needs}
 use Rattle.octets.specs.Choice.{both}

@@ -1,9 +1,8 @@
--- `unit::passing::header_of` meets its contract: the fields are those of the definition, by the number.
--- Assumes nothing.
+-- `unit::passing::header_of` meets its contract: the fields are those of the definition, by the number. Assumes nothing.
 use mathlib.Core.Path.{sym}
 use borrow.Author.Tests.{eq-eqb, ne-eqb}
 use Rattle.octets.specs.Choice.{pick}
-use Rattle.ends.specs.Headers.{envelopeHeader}
+use Rattle.protocol.specs.Headers.{envelopeHeader}
 use borrow.Author.Needs.{needs}
 use Rattle.unit.proofs.passing.header_of.Statement.{statement}
 use Rattle.unit.proofs.passing.header_of.Tie as tie

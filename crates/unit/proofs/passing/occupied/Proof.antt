@@ -1,5 +1,4 @@
--- `unit::passing::occupied` meets its contract: by the channel, and the sum does not wrap.
--- Assumes nothing.
+-- `unit::passing::occupied` meets its contract: by the channel, and the sum does not wrap. Assumes nothing.
 use mathlib.Core.Path.{_≡_, sym, _∙_}
 use Prim.Native.Nat.{_+_, _≤_}
 use native.Mathlib.Omega.{arith}

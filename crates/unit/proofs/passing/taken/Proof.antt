@@ -1,5 +1,4 @@
--- `unit::passing::taken` meets its contract: by the channel.
--- Assumes nothing.
+-- `unit::passing::taken` meets its contract: by the channel. Assumes nothing.
 use mathlib.Core.Path.{sym}
 use borrow.Author.Needs.{needs}
 use Rattle.octets.specs.Choice.{pick}

@@ -1,5 +1,4 @@
--- `unit::timing::timer_advanced` meets its contract: the sum stays below 2^63, and the interval is not 0.
--- Assumes nothing.
+-- `unit::timing::timer_advanced` meets its contract: the sum stays below 2^63, and the interval is not 0. Assumes nothing.
 use mathlib.Core.Path.{_≡_}
 use mathlib.Core.Bool.{true}
 use Prim.Native.Nat.{_+_, _≤_}

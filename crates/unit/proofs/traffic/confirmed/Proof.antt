@@ -1,14 +1,12 @@
--- `unit::traffic::confirmed` meets its contract: C and the keys are those of the definition.
--- Assumes nothing.
+-- `unit::traffic::confirmed` meets its contract: C and the keys are those of the definition. Assumes nothing.
 use Rattle.ends.specs.Records.{withKeys, withSlots, withConfirmation}
-use Rattle.ends.specs.UnitTraffic.{unitConfirmed}
+use Rattle.protocol.specs.UnitTraffic.{unitConfirmed}
 use borrow.Author.Needs.{needs}
 use Rattle.unit.proofs.traffic.confirmed.Statement.{statement}
 use Rattle.unit.proofs.traffic.confirmed.Tie as tie
 
-returns : tie.Need-returns
-unfolding unitConfirmed withKeys withSlots withConfirmation
-returns c = rw (c .before .only-key .ensures)
-
 pub confirmed-spec : {M : Type 1} → statement M
-confirmed-spec = tie.close (tie.spec (λ c κs. search needs) returns)
+confirmed-spec =
+    tie.close
+    (tie.spec (λ c κs. search needs)
+    (λ c. unfold unitConfirmed withKeys withSlots withConfirmation in rw (c .before .only-key .ensures)))

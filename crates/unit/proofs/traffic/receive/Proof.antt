@@ -1,10 +1,9 @@
--- `unit::traffic::receive` meets its contract: the key is chosen once, the unit decides, and what it accepts is opened with that key.
--- Assumes nothing.
+-- `unit::traffic::receive` meets its contract: the key is chosen once, the unit decides, and what it accepts is opened with that key. Assumes nothing.
 use mathlib.Core.Path.{_≡_, sym, _∙_}
 use borrow.Author.Needs.{needs}
 use Rattle.refusal.specs.Order.{andThen}
-use Rattle.ends.specs.Lift.{outcome}
-use Rattle.ends.specs.UnitTraffic.{receiveUnit, unitReceiveVerdict}
+use Rattle.protocol.specs.Lift.{outcome}
+use Rattle.protocol.specs.UnitTraffic.{receiveUnit, unitReceiveVerdict}
 use Rattle.unit.proofs.Reached.{reached-refused, reached-accepted}
 use Rattle.unit.proofs.traffic.receive.Statement.{statement}
 use Rattle.unit.proofs.traffic.receive.Tie as tie
@@ -30,9 +29,11 @@ returns-2 c =
     let told = c .before .before in
     let on = told .before .before in
     let e = sym (judged on) ∙ told .enum-told .given .1 in
-    rw (c .passage-of .ensures, c .before .unit-received .ensures, on .before .before .before .before .before .receive-choice .ensures) (sym (reached-accepted _ _ _ _ _ e))
+    rw (c .passage-of .ensures, c .before .unit-received .ensures, on .before .before .before .before .before .receive-choice .ensures)
+    (sym (reached-accepted _ _ _ _ _ e))
 
 pub receive-spec : {M : Type 1} → statement M
 receive-spec =
-    tie.close (tie.spec (λ c κs. search needs) (λ c κs. search needs) (λ c κs. search needs) (λ c κs. search needs) (λ c κs. search needs)
-    (λ c. search needs) (λ c κs. search needs) (λ c. search needs) (λ c κs. search needs) (λ c κs. search needs) returns returns-2)
+    tie.close
+    (tie.spec (λ c κs. search needs) (λ c κs. search needs) (λ c κs. search needs) (λ c κs. search needs) (λ c κs. search needs) (λ c. search needs)
+    (λ c κs. search needs) (λ c. search needs) (λ c κs. search needs) (λ c κs. search needs) returns returns-2)

@@ -1,8 +1,7 @@
--- `unit::traffic::receive_choice` meets its contract: by the same tests as the definition.
--- Assumes nothing.
+-- `unit::traffic::receive_choice` meets its contract: by the same tests as the definition. Assumes nothing.
 use borrow.Author.Tests.{eq-eqb, ne-eqb}
 use Rattle.octets.specs.Choice.{both, pick}
-use Rattle.ends.specs.UnitTraffic.{unitReceiveChoice}
+use Rattle.protocol.specs.UnitTraffic.{unitReceiveChoice}
 use borrow.Author.Needs.{needs}
 use Rattle.unit.proofs.traffic.receive_choice.Statement.{statement}
 use Rattle.unit.proofs.traffic.receive_choice.Tie as tie
@@ -29,5 +28,6 @@ returns-5 c = rw (ne-eqb _ _ (c .before .before .before .before .if1 .left), c .
 
 pub receive-choice-spec : {M : Type 1} → statement M
 receive-choice-spec =
-    tie.close (tie.spec returns returns-2 (λ c. search needs) (λ c. search needs) (λ c. search needs) returns-3 (λ c. search needs)
-    (λ c. search needs) returns-4 returns-5)
+    tie.close
+    (tie.spec returns returns-2 (λ c. search needs) (λ c. search needs) (λ c. search needs) returns-3 (λ c. search needs) (λ c. search needs) returns-4
+    returns-5)

@@ -1,15 +1,10 @@
--- `unit::traffic::switches` meets its contract: the tests are those of the definition.
--- Assumes nothing.
+-- `unit::traffic::switches` meets its contract: the tests are those of the definition. Assumes nothing.
 use mathlib.Core.Path.{refl}
 use Rattle.octets.specs.Choice.{both}
-use Rattle.ends.specs.UnitTraffic.{switches}
+use Rattle.protocol.specs.UnitTraffic.{switches}
 use borrow.Author.Needs.{needs}
 use Rattle.unit.proofs.traffic.switches.Statement.{statement}
 use Rattle.unit.proofs.traffic.switches.Tie as tie
 
-returns : tie.Need-returns
-unfolding switches both
-returns c = refl
-
 pub switches-spec : {M : Type 1} → statement M
-switches-spec = tie.close (tie.spec (λ c. search needs) (λ c. search needs) (λ c. search needs) returns)
+switches-spec = tie.close (tie.spec (λ c. search needs) (λ c. search needs) (λ c. search needs) (λ c. unfold switches both in refl))

@@ -1,15 +1,9 @@
--- `xgpon::answers::await_index` meets its contract: the index is compared with the new key's.
--- Assumes nothing.
+-- `xgpon::answers::await_index` meets its contract: the index is compared with the new key's. Assumes nothing.
 use borrow.Author.Needs.{needs}
 use borrow.Author.Tests.{eq-eqb, ne-eqb}
 use Rattle.xgpon.proofs.answers.await_index.Statement.{statement}
 use Rattle.xgpon.proofs.answers.await_index.Tie as tie
 
-returns : tie.Need-returns
-returns c = rw (eq-eqb _ _ (c .if1 .taken))
-
-returns-2 : tie.Need-returns-2
-returns-2 c = rw (ne-eqb _ _ (c .before .if1 .left)) (c .refuse .ensures)
-
 pub await-index-spec : {M : Type 1} → statement M
-await-index-spec = tie.close (tie.spec returns (λ c κs. search needs) returns-2)
+await-index-spec =
+    tie.close (tie.spec (λ c. rw (eq-eqb _ _ (c .if1 .taken))) (λ c κs. search needs) (λ c. rw (ne-eqb _ _ (c .before .if1 .left)) (c .refuse .ensures)))

@@ -1,11 +1,7 @@
--- `xgpon::answers::refuse` meets its contract: the number is the refusal's.
--- Assumes nothing.
+-- `xgpon::answers::refuse` meets its contract: the number is the refusal's. Assumes nothing.
 use borrow.Author.Needs.{needs}
 use Rattle.xgpon.proofs.answers.refuse.Statement.{statement}
 use Rattle.xgpon.proofs.answers.refuse.Tie as tie
 
-returns : tie.Need-returns
-returns c = cc
-
 pub refuse-spec : {M : Type 1} → statement M
-refuse-spec = tie.close (tie.spec (λ c κs. search needs) returns)
+refuse-spec = tie.close (tie.spec (λ c κs. search needs) (λ c. cc))

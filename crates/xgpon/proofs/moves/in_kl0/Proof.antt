@@ -1,5 +1,4 @@
--- `xgpon::moves::in_kl0` meets its contract: each arm is its row, and the rest stays.
--- Assumes nothing.
+-- `xgpon::moves::in_kl0` meets its contract: each arm is its row, and the rest stays. Assumes nothing.
 use mathlib.Core.List.{List, [], _∷_}
 use mathlib.Core.Path.{_≡_, refl}
 use Prim.Native.Nat.{ℕ}
@@ -33,10 +32,8 @@ rest x KeyCheck h = refl
 returns : tie.Need-returns
 returns c = rw (c .request .ensures, c .before .requesting .ensures, c .before .before .enum-told .given .1)
 
-returns-2 : tie.Need-returns-2
-returns-2 c = rw (c .stay .ensures) (rest _ (c .before .before .args .input) (c .before .match .keys2))
-
 pub in-kl0-spec : {M : Type 1} → statement M
 in-kl0-spec =
     tie.close
-    (tie.spec (λ c. search needs) (λ c κs. search needs) (λ c κs. search needs) (λ c κs. search needs) returns returns-2)
+    (tie.spec (λ c. search needs) (λ c κs. search needs) (λ c κs. search needs) (λ c κs. search needs) returns
+    (λ c. rw (c .stay .ensures) (rest _ (c .before .before .args .input) (c .before .match .keys2))))

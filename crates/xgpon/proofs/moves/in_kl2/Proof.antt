@@ -1,5 +1,4 @@
--- `xgpon::moves::in_kl2` meets its contract: each arm is its row, and the rest stays.
--- Assumes nothing.
+-- `xgpon::moves::in_kl2` meets its contract: each arm is its row, and the rest stays. Assumes nothing.
 use mathlib.Core.List.{List, [], _∷_}
 use mathlib.Core.Path.{_≡_, refl}
 use Prim.Native.Nat.{ℕ}
@@ -30,25 +29,12 @@ rest x BeginToSend h = absurd (miss tags 6 tt h)
 rest x Rekey h = refl
 rest x KeyCheck h = refl
 
-returns : tie.Need-returns
-returns c = rw (c .accept .ensures, c .before .enum-told .given .1)
-
 returns-2 : tie.Need-returns-2
 returns-2 c = rw (c .confirm-new .ensures, c .before .in-state .ensures, c .before .before .enum-told2 .given .1)
-
-returns-3 : tie.Need-returns-3
-returns-3 c = rw (c .stay .ensures) (rest _ (c .before .before .args .input) (c .before .match .keys3))
 
 pub in-kl2-spec : {M : Type 1} → statement M
 in-kl2-spec =
     tie.close
-    (tie.spec
-    (λ c. search needs)
-    (λ c κs. search needs)
-    (λ c. search needs)
-    (λ c κs. search needs)
-    (λ c κs. search needs)
-    (λ c κs. search needs)
-    returns
-    returns-2
-    returns-3)
+    (tie.spec (λ c. search needs) (λ c κs. search needs) (λ c. search needs) (λ c κs. search needs) (λ c κs. search needs) (λ c κs. search needs)
+    (λ c. rw (c .accept .ensures, c .before .enum-told .given .1)) returns-2
+    (λ c. rw (c .stay .ensures) (rest _ (c .before .before .args .input) (c .before .match .keys3))))

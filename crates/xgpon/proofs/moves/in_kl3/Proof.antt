@@ -1,5 +1,4 @@
--- `xgpon::moves::in_kl3` meets its contract: each arm is its row, and the rest stays.
--- Assumes nothing.
+-- `xgpon::moves::in_kl3` meets its contract: each arm is its row, and the rest stays. Assumes nothing.
 use mathlib.Core.List.{List, [], _∷_}
 use mathlib.Core.Path.{_≡_, refl}
 use Prim.Native.Nat.{ℕ}
@@ -36,38 +35,11 @@ returns c = rw (c .await-index .ensures, c .before .stay .ensures, c .before .be
 returns-2 : tie.Need-returns-2
 returns-2 c = rw (c .await-index2 .ensures, c .before .move-on .ensures, c .before .before .before .input2 .given .1)
 
-returns-3 : tie.Need-returns-3
-returns-3 c = rw (c .accept .ensures, c .before .enum-told .given .1)
-
-returns-4 : tie.Need-returns-4
-returns-4 c = rw (c .confirm-new .ensures, c .before .enum-told2 .given .1)
-
-returns-5 : tie.Need-returns-5
-returns-5 c = rw (c .confirm-new2 .ensures, c .before .enum-told3 .given .1)
-
-returns-6 : tie.Need-returns-6
-returns-6 c = rw (c .stay2 .ensures) (rest _ (c .before .before .args .input) (c .before .match .keys6))
-
 pub in-kl3-spec : {M : Type 1} → statement M
 in-kl3-spec =
     tie.close
-    (tie.spec
-    (λ c. search needs)
-    (λ c κs. search needs)
-    (λ c κs. search needs)
-    (λ c. search needs)
-    (λ c κs. search needs)
-    (λ c κs. search needs)
-    (λ c. search needs)
-    (λ c κs. search needs)
-    (λ c. search needs)
-    (λ c κs. search needs)
-    (λ c. search needs)
-    (λ c κs. search needs)
-    (λ c κs. search needs)
-    returns
-    returns-2
-    returns-3
-    returns-4
-    returns-5
-    returns-6)
+    (tie.spec (λ c. search needs) (λ c κs. search needs) (λ c κs. search needs) (λ c. search needs) (λ c κs. search needs) (λ c κs. search needs)
+    (λ c. search needs) (λ c κs. search needs) (λ c. search needs) (λ c κs. search needs) (λ c. search needs) (λ c κs. search needs) (λ c κs. search needs)
+    returns returns-2 (λ c. rw (c .accept .ensures, c .before .enum-told .given .1)) (λ c. rw (c .confirm-new .ensures, c .before .enum-told2 .given .1))
+    (λ c. rw (c .confirm-new2 .ensures, c .before .enum-told3 .given .1))
+    (λ c. rw (c .stay2 .ensures) (rest _ (c .before .before .args .input) (c .before .match .keys6))))

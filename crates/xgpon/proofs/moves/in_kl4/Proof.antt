@@ -1,5 +1,4 @@
--- `xgpon::moves::in_kl4` meets its contract: each arm is its row, and the rest stays.
--- Assumes nothing.
+-- `xgpon::moves::in_kl4` meets its contract: each arm is its row, and the rest stays. Assumes nothing.
 use mathlib.Core.List.{List, [], _∷_}
 use mathlib.Core.Path.{_≡_, refl}
 use Prim.Native.Nat.{ℕ}
@@ -39,31 +38,11 @@ returns-2 c = rw (c .await-index2 .ensures, c .before .stay2 .ensures, c .before
 returns-3 : tie.Need-returns-3
 returns-3 c = rw (c .request .ensures, c .before .requesting .ensures, c .before .before .enum-told .given .1)
 
-returns-4 : tie.Need-returns-4
-returns-4 c = rw (c .accept .ensures, c .before .confirm .ensures, c .before .before .enum-told2 .given .1)
-
-returns-5 : tie.Need-returns-5
-returns-5 c = rw (c .stay3 .ensures) (rest _ (c .before .before .args .input) (c .before .match .keys5))
-
 pub in-kl4-spec : {M : Type 1} → statement M
 in-kl4-spec =
     tie.close
-    (tie.spec
-    (λ c. search needs)
-    (λ c κs. search needs)
-    (λ c κs. search needs)
-    (λ c. search needs)
-    (λ c κs. search needs)
-    (λ c κs. search needs)
-    (λ c. search needs)
-    (λ c κs. search needs)
-    (λ c κs. search needs)
-    (λ c. search needs)
-    (λ c κs. search needs)
-    (λ c κs. search needs)
-    (λ c κs. search needs)
-    returns
-    returns-2
-    returns-3
-    returns-4
-    returns-5)
+    (tie.spec (λ c. search needs) (λ c κs. search needs) (λ c κs. search needs) (λ c. search needs) (λ c κs. search needs) (λ c κs. search needs)
+    (λ c. search needs) (λ c κs. search needs) (λ c κs. search needs) (λ c. search needs) (λ c κs. search needs) (λ c κs. search needs) (λ c κs. search needs)
+    returns returns-2 returns-3
+    (λ c. rw (c .accept .ensures, c .before .confirm .ensures, c .before .before .enum-told2 .given .1))
+    (λ c. rw (c .stay3 .ensures) (rest _ (c .before .before .args .input) (c .before .match .keys5))))

@@ -1,5 +1,4 @@
--- `xgpon::values::keys_fit` meets its contract: KL0 has no keys, and the four states of an exchange have the same.
--- Assumes nothing.
+-- `xgpon::values::keys_fit` meets its contract: KL0 has no keys, and the four states of an exchange have the same. Assumes nothing.
 use mathlib.Core.List.{List, [], _∷_}
 use mathlib.Core.Path.{_≡_, refl}
 use Prim.Native.Nat.{ℕ}
@@ -25,11 +24,9 @@ rest KL3 oldkey newkey h = refl
 rest KL4 oldkey newkey h = refl
 rest Outside oldkey newkey h = absurd (miss tags 5 tt h)
 
-returns : tie.Need-returns
-returns c = rw (c .enum-told .given .1)
-
 returns-3 : tie.Need-returns-3
 returns-3 c = rw (c .index-after .ensures) (rest (c .before .before .args .state) _ _ (c .before .match .keys3))
 
 pub keys-fit-spec : {M : Type 1} → statement M
-keys-fit-spec = tie.close (tie.spec (λ c. search needs) (λ c. search needs) (λ c κs. search needs) returns (λ c. search needs) returns-3)
+keys-fit-spec =
+    tie.close (tie.spec (λ c. search needs) (λ c. search needs) (λ c κs. search needs) (λ c. rw (c .enum-told .given .1)) (λ c. search needs) returns-3)

@@ -1,11 +1,7 @@
--- `xgpon::values::requesting` meets its contract: the new key's index follows on the active one's.
--- Assumes nothing.
+-- `xgpon::values::requesting` meets its contract: the new key's index follows on the active one's. Assumes nothing.
 use borrow.Author.Needs.{needs}
 use Rattle.xgpon.proofs.values.requesting.Statement.{statement}
 use Rattle.xgpon.proofs.values.requesting.Tie as tie
 
-returns : tie.Need-returns
-returns c = cc
-
 pub requesting-spec : {M : Type 1} → statement M
-requesting-spec = tie.close (tie.spec (λ c κs. search needs) returns)
+requesting-spec = tie.close (tie.spec (λ c κs. search needs) (λ c. cc))

@@ -1,5 +1,4 @@
--- `xgpon::values::state_named` meets its contract: a number above 4 is no state's.
--- Assumes nothing.
+-- `xgpon::values::state_named` meets its contract: a number above 4 is no state's. Assumes nothing.
 use mathlib.Core.Path.{_≡_, refl}
 use Prim.Native.Nat.{ℕ, zero, suc, _<_}
 use native.Mathlib.Omega.{arith}
@@ -23,6 +22,4 @@ returns-6 c =
     above (c .before .args .state) (omega (arith, none .1, none .0 .1, none .0 .0 .1, none .0 .0 .0 .1, none .0 .0 .0 .0 .1))
 
 pub state-named-spec : {M : Type 1} → statement M
-state-named-spec =
-    tie.close
-    (tie.spec (λ c. search needs) (λ c. search needs) (λ c. search needs) (λ c. search needs) (λ c. search needs) returns-6)
+state-named-spec = tie.close (tie.spec (λ c. search needs) (λ c. search needs) (λ c. search needs) (λ c. search needs) (λ c. search needs) returns-6)

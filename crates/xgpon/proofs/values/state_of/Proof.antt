@@ -1,5 +1,4 @@
--- `xgpon::values::state_of` meets its contract: the state that the number names, where the keys fit it.
--- Assumes nothing.
+-- `xgpon::values::state_of` meets its contract: the state that the number names, where the keys fit it. Assumes nothing.
 use mathlib.Core.Path.{sym, _∙_}
 use borrow.Author.Needs.{needs}
 use Rattle.xgpon.proofs.values.state_of.Statement.{statement}

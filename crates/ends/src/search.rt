@@ -1,0 +1,63 @@
+// Which unit of the OLT's table has an LLID (01, Clock: OLT calls name a unit by any of its LLIDs).
+ghost use mathlib.Core.Path.{_≡_};
+ghost use mathlib.Core.Bool.{true, false, not};
+ghost use Prim.Native.Nat.{_+_, _<_};
+ghost use lib.ListN.{take};
+ghost use Rattle.refusal.specs.Number.{verdictNumber};
+ghost use Rattle.refusal.specs.declared.Refusal.the-variants.{UnknownLlid};
+ghost use Rattle.refusal.specs.declared.Verdict.the-variants.{Accepted};
+ghost use Rattle.ends.specs.Identities.{among, has, llidsOf, meets};
+ghost use Rattle.refusal.specs.Order.{refuseIf};
+ghost use Rattle.ends.specs.Table.{findFrom, foundNumber, tableLlids};
+ghost use Rattle.ends.specs.declared.Found.the-variants.{Nowhere};
+use crate::Found;
+use crate::Identity;
+use crate::UnitRecord;
+use crate::limits::MAX_UNITS;
+use crate::llids::at;
+use crate::llids::has;
+
+// Which of the first `count` units has the LLID.
+pub fn find(units: [UnitRecord; MAX_UNITS as usize], count: u8, llid: u16) -> Found
+    ensures { λ r. ⌜ r ≡ findFrom 0 (take count units) llid ⌝ }
+    ensures number { λ r. ⌜ foundNumber r ≡ verdictNumber (refuseIf (not (among llid (tableLlids (take count units)))) UnknownLlid Accepted) ⌝ }
+{
+    let mut i: usize = 0;
+    while i < MAX_UNITS as usize {
+        if count as usize <= i {
+            return Found::Nowhere;
+        }
+        let unit = units[i];
+        if has(unit.identity, llid) {
+            return Found::At(i);
+        }
+        i += 1;
+    }
+    Found::Nowhere
+}
+
+fn stands_in(units: [UnitRecord; MAX_UNITS as usize], count: u8, llid: u16) -> bool
+    ensures { λ r. ⌜ r ≡ among llid (tableLlids (take count units)) ⌝ }
+{
+    let found = find(units, count, llid);
+    match found {
+        Found::At(_) => true,
+        Found::Nowhere => false,
+    }
+}
+
+// Whether one of the LLIDs is that of a registered unit.
+pub fn meets_table(units: [UnitRecord; MAX_UNITS as usize], count: u8, identity: Identity) -> bool
+    ensures { λ r. ⌜ r ≡ meets (llidsOf identity) (tableLlids (take count units)) ⌝ }
+{
+    let llids = identity.llids;
+    let n = identity.count;
+    let mut j: u8 = 0;
+    while j < n {
+        if stands_in(units, count, at(llids, j)) {
+            return true;
+        }
+        j += 1;
+    }
+    false
+}

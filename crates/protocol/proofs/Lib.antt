@@ -1,0 +1,16 @@
+pub mod ClockCaptures
+pub mod Headers
+pub mod KeyMessages
+pub mod Lift
+pub mod OltAdvance
+pub mod OltCalls
+pub mod OltTraffic
+pub mod OnuAdvance
+pub mod OnuCalls
+pub mod OnuChoices
+pub mod OnuTraffic
+pub mod Registration
+pub mod Replies
+pub mod UnitCalls
+pub mod UnitChoices
+pub mod UnitTraffic

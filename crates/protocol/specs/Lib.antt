@@ -1,0 +1,11 @@
+pub mod Replies
+pub mod Messages
+pub mod Lift
+pub mod UnitCalls
+pub mod OltCalls
+pub mod ClockCaptures
+pub mod OnuCalls
+pub mod Headers
+pub mod UnitTraffic
+pub mod OltTraffic
+pub mod OnuTraffic

@@ -1,0 +1,17 @@
+// Plays every exported call of the library that firmware links, a line for each: its number and what it handed over. What it must print
+// is made by tools/test_calls.py.
+mod block_calls;
+mod line;
+mod olt_calls;
+mod onu_calls;
+mod payload_calls;
+mod show;
+mod values;
+mod xgpon_calls;
+
+fn main() {
+    line::play();
+    payload_calls::play();
+    block_calls::play();
+    xgpon_calls::play();
+}

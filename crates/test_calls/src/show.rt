@@ -1,0 +1,90 @@
+// A line: the call, its number, and what it handed over.
+use libc::STDOUT_FILENO;
+use protocol::Acknowledgement;
+use protocol::Header;
+use protocol::KeyMessage;
+
+fn space() {
+    io::write_all(STDOUT_FILENO, b" ");
+}
+
+pub(crate) fn end() {
+    io::write_all(STDOUT_FILENO, b"\n");
+}
+
+pub(crate) fn name(call: &[u8]) {
+    io::write_all(STDOUT_FILENO, b"jazmotip_");
+    io::write_all(STDOUT_FILENO, call);
+}
+
+pub(crate) fn decimal(value: u64) {
+    space();
+    io::print_decimal(STDOUT_FILENO, value);
+}
+
+pub(crate) fn hex(value: u64, digits: usize) {
+    space();
+    io::print_hex(STDOUT_FILENO, value, digits);
+}
+
+fn wide(x: u8) -> u64 {
+    x as u64
+}
+
+pub(crate) fn octet(value: u8) {
+    decimal(wide(value));
+}
+
+pub(crate) fn begin(call: &[u8], number: u8) {
+    name(call);
+    octet(number);
+}
+
+pub(crate) fn row(call: &[u8], number: u8) {
+    begin(call, number);
+    end();
+}
+
+fn print_octets(s: &[u8]) {
+    for i in 0..s.len() {
+        io::print_hex(STDOUT_FILENO, wide(s[i]), 2);
+    }
+}
+
+pub(crate) fn octets(s: &[u8]) {
+    space();
+    print_octets(s);
+    end();
+}
+
+pub(crate) fn header(h: Header) {
+    hex(h.channel as u64, 2);
+    hex(h.llid as u64, 4);
+    octet(h.encenabled);
+    octet(h.enckey);
+    hex(h.epam as u64, 2);
+}
+
+// What an envelope or a payload became.
+pub(crate) fn passed(count: u64, s: &[u8]) {
+    decimal(count);
+    octets(s);
+}
+
+pub(crate) fn stamps(rx: u64, tx: u64) {
+    hex(rx, 12);
+    hex(tx, 12);
+}
+
+pub(crate) fn key_message(m: KeyMessage) {
+    decimal(m.llid as u64);
+    decimal(m.number as u64);
+    let key = m.key;
+    octets(&key);
+}
+
+pub(crate) fn acknowledgement(a: Acknowledgement) {
+    octet(a.kind);
+    decimal(a.number as u64);
+    end();
+}

@@ -1,0 +1,119 @@
+// Names, keys, payloads and headers.
+use crate::script;
+use crate::script::Numbers;
+use ends::Identity;
+use ends::Slots;
+use protocol::Acknowledgement;
+use protocol::Header;
+use protocol::KeyMessage;
+
+pub const OLT_MAC: u64 = 0x0200_0000_0001;
+
+// LLIDs 5 and 6.
+pub(crate) fn unit() -> Identity {
+    Identity {
+        mac: 0x0200_0000_0002,
+        llids: [5, 6, 7, 8],
+        count: 2,
+    }
+}
+
+// MAC, two LLIDs, and how many of four places are in use.
+pub(crate) fn identity(n: Numbers) -> Identity {
+    Identity {
+        mac: n.a,
+        llids: [script::u16_of(n.b), script::u16_of(n.c), 7, 8],
+        count: script::u8_of(n.d),
+    }
+}
+
+// A key by its first octet; 0 is the key of zeros.
+pub(crate) fn key(first: u64) -> [u8; 16] {
+    if first == 0 {
+        return [0; 16];
+    }
+    let octet = script::u8_of(first);
+    [octet, 1, 2, 3, 4, 5, 6, 7, 8, 9, 10, 11, 12, 13, 14, 15]
+}
+
+// Key n has the first octet 17; `other` is that of the key in the other slot.
+pub(crate) fn slots(n: u32, other: u64) -> Slots {
+    let zeros = Slots {
+        even: [0; 16],
+        odd: [0; 16],
+    };
+    let one = ends::keyslots::with_key(zeros, n, key(17));
+    ends::keyslots::with_key(one, 1 - n % 2, key(other))
+}
+
+// Kind and number, after an LLID.
+pub(crate) fn acknowledgement(n: Numbers) -> Acknowledgement {
+    Acknowledgement {
+        kind: script::u8_of(n.b),
+        number: script::u32_of(n.c),
+    }
+}
+
+// LLID, number and the first octet of the key.
+pub(crate) fn key_message(n: Numbers) -> KeyMessage {
+    let llid = script::u16_of(n.a);
+    let number = script::u32_of(n.b);
+    let key = key(n.c);
+    KeyMessage { llid, number, key }
+}
+
+// Channel index, LLID, EncEnabled, EncKey and EPAM.
+pub(crate) fn header(n: Numbers) -> Header {
+    Header {
+        channel: script::u8_of(n.a),
+        llid: script::u16_of(n.b),
+        encenabled: script::u8_of(n.c),
+        enckey: script::u8_of(n.d),
+        epam: script::u8_of(n.e),
+    }
+}
+
+// Four EQs, the first three with those control octets.
+pub(crate) fn payload(a: u64, b: u64, c: u64) -> [u8; 36] {
+    let one = script::u8_of(a);
+    let two = script::u8_of(b);
+    let three = script::u8_of(c);
+    [
+        one,
+        16,
+        17,
+        18,
+        19,
+        20,
+        21,
+        22,
+        23,
+        two,
+        32,
+        33,
+        34,
+        35,
+        36,
+        37,
+        38,
+        39,
+        three,
+        48,
+        49,
+        50,
+        51,
+        52,
+        53,
+        54,
+        55,
+        0,
+        64,
+        65,
+        66,
+        67,
+        68,
+        69,
+        70,
+        71,
+    ]
+}

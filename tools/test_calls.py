@@ -1,0 +1,246 @@
+#!/usr/bin/env python3
+"""What the program `test_calls` must print: every exported call, played on the ends of tools/olt.py and tools/onu.py, the reader of
+tools/capture_blocks.py and the key exchange of tools/test_xgpon.py.
+
+usage: tools/test_calls.py > crates/test_calls/stdout
+Shares no code with the engine.
+"""
+import capture_blocks as reader
+from capture_blocks import CLEAR, ONE
+from ends import LOCAL, TURN, Named
+from olt import fresh_olt
+from onu import fresh_onu
+from sealing import seal
+import test_xgpon as xgpon
+
+OLT_MAC, UNIT = 0x020000000001, Named(0x020000000002, [5, 6])
+PAYLOAD = bytes([0x00, *range(0x10, 0x18), 0x81, *range(0x20, 0x28), 0x01, *range(0x30, 0x38)])
+LENT = b"\xaa" * 27
+KEY = bytes.fromhex("2b7e151628aed2a6abf7158809cf4f3c")
+
+
+def show(call, number, rest=""):
+    print(f"jazmotip_{call} {number}{rest}")
+
+
+def passed(count, octets):
+    return f" {count} {octets.hex()}"
+
+
+# ---- both ends: 150 ticks down, 100 up, the OLT's clock 1000 ticks before its turn
+
+class Line:
+    def __init__(self):
+        number, self.olt = fresh_olt(OLT_MAC, TURN - 1000)
+        show("olt_fresh", number)
+        for _ in range(2):
+            show("olt_register", self.olt.register(UNIT, 250, 1000))
+        number, self.onu = fresh_onu(UNIT, OLT_MAC, (TURN - 900) % LOCAL)
+        show("onu_fresh", number)
+
+    def olt_advance(self, n):
+        number = self.olt.advance(n)
+        show("olt_advance", number, f" {self.olt.tick} {self.olt.clock:012x}")
+
+    def onu_advance(self, n):
+        number = self.onu.advance(n)
+        show("onu_advance", number, f" {self.onu.tick} {self.onu.rx:012x} {self.onu.time:012x}")
+
+    def advance(self, n):
+        self.olt_advance(n)
+        self.onu_advance(n)
+
+    def send(self, end, llid, channel):
+        number, header, count, octets = getattr(self, end).send(llid, channel, PAYLOAD, LENT)
+        i, l, e, k, p = header
+        show(f"{end}_send", number, f" {i:02x} {l:04x} {e} {k} {p:02x}" + passed(count, octets))
+        return header, octets
+
+    def receive(self, end, envelope):
+        number, count, octets = getattr(self, end).receive(*envelope, LENT)
+        show(f"{end}_receive", number, passed(count, octets))
+
+    def down(self, llid, channel):
+        envelope = self.send("olt", llid, channel)
+        self.advance(150)
+        self.receive("onu", envelope)
+
+    def up(self, llid, channel):
+        envelope = self.send("onu", llid, channel)
+        self.advance(100)
+        self.receive("olt", envelope)
+
+    def clock(self):
+        show("olt_capture", self.olt.capture(5))
+        self.advance(40)
+        number, stamps = self.olt.clock_send(6)
+        show("olt_clock_send", number, f" {stamps[0]:012x} {stamps[1]:012x}")
+        self.advance(150)
+        number, ack = self.onu.clock_message(stamps)
+        show("onu_clock_message", number, f" {self.onu.rx:012x} {self.onu.time:012x} {ack[0]} {ack[1]}")
+        self.advance(100)
+        show("olt_acknowledge", self.olt.acknowledge(5, ack))
+
+    def offered(self, call, number, message):
+        show(call, number, f" {message[0]} {message[1]} {message[2].hex()}")
+        return message
+
+    def key(self):
+        self.offered("olt_offer", *self.olt.offer(5, KEY))
+        message = self.offered("olt_retry", *self.olt.retry(6))
+        self.advance(150)
+        number, ack = self.onu.key_message(message)
+        show("onu_key_message", number, f" {ack[0]} {ack[1]}")
+        self.advance(100)
+        show("olt_acknowledge", self.olt.acknowledge(6, ack))
+
+    def refusals(self):
+        show("olt_capture", self.olt.capture(9))
+        self.offered("olt_retry", *self.olt.retry(5))
+        self.olt_advance(2**62)
+        show("olt_fresh", fresh_olt(TURN, 0)[0])
+        self.send("onu", 9, 0x80)
+        self.onu_advance(2**62)
+        show("onu_fresh", fresh_onu(UNIT, TURN, 0)[0])
+
+
+def ends():
+    line = Line()
+    line.down(5, 0x00)
+    line.up(5, 0x80)
+    line.clock()
+    line.key()
+    line.advance(1000)
+    line.down(5, 0x01)
+    line.up(6, 0x81)
+    line.refusals()
+
+
+# ---- payloads
+
+def payloads():
+    print(f"jazmotip_expand_key {b''.join(reader.expanded(KEY)).hex()}")
+    sealed, count = seal(KEY, 0x81, OLT_MAC, 0x41, PAYLOAD)
+    for call, refused in (("seal", LENT), ("seal_expanded", LENT), ("seal_in_place", PAYLOAD), ("seal_expanded_in_place", PAYLOAD)):
+        show(call, 0, passed(0, PAYLOAD))
+        show(call, 0, passed(count, sealed))
+        show(call, 1, passed(0, refused))
+    print(f"jazmotip_count {count}")
+
+
+# ---- capture blocks
+
+def directory_row(block):
+    number, pair, pairs = reader.directory(block)
+    show("capture_directory", number, f" {pair} {len(pairs)}")
+
+
+def verdict_row(settings, block, k):
+    number, pair, pairs = reader.directory(block)
+    enabled, enckey, clock = 0, 0, 0
+    if 1 <= k <= len(pairs):
+        offset, length = pairs[k - 1]
+        record = block[offset : offset + length]
+        number = reader.record_number(settings, record)
+        if number == 0 and record[4] & 1:
+            enabled, enckey, clock = 1, record[4] >> 1, int.from_bytes(record[6:12], "big")
+    else:
+        number = number or 1
+    show("capture_verdict", number, f" {pair} {enabled} {enckey} {clock:012x}")
+
+
+def verdicts_row(settings, block, output):
+    number, pair, pairs = reader.directory(block)
+    if len(output) != 256:
+        number, pair, pairs = 14, 0, []
+    numbers = bytes(reader.record_number(settings, block[offset : offset + length]) for offset, length in pairs)
+    show("capture_verdicts", number, f" {pair} {len(pairs)} {(numbers + output[len(numbers) :])[:4].hex()}")
+
+
+def payload_row(block, k):
+    number, pair, octets = reader.payload(block, k)
+    offset = 0 if number else reader.directory(block)[2][k - 1][0] + 16
+    show("capture_payload", number, f" {pair} {offset} {len(octets)}")
+
+
+def open_row(settings, block):
+    number, pair, count, octets = reader.opened(settings, block, b"\xaa" * 59)
+    show("capture_open", number, f" {pair}" + passed(count, octets))
+
+
+def blocks():
+    settings, good = reader.settings(3), reader.block(CLEAR, ONE)
+    directory_row(good)
+    directory_row(reader.block(CLEAR, ONE, pairs=[(19, 16), (34, 25)]))
+    directory_row(reader.block(CLEAR, ONE, pairs=[(18, 16), (35, 25)]))
+    directory_row(reader.block(CLEAR, ONE, pairs=[(18, 17), (35, 25)]))
+    directory_row(reader.block(CLEAR, reader.captured(reader.quanta(1), eqs=2)))
+    for k in (1, 2, 3):
+        verdict_row(settings, good, k)
+    for output in (b"\xaa" * 256, b"\xaa" * 255):
+        verdicts_row(settings, good, output)
+    for k in (1, 2, 3):
+        payload_row(good, k)
+    open_row(settings, good)
+    broken = reader.block(CLEAR, ONE, pairs=[(18, 16), (35, 25)])
+    verdict_row(settings, broken, 1)
+    verdicts_row(settings, broken, b"\xaa" * 256)
+    payload_row(broken, 1)
+    open_row(settings, broken)
+    text = reader.listing(*reader.PAPER)
+    print(f"jazmotip_capture_list {len(text)}\n{text}", end="")
+
+
+# ---- the key exchange on an XG-PON line
+
+KINDS = (None, xgpon.NEW, xgpon.EXISTING, "TK1 expires", "TK2 expires", "TK3 expires", xgpon.BEGIN, xgpon.TO_SEND, xgpon.REKEY, xgpon.CHECK)
+
+
+def flags(acts, sign):
+    return " ".join(str(int(f"{sign}TK{n}" in acts)) for n in (1, 2, 3))
+
+
+def step_row(lent, kind, index=None):
+    """The exchange that the step leaves."""
+    olt = xgpon.Olt(*lent)
+    if 1 <= kind < len(KINDS):
+        olt.step(KINDS[kind], index)
+    else:
+        olt.number = 1
+    message = [f"{k} {act.split()[1]}" for act in olt.acts for k, name in enumerate(("Generate", "Confirm"), 1) if act.startswith(name)]
+    shown = [*message, "0 0"][0]
+    show("xgpon_step", olt.number, f" {olt.state} {olt.old} {olt.new} {shown} {flags(olt.acts, '+')} {flags(olt.acts, '-')}")
+    return olt.state, olt.old, olt.new
+
+
+def key_rows(lent):
+    print(f"jazmotip_xgpon_sent_under {xgpon.valid(xgpon.SENT_UNDER, *lent)}")
+    print(f"jazmotip_xgpon_received_under {xgpon.valid(xgpon.RECEIVED_UNDER, *lent)}")
+
+
+def key_exchange():
+    exchange = (0, 0, 0)
+    print("jazmotip_xgpon_fresh 0 0 0")
+    for kind, index in ((6, 0), (1, 2), (1, 1)):
+        exchange = step_row(exchange, kind, index)
+    key_rows(exchange)
+    for kind, index in ((7, 0), (2, 1)):
+        exchange = step_row(exchange, kind, index)
+    active = exchange
+    for kind, index in ((9, 0), (8, 0), (4, 0), (3, 0), (1, 2), (7, 0)):
+        exchange = step_row(exchange, kind, index)
+    key_rows(exchange)
+    for kind in (5, 3):
+        exchange = step_row(exchange, kind)
+    step_row(active, 0)
+    step_row(active, 10)
+    step_row((5, 0, 1), 6)
+    key_rows((5, 0, 1))
+    print("jazmotip_xgpon_recommended_starts " + " ".join(str(start) for start in xgpon.STARTS.values()))
+
+
+if __name__ == "__main__":
+    ends()
+    payloads()
+    blocks()
+    key_exchange()

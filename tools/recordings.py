@@ -1,5 +1,5 @@
 #!/usr/bin/env python3
-"""Two recordings of one line held against each other (02, C-15), and what the program `compare` must print.
+"""Two recordings of one line held against each other (02, C-15, C-20), and what the program `compare` must print.
 
 Shares no code with the engine: written from 01 and 02 alone, on the blocks of tools/capture_blocks.py. Python 3, standard library.
 
@@ -37,8 +37,8 @@ def key(r):
 
 
 def same(r, s):
-    """The EQ count and the eight data octets of every EQ agree."""
-    return r[12:16] == s[12:16] and all(r[q + 1 : q + 9] == s[q + 1 : q + 9] for q in range(16, len(r), 9))
+    """The EQ count, all nine octets of every EQ, and EncKey, bit 1 of the flags, agree."""
+    return r[12:] == s[12:] and r[4] >> 1 == s[4] >> 1
 
 
 def compared(llid, one, two, lent=OUTPUT):
@@ -87,12 +87,15 @@ def given(one, two, llid=5, size=None):
 
 
 A, B, C = (record(quanta(1, first=k), clock=0x41 + k, channel=0x80) for k in range(3))
+# an EQ with idles behind two data octets, one idle of it lost, and the idles taken for data
+IDLE, LOST = b"\xfcab" + b"\x07" * 6, b"\xfcab" + b"\x07" * 5 + b"\x00"
+TAKEN = b"\x00" + IDLE[1:]
 TWICE = record(quanta(2), kind=1, clock=0x41, channel=0x80)
 CUT = block(A, B)[:-1]
 CASES = {
     "envelopes lost on both ways": given(
-        block(A, B, record(llid=6, clock=0xFFFFFFFFFFFF), record(quanta(2), clock=0x100, flags=1), C, record(clock=0x200)),
-        block(A, C, record(quanta(2, first=1), clock=0x100, flags=3), record(clock=0x201), record(clock=0x200, channel=1), record(clock=0x200)),
+        block(A, B, record(llid=6, clock=0xFFFFFFFFFFFF), record(quanta(2), clock=0x100, flags=1), C, record(clock=0x200), record(IDLE, clock=0x300), record(IDLE, clock=0x301), record(quanta(1), clock=0x302, flags=1), record(quanta(1), clock=0x303)),
+        block(A, C, record(quanta(2, first=1), clock=0x100, flags=3), record(clock=0x201), record(clock=0x200, channel=1), record(clock=0x200), record(LOST, clock=0x300), record(TAKEN, clock=0x301), record(quanta(1), clock=0x302, flags=3), record(quanta(1), clock=0x303, flags=1)),
     ),
     "nothing recorded": given(block(), block()),
     "nothing at the unit": given(block(A, B), block()),
@@ -100,6 +103,9 @@ CASES = {
     "another order": given(block(A, B, C), block(C, A, B)),
     "an LLID that is nowhere": given(block(A, B), block(C), llid=0xFFFF),
     "an EQ count that differs": given(block(record(quanta(2))), block(record(quanta(1)))),
+    "control octets of the last EQ": given(block(record(quanta(2) + IDLE)), block(record(quanta(2) + TAKEN))),
+    "EncEnabled alone": given(block(record(flags=1)), block(record())),
+    "EncKey alone": given(block(record(flags=3)), block(record(flags=1))),
     "a control octet alone": given(block(record(quanta(1, control=0xFF))), block(record(quanta(1)))),
     "a control character's value": given(block(record(quanta(1, control=0xFF))), block(record(quanta(1, control=0xFF, first=1)))),
     "kind, flags and EPAM alone": given(block(record(kind=1, flags=1, epam=0)), block(record())),

@@ -479,7 +479,7 @@ jazmotip_store_answer jazmotip_capture_restore(const uint8_t *block, size_t bloc
 
 enum {
     JAZMOTIP_ALONE = 0,    /* no record of the other block pairs with it */
-    JAZMOTIP_SAME = 1,     /* it is paired: the EQ count and the eight data octets of every EQ agree */
+    JAZMOTIP_SAME = 1,     /* it is paired: EQ count, EncKey, and control and data octets of every EQ agree */
     JAZMOTIP_DIFFERENT = 2 /* it is paired, and they do not */
 };
 

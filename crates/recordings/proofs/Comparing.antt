@@ -30,6 +30,7 @@ use Rattle.recordings.specs.Comparing.{outputOctets, sameMark, different
 use Rattle.recordings.specs.Laws.{Pairs, Compared}
 use Rattle.recordings.specs.Duties.{Comparable}
 use Rattle.recordings.proofs.Pairing.{paired-self, paired-back, paired-through, only-one, partner-is, not-alone}
+use Rattle.recordings.proofs.Before.{finer, total-before}
 use Rattle.recordings.proofs.Sameness.{same-self, same-either-way}
 
 ---- what acceptance tells, and conversely
@@ -159,6 +160,8 @@ compared-laws size a b e =
       pairing = λ i j p. record { first = p .second; second = p .first; agree = paired-back _ _ (p .agree) };
       sameness = same-marks size a b t;
       total = λ llid. add-comm (aloneOf llid a b) (aloneOf llid b a);
+      finer = finer a b;
+      asBefore = λ llid. total-before llid a b;
       itself = accepted-by size a a (record { room = t .room; first = t .first; second = t .first; firstOnce = t .firstOnce; secondOnce = t .firstOnce });
       allSame = all-same a (t .firstOnce);
       noneAlone = no-total a (t .firstOnce);

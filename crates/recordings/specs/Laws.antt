@@ -1,4 +1,4 @@
--- What holds of two blocks that are accepted, beside what the comparison equals (02, C-15). Assumes nothing.
+-- What holds of two blocks that are accepted, beside what the comparison equals (02, C-15, C-20). Assumes nothing.
 use mathlib.Core.Path.{_≡_}
 use mathlib.Core.Bool.{true}
 use mathlib.Core.List.{List}
@@ -8,6 +8,7 @@ use Rattle.records.specs.Block.{recordsIn, recordOf}
 use Rattle.recordings.specs.declared.verdict.Ruling.the-variants.{Taken}
 use Rattle.recordings.specs.Pairing.{paired, partnerOf}
 use Rattle.recordings.specs.Comparing.{sameMark, markOf, entriesOf, totalOf, rulingOn}
+use Rattle.recordings.specs.Before.{markBefore, totalBefore}
 
 -- records i and j of the two blocks pair
 pub record Pairs (a b : List ℕ) (i j : ℕ) : Type 0 where
@@ -26,6 +27,9 @@ pub record Compared (size : ℕ) (a b : List ℕ) : Type 0 where
   pub pairing : (i j : ℕ) → Pairs a b i j → Pairs b a j i
   pub sameness : (i j : ℕ) → Pairs a b i j → markOf a b i ≡ markOf b a j
   pub total : (llid : ℕ) → totalOf llid a b ≡ totalOf llid b a
+  -- what is the same was the same in C-15's sense, and the total is that of C-15 (02, C-20)
+  pub finer : (i : ℕ) → markOf a b i ≡ sameMark → markBefore a b i ≡ sameMark
+  pub asBefore : (llid : ℕ) → totalOf llid a b ≡ totalBefore llid a b
   -- a block against itself is accepted, all 1, and nothing is alone
   pub itself : rulingOn size a a ≡ Taken
   pub allSame : entriesOf a a ≡ tabulate 0 (recordsIn a) (λ i. sameMark)

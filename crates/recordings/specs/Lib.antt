@@ -3,6 +3,7 @@ pub mod Pieces
 pub mod Pairing
 pub mod Sameness
 pub mod Comparing
+pub mod Before
 pub mod Laws
 pub mod Listing
 pub mod Duties

@@ -6,7 +6,7 @@ use crate::ENTRIES;
 
 /// What an entry says of its record: no record of the other block pairs with it.
 pub const ALONE: u8 = 0;
-/// It is paired, and the EQ count and the data octets of every EQ agree.
+/// It is paired, and the EQ count, EncKey, and the control and data octets of every EQ agree.
 pub const SAME: u8 = 1;
 /// It is paired, and they do not.
 pub const DIFFERENT: u8 = 2;

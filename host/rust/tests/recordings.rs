@@ -168,11 +168,13 @@ fn what_counts() {
         calls::capture_compare(5, &block(std::slice::from_ref(&ours)), theirs, &mut output);
         output[0]
     };
-    // kind, flags and EPAM decide nothing, nor does a control octet; a control character's value does
-    for (place, octet) in [(0, 1), (4, 3), (5, 9), (16, 0)] {
+    // kind, EncEnabled and EPAM decide nothing; EncKey, a control octet and a control character's value do
+    for (place, octet) in [(0, 1), (4, 1), (5, 9)] {
         assert_eq!(entry(&mut random, &mut tally, &with(place, octet)), 1, "octet {place}");
     }
-    assert_eq!(entry(&mut random, &mut tally, &with(17, 0)), 2);
+    for (place, octet) in [(4, 3), (16, 0), (17, 0)] {
+        assert_eq!(entry(&mut random, &mut tally, &with(place, octet)), 2, "octet {place}");
+    }
     // channel index, LLID and clock pair
     for place in [1, 3, 11] {
         let octet = ours[place] ^ 1;

@@ -1,4 +1,4 @@
-//! Two recordings held against each other (02, C-15).
+//! Two recordings held against each other (02, C-15, C-20).
 
 use super::capture::{self, Record, Refused};
 use std::collections::HashMap;
@@ -24,9 +24,9 @@ fn records(block: &[u8]) -> Result<Vec<Record>, Refused> {
     }
 }
 
-/// EQ count and data octets: what is left of a payload without its control octets.
-fn data(block: &[u8], record: &Record) -> Vec<u8> {
-    block[record.payload.clone()].chunks(9).flat_map(|eq| eq[1..].to_vec()).collect()
+/// What is held against the partner's: EncKey, and the payload whole, EQ count, control octets and data octets.
+fn held<'a>(block: &'a [u8], record: &Record) -> (bool, &'a [u8]) {
+    (record.flags & 2 != 0, &block[record.payload.clone()])
 }
 
 /// The entries of two blocks for an output of so many octets, and the records of an LLID that are alone.
@@ -50,7 +50,7 @@ pub fn compare(llid: u16, first: &[u8], second: &[u8], output: usize) -> Result<
         .iter()
         .map(|record| match there.get(&key(record)) {
             None => 0,
-            Some(&place) if data(first, record) == data(second, &theirs[place]) => 1,
+            Some(&place) if held(first, record) == held(second, &theirs[place]) => 1,
             Some(_) => 2,
         })
         .collect();

@@ -3,6 +3,7 @@
  */
 #include "bytecipher.h"
 #include "calls.h"
+#include "exercises.h"
 #include "jazmotip.h"
 #include "measure.h"
 #include "openssl.h"
@@ -305,6 +306,7 @@ int main(int argc, char **argv)
     calls_print();
     planes_print();
     recordings_print();
+    exercises_print();
     print_goals(flatness);
     return 0;
 }

@@ -3,7 +3,7 @@
  *
  * Seals and opens the payloads of SIEPON.4 envelopes (AES-128 in counter mode under the control mask), plays either end of a
  * 25G/50G EPON line, opens capture blocks, rearranges payloads for the store, and keeps the OLT's key exchange of an XG-PON line. Link
- * with libjazmotip.a, which needs one function from outside, memcpy. x86-64, System V calling convention.
+ * with libjazmotip.a, which needs two functions from outside, memcpy and memset. x86-64, System V calling convention.
  *
  * What holds of every call
  *   - It ends, and asks nothing of the values handed to it: whatever is malformed, untimely, unknown or too long is refused by a

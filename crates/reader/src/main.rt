@@ -1,6 +1,11 @@
 // The reader program: settings, then a capture block on standard input, raw octets; the listing on standard output.
 
 use capture::listing::LISTING_OCTETS;
+use records::block::MOST_OCTETS;
+use records::settings::SETTINGS_OCTETS;
+
+// Settings and one octet more than a block may have: a longer block is refused, never cut.
+const MOST_INPUT: usize = SETTINGS_OCTETS + MOST_OCTETS + 1;
 
 fn write_listing(settings: &[u8], block: &[u8]) {
     let mut text = [0u8; LISTING_OCTETS];
@@ -8,14 +13,14 @@ fn write_listing(settings: &[u8], block: &[u8]) {
     io::write_all(1, &text[..n]);
 }
 
-// Input of fewer than 41 octets is settings too short, without a block.
+// Input that ends within the settings is settings too short, without a block.
 fn read_capture(input: &[u8]) {
-    if input.len() < 41 {
+    if input.len() < SETTINGS_OCTETS {
         let n = input.len();
         write_listing(input, &input[n..]);
         return;
     }
-    write_listing(&input[..41], &input[41..]);
+    write_listing(&input[..SETTINGS_OCTETS], &input[SETTINGS_OCTETS..]);
 }
 
 fn skip_some() -> bool {
@@ -32,12 +37,11 @@ fn skip_rest() {
     }
 }
 
-// The buffer has room for settings and one octet more than a block may have: a longer block is refused, never cut.
 fn main() {
-    let mut input = [0u8; 65578];
+    let mut input = [0u8; MOST_INPUT];
     let n = io::read_full(0, &mut input);
     read_capture(&input[..n]);
-    if n == 65578 {
+    if n == MOST_INPUT {
         skip_rest();
     }
 }

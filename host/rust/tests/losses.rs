@@ -26,7 +26,7 @@ fn check(script: &[u8]) -> Loss {
 fn random_script(random: &mut Random) -> Vec<u8> {
     let parts: [&[u8]; 8] = [&[0, 3], &[1, 4], &[2, 4], &[7, 5, 6], &[5], &[6], &[4], &[7]];
     let most = random.within(0, 64) as usize;
-    let mut kinds = vec![0, 3, 0, 3];
+    let mut kinds = [0, 3].repeat(random.within(1, 2) as usize);
     while kinds.len() < most {
         if random.once_in(5) {
             kinds.push(random.below(8) as u8);
@@ -58,7 +58,7 @@ fn drawn_scripts() {
         check(&damaged);
         check(&script[..at]);
     });
-    assert!(!all || [0, 1, 5, 6].iter().all(|&kind| seen[kind] > 0), "{seen:?}");
+    assert!(!all || [0, 1, 2, 5, 6].iter().all(|&kind| seen[kind] > 0), "{seen:?}");
 }
 
 #[test]

@@ -90,6 +90,7 @@ def known():
     yield octets(1, [CLOCK] + start + [CLOCK_ANSWER, OFFER, KEY_ANSWER] + switch)             # the offer
     yield octets(1, [CLOCK, CLOCK_ANSWER, CLOCK, CLOCK_ANSWER, OFFER, KEY_ANSWER, ADVANCE, DOWN, UP, KEY_ANSWER, OFFER, KEY_ANSWER, ADVANCE,
                      DOWN, UP, RETRY, KEY_ANSWER, OFFER, ADVANCE, DOWN, UP, OFFER, KEY_ANSWER, ADVANCE, DOWN, UP])  # a key acknowledgement
+    yield octets(1, start + [OFFER, CLOCK_ANSWER, OFFER, KEY_ANSWER] + switch)                 # a clock acknowledgement: too early an offer
     yield octets(1, start + start + [OFFER, RETRY, KEY_ANSWER] + switch)                      # a retry rescues the offer
     yield octets(1, start + start + [OFFER, KEY_ANSWER, RETRY, KEY_ANSWER] + switch)          # an acknowledgement lost and repeated
     yield octets(1, start + start + [OFFER, RETRY, KEY_ANSWER, KEY_ANSWER] + switch + [DOWN, UP])  # the envelope down, the envelope up

@@ -48,6 +48,24 @@ data-back r s t =
     (each-true 0 (recordHeader s .eqs) (sameEq (payloadOf s) (payloadOf r))
     (λ e l h. same-eq-back (payloadOf r) (payloadOf s) e (at e (both-right _ _ t) l (omega arith))))
 
+---- by what a call finds
+
+module _ (g h : Header) (r s : List ℕ) (x : g ≡ recordHeader r) (y : h ≡ recordHeader s) where
+  pub same-by-controls : (p q : List ℕ) → p ≡ payloadOf r → q ≡ payloadOf s → sameData r s ≡ true → encKey (g .flags) ≡ encKey (h .flags)
+      → same r s ≡ each 0 (g .eqs) (sameControl p q)
+  unfolding same both
+  same-by-controls p q u v d k = rw (d, ← x, ← y, ← u, ← v, eq-eqb (encKey (g .flags)) (encKey (h .flags)) k)
+
+  pub same-by-key : (encKey (g .flags) ≡ encKey (h .flags) → ⊥) → same r s ≡ false
+  unfolding same
+  same-by-key f = rw (← x, ← y) (both-false-right _ (both-false-left _ (ne-eqb (encKey (g .flags)) (encKey (h .flags)) f)))
+
+pub same-by-data : (r s : List ℕ) → sameData r s ≡ false → same r s ≡ false
+unfolding same
+same-by-data r s e = both-false-left _ e
+
+---- in either order
+
 pub same-self : (r : List ℕ) → same r r ≡ true
 unfolding same
 same-self r =
@@ -81,19 +99,3 @@ either-way false false f g = refl
 
 pub same-either-way : (r s : List ℕ) → same r s ≡ same s r
 same-either-way r s = either-way (same r s) (same s r) (same-back r s) (same-back s r)
-
----- by what a call finds
-
-pub same-by-data : (r s : List ℕ) → sameData r s ≡ false → same r s ≡ false
-unfolding same
-same-by-data r s e = both-false-left _ e
-
-module _ (g h : Header) (r s : List ℕ) (x : g ≡ recordHeader r) (y : h ≡ recordHeader s) where
-  pub same-by-key : (encKey (g .flags) ≡ encKey (h .flags) → ⊥) → same r s ≡ false
-  unfolding same
-  same-by-key f = rw (← x, ← y) (both-false-right _ (both-false-left _ (ne-eqb (encKey (g .flags)) (encKey (h .flags)) f)))
-
-  pub same-by-controls : (p q : List ℕ) → p ≡ payloadOf r → q ≡ payloadOf s → sameData r s ≡ true → encKey (g .flags) ≡ encKey (h .flags)
-      → same r s ≡ each 0 (g .eqs) (sameControl p q)
-  unfolding same both
-  same-by-controls p q u v d k = rw (d, ← x, ← y, ← u, ← v, eq-eqb (encKey (g .flags)) (encKey (h .flags)) k)

@@ -1,8 +1,8 @@
 -- The walk of an advance along the table. Assumes nothing.
-use mathlib.Core.Path.{_≡_, refl, sym, ap, _∙_}
+use mathlib.Core.Path.{_≡_, refl, ap, _∙_}
 use mathlib.Core.Bool.{true}
-use mathlib.Core.List.{List, [], _∷_, map, _++_}
-use Prim.Native.Nat.{ℕ, suc, _+_, _<_, _≤_}
+use mathlib.Core.List.{List, map, _++_}
+use Prim.Native.Nat.{ℕ, _+_, _<_, _≤_}
 use native.Mathlib.Numerals.{add-one}
 use native.Mathlib.Omega.{arith}
 use lib.ListN.{length, take, drop, getD, set}
@@ -28,11 +28,6 @@ use Rattle.ends.specs.declared.UnitRecord.{UnitRecord}
 use Rattle.ends.specs.declared.Olt.{Olt}
 use Rattle.ends.proofs.Validity.{olt-in-range, unit-in-range}
 use Rattle.unit.specs.Reached.{ifAccepted}
-
--- an array whose elements are read one by one is as long as what is read
-pub length-mapped : {A B : Type 0} (f : A → B) (l : List A) (n : ℕ) → length (map f l) ≡ n → length l ≡ n
-length-mapped f [] n e = e
-length-mapped f (x ∷ xs) n e = sym (ap suc (sym (length-mapped f xs (length (map f xs)) refl))) ∙ e
 
 -- the first i units are moved
 abbrev pub movedTo : ℕ → ℕ → Olt → Olt

@@ -2,29 +2,23 @@
 use mathlib.Core.Path.{_≡_, sym, ap, ap₂, _∙_}
 use mathlib.Core.Bool.{true, false}
 use mathlib.Core.List.{List, [], _∷_, _++_, append-nil}
-use Prim.Native.Nat.{ℕ, suc, _+_, _<_}
+use Prim.Native.Nat.{ℕ, _+_, _<_}
 use native.Mathlib.Nat.{zero-add}
 use native.Mathlib.Numerals.{add-one}
 use native.Mathlib.Omega.{arith}
 use lib.Dec.{eqb}
-use lib.ListN.{length, getD, take, drop, set, length-append, take-append-drop}
-use lib.Seq.{drop-at, drop-cons, drop-drop, drop-set-lt, set-at, take-at, take-suc-set}
+use lib.ListN.{length, take, drop, set, length-append, take-append-drop}
+use lib.Seq.{drop-at, drop-drop, drop-set-lt, take-at, take-suc-set}
 use Rattle.octets.specs.Choice.{both, pick}
 use Rattle.octets.specs.Lists.{tabulate, sum}
 use Rattle.octets.proofs.Choice.{pick-true, pick-false}
-use Rattle.octets.proofs.Lists.{tabulate-length, tabulate-suc, sum-suc}
+use Rattle.octets.proofs.Lists.{tabulate-length, sum-suc}
 use Rattle.records.specs.declared.header.Header.{Header}
 use Rattle.records.specs.Record.{recordHeader}
 use Rattle.records.specs.Block.{recordsIn, recordOf}
 use Rattle.recordings.specs.Pairing.{partnerOf, alone}
 use Rattle.recordings.specs.Comparing.{aloneMark, markOf, aloneEntry, aloneMarks, entriesOf, aloneAt}
 use Rattle.recordings.proofs.Pieces.{pieces-more}
-
--- one octet more of a list that is filled from the front
-pub fill-more : (f : ℕ → ℕ) (s : List ℕ) (i : ℕ) → i < length s → set (tabulate 0 i f ++ drop i s) i (f i) ≡ tabulate 0 (i + 1) f ++ drop (i + 1) s
-fill-more f s i h =
-    rw (add-one, drop-cons s i 0 h, tabulate-suc 0 i f (drop (suc i) s), zero-add)
-    (set-at (tabulate 0 i f) (getD s i 0) (drop (suc i) s) (f i) i (tabulate-length 0 i f))
 
 -- whether a record is alone, by its partner
 pub alone-tested : (a b : List ℕ) (i v n : ℕ) → v ≡ partnerOf (recordOf a i) b → n ≡ recordsIn b → alone a b i ≡ eqb v n

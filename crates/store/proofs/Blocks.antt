@@ -12,6 +12,7 @@ use Rattle.octets.specs.Lists.{part, replaced}
 use Rattle.octets.proofs.BigEndian.{number-same}
 use Rattle.records.specs.Block.{directoryOctets, recordsIn, offsetOf, lengthOf, endOf, dueOf, recordOf}
 use Rattle.records.specs.Record.{headerOctets, payloadOf}
+use Rattle.capture.proofs.Pairs.{due-next}
 use Rattle.store.specs.Blocks.{withPayload, recordsWith, blockWith}
 use Rattle.store.specs.Duties.{Standing}
 use Rattle.store.proofs.Payloads.{with-length, with-undone}
@@ -19,10 +20,6 @@ use Rattle.store.proofs.Payloads.{with-length, with-undone}
 -- the block up to record i, without what is still the block
 abbrev pub upTo : (List ℕ → List ℕ) → List ℕ → ℕ → List ℕ
 upTo f b i = take (directoryOctets (recordsIn b)) b ++ recordsWith f b 0 i
-
-pub due-next : (b : List ℕ) (i : ℕ) → dueOf b (i + 1) ≡ endOf b i
-unfolding dueOf
-due-next b i = rw add-one
 
 split : (f : List ℕ → List ℕ) (b : List ℕ) (j m k : ℕ) → recordsWith f b j (m + k) ≡ recordsWith f b j m ++ recordsWith f b (j + m) k
 unfolding recordsWith

@@ -14,7 +14,8 @@ use Rattle.ends.specs.Timers.{validTimer}
 use Rattle.ends.specs.Validity.{validOlt}
 use Rattle.ends.specs.declared.Olt.{Olt}
 use Rattle.ends.proofs.Validity.{olt-in-range}
-use Rattle.olt.proofs.Advancing.{length-mapped, movedTo, advance-met, moving, timer-valid, advanced, counted, flagged, moves-on}
+use Rattle.ends.proofs.Walks.{length-mapped}
+use Rattle.olt.proofs.Advancing.{movedTo, advance-met, moving, timer-valid, advanced, counted, flagged, moves-on}
 use Rattle.olt.proofs.advance.Statement.{statement}
 use Rattle.olt.proofs.advance.Tie as tie
 

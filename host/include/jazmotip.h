@@ -9,7 +9,7 @@
  *   - It ends, and asks nothing of the values handed to it: whatever is malformed, untimely, unknown or too long is refused by a
  *     number from the table below, and 0 is acceptance. It is proved, not tested, that each answer is the one its definition gives;
  *     docs/PROMISES.md names the definitions.
- *   - A refusal changes nothing. The end comes back exactly as it was lent, a lent output keeps every octet, the count is 0, and
+ *   - A refusal changes nothing. The end comes back exactly as it was lent, a lent output keeps every octet, count and runs are 0, and
  *     what would have been handed over (message, header, acknowledgement) is zeros.
  *   - No heap, no globals that are written, no locks: calls on different ends and buffers may run at the same time.
  *
@@ -260,12 +260,14 @@ typedef struct jazmotip_olt_sent {
     jazmotip_olt olt;
     jazmotip_header header;
     uint64_t count; /* octets enciphered, 0 for a clear envelope */
+    uint64_t runs;  /* runs of the cipher: blocks with an octet to encipher; 0 for a clear envelope, and on refusal, as the count */
 } jazmotip_olt_sent;
 
 typedef struct jazmotip_olt_received {
     uint8_t number;
     jazmotip_olt olt;
     uint64_t count;
+    uint64_t runs;
 } jazmotip_olt_received;
 
 typedef struct jazmotip_onu_answer {
@@ -284,12 +286,14 @@ typedef struct jazmotip_onu_sent {
     jazmotip_onu onu;
     jazmotip_header header;
     uint64_t count;
+    uint64_t runs;
 } jazmotip_onu_sent;
 
 typedef struct jazmotip_onu_received {
     uint8_t number;
     jazmotip_onu onu;
     uint64_t count;
+    uint64_t runs;
 } jazmotip_onu_received;
 
 /* ------------------------------------------------------------------------------------------------------- Calls of the OLT
@@ -374,6 +378,7 @@ typedef struct jazmotip_round_keys {
 typedef struct jazmotip_payload_answer {
     uint8_t number;
     uint64_t count; /* octets enciphered or deciphered */
+    uint64_t runs;  /* runs of the cipher, at most one for two EQs; 0 on refusal */
 } jazmotip_payload_answer;
 
 /* Seals input into output, of the same length, or opens it: the two are one act. encenabled 1 enciphers; 0 copies, with count 0.
@@ -424,8 +429,10 @@ typedef struct jazmotip_block_part {
 
 typedef struct jazmotip_block_answer {
     uint8_t number;
+    uint8_t expansions; /* keys expanded: each that is present, used or not; 0 on refusal */
     uint16_t pair;
     uint64_t count; /* octets deciphered */
+    uint64_t runs;  /* runs of the cipher over all opened records; 0 on refusal */
 } jazmotip_block_answer;
 
 /* What the directory of a block is found to be. Order: 15, then 18 and 19. */
@@ -696,31 +703,36 @@ JAZMOTIP_LAYOUT(offsetof(jazmotip_clock_sent, message) == 2360);
 JAZMOTIP_LAYOUT(sizeof(jazmotip_key_sent) == 2384);
 JAZMOTIP_LAYOUT(offsetof(jazmotip_key_sent, olt) == 8);
 JAZMOTIP_LAYOUT(offsetof(jazmotip_key_sent, message) == 2360);
-JAZMOTIP_LAYOUT(sizeof(jazmotip_olt_sent) == 2376);
+JAZMOTIP_LAYOUT(sizeof(jazmotip_olt_sent) == 2384);
 JAZMOTIP_LAYOUT(offsetof(jazmotip_olt_sent, olt) == 8);
 JAZMOTIP_LAYOUT(offsetof(jazmotip_olt_sent, header) == 2360);
 JAZMOTIP_LAYOUT(offsetof(jazmotip_olt_sent, count) == 2368);
-JAZMOTIP_LAYOUT(sizeof(jazmotip_olt_received) == 2368);
+JAZMOTIP_LAYOUT(offsetof(jazmotip_olt_sent, runs) == 2376);
+JAZMOTIP_LAYOUT(sizeof(jazmotip_olt_received) == 2376);
 JAZMOTIP_LAYOUT(offsetof(jazmotip_olt_received, olt) == 8);
 JAZMOTIP_LAYOUT(offsetof(jazmotip_olt_received, count) == 2360);
+JAZMOTIP_LAYOUT(offsetof(jazmotip_olt_received, runs) == 2368);
 JAZMOTIP_LAYOUT(sizeof(jazmotip_onu_answer) == 144);
 JAZMOTIP_LAYOUT(offsetof(jazmotip_onu_answer, onu) == 8);
 JAZMOTIP_LAYOUT(sizeof(jazmotip_onu_acknowledged) == 152);
 JAZMOTIP_LAYOUT(offsetof(jazmotip_onu_acknowledged, onu) == 8);
 JAZMOTIP_LAYOUT(offsetof(jazmotip_onu_acknowledged, acknowledgement) == 144);
-JAZMOTIP_LAYOUT(sizeof(jazmotip_onu_sent) == 160);
+JAZMOTIP_LAYOUT(sizeof(jazmotip_onu_sent) == 168);
 JAZMOTIP_LAYOUT(offsetof(jazmotip_onu_sent, onu) == 8);
 JAZMOTIP_LAYOUT(offsetof(jazmotip_onu_sent, header) == 144);
 JAZMOTIP_LAYOUT(offsetof(jazmotip_onu_sent, count) == 152);
-JAZMOTIP_LAYOUT(sizeof(jazmotip_onu_received) == 152);
+JAZMOTIP_LAYOUT(offsetof(jazmotip_onu_sent, runs) == 160);
+JAZMOTIP_LAYOUT(sizeof(jazmotip_onu_received) == 160);
 JAZMOTIP_LAYOUT(offsetof(jazmotip_onu_received, onu) == 8);
 JAZMOTIP_LAYOUT(offsetof(jazmotip_onu_received, count) == 144);
+JAZMOTIP_LAYOUT(offsetof(jazmotip_onu_received, runs) == 152);
 JAZMOTIP_LAYOUT(sizeof(jazmotip_nonce) == 24);
 JAZMOTIP_LAYOUT(offsetof(jazmotip_nonce, mac) == 8);
 JAZMOTIP_LAYOUT(offsetof(jazmotip_nonce, clock) == 16);
 JAZMOTIP_LAYOUT(sizeof(jazmotip_round_keys) == 176);
-JAZMOTIP_LAYOUT(sizeof(jazmotip_payload_answer) == 16);
+JAZMOTIP_LAYOUT(sizeof(jazmotip_payload_answer) == 24);
 JAZMOTIP_LAYOUT(offsetof(jazmotip_payload_answer, count) == 8);
+JAZMOTIP_LAYOUT(offsetof(jazmotip_payload_answer, runs) == 16);
 JAZMOTIP_LAYOUT(sizeof(jazmotip_block_directory) == 16);
 JAZMOTIP_LAYOUT(offsetof(jazmotip_block_directory, pair) == 2);
 JAZMOTIP_LAYOUT(offsetof(jazmotip_block_directory, records) == 8);
@@ -733,9 +745,11 @@ JAZMOTIP_LAYOUT(sizeof(jazmotip_block_part) == 24);
 JAZMOTIP_LAYOUT(offsetof(jazmotip_block_part, pair) == 2);
 JAZMOTIP_LAYOUT(offsetof(jazmotip_block_part, offset) == 8);
 JAZMOTIP_LAYOUT(offsetof(jazmotip_block_part, length) == 16);
-JAZMOTIP_LAYOUT(sizeof(jazmotip_block_answer) == 16);
+JAZMOTIP_LAYOUT(sizeof(jazmotip_block_answer) == 24);
+JAZMOTIP_LAYOUT(offsetof(jazmotip_block_answer, expansions) == 1);
 JAZMOTIP_LAYOUT(offsetof(jazmotip_block_answer, pair) == 2);
 JAZMOTIP_LAYOUT(offsetof(jazmotip_block_answer, count) == 8);
+JAZMOTIP_LAYOUT(offsetof(jazmotip_block_answer, runs) == 16);
 JAZMOTIP_LAYOUT(sizeof(jazmotip_store_answer) == 4);
 JAZMOTIP_LAYOUT(offsetof(jazmotip_store_answer, pair) == 2);
 JAZMOTIP_LAYOUT(sizeof(jazmotip_comparison) == 8);

@@ -10,6 +10,8 @@ pub struct Sent {
     pub header: Header,
     /// Octets enciphered, 0 for a clear envelope.
     pub count: u64,
+    /// Runs of the cipher, one for each block with an octet to encipher.
+    pub runs: u64,
 }
 
 impl Identity {
@@ -80,7 +82,7 @@ impl Olt {
     pub fn send(&mut self, llid: u16, channel: u8, payload: &[u8], output: &mut [u8]) -> Result<Sent, Refusal> {
         let answer = calls::olt_send(*self, llid, channel, payload, output);
         *self = answer.olt;
-        Refusal::verdict(answer.number).map(|()| Sent { header: answer.header, count: answer.count })
+        Refusal::verdict(answer.number).map(|()| Sent { header: answer.header, count: answer.count, runs: answer.runs })
     }
 
     /// Opens an envelope from a unit into `output`, of the same length; gives the octets deciphered.
@@ -121,7 +123,7 @@ impl Onu {
     pub fn send(&mut self, llid: u16, channel: u8, payload: &[u8], output: &mut [u8]) -> Result<Sent, Refusal> {
         let answer = calls::onu_send(*self, llid, channel, payload, output);
         *self = answer.onu;
-        Refusal::verdict(answer.number).map(|()| Sent { header: answer.header, count: answer.count })
+        Refusal::verdict(answer.number).map(|()| Sent { header: answer.header, count: answer.count, runs: answer.runs })
     }
 
     /// Opens an envelope from the head end into `output`, of the same length; gives the octets deciphered. An envelope under the

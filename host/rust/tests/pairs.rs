@@ -1,11 +1,11 @@
-//! An end twice: the engine's record and the reference. Each call goes to both, and number, record, message, header, count and
+//! An end twice: the engine's record and the reference. Each call goes to both, and number, record, message, header, count, runs and
 //! output are compared.
 
 use crate::random::{Lent, Random};
 use crate::reference::olt::Olt;
 use crate::reference::onu::Onu;
 use crate::reference::records::End;
-use crate::reference::{Envelope, Identity, Key, Opened, Reply};
+use crate::reference::{payload, Envelope, Identity, Key, Opened, Reply};
 use crate::tally::Tally;
 use jazmotip::{calls, Acknowledgement, Header, KeyMessage, Stamps};
 
@@ -193,6 +193,8 @@ macro_rules! calls_of_both {
                 let answer = calls::$send(self.record, llid, channel, payload, lent.part());
                 let expected = self.judge(|end| end.send(llid, channel, payload, output));
                 check_sent(&lent, answer.header, answer.count, &expected);
+                let sealed = expected.as_ref().is_ok_and(|envelope| envelope.sealed_under.is_some());
+                assert_eq!(answer.runs, if sealed { payload::runs(payload) } else { 0 });
                 self.settle(tally, stringify!($send), answer.number, answer.$record, &expected);
                 expected
             }
@@ -209,6 +211,8 @@ macro_rules! calls_of_both {
                 let answer = calls::$receive(self.record, header, octets, lent.part());
                 let expected = self.judge(|end| end.receive(&header, octets, output));
                 check_received(&lent, answer.count, &expected);
+                let sealed = expected.is_ok() && header.encenabled == 1;
+                assert_eq!(answer.runs, if sealed { payload::runs(octets) } else { 0 });
                 self.settle(tally, stringify!($receive), answer.number, answer.$record, &expected);
                 expected
             }

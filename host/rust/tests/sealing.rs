@@ -15,7 +15,12 @@ fn nonce(random: &mut Random) -> Nonce {
     Nonce { channel: random.pick(&[0x00, 0x01, 0x80, 0x81]), mac: random.mac(), clock: random.clock() }
 }
 
-/// One call of each sealing function, against the reference: number, count, output, and the octets around it.
+/// A clear envelope takes no run.
+fn runs_of(encenabled: u8, octets: &[u8]) -> u64 {
+    u64::from(encenabled) * payload::runs(octets)
+}
+
+/// One call of each sealing function, against the reference: number, count, runs, output, and the octets around it.
 fn check(random: &mut Random, encenabled: u8, key: &[u8; 16], nonce: Nonce, input: &[u8], output: usize) -> PayloadAnswer {
     let expected = payload::seal(encenabled, &Schedule::new(key), nonce, input, output);
     let mut lent = random.lent(output);
@@ -25,12 +30,12 @@ fn check(random: &mut Random, encenabled: u8, key: &[u8; 16], nonce: Nonce, inpu
     assert_eq!(answer, again);
     match expected {
         Ok((octets, count)) => {
-            assert_eq!(answer, PayloadAnswer { number: 0, count });
+            assert_eq!(answer, PayloadAnswer { number: 0, count, runs: runs_of(encenabled, input) });
             lent.check(Some(&octets));
             lent_again.check(Some(&octets));
         }
         Err(number) => {
-            assert_eq!(answer, PayloadAnswer { number, count: 0 });
+            assert_eq!(answer, PayloadAnswer { number, count: 0, runs: 0 });
             lent.check(None);
             lent_again.check(None);
         }
@@ -42,8 +47,8 @@ fn check(random: &mut Random, encenabled: u8, key: &[u8; 16], nonce: Nonce, inpu
 fn check_in_place(random: &mut Random, encenabled: u8, key: &[u8; 16], nonce: Nonce, octets: &[u8]) {
     let expected = payload::seal(encenabled, &Schedule::new(key), nonce, octets, octets.len());
     let (answer, holds) = match &expected {
-        Ok((sealed, count)) => (PayloadAnswer { number: 0, count: *count }, Some(&sealed[..])),
-        Err(number) => (PayloadAnswer { number: *number, count: 0 }, None),
+        Ok((sealed, count)) => (PayloadAnswer { number: 0, count: *count, runs: runs_of(encenabled, octets) }, Some(&sealed[..])),
+        Err(number) => (PayloadAnswer { number: *number, count: 0, runs: 0 }, None),
     };
     let mut lent = random.lent_payload(octets);
     assert_eq!(calls::seal_in_place(encenabled, key, nonce, lent.part()), answer);
@@ -78,7 +83,7 @@ fn bench_value_p1() {
     let key = hex("000102030405060708090a0b0c0d0e0f");
     let nonce = Nonce { channel: 0x80, mac: 0x020000000001, clock: 0x41 };
     let mut stream = [0; 54];
-    assert_eq!(calls::seal(1, &key, nonce, &[0; 54], &mut stream), PayloadAnswer { number: 0, count: 48 });
+    assert_eq!(calls::seal(1, &key, nonce, &[0; 54], &mut stream), PayloadAnswer { number: 0, count: 48, runs: 3 });
     let cipher = Schedule::new(&key).encrypt(place);
     assert_eq!((&stream[37..45], &stream[46..54]), cipher.split_at(8));
 }
@@ -90,7 +95,7 @@ fn bench_value_p12() {
     let nonce = Nonce { channel: 0x00, mac: 1, clock: 2 };
     let answer = calls::seal(1, &[3; 16], nonce, &input, &mut sealed);
     let stream = Schedule::new(&[3; 16]).encrypt(payload::counter_block(0x00, 1, 2, 0));
-    assert_eq!(answer, PayloadAnswer { number: 0, count: 6 });
+    assert_eq!(answer, PayloadAnswer { number: 0, count: 6, runs: 1 });
     assert_eq!((sealed[0], sealed[1], sealed[8]), (0x81, 0, 0));
     assert_eq!(sealed[2..8], stream[1..7]);
 }
@@ -128,7 +133,7 @@ fn random_key_schedules() {
         let answer = calls::seal_expanded(1, keys, nonce, &input, lent.part());
         let schedule = Schedule::from_octets(&keys.octets);
         let (octets, count) = payload::seal(1, &schedule, nonce, &input, input.len()).expect("accepted");
-        assert_eq!(answer, PayloadAnswer { number: 0, count });
+        assert_eq!(answer, PayloadAnswer { number: 0, count, runs: payload::runs(&input) });
         lent.check(Some(&octets));
     });
 }
@@ -188,13 +193,32 @@ fn the_largest_payload_and_one_more() {
         let input = random.payload(MAX_EQS + 1);
         let largest = &input[..9 * MAX_EQS];
         let answer = check(random, 1, &key, nonce, largest, largest.len());
-        assert_eq!(answer, PayloadAnswer { number: 0, count: payload::count(largest) });
+        assert_eq!(answer, PayloadAnswer { number: 0, count: payload::count(largest), runs: payload::runs(largest) });
         assert_eq!(calls::count(largest), answer.count);
         check_in_place(random, 1, &key, nonce, largest);
         for encenabled in 0..=2 {
             let answer = check(random, encenabled, &key, nonce, &input, input.len());
-            assert_eq!(answer, PayloadAnswer { number: 14, count: 0 });
+            assert_eq!(answer, PayloadAnswer { number: 14, count: 0, runs: 0 });
             check_in_place(random, encenabled, &key, nonce, &input);
         }
+    });
+}
+
+#[test]
+fn idle_blocks_take_no_run() {
+    cases(200, |random| {
+        let (key, nonce) = (random.key(), nonce(random));
+        let eqs = random.below(40) as usize;
+        let mut input = random.payload(eqs);
+        for block in input.chunks_mut(18) {
+            if random.below(10) < 7 {
+                block.chunks_exact_mut(9).for_each(|eq| eq[0] = 0xff);
+            }
+        }
+        let answer = check(random, 1, &key, nonce, &input, input.len());
+        assert!(answer.runs <= (input.len() as u64 / 9).div_ceil(2));
+        // an odd last EQ is judged by itself
+        let last = [0xff, 1, 2, 3, 4, 5, 6, 7, 8];
+        assert_eq!(check(random, 1, &key, nonce, &last, 9).runs, 0);
     });
 }

@@ -74,6 +74,8 @@ pub struct OltSent {
     pub header: Header,
     /// Octets enciphered, 0 for a clear envelope.
     pub count: u64,
+    /// Runs of the cipher; 0 on refusal.
+    pub runs: u64,
 }
 
 #[repr(C)]
@@ -82,6 +84,8 @@ pub struct OltReceived {
     pub number: u8,
     pub olt: Olt,
     pub count: u64,
+    /// Runs of the cipher; 0 on refusal.
+    pub runs: u64,
 }
 
 #[repr(C)]
@@ -106,6 +110,8 @@ pub struct OnuSent {
     pub onu: Onu,
     pub header: Header,
     pub count: u64,
+    /// Runs of the cipher; 0 on refusal.
+    pub runs: u64,
 }
 
 #[repr(C)]
@@ -114,4 +120,6 @@ pub struct OnuReceived {
     pub number: u8,
     pub onu: Onu,
     pub count: u64,
+    /// Runs of the cipher; 0 on refusal.
+    pub runs: u64,
 }

@@ -133,13 +133,20 @@ pub fn part(block: &[u8], k: usize) -> Result<Range<usize>, Refused> {
     Ok(records[k - 1].payload.clone())
 }
 
-/// The block with every record opened that can be, and the octets deciphered.
-pub fn open(octets: &[u8], block: &[u8], output: usize) -> Result<(Vec<u8>, u64), Refused> {
+/// The block with every record opened that can be, and what that took (02, C-17): octets deciphered, runs of the cipher, keys expanded.
+pub struct Opened {
+    pub octets: Vec<u8>,
+    pub count: u64,
+    pub runs: u64,
+    pub expansions: u8,
+}
+
+pub fn open(octets: &[u8], block: &[u8], output: usize) -> Result<Opened, Refused> {
     refuse_if(octets.len() != 41 || output != block.len(), 14)?;
     let settings = settings(octets)?;
     let records = directory(block)?;
     let mut out = block.to_vec();
-    let mut total = 0;
+    let (mut total, mut runs) = (0, 0);
     for record in records {
         if let Ok(Some((_, key))) = judge(&settings, &record) {
             let sealed = &block[record.payload.clone()];
@@ -147,9 +154,10 @@ pub fn open(octets: &[u8], block: &[u8], output: usize) -> Result<(Vec<u8>, u64)
             out[record.payload].copy_from_slice(&opened);
             out[record.offset + 4] &= 0b1111_1100;
             total += count;
+            runs += payload::runs(sealed);
         }
     }
-    Ok((out, total))
+    Ok(Opened { octets: out, count: total, runs, expansions: octets[0].count_ones() as u8 })
 }
 
 /// What the reader program prints.

@@ -59,3 +59,8 @@ pub fn seal(encenabled: u8, keys: &Schedule, nonce: jazmotip::Nonce, input: &[u8
 pub fn count(payload: &[u8]) -> u64 {
     payload.chunks_exact(9).map(|eq| 8 - u64::from(eq[0].count_ones())).sum()
 }
+
+/// Runs of the cipher (02, C-17): the blocks, of two EQs or a last one of one, with an octet that is no control character.
+pub fn runs(payload: &[u8]) -> u64 {
+    payload.chunks(18).filter(|block| block.chunks_exact(9).any(|eq| eq[0] != 0xff)).count() as u64
+}

@@ -103,9 +103,13 @@ static void same(uint64_t a, uint64_t b, const struct work *w, const char *what)
     }
 }
 
-/* Every contestant makes the engine's octets and count of every work. */
+/* Every contestant makes the engine's octets and count of every work, and the C cipher those of the idle ones. */
 static void check_works(void)
 {
+    for (int i = 0; i < IDLE_WORKS; i++) {
+        same(hash_after(c_seal, &idle_works[i]), hash_after(engine_seal, &idle_works[i]), &idle_works[i], "the C cipher");
+        same(c_count, engine_count, &idle_works[i], "the C cipher's count");
+    }
     for (int i = 0; i < WORKS; i++) {
         struct work *w = &works[i];
         int block = w->records > 0;
@@ -253,7 +257,27 @@ static double print_flatness(void)
     return most;
 }
 
-static void print_goals(double flatness)
+/* 02, C-17: what idle blocks save, beside the same payload with none. Gives how many times faster one that is idle alone is. */
+static double print_idle(void)
+{
+    static struct rounds idle;
+    struct contestant all[1 + IDLE_WORKS] = {{.here = engine_seal, .job = &works[3]}};
+    for (int i = 0; i < IDLE_WORKS; i++)
+        all[1 + i] = (struct contestant){.here = engine_seal, .job = &idle_works[i]};
+    measure_rounds(&idle, all, 1 + IDLE_WORKS, 151, 1e6);
+    printf("| 1,500 EQs, idle blocks | runs | ns an EQ | of the speed with none |\n|---:|---:|---:|---:|\n");
+    for (int k = 0; k <= IDLE_WORKS; k++) {
+        struct work *w = all[k].job;
+        struct spread s = measure_ratio(&idle, k, 0);
+        uint64_t runs = jazmotip_seal(1, work_key, nonce, w->input, w->length, w->output, w->length).runs;
+        printf("| %d %% | %s | %.1f | %.2f (%.2f to %.2f) |\n", w->idle, measure_commas((double)runs),
+               measure_cost(&idle, k).median / (double)w->eqs, s.median, s.low, s.high);
+    }
+    printf("\n");
+    return measure_ratio(&idle, IDLE_WORKS, 0).median;
+}
+
+static void print_goals(double flatness, double idle)
 {
     double least = measure_ratio(&rounds[3], ENGINE, C).median, eight = measure_ratio(&rounds[1], ENGINE, C).median;
     for (int i = 4; i < WORKS; i++) {
@@ -264,8 +288,9 @@ static void print_goals(double flatness)
     printf("| at least 0.95 of the C cipher at 1,500 EQs and up, and on capture blocks | %.2f at least | %s |\n", least,
            least >= 0.95 ? "met" : "missed");
     printf("| no slower than the C cipher at 8 EQs, key set-up included | %.2f | %s |\n", eight, eight >= 1 ? "met" : "missed");
-    printf("| cost of an EQ flat, within a twentieth, from 64 EQs to 4,194,303 | %.2f at most | %s |\n\n", flatness,
+    printf("| cost of an EQ flat, within a twentieth, from 64 EQs to 4,194,303 | %.2f at most | %s |\n", flatness,
            flatness <= 1.05 ? "met" : "missed");
+    printf("| a payload of idle blocks alone at least five times faster | %.1f | %s |\n\n", idle, idle >= 5 ? "met" : "missed");
 }
 
 static void print_method(void)
@@ -284,6 +309,7 @@ int main(int argc, char **argv)
 {
     measure_pin();
     works_make();
+    idle_works_make();
     if (argc > 1 && strcmp(argv[1], OPENSSL_BARE) == 0)
         return openssl_bare_main();
     if (argc > 1 && strcmp(argv[1], "--copies") == 0) {
@@ -301,12 +327,12 @@ int main(int argc, char **argv)
         print_stream();
         openssl->stop();
     }
-    double flatness = print_flatness();
+    double flatness = print_flatness(), idle = print_idle();
     yardstick_print();
     calls_print();
     planes_print();
     recordings_print();
     exercises_print();
-    print_goals(flatness);
+    print_goals(flatness, idle);
     return 0;
 }

@@ -214,5 +214,5 @@ jazmotip_olt_sent value_olt_send(jazmotip_olt olt, uint16_t llid, uint8_t channe
                                  uint8_t *output, size_t output_length)
 {
     struct pointer_sent sent = pointer_olt_send(&olt, llid, channel, payload, payload_length, output, output_length);
-    return (jazmotip_olt_sent){sent.number, olt, sent.header, sent.count};
+    return (jazmotip_olt_sent){.number = sent.number, .olt = olt, .header = sent.header, .count = sent.count};
 }

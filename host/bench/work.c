@@ -17,6 +17,11 @@ struct work works[WORKS] = {
     {.eqs = 7278, .records = 1},
 };
 
+struct work idle_works[IDLE_WORKS] = {
+    {.eqs = 1500, .idle = 70},
+    {.eqs = 1500, .idle = 100},
+};
+
 const uint8_t work_key[16] = {0x2b, 0x7e, 0x15, 0x16, 0x28, 0xae, 0xd2, 0xa6, 0xab, 0xf7, 0x15, 0x88, 0x09, 0xcf, 0x4f, 0x3c};
 
 /* Both keys present, the second the first turned round; MAC and LLID. */
@@ -37,6 +42,18 @@ static void put_eqs(uint8_t *octets, size_t eqs)
         octets[9 * e] = random_octet() < 32 ? random_octet() : 0;
         for (int j = 1; j < 9; j++)
             octets[9 * e + (size_t)j] = random_octet();
+    }
+}
+
+/* Of the blocks of two EQs, `idle` in a hundred. */
+static void put_idle(uint8_t *octets, size_t eqs, int idle)
+{
+    for (size_t e = 0; e < eqs; e += 2) {
+        if (random_octet() * 100 >= idle * 256)
+            continue;
+        octets[9 * e] = 0xff;
+        if (e + 1 < eqs)
+            octets[9 * e + 9] = 0xff;
     }
 }
 
@@ -103,6 +120,18 @@ void works_make(void)
             put_eqs(w->input, w->eqs);
         else
             put_block(w, i == WORKS_PAYLOADS ? 8 : w->eqs / w->records);
+    }
+}
+
+void idle_works_make(void)
+{
+    for (int i = 0; i < IDLE_WORKS; i++) {
+        struct work *w = &idle_works[i];
+        w->length = 9 * w->eqs;
+        w->input = octets_of(w->length);
+        w->output = octets_of(w->length);
+        put_eqs(w->input, w->eqs);
+        put_idle(w->input, w->eqs, w->idle);
     }
 }
 

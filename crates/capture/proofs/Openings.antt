@@ -27,15 +27,15 @@ use Rattle.refusal.specs.declared.Verdict.the-variants.{Accepted}
 use Rattle.refusal.specs.Order.{refuseIf, andThen}
 use Rattle.refusal.proofs.Order.{refuse-accepted, refuse-passed, then-accepted}
 use Rattle.envelope.specs.Acceptance.{lengthsFit, nonceFits, sealVerdict}
-use Rattle.envelope.specs.Answer.{sealCount}
-use Rattle.envelope.specs.ControlMask.{controlOctet, countEnciphered}
+use Rattle.envelope.specs.Answer.{sealCount, sealRuns}
+use Rattle.envelope.specs.ControlMask.{controlOctet, countEnciphered, mostRuns, runs}
 use Rattle.envelope.specs.declared.Nonce.{Nonce}
 use Rattle.envelope.specs.declared.SealAnswer.{SealAnswer}
 use Rattle.envelope.specs.declared.SealAnswer.the-variants.{Done}
 use Rattle.sealing.specs.Payload.{sealed}
 use Rattle.sealing.specs.Seal.{sealing}
 use Rattle.sealing.specs.KeyExpansion.{keyExpansion}
-use Rattle.sealing.proofs.Payload.{sealed-length}
+use Rattle.sealing.proofs.Payload.{runs-at-most, sealed-length}
 use Rattle.sealing.proofs.Seal.{sealing-done}
 use Rattle.records.specs.declared.header.RecordVerdict.{RecordVerdict}
 use Rattle.records.specs.declared.header.RecordVerdict.the-variants.{Clear, Sealed}
@@ -49,7 +49,7 @@ use Rattle.records.specs.Settings.{settingsOctets, presenceOf, keyPresent, keyO
 use Rattle.records.specs.Record.{recordHeader, recordOctets, payloadOf}
 use Rattle.records.specs.Block.{recordsIn, offsetOf, lengthOf, endOf, dueOf, recordOf, headerFrom, recordFrom}
 use Rattle.capture.specs.Directory.{verdictOn, directoryOf}
-use Rattle.capture.specs.Opening.{writtenAs, countAs, openedRecord, recordCount, openedFrom, openedBlock, blockCount, openVerdict, openingAfter, opening}
+use Rattle.capture.specs.Opening.{writtenAs, addedAs, openedRecord, recordAdds, openedFrom, openedBlock, blockCount, blockRuns, expansions, openVerdict, openingAfter, opening}
 use Rattle.records.specs.Verdict.{clearedFlags, headerFits, verdictFor, verdictOf}
 use Rattle.capture.specs.Verdict.{afterSettings, callDirectory}
 use Rattle.capture.specs.Duties.{Expanded, Opens, written}
@@ -67,7 +67,7 @@ seal-accepted n m nonce whole most same fits =
 
 -- what an accepted call answers, and its output
 seal-done : (w : List ℕ) (n : Nonce) (p out o : List ℕ) (a : SealAnswer) → sealVerdict (length p) (length out) n ≡ Accepted
-    → withOutput a o ≡ sealing true w n p out → (a ≡ Done (countEnciphered p)) × (o ≡ sealed w n p)
+    → withOutput a o ≡ sealing true w n p out → (a ≡ Done (countEnciphered p) (runs p)) × (o ≡ sealed w n p)
 seal-done w n p out o a j e =
     let q = e ∙ sym (sealing-done w n p out true refl j) in
     (ap (λ (x : WithOutput SealAnswer). x .answer) q, ap (λ (x : WithOutput SealAnswer). x .output) q)
@@ -75,14 +75,14 @@ seal-done w n p out o a j e =
 -- what the call leaves of a part of the output, and the count that it answers
 pub part-sealed : (w : List ℕ) (n : Nonce) (b out : List ℕ) (at k : ℕ) → at + k ≤ length b → length out ≡ length b → k % 9 ≡ 0 → k ≤ 65536
     → nonceFits n ≡ true → (a : SealAnswer) (t : List ℕ) → withOutput a t ≡ sealing true w n (part b at k) (part out at k)
-    → (sealCount a ≡ countEnciphered (part b at k)) × (putMid at k out t ≡ replaced out at (sealed w n (part b at k)))
+    → (sealCount a ≡ countEnciphered (part b at k)) × (sealRuns a ≡ runs (part b at k)) × (putMid at k out t ≡ replaced out at (sealed w n (part b at k)))
 part-sealed w n b out at k inside same whole most fits a t e =
     let p = part b at k in
     let lp = part-length b at k inside in
     let lo = part-length out at k (omega arith) in
     let d = seal-done w n p (part out at k) t a (seal-accepted (length p) (length (part out at k)) n (rw lp whole) (omega arith) (lo ∙ sym lp) fits) e in
     let l : length (sealed w n p) ≡ k = sealed-length w n p ∙ lp in
-    (ap sealCount (d .0), rw (d .1, l))
+    (ap sealCount (d .0), ap sealRuns (d .0), rw (d .1, l))
 
 -- an output that is the block from `at` on, with one octet of the record there stored and its payload replaced
 pub opened-in-place : (b out ys : List ℕ) (at len f : ℕ) → 16 ≤ len → drop at out ≡ drop at b → length ys + 16 ≡ len
@@ -104,13 +104,13 @@ kept-in-place b out at len same =
     sym (take-append-drop at out) ∙ rw same (ap (λ (t : List ℕ). take at out ++ t) (sym (take-append-drop len (drop at b)) ∙ rw (drop-drop len at b)))
 
 -- a clear or refused record is written as it is, and adds nothing
-pub clear-record : (s r : List ℕ) → verdictOf s r ≡ Clear → (openedRecord s r ≡ r) × (recordCount s r ≡ 0)
-unfolding openedRecord recordCount writtenAs countAs
-clear-record s r e = (rw e, rw e)
+pub clear-record : (s r : List ℕ) → verdictOf s r ≡ Clear → (openedRecord s r ≡ r) × ((g : List ℕ → ℕ) → recordAdds g s r ≡ 0)
+unfolding openedRecord recordAdds writtenAs addedAs
+clear-record s r e = (rw e, λ g. rw e)
 
-pub refused-record : (s r : List ℕ) (c : Refusal) → verdictOf s r ≡ RecordVerdict.Refused c → (openedRecord s r ≡ r) × (recordCount s r ≡ 0)
-unfolding openedRecord recordCount writtenAs countAs
-refused-record s r c e = (rw e, rw e)
+pub refused-record : (s r : List ℕ) (c : Refusal) → verdictOf s r ≡ RecordVerdict.Refused c → (openedRecord s r ≡ r) × ((g : List ℕ → ℕ) → recordAdds g s r ≡ 0)
+unfolding openedRecord recordAdds writtenAs addedAs
+refused-record s r c e = (rw e, λ g. rw e)
 
 module _ (s b out : List ℕ) (from : ℕ) (same : drop from out ≡ drop from b) where
   -- an output that still is the block holds a record that is written as it is
@@ -125,10 +125,10 @@ module _ (s b out : List ℕ) (from : ℕ) (same : drop from out ≡ drop from b
   -- and an opened record once its flags are stored and its payload is replaced
   pub opened-by : (j t m f : ℕ) (h : Header) (w : List ℕ) (to : ℕ) → h ≡ headerFrom b from → to ≡ from + recordOctets (h .eqs)
       → from + recordOctets (h .eqs) ≤ length b → f ≡ clearedFlags (h .flags) → m ≡ macOf s → w ≡ keyExpansion (keyOf s j)
-      → (countEnciphered (part b (from + 16) (to - (from + 16))) ≡ countAs (recordFrom b from) (Sealed j t))
+      → ((g : List ℕ → ℕ) → g (part b (from + 16) (to - (from + 16))) ≡ addedAs g (recordFrom b from) (Sealed j t))
       × (replaced (set out (from + 4) f) (from + 16) (sealed w (record { channel = h .channel; mac = m; clock = t }) (part b (from + 16) (to - (from + 16))))
       ≡ written s b out from (Sealed j t))
-  unfolding writtenAs countAs recordFrom headerFrom payloadOf
+  unfolding writtenAs addedAs recordFrom headerFrom payloadOf
   opened-by j t m f h w to eh et inside ef em ew =
       let len = recordOctets (recordHeader (drop from b) .eqs) in
       let end : to ≡ from + len = et ∙ ap (λ (q : Header). from + recordOctets (q .eqs)) eh in
@@ -143,7 +143,7 @@ module _ (s b out : List ℕ) (from : ℕ) (same : drop from out ≡ drop from b
         sealed-length w (record { channel = h .channel; mac = m; clock = t }) (part b (from + 16) (to - (from + 16))),
         part-length b (from + 16) (to - (from + 16)) (omega arith),
       ) in (
-        ap countEnciphered (sym rest),
+        λ g. ap g (sym rest),
         opened-in-place b out ys from len f (omega arith) same size ∙ rw (rest, head, ef, em, ew, eh),
       )
 
@@ -161,10 +161,10 @@ unfolding nonceFits headerFits
 nonce-fits h m t f p q = both-true (both-left _ _ (both-right _ _ f)) (both-true (lt-ltb _ _ p) (lt-ltb _ _ q))
 
 -- what is counted at a place is the count of the record there
-pub counted-at : (s b : List ℕ) (i from : ℕ) (h : Header) → At b i from → h ≡ headerFrom b from
-    → countAs (recordFrom b from) (verdictFor s h) ≡ recordCount s (recordOf b i)
-unfolding recordCount
-counted-at s b i from h x e = rw (e, x .octets, x .header)
+pub counted-at : (g : List ℕ → ℕ) (s b : List ℕ) (i from : ℕ) (h : Header) → At b i from → h ≡ headerFrom b from
+    → addedAs g (recordFrom b from) (verdictFor s h) ≡ recordAdds g s (recordOf b i)
+unfolding recordAdds
+counted-at g s b i from h x e = rw (e, x .octets, x .header)
 
 -- and what is written there is by the verdict for the settings
 pub written-at : (s b out : List ℕ) (from due : ℕ) (h : Header) (v : RecordVerdict) → v ≡ verdictFor s h → h ≡ headerFrom b from → from ≡ due
@@ -199,24 +199,41 @@ unfolding countEnciphered
 enciphered-below p =
     omega (arith, sum-below 0 (length p / 9) 8 (λ e. 8 - ones (controlOctet p e)) (λ e. omega arith))
 
-count-below : (r : List ℕ) (v : RecordVerdict) → countAs r v ≤ length r
-unfolding countAs payloadOf
-count-below r Clear = omega arith
-count-below r (RecordVerdict.Refused c) = omega arith
-count-below r (Sealed i t) = omega (arith, enciphered-below (drop 16 r), length-drop 16 r)
+runs-below : (p : List ℕ) → runs p ≤ length p
+unfolding runs
+runs-below p = omega (arith, runs-at-most p (mostRuns p))
 
-pub one-below : (s b : List ℕ) (i : ℕ) → length b ≤ 65536 → recordCount s (recordOf b i) ≤ 65536
-unfolding recordCount recordOf
-one-below s b i h =
-    omega (arith, count-below (recordOf b i) (verdictOf s (recordOf b i)), part-below b (offsetOf b i) (lengthOf b i))
+-- what a record adds is few, and so is the sum so far
+module _ (g : List ℕ → ℕ) (few : (p : List ℕ) → g p ≤ length p) where
+  added-below : (r : List ℕ) (v : RecordVerdict) → addedAs g r v ≤ length r
+  unfolding addedAs payloadOf
+  added-below r Clear = omega arith
+  added-below r (RecordVerdict.Refused c) = omega arith
+  added-below r (Sealed i t) = omega (arith, few (drop 16 r), length-drop 16 r)
 
--- the octets opened so far are few
-pub total-below : (s b : List ℕ) (i : ℕ) → length b ≤ 65536 → sum 0 i (λ j. recordCount s (recordOf b j)) ≤ i * 65536
-total-below s b i h = sum-below 0 i 65536 (λ j. recordCount s (recordOf b j)) (λ j. one-below s b j h)
+  one-below : (s b : List ℕ) (i : ℕ) → length b ≤ 65536 → recordAdds g s (recordOf b i) ≤ 65536
+  unfolding recordAdds recordOf
+  one-below s b i h =
+      omega (arith, added-below (recordOf b i) (verdictOf s (recordOf b i)), part-below b (offsetOf b i) (lengthOf b i))
 
-pub one-more : (s b : List ℕ) (i : ℕ)
-    → sum 0 (i + 1) (λ j. recordCount s (recordOf b j)) ≡ sum 0 i (λ j. recordCount s (recordOf b j)) + recordCount s (recordOf b i)
-one-more s b i = rw add-one (sum-suc 0 i (λ j. recordCount s (recordOf b j)) ∙ rw zero-add)
+  total-below : (s b : List ℕ) (i : ℕ) → length b ≤ 65536 → sum 0 i (λ j. recordAdds g s (recordOf b j)) ≤ i * 65536
+  total-below s b i h = sum-below 0 i 65536 (λ j. recordAdds g s (recordOf b j)) (λ j. one-below s b j h)
+
+  both-below : (s b : List ℕ) (i : ℕ) → length b ≤ 65536
+      → sum 0 i (λ j. recordAdds g s (recordOf b j)) + recordAdds g s (recordOf b i) ≤ i * 65536 + 65536
+  both-below s b i h = omega (arith, total-below s b i h, one-below s b i h)
+
+pub count-few : (s b : List ℕ) (i : ℕ) → length b ≤ 65536
+    → sum 0 i (λ j. recordAdds countEnciphered s (recordOf b j)) + recordAdds countEnciphered s (recordOf b i) ≤ i * 65536 + 65536
+count-few = both-below countEnciphered enciphered-below
+
+pub runs-few : (s b : List ℕ) (i : ℕ) → length b ≤ 65536
+    → sum 0 i (λ j. recordAdds runs s (recordOf b j)) + recordAdds runs s (recordOf b i) ≤ i * 65536 + 65536
+runs-few = both-below runs runs-below
+
+pub one-more : (g : List ℕ → ℕ) (s b : List ℕ) (i : ℕ)
+    → sum 0 (i + 1) (λ j. recordAdds g s (recordOf b j)) ≡ sum 0 i (λ j. recordAdds g s (recordOf b j)) + recordAdds g s (recordOf b i)
+one-more g s b i = rw add-one (sum-suc 0 i (λ j. recordAdds g s (recordOf b j)) ∙ rw zero-add)
 
 -- the output once i records are opened, without what is still the block
 abbrev pub upTo : List ℕ → List ℕ → ℕ → List ℕ
@@ -325,6 +342,7 @@ module _ (s b out : List ℕ) where
   unfolding opening openingAfter
   opening-refused r e = rw e
 
-  pub opening-done : openVerdict s b (length out) ≡ Accepted → withOutput (OpenAnswer.Done (blockCount s b)) (openedBlock s b) ≡ opening s b out
+  pub opening-done : openVerdict s b (length out) ≡ Accepted
+      → withOutput (OpenAnswer.Done (blockCount s b) (blockRuns s b) (expansions s)) (openedBlock s b) ≡ opening s b out
   unfolding opening openingAfter
   opening-done e = rw e

@@ -29,12 +29,14 @@ use Rattle.records.specs.declared.header.RecordVerdict.the-variants.{Clear, Sea
 use Rattle.capture.specs.declared.directory.Pair.the-variants.{Fits}
 use Rattle.capture.specs.declared.directory.Directory.the-variants.{Good}
 use Rattle.capture.specs.declared.opening.OpenAnswer.the-variants.{Done}
+use Rattle.octets.proofs.Bits.{bit-below}
+use Rattle.envelope.specs.ControlMask.{countEnciphered, runs}
 use Rattle.records.specs.Settings.{keyOf, presenceOf, llidOf, settingsVerdict}
 use Rattle.records.specs.Record.{recordHeader, payloadOf, sized}
 use Rattle.records.specs.Block.{recordsIn, offsetOf, lengthOf, endOf, dueOf, recordOf}
 use Rattle.capture.specs.Directory.{chained, pairOf, sizeFits, directoryOf}
 use Rattle.records.specs.Verdict.{encEnabled, clearedFlags, flagsFit, headerFits, recordVerdict, verdictFor, verdictOf}
-use Rattle.capture.specs.Opening.{recordNonce, cleared, writtenAs, openedRecord, recordCount, openedFrom, openedBlock, blockCount, openVerdict, opening}
+use Rattle.capture.specs.Opening.{recordNonce, cleared, writtenAs, openedRecord, recordAdds, openedFrom, openedBlock, blockAdds, expansions, openVerdict, opening}
 use Rattle.capture.specs.Claims.{Opened}
 use Rattle.capture.proofs.Pairs.{pair-fits, due-next}
 use Rattle.capture.proofs.Records.{Records, all-fit, good, placed, records-end}
@@ -170,7 +172,7 @@ is-written s r i t e = rw e
 
 -- an opened record is written as it is, and adds nothing
 opened-once : (s r : List ℕ) (i t : ℕ) → 16 ≤ length r → verdictOf s r ≡ Sealed i t
-    → (openedRecord s (openedRecord s r) ≡ openedRecord s r) × (recordCount s (openedRecord s r) ≡ 0)
+    → (openedRecord s (openedRecord s r) ≡ openedRecord s r) × ((g : List ℕ → ℕ) → recordAdds g s (openedRecord s r) ≡ 0)
 unfolding verdictFor withFlags
 opened-once s r i t h e =
     let ys = sealed (keyExpansion (keyOf s i)) (recordNonce s (recordHeader r) t) (payloadOf r) in
@@ -179,16 +181,16 @@ opened-once s r i t h e =
     ap (λ (q : Header). recordVerdict (presenceOf s) (llidOf s) (q .clock) q) (flags-only r ys (clearedFlags (recordHeader r .flags)) h)
     ∙ now-clear (presenceOf s) (llidOf s) _ (recordHeader r) i t (openable (presenceOf s) (llidOf s) _ (recordHeader r) i t e) in
     let k = clear-record s (take 16 (cleared r) ++ ys) clear in
-    (rw w (k .0), rw w (k .1))
+    (rw w (k .0), λ g. rw w (k .1 g))
 
 by-verdict : (s r : List ℕ) (v : RecordVerdict) → 16 ≤ length r → verdictOf s r ≡ v
-    → (openedRecord s (openedRecord s r) ≡ openedRecord s r) × (recordCount s (openedRecord s r) ≡ 0)
-by-verdict s r Clear h e = let k = clear-record s r e in (ap (openedRecord s) (k .0), rw (k .0) (k .1))
-by-verdict s r (RecordVerdict.Refused c) h e = let k = refused-record s r c e in (ap (openedRecord s) (k .0), rw (k .0) (k .1))
+    → (openedRecord s (openedRecord s r) ≡ openedRecord s r) × ((g : List ℕ → ℕ) → recordAdds g s (openedRecord s r) ≡ 0)
+by-verdict s r Clear h e = let k = clear-record s r e in (ap (openedRecord s) (k .0), λ g. rw (k .0) (k .1 g))
+by-verdict s r (RecordVerdict.Refused c) h e = let k = refused-record s r c e in (ap (openedRecord s) (k .0), λ g. rw (k .0) (k .1 g))
 by-verdict s r (Sealed i t) h e = opened-once s r i t h e
 
 record-again : (s r : List ℕ) → 16 ≤ length r
-    → (openedRecord s (openedRecord s r) ≡ openedRecord s r) × (recordCount s (openedRecord s r) ≡ 0)
+    → (openedRecord s (openedRecord s r) ≡ openedRecord s r) × ((g : List ℕ → ℕ) → recordAdds g s (openedRecord s r) ≡ 0)
 record-again s r h = by-verdict s r (verdictOf s r) h refl
 
 -- ---- the opened block has the same directory
@@ -260,12 +262,12 @@ module _ (s b : List ℕ) (n : ℕ) (r : Records b n) where
       ∙ rw (same-count s b n r, ← r .count, same-directory s b n r, from-again 0 n (omega arith))
       (rw (r .count) (sym (made s b)))
 
-  count-again : blockCount s (openedBlock s b) ≡ 0
-  unfolding blockCount
-  count-again =
+  nothing-again : (g : List ℕ → ℕ) → blockAdds g s (openedBlock s b) ≡ 0
+  unfolding blockAdds
+  nothing-again g =
       rw (same-count s b n r, ← r .count)
-      (sum-ext 0 n (λ j. recordCount s (recordOf (openedBlock s b) j)) (λ (j : ℕ). 0)
-      (λ j l h. rw (opened-record s b n r j (omega arith)) (record-again s (recordOf b j) (header-there j (omega arith)) .1))
+      (sum-ext 0 n (λ j. recordAdds g s (recordOf (openedBlock s b) j)) (λ (j : ℕ). 0)
+      (λ j l h. rw (opened-record s b n r j (omega arith)) (record-again s (recordOf b j) (header-there j (omega arith)) .1 g))
       ∙ no-sum 0 n)
 
 accepts-again : (s b : List ℕ) (m n : ℕ) → settingsVerdict s ≡ Accepted → m ≡ length b → directoryOf b ≡ Good n → openVerdict s b m ≡ Accepted
@@ -274,6 +276,7 @@ accepts-again s b m n t e d = refuse-passed _ BadLength _ (not-of-true (eq-eqb _
 
 -- the claims of an accepted call
 pub opened : (s b : List ℕ) (size : ℕ) → openVerdict s b size ≡ Accepted → Opened s b
+unfolding expansions
 opened s b size v =
     let c = callable s b size v in
     let r = good b (recordsIn b) (c .good) in
@@ -281,11 +284,12 @@ opened s b size v =
       directory = same-directory s b (recordsIn b) r;
       own = λ i h. own-record s b (recordsIn b) r i h;
       again = λ out l. again out l (c .accepted) r;
+      few = omega (arith, bit-below (presenceOf s) 0, bit-below (presenceOf s) 1);
     } where
       again : (out : List ℕ) → length out ≡ length b → settingsVerdict s ≡ Accepted → Records b (recordsIn b)
-          → opening s (openedBlock s b) out ≡ withOutput (Done 0) (openedBlock s b)
+          → opening s (openedBlock s b) out ≡ withOutput (Done 0 0 (expansions s)) (openedBlock s b)
       again out l t r =
           let g = good-again s b (recordsIn b) r in
           sym (opening-done s (openedBlock s b) out
           (accepts-again s (openedBlock s b) (length out) (recordsIn b) t (l ∙ sym (opened-octets s b (recordsIn b) r)) g))
-          ∙ rw (count-again s b (recordsIn b) r, block-again s b (recordsIn b) r)
+          ∙ rw (nothing-again s b (recordsIn b) r countEnciphered, nothing-again s b (recordsIn b) r runs, block-again s b (recordsIn b) r)

@@ -6,6 +6,7 @@ use Prim.Native.Nat.{ℕ, _+_, _-_, _%_, _≤_, _<_}
 use lib.ListN.{length, take, drop}
 use Rattle.octets.specs.BigEndian.{sixOctets}
 use Rattle.octets.specs.Eqs.{eqOctets}
+use Rattle.envelope.specs.ControlMask.{countEnciphered, runs}
 use Rattle.sealing.specs.KeyExpansion.{keyExpansion}
 use Rattle.records.specs.declared.header.Header.{Header}
 use Rattle.records.specs.declared.header.RecordVerdict.{RecordVerdict}
@@ -17,7 +18,23 @@ use Rattle.records.specs.Block.{mostOctets, directoryOctets, recordsIn, offsetO
 use Rattle.capture.specs.declared.directory.Directory.the-variants.{Good}
 use Rattle.capture.specs.declared.opening.Keys.{Keys}
 use Rattle.capture.specs.Directory.{directoryOf}
-use Rattle.capture.specs.Opening.{writtenAs}
+use Rattle.capture.specs.declared.opening.Work.{Work}
+use Rattle.capture.specs.Opening.{addedAs, blockCount, blockRuns, writtenAs}
+
+-- r is what sealing or opening the payload p takes
+pub record Took (p : List ℕ) (r : Work) : Type 0 where
+  pub count : r .count ≡ countEnciphered p
+  pub runs : r .runs ≡ runs p
+
+-- what a record adds, as the verdict has it
+pub record TookAs (x : List ℕ) (v : RecordVerdict) (r : Work) : Type 0 where
+  pub count : r .count ≡ addedAs countEnciphered x v
+  pub runs : r .runs ≡ addedAs runs x v
+
+-- what all records of a block add
+pub record TookAll (s b : List ℕ) (r : Work) : Type 0 where
+  pub count : r .count ≡ blockCount s b
+  pub runs : r .runs ≡ blockRuns s b
 
 -- pair i is one of n and goes from `from` to `to`, and its record is due at `due`
 pub record Due (b : List ℕ) (n i due from to : ℕ) : Type 0 where

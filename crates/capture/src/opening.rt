@@ -7,20 +7,20 @@ ghost use lib.Dec.{eqb};
 ghost use Rattle.octets.specs.Choice.{pick};
 ghost use Rattle.octets.specs.Lists.{part, replaced};
 ghost use Rattle.octets.specs.Output.{withOutput};
-ghost use Rattle.envelope.specs.ControlMask.{countEnciphered};
 ghost use Rattle.envelope.specs.Acceptance.{nonceFits};
 ghost use Rattle.sealing.specs.KeyExpansion.{keyExpansion};
 ghost use Rattle.sealing.specs.Payload.{sealed};
 ghost use Rattle.records.specs.Record.{headerOctets, flagsAt};
 ghost use Rattle.records.specs.Settings.{settingsKeys, presenceOf, keyPresent, keyOf};
 ghost use Rattle.records.specs.Block.{recordFrom};
-ghost use Rattle.capture.specs.Opening.{countAs, openedBlock, blockCount, opening, openNumber, openPair, openCount};
+ghost use Rattle.capture.specs.Opening.{openedBlock, expansions, opening, openNumber, openPair, openCount, openRuns, openExpansions};
 ghost use Rattle.capture.specs.Claims.{OpenedIfAccepted};
-ghost use Rattle.capture.specs.Duties.{Span, Expanded, Ready, Settled, written, Copied};
+ghost use Rattle.capture.specs.Duties.{Took, TookAs, TookAll, Span, Expanded, Ready, Settled, written, Copied};
 use crate::directory::Directory;
 use crate::verdict::call_directory;
 use envelope::Nonce;
 use envelope::seal_count;
+use envelope::seal_runs;
 use records::block::directory_octets;
 use records::block::header_from;
 use records::header::FLAGS;
@@ -39,8 +39,8 @@ use sealing::counter_mode::seal_expanded;
 use sealing::key_expansion::expand_key;
 
 pub enum OpenAnswer {
-    // the octets deciphered
-    Done(u64),
+    // the octets deciphered, the runs of the cipher, and the keys expanded
+    Done(u64, u64, u8),
     Denied(Refusal),
 }
 
@@ -50,7 +50,13 @@ struct Keys {
     pub second: RoundKeys,
 }
 
-// Opens the payload of the record from `from` to `to` into its place in the output, sets the flags there, and counts the octets.
+// What opening took: the octets deciphered, and the runs of the cipher (02, C-17).
+struct Work {
+    pub count: u64,
+    pub runs: u64,
+}
+
+// Opens the payload of the record from `from` to `to` into its place in the output, sets the flags there, and tells what that took.
 fn open_part(
     keys: RoundKeys,
     nonce: Nonce,
@@ -59,17 +65,20 @@ fn open_part(
     output: &mut [u8],
     from: usize,
     to: usize,
-) -> u64
+) -> Work
     requires { ⌜ Span (now block) (now output) from to ⌝ }
     requires { ⌜ nonceFits nonce ≡ true ⌝ }
-    ensures { λ r. ⌜ r ≡ countEnciphered (part (now (block .entry)) (from + headerOctets) (to - (from + headerOctets))) ⌝ }
+    ensures { λ r. ⌜ Took (part (now (block .entry)) (from + headerOctets) (to - (from + headerOctets))) r ⌝ }
     ensures { λ _. ⌜ now (output .exit) ≡ replaced (set (now (output .entry)) (from + flagsAt) flags) (from + headerOctets) (sealed (keys .octets) nonce (part (now (block .entry)) (from + headerOctets) (to - (from + headerOctets)))) ⌝ }
 {
     output[from + FLAGS] = flags;
     let start = from + HEADER_OCTETS;
     let input = &block[start..to];
     let answer = seal_expanded(true, keys, nonce, input, &mut output[start..to]);
-    seal_count(answer)
+    Work {
+        count: seal_count(answer),
+        runs: seal_runs(answer),
+    }
 }
 
 fn key_for(keys: Keys, index: u8) -> RoundKeys
@@ -78,7 +87,7 @@ fn key_for(keys: Keys, index: u8) -> RoundKeys
     if index == 0 { keys.first } else { keys.second }
 }
 
-// Writes the record with the header h, which starts at `from`, as the verdict on it says, and counts the octets deciphered; a clear
+// Writes the record with the header h, which starts at `from`, as the verdict on it says, and tells what that took; a clear
 // or refused record stays as it is.
 fn open_as(
     settings: &[u8],
@@ -88,15 +97,15 @@ fn open_as(
     from: usize,
     h: Header,
     verdict: RecordVerdict,
-) -> u64
+) -> Work
     requires { ⌜ Ready (now settings) keys (now block) (now output) from ⌝ }
     requires { ⌜ Settled (now settings) (now block) from h verdict ⌝ }
-    ensures { λ r. ⌜ r ≡ countAs (recordFrom (now (block .entry)) from) verdict ⌝ }
+    ensures { λ r. ⌜ TookAs (recordFrom (now (block .entry)) from) verdict r ⌝ }
     ensures { λ _. ⌜ now (output .exit) ≡ written (now (settings .entry)) (now (block .entry)) (now (output .entry)) from verdict ⌝ }
 {
     match verdict {
-        RecordVerdict::Clear => 0,
-        RecordVerdict::Refused(_) => 0,
+        RecordVerdict::Clear => Work { count: 0, runs: 0 },
+        RecordVerdict::Refused(_) => Work { count: 0, runs: 0 },
         RecordVerdict::Sealed(index, clock) => {
             let nonce = Nonce {
                 channel: h.channel,
@@ -117,18 +126,19 @@ fn open_as(
     }
 }
 
-// Opens the n records of an output that is a copy of the block, each where the one before it ends, and counts their octets.
-fn open_records(settings: &[u8], keys: Keys, block: &[u8], output: &mut [u8], n: u16) -> u64
+// Opens the n records of an output that is a copy of the block, each where the one before it ends, and tells what they took.
+fn open_records(settings: &[u8], keys: Keys, block: &[u8], output: &mut [u8], n: u16) -> Work
     requires { ⌜ Copied (now settings) keys (now block) (now output) n ⌝ }
-    ensures { λ r. ⌜ r ≡ blockCount (now (settings .entry)) (now (block .entry)) ⌝ }
+    ensures { λ r. ⌜ TookAll (now (settings .entry)) (now (block .entry)) r ⌝ }
     ensures { λ _. ⌜ now (output .exit) ≡ openedBlock (now (settings .entry)) (now (block .entry)) ⌝ }
 {
-    let mut total: u64 = 0;
+    let mut count: u64 = 0;
+    let mut runs: u64 = 0;
     let mut from = directory_octets(n);
     let mut i = 0;
     while i < n {
         let h = header_from(block, from);
-        total += open_as(
+        let work = open_as(
             settings,
             keys,
             block,
@@ -137,10 +147,12 @@ fn open_records(settings: &[u8], keys: Keys, block: &[u8], output: &mut [u8], n:
             h,
             verdict_for(settings, h),
         );
+        count += work.count;
+        runs += work.runs;
         from += record_octets(h.eqs);
         i += 1;
     }
-    total
+    Work { count, runs }
 }
 
 // Key i of the settings, expanded where it is present.
@@ -161,6 +173,14 @@ fn expand_keys(settings: &[u8]) -> Keys
     Keys { first, second }
 }
 
+// The keys that `expand_keys` expands.
+fn expansions(settings: &[u8]) -> u8
+    ensures { λ r. ⌜ r ≡ expansions (now (settings .entry)) ⌝ }
+{
+    let present = presence(settings);
+    octets::bit(present, 0) + octets::bit(present, 1)
+}
+
 // Opens a block into an output of its length. Each present key is expanded once.
 pub fn open(settings: &[u8], block: &[u8], output: &mut [u8]) -> OpenAnswer
     ensures { λ r. ⌜ withOutput r (now (output .exit)) ≡ opening (now (settings .entry)) (now (block .entry)) (now (output .entry)) ⌝ }
@@ -171,7 +191,8 @@ pub fn open(settings: &[u8], block: &[u8], output: &mut [u8]) -> OpenAnswer
         Directory::Good(n) => {
             let keys = expand_keys(settings);
             octets::copy(block, output);
-            OpenAnswer::Done(open_records(settings, keys, block, output, n))
+            let work = open_records(settings, keys, block, output, n);
+            OpenAnswer::Done(work.count, work.runs, expansions(settings))
         }
     }
 }
@@ -181,7 +202,7 @@ pub fn number(answer: OpenAnswer) -> u8
     ensures { λ r. ⌜ r ≡ openNumber answer ⌝ }
 {
     match answer {
-        OpenAnswer::Done(_) => 0,
+        OpenAnswer::Done(_, _, _) => 0,
         OpenAnswer::Denied(refusal) => refusal::number(refusal),
     }
 }
@@ -191,7 +212,7 @@ pub fn pair(answer: OpenAnswer) -> u16
     ensures { λ r. ⌜ r ≡ openPair answer ⌝ }
 {
     match answer {
-        OpenAnswer::Done(_) => 0,
+        OpenAnswer::Done(_, _, _) => 0,
         OpenAnswer::Denied(refusal) => refusal::pair(refusal),
     }
 }
@@ -201,7 +222,27 @@ pub fn octets_opened(answer: OpenAnswer) -> u64
     ensures { λ r. ⌜ r ≡ openCount answer ⌝ }
 {
     match answer {
-        OpenAnswer::Done(total) => total,
+        OpenAnswer::Done(count, _, _) => count,
+        OpenAnswer::Denied(_) => 0,
+    }
+}
+
+// The runs of the cipher, 0 where the call was refused.
+pub fn runs(answer: OpenAnswer) -> u64
+    ensures { λ r. ⌜ r ≡ openRuns answer ⌝ }
+{
+    match answer {
+        OpenAnswer::Done(_, runs, _) => runs,
+        OpenAnswer::Denied(_) => 0,
+    }
+}
+
+// The keys expanded, 0 where the call was refused.
+pub fn keys_expanded(answer: OpenAnswer) -> u8
+    ensures { λ r. ⌜ r ≡ openExpansions answer ⌝ }
+{
+    match answer {
+        OpenAnswer::Done(_, _, expanded) => expanded,
         OpenAnswer::Denied(_) => 0,
     }
 }

@@ -1,9 +1,10 @@
 -- A payload's EQs under the control mask (01, Counter block and mask; 001, 11.3.5). Assumes nothing.
+use mathlib.Core.Bool.{Bool}
 use mathlib.Core.List.{List}
-use Prim.Native.Nat.{ℕ, zero, suc, _+_, _-_, _*_, _/_}
+use Prim.Native.Nat.{ℕ, zero, suc, _+_, _-_, _*_, _/_, min}
 use lib.Bits.{bitXor}
 use lib.Count.{ones}
-use lib.Dec.{eqb}
+use lib.Dec.{eqb, ltb}
 use lib.ListN.{length, getD}
 use Rattle.octets.specs.Bits.{bitOf}
 use Rattle.octets.specs.Choice.{pick}
@@ -42,3 +43,25 @@ maskedAt block half c (suc j) x = masked c j (getD block (half + j) 0) x
 -- the octets that sealing enciphers: over all EQs, eight minus the ones in the control octet
 unfoldable pub countEnciphered : List ℕ → ℕ
 countEnciphered p = sum 0 (eqsOf p) (λ e. 8 - ones (controlOctet p e))
+
+---- runs of the cipher (02, C-17)
+
+-- the octets that an EQ with the control octet c has to encipher: its data octets, one for each bit that is not set
+abbrev pub toEncipher : ℕ → ℕ
+toEncipher c = sum 0 8 (λ j. 1 - bitOf c j)
+
+-- block k has at least one octet to encipher, in EQ 2k or, where there is one, in EQ 2k + 1
+unfoldable pub needsRun : List ℕ → ℕ → Bool
+needsRun p k = ltb 0 (sum (2 * k) (min 2 (eqsOf p - 2 * k)) (λ e. toEncipher (controlOctet p e)))
+
+-- the most runs of a payload: half its EQs, rounded up
+abbrev pub mostRuns : List ℕ → ℕ
+mostRuns p = (eqsOf p + 1) / 2
+
+-- the blocks below k that need a run
+abbrev pub runsBelow : List ℕ → ℕ → ℕ
+runsBelow p k = sum 0 k (λ b. pick (needsRun p b) 1 0)
+
+-- the runs that sealing or opening a payload takes
+unfoldable pub runs : List ℕ → ℕ
+runs p = runsBelow p (mostRuns p)

@@ -2,7 +2,7 @@
 // block, the count, and the verdict on a call. The control mask is defined here, and made where the cipher is.
 ghost use mathlib.Core.Path.{_≡_};
 ghost use Rattle.envelope.specs.Acceptance.{lengthsFit, nonceFits, sealVerdict};
-ghost use Rattle.envelope.specs.Answer.{sealNumber, sealCount};
+ghost use Rattle.envelope.specs.Answer.{sealNumber, sealCount, sealRuns};
 ghost use Rattle.envelope.specs.Channels.{channelFits, downstream, upstream, onZero};
 ghost use Rattle.envelope.specs.ControlMask.{controlOctet, dataOctet, countEnciphered};
 ghost use Rattle.envelope.specs.CounterBlock.{counterBlock};
@@ -32,8 +32,8 @@ pub struct Nonce {
 }
 
 pub enum SealAnswer {
-    // the octets enciphered
-    Done(u64),
+    // the octets enciphered, and the runs of the cipher
+    Done(u64, u64),
     Denied(Refusal),
 }
 
@@ -145,7 +145,7 @@ pub fn seal_number(answer: SealAnswer) -> u8
     ensures { λ r. ⌜ r ≡ sealNumber answer ⌝ }
 {
     match answer {
-        SealAnswer::Done(_) => 0,
+        SealAnswer::Done(_, _) => 0,
         SealAnswer::Denied(refusal) => refusal::number(refusal),
     }
 }
@@ -155,7 +155,17 @@ pub fn seal_count(answer: SealAnswer) -> u64
     ensures { λ r. ⌜ r ≡ sealCount answer ⌝ }
 {
     match answer {
-        SealAnswer::Done(count) => count,
+        SealAnswer::Done(count, _) => count,
+        SealAnswer::Denied(_) => 0,
+    }
+}
+
+// The runs of the cipher, 0 where the call was refused.
+pub fn seal_runs(answer: SealAnswer) -> u64
+    ensures { λ r. ⌜ r ≡ sealRuns answer ⌝ }
+{
+    match answer {
+        SealAnswer::Done(_, runs) => runs,
         SealAnswer::Denied(_) => 0,
     }
 }

@@ -9,7 +9,7 @@ use Rattle.records.specs.declared.header.RecordVerdict.the-variants.{Clear, Sea
 use Rattle.capture.specs.declared.payload.Bounds.{Bounds}
 use Rattle.records.specs.Verdict.{recordNumber, recordPair}
 use Rattle.capture.specs.Payload.{boundsNumber, boundsPair, boundsOffset, boundsLength}
-use Rattle.capture.specs.Opening.{openNumber, openPair, openCount}
+use Rattle.capture.specs.Opening.{openNumber, openPair, openCount, openRuns, openExpansions}
 use Rattle.capture.specs.declared.opening.OpenAnswer.{OpenAnswer}
 use Rattle.jazmotip.specs.declared.blocks.BlockDirectory.{BlockDirectory}
 use Rattle.jazmotip.specs.declared.blocks.BlockVerdict.{BlockVerdict}
@@ -33,7 +33,7 @@ abbrev pub blockPart : Bounds → BlockPart
 blockPart p = record { number = boundsNumber p; pair = boundsPair p; offset = boundsOffset p; length = boundsLength p }
 
 abbrev pub blockAnswer : OpenAnswer → BlockAnswer
-blockAnswer a = record { number = openNumber a; pair = openPair a; count = openCount a }
+blockAnswer a = record { number = openNumber a; expansions = openExpansions a; pair = openPair a; count = openCount a; runs = openRuns a }
 
 abbrev pub openedInNumbers : WithOutput OpenAnswer → WithOutput BlockAnswer
 openedInNumbers o = withOutput (blockAnswer (o .answer)) (o .output)

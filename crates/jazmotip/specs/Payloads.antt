@@ -8,7 +8,7 @@ use Rattle.octets.specs.Choice.{pick}
 use Rattle.octets.specs.Output.{WithOutput, withOutput}
 use Rattle.refusal.specs.declared.Refusal.the-variants.{OutOfRange, BadLength}
 use Rattle.envelope.specs.Acceptance.{lengthsFit}
-use Rattle.envelope.specs.Answer.{sealNumber, sealCount}
+use Rattle.envelope.specs.Answer.{sealNumber, sealCount, sealRuns}
 use Rattle.envelope.specs.declared.Nonce.{Nonce}
 use Rattle.envelope.specs.declared.SealAnswer.{SealAnswer}
 use Rattle.envelope.specs.declared.SealAnswer.the-variants.{Denied}
@@ -30,7 +30,7 @@ abbrev pub inPlaceBy : ℕ → List ℕ → Nonce → List ℕ → WithOutput Se
 inPlaceBy f w n p = sealingBy f w n p p
 
 abbrev pub payloadAnswer : SealAnswer → PayloadAnswer
-payloadAnswer a = record { number = sealNumber a; count = sealCount a }
+payloadAnswer a = record { number = sealNumber a; count = sealCount a; runs = sealRuns a }
 
 abbrev pub inNumbers : WithOutput SealAnswer → WithOutput PayloadAnswer
 inNumbers s = withOutput (payloadAnswer (s .answer)) (s .output)

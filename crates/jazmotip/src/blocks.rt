@@ -17,6 +17,7 @@ use capture::directory::Directory;
 use capture::directory::check;
 use capture::listing::LISTING_OCTETS;
 use capture::listing::list;
+use capture::opening::keys_expanded;
 use capture::opening::octets_opened;
 use capture::opening::open;
 use capture::payload::Bounds;
@@ -57,8 +58,12 @@ pub struct BlockPart {
 #[repr(C)]
 pub struct BlockAnswer {
     pub number: u8,
+    // the keys expanded (02, C-17): each present one once
+    pub expansions: u8,
     pub pair: u16,
     pub count: u64,
+    // the runs of the cipher
+    pub runs: u64,
 }
 
 fn directory_in_numbers(directory: Directory) -> BlockDirectory
@@ -180,8 +185,10 @@ pub extern "C" fn jazmotip_capture_open(
     let answer = open(settings, block, output);
     BlockAnswer {
         number: capture::opening::number(answer),
+        expansions: keys_expanded(answer),
         pair: capture::opening::pair(answer),
         count: octets_opened(answer),
+        runs: capture::opening::runs(answer),
     }
 }
 

@@ -10,6 +10,7 @@ use envelope::count;
 use envelope::lengths_fit;
 use envelope::seal_count;
 use envelope::seal_number;
+use envelope::seal_runs;
 use refusal::Refusal;
 use sealing::aes128::RoundKeys;
 use sealing::counter_mode::seal;
@@ -24,6 +25,8 @@ pub struct PayloadAnswer {
     pub number: u8,
     // the octets enciphered or deciphered, 0 where the call was refused
     pub count: u64,
+    // the runs of the cipher (02, C-17), 0 where the call was refused
+    pub runs: u64,
 }
 
 fn numbered(answer: SealAnswer) -> PayloadAnswer
@@ -32,6 +35,7 @@ fn numbered(answer: SealAnswer) -> PayloadAnswer
     PayloadAnswer {
         number: seal_number(answer),
         count: seal_count(answer),
+        runs: seal_runs(answer),
     }
 }
 

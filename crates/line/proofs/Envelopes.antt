@@ -10,11 +10,11 @@ use Rattle.octets.specs.Choice.{pick}
 use Rattle.octets.proofs.Choice.{both-left, both-right, both-true, not-of-true}
 use Rattle.envelope.specs.Acceptance.{lengthsFit}
 use Rattle.sealing.specs.KeyExpansion.{keyExpansion}
-use Rattle.sealing.specs.Seal.{carried, countCarried}
-use Rattle.sealing.proofs.Seal.{carried-length, carried-twice, count-carried}
+use Rattle.sealing.specs.Seal.{carried, countCarried, runsCarried}
+use Rattle.sealing.proofs.Seal.{carried-length, carried-twice, count-carried, runs-carried}
 use Rattle.protocol.specs.declared.Passage.{Passage}
 use Rattle.protocol.specs.declared.Sending.{Sending}
-use Rattle.traffic.specs.Passages.{misfit, passed, passedCount}
+use Rattle.traffic.specs.Passages.{misfit, passed, passedCount, passedRuns}
 use Rattle.line.specs.Setting.{Setting}
 use Rattle.line.specs.History.{Way, downward, upward, Envelope, Lane, keyOf, Arrival}
 use Rattle.line.specs.Claim.{nonceFor, isSealed, PassageRight, SentRight, ArrivedRight}
@@ -37,6 +37,7 @@ envelopeOf way now llid channel p s number =
       header = s .header;
       octets = passed channel (s .passage) p;
       count = passedCount (s .passage) p;
+      runs = passedRuns (s .passage) p;
       passage = s .passage;
       number = number;
     }
@@ -53,6 +54,10 @@ module _ (w : Setting) (l : Lane) (e : Envelope) (channel : ℕ) (q : Passage) (
   pub count-right : passedCount q p ≡ countCarried (isSealed e) p
   unfolding passedCount
   count-right = rw (r .enciphered)
+
+  pub runs-right : passedRuns q p ≡ runsCarried (isSealed e) p
+  unfolding passedRuns
+  runs-right = rw (r .enciphered)
 
 ---- lengths
 
@@ -79,6 +84,7 @@ arrivalOf e q =
       envelope = e;
       number = 0;
       count = passedCount q (e .octets);
+      runs = passedRuns q (e .octets);
       output = passed (e .header .channel) q (e .octets);
       passage = q;
     }
@@ -100,4 +106,9 @@ opens-right w l e q m r h =
           ∙ ap (countCarried (isSealed e)) (r .octets)
           ∙ count-carried (isSealed e) (keyExpansion (keyOf (l .keys) (e .number))) (nonceFor w (l .site) e) (e .payload)
           ∙ sym (r .count);
+      runs =
+          runs-right w l e (e .header .channel) q h (e .octets)
+          ∙ ap (runsCarried (isSealed e)) (r .octets)
+          ∙ runs-carried (isSealed e) (keyExpansion (keyOf (l .keys) (e .number))) (nonceFor w (l .site) e) (e .payload)
+          ∙ sym (r .runs);
     }

@@ -168,6 +168,7 @@ module _ (c : Claim example played) where
         nonce = r .passage .nonce number ∙ nonce-is _ n hchannel hmac hclock;
         payload = r .payload ∙ hpayload;
         reported = r .count ∙ c .sent u (arrivalAt played u k .envelope) (r .sent) .count ∙ hcount;
+        as-often = r .runs;
       }
 
   apart : (u i v j : ℕ) → ltb i (length (laneAt played u .past .sent)) ≡ true → ltb j (length (laneAt played v .past .sent)) ≡ true
@@ -226,6 +227,7 @@ module _ {s : State} (c : Claim example s) where
       record {
         refused = ap (λ (r : WithOutput OnuReceived). r .answer .number) e ∙ hnumber;
         count = ap (λ (r : WithOutput OnuReceived). r .answer .count) e;
+        runs = ap (λ (r : WithOutput OnuReceived). r .answer .runs) e;
         unit = ap (λ (r : WithOutput OnuReceived). r .answer .onu) e;
         buffer = ap (λ (r : WithOutput OnuReceived). r .output) e;
       }

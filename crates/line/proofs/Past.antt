@@ -48,6 +48,7 @@ module _ (w : Setting) (l l' : Lane) (top : ℕ) (k : Knows l l' top) where
             ∙ carried-same (isSealed e) _ _ _ _ (λ t. k .keys (e .number) (leb-true 1 (e .number) t) h)
             ∙ ap (λ (s : Site). carried (isSealed e) (keyExpansion (keyOf (l' .keys) (e .number))) (nonceFor w s e) (e .payload)) (k .site);
         count = r .count;
+        runs = r .runs;
       }
 
   pub arrived-carried : (r : Arrival) → r .envelope .number ≤ top → ArrivedRight w l r → ArrivedRight w l' r
@@ -58,6 +59,7 @@ module _ (w : Setting) (l l' : Lane) (top : ℕ) (k : Knows l l' top) where
         passage = passage-carried (r .envelope) (r .envelope .header .channel) (r .passage) h (a .passage);
         payload = a .payload;
         count = a .count;
+        runs = a .runs;
       }
 
   -- where no more is sent and no more has arrived

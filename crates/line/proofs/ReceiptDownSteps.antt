@@ -127,6 +127,7 @@ arrivalDown o e out =
       envelope = e;
       number = onuReceiveOf o (e .header) (e .octets) out .answer .number;
       count = onuReceiveOf o (e .header) (e .octets) out .answer .count;
+      runs = onuReceiveOf o (e .header) (e .octets) out .answer .runs;
       output = onuReceiveOf o (e .header) (e .octets) out .output;
       passage = receivingOnu o (misfit (e .octets) out) (e .header) .handed;
     }

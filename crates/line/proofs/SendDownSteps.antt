@@ -38,7 +38,7 @@ use Rattle.line.specs.Claim.{PassageRight, SentRight}
 use Rattle.line.proofs.Invariant.{reachOf, Spent, Joined, AtTick}
 use Rattle.line.proofs.Queues.{Knows, towards-carried, towards-envelope, from-carried}
 use Rattle.line.proofs.Past.{sent-carried, passing-sent}
-use Rattle.line.proofs.Envelopes.{ways-apart, envelopeOf, passed-right, count-right, fits-alone}
+use Rattle.line.proofs.Envelopes.{ways-apart, envelopeOf, passed-right, count-right, runs-right, fits-alone}
 use Rattle.line.proofs.Spending.{Renewed, spent-kept, spent-new, apart-new, spaced-more}
 use Rattle.line.proofs.SendChoices.{Chosen, chosen-down, unit-first}
 
@@ -147,6 +147,7 @@ module _ (w : Setting) (sh : Shared) (now : ℕ) (l : Lane) (u : UnitRecord) (o 
         header = rw (h .chosen, t .clock);
         octets = passed-right w l e channel q under p;
         count = count-right w l e channel q under p;
+        runs = runs-right w l e channel q under p;
       }
 
   -- the lane that the send is on

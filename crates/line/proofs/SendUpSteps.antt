@@ -46,7 +46,7 @@ use Rattle.line.proofs.Invariant.{Clocks, Spent, Joined, Common}
 use Rattle.line.proofs.Queues.{Knows, towards-moved, from-moved, from-envelope}
 use Rattle.line.proofs.Past.{sent-carried, passing-sent}
 use Rattle.line.proofs.Frames.{common-moved}
-use Rattle.line.proofs.Envelopes.{ways-apart, envelopeOf, passed-right, count-right, fits-alone}
+use Rattle.line.proofs.Envelopes.{ways-apart, envelopeOf, passed-right, count-right, runs-right, fits-alone}
 use Rattle.line.proofs.Spending.{Renewed, spent-kept, spent-new, apart-new, spaced-more}
 use Rattle.line.proofs.SendChoices.{chosen-up}
 
@@ -155,6 +155,7 @@ module _ (w : Setting) (sh : Shared) (now : ℕ) (l : Lane) (u : UnitRecord) (o 
             (epam-up (w .first) now (l .captured) (l .site) (u .clock) (o .clock) (j .clocks));
         octets = passed-right w l sentUp channel (handedUp .passage) under p;
         count = count-right w l sentUp channel (handedUp .passage) under p;
+        runs = runs-right w l sentUp channel (handedUp .passage) under p;
       }
 
   -- the lane of the unit that sends

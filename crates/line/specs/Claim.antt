@@ -11,7 +11,7 @@ use Rattle.refusal.specs.declared.Refusal.the-variants.{OutOfRange, UnknownLlid
 use Rattle.envelope.specs.CounterBlock.{counterBlock}
 use Rattle.envelope.specs.declared.Nonce.{Nonce}
 use Rattle.sealing.specs.KeyExpansion.{keyExpansion}
-use Rattle.sealing.specs.Seal.{carried, countCarried}
+use Rattle.sealing.specs.Seal.{carried, countCarried, runsCarried}
 use Rattle.protocol.specs.Headers.{envelopeHeader}
 use Rattle.ends.specs.Identities.{has}
 use Rattle.ends.specs.Keys.{keyIn}
@@ -57,6 +57,8 @@ pub record SentRight (w : Setting) (l : Lane) (e : Envelope) : Type 0 where
   pub header : e .header ≡ envelopeHeader (e .number) (e .channel) (e .llid) (senderClock w (l .site) (e .way) (e .left))
   pub octets : e .octets ≡ carried (isSealed e) (keyExpansion (keyOf (l .keys) (e .number))) (nonceFor w (l .site) e) (e .payload)
   pub count : e .count ≡ countCarried (isSealed e) (e .payload)
+  -- 02, C-17
+  pub runs : e .runs ≡ runsCarried (isSealed e) (e .payload)
 
 -- (1) an envelope that arrived was accepted, opened under its sender's key and counter block, and gave back payload and count
 pub record ArrivedRight (w : Setting) (l : Lane) (r : Arrival) : Type 0 where
@@ -65,6 +67,8 @@ pub record ArrivedRight (w : Setting) (l : Lane) (r : Arrival) : Type 0 where
   pub passage : PassageRight w l (r .envelope) (r .envelope .header .channel) (r .passage)
   pub payload : r .output ≡ r .envelope .payload
   pub count : r .count ≡ r .envelope .count
+  -- 02, C-17: the receipt ran the cipher as often as the send
+  pub runs : r .runs ≡ r .envelope .runs
 
 -- a block index has three octets
 abbrev pub indexTurn : ℕ

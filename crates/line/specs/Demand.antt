@@ -33,7 +33,7 @@ Theorem = (w : Setting) (es : List Event) → Fresh w → Meets w (start w) es �
 
 abbrev pub arrivalAt : State → ℕ → ℕ → Arrival
 arrivalAt s u k =
-    getD (laneAt s u .past .arrived) k (record { envelope = noEnvelope; number = 0; count = 0; output = []; passage = noPassage })
+    getD (laneAt s u .past .arrived) k (record { envelope = noEnvelope; number = 0; count = 0; runs = 0; output = []; passage = noPassage })
 
 abbrev pub nonce : ℕ → ℕ → ℕ → Nonce
 nonce channel mac clock = record { channel = channel; mac = mac; clock = clock }
@@ -74,6 +74,7 @@ pub record Delivered (u k : ℕ) (x : List ℕ) (n : Nonce) (p : List ℕ) (coun
   pub nonce : passageNonce (arrivalAt played u k .envelope .header .channel) (arrivalAt played u k .passage) ≡ n
   pub payload : arrivalAt played u k .output ≡ p
   pub reported : arrivalAt played u k .count ≡ count
+  pub as-often : arrivalAt played u k .runs ≡ arrivalAt played u k .envelope .runs
 
 -- the ith envelope of unit u's line and the jth of unit v's have no counter block in common under one key
 pub record Apart (u i v j : ℕ) : Type 0 where
@@ -108,6 +109,7 @@ pub record Agreed (s : State) (u place n : ℕ) (key : List ℕ) (i : Identity) 
 pub record Overheard (s : State) (u v k : ℕ) (out : List ℕ) (number : ℕ) : Type 0 where
   pub refused : overhearing s u v k out .answer .number ≡ number
   pub count : overhearing s u v k out .answer .count ≡ 0
+  pub runs : overhearing s u v k out .answer .runs ≡ 0
   pub unit : overhearing s u v k out .answer .onu ≡ onuAt s u
   pub buffer : overhearing s u v k out .output ≡ out
 

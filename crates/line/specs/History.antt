@@ -29,6 +29,7 @@ pub record Envelope : Type 0 where
   pub header : Header
   pub octets : List ℕ
   pub count : ℕ
+  pub runs : ℕ
   pub passage : Passage
   pub number : ℕ
 
@@ -48,11 +49,12 @@ pub record Answered : Type 0 where
   pub acknowledgement : Acknowledgement
   pub tick : ℕ
 
--- an envelope that arrived where it is meant for: the number, count and output of its receipt, and what it was opened with
+-- an envelope that arrived where it is meant for: the number, count, runs of the cipher and output of its receipt, and what it was opened with
 pub record Arrival : Type 0 where
   pub envelope : Envelope
   pub number : ℕ
   pub count : ℕ
+  pub runs : ℕ
   pub output : List ℕ
   pub passage : Passage
 

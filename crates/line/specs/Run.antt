@@ -160,6 +160,7 @@ envelopeDown now o llid channel p out number =
       header = oltSendOf o llid channel p out .answer .header;
       octets = oltSendOf o llid channel p out .output;
       count = oltSendOf o llid channel p out .answer .count;
+      runs = oltSendOf o llid channel p out .answer .runs;
       passage = sendingOlt o (misfit p out) llid channel (eqsOf p) .handed .passage;
       number = number;
     }
@@ -182,6 +183,7 @@ envelopeUp now o llid channel p out number =
       header = onuSendOf o llid channel p out .answer .header;
       octets = onuSendOf o llid channel p out .output;
       count = onuSendOf o llid channel p out .answer .count;
+      runs = onuSendOf o llid channel p out .answer .runs;
       passage = sendingOnu o (misfit p out) llid channel (eqsOf p) .handed .passage;
       number = number;
     }
@@ -204,6 +206,7 @@ receiptDown s u e out =
       envelope = e;
       number = onuReceiveOf (onuAt s u) (e .header) (e .octets) out .answer .number;
       count = onuReceiveOf (onuAt s u) (e .header) (e .octets) out .answer .count;
+      runs = onuReceiveOf (onuAt s u) (e .header) (e .octets) out .answer .runs;
       output = onuReceiveOf (onuAt s u) (e .header) (e .octets) out .output;
       passage = receivingOnu (onuAt s u) (misfit (e .octets) out) (e .header) .handed;
     }
@@ -230,6 +233,7 @@ noEnvelope =
       header = noSending .header;
       octets = [];
       count = 0;
+      runs = 0;
       passage = noSending .passage;
       number = 0;
     }
@@ -256,6 +260,7 @@ receiptUp s e out =
       envelope = e;
       number = oltReceiveOf (s .olt) (e .header) (e .octets) out .answer .number;
       count = oltReceiveOf (s .olt) (e .header) (e .octets) out .answer .count;
+      runs = oltReceiveOf (s .olt) (e .header) (e .octets) out .answer .runs;
       output = oltReceiveOf (s .olt) (e .header) (e .octets) out .output;
       passage = receivingOlt (s .olt) (misfit (e .octets) out) (e .header) .handed;
     }

@@ -4,5 +4,6 @@ pub mod FirstRound
 pub mod KeyExpansion
 pub mod Payload
 pub mod RowWords
+pub mod Runs
 pub mod Seal
 pub mod Sums

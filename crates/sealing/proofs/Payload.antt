@@ -1,18 +1,20 @@
 -- Laws of sealed payloads: what the ends, the line and the capture reader cite. Assumes nothing.
-use mathlib.Core.Path.{_≡_, ap, ap₂, sym, _∙_}
+use mathlib.Core.Path.{_≡_, refl, ap, ap₂, sym, _∙_}
+use mathlib.Core.Bool.{Bool, true, false}
 use mathlib.Core.List.{List, _∷_}
 use Prim.Native.Nat.{ℕ, zero, suc, _+_, _-_, _*_, _/_, _%_, _<_, _≤_, min}
 use native.Mathlib.Nat.{zero-add}
 use native.Mathlib.Numerals.{add-one}
 use native.Mathlib.Omega.{arith}
 use lib.Count.{ones}
+use lib.Dec.{ltb}
 use lib.ListN.{length, getD, take, drop, length-drop, List·getD-append}
 use lib.Seq.{ext-getD, getD-append-add, getD-drop}
 use Rattle.octets.specs.Bits.{bitOf}
 use Rattle.octets.specs.Choice.{pick}
-use Rattle.octets.specs.Lists.{tabulate, replaced, written}
-use Rattle.octets.proofs.Lists.{tabulate-length, tabulate-at, sum-ext, part-at, part-length, written-part, written-length, written-more, written-rest}
-use Rattle.envelope.specs.ControlMask.{controlOctet, masked, maskedAt, countEnciphered}
+use Rattle.octets.specs.Lists.{tabulate, replaced, sum, written}
+use Rattle.octets.proofs.Lists.{tabulate-length, tabulate-at, sum-below, sum-ext, part-at, part-length, written-part, written-length, written-more, written-rest}
+use Rattle.envelope.specs.ControlMask.{controlOctet, masked, maskedAt, countEnciphered, toEncipher, mostRuns, needsRun, runs, runsBelow}
 use Rattle.envelope.specs.declared.Nonce.{Nonce}
 use Rattle.envelope.proofs.ControlMask.{masked-at-twice}
 use Rattle.sealing.specs.Payload.{cipherBlock, halfOf, sealedOctet, sealed, SealedLaws}
@@ -79,8 +81,37 @@ count-sealed w n p =
     (sum-ext 0 (length p / 9) (λ e. 8 - ones (controlOctet (sealed w n p) e)) (λ e. 8 - ones (controlOctet p e))
     (λ e a b. ap (λ (x : ℕ). 8 - ones x) (control-kept w n p e (omega arith))))
 
+-- and as many runs, at most one for each block, and one for each block that has a data octet (02, C-17)
+pub runs-sealed : (w : List ℕ) (n : Nonce) (p : List ℕ) → runs (sealed w n p) ≡ runs p
+unfolding runs needsRun
+runs-sealed w n p =
+    rw sealed-length
+    (sum-ext 0 (mostRuns p) (run (sealed w n p)) (run p)
+    (λ k a b.
+    ap (λ (x : ℕ). pick (ltb 0 x) 1 0)
+    (sum-ext (2 * k) (min 2 (length p / 9 - 2 * k)) (λ e. toEncipher (controlOctet (sealed w n p) e)) (λ e. toEncipher (controlOctet p e))
+    (λ e c d. ap toEncipher (control-kept w n p e (omega arith)))))) where
+      run : List ℕ → ℕ → ℕ
+      run q k = pick (ltb 0 (sum (2 * k) (min 2 (length p / 9 - 2 * k)) (λ e. toEncipher (controlOctet q e)))) 1 0
+
+pub runs-at-most : (p : List ℕ) (k : ℕ) → runsBelow p k ≤ k
+unfolding pick
+runs-at-most p k = omega (arith, sum-below 0 k 1 (λ b. pick (needsRun p b) 1 0) (λ b. one (needsRun p b))) where
+  one : (t : Bool) → pick t 1 0 ≤ 1
+  one true = omega arith
+  one false = omega arith
+
+runs-reached : (p : List ℕ) (k : ℕ) → ((b : ℕ) → b < k → needsRun p b ≡ true) → runsBelow p k ≡ k
+unfolding pick
+runs-reached p k h =
+    sum-ext 0 k (λ b. pick (needsRun p b) 1 0) (λ b. 1) (λ b a l. rw (h b (omega arith))) ∙ ones-sum 0 k where
+      ones-sum : (i n : ℕ) → sum i n (λ b. 1) ≡ n
+      ones-sum i zero = refl
+      ones-sum i (suc n) = omega (arith, ones-sum (suc i) n)
+
 -- the laws that sealing promises, together
 pub sealed-laws : (w : List ℕ) (n : Nonce) (p : List ℕ) → SealedLaws w n p
+unfolding runs
 sealed-laws w n p = record {
   same-length = sealed-length w n p;
   control = λ e h. control-kept w n p e (omega arith);
@@ -88,6 +119,9 @@ sealed-laws w n p = record {
   own = λ q i h k c x. sealed-at w n p i h ∙ sealed-own w n p q i c x ∙ sym (sealed-at w n q i k);
   twice = sealed-twice w n p;
   count = count-sealed w n p;
+  as-often = runs-sealed w n p;
+  at-most = runs-at-most p (mostRuns p);
+  reached = runs-reached p (mostRuns p);
 }
 
 -- h has the eight cipher octets that serve EQ e
@@ -185,17 +219,3 @@ block-more w n p k whole h =
     let s = sealed w n p in
     let long : length (written s 0 (18 * k) p) ≡ length p = written-length s 0 (18 * k) p (omega arith) (omega arith) (omega (arith, sealed-length w n p)) in
     rw long (sealed-more w n p 0 (18 * k) (min (18 * k + 18) (length p)) (omega arith) (omega arith) (omega arith) (omega arith))
-
--- two blocks more
-pub pair-more : (w : List ℕ) (n : Nonce) (p : List ℕ) (i : ℕ) → length p % 9 ≡ 0 → 18 * (2 * i + 1) < length p
-    → blockSealed w n (blockSealed w n (written (sealed w n p) 0 (36 * i) p) (2 * i)) (2 * i + 1)
-    ≡ written (sealed w n p) 0 (min (36 * (i + 1)) (length p)) p
-pair-more w n p i whole h =
-    let start : 36 * i ≡ 18 * (2 * i) = omega arith in
-    let next : min (18 * (2 * i) + 18) (length p) ≡ 18 * (2 * i + 1) = omega arith in
-    let end : min (18 * (2 * i + 1) + 18) (length p) ≡ min (36 * (i + 1)) (length p) = omega arith in
-    let first : blockSealed w n (written (sealed w n p) 0 (36 * i) p) (2 * i) ≡ written (sealed w n p) 0 (18 * (2 * i + 1)) p =
-    rw start (rw next at (block-more w n p (2 * i) whole (omega arith))) in
-    ap (λ (q : List ℕ). blockSealed w n q (2 * i + 1)) first
-    ∙ block-more w n p (2 * i + 1) whole h
-    ∙ ap (λ (m : ℕ). written (sealed w n p) 0 m p) end

@@ -10,13 +10,13 @@ use Rattle.refusal.specs.declared.Verdict.{Verdict}
 use Rattle.refusal.specs.declared.Verdict.the-variants.{Accepted, Refused}
 use Rattle.refusal.specs.declared.Refusal.{Refusal}
 use Rattle.envelope.specs.Acceptance.{sealVerdict}
-use Rattle.envelope.specs.ControlMask.{countEnciphered}
+use Rattle.envelope.specs.ControlMask.{countEnciphered, runs}
 use Rattle.envelope.specs.declared.Nonce.{Nonce}
 use Rattle.envelope.specs.declared.SealAnswer.the-variants.{Done, Denied}
 use Rattle.envelope.proofs.Acceptance.{accepted, lengths-fit}
 use Rattle.sealing.specs.Payload.{sealed}
-use Rattle.sealing.specs.Seal.{carried, countCarried, sealingAfter, sealing}
-use Rattle.sealing.proofs.Payload.{sealed-length, sealed-twice, count-sealed}
+use Rattle.sealing.specs.Seal.{carried, countCarried, runsCarried, sealingAfter, sealing}
+use Rattle.sealing.proofs.Payload.{sealed-length, sealed-twice, count-sealed, runs-sealed}
 
 module _ (w : List ℕ) (n : Nonce) (p out : List ℕ) where
   -- refused: the number, and the output as it was
@@ -26,13 +26,13 @@ module _ (w : List ℕ) (n : Nonce) (p out : List ℕ) where
   sealing-refused enciphered r e = rw e
 
   pub sealing-done : (enciphered : Bool) → enciphered ≡ true → sealVerdict (length p) (length out) n ≡ Accepted
-      → withOutput (Done (countEnciphered p)) (sealed w n p) ≡ sealing enciphered w n p out
-  unfolding sealing sealingAfter carried countCarried pick
+      → withOutput (Done (countEnciphered p) (runs p)) (sealed w n p) ≡ sealing enciphered w n p out
+  unfolding sealing sealingAfter carried countCarried runsCarried pick
   sealing-done enciphered b e = rw (e, b)
 
   pub sealing-clear : (enciphered : Bool) → enciphered ≡ false → sealVerdict (length p) (length out) n ≡ Accepted
-      → withOutput (Done 0) p ≡ sealing enciphered w n p out
-  unfolding sealing sealingAfter carried countCarried pick
+      → withOutput (Done 0 0) p ≡ sealing enciphered w n p out
+  unfolding sealing sealingAfter carried countCarried runsCarried pick
   sealing-clear enciphered b e = rw (e, b)
 
 -- accepted, the payload goes into the output as it would go into its own place
@@ -72,3 +72,9 @@ pub count-carried : (t : Bool) (w : List ℕ) (n : Nonce) (p : List ℕ) → cou
 unfolding carried countCarried pick
 count-carried true w n p = count-sealed w n p
 count-carried false w n p = refl
+
+-- 02, C-17: an envelope's receipt runs the cipher as often as its send
+pub runs-carried : (t : Bool) (w : List ℕ) (n : Nonce) (p : List ℕ) → runsCarried t (carried t w n p) ≡ runsCarried t p
+unfolding carried runsCarried pick
+runs-carried true w n p = runs-sealed w n p
+runs-carried false w n p = refl

@@ -2,12 +2,13 @@
 -- are one act. w is the expanded key.
 -- Assumes nothing.
 use mathlib.Core.Path.{_≡_}
+use mathlib.Core.Bool.{true}
 use mathlib.Core.List.{List}
-use Prim.Native.Nat.{ℕ, suc, _+_, _*_, _/_, _%_, _<_}
+use Prim.Native.Nat.{ℕ, suc, _+_, _*_, _/_, _%_, _<_, _≤_}
 use lib.ListN.{length, getD}
 use Rattle.octets.specs.Bits.{bitOf}
 use Rattle.octets.specs.Lists.{tabulate}
-use Rattle.envelope.specs.ControlMask.{eqsOf, controlOctet, maskedAt, countEnciphered}
+use Rattle.envelope.specs.ControlMask.{eqsOf, controlOctet, maskedAt, countEnciphered, mostRuns, needsRun, runs}
 use Rattle.envelope.specs.CounterBlock.{counterBlock}
 use Rattle.envelope.specs.declared.Nonce.{Nonce}
 use Rattle.sealing.specs.Cipher.{cipher}
@@ -41,3 +42,7 @@ pub record SealedLaws (w : List ℕ) (n : Nonce) (p : List ℕ) : Type 0 where
   -- sealing and opening are one act: done twice, it gives the payload back, and both report one count
   pub twice : sealed w n (sealed w n p) ≡ p
   pub count : countEnciphered (sealed w n p) ≡ countEnciphered p
+  -- 02, C-17: and as many runs of the cipher; at most half the EQs, rounded up, which a payload with a data octet in every block reaches
+  pub as-often : runs (sealed w n p) ≡ runs p
+  pub at-most : runs p ≤ mostRuns p
+  pub reached : ((k : ℕ) → k < mostRuns p → needsRun p k ≡ true) → runs p ≡ mostRuns p

@@ -8,7 +8,7 @@ use Rattle.octets.specs.Output.{WithOutput}
 use Rattle.refusal.specs.declared.Verdict.{Verdict}
 use Rattle.refusal.specs.declared.Verdict.the-variants.{Accepted, Refused}
 use Rattle.envelope.specs.Acceptance.{sealVerdict}
-use Rattle.envelope.specs.ControlMask.{countEnciphered}
+use Rattle.envelope.specs.ControlMask.{countEnciphered, runs}
 use Rattle.envelope.specs.declared.Nonce.{Nonce}
 use Rattle.envelope.specs.declared.SealAnswer.{SealAnswer}
 use Rattle.envelope.specs.declared.SealAnswer.the-variants.{Done, Denied}
@@ -21,9 +21,13 @@ carried enciphered w n p = pick enciphered (sealed w n p) p
 unfoldable pub countCarried : Bool → List ℕ → ℕ
 countCarried enciphered p = pick enciphered (countEnciphered p) 0
 
+-- the runs of the cipher (02, C-17): a clear envelope takes none
+unfoldable pub runsCarried : Bool → List ℕ → ℕ
+runsCarried enciphered p = pick enciphered (runs p) 0
+
 unfoldable pub sealingAfter : Verdict → Bool → List ℕ → Nonce → List ℕ → List ℕ → WithOutput SealAnswer
 sealingAfter Accepted enciphered w n p out =
-    record { answer = Done (countCarried enciphered p); output = carried enciphered w n p }
+    record { answer = Done (countCarried enciphered p) (runsCarried enciphered p); output = carried enciphered w n p }
 sealingAfter (Refused r) enciphered w n p out = record { answer = Denied r; output = out }
 
 -- w is the expanded key, p the input, out the output as it was lent

@@ -8,14 +8,14 @@ ghost use Rattle.octets.specs.Output.{withOutput};
 ghost use Rattle.refusal.specs.declared.Verdict.the-variants.{Accepted};
 ghost use Rattle.gf256.specs.Table.{sboxTable};
 ghost use Rattle.envelope.specs.Acceptance.{sealVerdict};
-ghost use Rattle.envelope.specs.ControlMask.{maxBlocks, blocksOf};
+ghost use Rattle.envelope.specs.ControlMask.{maxBlocks, blocksOf, needsRun, runs};
 ghost use Rattle.sealing.specs.Cipher.{Nr};
 ghost use Rattle.sealing.specs.KeyExpansion.{keyExpansion};
 ghost use Rattle.sealing.specs.Payload.{sealed, SealedLaws};
 ghost use Rattle.sealing.specs.FirstRound.{PairSealed};
 ghost use Rattle.sealing.specs.RowWords.{Masked, PairKeys, maskedEq};
 ghost use Rattle.sealing.specs.Seal.{sealing};
-ghost use Rattle.sealing.specs.Steps.{blockSealed, pairsSealed};
+ghost use Rattle.sealing.specs.Steps.{NextRun, PairsSealed, blockSealed};
 use super::aes128::RoundKeys;
 use super::first_round::kept_rows;
 use super::key_expansion::expand_key;
@@ -35,6 +35,12 @@ use envelope::lengths_fit;
 use envelope::nonce_fits;
 use envelope::seal_verdict;
 use refusal::Verdict;
+
+// What pairs of runs leave: the runs made, and the next block that needs one, or the number of blocks.
+struct Paired {
+    runs: u64,
+    next: usize,
+}
 
 // The EQ that starts at `at`, under the eight octets of a cipher block that serve it. Its control octet stays.
 fn mask_eq(payload: &mut [u8], half: u64, at: usize)
@@ -60,18 +66,25 @@ fn mask_block(payload: &mut [u8], block: Block, i: usize)
     }
 }
 
-// Block `i` by itself.
-fn seal_lone<'a>(subs: &'a [u8; 256], w: &'a [u8; 176], nonce: Nonce, payload: &mut [u8], i: usize)
+// Block `i` by itself; tells the runs of the cipher that it made (02, C-17).
+fn seal_lone<'a>(
+    subs: &'a [u8; 256],
+    w: &'a [u8; 176],
+    nonce: Nonce,
+    payload: &mut [u8],
+    i: usize,
+) -> u64
     requires { ⌜ now subs ≡ sboxTable ⌝ }
     requires { ⌜ length (now payload) % 9 ≡ 0 ⌝ }
     requires { ⌜ (18 * i < length (now payload)) × (i < maxBlocks) ⌝ }
-    ensures { λ _. ⌜ now (payload .exit) ≡ blockSealed (now (w .entry)) nonce (now (payload .entry)) i ⌝ }
+    ensures { λ r. ⌜ (now (payload .exit) ≡ blockSealed (now (w .entry)) nonce (now (payload .entry)) i) × (r ≡ 1) ⌝ }
 {
     let block = encrypt_lone(subs, w, counter_block(nonce, i as u64));
     mask_block(payload, block, i);
+    1
 }
 
-// The blocks `i` and `j`, which are enciphered together.
+// The blocks `i` and `j`, which are enciphered together; tells the runs, one for each.
 fn seal_pair<'a>(
     subs: &'a [u8; 256],
     w: &'a [u8; 176],
@@ -80,48 +93,95 @@ fn seal_pair<'a>(
     payload: &mut [u8],
     i: usize,
     j: usize,
-)
+) -> u64
     requires { ⌜ (now subs ≡ sboxTable) × PairKeys (now w) Nr keys ⌝ }
     requires { ⌜ length (now payload) % 9 ≡ 0 ⌝ }
     requires { ⌜ ((18 * i < length (now payload)) × (i < maxBlocks)) × ((18 * j < length (now payload)) × (j < maxBlocks)) ⌝ }
-    ensures { λ _. ⌜ PairSealed (now (w .entry)) kept i j (now (payload .entry)) (now (payload .exit)) ⌝ }
+    ensures { λ r. ⌜ PairSealed (now (w .entry)) kept i j (now (payload .entry)) (now (payload .exit)) r ⌝ }
 {
     let blocks = encrypt_pair(subs, w, keys, kept, i as u64, j as u64);
     mask_block(payload, blocks.first, i);
     mask_block(payload, blocks.second, j);
+    2
 }
 
-// The blocks from the first on, two at a time: all, or all but an odd last one.
-fn seal_pairs<'a>(subs: &'a [u8; 256], w: &'a [u8; 176], nonce: Nonce, payload: &mut [u8])
-    requires { ⌜ now subs ≡ sboxTable ⌝ }
+// Whether block `i` has an octet to encipher: a control octet that is not FF hex.
+fn needs_run(payload: &[u8], i: usize) -> bool
     requires { ⌜ length (now payload) % 9 ≡ 0 ⌝ }
-    requires { ⌜ blocksOf (length (now payload)) ≤ maxBlocks ⌝ }
-    ensures { λ _. ⌜ now (payload .exit) ≡ pairsSealed (now (w .entry)) nonce (now (payload .entry)) ⌝ }
+    requires { ⌜ 18 * i < length (now payload) ⌝ }
+    ensures { λ r. ⌜ r ≡ needsRun (now (payload .entry)) i ⌝ }
 {
-    let pairs = (payload.len() + 17) / 18 / 2;
-    let keys = pair_keys(w);
-    let kept = kept_rows(subs, w, nonce);
-    let mut i: usize = 0;
-    while i < pairs {
-        seal_pair(subs, w, keys, kept, payload, 2 * i, 2 * i + 1);
-        i += 1;
+    let at = 18 * i;
+    let other = at + 9;
+    if other < payload.len() {
+        return (payload[at] & payload[other]) < 255;
     }
+    payload[at] < 255
 }
 
-// One block alone needs no keys for two.
-fn seal_blocks<'a>(subs: &'a [u8; 256], w: &'a [u8; 176], nonce: Nonce, payload: &mut [u8])
+// The first block from `i` on that needs a run, or `blocks`, as many as there are, where none does.
+fn next_run(payload: &[u8], blocks: usize, i: usize) -> usize
+    requires { ⌜ (length (now payload) % 9 ≡ 0) × (blocks ≡ blocksOf (length (now payload))) ⌝ }
+    ensures { λ r. ⌜ NextRun (now (payload .entry)) blocks i r ⌝ }
+{
+    let mut k = i;
+    while k < blocks {
+        if needs_run(payload, k) {
+            break;
+        }
+        k += 1;
+    }
+    k
+}
+
+// Seals the blocks that need a run, from `i` and `j` on, two at a time: all, or all but a last one. One alone needs no keys for two.
+fn seal_pairs<'a>(
+    subs: &'a [u8; 256],
+    w: &'a [u8; 176],
+    nonce: Nonce,
+    payload: &mut [u8],
+    i: usize,
+    j: usize,
+) -> Paired
     requires { ⌜ now subs ≡ sboxTable ⌝ }
-    requires { ⌜ length (now payload) % 9 ≡ 0 ⌝ }
-    requires { ⌜ blocksOf (length (now payload)) ≤ maxBlocks ⌝ }
-    ensures { λ _. ⌜ now (payload .exit) ≡ sealed (now (w .entry)) nonce (now (payload .entry)) ⌝ }
+    requires { ⌜ (length (now payload) % 9 ≡ 0) × (blocksOf (length (now payload)) ≤ maxBlocks) ⌝ }
+    requires { ⌜ NextRun (now payload) (blocksOf (length (now payload))) 0 i ⌝ }
+    requires { ⌜ NextRun (now payload) (blocksOf (length (now payload))) (i + 1) j ⌝ }
+    ensures { λ r. ⌜ PairsSealed (now (w .entry)) nonce (now (payload .entry)) (now (payload .exit)) r ⌝ }
 {
     let blocks = (payload.len() + 17) / 18;
-    if 1 < blocks {
-        seal_pairs(subs, w, nonce, payload);
+    if blocks <= j {
+        return Paired { runs: 0, next: i };
     }
-    if 0 < blocks % 2 {
-        seal_lone(subs, w, nonce, payload, blocks - 1);
+    let keys = pair_keys(w);
+    let kept = kept_rows(subs, w, nonce);
+    let mut runs: u64 = 0;
+    let mut first = i;
+    let mut second = j;
+    while second < blocks {
+        runs += seal_pair(subs, w, keys, kept, payload, first, second);
+        first = next_run(payload, blocks, second + 1);
+        second = next_run(payload, blocks, first + 1);
     }
+    Paired { runs, next: first }
+}
+
+// The blocks that need a run, sealed; tells the runs. A last one, with no other beside it, by itself.
+fn seal_blocks<'a>(subs: &'a [u8; 256], w: &'a [u8; 176], nonce: Nonce, payload: &mut [u8]) -> u64
+    requires { ⌜ now subs ≡ sboxTable ⌝ }
+    requires { ⌜ length (now payload) % 9 ≡ 0 ⌝ }
+    requires { ⌜ blocksOf (length (now payload)) ≤ maxBlocks ⌝ }
+    ensures { λ r. ⌜ (now (payload .exit) ≡ sealed (now (w .entry)) nonce (now (payload .entry))) × (r ≡ runs (now (payload .entry))) ⌝ }
+{
+    let blocks = (payload.len() + 17) / 18;
+    let first = next_run(payload, blocks, 0);
+    let second = next_run(payload, blocks, first + 1);
+    let paired = seal_pairs(subs, w, nonce, payload, first, second);
+    let next = paired.next;
+    if next < blocks {
+        return paired.runs + seal_lone(subs, w, nonce, payload, next);
+    }
+    paired.runs
 }
 
 // An accepted payload, sealed or opened in its place where the envelope is enciphered.
@@ -132,10 +192,9 @@ fn carry<'a>(enciphered: bool, w: &'a [u8; 176], nonce: Nonce, payload: &mut [u8
     if enciphered {
         let enciphering = count(payload);
         let subs = gf256::sbox_table();
-        seal_blocks(&subs, w, nonce, payload);
-        return SealAnswer::Done(enciphering);
+        return SealAnswer::Done(enciphering, seal_blocks(&subs, w, nonce, payload));
     }
-    SealAnswer::Done(0)
+    SealAnswer::Done(0, 0)
 }
 
 // Seals or opens a payload in its place under an expanded key; a clear envelope's stays as it is.

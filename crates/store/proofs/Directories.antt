@@ -19,7 +19,7 @@ use Rattle.capture.specs.Directory.{chained, pairOf, sizeFits, verdictOn, direc
 use Rattle.capture.specs.declared.directory.Pair.the-variants.{Fits}
 use Rattle.capture.specs.declared.directory.Directory.{Directory}
 use Rattle.capture.specs.declared.directory.Directory.the-variants.{Good, Bad}
-use Rattle.capture.specs.Opening.{openedRecord, recordCount, opening}
+use Rattle.capture.specs.Opening.{openedRecord, recordAdds, opening}
 use Rattle.capture.proofs.Pairs.{pair-fits}
 use Rattle.capture.proofs.Records.{Records, all-fit, good, placed, records-end}
 use Rattle.store.specs.Blocks.{blockWith}
@@ -101,7 +101,7 @@ module _ (f g : List ℕ → List ℕ) (keeps : (p : List ℕ) → length (f p) 
   alike s r e =
       let w = whole r e in
       let same = with-undone f r (w .header) g (undo (payloadOf r) (w .eqs)) in
-      record { number = ap (verdictOf s) same; octets = ap (openedRecord s) same; count = ap (recordCount s) same }
+      record { number = ap (verdictOf s) same; octets = ap (openedRecord s) same; added = λ of. ap (recordAdds of s) same }
 
   pub undone : (b : List ℕ) → directoryOf b ≡ Good (recordsIn b) → Undone f g b
   undone b e =

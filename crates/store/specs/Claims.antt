@@ -10,15 +10,15 @@ use Rattle.records.specs.Block.{directoryOctets, recordsIn, recordOf}
 use Rattle.records.specs.Record.{recordHeader, payloadOf, sized}
 use Rattle.records.specs.Verdict.{verdictOf}
 use Rattle.capture.specs.Directory.{directoryOf}
-use Rattle.capture.specs.Opening.{openedRecord, recordCount, opening}
+use Rattle.capture.specs.Opening.{openedRecord, recordAdds, opening}
 use Rattle.store.specs.Blocks.{withPayload, blockWith}
 use Rattle.store.specs.Calls.{storeVerdict}
 
--- the record r, whose payload was changed by f and then by g, opens as r does: its verdict, with the number, its octets and its count
+-- the record r, whose payload was changed by f and then by g, opens as r does: its verdict, with the number, its octets, and what it adds to count and runs
 pub record OpensAlike (f g : List ℕ → List ℕ) (s r : List ℕ) : Type 0 where
   pub number : verdictOf s (withPayload g (withPayload f r)) ≡ verdictOf s r
   pub octets : openedRecord s (withPayload g (withPayload f r)) ≡ openedRecord s r
-  pub count : recordCount s (withPayload g (withPayload f r)) ≡ recordCount s r
+  pub added : (of : List ℕ → ℕ) → recordAdds of s (withPayload g (withPayload f r)) ≡ recordAdds of s r
 
 -- f is done to every payload of the block b, and g undoes it
 pub record Undone (f g : List ℕ → List ℕ) (b : List ℕ) : Type 0 where

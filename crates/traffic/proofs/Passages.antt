@@ -15,21 +15,22 @@ use Rattle.refusal.specs.declared.Refusal.the-variants.{OutOfRange, BadLength}
 use Rattle.refusal.specs.declared.Verdict.the-variants.{Accepted, Refused}
 use Rattle.refusal.proofs.Order.{refuse-passed}
 use Rattle.clock.specs.Ticks.{clockTurn}
-use Rattle.envelope.specs.ControlMask.{countEnciphered, eqsOf}
+use Rattle.envelope.specs.ControlMask.{countEnciphered, eqsOf, runs}
 use Rattle.envelope.specs.Acceptance.{nonceFits, sealVerdict}
-use Rattle.envelope.specs.Answer.{sealCount}
+use Rattle.envelope.specs.Answer.{sealCount, sealRuns}
 use Rattle.envelope.specs.declared.Nonce.{Nonce}
 use Rattle.envelope.specs.declared.SealAnswer.{SealAnswer}
 use Rattle.envelope.proofs.Acceptance.{lengths-fit}
 use Rattle.sealing.specs.Payload.{sealed}
-use Rattle.sealing.specs.Seal.{carried, countCarried, sealingAfter, sealing}
+use Rattle.sealing.specs.Seal.{carried, countCarried, runsCarried, sealingAfter, sealing}
 use Rattle.ends.specs.Identities.{validMac, validIdentity}
 use Rattle.protocol.specs.Replies.{reply}
 use Rattle.protocol.specs.Headers.{noPassage}
 use Rattle.ends.specs.declared.Identity.{Identity}
 use Rattle.protocol.specs.declared.Passage.{Passage}
 use Rattle.envelope.specs.Channels.{channelFits, downstream, upstream}
-use Rattle.traffic.specs.Passages.{misfit, choiceEnciphered, passed, passedCount, outputAfter, carriedAfter}
+use Rattle.traffic.specs.declared.carrying.Work.{Work}
+use Rattle.traffic.specs.Passages.{misfit, choiceEnciphered, passed, passedCount, passedRuns, passedWork, outputAfter, carriedAfter}
 
 -- a payload whose length is not refused has at most the most EQs
 pub few-eqs : (p out : List ℕ) → misfit p out ≡ false → eqsOf p ≤ maxEqs
@@ -54,28 +55,31 @@ pub up-fits : (n : Nonce) → upstream (n .channel) ≡ true → validMac (n .ma
 unfolding nonceFits channelFits validMac
 up-fits n u m c = both-true (either-right _ u) (both-true m (lt-ltb (n .clock) clockTurn c))
 
--- accepted, sealing answers with the count and writes the payload sealed or opened
+-- accepted, sealing answers with the count and the runs, and writes the payload sealed or opened
 pub sealing-carried : (enciphered : Bool) (w : List ℕ) (n : Nonce) (p out : List ℕ) (a : SealAnswer) (o : List ℕ)
     → withOutput a o ≡ sealing enciphered w n p out → sealVerdict (length p) (length out) n ≡ Accepted
-    → withOutput (sealCount a) o ≡ withOutput (countCarried enciphered p) (carried enciphered w n p)
+    → withOutput {R = Work} (record { count = sealCount a; runs = sealRuns a }) o
+    ≡ withOutput (record { count = countCarried enciphered p; runs = runsCarried enciphered p }) (carried enciphered w n p)
 unfolding sealing sealingAfter
 sealing-carried enciphered w n p out a o e j =
-    ap (λ (s : WithOutput SealAnswer). withOutput (sealCount (s .answer)) (s .output)) (e ∙ ap (λ (v : Verdict). sealingAfter v enciphered w n p out) j)
+    ap (λ (s : WithOutput SealAnswer). withOutput {R = Work} (record { count = sealCount (s .answer); runs = sealRuns (s .answer) }) (s .output))
+    (e ∙ ap (λ (v : Verdict). sealingAfter v enciphered w n p out) j)
 
 -- a refused call hands over nothing, so that nothing is counted
 pub reply-carried : {E H : Type 0} (passage : H → Passage) (v : Verdict) (lent next : E) (nothing handed : H) (channel : ℕ) (p out : List ℕ)
     → passage nothing ≡ noPassage
     → let r = reply v lent nothing next handed in
     carriedAfter (r .verdict) channel (passage (r .handed)) p out
-    ≡ withOutput (passedCount (passage (r .handed)) p) (outputAfter (r .verdict) (passed channel (passage (r .handed)) p) out)
-unfolding reply carriedAfter outputAfter passedCount choiceEnciphered countCarried pick
+    ≡ withOutput (passedWork (passage (r .handed)) p) (outputAfter (r .verdict) (passed channel (passage (r .handed)) p) out)
+unfolding reply carriedAfter outputAfter passedCount passedRuns choiceEnciphered countCarried runsCarried pick
 reply-carried passage Accepted lent next nothing handed channel p out e = refl
 reply-carried passage (Refused r) lent next nothing handed channel p out e = rw e
 
 -- an empty payload passes enciphered as it passes clear
 pub empty-clear : (b some : Bool) (w : List ℕ) (n : Nonce) (p : List ℕ) → (some ≡ false → length p ≡ 0)
-    → withOutput (countCarried (both b some) p) (carried (both b some) w n p) ≡ withOutput (countCarried b p) (carried b w n p)
-unfolding both countCarried carried countEnciphered sealed pick
+    → withOutput {R = Work} (record { count = countCarried (both b some) p; runs = runsCarried (both b some) p }) (carried (both b some) w n p)
+    ≡ withOutput (record { count = countCarried b p; runs = runsCarried b p }) (carried b w n p)
+unfolding both countCarried runsCarried carried countEnciphered runs sealed pick
 empty-clear false some w n p h = refl
 empty-clear true true w n p h = refl
 empty-clear true false w n [] h = refl

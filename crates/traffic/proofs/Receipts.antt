@@ -14,7 +14,7 @@ use Rattle.refusal.specs.declared.Refusal.{Refusal}
 use Rattle.refusal.specs.declared.Verdict.{Verdict}
 use Rattle.refusal.specs.declared.Verdict.the-variants.{Accepted, Refused}
 use Rattle.envelope.specs.Acceptance.{sealVerdict}
-use Rattle.sealing.specs.Seal.{countCarried}
+use Rattle.sealing.specs.Seal.{countCarried, runsCarried}
 use Rattle.ends.specs.Limits.{maxKeyNumber}
 use Rattle.protocol.specs.Replies.{onValid, Reply}
 use Rattle.ends.specs.Table.{unitAt, withUnit}
@@ -45,7 +45,8 @@ use Rattle.unit.proofs.Reached.{reached-accepted}
 use Rattle.olt.specs.Lookup.{locatedOf}
 use Rattle.olt.specs.declared.Located.{Located}
 use Rattle.olt.proofs.Lookup.{lift-decided, reaches}
-use Rattle.traffic.specs.Passages.{misfit, choiceEnciphered, passageNonce, passed, passedCount, outputAfter, carriedAfter}
+use Rattle.traffic.specs.declared.carrying.Work.{Work}
+use Rattle.traffic.specs.Passages.{misfit, choiceEnciphered, passageNonce, passed, passedCount, passedRuns, passedWork, outputAfter, carriedAfter}
 use Rattle.traffic.specs.Receipts.{oltReceived, oltReceiveOf, onuReceived, onuNotReceived, onuReceiveOf}
 use Rattle.traffic.specs.declared.OltReceived.{OltReceived}
 use Rattle.traffic.specs.declared.OnuReceived.{OnuReceived}
@@ -55,11 +56,11 @@ use Rattle.traffic.proofs.Passages.{identity-mac, judged, down-fits, up
 
 -- a refused receipt counts nothing
 reached-carried : (way : Verdict) (s : Shared) (u : UnitRecord) (c : Outcome Passage) (channel : ℕ) (p out : List ℕ) → let x = reached way noPassage s u c in
-    carriedAfter (x .verdict) channel (x .handed) p out ≡ withOutput (passedCount (x .handed) p) (outputAfter (x .verdict) (passed channel (x .handed) p) out)
-unfolding reached ifAccepted carriedAfter outputAfter passedCount choiceEnciphered countCarried pick
+    carriedAfter (x .verdict) channel (x .handed) p out ≡ withOutput (passedWork (x .handed) p) (outputAfter (x .verdict) (passed channel (x .handed) p) out)
+unfolding reached ifAccepted carriedAfter outputAfter passedCount passedRuns choiceEnciphered countCarried runsCarried pick
 reached-carried way s u c channel p out = by-verdict (andThen way (c .verdict)) where
   by-verdict : (v : Verdict) → let q = ifAccepted v (c .handed) noPassage in
-      carriedAfter v channel q p out ≡ withOutput (passedCount q p) (outputAfter v (passed channel q p) out)
+      carriedAfter v channel q p out ≡ withOutput (passedWork q p) (outputAfter v (passed channel q p) out)
   by-verdict Accepted = refl
   by-verdict (Refused r) = refl
 
@@ -93,18 +94,19 @@ module _ (o : Olt) (h : Header) (p out : List ℕ) where
         (up-fits _ (both-left _ _ (not-false _ (refuse-accepted _ _ _ (passed .1) .0))) (identity-mac (unitAt o (l .place) .identity) (u .identity))
         (s .clock)))
 
-    pub olt-receive-done : (x : Outcome Passage) → x ≡ receiveDecided l → (n : ℕ) (octets : List ℕ)
+    pub olt-receive-done : (x : Outcome Passage) → x ≡ receiveDecided l → (n : Work) (octets : List ℕ)
         → withOutput n octets ≡ carriedAfter (x .verdict) (h .channel) (x .handed) p out
-        → withOutput {R = OltReceived} (record { number = verdictNumber (x .verdict); olt = withUnit o (l .place) (x .channels) (x .unit); count = n }) octets
+        → withOutput {R = OltReceived}
+        (record { number = verdictNumber (x .verdict); olt = withUnit o (l .place) (x .channels) (x .unit); count = n .count; runs = n .runs }) octets
         ≡ oltReceiveOf o h p out
     unfolding oltReceiveOf oltReceived receivingOlt
     olt-receive-done x f n octets k =
         let carried = subst (λ (y : Outcome Passage).
         carriedAfter (y .verdict) (h .channel) (y .handed) p out
-        ≡ withOutput (passedCount (y .handed) p) (outputAfter (y .verdict) (passed (h .channel) (y .handed) p) out))
+        ≡ withOutput (passedWork (y .handed) p) (outputAfter (y .verdict) (passed (h .channel) (y .handed) p) out))
         (sym f) (reached-carried (l .verdict) (o .shared) (unitAt o (l .place)) _ (h .channel) p out) in
-        ap (λ (y : WithOutput ℕ). withOutput {R = OltReceived}
-        (record { number = verdictNumber (x .verdict); olt = withUnit o (l .place) (x .channels) (x .unit); count = y .answer })
+        ap (λ (y : WithOutput Work). withOutput {R = OltReceived}
+        (record { number = verdictNumber (x .verdict); olt = withUnit o (l .place) (x .channels) (x .unit); count = y .answer .count; runs = y .answer .runs })
         (y .output)) (k ∙ carried)
         ∙ ap (λ (r : Reply Olt Passage). oltReceived r (h .channel) p out)
         (lift-decided o noPassage (receiveAhead (misfit p out) h) (h .llid) (receiveUnit h) l x e f)
@@ -118,7 +120,7 @@ module _ (o : Olt) (h : Header) (p out : List ℕ) where
 
 onu-not-received : (o : Onu) (r : Refusal) (channel : ℕ) (p out : List ℕ)
     → withOutput (onuNotReceived o r) out ≡ onuReceived (record { verdict = Refused r; end = o; handed = noPassage }) channel p out
-unfolding onuNotReceived onuReceived passedCount choiceEnciphered countCarried pick outputAfter
+unfolding onuNotReceived onuReceived passedCount passedRuns choiceEnciphered countCarried runsCarried pick outputAfter
 onu-not-received o r channel p out = refl
 
 -- only a held key comes into use, so that its number is a key number
@@ -158,12 +160,14 @@ module _ (o : Onu) (h : Header) (p out : List ℕ) where
       rw (reply-accepted _ o noPassage _ _ v)
       (judged p out _ (s .fits) (down-fits _ (s .downstream) (r .oltmac) (onu-clock-in-range (o .clock) (r .clock) .rx)))
 
-  pub onu-receive-done : (n : ℕ) (octets : List ℕ) → let d = onuReceiveDecided in
+  pub onu-receive-done : (n : Work) (octets : List ℕ) → let d = onuReceiveDecided in
       withOutput n octets ≡ carriedAfter (d .verdict) (h .channel) (d .handed) p out
-      → withOutput {R = OnuReceived} (record { number = verdictNumber (d .verdict); onu = d .end; count = n }) octets ≡ onuReceiveOf o h p out
+      → withOutput {R = OnuReceived} (record { number = verdictNumber (d .verdict); onu = d .end; count = n .count; runs = n .runs }) octets
+      ≡ onuReceiveOf o h p out
   unfolding onuReceiveOf onuReceived receivingOnu onuReply
   onu-receive-done n octets e =
       let d = onuReceiveDecided in
       ap
-      (λ (x : WithOutput ℕ). withOutput {R = OnuReceived} (record { number = verdictNumber (d .verdict); onu = d .end; count = x .answer }) (x .output))
+      (λ (x : WithOutput Work). withOutput {R = OnuReceived}
+      (record { number = verdictNumber (d .verdict); onu = d .end; count = x .answer .count; runs = x .answer .runs }) (x .output))
       (e ∙ reply-carried (λ (q : Passage). q) _ o _ noPassage _ (h .channel) p out refl)

@@ -14,7 +14,7 @@ use Rattle.refusal.specs.declared.Verdict.the-variants.{Accepted, Refused}
 use Rattle.clock.specs.Ticks.{maxTick}
 use Rattle.envelope.specs.ControlMask.{eqsOf}
 use Rattle.envelope.specs.Acceptance.{sealVerdict}
-use Rattle.sealing.specs.Seal.{countCarried}
+use Rattle.sealing.specs.Seal.{countCarried, runsCarried}
 use Rattle.protocol.specs.Replies.{Reply}
 use Rattle.ends.specs.Table.{unitAt, withUnit}
 use Rattle.ends.specs.Validity.{validOlt}
@@ -40,7 +40,8 @@ use Rattle.unit.proofs.Reached.{reached-accepted}
 use Rattle.olt.specs.Lookup.{locatedOf}
 use Rattle.olt.specs.declared.Located.{Located}
 use Rattle.olt.proofs.Lookup.{lift-decided, reaches}
-use Rattle.traffic.specs.Passages.{misfit, choiceEnciphered, passageNonce, passed, passedCount, outputAfter, carriedAfter}
+use Rattle.traffic.specs.declared.carrying.Work.{Work}
+use Rattle.traffic.specs.Passages.{misfit, choiceEnciphered, passageNonce, passed, passedCount, passedRuns, passedWork, outputAfter, carriedAfter}
 use Rattle.traffic.specs.Sends.{oltSent, oltSendOf, onuSent, onuSendOf}
 use Rattle.traffic.specs.declared.OltSent.{OltSent}
 use Rattle.traffic.specs.declared.OnuSent.{OnuSent}
@@ -51,11 +52,11 @@ use Rattle.traffic.proofs.Passages.{few-eqs, identity-mac, judged, down
 -- a refused send counts nothing
 reached-carried : (way : Verdict) (s : Shared) (u : UnitRecord) (c : Outcome Sending) (channel : ℕ) (p out : List ℕ) → let x = reached way noSending s u c in
     carriedAfter (x .verdict) channel (x .handed .passage) p out
-    ≡ withOutput (passedCount (x .handed .passage) p) (outputAfter (x .verdict) (passed channel (x .handed .passage) p) out)
-unfolding reached ifAccepted carriedAfter outputAfter passedCount choiceEnciphered countCarried pick
+    ≡ withOutput (passedWork (x .handed .passage) p) (outputAfter (x .verdict) (passed channel (x .handed .passage) p) out)
+unfolding reached ifAccepted carriedAfter outputAfter passedCount passedRuns choiceEnciphered countCarried runsCarried pick
 reached-carried way s u c channel p out = by-verdict (andThen way (c .verdict)) where
   by-verdict : (v : Verdict) → let q = ifAccepted v (c .handed) noSending .passage in
-      carriedAfter v channel q p out ≡ withOutput (passedCount q p) (outputAfter v (passed channel q p) out)
+      carriedAfter v channel q p out ≡ withOutput (passedWork q p) (outputAfter v (passed channel q p) out)
   by-verdict Accepted = refl
   by-verdict (Refused r) = refl
 
@@ -91,19 +92,31 @@ module _ (o : Olt) (llid channel : ℕ) (p out : List ℕ) where
         (sym (f ∙ reached-accepted (l .verdict) noSending (o .shared) (unitAt o (l .place)) call v))
         (judged p out _ (passed .0) (down-fits _ (not-false _ (refuse-accepted _ _ _ (passed .1) .0)) (s .mac) (s .clock)))
 
-    pub olt-send-done : (x : Outcome Sending) → x ≡ sendDecided l → (n : ℕ) (octets : List ℕ)
+    pub olt-send-done : (x : Outcome Sending) → x ≡ sendDecided l → (n : Work) (octets : List ℕ)
         → withOutput n octets ≡ carriedAfter (x .verdict) channel (x .handed .passage) p out
         → withOutput {R = OltSent}
-        (record { number = verdictNumber (x .verdict); olt = withUnit o (l .place) (x .channels) (x .unit); header = x .handed .header; count = n }) octets
+        (record {
+          number = verdictNumber (x .verdict);
+          olt = withUnit o (l .place) (x .channels) (x .unit);
+          header = x .handed .header;
+          count = n .count;
+          runs = n .runs;
+        }) octets
         ≡ oltSendOf o llid channel p out
     unfolding oltSendOf oltSent sendingOlt
     olt-send-done x f n octets k =
         let carried = subst (λ (y : Outcome Sending).
         carriedAfter (y .verdict) channel (y .handed .passage) p out
-        ≡ withOutput (passedCount (y .handed .passage) p) (outputAfter (y .verdict) (passed channel (y .handed .passage) p) out))
+        ≡ withOutput (passedWork (y .handed .passage) p) (outputAfter (y .verdict) (passed channel (y .handed .passage) p) out))
         (sym f) (reached-carried (l .verdict) (o .shared) (unitAt o (l .place)) _ channel p out) in
-        ap (λ (y : WithOutput ℕ). withOutput {R = OltSent}
-        (record { number = verdictNumber (x .verdict); olt = withUnit o (l .place) (x .channels) (x .unit); header = x .handed .header; count = y .answer })
+        ap (λ (y : WithOutput Work). withOutput {R = OltSent}
+        (record {
+          number = verdictNumber (x .verdict);
+          olt = withUnit o (l .place) (x .channels) (x .unit);
+          header = x .handed .header;
+          count = y .answer .count;
+          runs = y .answer .runs;
+        })
         (y .output)) (k ∙ carried)
         ∙ ap (λ (r : Reply Olt Sending). oltSent r channel p out)
         (lift-decided o noSending (sendAhead (misfit p out) channel) llid (sendUnit llid channel (eqsOf p)) l x e f)
@@ -132,14 +145,15 @@ module _ (o : Onu) (llid channel : ℕ) (p out : List ℕ) where
       rw (reply-accepted _ o noSending _ _ v)
       (judged p out _ (u .fits) (up-fits _ (u .upstream) (identity-mac (o .identity) (r .identity)) (onu-clock-in-range (o .clock) (r .clock) .tx)))
 
-  pub onu-send-done : (n : ℕ) (octets : List ℕ) → let d = onuSendDecided in
+  pub onu-send-done : (n : Work) (octets : List ℕ) → let d = onuSendDecided in
       withOutput n octets ≡ carriedAfter (d .verdict) channel (d .handed .passage) p out
-      → withOutput {R = OnuSent} (record { number = verdictNumber (d .verdict); onu = d .end; header = d .handed .header; count = n }) octets
+      → withOutput {R = OnuSent}
+      (record { number = verdictNumber (d .verdict); onu = d .end; header = d .handed .header; count = n .count; runs = n .runs }) octets
       ≡ onuSendOf o llid channel p out
   unfolding onuSendOf onuSent sendingOnu onuReply
   onu-send-done n octets e =
       let d = onuSendDecided in
       ap
-      (λ (x : WithOutput ℕ). withOutput {R = OnuSent}
-      (record { number = verdictNumber (d .verdict); onu = d .end; header = d .handed .header; count = x .answer }) (x .output))
+      (λ (x : WithOutput Work). withOutput {R = OnuSent}
+      (record { number = verdictNumber (d .verdict); onu = d .end; header = d .handed .header; count = x .answer .count; runs = x .answer .runs }) (x .output))
       (e ∙ reply-carried (λ (s : Sending). s .passage) _ o _ noSending _ channel p out refl)

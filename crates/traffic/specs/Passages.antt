@@ -9,10 +9,11 @@ use Rattle.refusal.specs.declared.Verdict.the-variants.{Accepted, Refused}
 use Rattle.envelope.specs.Acceptance.{lengthsFit}
 use Rattle.envelope.specs.declared.Nonce.{Nonce}
 use Rattle.sealing.specs.KeyExpansion.{keyExpansion}
-use Rattle.sealing.specs.Seal.{carried, countCarried}
+use Rattle.sealing.specs.Seal.{carried, countCarried, runsCarried}
 use Rattle.protocol.specs.declared.KeyChoice.{KeyChoice}
 use Rattle.protocol.specs.declared.KeyChoice.the-variants.{Clear, Current, Next, Barred}
 use Rattle.protocol.specs.declared.Passage.{Passage}
+use Rattle.traffic.specs.declared.carrying.Work.{Work}
 
 -- 14: the lengths of payload and output
 unfoldable pub misfit : List ℕ → List ℕ → Bool
@@ -35,12 +36,19 @@ passed channel q p = carried (choiceEnciphered (q .choice)) (keyExpansion (q .ke
 unfoldable pub passedCount : Passage → List ℕ → ℕ
 passedCount q p = countCarried (choiceEnciphered (q .choice)) p
 
+-- the runs of the cipher (02, C-17)
+unfoldable pub passedRuns : Passage → List ℕ → ℕ
+passedRuns q p = runsCarried (choiceEnciphered (q .choice)) p
+
+abbrev pub passedWork : Passage → List ℕ → Work
+passedWork q p = record { count = passedCount q p; runs = passedRuns q p }
+
 -- a refusal leaves the output
 unfoldable pub outputAfter : Verdict → List ℕ → List ℕ → List ℕ
 outputAfter Accepted next lent = next
 outputAfter (Refused r) next lent = lent
 
 -- what a verdict leaves of a payload that would pass: refused, nothing is counted and the output stays
-unfoldable pub carriedAfter : Verdict → ℕ → Passage → List ℕ → List ℕ → WithOutput ℕ
-carriedAfter Accepted channel q p out = withOutput (passedCount q p) (passed channel q p)
-carriedAfter (Refused r) channel q p out = withOutput 0 out
+unfoldable pub carriedAfter : Verdict → ℕ → Passage → List ℕ → List ℕ → WithOutput Work
+carriedAfter Accepted channel q p out = withOutput (passedWork q p) (passed channel q p)
+carriedAfter (Refused r) channel q p out = withOutput (record { count = 0; runs = 0 }) out

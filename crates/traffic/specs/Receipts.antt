@@ -14,7 +14,7 @@ use Rattle.protocol.specs.declared.Header.{Header}
 use Rattle.ends.specs.declared.Olt.{Olt}
 use Rattle.ends.specs.declared.Onu.{Onu}
 use Rattle.protocol.specs.declared.Passage.{Passage}
-use Rattle.traffic.specs.Passages.{misfit, passed, passedCount, outputAfter}
+use Rattle.traffic.specs.Passages.{misfit, passed, passedCount, passedRuns, outputAfter}
 use Rattle.traffic.specs.declared.OltReceived.{OltReceived}
 use Rattle.traffic.specs.declared.OnuReceived.{OnuReceived}
 use Rattle.traffic.specs.declared.at_onu.OnuReceiving.{OnuReceiving}
@@ -22,7 +22,7 @@ use Rattle.traffic.specs.declared.at_onu.OnuReceiving.{OnuReceiving}
 unfoldable pub oltReceived : Reply Olt Passage → ℕ → List ℕ → List ℕ → WithOutput OltReceived
 oltReceived r channel p out =
     record {
-      answer = record { number = verdictNumber (r .verdict); olt = r .end; count = passedCount (r .handed) p };
+      answer = record { number = verdictNumber (r .verdict); olt = r .end; count = passedCount (r .handed) p; runs = passedRuns (r .handed) p };
       output = outputAfter (r .verdict) (passed channel (r .handed) p) out;
     }
 
@@ -32,13 +32,13 @@ oltReceiveOf o h p out = oltReceived (receivingOlt o (misfit p out) h) (h .chann
 unfoldable pub onuReceived : Reply Onu Passage → ℕ → List ℕ → List ℕ → WithOutput OnuReceived
 onuReceived r channel p out =
     record {
-      answer = record { number = verdictNumber (r .verdict); onu = r .end; count = passedCount (r .handed) p };
+      answer = record { number = verdictNumber (r .verdict); onu = r .end; count = passedCount (r .handed) p; runs = passedRuns (r .handed) p };
       output = outputAfter (r .verdict) (passed channel (r .handed) p) out;
     }
 
--- refused: the end as it was lent, count 0
+-- refused: the end as it was lent, nothing counted
 unfoldable pub onuNotReceived : Onu → Refusal → OnuReceived
-onuNotReceived o r = record { number = numberOf r; onu = o; count = 0 }
+onuNotReceived o r = record { number = numberOf r; onu = o; count = 0; runs = 0 }
 
 -- what an ONU's receipt decides, but for its octets
 unfoldable pub onuReceiving : Reply Onu Passage → OnuReceiving

@@ -13,7 +13,7 @@ use Rattle.protocol.specs.OnuTraffic.{sendingOnu}
 use Rattle.ends.specs.declared.Olt.{Olt}
 use Rattle.ends.specs.declared.Onu.{Onu}
 use Rattle.protocol.specs.declared.Sending.{Sending}
-use Rattle.traffic.specs.Passages.{misfit, passed, passedCount, outputAfter}
+use Rattle.traffic.specs.Passages.{misfit, passed, passedCount, passedRuns, outputAfter}
 use Rattle.traffic.specs.declared.OltSent.{OltSent}
 use Rattle.traffic.specs.declared.OnuSent.{OnuSent}
 use Rattle.traffic.specs.declared.at_onu.OnuSending.{OnuSending}
@@ -27,6 +27,7 @@ oltSent r channel p out =
             olt = r .end;
             header = r .handed .header;
             count = passedCount (r .handed .passage) p;
+            runs = passedRuns (r .handed .passage) p;
           };
       output = outputAfter (r .verdict) (passed channel (r .handed .passage) p) out;
     }
@@ -43,6 +44,7 @@ onuSent r channel p out =
             onu = r .end;
             header = r .handed .header;
             count = passedCount (r .handed .passage) p;
+            runs = passedRuns (r .handed .passage) p;
           };
       output = outputAfter (r .verdict) (passed channel (r .handed .passage) p) out;
     }

@@ -5,14 +5,21 @@ ghost use lib.ListN.{length};
 ghost use Rattle.refusal.specs.declared.Verdict.the-variants.{Accepted};
 ghost use Rattle.envelope.specs.Acceptance.{sealVerdict, lengthsFit};
 ghost use Rattle.octets.specs.Output.{withOutput};
-ghost use Rattle.traffic.specs.Passages.{choiceEnciphered, passageNonce, passed, passedCount, carriedAfter};
+ghost use Rattle.traffic.specs.Passages.{choiceEnciphered, passageNonce, passed, passedWork, carriedAfter};
 use envelope::Nonce;
 use envelope::lengths_fit;
 use envelope::seal_count;
+use envelope::seal_runs;
 use protocol::KeyChoice;
 use protocol::Passage;
 use refusal::Verdict;
 use sealing::counter_mode::seal;
+
+// What a payload took: the octets enciphered, and the runs of the cipher (02, C-17).
+pub(crate) struct Work {
+    pub count: u64,
+    pub runs: u64,
+}
 
 // 14: the lengths of payload and output.
 pub(crate) fn misfit(n: usize, m: usize) -> bool
@@ -32,10 +39,10 @@ fn is_enciphered(choice: KeyChoice) -> bool
     }
 }
 
-// Seals or opens the payload, and gives the octets enciphered. An empty one needs no key.
-pub(crate) fn carry(passage: Passage, channel: u8, payload: &[u8], output: &mut [u8]) -> u64
+// Seals or opens the payload, and gives what that took. An empty one needs no key.
+pub(crate) fn carry(passage: Passage, channel: u8, payload: &[u8], output: &mut [u8]) -> Work
     requires { ⌜ sealVerdict (length (now payload)) (length (now output)) (passageNonce channel passage) ≡ Accepted ⌝ }
-    ensures { λ r. ⌜ withOutput r (now (output .exit)) ≡ withOutput (passedCount passage (now (payload .entry))) (passed channel passage (now (payload .entry))) ⌝ }
+    ensures { λ r. ⌜ withOutput r (now (output .exit)) ≡ withOutput (passedWork passage (now (payload .entry))) (passed channel passage (now (payload .entry))) ⌝ }
 {
     let choice = passage.choice;
     let enciphered = is_enciphered(choice) & (0 < payload.len());
@@ -46,7 +53,10 @@ pub(crate) fn carry(passage: Passage, channel: u8, payload: &[u8], output: &mut 
         clock: passage.clock,
     };
     let answer = seal(enciphered, key, nonce, payload, output);
-    seal_count(answer)
+    Work {
+        count: seal_count(answer),
+        runs: seal_runs(answer),
+    }
 }
 
 // Refused, the output stays and nothing is counted.
@@ -56,12 +66,12 @@ pub(crate) fn carry_accepted(
     channel: u8,
     payload: &[u8],
     output: &mut [u8],
-) -> u64
+) -> Work
     requires { ⌜ (verdict ≡ Accepted → sealVerdict (length (now payload)) (length (now output)) (passageNonce channel passage) ≡ Accepted) ⌝ }
     ensures { λ r. ⌜ withOutput r (now (output .exit)) ≡ carriedAfter verdict channel passage (now (payload .entry)) (now (output .entry)) ⌝ }
 {
     match verdict {
         Verdict::Accepted => carry(passage, channel, payload, output),
-        Verdict::Refused(_) => 0,
+        Verdict::Refused(_) => Work { count: 0, runs: 0 },
     }
 }

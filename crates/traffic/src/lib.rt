@@ -1,5 +1,5 @@
 // Send and receive at both ends, with their octets (01, Keys). Each takes the end by value and gives back the number, the end, the
-// header and the octets enciphered, and writes the output; refused, the end and the output are those that were lent.
+// header, the octets enciphered and the runs of the cipher, and writes the output; refused, the end and the output are those that were lent.
 mod at_olt;
 mod at_onu;
 mod carrying;
@@ -25,6 +25,7 @@ pub struct OltSent {
     pub olt: Olt,
     pub header: Header,
     pub count: u64,
+    pub runs: u64,
 }
 
 #[repr(C)]
@@ -32,6 +33,7 @@ pub struct OltReceived {
     pub number: u8,
     pub olt: Olt,
     pub count: u64,
+    pub runs: u64,
 }
 
 #[repr(C)]
@@ -40,6 +42,7 @@ pub struct OnuSent {
     pub onu: Onu,
     pub header: Header,
     pub count: u64,
+    pub runs: u64,
 }
 
 #[repr(C)]
@@ -47,6 +50,7 @@ pub struct OnuReceived {
     pub number: u8,
     pub onu: Onu,
     pub count: u64,
+    pub runs: u64,
 }
 
 pub fn olt_send(olt: Olt, llid: u16, channel: u8, payload: &[u8], output: &mut [u8]) -> OltSent
@@ -67,7 +71,7 @@ pub fn olt_send(olt: Olt, llid: u16, channel: u8, payload: &[u8], output: &mut [
     let sending = done.sending;
     let header = sending.header;
     let passage = sending.passage;
-    let count = carrying::carry_accepted(verdict, passage, channel, payload, output);
+    let work = carrying::carry_accepted(verdict, passage, channel, payload, output);
     let number = verdict_number(verdict);
     let mut shared = r.shared;
     shared.channels = channels;
@@ -77,7 +81,8 @@ pub fn olt_send(olt: Olt, llid: u16, channel: u8, payload: &[u8], output: &mut [
         number,
         olt: r,
         header,
-        count,
+        count: work.count,
+        runs: work.runs,
     }
 }
 
@@ -95,13 +100,14 @@ pub fn olt_receive(olt: Olt, header: Header, octets: &[u8], output: &mut [u8]) -
     let verdict = done.verdict;
     let next = done.unit;
     let passage = done.passage;
-    let count = carrying::carry_accepted(verdict, passage, header.channel, octets, output);
+    let work = carrying::carry_accepted(verdict, passage, header.channel, octets, output);
     let number = verdict_number(verdict);
     r.units[i] = next;
     OltReceived {
         number,
         olt: r,
-        count,
+        count: work.count,
+        runs: work.runs,
     }
 }
 
@@ -120,12 +126,13 @@ pub fn onu_send(onu: Onu, llid: u16, channel: u8, payload: &[u8], output: &mut [
     let next = decided.onu;
     let header = decided.sending.header;
     let passage = decided.sending.passage;
-    let count = carrying::carry_accepted(verdict, passage, channel, payload, output);
+    let work = carrying::carry_accepted(verdict, passage, channel, payload, output);
     OnuSent {
         number: verdict_number(verdict),
         onu: next,
         header,
-        count,
+        count: work.count,
+        runs: work.runs,
     }
 }
 
@@ -137,10 +144,11 @@ pub fn onu_receive(onu: Onu, header: Header, octets: &[u8], output: &mut [u8]) -
     let verdict = decided.verdict;
     let next = decided.onu;
     let passage = decided.passage;
-    let count = carrying::carry_accepted(verdict, passage, header.channel, octets, output);
+    let work = carrying::carry_accepted(verdict, passage, header.channel, octets, output);
     OnuReceived {
         number: verdict_number(verdict),
         onu: next,
-        count,
+        count: work.count,
+        runs: work.runs,
     }
 }

@@ -1,6 +1,6 @@
 //! What the calls on a capture block must answer: what the reference says of it, as their records.
 
-use crate::reference::capture::{self, Refused};
+use crate::reference::capture::{self, Opened, Refused};
 use jazmotip::{BlockAnswer, BlockDirectory, BlockPart, BlockVerdict};
 
 pub fn directory(block: &[u8]) -> BlockDirectory {
@@ -36,7 +36,9 @@ pub fn part(block: &[u8], k: usize) -> BlockPart {
 /// The answer of opening into an output of so many octets, and what that then holds, if it is written.
 pub fn open(settings: &[u8], block: &[u8], output: usize) -> (BlockAnswer, Option<Vec<u8>>) {
     match capture::open(settings, block, output) {
-        Ok((octets, count)) => (BlockAnswer { number: 0, pair: 0, count }, Some(octets)),
-        Err(Refused { number, pair }) => (BlockAnswer { number, pair, count: 0 }, None),
+        Ok(Opened { octets, count, runs, expansions }) => {
+            (BlockAnswer { number: 0, expansions, pair: 0, count, runs }, Some(octets))
+        }
+        Err(Refused { number, pair }) => (BlockAnswer { number, pair, ..BlockAnswer::default() }, None),
     }
 }

@@ -1,16 +1,12 @@
 -- `capture::opening::open` meets its contract: a refused call changes nothing, an accepted one copies and opens. Assumes nothing.
-use mathlib.Core.Path.{_≡_, sym, ap₂, _∙_}
-use mathlib.Core.List.{List}
-use Prim.Native.Nat.{ℕ}
+use mathlib.Core.Path.{_≡_, sym, _∙_}
 use lib.Dec.{eqb}
 use lib.ListN.{length}
 use borrow.Author.Needs.{needs}
 use borrow.Author.Tests.{eqb-true}
 use denote.Ref.{now}
-use Rattle.octets.specs.Output.{withOutput}
 use Rattle.octets.proofs.Lists.{copied-whole}
 use Rattle.capture.specs.declared.directory.Directory.the-variants.{Good}
-use Rattle.capture.specs.declared.opening.OpenAnswer.the-variants.{Done}
 use Rattle.capture.specs.Verdict.{callDirectory}
 use Rattle.capture.proofs.Openings.{call-good, found-bad, found-good, opening-refused, opening-done}
 use Rattle.capture.proofs.Reopening.{opened}
@@ -43,16 +39,15 @@ returns c =
 
 returns-2 : tie.Need-returns-2
 returns-2 c =
-    let q = c .before .before .open-records .ensures in
-    let x = c .before .before .before .before .before .before .before .before .before .before in
+    let opened-all = c .before .before .before in
+    let q = opened-all .open-records .ensures in
+    let x = opened-all .before .before .before .before .before .before .before .before in
     let a = x .before .before .before .before .before .before .args in
-    let judged = found-good (now (a .settings)) (now (a .block)) _ _ (found x) in (
-      ap₂ (λ (n : ℕ) (o : List ℕ). withOutput (Done n) o) (q .0) (q .1) ∙ opening-done (now (a .settings)) (now (a .block)) (now (a .output)) judged,
-      opened _ _ _,
-    )
+    let judged = found-good (now (a .settings)) (now (a .block)) _ _ (found x) in
+    (rw (q .0 .count, q .0 .runs, c .expansions .ensures, q .1) (opening-done (now (a .settings)) (now (a .block)) (now (a .output)) judged), opened _ _ _)
 
 pub open-spec : {M : Type 1} → statement M
 open-spec =
     tie.close
-    (tie.spec (λ c κs. search needs) (λ c. search needs) (λ c. search needs) (λ c κs. search needs) (λ c κs. search needs) open-records-requires returns
-    (λ c. search needs) returns-2)
+    (tie.spec (λ c κs. search needs) (λ c. search needs) (λ c. search needs) (λ c κs. search needs) (λ c κs. search needs) open-records-requires
+    (λ c κs. search needs) returns (λ c. search needs) returns-2)

@@ -2,11 +2,12 @@
 use mathlib.Core.Path.{refl, ap, _∙_}
 use Prim.Native.Nat.{_+_}
 use native.Mathlib.Omega.{arith}
+use Rattle.envelope.specs.ControlMask.{countEnciphered, runs}
 use borrow.Author.Needs.{needs}
 use denote.Ref.{now}
 use Rattle.sealing.specs.declared.aes128.RoundKeys.{RoundKeys}
 use Rattle.records.specs.declared.header.Header.{Header}
-use Rattle.capture.specs.Opening.{countAs}
+use Rattle.capture.specs.Opening.{addedAs}
 use Rattle.capture.specs.Duties.{Opens}
 use Rattle.capture.proofs.Openings.{clear-kept, refused-kept, opened-by, key-expanded, nonce-fits}
 use Rattle.capture.proofs.opening.open_as.Statement.{statement}
@@ -37,18 +38,20 @@ open-part-requires c κs =
     )
 
 returns : tie.Need-returns
-unfolding countAs
+unfolding addedAs
 returns c =
     let g = c .before .before .before .before .before in
     let a = g .args in
-    rw (c .enum-told .given .1) (refl, clear-kept (now (a .settings)) (now (a .block)) (now (a .output)) (a .from) (g .pre .0 .same))
+    rw (c .enum-told .given .1)
+    (record { count = refl; runs = refl }, clear-kept (now (a .settings)) (now (a .block)) (now (a .output)) (a .from) (g .pre .0 .same))
 
 returns-2 : tie.Need-returns-2
-unfolding countAs
+unfolding addedAs
 returns-2 c =
     let g = c .before .before .before .before .before in
     let a = g .args in
-    rw (c .enum-told2 .given .1) (refl, refused-kept (now (a .settings)) (now (a .block)) (now (a .output)) (a .from) (g .pre .0 .same) _)
+    rw (c .enum-told2 .given .1)
+    (record { count = refl; runs = refl }, refused-kept (now (a .settings)) (now (a .block)) (now (a .output)) (a .from) (g .pre .0 .same) _)
 
 returns-3 : tie.Need-returns-3
 returns-3 c =
@@ -67,7 +70,7 @@ returns-3 c =
     (at-cleared .cleared .result) (a .h) (at-key .key-for .result .octets) (a .from + at-octets .record-octets .result) (g .pre .1 .header) (rw size)
     (omega (arith, ap (λ (q : Header). q .eqs) (g .pre .1 .header), g .pre .0 .inside)) (at-cleared .cleared .ensures)
     (at-octets .before .mac .ensures .0) key in
-    rw (x .verdict .given .1) (q .0 ∙ o .0, q .1 ∙ o .1)
+    rw (x .verdict .given .1) (record { count = q .0 .count ∙ o .0 countEnciphered; runs = q .0 .runs ∙ o .0 runs }, q .1 ∙ o .1)
 
 pub open-as-spec : {M : Type 1} → statement M
 open-as-spec =

@@ -2,10 +2,12 @@
 use Prim.Native.Nat.{ℕ}
 use Rattle.octets.specs.Output.{withOutput}
 use Rattle.envelope.proofs.Acceptance.{accepted, lengths-fit, few-blocks}
+use Rattle.envelope.specs.ControlMask.{countEnciphered}
 use Rattle.envelope.specs.declared.SealAnswer.the-variants.{Done}
+use Rattle.sealing.specs.Payload as Payload
 use Rattle.sealing.proofs.Seal.{sealing-done, sealing-clear}
 use mathlib.Core.List.{List}
-use mathlib.Core.Path.{ap₂, _∙_}
+use mathlib.Core.Path.{ap, ap₂, _∙_}
 use borrow.Author.Needs.{needs}
 use Rattle.sealing.proofs.counter_mode.carry.Statement.{statement}
 use Rattle.sealing.proofs.counter_mode.carry.Tie as tie
@@ -23,7 +25,9 @@ returns c =
     let taken = counted .before .before in
     let start = taken .before .before in
     let a = start .args in
-    ap₂ (λ (n : ℕ) (o : List ℕ). withOutput (Done n) o) (counted .count .ensures) (sealed .seal-blocks .ensures)
+    let told = sealed .seal-blocks .ensures in
+    ap₂ (λ (n : ℕ) (o : List ℕ). withOutput (Done n (sealed .seal-blocks .result)) o) (counted .count .ensures) (told .0)
+    ∙ ap (λ (r : ℕ). withOutput (Done (countEnciphered (a .payload .now)) r) (Payload.sealed (a .w .now) (a .nonce) (a .payload .now))) (told .1)
     ∙ sealing-done (a .w .now) (a .nonce) (a .payload .now) (a .payload .now) (a .enciphered) (taken .if1 .taken) (start .pre)
 
 returns-2 : tie.Need-returns-2

@@ -1,73 +1,67 @@
--- `sealing::counter_mode::seal_blocks` meets its contract: the pairs are sealed, or there are none, and then an odd last block. Assumes nothing.
-use Prim.Native.Nat.{ℕ, _+_, _-_, _*_, _/_, min}
-use Rattle.octets.proofs.Lists.{written-all, written-length}
-use Rattle.octets.specs.Lists.{written}
-use Rattle.envelope.specs.ControlMask.{blocksOf}
-use Rattle.sealing.proofs.Payload.{sealed-length, block-more}
-use Rattle.sealing.specs.Payload.{sealed}
-use Rattle.sealing.specs.Steps.{blockSealed, pairsSealed}
+-- `sealing::counter_mode::seal_blocks` meets its contract: the pairs are sealed, then a last block that needs a run, and after it none does. Assumes nothing.
+use Prim.Native.Nat.{ℕ, _+_, _≤_, _<_}
+use Rattle.envelope.specs.ControlMask.{blocksOf, needsRun, runsBelow}
+use Rattle.sealing.proofs.Payload.{runs-at-most}
+use Rattle.sealing.proofs.Runs.{all-runs, all-sealed, idle-stretch, no-run, one-more, one-run}
+use Rattle.sealing.specs.Steps.{blockSealed, sealedBelow}
 use lib.ListN.{length}
+use mathlib.Core.Bool.{false}
 use mathlib.Core.List.{List}
-use mathlib.Core.Logic.{⊎-elim}
 use mathlib.Core.Path.{_≡_, ap, _∙_}
 use native.Mathlib.Omega.{arith}
 use borrow.Author.Needs.{needs}
 use Rattle.sealing.proofs.counter_mode.seal_blocks.Statement.{statement}
 use Rattle.sealing.proofs.counter_mode.seal_blocks.Tie as tie
 
--- the payload after the pairs
-front : (c : tie.Joined1) → let a = c .before .before .args in c .if1 .payload ≡ pairsSealed (a .w .now) (a .nonce) (a .payload .now)
-front c =
-    let p = c .before .before .args .payload .now in
-    ⊎-elim (λ made. made .5 ∙ made .2 .ensures)
-    (λ none.
-    let few : min (36 * (blocksOf (length p) / 2)) (length p) ≡ 0 = omega (arith, none .0 .left) in
-    rw few (none .1))
-    (c .if1 .came)
+add-next-run : tie.Need-add-next-run
+add-next-run c = let up = c .before .next-run .ensures .below (omega arith) in omega arith
 
-front-length : (c : tie.Joined1) → length (c .if1 .payload) ≡ length (c .before .before .args .payload .now)
-front-length c =
-    let a = c .before .before .args in
-    let p = a .payload .now in
-    ap length (front c)
-    ∙ written-length (sealed (a .w .now) (a .nonce) p) 0 (min (36 * (blocksOf (length p) / 2)) (length p)) p (omega arith) (omega arith)
-    (omega (arith, sealed-length (a .w .now) (a .nonce) p))
-
-seal-lone-requires : tie.Need-seal-lone-requires
-seal-lone-requires c κs =
-    let joined = c .before .before in
-    let long = front-length joined in
-    (joined .before .before .pre .0, (omega arith, (omega arith, omega arith)))
-
-same-length : tie.Need-same-length
-same-length c = c .before .before .seal-lone .kept .1 .1 .1 .0 ∙ front-length (c .before .before .before .before .before)
-
-returns : tie.Need-returns
-returns c =
-    let joined = c .before .before .before .before .before in
-    let a = joined .before .before .args in
-    let p = a .payload .now in
-    let w = a .w .now in
-    let k = blocksOf (length p) - 1 in
-    let start : min (36 * (blocksOf (length p) / 2)) (length p) ≡ 18 * k = omega arith in
-    let all : min (18 * k + 18) (length p) ≡ length p = omega arith in
-    c .before .before .seal-lone .ensures
-    ∙ ap (λ (q : List ℕ). blockSealed w (a .nonce) q k) (front joined ∙ ap (λ (m : ℕ). written (sealed w (a .nonce) p) 0 m p) start)
-    ∙ block-more w (a .nonce) p k (joined .before .before .pre .1 .0) (omega arith)
-    ∙ ap (λ (m : ℕ). written (sealed w (a .nonce) p) 0 m p) all
-    ∙ written-all (sealed w (a .nonce) p) p (sealed-length w (a .nonce) p)
+add-result : tie.Need-add-result
+add-result c =
+    let paired = c .before .before .before .before .before .before .before .before in
+    let p = paired .before .before .before .before .before .before .before .args .payload .now in
+    let left = paired .seal-pairs .ensures in
+    omega (arith, left .runs, left .below, runs-at-most p (paired .seal-pairs .result .next))
 
 returns-2 : tie.Need-returns-2
 returns-2 c =
-    let a = c .before .before .before .args in
+    let paired = c .before .before .before in
+    let start = paired .before .before .before .before .before .before .before in
+    let a = start .args in
     let p = a .payload .now in
     let w = a .w .now in
-    let all : min (36 * (blocksOf (length p) / 2)) (length p) ≡ length p = omega arith in
-    front (c .before)
-    ∙ ap (λ (m : ℕ). written (sealed w (a .nonce) p) 0 m p) all
-    ∙ written-all (sealed w (a .nonce) p) p (sealed-length w (a .nonce) p)
+    let whole = start .pre .1 .0 in
+    let left = paired .seal-pairs .ensures in
+    let all : paired .seal-pairs .result .next ≡ blocksOf (length p) = omega (arith, left .below) in (
+      left .sealed ∙ ap (sealedBelow w (a .nonce) p) all ∙ all-sealed w (a .nonce) p whole,
+      left .runs ∙ ap (runsBelow p) all ∙ all-runs p whole,
+    )
+
+returns : tie.Need-returns
+returns c =
+    let lone = c .before .before .before in
+    let room = lone .before .before in
+    let paired = room .before .before .before in
+    let start = paired .before .before .before .before .before .before .before in
+    let a = start .args in
+    let p = a .payload .now in
+    let w = a .w .now in
+    let whole = start .pre .1 .0 in
+    let left = paired .seal-pairs .ensures in
+    let k = paired .seal-pairs .result .next in
+    let blocks = blocksOf (length p) in
+    let idle : (b : ℕ) → k + 1 ≤ b → b < blocks → needsRun p b ≡ false = λ b l u. left .rest b (omega arith) u in
+    let none : runsBelow p blocks ≡ runsBelow p (k + 1) = no-run p (k + 1) blocks (omega arith) idle in (
+      lone .seal-lone .ensures .0
+          ∙ ap (λ (q : List ℕ). blockSealed w (a .nonce) q k) (left .sealed)
+          ∙ one-more w (a .nonce) p whole k (room .if1 .taken)
+          ∙ idle-stretch w (a .nonce) p whole (k + 1) blocks (omega arith) (omega arith) idle
+          ∙ all-sealed w (a .nonce) p whole,
+      omega (arith, lone .seal-lone .ensures .1, left .runs, one-run p k (left .needed (room .if1 .taken)), none, all-runs p whole),
+    )
 
 pub seal-blocks-spec : {M : Type 1} → statement M
 seal-blocks-spec =
     tie.close
-    (tie.spec (λ c. search needs) (λ c κs. search needs) (λ c. search needs) seal-lone-requires same-length returns (λ c. front-length (c .before)) returns-2)
+    (tie.spec (λ c. search needs) (λ c κs. search needs) add-next-run (λ c κs. search needs) (λ c κs. search needs) (λ c κs. search needs) add-result
+    (λ c. search needs) returns (λ c. search needs) returns-2)

@@ -1,74 +1,184 @@
--- `sealing::counter_mode::seal_pairs` meets its contract: after i pairs the first 36 i octets, or all, are sealed. Assumes nothing.
-use Prim.Native.Nat.{ℕ, _+_, _-_, _*_, _/_, _%_, _≤_, min}
-use Rattle.octets.specs.Lists.{written}
-use Rattle.envelope.specs.ControlMask.{maxBlocks, blocksOf}
+-- `sealing::counter_mode::seal_pairs` meets its contract: the blocks below the first of the two are sealed, and between them none needs a run. Assumes nothing.
+use Prim.Native.Nat.{ℕ, _+_, _-_, _%_, _≤_, _<_}
+use Rattle.envelope.specs.ControlMask.{maxBlocks, blocksOf, needsRun, runsBelow}
 use Rattle.envelope.specs.declared.Nonce.{Nonce}
-use Rattle.sealing.proofs.Payload.{pair-more}
+use Rattle.sealing.proofs.Payload.{runs-at-most}
+use Rattle.sealing.proofs.Runs.{first-runs, first-sealed, idle-stretch, next-past, no-run, two-more, two-runs}
 use Rattle.sealing.specs.Cipher.{Nr}
 use Rattle.sealing.specs.FirstRound.{Kept}
-use Rattle.sealing.specs.Payload.{sealed}
 use Rattle.sealing.specs.RowWords.{PairKeys}
-use Rattle.sealing.specs.Steps.{blockSealed}
+use Rattle.sealing.specs.Steps.{NextRun, blockSealed, sealedBelow}
 use lib.ListN.{length}
+use mathlib.Core.Bool.{true}
 use mathlib.Core.List.{List}
-use mathlib.Core.Path.{_≡_, refl, ap, _∙_}
+use mathlib.Core.Path.{_≡_, refl, ap, sym, _∙_}
 use native.Mathlib.Omega.{arith}
 use borrow.Author.Needs.{needs}
 use Rattle.sealing.proofs.counter_mode.seal_pairs.Statement.{statement}
 use Rattle.sealing.proofs.counter_mode.seal_pairs.Tie as tie
 
 abbrev Inv-loop : tie.InvT-loop
-Inv-loop subs w payload₀ pairs keys kept i₀ payload i =
-    (pairs ≡ blocksOf (length payload₀) / 2) × (length payload₀ % 9 ≡ 0) × (blocksOf (length payload₀) ≤ maxBlocks) × (i ≤ pairs)
-    × (length payload ≡ length payload₀) × PairKeys w Nr keys
-    × ((n : Nonce) → Kept w n kept → payload ≡ written (sealed w n payload₀) 0 (min (36 * i) (length payload₀)) payload₀)
+Inv-loop subs w payload₀ i j blocks keys kept runs₀ first₀ second₀ payload runs first second =
+    (blocks ≡ blocksOf (length payload₀)) × (length payload₀ % 9 ≡ 0) × (blocks ≤ maxBlocks) × (length payload ≡ length payload₀) × PairKeys w Nr keys
+    × (first ≤ blocks) × (first < blocks → needsRun payload₀ first ≡ true) × NextRun payload₀ blocks (first + 1) second
+    × (runs ≡ runsBelow payload₀ first) × ((n : Nonce) → Kept w n kept → payload ≡ sealedBelow w n payload₀ first)
 
 abbrev μ-loop : tie.MeasureT-loop
-μ-loop subs w payload₀ pairs keys kept i₀ payload i = pairs - i
-
-loop-holds : tie.Need-loop-holds Inv-loop μ-loop
-loop-holds c =
-    let keyed = c .before in
-    let start = keyed .before .before in
-    let none : min 0 (length (start .args .payload .now)) ≡ 0 = omega arith in
-    (refl, start .pre .1 .0, start .pre .1 .1, search needs, refl, keyed .pair-keys .ensures, λ n share. rw none)
-
-seal-pair-requires : tie.Need-seal-pair-requires Inv-loop μ-loop
-seal-pair-requires c κs =
-    let loop = c .before .before .loop in
-    ((c .before .before .before .before .before .before .pre .0, loop .inv .5), (omega arith, ((omega arith, omega arith), (omega arith, omega arith))))
-
-loop-again : tie.Need-loop-again Inv-loop μ-loop
-loop-again c =
-    let a = c .before .before .before .before .before .before .before .before .before .args in
-    let loop = c .before .before .before .before .before .loop in
-    let p = a .payload .now in
-    let w = a .w .now in
-    let now : min (36 * loop .i) (length p) ≡ 36 * loop .i = omega arith in
-    let sealing = c .before .before .seal-pair in (
-      refl,
-      loop .inv .1,
-      loop .inv .2,
-      omega arith,
-      sealing .kept .1 .1 .1 .1 .0 ∙ loop .inv .4,
-      loop .inv .5,
-      λ n share.
-          let so-far : loop .payload ≡ written (sealed w n p) 0 (36 * loop .i) p = rw now at (loop .inv .6 n share) in
-          sealing .ensures .sealed n share
-          ∙ ap (λ (q : List ℕ). blockSealed w n (blockSealed w n q (2 * loop .i)) (2 * loop .i + 1)) so-far
-          ∙ pair-more w n p (loop .i) (loop .inv .1) (omega arith),
-    )
+μ-loop subs w payload₀ i j blocks keys kept runs₀ first₀ second₀ payload runs first second = blocks - first
 
 returns : tie.Need-returns Inv-loop μ-loop
 returns c =
+    let start = c .before .before in
+    let a = start .args in
+    let p = a .payload .now in
+    let first = start .pre .1 .1 .0 in
+    record {
+      below = first .below (omega arith);
+      needed = first .needed;
+      rest = λ k l u. start .pre .1 .1 .1 .idle k (omega arith) (omega arith);
+      sealed = first-sealed (a .w .now) (a .nonce) p (start .pre .1 .0 .0) (a .i) first;
+      runs = first-runs p (a .i) (blocksOf (length p)) first;
+    }
+
+loop-holds : tie.Need-loop-holds Inv-loop μ-loop
+loop-holds c =
+    let start = c .before .before .before .before in
+    let a = start .args in
+    let p = a .payload .now in
+    let whole = start .pre .1 .0 .0 in
+    let first = start .pre .1 .1 .0 in (
+      refl,
+      whole,
+      start .pre .1 .0 .1,
+      refl,
+      c .before .pair-keys .ensures,
+      first .below (omega arith),
+      first .needed,
+      start .pre .1 .1 .1,
+      first-runs p (a .i) (blocksOf (length p)) first,
+      λ n share. first-sealed (a .w .now) n p whole (a .i) first,
+    )
+
+seal-pair-requires : tie.Need-seal-pair-requires Inv-loop μ-loop
+seal-pair-requires c κs =
+    let at-loop = c .before .before in
+    let start = at-loop .before .before .before .before .before in
+    let inv = at-loop .loop .inv in
+    let after : at-loop .loop .first + 1 ≤ at-loop .loop .second = inv .7 .from in
+    ((start .pre .0, inv .4), (omega arith, ((omega arith, omega arith), (omega arith, omega arith))))
+
+add-runs : tie.Need-add-runs Inv-loop μ-loop
+add-runs c =
+    let at-loop = c .before .before .before .before .before in
+    let start = at-loop .before .before .before .before .before in
+    omega (arith, runs-at-most (start .args .payload .now) (at-loop .loop .first), at-loop .loop .inv .8, at-loop .loop .inv .5, at-loop .loop .inv .2)
+
+-- the payload with one pair more sealed has its length
+long : (c : tie.After-seal-pair Inv-loop μ-loop)
+    → length (c .seal-pair .last .1 .1 .1 .1 .0) ≡ length (c .before .before .before .before .before .before .before .before .args .payload .now)
+long c = c .seal-pair .kept .1 .1 .1 .1 .0 ∙ c .before .before .before .loop .inv .3
+
+next-run-requires : tie.Need-next-run-requires Inv-loop μ-loop
+next-run-requires c κs =
+    let same = long (c .before .before .before) in
+    let inv = c .before .before .before .before .before .before .loop .inv in
+    (omega arith, omega arith)
+
+add-next-run-2 : tie.Need-add-next-run-2 Inv-loop μ-loop
+add-next-run-2 c =
+    let ran = c .before in
+    let at-loop = ran .before .before .before .before .before .before .before in
+    let up = ran .next-run .ensures .below (omega arith) in
+    omega (arith, at-loop .loop .inv .2)
+
+next-run-requires-2 : tie.Need-next-run-requires-2 Inv-loop μ-loop
+next-run-requires-2 c κs =
+    let same = long (c .before .before .before .before .before) in
+    let inv = c .before .before .before .before .before .before .before .before .loop .inv in
+    (omega arith, omega arith)
+
+-- one pair more is sealed
+more : (c : tie.After-seal-pair Inv-loop μ-loop) → let at-loop = c .before .before .before in let a = at-loop .before .before .before .before .before .args in
+    (n : Nonce) → Kept (a .w .now) n (at-loop .before .kept-rows .result)
+    → c .seal-pair .last .1 .1 .1 .1 .0 ≡ sealedBelow (a .w .now) n (a .payload .now) (at-loop .loop .second + 1)
+more c n share =
+    let at-loop = c .before .before .before in
+    let a = at-loop .before .before .before .before .before .args in
+    let loop = at-loop .loop in
+    let w = a .w .now in
+    let after : loop .first + 1 ≤ loop .second = loop .inv .7 .from in
+    c .seal-pair .ensures .sealed n share
+    ∙ ap (λ (q : List ℕ). blockSealed w n (blockSealed w n q (loop .first)) (loop .second)) (loop .inv .9 n share)
+    ∙ two-more w n (a .payload .now) (loop .inv .1) (loop .first) (loop .second) (omega arith) (c .before .before .loop-test .taken) (loop .inv .7 .idle)
+
+-- what comes after it is what came after it in the payload as it was
+next : (c : tie.After-next-run Inv-loop μ-loop) → let at-loop = c .before .before .before .before .before .before .before in
+    let p = at-loop .before .before .before .before .before .args .payload .now in
+    NextRun p (blocksOf (length p)) (at-loop .loop .second + 1) (c .next-run .result)
+next c =
+    let paired = c .before .before .before .before in
+    let at-loop = paired .before .before .before in
+    let a = at-loop .before .before .before .before .before .args in
+    let m = at-loop .loop .second + 1 in
+    next-past (a .w .now) (a .nonce) (a .payload .now) (at-loop .loop .inv .1) m m (omega arith)
+    (rw (more paired (a .nonce) (at-loop .before .kept-rows .ensures)) at (c .next-run .ensures))
+
+loop-again : tie.Need-loop-again Inv-loop μ-loop
+loop-again c =
+    let ran = c .before .before in
+    let paired = ran .before .before .before .before in
+    let at-loop = paired .before .before .before in
+    let start = at-loop .before .before .before .before .before in
+    let a = start .args in
+    let p = a .payload .now in
+    let w = a .w .now in
+    let loop = at-loop .loop in
+    let inv = loop .inv in
+    let m = loop .second + 1 in
+    let to = next ran in
+    let after : loop .first + 1 ≤ loop .second = inv .7 .from in
+    let past : m ≤ ran .next-run .result = to .from in
+    let room : loop .second < blocksOf (length p) = paired .before .before .loop-test .taken in
+    let below : ran .next-run .result ≤ blocksOf (length p) = to .below (omega arith) in
+    let two : runsBelow p m ≡ runsBelow p (loop .first) + 2 =
+    two-runs p (loop .first) (loop .second) (omega arith) (inv .7 .idle) (inv .6 (omega arith)) (inv .7 .needed room) in
+    let none : runsBelow p (ran .next-run .result) ≡ runsBelow p m = no-run p m (ran .next-run .result) past (to .idle) in (
+      refl,
+      inv .1,
+      inv .2,
+      long paired,
+      inv .4,
+      below,
+      to .needed,
+      next-past w (a .nonce) p (inv .1) m (ran .next-run .result + 1) (omega arith)
+          (rw (more paired (a .nonce) (at-loop .before .kept-rows .ensures)) at (c .next-run2 .ensures)),
+      omega (arith, inv .8, paired .seal-pair .ensures .runs, none, two),
+      λ n share. more paired n share ∙ idle-stretch w n p (inv .1) m (ran .next-run .result) past below (to .idle),
+    )
+
+loop-less : tie.Need-loop-less Inv-loop μ-loop
+loop-less c =
+    let ran = c .before .before in
+    let at-loop = ran .before .before .before .before .before .before .before in
+    let after : at-loop .loop .first + 1 ≤ at-loop .loop .second = at-loop .loop .inv .7 .from in
+    let past : at-loop .loop .second + 1 ≤ ran .next-run .result = next ran .from in
+    omega arith
+
+returns-2 : tie.Need-returns-2 Inv-loop μ-loop
+returns-2 c =
     let at-loop = c .before in
-    let kept = at-loop .before in
-    let a = kept .before .before .before .args in
-    let all : at-loop .loop .i ≡ blocksOf (length (a .payload .now)) / 2 = omega arith in
-    rw all at (at-loop .loop .inv .6 (a .nonce) (kept .kept-rows .ensures))
+    let inv = at-loop .loop .inv in
+    let a = at-loop .before .before .before .before .before .args in
+    record {
+      below = inv .5;
+      needed = inv .6;
+      rest = λ k l u. inv .7 .idle k (omega arith) (omega arith);
+      sealed = inv .9 (a .nonce) (at-loop .before .kept-rows .ensures);
+      runs = inv .8;
+    }
 
 pub seal-pairs-spec : {M : Type 1} → statement M
 seal-pairs-spec =
     tie.close
-    (tie.spec Inv-loop μ-loop (λ c. search needs) (λ c κs. search needs) (λ c κs. search needs) loop-holds (λ c. search needs) (λ c. search needs)
-    (λ c. search needs) seal-pair-requires (λ c. search needs) (λ c. search needs) loop-again (λ c. search needs) returns)
+    (tie.spec Inv-loop μ-loop (λ c. search needs) returns (λ c κs. search needs) (λ c κs. search needs) loop-holds seal-pair-requires add-runs
+    (λ c. search needs) next-run-requires add-next-run-2 next-run-requires-2 loop-less loop-again (λ c. search needs) returns-2)

@@ -14,7 +14,7 @@ pub fn settings(random: &mut Random, presence: u8) -> Vec<u8> {
     octets
 }
 
-/// A record that mostly fits the settings; its odd values are those of a mechanic's trouble.
+/// A record that mostly fits the settings; its odd values are those of a technician's trouble.
 pub fn record(random: &mut Random, settings: &[u8], eqs: usize) -> Vec<u8> {
     let clock = random.clock();
     let rare = |random: &mut Random, usual: u8| if random.once_in(25) { random.next() as u8 } else { usual };

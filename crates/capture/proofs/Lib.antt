@@ -6,3 +6,4 @@ pub mod Openings
 pub mod Reopening
 pub mod Lines
 pub mod Numbers
+pub mod NearLaws

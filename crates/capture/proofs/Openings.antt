@@ -184,7 +184,7 @@ verdict-opens s h c i t e =
     }
 
 -- opening keeps a record's length
-written-length : (s r : List ℕ) (v : RecordVerdict) → 16 ≤ length r → length (writtenAs s r v) ≡ length r
+pub written-length : (s r : List ℕ) (v : RecordVerdict) → 16 ≤ length r → length (writtenAs s r v) ≡ length r
 unfolding writtenAs payloadOf
 written-length s r Clear h = refl
 written-length s r (RecordVerdict.Refused c) h = refl

@@ -6,3 +6,4 @@ pub mod Opening
 pub mod Claims
 pub mod Listing
 pub mod Duties
+pub mod Near

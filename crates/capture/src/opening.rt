@@ -45,7 +45,7 @@ pub enum OpenAnswer {
 }
 
 // The two keys of the settings, expanded.
-struct Keys {
+pub(crate) struct Keys {
     pub first: RoundKeys,
     pub second: RoundKeys,
 }
@@ -89,7 +89,7 @@ fn key_for(keys: Keys, index: u8) -> RoundKeys
 
 // Writes the record with the header h, which starts at `from`, as the verdict on it says, and tells what that took; a clear
 // or refused record stays as it is.
-fn open_as(
+pub(crate) fn open_as(
     settings: &[u8],
     keys: Keys,
     block: &[u8],
@@ -165,7 +165,7 @@ fn expand(settings: &[u8], i: u8) -> RoundKeys
     expand_key(key(settings, i))
 }
 
-fn expand_keys(settings: &[u8]) -> Keys
+pub(crate) fn expand_keys(settings: &[u8]) -> Keys
     ensures { λ r. ⌜ Expanded (now (settings .entry)) r ⌝ }
 {
     let first = expand(settings, 0);

@@ -6,4 +6,5 @@ pub mod Openings
 pub mod Reopening
 pub mod Lines
 pub mod Numbers
-pub mod NearLaws
+pub mod Rebuilding
+pub mod Readings

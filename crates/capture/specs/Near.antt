@@ -1,38 +1,68 @@
--- A capture block b read with a receive clock that is known only nearly, under the settings s (02, C-18). Assumes nothing.
-use mathlib.Core.List.{List, [], _++_}
-use Prim.Native.Nat.{ℕ, zero, suc}
-use lib.Dec.{eqb}
-use lib.ListN.{length, take}
-use Rattle.octets.specs.Lists.{sum}
-use Rattle.octets.specs.Output.{WithOutput, withOutput}
-use Rattle.records.specs.Block.{directoryOctets, recordOf}
-use Rattle.records.specs.Following.{driftAt, nearVerdict}
-use Rattle.capture.specs.declared.directory.Directory.{Directory}
-use Rattle.capture.specs.declared.directory.Directory.the-variants.{Good, Bad}
-use Rattle.capture.specs.declared.nearly.NearAnswer.{NearAnswer}
-use Rattle.capture.specs.declared.nearly.NearAnswer.the-variants.{Done, Denied}
-use Rattle.capture.specs.Opening.{writtenAs, countAs}
-use Rattle.capture.specs.Verdict.{callDirectory}
+-- What reading with a clock that is known only nearly is worth (02, C-18): where the reader's clock follows the sender's, a block is
+-- read as if the clock were exact. Assumes nothing.
+use mathlib.Core.Path.{_≡_}
+use mathlib.Core.Bool.{true}
+use mathlib.Core.List.{List, _++_}
+use Prim.Native.Nat.{ℕ, _+_, _<_}
+use lib.ListN.{length, take, drop}
+use Rattle.octets.specs.BigEndian.{octetsOf}
+use Rattle.octets.specs.Lists.{part}
+use Rattle.refusal.specs.declared.Verdict.the-variants.{Accepted}
+use Rattle.records.specs.Settings.{llidOf}
+use Rattle.records.specs.Verdict.{verdictOf}
+use Rattle.records.specs.Block.{recordsIn, recordOf}
+use Rattle.records.specs.Near.{own}
+use Rattle.records.specs.Following.{headerOf, nearVerdict, Follows, slippedSettings, slippedBlock, slippedSent}
+use Rattle.capture.specs.Opening.{openVerdict, opening}
+use Rattle.capture.specs.Listing.{listingOf}
+use Rattle.capture.specs.Rebuilt.{rebuilt}
+use Rattle.capture.specs.Reading.{openingBy, listingBy}
 
--- the m records from record i on, each as its verdict has it written: the clock field stays as recorded
-unfoldable pub nearFrom : List ℕ → List ℕ → ℕ → ℕ → List ℕ
-nearFrom s b i zero = []
-nearFrom s b i (suc m) = writtenAs s (recordOf b i) (nearVerdict s b i) ++ nearFrom s b (suc i) m
+-- the place of a record's clock field, and its octets
+abbrev pub clockAt : ℕ
+clockAt = 6
 
--- a block of n records: the directory stays, and the records follow it
-unfoldable pub nearOpened : List ℕ → List ℕ → ℕ → List ℕ
-nearOpened s b n = take (directoryOctets n) b ++ nearFrom s b 0 n
+abbrev pub clockOctets : ℕ
+clockOctets = 6
 
--- the sum over the records
-unfoldable pub nearCount : List ℕ → List ℕ → ℕ → ℕ
-nearCount s b n = sum 0 n (λ i. countAs (recordOf b i) (nearVerdict s b i))
+-- the octets in the clock field of a record, and a record with these octets there
+abbrev pub clockField : List ℕ → List ℕ
+clockField r = part r clockAt clockOctets
 
--- the count, and the steps of the smallest and the largest correction
-unfoldable pub nearAfter : Directory → List ℕ → List ℕ → List ℕ → WithOutput NearAnswer
-nearAfter (Good n) s b out =
-    withOutput (Done (nearCount s b n) (driftAt s b n .smallest) (driftAt s b n .largest)) (nearOpened s b n)
-nearAfter (Bad r) s b out = withOutput (Denied r) out
+unfoldable pub withField : List ℕ → List ℕ → List ℕ
+withField r field = take clockAt r ++ (field ++ drop (clockAt + clockOctets) r)
 
--- 14, 1, 15, 18 and 19 as in the usual way; out is the output as it was lent
-unfoldable pub nearOpening : List ℕ → List ℕ → List ℕ → WithOutput NearAnswer
-nearOpening s b out = nearAfter (callDirectory (eqb (length out) (length b)) s b) s b out
+-- a block with the octets field i in the clock field of record i
+abbrev pub withFields : (ℕ → List ℕ) → List ℕ → List ℕ
+withFields field b = rebuilt (λ i. withField (recordOf b i) (field i)) b
+
+-- with the sender's clocks in them; the sender's clock at record i is sent i
+abbrev pub asSent : (ℕ → ℕ) → List ℕ → List ℕ
+asSent sent b = withFields (λ i. octetsOf clockOctets (sent i)) b
+
+-- with the clocks that the block b has there
+abbrev pub asRecorded : List ℕ → List ℕ → List ℕ
+asRecorded b o = withFields (λ i. clockField (recordOf b i)) o
+
+-- the near way of reading the block b is the usual way of reading that block with the sender's clocks in it
+pub record AsIfExact (sent : ℕ → ℕ) (s b out : List ℕ) : Type 0 where
+  -- every result
+  pub verdicts : (i : ℕ) → i < recordsIn b → nearVerdict s b i ≡ verdictOf s (recordOf (asSent sent b) i)
+  -- count, runs and expansions
+  pub answer : openingBy true s b out .answer .opened ≡ opening s (asSent sent b) out .answer
+  -- every octet of the output, but that the clock fields stay as recorded
+  pub output : openingBy true s b out .output ≡ asRecorded b (opening s (asSent sent b) out .output)
+  pub listing : listingBy true s b ≡ listingOf s (asSent sent b)
+
+-- at each header past 1 and 2 the reader's clock follows the sender's
+abbrev pub ClockFollows : (ℕ → ℕ) → List ℕ → List ℕ → Type 0
+ClockFollows sent s b = (i : ℕ) → i < recordsIn b → own (llidOf s) (headerOf b i) ≡ true → Follows sent s b i
+
+-- the promise, of a call that is accepted
+abbrev pub ReadsAsExact : List ℕ → List ℕ → List ℕ → Type 0
+ReadsAsExact s b out = (sent : ℕ → ℕ) → openVerdict s b (length out) ≡ Accepted → ClockFollows sent s b → AsIfExact sent s b out
+
+-- and that there is a block to which it applies: records/Following has it
+pub record NotEmpty : Type 0 where
+  pub accepted : openVerdict slippedSettings slippedBlock (length slippedBlock) ≡ Accepted
+  pub follows : ClockFollows slippedSent slippedSettings slippedBlock

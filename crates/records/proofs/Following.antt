@@ -91,10 +91,10 @@ pub record Holds (sent : ℕ → ℕ) (s b : List ℕ) (i : ℕ) : Type 0 where
 
 module _ (sent : ℕ → ℕ) (s b : List ℕ) (i : ℕ) (v : Holds sent s b i) where
   turn-other : own (llidOf s) (headerOf b i) ≡ false
-      → (nearVerdict s b i ≡ recordVerdict (presenceOf s) (llidOf s) (sent i) (headerOf b i)) × Holds sent s b (suc i)
+      → (nearVerdict s b i ≡ recordVerdict (presenceOf s) (llidOf s) (sent i % clockTurn) (headerOf b i)) × Holds sent s b (suc i)
   unfolding nearVerdict driftAt ahead
   turn-other o =
-      let q = other-heard (presenceOf s) (llidOf s) (sent i) (driftAt s b i) (headerOf b i) o in (
+      let q = other-heard (presenceOf s) (llidOf s) (sent i % clockTurn) (driftAt s b i) (headerOf b i) o in (
         q .0,
         record {
           places = ap (λ (d : Drift). length (d .sums)) (q .1) ∙ v .places;
@@ -119,7 +119,7 @@ module _ (sent : ℕ → ℕ) (s b : List ℕ) (i : ℕ) (v : Holds sent s b i) 
       ∙ v .sums p h ∙ sym (pick-false _ _ (both-false-right _ q))
 
   turn-own : own (llidOf s) (headerOf b i) ≡ true → Follows sent s b i
-      → (nearVerdict s b i ≡ recordVerdict (presenceOf s) (llidOf s) (sent i) (headerOf b i)) × Holds sent s b (suc i)
+      → (nearVerdict s b i ≡ recordVerdict (presenceOf s) (llidOf s) (sent i % clockTurn) (headerOf b i)) × Holds sent s b (suc i)
   unfolding nearVerdict driftAt
   turn-own o f =
       let h = headerOf b i in
@@ -128,7 +128,7 @@ module _ (sent : ℕ → ℕ) (s b : List ℕ) (i : ℕ) (v : Holds sent s b i) 
       ap (λ (x : ℕ). (h .clock + x) % clockTurn) (v .sums (sumAt (h .channel)) (place-below (llidOf s) h o)) in
       let hit : stepped at (f .step) ≡ sent i = ap (λ (x : ℕ). stepped x (f .step)) there ∙ sym (f .slip) in
       let near = is-nearest at (h .epam) .only (f .step) (f .within) (ap epamOf hit ∙ sym (f .epam)) in
-      let q = own-at (presenceOf s) (llidOf s) (sent i) (f .step) (driftAt s b i) h o near hit in (
+      let q = own-at (presenceOf s) (llidOf s) (sent i % clockTurn) (f .step) (driftAt s b i) h o near (hit ∙ omega (arith, f .slip)) in (
         q .0,
         record {
           places = ap (λ (d : Drift). length (d .sums)) (q .1) ∙ corrected-places (driftAt s b i) (h .channel) (f .step) ∙ v .places;
@@ -137,7 +137,7 @@ module _ (sent : ℕ → ℕ) (s b : List ℕ) (i : ℕ) (v : Holds sent s b i) 
       )
 
   turn : (t : Bool) → own (llidOf s) (headerOf b i) ≡ t → (own (llidOf s) (headerOf b i) ≡ true → Follows sent s b i)
-      → (nearVerdict s b i ≡ recordVerdict (presenceOf s) (llidOf s) (sent i) (headerOf b i)) × Holds sent s b (suc i)
+      → (nearVerdict s b i ≡ recordVerdict (presenceOf s) (llidOf s) (sent i % clockTurn) (headerOf b i)) × Holds sent s b (suc i)
   turn true o f = turn-own o (f o)
   turn false o f = turn-other o
 

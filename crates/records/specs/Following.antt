@@ -58,7 +58,7 @@ withClock h t =
 abbrev pub ReadsAsSent : List ℕ → List ℕ → Type 0
 ReadsAsSent s b =
     (sent : ℕ → ℕ) (n : ℕ) → ((i : ℕ) → i < n → own (llidOf s) (headerOf b i) ≡ true → Follows sent s b i)
-    → (i : ℕ) → i < n → nearVerdict s b i ≡ verdictFor s (withClock (headerOf b i) (sent i))
+    → (i : ℕ) → i < n → nearVerdict s b i ≡ verdictFor s (withClock (headerOf b i) (sent i % clockTurn))
 
 -- A block of two clear records of channel index 00 that such a reader captured: its clock is 25 behind the sender's at the first, across
 -- the turn of 2^48, and 5 behind at the second.

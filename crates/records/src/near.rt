@@ -5,7 +5,7 @@ ghost use Prim.Native.Nat.{_<_};
 ghost use lib.Dec.{leb};
 ghost use Rattle.octets.specs.Choice.{both, pick};
 ghost use Rattle.records.specs.Following.{Promise};
-ghost use Rattle.records.specs.Near.{stepped, nearest, IsNearest, sumAt, noDrift, expected, corrected, own, farVerdict, heard};
+ghost use Rattle.records.specs.Near.{stepped, nearest, IsNearest, sumAt, noDrift, expected, corrected, own, farVerdict, heard, signedOctet};
 use crate::header::Header;
 use crate::header::RecordVerdict;
 use crate::header::is_well_formed;
@@ -115,6 +115,13 @@ pub fn corrected(drift: Drift, channel: u8, step: u64) -> Drift
         smallest: smaller(drift.accepted, drift.smallest, step),
         largest: larger(drift.accepted, drift.largest, step),
     }
+}
+
+// The octet of a signed number, for the correction of a step.
+pub fn signed(step: u64) -> u8
+    ensures { λ r. ⌜ r ≡ signedOctet step ⌝ }
+{
+    ((step % 256 + (256 - MOST_SLIP)) % 256) as u8
 }
 
 // Whether a header is past 1 and 2.

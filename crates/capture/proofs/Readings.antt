@@ -1,0 +1,110 @@
+-- Laws of both ways of reading: what a turn of each loop over the records comes to, and that the usual way is the one of Opening, Verdict
+-- and Listing. Assumes nothing.
+use mathlib.Core.Path.{_≡_, refl, sym, ap, ap₂, _∙_}
+use mathlib.Core.Bool.{Bool, true, false}
+use mathlib.Core.List.{List, _++_}
+use Prim.Native.Nat.{ℕ, zero, suc, _+_, _≤_, _<_}
+use native.Mathlib.Omega.{arith}
+use lib.Dec.{eqb}
+use lib.ListN.{length}
+use Rattle.octets.specs.BigEndian.{sixOctets}
+use Rattle.octets.specs.Choice.{pick}
+use Rattle.octets.specs.Lists.{sum}
+use Rattle.octets.specs.Output.{WithOutput, withOutput}
+use Rattle.octets.proofs.Bits.{bit-below}
+use Rattle.octets.proofs.Choice.{pick-first}
+use Rattle.refusal.specs.declared.Refusal.the-variants.{OutOfRange, UnknownLlid}
+use Rattle.refusal.specs.declared.Verdict.{Verdict}
+use Rattle.refusal.specs.declared.Verdict.the-variants.{Accepted}
+use Rattle.records.specs.declared.header.Header.{Header}
+use Rattle.records.specs.declared.header.RecordVerdict.{RecordVerdict}
+use Rattle.records.specs.declared.header.RecordVerdict.the-variants.{Sealed, Refused}
+use Rattle.records.specs.declared.near.Correction.{Correction}
+use Rattle.records.specs.declared.near.Correction.the-variants.{Step, TooFar}
+use Rattle.records.specs.declared.near.Drift.{Drift}
+use Rattle.records.specs.declared.near.Heard.{Heard}
+use Rattle.records.specs.Settings.{presenceOf, llidOf}
+use Rattle.records.specs.Verdict.{headerFits, recordVerdict, verdictFor, verdictOf}
+use Rattle.records.specs.Block.{recordsIn, recordOf}
+use Rattle.records.specs.Near.{nearest, expected, farVerdict, heardAt, heard}
+use Rattle.records.specs.Following.{headerOf, driftAt, nearVerdict}
+use Rattle.records.proofs.Verdicts.{openable}
+use Rattle.capture.specs.declared.directory.Directory.{Directory}
+use Rattle.capture.specs.declared.directory.Directory.the-variants.{Good, Bad}
+use Rattle.capture.specs.declared.opening.OpenAnswer.{OpenAnswer}
+use Rattle.capture.specs.Opening.{openedRecord, recordAdds, openedBlock, blockAdds, openVerdict, openingAfter, opening}
+use Rattle.capture.specs.Verdict.{verdictAsked, callDirectory, numbersOver, verdictsAfter, verdictsOf}
+use Rattle.capture.specs.Listing.{rowAt, rowsFrom, bodyAfter, listingOf}
+use Rattle.capture.specs.Rebuilt.{joined, rebuilt}
+use Rattle.capture.specs.Reading.{judged, driftBy, verdictBy, recordBy, totalBy, openingAs, openingBy, askedBy, numbersBy, judgingAs, judgingBy, rowBy, bodyAs, listingBy}
+use Rattle.capture.specs.Duties.{Opens}
+use Rattle.capture.proofs.Reopening.{opened-is}
+
+-- ---- a record that is to be opened can be
+opens-by : (s : List ℕ) (h : Header) (t i u : ℕ) → recordVerdict (presenceOf s) (llidOf s) t h ≡ Sealed i u → t < sixOctets → Opens s h i u
+opens-by s h t i u e c =
+    let o = openable (presenceOf s) (llidOf s) t h i u e in
+    record { fits = o .fits; present = o .present; index = omega (arith, o .index, bit-below (h .flags) 1); clock = omega (arith, o .clock) }
+
+opens-at : (s : List ℕ) (drift : Drift) (h : Header) (c : Correction) (i t : ℕ)
+    → heardAt (presenceOf s) (llidOf s) drift h c .verdict ≡ Sealed i t → Opens s h i t
+unfolding heardAt farVerdict
+opens-at s drift h TooFar i t e =
+    let a = pick-first (headerFits h) _ (Refused OutOfRange) (Sealed i t) (λ z. cc) e in
+    let b = pick-first (eqb (h .llid) (llidOf s)) _ (Refused UnknownLlid) (Sealed i t) (λ z. cc) (a .1) in
+    let q = b .1 in
+    let z : _≡_ {A = ℕ} 0 1 = cc in
+    absurd (omega arith)
+opens-at s drift h (Step d) i t e = opens-by s h _ i t e (omega arith)
+
+pub judged-opens : (near : Bool) (s : List ℕ) (drift : Drift) (h : Header) → h .clock < sixOctets → (i t : ℕ) → judged near s drift h .verdict ≡ Sealed i t
+    → Opens s h i t
+unfolding judged heard verdictFor
+judged-opens true s drift h c i t e = opens-at s drift h (nearest (expected drift h) (h .epam)) i t e
+judged-opens false s drift h c i t e = opens-by s h (h .clock) i t e c
+
+-- ---- record i in its turn: its verdict, and the corrections behind it
+pub judged-turn : (near : Bool) (s b : List ℕ) (i : ℕ) (drift : Drift) (h : Header) → drift ≡ driftBy near s b i → h ≡ headerOf b i
+    → (judged near s drift h .verdict ≡ verdictBy near s b i) × (judged near s drift h .drift ≡ driftBy near s b (suc i))
+unfolding judged nearVerdict driftAt pick
+judged-turn true s b i drift h ed eh = (rw (ed, eh), rw (ed, eh))
+judged-turn false s b i drift h ed eh = (rw eh, ed)
+
+-- ---- the usual way
+opening-usual-by : (v : Verdict) (s b out : List ℕ)
+    → withOutput (openingAs false v s b out .answer .opened) (openingAs false v s b out .output) ≡ openingAfter v s b out
+unfolding openingAs openingAfter totalBy blockAdds recordAdds openedRecord pick
+opening-usual-by Accepted s b out = rw (opened-is s b)
+opening-usual-by (Verdict.Refused r) s b out = refl
+
+pub opening-usual : (s b out : List ℕ) → withOutput (openingBy false s b out .answer .opened) (openingBy false s b out .output) ≡ opening s b out
+unfolding openingBy opening
+opening-usual s b out = opening-usual-by (openVerdict s b (length out)) s b out
+
+pub asked-usual : (s b : List ℕ) (k : ℕ) → askedBy false s b k ≡ verdictAsked s b k
+unfolding askedBy verdictAsked pick
+asked-usual s b k = refl
+
+judging-usual-by : (d : Directory) (s b out : List ℕ)
+    → withOutput (judgingAs false d s b out .answer .directory) (judgingAs false d s b out .output) ≡ verdictsAfter d s b out
+unfolding numbersBy numbersOver askedBy verdictAsked pick
+judging-usual-by (Good n) s b out = refl
+judging-usual-by (Bad r) s b out = refl
+
+pub judging-usual : (s b out : List ℕ) → withOutput (judgingBy false s b out .answer .directory) (judgingBy false s b out .output) ≡ verdictsOf s b out
+unfolding judgingBy verdictsOf
+judging-usual s b out = judging-usual-by (callDirectory (eqb (length out) 256) s b) s b out
+
+rows-are : (s b : List ℕ) (i m : ℕ) → rowsFrom s b i m ≡ joined (rowAt s b) i m
+unfolding rowsFrom joined
+rows-are s b i zero = refl
+rows-are s b i (suc m) = ap (λ (t : List ℕ). rowAt s b i ++ t) (rows-are s b (suc i) m)
+
+body-usual : (v : Verdict) (s b : List ℕ) → bodyAs false s b v ≡ bodyAfter s b v
+unfolding bodyAs bodyAfter pick
+body-usual Accepted s b = sym (rows-are s b 0 (recordsIn b))
+body-usual (Verdict.Refused r) s b = refl
+
+pub listing-usual : (s b : List ℕ) → listingBy false s b ≡ listingOf s b
+unfolding listingBy listingOf
+listing-usual s b = rw (body-usual (openVerdict s b (length b)) s b)

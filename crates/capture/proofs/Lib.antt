@@ -8,3 +8,4 @@ pub mod Lines
 pub mod Numbers
 pub mod Rebuilding
 pub mod Readings
+pub mod Exact

@@ -161,6 +161,15 @@ pub nonce-fits : (h : Header) (m t : ℕ) → headerFits h ≡ true → m < 2 ^ 
 unfolding nonceFits headerFits
 nonce-fits h m t f p q = both-true (both-left _ _ (both-right _ _ f)) (both-true (lt-ltb _ _ p) (lt-ltb _ _ q))
 
+-- what is counted and written at a place is by the verdict on the record there
+pub counted-at : (g : List ℕ → ℕ) (b : List ℕ) (i from : ℕ) (u v : RecordVerdict) → At b i from → u ≡ v
+    → addedAs g (recordFrom b from) u ≡ addedAs g (recordOf b i) v
+counted-at g b i from u v x e = rw (e, x .octets)
+
+pub written-at : (s b out : List ℕ) (from due i : ℕ) (u v : RecordVerdict) → u ≡ v → At b i from → from ≡ due
+    → written s b out from u ≡ take due out ++ (writtenAs s (recordOf b i) v ++ drop (due + recordOctets (headerFrom b due .eqs)) b)
+written-at s b out from due i u v e x ef = rw (e, x .octets, ef)
+
 -- opening keeps a record's length
 pub written-length : (s r : List ℕ) (v : RecordVerdict) → 16 ≤ length r → length (writtenAs s r v) ≡ length r
 unfolding writtenAs payloadOf

@@ -4,6 +4,7 @@ use mathlib.Core.Path.{_≡_, refl, sym, ap, ap₂, _∙_}
 use mathlib.Core.Bool.{Bool, true, false}
 use mathlib.Core.List.{List, _++_}
 use Prim.Native.Nat.{ℕ, zero, suc, _+_, _≤_, _<_}
+use native.Mathlib.Numerals.{add-one}
 use native.Mathlib.Omega.{arith}
 use lib.Dec.{eqb}
 use lib.ListN.{length}
@@ -12,7 +13,8 @@ use Rattle.octets.specs.Choice.{pick}
 use Rattle.octets.specs.Lists.{sum}
 use Rattle.octets.specs.Output.{WithOutput, withOutput}
 use Rattle.octets.proofs.Bits.{bit-below}
-use Rattle.octets.proofs.Choice.{pick-first}
+use Rattle.octets.proofs.Choice.{pick-first, pick-same}
+use Rattle.refusal.specs.declared.Refusal.{Refusal}
 use Rattle.refusal.specs.declared.Refusal.the-variants.{OutOfRange, UnknownLlid}
 use Rattle.refusal.specs.declared.Verdict.{Verdict}
 use Rattle.refusal.specs.declared.Verdict.the-variants.{Accepted}
@@ -25,19 +27,22 @@ use Rattle.records.specs.declared.near.Drift.{Drift}
 use Rattle.records.specs.declared.near.Heard.{Heard}
 use Rattle.records.specs.Settings.{presenceOf, llidOf}
 use Rattle.records.specs.Verdict.{headerFits, recordVerdict, verdictFor, verdictOf}
-use Rattle.records.specs.Block.{recordsIn, recordOf}
-use Rattle.records.specs.Near.{nearest, expected, farVerdict, heardAt, heard}
+use Rattle.records.specs.Block.{mostRecords, recordsIn, recordOf}
+use Rattle.records.specs.Near.{noDrift, nearest, expected, farVerdict, heardAt, heard, signedOctet}
 use Rattle.records.specs.Following.{headerOf, driftAt, nearVerdict}
 use Rattle.records.proofs.Verdicts.{openable}
 use Rattle.capture.specs.declared.directory.Directory.{Directory}
 use Rattle.capture.specs.declared.directory.Directory.the-variants.{Good, Bad}
-use Rattle.capture.specs.declared.opening.OpenAnswer.{OpenAnswer}
-use Rattle.capture.specs.Opening.{openedRecord, recordAdds, openedBlock, blockAdds, openVerdict, openingAfter, opening}
+use Rattle.capture.specs.declared.opening.OpenAnswer.the-variants.{Done, Denied}
+use Rattle.capture.specs.declared.opening.Read.{Read}
+use Rattle.capture.specs.Opening.{openedRecord, recordAdds, openedBlock, blockAdds, expansions, openVerdict, openingAfter, opening}
 use Rattle.capture.specs.Verdict.{verdictAsked, callDirectory, numbersOver, verdictsAfter, verdictsOf}
 use Rattle.capture.specs.Listing.{rowAt, rowsFrom, bodyAfter, listingOf}
 use Rattle.capture.specs.Rebuilt.{joined, rebuilt}
 use Rattle.capture.specs.Reading.{judged, driftBy, verdictBy, recordBy, totalBy, openingAs, openingBy, askedBy, numbersBy, judgingAs, judgingBy, rowBy, bodyAs, listingBy}
-use Rattle.capture.specs.Duties.{Opens}
+use Rattle.capture.specs.Duties.{TookAll, Opens}
+use Rattle.capture.proofs.Records.{Records, header-there}
+use Rattle.capture.proofs.Openings.{written-length}
 use Rattle.capture.proofs.Reopening.{opened-is}
 
 -- ---- a record that is to be opened can be
@@ -64,11 +69,19 @@ judged-opens true s drift h c i t e = opens-at s drift h (nearest (expected drif
 judged-opens false s drift h c i t e = opens-by s h (h .clock) i t e c
 
 -- ---- record i in its turn: its verdict, and the corrections behind it
-pub judged-turn : (near : Bool) (s b : List ℕ) (i : ℕ) (drift : Drift) (h : Header) → drift ≡ driftBy near s b i → h ≡ headerOf b i
-    → (judged near s drift h .verdict ≡ verdictBy near s b i) × (judged near s drift h .drift ≡ driftBy near s b (suc i))
+pub judged-turn : (near : Bool) (s b : List ℕ) (i : ℕ) (drift : Drift) (h : Header) (r : Heard) → r ≡ judged near s drift h
+    → drift ≡ driftBy near s b i → h ≡ headerOf b i → (r .verdict ≡ verdictBy near s b i) × (r .drift ≡ driftBy near s b (i + 1))
 unfolding judged nearVerdict driftAt pick
-judged-turn true s b i drift h ed eh = (rw (ed, eh), rw (ed, eh))
-judged-turn false s b i drift h ed eh = (rw eh, ed)
+judged-turn true s b i drift h r e ed eh = (rw (e, ed, eh), rw (e, ed, eh, add-one))
+judged-turn false s b i drift h r e ed eh = (rw (e, eh), rw e ed)
+
+pub no-corrections : (near : Bool) (s b : List ℕ) → noDrift ≡ driftBy near s b 0
+unfolding driftAt
+no-corrections near s b = sym (pick-same near noDrift)
+
+-- it is written in as many octets
+pub record-size : (near : Bool) (s b : List ℕ) (n : ℕ) → Records b n → (i : ℕ) → i < n → length (recordBy near s b i) ≡ length (recordOf b i)
+record-size near s b n r i h = written-length s (recordOf b i) (verdictBy near s b i) (header-there b n r i h)
 
 -- ---- the usual way
 opening-usual-by : (v : Verdict) (s b out : List ℕ)
@@ -93,7 +106,7 @@ judging-usual-by (Bad r) s b out = refl
 
 pub judging-usual : (s b out : List ℕ) → withOutput (judgingBy false s b out .answer .directory) (judgingBy false s b out .output) ≡ verdictsOf s b out
 unfolding judgingBy verdictsOf
-judging-usual s b out = judging-usual-by (callDirectory (eqb (length out) 256) s b) s b out
+judging-usual s b out = judging-usual-by (callDirectory (eqb (length out) mostRecords) s b) s b out
 
 rows-are : (s b : List ℕ) (i m : ℕ) → rowsFrom s b i m ≡ joined (rowAt s b) i m
 unfolding rowsFrom joined
@@ -108,3 +121,27 @@ body-usual (Verdict.Refused r) s b = refl
 pub listing-usual : (s b : List ℕ) → listingBy false s b ≡ listingOf s b
 unfolding listingBy listingOf
 listing-usual s b = rw (body-usual (openVerdict s b (length b)) s b)
+
+-- ---- what a call comes to
+module _ (near : Bool) (s b out : List ℕ) where
+  pub opening-bad : (r : Refusal) → openVerdict s b (length out) ≡ Verdict.Refused r
+      → withOutput (record { opened = Denied r; smallest = 0; largest = 0 }) out ≡ openingBy near s b out
+  unfolding openingBy openingAs
+  opening-bad r e = rw e
+
+  pub opening-good : openVerdict s b (length out) ≡ Accepted → (o : List ℕ) (e x y : ℕ) (q : Read) → TookAll near s b q → e ≡ expansions s
+      → x ≡ signedOctet (q .drift .smallest) → y ≡ signedOctet (q .drift .largest) → o ≡ rebuilt (recordBy near s b) b
+      → withOutput (record { opened = Done (q .count) (q .runs) e; smallest = x; largest = y }) o ≡ openingBy near s b out
+  unfolding openingBy openingAs
+  opening-good v o e x y q t ee ex ey eo = rw (v, t .count, t .runs, ee, ex, ey, t .drift, eo)
+
+  pub judging-bad : (r : Refusal) → callDirectory (eqb (length out) mostRecords) s b ≡ Bad r
+      → withOutput (record { directory = Bad r; smallest = 0; largest = 0 }) out ≡ judgingBy near s b out
+  unfolding judgingBy
+  judging-bad r e = rw e
+
+  pub judging-good : (n : ℕ) → callDirectory (eqb (length out) mostRecords) s b ≡ Good n → n ≡ recordsIn b → (o : List ℕ) (x y : ℕ) (d : Drift)
+      → d ≡ driftBy near s b n → x ≡ signedOctet (d .smallest) → y ≡ signedOctet (d .largest) → o ≡ numbersBy near s b n out
+      → withOutput (record { directory = Good n; smallest = x; largest = y }) o ≡ judgingBy near s b out
+  unfolding judgingBy
+  judging-good n v c o x y d ed ex ey eo = rw (v, ex, ey, ed, eo, c)

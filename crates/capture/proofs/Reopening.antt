@@ -38,7 +38,7 @@ use Rattle.records.specs.Verdict.{encEnabled, clearedFlags, flagsFit, headerFit
 use Rattle.capture.specs.Opening.{recordNonce, cleared, writtenAs, openedRecord, recordAdds, openedFrom, openedBlock, blockAdds, expansions, openVerdict, opening}
 use Rattle.capture.specs.Claims.{Opened}
 use Rattle.capture.specs.Rebuilt.{joined, rebuilt}
-use Rattle.capture.proofs.Records.{Records, good, placed}
+use Rattle.capture.proofs.Records.{Records, good, header-there}
 use Rattle.capture.proofs.Rebuilding.{same-octets, same-directory, same-count, own-record, record-is, good-again, rebuilt-again, rebuilt-ext}
 use Rattle.records.proofs.Verdicts.{Openable, openable, by-key, is-clear}
 use Rattle.capture.proofs.Openings.{opened-length, clear-record, refused-record, callable, opening-done}
@@ -154,11 +154,8 @@ unfolding openedBlock rebuilt
 opened-is s b = ap (λ (t : List ℕ). take (2 + 8 * recordsIn b) b ++ t) (from-is s b 0 (recordsIn b))
 
 module _ (s b : List ℕ) (n : ℕ) (r : Records b n) where
-  pub header-there : (i : ℕ) → i < n → 16 ≤ length (recordOf b i)
-  header-there i h = let p = placed b n i r h in omega (arith, p .octets, p .size)
-
   sizes : (i : ℕ) → i < n → length (openedIn s b i) ≡ length (recordOf b i)
-  sizes i h = opened-length s (recordOf b i) (header-there i h)
+  sizes i h = opened-length s (recordOf b i) (header-there b n r i h)
 
   there : (i : ℕ) → i < n → recordOf (openedBlock s b) i ≡ openedIn s b i
   there i h = ap (λ (t : List ℕ). recordOf t i) (opened-is s b) ∙ record-is (openedIn s b) b n r sizes i h
@@ -172,7 +169,7 @@ module _ (s b : List ℕ) (n : ℕ) (r : Records b n) where
   opened-good : directoryOf (openedBlock s b) ≡ Good n
   opened-good =
       ap directoryOf (opened-is s b)
-      ∙ good-again (openedIn s b) b n r sizes (λ i h. same-sized s (recordOf b i) (header-there i h))
+      ∙ good-again (openedIn s b) b n r sizes (λ i h. same-sized s (recordOf b i) (header-there b n r i h))
 
   block-again : openedBlock s (openedBlock s b) ≡ openedBlock s b
   block-again =
@@ -181,7 +178,7 @@ module _ (s b : List ℕ) (n : ℕ) (r : Records b n) where
       ∙ ap (rebuilt (openedIn s (openedBlock s b))) (opened-is s b)
       ∙ rebuilt-again f b n r sizes (openedIn s (openedBlock s b))
       ∙ rebuilt-ext (openedIn s (openedBlock s b)) f b
-      (λ i h. let l : i < n = omega (arith, r .count) in ap (openedRecord s) (there i l) ∙ record-again s (recordOf b i) (header-there i l) .0)
+      (λ i h. let l : i < n = omega (arith, r .count) in ap (openedRecord s) (there i l) ∙ record-again s (recordOf b i) (header-there b n r i l) .0)
       ∙ sym (opened-is s b)
 
   nothing-again : (g : List ℕ → ℕ) → blockAdds g s (openedBlock s b) ≡ 0
@@ -189,7 +186,7 @@ module _ (s b : List ℕ) (n : ℕ) (r : Records b n) where
   nothing-again g =
       rw (opened-count, ← r .count)
       (sum-ext 0 n (λ j. recordAdds g s (recordOf (openedBlock s b) j)) (λ (j : ℕ). 0)
-      (λ j l h. rw (there j (omega arith)) (record-again s (recordOf b j) (header-there j (omega arith)) .1 g))
+      (λ j l h. rw (there j (omega arith)) (record-again s (recordOf b j) (header-there b n r j (omega arith)) .1 g))
       ∙ no-sum 0 n)
 
 pub accepts-again : (s b : List ℕ) (m n : ℕ) → settingsVerdict s ≡ Accepted → m ≡ length b → directoryOf b ≡ Good n → openVerdict s b m ≡ Accepted

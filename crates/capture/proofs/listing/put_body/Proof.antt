@@ -1,0 +1,60 @@
+-- `capture::listing::put_body` meets its contract: the number of a refused call, the rows of an accepted one. Assumes nothing.
+use mathlib.Core.Path.{_≡_, sym, ap, _∙_}
+use mathlib.Core.Bool.{true}
+use mathlib.Core.List.{List, _++_}
+use Prim.Native.Nat.{ℕ}
+use native.Mathlib.Omega.{arith}
+use lib.ListN.{length, take}
+use borrow.Author.Needs.{needs}
+use denote.Ref.{now}
+use Rattle.rows.proofs.Lines.{refused-row-few}
+use Rattle.capture.specs.declared.directory.Directory.the-variants.{Good}
+use Rattle.capture.specs.Reading.{bodyAs}
+use Rattle.capture.specs.Verdict.{callDirectory}
+use Rattle.capture.proofs.Records.{good}
+use Rattle.capture.proofs.Openings.{call-good, found-bad, found-good, listing-found}
+use Rattle.capture.proofs.listing.put_body.Statement.{statement}
+use Rattle.capture.proofs.listing.put_body.Tie as tie
+
+-- what the call found, and what that tells
+found : (c : tie.After-n)
+    → let a = c .before .before .before .before .before .before .args in callDirectory (true) (now (a .settings)) (now (a .block)) ≡ Good (c .n .given .0 .0)
+found c = sym (c .before .before .call-directory .ensures) ∙ c .n .given .1
+
+put-line-requires : tie.Need-put-line-requires
+put-line-requires c κs =
+    (omega (arith, c .refused-row .ensures .used, refused-row-few (c .before .before .before .refusal .given .0 .0)), omega arith)
+
+put-rows-requires : tie.Need-put-rows-requires
+put-rows-requires c κs = let x = c .before .before in (call-good _ _ _ _ (found x) .2, x .before .before .before .before .before .before .pre)
+
+returns : tie.Need-returns
+unfolding bodyAs
+returns c =
+    let row = c .before .before .before in
+    let x = row .before .before .before in
+    let a = x .before .before .before .before .before .before .args in
+    let s = now (a .settings) in
+    let block = now (a .block) in
+    let q = c .before .before .put-line .ensures in
+    let judged = found-bad s block (length block) _ (listing-found s block ∙ sym (x .before .before .call-directory .ensures) ∙ x .refusal .given .1) in (
+      (q .0 .0, omega (arith, q .0 .1)),
+      (q .1 .0 ∙ rw judged (ap (λ (t : List ℕ). take (a .at) (now (a .text)) ++ t) (row .refused-row .ensures .octets)), q .1 .1),
+    )
+
+returns-2 : tie.Need-returns-2
+unfolding bodyAs
+returns-2 c =
+    let x = c .before .before .before .before .before in
+    let a = x .before .before .before .before .before .before .args in
+    let s = now (a .settings) in
+    let block = now (a .block) in
+    let judged = found-good s block (length block) _ (listing-found s block ∙ found x) in
+    let q = c .before .before .put-rows .ensures in
+    (q .0, (q .1 .0 ∙ rw (judged, good _ _ (call-good _ _ _ _ (found x) .2) .count), q .1 .1))
+
+pub put-body-spec : {M : Type 1} → statement M
+put-body-spec =
+    tie.close
+    (tie.spec (λ c κs. search needs) (λ c. search needs) (λ c κs. search needs) put-line-requires (λ c. search needs) put-rows-requires (λ c. search needs)
+    returns (λ c. search needs) returns-2)

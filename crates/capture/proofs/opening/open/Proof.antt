@@ -1,0 +1,18 @@
+-- `capture::opening::open` meets its contract: it opens in the usual way. Assumes nothing.
+use mathlib.Core.Path.{ap, _∙_}
+use borrow.Author.Needs.{needs}
+use Rattle.octets.specs.Output.{WithOutput, withOutput}
+use Rattle.capture.specs.declared.opening.NearAnswer.{NearAnswer}
+use Rattle.capture.proofs.Reopening.{opened}
+use Rattle.capture.proofs.Readings.{opening-usual}
+use Rattle.capture.proofs.opening.open.Statement.{statement}
+use Rattle.capture.proofs.opening.open.Tie as tie
+
+returns : tie.Need-returns
+returns c = (
+  ap (λ (o : WithOutput NearAnswer). withOutput (o .answer .opened) (o .output)) (c .before .before .open-by .ensures) ∙ opening-usual _ _ _,
+  opened _ _ _,
+)
+
+pub open-spec : {M : Type 1} → statement M
+open-spec = tie.close (tie.spec (λ c κs. search needs) (λ c. search needs) returns)

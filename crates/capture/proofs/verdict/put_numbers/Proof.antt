@@ -1,0 +1,101 @@
+-- `capture::verdict::put_numbers` meets its contract: the loop's invariant: record i starts at `from`, the corrections are those before
+-- it, and the numbers of the records before it fill the output from the front. Assumes nothing.
+use mathlib.Core.Path.{_≡_, refl, sym, ap, _∙_}
+use mathlib.Core.List.{_++_}
+use Prim.Native.Nat.{ℕ, _+_, _-_, _≤_, _<_}
+use native.Mathlib.Omega.{arith}
+use lib.ListN.{length, drop, length-set}
+use borrow.Author.Needs.{needs}
+use denote.Ref.{now}
+use Rattle.octets.specs.Lists.{tabulate}
+use Rattle.records.specs.declared.header.Header.{Header}
+use Rattle.records.specs.Verdict.{recordNumber}
+use Rattle.records.specs.Block.{dueOf}
+use Rattle.capture.specs.Reading.{driftBy, verdictBy, askedBy, numbersBy}
+use Rattle.capture.proofs.Records.{Records, good, At, at-due}
+use Rattle.capture.proofs.Numbers.{asked-own, fill-more}
+use Rattle.capture.proofs.Readings.{no-corrections, judged-turn}
+use Rattle.capture.proofs.verdict.put_numbers.Statement.{statement}
+use Rattle.capture.proofs.verdict.put_numbers.Tie as tie
+
+abbrev Inv-loop : tie.InvT-loop
+Inv-loop near settings block output₀ n from₀ drift₀ i₀ output from drift i =
+    (i ≤ n) × (length output ≡ length output₀) × (from ≡ dueOf block i) × (drift ≡ driftBy near settings block i)
+    × (output ≡ tabulate 0 i (λ j. recordNumber (askedBy near settings block (j + 1))) ++ drop i output₀)
+
+abbrev μ-loop : tie.MeasureT-loop
+μ-loop near settings block output₀ n from₀ drift₀ i₀ output from drift i = n - i
+
+loop-holds : tie.Need-loop-holds Inv-loop μ-loop
+unfolding dueOf
+loop-holds c =
+    let g = c .before .before .before .before .before in
+    let r = good _ _ (g .pre .0 .1) in (
+      search needs,
+      refl,
+      c .before .directory-octets .ensures ∙ rw (r .count),
+      c .no-drift .ensures .0 ∙ no-corrections _ _ _,
+      refl,
+    )
+
+abbrev start : tie.In-loop Inv-loop μ-loop → tie.Start Inv-loop μ-loop
+start c = c .before .before .before .before .before .before .before
+
+records : (c : tie.In-loop Inv-loop μ-loop) → Records (now (start c .args .block)) (start c .args .n)
+records c = good _ _ (start c .pre .0 .1)
+
+-- record i starts at `from`
+here : (c : tie.In-loop Inv-loop μ-loop) → At (now (start c .args .block)) (c .before .loop .i) (c .before .loop .from)
+here c = at-due _ _ _ _ (records c) (c .loop-test .taken) (c .before .loop .inv .2)
+
+room : (c : tie.In-loop Inv-loop μ-loop) → c .before .loop .i < length (now (start c .args .output))
+room c = omega (arith, c .loop-test .taken, records c .count, records c .sizes .few, start c .pre .1)
+
+slice-write-output : tie.Need-slice-write-output Inv-loop μ-loop
+slice-write-output c = let at-test = c .before .before .before in omega (arith, room at-test, at-test .before .loop .inv .1)
+
+add-from : tie.Need-add-from Inv-loop μ-loop
+add-from c =
+    let at-header = c .before .before .before .before in
+    let at-test = at-header .before in
+    let eqs = ap (λ (h : Header). h .eqs) (at-header .header-from .ensures .0) in
+    record { fits = omega (arith, eqs, c .record-octets .ensures, here at-test .inside, records at-test .sizes .most) }
+
+loop-again : tie.Need-loop-again Inv-loop μ-loop
+loop-again c =
+    let at-number = c .before .before in
+    let at-judge = at-number .before in
+    let h = at-judge .before .header-from in
+    let at-test = at-judge .before .before in
+    let g = start at-test in
+    let near = g .args .near in
+    let v = at-test .before .loop .inv in
+    let i = at-test .before .loop .i in
+    let s = now (g .args .settings) in
+    let b = now (g .args .block) in
+    let x = here at-test in
+    let turn = judged-turn near s b i _ _ _ (at-judge .judge .ensures) (v .3) (h .ensures .0 ∙ x .header) in
+    let own : at-number .number .result ≡ recordNumber (askedBy near s b (i + 1)) =
+    at-number .number .ensures
+    ∙ ap recordNumber (turn .0 ∙ sym (asked-own near s b (g .args .n) i (g .pre .0 .0) (g .pre .0 .1) (at-test .loop-test .taken))) in (
+      omega arith,
+      simp length-set (v .1),
+      omega (arith, ap (λ (h : Header). h .eqs) (h .ensures .0), c .record-octets .ensures, x .next),
+      turn .1,
+      rw (v .4, own) (fill-more (λ (j : ℕ). recordNumber (askedBy near s b (j + 1))) (now (g .args .output)) i (room at-test)),
+    )
+
+returns : tie.Need-returns Inv-loop μ-loop
+unfolding numbersBy
+returns c =
+    let g = c .before .before .before .before .before .before .before in
+    let v = c .before .loop .inv in
+    let e : c .before .loop .i ≡ g .args .n = omega arith in
+    (v .3 ∙ rw e, v .4 ∙ rw e)
+
+pub put-numbers-spec : {M : Type 1} → statement M
+put-numbers-spec =
+    tie.close
+    (tie.spec Inv-loop μ-loop (λ c κs. search needs) (λ c κs. search needs) loop-holds (λ c κs. search needs) (λ c κs. search needs) (λ c κs. search needs)
+    (λ c. search needs) slice-write-output (λ c κs. search needs) add-from (λ c. search needs) (λ c. omega arith) loop-again
+    (λ c. c .before .loop .inv .1) returns)

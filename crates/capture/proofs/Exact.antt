@@ -3,22 +3,18 @@
 use mathlib.Core.Path.{_≡_, refl, sym, ap, ap₂, _∙_}
 use mathlib.Core.Bool.{true, false}
 use mathlib.Core.List.{List, _++_}
-use Prim.Native.Nat.{ℕ, zero, suc, _+_, _-_, _*_, _/_, _%_, _^_, _≤_, _<_}
+use Prim.Native.Nat.{ℕ, _+_, _-_, _*_, _/_, _%_, _^_, _≤_, _<_}
 use native.Mathlib.Nat.{zero-add}
 use native.Mathlib.Omega.{arith}
-use lib.Dec.{eqb, ltb}
 use lib.ListN.{length, take, drop, set, getD, take-append-drop, length-append, length-take, length-drop, length-set, List·getD-append}
 use lib.Seq.{take-append-le, drop-append-le, take-at, drop-at, take-take, drop-drop, getD-take, getD-drop, take-set-lt, drop-set-lt}
-use borrow.Author.Tests.{eq-eqb}
 use Rattle.octets.specs.BigEndian.{numberAt, octetsOf}
 use Rattle.octets.specs.Bits.{bitOf, lowCleared}
 use Rattle.octets.specs.Choice.{both, either, pick}
-use Rattle.octets.specs.Lists.{part}
 use Rattle.octets.specs.Output.{WithOutput}
 use Rattle.octets.proofs.BigEndian.{octets-length, number-same}
 use Rattle.octets.proofs.Lists.{sum-ext, drop-part}
 use Rattle.refusal.specs.declared.Verdict.the-variants.{Accepted}
-use Rattle.refusal.specs.Order.{refuseIf, andThen}
 use Rattle.clock.specs.Ticks.{clockTurn}
 use Rattle.envelope.specs.ControlMask.{countEnciphered, runs}
 use Rattle.sealing.specs.KeyExpansion.{keyExpansion}
@@ -36,13 +32,11 @@ use Rattle.records.proofs.Following.{kept}
 use Rattle.rows.specs.Text.{keyGlyph, rowHead, rowTail, rowOf}
 use Rattle.capture.specs.declared.directory.Directory.the-variants.{Good}
 use Rattle.capture.specs.declared.opening.OpenAnswer.{OpenAnswer}
-use Rattle.capture.specs.declared.opening.NearAnswer.{NearAnswer}
 use Rattle.capture.specs.Directory.{chained, pairOf, sizeFits, withPair, pairsFrom, directoryOf}
-use Rattle.capture.specs.Opening.{recordNonce, writtenAs, addedAs, openedRecord, recordAdds, openedBlock, blockAdds, expansions, openVerdict, opening}
-use Rattle.capture.specs.Listing.{listingOf}
+use Rattle.capture.specs.Opening.{recordNonce, writtenAs, addedAs, openedRecord, recordAdds, openedBlock, blockAdds, expansions, openVerdict}
 use Rattle.capture.specs.Rebuilt.{joined, rebuilt}
 use Rattle.capture.specs.Reading.{recordBy, addsBy, totalBy, openingAs, openingBy, rowBy, bodyAs, listingBy}
-use Rattle.capture.specs.Near.{clockField, withField, asSent, asRecorded, AsIfExact, ClockFollows, ReadsAsExact, NotEmpty}
+use Rattle.capture.specs.Near.{clockField, withField, asSent, asRecorded, ClockFollows, ReadsAsExact, NotEmpty}
 use Rattle.capture.proofs.Records.{Records, good, header-there}
 use Rattle.capture.proofs.Rebuilding.{joined-ext, same-octets, same-count, record-is, good-again, rebuilt-again, rebuilt-ext}
 use Rattle.capture.proofs.Openings.{written-length, callable, opening-done}
@@ -295,11 +289,14 @@ reads-as-exact s b out sent v follows =
     }
 
 -- the block that slipped is accepted
-slipped-accepted : openVerdict slippedSettings slippedBlock (length slippedBlock) ≡ Accepted
-unfolding openVerdict refuseIf andThen settingsVerdict presenceFits presenceOf bitOf lowCleared directoryOf pairsFrom withPair pairOf chained sizeFits sized recordsIn
-    offsetOf lengthOf endOf dueOf recordOf recordHeader endFits both either pick
-slipped-accepted = refl
+slipped-settings : settingsVerdict slippedSettings ≡ Accepted
+unfolding settingsVerdict presenceFits presenceOf bitOf lowCleared pick
+slipped-settings = refl
+
+slipped-directory : directoryOf slippedBlock ≡ Good 2
+unfolding directoryOf pairsFrom withPair pairOf chained sizeFits sized recordsIn offsetOf lengthOf endOf dueOf recordOf recordHeader endFits both either pick
+slipped-directory = refl
 
 pub not-empty : NotEmpty
 unfolding recordsIn
-not-empty = record { accepted = slipped-accepted; follows = λ i h _. kept .follows i h }
+not-empty = record { accepted = accepts-again slippedSettings slippedBlock (length slippedBlock) 2 slipped-settings refl slipped-directory; follows = λ i h _. kept .follows i h }

@@ -1,13 +1,13 @@
 -- Laws of opening: what the sealing call does for a record, and how the opened records make up the output. Assumes nothing.
 use mathlib.Core.Path.{_≡_, refl, sym, ap, _∙_}
 use mathlib.Core.Bool.{Bool, true, false, not}
-use mathlib.Core.List.{List, _++_, append-assoc, append-nil}
+use mathlib.Core.List.{List, _++_, append-assoc}
 use Prim.Native.Nat.{ℕ, zero, suc, _+_, _-_, _*_, _/_, _%_, _^_, _≤_, _<_}
-use native.Mathlib.Nat.{add-zero, zero-add, add-suc, suc-add}
+use native.Mathlib.Nat.{zero-add}
 use native.Mathlib.Numerals.{add-one}
 use native.Mathlib.Omega.{arith}
 use lib.ListN.{length, take, drop, set, take-append-drop, length-append, length-take, length-drop, length-set}
-use lib.Seq.{drop-set-add, take-set-le, take-set-lt, drop-set-lt, take-add, take-take, drop-drop, take-at, drop-at, drop-length, length-take-le}
+use lib.Seq.{drop-set-add, take-set-le, take-set-lt, drop-set-lt, take-add, take-take, drop-drop}
 use lib.Count.{ones}
 use lib.Dec.{eqb}
 use borrow.Rule.Slice.PartMut.{putMid}
@@ -15,8 +15,6 @@ use borrow.Author.Tests.{eq-eqb, eqb-true, le-leb, lt-ltb, not-false}
 use Rattle.octets.specs.Choice.{pick}
 use Rattle.octets.specs.Lists.{part, replaced, sum}
 use Rattle.octets.specs.Eqs.{maxEqs}
-use Rattle.octets.specs.BigEndian.{sixOctets}
-use Rattle.octets.proofs.Bits.{bit-below}
 use Rattle.octets.proofs.Lists.{sum-below, sum-suc, part-length, part-below, drop-part}
 use Rattle.octets.proofs.Choice.{both-left, both-right, both-true, not-of-true, pick-first}
 use Rattle.octets.specs.Output.{WithOutput, withOutput}
@@ -44,20 +42,18 @@ use Rattle.capture.specs.declared.directory.Directory.{Directory}
 use Rattle.capture.specs.declared.directory.Directory.the-variants.{Good, Bad}
 use Rattle.capture.specs.declared.opening.Keys.{Keys}
 use Rattle.capture.specs.declared.opening.OpenAnswer.{OpenAnswer}
-use Rattle.capture.specs.declared.opening.OpenAnswer.the-variants.{Denied}
-use Rattle.records.specs.Settings.{settingsOctets, presenceOf, keyPresent, keyOf, macOf, llidOf, settingsVerdict}
+use Rattle.records.specs.Settings.{settingsOctets, presenceOf, keyPresent, keyOf, macOf, settingsVerdict}
 use Rattle.records.specs.Record.{recordHeader, recordOctets, payloadOf}
-use Rattle.records.specs.Block.{recordsIn, offsetOf, lengthOf, endOf, dueOf, recordOf, headerFrom, recordFrom}
+use Rattle.records.specs.Block.{recordsIn, offsetOf, lengthOf, recordOf, headerFrom, recordFrom}
 use Rattle.capture.specs.Directory.{verdictOn, directoryOf}
 use Rattle.capture.specs.Opening.{writtenAs, addedAs, openedRecord, recordAdds, openedBlock, blockCount, blockRuns, expansions, openVerdict, openingAfter, opening}
 use Rattle.capture.specs.Reading.{verdictBy, addsBy}
-use Rattle.records.specs.Verdict.{clearedFlags, headerFits, verdictFor, verdictOf}
+use Rattle.records.specs.Verdict.{clearedFlags, headerFits, verdictOf}
 use Rattle.capture.specs.Verdict.{afterSettings, callDirectory}
-use Rattle.capture.specs.Duties.{Expanded, Opens, written}
+use Rattle.capture.specs.Duties.{Expanded, written}
 use Rattle.records.proofs.Verdicts.{settings-octets, openable}
 use Rattle.records.proofs.Headers.{header-taken}
-use Rattle.capture.proofs.Pairs.{pair-fits, due-next}
-use Rattle.capture.proofs.Records.{Records, good, placed, At, at-due, records-end}
+use Rattle.capture.proofs.Records.{good, At}
 
 -- a record's payload is accepted for opening
 seal-accepted : (n m : ℕ) (nonce : Nonce) → n % 9 ≡ 0 → n ≤ 65536 → m ≡ n → nonceFits nonce ≡ true → sealVerdict n m nonce ≡ Accepted

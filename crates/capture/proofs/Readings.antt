@@ -1,17 +1,16 @@
 -- Laws of both ways of reading: what a turn of each loop over the records comes to, and that the usual way is the one of Opening, Verdict
 -- and Listing. Assumes nothing.
-use mathlib.Core.Path.{_≡_, refl, sym, ap, ap₂, _∙_}
+use mathlib.Core.Path.{_≡_, refl, sym, ap}
 use mathlib.Core.Bool.{Bool, true, false}
 use mathlib.Core.List.{List, _++_}
-use Prim.Native.Nat.{ℕ, zero, suc, _+_, _≤_, _<_}
+use Prim.Native.Nat.{ℕ, zero, suc, _+_, _<_}
 use native.Mathlib.Numerals.{add-one}
 use native.Mathlib.Omega.{arith}
 use lib.Dec.{eqb}
 use lib.ListN.{length}
 use Rattle.octets.specs.BigEndian.{sixOctets}
 use Rattle.octets.specs.Choice.{pick}
-use Rattle.octets.specs.Lists.{sum}
-use Rattle.octets.specs.Output.{WithOutput, withOutput}
+use Rattle.octets.specs.Output.{withOutput}
 use Rattle.octets.proofs.Bits.{bit-below}
 use Rattle.octets.proofs.Choice.{pick-first, pick-same}
 use Rattle.refusal.specs.declared.Refusal.{Refusal}
@@ -19,14 +18,13 @@ use Rattle.refusal.specs.declared.Refusal.the-variants.{OutOfRange, UnknownLlid
 use Rattle.refusal.specs.declared.Verdict.{Verdict}
 use Rattle.refusal.specs.declared.Verdict.the-variants.{Accepted}
 use Rattle.records.specs.declared.header.Header.{Header}
-use Rattle.records.specs.declared.header.RecordVerdict.{RecordVerdict}
 use Rattle.records.specs.declared.header.RecordVerdict.the-variants.{Sealed, Refused}
 use Rattle.records.specs.declared.near.Correction.{Correction}
 use Rattle.records.specs.declared.near.Correction.the-variants.{Step, TooFar}
 use Rattle.records.specs.declared.near.Drift.{Drift}
 use Rattle.records.specs.declared.near.Heard.{Heard}
 use Rattle.records.specs.Settings.{presenceOf, llidOf}
-use Rattle.records.specs.Verdict.{headerFits, recordVerdict, verdictFor, verdictOf}
+use Rattle.records.specs.Verdict.{headerFits, recordVerdict, verdictFor}
 use Rattle.records.specs.Block.{mostRecords, recordsIn, recordOf}
 use Rattle.records.specs.Near.{noDrift, nearest, expected, farVerdict, heardAt, heard, signedOctet}
 use Rattle.records.specs.Following.{headerOf, driftAt, nearVerdict}
@@ -35,11 +33,11 @@ use Rattle.capture.specs.declared.directory.Directory.{Directory}
 use Rattle.capture.specs.declared.directory.Directory.the-variants.{Good, Bad}
 use Rattle.capture.specs.declared.opening.OpenAnswer.the-variants.{Done, Denied}
 use Rattle.capture.specs.declared.opening.Read.{Read}
-use Rattle.capture.specs.Opening.{openedRecord, recordAdds, openedBlock, blockAdds, expansions, openVerdict, openingAfter, opening}
+use Rattle.capture.specs.Opening.{openedRecord, recordAdds, blockAdds, expansions, openVerdict, openingAfter, opening}
 use Rattle.capture.specs.Verdict.{verdictAsked, callDirectory, numbersOver, verdictsAfter, verdictsOf}
 use Rattle.capture.specs.Listing.{rowAt, rowsFrom, bodyAfter, listingOf}
 use Rattle.capture.specs.Rebuilt.{joined, rebuilt}
-use Rattle.capture.specs.Reading.{judged, driftBy, verdictBy, recordBy, totalBy, openingAs, openingBy, askedBy, numbersBy, judgingAs, judgingBy, rowBy, bodyAs, listingBy}
+use Rattle.capture.specs.Reading.{judged, driftBy, verdictBy, recordBy, totalBy, openingAs, openingBy, askedBy, numbersBy, judgingAs, judgingBy, bodyAs, listingBy}
 use Rattle.capture.specs.Duties.{TookAll, Opens}
 use Rattle.capture.proofs.Records.{Records, header-there}
 use Rattle.capture.proofs.Openings.{written-length}

@@ -1,20 +1,19 @@
 -- Laws of an opened block: its records are clear, and opened again it stays as it is. Assumes nothing.
 use mathlib.Core.Path.{_≡_, refl, sym, ap, _∙_}
 use mathlib.Core.Bool.{true, false}
-use mathlib.Core.List.{List, _++_, append-assoc}
-use Prim.Native.Nat.{ℕ, zero, suc, _+_, _-_, _*_, _≤_, _<_}
-use native.Mathlib.Nat.{add-zero, zero-add, add-suc, suc-add}
-use native.Mathlib.Numerals.{add-one}
+use mathlib.Core.List.{List, _++_}
+use Prim.Native.Nat.{ℕ, zero, suc, _+_, _*_, _≤_, _<_}
+use native.Mathlib.Nat.{zero-add}
 use native.Mathlib.Omega.{arith}
-use lib.ListN.{length, take, set, getD, length-append, length-take, length-set, List·getD-append}
-use lib.Seq.{take-at, drop-at, getD-take, getD-set-same, getD-set-other, length-take-le}
+use lib.ListN.{length, take, set, getD, length-take, length-set, List·getD-append}
+use lib.Seq.{getD-take, getD-set-same, getD-set-other}
 use borrow.Author.Tests.{eqb-true, eq-eqb}
 use Rattle.octets.specs.BigEndian.{numberAt}
 use Rattle.octets.specs.Bits.{bitOf, lowCleared}
 use Rattle.octets.specs.Choice.{both, either, pick}
 use Rattle.octets.specs.Lists.{part, sum}
 use Rattle.octets.proofs.BigEndian.{number-same}
-use Rattle.octets.proofs.Choice.{both-left, both-right, both-true, not-of-true, pick-true}
+use Rattle.octets.proofs.Choice.{both-left, both-right, both-true, not-of-true}
 use Rattle.octets.proofs.Lists.{sum-ext}
 use Rattle.octets.specs.Output.{withOutput}
 use Rattle.refusal.specs.declared.Refusal.the-variants.{BadLength}

@@ -11,7 +11,7 @@ ghost use Rattle.envelope.specs.Acceptance.{nonceFits};
 ghost use Rattle.sealing.specs.KeyExpansion.{keyExpansion};
 ghost use Rattle.sealing.specs.Payload.{sealed};
 ghost use Rattle.records.specs.Record.{headerOctets, flagsAt};
-ghost use Rattle.records.specs.Settings.{settingsKeys, presenceOf, keyPresent, keyOf};
+ghost use Rattle.records.specs.Settings.{presenceOf, keyPresent, keyOf};
 ghost use Rattle.records.specs.Block.{recordFrom};
 ghost use Rattle.capture.specs.Opening.{expansions, opening, openNumber, openPair, openCount, openRuns, openExpansions};
 ghost use Rattle.capture.specs.Rebuilt.{rebuilt};

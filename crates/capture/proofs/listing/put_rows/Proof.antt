@@ -72,9 +72,13 @@ add-from c =
     let eqs = ap (λ (h : Header). h .eqs) (at-header .header-from .ensures .0) in
     record { fits = omega (arith, eqs, c .record-octets .ensures, here at-test .inside, records at-test .sizes .most) }
 
+-- the turn's own test, from where the record's length was asked for
+abbrev tested : tie.After-record-octets Inv-loop μ-loop → tie.In-loop Inv-loop μ-loop
+tested c = c .before .before .before .before .before .before .before .before
+
 add-i : tie.Need-add-i Inv-loop μ-loop
 add-i c =
-    let at-test = c .before .before .before .before .before .before .before .before in
+    let at-test = tested c in
     record { fits = omega (arith, at-test .loop-test .taken, records at-test .count, records at-test .sizes .few) }
 
 loop-again : tie.Need-loop-again Inv-loop μ-loop
@@ -116,5 +120,5 @@ pub put-rows-spec : {M : Type 1} → statement M
 put-rows-spec =
     tie.close
     (tie.spec Inv-loop μ-loop (λ c κs. search needs) (λ c κs. search needs) loop-holds (λ c κs. search needs) (λ c κs. search needs) (λ c. search needs)
-    (λ c. search needs) put-row-requires (λ c κs. search needs) add-from add-i (λ c. omega (arith, c .before .before .before .before .before .before .before .before .loop-test .taken)) loop-again
+    (λ c. search needs) put-row-requires (λ c κs. search needs) add-from add-i (λ c. omega (arith, tested c .loop-test .taken)) loop-again
     (λ c. c .before .loop .inv .1) returns)

@@ -11,12 +11,10 @@ use Rattle.octets.specs.Lists.{sum}
 use Rattle.envelope.specs.ControlMask.{countEnciphered}
 use Rattle.envelope.specs.ControlMask as Mask
 use Rattle.records.specs.declared.header.Header.{Header}
-use Rattle.records.specs.declared.header.RecordVerdict.{RecordVerdict}
 use Rattle.records.specs.declared.near.Heard.{Heard}
 use Rattle.records.specs.Block.{dueOf, recordFrom}
 use Rattle.capture.specs.Opening.{addedAs}
 use Rattle.capture.specs.Reading.{driftBy, verdictBy, recordBy, addsBy, totalBy}
-use Rattle.capture.specs.Duties.{written}
 use Rattle.capture.proofs.Records.{Records, good, At, at-due}
 use Rattle.capture.proofs.Rebuilding.{upTo, none-rebuilt, still-block, one-rebuilt, all-rebuilt}
 use Rattle.capture.proofs.Openings.{count-few, runs-few, one-more, counted-at, written-at}

@@ -1,5 +1,5 @@
 -- `capture::reading::drift_before` meets its contract: the loop's invariant: the corrections are those before record j. Assumes nothing.
-use mathlib.Core.Path.{_≡_, refl, _∙_}
+use mathlib.Core.Path.{_≡_, _∙_}
 use mathlib.Core.Bool.{true}
 use Prim.Native.Nat.{_-_, _≤_}
 use native.Mathlib.Omega.{arith}

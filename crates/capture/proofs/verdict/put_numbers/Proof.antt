@@ -11,7 +11,7 @@ use Rattle.octets.specs.Lists.{tabulate}
 use Rattle.records.specs.declared.header.Header.{Header}
 use Rattle.records.specs.Verdict.{recordNumber}
 use Rattle.records.specs.Block.{dueOf}
-use Rattle.capture.specs.Reading.{driftBy, verdictBy, askedBy, numbersBy}
+use Rattle.capture.specs.Reading.{driftBy, askedBy, numbersBy}
 use Rattle.capture.proofs.Records.{Records, good, At, at-due}
 use Rattle.capture.proofs.Numbers.{asked-own, fill-more}
 use Rattle.capture.proofs.Readings.{no-corrections, judged-turn}

@@ -4,7 +4,7 @@ use mathlib.Core.Bool.{true}
 use borrow.Author.Needs.{needs}
 use denote.Ref.{now}
 use Rattle.octets.specs.Choice.{pick}
-use Rattle.octets.proofs.Choice.{pick-true, pick-false}
+use Rattle.octets.proofs.Choice.{pick-false}
 use Rattle.capture.proofs.Readings.{judged-turn}
 use Rattle.capture.proofs.verdict.verdict_at.Statement.{statement}
 use Rattle.capture.proofs.verdict.verdict_at.Tie as tie

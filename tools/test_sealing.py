@@ -14,7 +14,9 @@ def payload(kind, octets):
     def octet(i):
         if i % 9:
             return (i % 256 * 7 + i // 256 % 256 + 3) % 256
-        return kind if kind < 256 else (i // 9 % 256 * 37 + 11) % 256
+        if kind < 256:
+            return kind
+        return 0xFF if kind == 257 and i // 18 % 10 < 7 else (i // 9 % 256 * 37 + 11) % 256
     return bytes(octet(i) for i in range(octets))
 
 
@@ -37,6 +39,16 @@ def sealed(clear, kind, eqs, key, channel, mac, clock):
 
 def refused(number, n, m):
     print(line(number, 0, b"\xaa" * m))
+
+
+def work(clear, kind, n, number):
+    """Sealed in place: the runs are the blocks of 18 octets, or of a last nine, with an octet to encipher (02, C-17)."""
+    text = payload(kind, n)
+    out, count, runs = text, 0, 0
+    if not clear and not number:
+        out, count = seal(KEYS[1], 0x80, MAC, CLOCK, text)
+        runs = sum(seal(KEYS[1], 0x80, MAC, CLOCK, text[at:at + 18])[1] > 0 for at in range(0, n, 18))
+    print(number, count, runs, f"{digest(out):08x}")
 
 
 print("counter block, cipher block")
@@ -65,3 +77,11 @@ for _ in ("02", "7f", "82", "ff", "MAC", "clock"):
 refused(14, 10, 10)
 out, count = seal(KEYS[0], 0x00, 2**48 - 1, 2**48 - 1, payload(0, 18))
 print(line(0, count, out))
+for title, kind in (("control octets ff", 0xFF), ("control octets fe", 0xFE), ("seven of ten blocks ff", 257)):
+    print("runs:", title)
+    for eqs in (0, 1, 2, 3, 20, 1499, 1500):
+        work(False, kind, 9 * eqs, 0)
+print("runs: clear; refused")
+work(True, 0x00, 27, 0)
+work(False, 0x00, 28, 14)
+work(False, 0x00, 27, 1)

@@ -103,9 +103,13 @@ static void same(uint64_t a, uint64_t b, const struct work *w, const char *what)
     }
 }
 
-/* Every contestant makes the engine's octets and count of every work. */
+/* Every contestant makes the engine's octets and count of every work, and the C cipher those of the idle ones. */
 static void check_works(void)
 {
+    for (int i = 0; i < IDLE_WORKS; i++) {
+        same(hash_after(c_seal, &idle_works[i]), hash_after(engine_seal, &idle_works[i]), &idle_works[i], "the C cipher");
+        same(c_count, engine_count, &idle_works[i], "the C cipher's count");
+    }
     for (int i = 0; i < WORKS; i++) {
         struct work *w = &works[i];
         int block = w->records > 0;

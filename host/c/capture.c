@@ -46,6 +46,7 @@ int main(void)
     printf("directory %u pair %u records %zu\n", directory.number, directory.pair, directory.records);
     jazmotip_block_answer open = jazmotip_capture_open(settings, settings_length, block, block_length, opened, block_length);
     printf("open %u pair %u count %" PRIu64 "\n", open.number, open.pair, open.count);
+    printf("runs %" PRIu64 " expansions %u\n", open.runs, open.expansions);
     uint8_t numbers[JAZMOTIP_RECORDS];
     jazmotip_block_directory judged =
         jazmotip_capture_verdicts(settings, settings_length, block, block_length, numbers, sizeof numbers);

@@ -9,8 +9,8 @@
  *   - It ends, and asks nothing of the values handed to it: whatever is malformed, untimely, unknown or too long is refused by a
  *     number from the table below, and 0 is acceptance. It is proved, not tested, that each answer is the one its definition gives;
  *     docs/PROMISES.md names the definitions.
- *   - A refusal changes nothing. The end comes back exactly as it was lent, a lent output keeps every octet, count and runs are 0, and
- *     what would have been handed over (message, header, acknowledgement) is zeros.
+ *   - A refusal changes nothing. The end comes back exactly as it was lent, a lent output keeps every octet, count,
+ *     runs and expansions are 0, and what would have been handed over (message, header, acknowledgement) is zeros.
  *   - No heap, no globals that are written, no locks: calls on different ends and buffers may run at the same time.
  *
  * What the caller owes, as for any C function
@@ -236,7 +236,11 @@ typedef struct jazmotip_header {
     uint8_t epam;       /* the low six bits of the sender's clock */
 } jazmotip_header;
 
-/* ---------------------------------------------------------------------------------------------------------------- Answers */
+/* ---------------------------------------------------------------------------------------------------------------- Answers
+ * In every answer that has them, here and below: count is the octets enciphered or deciphered; runs is how often the cipher ran, once
+ * for each block of two EQs, or a last one of one, that has an octet to encipher, so at most half the EQs, rounded up. A block of
+ * control characters alone (control octets 0xff) is not run. Both are 0 for a clear envelope and on refusal. Opening an envelope runs
+ * the cipher as often as sealing it did. */
 
 typedef struct jazmotip_olt_answer {
     uint8_t number;
@@ -259,15 +263,15 @@ typedef struct jazmotip_olt_sent {
     uint8_t number;
     jazmotip_olt olt;
     jazmotip_header header;
-    uint64_t count; /* octets enciphered, 0 for a clear envelope */
-    uint64_t runs;  /* runs of the cipher: blocks with an octet to encipher; 0 for a clear envelope, and on refusal, as the count */
+    uint64_t count; /* octets enciphered; 0 for a clear envelope and on refusal */
+    uint64_t runs;  /* runs of the cipher; 0 for a clear envelope and on refusal */
 } jazmotip_olt_sent;
 
 typedef struct jazmotip_olt_received {
     uint8_t number;
     jazmotip_olt olt;
-    uint64_t count;
-    uint64_t runs;
+    uint64_t count; /* octets deciphered; 0 for a clear envelope and on refusal */
+    uint64_t runs;  /* runs of the cipher; 0 for a clear envelope and on refusal */
 } jazmotip_olt_received;
 
 typedef struct jazmotip_onu_answer {
@@ -285,15 +289,15 @@ typedef struct jazmotip_onu_sent {
     uint8_t number;
     jazmotip_onu onu;
     jazmotip_header header;
-    uint64_t count;
-    uint64_t runs;
+    uint64_t count; /* octets enciphered; 0 for a clear envelope and on refusal */
+    uint64_t runs;  /* runs of the cipher; 0 for a clear envelope and on refusal */
 } jazmotip_onu_sent;
 
 typedef struct jazmotip_onu_received {
     uint8_t number;
     jazmotip_onu onu;
-    uint64_t count;
-    uint64_t runs;
+    uint64_t count; /* octets deciphered; 0 for a clear envelope and on refusal */
+    uint64_t runs;  /* runs of the cipher; 0 for a clear envelope and on refusal */
 } jazmotip_onu_received;
 
 /* ------------------------------------------------------------------------------------------------------- Calls of the OLT
@@ -377,12 +381,12 @@ typedef struct jazmotip_round_keys {
 
 typedef struct jazmotip_payload_answer {
     uint8_t number;
-    uint64_t count; /* octets enciphered or deciphered */
-    uint64_t runs;  /* runs of the cipher, at most one for two EQs; 0 on refusal */
+    uint64_t count; /* octets enciphered or deciphered; 0 where encenabled is 0 and on refusal */
+    uint64_t runs;  /* runs of the cipher; 0 where encenabled is 0 and on refusal */
 } jazmotip_payload_answer;
 
-/* Seals input into output, of the same length, or opens it: the two are one act. encenabled 1 enciphers; 0 copies, with count 0.
- * Order: 14, 1. */
+/* Seals input into output, of the same length, or opens it: the two are one act. encenabled 1 enciphers; 0 copies, with count
+ * and runs 0. Order: 14, 1. */
 jazmotip_payload_answer jazmotip_seal(uint8_t encenabled, const uint8_t key[16], jazmotip_nonce nonce, const uint8_t *input,
                                       size_t input_length, uint8_t *output, size_t output_length);
 
@@ -429,10 +433,10 @@ typedef struct jazmotip_block_part {
 
 typedef struct jazmotip_block_answer {
     uint8_t number;
-    uint8_t expansions; /* keys expanded: each that is present, used or not; 0 on refusal */
+    uint8_t expansions; /* keys expanded: each that is present, once, used or not, so 2 at most; 0 on refusal */
     uint16_t pair;
-    uint64_t count; /* octets deciphered */
-    uint64_t runs;  /* runs of the cipher over all opened records; 0 on refusal */
+    uint64_t count; /* octets deciphered over all opened records; 0 on refusal */
+    uint64_t runs;  /* runs of the cipher over all opened records, clear and refused ones taking none; 0 on refusal */
 } jazmotip_block_answer;
 
 /* What the directory of a block is found to be. Order: 15, then 18 and 19. */
@@ -453,7 +457,7 @@ jazmotip_block_directory jazmotip_capture_verdicts(const uint8_t *settings, size
 jazmotip_block_part jazmotip_capture_payload(const uint8_t *block, size_t block_length, size_t k);
 
 /* Opens every record that can be into output, of the block's length; the others are copied. Opened records have their flags
- * cleared. The count is the sum over opened records. Order: 14, 1, 15, then 18 and 19. */
+ * cleared. Count and runs are sums over opened records. Order: 14, 1, 15, then 18 and 19. */
 jazmotip_block_answer jazmotip_capture_open(const uint8_t *settings, size_t settings_length, const uint8_t *block,
                                             size_t block_length, uint8_t *output, size_t output_length);
 

@@ -13,11 +13,12 @@
 --             registered before they send; what arrives does so its delay after it left, with a fitting buffer; an acknowledgement
 --             was handed over at least its delay ago; any other receipt is refused. Calls that are refused are bound by nothing
 --   Claim     (0) every accepted send, arrived or lost, sealed under the key of its number and its sender's MAC and clock, and handed
---             over their header, octets and count; (1) every envelope that arrived was accepted, opened under that key and counter
---             block, and gave back its payload and count, with as many runs of the cipher; (2) two sealed envelopes that share a key and a counter block are one, and
---             so are the two block indices; (3) where the switches are n and an envelope numbered n has arrived each way, both ends
---             hold key n as A, C and a, the OLT in the record that has the unit's LLIDs; (4) what another registered unit overhears
---             is refused, 14 for its buffer, else 2 downstream and 1 upstream, and leaves unit and buffer as they were
+--             over their header, octets, count and runs of the cipher; (1) every envelope that arrived was accepted, opened under that
+--             key and counter block, and gave back its payload and count, by as many runs as its send; (2) two sealed envelopes that
+--             share a key and a counter block are one, and so are the two block indices; (3) where the switches are n and an envelope
+--             numbered n has arrived each way, both ends hold key n as A, C and a, the OLT in the record that has the unit's LLIDs;
+--             (4) what another registered unit overhears is refused, 14 for its buffer, else 2 downstream and 1 upstream, and leaves
+--             unit and buffer as they were
 --   Example   a list that meets the premises, with refused calls of every kind
 --   Course    how it runs: which calls were refused, what was sent and what arrived
 --   Demand    the theorem as one statement, and what it says of the example

@@ -49,6 +49,7 @@ pub record PairEnciphered (w : List ℕ) (kept : Rows) (i j : ℕ) (b : Blocks) 
   pub first : (n : Nonce) → Kept w n kept → blockOctets (b .first) ≡ cipher w (counterBlock n i)
   pub second : (n : Nonce) → Kept w n kept → blockOctets (b .second) ≡ cipher w (counterBlock n j)
 
--- q is p with the blocks i and j sealed
-pub record PairSealed (w : List ℕ) (kept : Rows) (i j : ℕ) (p q : List ℕ) : Type 0 where
+-- q is p with the blocks i and j sealed, by so many runs of the cipher
+pub record PairSealed (w : List ℕ) (kept : Rows) (i j : ℕ) (p q : List ℕ) (made : ℕ) : Type 0 where
   pub sealed : (n : Nonce) → Kept w n kept → q ≡ blockSealed w n (blockSealed w n p i) j
+  pub runs : made ≡ 2

@@ -66,18 +66,25 @@ fn mask_block(payload: &mut [u8], block: Block, i: usize)
     }
 }
 
-// Block `i` by itself.
-fn seal_lone<'a>(subs: &'a [u8; 256], w: &'a [u8; 176], nonce: Nonce, payload: &mut [u8], i: usize)
+// Block `i` by itself; tells the runs of the cipher that it made (02, C-17).
+fn seal_lone<'a>(
+    subs: &'a [u8; 256],
+    w: &'a [u8; 176],
+    nonce: Nonce,
+    payload: &mut [u8],
+    i: usize,
+) -> u64
     requires { ⌜ now subs ≡ sboxTable ⌝ }
     requires { ⌜ length (now payload) % 9 ≡ 0 ⌝ }
     requires { ⌜ (18 * i < length (now payload)) × (i < maxBlocks) ⌝ }
-    ensures { λ _. ⌜ now (payload .exit) ≡ blockSealed (now (w .entry)) nonce (now (payload .entry)) i ⌝ }
+    ensures { λ r. ⌜ (now (payload .exit) ≡ blockSealed (now (w .entry)) nonce (now (payload .entry)) i) × (r ≡ 1) ⌝ }
 {
     let block = encrypt_lone(subs, w, counter_block(nonce, i as u64));
     mask_block(payload, block, i);
+    1
 }
 
-// The blocks `i` and `j`, which are enciphered together.
+// The blocks `i` and `j`, which are enciphered together; tells the runs, one for each.
 fn seal_pair<'a>(
     subs: &'a [u8; 256],
     w: &'a [u8; 176],
@@ -86,15 +93,16 @@ fn seal_pair<'a>(
     payload: &mut [u8],
     i: usize,
     j: usize,
-)
+) -> u64
     requires { ⌜ (now subs ≡ sboxTable) × PairKeys (now w) Nr keys ⌝ }
     requires { ⌜ length (now payload) % 9 ≡ 0 ⌝ }
     requires { ⌜ ((18 * i < length (now payload)) × (i < maxBlocks)) × ((18 * j < length (now payload)) × (j < maxBlocks)) ⌝ }
-    ensures { λ _. ⌜ PairSealed (now (w .entry)) kept i j (now (payload .entry)) (now (payload .exit)) ⌝ }
+    ensures { λ r. ⌜ PairSealed (now (w .entry)) kept i j (now (payload .entry)) (now (payload .exit)) r ⌝ }
 {
     let blocks = encrypt_pair(subs, w, keys, kept, i as u64, j as u64);
     mask_block(payload, blocks.first, i);
     mask_block(payload, blocks.second, j);
+    2
 }
 
 // Whether block `i` has an octet to encipher: a control octet that is not FF hex.
@@ -151,8 +159,7 @@ fn seal_pairs<'a>(
     let mut first = i;
     let mut second = j;
     while second < blocks {
-        seal_pair(subs, w, keys, kept, payload, first, second);
-        runs += 2;
+        runs += seal_pair(subs, w, keys, kept, payload, first, second);
         first = next_run(payload, blocks, second + 1);
         second = next_run(payload, blocks, first + 1);
     }
@@ -172,8 +179,7 @@ fn seal_blocks<'a>(subs: &'a [u8; 256], w: &'a [u8; 176], nonce: Nonce, payload:
     let paired = seal_pairs(subs, w, nonce, payload, first, second);
     let next = paired.next;
     if next < blocks {
-        seal_lone(subs, w, nonce, payload, next);
-        return paired.runs + 1;
+        return paired.runs + seal_lone(subs, w, nonce, payload, next);
     }
     paired.runs
 }

@@ -1,15 +1,18 @@
 // Seals payloads and prints, case by case, number, count and a sum over the output: against values that an independent
-// AES-128 in counter mode gave, with the mask of 01 applied (tools/test_sealing.py).
+// AES-128 in counter mode gave, with the mask of 01 applied (tools/test_sealing.py). In place, the runs of the cipher stand beside the count.
 use envelope::Nonce;
 use libc::STDOUT_FILENO;
 use sealing::aes128;
 use sealing::counter_mode;
 use sealing::key_expansion;
 
-// The control octet of EQ e: one value for all EQs, or, for 256, mixed.
+// The control octet of EQ e: one value for all EQs; for 256, mixed; for 257, mixed in three of ten blocks and FF hex in the others.
 fn control(kind: u64, e: usize) -> u8 {
     if kind < 256 {
         return (kind % 256) as u8;
+    }
+    if (kind == 257) & (e / 2 % 10 < 7) {
+        return 0xff;
     }
     ((e % 256 * 37 + 11) % 256) as u8
 }
@@ -232,10 +235,64 @@ fn refusals() {
     refused(18, 18, 0, 0xffff_ffff_ffff, 0xffff_ffff_ffff);
 }
 
+// Seals a payload in its place and prints number, count, runs of the cipher and sum.
+fn print_sealed_in_place(enciphered: bool, nonce: Nonce, payload: &mut [u8]) {
+    let answer = counter_mode::seal_in_place(enciphered, key(1), nonce, payload);
+    print_number(envelope::seal_number(answer) as u64);
+    print_number(envelope::seal_count(answer));
+    print_number(envelope::seal_runs(answer));
+    io::print_hex(STDOUT_FILENO, digest(payload), 8);
+    io::write_all(STDOUT_FILENO, b"\n");
+}
+
+// The same of the first n octets, filled before.
+fn print_work(enciphered: bool, nonce: Nonce, kind: u64, payload: &mut [u8], n: usize) {
+    if payload.len() < n {
+        return;
+    }
+    fill(payload, kind);
+    print_sealed_in_place(enciphered, nonce, &mut payload[..n]);
+}
+
+fn work(clear: u8, kind: u64, n: usize, channel: u8) {
+    let nonce = Nonce {
+        channel,
+        mac: 0x0200_0000_0001,
+        clock: 0x41,
+    };
+    let mut payload = io::large_buffer();
+    print_work(clear == 0, nonce, kind, &mut payload, n);
+}
+
+// Payloads of 0, 1, 2, 3, 20, 1499 and 1500 EQs.
+fn works(kind: u64) {
+    work(0, kind, 0, 0x80);
+    work(0, kind, 9, 0x80);
+    work(0, kind, 18, 0x80);
+    work(0, kind, 27, 0x80);
+    work(0, kind, 180, 0x80);
+    work(0, kind, 13491, 0x80);
+    work(0, kind, 13500, 0x80);
+}
+
+fn runs() {
+    io::write_all(STDOUT_FILENO, b"runs: control octets ff\n");
+    works(0xff);
+    io::write_all(STDOUT_FILENO, b"runs: control octets fe\n");
+    works(0xfe);
+    io::write_all(STDOUT_FILENO, b"runs: seven of ten blocks ff\n");
+    works(257);
+    io::write_all(STDOUT_FILENO, b"runs: clear; refused\n");
+    work(1, 0x00, 27, 0x80);
+    work(0, 0x00, 28, 0x80);
+    work(0, 0x00, 27, 0x82);
+}
+
 fn main() {
     counters();
     masks();
     lengths();
     nonces();
     refusals();
+    runs();
 }

@@ -93,7 +93,7 @@ pub fn expand_key(key: &[u8; 16]) -> RoundKeys {
     unsafe { raw::jazmotip_expand_key(key.as_ptr()) }
 }
 
-/// Seals, or opens what was sealed; `encenabled` 0 copies, with count 0. Order of refusals: 14, 1.
+/// Seals, or opens what was sealed; `encenabled` 0 copies, with count and runs 0. Order of refusals: 14, 1.
 pub fn seal(encenabled: u8, key: &[u8; 16], nonce: Nonce, input: &[u8], output: &mut [u8]) -> PayloadAnswer {
     unsafe {
         raw::jazmotip_seal(encenabled, key.as_ptr(), nonce, input.as_ptr(), input.len(), output.as_mut_ptr(), output.len())

@@ -12,6 +12,17 @@ pub struct Opening {
     pub clock: u64,
 }
 
+/// What opening a block took.
+#[derive(Clone, Copy, Debug, PartialEq, Eq)]
+pub struct Opened {
+    /// Octets deciphered, over all opened records.
+    pub count: u64,
+    /// Runs of the cipher, over all opened records; clear and refused ones take none.
+    pub runs: u64,
+    /// Keys expanded: each that is present, once, used or not.
+    pub expansions: u8,
+}
+
 /// How many records a block has, or what is wrong with its directory.
 pub fn records(block: &[u8]) -> Result<usize, Refusal> {
     let directory = calls::capture_directory(block);
@@ -37,10 +48,14 @@ pub fn payload(block: &[u8], k: usize) -> Result<&[u8], Refusal> {
     Refusal::block_verdict(part.number, part.pair).map(|()| &block[part.offset..part.offset + part.length])
 }
 
-/// Opens every record that can be into `output`, of the block's length, and copies the others; gives the octets deciphered.
-pub fn open(settings: &[u8], block: &[u8], output: &mut [u8]) -> Result<u64, Refusal> {
+/// Opens every record that can be into `output`, of the block's length, and copies the others; gives what that took.
+pub fn open(settings: &[u8], block: &[u8], output: &mut [u8]) -> Result<Opened, Refusal> {
     let answer = calls::capture_open(settings, block, output);
-    Refusal::block_verdict(answer.number, answer.pair).map(|()| answer.count)
+    Refusal::block_verdict(answer.number, answer.pair).map(|()| Opened {
+        count: answer.count,
+        runs: answer.runs,
+        expansions: answer.expansions,
+    })
 }
 
 /// The listing of a block: a heading, then a line for each record; of a refused call, the heading and a line such as

@@ -10,7 +10,16 @@ pub struct Sent {
     pub header: Header,
     /// Octets enciphered, 0 for a clear envelope.
     pub count: u64,
-    /// Runs of the cipher, one for each block with an octet to encipher.
+    /// Runs of the cipher: the blocks of two EQs, or a last one of one, with an octet to encipher; 0 for a clear envelope.
+    pub runs: u64,
+}
+
+/// What sealing or opening a payload took.
+#[derive(Clone, Copy, Debug, PartialEq, Eq)]
+pub struct Work {
+    /// Octets enciphered or deciphered, 0 for a clear envelope.
+    pub count: u64,
+    /// Runs of the cipher, as many to open an envelope as it took to seal it; 0 for a clear one.
     pub runs: u64,
 }
 
@@ -85,11 +94,11 @@ impl Olt {
         Refusal::verdict(answer.number).map(|()| Sent { header: answer.header, count: answer.count, runs: answer.runs })
     }
 
-    /// Opens an envelope from a unit into `output`, of the same length; gives the octets deciphered.
-    pub fn receive(&mut self, header: Header, octets: &[u8], output: &mut [u8]) -> Result<u64, Refusal> {
+    /// Opens an envelope from a unit into `output`, of the same length; gives what that took.
+    pub fn receive(&mut self, header: Header, octets: &[u8], output: &mut [u8]) -> Result<Work, Refusal> {
         let answer = calls::olt_receive(*self, header, octets, output);
         *self = answer.olt;
-        Refusal::verdict(answer.number).map(|()| answer.count)
+        Refusal::verdict(answer.number).map(|()| Work { count: answer.count, runs: answer.runs })
     }
 }
 
@@ -126,12 +135,12 @@ impl Onu {
         Refusal::verdict(answer.number).map(|()| Sent { header: answer.header, count: answer.count, runs: answer.runs })
     }
 
-    /// Opens an envelope from the head end into `output`, of the same length; gives the octets deciphered. An envelope under the
-    /// next key makes that key the active one.
-    pub fn receive(&mut self, header: Header, octets: &[u8], output: &mut [u8]) -> Result<u64, Refusal> {
+    /// Opens an envelope from the head end into `output`, of the same length; gives what that took. An envelope under the next
+    /// key makes that key the active one.
+    pub fn receive(&mut self, header: Header, octets: &[u8], output: &mut [u8]) -> Result<Work, Refusal> {
         let answer = calls::onu_receive(*self, header, octets, output);
         *self = answer.onu;
-        Refusal::verdict(answer.number).map(|()| answer.count)
+        Refusal::verdict(answer.number).map(|()| Work { count: answer.count, runs: answer.runs })
     }
 }
 
@@ -141,15 +150,15 @@ impl RoundKeys {
         calls::expand_key(key)
     }
 
-    /// Seals `input` into `output`, of the same length, or opens it: the two are one act. Gives the octets enciphered.
-    pub fn seal(&self, nonce: Nonce, input: &[u8], output: &mut [u8]) -> Result<u64, Refusal> {
+    /// Seals `input` into `output`, of the same length, or opens it: the two are one act. Gives what that took.
+    pub fn seal(&self, nonce: Nonce, input: &[u8], output: &mut [u8]) -> Result<Work, Refusal> {
         let answer = calls::seal_expanded(1, *self, nonce, input, output);
-        Refusal::verdict(answer.number).map(|()| answer.count)
+        Refusal::verdict(answer.number).map(|()| Work { count: answer.count, runs: answer.runs })
     }
 
     /// The same with the payload as input and output.
-    pub fn seal_in_place(&self, nonce: Nonce, payload: &mut [u8]) -> Result<u64, Refusal> {
+    pub fn seal_in_place(&self, nonce: Nonce, payload: &mut [u8]) -> Result<Work, Refusal> {
         let answer = calls::seal_expanded_in_place(1, *self, nonce, payload);
-        Refusal::verdict(answer.number).map(|()| answer.count)
+        Refusal::verdict(answer.number).map(|()| Work { count: answer.count, runs: answer.runs })
     }
 }

@@ -19,7 +19,8 @@
 //! onu.advance(1000)?;
 //! let (payload, mut sealed, mut opened) = (*b"\0to unit5", [0; 9], [0; 9]); // one EQ: a control octet, eight data octets
 //! let sent = olt.send(5, 0x00, &payload, &mut sealed)?;
-//! assert_eq!(onu.receive(sent.header, &sealed, &mut opened)?, 8);
+//! let got = onu.receive(sent.header, &sealed, &mut opened)?;
+//! assert_eq!((got.count, got.runs), (8, 1)); // octets deciphered, runs of the cipher
 //! assert_eq!((sent.header.encenabled, sent.header.enckey, opened), (1, 1, payload));
 //! # Ok(())
 //! # }
@@ -45,7 +46,7 @@ mod refusal;
 pub mod store;
 pub mod xgpon;
 
-pub use ends::Sent;
+pub use ends::{Sent, Work};
 pub use records::*;
 pub use refusal::Refusal;
 

@@ -84,8 +84,8 @@ fn capture_text(settings: &[u8], block: &[u8]) -> String {
     let mut text = capture::listing(settings, block);
     let BlockDirectory { number, pair, records } = answers::directory(block);
     writeln!(text, "directory {number} pair {pair} records {records}").expect("text");
-    let (BlockAnswer { number, pair, count, .. }, _) = answers::open(settings, block, block.len());
-    writeln!(text, "open {number} pair {pair} count {count}").expect("text");
+    let (BlockAnswer { number, expansions, pair, count, runs }, _) = answers::open(settings, block, block.len());
+    writeln!(text, "open {number} pair {pair} count {count}\nruns {runs} expansions {expansions}").expect("text");
     for k in 1..=records {
         let BlockVerdict { number, encenabled, enckey, clock, .. } = answers::verdict(settings, block, k);
         let BlockPart { number: found, offset, length, .. } = answers::part(block, k);

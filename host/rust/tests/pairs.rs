@@ -5,7 +5,7 @@ use crate::random::{Lent, Random};
 use crate::reference::olt::Olt;
 use crate::reference::onu::Onu;
 use crate::reference::records::End;
-use crate::reference::{payload, Envelope, Identity, Key, Opened, Reply};
+use crate::reference::{Envelope, Identity, Key, Passed, Reply};
 use crate::tally::Tally;
 use jazmotip::{calls, Acknowledgement, Header, KeyMessage, Stamps};
 
@@ -77,19 +77,19 @@ impl<E: End> Pair<E> {
 }
 
 #[track_caller]
-fn check_sent(lent: &Lent, header: Header, count: u64, expected: &Reply<Envelope>) {
+fn check_sent(lent: &Lent, header: Header, count: u64, runs: u64, expected: &Reply<Envelope>) {
     let (octets, wanted) = match expected {
-        Ok(envelope) => (Some(&envelope.octets[..]), (envelope.header, envelope.count)),
-        Err(_) => (None, (Header::default(), 0)),
+        Ok(envelope) => (Some(&envelope.octets[..]), (envelope.header, envelope.count, envelope.runs)),
+        Err(_) => (None, (Header::default(), 0, 0)),
     };
     lent.check(octets);
-    assert_eq!((header, count), wanted);
+    assert_eq!((header, count, runs), wanted);
 }
 
 #[track_caller]
-fn check_received(lent: &Lent, count: u64, expected: &Reply<Opened>) {
+fn check_received(lent: &Lent, count: u64, runs: u64, expected: &Reply<Passed>) {
     lent.check(expected.as_ref().ok().map(|opened| &opened.octets[..]));
-    assert_eq!(count, expected.as_ref().map_or(0, |opened| opened.count));
+    assert_eq!((count, runs), expected.as_ref().map_or((0, 0), |opened| (opened.count, opened.runs)));
 }
 
 impl Pair<Olt> {
@@ -192,9 +192,7 @@ macro_rules! calls_of_both {
                 let mut lent = random.lent(output);
                 let answer = calls::$send(self.record, llid, channel, payload, lent.part());
                 let expected = self.judge(|end| end.send(llid, channel, payload, output));
-                check_sent(&lent, answer.header, answer.count, &expected);
-                let sealed = expected.as_ref().is_ok_and(|envelope| envelope.sealed_under.is_some());
-                assert_eq!(answer.runs, if sealed { payload::runs(payload) } else { 0 });
+                check_sent(&lent, answer.header, answer.count, answer.runs, &expected);
                 self.settle(tally, stringify!($send), answer.number, answer.$record, &expected);
                 expected
             }
@@ -206,13 +204,11 @@ macro_rules! calls_of_both {
                 header: Header,
                 octets: &[u8],
                 output: usize,
-            ) -> Reply<Opened> {
+            ) -> Reply<Passed> {
                 let mut lent = random.lent(output);
                 let answer = calls::$receive(self.record, header, octets, lent.part());
                 let expected = self.judge(|end| end.receive(&header, octets, output));
-                check_received(&lent, answer.count, &expected);
-                let sealed = expected.is_ok() && header.encenabled == 1;
-                assert_eq!(answer.runs, if sealed { payload::runs(octets) } else { 0 });
+                check_received(&lent, answer.count, answer.runs, &expected);
                 self.settle(tally, stringify!($receive), answer.number, answer.$record, &expected);
                 expected
             }

@@ -2,8 +2,8 @@
 
 use crate::random::{cases, Random};
 use crate::reference::aes::Schedule;
-use crate::reference::payload;
-use jazmotip::{calls, Nonce, PayloadAnswer, RoundKeys, MAX_EQS};
+use crate::reference::{payload, Passed};
+use jazmotip::{calls, Nonce, PayloadAnswer, RoundKeys, Work, MAX_EQS};
 
 /// Octets of a text in hex.
 fn hex<const N: usize>(text: &str) -> [u8; N] {
@@ -15,11 +15,6 @@ fn nonce(random: &mut Random) -> Nonce {
     Nonce { channel: random.pick(&[0x00, 0x01, 0x80, 0x81]), mac: random.mac(), clock: random.clock() }
 }
 
-/// A clear envelope takes no run.
-fn runs_of(encenabled: u8, octets: &[u8]) -> u64 {
-    u64::from(encenabled) * payload::runs(octets)
-}
-
 /// One call of each sealing function, against the reference: number, count, runs, output, and the octets around it.
 fn check(random: &mut Random, encenabled: u8, key: &[u8; 16], nonce: Nonce, input: &[u8], output: usize) -> PayloadAnswer {
     let expected = payload::seal(encenabled, &Schedule::new(key), nonce, input, output);
@@ -29,8 +24,8 @@ fn check(random: &mut Random, encenabled: u8, key: &[u8; 16], nonce: Nonce, inpu
     let again = calls::seal_expanded(encenabled, calls::expand_key(key), nonce, input, lent_again.part());
     assert_eq!(answer, again);
     match expected {
-        Ok((octets, count)) => {
-            assert_eq!(answer, PayloadAnswer { number: 0, count, runs: runs_of(encenabled, input) });
+        Ok(Passed { octets, count, runs }) => {
+            assert_eq!(answer, PayloadAnswer { number: 0, count, runs });
             lent.check(Some(&octets));
             lent_again.check(Some(&octets));
         }
@@ -47,7 +42,7 @@ fn check(random: &mut Random, encenabled: u8, key: &[u8; 16], nonce: Nonce, inpu
 fn check_in_place(random: &mut Random, encenabled: u8, key: &[u8; 16], nonce: Nonce, octets: &[u8]) {
     let expected = payload::seal(encenabled, &Schedule::new(key), nonce, octets, octets.len());
     let (answer, holds) = match &expected {
-        Ok((sealed, count)) => (PayloadAnswer { number: 0, count: *count, runs: runs_of(encenabled, octets) }, Some(&sealed[..])),
+        Ok(Passed { octets, count, runs }) => (PayloadAnswer { number: 0, count: *count, runs: *runs }, Some(&octets[..])),
         Err(number) => (PayloadAnswer { number: *number, count: 0, runs: 0 }, None),
     };
     let mut lent = random.lent_payload(octets);
@@ -115,7 +110,10 @@ fn random_payloads() {
         calls::seal(1, &key, nonce, &input, &mut sealed);
         calls::seal(1, &key, nonce, &sealed, &mut opened);
         assert_eq!(opened, input);
-        assert_eq!(RoundKeys::expand(&key).seal_in_place(nonce, &mut sealed), Ok(answer.count));
+        assert_eq!(
+            RoundKeys::expand(&key).seal_in_place(nonce, &mut sealed),
+            Ok(Work { count: answer.count, runs: answer.runs })
+        );
         assert_eq!(sealed, input);
     });
 }
@@ -132,8 +130,8 @@ fn random_key_schedules() {
         let mut lent = random.lent(input.len());
         let answer = calls::seal_expanded(1, keys, nonce, &input, lent.part());
         let schedule = Schedule::from_octets(&keys.octets);
-        let (octets, count) = payload::seal(1, &schedule, nonce, &input, input.len()).expect("accepted");
-        assert_eq!(answer, PayloadAnswer { number: 0, count, runs: payload::runs(&input) });
+        let Passed { octets, count, runs } = payload::seal(1, &schedule, nonce, &input, input.len()).expect("accepted");
+        assert_eq!(answer, PayloadAnswer { number: 0, count, runs });
         lent.check(Some(&octets));
     });
 }
@@ -193,7 +191,7 @@ fn the_largest_payload_and_one_more() {
         let input = random.payload(MAX_EQS + 1);
         let largest = &input[..9 * MAX_EQS];
         let answer = check(random, 1, &key, nonce, largest, largest.len());
-        assert_eq!(answer, PayloadAnswer { number: 0, count: payload::count(largest), runs: payload::runs(largest) });
+        assert_eq!((answer.number, answer.count), (0, payload::count(largest)));
         assert_eq!(calls::count(largest), answer.count);
         check_in_place(random, 1, &key, nonce, largest);
         for encenabled in 0..=2 {
@@ -204,21 +202,66 @@ fn the_largest_payload_and_one_more() {
     });
 }
 
+/// A payload whose blocks are idle, of control characters alone, seven times in ten.
+fn idle_heavy(random: &mut Random, eqs: usize) -> Vec<u8> {
+    let mut octets = random.payload(eqs);
+    for block in octets.chunks_mut(18).filter(|_| random.below(10) < 7) {
+        block.chunks_mut(9).for_each(|eq| eq[0] = 0xff);
+    }
+    octets
+}
+
+/// 02, C-17: no run for a block of control characters alone, the odd last EQ by its own control octet; half the EQs, rounded up, at most.
 #[test]
 fn idle_blocks_take_no_run() {
-    cases(200, |random| {
-        let (key, nonce) = (random.key(), nonce(random));
-        let eqs = random.below(40) as usize;
-        let mut input = random.payload(eqs);
-        for block in input.chunks_mut(18) {
-            if random.below(10) < 7 {
-                block.chunks_exact_mut(9).for_each(|eq| eq[0] = 0xff);
-            }
+    cases(1000, |random| {
+        let (key, nonce, eqs) = (random.key(), nonce(random), random.below(50) as usize);
+        let most = eqs.div_ceil(2) as u64;
+        let mut input = idle_heavy(random, eqs);
+        let mixed = check(random, 1, &key, nonce, &input, 9 * eqs);
+        assert!(mixed.runs <= most);
+        check_in_place(random, 1, &key, nonce, &input);
+        assert_eq!(check(random, 0, &key, nonce, &input, 9 * eqs).runs, 0);
+        assert_eq!(check(random, 1, &key, nonce, &input, 9 * eqs + 9).runs, 0);
+        // idle blocks alone, and then the one data octet of a last EQ
+        input.chunks_mut(9).for_each(|eq| eq[0] = 0xff);
+        assert_eq!(check(random, 1, &key, nonce, &input, 9 * eqs), PayloadAnswer::default());
+        check_in_place(random, 1, &key, nonce, &input);
+        if let Some(eq) = input.chunks_mut(9).next_back() {
+            eq[0] = 0xff ^ 1 << random.below(8);
+            assert_eq!(check(random, 1, &key, nonce, &input, 9 * eqs), PayloadAnswer { number: 0, count: 1, runs: 1 });
         }
-        let answer = check(random, 1, &key, nonce, &input, input.len());
-        assert!(answer.runs <= (input.len() as u64 / 9).div_ceil(2));
-        // an odd last EQ is judged by itself
-        let last = [0xff, 1, 2, 3, 4, 5, 6, 7, 8];
-        assert_eq!(check(random, 1, &key, nonce, &last, 9).runs, 0);
+        // one data octet in each block, in either EQ
+        for block in input.chunks_mut(18) {
+            let place = if block.len() == 18 { random.pick(&[0, 9]) } else { 0 };
+            block.chunks_mut(9).for_each(|eq| eq[0] = 0xff);
+            block[place] ^= 1 << random.below(8);
+        }
+        assert_eq!(check(random, 1, &key, nonce, &input, 9 * eqs), PayloadAnswer { number: 0, count: most, runs: most });
     });
+}
+
+/// The fewest EQs by hand: one, two and three, each idle or with data.
+#[test]
+fn runs_of_short_payloads() {
+    let nonce = Nonce { channel: 0x00, mac: 1, clock: 2 };
+    let runs = |control: &[u8]| {
+        let payload: Vec<u8> = control.iter().flat_map(|&control| [control, 1, 2, 3, 4, 5, 6, 7, 8]).collect();
+        RoundKeys::expand(&[3; 16]).seal(nonce, &payload, &mut vec![0; payload.len()]).map(|work| work.runs)
+    };
+    for (control, expected) in [
+        (&[][..], 0),
+        (&[0xff], 0),
+        (&[0x7f], 1),
+        (&[0xff, 0xff], 0),
+        (&[0x00, 0x00], 1),
+        (&[0xff, 0xfe], 1),
+        (&[0xfe, 0xff], 1),
+        (&[0xff, 0xff, 0xff], 0),
+        (&[0x00, 0x00, 0xff], 1),
+        (&[0xff, 0xff, 0x00], 1),
+        (&[0x00, 0xff, 0x00], 2),
+    ] {
+        assert_eq!(runs(control), Ok(expected), "{control:02x?}");
+    }
 }

@@ -1,6 +1,6 @@
 //! The bench values of document 01 that the calls of both ends show (P2 to P11), and the boundaries beside them.
 
-use jazmotip::{calls, Identity, Olt, Onu, Refusal, Stamps, CLOCK_TURN, MAX_EQS, MAX_TICK, SECOND};
+use jazmotip::{calls, Identity, Olt, Onu, Refusal, Stamps, Work, CLOCK_TURN, MAX_EQS, MAX_TICK, SECOND};
 
 const MAC: u64 = 0x020000000001;
 
@@ -126,7 +126,7 @@ fn the_largest_envelope_on_the_line() {
     let sent = head.send(5, 0x01, largest, &mut sealed).expect("sent");
     assert!(sealed != largest);
     let mut opened = vec![0; largest.len()];
-    assert_eq!(unit.receive(sent.header, &sealed, &mut opened), Ok(sent.count));
+    assert_eq!(unit.receive(sent.header, &sealed, &mut opened), Ok(Work { count: sent.count, runs: sent.runs }));
     assert!(opened == largest);
     assert_eq!(sent.count, calls::count(largest));
     head.advance(MAX_EQS as u64).expect("advanced");

@@ -72,9 +72,9 @@ pub struct OltSent {
     pub number: u8,
     pub olt: Olt,
     pub header: Header,
-    /// Octets enciphered, 0 for a clear envelope.
+    /// Octets enciphered; 0 for a clear envelope and on refusal.
     pub count: u64,
-    /// Runs of the cipher; 0 on refusal.
+    /// Runs of the cipher; 0 for a clear envelope and on refusal.
     pub runs: u64,
 }
 
@@ -83,8 +83,9 @@ pub struct OltSent {
 pub struct OltReceived {
     pub number: u8,
     pub olt: Olt,
+    /// Octets deciphered; 0 for a clear envelope and on refusal.
     pub count: u64,
-    /// Runs of the cipher; 0 on refusal.
+    /// Runs of the cipher; 0 for a clear envelope and on refusal.
     pub runs: u64,
 }
 
@@ -109,8 +110,9 @@ pub struct OnuSent {
     pub number: u8,
     pub onu: Onu,
     pub header: Header,
+    /// Octets enciphered; 0 for a clear envelope and on refusal.
     pub count: u64,
-    /// Runs of the cipher; 0 on refusal.
+    /// Runs of the cipher; 0 for a clear envelope and on refusal.
     pub runs: u64,
 }
 
@@ -119,7 +121,8 @@ pub struct OnuSent {
 pub struct OnuReceived {
     pub number: u8,
     pub onu: Onu,
+    /// Octets deciphered; 0 for a clear envelope and on refusal.
     pub count: u64,
-    /// Runs of the cipher; 0 on refusal.
+    /// Runs of the cipher; 0 for a clear envelope and on refusal.
     pub runs: u64,
 }

@@ -23,9 +23,9 @@ pub struct RoundKeys {
 #[derive(Clone, Copy, Debug, Default, PartialEq, Eq)]
 pub struct PayloadAnswer {
     pub number: u8,
-    /// Octets enciphered or deciphered.
+    /// Octets enciphered or deciphered; 0 where nothing is to be enciphered and on refusal.
     pub count: u64,
-    /// Runs of the cipher; 0 on refusal.
+    /// Runs of the cipher; 0 where nothing is to be enciphered and on refusal.
     pub runs: u64,
 }
 
@@ -70,13 +70,13 @@ pub struct BlockPart {
 #[derive(Clone, Copy, Debug, Default, PartialEq, Eq)]
 pub struct BlockAnswer {
     pub number: u8,
-    /// Keys expanded: each that is present, used or not; 0 on refusal.
+    /// Keys expanded: each that is present, once, used or not; 0 on refusal.
     pub expansions: u8,
     /// The first broken pair from 1, for 18 and 19; else 0.
     pub pair: u16,
-    /// Octets deciphered.
+    /// Octets deciphered over all opened records; 0 on refusal.
     pub count: u64,
-    /// Runs of the cipher over all opened records; 0 on refusal.
+    /// Runs of the cipher over all opened records, clear and refused ones taking none; 0 on refusal.
     pub runs: u64,
 }
 

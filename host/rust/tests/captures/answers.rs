@@ -36,7 +36,9 @@ pub fn part(block: &[u8], k: usize) -> BlockPart {
 /// The answer of opening into an output of so many octets, and what that then holds, if it is written.
 pub fn open(settings: &[u8], block: &[u8], output: usize) -> (BlockAnswer, Option<Vec<u8>>) {
     match capture::open(settings, block, output) {
-        Ok(Opened { octets, count, runs, expansions }) => (BlockAnswer { number: 0, expansions, pair: 0, count, runs }, Some(octets)),
+        Ok(Opened { octets, count, runs, expansions }) => {
+            (BlockAnswer { number: 0, expansions, pair: 0, count, runs }, Some(octets))
+        }
         Err(Refused { number, pair }) => (BlockAnswer { number, pair, ..BlockAnswer::default() }, None),
     }
 }

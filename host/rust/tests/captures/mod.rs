@@ -9,7 +9,8 @@ use crate::reference::capture;
 use crate::tally::Tally;
 use blocks::{block, random_block, record, settings};
 use check::{check, check_record};
-use jazmotip::{calls, LISTING_OCTETS};
+use jazmotip::capture::Opened;
+use jazmotip::{calls, BlockAnswer, LISTING_OCTETS, RECORDS};
 
 #[test]
 fn sound_blocks() {
@@ -240,5 +241,41 @@ fn the_listing_of_document_01() {
     assert_eq!(jazmotip::capture::verdict(&settings, &block, 2), Err(jazmotip::Refusal::NoKey));
     assert_eq!(jazmotip::capture::verdicts(&settings, &block, &mut [7; 256]), Ok(&[0, 9][..]));
     assert_eq!(jazmotip::capture::payload(&block, 2), Ok(&[][..]));
-    assert_eq!(jazmotip::capture::open(&settings, &block, &mut [0; 50]), Ok(0));
+    assert_eq!(jazmotip::capture::open(&settings, &block, &mut [0; 50]), Ok(Opened { count: 0, runs: 0, expansions: 0 }));
+}
+
+/// 02, C-17: a key that is present is expanded once for the call, whether or not a record needs it; runs are of opened records alone.
+#[test]
+fn expansions_and_runs_of_a_block() {
+    cases(200, |random| {
+        let mut tally = Tally::default();
+        let settings = settings(random, 3);
+        let with = |presence: u8| [&[presence], &settings[1..]].concat();
+        let whole = |presence: u8, block: &[u8]| jazmotip::capture::open(&with(presence), block, &mut vec![0; block.len()]);
+        // no records
+        for (presence, expansions) in [(0, 0), (1, 1), (2, 1), (3, 2)] {
+            assert_eq!(whole(presence, &[0, 0]), Ok(Opened { count: 0, runs: 0, expansions }));
+        }
+        // a record of idle blocks and one of data, under key 0
+        let eqs = random.within(1, 40) as usize;
+        let sealed = |random: &mut Random, flags: u8, control: u8| {
+            let mut octets = vec![0, 0x00, settings[39], settings[40], flags, 7, 0, 0, 0, 0, 0, 7, 0, 0, 0, eqs as u8];
+            octets.extend(random.octets(9 * eqs));
+            octets[16..].chunks_mut(9).for_each(|eq| eq[0] = control);
+            octets
+        };
+        let runs = eqs.div_ceil(2) as u64;
+        let under_key_0 = block(&[sealed(random, 1, 0xff), sealed(random, 1, 0x00), sealed(random, 0, 0x00)]);
+        let opened = |expansions| Ok(Opened { count: 8 * eqs as u64, runs, expansions });
+        assert_eq!((whole(1, &under_key_0), whole(3, &under_key_0)), (opened(1), opened(2)));
+        assert_eq!(whole(2, &under_key_0), Ok(Opened { count: 0, runs: 0, expansions: 1 }));
+        check(random, &mut tally, &settings, &under_key_0);
+        // as many records as there can be
+        let full = block(&vec![sealed(random, 3, 0x00); RECORDS.min(65_534 / (24 + 9 * eqs))]);
+        assert_eq!(whole(3, &full).map(|opened| opened.expansions), Ok(2));
+        // refused
+        let cut = &full[..full.len() - 1];
+        let answer = calls::capture_open(&settings, cut, &mut vec![0; cut.len()]);
+        assert_eq!(answer, BlockAnswer { number: 18, pair: answer.pair, ..BlockAnswer::default() });
+    });
 }

@@ -3,7 +3,7 @@
 use super::world::{Thing, World};
 use super::Kind;
 use crate::reference::olt::Unit;
-use crate::reference::{Envelope, Opened, KEY_LIFE};
+use crate::reference::{Envelope, Passed, KEY_LIFE};
 
 impl World<'_> {
     /// A payload, the length of the output, and a channel index; now and then one that is refused.
@@ -45,7 +45,7 @@ impl World<'_> {
             (false, 2) => "unit sends under key 2",
             (false, _) => "unit sends under key 3 or later",
         });
-        let Envelope { header, octets, count, sealed_under } = envelope;
+        let Envelope { header, octets, count, runs, sealed_under } = envelope;
         if let (Kind::Line, Some((key, mac, clock))) = (self.kind, sealed_under) {
             assert!(self.sealed.insert((header.channel, key, mac, clock)), "a counter block is used twice");
         }
@@ -53,7 +53,7 @@ impl World<'_> {
         if self.past.len() > 8 {
             self.past.pop_front();
         }
-        self.leaves(i, downwards, Thing::Envelope { header, octets, payload: Opened { octets: payload, count } });
+        self.leaves(i, downwards, Thing::Envelope { header, octets, payload: Passed { octets: payload, count, runs } });
     }
 
     pub fn olt_send(&mut self, i: usize) {

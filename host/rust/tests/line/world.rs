@@ -5,7 +5,7 @@ use crate::pairs::Pair;
 use crate::random::Random;
 use crate::reference::olt::{Olt, Unit};
 use crate::reference::onu::Onu;
-use crate::reference::{Key, Opened};
+use crate::reference::{Key, Passed};
 use crate::tally::Tally;
 use jazmotip::{Acknowledgement, Header, Identity, KeyMessage, Stamps};
 use std::collections::{HashSet, VecDeque};
@@ -19,7 +19,7 @@ pub enum Thing {
     Envelope {
         header: Header,
         octets: Vec<u8>,
-        payload: Opened,
+        payload: Passed,
     },
 }
 

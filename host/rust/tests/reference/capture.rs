@@ -1,7 +1,7 @@
 //! The capture reader (01, Capture block). What is wrong with a directory is told as 02, C-11 has it: 15 for the sizes, then pair
 //! by pair 18 for the chain before 19 for the length.
 
-use super::{payload, refuse_if, Key, Reply, CLOCK};
+use super::{payload, refuse_if, Key, Passed, Reply, CLOCK};
 use std::fmt::{Display, Formatter, Write};
 use std::ops::Range;
 
@@ -145,19 +145,20 @@ pub fn open(octets: &[u8], block: &[u8], output: usize) -> Result<Opened, Refuse
     refuse_if(octets.len() != 41 || output != block.len(), 14)?;
     let settings = settings(octets)?;
     let records = directory(block)?;
-    let mut out = block.to_vec();
-    let (mut total, mut runs) = (0, 0);
+    let expansions = settings.keys.iter().flatten().count() as u8;
+    let mut opened = Opened { octets: block.to_vec(), count: 0, runs: 0, expansions };
     for record in records {
         if let Ok(Some((_, key))) = judge(&settings, &record) {
             let sealed = &block[record.payload.clone()];
-            let (opened, count) = payload::pass(&key, record.channel, settings.mac, record.clock % CLOCK, sealed);
-            out[record.payload].copy_from_slice(&opened);
-            out[record.offset + 4] &= 0b1111_1100;
-            total += count;
-            runs += payload::runs(sealed);
+            let Passed { octets, count, runs } =
+                payload::pass(&key, record.channel, settings.mac, record.clock % CLOCK, sealed);
+            opened.octets[record.payload].copy_from_slice(&octets);
+            opened.octets[record.offset + 4] &= 0b1111_1100;
+            opened.count += count;
+            opened.runs += runs;
         }
     }
-    Ok(Opened { octets: out, count: total, runs, expansions: octets[0].count_ones() as u8 })
+    Ok(opened)
 }
 
 /// What the reader program prints.

@@ -76,15 +76,24 @@ pub struct Envelope {
     pub header: jazmotip::Header,
     pub octets: Vec<u8>,
     pub count: u64,
+    pub runs: u64,
     /// The key, MAC and clock that it was sealed under.
     pub sealed_under: Option<(Key, u64, u64)>,
 }
 
-/// An envelope's payload as a receipt gives it back.
+/// A payload as sealing or opening leaves it, the octets that were enciphered and the runs of the cipher (02, C-17).
 #[derive(Clone, Debug, PartialEq, Eq)]
-pub struct Opened {
+pub struct Passed {
     pub octets: Vec<u8>,
     pub count: u64,
+    pub runs: u64,
+}
+
+impl Passed {
+    /// A clear envelope's passes unchanged.
+    pub fn clear(octets: &[u8]) -> Passed {
+        Passed { octets: octets.to_vec(), count: 0, runs: 0 }
+    }
 }
 
 /// The 1 of a receipt: a channel index of the wrong direction, a flag or EPAM outside its bits, EncKey 1 with EncEnabled 0.

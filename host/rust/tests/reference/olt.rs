@@ -172,20 +172,20 @@ impl Olt {
         let envelope = match unit.active {
             0 => {
                 let header = Header { channel, llid, encenabled: 0, enckey: 0, epam };
-                Envelope { header, octets: payload.to_vec(), count: 0, sealed_under: None }
+                Envelope { header, octets: payload.to_vec(), count: 0, runs: 0, sealed_under: None }
             }
             active => {
                 let key = unit.keys[&active];
-                let (octets, count) = payload::pass(&key, channel, mac, clock, payload);
+                let Passed { octets, count, runs } = payload::pass(&key, channel, mac, clock, payload);
                 let header = Header { channel, llid, encenabled: 1, enckey: (active % 2) as u8, epam };
-                Envelope { header, octets, count, sealed_under: Some((key, mac, clock)) }
+                Envelope { header, octets, count, runs, sealed_under: Some((key, mac, clock)) }
             }
         };
         self.channels.take(channel, tick, payload.len() / 9);
         Ok(envelope)
     }
 
-    pub fn receive(&mut self, header: &Header, octets: &[u8], output: usize) -> Reply<Opened> {
+    pub fn receive(&mut self, header: &Header, octets: &[u8], output: usize) -> Reply<Passed> {
         payload::check_lengths(octets.len(), output)?;
         refuse_if(header_out_of_range(header, 0x80), 1)?;
         let clock = self.clock;
@@ -193,7 +193,7 @@ impl Olt {
         refuse_if(u64::from(header.epam) != clock % 64, 10)?;
         if header.encenabled == 0 {
             refuse_if(unit.confirmed >= 1, 11)?;
-            return Ok(Opened { octets: octets.to_vec(), count: 0 });
+            return Ok(Passed::clear(octets));
         }
         let index = u64::from(header.enckey);
         let number = if unit.confirmed >= 1 && index == unit.confirmed % 2 {
@@ -203,11 +203,11 @@ impl Olt {
         } else {
             return Err(9);
         };
-        let (octets, count) = payload::pass(&unit.keys[&number], header.channel, unit.identity.mac, clock, octets);
+        let passed = payload::pass(&unit.keys[&number], header.channel, unit.identity.mac, clock, octets);
         if number > unit.confirmed {
             unit.confirmed = number;
             unit.forget_all_but_active();
         }
-        Ok(Opened { octets, count })
+        Ok(passed)
     }
 }

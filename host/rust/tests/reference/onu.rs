@@ -84,39 +84,39 @@ impl Onu {
         let epam = (clock % 64) as u8;
         let envelope = if self.active == 0 {
             let header = Header { channel, llid, encenabled: 0, enckey: 0, epam };
-            Envelope { header, octets: payload.to_vec(), count: 0, sealed_under: None }
+            Envelope { header, octets: payload.to_vec(), count: 0, runs: 0, sealed_under: None }
         } else {
             let first = self.first_send.unwrap_or(self.tick);
             refuse_if(self.tick - first >= KEY_LIFE, 13)?;
             self.first_send = Some(first);
             let key = self.keys[&self.active];
-            let (octets, count) = payload::pass(&key, channel, self.identity.mac, clock, payload);
+            let Passed { octets, count, runs } = payload::pass(&key, channel, self.identity.mac, clock, payload);
             let header = Header { channel, llid, encenabled: 1, enckey: (self.active % 2) as u8, epam };
-            Envelope { header, octets, count, sealed_under: Some((key, self.identity.mac, clock)) }
+            Envelope { header, octets, count, runs, sealed_under: Some((key, self.identity.mac, clock)) }
         };
         self.channels.take(channel, self.tick, payload.len() / 9);
         Ok(envelope)
     }
 
-    pub fn receive(&mut self, header: &Header, octets: &[u8], output: usize) -> Reply<Opened> {
+    pub fn receive(&mut self, header: &Header, octets: &[u8], output: usize) -> Reply<Passed> {
         payload::check_lengths(octets.len(), output)?;
         refuse_if(header_out_of_range(header, 0x00), 1)?;
         refuse_if(!self.identity.llids.contains(&header.llid), 2)?;
         refuse_if(self.clocks.is_some_and(|clocks| u64::from(header.epam) != clocks.rx % 64), 10)?;
         if header.encenabled == 0 {
             refuse_if(self.active >= 1, 11)?;
-            return Ok(Opened { octets: octets.to_vec(), count: 0 });
+            return Ok(Passed::clear(octets));
         }
         let clocks = self.clocks.ok_or(5)?;
         // the key in use and the next have different indices; there is no key 0
         let number = self.active + u64::from(self.active % 2 != u64::from(header.enckey));
         let key = *self.keys.get(&number).ok_or(9)?;
-        let (octets, count) = payload::pass(&key, header.channel, self.olt_mac, clocks.rx, octets);
+        let passed = payload::pass(&key, header.channel, self.olt_mac, clocks.rx, octets);
         if number > self.active {
             self.keys.remove(&self.active);
             self.active = number;
             self.first_send = None;
         }
-        Ok(Opened { octets, count })
+        Ok(passed)
     }
 }

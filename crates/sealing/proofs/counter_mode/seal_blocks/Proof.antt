@@ -1,12 +1,13 @@
 -- `sealing::counter_mode::seal_blocks` meets its contract: the pairs are sealed, then a last block that needs a run, and after it none does. Assumes nothing.
-use Prim.Native.Nat.{ℕ, _+_}
-use Rattle.envelope.specs.ControlMask.{blocksOf, runsBelow}
+use Prim.Native.Nat.{ℕ, _+_, _≤_, _<_}
+use Rattle.envelope.specs.ControlMask.{blocksOf, needsRun, runsBelow}
 use Rattle.sealing.proofs.Payload.{runs-at-most}
 use Rattle.sealing.proofs.Runs.{all-runs, all-sealed, idle-stretch, no-run, one-more, one-run}
 use Rattle.sealing.specs.Steps.{blockSealed, sealedBelow}
 use lib.ListN.{length}
+use mathlib.Core.Bool.{false}
 use mathlib.Core.List.{List}
-use mathlib.Core.Path.{_≡_, ap, sym, _∙_}
+use mathlib.Core.Path.{_≡_, ap, _∙_}
 use native.Mathlib.Omega.{arith}
 use borrow.Author.Needs.{needs}
 use Rattle.sealing.proofs.counter_mode.seal_blocks.Statement.{statement}
@@ -22,29 +23,6 @@ add-result c =
     let left = paired .seal-pairs .ensures in
     omega (arith, left .runs, left .below, runs-at-most p (paired .seal-pairs .result .next))
 
-returns : tie.Need-returns
-returns c =
-    let lone = c .before .before .before in
-    let room = lone .before .before in
-    let paired = room .before .before .before in
-    let start = paired .before .before .before .before .before .before .before in
-    let a = start .args in
-    let p = a .payload .now in
-    let w = a .w .now in
-    let whole = start .pre .1 .0 in
-    let left = paired .seal-pairs .ensures in
-    let k = paired .seal-pairs .result .next in
-    let blocks = blocksOf (length p) in (
-      lone .seal-lone .ensures
-          ∙ ap (λ (q : List ℕ). blockSealed w (a .nonce) q k) (left .sealed)
-          ∙ one-more w (a .nonce) p whole k (room .if1 .taken)
-          ∙ idle-stretch w (a .nonce) p whole (k + 1) blocks (omega arith) (omega arith) (λ b l u. left .rest b (omega arith) u)
-          ∙ all-sealed w (a .nonce) p whole,
-      ap (λ (x : ℕ). x + 1) (left .runs)
-          ∙ sym (no-run p (k + 1) blocks (omega arith) (λ b l u. left .rest b (omega arith) u) ∙ one-run p k (left .needed (room .if1 .taken)))
-          ∙ all-runs p whole,
-    )
-
 returns-2 : tie.Need-returns-2
 returns-2 c =
     let paired = c .before .before .before in
@@ -57,6 +35,29 @@ returns-2 c =
     let all : paired .seal-pairs .result .next ≡ blocksOf (length p) = omega (arith, left .below) in (
       left .sealed ∙ ap (sealedBelow w (a .nonce) p) all ∙ all-sealed w (a .nonce) p whole,
       left .runs ∙ ap (runsBelow p) all ∙ all-runs p whole,
+    )
+
+returns : tie.Need-returns
+returns c =
+    let lone = c .before .before .before in
+    let room = lone .before .before in
+    let paired = room .before .before .before in
+    let start = paired .before .before .before .before .before .before .before in
+    let a = start .args in
+    let p = a .payload .now in
+    let w = a .w .now in
+    let whole = start .pre .1 .0 in
+    let left = paired .seal-pairs .ensures in
+    let k = paired .seal-pairs .result .next in
+    let blocks = blocksOf (length p) in
+    let idle : (b : ℕ) → k + 1 ≤ b → b < blocks → needsRun p b ≡ false = λ b l u. left .rest b (omega arith) u in
+    let none : runsBelow p blocks ≡ runsBelow p (k + 1) = no-run p (k + 1) blocks (omega arith) idle in (
+      lone .seal-lone .ensures .0
+          ∙ ap (λ (q : List ℕ). blockSealed w (a .nonce) q k) (left .sealed)
+          ∙ one-more w (a .nonce) p whole k (room .if1 .taken)
+          ∙ idle-stretch w (a .nonce) p whole (k + 1) blocks (omega arith) (omega arith) idle
+          ∙ all-sealed w (a .nonce) p whole,
+      omega (arith, lone .seal-lone .ensures .1, left .runs, one-run p k (left .needed (room .if1 .taken)), none, all-runs p whole),
     )
 
 pub seal-blocks-spec : {M : Type 1} → statement M

@@ -1,5 +1,5 @@
 -- `sealing::counter_mode::seal_lone` meets its contract: its block is that of the counter block i. Assumes nothing.
-use mathlib.Core.Path.{ap, _∙_}
+use mathlib.Core.Path.{refl, ap, _∙_}
 use Rattle.sealing.specs.Cipher.{cipher}
 use borrow.Author.Needs.{needs}
 use Rattle.sealing.proofs.counter_mode.seal_lone.Statement.{statement}
@@ -11,7 +11,8 @@ returns c =
     let enciphered = masked .before .before in
     let counted = enciphered .before in
     let a = counted .before .before .args in
-    masked .mask-block .ensures .sealed (a .w .now) (a .nonce) (enciphered .encrypt-lone .ensures ∙ ap (cipher (a .w .now)) (counted .counter-block .ensures))
+    let own = enciphered .encrypt-lone .ensures ∙ ap (cipher (a .w .now)) (counted .counter-block .ensures) in
+    (masked .mask-block .ensures .sealed (a .w .now) (a .nonce) own, refl)
 
 pub seal-lone-spec : {M : Type 1} → statement M
 seal-lone-spec = tie.close (tie.spec (λ c κs. search needs) (λ c κs. search needs) (λ c κs. search needs) (λ c. search needs) returns)

@@ -1,5 +1,5 @@
 -- `sealing::counter_mode::seal_pair` meets its contract: its blocks are those of the counter blocks i and j, and mask one after the other. Assumes nothing.
-use mathlib.Core.Path.{ap, _∙_}
+use mathlib.Core.Path.{refl, ap, _∙_}
 use mathlib.Core.List.{List}
 use Prim.Native.Nat.{ℕ}
 use Rattle.sealing.specs.Steps.{blockSealed}
@@ -18,6 +18,7 @@ returns c =
       sealed = λ n share.
           second .mask-block2 .ensures .sealed w n (enciphered .encrypt-pair .ensures .second n share)
           ∙ ap (λ (p : List ℕ). blockSealed w n p (a .j)) (first .mask-block .ensures .sealed w n (enciphered .encrypt-pair .ensures .first n share));
+      runs = refl;
     }
 
 pub seal-pair-spec : {M : Type 1} → statement M

@@ -152,7 +152,7 @@ loop-again c =
       to .needed,
       next-past w (a .nonce) p (inv .1) m (ran .next-run .result + 1) (omega arith)
           (rw (more paired (a .nonce) (at-loop .before .kept-rows .ensures)) at (c .next-run2 .ensures)),
-      ap (λ (x : ℕ). x + 2) (inv .8) ∙ sym (none ∙ two),
+      omega (arith, inv .8, paired .seal-pair .ensures .runs, none, two),
       λ n share. more paired n share ∙ idle-stretch w n p (inv .1) m (ran .next-run .result) past below (to .idle),
     )
 

@@ -59,10 +59,10 @@ module _ (r x : List ℕ) (h : 16 ≤ length r) (l : length x ≡ 6) where
   field-rest : drop 12 (withField r x) ≡ drop 12 r
   field-rest = sym (drop-drop 6 6 (withField r x)) ∙ ap (drop 6) field-behind ∙ drop-at x (drop 12 r) 6 l
 
-  pub field-payload : drop 16 (withField r x) ≡ drop 16 r
+  field-payload : drop 16 (withField r x) ≡ drop 16 r
   field-payload = sym (drop-drop 4 12 (withField r x)) ∙ ap (drop 4) field-rest ∙ drop-drop 4 12 r
 
-  pub field-length : length (withField r x) ≡ length r
+  field-length : length (withField r x) ≡ length r
   unfolding withField
   field-length = simp (length-append, length-take, length-drop) (omega arith)
 
@@ -77,7 +77,7 @@ module _ (r x : List ℕ) (h : 16 ≤ length r) (l : length x ≡ 6) where
   high-octet j = sym (getD-drop 12 (withField r x) j 0) ∙ ap (λ (t : List ℕ). getD t j 0) field-rest ∙ getD-drop 12 r j 0
 
   -- only the clock of the header is another
-  pub field-header : recordHeader (withField r x) ≡ withClock (recordHeader r) (numberAt 6 x 0)
+  field-header : recordHeader (withField r x) ≡ withClock (recordHeader r) (numberAt 6 x 0)
   unfolding recordHeader
   field-header =
       rw (
@@ -90,7 +90,7 @@ module _ (r x : List ℕ) (h : 16 ≤ length r) (l : length x ≡ 6) where
         number-same 4 (withField r x) r 12 12 (λ j g. high-octet j),
       )
 
-  pub field-sized : sized (withField r x) ≡ sized r
+  field-sized : sized (withField r x) ≡ sized r
   unfolding sized
   field-sized = rw (field-length, field-header)
 
@@ -151,7 +151,7 @@ clock-number n =
 
 -- ---- what is written of a record, with the field put back
 module _ (s r x : List ℕ) (h : 16 ≤ length r) (l : length x ≡ 6) where
-  pub written-back : (v : RecordVerdict) → withField (writtenAs s (withField r x) v) (clockField r) ≡ writtenAs s r v
+  written-back : (v : RecordVerdict) → withField (writtenAs s (withField r x) v) (clockField r) ≡ writtenAs s r v
   unfolding writtenAs payloadOf
   written-back Clear = put-back (withField r x) r (field-front r x h l) (field-rest r x h l)
   written-back (RecordVerdict.Refused c) = put-back (withField r x) r (field-front r x h l) (field-rest r x h l)
@@ -166,7 +166,7 @@ module _ (s r x : List ℕ) (h : 16 ≤ length r) (l : length x ≡ 6) where
       (stored-from f ys flags long 12 (omega arith) (omega arith) ∙ rw (field-rest r x h l) (sym (stored-from r ys flags h 12 (omega arith) (omega arith)))) in
       rw (field-header r x h l, field-payload r x h l, ← stored-field r ys flags h) back
 
-  pub added-same : (g : List ℕ → ℕ) (v : RecordVerdict) → addedAs g (withField r x) v ≡ addedAs g r v
+  added-same : (g : List ℕ → ℕ) (v : RecordVerdict) → addedAs g (withField r x) v ≡ addedAs g r v
   unfolding addedAs payloadOf
   added-same g Clear = refl
   added-same g (RecordVerdict.Refused c) = refl

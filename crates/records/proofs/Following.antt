@@ -5,14 +5,13 @@ use mathlib.Core.Bool.{Bool, true, false}
 use mathlib.Core.List.{List}
 use Prim.Native.Nat.{ℕ, zero, suc, _+_, _-_, _%_, _≤_, _<_}
 use native.Mathlib.Omega.{arith}
-use mathlib.Core.Logic.{⊎-elim}
 use lib.Dec.{eqb}
 use lib.ListN.{length, getD, replicate, length-set, getD-replicate}
 use lib.Seq.{getD-set-same, getD-set-other}
-use borrow.Author.Tests.{leb-true, eqb-true, eqb-false}
+use borrow.Author.Tests.{eqb-true, eqb-false}
 use Rattle.octets.specs.Bits.{bitOf, lowCleared}
 use Rattle.octets.specs.Choice.{both, either, pick}
-use Rattle.octets.proofs.Choice.{both-left, both-right, both-true, both-false-left, both-false-right, either-cases, pick-true, pick-false, true-false}
+use Rattle.octets.proofs.Choice.{both-left, both-right, both-true, both-false-left, both-false-right, pick-true, pick-false, true-false}
 use Rattle.clock.specs.Ticks.{clockTurn, epamOf}
 use Rattle.envelope.specs.Channels.{downstream, upstream, channelFits}
 use Rattle.records.specs.declared.header.Header.{Header}
@@ -25,7 +24,7 @@ use Rattle.records.specs.Block.{offsetOf, lengthOf, recordOf}
 use Rattle.records.specs.Verdict.{encEnabled, flagsFit, headerFits, inOrder, recordVerdict, verdictFor}
 use Rattle.records.specs.Near.{mostSlip, stepped, nearest, sumAt, expected, corrected, own, farVerdict, heardAt, heard}
 use Rattle.records.specs.Following.{headerOf, driftAt, nearVerdict, ahead, Follows, ReadsAsSent, slippedSettings, slippedBlock, slippedSent, Promise}
-use Rattle.records.proofs.Steps.{is-nearest}
+use Rattle.records.proofs.Steps.{is-nearest, own-place, place-below}
 
 pick-other : {A : Type 0} (f o : Bool) (x y z w : A) → both f o ≡ false → pick f (pick o x z) w ≡ pick f (pick o y z) w
 unfolding both pick
@@ -57,14 +56,10 @@ other-heard : (presence llid t : ℕ) (drift : Drift) (h : Header) → own llid 
 unfolding heard
 other-heard presence llid t drift h o = other-at presence llid t drift h (nearest (expected drift h) (h .epam)) o
 
--- a channel index that fits has one of the four places
-place-below : (llid : ℕ) (h : Header) → own llid h ≡ true → sumAt (h .channel) < 4
-unfolding own headerFits channelFits downstream upstream
-place-below llid h o =
-    ⊎-elim
-    (λ d. omega (arith, leb-true (h .channel) 1 d))
-    (λ u. omega (arith, leb-true 128 (h .channel) (both-left _ _ u), leb-true (h .channel) 129 (both-right _ _ u)))
-    (either-cases _ _ (both-left _ _ (both-right _ _ (both-left _ _ o))))
+-- the place of a header that is past 1 and 2
+own-below : (llid : ℕ) (h : Header) → own llid h ≡ true → sumAt (h .channel) < 4
+unfolding own headerFits
+own-below llid h o = place-below (h .channel) (both-left _ _ (both-right _ _ (both-left _ _ o)))
 
 none : (p : ℕ) → p < 4 → _≡_ {A = ℕ} (getD (replicate 4 0) p 0) 0
 none p h = getD-replicate 4 p 0 0 h
@@ -125,7 +120,7 @@ module _ (sent : ℕ → ℕ) (s b : List ℕ) (i : ℕ) (v : Holds sent s b i) 
       let h = headerOf b i in
       let at = expected (driftAt s b i) h in
       let there : at ≡ (h .clock + ahead sent s b i (sumAt (h .channel))) % clockTurn =
-      ap (λ (x : ℕ). (h .clock + x) % clockTurn) (v .sums (sumAt (h .channel)) (place-below (llidOf s) h o)) in
+      ap (λ (x : ℕ). (h .clock + x) % clockTurn) (v .sums (sumAt (h .channel)) (own-below (llidOf s) h o)) in
       let hit : stepped at (f .step) ≡ sent i = ap (λ (x : ℕ). stepped x (f .step)) there ∙ sym (f .slip) in
       let near = is-nearest at (h .epam) .only (f .step) (f .within) (ap epamOf hit ∙ sym (f .epam)) in
       let q = own-at (presenceOf s) (llidOf s) (sent i % clockTurn) (f .step) (driftAt s b i) h o near (hit ∙ omega (arith, f .slip)) in (
@@ -168,4 +163,4 @@ follows-slipped (suc zero) h = record { epam = refl; step = 11; within = omega a
 follows-slipped (suc (suc i)) h = absurd (omega arith)
 
 pub kept : Promise
-kept = record { readsAsSent = reads-as-sent; own = own-slipped; follows = follows-slipped }
+kept = record { places = own-place; readsAsSent = reads-as-sent; own = own-slipped; follows = follows-slipped }

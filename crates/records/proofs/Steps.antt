@@ -1,19 +1,54 @@
 -- Laws of the nearest clock: low six bits go round with the clock, since 2^48 is a multiple of 64. Assumes nothing.
 use mathlib.Core.Path.{_≡_, sym, ap, _∙_}
-use Prim.Native.Nat.{ℕ, _≤_, _<_}
+use Prim.Native.Nat.{ℕ, _+_, _≤_, _<_}
 use native.Mathlib.Omega.{arith}
+use mathlib.Core.Bool.{true}
+use mathlib.Core.Logic.{_⊎_, ⊎-elim, inl, inr}
 use lib.Dec.{ltb, leb}
 use borrow.Author.Tests.{ltb-true, leb-true, lt-ltb, le-leb}
 use Rattle.octets.specs.Choice.{both, pick}
-use Rattle.octets.proofs.Choice.{both-left, both-right, both-true, pick-true, pick-first}
+use Rattle.octets.proofs.Choice.{both-left, both-right, both-true, either-cases, pick-true, pick-first}
 use Rattle.clock.specs.Ticks.{epamTurn, epamOf}
+use Rattle.envelope.specs.Channels.{downstream, upstream, channelFits}
 use Rattle.records.specs.declared.header.Header.{Header}
 use Rattle.records.specs.declared.header.RecordVerdict.{RecordVerdict}
 use Rattle.records.specs.declared.near.Drift.{Drift}
 use Rattle.records.specs.declared.near.Heard.{Heard}
 use Rattle.records.specs.Verdict.{recordVerdict}
 use Rattle.records.specs.declared.near.Correction.the-variants.{Step, TooFar}
-use Rattle.records.specs.Near.{mostSlip, lastStep, stepped, stepTo, nearest, IsNearest, expected, corrected, own, heardAt, heard}
+use Rattle.records.specs.Near.{mostSlip, lastStep, stepped, stepTo, nearest, IsNearest, sumAt, expected, corrected, own, heardAt, heard}
+
+-- a channel index c is 00 or 01, 80 or 81 hex, and p its place
+abbrev Place : ℕ → ℕ → Type 0
+Place c p = ((c ≤ 1) × (p ≡ c)) ⊎ ((128 ≤ c) × (c ≤ 129) × (p + 126 ≡ c))
+
+down-place : (c : ℕ) → c ≤ 1 → sumAt c ≡ c
+down-place c h = omega arith
+
+up-place : (c : ℕ) → 128 ≤ c → c ≤ 129 → sumAt c + 126 ≡ c
+up-place c h k = omega arith
+
+place-of : (c : ℕ) → channelFits c ≡ true → Place c (sumAt c)
+unfolding channelFits downstream upstream
+place-of c f =
+    ⊎-elim
+    (λ d. let h = leb-true c 1 d in inl (h, down-place c h))
+    (λ u. let h = leb-true 128 c (both-left _ _ u) in let k = leb-true c 129 (both-right _ _ u) in inr (h, k, up-place c h k))
+    (either-cases _ _ f)
+
+one-place : (c d p : ℕ) → Place c p → Place d p → c ≡ d
+one-place c d p x y =
+    ⊎-elim (λ a. ⊎-elim (λ b. omega arith) (λ b. omega arith) y) (λ a. ⊎-elim (λ b. omega arith) (λ b. omega arith) y) x
+
+-- so each has one of its own, among four
+pub own-place : (c d : ℕ) → channelFits c ≡ true → channelFits d ≡ true → sumAt c ≡ sumAt d → c ≡ d
+own-place c d f g e = one-place c d (sumAt d) (rw e at (place-of c f)) (place-of d g)
+
+place-few : (c p : ℕ) → Place c p → p < 4
+place-few c p x = ⊎-elim (λ a. omega arith) (λ a. omega arith) x
+
+pub place-below : (c : ℕ) → channelFits c ≡ true → sumAt c < 4
+place-below c f = place-few c (sumAt c) (place-of c f)
 
 step-same : (d f : ℕ) → Step d ≡ Step f → d ≡ f
 step-same d f e = cc

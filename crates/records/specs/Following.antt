@@ -9,6 +9,7 @@ use lib.ListN.{replicate}
 use Rattle.octets.specs.BigEndian.{octetsOf}
 use Rattle.octets.specs.Choice.{both, pick}
 use Rattle.clock.specs.Ticks.{clockTurn, epamOf}
+use Rattle.envelope.specs.Channels.{channelFits}
 use Rattle.records.specs.declared.header.Header.{Header}
 use Rattle.records.specs.declared.header.RecordVerdict.{RecordVerdict}
 use Rattle.records.specs.declared.near.Drift.{Drift}
@@ -77,6 +78,8 @@ slippedSent zero = 20
 slippedSent (suc i) = 105
 
 pub record Promise : Type 0 where
+  -- each channel index has a sum of its own
+  pub places : (c d : ℕ) → channelFits c ≡ true → channelFits d ≡ true → sumAt c ≡ sumAt d → c ≡ d
   pub readsAsSent : (s b : List ℕ) → ReadsAsSent s b
   -- of something: both headers of that block are past 1 and 2, and the reader's clock follows
   pub own : (i : ℕ) → i < 2 → own (llidOf slippedSettings) (headerOf slippedBlock i) ≡ true

@@ -9,10 +9,9 @@ use Rattle.capture.proofs.opening.open.Statement.{statement}
 use Rattle.capture.proofs.opening.open.Tie as tie
 
 returns : tie.Need-returns
-returns c = (
-  ap (λ (o : WithOutput NearAnswer). withOutput (o .answer .opened) (o .output)) (c .before .before .open-by .ensures) ∙ opening-usual _ _ _,
-  opened _ _ _,
-)
+returns c =
+    let usual = ap (λ (o : WithOutput NearAnswer). withOutput (o .answer .opened) (o .output)) (c .before .before .open-by .ensures) in
+    (usual ∙ opening-usual _ _ _, opened _ _ _)
 
 pub open-spec : {M : Type 1} → statement M
 open-spec = tie.close (tie.spec (λ c κs. search needs) (λ c. search needs) returns)

@@ -299,4 +299,8 @@ slipped-directory = refl
 
 pub not-empty : NotEmpty
 unfolding recordsIn
-not-empty = record { accepted = accepts-again slippedSettings slippedBlock (length slippedBlock) 2 slipped-settings refl slipped-directory; follows = λ i h _. kept .follows i h }
+not-empty =
+    record {
+      accepted = accepts-again slippedSettings slippedBlock (length slippedBlock) 2 slipped-settings refl slipped-directory;
+      follows = λ i h _. kept .follows i h;
+    }

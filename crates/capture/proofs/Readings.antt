@@ -1,6 +1,6 @@
 -- Laws of both ways of reading: what a turn of each loop over the records comes to, and that the usual way is the one of Opening, Verdict
 -- and Listing. Assumes nothing.
-use mathlib.Core.Path.{_≡_, refl, sym, ap}
+use mathlib.Core.Path.{_≡_, refl, sym, ap, _∙_}
 use mathlib.Core.Bool.{Bool, true, false}
 use mathlib.Core.List.{List, _++_}
 use Prim.Native.Nat.{ℕ, zero, suc, _+_, _<_}
@@ -12,12 +12,13 @@ use Rattle.octets.specs.BigEndian.{sixOctets}
 use Rattle.octets.specs.Choice.{pick}
 use Rattle.octets.specs.Output.{withOutput}
 use Rattle.octets.proofs.Bits.{bit-below}
-use Rattle.octets.proofs.Choice.{pick-first, pick-same}
+use Rattle.octets.proofs.Choice.{pick-first, pick-same, true-false}
 use Rattle.refusal.specs.declared.Refusal.{Refusal}
 use Rattle.refusal.specs.declared.Refusal.the-variants.{OutOfRange, UnknownLlid}
 use Rattle.refusal.specs.declared.Verdict.{Verdict}
 use Rattle.refusal.specs.declared.Verdict.the-variants.{Accepted}
 use Rattle.records.specs.declared.header.Header.{Header}
+use Rattle.records.specs.declared.header.RecordVerdict.{RecordVerdict}
 use Rattle.records.specs.declared.header.RecordVerdict.the-variants.{Sealed, Refused}
 use Rattle.records.specs.declared.near.Correction.{Correction}
 use Rattle.records.specs.declared.near.Correction.the-variants.{Step, TooFar}
@@ -37,7 +38,7 @@ use Rattle.capture.specs.Opening.{openedRecord, recordAdds, blockAdds, e
 use Rattle.capture.specs.Verdict.{verdictAsked, callDirectory, numbersOver, verdictsAfter, verdictsOf}
 use Rattle.capture.specs.Listing.{rowAt, rowsFrom, bodyAfter, listingOf}
 use Rattle.capture.specs.Rebuilt.{joined, rebuilt}
-use Rattle.capture.specs.Reading.{judged, driftBy, verdictBy, recordBy, totalBy, openingAs, openingBy, askedBy, numbersBy, judgingAs, judgingBy, bodyAs, listingBy}
+use Rattle.capture.specs.Reading.{driftBy, verdictBy, recordBy, totalBy, openingAs, openingBy, askedBy, numbersBy, judgingAs, judgingBy, bodyAs, listingBy}
 use Rattle.capture.specs.Duties.{TookAll, Opens}
 use Rattle.capture.proofs.Records.{Records, header-there}
 use Rattle.capture.proofs.Openings.{written-length}
@@ -60,18 +61,38 @@ opens-at s drift h TooFar i t e =
     absurd (omega arith)
 opens-at s drift h (Step d) i t e = opens-by s h _ i t e (omega arith)
 
-pub judged-opens : (near : Bool) (s : List ℕ) (drift : Drift) (h : Header) → h .clock < sixOctets → (i t : ℕ) → judged near s drift h .verdict ≡ Sealed i t
-    → Opens s h i t
-unfolding judged heard verdictFor
-judged-opens true s drift h c i t e = opens-at s drift h (nearest (expected drift h) (h .epam)) i t e
-judged-opens false s drift h c i t e = opens-by s h (h .clock) i t e c
+-- ---- record i, with the header h, in its turn: its verdict v, and the corrections d behind it
+pub record Turn (near : Bool) (s b : List ℕ) (i : ℕ) (h : Header) (v : RecordVerdict) (d : Drift) : Type 0 where
+  pub verdict : v ≡ verdictBy near s b i
+  pub drift : d ≡ driftBy near s b (i + 1)
+  pub opens : (j t : ℕ) → v ≡ Sealed j t → Opens s h j t
 
--- ---- record i in its turn: its verdict, and the corrections behind it
-pub judged-turn : (near : Bool) (s b : List ℕ) (i : ℕ) (drift : Drift) (h : Header) (r : Heard) → r ≡ judged near s drift h
-    → drift ≡ driftBy near s b i → h ≡ headerOf b i → (r .verdict ≡ verdictBy near s b i) × (r .drift ≡ driftBy near s b (i + 1))
-unfolding judged nearVerdict driftAt pick
-judged-turn true s b i drift h r e ed eh = (rw (e, ed, eh), rw (e, ed, eh, add-one))
-judged-turn false s b i drift h r e ed eh = (rw (e, eh), rw e ed)
+module _ (s b : List ℕ) (i : ℕ) (h : Header) (eh : h ≡ headerOf b i) (v : RecordVerdict) (old d : Drift) where
+  heard-turn : (r : Heard) → r ≡ heard (presenceOf s) (llidOf s) old h → old ≡ driftAt s b i → d ≡ r .drift → v ≡ r .verdict → Turn true s b i h v d
+  unfolding nearVerdict driftAt pick heard
+  heard-turn r e eo ed ev =
+      record {
+        verdict = ev ∙ rw (e, eo, eh);
+        drift = ed ∙ rw (e, eo, eh, add-one);
+        opens = λ j t q.
+            opens-at s old h (nearest (expected old h) (h .epam)) j t (sym (ap (λ (x : Heard). x .verdict) e) ∙ sym ev ∙ q);
+      }
+
+  usual-turn : h .clock < sixOctets → v ≡ verdictFor s h → d ≡ noDrift → Turn false s b i h v d
+  unfolding verdictFor pick
+  usual-turn c ev ed = record { verdict = ev ∙ rw eh; drift = ed; opens = λ j t q. opens-by s h (h .clock) j t (sym ev ∙ q) c }
+
+  -- by the way that was taken
+  pub near-turn : (near : Bool) → near ≡ true → old ≡ driftBy near s b i → (r : Heard) → r ≡ heard (presenceOf s) (llidOf s) old h → d ≡ r .drift
+      → v ≡ r .verdict → Turn near s b i h v d
+  unfolding pick
+  near-turn true t eo r e ed ev = heard-turn r e eo ed ev
+  near-turn false t eo r e ed ev = true-false (sym t)
+
+  pub own-turn : (near : Bool) → near ≡ false → old ≡ driftBy near s b i → h .clock < sixOctets → v ≡ verdictFor s h → d ≡ old → Turn near s b i h v d
+  unfolding pick
+  own-turn true t eo c ev ed = true-false t
+  own-turn false t eo c ev ed = usual-turn c ev (ed ∙ eo)
 
 pub no-corrections : (near : Bool) (s b : List ℕ) → noDrift ≡ driftBy near s b 0
 unfolding driftAt
@@ -91,10 +112,6 @@ opening-usual-by (Verdict.Refused r) s b out = refl
 pub opening-usual : (s b out : List ℕ) → withOutput (openingBy false s b out .answer .opened) (openingBy false s b out .output) ≡ opening s b out
 unfolding openingBy opening
 opening-usual s b out = opening-usual-by (openVerdict s b (length out)) s b out
-
-pub asked-usual : (s b : List ℕ) (k : ℕ) → askedBy false s b k ≡ verdictAsked s b k
-unfolding askedBy verdictAsked pick
-asked-usual s b k = refl
 
 judging-usual-by : (d : Directory) (s b out : List ℕ)
     → withOutput (judgingAs false d s b out .answer .directory) (judgingAs false d s b out .output) ≡ verdictsAfter d s b out
@@ -128,10 +145,10 @@ module _ (near : Bool) (s b out : List ℕ) where
   opening-bad r e = rw e
 
   pub opening-good : openVerdict s b (length out) ≡ Accepted → (o : List ℕ) (e x y : ℕ) (q : Read) → TookAll near s b q → e ≡ expansions s
-      → x ≡ signedOctet (q .drift .smallest) → y ≡ signedOctet (q .drift .largest) → o ≡ rebuilt (recordBy near s b) b
+      → x ≡ signedOctet (q .smallest) → y ≡ signedOctet (q .largest) → o ≡ rebuilt (recordBy near s b) b
       → withOutput (record { opened = Done (q .count) (q .runs) e; smallest = x; largest = y }) o ≡ openingBy near s b out
   unfolding openingBy openingAs
-  opening-good v o e x y q t ee ex ey eo = rw (v, t .count, t .runs, ee, ex, ey, t .drift, eo)
+  opening-good v o e x y q t ee ex ey eo = rw (v, t .count, t .runs, ee, ex, ey, t .smallest, t .largest, eo)
 
   pub judging-bad : (r : Refusal) → callDirectory (eqb (length out) mostRecords) s b ≡ Bad r
       → withOutput (record { directory = Bad r; smallest = 0; largest = 0 }) out ≡ judgingBy near s b out

@@ -37,7 +37,8 @@ pub record TookAs (x : List ℕ) (v : RecordVerdict) (r : Work) : Type 0 where
 pub record TookAll (near : Bool) (s b : List ℕ) (r : Read) : Type 0 where
   pub count : r .count ≡ totalBy near countEnciphered s b
   pub runs : r .runs ≡ totalBy near runs s b
-  pub drift : r .drift ≡ driftBy near s b (recordsIn b)
+  pub smallest : r .smallest ≡ driftBy near s b (recordsIn b) .smallest
+  pub largest : r .largest ≡ driftBy near s b (recordsIn b) .largest
 
 -- pair i is one of n and goes from `from` to `to`, and its record is due at `due`
 pub record Due (b : List ℕ) (n i due from to : ℕ) : Type 0 where

@@ -1,6 +1,6 @@
 -- A capture block b read under the settings s: in the near way, with a receive clock that is known only nearly, or in the usual one
 -- (02, C-18). The usual way is that of Opening, Verdict and Listing. Assumes nothing.
-use mathlib.Core.Bool.{Bool, true, false}
+use mathlib.Core.Bool.{Bool}
 use mathlib.Core.List.{List, _++_}
 use Prim.Native.Nat.{ℕ, _+_, _-_}
 use lib.Dec.{eqb}
@@ -11,14 +11,12 @@ use Rattle.octets.specs.Output.{WithOutput, withOutput}
 use Rattle.refusal.specs.declared.Verdict.{Verdict}
 use Rattle.refusal.specs.declared.Verdict.the-variants.{Accepted}
 use Rattle.envelope.specs.ControlMask.{countEnciphered, runs}
-use Rattle.records.specs.declared.header.Header.{Header}
 use Rattle.records.specs.declared.header.RecordVerdict.{RecordVerdict}
 use Rattle.records.specs.declared.near.Drift.{Drift}
-use Rattle.records.specs.declared.near.Heard.{Heard}
-use Rattle.records.specs.Settings.{presenceOf, llidOf, settingsVerdict}
-use Rattle.records.specs.Verdict.{verdictFor, verdictOf, recordNumber}
+use Rattle.records.specs.Settings.{settingsVerdict}
+use Rattle.records.specs.Verdict.{verdictOf, recordNumber}
 use Rattle.records.specs.Block.{mostRecords, recordsIn, recordOf}
-use Rattle.records.specs.Near.{noDrift, heard, signedOctet}
+use Rattle.records.specs.Near.{noDrift, signedOctet}
 use Rattle.records.specs.Following.{headerOf, driftAt, nearVerdict}
 use Rattle.rows.specs.Text.{rowOf, refusedRow}
 use Rattle.capture.specs.declared.directory.Directory.{Directory}
@@ -32,12 +30,7 @@ use Rattle.capture.specs.Verdict.{afterCall, callDirectory}
 use Rattle.capture.specs.Listing.{headingText}
 use Rattle.capture.specs.Rebuilt.{joined, rebuilt}
 
--- the verdict on a record by its header, and the corrections behind it: the usual way corrects nothing
-unfoldable pub judged : Bool → List ℕ → Drift → Header → Heard
-judged true s drift h = heard (presenceOf s) (llidOf s) drift h
-judged false s drift h = record { verdict = verdictFor s h; drift = drift }
-
--- the corrections before record i, and the verdict on it
+-- the corrections before record i, none in the usual way, and the verdict on it
 abbrev pub driftBy : Bool → List ℕ → List ℕ → ℕ → Drift
 driftBy near s b i = pick near (driftAt s b i) noDrift
 

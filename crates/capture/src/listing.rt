@@ -11,13 +11,14 @@ ghost use Rattle.capture.specs.Reading.{rowBy, bodyBy, listingBy};
 ghost use Rattle.capture.specs.declared.directory.Directory.the-variants.{Good};
 ghost use Rattle.capture.specs.Directory.{directoryOf};
 use crate::directory::Directory;
-use crate::reading::judge;
+use crate::reading::hear_for;
 use crate::verdict::call_directory;
 use records::block::directory_octets;
 use records::block::header_from;
 use records::header::Header;
 use records::header::RecordVerdict;
 use records::header::record_octets;
+use records::header::verdict_for;
 use records::near::no_drift;
 use rows::Line;
 use rows::refused_row;
@@ -71,11 +72,16 @@ fn put_rows(near: bool, settings: &[u8], block: &[u8], text: &mut [u8], at: usiz
     let mut i = 0;
     while i < n {
         let h = header_from(block, from);
-        let heard = judge(near, settings, drift, h);
-        let verdict = heard.verdict;
+        let verdict = if near {
+            let heard = hear_for(settings, drift, h);
+            let next = heard.drift;
+            drift = next;
+            let taken = heard.verdict;
+            taken
+        } else {
+            verdict_for(settings, h)
+        };
         end = put_row(text, end, i as u64 + 1, h, verdict);
-        let next = heard.drift;
-        drift = next;
         from += record_octets(h.eqs);
         i += 1;
     }

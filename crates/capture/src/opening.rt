@@ -20,7 +20,7 @@ ghost use Rattle.capture.specs.Near.{ReadsAsExact, NotEmpty};
 ghost use Rattle.capture.specs.Claims.{OpenedIfAccepted};
 ghost use Rattle.capture.specs.Duties.{Took, TookAs, TookAll, Span, Expanded, Ready, Settled, written, Copied};
 use crate::directory::Directory;
-use crate::reading::judge;
+use crate::reading::hear_for;
 use crate::verdict::call_directory;
 use envelope::Nonce;
 use envelope::seal_count;
@@ -33,7 +33,7 @@ use records::header::Header;
 use records::header::RecordVerdict;
 use records::header::cleared;
 use records::header::record_octets;
-use records::near::Drift;
+use records::header::verdict_for;
 use records::near::no_drift;
 use records::near::signed;
 use records::settings::key;
@@ -69,11 +69,12 @@ struct Work {
     pub runs: u64,
 }
 
-// What the records of a block came to.
+// What the records of a block came to: the steps are those of the smallest and the largest correction.
 struct Read {
     pub count: u64,
     pub runs: u64,
-    pub drift: Drift,
+    pub smallest: u64,
+    pub largest: u64,
 }
 
 // Opens the payload of the record from `from` to `to` into its place in the output, sets the flags there, and tells what that took.
@@ -166,17 +167,27 @@ fn open_records(
     let mut i = 0;
     while i < n {
         let h = header_from(block, from);
-        let heard = judge(near, settings, drift, h);
-        let verdict = heard.verdict;
+        let verdict = if near {
+            let heard = hear_for(settings, drift, h);
+            let next = heard.drift;
+            drift = next;
+            let taken = heard.verdict;
+            taken
+        } else {
+            verdict_for(settings, h)
+        };
         let work = open_as(settings, keys, block, output, from, h, verdict);
         count += work.count;
         runs += work.runs;
-        let next = heard.drift;
-        drift = next;
         from += record_octets(h.eqs);
         i += 1;
     }
-    Read { count, runs, drift }
+    Read {
+        count,
+        runs,
+        smallest: drift.smallest,
+        largest: drift.largest,
+    }
 }
 
 // Key i of the settings, expanded where it is present.
@@ -221,8 +232,8 @@ fn open_by(near: bool, settings: &[u8], block: &[u8], output: &mut [u8]) -> Near
             let read = open_records(near, settings, keys, block, output, n);
             NearAnswer {
                 opened: OpenAnswer::Done(read.count, read.runs, expansions(settings)),
-                smallest: signed(read.drift.smallest),
-                largest: signed(read.drift.largest),
+                smallest: signed(read.smallest),
+                largest: signed(read.largest),
             }
         }
     }

@@ -9,12 +9,12 @@ ghost use Rattle.records.specs.Block.{mostRecords};
 ghost use Rattle.capture.specs.declared.directory.Directory.the-variants.{Good};
 ghost use Rattle.capture.specs.Directory.{directoryOf};
 ghost use Rattle.capture.specs.Verdict.{verdictAsked, callDirectory, verdictsOf};
-ghost use Rattle.capture.specs.Reading.{driftBy, verdictBy, askedBy, numbersBy, judgingBy};
+ghost use Rattle.capture.specs.Reading.{driftBy, askedBy, numbersBy, judgingBy};
 use crate::directory::Directory;
 use crate::directory::check;
 use crate::payload::payload_verdict;
-use crate::reading::drift_before;
-use crate::reading::judge;
+use crate::reading::hear_for;
+use crate::reading::near_verdict;
 use records::block::MOST_RECORDS;
 use records::block::directory_octets;
 use records::block::header_at;
@@ -50,42 +50,30 @@ pub(crate) fn call_directory(suits: bool, settings: &[u8], block: &[u8]) -> Dire
     }
 }
 
-// The verdict on record i, in the near way or the usual one.
-fn verdict_at(near: bool, settings: &[u8], block: &[u8], i: u16) -> RecordVerdict
-    ensures { λ r. ⌜ r ≡ verdictBy near (now (settings .entry)) (now (block .entry)) i ⌝ }
-{
-    let h = header_at(block, i);
-    if near {
-        judge(true, settings, drift_before(settings, block, i), h).verdict
-    } else {
-        verdict_for(settings, h)
-    }
-}
-
-fn ask_by(near: bool, settings: &[u8], block: &[u8], k: usize) -> RecordVerdict
-    ensures { λ r. ⌜ r ≡ askedBy near (now (settings .entry)) (now (block .entry)) k ⌝ }
+// The verdict on record k. The refusals of the call itself come first.
+pub fn ask(settings: &[u8], block: &[u8], k: usize) -> RecordVerdict
+    ensures { λ r. ⌜ r ≡ verdictAsked (now (settings .entry)) (now (block .entry)) k ⌝ }
 {
     if let Verdict::Refused(refusal) = settings_verdict(settings) {
         return RecordVerdict::Refused(refusal);
     }
     match payload_verdict(block, k) {
         Verdict::Refused(refusal) => RecordVerdict::Refused(refusal),
-        Verdict::Accepted => verdict_at(near, settings, block, (k - 1) as u16),
+        Verdict::Accepted => verdict_for(settings, header_at(block, (k - 1) as u16)),
     }
 }
 
-// The verdict on record k. The refusals of the call itself come first.
-pub fn ask(settings: &[u8], block: &[u8], k: usize) -> RecordVerdict
-    ensures { λ r. ⌜ r ≡ verdictAsked (now (settings .entry)) (now (block .entry)) k ⌝ }
-{
-    ask_by(false, settings, block, k)
-}
-
-// The same in the near way (02, C-18): the records before it are read for their corrections.
+// The same in the near way (02, C-18).
 pub fn ask_near(settings: &[u8], block: &[u8], k: usize) -> RecordVerdict
     ensures { λ r. ⌜ r ≡ askedBy true (now (settings .entry)) (now (block .entry)) k ⌝ }
 {
-    ask_by(true, settings, block, k)
+    if let Verdict::Refused(refusal) = settings_verdict(settings) {
+        return RecordVerdict::Refused(refusal);
+    }
+    match payload_verdict(block, k) {
+        Verdict::Refused(refusal) => RecordVerdict::Refused(refusal),
+        Verdict::Accepted => near_verdict(settings, block, (k - 1) as u16),
+    }
 }
 
 // Writes the numbers of the verdicts on the n records of a block, one after the other, and gives the corrections behind them.
@@ -100,11 +88,16 @@ fn put_numbers(near: bool, settings: &[u8], block: &[u8], output: &mut [u8], n: 
     let mut i = 0;
     while i < n {
         let h = header_from(block, from);
-        let heard = judge(near, settings, drift, h);
-        let verdict = heard.verdict;
+        let verdict = if near {
+            let heard = hear_for(settings, drift, h);
+            let next = heard.drift;
+            drift = next;
+            let taken = heard.verdict;
+            taken
+        } else {
+            verdict_for(settings, h)
+        };
         output[i as usize] = number(verdict);
-        let next = heard.drift;
-        drift = next;
         from += record_octets(h.eqs);
         i += 1;
     }

@@ -43,10 +43,10 @@ abbrev pub openedInNumbers : WithOutput OpenAnswer → WithOutput BlockAnswer
 openedInNumbers o = withOutput (blockAnswer (o .answer)) (o .output)
 
 -- in the near way (02, C-18), with the smallest and the largest correction
-abbrev pub nearOpenedInNumbers : WithOutput NearAnswer → WithOutput BlockNearAnswer
-nearOpenedInNumbers o =
+abbrev pub nearlyOpened : WithOutput NearAnswer → WithOutput BlockNearAnswer
+nearlyOpened o =
     withOutput (record { answer = blockAnswer (o .answer .opened); smallest = o .answer .smallest; largest = o .answer .largest }) (o .output)
 
-abbrev pub nearJudgedInNumbers : WithOutput NearVerdicts → WithOutput BlockNearVerdicts
-nearJudgedInNumbers o =
+abbrev pub nearlyJudged : WithOutput NearVerdicts → WithOutput BlockNearVerdicts
+nearlyJudged o =
     withOutput (record { directory = blockDirectory (o .answer .directory); smallest = o .answer .smallest; largest = o .answer .largest }) (o .output)

@@ -6,7 +6,7 @@ ghost use lib.ListN.{length, take, drop};
 ghost use Rattle.octets.specs.Output.{withOutput};
 ghost use Rattle.capture.specs.Reading.{askedBy, judgingBy, openingBy, listingBy};
 ghost use Rattle.capture.specs.Near.{ReadsAsExact, NotEmpty};
-ghost use Rattle.jazmotip.specs.Blocks.{blockVerdict, nearJudgedInNumbers, nearOpenedInNumbers};
+ghost use Rattle.jazmotip.specs.Blocks.{blockVerdict, nearlyJudged, nearlyOpened};
 use crate::blocks::BlockAnswer;
 use crate::blocks::BlockDirectory;
 use crate::blocks::BlockVerdict;
@@ -52,7 +52,7 @@ pub extern "C" fn jazmotip_capture_verdicts_near(
     block: &[u8],
     output: &mut [u8],
 ) -> BlockNearVerdicts
-    ensures { λ r. ⌜ withOutput r (now (output .exit)) ≡ nearJudgedInNumbers (judgingBy true (now (settings .entry)) (now (block .entry)) (now (output .entry))) ⌝ }
+    ensures { λ r. ⌜ withOutput r (now (output .exit)) ≡ nearlyJudged (judgingBy true (now (settings .entry)) (now (block .entry)) (now (output .entry))) ⌝ }
 {
     let near = verdicts_near(settings, block, output);
     let directory = near.directory;
@@ -70,7 +70,7 @@ pub extern "C" fn jazmotip_capture_open_near(
     block: &[u8],
     output: &mut [u8],
 ) -> BlockNearAnswer
-    ensures { λ r. ⌜ withOutput r (now (output .exit)) ≡ nearOpenedInNumbers (openingBy true (now (settings .entry)) (now (block .entry)) (now (output .entry))) ⌝ }
+    ensures { λ r. ⌜ withOutput r (now (output .exit)) ≡ nearlyOpened (openingBy true (now (settings .entry)) (now (block .entry)) (now (output .entry))) ⌝ }
     ensures { λ _. ⌜ ReadsAsExact (now (settings .entry)) (now (block .entry)) (now (output .entry)) ⌝ }
     ensures { λ _. ⌜ NotEmpty ⌝ }
 {

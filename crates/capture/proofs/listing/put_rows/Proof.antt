@@ -2,6 +2,7 @@
 -- it, and the rows of the records before it stand behind the first `at` octets. Assumes nothing.
 use mathlib.Core.Path.{_≡_, refl, ap, ap₂, _∙_}
 use mathlib.Core.List.{List, _++_, append-nil}
+use mathlib.Core.Logic.{⊎-elim}
 use Prim.Native.Nat.{ℕ, _+_, _-_, _*_, _≤_}
 use native.Mathlib.Omega.{arith}
 use lib.ListN.{length, take, drop}
@@ -16,7 +17,7 @@ use Rattle.capture.specs.Rebuilt.{joined}
 use Rattle.capture.specs.Reading.{driftBy, rowBy}
 use Rattle.capture.proofs.Records.{Records, good, placed, At, at-due}
 use Rattle.capture.proofs.Lines.{same-behind, one-row}
-use Rattle.capture.proofs.Readings.{no-corrections, judged-turn}
+use Rattle.capture.proofs.Readings.{no-corrections, Turn, near-turn, own-turn}
 use Rattle.capture.proofs.listing.put_rows.Statement.{statement}
 use Rattle.capture.proofs.listing.put_rows.Tie as tie
 
@@ -52,6 +53,23 @@ records c = good _ _ (start c .pre .0)
 here : (c : tie.In-loop Inv-loop μ-loop) → At (now (start c .args .block)) (c .before .loop .i) (c .before .loop .from)
 here c = at-due _ _ _ _ (records c) (c .loop-test .taken) (c .before .loop .inv .4)
 
+-- its verdict, and the corrections behind it
+turn : (c : tie.Joined1 Inv-loop μ-loop)
+    → let at-test = c .before .before in
+    let a = start at-test .args in
+    Turn (a .near) (now (a .settings)) (now (a .block)) (at-test .before .loop .i) (c .before .header-from .result) (c .if1 .verdict) (c .if1 .drift)
+turn c =
+    let at-header = c .before in
+    let at-test = at-header .before in
+    let a = start at-test .args in
+    let h = at-header .header-from .ensures in
+    let eh = h .0 ∙ here at-test .header in
+    let v = at-test .before .loop .inv in
+    ⊎-elim
+    (λ w. near-turn (now (a .settings)) (now (a .block)) _ _ eh _ _ _ (a .near) (w .0 .taken) (v .5) _ (w .1 .ensures) (w .3) (w .4))
+    (λ w. own-turn (now (a .settings)) (now (a .block)) _ _ eh _ _ _ (a .near) (w .0 .left) (v .5) (h .1) (w .3 ∙ w .1 .ensures) (w .2))
+    (c .if1 .came)
+
 put-row-requires : tie.Need-put-row-requires Inv-loop μ-loop
 put-row-requires c κs =
     let at-header = c .before .before in
@@ -67,14 +85,14 @@ put-row-requires c κs =
 
 add-from : tie.Need-add-from Inv-loop μ-loop
 add-from c =
-    let at-header = c .before .before .before .before .before .before .before in
+    let at-header = c .before .before .before .before .before .before in
     let at-test = at-header .before in
     let eqs = ap (λ (h : Header). h .eqs) (at-header .header-from .ensures .0) in
     record { fits = omega (arith, eqs, c .record-octets .ensures, here at-test .inside, records at-test .sizes .most) }
 
 -- the turn's own test, from where the record's length was asked for
 abbrev tested : tie.After-record-octets Inv-loop μ-loop → tie.In-loop Inv-loop μ-loop
-tested c = c .before .before .before .before .before .before .before .before
+tested c = c .before .before .before .before .before .before .before
 
 add-i : tie.Need-add-i Inv-loop μ-loop
 add-i c =
@@ -83,27 +101,26 @@ add-i c =
 
 loop-again : tie.Need-loop-again Inv-loop μ-loop
 loop-again c =
-    let at-row = c .before .before .before .before in
+    let at-row = c .before .before .before in
     let q = at-row .put-row in
-    let at-judge = at-row .before .before in
-    let h = at-judge .before .header-from in
-    let at-test = at-judge .before .before in
+    let joined-ways = at-row .before .before in
+    let h = joined-ways .before .header-from in
+    let at-test = joined-ways .before .before in
     let v = at-test .before .loop .inv in
     let i = at-test .before .loop .i in
     let a = start at-test .args in
     let f = rowBy (a .near) (now (a .settings)) (now (a .block)) in
     let x = here at-test in
     let header = h .ensures .0 ∙ x .header in
-    let turn = judged-turn (a .near) (now (a .settings)) (now (a .block)) i _ _ _ (at-judge .judge .ensures) (v .5) header in
-    let row : rowOf (i + 1) (h .result) (at-judge .judge .result .verdict) ≡ f i =
-    ap₂ (λ (h : Header) (w : RecordVerdict). rowOf (i + 1) h w) header (turn .0) in
+    let row : rowOf (i + 1) (h .result) (joined-ways .if1 .verdict) ≡ f i =
+    ap₂ (λ (h : Header) (w : RecordVerdict). rowOf (i + 1) h w) header (turn joined-ways .verdict) in
     let front = take (a .at) (now (a .text)) in (
       omega arith,
       q .kept .0 ∙ v .1,
       omega (arith, v .2, q .ensures .0 .0),
       omega (arith, v .3, q .ensures .0 .1),
       omega (arith, ap (λ (h : Header). h .eqs) (h .ensures .0), c .record-octets .ensures, x .next),
-      turn .1,
+      turn joined-ways .drift,
       q .ensures .1 .0 ∙ rw (v .6) (ap (λ (t : List ℕ). (front ++ joined f 0 i) ++ t) row ∙ one-row f front i),
       q .ensures .1 .1 ∙ same-behind _ (now (a .text)) _ _ (q .ensures .0 .0) (v .7),
     )
@@ -119,6 +136,6 @@ returns c =
 pub put-rows-spec : {M : Type 1} → statement M
 put-rows-spec =
     tie.close
-    (tie.spec Inv-loop μ-loop (λ c κs. search needs) (λ c κs. search needs) loop-holds (λ c κs. search needs) (λ c κs. search needs) (λ c. search needs)
-    (λ c. search needs) put-row-requires (λ c κs. search needs) add-from add-i (λ c. omega (arith, tested c .loop-test .taken)) loop-again
+    (tie.spec Inv-loop μ-loop (λ c κs. search needs) (λ c κs. search needs) loop-holds (λ c κs. search needs) (λ c κs. search needs) (λ c κs. search needs)
+    (λ c. search needs) (λ c. search needs) put-row-requires (λ c κs. search needs) add-from add-i (λ c. omega (arith, tested c .loop-test .taken)) loop-again
     (λ c. c .before .loop .inv .1) returns)

@@ -2,6 +2,7 @@
 -- it, the records before it are opened, the rest of the output is the block's, and the totals are theirs. Assumes nothing.
 use mathlib.Core.Path.{_≡_, refl, sym, ap, ap₂, _∙_}
 use mathlib.Core.List.{List, _++_}
+use mathlib.Core.Logic.{⊎-elim}
 use Prim.Native.Nat.{ℕ, _+_, _-_, _≤_}
 use native.Mathlib.Omega.{arith}
 use lib.ListN.{length, drop}
@@ -11,14 +12,14 @@ use Rattle.octets.specs.Lists.{sum}
 use Rattle.envelope.specs.ControlMask.{countEnciphered}
 use Rattle.envelope.specs.ControlMask as Mask
 use Rattle.records.specs.declared.header.Header.{Header}
-use Rattle.records.specs.declared.near.Heard.{Heard}
-use Rattle.records.specs.Block.{dueOf, recordFrom}
+use Rattle.records.specs.declared.near.Drift.{Drift}
+use Rattle.records.specs.Block.{recordsIn, dueOf, recordFrom}
 use Rattle.capture.specs.Opening.{addedAs}
-use Rattle.capture.specs.Reading.{driftBy, verdictBy, recordBy, addsBy, totalBy}
+use Rattle.capture.specs.Reading.{driftBy, recordBy, addsBy, totalBy}
 use Rattle.capture.proofs.Records.{Records, good, At, at-due}
 use Rattle.capture.proofs.Rebuilding.{upTo, none-rebuilt, still-block, one-rebuilt, all-rebuilt}
 use Rattle.capture.proofs.Openings.{count-few, runs-few, one-more, counted-at, written-at}
-use Rattle.capture.proofs.Readings.{judged-opens, judged-turn, no-corrections, record-size}
+use Rattle.capture.proofs.Readings.{Turn, near-turn, own-turn, no-corrections, record-size}
 use Rattle.capture.proofs.opening.open_records.Statement.{statement}
 use Rattle.capture.proofs.opening.open_records.Tie as tie
 
@@ -59,21 +60,27 @@ here : (c : tie.In-loop Inv-loop μ-loop) → At (now (start c .args .block)) (c
 here c = at-due _ _ _ _ (records c) (c .loop-test .taken) (c .before .loop .inv .4)
 
 -- its verdict, and the corrections behind it
-turn : (c : tie.After-judge Inv-loop μ-loop)
+turn : (c : tie.Joined1 Inv-loop μ-loop)
     → let at-test = c .before .before in
     let a = start at-test .args in
-    let i = at-test .before .loop .i in
-    (c .judge .result .verdict ≡ verdictBy (a .near) (now (a .settings)) (now (a .block)) i)
-    × (c .judge .result .drift ≡ driftBy (a .near) (now (a .settings)) (now (a .block)) (i + 1))
+    Turn (a .near) (now (a .settings)) (now (a .block)) (at-test .before .loop .i) (c .before .header-from .result) (c .if1 .verdict) (c .if1 .drift)
 turn c =
-    let at-test = c .before .before in
-    judged-turn _ _ _ _ _ _ _ (c .judge .ensures) (at-test .before .loop .inv .5) (c .before .header-from .ensures .0 ∙ here at-test .header)
+    let at-header = c .before in
+    let at-test = at-header .before in
+    let a = start at-test .args in
+    let h = at-header .header-from .ensures in
+    let eh = h .0 ∙ here at-test .header in
+    let v = at-test .before .loop .inv in
+    ⊎-elim
+    (λ w. near-turn (now (a .settings)) (now (a .block)) _ _ eh _ _ _ (a .near) (w .0 .taken) (v .5) _ (w .1 .ensures) (w .3) (w .4))
+    (λ w. own-turn (now (a .settings)) (now (a .block)) _ _ eh _ _ _ (a .near) (w .0 .left) (v .5) (h .1) (w .3 ∙ w .1 .ensures) (w .2))
+    (c .if1 .came)
 
 open-as-requires : tie.Need-open-as-requires Inv-loop μ-loop
 open-as-requires c κs =
-    let at-judge = c .before in
-    let h = at-judge .before .header-from in
-    let at-test = at-judge .before .before in
+    let joined = c .before in
+    let h = joined .before .header-from in
+    let at-test = joined .before .before in
     let g = start at-test in
     let r = records at-test in
     let s = now (g .args .settings) in
@@ -90,21 +97,21 @@ open-as-requires c κs =
       },
       record {
         header = h .ensures .0;
-        opens = λ i t e. judged-opens near s _ _ (h .ensures .1) i t (sym (ap (λ (x : Heard). x .verdict) (at-judge .judge .ensures)) ∙ e);
+        opens = turn joined .opens;
       },
     )
 
 -- what a record adds is its own
 counted : (c : tie.After-open-as Inv-loop μ-loop) (g : List ℕ → ℕ) {x : ℕ}
-    → let at-judge = c .before .before in
-    let at-test = at-judge .before .before in
+    → let joined = c .before .before in
+    let at-test = joined .before .before in
     let a = start at-test .args in
     let b = now (a .block) in
-    x ≡ addedAs g (recordFrom b (at-test .before .loop .from)) (at-judge .judge .result .verdict)
+    x ≡ addedAs g (recordFrom b (at-test .before .loop .from)) (joined .if1 .verdict)
     → x ≡ addsBy (a .near) g (now (a .settings)) b (at-test .before .loop .i)
 counted c g e =
-    let at-judge = c .before .before in
-    e ∙ counted-at g _ _ _ _ _ (here (at-judge .before .before)) (turn at-judge .0)
+    let joined = c .before .before in
+    e ∙ counted-at g _ _ _ _ _ (here (joined .before .before)) (turn joined .verdict)
 
 add-count : tie.Need-add-count Inv-loop μ-loop
 add-count c =
@@ -144,7 +151,7 @@ add-runs c =
 
 -- the call that opened the record, from where its length was asked for
 abbrev opened-at : tie.After-record-octets Inv-loop μ-loop → tie.After-open-as Inv-loop μ-loop
-opened-at c = c .before .before .before .before .before .before
+opened-at c = c .before .before .before .before .before
 
 add-from : tie.Need-add-from Inv-loop μ-loop
 add-from c =
@@ -161,9 +168,9 @@ add-i c =
 loop-again : tie.Need-loop-again Inv-loop μ-loop
 loop-again c =
     let q = opened-at c in
-    let at-judge = q .before .before in
-    let h = at-judge .before .header-from in
-    let at-test = at-judge .before .before in
+    let joined = q .before .before in
+    let h = joined .before .header-from in
+    let at-test = joined .before .before in
     let g = start at-test in
     let near = g .args .near in
     let n = g .args .n in
@@ -175,13 +182,13 @@ loop-again c =
     let x = here at-test in
     let o =
     one-rebuilt (recordBy near s b) b n r (record-size near s b n r) (at-test .before .loop .output) i (at-test .loop-test .taken) (v .6) _
-    (q .open-as .ensures .1 ∙ written-at s b _ _ _ i _ _ (turn at-judge .0) x (v .4)) in (
+    (q .open-as .ensures .1 ∙ written-at s b _ _ _ i _ _ (turn joined .verdict) x (v .4)) in (
       omega (arith, at-test .loop-test .taken),
       q .open-as .kept .1 .1 .1 .0 ∙ v .1,
       ap₂ (λ (x y : ℕ). x + y) (v .2) (counted q countEnciphered (q .open-as .ensures .0 .count)) ∙ sym (one-more near s b i countEnciphered),
       ap₂ (λ (x y : ℕ). x + y) (v .3) (counted q Mask.runs (q .open-as .ensures .0 .runs)) ∙ sym (one-more near s b i Mask.runs),
       omega (arith, ap (λ (h : Header). h .eqs) (h .ensures .0), c .record-octets .ensures, x .next),
-      turn at-judge .1,
+      turn joined .drift,
       o,
     )
 
@@ -197,14 +204,20 @@ returns c =
     let s = now (g .args .settings) in
     let b = now (g .args .block) in
     let near = g .args .near in
-    let e : c .before .loop .i ≡ g .args .n = omega arith in (
-      record { count = v .2 ∙ rw (e, r .count); runs = v .3 ∙ rw (e, r .count); drift = v .5 ∙ rw (e, r .count) },
+    let e : c .before .loop .i ≡ g .args .n = omega arith in
+    let corrections : c .before .loop .drift ≡ driftBy near s b (recordsIn b) = v .5 ∙ rw (e, r .count) in (
+      record {
+        count = v .2 ∙ rw (e, r .count);
+        runs = v .3 ∙ rw (e, r .count);
+        smallest = ap (λ (d : Drift). d .smallest) corrections;
+        largest = ap (λ (d : Drift). d .largest) corrections;
+      },
       all-rebuilt (recordBy near s b) b (g .args .n) r (record-size near s b (g .args .n) r) _ (v .6 ∙ rw e),
     )
 
 pub open-records-spec : {M : Type 1} → statement M
 open-records-spec =
     tie.close
-    (tie.spec Inv-loop μ-loop (λ c κs. search needs) (λ c κs. search needs) loop-holds (λ c κs. search needs) (λ c κs. search needs) open-as-requires
-    add-count add-runs (λ c κs. search needs) add-from add-i (λ c. omega (arith, opened-at c .before .before .before .before .loop-test .taken)) loop-again
+    (tie.spec Inv-loop μ-loop (λ c κs. search needs) (λ c κs. search needs) loop-holds (λ c κs. search needs) (λ c κs. search needs) (λ c κs. search needs)
+    open-as-requires add-count add-runs (λ c κs. search needs) add-from add-i (λ c. omega (arith, opened-at c .before .before .before .before .loop-test .taken)) loop-again
     same-length returns)

@@ -1,13 +1,11 @@
 -- `capture::reading::drift_before` meets its contract: the loop's invariant: the corrections are those before record j. Assumes nothing.
-use mathlib.Core.Path.{_≡_, _∙_}
-use mathlib.Core.Bool.{true}
+use mathlib.Core.Path.{_≡_, ap, _∙_}
 use Prim.Native.Nat.{_-_, _≤_}
+use native.Mathlib.Numerals.{add-one}
 use native.Mathlib.Omega.{arith}
 use borrow.Author.Needs.{needs}
-use denote.Ref.{now}
-use Rattle.octets.specs.Choice.{pick}
+use Rattle.records.specs.declared.near.Heard.{Heard}
 use Rattle.records.specs.Following.{driftAt}
-use Rattle.capture.proofs.Readings.{judged-turn}
 use Rattle.capture.proofs.reading.drift_before.Statement.{statement}
 use Rattle.capture.proofs.reading.drift_before.Tie as tie
 
@@ -22,16 +20,12 @@ unfolding driftAt
 loop-holds c = (search needs, c .no-drift .ensures .0)
 
 loop-again : tie.Need-loop-again Inv-loop μ-loop
-unfolding pick
+unfolding driftAt
 loop-again c =
-    let at-judge = c .before in
-    let at-header = at-judge .before in
-    let at-test = at-header .before in
-    let g = at-test .before .before .before .before .before .args in (
-      omega arith,
-      judged-turn true (now (g .settings)) (now (g .block)) _ _ _ _ (at-judge .judge .ensures) (at-test .before .loop .inv .1)
-          (at-header .header-at .ensures .0) .1,
-    )
+    let at-hear = c .before in
+    let at-header = at-hear .before in
+    let old = at-header .before .before .loop .inv in
+    (omega arith, ap (λ (x : Heard). x .drift) (at-hear .hear-for .ensures) ∙ rw (old .1, at-header .header-at .ensures .0, add-one))
 
 returns : tie.Need-returns Inv-loop μ-loop
 returns c =

@@ -16,14 +16,14 @@ use refusal::Refusal;
 const EPAM_TURN: u64 = clock::EPAM_TURN as u64;
 
 // A clock is known within so many ticks.
-const MOST_SLIP: u64 = 31;
+const MOST_SLIP: u8 = 31;
 
 // The last step, the correction of 31.
-const LAST_STEP: u64 = 62;
+const LAST_STEP: u8 = 62;
 
 pub enum Correction {
     // the clock taken is so many steps above the one that is 31 below
-    Step(u64),
+    Step(u8),
     // 32 either way, or EPAM above 63
     TooFar,
 }
@@ -33,8 +33,8 @@ pub enum Correction {
 pub struct Drift {
     pub sums: [u64; 4],
     pub accepted: bool,
-    pub smallest: u64,
-    pub largest: u64,
+    pub smallest: u8,
+    pub largest: u8,
 }
 
 // The verdict on a record, and the corrections behind it.
@@ -57,17 +57,18 @@ pub fn no_drift() -> Drift
 }
 
 // The clock with the correction of a step.
-pub fn stepped(clock: u64, step: u64) -> u64
+pub fn stepped(clock: u64, step: u8) -> u64
     ensures { λ r. ⌜ r ≡ stepped clock step ⌝ }
 {
-    (clock % CLOCK_TURN + step % CLOCK_TURN + (CLOCK_TURN - MOST_SLIP)) % CLOCK_TURN
+    (clock % CLOCK_TURN + step as u64 + (CLOCK_TURN - MOST_SLIP as u64)) % CLOCK_TURN
 }
 
 pub fn nearest(clock: u64, epam: u8) -> Correction
     ensures { λ r. ⌜ r ≡ nearest clock epam ⌝ }
     ensures { λ _. ⌜ IsNearest clock epam ⌝ }
 {
-    let step = (epam as u64 + MOST_SLIP + (EPAM_TURN - clock % EPAM_TURN)) % EPAM_TURN;
+    let step = ((epam as u64 + MOST_SLIP as u64 + (EPAM_TURN - clock % EPAM_TURN))
+        % EPAM_TURN) as u8;
     if ((epam as u64) < EPAM_TURN) & (step <= LAST_STEP) {
         Correction::Step(step)
     } else {
@@ -90,20 +91,20 @@ pub fn expected(drift: Drift, h: Header) -> u64
     (h.clock % CLOCK_TURN + drift.sums[at] % CLOCK_TURN) % CLOCK_TURN
 }
 
-fn smaller(accepted: bool, a: u64, b: u64) -> u64
+fn smaller(accepted: bool, a: u8, b: u8) -> u8
     ensures { λ r. ⌜ r ≡ pick (both accepted (leb a b)) a b ⌝ }
 {
     if accepted & (a <= b) { a } else { b }
 }
 
-fn larger(accepted: bool, a: u64, b: u64) -> u64
+fn larger(accepted: bool, a: u8, b: u8) -> u8
     ensures { λ r. ⌜ r ≡ pick (both accepted (leb b a)) a b ⌝ }
 {
     if accepted & (b <= a) { a } else { b }
 }
 
 // The corrections once a header of this channel index was accepted with this step.
-pub fn corrected(drift: Drift, channel: u8, step: u64) -> Drift
+pub fn corrected(drift: Drift, channel: u8, step: u8) -> Drift
     ensures { λ r. ⌜ r ≡ corrected drift channel step ⌝ }
 {
     let at = sum_at(channel);
@@ -118,10 +119,10 @@ pub fn corrected(drift: Drift, channel: u8, step: u64) -> Drift
 }
 
 // The octet of a signed number, for the correction of a step.
-pub fn signed(step: u64) -> u8
+pub fn signed(step: u8) -> u8
     ensures { λ r. ⌜ r ≡ signedOctet step ⌝ }
 {
-    ((step % 256 + (256 - MOST_SLIP)) % 256) as u8
+    ((step as u16 + (256 - MOST_SLIP as u16)) % 256) as u8
 }
 
 // Whether a header is past 1 and 2.
@@ -131,7 +132,7 @@ fn own(llid: u16, h: Header) -> bool
     is_well_formed(h) & (h.llid == llid)
 }
 
-fn moved(llid: u16, drift: Drift, h: Header, step: u64) -> Drift
+fn moved(llid: u16, drift: Drift, h: Header, step: u8) -> Drift
     ensures { λ r. ⌜ r ≡ pick (own llid h) (corrected drift (h .channel) step) drift ⌝ }
 {
     if own(llid, h) {

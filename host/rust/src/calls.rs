@@ -206,7 +206,9 @@ pub fn capture_open_near(settings: &[u8], block: &[u8], output: &mut [u8]) -> Bl
 
 /// [`capture_list`] in the near way.
 pub fn capture_list_near(settings: &[u8], block: &[u8], text: &mut [u8; LISTING_OCTETS]) -> usize {
-    unsafe { raw::jazmotip_capture_list_near(settings.as_ptr(), settings.len(), block.as_ptr(), block.len(), text.as_mut_ptr()) }
+    unsafe {
+        raw::jazmotip_capture_list_near(settings.as_ptr(), settings.len(), block.as_ptr(), block.len(), text.as_mut_ptr())
+    }
 }
 
 /// 0 or 14.

@@ -22,11 +22,7 @@ pub fn verdict(settings: &[u8], block: &[u8], k: usize) -> Result<Option<Opening
 }
 
 /// [`verdicts`](super::verdicts) in the near way.
-pub fn verdicts<'a>(
-    settings: &[u8],
-    block: &[u8],
-    numbers: &'a mut [u8; RECORDS],
-) -> Result<(&'a [u8], Corrections), Refusal> {
+pub fn verdicts<'a>(settings: &[u8], block: &[u8], numbers: &'a mut [u8; RECORDS]) -> Result<(&'a [u8], Corrections), Refusal> {
     let near = calls::capture_verdicts_near(settings, block, numbers);
     Refusal::block_verdict(near.directory.number, near.directory.pair).map(|()| {
         let corrections = Corrections { smallest: near.smallest, largest: near.largest };

@@ -34,7 +34,8 @@ pub fn check_record(tally: &mut Tally, settings: &[u8], block: &[u8], k: usize) 
 }
 
 fn check_verdicts(random: &mut Random, tally: &mut Tally, settings: &[u8], block: &[u8], output: usize) {
-    let filled = |numbers: Option<Vec<u8>>, rest: Vec<u8>| numbers.map(|numbers| [&numbers[..], &rest[numbers.len()..]].concat());
+    let filled =
+        |numbers: Option<Vec<u8>>, rest: Vec<u8>| numbers.map(|numbers| [&numbers[..], &rest[numbers.len()..]].concat());
     let mut lent = random.lent(output);
     let rest = lent.part().to_vec();
     let answer = calls::capture_verdicts(settings, block, lent.part());

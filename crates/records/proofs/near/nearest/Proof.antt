@@ -11,6 +11,6 @@ use Rattle.records.proofs.near.nearest.Tie as tie
 pub nearest-spec : {M : Type 1} → statement M
 nearest-spec =
     tie.close
-    (tie.spec (λ c. search needs) (λ c. search needs) (λ c. search needs)
+    (tie.spec (λ c. search needs) (λ c. search needs) (λ c. search needs) (λ c. search needs) (λ c. search needs)
     (λ c. unfold nearest both in (sym (pick-true _ _ (c .if1 .taken)), is-nearest _ _))
     (λ c. unfold nearest both in (sym (pick-false _ _ (c .if1 .left)), is-nearest _ _)))

@@ -11,7 +11,7 @@ ghost use Rattle.capture.specs.Reading.{rowBy, bodyBy, listingBy};
 ghost use Rattle.capture.specs.declared.directory.Directory.the-variants.{Good};
 ghost use Rattle.capture.specs.Directory.{directoryOf};
 use crate::directory::Directory;
-use crate::reading::hear_from;
+use crate::reading::hear_for;
 use crate::verdict::call_directory;
 use records::block::directory_octets;
 use records::block::header_from;
@@ -73,7 +73,7 @@ fn put_rows(near: bool, settings: &[u8], block: &[u8], text: &mut [u8], at: usiz
     while i < n {
         let h = header_from(block, from);
         let verdict = if near {
-            let heard = hear_from(settings, drift, block, from);
+            let heard = hear_for(settings, drift, h);
             let next = heard.drift;
             drift = next;
             let taken = heard.verdict;

@@ -20,7 +20,7 @@ ghost use Rattle.capture.specs.Near.{ReadsAsExact, NotEmpty};
 ghost use Rattle.capture.specs.Claims.{OpenedIfAccepted};
 ghost use Rattle.capture.specs.Duties.{Took, TookAs, TookAll, Span, Expanded, Ready, Settled, written, Copied};
 use crate::directory::Directory;
-use crate::reading::hear_from;
+use crate::reading::hear_for;
 use crate::verdict::call_directory;
 use envelope::Nonce;
 use envelope::seal_count;
@@ -168,7 +168,7 @@ fn open_records(
     while i < n {
         let h = header_from(block, from);
         let verdict = if near {
-            let heard = hear_from(settings, drift, block, from);
+            let heard = hear_for(settings, drift, h);
             let next = heard.drift;
             drift = next;
             let taken = heard.verdict;

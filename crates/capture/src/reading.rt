@@ -1,11 +1,9 @@
 // Reading in the near way, with a receive clock that is known only nearly (02, C-18).
 ghost use mathlib.Core.Path.{_≡_};
 ghost use Rattle.records.specs.Settings.{presenceOf, llidOf};
-ghost use Rattle.records.specs.Block.{headerFrom};
 ghost use Rattle.records.specs.Near.{heard};
 ghost use Rattle.records.specs.Following.{driftAt, nearVerdict};
 use records::block::header_at;
-use records::block::header_from;
 use records::header::Header;
 use records::header::RecordVerdict;
 use records::near::Drift;
@@ -16,17 +14,10 @@ use records::settings::llid;
 use records::settings::presence;
 
 // The verdict on a record by its header, and the corrections behind it.
-fn hear_for(settings: &[u8], drift: Drift, h: Header) -> Heard
+pub(crate) fn hear_for(settings: &[u8], drift: Drift, h: Header) -> Heard
     ensures { λ r. ⌜ r ≡ heard (presenceOf (now (settings .entry))) (llidOf (now (settings .entry))) drift h ⌝ }
 {
     hear(presence(settings), llid(settings), drift, h)
-}
-
-// The same of the header that starts at a place. It is read anew, so that a loop in the usual way has its header to itself.
-pub(crate) fn hear_from(settings: &[u8], drift: Drift, block: &[u8], from: usize) -> Heard
-    ensures { λ r. ⌜ r ≡ heard (presenceOf (now (settings .entry))) (llidOf (now (settings .entry))) drift (headerFrom (now (block .entry)) from) ⌝ }
-{
-    hear_for(settings, drift, header_from(block, from))
 }
 
 // The corrections before record i.

@@ -13,7 +13,7 @@ ghost use Rattle.capture.specs.Reading.{driftBy, askedBy, numbersBy, jud
 use crate::directory::Directory;
 use crate::directory::check;
 use crate::payload::payload_verdict;
-use crate::reading::hear_from;
+use crate::reading::hear_for;
 use crate::reading::near_verdict;
 use records::block::MOST_RECORDS;
 use records::block::directory_octets;
@@ -89,7 +89,7 @@ fn put_numbers(near: bool, settings: &[u8], block: &[u8], output: &mut [u8], n: 
     while i < n {
         let h = header_from(block, from);
         let verdict = if near {
-            let heard = hear_from(settings, drift, block, from);
+            let heard = hear_for(settings, drift, h);
             let next = heard.drift;
             drift = next;
             let taken = heard.verdict;

@@ -66,7 +66,7 @@ turn c =
     let eh = h .0 ∙ here at-test .header in
     let v = at-test .before .loop .inv in
     ⊎-elim
-    (λ w. near-turn (now (a .settings)) (now (a .block)) _ _ eh _ _ _ (a .near) (w .0 .taken) (v .5) _ (w .1 .ensures ∙ rw (h .0)) (w .3) (w .4))
+    (λ w. near-turn (now (a .settings)) (now (a .block)) _ _ eh _ _ _ (a .near) (w .0 .taken) (v .5) _ (w .1 .ensures) (w .3) (w .4))
     (λ w. own-turn (now (a .settings)) (now (a .block)) _ _ eh _ _ _ (a .near) (w .0 .left) (v .5) (h .1) (w .3 ∙ w .1 .ensures) (w .2))
     (c .if1 .came)
 

@@ -102,21 +102,50 @@ def directory(block):
     return 0, 0, pairs
 
 
-def record_number(settings, record):
-    kind, channel, flags, epam = record[0], record[1], record[4], record[5]
+def header_number(settings, record):
+    kind, channel, flags = record[0], record[1], record[4]
     if kind > 1 or channel & 0x7F > 1 or flags > 3 or flags == 2:
         return 1
-    if record[2:4] != settings[39:41]:
-        return 2
-    if epam != record[11] % 64:
-        return 10
-    if flags & 1 and not settings[0] >> (flags >> 1) & 1:
-        return 9
-    return 0
+    return 2 if record[2:4] != settings[39:41] else 0
 
 
-def opened(settings, block, lent):
-    """Number, broken pair, count and output of opening a block into a lent output."""
+def key_number(settings, record):
+    flags = record[4]
+    return 9 if flags & 1 and not settings[0] >> (flags >> 1) & 1 else 0
+
+
+def record_number(settings, record):
+    return header_number(settings, record) or (10 if record[5] != record[11] % 64 else 0) or key_number(settings, record)
+
+
+def records(block):
+    return [block[offset : offset + length] for offset, length in directory(block)[2]]
+
+
+def exact(settings, block):
+    """Of each record its number and its clock, as recorded."""
+    return [(record_number(settings, record), int.from_bytes(record[6:12], "big")) for record in records(block)]
+
+
+def nearly(settings, block):
+    """02, C-18. Of each record its number and the clock taken; the smallest and the largest correction."""
+    sums, made, verdicts = {}, [], []
+    for record in records(block):
+        number, clock = header_number(settings, record), 0
+        if number == 0:
+            expected = int.from_bytes(record[6:12], "big") + sums.get(record[1], 0)
+            near = [c for c in range(-31, 32) if (expected + c) % 64 == record[5]]
+            number = key_number(settings, record) if near else 10
+            for correction in near:
+                clock = (expected + correction) % (1 << 48)
+                sums[record[1]] = sums.get(record[1], 0) + correction
+                made.append(correction)
+        verdicts.append((number, clock))
+    return verdicts, (min(made, default=0), max(made, default=0))
+
+
+def opened(settings, block, lent, verdicts=None):
+    """Number, broken pair, count and output of opening a block into a lent output, by the verdicts on its records."""
     if len(settings) != 41 or len(lent) != len(block):
         return 14, 0, 0, lent
     if settings[0] > 3:
@@ -125,17 +154,11 @@ def opened(settings, block, lent):
     if number:
         return number, pair, 0, lent
     out, total = bytearray(block), 0
-    for offset, length in pairs:
+    for (offset, length), (number, clock) in zip(pairs, verdicts or exact(settings, block)):
         record = block[offset : offset + length]
-        if record[4] & 1 and record_number(settings, record) == 0:
+        if record[4] & 1 and number == 0:
             which = record[4] >> 1
-            payload, count = sealed(
-                settings[1 + 16 * which : 17 + 16 * which],
-                record[1],
-                settings[33:39],
-                int.from_bytes(record[6:12], "big"),
-                record[16:],
-            )
+            payload, count = sealed(settings[1 + 16 * which : 17 + 16 * which], record[1], settings[33:39], clock, record[16:])
             out[offset + 4] = 0
             out[offset + 16 : offset + length] = payload
             total += count
@@ -147,16 +170,14 @@ def numbered(number, pair):
     return f"{number} {pair}" if pair else f"{number}"
 
 
-def listing(settings, block):
-    """What the program prints."""
+def listing(settings, block, verdicts=None):
+    """What the program prints, by the verdicts on the records."""
     number, pair, _, _ = opened(settings, block, bytes(len(block)))
     if number:
         return f"no llid ch key eqs result\nrefused {numbered(number, pair)}\n"
     lines = ["no llid ch key eqs result\n"]
-    for k, (offset, length) in enumerate(directory(block)[2], 1):
-        record = block[offset : offset + length]
+    for k, (record, (number, _)) in enumerate(zip(records(block), verdicts or exact(settings, block)), 1):
         key = str(record[4] >> 1 & 1) if record[4] & 1 else "-"
-        number = record_number(settings, record)
         result = f"refused {number}" if number else "open"
         eqs = int.from_bytes(record[12:16], "big")
         lines.append(f"{k} {record[2:4].hex()} {record[1]:02x} {key} {eqs} {result}\n")

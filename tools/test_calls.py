@@ -135,26 +135,34 @@ def directory_row(block):
     show("capture_directory", number, f" {pair} {len(pairs)}")
 
 
-def verdict_row(settings, block, k):
+def verdict_of(verdicts, block, k):
     number, pair, pairs = reader.directory(block)
     enabled, enckey, clock = 0, 0, 0
     if 1 <= k <= len(pairs):
-        offset, length = pairs[k - 1]
-        record = block[offset : offset + length]
-        number = reader.record_number(settings, record)
-        if number == 0 and record[4] & 1:
-            enabled, enckey, clock = 1, record[4] >> 1, int.from_bytes(record[6:12], "big")
+        number, taken = verdicts[k - 1]
+        flags = reader.records(block)[k - 1][4]
+        if number == 0 and flags & 1:
+            enabled, enckey, clock = 1, flags >> 1, taken
     else:
         number = number or 1
-    show("capture_verdict", number, f" {pair} {enabled} {enckey} {clock:012x}")
+    return number, f" {pair} {enabled} {enckey} {clock:012x}"
+
+
+def verdict_row(settings, block, k):
+    show("capture_verdict", *verdict_of(reader.exact(settings, block), block, k))
+
+
+def verdicts_of(verdicts, block, output):
+    number, pair, pairs = reader.directory(block)
+    if len(output) != 256:
+        number, pair, verdicts = 14, 0, []
+    numbers = bytes(number for number, _ in verdicts)
+    return number, f" {pair} {len(verdicts)}", f" {(numbers + output[len(numbers) :])[:4].hex()}"
 
 
 def verdicts_row(settings, block, output):
-    number, pair, pairs = reader.directory(block)
-    if len(output) != 256:
-        number, pair, pairs = 14, 0, []
-    numbers = bytes(reader.record_number(settings, block[offset : offset + length]) for offset, length in pairs)
-    show("capture_verdicts", number, f" {pair} {len(pairs)} {(numbers + output[len(numbers) :])[:4].hex()}")
+    number, told, octets = verdicts_of(reader.exact(settings, block), block, output)
+    show("capture_verdicts", number, told + octets)
 
 
 def payload_row(block, k):
@@ -166,6 +174,33 @@ def payload_row(block, k):
 def open_row(settings, block):
     number, pair, count, octets = reader.opened(settings, block, b"\xaa" * 59)
     show("capture_open", number, f" {pair}" + passed(count, octets))
+
+
+# ---- capture blocks whose clocks are known nearly (02, C-18)
+
+def near_rows(settings, block):
+    verdicts, (smallest, largest) = reader.nearly(settings, block)
+    show("capture_verdict_near", *verdict_of(verdicts, block, 2))
+    number, told, octets = verdicts_of(verdicts, block, b"\xaa" * 256)
+    show("capture_verdicts_near", number, f"{told} {smallest} {largest}{octets}")
+    number, pair, count, octets = reader.opened(settings, block, b"\xaa" * 59, verdicts)
+    show("capture_open_near", number, f" {pair} {smallest} {largest}" + passed(count, octets))
+    text = reader.listing(settings, block, verdicts)
+    print(f"jazmotip_capture_list_near {len(text)}\n{text}", end="")
+
+
+def slipped(first, second):
+    """The two records with other octets last in their clocks."""
+    octets = bytearray(reader.block(CLEAR, ONE))
+    octets[18 + 11], octets[34 + 11] = first, second
+    return bytes(octets)
+
+
+def near_blocks():
+    settings = reader.settings(3)
+    for first, second in ((0x41, 0x41), (0x5A, 0x52), (0x5A, 0x3A)):
+        near_rows(settings, slipped(first, second))
+    near_rows(settings, reader.block(CLEAR, ONE, pairs=[(18, 16), (35, 25)]))
 
 
 def blocks():
@@ -243,4 +278,5 @@ if __name__ == "__main__":
     ends()
     payloads()
     blocks()
+    near_blocks()
     key_exchange()

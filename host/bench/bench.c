@@ -44,6 +44,12 @@ static void engine_open(void *work)
     engine_count = jazmotip_capture_open(work_settings, 41, w->input, w->length, w->output, w->length).count;
 }
 
+static void engine_open_near(void *work)
+{
+    struct work *w = work;
+    engine_count = jazmotip_capture_open_near(work_settings, 41, w->input, w->length, w->output, w->length).answer.count;
+}
+
 static void c_seal(void *work)
 {
     struct work *w = work;
@@ -118,7 +124,10 @@ static void check_works(void)
         same(c_count, engine_count, w, "the C cipher's count");
         same(hash_after(block ? tables_open : tables_seal, w), engine, w, "the C cipher of two tables");
         same(c_count, engine_count, w, "its count");
-        if (!block) {
+        if (block) {
+            same(hash_after(engine_open_near, w), engine, w, "the near way");
+            same(c_count, engine_count, w, "its count");
+        } else {
             same(hash_after(engine_seal_expanded, w), engine, w, "the expanded key");
             same(hash_after(c_seal_expanded, w), engine, w, "the C cipher's expanded key");
             same(hash_after(tables_seal_expanded, w), engine, w, "the expanded key of the C cipher of two tables");
@@ -277,6 +286,21 @@ static double print_idle(void)
     return measure_ratio(&idle, IDLE_WORKS, 0).median;
 }
 
+/* 02, C-18: a block opened in the near way, beside the usual one; its clocks need no correction. */
+static void print_near(void)
+{
+    printf("| Opened in the near way | ns a call | of the usual speed |\n|---|---:|---:|\n");
+    for (int i = WORKS_PAYLOADS; i < WORKS; i++) {
+        static struct rounds near;
+        const struct contestant both[] = {{.here = engine_open_near, .job = &works[i]}, {.here = engine_open, .job = &works[i]}};
+        measure_rounds(&near, both, 2, 151, 1e6);
+        struct spread s = measure_ratio(&near, 0, 1);
+        printf("| %s | %s | %.2f (%.2f to %.2f) |\n", name_of(i), measure_commas(measure_cost(&near, 0).median), s.median, s.low,
+               s.high);
+    }
+    printf("\n");
+}
+
 static void print_goals(double flatness, double idle)
 {
     double least = measure_ratio(&rounds[3], ENGINE, C).median, eight = measure_ratio(&rounds[1], ENGINE, C).median;
@@ -328,6 +352,7 @@ int main(int argc, char **argv)
         openssl->stop();
     }
     double flatness = print_flatness(), idle = print_idle();
+    print_near();
     yardstick_print();
     calls_print();
     planes_print();

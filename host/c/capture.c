@@ -47,6 +47,10 @@ int main(void)
     jazmotip_block_answer open = jazmotip_capture_open(settings, settings_length, block, block_length, opened, block_length);
     printf("open %u pair %u count %" PRIu64 "\n", open.number, open.pair, open.count);
     printf("runs %" PRIu64 " expansions %u\n", open.runs, open.expansions);
+    jazmotip_block_near_answer near =
+        jazmotip_capture_open_near(settings, settings_length, block, block_length, again, block_length);
+    printf("open near %u count %" PRIu64 " corrections %d to %d\n", near.answer.number, near.answer.count, near.smallest,
+           near.largest);
     uint8_t numbers[JAZMOTIP_RECORDS];
     jazmotip_block_directory judged =
         jazmotip_capture_verdicts(settings, settings_length, block, block_length, numbers, sizeof numbers);

@@ -59,6 +59,9 @@ static void blocks(void)
     printf("open: %u", jazmotip_capture_open(NULL, 0, NULL, 0, NULL, 0).number);
     printf(" %u", jazmotip_capture_open(settings, sizeof settings, NULL, 0, NULL, 0).number);
     printf(" %u\n", jazmotip_capture_open(settings, sizeof settings, empty_block, sizeof empty_block, NULL, 0).number);
+    printf("open near: %u", jazmotip_capture_open_near(NULL, 0, NULL, 0, NULL, 0).answer.number);
+    printf(" %u", jazmotip_capture_open_near(settings, sizeof settings, NULL, 0, NULL, 0).answer.number);
+    printf(" %u\n", jazmotip_capture_open_near(settings, sizeof settings, empty_block, sizeof empty_block, NULL, 0).answer.number);
     printf("rearrange: %u", jazmotip_capture_rearrange(NULL, 0, NULL, 0).number);
     printf(" %u\n", jazmotip_capture_rearrange(empty_block, sizeof empty_block, NULL, 0).number);
     printf("restore: %u", jazmotip_capture_restore(NULL, 0, NULL, 0).number);

@@ -466,6 +466,39 @@ jazmotip_block_answer jazmotip_capture_open(const uint8_t *settings, size_t sett
 size_t jazmotip_capture_list(const uint8_t *settings, size_t settings_length, const uint8_t *block, size_t block_length,
                              uint8_t text[JAZMOTIP_LISTING_OCTETS]);
 
+/* The near way, for a reader whose receive clock is known only within 31 ticks, without clock messages. A header is read at the clock,
+ * modulo 2^48, nearest to the one expected whose low six bits equal EPAM; a difference of exactly 32, or EPAM above 63, is 10. The
+ * correction is that clock less the one expected. At headers past 1, 2 and 10, clear ones and those refused 9 too, corrections add up
+ * per channel index, from 0 in each call, and the clock expected is the record's plus the sum of its channel index so far. If the
+ * record's clock is within 31 of the sender's at each channel index's first header past 1 and 2, and slips no more than 31 from one of
+ * these to the next of that index, each record is read as with the sender's clock in it; clock fields are copied as they are. The
+ * calls without _near keep to the record's own clock. */
+
+typedef struct jazmotip_block_near_answer {
+    jazmotip_block_answer answer; /* as of jazmotip_capture_open */
+    int8_t smallest;              /* correction, -31 to 31; 0 if no header was past 1, 2 and 10, and on refusal */
+    int8_t largest;               /* the same */
+} jazmotip_block_near_answer;
+
+typedef struct jazmotip_block_near_verdicts {
+    jazmotip_block_directory directory; /* as of jazmotip_capture_verdicts */
+    int8_t smallest;                    /* as in jazmotip_block_near_answer; 0 on refusal */
+    int8_t largest;
+} jazmotip_block_near_verdicts;
+
+/* jazmotip_capture_verdict in the near way: the headers before record k are read for their corrections. The clock of a record that
+ * opening deciphers is the clock taken. */
+jazmotip_block_verdict jazmotip_capture_verdict_near(const uint8_t *settings, size_t settings_length, const uint8_t *block,
+                                                     size_t block_length, size_t k);
+
+/* jazmotip_capture_verdicts, jazmotip_capture_open and jazmotip_capture_list in the near way, with the same orders of refusal. */
+jazmotip_block_near_verdicts jazmotip_capture_verdicts_near(const uint8_t *settings, size_t settings_length, const uint8_t *block,
+                                                            size_t block_length, uint8_t *output, size_t output_length);
+jazmotip_block_near_answer jazmotip_capture_open_near(const uint8_t *settings, size_t settings_length, const uint8_t *block,
+                                                      size_t block_length, uint8_t *output, size_t output_length);
+size_t jazmotip_capture_list_near(const uint8_t *settings, size_t settings_length, const uint8_t *block, size_t block_length,
+                                  uint8_t text[JAZMOTIP_LISTING_OCTETS]);
+
 /* --------------------------------------------------------------------------------------------------------------- The store
  * Octets of one kind side by side compress better. Rearranged, a payload is its planes: all control octets, then data octet 0 of
  * every EQ, then data octet 1, up to 7. Restoring is the inverse; the two undo each other for every number of EQs, 0 too, and what
@@ -754,6 +787,12 @@ JAZMOTIP_LAYOUT(offsetof(jazmotip_block_answer, expansions) == 1);
 JAZMOTIP_LAYOUT(offsetof(jazmotip_block_answer, pair) == 2);
 JAZMOTIP_LAYOUT(offsetof(jazmotip_block_answer, count) == 8);
 JAZMOTIP_LAYOUT(offsetof(jazmotip_block_answer, runs) == 16);
+JAZMOTIP_LAYOUT(sizeof(jazmotip_block_near_answer) == 32);
+JAZMOTIP_LAYOUT(offsetof(jazmotip_block_near_answer, smallest) == 24);
+JAZMOTIP_LAYOUT(offsetof(jazmotip_block_near_answer, largest) == 25);
+JAZMOTIP_LAYOUT(sizeof(jazmotip_block_near_verdicts) == 24);
+JAZMOTIP_LAYOUT(offsetof(jazmotip_block_near_verdicts, smallest) == 16);
+JAZMOTIP_LAYOUT(offsetof(jazmotip_block_near_verdicts, largest) == 17);
 JAZMOTIP_LAYOUT(sizeof(jazmotip_store_answer) == 4);
 JAZMOTIP_LAYOUT(offsetof(jazmotip_store_answer, pair) == 2);
 JAZMOTIP_LAYOUT(sizeof(jazmotip_comparison) == 8);

@@ -6,3 +6,6 @@ pub mod Openings
 pub mod Reopening
 pub mod Lines
 pub mod Numbers
+pub mod Rebuilding
+pub mod Readings
+pub mod Exact

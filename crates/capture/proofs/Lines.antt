@@ -1,9 +1,7 @@
 -- Laws of the rows of a listing: one more at each turn. Assumes nothing.
 use mathlib.Core.Path.{_≡_, sym, ap, _∙_}
 use mathlib.Core.List.{List, [], _++_, append-assoc, append-nil}
-use Prim.Native.Nat.{ℕ, zero, suc, _+_, _-_, _≤_, _<_}
-use native.Mathlib.Nat.{add-zero, zero-add}
-use native.Mathlib.Numerals.{add-one}
+use Prim.Native.Nat.{ℕ, _+_, _-_, _≤_, _<_}
 use native.Mathlib.Omega.{arith}
 use lib.ListN.{length, take, drop, length-drop, drop-of-length-le}
 use lib.Seq.{drop-drop, take-length}
@@ -14,7 +12,9 @@ use Rattle.rows.specs.Text.{rowOf}
 use Rattle.rows.proofs.Lines.{decimal-below, row-few}
 use Rattle.records.specs.declared.header.Header.{Header}
 use Rattle.records.specs.declared.header.RecordVerdict.{RecordVerdict}
-use Rattle.capture.specs.Listing.{lineOctets, rowAt, rowsFrom}
+use Rattle.capture.specs.Listing.{lineOctets}
+use Rattle.capture.specs.Rebuilt.{joined}
+use Rattle.capture.proofs.Rebuilding.{joined-next}
 
 -- what is the same from a place on is the same from a later one on
 pub same-behind : (s t : List ℕ) (a b : ℕ) → a ≤ b → drop a s ≡ drop a t → drop b s ≡ drop b t
@@ -37,17 +37,6 @@ appended text piece done at h e =
 pub row-short : (k : ℕ) (h : Header) (v : RecordVerdict) → k < 10000 → h .eqs < 10000 → length (rowOf k h v) ≤ lineOctets
 row-short k h v few small = omega (arith, row-few k h v, decimal-below 3 k few, decimal-below 3 (h .eqs) small)
 
-rows-more : (s b : List ℕ) (j i : ℕ) → rowsFrom s b j (suc i) ≡ rowsFrom s b j i ++ rowAt s b (j + i)
-unfolding rowsFrom
-rows-more s b j zero = rw (append-nil, add-zero)
-rows-more s b j (suc i) =
-    let e : suc j + i ≡ j + suc i = omega arith in
-    rw append-assoc (ap (λ (t : List ℕ). rowAt s b j ++ t) (rows-more s b (suc j) i ∙ ap (λ (k : ℕ). rowsFrom s b (suc j) i ++ rowAt s b k) e))
-
 -- one turn of the loop over the rows
-pub one-row : (s b front : List ℕ) (i : ℕ) → (front ++ rowsFrom s b 0 i) ++ rowAt s b i ≡ front ++ rowsFrom s b 0 (i + 1)
-one-row s b front i =
-    let more : rowsFrom s b 0 (suc i) ≡ rowsFrom s b 0 i ++ rowAt s b i =
-    rows-more s b 0 i ∙ ap (λ (k : ℕ). rowsFrom s b 0 i ++ rowAt s b k) (zero-add i) in
-    append-assoc front (rowsFrom s b 0 i) (rowAt s b i)
-    ∙ ap (λ (t : List ℕ). front ++ t) (sym more ∙ ap (λ (k : ℕ). rowsFrom s b 0 k) (sym (add-one i)))
+pub one-row : (f : ℕ → List ℕ) (front : List ℕ) (i : ℕ) → (front ++ joined f 0 i) ++ f i ≡ front ++ joined f 0 (i + 1)
+one-row f front i = rw (joined-next f i) (append-assoc front (joined f 0 i) (f i))

@@ -1,5 +1,6 @@
 -- Laws of the verdicts on all records: what each octet is, and one more at each turn. Assumes nothing.
 use mathlib.Core.Path.{_≡_, sym, _∙_}
+use mathlib.Core.Bool.{Bool}
 use mathlib.Core.List.{List, _++_}
 use Prim.Native.Nat.{ℕ, suc, _+_, _-_, _<_}
 use native.Mathlib.Nat.{zero-add}
@@ -13,18 +14,16 @@ use Rattle.octets.proofs.Choice.{both-true, pick-true}
 use Rattle.octets.proofs.Lists.{tabulate-length, tabulate-suc}
 use Rattle.refusal.specs.declared.Verdict.the-variants.{Accepted}
 use Rattle.records.specs.Settings.{settingsVerdict}
-use Rattle.records.specs.Verdict.{verdictOf}
-use Rattle.records.specs.Block.{recordOf}
 use Rattle.capture.specs.declared.directory.Directory.the-variants.{Good}
 use Rattle.capture.specs.Directory.{directoryOf}
 use Rattle.capture.specs.Payload.{payloadVerdict}
-use Rattle.capture.specs.Verdict.{verdictAsked}
+use Rattle.capture.specs.Reading.{verdictBy, askedBy}
 
 -- the verdict on a record of a whole block that is asked for is the record's own
-pub asked-own : (s b : List ℕ) (n i : ℕ) → settingsVerdict s ≡ Accepted → directoryOf b ≡ Good n → i < n
-    → verdictAsked s b (i + 1) ≡ verdictOf s (recordOf b i)
-unfolding verdictAsked payloadVerdict
-asked-own s b n i a g h =
+pub asked-own : (near : Bool) (s b : List ℕ) (n i : ℕ) → settingsVerdict s ≡ Accepted → directoryOf b ≡ Good n → i < n
+    → askedBy near s b (i + 1) ≡ verdictBy near s b i
+unfolding askedBy payloadVerdict
+asked-own near s b n i a g h =
     let back : i + 1 - 1 ≡ i = omega arith in
     rw (a, g, pick-true _ _ (both-true (le-leb 1 (i + 1) (omega arith)) (le-leb (i + 1) n (omega arith))), back)
 

@@ -1,13 +1,13 @@
 -- Laws of opening: what the sealing call does for a record, and how the opened records make up the output. Assumes nothing.
 use mathlib.Core.Path.{_≡_, refl, sym, ap, _∙_}
 use mathlib.Core.Bool.{Bool, true, false, not}
-use mathlib.Core.List.{List, _++_, append-assoc, append-nil}
+use mathlib.Core.List.{List, _++_, append-assoc}
 use Prim.Native.Nat.{ℕ, zero, suc, _+_, _-_, _*_, _/_, _%_, _^_, _≤_, _<_}
-use native.Mathlib.Nat.{add-zero, zero-add, add-suc, suc-add}
+use native.Mathlib.Nat.{zero-add}
 use native.Mathlib.Numerals.{add-one}
 use native.Mathlib.Omega.{arith}
 use lib.ListN.{length, take, drop, set, take-append-drop, length-append, length-take, length-drop, length-set}
-use lib.Seq.{drop-set-add, take-set-le, take-set-lt, drop-set-lt, take-add, take-take, drop-drop, take-at, drop-at, drop-length, length-take-le}
+use lib.Seq.{drop-set-add, take-set-le, take-set-lt, drop-set-lt, take-add, take-take, drop-drop}
 use lib.Count.{ones}
 use lib.Dec.{eqb}
 use borrow.Rule.Slice.PartMut.{putMid}
@@ -15,8 +15,6 @@ use borrow.Author.Tests.{eq-eqb, eqb-true, le-leb, lt-ltb, not-false}
 use Rattle.octets.specs.Choice.{pick}
 use Rattle.octets.specs.Lists.{part, replaced, sum}
 use Rattle.octets.specs.Eqs.{maxEqs}
-use Rattle.octets.specs.BigEndian.{sixOctets}
-use Rattle.octets.proofs.Bits.{bit-below}
 use Rattle.octets.proofs.Lists.{sum-below, sum-suc, part-length, part-below, drop-part}
 use Rattle.octets.proofs.Choice.{both-left, both-right, both-true, not-of-true, pick-first}
 use Rattle.octets.specs.Output.{WithOutput, withOutput}
@@ -44,19 +42,18 @@ use Rattle.capture.specs.declared.directory.Directory.{Directory}
 use Rattle.capture.specs.declared.directory.Directory.the-variants.{Good, Bad}
 use Rattle.capture.specs.declared.opening.Keys.{Keys}
 use Rattle.capture.specs.declared.opening.OpenAnswer.{OpenAnswer}
-use Rattle.capture.specs.declared.opening.OpenAnswer.the-variants.{Denied}
-use Rattle.records.specs.Settings.{settingsOctets, presenceOf, keyPresent, keyOf, macOf, llidOf, settingsVerdict}
+use Rattle.records.specs.Settings.{settingsOctets, presenceOf, keyPresent, keyOf, macOf, settingsVerdict}
 use Rattle.records.specs.Record.{recordHeader, recordOctets, payloadOf}
-use Rattle.records.specs.Block.{recordsIn, offsetOf, lengthOf, endOf, dueOf, recordOf, headerFrom, recordFrom}
+use Rattle.records.specs.Block.{recordsIn, offsetOf, lengthOf, recordOf, headerFrom, recordFrom}
 use Rattle.capture.specs.Directory.{verdictOn, directoryOf}
-use Rattle.capture.specs.Opening.{writtenAs, addedAs, openedRecord, recordAdds, openedFrom, openedBlock, blockCount, blockRuns, expansions, openVerdict, openingAfter, opening}
-use Rattle.records.specs.Verdict.{clearedFlags, headerFits, verdictFor, verdictOf}
+use Rattle.capture.specs.Opening.{writtenAs, addedAs, openedRecord, recordAdds, openedBlock, blockCount, blockRuns, expansions, openVerdict, openingAfter, opening}
+use Rattle.capture.specs.Reading.{verdictBy, addsBy}
+use Rattle.records.specs.Verdict.{clearedFlags, headerFits, verdictOf}
 use Rattle.capture.specs.Verdict.{afterSettings, callDirectory}
-use Rattle.capture.specs.Duties.{Expanded, Opens, written}
+use Rattle.capture.specs.Duties.{Expanded, written}
 use Rattle.records.proofs.Verdicts.{settings-octets, openable}
 use Rattle.records.proofs.Headers.{header-taken}
-use Rattle.capture.proofs.Pairs.{pair-fits, due-next}
-use Rattle.capture.proofs.Records.{Records, good, placed, At, at-due, records-end}
+use Rattle.capture.proofs.Records.{good, At}
 
 -- a record's payload is accepted for opening
 seal-accepted : (n m : ℕ) (nonce : Nonce) → n % 9 ≡ 0 → n ≤ 65536 → m ≡ n → nonceFits nonce ≡ true → sealVerdict n m nonce ≡ Accepted
@@ -160,31 +157,17 @@ pub nonce-fits : (h : Header) (m t : ℕ) → headerFits h ≡ true → m < 2 ^ 
 unfolding nonceFits headerFits
 nonce-fits h m t f p q = both-true (both-left _ _ (both-right _ _ f)) (both-true (lt-ltb _ _ p) (lt-ltb _ _ q))
 
--- what is counted at a place is the count of the record there
-pub counted-at : (g : List ℕ → ℕ) (s b : List ℕ) (i from : ℕ) (h : Header) → At b i from → h ≡ headerFrom b from
-    → addedAs g (recordFrom b from) (verdictFor s h) ≡ recordAdds g s (recordOf b i)
-unfolding recordAdds
-counted-at g s b i from h x e = rw (e, x .octets, x .header)
+-- what is counted and written at a place is by the verdict on the record there
+pub counted-at : (g : List ℕ → ℕ) (b : List ℕ) (i from : ℕ) (u v : RecordVerdict) → At b i from → u ≡ v
+    → addedAs g (recordFrom b from) u ≡ addedAs g (recordOf b i) v
+counted-at g b i from u v x e = rw (e, x .octets)
 
--- and what is written there is by the verdict for the settings
-pub written-at : (s b out : List ℕ) (from due : ℕ) (h : Header) (v : RecordVerdict) → v ≡ verdictFor s h → h ≡ headerFrom b from → from ≡ due
-    → written s b out from v ≡ written s b out due (verdictFor s (headerFrom b due))
-written-at s b out from due h v ev eh ef = rw (ev, eh, ef)
-
--- a record that the settings have opened can be
-pub verdict-opens : (s : List ℕ) (h : Header) → h .clock < sixOctets → (i t : ℕ) → verdictFor s h ≡ Sealed i t → Opens s h i t
-unfolding verdictFor
-verdict-opens s h c i t e =
-    let o = openable (presenceOf s) (llidOf s) (h .clock) h i t e in
-    record {
-      fits = o .fits;
-      present = o .present;
-      index = omega (arith, o .index, bit-below (h .flags) 1);
-      clock = omega (arith, o .clock);
-    }
+pub written-at : (s b out : List ℕ) (from due i : ℕ) (u v : RecordVerdict) → u ≡ v → At b i from → from ≡ due
+    → written s b out from u ≡ take due out ++ (writtenAs s (recordOf b i) v ++ drop (due + recordOctets (headerFrom b due .eqs)) b)
+written-at s b out from due i u v e x ef = rw (e, x .octets, ef)
 
 -- opening keeps a record's length
-written-length : (s r : List ℕ) (v : RecordVerdict) → 16 ≤ length r → length (writtenAs s r v) ≡ length r
+pub written-length : (s r : List ℕ) (v : RecordVerdict) → 16 ≤ length r → length (writtenAs s r v) ≡ length r
 unfolding writtenAs payloadOf
 written-length s r Clear h = refl
 written-length s r (RecordVerdict.Refused c) h = refl
@@ -211,73 +194,25 @@ module _ (g : List ℕ → ℕ) (few : (p : List ℕ) → g p ≤ length p) wher
   added-below r (RecordVerdict.Refused c) = omega arith
   added-below r (Sealed i t) = omega (arith, few (drop 16 r), length-drop 16 r)
 
-  one-below : (s b : List ℕ) (i : ℕ) → length b ≤ 65536 → recordAdds g s (recordOf b i) ≤ 65536
-  unfolding recordAdds recordOf
-  one-below s b i h =
-      omega (arith, added-below (recordOf b i) (verdictOf s (recordOf b i)), part-below b (offsetOf b i) (lengthOf b i))
+  one-below : (b : List ℕ) (v : ℕ → RecordVerdict) (i : ℕ) → length b ≤ 65536 → addedAs g (recordOf b i) (v i) ≤ 65536
+  unfolding recordOf
+  one-below b v i h = omega (arith, added-below (recordOf b i) (v i), part-below b (offsetOf b i) (lengthOf b i))
 
-  total-below : (s b : List ℕ) (i : ℕ) → length b ≤ 65536 → sum 0 i (λ j. recordAdds g s (recordOf b j)) ≤ i * 65536
-  total-below s b i h = sum-below 0 i 65536 (λ j. recordAdds g s (recordOf b j)) (λ j. one-below s b j h)
+  both-below : (b : List ℕ) (v : ℕ → RecordVerdict) (i : ℕ) → length b ≤ 65536
+      → sum 0 i (λ j. addedAs g (recordOf b j) (v j)) + addedAs g (recordOf b i) (v i) ≤ i * 65536 + 65536
+  both-below b v i h =
+      omega (arith, sum-below 0 i 65536 (λ j. addedAs g (recordOf b j) (v j)) (λ j. one-below b v j h), one-below b v i h)
 
-  both-below : (s b : List ℕ) (i : ℕ) → length b ≤ 65536
-      → sum 0 i (λ j. recordAdds g s (recordOf b j)) + recordAdds g s (recordOf b i) ≤ i * 65536 + 65536
-  both-below s b i h = omega (arith, total-below s b i h, one-below s b i h)
+module _ (near : Bool) (s b : List ℕ) (i : ℕ) where
+  pub count-few : length b ≤ 65536
+      → sum 0 i (addsBy near countEnciphered s b) + addsBy near countEnciphered s b i ≤ i * 65536 + 65536
+  count-few = both-below countEnciphered enciphered-below b (verdictBy near s b) i
 
-pub count-few : (s b : List ℕ) (i : ℕ) → length b ≤ 65536
-    → sum 0 i (λ j. recordAdds countEnciphered s (recordOf b j)) + recordAdds countEnciphered s (recordOf b i) ≤ i * 65536 + 65536
-count-few = both-below countEnciphered enciphered-below
+  pub runs-few : length b ≤ 65536 → sum 0 i (addsBy near runs s b) + addsBy near runs s b i ≤ i * 65536 + 65536
+  runs-few = both-below runs runs-below b (verdictBy near s b) i
 
-pub runs-few : (s b : List ℕ) (i : ℕ) → length b ≤ 65536
-    → sum 0 i (λ j. recordAdds runs s (recordOf b j)) + recordAdds runs s (recordOf b i) ≤ i * 65536 + 65536
-runs-few = both-below runs runs-below
-
-pub one-more : (g : List ℕ → ℕ) (s b : List ℕ) (i : ℕ)
-    → sum 0 (i + 1) (λ j. recordAdds g s (recordOf b j)) ≡ sum 0 i (λ j. recordAdds g s (recordOf b j)) + recordAdds g s (recordOf b i)
-one-more g s b i = rw add-one (sum-suc 0 i (λ j. recordAdds g s (recordOf b j)) ∙ rw zero-add)
-
--- the output once i records are opened, without what is still the block
-abbrev pub upTo : List ℕ → List ℕ → ℕ → List ℕ
-upTo s b i = take (2 + 8 * recordsIn b) b ++ openedFrom s b 0 i
-
-opened-more : (s b : List ℕ) (j i : ℕ) → openedFrom s b j (suc i) ≡ openedFrom s b j i ++ openedRecord s (recordOf b (j + i))
-unfolding openedFrom
-opened-more s b j zero = rw (append-nil, add-zero)
-opened-more s b j (suc i) =
-    rw append-assoc (ap (λ (t : List ℕ). openedRecord s (recordOf b j) ++ t) (opened-more s b (suc j) i ∙ rw (suc-add, add-suc)))
-
-pub up-to-next : (s b : List ℕ) (i : ℕ) → upTo s b (i + 1) ≡ upTo s b i ++ openedRecord s (recordOf b i)
-up-to-next s b i = rw (add-one, opened-more s b 0 i, zero-add) (simp append-assoc)
-
--- at first the output is the block
-pub none-opened : (s b : List ℕ) → 2 + 8 * recordsIn b ≤ length b → (b ≡ upTo s b 0 ++ drop (dueOf b 0) b) × (length (upTo s b 0) ≡ dueOf b 0)
-unfolding openedFrom dueOf
-none-opened s b h =
-    (rw append-nil (sym (take-append-drop (2 + 8 * recordsIn b) b)), rw append-nil (length-take-le (2 + 8 * recordsIn b) b h))
-
-module _ (s b out : List ℕ) (n i : ℕ) (r : Records b n) (h : i < n) (opened : out ≡ upTo s b i ++ drop (dueOf b i) b)
-    (l : length (upTo s b i) ≡ dueOf b i) where
-  -- from record i on the output is the block
-  pub still-block : drop (dueOf b i) out ≡ drop (dueOf b i) b
-  still-block = rw opened (drop-at (upTo s b i) (drop (dueOf b i) b) (dueOf b i) l)
-
-  -- one turn of the loop over the records
-  pub one-opened : (next : List ℕ) → next ≡ written s b out (dueOf b i) (verdictFor s (headerFrom b (dueOf b i)))
-      → (next ≡ upTo s b (i + 1) ++ drop (dueOf b (i + 1)) b) × (length (upTo s b (i + 1)) ≡ dueOf b (i + 1))
-  unfolding endOf openedRecord
-  one-opened next e =
-      let x = at-due b n i (dueOf b i) r h refl in
-      let w = pair-fits b i (r .fit i h) in
-      let p = placed b n i r h in
-      let front : take (dueOf b i) out ≡ upTo s b i = rw opened (take-at (upTo s b i) (drop (dueOf b i) b) (dueOf b i) l) in
-      let size = opened-length s (recordOf b i) (omega (arith, p .octets, p .size)) in (
-        e ∙ rw (front, x .next, x .octets, x .header, up-to-next s b i) (simp append-assoc),
-        rw (up-to-next s b i, due-next b i, length-append, l, size, p .octets, w .place),
-      )
-
--- at last it is the opened block
-pub all-opened : (s b out : List ℕ) (n : ℕ) → Records b n → out ≡ upTo s b n ++ drop (dueOf b n) b → out ≡ openedBlock s b
-unfolding openedBlock
-all-opened s b out n r e = e ∙ rw (records-end b n r, drop-length, append-nil, ← r .count)
+  pub one-more : (g : List ℕ → ℕ) → sum 0 (i + 1) (addsBy near g s b) ≡ sum 0 i (addsBy near g s b) + addsBy near g s b i
+  one-more g = rw add-one (sum-suc 0 i (addsBy near g s b) ∙ rw zero-add)
 
 -- what acceptance of the call tells
 pub record Callable (s b : List ℕ) (m : ℕ) : Type 0 where
@@ -337,12 +272,7 @@ module _ (s b : List ℕ) (m : ℕ) where
 pub listing-found : (s b : List ℕ) → callDirectory (eqb (length b) (length b)) s b ≡ callDirectory true s b
 listing-found s b = rw (eq-eqb (length b) (length b) refl)
 
-module _ (s b out : List ℕ) where
-  pub opening-refused : (r : Refusal) → openVerdict s b (length out) ≡ Verdict.Refused r → withOutput (Denied r) out ≡ opening s b out
-  unfolding opening openingAfter
-  opening-refused r e = rw e
-
-  pub opening-done : openVerdict s b (length out) ≡ Accepted
-      → withOutput (OpenAnswer.Done (blockCount s b) (blockRuns s b) (expansions s)) (openedBlock s b) ≡ opening s b out
-  unfolding opening openingAfter
-  opening-done e = rw e
+pub opening-done : (s b out : List ℕ) → openVerdict s b (length out) ≡ Accepted
+    → withOutput (OpenAnswer.Done (blockCount s b) (blockRuns s b) (expansions s)) (openedBlock s b) ≡ opening s b out
+unfolding opening openingAfter
+opening-done s b out e = rw e

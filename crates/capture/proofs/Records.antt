@@ -17,7 +17,7 @@ use Rattle.refusal.specs.declared.Refusal.the-variants.{OutOfRange, BadDirector
 use Rattle.refusal.specs.declared.Verdict.{Verdict}
 use Rattle.refusal.specs.declared.Verdict.the-variants.{Accepted, Refused}
 use Rattle.records.specs.declared.header.Header.{Header}
-use Rattle.records.specs.Record.{recordOctets, recordHeader, payloadOf, sized}
+use Rattle.records.specs.Record.{headerOctets, recordOctets, recordHeader, payloadOf, sized}
 use Rattle.records.specs.Block.{mostRecords, recordsIn, offsetOf, lengthOf, endOf, dueOf, recordOf, headerFrom, recordFrom}
 use Rattle.records.proofs.Headers.{header-taken}
 use Rattle.capture.specs.Directory.{pairOf, sizeFits, withPair, pairsFrom, directoryOf}
@@ -81,6 +81,9 @@ placed b n i r h =
     let l = part-length b (offsetOf b i) (lengthOf b i) (w .inside) in
     let q = eqb-true _ _ (both-right _ _ (w .sizes)) in
     record { pair = omega (arith, r .sizes .pairs, r .count); inside = w .inside; octets = l; size = sym l ∙ q }
+
+pub header-there : (b : List ℕ) (n : ℕ) → Records b n → (i : ℕ) → i < n → headerOctets ≤ length (recordOf b i)
+header-there b n r i h = let p = placed b n i r h in omega (arith, p .octets, p .size)
 
 -- the payload of record i, as a part of the block
 payload-part : (b : List ℕ) (i : ℕ) → Placed b i

@@ -1,20 +1,19 @@
--- Laws of an opened block: each record stands in its place, and opened again it stays as it is. Assumes nothing.
+-- Laws of an opened block: its records are clear, and opened again it stays as it is. Assumes nothing.
 use mathlib.Core.Path.{_≡_, refl, sym, ap, _∙_}
 use mathlib.Core.Bool.{true, false}
-use mathlib.Core.List.{List, _++_, append-assoc}
-use Prim.Native.Nat.{ℕ, zero, suc, _+_, _-_, _*_, _≤_, _<_}
-use native.Mathlib.Nat.{add-zero, zero-add, add-suc, suc-add}
-use native.Mathlib.Numerals.{add-one}
+use mathlib.Core.List.{List, _++_}
+use Prim.Native.Nat.{ℕ, zero, suc, _+_, _*_, _≤_, _<_}
+use native.Mathlib.Nat.{zero-add}
 use native.Mathlib.Omega.{arith}
-use lib.ListN.{length, take, set, getD, length-append, length-take, length-set, List·getD-append}
-use lib.Seq.{take-at, drop-at, getD-take, getD-set-same, getD-set-other, length-take-le}
+use lib.ListN.{length, take, set, getD, length-take, length-set, List·getD-append}
+use lib.Seq.{getD-take, getD-set-same, getD-set-other}
 use borrow.Author.Tests.{eqb-true, eq-eqb}
 use Rattle.octets.specs.BigEndian.{numberAt}
 use Rattle.octets.specs.Bits.{bitOf, lowCleared}
 use Rattle.octets.specs.Choice.{both, either, pick}
 use Rattle.octets.specs.Lists.{part, sum}
 use Rattle.octets.proofs.BigEndian.{number-same}
-use Rattle.octets.proofs.Choice.{both-left, both-right, both-true, not-of-true, pick-true}
+use Rattle.octets.proofs.Choice.{both-left, both-right, both-true, not-of-true}
 use Rattle.octets.proofs.Lists.{sum-ext}
 use Rattle.octets.specs.Output.{withOutput}
 use Rattle.refusal.specs.declared.Refusal.the-variants.{BadLength}
@@ -26,91 +25,22 @@ use Rattle.sealing.specs.Payload.{sealed}
 use Rattle.records.specs.declared.header.Header.{Header}
 use Rattle.records.specs.declared.header.RecordVerdict.{RecordVerdict}
 use Rattle.records.specs.declared.header.RecordVerdict.the-variants.{Clear, Sealed}
-use Rattle.capture.specs.declared.directory.Pair.the-variants.{Fits}
 use Rattle.capture.specs.declared.directory.Directory.the-variants.{Good}
 use Rattle.capture.specs.declared.opening.OpenAnswer.the-variants.{Done}
 use Rattle.octets.proofs.Bits.{bit-below}
 use Rattle.envelope.specs.ControlMask.{countEnciphered, runs}
 use Rattle.records.specs.Settings.{keyOf, presenceOf, llidOf, settingsVerdict}
 use Rattle.records.specs.Record.{recordHeader, payloadOf, sized}
-use Rattle.records.specs.Block.{recordsIn, offsetOf, lengthOf, endOf, dueOf, recordOf}
-use Rattle.capture.specs.Directory.{chained, pairOf, sizeFits, directoryOf}
+use Rattle.records.specs.Block.{recordsIn, offsetOf, lengthOf, recordOf}
+use Rattle.capture.specs.Directory.{directoryOf}
 use Rattle.records.specs.Verdict.{encEnabled, clearedFlags, flagsFit, headerFits, recordVerdict, verdictFor, verdictOf}
 use Rattle.capture.specs.Opening.{recordNonce, cleared, writtenAs, openedRecord, recordAdds, openedFrom, openedBlock, blockAdds, expansions, openVerdict, opening}
 use Rattle.capture.specs.Claims.{Opened}
-use Rattle.capture.proofs.Pairs.{pair-fits, due-next}
-use Rattle.capture.proofs.Records.{Records, all-fit, good, placed, records-end}
+use Rattle.capture.specs.Rebuilt.{joined, rebuilt}
+use Rattle.capture.proofs.Records.{Records, good, header-there}
+use Rattle.capture.proofs.Rebuilding.{same-octets, same-directory, same-count, own-record, record-is, good-again, rebuilt-again, rebuilt-ext}
 use Rattle.records.proofs.Verdicts.{Openable, openable, by-key, is-clear}
-use Rattle.capture.proofs.Openings.{upTo, none-opened, up-to-next, opened-length, clear-record, refused-record, callable, opening-done}
-
--- ---- each record in its place
-from-split : (s b : List ℕ) (j m k : ℕ) → openedFrom s b j (m + k) ≡ openedFrom s b j m ++ openedFrom s b (j + m) k
-unfolding openedFrom
-from-split s b j zero k = rw (zero-add, add-zero)
-from-split s b j (suc m) k =
-    rw (suc-add, append-assoc) (ap (λ (t : List ℕ). openedRecord s (recordOf b j) ++ t) (from-split s b (suc j) m k ∙ rw (suc-add, add-suc)))
-
-module _ (s b : List ℕ) (n : ℕ) (r : Records b n) where
-  up-to-length : (i : ℕ) → i ≤ n → length (upTo s b i) ≡ dueOf b i
-  unfolding endOf
-  up-to-length zero h = none-opened s b (r .sizes .pairs) .1
-  up-to-length (suc i) h =
-      let p = placed b n i r (omega arith) in
-      let w = pair-fits b i (r .fit i (omega arith)) in
-      let l = opened-length s (recordOf b i) (omega (arith, p .octets, p .size)) in
-      let q = up-to-length i (omega arith) in
-      rw (← add-one i, up-to-next s b i, length-append, q, l, p .octets, ← w .place, due-next b i)
-
-  block-is : openedBlock s b ≡ upTo s b n
-  unfolding openedBlock
-  block-is = rw (r .count)
-
-  pub opened-octets : length (openedBlock s b) ≡ length b
-  opened-octets = ap length block-is ∙ up-to-length n (omega arith) ∙ records-end b n r
-
-  -- the octets of the directory stay
-  pub same-directory : take (2 + 8 * n) (openedBlock s b) ≡ take (2 + 8 * n) b
-  unfolding openedBlock
-  same-directory =
-      rw (← r .count) (take-at (take (2 + 8 * n) b) (openedFrom s b 0 n) (2 + 8 * n) (length-take-le (2 + 8 * n) b (omega (arith, r .sizes .pairs, r .count))))
-
-  same-octet : (p : ℕ) → p < 2 + 8 * n → getD (openedBlock s b) p 0 ≡ getD b p 0
-  same-octet p h =
-      sym (getD-take (2 + 8 * n) (openedBlock s b) p 0 h) ∙ ap (λ (t : List ℕ). getD t p 0) same-directory ∙ getD-take (2 + 8 * n) b p 0 h
-
-  -- so do its numbers
-  same-number : (k at : ℕ) → at + k ≤ 2 + 8 * n → numberAt k (openedBlock s b) at ≡ numberAt k b at
-  same-number k at h = number-same k (openedBlock s b) b at at (λ j l. same-octet (at + j) (omega arith))
-
-  same-count : recordsIn (openedBlock s b) ≡ recordsIn b
-  unfolding recordsIn
-  same-count = same-number 2 0 (omega arith)
-
-  module _ (i : ℕ) (h : i < n) where
-    same-offset : offsetOf (openedBlock s b) i ≡ offsetOf b i
-    unfolding offsetOf
-    same-offset = same-number 4 (2 + 8 * i) (omega arith)
-
-    same-length : lengthOf (openedBlock s b) i ≡ lengthOf b i
-    unfolding lengthOf
-    same-length = same-number 4 (2 + 8 * i + 4) (omega arith)
-
-    -- record i of the opened block is record i, opened
-    pub own-record : part (openedBlock s b) (offsetOf b i) (lengthOf b i) ≡ openedRecord s (recordOf b i)
-    unfolding openedFrom
-    own-record =
-        let w = pair-fits b i (r .fit i h) in
-        let p = placed b n i r h in
-        let m = n - suc i in
-        let e : n ≡ i + suc m = omega arith in
-        let l = opened-length s (recordOf b i) (omega (arith, p .octets, p .size)) ∙ p .octets in
-        let split : openedBlock s b ≡ upTo s b i ++ (openedRecord s (recordOf b i) ++ openedFrom s b (suc i) m) =
-        block-is ∙ ap (λ (k : ℕ). upTo s b k) e ∙ rw (from-split s b 0 i (suc m), zero-add) (simp append-assoc) in
-        rw (split, w .place, drop-at (upTo s b i) _ (dueOf b i) (up-to-length i (omega arith))) (take-at (openedRecord s (recordOf b i)) _ (lengthOf b i) l)
-
-    opened-record : recordOf (openedBlock s b) i ≡ openedRecord s (recordOf b i)
-    unfolding recordOf
-    opened-record = rw (same-offset, same-length) own-record
+use Rattle.capture.proofs.Openings.{opened-length, clear-record, refused-record, callable, opening-done}
 
 -- ---- an opened record is clear
 withFlags : Header → ℕ → Header
@@ -209,68 +139,56 @@ no-sum : (i n : ℕ) → sum i n (λ (j : ℕ). 0) ≡ 0
 no-sum i zero = refl
 no-sum i (suc n) = rw zero-add (no-sum (suc i) n)
 
-made : (s b : List ℕ) → openedBlock s b ≡ take (2 + 8 * recordsIn b) b ++ openedFrom s b 0 (recordsIn b)
-unfolding openedBlock
-made s b = refl
+-- the opened block is the block with each record opened
+abbrev openedIn : List ℕ → List ℕ → ℕ → List ℕ
+openedIn s b i = openedRecord s (recordOf b i)
+
+from-is : (s b : List ℕ) (i m : ℕ) → openedFrom s b i m ≡ joined (openedIn s b) i m
+unfolding openedFrom joined
+from-is s b i zero = refl
+from-is s b i (suc m) = ap (λ (t : List ℕ). openedIn s b i ++ t) (from-is s b (suc i) m)
+
+pub opened-is : (s b : List ℕ) → openedBlock s b ≡ rebuilt (openedIn s b) b
+unfolding openedBlock rebuilt
+opened-is s b = ap (λ (t : List ℕ). take (2 + 8 * recordsIn b) b ++ t) (from-is s b 0 (recordsIn b))
 
 module _ (s b : List ℕ) (n : ℕ) (r : Records b n) where
-  header-there : (i : ℕ) → i < n → 16 ≤ length (recordOf b i)
-  header-there i h = let p = placed b n i r h in omega (arith, p .octets, p .size)
+  sizes : (i : ℕ) → i < n → length (openedIn s b i) ≡ length (recordOf b i)
+  sizes i h = opened-length s (recordOf b i) (header-there b n r i h)
 
-  same-end : (i : ℕ) → i < n → endOf (openedBlock s b) i ≡ endOf b i
-  unfolding endOf
-  same-end i h = rw (same-offset s b n r i h, same-length s b n r i h)
+  there : (i : ℕ) → i < n → recordOf (openedBlock s b) i ≡ openedIn s b i
+  there i h = ap (λ (t : List ℕ). recordOf t i) (opened-is s b) ∙ record-is (openedIn s b) b n r sizes i h
 
-  same-due : (i : ℕ) → i < n → dueOf (openedBlock s b) i ≡ dueOf b i
-  unfolding dueOf
-  same-due zero h = rw (same-count s b n r)
-  same-due (suc i) h = same-end i (omega arith)
+  opened-count : recordsIn (openedBlock s b) ≡ recordsIn b
+  opened-count = ap recordsIn (opened-is s b) ∙ same-count (openedIn s b) b n r sizes
 
-  fits-again : (i : ℕ) → i < n → pairOf (openedBlock s b) i ≡ Fits
-  unfolding pairOf chained
-  fits-again i h =
-      rw (
-        same-offset s b n r i h,
-        same-due i h,
-        same-end i h,
-        same-count s b n r,
-        opened-octets s b n r,
-        opened-record s b n r i h,
-        same-sized s (recordOf b i) (header-there i h),
-      )
-      (r .fit i h)
+  opened-octets : length (openedBlock s b) ≡ length b
+  opened-octets = ap length (opened-is s b) ∙ same-octets (openedIn s b) b n r sizes
 
-  right-again : sizeFits (openedBlock s b) ≡ true
-  unfolding sizeFits
-  right-again = rw (same-count s b n r, opened-octets s b n r) (r .right)
-
-  good-again : directoryOf (openedBlock s b) ≡ Good n
-  unfolding directoryOf
-  good-again =
-      pick-true _ _ right-again
-      ∙ rw (same-count s b n r, ← r .count) (all-fit (openedBlock s b) 0 n (λ j l h. fits-again j (omega arith)) ∙ rw zero-add)
-
-  from-again : (i m : ℕ) → i + m ≤ n → openedFrom s (openedBlock s b) i m ≡ openedFrom s b i m
-  unfolding openedFrom
-  from-again i zero h = refl
-  from-again i (suc m) h =
-      rw (opened-record s b n r i (omega arith), record-again s (recordOf b i) (header-there i (omega arith)) .0, from-again (suc i) m (omega arith))
+  opened-good : directoryOf (openedBlock s b) ≡ Good n
+  opened-good =
+      ap directoryOf (opened-is s b)
+      ∙ good-again (openedIn s b) b n r sizes (λ i h. same-sized s (recordOf b i) (header-there b n r i h))
 
   block-again : openedBlock s (openedBlock s b) ≡ openedBlock s b
   block-again =
-      made s (openedBlock s b)
-      ∙ rw (same-count s b n r, ← r .count, same-directory s b n r, from-again 0 n (omega arith))
-      (rw (r .count) (sym (made s b)))
+      let f = openedIn s b in
+      opened-is s (openedBlock s b)
+      ∙ ap (rebuilt (openedIn s (openedBlock s b))) (opened-is s b)
+      ∙ rebuilt-again f b n r sizes (openedIn s (openedBlock s b))
+      ∙ rebuilt-ext (openedIn s (openedBlock s b)) f b
+      (λ i h. let l : i < n = omega (arith, r .count) in ap (openedRecord s) (there i l) ∙ record-again s (recordOf b i) (header-there b n r i l) .0)
+      ∙ sym (opened-is s b)
 
   nothing-again : (g : List ℕ → ℕ) → blockAdds g s (openedBlock s b) ≡ 0
   unfolding blockAdds
   nothing-again g =
-      rw (same-count s b n r, ← r .count)
+      rw (opened-count, ← r .count)
       (sum-ext 0 n (λ j. recordAdds g s (recordOf (openedBlock s b) j)) (λ (j : ℕ). 0)
-      (λ j l h. rw (opened-record s b n r j (omega arith)) (record-again s (recordOf b j) (header-there j (omega arith)) .1 g))
+      (λ j l h. rw (there j (omega arith)) (record-again s (recordOf b j) (header-there b n r j (omega arith)) .1 g))
       ∙ no-sum 0 n)
 
-accepts-again : (s b : List ℕ) (m n : ℕ) → settingsVerdict s ≡ Accepted → m ≡ length b → directoryOf b ≡ Good n → openVerdict s b m ≡ Accepted
+pub accepts-again : (s b : List ℕ) (m n : ℕ) → settingsVerdict s ≡ Accepted → m ≡ length b → directoryOf b ≡ Good n → openVerdict s b m ≡ Accepted
 unfolding openVerdict andThen
 accepts-again s b m n t e d = refuse-passed _ BadLength _ (not-of-true (eq-eqb _ _ e)) ∙ rw (t, d)
 
@@ -279,17 +197,19 @@ pub opened : (s b : List ℕ) (size : ℕ) → openVerdict s b size ≡ Accepted
 unfolding expansions
 opened s b size v =
     let c = callable s b size v in
-    let r = good b (recordsIn b) (c .good) in
+    let n = recordsIn b in
+    let r = good b n (c .good) in
+    let f = openedIn s b in
     record {
-      directory = same-directory s b (recordsIn b) r;
-      own = λ i h. own-record s b (recordsIn b) r i h;
+      directory = ap (take (2 + 8 * n)) (opened-is s b) ∙ same-directory f b n r (sizes s b n r);
+      own = λ i h. ap (λ (t : List ℕ). part t (offsetOf b i) (lengthOf b i)) (opened-is s b) ∙ own-record f b n r (sizes s b n r) i h;
       again = λ out l. again out l (c .accepted) r;
       few = omega (arith, bit-below (presenceOf s) 0, bit-below (presenceOf s) 1);
     } where
       again : (out : List ℕ) → length out ≡ length b → settingsVerdict s ≡ Accepted → Records b (recordsIn b)
           → opening s (openedBlock s b) out ≡ withOutput (Done 0 0 (expansions s)) (openedBlock s b)
       again out l t r =
-          let g = good-again s b (recordsIn b) r in
+          let n = recordsIn b in
           sym (opening-done s (openedBlock s b) out
-          (accepts-again s (openedBlock s b) (length out) (recordsIn b) t (l ∙ sym (opened-octets s b (recordsIn b) r)) g))
-          ∙ rw (nothing-again s b (recordsIn b) r countEnciphered, nothing-again s b (recordsIn b) r runs, block-again s b (recordsIn b) r)
+          (accepts-again s (openedBlock s b) (length out) n t (l ∙ sym (opened-octets s b n r)) (opened-good s b n r)))
+          ∙ rw (nothing-again s b n r countEnciphered, nothing-again s b n r runs, block-again s b n r)

@@ -1,6 +1,6 @@
 -- What functions of this crate ask of each other: nothing here is part of a promise to a caller. Assumes nothing.
 use mathlib.Core.Path.{_≡_}
-use mathlib.Core.Bool.{true}
+use mathlib.Core.Bool.{Bool, true}
 use mathlib.Core.List.{List, _++_}
 use Prim.Native.Nat.{ℕ, _+_, _-_, _%_, _≤_, _<_}
 use lib.ListN.{length, take, drop}
@@ -19,7 +19,9 @@ use Rattle.capture.specs.declared.directory.Directory.the-variants.{Good
 use Rattle.capture.specs.declared.opening.Keys.{Keys}
 use Rattle.capture.specs.Directory.{directoryOf}
 use Rattle.capture.specs.declared.opening.Work.{Work}
-use Rattle.capture.specs.Opening.{addedAs, blockCount, blockRuns, writtenAs}
+use Rattle.capture.specs.declared.opening.Read.{Read}
+use Rattle.capture.specs.Opening.{addedAs, writtenAs}
+use Rattle.capture.specs.Reading.{driftBy, totalBy}
 
 -- r is what sealing or opening the payload p takes
 pub record Took (p : List ℕ) (r : Work) : Type 0 where
@@ -31,10 +33,12 @@ pub record TookAs (x : List ℕ) (v : RecordVerdict) (r : Work) : Type 0 where
   pub count : r .count ≡ addedAs countEnciphered x v
   pub runs : r .runs ≡ addedAs runs x v
 
--- what all records of a block add
-pub record TookAll (s b : List ℕ) (r : Work) : Type 0 where
-  pub count : r .count ≡ blockCount s b
-  pub runs : r .runs ≡ blockRuns s b
+-- what all records of a block came to
+pub record TookAll (near : Bool) (s b : List ℕ) (r : Read) : Type 0 where
+  pub count : r .count ≡ totalBy near countEnciphered s b
+  pub runs : r .runs ≡ totalBy near runs s b
+  pub smallest : r .smallest ≡ driftBy near s b (recordsIn b) .smallest
+  pub largest : r .largest ≡ driftBy near s b (recordsIn b) .largest
 
 -- pair i is one of n and goes from `from` to `to`, and its record is due at `due`
 pub record Due (b : List ℕ) (n i due from to : ℕ) : Type 0 where

@@ -5,4 +5,7 @@ pub mod Verdict
 pub mod Opening
 pub mod Claims
 pub mod Listing
+pub mod Rebuilt
+pub mod Reading
+pub mod Near
 pub mod Duties

@@ -3,4 +3,5 @@ pub mod directory;
 pub mod listing;
 pub mod opening;
 pub mod payload;
+mod reading;
 pub mod verdict;

@@ -1,20 +1,25 @@
 // The listing of a capture block: a heading, and a row for each record.
 ghost use mathlib.Core.Path.{_≡_};
+ghost use mathlib.Core.Bool.{true};
 ghost use mathlib.Core.List.{_++_};
 ghost use Prim.Native.Nat.{_+_, _≤_, _<_};
 ghost use lib.ListN.{length, take, drop};
-ghost use Rattle.records.specs.Verdict.{verdictFor};
 ghost use Rattle.rows.specs.Text.{textOf, rowOf};
-ghost use Rattle.capture.specs.Listing.{lineOctets, bodyOctets, rowsFrom, bodyOf, listingOf};
+ghost use Rattle.capture.specs.Listing.{lineOctets, bodyOctets, listingOf};
+ghost use Rattle.capture.specs.Rebuilt.{joined};
+ghost use Rattle.capture.specs.Reading.{rowBy, bodyBy, listingBy};
 ghost use Rattle.capture.specs.declared.directory.Directory.the-variants.{Good};
 ghost use Rattle.capture.specs.Directory.{directoryOf};
 use crate::directory::Directory;
+use crate::reading::hear_for;
 use crate::verdict::call_directory;
 use records::block::directory_octets;
 use records::block::header_from;
 use records::header::Header;
+use records::header::RecordVerdict;
 use records::header::record_octets;
 use records::header::verdict_for;
+use records::near::no_drift;
 use rows::Line;
 use rows::refused_row;
 use rows::row;
@@ -44,29 +49,39 @@ fn put_line(text: &mut [u8], at: usize, line: Line) -> usize
     append(text, at, &octets[..used])
 }
 
-// The row of the record with number k and the header h, numbers of at most four digits.
-fn put_row(settings: &[u8], text: &mut [u8], at: usize, k: u64, h: Header) -> usize
+// The row of the record with number k, the header h and the verdict on it, numbers of at most four digits.
+fn put_row(text: &mut [u8], at: usize, k: u64, h: Header, verdict: RecordVerdict) -> usize
     requires { ⌜ (k < 10000) × (h .eqs < 10000) × (at + lineOctets ≤ length (now text)) ⌝ }
     ensures { λ r. ⌜ (at ≤ r) × (r ≤ at + lineOctets) ⌝ }
-    ensures { λ r. ⌜ take r (now (text .exit)) ≡ take at (now (text .entry)) ++ rowOf k h (verdictFor (now (settings .entry)) h) ⌝ }
+    ensures { λ r. ⌜ take r (now (text .exit)) ≡ take at (now (text .entry)) ++ rowOf k h verdict ⌝ }
     ensures { λ r. ⌜ drop r (now (text .exit)) ≡ drop r (now (text .entry)) ⌝ }
 {
-    put_line(text, at, row(k, h, verdict_for(settings, h)))
+    put_line(text, at, row(k, h, verdict))
 }
 
-fn put_rows(settings: &[u8], block: &[u8], text: &mut [u8], at: usize, n: u16) -> usize
+fn put_rows(near: bool, settings: &[u8], block: &[u8], text: &mut [u8], at: usize, n: u16) -> usize
     requires { ⌜ directoryOf (now block) ≡ Good n ⌝ }
     requires { ⌜ at + bodyOctets ≤ length (now text) ⌝ }
     ensures { λ r. ⌜ (at ≤ r) × (r ≤ at + bodyOctets) ⌝ }
-    ensures { λ r. ⌜ take r (now (text .exit)) ≡ take at (now (text .entry)) ++ rowsFrom (now (settings .entry)) (now (block .entry)) 0 n ⌝ }
+    ensures { λ r. ⌜ take r (now (text .exit)) ≡ take at (now (text .entry)) ++ joined (rowBy near (now (settings .entry)) (now (block .entry))) 0 n ⌝ }
     ensures { λ r. ⌜ drop r (now (text .exit)) ≡ drop r (now (text .entry)) ⌝ }
 {
     let mut end = at;
     let mut from = directory_octets(n);
+    let mut drift = no_drift();
     let mut i = 0;
     while i < n {
         let h = header_from(block, from);
-        end = put_row(settings, text, end, i as u64 + 1, h);
+        let verdict = if near {
+            let heard = hear_for(settings, drift, h);
+            let next = heard.drift;
+            drift = next;
+            let taken = heard.verdict;
+            taken
+        } else {
+            verdict_for(settings, h)
+        };
+        end = put_row(text, end, i as u64 + 1, h, verdict);
         from += record_octets(h.eqs);
         i += 1;
     }
@@ -74,16 +89,26 @@ fn put_rows(settings: &[u8], block: &[u8], text: &mut [u8], at: usize, n: u16) -
 }
 
 // The rows of a block, or the number of the call's refusal.
-fn put_body(settings: &[u8], block: &[u8], text: &mut [u8], at: usize) -> usize
+fn put_body(near: bool, settings: &[u8], block: &[u8], text: &mut [u8], at: usize) -> usize
     requires { ⌜ at + bodyOctets ≤ length (now text) ⌝ }
     ensures { λ r. ⌜ (at ≤ r) × (r ≤ at + bodyOctets) ⌝ }
-    ensures { λ r. ⌜ take r (now (text .exit)) ≡ take at (now (text .entry)) ++ bodyOf (now (settings .entry)) (now (block .entry)) ⌝ }
+    ensures { λ r. ⌜ take r (now (text .exit)) ≡ take at (now (text .entry)) ++ bodyBy near (now (settings .entry)) (now (block .entry)) ⌝ }
     ensures { λ r. ⌜ drop r (now (text .exit)) ≡ drop r (now (text .entry)) ⌝ }
 {
     match call_directory(true, settings, block) {
         Directory::Bad(refusal) => put_line(text, at, refused_row(refusal)),
-        Directory::Good(n) => put_rows(settings, block, text, at, n),
+        Directory::Good(n) => put_rows(near, settings, block, text, at, n),
     }
+}
+
+fn list_by(near: bool, settings: &[u8], block: &[u8], text: &mut [u8; LISTING_OCTETS]) -> usize
+    ensures { λ r. ⌜ (r ≤ length (now (text .exit))) × (r ≡ length (take r (now (text .exit)))) ⌝ }
+    ensures { λ r. ⌜ take r (now (text .exit)) ≡ listingBy near (now (settings .entry)) (now (block .entry)) ⌝ }
+    ensures { λ r. ⌜ drop r (now (text .exit)) ≡ drop r (now (text .entry)) ⌝ }
+{
+    let heading = *b"no llid ch key eqs result\n";
+    let at = append(text, 0, &heading);
+    put_body(near, settings, block, text, at)
 }
 
 // Lists a block: the heading, then the rows, or the number of the call's refusal. Gives the length of the text; the octets
@@ -93,7 +118,14 @@ pub fn list(settings: &[u8], block: &[u8], text: &mut [u8; LISTING_OCTETS]) -> u
     ensures { λ r. ⌜ take r (now (text .exit)) ≡ listingOf (now (settings .entry)) (now (block .entry)) ⌝ }
     ensures { λ r. ⌜ drop r (now (text .exit)) ≡ drop r (now (text .entry)) ⌝ }
 {
-    let heading = *b"no llid ch key eqs result\n";
-    let at = append(text, 0, &heading);
-    put_body(settings, block, text, at)
+    list_by(false, settings, block, text)
+}
+
+// The same in the near way (02, C-18).
+pub fn list_near(settings: &[u8], block: &[u8], text: &mut [u8; LISTING_OCTETS]) -> usize
+    ensures { λ r. ⌜ (r ≤ length (now (text .exit))) × (r ≡ length (take r (now (text .exit)))) ⌝ }
+    ensures { λ r. ⌜ take r (now (text .exit)) ≡ listingBy true (now (settings .entry)) (now (block .entry)) ⌝ }
+    ensures { λ r. ⌜ drop r (now (text .exit)) ≡ drop r (now (text .entry)) ⌝ }
+{
+    list_by(true, settings, block, text)
 }

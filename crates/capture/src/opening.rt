@@ -11,12 +11,16 @@ ghost use Rattle.envelope.specs.Acceptance.{nonceFits};
 ghost use Rattle.sealing.specs.KeyExpansion.{keyExpansion};
 ghost use Rattle.sealing.specs.Payload.{sealed};
 ghost use Rattle.records.specs.Record.{headerOctets, flagsAt};
-ghost use Rattle.records.specs.Settings.{settingsKeys, presenceOf, keyPresent, keyOf};
+ghost use Rattle.records.specs.Settings.{presenceOf, keyPresent, keyOf};
 ghost use Rattle.records.specs.Block.{recordFrom};
-ghost use Rattle.capture.specs.Opening.{openedBlock, expansions, opening, openNumber, openPair, openCount, openRuns, openExpansions};
+ghost use Rattle.capture.specs.Opening.{expansions, opening, openNumber, openPair, openCount, openRuns, openExpansions};
+ghost use Rattle.capture.specs.Rebuilt.{rebuilt};
+ghost use Rattle.capture.specs.Reading.{recordBy, openingBy};
+ghost use Rattle.capture.specs.Near.{ReadsAsExact, NotEmpty};
 ghost use Rattle.capture.specs.Claims.{OpenedIfAccepted};
 ghost use Rattle.capture.specs.Duties.{Took, TookAs, TookAll, Span, Expanded, Ready, Settled, written, Copied};
 use crate::directory::Directory;
+use crate::reading::hear_for;
 use crate::verdict::call_directory;
 use envelope::Nonce;
 use envelope::seal_count;
@@ -30,6 +34,8 @@ use records::header::RecordVerdict;
 use records::header::cleared;
 use records::header::record_octets;
 use records::header::verdict_for;
+use records::near::no_drift;
+use records::near::signed;
 use records::settings::key;
 use records::settings::mac;
 use records::settings::presence;
@@ -50,10 +56,25 @@ struct Keys {
     pub second: RoundKeys,
 }
 
+// What a call in the near way answers, and its smallest and largest correction, each as the octet of a signed number.
+pub struct NearAnswer {
+    pub opened: OpenAnswer,
+    pub smallest: u8,
+    pub largest: u8,
+}
+
 // What opening took: the octets deciphered, and the runs of the cipher (02, C-17).
 struct Work {
     pub count: u64,
     pub runs: u64,
+}
+
+// What the records of a block came to: the steps are those of the smallest and the largest correction.
+struct Read {
+    pub count: u64,
+    pub runs: u64,
+    pub smallest: u8,
+    pub largest: u8,
 }
 
 // Opens the payload of the record from `from` to `to` into its place in the output, sets the flags there, and tells what that took.
@@ -126,33 +147,47 @@ fn open_as(
     }
 }
 
-// Opens the n records of an output that is a copy of the block, each where the one before it ends, and tells what they took.
-fn open_records(settings: &[u8], keys: Keys, block: &[u8], output: &mut [u8], n: u16) -> Work
+// Opens the n records of an output that is a copy of the block, each where the one before it ends, and tells what they came to.
+fn open_records(
+    near: bool,
+    settings: &[u8],
+    keys: Keys,
+    block: &[u8],
+    output: &mut [u8],
+    n: u16,
+) -> Read
     requires { ⌜ Copied (now settings) keys (now block) (now output) n ⌝ }
-    ensures { λ r. ⌜ TookAll (now (settings .entry)) (now (block .entry)) r ⌝ }
-    ensures { λ _. ⌜ now (output .exit) ≡ openedBlock (now (settings .entry)) (now (block .entry)) ⌝ }
+    ensures { λ r. ⌜ TookAll near (now (settings .entry)) (now (block .entry)) r ⌝ }
+    ensures { λ _. ⌜ now (output .exit) ≡ rebuilt (recordBy near (now (settings .entry)) (now (block .entry))) (now (block .entry)) ⌝ }
 {
     let mut count: u64 = 0;
     let mut runs: u64 = 0;
     let mut from = directory_octets(n);
+    let mut drift = no_drift();
     let mut i = 0;
     while i < n {
         let h = header_from(block, from);
-        let work = open_as(
-            settings,
-            keys,
-            block,
-            output,
-            from,
-            h,
-            verdict_for(settings, h),
-        );
+        let verdict = if near {
+            let heard = hear_for(settings, drift, h);
+            let next = heard.drift;
+            drift = next;
+            let taken = heard.verdict;
+            taken
+        } else {
+            verdict_for(settings, h)
+        };
+        let work = open_as(settings, keys, block, output, from, h, verdict);
         count += work.count;
         runs += work.runs;
         from += record_octets(h.eqs);
         i += 1;
     }
-    Work { count, runs }
+    Read {
+        count,
+        runs,
+        smallest: drift.smallest,
+        largest: drift.largest,
+    }
 }
 
 // Key i of the settings, expanded where it is present.
@@ -181,20 +216,44 @@ fn expansions(settings: &[u8]) -> u8
     octets::bit(present, 0) + octets::bit(present, 1)
 }
 
-// Opens a block into an output of its length. Each present key is expanded once.
+// Opens a block into an output of its length, in the near way or the usual one. Each present key is expanded once.
+fn open_by(near: bool, settings: &[u8], block: &[u8], output: &mut [u8]) -> NearAnswer
+    ensures { λ r. ⌜ withOutput r (now (output .exit)) ≡ openingBy near (now (settings .entry)) (now (block .entry)) (now (output .entry)) ⌝ }
+{
+    match call_directory(output.len() == block.len(), settings, block) {
+        Directory::Bad(refusal) => NearAnswer {
+            opened: OpenAnswer::Denied(refusal),
+            smallest: 0,
+            largest: 0,
+        },
+        Directory::Good(n) => {
+            let keys = expand_keys(settings);
+            octets::copy(block, output);
+            let read = open_records(near, settings, keys, block, output, n);
+            NearAnswer {
+                opened: OpenAnswer::Done(read.count, read.runs, expansions(settings)),
+                smallest: signed(read.smallest),
+                largest: signed(read.largest),
+            }
+        }
+    }
+}
+
+// Opens a block into an output of its length.
 pub fn open(settings: &[u8], block: &[u8], output: &mut [u8]) -> OpenAnswer
     ensures { λ r. ⌜ withOutput r (now (output .exit)) ≡ opening (now (settings .entry)) (now (block .entry)) (now (output .entry)) ⌝ }
     ensures { λ _. ⌜ OpenedIfAccepted (now (settings .entry)) (now (block .entry)) (length (now (output .entry))) ⌝ }
 {
-    match call_directory(output.len() == block.len(), settings, block) {
-        Directory::Bad(refusal) => OpenAnswer::Denied(refusal),
-        Directory::Good(n) => {
-            let keys = expand_keys(settings);
-            octets::copy(block, output);
-            let work = open_records(settings, keys, block, output, n);
-            OpenAnswer::Done(work.count, work.runs, expansions(settings))
-        }
-    }
+    open_by(false, settings, block, output).opened
+}
+
+// Opens a block into an output of its length, each record at the clock nearest to the one expected (02, C-18).
+pub fn open_near(settings: &[u8], block: &[u8], output: &mut [u8]) -> NearAnswer
+    ensures { λ r. ⌜ withOutput r (now (output .exit)) ≡ openingBy true (now (settings .entry)) (now (block .entry)) (now (output .entry)) ⌝ }
+    ensures { λ _. ⌜ ReadsAsExact (now (settings .entry)) (now (block .entry)) (now (output .entry)) ⌝ }
+    ensures { λ _. ⌜ NotEmpty ⌝ }
+{
+    open_by(true, settings, block, output)
 }
 
 // 0, or the refusal's number.

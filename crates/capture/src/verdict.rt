@@ -1,29 +1,41 @@
 // The verdicts on the records of a block: on one that is asked for by its number, from 1, and on all of them.
 ghost use mathlib.Core.Path.{_≡_};
+ghost use mathlib.Core.Bool.{true};
 ghost use lib.ListN.{length};
 ghost use Rattle.octets.specs.Output.{withOutput};
 ghost use Rattle.refusal.specs.declared.Verdict.the-variants.{Accepted};
 ghost use Rattle.records.specs.Settings.{settingsVerdict};
-ghost use Rattle.records.specs.Verdict.{recordNumber, verdictFor};
 ghost use Rattle.records.specs.Block.{mostRecords};
 ghost use Rattle.capture.specs.declared.directory.Directory.the-variants.{Good};
 ghost use Rattle.capture.specs.Directory.{directoryOf};
-ghost use Rattle.capture.specs.Verdict.{verdictAsked, callDirectory, numbersOver, verdictsOf};
+ghost use Rattle.capture.specs.Verdict.{verdictAsked, callDirectory, verdictsOf};
+ghost use Rattle.capture.specs.Reading.{driftBy, askedBy, numbersBy, judgingBy};
 use crate::directory::Directory;
 use crate::directory::check;
 use crate::payload::payload_verdict;
+use crate::reading::hear_for;
+use crate::reading::near_verdict;
 use records::block::MOST_RECORDS;
 use records::block::directory_octets;
 use records::block::header_at;
 use records::block::header_from;
-use records::header::Header;
 use records::header::RecordVerdict;
 use records::header::number;
 use records::header::record_octets;
 use records::header::verdict_for;
+use records::near::Drift;
+use records::near::no_drift;
+use records::near::signed;
 use records::settings::settings_verdict;
 use refusal::Refusal;
 use refusal::Verdict;
+
+// What the call on all records finds in the near way, and its smallest and largest correction, each as the octet of a signed number.
+pub struct NearVerdicts {
+    pub directory: Directory,
+    pub smallest: u8,
+    pub largest: u8,
+}
 
 // What a call finds: whether the output that it was lent suits, then the settings, then the directory.
 pub(crate) fn call_directory(suits: bool, settings: &[u8], block: &[u8]) -> Directory
@@ -51,25 +63,64 @@ pub fn ask(settings: &[u8], block: &[u8], k: usize) -> RecordVerdict
     }
 }
 
-fn verdict_number(settings: &[u8], h: Header) -> u8
-    ensures { λ r. ⌜ r ≡ recordNumber (verdictFor (now (settings .entry)) h) ⌝ }
+// The same in the near way (02, C-18).
+pub fn ask_near(settings: &[u8], block: &[u8], k: usize) -> RecordVerdict
+    ensures { λ r. ⌜ r ≡ askedBy true (now (settings .entry)) (now (block .entry)) k ⌝ }
 {
-    number(verdict_for(settings, h))
+    if let Verdict::Refused(refusal) = settings_verdict(settings) {
+        return RecordVerdict::Refused(refusal);
+    }
+    match payload_verdict(block, k) {
+        Verdict::Refused(refusal) => RecordVerdict::Refused(refusal),
+        Verdict::Accepted => near_verdict(settings, block, (k - 1) as u16),
+    }
 }
 
-// Writes the numbers of the verdicts on the n records of a block, one after the other.
-fn put_numbers(settings: &[u8], block: &[u8], output: &mut [u8], n: u16)
+// Writes the numbers of the verdicts on the n records of a block, one after the other, and gives the corrections behind them.
+fn put_numbers(near: bool, settings: &[u8], block: &[u8], output: &mut [u8], n: u16) -> Drift
     requires { ⌜ (settingsVerdict (now settings) ≡ Accepted) × (directoryOf (now block) ≡ Good n) ⌝ }
     requires { ⌜ length (now output) ≡ mostRecords ⌝ }
-    ensures { λ _. ⌜ now (output .exit) ≡ numbersOver (now (settings .entry)) (now (block .entry)) n (now (output .entry)) ⌝ }
+    ensures { λ r. ⌜ r ≡ driftBy near (now (settings .entry)) (now (block .entry)) n ⌝ }
+    ensures { λ _. ⌜ now (output .exit) ≡ numbersBy near (now (settings .entry)) (now (block .entry)) n (now (output .entry)) ⌝ }
 {
     let mut from = directory_octets(n);
+    let mut drift = no_drift();
     let mut i = 0;
     while i < n {
         let h = header_from(block, from);
-        output[i as usize] = verdict_number(settings, h);
+        let verdict = if near {
+            let heard = hear_for(settings, drift, h);
+            let next = heard.drift;
+            drift = next;
+            let taken = heard.verdict;
+            taken
+        } else {
+            verdict_for(settings, h)
+        };
+        output[i as usize] = number(verdict);
         from += record_octets(h.eqs);
         i += 1;
+    }
+    drift
+}
+
+fn verdicts_by(near: bool, settings: &[u8], block: &[u8], output: &mut [u8]) -> NearVerdicts
+    ensures { λ r. ⌜ withOutput r (now (output .exit)) ≡ judgingBy near (now (settings .entry)) (now (block .entry)) (now (output .entry)) ⌝ }
+{
+    match call_directory(output.len() == MOST_RECORDS as usize, settings, block) {
+        Directory::Bad(refusal) => NearVerdicts {
+            directory: Directory::Bad(refusal),
+            smallest: 0,
+            largest: 0,
+        },
+        Directory::Good(n) => {
+            let drift = put_numbers(near, settings, block, output, n);
+            NearVerdicts {
+                directory: Directory::Good(n),
+                smallest: signed(drift.smallest),
+                largest: signed(drift.largest),
+            }
+        }
     }
 }
 
@@ -78,11 +129,12 @@ fn put_numbers(settings: &[u8], block: &[u8], output: &mut [u8], n: u16)
 pub fn verdicts(settings: &[u8], block: &[u8], output: &mut [u8]) -> Directory
     ensures { λ r. ⌜ withOutput r (now (output .exit)) ≡ verdictsOf (now (settings .entry)) (now (block .entry)) (now (output .entry)) ⌝ }
 {
-    match call_directory(output.len() == MOST_RECORDS as usize, settings, block) {
-        Directory::Bad(refusal) => Directory::Bad(refusal),
-        Directory::Good(n) => {
-            put_numbers(settings, block, output, n);
-            Directory::Good(n)
-        }
-    }
+    verdicts_by(false, settings, block, output).directory
+}
+
+// The same in the near way (02, C-18).
+pub fn verdicts_near(settings: &[u8], block: &[u8], output: &mut [u8]) -> NearVerdicts
+    ensures { λ r. ⌜ withOutput r (now (output .exit)) ≡ judgingBy true (now (settings .entry)) (now (block .entry)) (now (output .entry)) ⌝ }
+{
+    verdicts_by(true, settings, block, output)
 }

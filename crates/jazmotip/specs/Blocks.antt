@@ -11,10 +11,14 @@ use Rattle.records.specs.Verdict.{recordNumber, recordPair}
 use Rattle.capture.specs.Payload.{boundsNumber, boundsPair, boundsOffset, boundsLength}
 use Rattle.capture.specs.Opening.{openNumber, openPair, openCount, openRuns, openExpansions}
 use Rattle.capture.specs.declared.opening.OpenAnswer.{OpenAnswer}
+use Rattle.capture.specs.declared.opening.NearAnswer.{NearAnswer}
+use Rattle.capture.specs.declared.verdict.NearVerdicts.{NearVerdicts}
 use Rattle.jazmotip.specs.declared.blocks.BlockDirectory.{BlockDirectory}
 use Rattle.jazmotip.specs.declared.blocks.BlockVerdict.{BlockVerdict}
 use Rattle.jazmotip.specs.declared.blocks.BlockPart.{BlockPart}
 use Rattle.jazmotip.specs.declared.blocks.BlockAnswer.{BlockAnswer}
+use Rattle.jazmotip.specs.declared.near_blocks.BlockNearAnswer.{BlockNearAnswer}
+use Rattle.jazmotip.specs.declared.near_blocks.BlockNearVerdicts.{BlockNearVerdicts}
 
 abbrev pub blockDirectory : Directory → BlockDirectory
 blockDirectory (Good n) = record { number = 0; pair = 0; records = n }
@@ -37,3 +41,12 @@ blockAnswer a = record { number = openNumber a; expansions = openExpansions a; p
 
 abbrev pub openedInNumbers : WithOutput OpenAnswer → WithOutput BlockAnswer
 openedInNumbers o = withOutput (blockAnswer (o .answer)) (o .output)
+
+-- in the near way (02, C-18), with the smallest and the largest correction
+abbrev pub nearlyOpened : WithOutput NearAnswer → WithOutput BlockNearAnswer
+nearlyOpened o =
+    withOutput (record { answer = blockAnswer (o .answer .opened); smallest = o .answer .smallest; largest = o .answer .largest }) (o .output)
+
+abbrev pub nearlyJudged : WithOutput NearVerdicts → WithOutput BlockNearVerdicts
+nearlyJudged o =
+    withOutput (record { directory = blockDirectory (o .answer .directory); smallest = o .answer .smallest; largest = o .answer .largest }) (o .output)

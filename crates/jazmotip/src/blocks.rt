@@ -12,11 +12,12 @@ ghost use Rattle.capture.specs.Payload.{payloadBounds, payloadPart};
 ghost use Rattle.capture.specs.Opening.{opening};
 ghost use Rattle.capture.specs.Claims.{OpenedIfAccepted};
 ghost use Rattle.capture.specs.Listing.{listingOf};
-ghost use Rattle.jazmotip.specs.Blocks.{blockDirectory, blockVerdict, blockPart, judgedInNumbers, openedInNumbers};
+ghost use Rattle.jazmotip.specs.Blocks.{blockDirectory, blockVerdict, blockPart, blockAnswer, judgedInNumbers, openedInNumbers};
 use capture::directory::Directory;
 use capture::directory::check;
 use capture::listing::LISTING_OCTETS;
 use capture::listing::list;
+use capture::opening::OpenAnswer;
 use capture::opening::keys_expanded;
 use capture::opening::octets_opened;
 use capture::opening::open;
@@ -66,7 +67,7 @@ pub struct BlockAnswer {
     pub runs: u64,
 }
 
-fn directory_in_numbers(directory: Directory) -> BlockDirectory
+pub(crate) fn directory_in_numbers(directory: Directory) -> BlockDirectory
     ensures { λ r. ⌜ r ≡ blockDirectory directory ⌝ }
 {
     match directory {
@@ -83,7 +84,7 @@ fn directory_in_numbers(directory: Directory) -> BlockDirectory
     }
 }
 
-fn verdict_in_numbers(verdict: RecordVerdict) -> BlockVerdict
+pub(crate) fn verdict_in_numbers(verdict: RecordVerdict) -> BlockVerdict
     ensures { λ r. ⌜ r ≡ blockVerdict verdict ⌝ }
 {
     let number = records::header::number(verdict);
@@ -110,6 +111,18 @@ fn verdict_in_numbers(verdict: RecordVerdict) -> BlockVerdict
             pair,
             clock: 0,
         },
+    }
+}
+
+pub(crate) fn answer_in_numbers(answer: OpenAnswer) -> BlockAnswer
+    ensures { λ r. ⌜ r ≡ blockAnswer answer ⌝ }
+{
+    BlockAnswer {
+        number: capture::opening::number(answer),
+        expansions: keys_expanded(answer),
+        pair: capture::opening::pair(answer),
+        count: octets_opened(answer),
+        runs: capture::opening::runs(answer),
     }
 }
 
@@ -182,14 +195,7 @@ pub extern "C" fn jazmotip_capture_open(
     ensures { λ r. ⌜ withOutput r (now (output .exit)) ≡ openedInNumbers (opening (now (settings .entry)) (now (block .entry)) (now (output .entry))) ⌝ }
     ensures { λ _. ⌜ OpenedIfAccepted (now (settings .entry)) (now (block .entry)) (length (now (output .entry))) ⌝ }
 {
-    let answer = open(settings, block, output);
-    BlockAnswer {
-        number: capture::opening::number(answer),
-        expansions: keys_expanded(answer),
-        pair: capture::opening::pair(answer),
-        count: octets_opened(answer),
-        runs: capture::opening::runs(answer),
-    }
+    answer_in_numbers(open(settings, block, output))
 }
 
 // Lists a block, and gives the length of the text.

@@ -6,6 +6,7 @@ pub mod at_onu;
 pub mod blocks;
 pub mod exercises;
 pub mod key_exchange;
+pub mod near_blocks;
 pub mod payloads;
 pub mod stored;
 pub mod two_blocks;

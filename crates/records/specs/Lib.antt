@@ -3,3 +3,5 @@ pub mod Record
 pub mod Place
 pub mod Verdict
 pub mod Block
+pub mod Near
+pub mod Following

@@ -2,6 +2,7 @@
 // is made by tools/test_calls.py.
 mod block_calls;
 mod line;
+mod near_calls;
 mod olt_calls;
 mod onu_calls;
 mod payload_calls;
@@ -13,5 +14,6 @@ fn main() {
     line::play();
     payload_calls::play();
     block_calls::play();
+    near_calls::play();
     xgpon_calls::play();
 }

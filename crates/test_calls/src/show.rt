@@ -35,6 +35,16 @@ pub(crate) fn octet(value: u8) {
     decimal(wide(value));
 }
 
+// An octet of a signed number.
+pub(crate) fn signed(value: u8) {
+    if value < 128 {
+        octet(value);
+    } else {
+        io::write_all(STDOUT_FILENO, b" -");
+        io::print_decimal(STDOUT_FILENO, (255 - value) as u64 + 1);
+    }
+}
+
 pub(crate) fn begin(call: &[u8], number: u8) {
     name(call);
     octet(number);

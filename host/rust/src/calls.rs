@@ -171,6 +171,46 @@ pub fn capture_list(settings: &[u8], block: &[u8], text: &mut [u8; LISTING_OCTET
     unsafe { raw::jazmotip_capture_list(settings.as_ptr(), settings.len(), block.as_ptr(), block.len(), text.as_mut_ptr()) }
 }
 
+/// [`capture_verdict`] in the near way (02, C-18), with the same order of refusals.
+pub fn capture_verdict_near(settings: &[u8], block: &[u8], k: usize) -> BlockVerdict {
+    unsafe { raw::jazmotip_capture_verdict_near(settings.as_ptr(), settings.len(), block.as_ptr(), block.len(), k) }
+}
+
+/// [`capture_verdicts`] in the near way, with the same order of refusals.
+pub fn capture_verdicts_near(settings: &[u8], block: &[u8], output: &mut [u8]) -> BlockNearVerdicts {
+    unsafe {
+        raw::jazmotip_capture_verdicts_near(
+            settings.as_ptr(),
+            settings.len(),
+            block.as_ptr(),
+            block.len(),
+            output.as_mut_ptr(),
+            output.len(),
+        )
+    }
+}
+
+/// [`capture_open`] in the near way, with the same order of refusals.
+pub fn capture_open_near(settings: &[u8], block: &[u8], output: &mut [u8]) -> BlockNearAnswer {
+    unsafe {
+        raw::jazmotip_capture_open_near(
+            settings.as_ptr(),
+            settings.len(),
+            block.as_ptr(),
+            block.len(),
+            output.as_mut_ptr(),
+            output.len(),
+        )
+    }
+}
+
+/// [`capture_list`] in the near way.
+pub fn capture_list_near(settings: &[u8], block: &[u8], text: &mut [u8; LISTING_OCTETS]) -> usize {
+    unsafe {
+        raw::jazmotip_capture_list_near(settings.as_ptr(), settings.len(), block.as_ptr(), block.len(), text.as_mut_ptr())
+    }
+}
+
 /// 0 or 14.
 pub fn rearrange(payload: &[u8], output: &mut [u8]) -> u8 {
     unsafe { raw::jazmotip_rearrange(payload.as_ptr(), payload.len(), output.as_mut_ptr(), output.len()) }

@@ -1,9 +1,11 @@
 //! The capture reader with `Result`. Settings are 41 octets: presence (bit 0 key 0, bit 1 key 1), key 0 (16), key 1 (16), the
 //! sender's MAC (6), LLID (2). Records count from 1.
 
+pub mod near;
+
 use crate::calls;
 use crate::refusal::Refusal;
-use crate::{LISTING_OCTETS, RECORDS};
+use crate::{BlockAnswer, BlockVerdict, LISTING_OCTETS, RECORDS};
 
 /// The key and clock that a sealed record opens under.
 #[derive(Clone, Copy, Debug, PartialEq, Eq)]
@@ -31,7 +33,10 @@ pub fn records(block: &[u8]) -> Result<usize, Refusal> {
 
 /// Whether opening opens record `k`: under what, or `None` where it is clear.
 pub fn verdict(settings: &[u8], block: &[u8], k: usize) -> Result<Option<Opening>, Refusal> {
-    let verdict = calls::capture_verdict(settings, block, k);
+    opening(calls::capture_verdict(settings, block, k))
+}
+
+fn opening(verdict: BlockVerdict) -> Result<Option<Opening>, Refusal> {
     Refusal::block_verdict(verdict.number, verdict.pair)
         .map(|()| (verdict.encenabled == 1).then_some(Opening { enckey: verdict.enckey, clock: verdict.clock }))
 }
@@ -50,7 +55,10 @@ pub fn payload(block: &[u8], k: usize) -> Result<&[u8], Refusal> {
 
 /// Opens every record that can be into `output`, of the block's length, and copies the others; gives what that took.
 pub fn open(settings: &[u8], block: &[u8], output: &mut [u8]) -> Result<Opened, Refusal> {
-    let answer = calls::capture_open(settings, block, output);
+    opened(calls::capture_open(settings, block, output))
+}
+
+fn opened(answer: BlockAnswer) -> Result<Opened, Refusal> {
     Refusal::block_verdict(answer.number, answer.pair).map(|()| Opened {
         count: answer.count,
         runs: answer.runs,
@@ -62,5 +70,9 @@ pub fn open(settings: &[u8], block: &[u8], output: &mut [u8]) -> Result<Opened, 
 /// `refused 15`, or `refused 18 2` with the broken pair.
 pub fn list<'a>(settings: &[u8], block: &[u8], text: &'a mut [u8; LISTING_OCTETS]) -> &'a str {
     let length = calls::capture_list(settings, block, text);
-    core::str::from_utf8(&text[..length]).expect("a listing is plain ASCII")
+    self::text(&text[..length])
+}
+
+fn text(listing: &[u8]) -> &str {
+    core::str::from_utf8(listing).expect("a listing is plain ASCII")
 }

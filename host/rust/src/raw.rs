@@ -124,6 +124,36 @@ extern "C" {
         block_length: usize,
         text: *mut u8,
     ) -> usize;
+    pub fn jazmotip_capture_verdict_near(
+        settings: *const u8,
+        settings_length: usize,
+        block: *const u8,
+        block_length: usize,
+        k: usize,
+    ) -> BlockVerdict;
+    pub fn jazmotip_capture_verdicts_near(
+        settings: *const u8,
+        settings_length: usize,
+        block: *const u8,
+        block_length: usize,
+        output: *mut u8,
+        output_length: usize,
+    ) -> BlockNearVerdicts;
+    pub fn jazmotip_capture_open_near(
+        settings: *const u8,
+        settings_length: usize,
+        block: *const u8,
+        block_length: usize,
+        output: *mut u8,
+        output_length: usize,
+    ) -> BlockNearAnswer;
+    pub fn jazmotip_capture_list_near(
+        settings: *const u8,
+        settings_length: usize,
+        block: *const u8,
+        block_length: usize,
+        text: *mut u8,
+    ) -> usize;
 
     pub fn jazmotip_rearrange(payload: *const u8, payload_length: usize, output: *mut u8, output_length: usize) -> u8;
     pub fn jazmotip_restore(payload: *const u8, payload_length: usize, output: *mut u8, output_length: usize) -> u8;

@@ -4,9 +4,9 @@
 use crate::captures::answers;
 use crate::captures::blocks::{random_block, settings};
 use crate::random::cases;
-use crate::reference::capture;
+use crate::reference::capture::{self, Way};
 use crate::xgpon;
-use jazmotip::{BlockAnswer, BlockDirectory, BlockPart, BlockVerdict};
+use jazmotip::{BlockAnswer, BlockDirectory, BlockNearAnswer, BlockPart, BlockVerdict};
 use std::fmt::Write as _;
 use std::io::Write as _;
 use std::path::{Path, PathBuf};
@@ -71,6 +71,7 @@ fn nothing_is_null_with_length_0() {
                     verdicts: 14 15\n\
                     payload: 15\n\
                     open: 14 15 14\n\
+                    open near: 14 15 14\n\
                     rearrange: 15 14\n\
                     restore: 15 14\n\
                     list: no llid ch key eqs result\nrefused 14\n";
@@ -81,13 +82,17 @@ fn nothing_is_null_with_length_0() {
 
 /// What `capture` must print.
 fn capture_text(settings: &[u8], block: &[u8]) -> String {
-    let mut text = capture::listing(settings, block);
+    let mut text = capture::listing(settings, block, Way::Usual);
     let BlockDirectory { number, pair, records } = answers::directory(block);
     writeln!(text, "directory {number} pair {pair} records {records}").expect("text");
-    let (BlockAnswer { number, expansions, pair, count, runs }, _) = answers::open(settings, block, block.len());
+    let (usual, _) = answers::open(settings, block, block.len(), Way::Usual);
+    let BlockAnswer { number, expansions, pair, count, runs } = usual.answer;
     writeln!(text, "open {number} pair {pair} count {count}\nruns {runs} expansions {expansions}").expect("text");
+    let (BlockNearAnswer { answer, smallest, largest }, _) = answers::open(settings, block, block.len(), Way::Near);
+    let (number, count) = (answer.number, answer.count);
+    writeln!(text, "open near {number} count {count} corrections {smallest} to {largest}").expect("text");
     for k in 1..=records {
-        let BlockVerdict { number, encenabled, enckey, clock, .. } = answers::verdict(settings, block, k);
+        let BlockVerdict { number, encenabled, enckey, clock, .. } = answers::verdict(settings, block, k, Way::Usual);
         let BlockPart { number: found, offset, length, .. } = answers::part(block, k);
         write!(text, "record {k}: {number} key {encenabled} {enckey} clock {clock} payload {found} {offset} {length}")
             .expect("text");

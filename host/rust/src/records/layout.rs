@@ -49,6 +49,8 @@ layout!(BlockDirectory, 16, number: 0, pair: 2, records: 8);
 layout!(BlockVerdict, 16, number: 0, encenabled: 1, enckey: 2, pair: 4, clock: 8);
 layout!(BlockPart, 24, number: 0, pair: 2, offset: 8, length: 16);
 layout!(BlockAnswer, 24, number: 0, expansions: 1, pair: 2, count: 8, runs: 16);
+layout!(BlockNearAnswer, 32, answer: 0, smallest: 24, largest: 25);
+layout!(BlockNearVerdicts, 24, directory: 0, smallest: 16, largest: 17);
 layout!(StoreAnswer, 4, number: 0, pair: 2);
 layout!(Comparison, 8, number: 0, block: 1, pair: 2, entries: 4, total: 6);
 layout!(Loss, 16, number: 0, step: 8);

@@ -80,6 +80,28 @@ pub struct BlockAnswer {
     pub runs: u64,
 }
 
+/// What opening a block in the near way gave (02, C-18).
+#[repr(C)]
+#[derive(Clone, Copy, Debug, Default, PartialEq, Eq)]
+pub struct BlockNearAnswer {
+    pub answer: BlockAnswer,
+    /// The smallest correction, -31 to 31; 0 where no header was past 1, 2 and 10, and on refusal.
+    pub smallest: i8,
+    /// The largest; 0 as well.
+    pub largest: i8,
+}
+
+/// What judging all records of a block in the near way gave (02, C-18).
+#[repr(C)]
+#[derive(Clone, Copy, Debug, Default, PartialEq, Eq)]
+pub struct BlockNearVerdicts {
+    pub directory: BlockDirectory,
+    /// The smallest correction, -31 to 31; 0 where no header was past 1, 2 and 10, and on refusal.
+    pub smallest: i8,
+    /// The largest; 0 as well.
+    pub largest: i8,
+}
+
 /// What rearranging or restoring a block gave.
 #[repr(C)]
 #[derive(Clone, Copy, Debug, Default, PartialEq, Eq)]

@@ -3,6 +3,7 @@
 pub mod answers;
 pub mod blocks;
 mod check;
+mod near;
 
 use crate::random::{cases, Random};
 use crate::reference::capture;

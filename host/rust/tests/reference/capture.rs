@@ -1,6 +1,7 @@
 //! The capture reader (01, Capture block). What is wrong with a directory is told as 02, C-11 has it: 15 for the sizes, then pair
 //! by pair 18 for the chain before 19 for the length.
 
+use super::near::NearClock;
 use super::{payload, refuse_if, Key, Passed, Reply, CLOCK};
 use std::fmt::{Display, Formatter, Write};
 use std::ops::Range;
@@ -96,34 +97,68 @@ pub fn settings(octets: &[u8]) -> Reply<Settings> {
     Ok(Settings { keys: [key(0), key(1)], mac: number(&octets[33..39]), llid: number(&octets[39..41]) as u16 })
 }
 
-/// What opening does with a record: `None` leaves it, being clear; else the index of the key and the key.
-pub fn judge(settings: &Settings, record: &Record) -> Reply<Option<(u8, Key)>> {
+/// How the receive clock is taken: as recorded, or known only nearly (02, C-18).
+#[derive(Clone, Copy, Debug, PartialEq, Eq)]
+pub enum Way {
+    Usual,
+    Near,
+}
+
+/// What opening does with a record: `None` leaves it, being clear; else the index of the key, the key and the clock.
+type Verdict = Reply<Option<(u8, Key, u64)>>;
+
+fn past_1_and_2(settings: &Settings, record: &Record) -> Reply<()> {
     let channel_known = record.channel & 0b0111_1110 == 0;
     let (enabled, enckey) = (record.flags & 1, record.flags >> 1 & 1);
     refuse_if(record.kind > 1 || !channel_known || record.flags > 3 || enckey > enabled, 1)?;
-    refuse_if(record.llid != settings.llid, 2)?;
-    refuse_if(u64::from(record.epam) != record.clock % 64, 10)?;
+    refuse_if(record.llid != settings.llid, 2)
+}
+
+fn under_key(settings: &Settings, record: &Record, clock: u64) -> Verdict {
+    let (enabled, enckey) = (record.flags & 1, record.flags >> 1 & 1);
     match enabled {
         0 => Ok(None),
-        _ => settings.keys[usize::from(enckey)].ok_or(9).map(|key| Some((enckey, key))),
+        _ => settings.keys[usize::from(enckey)].ok_or(9).map(|key| Some((enckey, key, clock))),
     }
 }
 
+fn judge_usual(settings: &Settings, record: &Record) -> Verdict {
+    past_1_and_2(settings, record)?;
+    refuse_if(u64::from(record.epam) != record.clock % 64, 10)?;
+    under_key(settings, record, record.clock % CLOCK)
+}
+
+fn judge_near(settings: &Settings, record: &Record, near: &mut NearClock) -> Verdict {
+    past_1_and_2(settings, record)?;
+    let (clock, correction) = near.taken(record).ok_or(10)?;
+    near.accept(record, correction);
+    under_key(settings, record, clock)
+}
+
+/// The verdicts on all records in their order, and the smallest and the largest correction.
+fn judge(settings: &Settings, records: &[Record], way: Way) -> (Vec<Verdict>, (i8, i8)) {
+    let mut near = NearClock::default();
+    let verdicts = records.iter().map(|record| match way {
+        Way::Usual => judge_usual(settings, record),
+        Way::Near => judge_near(settings, record, &mut near),
+    });
+    (verdicts.collect(), near.extremes())
+}
+
 /// The verdict on record `k`, asked for alone.
-pub fn verdict(octets: &[u8], block: &[u8], k: usize) -> Result<Option<(u8, u64)>, Refused> {
+pub fn verdict(octets: &[u8], block: &[u8], k: usize, way: Way) -> Result<Option<(u8, u64)>, Refused> {
     let settings = settings(octets)?;
     let records = directory(block)?;
     refuse_if(k < 1 || k > records.len(), 1)?;
-    let record = &records[k - 1];
-    Ok(judge(&settings, record)?.map(|(enckey, _)| (enckey, record.clock)))
+    Ok(judge(&settings, &records, way).0[k - 1]?.map(|(enckey, _, clock)| (enckey, clock)))
 }
 
-/// The numbers of the verdicts on all records, for an output of so many octets.
-pub fn verdicts(octets: &[u8], block: &[u8], output: usize) -> Result<Vec<u8>, Refused> {
+/// The numbers of the verdicts on all records, for an output of so many octets, and the corrections.
+pub fn verdicts(octets: &[u8], block: &[u8], output: usize, way: Way) -> Result<(Vec<u8>, (i8, i8)), Refused> {
     refuse_if(output != 256, 14)?;
     let settings = settings(octets)?;
-    let records = directory(block)?;
-    Ok(records.iter().map(|record| judge(&settings, record).err().unwrap_or(0)).collect())
+    let (verdicts, corrections) = judge(&settings, &directory(block)?, way);
+    Ok((verdicts.iter().map(|verdict| verdict.err().unwrap_or(0)).collect(), corrections))
 }
 
 /// The payload of record `k`, as bounds in the block.
@@ -139,19 +174,21 @@ pub struct Opened {
     pub count: u64,
     pub runs: u64,
     pub expansions: u8,
+    /// The smallest and the largest.
+    pub corrections: (i8, i8),
 }
 
-pub fn open(octets: &[u8], block: &[u8], output: usize) -> Result<Opened, Refused> {
+pub fn open(octets: &[u8], block: &[u8], output: usize, way: Way) -> Result<Opened, Refused> {
     refuse_if(octets.len() != 41 || output != block.len(), 14)?;
     let settings = settings(octets)?;
     let records = directory(block)?;
     let expansions = settings.keys.iter().flatten().count() as u8;
-    let mut opened = Opened { octets: block.to_vec(), count: 0, runs: 0, expansions };
-    for record in records {
-        if let Ok(Some((_, key))) = judge(&settings, &record) {
+    let (verdicts, corrections) = judge(&settings, &records, way);
+    let mut opened = Opened { octets: block.to_vec(), count: 0, runs: 0, expansions, corrections };
+    for (record, verdict) in records.into_iter().zip(verdicts) {
+        if let Ok(Some((_, key, clock))) = verdict {
             let sealed = &block[record.payload.clone()];
-            let Passed { octets, count, runs } =
-                payload::pass(&key, record.channel, settings.mac, record.clock % CLOCK, sealed);
+            let Passed { octets, count, runs } = payload::pass(&key, record.channel, settings.mac, clock, sealed);
             opened.octets[record.payload].copy_from_slice(&octets);
             opened.octets[record.offset + 4] &= 0b1111_1100;
             opened.count += count;
@@ -162,18 +199,19 @@ pub fn open(octets: &[u8], block: &[u8], output: usize) -> Result<Opened, Refuse
 }
 
 /// What the reader program prints.
-pub fn listing(octets: &[u8], block: &[u8]) -> String {
+pub fn listing(octets: &[u8], block: &[u8], way: Way) -> String {
     let mut text = String::from("no llid ch key eqs result\n");
     let read = settings(octets).map_err(Refused::from).and_then(|settings| Ok((settings, directory(block)?)));
     match read {
         Err(refusal) => writeln!(text, "refused {refusal}").expect("text"),
         Ok((settings, records)) => {
-            for (i, record) in records.iter().enumerate() {
+            let (verdicts, _) = judge(&settings, &records, way);
+            for (i, (record, verdict)) in records.iter().zip(verdicts).enumerate() {
                 let key = match record.flags & 1 {
                     0 => "-".to_string(),
                     _ => (record.flags >> 1 & 1).to_string(),
                 };
-                let result = match judge(&settings, record) {
+                let result = match verdict {
                     Ok(_) => "open".to_string(),
                     Err(refusal) => format!("refused {refusal}"),
                 };

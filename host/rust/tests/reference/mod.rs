@@ -5,6 +5,7 @@
 pub mod aes;
 pub mod capture;
 pub mod losses;
+pub mod near;
 pub mod olt;
 pub mod onu;
 pub mod payload;

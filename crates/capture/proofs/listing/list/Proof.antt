@@ -1,28 +1,10 @@
--- `capture::listing::list` meets its contract: the heading, then what stands behind it. Assumes nothing.
-use mathlib.Core.Path.{sym, ap, _∙_}
-use mathlib.Core.List.{List, _++_}
-use Prim.Native.Nat.{ℕ, _≤_}
-use native.Mathlib.Omega.{arith}
-use lib.ListN.{length}
-use lib.Seq.{length-take-le}
-use denote.Ref.{now}
-use Rattle.capture.specs.Listing.{bodyOf, listingOf}
-use Rattle.capture.proofs.Lines.{same-behind}
+-- `capture::listing::list` meets its contract: it lists in the usual way. Assumes nothing.
+use mathlib.Core.Path.{_∙_}
 use borrow.Author.Needs.{needs}
+use Rattle.capture.proofs.Readings.{listing-usual}
 use Rattle.capture.proofs.listing.list.Statement.{statement}
 use Rattle.capture.proofs.listing.list.Tie as tie
 
-returns : tie.Need-returns
-unfolding listingOf
-returns c =
-    let a = c .before .before .before .before .before .before .before .before .before .args in
-    let q = c .put-body .ensures in
-    let p = c .before .before .append .ensures in
-    let rest = bodyOf (now (a .settings)) (now (a .block)) in
-    let within : c .put-body .result ≤ length (c .put-body .last .1 .1 .0) = omega (arith, q .0 .1, p .0) in (
-      (within, sym (length-take-le _ _ within)),
-      (q .1 .0 ∙ ap (λ (t : List ℕ). t ++ rest) (p .1 .0), q .1 .1 ∙ same-behind _ _ _ _ (q .0 .0) (p .1 .1)),
-    )
-
 pub list-spec : {M : Type 1} → statement M
-list-spec = tie.close (tie.spec (λ c. search needs) (λ c κs. search needs) (λ c κs. search needs) returns)
+list-spec =
+    tie.close (tie.spec (λ c κs. search needs) (λ c. let q = c .list-by .ensures in (q .0, (q .1 .0 ∙ listing-usual _ _, q .1 .1))))

@@ -9,7 +9,7 @@ use borrow.Author.Needs.{needs}
 use denote.Ref.{now}
 use Rattle.rows.proofs.Lines.{refused-row-few}
 use Rattle.capture.specs.declared.directory.Directory.the-variants.{Good}
-use Rattle.capture.specs.Listing.{bodyAfter}
+use Rattle.capture.specs.Reading.{bodyAs}
 use Rattle.capture.specs.Verdict.{callDirectory}
 use Rattle.capture.proofs.Records.{good}
 use Rattle.capture.proofs.Openings.{call-good, found-bad, found-good, listing-found}
@@ -29,7 +29,7 @@ put-rows-requires : tie.Need-put-rows-requires
 put-rows-requires c κs = let x = c .before .before in (call-good _ _ _ _ (found x) .2, x .before .before .before .before .before .before .pre)
 
 returns : tie.Need-returns
-unfolding bodyAfter
+unfolding bodyAs
 returns c =
     let row = c .before .before .before in
     let x = row .before .before .before in
@@ -43,7 +43,7 @@ returns c =
     )
 
 returns-2 : tie.Need-returns-2
-unfolding bodyAfter
+unfolding bodyAs
 returns-2 c =
     let x = c .before .before .before .before .before in
     let a = x .before .before .before .before .before .before .args in

@@ -11,7 +11,7 @@ use Rattle.sealing.specs.Steps.{NextRun, blockSealed, sealedBelow}
 use lib.ListN.{length}
 use mathlib.Core.Bool.{true}
 use mathlib.Core.List.{List}
-use mathlib.Core.Path.{_≡_, refl, ap, sym, _∙_}
+use mathlib.Core.Path.{_≡_, refl, ap, _∙_}
 use native.Mathlib.Omega.{arith}
 use borrow.Author.Needs.{needs}
 use Rattle.sealing.proofs.counter_mode.seal_pairs.Statement.{statement}

@@ -20,8 +20,8 @@
  *     8 octets.
  *   - An output overlaps nothing else that is lent in the same call; to seal or open a payload where it lies there are calls of
  *     their own. No length is above PTRDIFF_MAX.
- *   - Stack: 16 KiB are enough for a call of the OLT and 4 KiB for any other, with what is handed over by value and without the
- *     place of the answer. host/bench/run measures each call.
+ *   - Stack: 16 KiB are enough for a call of the OLT, 32 KiB for jazmotip_first_loss and 4 KiB for any other, with what is handed
+ *     over by value and without the place of the answer. host/bench/run measures the calls of ends and capture blocks.
  *
  * Who owns what
  *   - The caller owns all memory. The engine keeps no pointer after a call returns.

@@ -104,6 +104,10 @@ CALL(payload, jazmotip_block_part, jazmotip_capture_payload(s->work->input, s->w
 CALL(open, jazmotip_block_answer,
      jazmotip_capture_open(work_settings, 41, s->work->input, s->work->length, s->work->output, s->work->length), 0)
 
+CALL(class_open, jazmotip_block_answer,
+     jazmotip_class_open(((jazmotip_caller){1, 1, 1}), work_settings, 41, (const uint8_t[]){3}, 1, s->work->input, s->work->length,
+                         s->work->output, s->work->length), 0)
+
 static void list(void *job)
 {
     static uint8_t text[JAZMOTIP_LISTING_OCTETS];
@@ -228,6 +232,7 @@ static void print_blocks(void)
     static const struct row rows[] = {
         {"directory", directory},
         {"open", open},
+        {"open for a user of a class", class_open},
         {"list", list},
     };
     nothing.work = &empty;

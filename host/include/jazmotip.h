@@ -2,8 +2,9 @@
  * jazmotip.h: the Jazmotip link engine, for firmware in C.
  *
  * Seals and opens the payloads of SIEPON.4 envelopes (AES-128 in counter mode under the control mask), plays either end of a
- * 25G/50G EPON line, opens capture blocks, for one reader or a class, rearranges payloads for the store, and keeps the OLT's key exchange of an XG-PON line. Link
- * with libjazmotip.a, which needs two functions from outside, memcpy and memset. x86-64, System V calling convention.
+ * 25G/50G EPON line, opens capture blocks, for one reader or a class, rearranges payloads for the store, and keeps the OLT's key
+ * exchange of an XG-PON line. Link with libjazmotip.a, which needs two functions from outside, memcpy and memset. x86-64, System V
+ * calling convention.
  *
  * What holds of every call
  *   - It ends, and asks nothing of the values handed to it: whatever is malformed, untimely, unknown or too long is refused by a
@@ -515,8 +516,8 @@ size_t jazmotip_capture_list_near(const uint8_t *settings, size_t settings_lengt
  *   - seen, with the right to see alone: it is copied unchanged and prints "seen", unless 1 or 10 is found; 9 is not asked
  *   - opened, with the right to open, which includes seeing: as jazmotip_capture_open and jazmotip_capture_list have it, with that
  *     LLID's set; 2 falls away
- * It is proved that nothing else of a hidden record or set than LLIDs and lengths, and nothing of other users' rights, changes
- * any octet of what a user gets. */
+ * It is proved that, among accepted calls, nothing else of a hidden record or set than LLIDs and lengths, and nothing of other
+ * users' rights, changes any octet or number of what a user gets. */
 
 /* A user's rights on a set, added up; any other bit is 1, whose octet ever it is. */
 enum {

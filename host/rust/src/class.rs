@@ -3,6 +3,9 @@
 //! A user opens, sees or does not see a record by the rights on its LLID. A hidden record, also one whose LLID has no set, is written
 //! as zeros but for its EQs, is listed as its number and a dash, and adds nothing to what opening took; a seen one is copied and
 //! listed as `seen`. Users count from 1; [`UnknownUser`](Refusal::UnknownUser) comes before all else.
+//!
+//! It is proved that, among accepted calls, nothing else of a hidden record or set than LLIDs and lengths, and nothing of other users'
+//! rights, changes any octet or number of what a user gets.
 
 use crate::calls;
 use crate::capture::near::Corrections;

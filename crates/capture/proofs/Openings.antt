@@ -51,7 +51,7 @@ use Rattle.capture.specs.Reading.{verdictBy, addsBy}
 use Rattle.records.specs.Verdict.{clearedFlags, headerFits, verdictOf}
 use Rattle.capture.specs.Verdict.{afterSettings, callDirectory}
 use Rattle.capture.specs.Duties.{Expanded, written}
-use Rattle.records.proofs.Verdicts.{settings-octets, openable}
+use Rattle.records.proofs.Verdicts.{settings-octets}
 use Rattle.records.proofs.Headers.{header-taken}
 use Rattle.capture.proofs.Records.{good, At}
 

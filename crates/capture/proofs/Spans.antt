@@ -1,12 +1,12 @@
 -- Laws of a record that is opened by itself. Assumes nothing.
-use mathlib.Core.Path.{_≡_, sym, _∙_}
+use mathlib.Core.Path.{_≡_, sym}
 use mathlib.Core.Bool.{true, false}
 use mathlib.Core.List.{List}
 use Prim.Native.Nat.{ℕ, _+_, _≤_}
 use lib.ListN.{length, set}
 use borrow.Author.Tests.{eqb-true, leb-true, eq-eqb, le-leb}
 use Rattle.octets.specs.Lists.{replaced}
-use Rattle.octets.specs.Output.{WithOutput, withOutput}
+use Rattle.octets.specs.Output.{withOutput}
 use Rattle.octets.proofs.Choice.{both-left, both-right, both-true, pick-true, pick-false}
 use Rattle.envelope.specs.Acceptance.{nonceFits}
 use Rattle.envelope.specs.ControlMask.{countEnciphered, runs}

@@ -1,39 +1,33 @@
 -- Laws of one user, one set, the rights to see and to open: the class's reader is document 01's. Assumes nothing.
-use mathlib.Core.Path.{_≡_, refl, sym, ap, ap₂, _∙_}
+use mathlib.Core.Path.{_≡_, refl, sym, ap, _∙_}
 use mathlib.Core.Bool.{Bool, true, false}
-use mathlib.Core.List.{List, [], _∷_}
-use Prim.Native.Nat.{ℕ, zero, suc, _+_, _≤_, _<_}
+use mathlib.Core.List.{List}
+use Prim.Native.Nat.{ℕ, zero, suc, _≤_, _<_}
 use native.Mathlib.Omega.{arith}
-use lib.Dec.{eqb, ltb, leb}
-use lib.ListN.{length, getD, take, drop}
+use lib.Dec.{eqb}
+use lib.ListN.{length}
 use lib.Seq.{take-all}
 use borrow.Author.Tests.{eqb-true, eq-eqb}
 use Rattle.octets.specs.Bits.{bitOf}
-use Rattle.octets.specs.Choice.{both, either, pick}
+use Rattle.octets.specs.Choice.{both, pick}
 use Rattle.octets.specs.Each.{each}
-use Rattle.octets.specs.Lists.{part, all}
+use Rattle.octets.specs.Lists.{all}
 use Rattle.octets.proofs.Bits.{bit-below}
 use Rattle.octets.proofs.Choice.{pick-true}
 use Rattle.octets.proofs.Lists.{sum-ext}
 use Rattle.refusal.specs.declared.Refusal.the-variants.{BadLength}
-use Rattle.refusal.specs.declared.Verdict.{Verdict}
-use Rattle.refusal.specs.declared.Verdict.the-variants.{Accepted, Refused}
+use Rattle.refusal.specs.declared.Verdict.the-variants.{Refused}
 use Rattle.refusal.specs.Order.{refuseIf}
 use Rattle.envelope.specs.ControlMask.{countEnciphered, runs}
-use Rattle.records.specs.declared.header.Header.{Header}
 use Rattle.records.specs.declared.near.Drift.{Drift}
-use Rattle.records.specs.declared.near.Heard.{Heard}
-use Rattle.records.specs.Near.{noDrift}
 use Rattle.records.specs.Settings.{llidOf, presenceOf, keyPresent, presenceFits, settingsVerdict}
-use Rattle.records.specs.Block.{recordsIn, recordOf}
+use Rattle.records.specs.Block.{recordsIn}
 use Rattle.records.specs.Following.{headerOf, driftAt, nearVerdict}
 use Rattle.capture.specs.declared.directory.Directory.{Directory}
 use Rattle.capture.specs.declared.directory.Directory.the-variants.{Good, Bad}
 use Rattle.capture.specs.Opening.{expansions, openVerdict}
 use Rattle.capture.specs.Verdict.{callDirectory}
-use Rattle.capture.specs.Rebuilt.{joined, rebuilt}
 use Rattle.capture.specs.Reading.{driftBy, verdictBy, recordBy, addsBy, totalBy, openingAs, openingBy, rowBy, bodyAs, listingBy}
-use Rattle.capture.proofs.Records.{good}
 use Rattle.capture.proofs.Rebuilding.{joined-ext, rebuilt-ext}
 use Rattle.capture.proofs.Openings.{call-good, found-bad, found-good, listing-found}
 use Rattle.capture.proofs.Readings.{no-corrections}
@@ -47,14 +41,15 @@ use Rattle.rights.specs.Verdict.{userFits, countsFit, presencesFit, llidsDiffer
 use Rattle.class.specs.Reading.{setAt, heardFor, driftFor, toldOf, callFor}
 use Rattle.class.specs.Opening.{writtenFor, addedFor, recordFor, addsFor, totalFor, isExpanded, expansionsFor, openingAfter, openingFor}
 use Rattle.class.specs.Listing.{rowAs, rowFor, bodyAfter, listingFor}
-use Rattle.class.specs.Claims.{alone, aloneRights, AsAlone, ReadsAlone}
+use Rattle.class.specs.Claims.{alone, aloneRights, ReadsAlone}
 use Rattle.class.proofs.Readers.{told-all}
 
 -- ---- what the call finds
 whole : (s : List ℕ) → eqb (length s) 41 ≡ true → setOf s 0 ≡ s
 whole s e = take-all 41 s (omega (arith, eqb-true (length s) 41 e))
 
-verdict-by : (s : List ℕ) (v w : Bool) → eqb (length s) 41 ≡ v → presenceFits (presenceOf s) ≡ w → classVerdict true true alone s aloneRights ≡ settingsVerdict s
+verdict-by : (s : List ℕ) (v w : Bool) → eqb (length s) 41 ≡ v → presenceFits (presenceOf s) ≡ w
+    → classVerdict true true alone s aloneRights ≡ settingsVerdict s
 unfolding classVerdict userFits countsFit presencesFit llidsDiffer settingsVerdict rightsFit each all both refuseIf pick setFrom
 verdict-by s true true e f = rw (e, whole s e, f, eq-eqb (llidOf s) (llidOf s) refl)
 verdict-by s true false e f = rw (e, whole s e, f)
@@ -93,7 +88,8 @@ module _ (near : Bool) (s b : List ℕ) (size : eqb (length s) 41 ≡ true) (own
   alone-own i h = rw (alone-set i h) (whole s size)
 
   alone-heard : (i : ℕ) → i < recordsIn b → (drift : Drift)
-      → heardFor near alone s aloneRights b i drift ≡ record { verdict = Told (judged near s drift (headerOf b i) .verdict); drift = judged near s drift (headerOf b i) .drift }
+      → heardFor near alone s aloneRights b i drift
+      ≡ record { verdict = Told (judged near s drift (headerOf b i) .verdict); drift = judged near s drift (headerOf b i) .drift }
   alone-heard i h drift = told-all near _ _ drift _ (alone-right i h) ∙ rw (alone-own i h)
 
   alone-drift : (i : ℕ) → i ≤ recordsIn b → driftFor near alone s aloneRights b i ≡ driftBy near s b i

@@ -1,5 +1,5 @@
 -- Laws of what a call finds. Assumes nothing.
-use mathlib.Core.Path.{_≡_, refl, sym, ap, _∙_}
+use mathlib.Core.Path.{_≡_, refl, _∙_}
 use mathlib.Core.Bool.{Bool, true, false}
 use mathlib.Core.List.{List}
 use Prim.Native.Nat.{ℕ}
@@ -14,7 +14,6 @@ use Rattle.refusal.specs.declared.Verdict.the-variants.{Accepted, Refused}
 use Rattle.refusal.proofs.Order.{refuse-passed, refuse-stopped}
 use Rattle.records.specs.Near.{signedOctet}
 use Rattle.capture.specs.declared.opening.OpenAnswer.the-variants.{Done}
-use Rattle.capture.specs.declared.opening.NearAnswer.{NearAnswer}
 use Rattle.capture.specs.declared.opening.Read.{Read}
 use Rattle.capture.specs.Rebuilt.{rebuilt}
 use Rattle.capture.specs.declared.directory.Directory.{Directory}
@@ -51,7 +50,8 @@ unsuited : (c : Caller) (s q : List ℕ) → Valid c s q → classVerdict false 
 unfolding classVerdict
 unsuited c s q v = refuse-passed _ _ _ (not-of-true (v .user)) ∙ refuse-stopped _ _ _ (not-of-false (both-false-left _ refl))
 
-pub call-suits : (suits : Bool) (c : Caller) (s q b : List ℕ) (n : ℕ) → callFor true c s q b ≡ Good n → callFor suits c s q b ≡ pick suits (Good n) (Bad BadLength)
+pub call-suits : (suits : Bool) (c : Caller) (s q b : List ℕ) (n : ℕ) → callFor true c s q b ≡ Good n
+    → callFor suits c s q b ≡ pick suits (Good n) (Bad BadLength)
 unfolding pick callFor
 call-suits true c s q b n e = e
 call-suits false c s q b n e = rw (unsuited c s q (found true c s q b n e .valid))

@@ -1,6 +1,6 @@
 -- The two inputs of Secrecy are such a pair: each fact is computed. Assumes nothing.
 use mathlib.Core.Path.{_≡_, refl, sym, ap, _∙_}
-use mathlib.Core.Bool.{Bool, true, false}
+use mathlib.Core.Bool.{true, false}
 use Prim.Native.Nat.{ℕ, zero, suc, _<_}
 use native.Mathlib.Omega.{arith}
 use lib.ListN.{getD, take}
@@ -29,7 +29,7 @@ use Rattle.rights.specs.Settings.{setOf, setFrom, ownRights, rightsOn}
 use Rattle.rights.specs.Rights.{rightsFit, mayOpen, maySee}
 use Rattle.rights.specs.Verdict.{userFits, countsFit, presencesFit, llidsDiffer, classVerdict}
 use Rattle.class.specs.Reading.{driftFor, toldOf, callFor}
-use Rattle.class.specs.Secrecy.{Alike, example, firstSets, secondSets, firstRights, secondRights, firstBlock, secondBlock, Example}
+use Rattle.class.specs.Secrecy.{example, firstSets, secondSets, firstRights, secondRights, firstBlock, secondBlock, Example}
 
 first-settings : classVerdict true true example firstSets firstRights ≡ Accepted
 unfolding classVerdict userFits countsFit presencesFit llidsDiffer rightsFit each all both refuseIf pick setFrom presenceFits presenceOf llidOf bitOf lowCleared
@@ -93,7 +93,8 @@ four-hides : maySee 4 ≡ false
 unfolding maySee mayOpen either bitOf
 four-hides = refl
 
-same-records : (i : ℕ) → i < 2 → maySee (rightsOn example firstSets firstRights (headerOf firstBlock i .llid)) ≡ true → recordOf firstBlock i ≡ recordOf secondBlock i
+same-records : (i : ℕ) → i < 2 → maySee (rightsOn example firstSets firstRights (headerOf firstBlock i .llid)) ≡ true
+    → recordOf firstBlock i ≡ recordOf secondBlock i
 unfolding recordOf offsetOf lengthOf
 same-records zero h e = refl
 same-records (suc zero) h e = true-false (sym e ∙ ap maySee hidden-second ∙ four-hides)

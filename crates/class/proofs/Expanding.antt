@@ -3,14 +3,14 @@ use mathlib.Core.Path.{_≡_, refl, sym, ap, _∙_}
 use mathlib.Core.Bool.{true, false}
 use mathlib.Core.Logic.{⊎-elim}
 use mathlib.Core.List.{List, _++_}
-use Prim.Native.Nat.{ℕ, _+_, _-_, _*_, _/_, _%_, _≤_, _<_}
+use Prim.Native.Nat.{ℕ, _+_, _*_, _/_, _%_, _≤_, _<_}
 use native.Mathlib.Nat.{zero-add, eq-or-lt-of-le}
 use native.Mathlib.Numerals.{add-one}
 use native.Mathlib.Omega.{arith}
-use lib.ListN.{length, take, drop, replicate, length-append, length-take, length-drop, length-replicate, take-append-drop}
+use lib.ListN.{length, take, drop, replicate, length-append, length-drop, length-replicate, take-append-drop}
 use lib.Seq.{take-at, drop-at, drop-append-le, take-append-le, length-take-le}
 use Rattle.octets.specs.Choice.{pick}
-use Rattle.octets.specs.Lists.{sum, part, copied, copiedAt, replaced}
+use Rattle.octets.specs.Lists.{sum, copied, copiedAt, replaced}
 use Rattle.octets.proofs.Choice.{pick-true, pick-false, pick-holds, true-false}
 use Rattle.octets.proofs.Lists.{sum-suc, sum-below, part-length, copied-whole, copied-inside}
 use Rattle.sealing.specs.KeyExpansion.{keyExpansion}

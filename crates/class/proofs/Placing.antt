@@ -1,14 +1,13 @@
 -- Laws of a record in its place in the output: hidden, or as it was. Assumes nothing.
 use mathlib.Core.Path.{_≡_, refl, sym, ap, _∙_}
-use mathlib.Core.List.{List, [], _∷_, _++_, append-assoc}
-use Prim.Native.Nat.{ℕ, _+_, _-_, _*_, _≤_}
+use mathlib.Core.List.{List, _++_, append-assoc}
+use Prim.Native.Nat.{ℕ, _+_, _*_, _≤_}
 use native.Mathlib.Omega.{arith}
 use lib.ListN.{length, take, drop, replicate, length-append, length-replicate, replicate-append-replicate}
 use lib.Seq.{take-all, take-at, drop-at, drop-drop, length-take-le}
 use borrow.Rule.Slice.PartMut.{putMid}
 use Rattle.octets.specs.BigEndian.{octetsOf}
 use Rattle.octets.specs.Lists.{part, replaced, copiedAt}
-use Rattle.octets.proofs.BigEndian.{octets-length}
 use Rattle.octets.proofs.Lists.{part-length}
 use Rattle.records.specs.Record.{recordOctets, recordHeader}
 use Rattle.records.specs.Block.{headerFrom, recordFrom}
@@ -31,7 +30,8 @@ hidden-length eqs = omega (arith, length-replicate {A = ℕ} (9 * eqs) 0)
 
 -- the record's octets cleared, then its EQs copied into their place
 pub hidden-in-place : (out done low : List ℕ) (from len eqs : ℕ) → from + recordOctets eqs ≤ length out → len ≡ recordOctets eqs
-    → done ≡ replicate (length (part out from len)) 0 → low ≡ octetsOf 4 eqs → copiedAt low (from + 12) (putMid from len out done) ≡ replaced out from (hiddenRecord eqs)
+    → done ≡ replicate (length (part out from len)) 0 → low ≡ octetsOf 4 eqs
+    → copiedAt low (from + 12) (putMid from len out done) ≡ replaced out from (hiddenRecord eqs)
 unfolding hiddenRecord
 hidden-in-place out done low from len eqs h n d f =
     let e : done ≡ replicate (16 + 9 * eqs) 0 = d ∙ rw (n, part-length out from (recordOctets eqs) h) in

@@ -1,55 +1,35 @@
 -- Laws of what the class's reader has of document 01's. Assumes nothing.
-use mathlib.Core.Path.{_≡_, refl, sym, ap, ap₂, _∙_}
+use mathlib.Core.Path.{_≡_, ap, _∙_}
 use mathlib.Core.Bool.{Bool, true, false}
-use mathlib.Core.List.{List, [], _∷_}
-use Prim.Native.Nat.{ℕ, zero, suc, _+_, _-_, _*_, _/_, _%_, _≤_, _<_}
+use mathlib.Core.List.{List}
+use Prim.Native.Nat.{ℕ, _*_}
 use native.Mathlib.Omega.{arith}
-use lib.Dec.{eqb}
-use lib.ListN.{length, getD}
-use borrow.Author.Tests.{eqb-true}
-use Rattle.octets.specs.Choice.{pick}
-use Rattle.octets.specs.Lists.{part}
-use Rattle.octets.proofs.Choice.{pick-true, either-right}
-use Rattle.octets.proofs.Lists.{sum-below}
+use Rattle.octets.proofs.Choice.{pick-true}
 use Rattle.records.specs.declared.near.Drift.{Drift}
 use Rattle.records.specs.declared.header.Header.{Header}
-use Rattle.records.specs.Near.{noDrift}
 use Rattle.records.specs.Settings.{llidOf}
-use Rattle.records.specs.Verdict.{verdictFor, verdictOf}
-use Rattle.records.specs.Block.{recordsIn, recordOf}
+use Rattle.records.specs.Verdict.{verdictOf}
+use Rattle.records.specs.Block.{recordOf}
 use Rattle.records.specs.Following.{headerOf}
-use Rattle.capture.specs.declared.directory.Directory.the-variants.{Good}
 use Rattle.capture.specs.Opening.{openedRecord, recordAdds}
-use Rattle.capture.proofs.Records.{Records, good}
+use Rattle.capture.proofs.Records.{good}
 use Rattle.capture.proofs.Rebuilding.{own-record}
 use Rattle.rights.specs.declared.settings.Caller.{Caller}
 use Rattle.rights.specs.declared.judging.ClassVerdict.the-variants.{Told}
 use Rattle.rights.specs.declared.judging.ClassHeard.{ClassHeard}
-use Rattle.rights.specs.Settings.{setOf, setFrom, setFor, ownRights, rightsOn}
+use Rattle.rights.specs.Settings.{setFor, rightsOn}
 use Rattle.rights.specs.Rights.{mayOpen, maySee}
 use Rattle.rights.specs.Judging.{judged, toldTo, judgedFor}
 use Rattle.rights.proofs.Accepting.{inside}
-use Rattle.class.specs.Reading.{setAt, heardFor, driftFor, toldOf, callFor}
+use Rattle.rights.proofs.Sets.{set-found}
+use Rattle.class.specs.Reading.{setAt, driftFor, toldOf}
 use Rattle.class.specs.Opening.{writtenFor, addedFor, recordFor, expansionsFor}
 use Rattle.class.specs.Listing.{rowAs}
-use Rattle.class.specs.Claims.{AsReader, ReadsOwn, FewExpansions}
+use Rattle.class.specs.Claims.{ReadsOwn, FewExpansions}
 use Rattle.class.proofs.Turns.{see-none, record-size}
 use Rattle.class.proofs.Expanding.{counts-few}
-use Rattle.class.proofs.Calls.{Found, found}
+use Rattle.class.proofs.Calls.{found}
 use Rattle.class.proofs.Secrets.{open-sees}
-
--- ---- the set that is found is that of the LLID
-by-test : (s : List ℕ) (l j m : ℕ) (v : Bool) → eqb (llidOf (setOf s j)) l ≡ v
-    → (setFrom s l (suc j) m < suc j + m → llidOf (setOf s (setFrom s l (suc j) m)) ≡ l) → pick v j (setFrom s l (suc j) m) < j + suc m
-    → llidOf (setOf s (pick v j (setFrom s l (suc j) m))) ≡ l
-unfolding pick
-by-test s l j m true e rest f = eqb-true _ _ e
-by-test s l j m false e rest f = rest (omega arith)
-
-pub set-found : (s : List ℕ) (l j m : ℕ) → setFrom s l j m < j + m → llidOf (setOf s (setFrom s l j m)) ≡ l
-unfolding setFrom
-set-found s l j zero h = absurd (omega arith)
-set-found s l j (suc m) h = by-test s l j m (eqb (llidOf (setOf s j)) l) refl (λ f. set-found s l (suc j) m f) h
 
 -- ---- a user who may open
 pub told-all : (near : Bool) (q : ℕ) (s : List ℕ) (drift : Drift) (h : Header) → mayOpen q ≡ true

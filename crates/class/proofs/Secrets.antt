@@ -3,14 +3,13 @@
 use mathlib.Core.Path.{_≡_, refl, sym, ap, ap₂, _∙_}
 use mathlib.Core.Bool.{Bool, true, false}
 use mathlib.Core.List.{List, _++_}
-use Prim.Native.Nat.{ℕ, zero, suc, _+_, _*_, _/_, _%_, _≤_, _<_}
+use Prim.Native.Nat.{ℕ, zero, suc, _+_, _*_, _/_, _≤_, _<_}
 use native.Mathlib.Omega.{arith}
 use lib.Dec.{eqb}
 use lib.ListN.{length, getD, take}
 use lib.Seq.{getD-take}
 use Rattle.octets.specs.BigEndian.{numberAt}
-use Rattle.octets.specs.Choice.{both, pick}
-use Rattle.octets.specs.Lists.{sum}
+use Rattle.octets.specs.Choice.{pick}
 use Rattle.octets.proofs.BigEndian.{number-same}
 use Rattle.octets.proofs.Choice.{either-right, both-false-left}
 use Rattle.octets.proofs.Lists.{sum-ext}
@@ -18,7 +17,7 @@ use Rattle.refusal.specs.declared.Refusal.the-variants.{BadLength}
 use Rattle.envelope.specs.ControlMask.{countEnciphered, runs}
 use Rattle.records.specs.declared.header.Header.{Header}
 use Rattle.records.specs.declared.near.Drift.{Drift}
-use Rattle.records.specs.Settings.{llidOf, presenceOf, keyPresent}
+use Rattle.records.specs.Settings.{llidOf}
 use Rattle.records.specs.Record.{recordHeader}
 use Rattle.records.specs.Block.{recordsIn, offsetOf, lengthOf, endOf, dueOf, recordOf}
 use Rattle.records.specs.Following.{headerOf}
@@ -33,12 +32,12 @@ use Rattle.rights.specs.Settings.{setOf, setFrom, setFor, ownRights, rightsOn}
 use Rattle.rights.specs.Rights.{mayOpen, maySee}
 use Rattle.rights.specs.Judging.{judgedFor}
 use Rattle.rights.proofs.Accepting.{inside}
-use Rattle.class.specs.Reading.{setAt, heardFor, driftFor, toldOf, callFor}
+use Rattle.class.specs.Reading.{setAt, heardFor, driftFor, toldOf}
 use Rattle.class.specs.Opening.{writtenFor, addedFor, recordFor, addsFor, totalFor, isExpanded, expansionsFor, openingAfter, openingFor}
 use Rattle.class.specs.Listing.{rowAs, rowFor, bodyAfter, listingFor}
-use Rattle.class.specs.Secrecy.{Alike, SameAnswer, Secret}
+use Rattle.class.specs.Secrecy.{Alike, Secret}
 use Rattle.class.proofs.Turns.{see-none}
-use Rattle.class.proofs.Calls.{Found, found, call-suits}
+use Rattle.class.proofs.Calls.{found, call-suits}
 
 -- the set of an LLID goes by the LLIDs alone
 set-same : (s t : List ℕ) (l j m : ℕ) → ((k : ℕ) → j ≤ k → k < j + m → llidOf (setOf s k) ≡ llidOf (setOf t k)) → setFrom s l j m ≡ setFrom t l j m

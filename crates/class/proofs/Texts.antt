@@ -23,7 +23,8 @@ pub put : (text next piece : List ℕ) (at : ℕ) → at + length piece ≤ leng
 put text next piece at h e =
     let whole : next ≡ (take at text ++ piece) ++ drop (at + length piece) text =
     e ∙ copied-inside piece text at h ∙ rw (drop-drop (length piece) at text) (sym (append-assoc (take at text) piece _)) in
-    let size : length (take at text ++ piece) ≡ at + length piece = length-append (take at text) piece ∙ ap (λ (n : ℕ). n + length piece) (length-take-le at text (omega arith)) in
+    let size : length (take at text ++ piece) ≡ at + length piece =
+    length-append (take at text) piece ∙ ap (λ (n : ℕ). n + length piece) (length-take-le at text (omega arith)) in
     record {
       front = ap (take (at + length piece)) whole ∙ take-at (take at text ++ piece) _ (at + length piece) size;
       rest = ap (drop (at + length piece)) whole ∙ drop-at (take at text ++ piece) _ (at + length piece) size;

@@ -1,18 +1,18 @@
 -- Laws of the records in their turn: what a user is told of each, and what that takes. Assumes nothing.
-use mathlib.Core.Path.{_≡_, refl, sym, ap, ap₂, _∙_}
+use mathlib.Core.Path.{_≡_, refl, sym, ap, _∙_}
 use mathlib.Core.Bool.{Bool, true, false}
-use mathlib.Core.List.{List, _++_}
-use Prim.Native.Nat.{ℕ, zero, suc, _+_, _*_, _/_, _%_, _≤_, _<_}
+use mathlib.Core.List.{List}
+use Prim.Native.Nat.{ℕ, _+_, _*_, _/_, _%_, _≤_, _<_}
 use native.Mathlib.Nat.{zero-add}
 use native.Mathlib.Numerals.{add-one}
 use native.Mathlib.Omega.{arith}
 use lib.Dec.{eqb}
-use lib.ListN.{length, getD, take, drop}
+use lib.ListN.{length, getD}
 use Rattle.octets.specs.BigEndian.{sixOctets}
 use Rattle.octets.specs.Bits.{bitOf}
 use Rattle.octets.specs.Choice.{either, pick}
 use Rattle.octets.specs.Lists.{sum}
-use Rattle.octets.proofs.Choice.{both-true, either-right}
+use Rattle.octets.proofs.Choice.{both-true}
 use Rattle.octets.proofs.Lists.{sum-below, sum-suc, part-below}
 use Rattle.refusal.specs.Number.{numberOf}
 use Rattle.envelope.specs.ControlMask.{countEnciphered, runs}
@@ -21,14 +21,12 @@ use Rattle.records.specs.declared.header.Header.{Header}
 use Rattle.records.specs.declared.header.RecordVerdict.{RecordVerdict}
 use Rattle.records.specs.declared.header.RecordVerdict.the-variants.{Clear, Sealed}
 use Rattle.records.specs.declared.near.Drift.{Drift}
-use Rattle.records.specs.declared.near.Heard.{Heard}
 use Rattle.records.specs.Settings.{presenceOf, keyPresent, keyOf}
 use Rattle.records.specs.Record.{recordOctets, recordHeader}
 use Rattle.records.specs.Verdict.{verdictFor}
 use Rattle.records.specs.Near.{nearest, expected, heard}
-use Rattle.records.specs.Block.{recordsIn, offsetOf, lengthOf, recordOf, headerFrom, recordFrom}
+use Rattle.records.specs.Block.{offsetOf, lengthOf, recordOf, headerFrom, recordFrom}
 use Rattle.records.specs.Following.{headerOf}
-use Rattle.capture.specs.Opening.{addedAs}
 use Rattle.capture.specs.Duties.{Opens}
 use Rattle.capture.proofs.Records.{Records, placed, At}
 use Rattle.capture.proofs.Openings.{enciphered-below, runs-below, added-below, written-length}
@@ -41,9 +39,9 @@ use Rattle.rights.specs.Settings.{setOf, setFor, ownRights, rightsOn}
 use Rattle.rights.specs.Rights.{mayOpen, maySee}
 use Rattle.rights.specs.Judging.{judged, seenAs, toldTo, judgedFor}
 use Rattle.rights.proofs.Accepting.{inside}
-use Rattle.class.specs.Reading.{setAt, driftFor, toldOf}
+use Rattle.class.specs.Reading.{driftFor, toldOf}
 use Rattle.class.specs.Opening.{writtenFor, addedFor, recordFor, addsFor, isExpanded}
-use Rattle.class.specs.Duties.{expandedAt, Expanded, SettledAs, SettledFor, placedAt}
+use Rattle.class.specs.Duties.{expandedAt, Expanded, SettledFor, placedAt}
 use Rattle.class.proofs.Placing.{hidden-length}
 
 -- ---- what is told is what may be seen, and what is opened is what may be opened
@@ -106,7 +104,8 @@ settled near c s q keys b from drift h r e eh clock x few =
     let same : r .verdict ≡ judgedFor near right (setOf s j) drift h .verdict = ap (λ (y : ClassHeard). y .verdict) e in
     let place : (w : RecordVerdict) → r .verdict ≡ Told w → j < c .sets =
     λ w f. inside maySee c q j see-none (told-seen near right (setOf s j) drift h w (sym same ∙ f)) in
-    let sealed : (w : RecordVerdict) → r .verdict ≡ Told w → (i t : ℕ) → w ≡ Sealed i t → (mayOpen right ≡ true) × (judged near (setOf s j) drift h .verdict ≡ Sealed i t) =
+    let sealed : (w : RecordVerdict) → r .verdict ≡ Told w → (i t : ℕ) → w ≡ Sealed i t
+    → (mayOpen right ≡ true) × (judged near (setOf s j) drift h .verdict ≡ Sealed i t) =
     λ w f i t g. told-sealed near right (setOf s j) drift h i t (sym same ∙ f ∙ ap Told g) in
     record {
       header = eh;
@@ -168,7 +167,8 @@ module _ (near : Bool) (c : Caller) (s q b : List ℕ) (i : ℕ) where
   one-more g = rw add-one (sum-suc 0 i (addsFor near c s q b g) ∙ rw zero-add)
 
 -- ---- what is found by going from record to record is that of record i
-pub counted-at : (g : List ℕ → ℕ) (b : List ℕ) (i from : ℕ) (u v : ClassVerdict) → At b i from → u ≡ v → addedFor g (recordFrom b from) u ≡ addedFor g (recordOf b i) v
+pub counted-at : (g : List ℕ → ℕ) (b : List ℕ) (i from : ℕ) (u v : ClassVerdict) → At b i from → u ≡ v
+    → addedFor g (recordFrom b from) u ≡ addedFor g (recordOf b i) v
 counted-at g b i from u v x e = rw (e, x .octets)
 
 pub placed-at : (t b out : List ℕ) (from due i : ℕ) (u v : ClassVerdict) → u ≡ v → At b i from → from ≡ due

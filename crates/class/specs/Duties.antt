@@ -13,7 +13,7 @@ use Rattle.records.specs.declared.header.RecordVerdict.{RecordVerdict}
 use Rattle.records.specs.declared.header.RecordVerdict.the-variants.{Sealed}
 use Rattle.records.specs.Settings.{settingsKeys, keyOf}
 use Rattle.records.specs.Record.{recordOctets}
-use Rattle.records.specs.Block.{mostOctets, recordsIn, headerFrom, recordFrom}
+use Rattle.records.specs.Block.{mostOctets, recordsIn, headerFrom}
 use Rattle.capture.specs.declared.directory.Directory.the-variants.{Good}
 use Rattle.capture.specs.declared.opening.Work.{Work}
 use Rattle.capture.specs.declared.opening.Read.{Read}
@@ -24,7 +24,7 @@ use Rattle.rights.specs.declared.judging.ClassVerdict.{ClassVerdict}
 use Rattle.rights.specs.declared.judging.ClassVerdict.the-variants.{Told}
 use Rattle.rights.specs.Settings.{mostSets, setOf, setFor}
 use Rattle.class.specs.Reading.{driftFor}
-use Rattle.class.specs.Opening.{writtenFor, addedFor, totalFor, isExpanded}
+use Rattle.class.specs.Opening.{addedFor, totalFor, isExpanded}
 
 -- the octets of an expanded key
 abbrev pub expandedOctets : ℕ

@@ -1,6 +1,6 @@
 -- What the class's program reads (02, C-19): three octets, for the counts of sets and users and the user's number, then sets, rights and
 -- block; and what it prints. Assumes nothing.
-use mathlib.Core.Bool.{Bool, false}
+use mathlib.Core.Bool.{false}
 use mathlib.Core.List.{List, _++_}
 use Prim.Native.Nat.{ℕ, _+_, _*_}
 use lib.Dec.{ltb}

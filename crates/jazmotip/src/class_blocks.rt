@@ -6,6 +6,7 @@ ghost use Prim.Native.Nat.{_≤_};
 ghost use lib.ListN.{length, take, drop};
 ghost use Rattle.octets.specs.Output.{withOutput};
 ghost use Rattle.rights.specs.Loading.{loading};
+ghost use Rattle.rights.specs.Claims.{LoadsOne};
 ghost use Rattle.class.specs.Opening.{openingFor};
 ghost use Rattle.class.specs.Listing.{listingFor};
 ghost use Rattle.class.specs.Secrecy.{Secret, Example};
@@ -105,6 +106,7 @@ pub extern "C" fn jazmotip_class_load(
     key: &[u8; 16],
 ) -> u8
     ensures { λ r. ⌜ withOutput r (now (sets .exit)) ≡ keyLoaded (loading caller (now (sets .entry)) (now (rights .entry)) llid index (now (key .entry))) ⌝ }
+    ensures { λ _. ⌜ LoadsOne caller (now (sets .entry)) (now (rights .entry)) llid index (now (key .entry)) ⌝ }
 {
     let verdict = load(caller, sets, rights, llid, index, key);
     verdict_number(verdict)

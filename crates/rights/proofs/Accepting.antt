@@ -1,21 +1,25 @@
 -- Laws of a call that is accepted, and of the rights of the user who asks. Assumes nothing.
 use mathlib.Core.Path.{_≡_, refl, sym, ap, _∙_}
-use mathlib.Core.Bool.{Bool, true, false, not}
+use mathlib.Core.Bool.{Bool, true, false}
 use mathlib.Core.List.{List}
-use Prim.Native.Nat.{ℕ, _+_, _-_, _*_, _≤_, _<_}
+use Prim.Native.Nat.{ℕ, _+_, _*_, _≤_, _<_}
 use native.Mathlib.Omega.{arith}
-use lib.Dec.{leb, ltb}
+use lib.Dec.{leb}
 use lib.ListN.{length, getD, List·getD-eq-default, length-take}
 use borrow.Author.Tests.{eqb-true, leb-true, leb-false, ltb-true, not-false}
 use Rattle.octets.specs.Bits.{bitOf}
 use Rattle.octets.proofs.Choice.{true-false, both-left, both-right}
 use Rattle.refusal.specs.declared.Verdict.the-variants.{Accepted}
 use Rattle.refusal.proofs.Order.{refuse-accepted, then-accepted}
+use Rattle.records.specs.Settings.{llidOf}
 use Rattle.rights.specs.declared.settings.Caller.{Caller}
-use Rattle.rights.specs.Settings.{setFor, ownRights}
+use Rattle.rights.specs.Settings.{setOf, setFor, ownRights}
 use Rattle.rights.specs.Rights.{mayLoad}
 use Rattle.rights.specs.Verdict.{userFits, countsFit, valuesFit, llidsDiffer, classVerdict}
-use Rattle.rights.specs.Loading.{loadVerdict}
+use Rattle.rights.specs.Loading.{loadVerdict, loadingAfter, loading}
+use Rattle.rights.specs.Claims.{LoadsOne}
+use Rattle.rights.proofs.Sets.{set-found}
+use Rattle.rights.proofs.Loads.{key-loaded}
 
 -- what acceptance tells
 pub record Valid (c : Caller) (s q : List ℕ) : Type 0 where
@@ -83,10 +87,11 @@ load-none : mayLoad 0 ≡ false
 unfolding mayLoad bitOf
 load-none = refl
 
--- a key that may be loaded has its place in the sets
+-- a key that may be loaded has its place in the sets, in the set of its LLID
 pub record Loads (c : Caller) (s q : List ℕ) (llid i : ℕ) : Type 0 where
   pub key : i < 2
   pub place : 41 * setFor c s llid + 41 ≤ length s
+  pub set : llidOf (setOf s (setFor c s llid)) ≡ llid
 
 pub loads : (c : Caller) (s q : List ℕ) (llid i : ℕ) → loadVerdict c s q llid i ≡ Accepted → Loads c s q llid i
 unfolding loadVerdict
@@ -95,4 +100,13 @@ loads c s q llid i e =
     let v = valid _ _ c s q (a .0) in
     let may = not-false _ (refuse-accepted _ _ _ (a .1) .0) in
     let j = inside mayLoad c q (setFor c s llid) load-none may in
-    record { key = ltb-true _ _ (v .1); place = omega (arith, j, v .2 .sets) }
+    record { key = ltb-true _ _ (v .1); place = omega (arith, j, v .2 .sets); set = set-found s llid 0 (c .sets) (omega (arith, j)) }
+
+-- what an accepted call leaves of the sets
+pub loads-one : (c : Caller) (s q : List ℕ) (llid i : ℕ) (key : List ℕ) → LoadsOne c s q llid i key
+unfolding loading loadingAfter
+loads-one c s q llid i key =
+    record {
+      set = λ e. loads c s q llid i e .set;
+      loaded = λ e n. let l = loads c s q llid i e in rw e (key-loaded s key (setFor c s llid) i (l .place) (l .key) n);
+    }

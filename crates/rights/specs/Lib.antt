@@ -3,3 +3,4 @@ pub mod Rights
 pub mod Verdict
 pub mod Judging
 pub mod Loading
+pub mod Claims

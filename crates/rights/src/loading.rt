@@ -6,6 +6,7 @@ ghost use Rattle.octets.specs.Output.{withOutput};
 ghost use Rattle.records.specs.Settings.{settingsOctets, settingsKeys, presenceOf};
 ghost use Rattle.rights.specs.Settings.{setOf};
 ghost use Rattle.rights.specs.Loading.{loadVerdict, withKey, loaded, loading};
+ghost use Rattle.rights.specs.Claims.{LoadsOne};
 use crate::settings::Caller;
 use crate::settings::may_load;
 use crate::settings::rights_at;
@@ -66,6 +67,7 @@ pub fn load(
     key: &[u8; KEY_OCTETS],
 ) -> Verdict
     ensures { λ r. ⌜ withOutput r (now (sets .exit)) ≡ loading caller (now (sets .entry)) (now (rights .entry)) llid index (now (key .entry)) ⌝ }
+    ensures { λ _. ⌜ LoadsOne caller (now (sets .entry)) (now (rights .entry)) llid index (now (key .entry)) ⌝ }
 {
     if let Verdict::Refused(refusal) = load_verdict(caller, sets, rights, llid, index) {
         return Verdict::Refused(refusal);

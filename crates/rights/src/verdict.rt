@@ -2,9 +2,9 @@
 ghost use mathlib.Core.Path.{_≡_};
 ghost use Prim.Native.Nat.{_<_};
 ghost use Rattle.octets.specs.Lists.{all};
-ghost use Rattle.records.specs.Settings.{presenceFits};
 ghost use Rattle.rights.specs.Rights.{rightsFit};
 ghost use Rattle.rights.specs.Verdict.{userFits, countsFit, presencesFit, llidsDiffer, classVerdict};
+ghost use Rattle.rights.specs.Claims.{Repeats};
 use crate::settings::Caller;
 use crate::settings::set_at;
 use crate::settings::set_for;
@@ -83,6 +83,7 @@ fn llids_differ(caller: Caller, sets: &[u8]) -> bool
 // Whether what else the call was lent suits in length, and what else it asks for in value, is told by two tests.
 pub fn class_verdict(suits: bool, fits: bool, caller: Caller, sets: &[u8], rights: &[u8]) -> Verdict
     ensures { λ r. ⌜ r ≡ classVerdict suits fits caller (now (sets .entry)) (now (rights .entry)) ⌝ }
+    ensures { λ _. ⌜ Repeats caller (now (sets .entry)) ⌝ }
 {
     if !user_fits(caller) {
         return Verdict::Refused(Refusal::UnknownUser);

@@ -1,7 +1,6 @@
 -- `rows::hidden_row` meets its contract: the number and a dash, on an empty line. Assumes nothing.
 use mathlib.Core.List.{append-assoc}
 use native.Mathlib.Omega.{arith}
-use borrow.Author.Needs.{needs}
 use Rattle.rows.specs.Text.{hiddenRow}
 use Rattle.rows.proofs.Lines.{both-grown, grown-as, decimal-few, hidden-few}
 use Rattle.rows.proofs.hidden_row.Statement.{statement}

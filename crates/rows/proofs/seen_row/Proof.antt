@@ -46,9 +46,14 @@ returns c =
     let d = c .before .before in
     let a = d .before .before .args in
     let g =
-    grown-as {q = seenRow (a .k) (a .h)} (both-grown (both-grown (both-grown (d .before .row-head .ensures) (d .row-middle .ensures)) (c .before .push4 .ensures)) (c .push .ensures))
+    grown-as {q = seenRow (a .k) (a .h)}
+    (both-grown (both-grown (both-grown (d .before .row-head .ensures) (d .row-middle .ensures)) (c .before .push4 .ensures)) (c .push .ensures))
     (simp append-assoc) in
-    record { octets = g .text; used = omega (arith, g .used); inside = omega (arith, g .used, seen-few (a .k) (a .h), decimal-few (a .k), decimal-few (a .h .eqs)) }
+    record {
+      octets = g .text;
+      used = omega (arith, g .used);
+      inside = omega (arith, g .used, seen-few (a .k) (a .h), decimal-few (a .k), decimal-few (a .h .eqs));
+    }
 
 pub seen-row-spec : {M : Type 1} → statement M
 seen-row-spec = tie.close (tie.spec (λ c κs. search needs) row-middle-requires push4-requires push-requires returns)

@@ -48,7 +48,8 @@ returns-2 c =
     let at-else = c .before .before .before .before in
     let g = at-else .before .before .before .before .before .args in
     let q = c .before .before .open-part .ensures in
-    let end : g .from + at-else .before .before .record-octets .result - (g .from + 16) ≡ 9 * g .eqs = omega (arith, at-else .before .before .record-octets .ensures) in
+    let end : g .from + at-else .before .before .record-octets .result - (g .from + 16) ≡ 9 * g .eqs =
+    omega (arith, at-else .before .before .record-octets .ensures) in
     let p = part (now (g .block)) (g .from + 16) in
     opening-is (q .0 .count ∙ ap (λ (k : ℕ). countEnciphered (p k)) end) (q .0 .runs ∙ ap (λ (k : ℕ). runs (p k)) end) (q .1 ∙ rw end)
     ∙ sym (span-opened _ _ _ _ _ _ _ (fits at-else))

@@ -1,5 +1,5 @@
 -- `class::listing::put_input` meets its contract: the input's parts are those of the definition. Assumes nothing.
-use mathlib.Core.Path.{_≡_, sym, ap, _∙_}
+use mathlib.Core.Path.{sym, ap, _∙_}
 use mathlib.Core.List.{List, _++_}
 use Prim.Native.Nat.{ℕ, _<_}
 use native.Mathlib.Omega.{arith}
@@ -17,7 +17,8 @@ use Rattle.class.proofs.listing.put_input.Statement.{statement}
 use Rattle.class.proofs.listing.put_input.Tie as tie
 
 put-line-requires : tie.Need-put-line-requires
-put-line-requires c κs = (omega (arith, c .refused-row .ensures .used, refused-row-few BadLength), omega (arith, c .before .before .before .before .before .pre))
+put-line-requires c κs =
+    (omega (arith, c .refused-row .ensures .used, refused-row-few BadLength), omega (arith, c .before .before .before .before .before .pre))
 
 returns : tie.Need-returns
 unfolding inputBody
@@ -32,7 +33,9 @@ returns c =
     )
 
 mul-size : tie.Need-mul-size
-mul-size c = record { fits = omega (arith, product-below (c .before .before .before .before .octet-at .result) (c .before .before .before .octet-at2 .result) (search needs) (search needs)) }
+mul-size c =
+    let at-users = c .before .before .before in
+    record { fits = omega (arith, product-below (at-users .before .octet-at .result) (at-users .octet-at2 .result) (search needs) (search needs)) }
 
 add-part-of : tie.Need-add-part-of
 add-part-of c =
@@ -55,7 +58,8 @@ returns-2 c =
     let a = at-else .before .before .before .args in
     let q = at-body .put-body .ensures in
     let parts =
-    input-parts (now (a .input)) _ _ _ _ _ _ (at-count .octet-at .ensures) (at-users .octet-at2 .ensures) (at-user .octet-at3 .ensures) (at-sets .part-of .ensures)
+    input-parts (now (a .input)) _ _ _ _ _ _ (at-count .octet-at .ensures) (at-users .octet-at2 .ensures) (at-user .octet-at3 .ensures)
+    (at-sets .part-of .ensures)
     (at-rights .part-of2 .ensures) (at-block .part-of3 .ensures) in
     let long = pick-false {t = _} _ _ (le-ltb (length (now (a .input))) 3 (at-else .if1 .left)) in
     (q .0, (q .1 .0 ∙ ap (λ (t : List ℕ). take (a .at) (now (a .text)) ++ t) (parts ∙ sym long), q .1 .1))
@@ -63,6 +67,7 @@ returns-2 c =
 pub put-input-spec : {M : Type 1} → statement M
 put-input-spec =
     tie.close
-    (tie.spec (λ c κs. search needs) put-line-requires (λ c. search needs) returns (λ c κs. search needs) (λ c κs. search needs) (λ c κs. search needs) (λ c. search needs)
-    (λ c. search needs) (λ c. search needs) (λ c. search needs) mul-size (λ c. search needs) (λ c κs. search needs) (λ c κs. search needs) add-part-of (λ c κs. search needs)
+    (tie.spec (λ c κs. search needs) put-line-requires (λ c. search needs) returns (λ c κs. search needs) (λ c κs. search needs) (λ c κs. search needs)
+    (λ c. search needs) (λ c. search needs) (λ c. search needs) (λ c. search needs) mul-size (λ c. search needs) (λ c κs. search needs)
+    (λ c κs. search needs) add-part-of (λ c κs. search needs)
     (λ c κs. search needs) (λ c. search needs) returns-2)

@@ -1,6 +1,5 @@
 -- `class::listing::put_line` meets its contract: the line's own octets are copied behind `at`. Assumes nothing.
-use mathlib.Core.Path.{_≡_, sym, _∙_}
-use Prim.Native.Nat.{_+_}
+use mathlib.Core.Path.{_≡_, sym}
 use native.Mathlib.Omega.{arith}
 use lib.ListN.{length}
 use lib.Seq.{length-take-le}
@@ -30,5 +29,6 @@ returns c =
 pub put-line-spec : {M : Type 1} → statement M
 put-line-spec =
     tie.close
-    (tie.spec (λ c. omega (arith, room (c .before .before))) (λ c. sym (used (c .before .before .before))) (λ c κs. search needs) (λ c. search needs) (λ c. search needs)
+    (tie.spec (λ c. omega (arith, room (c .before .before))) (λ c. sym (used (c .before .before .before))) (λ c κs. search needs) (λ c. search needs)
+    (λ c. search needs)
     returns)

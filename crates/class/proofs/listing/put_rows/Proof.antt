@@ -23,7 +23,8 @@ use Rattle.class.proofs.listing.put_rows.Tie as tie
 
 abbrev Inv-loop : tie.InvT-loop
 Inv-loop near caller sets rights block text₀ at n end₀ from₀ drift₀ i₀ text end from drift i =
-    (i ≤ n) × (length text ≡ length text₀) × (at ≤ end) × (end ≤ at + lineOctets * i) × (from ≡ dueOf block i) × (drift ≡ driftFor near caller sets rights block i)
+    (i ≤ n) × (length text ≡ length text₀) × (at ≤ end) × (end ≤ at + lineOctets * i) × (from ≡ dueOf block i)
+    × (drift ≡ driftFor near caller sets rights block i)
     × (take end text ≡ take at text₀ ++ joined (rowFor near caller sets rights block) 0 i) × (drop end text ≡ drop end text₀)
 
 abbrev μ-loop : tie.MeasureT-loop

@@ -2,7 +2,6 @@
 use mathlib.Core.Path.{_≡_, sym, ap, _∙_}
 use mathlib.Core.List.{List}
 use Prim.Native.Nat.{ℕ, _/_, _%_}
-use native.Mathlib.Omega.{arith}
 use lib.ListN.{length}
 use borrow.Author.Needs.{needs}
 use borrow.Author.Tests.{not-true, not-false}
@@ -33,7 +32,13 @@ returns c =
     let at-set = at-rights .before in
     let a = start at-bit .args in
     not-expanded (a .caller) (now (a .sets)) (now (a .rights)) (now (a .keys)) (a .k)
-    (rw (sym (at-set .set-at .ensures), sym (at-rights .rights-at .ensures), sym (at-may .may-open .ensures), sym (at-presence .presence .ensures), sym (at-bit .bit .ensures))
+    (rw (
+      sym (at-set .set-at .ensures),
+      sym (at-rights .rights-at .ensures),
+      sym (at-may .may-open .ensures),
+      sym (at-presence .presence .ensures),
+      sym (at-bit .bit .ensures),
+    )
     (not-true _ (c .if1 .taken)))
 
 returns-2 : tie.Need-returns-2
@@ -53,7 +58,13 @@ returns-2 c =
     let w : at-expand .expand-key .result .octets ≡ keyExpansion (keyOf (setOf (now (a .sets)) (a .k / 2)) (a .k % 2)) =
     at-expand .expand-key .ensures ∙ ap keyExpansion (at-key .key .ensures ∙ ap (λ (x : List ℕ). keyOf x (a .k % 2)) (at-set .set-at .ensures)) in
     expanded-there (a .caller) (now (a .sets)) (now (a .rights)) (now (a .keys)) (a .k) _ _ (g .pre .1) (g .pre .0) (size at-expand)
-    (rw (sym (at-set .set-at .ensures), sym (at-rights .rights-at .ensures), sym (at-may .may-open .ensures), sym (at-presence .presence .ensures), sym (at-bit .bit .ensures))
+    (rw (
+      sym (at-set .set-at .ensures),
+      sym (at-rights .rights-at .ensures),
+      sym (at-may .may-open .ensures),
+      sym (at-presence .presence .ensures),
+      sym (at-bit .bit .ensures),
+    )
     (not-false _ (at-else .if1 .left)))
     w (at-copy .copy-at .ensures)
 

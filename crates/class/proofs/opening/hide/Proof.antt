@@ -18,11 +18,13 @@ returns c =
     let a = at-size .before .before .args in
     let size = at-size .record-octets .ensures in
     at-copy .copy-at .ensures
-    ∙ hidden-in-place (now (a .output)) _ _ (a .from) (a .from + at-size .record-octets .result - a .from) (a .eqs) (at-size .before .before .pre .0) (omega (arith, size)) (at-clear .clear .ensures)
+    ∙ hidden-in-place (now (a .output)) _ _ (a .from) (a .from + at-size .record-octets .result - a .from) (a .eqs) (at-size .before .before .pre .0)
+    (omega (arith, size)) (at-clear .clear .ensures)
     (rw (at-octets .octets48 .ensures))
 
 pub hide-spec : {M : Type 1} → statement M
 hide-spec =
     tie.close
-    (tie.spec (λ c κs. search needs) (λ c. search needs) (λ c. search needs) (λ c. search needs) (λ c. search needs) (λ c κs. search needs) (λ c κs. search needs)
-    (λ c. search needs) (λ c. search needs) (λ c. search needs) (λ c. search needs) (λ c. search needs) (λ c. search needs) (λ c κs. search needs) (λ c. search needs) returns)
+    (tie.spec (λ c κs. search needs) (λ c. search needs) (λ c. search needs) (λ c. search needs) (λ c. search needs) (λ c κs. search needs)
+    (λ c κs. search needs) (λ c. search needs) (λ c. search needs) (λ c. search needs) (λ c. search needs) (λ c. search needs) (λ c. search needs)
+    (λ c κs. search needs) (λ c. search needs) returns)

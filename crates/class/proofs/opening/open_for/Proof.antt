@@ -1,5 +1,5 @@
 -- `class::opening::open_for` meets its contract: a refused call changes nothing, an accepted one expands the keys, copies and opens. Assumes nothing.
-use mathlib.Core.Path.{_≡_, refl, sym, ap, ap₂, _∙_}
+use mathlib.Core.Path.{_≡_, refl, sym, _∙_}
 use lib.Dec.{eqb}
 use lib.ListN.{length}
 use borrow.Author.Needs.{needs}
@@ -9,7 +9,7 @@ use Rattle.octets.proofs.Lists.{copied-whole}
 use Rattle.capture.specs.declared.directory.Directory.the-variants.{Good}
 use Rattle.class.specs.Reading.{callFor}
 use Rattle.class.specs.Opening.{openingAfter, openingFor}
-use Rattle.class.proofs.Calls.{Found, found, opening-good}
+use Rattle.class.proofs.Calls.{found, opening-good}
 use Rattle.class.proofs.Secrets.{secret}
 use Rattle.class.proofs.Readers.{reads-own, few-expansions}
 use Rattle.class.proofs.Alone.{reads-alone}
@@ -72,7 +72,8 @@ returns-2 c =
     let x = at-expand .before .before .before in
     let a = start x .args in
     let q = at-open .open-records .ensures in (
-      opening-good (a .near) (a .caller) (now (a .sets)) (now (a .rights)) (now (a .block)) (now (a .output)) _ (went-on x) _ _ _ _ _ (q .0) (at-expand .expand-for .ensures .0)
+      opening-good (a .near) (a .caller) (now (a .sets)) (now (a .rights)) (now (a .block)) (now (a .output)) _ (went-on x) _ _ _ _ _ (q .0)
+          (at-expand .expand-for .ensures .0)
           (at-signed .signed .ensures) (c .signed2 .ensures) (q .1),
       (
         secret (a .near) (a .caller) (now (a .sets)) (now (a .rights)) (now (a .block)) (now (a .output)),
@@ -90,5 +91,6 @@ returns-2 c =
 pub open-for-spec : {M : Type 1} → statement M
 open-for-spec =
     tie.close
-    (tie.spec (λ c κs. search needs) (λ c. search needs) (λ c. search needs) (λ c. search needs) expand-for-requires (λ c κs. search needs) (λ c. search needs) open-records-requires
+    (tie.spec (λ c κs. search needs) (λ c. search needs) (λ c. search needs) (λ c. search needs) expand-for-requires (λ c κs. search needs)
+    (λ c. search needs) open-records-requires
     (λ c κs. search needs) (λ c κs. search needs) returns (λ c. search needs) returns-2)

@@ -90,7 +90,8 @@ write-for-requires c κs =
               (still-block (recordFor (a .near) (a .caller) (now (a .sets)) (now (a .rights)) (now (a .block))) (now (a .block)) (a .n) r
               (record-size (a .near) (a .caller) (now (a .sets)) (now (a .rights)) (now (a .block)) (a .n) r) _ _ (at-test .loop-test .taken) (v .6));
         },
-        settled (a .near) (a .caller) (now (a .sets)) (now (a .rights)) (now (a .keys)) (now (a .block)) _ _ _ _ (at-judge .judge-in .ensures) (h .ensures .0) (h .ensures .1)
+        settled (a .near) (a .caller) (now (a .sets)) (now (a .rights)) (now (a .keys)) (now (a .block)) _ _ _ _ (at-judge .judge-in .ensures)
+            (h .ensures .0) (h .ensures .1)
             (g .pre .expanded) (g .pre .few),
       ),
     )
@@ -175,13 +176,16 @@ loop-again c =
     let i = at-test .before .loop .i in
     let x = here at-test in
     let header = h .ensures .0 ∙ x .header in
-    let set : setOf s (setFor (a .caller) s (h .result .llid)) ≡ setAt (a .caller) s b i = ap (λ (y : Header). setOf s (setFor (a .caller) s (y .llid))) header in
+    let set : setOf s (setFor (a .caller) s (h .result .llid)) ≡ setAt (a .caller) s b i =
+    ap (λ (y : Header). setOf s (setFor (a .caller) s (y .llid))) header in
     let o =
-    one-rebuilt (recordFor (a .near) (a .caller) s p b) b (a .n) r (record-size (a .near) (a .caller) s p b (a .n) r) (at-test .before .loop .output) i (at-test .loop-test .taken)
+    one-rebuilt (recordFor (a .near) (a .caller) s p b) b (a .n) r (record-size (a .near) (a .caller) s p b (a .n) r) (at-test .before .loop .output) i
+    (at-test .loop-test .taken)
     (v .6) _ (q .write-for .ensures .1 ∙ rw set (placed-at (setAt (a .caller) s b i) b _ _ _ i _ _ (heard at-judge .0) x (v .4))) in (
       omega (arith, at-test .loop-test .taken),
       q .write-for .kept .1 .1 .1 .1 .0 ∙ v .1,
-      ap₂ (λ (x y : ℕ). x + y) (v .2) (counted q countEnciphered (q .write-for .ensures .0 .count)) ∙ sym (one-more (a .near) (a .caller) s p b i countEnciphered),
+      ap₂ (λ (x y : ℕ). x + y) (v .2) (counted q countEnciphered (q .write-for .ensures .0 .count))
+          ∙ sym (one-more (a .near) (a .caller) s p b i countEnciphered),
       ap₂ (λ (x y : ℕ). x + y) (v .3) (counted q Mask.runs (q .write-for .ensures .0 .runs)) ∙ sym (one-more (a .near) (a .caller) s p b i Mask.runs),
       omega (arith, ap (λ (h : Header). h .eqs) (h .ensures .0), c .record-octets .ensures, x .next),
       heard at-judge .1,
@@ -207,7 +211,12 @@ returns c =
     let e : c .before .loop .i ≡ a .n = omega arith in
     let last = v .5 ∙ ap (driftFor (a .near) (a .caller) s p b) (e ∙ r .count) in
     let f = recordFor (a .near) (a .caller) s p b in (
-      record { count = v .2 ∙ rw (e, r .count); runs = v .3 ∙ rw (e, r .count); smallest = ap (λ (x : Drift). x .smallest) last; largest = ap (λ (x : Drift). x .largest) last },
+      record {
+        count = v .2 ∙ rw (e, r .count);
+        runs = v .3 ∙ rw (e, r .count);
+        smallest = ap (λ (x : Drift). x .smallest) last;
+        largest = ap (λ (x : Drift). x .largest) last;
+      },
       all-rebuilt f b (a .n) r (record-size (a .near) (a .caller) s p b (a .n) r) _ (v .6 ∙ ap (λ (k : ℕ). upTo f b k ++ drop (dueOf b k) b) e),
     )
 

@@ -28,7 +28,8 @@ abbrev start : tie.After-verdict → tie.Start
 start c = c .before .before .before .before .before .before
 
 -- the record can be opened under this index and at this clock
-opens : (c : tie.After-verdict) → Opens (setOf (now (start c .args .sets)) (start c .args .j)) (start c .args .h) (c .verdict .given .0 .0) (c .verdict .given .0 .1 .0)
+opens : (c : tie.After-verdict)
+    → Opens (setOf (now (start c .args .sets)) (start c .args .j)) (start c .args .h) (c .verdict .given .0 .0) (c .verdict .given .0 .1 .0)
 opens c = start c .pre .1 .1 .opens _ _ (c .verdict .given .1)
 
 returns : tie.Need-returns
@@ -66,9 +67,11 @@ returns-3 c =
     let eqs = ap (λ (y : Header). y .eqs) (g .pre .1 .1 .header) in
     let mac : at-mac .mac .result ≡ macOf (setOf (now (a .sets)) (a .j)) = at-mac .mac .ensures .0 ∙ rw (at-set .set-at .ensures) in
     let key =
-    at-key .key-at .ensures ∙ handed (now (a .keys)) (2 * a .j + i) (g .pre .0 .1) (omega (arith, g .pre .0 .0, opens x .index)) ∙ g .pre .1 .1 .key i t (x .verdict .given .1) in
+    at-key .key-at .ensures ∙ handed (now (a .keys)) (2 * a .j + i) (g .pre .0 .1) (omega (arith, g .pre .0 .0, opens x .index))
+    ∙ g .pre .1 .1 .key i t (x .verdict .given .1) in
     let fits =
-    lies-fits (record { channel = h .channel; mac = at-mac .mac .result; clock = t }) (length (now (a .block))) (length (now (a .output))) (a .from + recordOctets (h .eqs))
+    lies-fits (record { channel = h .channel; mac = at-mac .mac .result; clock = t }) (length (now (a .block))) (length (now (a .output)))
+    (a .from + recordOctets (h .eqs))
     (record {
       inside = omega (arith, eqs, g .pre .1 .0 .inside);
       same = g .pre .1 .0 .size;
@@ -77,11 +80,13 @@ returns-3 c =
     }) in
     let end : a .from + recordOctets (h .eqs) - (a .from + 16) ≡ 9 * h .eqs = omega arith in
     let o =
-    opened-by (setOf (now (a .sets)) (a .j)) (now (a .block)) (now (a .output)) (a .from) (g .pre .1 .0 .same) i t (at-mac .mac .result) (at-cleared .cleared .result) h
-    (at-key .key-at .result .octets) (a .from + recordOctets (h .eqs)) (g .pre .1 .1 .header) refl (omega (arith, eqs, g .pre .1 .0 .inside)) (at-cleared .cleared .ensures) mac key in
+    opened-by (setOf (now (a .sets)) (a .j)) (now (a .block)) (now (a .output)) (a .from) (g .pre .1 .0 .same) i t (at-mac .mac .result)
+    (at-cleared .cleared .result) h (at-key .key-at .result .octets) (a .from + recordOctets (h .eqs)) (g .pre .1 .1 .header) refl
+    (omega (arith, eqs, g .pre .1 .0 .inside)) (at-cleared .cleared .ensures) mac key in
     let z = at-span .open-span .ensures ∙ span-opened _ _ _ _ _ _ _ fits in
     let p = part (now (a .block)) (a .from + 16) in
-    let took : (f : List ℕ → ℕ) → f (p (9 * h .eqs)) ≡ addedAs f (recordFrom (now (a .block)) (a .from)) (Sealed i t) = λ f. ap (λ (n : ℕ). f (p n)) (sym end) ∙ o .0 f in
+    let took : (f : List ℕ → ℕ) → f (p (9 * h .eqs)) ≡ addedAs f (recordFrom (now (a .block)) (a .from)) (Sealed i t) =
+    λ f. ap (λ (n : ℕ). f (p n)) (sym end) ∙ o .0 f in
     rw (x .verdict .given .1) (
       record {
         count = ap (λ (y : WithOutput Work). y .answer .count) z ∙ took countEnciphered;
@@ -94,4 +99,5 @@ pub open-told-spec : {M : Type 1} → statement M
 open-told-spec =
     tie.close
     (tie.spec (λ c. search needs) (λ c. search needs) (λ c. search needs) (λ c κs. search needs) (λ c κs. search needs)
-    (λ c. search needs) add-key-at (λ c κs. search needs) (λ c κs. search needs) (λ c. search needs) (λ c κs. search needs) returns returns-2 (λ c. search needs) returns-3)
+    (λ c. search needs) add-key-at (λ c κs. search needs) (λ c κs. search needs) (λ c. search needs) (λ c κs. search needs) returns returns-2
+    (λ c. search needs) returns-3)

@@ -1,7 +1,6 @@
 -- `class::opening::write_for` meets its contract, verdict by verdict. Assumes nothing.
-use mathlib.Core.Path.{_≡_, refl, sym, ap, _∙_}
+use mathlib.Core.Path.{refl, ap, _∙_}
 use native.Mathlib.Omega.{arith}
-use lib.ListN.{length}
 use borrow.Author.Needs.{needs}
 use denote.Ref.{now}
 use Rattle.records.specs.declared.header.Header.{Header}
@@ -61,5 +60,6 @@ returns-3 c =
 pub write-for-spec : {M : Type 1} → statement M
 write-for-spec =
     tie.close
-    (tie.spec (λ c. search needs) hide-requires (λ c. search needs) (λ c. search needs) (λ c κs. search needs) open-told-requires (λ c. search needs) returns returns-2
+    (tie.spec (λ c. search needs) hide-requires (λ c. search needs) (λ c. search needs) (λ c κs. search needs) open-told-requires (λ c. search needs)
+    returns returns-2
     (λ c. search needs) returns-3)

@@ -1,5 +1,4 @@
 -- `records::settings::presence_fits` meets its contract: the mask leaves the bits that stand for no key. Assumes nothing.
-use borrow.Author.Needs.{needs}
 use Rattle.octets.proofs.Bits.{mask-clears}
 use Rattle.records.specs.Settings.{presenceFits}
 use Rattle.records.proofs.settings.presence_fits.Statement.{statement}

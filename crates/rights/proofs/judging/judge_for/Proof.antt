@@ -1,5 +1,5 @@
 -- `rights::judging::judge_for` meets its contract: its test is that of the choice. Assumes nothing.
-use mathlib.Core.Path.{_≡_, sym, _∙_}
+use mathlib.Core.Path.{sym, _∙_}
 use borrow.Author.Needs.{needs}
 use borrow.Author.Tests.{not-true, not-false}
 use Rattle.octets.proofs.Choice.{pick-true, pick-false}

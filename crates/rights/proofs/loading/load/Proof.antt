@@ -7,7 +7,7 @@ use borrow.Author.Needs.{needs}
 use Rattle.octets.specs.Output.{withOutput}
 use Rattle.refusal.specs.declared.Verdict.the-variants.{Accepted}
 use Rattle.rights.specs.Loading.{loadVerdict, loaded, loadingAfter, loading}
-use Rattle.rights.proofs.Accepting.{Loads, loads}
+use Rattle.rights.proofs.Accepting.{loads, loads-one}
 use Rattle.rights.proofs.loading.load.Statement.{statement}
 use Rattle.rights.proofs.loading.load.Tie as tie
 
@@ -16,7 +16,9 @@ start c = c .before .before .before .before
 
 returns : tie.Need-returns
 unfolding loading loadingAfter
-returns c = let called = c .before .before .before in rw (← called .load-verdict .ensures, c .before .refusal .given .1)
+returns c =
+    let called = c .before .before .before in
+    (rw (← called .load-verdict .ensures, c .before .refusal .given .1), loads-one _ _ _ _ _ _)
 
 abbrev called-at : tie.After-set-for → tie.After-load-verdict
 called-at c = c .before .before .before .before
@@ -38,10 +40,12 @@ unfolding loading loadingAfter
 returns-2 c =
     let at-put = c .before .before in
     let at-set = at-put .before .before .before .before .before in
-    let a = start (called-at at-set) .args in
-    rw (accepted at-set)
-    (ap (withOutput Accepted)
-    (at-put .put-key .ensures ∙ ap (λ (j : ℕ). loaded (now (a .sets)) j (a .index) (now (a .key))) (at-set .set-for .ensures)))
+    let a = start (called-at at-set) .args in (
+      rw (accepted at-set)
+          (ap (withOutput Accepted)
+          (at-put .put-key .ensures ∙ ap (λ (j : ℕ). loaded (now (a .sets)) j (a .index) (now (a .key))) (at-set .set-for .ensures))),
+      loads-one _ _ _ _ _ _,
+    )
 
 pub load-spec : {M : Type 1} → statement M
 load-spec =

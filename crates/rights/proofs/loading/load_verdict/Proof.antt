@@ -1,5 +1,5 @@
 -- `rights::loading::load_verdict` meets its contract: the class's causes, then the right to load. Assumes nothing.
-use mathlib.Core.Path.{_≡_, sym, _∙_}
+use mathlib.Core.Path.{_∙_}
 use borrow.Author.Needs.{needs}
 use Rattle.rights.specs.Loading.{loadVerdict}
 use Rattle.rights.proofs.loading.load_verdict.Statement.{statement}
@@ -13,7 +13,13 @@ returns c =
     let at-rights = at-may .before in
     let at-set = at-rights .before in
     c .and-then .ensures
-    ∙ rw (at-set .before .class-verdict .ensures, at-refuse .refuse-if .ensures, at-may .may-load .ensures, at-rights .rights-at .ensures, at-set .set-for .ensures)
+    ∙ rw (
+      at-set .before .class-verdict .ensures .0,
+      at-refuse .refuse-if .ensures,
+      at-may .may-load .ensures,
+      at-rights .rights-at .ensures,
+      at-set .set-for .ensures,
+    )
 
 pub load-verdict-spec : {M : Type 1} → statement M
 load-verdict-spec =

@@ -1,5 +1,5 @@
 -- `rights::loading::with_key` meets its contract: the bit is 0, so the sum has it. Assumes nothing.
-use mathlib.Core.Path.{_≡_, sym, _∙_}
+use mathlib.Core.Path.{sym, _∙_}
 use native.Mathlib.Omega.{arith}
 use borrow.Author.Needs.{needs}
 use Rattle.octets.proofs.Choice.{pick-true, pick-false}
@@ -13,10 +13,14 @@ unfolding withKey
 returns c = sym (pick-true _ _ (present-bit _ _ (c .before .bit .ensures) (c .if1 .taken)))
 
 add-result : tie.Need-add-result
-add-result c = record { fits = omega (arith, raised-below (c .before .before .args .present) _ (search needs) (c .before .before .pre) (absent-bit _ _ (c .before .bit .ensures) (c .if1 .left))) }
+add-result c =
+    let absent = absent-bit _ _ (c .before .bit .ensures) (c .if1 .left) in
+    record { fits = omega (arith, raised-below (c .before .before .args .present) _ (search needs) (c .before .before .pre) absent) }
 
 add-result-2 : tie.Need-add-result-2
-add-result-2 c = record { fits = omega (arith, raised-below (c .before .before .args .present) _ (search needs) (c .before .before .pre) (absent-bit _ _ (c .before .bit .ensures) (c .if1 .left))) }
+add-result-2 c =
+    let absent = absent-bit _ _ (c .before .bit .ensures) (c .if1 .left) in
+    record { fits = omega (arith, raised-below (c .before .before .args .present) _ (search needs) (c .before .before .pre) absent) }
 
 returns-2 : tie.Need-returns-2
 unfolding withKey

@@ -8,7 +8,8 @@ use Rattle.rights.proofs.settings.own_rights.Statement.{statement}
 use Rattle.rights.proofs.settings.own_rights.Tie as tie
 
 mul-part-of : tie.Need-mul-part-of
-mul-part-of c = record { fits = omega (arith, product-below (c .before .before .before .args .caller .sets) (c .users-before .result) (search needs) (search needs)) }
+mul-part-of c =
+    record { fits = omega (arith, product-below (c .before .before .before .args .caller .sets) (c .users-before .result) (search needs) (search needs)) }
 
 returns : tie.Need-returns
 unfolding ownRights

@@ -1,5 +1,5 @@
 -- `rights::settings::set_for` meets its contract. The loop's invariant: the first set of the LLID is the first from set j on. Assumes nothing.
-use mathlib.Core.Path.{_≡_, refl, sym, _∙_}
+use mathlib.Core.Path.{_≡_, sym, _∙_}
 use Prim.Native.Nat.{_-_, _≤_}
 use native.Mathlib.Nat.{sub-zero}
 use native.Mathlib.Omega.{arith}
@@ -46,5 +46,6 @@ returns-2 c =
 pub set-for-spec : {M : Type 1} → statement M
 set-for-spec =
     tie.close
-    (tie.spec Inv-loop μ-loop (λ c. (search needs, rw sub-zero)) (λ c κs. search needs) (λ c κs. search needs) returns (λ c. search needs) (λ c. omega arith) loop-again
+    (tie.spec Inv-loop μ-loop (λ c. (search needs, rw sub-zero)) (λ c κs. search needs) (λ c κs. search needs) returns (λ c. search needs)
+    (λ c. omega arith) loop-again
     returns-2)

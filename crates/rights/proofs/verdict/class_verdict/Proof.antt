@@ -12,6 +12,7 @@ use Rattle.refusal.specs.declared.Verdict.the-variants.{Accepted}
 use Rattle.refusal.specs.Order.{refuseIf}
 use Rattle.refusal.proofs.Order.{refuse-passed, refuse-stopped}
 use Rattle.rights.specs.Verdict.{userFits, countsFit, valuesFit, llidsDiffer, classVerdict}
+use Rattle.rights.proofs.Sets.{repeats}
 use Rattle.rights.proofs.verdict.class_verdict.Statement.{statement}
 use Rattle.rights.proofs.verdict.class_verdict.Tie as tie
 
@@ -58,28 +59,38 @@ past c =
 
 returns : tie.Need-returns
 unfolding classVerdict
-returns c = sym (refuse-stopped _ _ _ (not-of-false (sym (c .before .user-fits .ensures) ∙ not-true _ (c .if1 .taken))))
+returns c = (sym (refuse-stopped _ _ _ (not-of-false (sym (c .before .user-fits .ensures) ∙ not-true _ (c .if1 .taken)))), repeats _ _)
 
 returns-2 : tie.Need-returns-2
 unfolding classVerdict
-returns-2 c = sym (refuse-passed _ _ _ (not-of-true (user (c .before .before))) ∙ refuse-stopped _ _ _ (not-of-false (refused-length c)))
+returns-2 c =
+    (sym (refuse-passed _ _ _ (not-of-true (user (c .before .before))) ∙ refuse-stopped _ _ _ (not-of-false (refused-length c))), repeats _ _)
 
 returns-3 : tie.Need-returns-3
 unfolding classVerdict
 returns-3 c =
-    let at-else2 = c .before .before .before in
-    sym
-    (refuse-passed _ _ _ (not-of-true (user (at-else2 .before .before))) ∙ refuse-passed _ _ _ (not-of-true (suited at-else2))
-    ∙ refuse-stopped _ _ _ (not-of-false (refused-value c)))
+    let at-else2 = c .before .before .before in (
+      sym
+          (refuse-passed _ _ _ (not-of-true (user (at-else2 .before .before))) ∙ refuse-passed _ _ _ (not-of-true (suited at-else2))
+          ∙ refuse-stopped _ _ _ (not-of-false (refused-value c))),
+      repeats _ _,
+    )
 
 returns-4 : tie.Need-returns-4
-returns-4 c = sym (past (c .before) ∙ refuse-stopped _ _ _ (not-of-false (sym (c .before .llids-differ .ensures) ∙ not-true _ (c .if4 .taken))))
+returns-4 c = (
+  sym (past (c .before) ∙ refuse-stopped _ _ _ (not-of-false (sym (c .before .llids-differ .ensures) ∙ not-true _ (c .if4 .taken)))),
+  repeats _ _,
+)
 
 returns-5 : tie.Need-returns-5
-returns-5 c = sym (past (c .before) ∙ refuse-passed _ _ _ (not-of-true (sym (c .before .llids-differ .ensures) ∙ not-false _ (c .if4 .left))))
+returns-5 c = (
+  sym (past (c .before) ∙ refuse-passed _ _ _ (not-of-true (sym (c .before .llids-differ .ensures) ∙ not-false _ (c .if4 .left)))),
+  repeats _ _,
+)
 
 pub class-verdict-spec : {M : Type 1} → statement M
 class-verdict-spec =
     tie.close
-    (tie.spec (λ c κs. search needs) returns (λ c κs. search needs) returns-2 (λ c κs. search needs) (λ c κs. search needs) returns-3 (λ c κs. search needs) returns-4
+    (tie.spec (λ c κs. search needs) returns (λ c κs. search needs) returns-2 (λ c κs. search needs) (λ c κs. search needs) returns-3 (λ c κs. search needs)
+    returns-4
     returns-5)

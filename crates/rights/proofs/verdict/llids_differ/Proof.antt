@@ -1,25 +1,19 @@
 -- `rights::verdict::llids_differ` meets its contract. The loop's invariant: what is left to test is the sets from j on. Assumes nothing.
-use mathlib.Core.Path.{_≡_, refl, sym, _∙_}
-use mathlib.Core.Bool.{Bool}
-use mathlib.Core.List.{List}
-use Prim.Native.Nat.{ℕ, _-_}
+use mathlib.Core.Path.{_≡_, sym, _∙_}
+use Prim.Native.Nat.{_-_}
 use native.Mathlib.Nat.{sub-zero}
 use native.Mathlib.Omega.{arith}
-use lib.Dec.{eqb}
 use denote.Ref.{now}
 use borrow.Author.Needs.{needs}
 use borrow.Author.Tests.{eq-eqb, ne-eqb}
 use Rattle.octets.specs.Each.{each}
 use Rattle.octets.proofs.Each.{each-step, each-stop, each-end}
 use Rattle.records.specs.Settings.{llidOf}
-use Rattle.rights.specs.declared.settings.Caller.{Caller}
 use Rattle.rights.specs.Settings.{setOf, setFor}
 use Rattle.rights.specs.Verdict.{llidsDiffer}
+use Rattle.rights.proofs.Sets.{First}
 use Rattle.rights.proofs.verdict.llids_differ.Statement.{statement}
 use Rattle.rights.proofs.verdict.llids_differ.Tie as tie
-
-abbrev First : Caller → List ℕ → ℕ → Bool
-First caller sets j = eqb (setFor caller sets (llidOf (setOf sets j))) j
 
 abbrev Inv-loop : tie.InvT-loop
 Inv-loop caller sets n j₀ j = each 0 n (First caller sets) ≡ each j (n - j) (First caller sets)
@@ -40,7 +34,9 @@ returns c =
     let called = c .before in
     let at-test = called .before .before .before in
     let a = at-test .before .before .before .args in
-    sym (at-test .before .loop .inv ∙ each-stop _ _ (First (a .caller) (now (a .sets))) (at-test .loop-test .taken) (ne-eqb _ _ (λ e. c .if1 .taken (found called ∙ e))))
+    sym
+    (at-test .before .loop .inv
+    ∙ each-stop _ _ (First (a .caller) (now (a .sets))) (at-test .loop-test .taken) (ne-eqb _ _ (λ e. c .if1 .taken (found called ∙ e))))
 
 loop-again : tie.Need-loop-again Inv-loop μ-loop
 loop-again c =
@@ -52,5 +48,6 @@ loop-again c =
 pub llids-differ-spec : {M : Type 1} → statement M
 llids-differ-spec =
     tie.close
-    (tie.spec Inv-loop μ-loop (λ c. rw sub-zero) (λ c κs. search needs) (λ c κs. search needs) (λ c κs. search needs) returns (λ c. search needs) (λ c. omega arith) loop-again
+    (tie.spec Inv-loop μ-loop (λ c. rw sub-zero) (λ c κs. search needs) (λ c κs. search needs) (λ c κs. search needs) returns (λ c. search needs)
+    (λ c. omega arith) loop-again
     (λ c. unfold llidsDiffer in sym (c .before .loop .inv ∙ each-end _ _ _ (c .loop-test .left))))

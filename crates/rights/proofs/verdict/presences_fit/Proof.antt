@@ -1,5 +1,5 @@
 -- `rights::verdict::presences_fit` meets its contract. The loop's invariant: what is left to test is the sets from j on. Assumes nothing.
-use mathlib.Core.Path.{_≡_, refl, sym, _∙_}
+use mathlib.Core.Path.{_≡_, sym, _∙_}
 use mathlib.Core.Bool.{Bool}
 use mathlib.Core.List.{List}
 use Prim.Native.Nat.{ℕ, _-_}
@@ -47,5 +47,6 @@ loop-again c =
 pub presences-fit-spec : {M : Type 1} → statement M
 presences-fit-spec =
     tie.close
-    (tie.spec Inv-loop μ-loop (λ c. rw sub-zero) (λ c κs. search needs) (λ c κs. search needs) (λ c κs. search needs) returns (λ c. search needs) (λ c. omega arith) loop-again
+    (tie.spec Inv-loop μ-loop (λ c. rw sub-zero) (λ c κs. search needs) (λ c κs. search needs) (λ c κs. search needs) returns (λ c. search needs)
+    (λ c. omega arith) loop-again
     (λ c. unfold presencesFit in sym (c .before .loop .inv ∙ each-end _ _ _ (c .loop-test .left))))

@@ -116,6 +116,15 @@ static void list(void *job)
     s->refused |= jazmotip_capture_list(work_settings, 41, s->work->input, s->work->length, text) < 26;
 }
 
+static void class_list(void *job)
+{
+    static uint8_t text[JAZMOTIP_LISTING_OCTETS];
+    struct scene *s = job;
+    MEASURE_MARK();
+    s->refused |= jazmotip_class_list((jazmotip_caller){1, 1, 1}, work_settings, 41, (const uint8_t[]){3}, 1, s->work->input,
+                                      s->work->length, text) < 26;
+}
+
 /* ------------------------------------------------------------------------------------------------------------------ Tables */
 
 /* A call on several scenes in turn: the ns of each, and the deepest stack. NULL where a call has no such scene. */
@@ -234,6 +243,7 @@ static void print_blocks(void)
         {"open", open},
         {"open for a user of a class", class_open},
         {"list", list},
+        {"list for a user of a class", class_list},
     };
     nothing.work = &empty;
     large.work = &works[WORKS_PAYLOADS];

@@ -1,12 +1,13 @@
 #!/usr/bin/env python3
 """What the program `test_calls` must print: every exported call, played on the ends of tools/olt.py and tools/onu.py, the reader of
-tools/capture_blocks.py and the key exchange of tools/test_xgpon.py.
+tools/capture_blocks.py, the class of tools/class_cases.py and the key exchange of tools/test_xgpon.py.
 
 usage: tools/test_calls.py > crates/test_calls/stdout
 Shares no code with the engine.
 """
 import capture_blocks as reader
 from capture_blocks import CLEAR, ONE
+from class_cases import HEADING, call_number
 from ends import LOCAL, TURN, Named
 from olt import fresh_olt
 from onu import fresh_onu
@@ -226,6 +227,85 @@ def blocks():
     print(f"jazmotip_capture_list {len(text)}\n{text}", end="")
 
 
+# ---- the reader of a class of one set and two users (02, C-19)
+
+def cipher_runs(octets):
+    """Of a payload: one for each two EQs that are not control characters alone."""
+    controls = octets[::9]
+    return sum(any(control != 0xFF for control in controls[i : i + 2]) for i in range(0, len(controls), 2))
+
+
+def hidden_block(block):
+    """All of its records as zeros but for their EQs."""
+    octets = bytearray(block)
+    for offset, length in reader.directory(block)[2]:
+        octets[offset : offset + 12] = bytes(12)
+        octets[offset + 16 : offset + length] = bytes(length - 16)
+    return bytes(octets)
+
+
+def class_call(user, rights, block):
+    """Number, pair, and the rights of the user, 0 if it is refused."""
+    number = call_number(1, 2, user, reader.settings(3), rights)
+    if number:
+        return number, 0, 0
+    number, pair, _ = reader.directory(block)
+    return number, pair, 0 if number else rights[user - 1]
+
+
+def class_open_row(call, user, rights, block, verdicts, corrections=None):
+    number, pair, right = class_call(user, rights, block)
+    count, runs, expansions, octets = 0, 0, 0, b"\xaa" * 59 if number else block if right & 1 else hidden_block(block)
+    if right & 2:
+        _, _, count, octets = reader.opened(reader.settings(3), block, b"\xaa" * 59, verdicts)
+        sealed = [r for r, (n, _) in zip(reader.records(block), verdicts) if n == 0 and r[4] & 1]
+        runs, expansions = sum(cipher_runs(r[16:]) for r in sealed), 2
+    told = "" if corrections is None else " {} {}".format(*(corrections if right & 3 else (0, 0)))
+    show(call, number, f" {pair} {expansions} {runs}{told}" + passed(count, octets))
+
+
+def class_list_row(call, user, rights, block, verdicts):
+    number, pair, right = class_call(user, rights, block)
+    if number:
+        text = f"{HEADING}refused {reader.numbered(number, pair)}\n"
+    elif right & 3 == 0:
+        text = HEADING + "".join(f"{k} -\n" for k in range(1, len(verdicts) + 1))
+    else:
+        text = reader.listing(reader.settings(3), block, verdicts)
+        if not right & 2:
+            text = text.replace(" open\n", " seen\n").replace(" refused 9\n", " seen\n")
+    print(f"jazmotip_{call} {len(text)}\n{text}", end="")
+
+
+def class_rows(user, rights, block):
+    exact, (near, corrections) = reader.exact(reader.settings(3), block), reader.nearly(reader.settings(3), block)
+    class_open_row("class_open", user, rights, block, exact)
+    class_open_row("class_open_near", user, rights, block, near, corrections)
+    class_list_row("class_list", user, rights, block, exact)
+    class_list_row("class_list_near", user, rights, block, near)
+
+
+def load_row(user, llid, index):
+    sets, rights = reader.settings(3), [3, 4]
+    number = call_number(1, 2, user, sets, rights) or (1 if index > 1 else 24 if llid != 5 or not rights[user - 1] & 4 else 0)
+    if number == 0:
+        sets = bytearray(sets)
+        sets[0] |= 1 << index
+        sets[1 + 16 * index : 17 + 16 * index] = KEY
+    show("class_load", number, f" {sets.hex()}")
+
+
+def class_blocks():
+    good, broken = reader.block(CLEAR, ONE), reader.block(CLEAR, ONE, pairs=[(18, 16), (35, 25)])
+    for user, rights in ((1, [3, 4]), (1, [1, 4]), (2, [3, 4]), (1, [2, 8])):
+        class_rows(user, rights, good)
+    class_rows(3, [3, 4], broken)
+    class_rows(1, [3, 4], broken)
+    class_rows(1, [2, 0], slipped(0x5A, 0x52))
+    for user, llid, index in ((2, 5, 0), (1, 5, 0), (2, 5, 2), (2, 6, 0), (0, 5, 0)):
+        load_row(user, llid, index)
+
+
 # ---- the key exchange on an XG-PON line
 
 KINDS = (None, xgpon.NEW, xgpon.EXISTING, "TK1 expires", "TK2 expires", "TK3 expires", xgpon.BEGIN, xgpon.TO_SEND, xgpon.REKEY, xgpon.CHECK)
@@ -279,4 +359,5 @@ if __name__ == "__main__":
     payloads()
     blocks()
     near_blocks()
+    class_blocks()
     key_exchange()

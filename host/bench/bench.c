@@ -50,6 +50,39 @@ static void engine_open_near(void *work)
     engine_count = jazmotip_capture_open_near(work_settings, 41, w->input, w->length, w->output, w->length).answer.count;
 }
 
+/* 02, C-19: 16 sets with two keys each, the last of them the work's, and a user who may open all: 32 keys are expanded. */
+static uint8_t class_sets[JAZMOTIP_SETS * JAZMOTIP_SETTINGS_OCTETS];
+static uint8_t class_rights[JAZMOTIP_SETS];
+static const jazmotip_caller class_caller = {JAZMOTIP_SETS, 1, 1};
+
+/* The LLIDs of the other sets are above the work's. */
+static void class_make(void)
+{
+    for (unsigned j = 0; j < JAZMOTIP_SETS; j++) {
+        uint8_t *set = class_sets + j * JAZMOTIP_SETTINGS_OCTETS;
+        memcpy(set, work_settings, JAZMOTIP_SETTINGS_OCTETS);
+        set[40] = (uint8_t)(set[40] + JAZMOTIP_SETS - 1 - j);
+        class_rights[j] = JAZMOTIP_MAY_SEE | JAZMOTIP_MAY_OPEN;
+    }
+}
+
+/* A user with one set. */
+static void engine_open_alone(void *work)
+{
+    static const jazmotip_caller alone = {1, 1, 1};
+    struct work *w = work;
+    engine_count =
+        jazmotip_class_open(alone, work_settings, 41, class_rights, 1, w->input, w->length, w->output, w->length).count;
+}
+
+static void engine_open_class(void *work)
+{
+    struct work *w = work;
+    engine_count = jazmotip_class_open(class_caller, class_sets, sizeof class_sets, class_rights, sizeof class_rights, w->input,
+                                       w->length, w->output, w->length)
+                       .count;
+}
+
 static void c_seal(void *work)
 {
     struct work *w = work;
@@ -126,6 +159,10 @@ static void check_works(void)
         same(c_count, engine_count, w, "its count");
         if (block) {
             same(hash_after(engine_open_near, w), engine, w, "the near way");
+            same(c_count, engine_count, w, "its count");
+            same(hash_after(engine_open_alone, w), engine, w, "a user of one set");
+            same(c_count, engine_count, w, "its count");
+            same(hash_after(engine_open_class, w), engine, w, "a user of 16 sets");
             same(c_count, engine_count, w, "its count");
         } else {
             same(hash_after(engine_seal_expanded, w), engine, w, "the expanded key");
@@ -301,6 +338,27 @@ static void print_near(void)
     printf("\n");
 }
 
+/* 02, C-19: a block opened for a user, beside document 01's reader. */
+static void print_class(void)
+{
+    printf("| Opened for a user of a class | 1 set, ns a call | of the speed of 01's reader | 16 sets, 32 keys, ns a call | of it |\n"
+           "|---|---:|---:|---:|---:|\n");
+    for (int i = WORKS_PAYLOADS; i < WORKS; i++) {
+        static struct rounds class;
+        const struct contestant all[] = {{.here = engine_open_alone, .job = &works[i]},
+                                         {.here = engine_open_class, .job = &works[i]},
+                                         {.here = engine_open, .job = &works[i]}};
+        measure_rounds(&class, all, 3, 151, 1e6);
+        printf("| %s |", name_of(i));
+        for (int k = 0; k < 2; k++) {
+            struct spread s = measure_ratio(&class, k, 2);
+            printf(" %s | %.2f (%.2f to %.2f) |", measure_commas(measure_cost(&class, k).median), s.median, s.low, s.high);
+        }
+        printf("\n");
+    }
+    printf("\n");
+}
+
 static void print_goals(double flatness, double idle)
 {
     double least = measure_ratio(&rounds[3], ENGINE, C).median, eight = measure_ratio(&rounds[1], ENGINE, C).median;
@@ -342,6 +400,7 @@ int main(int argc, char **argv)
     }
     openssl = openssl_start(argv[0]);
     expanded = jazmotip_expand_key(work_key);
+    class_make();
     check_works();
     print_method();
     for (int i = 0; i < WORKS; i++)
@@ -353,6 +412,7 @@ int main(int argc, char **argv)
     }
     double flatness = print_flatness(), idle = print_idle();
     print_near();
+    print_class();
     yardstick_print();
     calls_print();
     planes_print();

@@ -104,12 +104,25 @@ CALL(payload, jazmotip_block_part, jazmotip_capture_payload(s->work->input, s->w
 CALL(open, jazmotip_block_answer,
      jazmotip_capture_open(work_settings, 41, s->work->input, s->work->length, s->work->output, s->work->length), 0)
 
+CALL(class_open, jazmotip_block_answer,
+     jazmotip_class_open(((jazmotip_caller){1, 1, 1}), work_settings, 41, (const uint8_t[]){3}, 1, s->work->input, s->work->length,
+                         s->work->output, s->work->length), 0)
+
 static void list(void *job)
 {
     static uint8_t text[JAZMOTIP_LISTING_OCTETS];
     struct scene *s = job;
     MEASURE_MARK();
     s->refused |= jazmotip_capture_list(work_settings, 41, s->work->input, s->work->length, text) < 26;
+}
+
+static void class_list(void *job)
+{
+    static uint8_t text[JAZMOTIP_LISTING_OCTETS];
+    struct scene *s = job;
+    MEASURE_MARK();
+    s->refused |= jazmotip_class_list((jazmotip_caller){1, 1, 1}, work_settings, 41, (const uint8_t[]){3}, 1, s->work->input,
+                                      s->work->length, text) < 26;
 }
 
 /* ------------------------------------------------------------------------------------------------------------------ Tables */
@@ -228,7 +241,9 @@ static void print_blocks(void)
     static const struct row rows[] = {
         {"directory", directory},
         {"open", open},
+        {"open for a user of a class", class_open},
         {"list", list},
+        {"list for a user of a class", class_list},
     };
     nothing.work = &empty;
     large.work = &works[WORKS_PAYLOADS];

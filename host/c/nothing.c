@@ -62,6 +62,12 @@ static void blocks(void)
     printf("open near: %u", jazmotip_capture_open_near(NULL, 0, NULL, 0, NULL, 0).answer.number);
     printf(" %u", jazmotip_capture_open_near(settings, sizeof settings, NULL, 0, NULL, 0).answer.number);
     printf(" %u\n", jazmotip_capture_open_near(settings, sizeof settings, empty_block, sizeof empty_block, NULL, 0).answer.number);
+    const jazmotip_caller caller = {.sets = 1, .users = 1, .user = 1};
+    const uint8_t rights[] = {JAZMOTIP_MAY_OPEN};
+    printf("class open: %u", jazmotip_class_open((jazmotip_caller){0}, NULL, 0, NULL, 0, NULL, 0, NULL, 0).number);
+    printf(" %u", jazmotip_class_open(caller, NULL, 0, NULL, 0, NULL, 0, NULL, 0).number);
+    printf(" %u\n", jazmotip_class_open(caller, settings, sizeof settings, rights, sizeof rights, NULL, 0, NULL, 0).number);
+    printf("class load: %u\n", jazmotip_class_load(caller, NULL, 0, NULL, 0, 5, 0, key));
     printf("rearrange: %u", jazmotip_capture_rearrange(NULL, 0, NULL, 0).number);
     printf(" %u\n", jazmotip_capture_rearrange(empty_block, sizeof empty_block, NULL, 0).number);
     printf("restore: %u", jazmotip_capture_restore(NULL, 0, NULL, 0).number);

@@ -2,8 +2,9 @@
  * jazmotip.h: the Jazmotip link engine, for firmware in C.
  *
  * Seals and opens the payloads of SIEPON.4 envelopes (AES-128 in counter mode under the control mask), plays either end of a
- * 25G/50G EPON line, opens capture blocks, rearranges payloads for the store, and keeps the OLT's key exchange of an XG-PON line. Link
- * with libjazmotip.a, which needs two functions from outside, memcpy and memset. x86-64, System V calling convention.
+ * 25G/50G EPON line, opens capture blocks, for one reader or a class, rearranges payloads for the store, and keeps the OLT's key
+ * exchange of an XG-PON line. Link with libjazmotip.a, which needs two functions from outside, memcpy and memset. x86-64, System V
+ * calling convention.
  *
  * What holds of every call
  *   - It ends, and asks nothing of the values handed to it: whatever is malformed, untimely, unknown or too long is refused by a
@@ -20,8 +21,9 @@
  *     8 octets.
  *   - An output overlaps nothing else that is lent in the same call; to seal or open a payload where it lies there are calls of
  *     their own. No length is above PTRDIFF_MAX.
- *   - Stack: 16 KiB are enough for a call of the OLT, 32 KiB for jazmotip_first_loss and 4 KiB for any other, with what is handed
- *     over by value and without the place of the answer. host/bench/run measures the calls of ends and capture blocks.
+ *   - Stack: 16 KiB are enough for a call of the OLT and for opening a block for a user of a class, 32 KiB for jazmotip_first_loss
+ *     and 4 KiB for any other, with what is handed over by value and without the place of the answer. host/bench/run measures the
+ *     calls of ends and capture blocks.
  *
  * Who owns what
  *   - The caller owns all memory. The engine keeps no pointer after a call returns.
@@ -70,6 +72,8 @@ enum {
     JAZMOTIP_BROKEN_CHAIN = 18,       /* a capture's pair off the chain of offsets, past the block's end, or the last short of it */
     JAZMOTIP_UNSUITED_LENGTH = 19,    /* a capture's pair whose length is under 16 or not 16 + 9 x EQs */
     JAZMOTIP_REPEATED_RECORD = 22,    /* two records of one capture block agree in channel index, LLID and clock */
+    JAZMOTIP_UNKNOWN_USER = 23,       /* the user's number is 0 or above their count */
+    JAZMOTIP_NO_RIGHT = 24,           /* a key loaded without the right to, or for an LLID outside the settings */
     JAZMOTIP_OTHER_KEY_INDEX = 25,    /* a report names a key index other than the awaited one */
     JAZMOTIP_BAD_SCRIPT = 26          /* more than 64 steps, or a step that is unknown or not whole */
 };
@@ -88,6 +92,8 @@ enum {
 #define JAZMOTIP_SETTINGS_OCTETS 41u         /* settings of the capture reader */
 #define JAZMOTIP_BLOCK_OCTETS 65536u         /* octets of a capture block, at most */
 #define JAZMOTIP_RECORDS 256u                /* records of a capture block, at most */
+#define JAZMOTIP_SETS 16u                    /* sets of a class, at most; at least 1 */
+#define JAZMOTIP_USERS 16u                   /* users of a class, at most */
 #define JAZMOTIP_ENTRIES 512u                /* the output that comparing two blocks needs, an octet for each entry */
 #define JAZMOTIP_LISTING_OCTETS 10266u       /* the buffer that a listing needs */
 
@@ -499,6 +505,61 @@ jazmotip_block_near_answer jazmotip_capture_open_near(const uint8_t *settings, s
 size_t jazmotip_capture_list_near(const uint8_t *settings, size_t settings_length, const uint8_t *block, size_t block_length,
                                   uint8_t text[JAZMOTIP_LISTING_OCTETS]);
 
+/* ------------------------------------------------------------------------------------------------------------------ A class
+ * One reader for a whole class. Its settings are 1 to 16 sets of JAZMOTIP_SETTINGS_OCTETS octets, one for each LLID, back to back;
+ * its rights an octet for each user and set, user by user: those of user 1 on each set in order, then those of user 2. Users are
+ * numbered from 1.
+ *
+ * A user gets a record by the rights on its LLID:
+ *   - hidden, without the right to see or to open, or with an LLID outside the settings: it is written as zeros but for its EQs,
+ *     prints its number and a dash, and adds nothing to count, runs, expansions and corrections
+ *   - seen, with the right to see alone: it is copied unchanged and prints "seen", unless 1 or 10 is found; 9 is not asked
+ *   - opened, with the right to open, which includes seeing: as jazmotip_capture_open and jazmotip_capture_list have it, with that
+ *     LLID's set; 2 falls away
+ * It is proved that, among accepted calls, nothing else of a hidden record or set than LLIDs and lengths, and nothing of other
+ * users' rights, changes any octet or number of what a user gets. */
+
+/* A user's rights on a set, added up; any other bit is 1, whose octet ever it is. */
+enum {
+    JAZMOTIP_MAY_SEE = 1,  /* the header */
+    JAZMOTIP_MAY_OPEN = 2, /* the payload, and see the header */
+    JAZMOTIP_MAY_LOAD = 4  /* a key; alone it shows nothing */
+};
+
+/* Who asks, and of how many sets and users. */
+typedef struct jazmotip_caller {
+    uint8_t sets;  /* 1 to JAZMOTIP_SETS */
+    uint8_t users; /* up to JAZMOTIP_USERS */
+    uint8_t user;  /* 1 to users */
+} jazmotip_caller;
+
+/* Opens a block for that user into output, of the block's length. Expansions are one for each present key of a set that the user may
+ * open, used or not, at most 32. Order: 23; 14 for the counts, the lengths of sets, rights and output; 1 for the presence octet of any
+ * set and the rights of any user; 3 for two sets of one LLID; 15, then 18 and 19. A record: hidden, 1, 10, seen, 9. */
+jazmotip_block_answer jazmotip_class_open(jazmotip_caller caller, const uint8_t *sets, size_t sets_length, const uint8_t *rights,
+                                          size_t rights_length, const uint8_t *block, size_t block_length, uint8_t *output,
+                                          size_t output_length);
+
+/* Writes the listing of a block for that user, as jazmotip_capture_list does; a hidden record's line is such as "3 -". Order: the
+ * same, without an output. */
+size_t jazmotip_class_list(jazmotip_caller caller, const uint8_t *sets, size_t sets_length, const uint8_t *rights,
+                           size_t rights_length, const uint8_t *block, size_t block_length,
+                           uint8_t text[JAZMOTIP_LISTING_OCTETS]);
+
+/* The two in the near way. Corrections add up over all LLIDs; a seen record's counts, a hidden one's does not. */
+jazmotip_block_near_answer jazmotip_class_open_near(jazmotip_caller caller, const uint8_t *sets, size_t sets_length,
+                                                    const uint8_t *rights, size_t rights_length, const uint8_t *block,
+                                                    size_t block_length, uint8_t *output, size_t output_length);
+size_t jazmotip_class_list_near(jazmotip_caller caller, const uint8_t *sets, size_t sets_length, const uint8_t *rights,
+                                size_t rights_length, const uint8_t *block, size_t block_length,
+                                uint8_t text[JAZMOTIP_LISTING_OCTETS]);
+
+/* Puts key 0 or 1 and its presence bit into the set of an LLID, over one that is there; nothing else of the sets changes, and nothing
+ * if it is refused. It needs JAZMOTIP_MAY_LOAD alone. Order: 23; 14 for the counts and the lengths of sets and rights; 1 for an index
+ * above 1, presence and rights; 3; 24. */
+uint8_t jazmotip_class_load(jazmotip_caller caller, uint8_t *sets, size_t sets_length, const uint8_t *rights, size_t rights_length,
+                            uint16_t llid, uint8_t index, const uint8_t key[JAZMOTIP_KEY_OCTETS]);
+
 /* --------------------------------------------------------------------------------------------------------------- The store
  * Octets of one kind side by side compress better. Rearranged, a payload is its planes: all control octets, then data octet 0 of
  * every EQ, then data octet 1, up to 7. Restoring is the inverse; the two undo each other for every number of EQs, 0 too, and what
@@ -793,6 +854,9 @@ JAZMOTIP_LAYOUT(offsetof(jazmotip_block_near_answer, largest) == 25);
 JAZMOTIP_LAYOUT(sizeof(jazmotip_block_near_verdicts) == 24);
 JAZMOTIP_LAYOUT(offsetof(jazmotip_block_near_verdicts, smallest) == 16);
 JAZMOTIP_LAYOUT(offsetof(jazmotip_block_near_verdicts, largest) == 17);
+JAZMOTIP_LAYOUT(sizeof(jazmotip_caller) == 3);
+JAZMOTIP_LAYOUT(offsetof(jazmotip_caller, users) == 1);
+JAZMOTIP_LAYOUT(offsetof(jazmotip_caller, user) == 2);
 JAZMOTIP_LAYOUT(sizeof(jazmotip_store_answer) == 4);
 JAZMOTIP_LAYOUT(offsetof(jazmotip_store_answer, pair) == 2);
 JAZMOTIP_LAYOUT(sizeof(jazmotip_comparison) == 8);

@@ -29,7 +29,7 @@ use Rattle.records.specs.Verdict.{clearedFlags, verdictFor, verdictOf}
 use Rattle.records.specs.Block.{recordsIn, offsetOf, lengthOf, endOf, dueOf, recordOf}
 use Rattle.records.specs.Following.{headerOf, nearVerdict, withClock, slippedSettings, slippedBlock}
 use Rattle.records.proofs.Following.{kept}
-use Rattle.rows.specs.Text.{keyGlyph, rowHead, rowTail, rowOf}
+use Rattle.rows.specs.Text.{keyGlyph, rowHead, rowMiddle, rowTail, rowOf}
 use Rattle.capture.specs.declared.directory.Directory.the-variants.{Good}
 use Rattle.capture.specs.declared.opening.OpenAnswer.{OpenAnswer}
 use Rattle.capture.specs.Directory.{chained, pairOf, sizeFits, withPair, pairsFrom, directoryOf}
@@ -173,7 +173,7 @@ module _ (s r x : List ℕ) (h : 16 ≤ length r) (l : length x ≡ 6) where
   added-same g (Sealed i t) = ap g (field-payload r x h l)
 
 row-clock : (k : ℕ) (h : Header) (t : ℕ) (v : RecordVerdict) → rowOf k (withClock h t) v ≡ rowOf k h v
-unfolding rowOf rowHead rowTail keyGlyph
+unfolding rowOf rowHead rowMiddle rowTail keyGlyph
 row-clock k h t v = refl
 
 -- ---- the promise

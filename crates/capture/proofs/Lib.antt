@@ -3,6 +3,7 @@ pub mod Trimming
 pub mod Broken
 pub mod Records
 pub mod Openings
+pub mod Spans
 pub mod Reopening
 pub mod Lines
 pub mod Numbers

@@ -51,7 +51,7 @@ use Rattle.capture.specs.Reading.{verdictBy, addsBy}
 use Rattle.records.specs.Verdict.{clearedFlags, headerFits, verdictOf}
 use Rattle.capture.specs.Verdict.{afterSettings, callDirectory}
 use Rattle.capture.specs.Duties.{Expanded, written}
-use Rattle.records.proofs.Verdicts.{settings-octets, openable}
+use Rattle.records.proofs.Verdicts.{settings-octets}
 use Rattle.records.proofs.Headers.{header-taken}
 use Rattle.capture.proofs.Records.{good, At}
 
@@ -177,18 +177,18 @@ pub opened-length : (s r : List ℕ) → 16 ≤ length r → length (openedRecor
 unfolding openedRecord
 opened-length s r h = written-length s r (verdictOf s r) h
 
-enciphered-below : (p : List ℕ) → countEnciphered p ≤ length p
+pub enciphered-below : (p : List ℕ) → countEnciphered p ≤ length p
 unfolding countEnciphered
 enciphered-below p =
     omega (arith, sum-below 0 (length p / 9) 8 (λ e. 8 - ones (controlOctet p e)) (λ e. omega arith))
 
-runs-below : (p : List ℕ) → runs p ≤ length p
+pub runs-below : (p : List ℕ) → runs p ≤ length p
 unfolding runs
 runs-below p = omega (arith, runs-at-most p (mostRuns p))
 
 -- what a record adds is few, and so is the sum so far
 module _ (g : List ℕ → ℕ) (few : (p : List ℕ) → g p ≤ length p) where
-  added-below : (r : List ℕ) (v : RecordVerdict) → addedAs g r v ≤ length r
+  pub added-below : (r : List ℕ) (v : RecordVerdict) → addedAs g r v ≤ length r
   unfolding addedAs payloadOf
   added-below r Clear = omega arith
   added-below r (RecordVerdict.Refused c) = omega arith

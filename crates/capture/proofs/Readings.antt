@@ -45,12 +45,12 @@ use Rattle.capture.proofs.Openings.{written-length}
 use Rattle.capture.proofs.Reopening.{opened-is}
 
 -- ---- a record that is to be opened can be
-opens-by : (s : List ℕ) (h : Header) (t i u : ℕ) → recordVerdict (presenceOf s) (llidOf s) t h ≡ Sealed i u → t < sixOctets → Opens s h i u
+pub opens-by : (s : List ℕ) (h : Header) (t i u : ℕ) → recordVerdict (presenceOf s) (llidOf s) t h ≡ Sealed i u → t < sixOctets → Opens s h i u
 opens-by s h t i u e c =
     let o = openable (presenceOf s) (llidOf s) t h i u e in
     record { fits = o .fits; present = o .present; index = omega (arith, o .index, bit-below (h .flags) 1); clock = omega (arith, o .clock) }
 
-opens-at : (s : List ℕ) (drift : Drift) (h : Header) (c : Correction) (i t : ℕ)
+pub opens-at : (s : List ℕ) (drift : Drift) (h : Header) (c : Correction) (i t : ℕ)
     → heardAt (presenceOf s) (llidOf s) drift h c .verdict ≡ Sealed i t → Opens s h i t
 unfolding heardAt farVerdict
 opens-at s drift h TooFar i t e =

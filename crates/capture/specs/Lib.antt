@@ -8,4 +8,5 @@ pub mod Listing
 pub mod Rebuilt
 pub mod Reading
 pub mod Near
+pub mod Span
 pub mod Duties

@@ -16,6 +16,7 @@ ghost use Rattle.records.specs.Block.{recordFrom};
 ghost use Rattle.capture.specs.Opening.{expansions, opening, openNumber, openPair, openCount, openRuns, openExpansions};
 ghost use Rattle.capture.specs.Rebuilt.{rebuilt};
 ghost use Rattle.capture.specs.Reading.{recordBy, openingBy};
+ghost use Rattle.capture.specs.Span.{spanFits, spanOpening};
 ghost use Rattle.capture.specs.Near.{ReadsAsExact, NotEmpty};
 ghost use Rattle.capture.specs.Claims.{OpenedIfAccepted};
 ghost use Rattle.capture.specs.Duties.{Took, TookAs, TookAll, Span, Expanded, Ready, Settled, written, Copied};
@@ -23,8 +24,10 @@ use crate::directory::Directory;
 use crate::reading::hear_for;
 use crate::verdict::call_directory;
 use envelope::Nonce;
+use envelope::nonce_fits;
 use envelope::seal_count;
 use envelope::seal_runs;
+use records::block::MOST_OCTETS;
 use records::block::directory_octets;
 use records::block::header_from;
 use records::header::FLAGS;
@@ -64,13 +67,13 @@ pub struct NearAnswer {
 }
 
 // What opening took: the octets deciphered, and the runs of the cipher (02, C-17).
-struct Work {
+pub struct Work {
     pub count: u64,
     pub runs: u64,
 }
 
 // What the records of a block came to: the steps are those of the smallest and the largest correction.
-struct Read {
+pub struct Read {
     pub count: u64,
     pub runs: u64,
     pub smallest: u8,
@@ -100,6 +103,34 @@ fn open_part(
         count: seal_count(answer),
         runs: seal_runs(answer),
     }
+}
+
+// Whether a record that ends at `to` lies in a block of `size` octets and an output of `room`, and its counter blocks are of their range.
+fn span_fits(nonce: Nonce, size: usize, room: usize, to: usize) -> bool
+    ensures { λ r. ⌜ r ≡ spanFits nonce size room to ⌝ }
+{
+    ((to <= size) & ((room == size) & (size <= MOST_OCTETS))) & nonce_fits(nonce)
+}
+
+// Opens the record of so many EQs that starts at `from`, under a key that is expanded, into its place in an output of the block's length,
+// and tells what that took.
+pub fn open_span(
+    keys: RoundKeys,
+    nonce: Nonce,
+    flags: u8,
+    block: &[u8],
+    output: &mut [u8],
+    from: u32,
+    eqs: u32,
+) -> Work
+    ensures { λ r. ⌜ withOutput r (now (output .exit)) ≡ spanOpening (keys .octets) nonce flags (now (block .entry)) (now (output .entry)) from eqs ⌝ }
+{
+    let start = from as usize;
+    let to = start + record_octets(eqs);
+    if !span_fits(nonce, block.len(), output.len(), to) {
+        return Work { count: 0, runs: 0 };
+    }
+    open_part(keys, nonce, flags, block, output, start, to)
 }
 
 fn key_for(keys: Keys, index: u8) -> RoundKeys

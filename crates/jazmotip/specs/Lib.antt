@@ -3,3 +3,4 @@ pub mod Blocks
 pub mod KeyExchange
 pub mod Stored
 pub mod Exercises
+pub mod Class

@@ -6,10 +6,11 @@ use Prim.Native.Nat.{ℕ, zero, suc, _+_, _-_, _*_, _<_, _≤_}
 use native.Mathlib.Nat.{add-zero, zero-add, add-suc, suc-add, le-of-lt, le-of-suc-le-suc, not-suc-le-zero, add-assoc, sub-zero, suc-sub-suc}
 use native.Mathlib.Numerals.{add-one}
 use native.Mathlib.Omega.{arith}
-use lib.ListN.{length, getD, drop, take, set, length-append, length-take, length-drop, drop-of-length-le}
-use lib.Seq.{drop-cons, take-suc, length-take-le, set-at, ext-getD, take-all, take-at, drop-at, drop-length, drop-drop, take-add, getD-take, getD-drop, paste, take-length, take-nil}
+use lib.ListN.{length, getD, drop, take, set, replicate, length-append, length-take, length-drop, length-replicate, replicate-append-replicate, drop-of-length-le}
+use lib.Seq.{drop-cons, take-suc, length-take-le, set-at, ext-getD, take-all, take-at, drop-at, drop-length, drop-drop, take-add, getD-take, getD-drop, paste, take-length, take-nil, drop-nil}
+use borrow.Rule.Slice.PartMut.{putMid}
 use borrow.Author.Tests.{eqb-true, eq-eqb}
-use Rattle.octets.specs.Lists.{tabulate, sum, same, replaced, written, part, copied}
+use Rattle.octets.specs.Lists.{tabulate, sum, same, replaced, written, part, copied, copiedAt}
 use Rattle.octets.proofs.Choice.{both-left, both-right, both-true}
 
 pub tabulate-length : {A : Type 0} (i n : ℕ) (f : ℕ → A) → length (tabulate i n f) ≡ n
@@ -77,6 +78,29 @@ sum-below i (suc n) b f h = omega (arith, h i, sum-below (suc i) n b f h)
 -- the part of s from k on, as a slice `&s[k..]` has it
 pub tail-part : {A : Type 0} (k : ℕ) (s : List A) → take (length s - k) (drop k s) ≡ drop k s
 tail-part k s = take-all (length s - k) (drop k s) (omega (arith, length-drop k s))
+
+-- one more element of a list that is cleared from the front
+pub zero-more : (s : List ℕ) (i : ℕ) → i < length s → set (replicate i 0 ++ drop i s) i 0 ≡ replicate (i + 1) 0 ++ drop (i + 1) s
+zero-more s i h =
+    let zeros : List ℕ = replicate i 0 in
+    let more : zeros ++ (0 ∷ []) ≡ replicate (i + 1) 0 = replicate-append-replicate i 1 0 in
+    rw (← more, add-one, drop-cons s i 0 h)
+    (set-at zeros (getD s i 0) (drop (suc i) s) 0 i (length-replicate i 0) ∙ sym (append-assoc zeros (0 ∷ []) (drop (suc i) s)))
+
+-- the part of t behind `at` copied into, and put back
+pub copied-behind : (s t : List ℕ) (at : ℕ) (done : List ℕ) → done ≡ copied s (take (length t - at) (drop at t))
+    → putMid at (length t - at) t done ≡ copiedAt s at t
+copied-behind s t at done e =
+    let none : drop (length t - at) (drop at t) ≡ [] = drop-of-length-le (drop at t) {i = length t - at} (omega (arith, length-drop at t)) in
+    rw (e, tail-part at t, none, append-nil)
+
+-- there is nothing behind the end
+pub copied-past : (s t : List ℕ) (at : ℕ) → length t ≤ at → t ≡ copiedAt s at t
+copied-past s t at h = rw (take-all at t h, drop-of-length-le t {i = at} h, drop-nil, append-nil)
+
+-- where there is room for all of s, it stands in its places
+pub copied-inside : (s t : List ℕ) (at : ℕ) → at + length s ≤ length t → copiedAt s at t ≡ replaced t at s
+copied-inside s t at h = rw (take-all (length (drop at t)) s (omega (arith, length-drop at t)))
 
 -- a copy of all elements of t to the places from `at` on
 pub paste-all : {A : Type 0} (s : List A) (at : ℕ) (t : List A) → paste s at t (length t) ≡ replaced s at t

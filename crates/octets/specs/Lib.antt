@@ -4,3 +4,4 @@ pub mod Choice
 pub mod Eqs
 pub mod Lists
 pub mod Output
+pub mod Each

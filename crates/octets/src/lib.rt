@@ -2,10 +2,10 @@
 // place takes any slice and any place: an octet that is not there is 0.
 ghost use mathlib.Core.Path.{_≡_};
 ghost use Prim.Native.Nat.{_<_};
-ghost use lib.ListN.{getD};
+ghost use lib.ListN.{length, getD, replicate};
 ghost use Rattle.octets.specs.Bits.{bitOf};
 ghost use Rattle.octets.specs.BigEndian.{numberAt, octetsOf, sixOctets};
-ghost use Rattle.octets.specs.Lists.{part, copied};
+ghost use Rattle.octets.specs.Lists.{part, copied, copiedAt};
 
 // An EQ is a control octet, then eight data octets.
 pub const EQ_OCTETS: usize = 9;
@@ -132,5 +132,23 @@ pub fn copy(input: &[u8], output: &mut [u8])
     }
     for i in 0..n {
         output[i] = input[i];
+    }
+}
+
+// The same from a place of the output on; the octets before it stay.
+pub fn copy_at(input: &[u8], output: &mut [u8], at: usize)
+    ensures { λ _. ⌜ now (output .exit) ≡ copiedAt (now (input .entry)) at (now (output .entry)) ⌝ }
+{
+    if at < output.len() {
+        copy(input, &mut output[at..]);
+    }
+}
+
+// Zeros in all places.
+pub fn clear(output: &mut [u8])
+    ensures { λ _. ⌜ now (output .exit) ≡ replicate (length (now (output .entry))) 0 ⌝ }
+{
+    for i in 0..output.len() {
+        output[i] = 0;
     }
 }

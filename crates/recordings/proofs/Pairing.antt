@@ -12,7 +12,7 @@ use Rattle.octets.proofs.Choice.{true-false, both-left, both-right, both-true, 
 use Rattle.records.specs.declared.header.Header.{Header}
 use Rattle.records.specs.Block.{recordsIn, recordOf}
 use Rattle.recordings.specs.Pairing.{keysAgree, paired, firstFrom, partnerOf, alone, unlikeRest, distinct}
-use Rattle.recordings.proofs.Each.{each-at}
+use Rattle.octets.proofs.Each.{each-at}
 
 ---- the relation
 

@@ -13,8 +13,8 @@ use Rattle.envelope.specs.ControlMask.{controlOctet, dataOctet}
 use Rattle.records.specs.Record.{recordHeader, payloadOf}
 use Rattle.records.specs.Verdict.{encKey}
 use Rattle.recordings.specs.Sameness.{dataOctets, sameEq, sameData, sameControl, same}
-use Rattle.recordings.specs.Each.{each}
-use Rattle.recordings.proofs.Each.{each-at, each-true}
+use Rattle.octets.specs.Each.{each}
+use Rattle.octets.proofs.Each.{each-at, each-true}
 
 same-eq-self : (p : List ℕ) (e : ℕ) → sameEq p p e ≡ true
 unfolding sameEq

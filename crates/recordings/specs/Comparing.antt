@@ -20,7 +20,7 @@ use Rattle.capture.specs.Directory.{verdictOn, directoryOf}
 use Rattle.recordings.specs.declared.verdict.Ruling.{Ruling}
 use Rattle.recordings.specs.declared.verdict.Ruling.the-variants.{Taken, Denied}
 use Rattle.recordings.specs.declared.compare.Comparison.{Comparison}
-use Rattle.recordings.specs.Each.{each}
+use Rattle.octets.specs.Each.{each}
 use Rattle.recordings.specs.Pieces.{pieces}
 use Rattle.recordings.specs.Pairing.{partnerOf, alone, distinct}
 use Rattle.recordings.specs.Sameness.{same}

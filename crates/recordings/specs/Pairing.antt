@@ -8,7 +8,7 @@ use Rattle.octets.specs.Choice.{both, pick}
 use Rattle.records.specs.declared.header.Header.{Header}
 use Rattle.records.specs.Record.{recordHeader}
 use Rattle.records.specs.Block.{recordsIn, recordOf}
-use Rattle.recordings.specs.Each.{each}
+use Rattle.octets.specs.Each.{each}
 
 -- channel index, LLID and clock agree; kind, flags and EPAM play no part
 unfoldable pub keysAgree : Header → Header → Bool

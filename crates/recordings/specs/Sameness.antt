@@ -7,7 +7,7 @@ use Rattle.octets.specs.Choice.{both}
 use Rattle.envelope.specs.ControlMask.{controlOctet, dataOctet}
 use Rattle.records.specs.Record.{recordHeader, payloadOf}
 use Rattle.records.specs.Verdict.{encKey}
-use Rattle.recordings.specs.Each.{each}
+use Rattle.octets.specs.Each.{each}
 
 -- the data octets of an EQ
 abbrev pub dataOctets : ℕ

@@ -1,7 +1,7 @@
 // Whether two paired records hold the same.
 ghost use mathlib.Core.Path.{_≡_};
 ghost use Rattle.records.specs.Block.{recordOf};
-ghost use Rattle.recordings.specs.Each.{each};
+ghost use Rattle.octets.specs.Each.{each};
 ghost use Rattle.recordings.specs.Sameness.{sameEq, sameData, sameControl, same};
 use envelope::control_octet;
 use envelope::data_octet;

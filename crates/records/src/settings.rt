@@ -2,7 +2,7 @@
 ghost use mathlib.Core.Path.{_≡_};
 ghost use Prim.Native.Nat.{_<_};
 ghost use Rattle.octets.specs.BigEndian.{sixOctets};
-ghost use Rattle.records.specs.Settings.{presenceOf, keyOf, macOf, llidOf, settingsVerdict};
+ghost use Rattle.records.specs.Settings.{presenceOf, keyOf, macOf, llidOf, presenceFits, settingsVerdict};
 use octets::copy;
 use octets::number16;
 use octets::number48;
@@ -14,13 +14,16 @@ use refusal::Verdict;
 pub const SETTINGS_OCTETS: usize = 41;
 
 // The places of the keys, the MAC and the LLID among them.
-const KEYS: usize = 1;
+pub const KEYS: usize = 1;
 
 const MAC: usize = 33;
 
 const LLID: usize = 39;
 
-const KEY_OCTETS: usize = 16;
+pub const KEY_OCTETS: usize = 16;
+
+// The keys that settings have room for.
+pub const SETTINGS_KEYS: u8 = 2;
 
 // The bits of the presence octet that stand for no key.
 const OTHER_PRESENCE: u8 = 0xfc;
@@ -53,6 +56,13 @@ pub fn key(s: &[u8], i: u8) -> [u8; KEY_OCTETS]
     key
 }
 
+// Whether no presence bit but those of the two keys is set.
+pub fn presence_fits(presence: u8) -> bool
+    ensures { λ r. ⌜ r ≡ presenceFits presence ⌝ }
+{
+    presence & OTHER_PRESENCE == 0
+}
+
 // Whether settings are of their length, and no presence bit but those of the two keys is set.
 pub fn settings_verdict(s: &[u8]) -> Verdict
     ensures { λ r. ⌜ r ≡ settingsVerdict (now (s .entry)) ⌝ }
@@ -60,7 +70,7 @@ pub fn settings_verdict(s: &[u8]) -> Verdict
     if s.len() != SETTINGS_OCTETS {
         return Verdict::Refused(Refusal::BadLength);
     }
-    if presence(s) & OTHER_PRESENCE != 0 {
+    if !presence_fits(presence(s)) {
         return Verdict::Refused(Refusal::OutOfRange);
     }
     Verdict::Accepted

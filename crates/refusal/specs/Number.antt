@@ -1,7 +1,7 @@
--- The number of each refusal (01, 'When the reader says no'; 02, C-11, C-15, C-21, C-23), and the pair that it names. Assumes nothing.
+-- The number of each refusal (01, 'When the reader says no'; 02, C-11, C-15, C-19, C-21, C-23), and the pair that it names. Assumes nothing.
 use Prim.Native.Nat.{ℕ}
 use Rattle.refusal.specs.declared.Refusal.{Refusal}
-use Rattle.refusal.specs.declared.Refusal.the-variants.{OutOfRange, UnknownLlid, RepeatedLlid, TableFull, ClockNotSet, OfferPending, SameKey, NothingOutstanding, NoKey, EpamDiffers, ClearEnvelope, ChannelTaken, KeyTooOld, BadLength, BadDirectory, CaptureTooOld, AtEnd, BrokenChain, UnsuitedLength, RepeatedRecord, OtherKeyIndex, BadScript}
+use Rattle.refusal.specs.declared.Refusal.the-variants.{OutOfRange, UnknownLlid, RepeatedLlid, TableFull, ClockNotSet, OfferPending, SameKey, NothingOutstanding, NoKey, EpamDiffers, ClearEnvelope, ChannelTaken, KeyTooOld, BadLength, BadDirectory, CaptureTooOld, AtEnd, BrokenChain, UnsuitedLength, RepeatedRecord, UnknownUser, NoRight, OtherKeyIndex, BadScript}
 use Rattle.refusal.specs.declared.Verdict.{Verdict}
 use Rattle.refusal.specs.declared.Verdict.the-variants.{Accepted, Refused}
 
@@ -26,6 +26,8 @@ numberOf AtEnd = 17
 numberOf (BrokenChain k) = 18
 numberOf (UnsuitedLength k) = 19
 numberOf RepeatedRecord = 22
+numberOf UnknownUser = 23
+numberOf NoRight = 24
 numberOf OtherKeyIndex = 25
 numberOf BadScript = 26
 
@@ -51,6 +53,8 @@ pairNumber AtEnd = 0
 pairNumber (BrokenChain k) = k
 pairNumber (UnsuitedLength k) = k
 pairNumber RepeatedRecord = 0
+pairNumber UnknownUser = 0
+pairNumber NoRight = 0
 pairNumber OtherKeyIndex = 0
 pairNumber BadScript = 0
 

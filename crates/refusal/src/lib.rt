@@ -44,6 +44,10 @@ pub enum Refusal {
     UnsuitedLength(u16),
     // 22: two records of one capture block agree in channel index, LLID and clock (02, C-15)
     RepeatedRecord,
+    // 23: the number of a class's user is 0 or above the count of its users (02, C-19)
+    UnknownUser,
+    // 24: a key is loaded without the right to, or for an LLID outside the settings (02, C-19)
+    NoRight,
     // 25: a report names a key index other than the awaited one (02, C-21)
     OtherKeyIndex,
     // 26: more steps than a script may have, or a step that is unknown or not whole (02, C-23)
@@ -75,6 +79,8 @@ pub fn number(refusal: Refusal) -> u8
         Refusal::BrokenChain(_) => 18,
         Refusal::UnsuitedLength(_) => 19,
         Refusal::RepeatedRecord => 22,
+        Refusal::UnknownUser => 23,
+        Refusal::NoRight => 24,
         Refusal::OtherKeyIndex => 25,
         Refusal::BadScript => 26,
     }
@@ -105,6 +111,8 @@ pub fn pair(refusal: Refusal) -> u16
         Refusal::BrokenChain(k) => k,
         Refusal::UnsuitedLength(k) => k,
         Refusal::RepeatedRecord => 0,
+        Refusal::UnknownUser => 0,
+        Refusal::NoRight => 0,
         Refusal::OtherKeyIndex => 0,
         Refusal::BadScript => 0,
     }

@@ -12,12 +12,12 @@ use borrow.Author.Tests.{lt-ltb, le-ltb, ltb-false}
 use Rattle.octets.proofs.Choice.{pick-true, pick-false, pick-holds, pick-same}
 use Rattle.refusal.specs.Number.{numberOf, pairNumber}
 use Rattle.refusal.specs.declared.Refusal.{Refusal}
-use Rattle.refusal.specs.declared.Refusal.the-variants.{OutOfRange, UnknownLlid, RepeatedLlid, TableFull, ClockNotSet, OfferPending, SameKey, NothingOutstanding, NoKey, EpamDiffers, ClearEnvelope, ChannelTaken, KeyTooOld, BadLength, BadDirectory, CaptureTooOld, AtEnd, BrokenChain, UnsuitedLength, RepeatedRecord, OtherKeyIndex, BadScript}
+use Rattle.refusal.specs.declared.Refusal.the-variants.{OutOfRange, UnknownLlid, RepeatedLlid, TableFull, ClockNotSet, OfferPending, SameKey, NothingOutstanding, NoKey, EpamDiffers, ClearEnvelope, ChannelTaken, KeyTooOld, BadLength, BadDirectory, CaptureTooOld, AtEnd, BrokenChain, UnsuitedLength, RepeatedRecord, UnknownUser, NoRight, OtherKeyIndex, BadScript}
 use Rattle.records.specs.declared.header.Header.{Header}
 use Rattle.records.specs.declared.header.RecordVerdict.{RecordVerdict}
 use Rattle.records.specs.declared.header.RecordVerdict.the-variants.{Clear, Sealed}
 use Rattle.rows.specs.declared.Line.{Line}
-use Rattle.rows.specs.Text.{glyphOf, digits, mostDigits, digitsWithin, digitCount, decimalOf, refusedText, pairText, resultText, rowHead, rowTail, rowOf, refusedRow, textOf}
+use Rattle.rows.specs.Text.{glyphOf, digits, mostDigits, digitsWithin, digitCount, decimalOf, refusedText, pairText, resultText, rowHead, rowMiddle, rowTail, rowOf, seenRow, hiddenRow, refusedRow, textOf}
 use Rattle.rows.specs.Duties.{Grown}
 
 -- one piece after the other
@@ -97,6 +97,8 @@ number-few AtEnd = omega arith
 number-few (BrokenChain k) = omega arith
 number-few (UnsuitedLength k) = omega arith
 number-few RepeatedRecord = omega arith
+number-few UnknownUser = omega arith
+number-few NoRight = omega arith
 number-few OtherKeyIndex = omega arith
 number-few BadScript = omega arith
 
@@ -125,16 +127,26 @@ pub head-few : (k : ℕ) (h : Header) → length (rowHead k h) ≤ length (decim
 unfolding rowHead
 head-few k h = simp length-append (omega arith)
 
+pub middle-few : (h : Header) → length (rowMiddle h) ≤ length (decimalOf (h .eqs)) + 3
+unfolding rowMiddle
+middle-few h = simp length-append (omega arith)
+
 pub tail-few : (h : Header) (v : RecordVerdict) → length (rowTail h v) ≤ length (decimalOf (h .eqs)) + 14
 unfolding rowTail
-tail-few h v = simp length-append (omega (arith, result-few v))
+tail-few h v = simp length-append (omega (arith, middle-few h, result-few v))
 
 pub row-few : (k : ℕ) (h : Header) (v : RecordVerdict) → length (rowOf k h v) ≤ length (decimalOf k) + length (decimalOf (h .eqs)) + 23
 unfolding rowOf
 row-few k h v = simp length-append (omega (arith, head-few k h, tail-few h v))
 
--- the pieces of a row's end, as they are written and as the row has them
-pub tail-pieces : (x y : ℕ) (d r : List ℕ) → x ≡ y
-    → ((((x ∷ 32 ∷ []) ++ d) ++ (32 ∷ [])) ++ r) ++ (10 ∷ []) ≡ y ∷ 32 ∷ (d ++ (32 ∷ (r ++ (10 ∷ []))))
-tail-pieces x y d r e =
-    rw e (ap (λ (t : List ℕ). y ∷ 32 ∷ t) (append-assoc (d ++ (32 ∷ [])) r (10 ∷ []) ∙ append-assoc d (32 ∷ []) (r ++ (10 ∷ []))))
+pub seen-few : (k : ℕ) (h : Header) → length (seenRow k h) ≤ length (decimalOf k) + length (decimalOf (h .eqs)) + 17
+unfolding seenRow
+seen-few k h = simp length-append (omega (arith, head-few k h, middle-few h))
+
+pub hidden-few : (k : ℕ) → length (hiddenRow k) ≤ length (decimalOf k) + 3
+unfolding hiddenRow
+hidden-few k = simp length-append (omega arith)
+
+-- the pieces of a row's middle, as they are written and as the row has them
+pub middle-pieces : (x y : ℕ) (d : List ℕ) → x ≡ y → ((x ∷ 32 ∷ []) ++ d) ++ (32 ∷ []) ≡ y ∷ 32 ∷ (d ++ (32 ∷ []))
+middle-pieces x y d e = rw e

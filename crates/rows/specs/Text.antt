@@ -56,12 +56,24 @@ resultText (Refused r) = refusedText r
 unfoldable pub rowHead : ℕ → Header → List ℕ
 rowHead k h = decimalOf k ++ (32 ∷ (digits 16 4 (h .llid) ++ (32 ∷ (digits 16 2 (h .channel) ++ (32 ∷ [])))))
 
--- EncKey, EQs, result
+-- EncKey, EQs
+unfoldable pub rowMiddle : Header → List ℕ
+rowMiddle h = keyGlyph h ∷ 32 ∷ (decimalOf (h .eqs) ++ (32 ∷ []))
+
+-- then the result
 unfoldable pub rowTail : Header → RecordVerdict → List ℕ
-rowTail h v = keyGlyph h ∷ 32 ∷ (decimalOf (h .eqs) ++ (32 ∷ (resultText v ++ (10 ∷ []))))
+rowTail h v = rowMiddle h ++ (resultText v ++ (10 ∷ []))
 
 unfoldable pub rowOf : ℕ → Header → RecordVerdict → List ℕ
 rowOf k h v = rowHead k h ++ rowTail h v
+
+-- a record that may be seen but not opened: its result is "seen" (02, C-19)
+unfoldable pub seenRow : ℕ → Header → List ℕ
+seenRow k h = rowHead k h ++ (rowMiddle h ++ (115 ∷ 101 ∷ 101 ∷ 110 ∷ 10 ∷ []))
+
+-- a record whose header may not be seen: its number and a dash only (02, C-19)
+unfoldable pub hiddenRow : ℕ → List ℕ
+hiddenRow k = decimalOf k ++ (32 ∷ 45 ∷ 10 ∷ [])
 
 -- a blank and the pair that a refused call names, nothing where it names none (02, C-11)
 unfoldable pub pairText : Refusal → List ℕ

@@ -3,7 +3,7 @@ ghost use mathlib.Core.Path.{_≡_};
 ghost use mathlib.Core.List.{[], _∷_};
 ghost use Prim.Native.Nat.{_+_, _/_, _%_, _^_, _≤_, _<_};
 ghost use lib.ListN.{length};
-ghost use Rattle.rows.specs.Text.{glyphOf, digits, digitCount, decimalOf, rowOctets, keyGlyph, refusedText, pairText, resultText, rowHead, rowTail, rowOf, refusedRow, Holds};
+ghost use Rattle.rows.specs.Text.{glyphOf, digits, digitCount, decimalOf, rowOctets, keyGlyph, refusedText, pairText, resultText, rowHead, rowMiddle, rowTail, rowOf, seenRow, hiddenRow, refusedRow, Holds};
 ghost use Rattle.rows.specs.Duties.{Grown};
 
 pub mod entries;
@@ -159,14 +159,21 @@ fn row_head(line: Line, k: u64, h: Header) -> Line
     push(put_digits(b, 16, 2, h.channel as u64), b' ')
 }
 
+// Key and EQs.
+fn row_middle(line: Line, h: Header) -> Line
+    requires { ⌜ line .used + 23 ≤ rowOctets ⌝ }
+    ensures { λ r. ⌜ Grown line r (rowMiddle h) ⌝ }
+{
+    let a = push2(line, key_glyph(h), b' ');
+    push(decimal(a, h.eqs as u64), b' ')
+}
+
 // Key, EQs and result.
 fn row_tail(line: Line, h: Header, verdict: RecordVerdict) -> Line
     requires { ⌜ line .used + 34 ≤ rowOctets ⌝ }
     ensures { λ r. ⌜ Grown line r (rowTail h verdict) ⌝ }
 {
-    let a = push2(line, key_glyph(h), b' ');
-    let b = push(decimal(a, h.eqs as u64), b' ');
-    push(result(b, verdict), b'\n')
+    push(result(row_middle(line, h), verdict), b'\n')
 }
 
 // The row of the record with number k.
@@ -178,6 +185,29 @@ pub fn row(k: u64, h: Header, verdict: RecordVerdict) -> Line
         used: 0,
     };
     row_tail(row_head(line, k, h), h, verdict)
+}
+
+// The row of the record with number k that may be seen but not opened (02, C-19).
+pub fn seen_row(k: u64, h: Header) -> Line
+    ensures { λ r. ⌜ Holds r (seenRow k h) ⌝ }
+{
+    let line = Line {
+        octets: [0u8; ROW_OCTETS],
+        used: 0,
+    };
+    let middle = row_middle(row_head(line, k, h), h);
+    push(push4(middle, b's', b'e', b'e', b'n'), b'\n')
+}
+
+// The row of the record with number k whose header may not be seen.
+pub fn hidden_row(k: u64) -> Line
+    ensures { λ r. ⌜ Holds r (hiddenRow k) ⌝ }
+{
+    let line = Line {
+        octets: [0u8; ROW_OCTETS],
+        used: 0,
+    };
+    push(push2(decimal(line, k), b' ', b'-'), b'\n')
 }
 
 // The row of a call that is refused.

@@ -1,6 +1,7 @@
 // Plays every exported call of the library that firmware links, a line for each: its number and what it handed over. What it must print
 // is made by tools/test_calls.py.
 mod block_calls;
+mod class_calls;
 mod line;
 mod near_calls;
 mod olt_calls;
@@ -15,5 +16,6 @@ fn main() {
     payload_calls::play();
     block_calls::play();
     near_calls::play();
+    class_calls::play();
     xgpon_calls::play();
 }

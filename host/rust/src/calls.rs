@@ -211,6 +211,88 @@ pub fn capture_list_near(settings: &[u8], block: &[u8], text: &mut [u8; LISTING_
     }
 }
 
+/// Order of refusals: 23, 14, 1, 3, 15, 18 and 19; of a record: hidden, 1, 10, seen, 9.
+pub fn class_open(caller: Caller, sets: &[u8], rights: &[u8], block: &[u8], output: &mut [u8]) -> BlockAnswer {
+    unsafe {
+        raw::jazmotip_class_open(
+            caller,
+            sets.as_ptr(),
+            sets.len(),
+            rights.as_ptr(),
+            rights.len(),
+            block.as_ptr(),
+            block.len(),
+            output.as_mut_ptr(),
+            output.len(),
+        )
+    }
+}
+
+/// [`class_open`] in the near way, with the same order of refusals.
+pub fn class_open_near(caller: Caller, sets: &[u8], rights: &[u8], block: &[u8], output: &mut [u8]) -> BlockNearAnswer {
+    unsafe {
+        raw::jazmotip_class_open_near(
+            caller,
+            sets.as_ptr(),
+            sets.len(),
+            rights.as_ptr(),
+            rights.len(),
+            block.as_ptr(),
+            block.len(),
+            output.as_mut_ptr(),
+            output.len(),
+        )
+    }
+}
+
+/// The order of [`class_open`]; gives the length of the text.
+pub fn class_list(caller: Caller, sets: &[u8], rights: &[u8], block: &[u8], text: &mut [u8; LISTING_OCTETS]) -> usize {
+    unsafe {
+        raw::jazmotip_class_list(
+            caller,
+            sets.as_ptr(),
+            sets.len(),
+            rights.as_ptr(),
+            rights.len(),
+            block.as_ptr(),
+            block.len(),
+            text.as_mut_ptr(),
+        )
+    }
+}
+
+/// [`class_list`] in the near way.
+pub fn class_list_near(caller: Caller, sets: &[u8], rights: &[u8], block: &[u8], text: &mut [u8; LISTING_OCTETS]) -> usize {
+    unsafe {
+        raw::jazmotip_class_list_near(
+            caller,
+            sets.as_ptr(),
+            sets.len(),
+            rights.as_ptr(),
+            rights.len(),
+            block.as_ptr(),
+            block.len(),
+            text.as_mut_ptr(),
+        )
+    }
+}
+
+/// Order of refusals: 23, 14, 1 for an index above 1, presence and rights, 3, 24.
+pub fn class_load(caller: Caller, sets: &mut [u8], rights: &[u8], llid: u16, index: u8, key: &[u8; 16]) -> u8 {
+    unsafe {
+        raw::jazmotip_class_load(
+            caller,
+            sets.as_mut_ptr(),
+            sets.len(),
+            rights.as_ptr(),
+            rights.len(),
+            llid,
+            index,
+            key.as_ptr(),
+        )
+    }
+}
+
 /// 0 or 14.
 pub fn rearrange(payload: &[u8], output: &mut [u8]) -> u8 {
     unsafe { raw::jazmotip_rearrange(payload.as_ptr(), payload.len(), output.as_mut_ptr(), output.len()) }

@@ -58,7 +58,7 @@ pub fn open(settings: &[u8], block: &[u8], output: &mut [u8]) -> Result<Opened, 
     opened(calls::capture_open(settings, block, output))
 }
 
-fn opened(answer: BlockAnswer) -> Result<Opened, Refusal> {
+pub(crate) fn opened(answer: BlockAnswer) -> Result<Opened, Refusal> {
     Refusal::block_verdict(answer.number, answer.pair).map(|()| Opened {
         count: answer.count,
         runs: answer.runs,
@@ -73,6 +73,6 @@ pub fn list<'a>(settings: &[u8], block: &[u8], text: &'a mut [u8; LISTING_OCTETS
     self::text(&text[..length])
 }
 
-fn text(listing: &[u8]) -> &str {
+pub(crate) fn text(listing: &[u8]) -> &str {
     core::str::from_utf8(listing).expect("a listing is plain ASCII")
 }

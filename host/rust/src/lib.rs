@@ -1,7 +1,8 @@
 //! The Jazmotip link engine for firmware in Rust: sealed SIEPON.4 envelopes (AES-128 in counter mode under the control mask),
-//! both ends of a 25G/50G EPON line, the capture reader, payloads rearranged for the store ([`store`]), and the OLT's key exchange of
-//! an XG-PON line ([`xgpon`]). The engine is `libjazmotip.a`, proved in Rattle; this crate declares it, checks at build time that its
-//! records are laid out alike, and gives it a face with slices and `Result`. It needs no `std`, no heap and no other crate.
+//! both ends of a 25G/50G EPON line, the capture reader, also for a whole [`class`], payloads rearranged for the store ([`store`]),
+//! and the OLT's key exchange of an XG-PON line ([`xgpon`]). The engine is `libjazmotip.a`, proved in Rattle; this crate declares it,
+//! checks at build time that its records are laid out alike, and gives it a face with slices and `Result`. It needs no `std`, no heap
+//! and no other crate.
 //!
 //! ```
 //! use jazmotip::{Identity, Olt, Onu};
@@ -37,6 +38,7 @@
 
 pub mod calls;
 pub mod capture;
+pub mod class;
 mod ends;
 pub mod exercises;
 pub mod raw;
@@ -76,6 +78,10 @@ pub const SETTINGS_OCTETS: usize = 41;
 pub const BLOCK_OCTETS: usize = 65_536;
 /// Records of a capture block, at most.
 pub const RECORDS: usize = 256;
+/// Sets of a class, at most; at least 1.
+pub const SETS: usize = 16;
+/// Users of a class, at most.
+pub const USERS: usize = 16;
 /// Octets of the output that comparing two blocks needs, one for each entry.
 pub const ENTRIES: usize = 512;
 /// The room that a listing needs.

@@ -155,6 +155,59 @@ extern "C" {
         text: *mut u8,
     ) -> usize;
 
+    pub fn jazmotip_class_open(
+        caller: Caller,
+        sets: *const u8,
+        sets_length: usize,
+        rights: *const u8,
+        rights_length: usize,
+        block: *const u8,
+        block_length: usize,
+        output: *mut u8,
+        output_length: usize,
+    ) -> BlockAnswer;
+    pub fn jazmotip_class_open_near(
+        caller: Caller,
+        sets: *const u8,
+        sets_length: usize,
+        rights: *const u8,
+        rights_length: usize,
+        block: *const u8,
+        block_length: usize,
+        output: *mut u8,
+        output_length: usize,
+    ) -> BlockNearAnswer;
+    pub fn jazmotip_class_list(
+        caller: Caller,
+        sets: *const u8,
+        sets_length: usize,
+        rights: *const u8,
+        rights_length: usize,
+        block: *const u8,
+        block_length: usize,
+        text: *mut u8,
+    ) -> usize;
+    pub fn jazmotip_class_list_near(
+        caller: Caller,
+        sets: *const u8,
+        sets_length: usize,
+        rights: *const u8,
+        rights_length: usize,
+        block: *const u8,
+        block_length: usize,
+        text: *mut u8,
+    ) -> usize;
+    pub fn jazmotip_class_load(
+        caller: Caller,
+        sets: *mut u8,
+        sets_length: usize,
+        rights: *const u8,
+        rights_length: usize,
+        llid: u16,
+        index: u8,
+        key: *const u8,
+    ) -> u8;
+
     pub fn jazmotip_rearrange(payload: *const u8, payload_length: usize, output: *mut u8, output_length: usize) -> u8;
     pub fn jazmotip_restore(payload: *const u8, payload_length: usize, output: *mut u8, output_length: usize) -> u8;
     pub fn jazmotip_capture_rearrange(

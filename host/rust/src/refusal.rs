@@ -27,13 +27,15 @@ pub enum Refusal {
     /// The same, where the pair's length does not suit the EQs of its record.
     UnsuitedLength(u16),
     RepeatedRecord,
+    UnknownUser,
+    NoRight,
     OtherKeyIndex,
     BadScript,
 }
 
 impl Refusal {
     /// The refusals that name no pair, in the order of their numbers.
-    const WITHOUT_PAIR: [Refusal; 20] = [
+    const WITHOUT_PAIR: [Refusal; 22] = [
         Refusal::OutOfRange,
         Refusal::UnknownLlid,
         Refusal::RepeatedLlid,
@@ -52,11 +54,13 @@ impl Refusal {
         Refusal::CaptureTooOld,
         Refusal::AtEnd,
         Refusal::RepeatedRecord,
+        Refusal::UnknownUser,
+        Refusal::NoRight,
         Refusal::OtherKeyIndex,
         Refusal::BadScript,
     ];
 
-    /// The number that the engine returns for it, 1 to 19, 22, 25 or 26.
+    /// The number that the engine returns for it, 1 to 19 or 22 to 26.
     pub fn number(self) -> u8 {
         match self {
             Refusal::OutOfRange => 1,
@@ -79,6 +83,8 @@ impl Refusal {
             Refusal::BrokenChain(_) => 18,
             Refusal::UnsuitedLength(_) => 19,
             Refusal::RepeatedRecord => 22,
+            Refusal::UnknownUser => 23,
+            Refusal::NoRight => 24,
             Refusal::OtherKeyIndex => 25,
             Refusal::BadScript => 26,
         }
@@ -131,6 +137,8 @@ impl fmt::Display for Refusal {
             Refusal::BrokenChain(_) => "pair off the chain of offsets",
             Refusal::UnsuitedLength(_) => "length does not suit the record's EQs",
             Refusal::RepeatedRecord => "two records of one block agree in channel index, LLID and clock",
+            Refusal::UnknownUser => "the user's number is 0 or above their count",
+            Refusal::NoRight => "a key loaded without the right to, or for an LLID outside the settings",
             Refusal::OtherKeyIndex => "a report names a key index other than the awaited one",
             Refusal::BadScript => "more than 64 steps, or a step that is unknown or not whole",
         };

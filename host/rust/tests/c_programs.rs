@@ -72,6 +72,8 @@ fn nothing_is_null_with_length_0() {
                     payload: 15\n\
                     open: 14 15 14\n\
                     open near: 14 15 14\n\
+                    class open: 23 14 15\n\
+                    class load: 14\n\
                     rearrange: 15 14\n\
                     restore: 15 14\n\
                     list: no llid ch key eqs result\nrefused 14\n";

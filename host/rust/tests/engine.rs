@@ -3,6 +3,7 @@
 
 mod c_programs;
 mod captures;
+mod class;
 mod lent;
 mod line;
 mod losses;

@@ -51,6 +51,7 @@ layout!(BlockPart, 24, number: 0, pair: 2, offset: 8, length: 16);
 layout!(BlockAnswer, 24, number: 0, expansions: 1, pair: 2, count: 8, runs: 16);
 layout!(BlockNearAnswer, 32, answer: 0, smallest: 24, largest: 25);
 layout!(BlockNearVerdicts, 24, directory: 0, smallest: 16, largest: 17);
+layout!(Caller, 3, sets: 0, users: 1, user: 2);
 layout!(StoreAnswer, 4, number: 0, pair: 2);
 layout!(Comparison, 8, number: 0, block: 1, pair: 2, entries: 4, total: 6);
 layout!(Loss, 16, number: 0, step: 8);

@@ -102,6 +102,18 @@ pub struct BlockNearVerdicts {
     pub largest: i8,
 }
 
+/// Who asks the reader of a class, and of how many sets and users (02, C-19).
+#[repr(C)]
+#[derive(Clone, Copy, Debug, Default, PartialEq, Eq)]
+pub struct Caller {
+    /// 1 to 16.
+    pub sets: u8,
+    /// Up to 16.
+    pub users: u8,
+    /// From 1.
+    pub user: u8,
+}
+
 /// What rearranging or restoring a block gave.
 #[repr(C)]
 #[derive(Clone, Copy, Debug, Default, PartialEq, Eq)]

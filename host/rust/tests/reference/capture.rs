@@ -3,7 +3,7 @@
 
 use super::near::NearClock;
 use super::{payload, refuse_if, Key, Passed, Reply, CLOCK};
-use std::fmt::{Display, Formatter, Write};
+use std::fmt::{Display, Formatter};
 use std::ops::Range;
 
 #[derive(Clone, Copy, Debug, PartialEq, Eq)]
@@ -105,7 +105,7 @@ pub enum Way {
 }
 
 /// What opening does with a record: `None` leaves it, being clear; else the index of the key, the key and the clock.
-type Verdict = Reply<Option<(u8, Key, u64)>>;
+pub type Verdict = Reply<Option<(u8, Key, u64)>>;
 
 fn past_1_and_2(settings: &Settings, record: &Record) -> Reply<()> {
     let channel_known = record.channel & 0b0111_1110 == 0;
@@ -114,7 +114,20 @@ fn past_1_and_2(settings: &Settings, record: &Record) -> Reply<()> {
     refuse_if(record.llid != settings.llid, 2)
 }
 
-fn under_key(settings: &Settings, record: &Record, clock: u64) -> Verdict {
+/// The clock that a header past 1, 2 and 10 is read at.
+pub fn clock_of(settings: &Settings, record: &Record, way: Way, near: &mut NearClock) -> Reply<u64> {
+    past_1_and_2(settings, record)?;
+    match way {
+        Way::Usual => refuse_if(u64::from(record.epam) != record.clock % 64, 10).map(|()| record.clock % CLOCK),
+        Way::Near => {
+            let (clock, correction) = near.taken(record).ok_or(10)?;
+            near.accept(record, correction);
+            Ok(clock)
+        }
+    }
+}
+
+pub fn under_key(settings: &Settings, record: &Record, clock: u64) -> Verdict {
     let (enabled, enckey) = (record.flags & 1, record.flags >> 1 & 1);
     match enabled {
         0 => Ok(None),
@@ -122,25 +135,12 @@ fn under_key(settings: &Settings, record: &Record, clock: u64) -> Verdict {
     }
 }
 
-fn judge_usual(settings: &Settings, record: &Record) -> Verdict {
-    past_1_and_2(settings, record)?;
-    refuse_if(u64::from(record.epam) != record.clock % 64, 10)?;
-    under_key(settings, record, record.clock % CLOCK)
-}
-
-fn judge_near(settings: &Settings, record: &Record, near: &mut NearClock) -> Verdict {
-    past_1_and_2(settings, record)?;
-    let (clock, correction) = near.taken(record).ok_or(10)?;
-    near.accept(record, correction);
-    under_key(settings, record, clock)
-}
-
 /// The verdicts on all records in their order, and the smallest and the largest correction.
 fn judge(settings: &Settings, records: &[Record], way: Way) -> (Vec<Verdict>, (i8, i8)) {
     let mut near = NearClock::default();
-    let verdicts = records.iter().map(|record| match way {
-        Way::Usual => judge_usual(settings, record),
-        Way::Near => judge_near(settings, record, &mut near),
+    let verdicts = records.iter().map(|record| {
+        let clock = clock_of(settings, record, way, &mut near)?;
+        under_key(settings, record, clock)
     });
     (verdicts.collect(), near.extremes())
 }
@@ -178,6 +178,20 @@ pub struct Opened {
     pub corrections: (i8, i8),
 }
 
+impl Opened {
+    /// Puts a record, of which the octets are a copy, as the verdict on it has it.
+    pub fn put(&mut self, record: &Record, mac: u64, verdict: Verdict) {
+        if let Ok(Some((_, key, clock))) = verdict {
+            let sealed = &self.octets[record.payload.clone()];
+            let Passed { octets, count, runs } = payload::pass(&key, record.channel, mac, clock, sealed);
+            self.octets[record.payload.clone()].copy_from_slice(&octets);
+            self.octets[record.offset + 4] &= 0b1111_1100;
+            self.count += count;
+            self.runs += runs;
+        }
+    }
+}
+
 pub fn open(octets: &[u8], block: &[u8], output: usize, way: Way) -> Result<Opened, Refused> {
     refuse_if(octets.len() != 41 || output != block.len(), 14)?;
     let settings = settings(octets)?;
@@ -186,39 +200,39 @@ pub fn open(octets: &[u8], block: &[u8], output: usize, way: Way) -> Result<Open
     let (verdicts, corrections) = judge(&settings, &records, way);
     let mut opened = Opened { octets: block.to_vec(), count: 0, runs: 0, expansions, corrections };
     for (record, verdict) in records.into_iter().zip(verdicts) {
-        if let Ok(Some((_, key, clock))) = verdict {
-            let sealed = &block[record.payload.clone()];
-            let Passed { octets, count, runs } = payload::pass(&key, record.channel, settings.mac, clock, sealed);
-            opened.octets[record.payload].copy_from_slice(&octets);
-            opened.octets[record.offset + 4] &= 0b1111_1100;
-            opened.count += count;
-            opened.runs += runs;
-        }
+        opened.put(&record, settings.mac, verdict);
     }
     Ok(opened)
 }
 
+pub const HEADING: &str = "no llid ch key eqs result\n";
+
+pub fn result(verdict: Verdict) -> String {
+    match verdict {
+        Ok(_) => "open".to_string(),
+        Err(refusal) => format!("refused {refusal}"),
+    }
+}
+
+/// The line of record `k`.
+pub fn line(k: usize, record: &Record, result: &str) -> String {
+    let key = match record.flags & 1 {
+        0 => "-".to_string(),
+        _ => (record.flags >> 1 & 1).to_string(),
+    };
+    let (llid, channel, eqs) = (record.llid, record.channel, record.eqs);
+    format!("{k} {llid:04x} {channel:02x} {key} {eqs} {result}\n")
+}
+
 /// What the reader program prints.
 pub fn listing(octets: &[u8], block: &[u8], way: Way) -> String {
-    let mut text = String::from("no llid ch key eqs result\n");
     let read = settings(octets).map_err(Refused::from).and_then(|settings| Ok((settings, directory(block)?)));
     match read {
-        Err(refusal) => writeln!(text, "refused {refusal}").expect("text"),
+        Err(refusal) => format!("{HEADING}refused {refusal}\n"),
         Ok((settings, records)) => {
             let (verdicts, _) = judge(&settings, &records, way);
-            for (i, (record, verdict)) in records.iter().zip(verdicts).enumerate() {
-                let key = match record.flags & 1 {
-                    0 => "-".to_string(),
-                    _ => (record.flags >> 1 & 1).to_string(),
-                };
-                let result = match verdict {
-                    Ok(_) => "open".to_string(),
-                    Err(refusal) => format!("refused {refusal}"),
-                };
-                let (llid, channel, eqs) = (record.llid, record.channel, record.eqs);
-                writeln!(text, "{} {llid:04x} {channel:02x} {key} {eqs} {result}", i + 1).expect("text");
-            }
+            let lines = records.iter().zip(verdicts).enumerate();
+            HEADING.to_string() + &lines.map(|(i, (record, verdict))| line(i + 1, record, &result(verdict))).collect::<String>()
         }
     }
-    text
 }

@@ -4,6 +4,7 @@
 
 pub mod aes;
 pub mod capture;
+pub mod class;
 pub mod losses;
 pub mod near;
 pub mod olt;

@@ -6,9 +6,9 @@ use denote.Ref.{now}
 use borrow.Author.Needs.{needs}
 use borrow.Author.Tests.{eq-eqb, ne-eqb}
 use Rattle.records.specs.Block.{recordsIn}
-use Rattle.recordings.specs.Each.{each}
+use Rattle.octets.specs.Each.{each}
 use Rattle.recordings.specs.Pairing.{unlikeRest, distinct}
-use Rattle.recordings.proofs.Each.{each-step, each-stop, each-end}
+use Rattle.octets.proofs.Each.{each-step, each-stop, each-end}
 use Rattle.recordings.proofs.Pairing.{unlike-tested}
 use Rattle.recordings.proofs.partners.is_distinct.Statement.{statement}
 use Rattle.recordings.proofs.partners.is_distinct.Tie as tie

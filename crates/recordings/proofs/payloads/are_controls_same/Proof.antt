@@ -6,9 +6,9 @@ use denote.Ref.{now}
 use borrow.Author.Needs.{needs}
 use borrow.Author.Tests.{eq-eqb, ne-eqb}
 use Rattle.envelope.specs.ControlMask.{controlOctet}
-use Rattle.recordings.specs.Each.{each}
+use Rattle.octets.specs.Each.{each}
 use Rattle.recordings.specs.Sameness.{sameControl}
-use Rattle.recordings.proofs.Each.{each-step, each-stop, each-end}
+use Rattle.octets.proofs.Each.{each-step, each-stop, each-end}
 use Rattle.recordings.proofs.payloads.are_controls_same.Statement.{statement}
 use Rattle.recordings.proofs.payloads.are_controls_same.Tie as tie
 

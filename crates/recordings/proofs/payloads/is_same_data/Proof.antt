@@ -11,9 +11,9 @@ use Rattle.octets.proofs.Choice.{both-false-left}
 use Rattle.records.specs.declared.header.Header.{Header}
 use Rattle.records.specs.Record.{recordHeader, payloadOf}
 use Rattle.records.specs.Block.{recordOf}
-use Rattle.recordings.specs.Each.{each}
+use Rattle.octets.specs.Each.{each}
 use Rattle.recordings.specs.Sameness.{sameEq, sameData}
-use Rattle.recordings.proofs.Each.{each-step, each-stop, each-end}
+use Rattle.octets.proofs.Each.{each-step, each-stop, each-end}
 use Rattle.recordings.proofs.payloads.is_same_data.Statement.{statement}
 use Rattle.recordings.proofs.payloads.is_same_data.Tie as tie
 

@@ -9,9 +9,9 @@ use denote.Ref.{now}
 use borrow.Author.Needs.{needs}
 use borrow.Author.Tests.{eq-eqb, ne-eqb}
 use Rattle.envelope.specs.ControlMask.{dataOctet}
-use Rattle.recordings.specs.Each.{each}
+use Rattle.octets.specs.Each.{each}
 use Rattle.recordings.specs.Sameness.{dataOctets, sameEq}
-use Rattle.recordings.proofs.Each.{each-step, each-stop, each-end}
+use Rattle.octets.proofs.Each.{each-step, each-stop, each-end}
 use Rattle.recordings.proofs.payloads.is_same_eq.Statement.{statement}
 use Rattle.recordings.proofs.payloads.is_same_eq.Tie as tie
 

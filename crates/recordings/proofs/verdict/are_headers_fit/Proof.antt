@@ -11,9 +11,9 @@ use Rattle.records.specs.declared.header.Header.{Header}
 use Rattle.records.specs.Record.{recordHeader}
 use Rattle.records.specs.Verdict.{headerFits}
 use Rattle.records.specs.Block.{recordsIn, recordOf}
-use Rattle.recordings.specs.Each.{each}
+use Rattle.octets.specs.Each.{each}
 use Rattle.recordings.specs.Comparing.{headersFit}
-use Rattle.recordings.proofs.Each.{each-step, each-stop, each-end}
+use Rattle.octets.proofs.Each.{each-step, each-stop, each-end}
 use Rattle.recordings.proofs.verdict.are_headers_fit.Statement.{statement}
 use Rattle.recordings.proofs.verdict.are_headers_fit.Tie as tie
 

@@ -6,9 +6,9 @@ use native.Mathlib.Numerals.{add-one}
 use native.Mathlib.Omega.{arith}
 use lib.Dec.{leb}
 use borrow.Author.Tests.{leb-true, leb-false}
 use Rattle.octets.specs.Choice.{both}
 use Rattle.octets.proofs.Choice.{both-left, both-right, both-true, both-false-left}
-use Rattle.recordings.specs.Each.{each}
+use Rattle.octets.specs.Each.{each}
 
 each-at-by : (t : Bool) (i n : ℕ) (p : ℕ → Bool) (k : ℕ) → leb (suc i) k ≡ t → each i n p ≡ true → i ≤ k → k < i + n → p k ≡ true
 unfolding each

@@ -1,0 +1,9 @@
+pub mod Placing
+pub mod Expanding
+pub mod Turns
+pub mod Calls
+pub mod Secrets
+pub mod Readers
+pub mod Alone
+pub mod Examples
+pub mod Texts

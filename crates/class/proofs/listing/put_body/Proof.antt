@@ -1,0 +1,63 @@
+-- `class::listing::put_body` meets its contract: the rows of a call that goes on, or the row of its refusal. Assumes nothing.
+use mathlib.Core.Path.{_≡_, sym, ap, _∙_}
+use mathlib.Core.Bool.{true}
+use mathlib.Core.List.{List, _++_}
+use Prim.Native.Nat.{ℕ}
+use native.Mathlib.Omega.{arith}
+use lib.ListN.{take}
+use denote.Ref.{now}
+use borrow.Author.Needs.{needs}
+use Rattle.rows.proofs.Lines.{refused-row-few}
+use Rattle.capture.specs.declared.directory.Directory.the-variants.{Good}
+use Rattle.capture.proofs.Records.{good}
+use Rattle.class.specs.Reading.{callFor}
+use Rattle.class.specs.Listing.{bodyAfter}
+use Rattle.class.proofs.Calls.{found}
+use Rattle.class.proofs.listing.put_body.Statement.{statement}
+use Rattle.class.proofs.listing.put_body.Tie as tie
+
+abbrev start : tie.After-call-for → tie.Start
+start c = c .before .before .before .before .before
+
+-- what the call found
+went-on : (c : tie.After-n)
+    → let a = start (c .before .before) .args in callFor true (a .caller) (now (a .sets)) (now (a .rights)) (now (a .block)) ≡ Good (c .n .given .0 .0)
+went-on c = sym (c .before .before .call-for .ensures) ∙ c .n .given .1
+
+put-line-requires : tie.Need-put-line-requires
+put-line-requires c κs =
+    let x = c .before .before .before in
+    (omega (arith, c .refused-row .ensures .used, refused-row-few (x .refusal .given .0 .0)), omega (arith, start (x .before .before) .pre))
+
+put-rows-requires : tie.Need-put-rows-requires
+put-rows-requires c κs = let x = c .before .before in (found _ _ _ _ _ _ (went-on x) .good, start (x .before .before) .pre)
+
+returns : tie.Need-returns
+unfolding bodyAfter
+returns c =
+    let row = c .before .before .before in
+    let x = row .before .before .before in
+    let a = start (x .before .before) .args in
+    let q = c .before .before .put-line .ensures in (
+      (q .0 .0, omega (arith, q .0 .1)),
+      (
+        q .1 .0
+            ∙ rw (← x .before .before .call-for .ensures, x .refusal .given .1)
+            (ap (λ (t : List ℕ). take (a .at) (now (a .text)) ++ t) (row .refused-row .ensures .octets)),
+        q .1 .1,
+      ),
+    )
+
+returns-2 : tie.Need-returns-2
+unfolding bodyAfter
+returns-2 c =
+    let x = c .before .before .before .before .before in
+    let f = found _ _ _ _ _ _ (went-on x) in
+    let q = c .before .before .put-rows .ensures in
+    (q .0, (q .1 .0 ∙ rw (went-on x, good _ _ (f .good) .count), q .1 .1))
+
+pub put-body-spec : {M : Type 1} → statement M
+put-body-spec =
+    tie.close
+    (tie.spec (λ c κs. search needs) (λ c. search needs) (λ c κs. search needs) put-line-requires (λ c. search needs) put-rows-requires (λ c. search needs)
+    returns (λ c. search needs) returns-2)

@@ -1,0 +1,6 @@
+pub mod Settings
+pub mod Rights
+pub mod Verdict
+pub mod Judging
+pub mod Loading
+pub mod Claims

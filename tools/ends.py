@@ -1,13 +1,18 @@
-"""What the two ends of tools/olt.py and tools/onu.py share, written from document 01 (Clock; Keys; 'When the reader says no') and the
-decisions on it (docs/DECISIONS.md).
+"""What the two ends of tools/olt.py and tools/onu.py share, written from document 01 (Clock; Keys; 'When the reader says no'), from
+document 02 (C-14) and the decisions on both (docs/DECISIONS.md).
 
 These ends share no code with the engine; the tools that say what it must give play on them. A call returns the number, and beside it
 what it hands over.
 """
 
+from collections import namedtuple
+
 TURN, LOCAL, LAST, SECOND, LIFE = 2**48, 2**32, 2**62, 390625000, 2**48
 TOP = 2**32 - 1
-NO_STAMPS, NO_MESSAGE, NO_ANSWER, NO_HEADER = (0, 0), (0, 0, bytes(16)), (0, 0), (0, 0, 0, 0, 0)
+
+# kind 1 to a clock message, 2 to a key message; to a group's the unit is named, by an LLID of its own
+Answer = namedtuple("Answer", "kind number named unit", defaults=(0, 0))
+NO_STAMPS, NO_MESSAGE, NO_ANSWER, NO_HEADER = (0, 0), (0, 0, bytes(16)), Answer(0, 0), (0, 0, 0, 0, 0)
 
 
 class Named:

@@ -1,4 +1,4 @@
-"""The OLT, written from document 01 and the decisions on it. Shares no code with the engine."""
+"""The OLT with its groups, written from document 01, from document 02 (C-14) and the decisions on both. Shares no code with the engine."""
 from ends import LAST, NO_HEADER, NO_MESSAGE, NO_STAMPS, SECOND, TOP, TURN, Named, good_header, old
 from sealing import misfit, seal
 
@@ -22,35 +22,83 @@ class Unit:
         return self.flag == 1 and self.O == self.A + 1 and self.mark == 1
 
 
+class Group:
+    """The OLT's record of a group. `places` of members among the units and `marks`, the first `members` of which are in use."""
+
+    def __init__(self, llid, interval, places):
+        self.llid, self.interval, self.members = llid, interval, len(places)
+        self.places, self.marks = (list(places) + [0] * 8)[:8], [0] * 8
+        self.count = self.flag = self.A = self.O = self.noted = self.first = 0
+        self.keys = [bytes(16), bytes(16)]
+
+    def used(self):
+        return self.places[:self.members]
+
+    def valid(self, units, tick):
+        flags = [self.flag, self.noted, *self.marks[:self.members]]
+        return (1 <= self.members <= 8 and all(p < units for p in self.used()) and len(set(self.used())) == self.members
+                and 1 <= self.interval <= 2**47 and self.count < self.interval and max(flags) <= 1
+                and not (self.noted and self.first > tick) and self.A <= self.O <= self.A + 1 and self.O <= TOP)
+
+    def switches(self):
+        """Acknowledged or not."""
+        return self.flag == 1 and self.O == self.A + 1
+
+
 class Olt:
     def __init__(self, mac=0, clock=0):
         self.mac, self.clock, self.tick, self.free, self.count = mac, clock, 0, [0, 0], 0
         self.units = [Unit(Named(0, []), 0, 0) for _ in range(16)]
+        self.groups, self.groupcount = [Group(0, 0, []) for _ in range(16)], 0
 
     def valid(self):
-        if self.count > 16:
+        if self.count + self.groupcount > 16:
             return False
-        used = self.units[:self.count]
-        llids = [x for u in used for x in u.named.llids()]
+        used, groups = self.units[:self.count], self.groups[:self.groupcount]
+        llids = [x for u in used for x in u.named.llids()] + [g.llid for g in groups]
         return (self.mac < 2**48 and self.clock < TURN and self.tick <= LAST and max(self.free) <= LAST + 4194304
-                and all(u.valid(self.tick) for u in used) and len(set(llids)) == len(llids))
+                and all(u.valid(self.tick) for u in used) and all(g.valid(self.count, self.tick) for g in groups)
+                and len(set(llids)) == len(llids))
+
+    def group(self, llid):
+        return next((g for g in self.groups[:self.groupcount] if g.llid == llid), None)
+
+    def place(self, llid):
+        return next((i for i, u in enumerate(self.units[:self.count]) if llid in u.named.llids()), None)
 
     def unit(self, llid):
         return next((u for u in self.units[:self.count] if llid in u.named.llids()), None)
 
-    def ahead(self, llid):
-        """1 for the end that is lent, then 2."""
-        return 1 if not self.valid() else 2 if self.unit(llid) is None else 0
+    def ahead(self, llid, grouped=False):
+        """1 for the end that is lent, then 2; `grouped` where a group may be named."""
+        if not self.valid():
+            return 1
+        return 0 if self.unit(llid) or grouped and self.group(llid) else 2
 
     def register(self, named, trip, interval):
         if not self.valid() or not named.in_range() or trip > 1000000 or not 1 <= interval <= 2**47:
             return 1
-        if named.twice() or any(self.unit(x) for x in named.llids()):
+        if named.twice() or any(self.unit(x) or self.group(x) for x in named.llids()):
             return 3
-        if self.count == 16:
+        if self.count + self.groupcount == 16:
             return 4
         self.units[self.count] = Unit(named.kept(), trip, interval)
         self.count += 1
+        return 0
+
+    def register_group(self, llid, interval, named):
+        """`named` are the LLIDs by which members are named, however many."""
+        if not self.valid() or not 1 <= interval <= 2**47 or not named:
+            return 1
+        places = [self.place(x) for x in named]
+        if len(named) > 8 or None in places or len(set(places)) < len(places):
+            return 21
+        if self.unit(llid) or self.group(llid):
+            return 3
+        if self.count + self.groupcount == 16:
+            return 4
+        self.groups[self.groupcount] = Group(llid, interval, places)
+        self.groupcount += 1
         return 0
 
     def advance(self, n):
@@ -59,7 +107,7 @@ class Olt:
         if self.tick + n > LAST:
             return 17
         self.tick, self.clock = self.tick + n, (self.clock + n) % TURN
-        for u in self.units[:self.count]:
+        for u in self.units[:self.count] + self.groups[:self.groupcount]:
             u.flag = 1 if u.count + n >= u.interval else u.flag
             u.count = (u.count + n) % u.interval
         return 0
@@ -83,34 +131,52 @@ class Olt:
         return 0, (rx, (rx + u.trip) % TURN)
 
     def offer(self, llid, key):
-        number, u = self.ahead(llid), self.unit(llid)
+        number, g = self.ahead(llid, True), self.group(llid)
+        u = g or self.unit(llid)
         if number:
             return number, NO_MESSAGE
-        if not u.clocked:
+        if not all(m.clocked for m in ([self.units[p] for p in g.used()] if g else [u])):
             return 5, NO_MESSAGE
-        if u.O > u.A or u.C < u.A:
+        if u.O > u.A or not g and u.C < u.A:
             return 6, NO_MESSAGE
         if u.A >= 1 and u.keys[u.A % 2] == key:
             return 7, NO_MESSAGE
         if u.A == TOP:
             return 17, NO_MESSAGE
-        u.O, u.mark = u.A + 1, 0
+        u.O = u.A + 1
+        if g:
+            g.marks = [0] * 8
+        else:
+            u.mark = 0
         u.keys[u.O % 2] = key
         return 0, (llid, u.O, key)
 
     def retry(self, llid):
-        number, u = self.ahead(llid), self.unit(llid)
+        number, u = self.ahead(llid, True), self.group(llid) or self.unit(llid)
         if number or u.O == u.A:
             return number or 8, NO_MESSAGE
         return 0, (llid, u.O, u.keys[u.O % 2])
 
+    def acknowledge_group(self, g, answer):
+        if answer.kind == 1:
+            return 2
+        place = self.place(answer.unit) if answer.named == 1 else None
+        if place not in g.used() or answer.kind != 2 or g.O < 1 or answer.number != g.O:
+            return 8
+        g.marks[g.used().index(place)] = 1
+        return 0
+
     def acknowledge(self, llid, answer):
-        number, u = self.ahead(llid), self.unit(llid)
+        number, u, g = self.ahead(llid, True), self.unit(llid), self.group(llid)
         if number:
             return number
-        if answer[0] == 1 and u.sent:
+        if g:
+            return self.acknowledge_group(g, answer)
+        if answer.named != 0:
+            return 8
+        if answer.kind == 1 and u.sent:
             u.clocked = 1
-        elif answer[0] == 2 and u.O >= 1 and answer[1] == u.O:
+        elif answer.kind == 2 and u.O >= 1 and answer.number == u.O:
             u.mark = 1
         else:
             return 8
@@ -123,7 +189,7 @@ class Olt:
             return 14
         if channel not in (0x00, 0x01):
             return 1
-        u = self.unit(llid)
+        u = self.group(llid) or self.unit(llid)
         if u is None:
             return 2
         if self.tick < self.free[channel]:
@@ -134,9 +200,12 @@ class Olt:
         number = self.send_number(llid, channel, payload, out)
         if number:
             return number, NO_HEADER, 0, out
-        u = self.unit(llid)
+        g = self.group(llid)
+        u = g or self.unit(llid)
         if u.switches():
             u.A, u.flag, u.noted = u.O, 0, 0
+            if g:
+                g.keys[1 - g.A % 2] = bytes(16)
         if u.A >= 1 and not u.noted:
             u.noted, u.first = 1, self.tick
         self.free[channel] = self.tick + len(payload) // 9 + 1
@@ -151,6 +220,8 @@ class Olt:
             return 14
         if not good_header(header, 0x80):
             return 1
+        if self.group(llid):
+            return 20
         u = self.unit(llid)
         if u is None:
             return 2

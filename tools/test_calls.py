@@ -95,6 +95,24 @@ class Line:
         self.advance(100)
         show("olt_acknowledge", self.olt.acknowledge(6, ack))
 
+    def group(self):
+        """A group of the unit, clear and sealed; upwards both ends refuse its LLID."""
+        for named in ([], [6, 5], [6], [6]):
+            show("olt_register_group", self.olt.register_group(7, 1000, named))
+        for _ in range(2):
+            show("onu_join", self.onu.join(7))
+        self.down(7, 0x00)
+        message = self.offered("olt_offer", *self.olt.offer(7, KEY))
+        self.advance(150)
+        number, ack = self.onu.key_message(message)
+        show("onu_key_message", number, f" {ack.kind} {ack.named} {ack.unit} {ack.number}")
+        self.advance(100)
+        show("olt_acknowledge", self.olt.acknowledge(7, ack))
+        self.advance(1000)
+        self.down(7, 0x01)
+        _, octets = self.send("onu", 7, 0x80)
+        self.receive("olt", ((0x80, 7, 0, 0, 0), octets))
+
     def refusals(self):
         show("olt_capture", self.olt.capture(9))
         self.offered("olt_retry", *self.olt.retry(5))
@@ -115,6 +133,7 @@ def ends():
     line.down(5, 0x01)
     line.up(6, 0x81)
     line.refusals()
+    line.group()
 
 
 # ---- payloads

@@ -7,7 +7,7 @@ Shares no code with the engine; AES-128 is that of the Python package `cryptogra
 import sys
 
 import script
-from ends import NO_ANSWER, NO_HEADER, NO_MESSAGE, NO_STAMPS, Named
+from ends import NO_ANSWER, NO_HEADER, NO_MESSAGE, NO_STAMPS, Answer, Named
 from olt import fresh_olt
 from onu import fresh_onu
 
@@ -46,12 +46,17 @@ class Play:
 
     def speak_of(self, end):
         self.at, self.place, self.payload, self.length, self.room = end, 0, eqs(0x00, 0x81, 0x01, 0x00), 27, 27
+        self.spoken = 0
 
     def end(self):
         return self.olt if self.at == "olt" else self.onus[self.at]
 
     def unit(self):
         return self.olt.units[self.place]
+
+    def group(self):
+        """The group that is spoken of, at the OLT or at a unit."""
+        return self.olt.groups[self.spoken] if self.at == "olt" else self.end().joined[self.spoken]
 
     def send(self, llid, channel, place):
         self.number, self.header, self.count, self.out = self.end().send(llid, channel, self.payload[:self.length], b"\xaa" * self.room)
@@ -70,6 +75,16 @@ class Play:
         u.C, u.A, u.O, u.sent, u.clocked = confirmed, active, offered, 1, 1
         keyed(u.keys, active, other)
 
+    def viewers(self, active, offered, other):
+        self.keyed_olt(0, 0, 0, 0)
+        self.olt.register(Named(0x020000000003, [7]), 0, 1000)
+        second = self.olt.units[1]
+        second.sent = second.clocked = 1
+        keyed(second.keys, 0, 0)
+        self.number, g = self.olt.register_group(9, 1000, [6, 7]), self.olt.groups[0]
+        g.A, g.O = active, offered
+        keyed(g.keys, active, other)
+
     def full(self):
         self.olt = fresh_olt(OLT_MAC, 0)[1]
         for n in range(16):
@@ -80,6 +95,24 @@ class Play:
         o.tick, o.synced, o.time, o.rx, o.a, o.held = 100, 1, 2**32 + 65, 2**32 + 65 - 250, active, held
         keyed(o.keys, active, other)
         self.onus[self.at] = o
+
+    def set_group_field(self, name, n):
+        """True if the word is one of a group's."""
+        g = self.group()
+        if name == "groups":
+            setattr(self.end(), "groupcount" if self.at == "olt" else "joinedcount", n[0])
+        elif name in ("member", "group_mark") and self.at == "olt":
+            (g.places if name == "member" else g.marks)[n[0]] = n[1]
+        else:
+            fields = {"group_llid": "llid", "group_interval": "interval", "group_count": "count", "group_flag": "flag", "group_noted": "noted",
+                      "group_first": "first", "group_active": "A", "group_offered": "O", "members": "members"}
+            joined = {"joined_llid": "llid", "joined_active": "a", "joined_held": "held", "joined_kept": "kept"}
+            field = (fields if self.at == "olt" else joined).get(name)
+            if field is None:
+                return False
+            setattr(g, field, n[0])
+        self.number = 0
+        return True
 
     def set_field(self, name, value):
         end = self.end()
@@ -105,6 +138,11 @@ class Play:
             self.keyed_olt(*n[:4])
         elif word == "full":
             self.full()
+        elif word == "viewers":
+            self.viewers(*n[:3])
+        elif word == "register_group":
+            # how many members, the LLIDs of the first three; each one after is four higher than the one before
+            self.number = o.register_group(n[0], n[1], [n[3], n[4], n[5], *(n[5] + 4 * k for k in range(1, 254))][:n[2]])
         elif word == "timer":
             self.number = o.units[0].flag
         elif word == "register":
@@ -118,10 +156,10 @@ class Play:
         elif word == "retry":
             self.number, self.message = o.retry(n[0])
         elif word == "acknowledge":
-            self.number = o.acknowledge(n[0], (n[1], n[2]))
+            self.number = o.acknowledge(n[0], Answer(n[1], n[2], n[3], n[4]))
         elif word == "arrive":
             self.number = o.acknowledge(n[0], self.answer)
-        else:
+        elif not self.set_group_field(word, n):
             self.set_field(word, named(n) if word == "identity" else n[0])
 
     def at_onu(self, word, n):
@@ -130,6 +168,8 @@ class Play:
             self.number, self.onus[self.at] = fresh_onu(named(n), n[4], n[5])
         elif word == "keyed":
             self.keyed_onu(*n[:3])
+        elif word == "join":
+            self.number = o.join(n[0])
         elif word == "clock_message":
             self.number, self.answer = o.clock_message((n[0], n[1]))
         elif word == "clock_arrives":
@@ -138,7 +178,7 @@ class Play:
             self.number, self.answer = o.key_message((n[0], n[1], key(n[2])))
         elif word == "key_arrives":
             self.number, self.answer = o.key_message(self.message)
-        else:
+        elif not self.set_group_field(word, n):
             self.set_field(word, named(n) if word == "identity" else n[0])
 
     def command(self, word, n):
@@ -146,6 +186,8 @@ class Play:
             self.speak_of(word)
         elif word == "unit":
             self.place = n[0]
+        elif word == "group":
+            self.spoken = n[0]
         elif word == "lengths":
             self.length, self.room = n[:2]
         elif word == "control":
@@ -169,13 +211,21 @@ class Play:
         noted = u if self.at == "olt" else o
         return text + f", first {noted.noted} {noted.first}, free {o.free[0]} {o.free[1]}"
 
+    def group_state(self):
+        o, g = self.end(), self.group()
+        if self.at != "olt":
+            return f", LLID {g.llid} a {g.a} kept {g.kept} held {g.held}"
+        members = "".join(f" {p}" for p in g.places[:g.members]) + ", marks" + "".join(f" {m}" for m in g.marks[:g.members])
+        return (f", LLID {g.llid} A {g.A} O {g.O}, flag {g.flag}, first {g.noted} {g.first}, free {o.free[0]} {o.free[1]}"
+                f", members{members}")
+
     def value(self, name):
         o, u = self.end(), self.unit()
         if self.at == "olt":
             return {"MAC": o.mac, "tick": o.tick, "clock": o.clock, "units": o.count, "count": u.count, "flag": u.flag,
-                    "acknowledged": u.mark, "Rx": self.stamps[0], "Tx": self.stamps[1]}[name]
+                    "acknowledged": u.mark, "Rx": self.stamps[0], "Tx": self.stamps[1], "groups": o.groupcount}[name]
         return {"MAC": o.named.mac, "LLIDs": o.named.count, "tick": o.tick, "Rx": o.rx, "Tx": o.time, "LocalTime": o.time,
-                "held": o.held, "kind": self.answer[0]}[name]
+                "held": o.held, "kind": self.answer.kind, "groups": o.joinedcount}[name]
 
     def shown(self, name):
         u, o, (i, l, e, k, p) = self.unit(), self.end(), self.header
@@ -195,7 +245,15 @@ class Play:
         if name == "message":
             return f", LLID {self.message[0]}, number {self.message[1]}, octet {self.message[2][0]}"
         if name == "answer":
-            return ", kind {}, number {}".format(*self.answer)
+            return f", kind {self.answer.kind}, number {self.answer.number}"
+        if name == "named":
+            return f", named {self.answer.named}, unit {self.answer.unit}"
+        if name == "passed":
+            return passed
+        if name == "group":
+            return self.group_state()
+        if name == "group_slots":
+            return f", {self.group().keys[0].hex()} {self.group().keys[1].hex()}"
         if name == "ends":
             return " {} {}".format(*self.others) + f", tick {self.olt.tick}, clock {self.olt.clock:012x}"
         if name == "keys":

@@ -4,6 +4,7 @@
 #include "bytecipher.h"
 #include "calls.h"
 #include "exercises.h"
+#include "groups.h"
 #include "jazmotip.h"
 #include "measure.h"
 #include "openssl.h"
@@ -415,6 +416,7 @@ int main(int argc, char **argv)
     print_class();
     yardstick_print();
     calls_print();
+    groups_print();
     planes_print();
     recordings_print();
     exercises_print();

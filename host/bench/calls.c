@@ -33,7 +33,7 @@ CALL(olt_clock_send, jazmotip_clock_sent, jazmotip_olt_clock_send(s->captured, s
 CALL(olt_offer, jazmotip_key_sent, jazmotip_olt_offer(s->steady, s->llid, second_key), s->number)
 CALL(olt_retry, jazmotip_key_sent, jazmotip_olt_retry(s->offered, s->llid), s->number)
 CALL(olt_acknowledge, jazmotip_olt_answer,
-     jazmotip_olt_acknowledge(s->offered, s->llid, ((jazmotip_acknowledgement){2, 1})), s->number)
+     jazmotip_olt_acknowledge(s->offered, s->llid, ((jazmotip_acknowledgement){.kind = 2, .number = 1})), s->number)
 CALL(olt_send_0, jazmotip_olt_sent,
      jazmotip_olt_send(s->steady, s->llid, 0, s->eight->input, 0, s->eight->output, 0), s->number)
 CALL(olt_send_8, jazmotip_olt_sent,

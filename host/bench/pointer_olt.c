@@ -44,24 +44,44 @@ static inline int valid_shared(const jazmotip_shared *s)
            s->channels.one <= MAX_FREE;
 }
 
+static inline int valid_keys(const jazmotip_unit_keys *k, uint64_t tick)
+{
+    const jazmotip_timer *timer = &k->timer;
+    const jazmotip_first_send *first = &k->first;
+    return timer->interval <= JAZMOTIP_MAX_INTERVAL && timer->count < timer->interval && timer->flag <= 1 && first->noted <= 1 &&
+           (!first->noted || first->tick <= tick) && k->active <= k->offered;
+}
+
 static inline int valid_unit(const jazmotip_unit *u, uint64_t tick)
 {
-    const jazmotip_timer *timer = &u->keys.timer;
-    const jazmotip_first_send *first = &u->keys.first;
     const jazmotip_confirmation *shown = &u->confirmation;
     const jazmotip_unit_clock *clock = &u->clock;
-    return u->identity.mac < TURN && u->identity.count - 1u < JAZMOTIP_LLIDS && timer->interval <= JAZMOTIP_MAX_INTERVAL &&
-           timer->count < timer->interval && timer->flag <= 1 && first->noted <= 1 && (!first->noted || first->tick <= tick) &&
-           shown->confirmed <= u->keys.active && u->keys.active <= u->keys.offered &&
+    return u->identity.mac < TURN && u->identity.count - 1u < JAZMOTIP_LLIDS && valid_keys(&u->keys, tick) &&
+           shown->confirmed <= u->keys.active &&
            u->keys.offered - shown->confirmed <= 1 && shown->acknowledged <= 1 && clock->trip <= JAZMOTIP_MAX_TRIP &&
            clock->captured <= 1 && (!clock->captured || clock->tick <= tick) && clock->sent <= 1 && clock->acknowledged <= 1;
+}
+
+/* Of an OLT with that many units. */
+static inline int valid_group(const jazmotip_group *g, uint64_t tick, unsigned units)
+{
+    const jazmotip_members *m = &g->members;
+    unsigned seen = 0;
+    if (m->count - 1u >= JAZMOTIP_MEMBERS || !valid_keys(&g->keys, tick) || g->keys.offered - g->keys.active > 1)
+        return 0;
+    for (unsigned j = 0; j < m->count; j++) {
+        if (m->places[j] >= units || m->marks[j] > 1 || (seen >> m->places[j] & 1) != 0)
+            return 0;
+        seen |= 1u << m->places[j];
+    }
+    return 1;
 }
 
 /* Whether a call could have made this end. */
 static int valid(const jazmotip_olt *olt)
 {
     struct llids llids;
-    if (olt->count > JAZMOTIP_UNITS || !valid_shared(&olt->shared))
+    if (olt->count + olt->groupcount > (int)JAZMOTIP_UNITS || !valid_shared(&olt->shared))
         return 0;
     memset(llids.head, 0, sizeof llids.head);
     llids.count = 0;
@@ -74,6 +94,11 @@ static int valid(const jazmotip_olt *olt)
                 return 0;
         }
     }
+    for (unsigned i = 0; i < olt->groupcount; i++) {
+        const jazmotip_group *g = &olt->groups[i];
+        if (!valid_group(g, olt->shared.tick, olt->count) || !add(&llids, g->llid))
+            return 0;
+    }
     return 1;
 }
 
@@ -85,6 +110,15 @@ static jazmotip_unit *find(jazmotip_olt *olt, uint16_t llid)
             if (u->identity.llids[j] == llid)
                 return u;
         }
+    }
+    return NULL;
+}
+
+static jazmotip_group *find_group(jazmotip_olt *olt, uint16_t llid)
+{
+    for (unsigned i = 0; i < olt->groupcount; i++) {
+        if (olt->groups[i].llid == llid)
+            return &olt->groups[i];
     }
     return NULL;
 }
@@ -110,6 +144,8 @@ uint8_t pointer_olt_advance(jazmotip_olt *olt, uint64_t n)
     olt->shared.clock = (olt->shared.clock + n) % TURN;
     for (unsigned i = 0; i < olt->count; i++)
         advance_timer(&olt->units[i].keys.timer, n);
+    for (unsigned i = 0; i < olt->groupcount; i++)
+        advance_timer(&olt->groups[i].keys.timer, n);
     return JAZMOTIP_ACCEPTED;
 }
 
@@ -127,9 +163,9 @@ uint8_t pointer_olt_capture(jazmotip_olt *olt, uint16_t llid)
 
 /* -------------------------------------------------------------------------------------------------------------------- Send */
 
-static inline int switches(const jazmotip_unit *u)
+static inline int switches(const jazmotip_unit_keys *k, int acknowledged)
 {
-    return u->keys.timer.flag && u->keys.offered == u->keys.active + 1 && u->confirmation.acknowledged;
+    return k->timer.flag && k->offered == k->active + 1 && acknowledged;
 }
 
 static inline int too_old(const jazmotip_first_send *first, uint64_t tick)
@@ -137,7 +173,7 @@ static inline int too_old(const jazmotip_first_send *first, uint64_t tick)
     return first->noted && tick - first->tick >= TURN;
 }
 
-/* What an accepted send makes of the unit's keys, and the number of the key that it goes under. */
+/* What an accepted send makes of the keys, and the number of the key that it goes under. */
 static inline uint32_t take_key(jazmotip_unit_keys *k, int switching, uint64_t tick)
 {
     if (switching) {
@@ -178,21 +214,25 @@ struct pointer_sent pointer_olt_send(jazmotip_olt *olt, uint16_t llid, uint8_t c
         return sent;
     sent.number = JAZMOTIP_UNKNOWN_LLID;
     jazmotip_unit *u = find(olt, llid);
-    if (u == NULL)
+    jazmotip_group *g = u == NULL ? find_group(olt, llid) : NULL;
+    if (u == NULL && g == NULL)
         return sent;
+    jazmotip_unit_keys *keys = u != NULL ? &u->keys : &g->keys;
     sent.number = JAZMOTIP_CHANNEL_TAKEN;
     uint64_t *free_from = channel == 0 ? &s->channels.zero : &s->channels.one;
     if (s->tick < *free_from)
         return sent;
     sent.number = JAZMOTIP_KEY_TOO_OLD;
-    int switching = switches(u);
-    if (!switching && u->keys.active != 0 && too_old(&u->keys.first, s->tick))
+    int switching = switches(keys, u == NULL || u->confirmation.acknowledged);
+    if (!switching && keys->active != 0 && too_old(&keys->first, s->tick))
         return sent;
     sent.number = JAZMOTIP_ACCEPTED;
     *free_from = s->tick + payload_length / JAZMOTIP_EQ_OCTETS + 1;
-    uint32_t number = take_key(&u->keys, switching, s->tick);
+    uint32_t number = take_key(keys, switching, s->tick);
+    if (g != NULL && switching)
+        memset(number % 2 ? keys->slots.even : keys->slots.odd, 0, JAZMOTIP_KEY_OCTETS);
     sent.header = (jazmotip_header){channel, llid, number != 0, number % 2, s->clock % 64};
-    sent.count = carry(s, &u->keys.slots, number, channel, payload, payload_length, output);
+    sent.count = carry(s, &keys->slots, number, channel, payload, payload_length, output);
     return sent;
 }
 

@@ -89,6 +89,18 @@ static jazmotip_unit random_unit(uint64_t tick, enum llids how, uint16_t start, 
     return u;
 }
 
+/* A group of the first units; LLIDs that another place has are rare. */
+static jazmotip_group random_group(const jazmotip_unit *like, int units)
+{
+    jazmotip_group g = {.keys = like->keys, .llid = (uint16_t)random64()};
+    g.members.count = (uint8_t)(1 + below(units < 8 ? units : 8));
+    for (int j = 0; j < 8; j++) {
+        g.members.places[j] = (uint8_t)(g.members.count - 1 - j);
+        g.members.marks[j] = (uint8_t)below(2);
+    }
+    return g;
+}
+
 /* A valid end; what its places past the counts hold does not matter. */
 static jazmotip_olt random_olt(int units, int llids, enum llids how)
 {
@@ -99,6 +111,9 @@ static jazmotip_olt random_olt(int units, int llids, enum llids how)
     olt.shared.channels.one = below(4) == 0 ? up_to(free_at_most) : tick + below(2);
     for (int i = 0; i < 16; i++)
         olt.units[i] = random_unit(tick, how, start, i < units ? i : 0, llids == 0 ? 1 + (int)below(4) : llids);
+    for (int i = 0; i < 16; i++)
+        olt.groups[i] = random_group(&olt.units[i], units == 0 ? 1 : units);
+    olt.groupcount = units == 0 || below(2) == 0 ? 0 : (uint8_t)below(17 - (uint64_t)units);
     return olt;
 }
 
@@ -136,6 +151,19 @@ static void damage_number(jazmotip_unit *u)
     *numbers[below(COUNT(numbers))] += (uint32_t)(below(4) == 0 ? random64() : below(5) - 2);
 }
 
+static void damage_group(jazmotip_olt *olt)
+{
+    jazmotip_group *g = &olt->groups[below(4)];
+    switch (below(6)) {
+    case 0: olt->groupcount = (uint8_t)near(16 - olt->count); break;
+    case 1: g->members.count = (uint8_t)near(below(2) == 0 ? 8 : 0); break;
+    case 2: g->members.places[below(8)] = (uint8_t)near(olt->count); break;
+    case 3: g->members.marks[below(8)] = (uint8_t)near(1); break;
+    case 4: g->llid = below(2) == 0 ? olt->units[below(16)].identity.llids[below(4)] : olt->groups[below(4)].llid; break;
+    default: g->keys.offered = g->keys.active + (uint32_t)below(4) - 1; break;
+    }
+}
+
 static void damage_field(jazmotip_unit *u, uint64_t tick)
 {
     uint64_t *const fields[] = {&u->identity.mac, &u->keys.timer.interval, &u->keys.timer.count,
@@ -149,8 +177,9 @@ static void damage_field(jazmotip_unit *u, uint64_t tick)
 static void damage(jazmotip_olt *olt)
 {
     jazmotip_unit *u = &olt->units[below(16)], *v = &olt->units[below(16)];
-    switch (below(8)) {
+    switch (below(9)) {
     case 0: damage_shared(olt); break;
+    case 7: damage_group(olt); break;
     case 1: damage_flag(u); break;
     case 2: damage_number(u); break;
     case 3: damage_field(u, olt->shared.tick); break;
@@ -178,14 +207,19 @@ static int same_unit(const jazmotip_unit *a, const jazmotip_unit *b)
            SAME(clock.captured) && SAME(clock.tick) && SAME(clock.sent) && SAME(clock.acknowledged);
 }
 
+static int same_group(const jazmotip_group *a, const jazmotip_group *b)
+{
+    return SAME(llid) && same_keys(&a->keys, &b->keys) && memcmp(&a->members, &b->members, sizeof a->members) == 0;
+}
+
 /* Every field, those of places that are not in use too. */
 static int same_olt(const jazmotip_olt *a, const jazmotip_olt *b)
 {
     int same = SAME(shared.mac) && SAME(shared.tick) && SAME(shared.clock) && SAME(shared.channels.zero) &&
                SAME(shared.channels.one) && SAME(count);
     for (int i = 0; i < 16; i++)
-        same = same && same_unit(&a->units[i], &b->units[i]);
-    return same;
+        same = same && same_unit(&a->units[i], &b->units[i]) && same_group(&a->groups[i], &b->groups[i]);
+    return same && SAME(groupcount);
 }
 
 static int same_header(const jazmotip_header *a, const jazmotip_header *b)
@@ -282,6 +316,8 @@ static void play(jazmotip_olt olt)
     for (int i = 0; i < 6; i++) {
         const jazmotip_identity *named = &olt.units[below(16)].identity;
         uint16_t llid = below(8) == 0 ? (uint16_t)random64() : named->llids[below(4)];
+        if (below(3) == 0)
+            llid = olt.groups[below(4)].llid;
         switch (below(4)) {
         case 0: play_advance(&e); break;
         case 1: play_capture(&e, llid); break;

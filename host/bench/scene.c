@@ -56,12 +56,12 @@ static jazmotip_olt join(struct scene *s, jazmotip_olt olt, uint16_t llid)
     scene_accepted(sent.number, "clock_send");
     olt = sent.olt;
     s->stamps = sent.message;
-    STEP(olt, jazmotip_olt_answer, jazmotip_olt_acknowledge(olt, llid, (jazmotip_acknowledgement){1, 0}));
+    STEP(olt, jazmotip_olt_answer, jazmotip_olt_acknowledge(olt, llid, (jazmotip_acknowledgement){.kind = 1}));
     jazmotip_key_sent offer = jazmotip_olt_offer(olt, llid, work_key);
     scene_accepted(offer.number, "offer");
     s->offered = olt = offer.olt;
     s->key_message = offer.message;
-    STEP(olt, jazmotip_olt_answer, jazmotip_olt_acknowledge(olt, llid, (jazmotip_acknowledgement){2, 1}));
+    STEP(olt, jazmotip_olt_answer, jazmotip_olt_acknowledge(olt, llid, (jazmotip_acknowledgement){.kind = 2, .number = 1}));
     scene_accepted(jazmotip_olt_advance(&olt, SCENE_INTERVAL), "advance");
     STEP(olt, jazmotip_olt_sent, jazmotip_olt_send(olt, llid, 0, none, 0, none, 0));
     scene_accepted(jazmotip_olt_advance(&olt, 2), "advance");

@@ -3,8 +3,8 @@
  *
  * Seals and opens the payloads of SIEPON.4 envelopes (AES-128 in counter mode under the control mask), plays either end of a
  * 25G/50G EPON line, opens capture blocks, for one reader or a class, rearranges payloads for the store, and keeps the OLT's key
- * exchange of an XG-PON line. Link with libjazmotip.a, which needs two functions from outside, memcpy and memset. x86-64, System V
- * calling convention.
+ * exchange of an XG-PON line. Link with libjazmotip.a, which needs three functions from outside, memcpy, memmove and memset. x86-64,
+ * System V calling convention.
  *
  * What holds of every call
  *   - It ends, and asks nothing of the values handed to it: whatever is malformed, untimely, unknown or too long is refused by a
@@ -21,9 +21,9 @@
  *     8 octets.
  *   - An output overlaps nothing else that is lent in the same call; to seal or open a payload where it lies there are calls of
  *     their own. No length is above PTRDIFF_MAX.
- *   - Stack: 16 KiB are enough for a call of the OLT and for opening a block for a user of a class, 32 KiB for jazmotip_first_loss
- *     and 4 KiB for any other, with what is handed over by value and without the place of the answer. host/bench/run measures the
- *     calls of ends and capture blocks.
+ *   - Stack: 32 KiB are enough for a call of the OLT and for a script, 16 KiB for opening a block for a user of a class, and 5 KiB
+ *     for any other, with what is handed over by value and without the place of the answer. host/bench/run measures the calls of
+ *     ends and capture blocks.
  *
  * Who owns what
  *   - The caller owns all memory. The engine keeps no pointer after a call returns.
@@ -54,12 +54,12 @@ enum {
     JAZMOTIP_ACCEPTED = 0,
     JAZMOTIP_OUT_OF_RANGE = 1,        /* a value outside its range, or an end that breaks the rules below */
     JAZMOTIP_UNKNOWN_LLID = 2,        /* LLID not registered */
-    JAZMOTIP_REPEATED_LLID = 3,       /* LLID already registered, or twice in one call */
-    JAZMOTIP_TABLE_FULL = 4,          /* seventeenth unit */
-    JAZMOTIP_CLOCK_NOT_SET = 5,       /* clock not set, or not acknowledged */
+    JAZMOTIP_REPEATED_LLID = 3,       /* LLID already registered or joined, or twice in one call */
+    JAZMOTIP_TABLE_FULL = 4,          /* seventeenth unit or group; at a unit the fifth group */
+    JAZMOTIP_CLOCK_NOT_SET = 5,       /* clock not set, or not acknowledged; for a group's offer, that of any member */
     JAZMOTIP_OFFER_PENDING = 6,       /* an offer while one is under way or the last key is not confirmed */
     JAZMOTIP_SAME_KEY = 7,            /* the offered key is the active one */
-    JAZMOTIP_NOTHING_OUTSTANDING = 8, /* key message or acknowledgement that fits nothing; clock send without capture */
+    JAZMOTIP_NOTHING_OUTSTANDING = 8, /* key message or acknowledgement that fits nothing, or of no member; clock send without capture */
     JAZMOTIP_NO_KEY = 9,              /* no key for that index */
     JAZMOTIP_EPAM_DIFFERS = 10,       /* EPAM is not the low six bits of the receiver's clock */
     JAZMOTIP_CLEAR_ENVELOPE = 11,     /* clear envelope after the first confirmed or active key */
@@ -71,6 +71,8 @@ enum {
     JAZMOTIP_AT_END = 17,             /* tick or key number at its end */
     JAZMOTIP_BROKEN_CHAIN = 18,       /* a capture's pair off the chain of offsets, past the block's end, or the last short of it */
     JAZMOTIP_UNSUITED_LENGTH = 19,    /* a capture's pair whose length is under 16 or not 16 + 9 x EQs */
+    JAZMOTIP_GROUP_LLID = 20,         /* a unit sends, or the OLT receives, on a group's LLID */
+    JAZMOTIP_BAD_MEMBER = 21,         /* a ninth, repeated or unregistered member is named */
     JAZMOTIP_REPEATED_RECORD = 22,    /* two records of one capture block agree in channel index, LLID and clock */
     JAZMOTIP_UNKNOWN_USER = 23,       /* the user's number is 0 or above their count */
     JAZMOTIP_NO_RIGHT = 24,           /* a key loaded without the right to, or for an LLID outside the settings */
@@ -82,8 +84,10 @@ enum {
 #define JAZMOTIP_EQ_OCTETS 9u                /* octets of an EQ */
 #define JAZMOTIP_MAX_EQS 4194303u            /* EQs of a payload, at most: 37,748,727 octets */
 #define JAZMOTIP_KEY_OCTETS 16u              /* AES-128 */
-#define JAZMOTIP_UNITS 16u                   /* units of an OLT, at most */
+#define JAZMOTIP_UNITS 16u                   /* units and groups of an OLT together, at most */
 #define JAZMOTIP_LLIDS 4u                    /* LLIDs of a unit, at most; at least 1 */
+#define JAZMOTIP_MEMBERS 8u                  /* members of a group, at most; at least 1 */
+#define JAZMOTIP_JOINED 4u                   /* groups that a unit joins, at most */
 #define JAZMOTIP_SECOND 390625000u           /* ticks of a second; a capture may be sent up to then */
 #define JAZMOTIP_MAX_TRIP 1000000u           /* ticks of a round trip, at most */
 #define JAZMOTIP_MAX_INTERVAL (UINT64_C(1) << 47) /* ticks of a key timer, at most; at least 1 */
@@ -100,16 +104,19 @@ enum {
 /* ------------------------------------------------------------------------------------------------------------------- Ends
  * Read any field; write none but in a struct that you hand over as an argument. Ahead of its order every call refuses with 1 an
  * end that breaks one of these rules, and no other:
- *   - a flag (flag, noted, acknowledged, captured, sent, synced, held) is 0 or 1
+ *   - a flag (flag, noted, acknowledged, captured, sent, marks, synced, held, kept) is 0 or 1
  *   - MACs and the OLT's clock are below 2^48; a tick is at most JAZMOTIP_MAX_TICK
  *   - a channel is free from a tick of at most JAZMOTIP_MAX_TICK + JAZMOTIP_MAX_EQS + 1, 2^62 + 4,194,304
- *   - a unit has 1 to 4 LLIDs, and no LLID stands twice at an end
+ *   - a unit has 1 to 4 LLIDs, and no LLID stands twice at an end, be it a unit's own, a group's or one that was joined
  *   - a first send that is noted, and a capture, are not after the end's tick
- *   - at an OLT: at most 16 units; a round trip of at most JAZMOTIP_MAX_TRIP; an interval of 1 to JAZMOTIP_MAX_INTERVAL, its count
- *     below it; C is A or A - 1, O is A or A + 1, and not both C = A - 1 and O = A + 1
- *   - at an ONU: time is below 2^48 once synced and below 2^32 before; rx is below 2^48; no key is held at a = 2^32 - 1
- * Places that are not in use are not judged, and calls carry along what they hold: LLIDs past a count, units past the OLT's count,
- * the tick of a first send or capture that is not noted. A fresh end has zeros there. Any octets are a key. */
+ *   - at an OLT: at most 16 units and groups together; a round trip of at most JAZMOTIP_MAX_TRIP; an interval of 1 to
+ *     JAZMOTIP_MAX_INTERVAL, its count below it; C is A or A - 1, O is A or A + 1, and not both C = A - 1 and O = A + 1; a group has
+ *     1 to 8 members, each the place of a unit and none twice
+ *   - at an ONU: time is below 2^48 once synced and below 2^32 before; rx is below 2^48; at most 4 groups joined; no key is held at
+ *     a = 2^32 - 1, and none kept at a = 0, both for each group too
+ * Places that are not in use are not judged, and calls carry along what they hold: LLIDs, members and marks past a count, units,
+ * groups and joined groups past theirs, the tick of a first send or capture that is not noted. A fresh end has zeros there. Any
+ * octets are a key. */
 
 typedef struct jazmotip_timer {
     uint64_t interval; /* 1 to JAZMOTIP_MAX_INTERVAL ticks */
@@ -142,7 +149,7 @@ typedef struct jazmotip_identity {
     uint8_t count;
 } jazmotip_identity;
 
-/* What the OLT sends to a unit under. */
+/* What the OLT sends to a unit, or to a group, under. */
 typedef struct jazmotip_unit_keys {
     jazmotip_timer timer;
     uint32_t active;  /* A; 0 before the first key */
@@ -173,7 +180,22 @@ typedef struct jazmotip_unit {
     jazmotip_unit_clock clock;
 } jazmotip_unit;
 
-/* What all units share at the OLT. */
+/* The members of a group: the places of their units, and a mark for each that acknowledged key O. A new offer clears the marks; they
+ * hold nothing back. */
+typedef struct jazmotip_members {
+    uint8_t places[8];
+    uint8_t marks[8];
+    uint8_t count;
+} jazmotip_members;
+
+/* A group at the OLT: downstream envelopes for several units under one LLID and one key. It has no C and no clock of its own. */
+typedef struct jazmotip_group {
+    jazmotip_unit_keys keys;
+    jazmotip_members members;
+    uint16_t llid;
+} jazmotip_group;
+
+/* What all units and groups share at the OLT. */
 typedef struct jazmotip_shared {
     uint64_t mac;
     uint64_t tick;  /* ticks since fresh */
@@ -186,9 +208,11 @@ typedef struct jazmotip_olt {
     jazmotip_shared shared;
     uint8_t count; /* units registered */
     jazmotip_unit units[16];
+    uint8_t groupcount; /* groups registered */
+    jazmotip_group groups[16];
 } jazmotip_olt;
 
-/* A unit's own keys. */
+/* A unit's keys, its own or those of a group. */
 typedef struct jazmotip_onu_keys {
     uint32_t active; /* a; 0 before the first key */
     uint8_t held;    /* whether key a + 1 is held */
@@ -202,6 +226,14 @@ typedef struct jazmotip_onu_clock {
     uint64_t rx;    /* the Rx clock; 0 while unsynced */
 } jazmotip_onu_clock;
 
+/* A group that a unit joined. The message of key n tells that key n - 1 is in use: a is then n - 1, held or not, and older keys are
+ * forgotten. */
+typedef struct jazmotip_joined {
+    jazmotip_onu_keys keys;
+    uint8_t kept; /* whether key a is held */
+    uint16_t llid;
+} jazmotip_joined;
+
 /* The subscriber unit. */
 typedef struct jazmotip_onu {
     jazmotip_identity identity;
@@ -211,6 +243,8 @@ typedef struct jazmotip_onu {
     jazmotip_onu_keys keys;
     jazmotip_first_send first;
     jazmotip_channels channels;
+    uint8_t joinedcount; /* groups joined */
+    jazmotip_joined joined[4];
 } jazmotip_onu;
 
 /* --------------------------------------------------------------------------------------- What the host carries on the line */
@@ -227,11 +261,19 @@ typedef struct jazmotip_key_message {
     uint8_t key[16];
 } jazmotip_key_message;
 
-/* What a unit answers. */
+/* What a unit answers; to a group's key message, also who it is. */
 typedef struct jazmotip_acknowledgement {
     uint8_t kind;    /* 1 to a clock message, 2 to a key message, 0 none */
+    uint8_t named;   /* 1 if unit names the unit, for a group; 0, with unit 0, for the unit's own */
+    uint16_t unit;   /* an LLID of the unit's own; a unit names itself by its first */
     uint32_t number; /* the key's number, 0 to a clock message */
 } jazmotip_acknowledgement;
+
+/* The members that a group's registration names, each by any LLID of its unit; places past the count are ignored. */
+typedef struct jazmotip_roster {
+    uint16_t llids[8];
+    uint8_t count;
+} jazmotip_roster;
 
 /* An envelope's header, start (ESH) or continuation (ECH). */
 typedef struct jazmotip_header {
@@ -307,41 +349,49 @@ typedef struct jazmotip_onu_received {
 } jazmotip_onu_received;
 
 /* ------------------------------------------------------------------------------------------------------- Calls of the OLT
- * A unit is named by any of its LLIDs. Ahead of each order below stands 1 for an end that breaks the rules above. */
+ * A unit is named by any of its LLIDs, a group by its one. Ahead of each order below stands 1 for an end that breaks the rules
+ * above. */
 
-/* A head end with no units. Refused (1: MAC or clock not below 2^48), the end is zeros. */
+/* A head end with no units and no groups. Refused (1: MAC or clock not below 2^48), the end is zeros. */
 jazmotip_olt_answer jazmotip_olt_fresh(uint64_t mac, uint64_t clock);
 
 /* Registers a unit: MAC and LLIDs, round trip, key timer. Order: 1, 3, 4. */
 jazmotip_olt_answer jazmotip_olt_register(jazmotip_olt olt, jazmotip_identity identity, uint64_t trip, uint64_t interval);
 
+/* Registers a group: its LLID, key timer and members, which stay. 1 is for the interval and for no member at all, 21 for more than
+ * eight, for an LLID that is no unit's, a group's too, and for a unit that is named twice, under another LLID too. Order: 1, 21, 3,
+ * 4. */
+jazmotip_olt_answer jazmotip_olt_register_group(jazmotip_olt olt, uint16_t llid, uint64_t interval, jazmotip_roster roster);
+
 /* Moves ticks, clock and timers on by n, in place, and gives the number. Order: 17. */
 uint8_t jazmotip_olt_advance(jazmotip_olt *olt, uint64_t n);
 
-/* Captures the clock for a unit; it stays until the next capture. Order: 2. */
+/* Captures the clock for a unit; it stays until the next capture. Order: 2, for a group's LLID too. */
 jazmotip_olt_answer jazmotip_olt_capture(jazmotip_olt olt, uint16_t llid);
 
-/* Hands over the clock message of the capture, any number of times within a second. Order: 2, 8, 16. */
+/* Hands over the clock message of the capture, any number of times within a second. Order: 2, for a group's LLID too, 8, 16. */
 jazmotip_clock_sent jazmotip_olt_clock_send(jazmotip_olt olt, uint16_t llid);
 
 /* Offers a new key and hands over its message. Keys must come from a good random source: the engine only compares the key with
- * the active one. Order: 2, 5, 6, 7, 17. */
+ * the active one. A group's offer needs the clock of every member acknowledged, and may follow the switch at once; its message is
+ * for all members. Order: 2, 5, 6, 7, 17. */
 jazmotip_key_sent jazmotip_olt_offer(jazmotip_olt olt, uint16_t llid, const uint8_t key[16]);
 
 /* Hands over the key message of the outstanding offer again. Order: 2, 8. */
 jazmotip_key_sent jazmotip_olt_retry(jazmotip_olt olt, uint16_t llid);
 
-/* Takes in a unit's acknowledgement. The number of one to a clock message is ignored; a kind other than 1 and 2 fits nothing, 8.
- * Order: 2, 8. */
+/* Takes in a unit's acknowledgement, under an LLID of its own or, for a group's key, under the group's: then it names the unit, and
+ * marks that member. 8 is also for one to a group that names no unit or no member, and for a unit's own that names one. The number
+ * of one to a clock message is ignored; a kind other than 1 and 2 fits nothing, 8; a group's LLID with kind 1 is 2. Order: 2, 8. */
 jazmotip_olt_answer jazmotip_olt_acknowledge(jazmotip_olt olt, uint16_t llid, jazmotip_acknowledgement acknowledgement);
 
-/* Seals a payload for a unit into output, of the same length, and hands over its header. With the timer's flag up and the offer
- * acknowledged this is the envelope that switches keys. Index 0x00 or 0x01. A header at tick t with p EQs keeps its channel until
- * t + p; t + p + 1 is free. Order: 14, 1, 2, 12, 13. */
+/* Seals a payload for a unit or a group into output, of the same length, and hands over its header. With the timer's flag up and the
+ * offer acknowledged this is the envelope that switches keys; a group's switches acknowledged or not, and its old key is wiped. Index
+ * 0x00 or 0x01. A header at tick t with p EQs keeps its channel until t + p; t + p + 1 is free. Order: 14, 1, 2, 12, 13. */
 jazmotip_olt_sent jazmotip_olt_send(jazmotip_olt olt, uint16_t llid, uint8_t channel, const uint8_t *payload, size_t payload_length,
                                     uint8_t *output, size_t output_length);
 
-/* Opens an envelope from a unit into output, of the same length. Order: 14, 1, 2, 10, 11, 9. */
+/* Opens an envelope from a unit into output, of the same length. Order: 14, 1, 2, 20, 10, 11, 9. */
 jazmotip_olt_received jazmotip_olt_receive(jazmotip_olt olt, jazmotip_header header, const uint8_t *octets, size_t octets_length,
                                            uint8_t *output, size_t output_length);
 
@@ -351,22 +401,27 @@ jazmotip_olt_received jazmotip_olt_receive(jazmotip_olt olt, jazmotip_header hea
 /* A unit that is not synced yet: its identity, the OLT's MAC and LocalTime, below 2^32. Refused (1, 3), the end is zeros. */
 jazmotip_onu_answer jazmotip_onu_fresh(jazmotip_identity identity, uint64_t oltmac, uint64_t time);
 
+/* Joins a group by its LLID, any that the unit does not hold. What is promised to a member counts from here. Order: 3, 4. */
+jazmotip_onu_answer jazmotip_onu_join(jazmotip_onu onu, uint16_t llid);
+
 /* Moves ticks and clocks on by n, in place, and gives the number. Order: 17. */
 uint8_t jazmotip_onu_advance(jazmotip_onu *onu, uint64_t n);
 
 /* Sets the clocks by a clock message and hands over the acknowledgement. Order: 1. */
 jazmotip_onu_acknowledged jazmotip_onu_clock_message(jazmotip_onu onu, jazmotip_stamps message);
 
-/* Takes a key message and hands over the acknowledgement. Order: 2, 5, 8. */
+/* Takes a key message, its own or of a group that it joined, and hands over the acknowledgement. Of a group any number above those that
+ * it holds is taken, or the same message again. Order: 2, 5, 8. */
 jazmotip_onu_acknowledged jazmotip_onu_key_message(jazmotip_onu onu, jazmotip_key_message message);
 
 /* Seals a payload for the head end into output, of the same length, and hands over its header. Index 0x80 or 0x81. The channel is
- * kept as at the OLT. Order: 14, 1, 2, 12, 13. */
+ * kept as at the OLT. Order: 14, 1, 2, 20, 12, 13. */
 jazmotip_onu_sent jazmotip_onu_send(jazmotip_onu onu, uint16_t llid, uint8_t channel, const uint8_t *payload, size_t payload_length,
                                     uint8_t *output, size_t output_length);
 
-/* Opens an envelope from the head end into output, of the same length. An envelope under the next key makes that key the active
- * one. Order: 14, 1, 2, 10 (not while unsynced), 5 (sealed ones only), 11, 9. */
+/* Opens an envelope from the head end, for the unit or for a group that it joined, into output, of the same length. An envelope under
+ * the next key makes that key the active one. Under a group's key that the unit missed nothing is promised: it is refused 9 or, where
+ * an older key of the same index is held, opened to noise. Order: 14, 1, 2, 10 (not while unsynced), 5 (sealed ones only), 11, 9. */
 jazmotip_onu_received jazmotip_onu_receive(jazmotip_onu onu, jazmotip_header header, const uint8_t *octets, size_t octets_length,
                                            uint8_t *output, size_t output_length);
 
@@ -761,69 +816,86 @@ JAZMOTIP_LAYOUT(sizeof(jazmotip_unit) == 144);
 JAZMOTIP_LAYOUT(offsetof(jazmotip_unit, keys) == 24);
 JAZMOTIP_LAYOUT(offsetof(jazmotip_unit, confirmation) == 104);
 JAZMOTIP_LAYOUT(offsetof(jazmotip_unit, clock) == 112);
+JAZMOTIP_LAYOUT(sizeof(jazmotip_members) == 17);
+JAZMOTIP_LAYOUT(offsetof(jazmotip_members, marks) == 8);
+JAZMOTIP_LAYOUT(offsetof(jazmotip_members, count) == 16);
+JAZMOTIP_LAYOUT(sizeof(jazmotip_group) == 104);
+JAZMOTIP_LAYOUT(offsetof(jazmotip_group, members) == 80);
+JAZMOTIP_LAYOUT(offsetof(jazmotip_group, llid) == 98);
 JAZMOTIP_LAYOUT(sizeof(jazmotip_shared) == 40);
 JAZMOTIP_LAYOUT(offsetof(jazmotip_shared, tick) == 8);
 JAZMOTIP_LAYOUT(offsetof(jazmotip_shared, clock) == 16);
 JAZMOTIP_LAYOUT(offsetof(jazmotip_shared, channels) == 24);
-JAZMOTIP_LAYOUT(sizeof(jazmotip_olt) == 2352);
+JAZMOTIP_LAYOUT(sizeof(jazmotip_olt) == 4024);
 JAZMOTIP_LAYOUT(offsetof(jazmotip_olt, count) == 40);
 JAZMOTIP_LAYOUT(offsetof(jazmotip_olt, units) == 48);
+JAZMOTIP_LAYOUT(offsetof(jazmotip_olt, groupcount) == 2352);
+JAZMOTIP_LAYOUT(offsetof(jazmotip_olt, groups) == 2360);
 JAZMOTIP_LAYOUT(sizeof(jazmotip_onu_keys) == 40);
 JAZMOTIP_LAYOUT(offsetof(jazmotip_onu_keys, held) == 4);
 JAZMOTIP_LAYOUT(offsetof(jazmotip_onu_keys, slots) == 5);
 JAZMOTIP_LAYOUT(sizeof(jazmotip_onu_clock) == 24);
 JAZMOTIP_LAYOUT(offsetof(jazmotip_onu_clock, time) == 8);
 JAZMOTIP_LAYOUT(offsetof(jazmotip_onu_clock, rx) == 16);
-JAZMOTIP_LAYOUT(sizeof(jazmotip_onu) == 136);
+JAZMOTIP_LAYOUT(sizeof(jazmotip_joined) == 44);
+JAZMOTIP_LAYOUT(offsetof(jazmotip_joined, kept) == 40);
+JAZMOTIP_LAYOUT(offsetof(jazmotip_joined, llid) == 42);
+JAZMOTIP_LAYOUT(sizeof(jazmotip_onu) == 320);
 JAZMOTIP_LAYOUT(offsetof(jazmotip_onu, oltmac) == 24);
 JAZMOTIP_LAYOUT(offsetof(jazmotip_onu, tick) == 32);
 JAZMOTIP_LAYOUT(offsetof(jazmotip_onu, clock) == 40);
 JAZMOTIP_LAYOUT(offsetof(jazmotip_onu, keys) == 64);
 JAZMOTIP_LAYOUT(offsetof(jazmotip_onu, first) == 104);
 JAZMOTIP_LAYOUT(offsetof(jazmotip_onu, channels) == 120);
+JAZMOTIP_LAYOUT(offsetof(jazmotip_onu, joinedcount) == 136);
+JAZMOTIP_LAYOUT(offsetof(jazmotip_onu, joined) == 140);
 JAZMOTIP_LAYOUT(sizeof(jazmotip_stamps) == 16);
 JAZMOTIP_LAYOUT(offsetof(jazmotip_stamps, tx) == 8);
 JAZMOTIP_LAYOUT(sizeof(jazmotip_key_message) == 24);
 JAZMOTIP_LAYOUT(offsetof(jazmotip_key_message, number) == 4);
 JAZMOTIP_LAYOUT(offsetof(jazmotip_key_message, key) == 8);
 JAZMOTIP_LAYOUT(sizeof(jazmotip_acknowledgement) == 8);
+JAZMOTIP_LAYOUT(offsetof(jazmotip_acknowledgement, named) == 1);
+JAZMOTIP_LAYOUT(offsetof(jazmotip_acknowledgement, unit) == 2);
 JAZMOTIP_LAYOUT(offsetof(jazmotip_acknowledgement, number) == 4);
+JAZMOTIP_LAYOUT(sizeof(jazmotip_roster) == 18);
+JAZMOTIP_LAYOUT(offsetof(jazmotip_roster, count) == 16);
 JAZMOTIP_LAYOUT(sizeof(jazmotip_header) == 8);
 JAZMOTIP_LAYOUT(offsetof(jazmotip_header, llid) == 2);
 JAZMOTIP_LAYOUT(offsetof(jazmotip_header, encenabled) == 4);
 JAZMOTIP_LAYOUT(offsetof(jazmotip_header, enckey) == 5);
 JAZMOTIP_LAYOUT(offsetof(jazmotip_header, epam) == 6);
-JAZMOTIP_LAYOUT(sizeof(jazmotip_olt_answer) == 2360);
+JAZMOTIP_LAYOUT(sizeof(jazmotip_olt_answer) == 4032);
 JAZMOTIP_LAYOUT(offsetof(jazmotip_olt_answer, olt) == 8);
-JAZMOTIP_LAYOUT(sizeof(jazmotip_clock_sent) == 2376);
+JAZMOTIP_LAYOUT(sizeof(jazmotip_clock_sent) == 4048);
 JAZMOTIP_LAYOUT(offsetof(jazmotip_clock_sent, olt) == 8);
-JAZMOTIP_LAYOUT(offsetof(jazmotip_clock_sent, message) == 2360);
-JAZMOTIP_LAYOUT(sizeof(jazmotip_key_sent) == 2384);
+JAZMOTIP_LAYOUT(offsetof(jazmotip_clock_sent, message) == 4032);
+JAZMOTIP_LAYOUT(sizeof(jazmotip_key_sent) == 4056);
 JAZMOTIP_LAYOUT(offsetof(jazmotip_key_sent, olt) == 8);
-JAZMOTIP_LAYOUT(offsetof(jazmotip_key_sent, message) == 2360);
-JAZMOTIP_LAYOUT(sizeof(jazmotip_olt_sent) == 2384);
+JAZMOTIP_LAYOUT(offsetof(jazmotip_key_sent, message) == 4032);
+JAZMOTIP_LAYOUT(sizeof(jazmotip_olt_sent) == 4056);
 JAZMOTIP_LAYOUT(offsetof(jazmotip_olt_sent, olt) == 8);
-JAZMOTIP_LAYOUT(offsetof(jazmotip_olt_sent, header) == 2360);
-JAZMOTIP_LAYOUT(offsetof(jazmotip_olt_sent, count) == 2368);
-JAZMOTIP_LAYOUT(offsetof(jazmotip_olt_sent, runs) == 2376);
-JAZMOTIP_LAYOUT(sizeof(jazmotip_olt_received) == 2376);
+JAZMOTIP_LAYOUT(offsetof(jazmotip_olt_sent, header) == 4032);
+JAZMOTIP_LAYOUT(offsetof(jazmotip_olt_sent, count) == 4040);
+JAZMOTIP_LAYOUT(offsetof(jazmotip_olt_sent, runs) == 4048);
+JAZMOTIP_LAYOUT(sizeof(jazmotip_olt_received) == 4048);
 JAZMOTIP_LAYOUT(offsetof(jazmotip_olt_received, olt) == 8);
-JAZMOTIP_LAYOUT(offsetof(jazmotip_olt_received, count) == 2360);
-JAZMOTIP_LAYOUT(offsetof(jazmotip_olt_received, runs) == 2368);
-JAZMOTIP_LAYOUT(sizeof(jazmotip_onu_answer) == 144);
+JAZMOTIP_LAYOUT(offsetof(jazmotip_olt_received, count) == 4032);
+JAZMOTIP_LAYOUT(offsetof(jazmotip_olt_received, runs) == 4040);
+JAZMOTIP_LAYOUT(sizeof(jazmotip_onu_answer) == 328);
 JAZMOTIP_LAYOUT(offsetof(jazmotip_onu_answer, onu) == 8);
-JAZMOTIP_LAYOUT(sizeof(jazmotip_onu_acknowledged) == 152);
+JAZMOTIP_LAYOUT(sizeof(jazmotip_onu_acknowledged) == 336);
 JAZMOTIP_LAYOUT(offsetof(jazmotip_onu_acknowledged, onu) == 8);
-JAZMOTIP_LAYOUT(offsetof(jazmotip_onu_acknowledged, acknowledgement) == 144);
-JAZMOTIP_LAYOUT(sizeof(jazmotip_onu_sent) == 168);
+JAZMOTIP_LAYOUT(offsetof(jazmotip_onu_acknowledged, acknowledgement) == 328);
+JAZMOTIP_LAYOUT(sizeof(jazmotip_onu_sent) == 352);
 JAZMOTIP_LAYOUT(offsetof(jazmotip_onu_sent, onu) == 8);
-JAZMOTIP_LAYOUT(offsetof(jazmotip_onu_sent, header) == 144);
-JAZMOTIP_LAYOUT(offsetof(jazmotip_onu_sent, count) == 152);
-JAZMOTIP_LAYOUT(offsetof(jazmotip_onu_sent, runs) == 160);
-JAZMOTIP_LAYOUT(sizeof(jazmotip_onu_received) == 160);
+JAZMOTIP_LAYOUT(offsetof(jazmotip_onu_sent, header) == 328);
+JAZMOTIP_LAYOUT(offsetof(jazmotip_onu_sent, count) == 336);
+JAZMOTIP_LAYOUT(offsetof(jazmotip_onu_sent, runs) == 344);
+JAZMOTIP_LAYOUT(sizeof(jazmotip_onu_received) == 344);
 JAZMOTIP_LAYOUT(offsetof(jazmotip_onu_received, onu) == 8);
-JAZMOTIP_LAYOUT(offsetof(jazmotip_onu_received, count) == 144);
-JAZMOTIP_LAYOUT(offsetof(jazmotip_onu_received, runs) == 152);
+JAZMOTIP_LAYOUT(offsetof(jazmotip_onu_received, count) == 328);
+JAZMOTIP_LAYOUT(offsetof(jazmotip_onu_received, runs) == 336);
 JAZMOTIP_LAYOUT(sizeof(jazmotip_nonce) == 24);
 JAZMOTIP_LAYOUT(offsetof(jazmotip_nonce, mac) == 8);
 JAZMOTIP_LAYOUT(offsetof(jazmotip_nonce, clock) == 16);

@@ -26,11 +26,11 @@ use Rattle.sealing.proofs.Seal.{carried-length}
 use Rattle.traffic.specs.Passages.{passed, outputAfter}
 use Rattle.traffic.specs.Sends.{oltSent, onuSent, oltSendOf, onuSendOf}
 use Rattle.traffic.specs.Receipts.{oltReceiveOf, onuReceiveOf}
-use Rattle.line.specs.Setting.{Setting}
-use Rattle.line.specs.Events.{Event, advance, capture, clockSend, offer, retry, sendDown, sendUp, arriveDown, arriveUp, arriveAnswer}
-use Rattle.line.specs.History.{Lane, Envelope, Thing, clockMessage, keyMessage, envelope, laneCaptured, laneLeaving, laneOffered, laneTaken, laneAnswered, laneAcknowledged, laneSentDown, laneSentUp, laneArrivedDown, laneArrivedUp, laneWith, leaving, numberDown}
-use Rattle.line.specs.Premises.{NewKey, DueDown, DueAnswer, Meets}
-use Rattle.line.specs.Run.{State, step, run, accepted, noted, named, withLanes, atOlt, atOnu, atOltFor, laneAt, thingAt, envelopeAt, clockSending, offering, retrying, sendingDown, sendingUp, envelopeDown, envelopeUp, messageArriving, thingArriving, envelopeArriving, receiptDown, receiptUp, arrivingUp, answering, advancing, freshLane, noEnvelope}
+use Rattle.unicast.specs.Setting.{Setting}
+use Rattle.unicast.specs.Events.{Event, advance, capture, clockSend, offer, retry, sendDown, sendUp, arriveDown, arriveUp, arriveAnswer}
+use Rattle.unicast.specs.History.{Lane, Envelope, Thing, clockMessage, keyMessage, envelope, laneCaptured, laneLeaving, laneOffered, laneTaken, laneAnswered, laneAcknowledged, laneSentDown, laneSentUp, laneArrivedDown, laneArrivedUp, laneWith, leaving, numberDown}
+use Rattle.unicast.specs.Premises.{NewKey, DueDown, DueAnswer, Meets}
+use Rattle.unicast.specs.Run.{State, step, run, accepted, noted, named, withLanes, atOlt, atOnu, atOltFor, laneAt, thingAt, envelopeAt, clockSending, offering, retrying, sendingDown, sendingUp, envelopeDown, envelopeUp, messageArriving, thingArriving, envelopeArriving, receiptDown, receiptUp, arrivingUp, answering, advancing, freshLane, noEnvelope}
 use Rattle.exercise.specs.declared.Play.{Play}
 use Rattle.exercise.specs.Play.{unitLlid, keyOfStep, channelDown, channelUp, withOlt, withOnu, withClockAnswer, withKeyAnswer, arrives, clockAnswered, clockSent, clockStepped, keyAnswered, keySent, answered, sentDown, sentUp, advanced}
 use Rattle.exercise.specs.Listed.{setting}

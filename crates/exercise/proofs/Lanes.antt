@@ -14,9 +14,9 @@ use Rattle.octets.specs.Choice.{either}
 use Rattle.octets.proofs.Choice.{pick-holds, pick-true, both-true}
 use Rattle.protocol.specs.declared.Acknowledgement.{Acknowledgement}
 use Rattle.ends.specs.Identities.{has, llidsOf, among}
-use Rattle.line.specs.History.{Answered, Lane, laneAnswered, laneOffered, laneWith}
-use Rattle.line.specs.Setting.{Site}
-use Rattle.line.specs.Run.{accepted, noted, named}
+use Rattle.unicast.specs.History.{Answered, Lane, laneAnswered, laneOffered, laneWith}
+use Rattle.unicast.specs.Setting.{Site}
+use Rattle.unicast.specs.Run.{accepted, noted, named}
 use Rattle.exercise.specs.Play.{unitLlid, unitIdentity, oltMac, keyOfStep}
 
 -- the unit of every play

@@ -27,11 +27,11 @@ use Rattle.ends.specs.Records.{newOlt}
 use Rattle.refusal.specs.Order.{refuseIf}
 use Rattle.protocol.specs.Replies.{reply}
 use Rattle.ends.specs.Timers.{validInterval}
-use Rattle.line.specs.History.{Lane, laneRegistered}
-use Rattle.line.specs.Premises.{Agrees, Fresh}
-use Rattle.line.specs.Run.{State, onuAt, start, step, run, entering, accepted, freshLane, freshOnu, noted}
-use Rattle.line.specs.Setting.{Site}
-use Rattle.line.specs.Events.{register}
+use Rattle.unicast.specs.History.{Lane, laneRegistered}
+use Rattle.unicast.specs.Premises.{Agrees, Fresh}
+use Rattle.unicast.specs.Run.{State, onuAt, start, step, run, entering, accepted, freshLane, freshOnu, noted}
+use Rattle.unicast.specs.Setting.{Site}
+use Rattle.unicast.specs.Events.{register}
 use Rattle.protocol.specs.OnuCalls.{freshOnuOf, freshOnuVerdict, onuAnswer}
 use Rattle.refusal.proofs.Order.{refuse-accepted}
 use Rattle.exercise.proofs.Lanes.{Kept, site, noted-on}

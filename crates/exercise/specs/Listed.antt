@@ -9,10 +9,10 @@ use lib.ListN.{length}
 use Rattle.octets.specs.Choice.{pick}
 use Rattle.refusal.specs.declared.Verdict.the-variants.{Accepted}
 use Rattle.protocol.specs.declared.Acknowledgement.{Acknowledgement}
-use Rattle.line.specs.Setting.{Setting}
-use Rattle.line.specs.Events.{Event, register, capture, clockSend, sendDown, sendUp, arriveDown, arriveUp, arriveAnswer}
-use Rattle.line.specs.Premises.{Fresh, Meets}
-use Rattle.line.specs.Run.{State, start, run, onuAt}
+use Rattle.unicast.specs.Setting.{Setting}
+use Rattle.unicast.specs.Events.{Event, register, capture, clockSend, sendDown, sendUp, arriveDown, arriveUp, arriveAnswer}
+use Rattle.unicast.specs.Premises.{Fresh, Meets}
+use Rattle.unicast.specs.Run.{State, start, run, onuAt}
 use Rattle.exercise.specs.Script.{intervalOf, stepsIn, scriptVerdict}
 use Rattle.exercise.specs.Play.{oltMac, unitIdentity, played}
 

@@ -9,16 +9,16 @@ use denote.Struct.Declared as declared
 use denote.Struct.Field.{rows, u8-field}
 use denote.Struct.Laws.{Laws, Lowered}
 use denote.Struct.Struct.{Plains}
-use Rattle.protocol.specs.OltCalls.{advanceOltOf}
-use Rattle.protocol.specs.OnuCalls.{advanceOnuOf}
-use Rattle.protocol.specs.declared.OltAnswer.{OltAnswer}
-use Rattle.protocol.specs.declared.OnuAnswer.{OnuAnswer}
-use Rattle.ends.proofs.Olt as olt-end
-use Rattle.ends.proofs.Olt.Laws as olt-laws
-use Rattle.protocol.proofs.OltAnswer as olt-answer
-use Rattle.ends.proofs.Onu as onu-end
-use Rattle.ends.proofs.Onu.Laws as onu-laws
-use Rattle.protocol.proofs.OnuAnswer as onu-answer
+use Rattle.multicast.specs.HeadCalls.{headAdvanceOf}
+use Rattle.multicast.specs.SubscriberCalls.{subscriberAdvanceOf}
+use Rattle.multicast.specs.declared.HeadAnswer.{HeadAnswer}
+use Rattle.multicast.specs.declared.SubscriberAnswer.{SubscriberAnswer}
+use Rattle.groups.proofs.HeadEnd as head-end
+use Rattle.groups.proofs.HeadEnd.Laws as head-laws
+use Rattle.multicast.proofs.HeadAnswer as head-answer
+use Rattle.groups.proofs.Subscriber as subscriber-end
+use Rattle.groups.proofs.Subscriber.Laws as subscriber-laws
+use Rattle.multicast.proofs.SubscriberAnswer as subscriber-answer
 
 -- an end's struct, the struct of number and end that the advance by value answers with, and the definition that it equals
 pub record End : Type 2 where
@@ -40,34 +40,34 @@ pub record End : Type 2 where
       r ≡ s
   pub advanced : type .D → ℕ → Answer
 
-abbrev pub olt : End
-olt = record {
-  type = olt-end.the-type;
-  laws = olt-laws.the-laws;
-  lowers = olt-laws.lowers;
-  plains = olt-laws.the-plain;
-  name = olt-answer.the-type .name;
-  Answer = OltAnswer;
+abbrev pub head : End
+head = record {
+  type = head-end.the-type;
+  laws = head-laws.the-laws;
+  lowers = head-laws.lowers;
+  plains = head-laws.the-plain;
+  name = head-answer.the-type .name;
+  Answer = HeadAnswer;
   number = λ r. r .number;
-  after = λ r. r .olt;
-  answered = λ n h. record { number = n; olt = h };
+  after = λ r. r .head;
+  answered = λ n h. record { number = n; head = h };
   answers = λ n h. (refl, refl);
-  apart = olt-answer.the-type .to-one;
-  advanced = advanceOltOf;
+  apart = head-answer.the-type .to-one;
+  advanced = headAdvanceOf;
 }
 
-abbrev pub onu : End
-onu = record {
-  type = onu-end.the-type;
-  laws = onu-laws.the-laws;
-  lowers = onu-laws.lowers;
-  plains = onu-laws.the-plain;
-  name = onu-answer.the-type .name;
-  Answer = OnuAnswer;
+abbrev pub subscriber : End
+subscriber = record {
+  type = subscriber-end.the-type;
+  laws = subscriber-laws.the-laws;
+  lowers = subscriber-laws.lowers;
+  plains = subscriber-laws.the-plain;
+  name = subscriber-answer.the-type .name;
+  Answer = SubscriberAnswer;
   number = λ r. r .number;
-  after = λ r. r .onu;
-  answered = λ n h. record { number = n; onu = h };
+  after = λ r. r .subscriber;
+  answered = λ n h. record { number = n; subscriber = h };
   answers = λ n h. (refl, refl);
-  apart = onu-answer.the-type .to-one;
-  advanced = advanceOnuOf;
+  apart = subscriber-answer.the-type .to-one;
+  advanced = subscriberAdvanceOf;
 }

@@ -1,108 +1,130 @@
-// The calls of the OLT. All take the end by value but advance, which changes the end that is lent (01, Clock).
+// The calls of the OLT with its groups. All take the end by value but advance, which changes the end that is lent (01, Clock).
 ghost use mathlib.Core.Path.{_≡_};
 ghost use Rattle.octets.specs.Output.{withOutput};
-ghost use Rattle.protocol.specs.OltCalls.{acknowledgeOf, advanceOltOf, captureOf, clockSendOf, freshOltOf, offerOf, registerOf, retryOf};
-ghost use Rattle.traffic.specs.Receipts.{oltReceiveOf};
-ghost use Rattle.traffic.specs.Sends.{oltSendOf};
+ghost use Rattle.multicast.specs.HeadCalls.{freshHeadOf, headAcknowledgeOf, headAdvanceOf, headCaptureOf, headClockSendOf, headOfferOf, headRegisterOf, headRetryOf, registerGroupOf};
+ghost use Rattle.multicast.specs.HeadTraffic.{headReceiveOf, headSendOf};
 use ends::Identity;
-use ends::Olt;
-use protocol::Acknowledgement;
-use protocol::ClockSent;
+use groups::Answer;
+use groups::HeadEnd;
+use groups::Roster;
+use multicast::HeadAnswer;
+use multicast::HeadClockSent;
+use multicast::HeadKeySent;
+use multicast::HeadReceived;
+use multicast::HeadSent;
+use multicast::at_head;
+use multicast::head_traffic;
 use protocol::Header;
-use protocol::KeySent;
-use protocol::OltAnswer;
-use traffic::OltReceived;
-use traffic::OltSent;
 
 #[no_mangle]
-pub extern "C" fn jazmotip_olt_fresh(mac: u64, clock: u64) -> OltAnswer
-    ensures { λ r. ⌜ r ≡ freshOltOf mac clock ⌝ }
+pub extern "C" fn jazmotip_olt_fresh(mac: u64, clock: u64) -> HeadAnswer
+    ensures { λ r. ⌜ r ≡ freshHeadOf mac clock ⌝ }
 {
-    olt::fresh(mac, clock)
+    at_head::fresh(mac, clock)
 }
 
 #[no_mangle]
 pub extern "C" fn jazmotip_olt_register(
-    olt: Olt,
+    olt: HeadEnd,
     identity: Identity,
     trip: u64,
     interval: u64,
-) -> OltAnswer
-    ensures { λ r. ⌜ r ≡ registerOf olt identity trip interval ⌝ }
+) -> HeadAnswer
+    ensures { λ r. ⌜ r ≡ headRegisterOf olt identity trip interval ⌝ }
 {
-    olt::register(olt, identity, trip, interval)
+    at_head::register(olt, identity, trip, interval)
+}
+
+// A group takes a unit's place; each member is named by any LLID of its unit.
+#[no_mangle]
+pub extern "C" fn jazmotip_olt_register_group(
+    olt: HeadEnd,
+    llid: u16,
+    interval: u64,
+    roster: Roster,
+) -> HeadAnswer
+    ensures { λ r. ⌜ r ≡ registerGroupOf olt llid interval roster ⌝ }
+{
+    at_head::register_group(olt, llid, interval, roster)
+}
+
+// The advance by value, with what the walk of the one in place needs of its contract.
+fn advanced(olt: HeadEnd, n: u64) -> HeadAnswer
+    ensures { λ r. ⌜ r ≡ headAdvanceOf olt n ⌝ }
+{
+    at_head::advance(olt, n)
 }
 
 // The whole end is stored, also where it is refused and so the same.
 #[no_mangle]
-pub extern "C" fn jazmotip_olt_advance(olt: &mut Olt, n: u64) -> u8
-    ensures { λ r. ⌜ (r ≡ advanceOltOf (now (olt .entry)) n .number) × (now (olt .exit) ≡ advanceOltOf (now (olt .entry)) n .olt) ⌝ }
+pub extern "C" fn jazmotip_olt_advance(olt: &mut HeadEnd, n: u64) -> u8
+    ensures { λ r. ⌜ (r ≡ headAdvanceOf (now (olt .entry)) n .number) × (now (olt .exit) ≡ headAdvanceOf (now (olt .entry)) n .head) ⌝ }
 {
-    let answer = olt::advance(*olt, n);
-    *olt = answer.olt;
+    let answer = advanced(*olt, n);
+    *olt = answer.head;
     answer.number
 }
 
 #[no_mangle]
-pub extern "C" fn jazmotip_olt_capture(olt: Olt, llid: u16) -> OltAnswer
-    ensures { λ r. ⌜ r ≡ captureOf olt llid ⌝ }
+pub extern "C" fn jazmotip_olt_capture(olt: HeadEnd, llid: u16) -> HeadAnswer
+    ensures { λ r. ⌜ r ≡ headCaptureOf olt llid ⌝ }
 {
-    olt::capture(olt, llid)
+    at_head::capture(olt, llid)
 }
 
 #[no_mangle]
-pub extern "C" fn jazmotip_olt_clock_send(olt: Olt, llid: u16) -> ClockSent
-    ensures { λ r. ⌜ r ≡ clockSendOf olt llid ⌝ }
+pub extern "C" fn jazmotip_olt_clock_send(olt: HeadEnd, llid: u16) -> HeadClockSent
+    ensures { λ r. ⌜ r ≡ headClockSendOf olt llid ⌝ }
 {
-    olt::clock_send(olt, llid)
+    at_head::clock_send(olt, llid)
 }
 
 #[no_mangle]
-pub extern "C" fn jazmotip_olt_offer(olt: Olt, llid: u16, key: &[u8; 16]) -> KeySent
-    ensures { λ r. ⌜ r ≡ offerOf olt llid (now (key .entry)) ⌝ }
+pub extern "C" fn jazmotip_olt_offer(olt: HeadEnd, llid: u16, key: &[u8; 16]) -> HeadKeySent
+    ensures { λ r. ⌜ r ≡ headOfferOf olt llid (now (key .entry)) ⌝ }
 {
-    olt::offer(olt, llid, *key)
+    at_head::offer(olt, llid, *key)
 }
 
 #[no_mangle]
-pub extern "C" fn jazmotip_olt_retry(olt: Olt, llid: u16) -> KeySent
-    ensures { λ r. ⌜ r ≡ retryOf olt llid ⌝ }
+pub extern "C" fn jazmotip_olt_retry(olt: HeadEnd, llid: u16) -> HeadKeySent
+    ensures { λ r. ⌜ r ≡ headRetryOf olt llid ⌝ }
 {
-    olt::retry(olt, llid)
+    at_head::retry(olt, llid)
 }
 
 #[no_mangle]
 pub extern "C" fn jazmotip_olt_acknowledge(
-    olt: Olt,
+    olt: HeadEnd,
     llid: u16,
-    acknowledgement: Acknowledgement,
-) -> OltAnswer
-    ensures { λ r. ⌜ r ≡ acknowledgeOf olt llid acknowledgement ⌝ }
+    acknowledgement: Answer,
+) -> HeadAnswer
+    ensures { λ r. ⌜ r ≡ headAcknowledgeOf olt llid acknowledgement ⌝ }
 {
-    olt::acknowledge(olt, llid, acknowledgement)
+    at_head::acknowledge(olt, llid, acknowledgement)
 }
 
 #[no_mangle]
 pub extern "C" fn jazmotip_olt_send(
-    olt: Olt,
+    olt: HeadEnd,
     llid: u16,
     channel: u8,
     payload: &[u8],
     output: &mut [u8],
-) -> OltSent
-    ensures { λ r. ⌜ withOutput r (now (output .exit)) ≡ oltSendOf olt llid channel (now (payload .entry)) (now (output .entry)) ⌝ }
+) -> HeadSent
+    ensures { λ r. ⌜ withOutput r (now (output .exit)) ≡ headSendOf olt llid channel (now (payload .entry)) (now (output .entry)) ⌝ }
 {
-    traffic::olt_send(olt, llid, channel, payload, output)
+    head_traffic::send(olt, llid, channel, payload, output)
 }
 
 #[no_mangle]
 pub extern "C" fn jazmotip_olt_receive(
-    olt: Olt,
+    olt: HeadEnd,
     header: Header,
     octets: &[u8],
     output: &mut [u8],
-) -> OltReceived
-    ensures { λ r. ⌜ withOutput r (now (output .exit)) ≡ oltReceiveOf olt header (now (octets .entry)) (now (output .entry)) ⌝ }
+) -> HeadReceived
+    ensures { λ r. ⌜ withOutput r (now (output .exit)) ≡ headReceiveOf olt header (now (octets .entry)) (now (output .entry)) ⌝ }
 {
-    traffic::olt_receive(olt, header, octets, output)
+    head_traffic::receive(olt, header, octets, output)
 }

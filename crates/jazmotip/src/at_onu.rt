@@ -1,71 +1,92 @@
-// The calls of the ONU. All take the end by value but advance, which changes the end that is lent (01, Clock).
+// The calls of the ONU with the groups that it joined. All take the end by value but advance, which changes the end that is lent (01, Clock).
 ghost use mathlib.Core.Path.{_≡_};
 ghost use Rattle.octets.specs.Output.{withOutput};
-ghost use Rattle.protocol.specs.OnuCalls.{advanceOnuOf, clockMessageAt, freshOnuOf, keyMessageAt};
-ghost use Rattle.traffic.specs.Receipts.{onuReceiveOf};
-ghost use Rattle.traffic.specs.Sends.{onuSendOf};
+ghost use Rattle.multicast.specs.SubscriberCalls.{freshSubscriberOf, joinOf, subscriberAdvanceOf, subscriberClockMessageOf, subscriberKeyMessageOf};
+ghost use Rattle.multicast.specs.SubscriberTraffic.{subscriberReceiveOf, subscriberSendOf};
 use clock::Stamps;
 use ends::Identity;
-use ends::Onu;
+use groups::Subscriber;
+use multicast::SubscriberAcknowledged;
+use multicast::SubscriberAnswer;
+use multicast::SubscriberReceived;
+use multicast::SubscriberSent;
+use multicast::at_subscriber;
+use multicast::subscriber_traffic;
 use protocol::Header;
 use protocol::KeyMessage;
-use protocol::OnuAcknowledged;
-use protocol::OnuAnswer;
-use traffic::OnuReceived;
-use traffic::OnuSent;
 
 #[no_mangle]
-pub extern "C" fn jazmotip_onu_fresh(identity: Identity, oltmac: u64, time: u64) -> OnuAnswer
-    ensures { λ r. ⌜ r ≡ freshOnuOf identity oltmac time ⌝ }
+pub extern "C" fn jazmotip_onu_fresh(identity: Identity, oltmac: u64, time: u64) -> SubscriberAnswer
+    ensures { λ r. ⌜ r ≡ freshSubscriberOf identity oltmac time ⌝ }
 {
-    onu::fresh(identity, oltmac, time)
+    at_subscriber::fresh(identity, oltmac, time)
+}
+
+#[no_mangle]
+pub extern "C" fn jazmotip_onu_join(onu: Subscriber, llid: u16) -> SubscriberAnswer
+    ensures { λ r. ⌜ r ≡ joinOf onu llid ⌝ }
+{
+    at_subscriber::join(onu, llid)
+}
+
+// The advance by value, with what the walk of the one in place needs of its contract.
+fn advanced(onu: Subscriber, n: u64) -> SubscriberAnswer
+    ensures { λ r. ⌜ r ≡ subscriberAdvanceOf onu n ⌝ }
+{
+    at_subscriber::advance(onu, n)
 }
 
 // The whole end is stored, also where it is refused and so the same.
 #[no_mangle]
-pub extern "C" fn jazmotip_onu_advance(onu: &mut Onu, n: u64) -> u8
-    ensures { λ r. ⌜ (r ≡ advanceOnuOf (now (onu .entry)) n .number) × (now (onu .exit) ≡ advanceOnuOf (now (onu .entry)) n .onu) ⌝ }
+pub extern "C" fn jazmotip_onu_advance(onu: &mut Subscriber, n: u64) -> u8
+    ensures { λ r. ⌜ (r ≡ subscriberAdvanceOf (now (onu .entry)) n .number) × (now (onu .exit) ≡ subscriberAdvanceOf (now (onu .entry)) n .subscriber) ⌝ }
 {
-    let answer = onu::advance(*onu, n);
-    *onu = answer.onu;
+    let answer = advanced(*onu, n);
+    *onu = answer.subscriber;
     answer.number
 }
 
 #[no_mangle]
-pub extern "C" fn jazmotip_onu_clock_message(onu: Onu, message: Stamps) -> OnuAcknowledged
-    ensures { λ r. ⌜ r ≡ clockMessageAt onu message ⌝ }
+pub extern "C" fn jazmotip_onu_clock_message(
+    onu: Subscriber,
+    message: Stamps,
+) -> SubscriberAcknowledged
+    ensures { λ r. ⌜ r ≡ subscriberClockMessageOf onu message ⌝ }
 {
-    onu::clock_message(onu, message)
+    at_subscriber::clock_message(onu, message)
 }
 
 #[no_mangle]
-pub extern "C" fn jazmotip_onu_key_message(onu: Onu, message: KeyMessage) -> OnuAcknowledged
-    ensures { λ r. ⌜ r ≡ keyMessageAt onu message ⌝ }
+pub extern "C" fn jazmotip_onu_key_message(
+    onu: Subscriber,
+    message: KeyMessage,
+) -> SubscriberAcknowledged
+    ensures { λ r. ⌜ r ≡ subscriberKeyMessageOf onu message ⌝ }
 {
-    onu::key_message(onu, message)
+    at_subscriber::key_message(onu, message)
 }
 
 #[no_mangle]
 pub extern "C" fn jazmotip_onu_send(
-    onu: Onu,
+    onu: Subscriber,
     llid: u16,
     channel: u8,
     payload: &[u8],
     output: &mut [u8],
-) -> OnuSent
-    ensures { λ r. ⌜ withOutput r (now (output .exit)) ≡ onuSendOf onu llid channel (now (payload .entry)) (now (output .entry)) ⌝ }
+) -> SubscriberSent
+    ensures { λ r. ⌜ withOutput r (now (output .exit)) ≡ subscriberSendOf onu llid channel (now (payload .entry)) (now (output .entry)) ⌝ }
 {
-    traffic::onu_send(onu, llid, channel, payload, output)
+    subscriber_traffic::send(onu, llid, channel, payload, output)
 }
 
 #[no_mangle]
 pub extern "C" fn jazmotip_onu_receive(
-    onu: Onu,
+    onu: Subscriber,
     header: Header,
     octets: &[u8],
     output: &mut [u8],
-) -> OnuReceived
-    ensures { λ r. ⌜ withOutput r (now (output .exit)) ≡ onuReceiveOf onu header (now (octets .entry)) (now (output .entry)) ⌝ }
+) -> SubscriberReceived
+    ensures { λ r. ⌜ withOutput r (now (output .exit)) ≡ subscriberReceiveOf onu header (now (octets .entry)) (now (output .entry)) ⌝ }
 {
-    traffic::onu_receive(onu, header, octets, output)
+    subscriber_traffic::receive(onu, header, octets, output)
 }

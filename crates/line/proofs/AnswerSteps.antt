@@ -1,156 +1,193 @@
--- An acknowledgement that the OLT accepts keeps what holds of a registered unit. Assumes nothing.
-use mathlib.Core.Path.{_≡_, refl, sym, _∙_, ap, subst}
+-- An acknowledgement of a group's key keeps the invariant, and so does what the OLT refuses. Assumes nothing.
+use mathlib.Core.Path.{_≡_, refl, _∙_, ap}
 use mathlib.Core.Bool.{Bool, true, false}
-use mathlib.Core.List.{List·Memᴰ}
-use Prim.Native.Nat.{ℕ, _≤_}
+use mathlib.Core.List.{List}
+use Prim.Native.Nat.{ℕ, _<_}
 use native.Mathlib.Omega.{arith}
-use lib.Dec.{eqb}
-use lib.ListN.{length}
-use borrow.Author.Tests.{eqb-true, eq-eqb, ne-eqb}
-use Rattle.octets.proofs.Choice.{both-true, pick-true, pick-false, both-false-left}
-use Rattle.refusal.specs.declared.Refusal.the-variants.{NothingOutstanding}
+use lib.Dec.{ltb}
+use lib.ListN.{length, set, List·getD-eq-default}
+use lib.Seq.{set-getD}
+use borrow.Author.Tests.{ltb-true, ltb-false}
+use Rattle.octets.specs.Output.{WithOutput}
 use Rattle.refusal.specs.declared.Verdict.the-variants.{Accepted}
-use Rattle.protocol.specs.Lift.{Outcome, outcome}
-use Rattle.protocol.specs.Messages.{clockKind, keyKind}
-use Rattle.ends.specs.Records.{withConfirmation, withClock}
-use Rattle.protocol.specs.Replies.{Silence}
-use Rattle.protocol.specs.UnitCalls.{keyAcknowledgedUnit, clockAcknowledgedUnit, acknowledgeUnit}
-use Rattle.protocol.specs.declared.Acknowledgement.{Acknowledgement}
-use Rattle.ends.specs.declared.Onu.{Onu}
-use Rattle.ends.specs.declared.Shared.{Shared}
-use Rattle.ends.specs.declared.UnitRecord.{UnitRecord}
-use Rattle.refusal.proofs.Order.{refused-accepts}
-use Rattle.protocol.proofs.UnitCalls.{key-acknowledged-accepted, key-kind, clock-kind, no-kind}
-use Rattle.line.specs.Setting.{Setting}
-use Rattle.line.specs.History.{Answered, Lane, due, laneWith, laneAcknowledged}
-use Rattle.line.proofs.Invariant.{reachOf, Joined, AtTick}
-use Rattle.line.proofs.Queues.{Knows, towards-moved, from-moved}
-use Rattle.line.proofs.Past.{passing-moved, sent-most}
+use Rattle.ends.specs.declared.Found.{Found}
+use Rattle.ends.specs.declared.Found.the-variants.{At, Nowhere}
+use Rattle.protocol.specs.Headers.{noPassage}
+use Rattle.protocol.specs.OltCalls.{acknowledgeOf}
+use Rattle.protocol.specs.OltTraffic.{receivingOlt}
+use Rattle.protocol.specs.Replies.{silent}
+use Rattle.protocol.specs.declared.Header.{Header}
+use Rattle.protocol.proofs.OltCalls.{acknowledge-refused}
+use Rattle.protocol.proofs.OltTraffic.{receiving-untouched}
+use Rattle.protocol.proofs.Replies.{number-refused}
+use Rattle.traffic.specs.Passages.{misfit}
+use Rattle.traffic.specs.Receipts.{oltReceived, oltReceiveOf}
+use Rattle.groups.specs.GroupCalls.{groupOutcome, memberNamed, groupMarked, acknowledgeGroup}
+use Rattle.groups.specs.Head.{findGroup, groupAt, withMembers, withOlt, validGroups}
+use Rattle.groups.specs.declared.Answer.{Answer}
+use Rattle.groups.specs.declared.GroupRecord.{GroupRecord}
+use Rattle.groups.specs.declared.HeadEnd.{HeadEnd}
+use Rattle.multicast.specs.Naming.{byLlid}
+use Rattle.multicast.specs.HeadCalls.{headAnswer, ownAcknowledgement, headAcknowledgeOf}
+use Rattle.multicast.specs.HeadTraffic.{headReceiveOf}
+use Rattle.multicast.specs.declared.HeadAnswer.{HeadAnswer}
+use Rattle.multicast.specs.declared.HeadReceived.{HeadReceived}
+use Rattle.unicast.specs.Setting.{Setting}
+use Rattle.line.specs.History.{GroupLane}
+use Rattle.line.specs.Events.{arriveGroupAnswer, strayAnswer, strayUp}
+use Rattle.line.specs.Run.{State, groupLaneAt, noGroupLane, groupAnswerAt, atHead, headAfter, step}
+use Rattle.line.specs.Premises.{Fits}
+use Rattle.line.proofs.Invariant.{Recorded, Invariant}
+use Rattle.line.proofs.AloneHead.{answered-olt, receive-olt}
+use Rattle.line.proofs.GroupCalls.{Ends, accepted, refused, lift-ends}
+use Rattle.line.proofs.GroupKeySteps.{group-valid, channels-right}
+use Rattle.line.proofs.GroupSteps.{same, Replaced, replaced-right}
+use Rattle.line.proofs.GroupValid.{acknowledged-valid}
+use Rattle.line.proofs.Lines.{group-finds}
+use Rattle.line.proofs.Queues.{itself}
 
----- the mark of the last offer
+-- a group past the end has nothing
+pub known-line : (s : State) (g : ℕ) → (groupLaneAt s g ≡ noGroupLane → ⊥) → g < length (s .history .groups)
+known-line s g n = by-length (ltb g (length (s .history .groups))) refl where
+  by-length : (t : Bool) → ltb g (length (s .history .groups)) ≡ t → g < length (s .history .groups)
+  by-length true e = ltb-true g (length (s .history .groups)) e
+  by-length false e = absurd (n (List·getD-eq-default (s .history .groups) noGroupLane (ltb-false g (length (s .history .groups)) e)))
 
-markedLane : Lane → Bool → Lane
-markedLane l b =
-    laneWith l
-    (record { offers = l .keys .offers; acknowledged = b; switches = l .keys .switches; switched = l .keys .switched; number = l .keys .number })
-    (l .transit) (l .past)
+---- a member's mark
 
--- an acknowledgement of the last offer marks it
-lane-marked : (a : Acknowledgement) (l : Lane) → a .kind ≡ keyKind → a .number ≡ length (l .keys .offers) → laneAcknowledged a l ≡ markedLane l true
-unfolding laneAcknowledged laneWith markedLane
-lane-marked a l e f = ap (markedLane l) (pick-true true (l .keys .acknowledged) (both-true (eq-eqb (a .kind) keyKind e) (eq-eqb _ _ f)))
+marked-keys : (r : GroupRecord) (member : Found) → groupMarked r member .keys ≡ r .keys
+unfolding groupMarked withMembers
+marked-keys r Nowhere = refl
+marked-keys r (At j) = refl
 
--- one of the clock leaves the mark
-lane-unmarked : (a : Acknowledgement) (l : Lane) → a .kind ≡ clockKind → laneAcknowledged a l ≡ l
-unfolding laneAcknowledged laneWith markedLane
-lane-unmarked a l e =
-    ap (markedLane l) (pick-false true (l .keys .acknowledged) (both-false-left _ (ne-eqb (a .kind) keyKind (λ f. omega arith))))
+marked-llid : (r : GroupRecord) (member : Found) → groupMarked r member .llid ≡ r .llid
+unfolding groupMarked withMembers
+marked-llid r Nowhere = refl
+marked-llid r (At j) = refl
 
----- what is handed over
+module _ (w : Setting) (s : State) (g : ℕ) (i : Invariant w s) (known : g < length (s .history .groups)) (member : Found) where
+  abbrev r : GroupRecord
+  r = groupAt (s .head) g
 
-module _ (w : Setting) (sh : Shared) (now : ℕ) (l : Lane) (u : UnitRecord) (o : Onu) where
-  -- one that the unit handed over: the unit is synced, and holds the key that it names
-  handed-over : (a : Acknowledgement) (x : Answered) → Joined w sh now l u o → List·Memᴰ x (l .transit .answered) → x .acknowledgement ≡ a
-      → (o .clock .synced ≡ 1) × (a .kind ≡ keyKind → a .number ≤ reachOf (o .keys))
-  handed-over a x j m e =
-      subst (λ (b : Acknowledgement). (o .clock .synced ≡ 1) × (b .kind ≡ keyKind → b .number ≤ reachOf (o .keys))) e (j .answers .each x m)
-
-  -- the offer is held, and is marked
-  marked-keeps : Joined w sh now l u o → u .keys .offered ≤ reachOf (o .keys)
-      → Joined w sh now (markedLane l true) (withConfirmation u (record { confirmed = u .confirmation .confirmed; acknowledged = 1 })) o
-  unfolding laneWith withConfirmation due markedLane
-  marked-keeps j held =
-      let n = j .numbers in
-      let after = markedLane l true in
-      let knows : Knows l after (u .keys .offered) = record { site = refl; sent = λ e m. m; keys = λ m p q. refl } in
+  marked-recorded : Recorded w (s .head .olt .shared .channels) (s .history .units .now) (groupLaneAt s g) (groupMarked r member)
+  marked-recorded =
+      let j = i .group g known in
+      let k = marked-keys r member in
       record {
-        mac = j .mac;
-        llids = j .llids;
-        oltmac = j .oltmac;
-        numbers =
-            record {
-              counted = n .counted;
-              listed = n .listed;
-              last = n .last;
-              marked = refl;
-              flag = n .flag;
-              low = n .low;
-              mid = n .mid;
-              high = n .high;
-              top = n .top;
-              next = n .next;
-              taken = λ e. held;
-            };
-        stored = record { olt = j .stored .olt; onu = j .stored .onu };
-        timing =
-            record {
-              interval = j .timing .interval;
-              some = j .timing .some;
-              since = j .timing .since;
-              switched = j .timing .switched;
-              count = j .timing .count;
-              flag = j .timing .flag;
-            };
-        clocks = j .clocks;
-        answers = j .answers;
-        towards = towards-moved (w .first) l after (o .keys .active) (u .keys .active) (u .keys .offered) (l .transit .towards) knows (j .towards);
-        from = from-moved l after (u .keys .offered) (u .confirmation .confirmed) (o .keys .active) (l .transit .from) knows (j .from);
-        spending = record { downs = j .spending .downs; ups = j .spending .ups; spaced = j .spending .spaced };
-        passing =
-            passing-moved w l after (u .keys .offered) knows (u .confirmation .confirmed) (o .keys .active) refl
-            (λ e m. omega (arith, sent-most l (sh .channels) u o (j .spending) (n .mid) e m)) (j .passing);
+        llid = marked-llid r member ∙ j .llid;
+        counted = rw k (j .counted);
+        listed = rw k (j .listed);
+        mid = rw k (j .mid);
+        next = rw k (j .next);
+        stored = rw k (j .stored);
+        timing = rw k (j .timing);
+        sends = rw k (j .sends);
+        spaced = j .spaced;
+        arrived = j .arrived;
       }
 
-  pub key-answer-keeps : (a : Acknowledgement) (x : Answered) → AtTick w now sh → Joined w sh now l u o → a .kind ≡ keyKind
-      → List·Memᴰ x (l .transit .answered) → x .acknowledgement ≡ a → acknowledgeUnit a sh u .verdict ≡ Accepted
-      → Joined w sh now (laneAcknowledged a l) (acknowledgeUnit a sh u .unit) o
-  unfolding keyAcknowledgedUnit outcome
-  key-answer-keeps a x at j kind m e accepted =
-      let same = key-kind a sh u kind in
-      let last = key-acknowledged-accepted (a .number) sh u (sym (ap (λ (c : Outcome Silence). c .verdict) same) ∙ accepted) .1 in
-      rw (same, lane-marked a l kind (last ∙ j .numbers .listed)) (marked-keeps j (rw last at (handed-over a x j m e .1 kind)))
-
-  -- the unit of an accepted clock acknowledgement is synced
-  clock-marked-keeps : Joined w sh now l u o → o .clock .synced ≡ 1 → Joined w sh now l (clockAcknowledgedUnit sh u .unit) o
-  unfolding clockAcknowledgedUnit outcome withClock
-  clock-marked-keeps j synced =
-      let c = j .clocks in
+  marked-replaced : Replaced w s g (s .head .olt .shared .channels) (groupMarked r member) (groupLaneAt s g)
+  marked-replaced =
       record {
-        mac = j .mac;
-        llids = j .llids;
-        oltmac = j .oltmac;
-        numbers = j .numbers;
-        stored = j .stored;
-        timing = j .timing;
-        clocks =
-            record {
-              trip = c .trip;
-              capture = c .capture;
-              flag = c .flag;
-              unsynced = c .unsynced;
-              synced = c .synced;
-              acknowledged = λ e. synced;
-            };
-        answers = j .answers;
-        towards = j .towards;
-        from = j .from;
-        spending = record { downs = j .spending .downs; ups = j .spending .ups; spaced = j .spending .spaced };
-        passing = j .passing;
+        known = known;
+        rises = λ k. omega arith;
+        channels = channels-right w s i;
+        valid = acknowledged-valid (s .head .olt .shared .tick) (s .head .olt .count) r member (group-valid w s g i known);
+        grown = itself (groupLaneAt s g) (r .keys .offered);
+        roster = refl;
+        queues = i .queues g known;
+        answered = refl;
+        recorded = marked-recorded;
+        follows = λ u h. rw (marked-keys r member) (i .follows u g h known);
+        offers = same refl;
       }
 
-  pub clock-answer-keeps : (a : Acknowledgement) (x : Answered) → AtTick w now sh → Joined w sh now l u o → a .kind ≡ clockKind
-      → List·Memᴰ x (l .transit .answered) → x .acknowledgement ≡ a → acknowledgeUnit a sh u .verdict ≡ Accepted
-      → Joined w sh now (laneAcknowledged a l) (acknowledgeUnit a sh u .unit) o
-  clock-answer-keeps a x at j kind m e accepted =
-      rw (clock-kind a sh u kind, lane-unmarked a l kind) (clock-marked-keeps j (handed-over a x j m e .0))
+-- the head end replaced, and nothing noted
+head-replaced : (w : Setting) (s : State) (g : ℕ) (h : HeadEnd) → Invariant w (atHead s h (s .history .units) (set (s .history .groups) g (groupLaneAt s g)))
+    → Invariant w (headAfter s h)
+unfolding atHead headAfter
+head-replaced w s g h i = rw (set-getD (s .history .groups) g noGroupLane) at i
 
-  -- an acknowledgement that the OLT accepts is of either kind
-  pub answer-keeps : (a : Acknowledgement) (x : Answered) → AtTick w now sh → Joined w sh now l u o → List·Memᴰ x (l .transit .answered)
-      → x .acknowledgement ≡ a → acknowledgeUnit a sh u .verdict ≡ Accepted → Joined w sh now (laneAcknowledged a l) (acknowledgeUnit a sh u .unit) o
-  unfolding outcome
-  answer-keeps a x at j m e accepted = by-kind (eqb (a .kind) clockKind) (eqb (a .kind) keyKind) refl refl where
-    by-kind : (s t : Bool) → eqb (a .kind) clockKind ≡ s → eqb (a .kind) keyKind ≡ t
-        → Joined w sh now (laneAcknowledged a l) (acknowledgeUnit a sh u .unit) o
-    by-kind true t p q = clock-answer-keeps a x at j (eqb-true _ _ p) m e accepted
-    by-kind false true p q = key-answer-keeps a x at j (eqb-true _ _ q) m e accepted
-    by-kind false false p q = refused-accepts NothingOutstanding (sym (ap (λ (c : Outcome Silence). c .verdict) (no-kind a sh u p q)) ∙ accepted)
+same-head : (w : Setting) (s : State) → Invariant w s → Invariant w (headAfter s (s .head))
+unfolding headAfter
+same-head w s i = i
+
+group-answer-right : (w : Setting) (s : State) (g llid : ℕ) (a : Answer) → Invariant w s → findGroup (s .head) llid ≡ At g → g < length (s .history .groups)
+    → Invariant w (headAfter s (headAcknowledgeOf (s .head) llid a .head))
+unfolding headAcknowledgeOf byLlid headAnswer acknowledgeGroup groupOutcome
+group-answer-right w s g llid a i found known =
+    by-end (lift-ends (s .head) silent Accepted (λ o x. acknowledgeGroup a (memberNamed o (x .members) a) (o .shared) x) g) where
+      by-end : Ends (s .head) silent Accepted (λ o x. acknowledgeGroup a (memberNamed o (x .members) a) (o .shared) x) g
+          → Invariant w (headAfter s (headAcknowledgeOf (s .head) llid a .head))
+      by-end (refused x e) = rw (found, e) (same-head w s i)
+      by-end (accepted l) =
+          rw (found, l .is)
+          (head-replaced w s g _ (replaced-right w s g _ _ _ i (marked-replaced w s g i known (memberNamed (s .head .olt) (groupAt (s .head) g .members) a))))
+
+pub group-acknowledged-right : (w : Setting) (s : State) (g k : ℕ) → Invariant w s → Fits w s (arriveGroupAnswer g k)
+    → Invariant w (step s (arriveGroupAnswer g k))
+unfolding step noGroupLane
+group-acknowledged-right w s g k i due =
+    let known = known-line s g (λ e. omega (arith, due .some, ap (λ (x : GroupLane). length (x .answered)) e)) in
+    group-answer-right w s g (groupLaneAt s g .llid) (groupAnswerAt s g k .answer) i (group-finds w s i g known) known
+
+---- what is refused leaves the head end
+
+own-answer-refused : (h : HeadEnd) (llid : ℕ) (a : Answer) → validGroups h ≡ true → findGroup h llid ≡ Nowhere
+    → (headAcknowledgeOf h llid a .number ≡ 0 → ⊥) → headAcknowledgeOf h llid a .head ≡ h
+unfolding headAcknowledgeOf byLlid withOlt
+own-answer-refused h llid a v e n =
+    let is : headAcknowledgeOf h llid a ≡ record {
+      number = acknowledgeOf (h .olt) llid (ownAcknowledgement a) .number;
+      head = withOlt h (acknowledgeOf (h .olt) llid (ownAcknowledgement a) .olt);
+    } = rw e (answered-olt h v (acknowledgeOf (h .olt) llid (ownAcknowledgement a))) in
+    ap (λ (x : HeadAnswer). x .head) is
+    ∙ ap (withOlt h) (acknowledge-refused (h .olt) llid (ownAcknowledgement a) (λ z. n (ap (λ (x : HeadAnswer). x .number) is ∙ z)))
+
+group-answer-refused : (h : HeadEnd) (llid : ℕ) (a : Answer) (g : ℕ) → findGroup h llid ≡ At g
+    → (headAcknowledgeOf h llid a .number ≡ 0 → ⊥) → headAcknowledgeOf h llid a .head ≡ h
+unfolding headAcknowledgeOf byLlid headAnswer
+group-answer-refused h llid a g e n =
+    by-end (lift-ends h silent Accepted (λ o x. acknowledgeGroup a (memberNamed o (x .members) a) (o .shared) x) g) where
+      by-end : Ends h silent Accepted (λ o x. acknowledgeGroup a (memberNamed o (x .members) a) (o .shared) x) g → headAcknowledgeOf h llid a .head ≡ h
+      by-end (refused x f) = rw (e, f)
+      by-end (accepted l) = absurd (n (rw (e, l .is)))
+
+own-receive-refused : (h : HeadEnd) (header : Header) (p out : List ℕ) → validGroups h ≡ true → findGroup h (header .llid) ≡ Nowhere
+    → (headReceiveOf h header p out .answer .number ≡ 0 → ⊥) → headReceiveOf h header p out .answer .head ≡ h
+unfolding withOlt oltReceiveOf oltReceived
+own-receive-refused h header p out v e n =
+    let is = receive-olt h v header p out e in
+    ap (λ (x : WithOutput HeadReceived). x .answer .head) is
+    ∙ ap (withOlt h)
+    (number-refused (h .olt) noPassage (receivingOlt (h .olt) (misfit p out) header) (receiving-untouched (h .olt) (misfit p out) header)
+    (λ z. n (ap (λ (x : WithOutput HeadReceived). x .answer .number) is ∙ z)) .end)
+
+group-receive-refused : (h : HeadEnd) (header : Header) (p out : List ℕ) (g : ℕ) → findGroup h (header .llid) ≡ At g
+    → headReceiveOf h header p out .answer .head ≡ h
+unfolding headReceiveOf byLlid
+group-receive-refused h header p out g e = rw e
+
+pub answer-refused : (h : HeadEnd) (llid : ℕ) (a : Answer) → validGroups h ≡ true → (headAcknowledgeOf h llid a .number ≡ 0 → ⊥)
+    → headAcknowledgeOf h llid a .head ≡ h
+answer-refused h llid a v n = by-found (findGroup h llid) refl where
+  by-found : (f : Found) → findGroup h llid ≡ f → headAcknowledgeOf h llid a .head ≡ h
+  by-found Nowhere e = own-answer-refused h llid a v e n
+  by-found (At g) e = group-answer-refused h llid a g e n
+
+pub receive-refused : (h : HeadEnd) (header : Header) (p out : List ℕ) → validGroups h ≡ true → (headReceiveOf h header p out .answer .number ≡ 0 → ⊥)
+    → headReceiveOf h header p out .answer .head ≡ h
+receive-refused h header p out v n = by-found (findGroup h (header .llid)) refl where
+  by-found : (f : Found) → findGroup h (header .llid) ≡ f → headReceiveOf h header p out .answer .head ≡ h
+  by-found Nowhere e = own-receive-refused h header p out v e n
+  by-found (At g) e = group-receive-refused h header p out g e
+
+pub stray-answer-right : (w : Setting) (s : State) (llid : ℕ) (a : Answer) → Invariant w s → Fits w s (strayAnswer llid a)
+    → Invariant w (step s (strayAnswer llid a))
+unfolding step
+stray-answer-right w s llid a i n = rw (answer-refused (s .head) llid a (i .valid) n) (same-head w s i)
+
+pub stray-up-right : (w : Setting) (s : State) (h : Header) (p out : List ℕ) → Invariant w s → Fits w s (strayUp h p out)
+    → Invariant w (step s (strayUp h p out))
+unfolding step
+stray-up-right w s h p out i n = rw (receive-refused (s .head) h p out (i .valid) n) (same-head w s i)

@@ -1,76 +1,72 @@
--- An envelope that arrives at the OLT keeps the invariant. Assumes nothing.
-use mathlib.Core.Path.{_≡_, refl, sym, _∙_, ap}
-use mathlib.Core.Bool.{Bool, true, false}
+-- An envelope of a unit that arrives at the OLT keeps the invariant. Assumes nothing.
+use mathlib.Core.Path.{_≡_, refl, _∙_, ap}
+use mathlib.Core.Bool.{true}
 use mathlib.Core.List.{List}
 use Prim.Native.Nat.{ℕ}
-use native.Mathlib.Omega.{arith}
-use lib.ListN.{length, set}
-use Rattle.ends.specs.Records.{withChannels}
-use Rattle.protocol.specs.Replies.{Reply}
-use Rattle.ends.specs.Table.{unitAt, withUnit}
-use Rattle.ends.specs.Validity.{validOlt}
-use Rattle.protocol.specs.Lift.{outcome}
-use Rattle.protocol.specs.Headers.{noPassage}
-use Rattle.protocol.specs.UnitTraffic.{receiveUnit}
-use Rattle.protocol.specs.OltTraffic.{receivingOlt}
+use lib.ListN.{length-set}
+use Rattle.ends.specs.Identities.{has}
 use Rattle.ends.specs.declared.Olt.{Olt}
-use Rattle.protocol.specs.declared.Passage.{Passage}
-use Rattle.protocol.proofs.Lift.{Lifted}
-use Rattle.protocol.proofs.OltTraffic.{receiveAhead, receiving-valid, receiving-accepts}
-use Rattle.traffic.specs.Passages.{misfit}
-use Rattle.traffic.specs.Receipts.{oltReceived, oltReceiveOf}
-use Rattle.line.specs.Setting.{Setting}
-use Rattle.line.specs.History.{Envelope, Lane, laneWith, laneArrivedUp}
+use Rattle.protocol.specs.Headers.{envelopeHeader}
+use Rattle.protocol.specs.declared.Header.{Header}
+use Rattle.groups.specs.Head.{withOlt}
+use Rattle.unicast.specs.Setting.{Setting}
+use Rattle.unicast.specs.History.{Entry, Lane, laneWith, laneArrivedUp}
+use Rattle.unicast.specs.Events as events
+use Rattle.unicast.specs.Run.{laneAt, atOltFor, freshLane, noSite, noEnvelope, withLanes, envelopeAt}
+use Rattle.unicast.specs.Premises.{DueUp}
+use Rattle.unicast.proofs.Alive.{from-alive}
+use Rattle.unicast.proofs.Queues.{from-taken}
+use Rattle.unicast.proofs.Theorem.{step-right}
 use Rattle.line.specs.Events.{arriveUp}
-use Rattle.line.specs.Run.{State, laneAt, onuAt, envelopeAt, freshLane, noEnvelope, atOltFor, receiptUp, arrivingUp, step}
-use Rattle.line.specs.Premises.{Fits}
-use Rattle.line.proofs.Invariant.{Joined, Invariant}
-use Rattle.line.proofs.Envelopes.{arrivalOf}
-use Rattle.line.proofs.ReceiptUpSteps.{arrive-up, arrive-up-named, arrive-up-receives, receipt-up-is}
-use Rattle.line.proofs.Places.{Held, joined-at, held-found, busy-held, at-once}
-use Rattle.line.proofs.LiftSteps.{replaced-right, told-for}
+use Rattle.line.specs.Run.{State, alone, atHead, receiptUp, arrivingUp, step}
+use Rattle.line.proofs.Invariant.{Invariant}
+use Rattle.line.proofs.AloneHead.{receive-olt, arrive-up-alone}
+use Rattle.line.proofs.Kept.{OltKept, receive-kept}
+use Rattle.line.proofs.Beside.{Beside, head-kept, unit-itself, beside-right}
+use Rattle.line.proofs.Lines.{unit-no-group}
+use Rattle.line.proofs.Places.{set-field}
 
--- the accepted receipt of the envelope, as the unit's record takes it
-arrived-right : (w : Setting) (s : State) (u k : ℕ) (out : List ℕ) (e : Envelope) → Invariant w s → misfit (e .octets) out ≡ false
-    → (l : Lifted (s .olt) noPassage (receiveAhead false (e .header)) (e .header .llid) (receiveUnit (e .header))) → Held s (l .at) u
-    → Joined w (s .olt .shared) (s .history .now)
-    (laneArrivedUp k (arrivalOf e (receiveUnit (e .header) (s .olt .shared) (unitAt (s .olt) (l .at)) .handed)) (laneAt s u))
-    (receiveUnit (e .header) (s .olt .shared) (unitAt (s .olt) (l .at)) .unit) (onuAt s u)
-    → Invariant w (arrivingUp s u k e out)
-unfolding arrivingUp atOltFor oltReceiveOf oltReceived receivingOlt receiveUnit outcome withChannels laneArrivedUp laneWith
-arrived-right w s u k out e i fit l h j =
-    let sh = s .olt .shared in
-    let x = unitAt (s .olt) (l .at) in
-    let call = receiveUnit (e .header) in
-    let r = receivingOlt (s .olt) (misfit (e .octets) out) (e .header) in
-    let same : r ≡ receivingOlt (s .olt) false (e .header) = ap (λ (b : Bool). receivingOlt (s .olt) b (e .header)) fit in
-    let end : r .end ≡ withUnit (s .olt) (l .at) (call sh x .channels) (call sh x .unit) = ap (λ (y : Reply Olt Passage). y .end) same ∙ l .end in
-    let receipt : receiptUp s e out ≡ arrivalOf e (call sh x .handed) =
-    receipt-up-is s e out (call sh x .handed) (ap (λ (y : Reply Olt Passage). y .verdict) same ∙ l .verdict)
-    (ap (λ (y : Reply Olt Passage). y .handed) same ∙ l .handed) in
-    let lane = laneArrivedUp k (arrivalOf e (call sh x .handed)) (laneAt s u) in
-    let valid : validOlt (withUnit (s .olt) (l .at) (call sh x .channels) (call sh x .unit)) ≡ true =
-    rw end at (receiving-valid (s .olt) (misfit (e .octets) out) (e .header) (i .valid)) in
-    rw (end, receipt)
-    (replaced-right w s (l .at) (call sh x .channels) (call sh x .unit) (set (s .history .lanes) u lane) i
-    (told-for w s (l .at) u (call sh x .channels) (call sh x .unit) lane i h valid (λ n. omega arith) refl refl refl j))
+-- its header has an LLID of its unit
+pub up-llid : (w : Setting) (s : State) (u k : ℕ) (out : List ℕ) → Invariant w s → DueUp (alone s) u k out
+    → has (laneAt (alone s) u .site .identity) (envelopeAt (alone s) u k .header .llid) ≡ true
+unfolding envelopeHeader
+up-llid w s u k out i due =
+    let a = from-alive w (alone s) u (i .units) k (due .some) in
+    let j = a .joined in
+    let under = from-taken (laneAt (alone s) u) _ _ (laneAt (alone s) u .transit .from) k noEnvelope (envelopeAt (alone s) u k) (due .some) refl (j .from) .0 in
+    ap (λ (h : Header). has (laneAt (alone s) u .site .identity) (h .llid)) (j .passing .sent (envelopeAt (alone s) u k) (under .sent) .header)
+    ∙ under .named
 
-pub arrive-up-right : (w : Setting) (s : State) (u k : ℕ) (out : List ℕ) → Invariant w s → Fits w s (arriveUp u k out)
-    → Invariant w (step s (arriveUp u k out))
-unfolding step freshLane
-arrive-up-right w s u k out i d =
-    let sh = s .olt .shared in
-    let now = s .history .now in
-    let e = envelopeAt s u k in
-    let place = laneAt s u .entry .place in
-    let held = busy-held w s (λ (l : Lane). length (l .transit .from)) u k i refl (λ o h. ap length (h .from)) (d .some) in
-    let j = joined-at w s place u i held .1 in
-    let x = arrive-up-named w sh now (laneAt s u) (unitAt (s .olt) place) (onuAt s u) (i .shared) j k noEnvelope e (d .some) refl (d .now) in
-    let found = held-found w s place u (e .header .llid) i held (sym (j .llids (e .header .llid)) ∙ x .has) in
-    let l =
-    receiving-accepts (s .olt) (e .header) place (i .valid) (x .upstream) (x .header) found
-    (arrive-up-receives w sh now (laneAt s u) (unitAt (s .olt) place) (onuAt s u) (i .shared) j k noEnvelope e (d .some) refl (d .now)) in
-    let own : Held s (l .at) u = record { known = held .known; registered = held .registered; place = at-once _ _ (sym found ∙ l .found) } in
-    arrived-right w s u k out e i (x .fits out (d .buffer)) l own
-    (arrive-up w sh now (laneAt s u) (unitAt (s .olt) (l .at)) (onuAt s u) (i .shared) (joined-at w s (l .at) u i own .1) k noEnvelope e
-    (d .some) refl (d .now))
+told-beside : (w : Setting) (s : State) (u : ℕ) (o : Olt) (f : Lane → Lane) → Invariant w s → OltKept (s .head .olt) o → ((l : Lane) → f l .site ≡ l .site)
+    → ((l : Lane) → f l .entry ≡ l .entry) → Beside s (atHead s (withOlt (s .head) o) (atOltFor (alone s) u o f .history) (s .history .groups))
+unfolding atHead alone withOlt atOltFor withLanes
+told-beside w s u o f i k site entry =
+    let ls = s .history .units .lanes in
+    let l = laneAt (alone s) u in
+    record {
+      groups = refl;
+      valid = head-kept (s .head) o k (i .valid);
+      rises = k .rises;
+      ticks = refl;
+      paired = length-set ls u (f l);
+      site = set-field (λ (x : Lane). x .site) ls u (f l) (freshLane noSite) (site l);
+      entry = λ v e. ap (λ (x : Entry). x .registered) (set-field (λ (x : Lane). x .entry) ls u (f l) (freshLane noSite) (entry l) v) ∙ e;
+      unit = λ v. unit-itself _;
+      joined = refl;
+      lines = refl;
+    }
+
+pub arrive-up-right : (w : Setting) (s : State) (u k : ℕ) (out : List ℕ) → Invariant w s → DueUp (alone s) u k out → Invariant w (step s (arriveUp u k out))
+unfolding step arrivingUp atHead alone withOlt atOltFor laneArrivedUp laneWith withLanes
+arrive-up-right w s u k out i due =
+    let a = from-alive w (alone s) u (i .units) k (due .some) in
+    let e = envelopeAt (alone s) u k in
+    let none = unit-no-group w s i u (e .header .llid) (a .registered) (up-llid w s u k out i due) in
+    let is = receive-olt (s .head) (i .valid) (e .header) (e .octets) out none in
+    beside-right w s (step s (arriveUp u k out)) i
+    (rw is (told-beside w s u _ (laneArrivedUp k (receiptUp s e out)) i (receive-kept (s .head .olt) (e .header) (e .octets) out) (λ l. refl) (λ l. refl)))
+    (rw (arrive-up-alone s (i .valid) u k out none) (step-right w (alone s) (events.arriveUp u k out) (i .units) due))
+    (λ v g m n p q z.
+    let stay = set-field (λ (x : Lane). x .keys .offers) (s .history .units .lanes) u
+    (laneArrivedUp k (receiptUp s e out) (laneAt (alone s) u)) (freshLane noSite) refl v in
+    i .mixed v g m n (rw stay at p) q (rw stay at z))

@@ -1,174 +1,200 @@
 -- The claim follows from the invariant. Assumes nothing.
 use mathlib.Core.Path.{_≡_, refl, sym, _∙_, ap, subst}
 use mathlib.Core.Bool.{Bool, true, false}
-use mathlib.Core.List.{List·Memᴰ}
-use Prim.Native.Nat.{ℕ, _+_, _-_, _%_, _<_, _≤_, _^_}
+use mathlib.Core.List.{List, [], List·Memᴰ}
+use Prim.Native.Nat.{ℕ, _+_, _-_, _<_, _≤_, _^_}
 use native.Mathlib.Nat.{mod-lt}
 use native.Mathlib.Omega.{arith}
 use lib.Dec.{ltb}
 use lib.ListN.{length, getD}
 use borrow.Author.Tests.{ltb-true, ltb-false}
-use Rattle.octets.proofs.Choice.{both-left}
-use Rattle.octets.proofs.Members.{mem-at}
-use Rattle.clock.specs.Ticks.{clockTurn}
+use Rattle.octets.proofs.Members.{mem-at, none-in}
 use Rattle.clock.proofs.Ticks.{clocks-differ}
 use Rattle.envelope.specs.CounterBlock.{counterBlock}
 use Rattle.envelope.proofs.CounterBlock.{counter-block-injective}
-use Rattle.ends.specs.Identities.{validMac, validIdentity}
-use Rattle.ends.specs.declared.Onu.{Onu}
-use Rattle.ends.specs.declared.Shared.{Shared}
-use Rattle.ends.specs.declared.UnitRecord.{UnitRecord}
-use Rattle.envelope.proofs.Channels.{downstream-below, upstream-between}
-use Rattle.ends.proofs.Validity.{shared-in-range, olt-in-range, onu-in-range}
-use Rattle.line.specs.Setting.{Site, Setting}
-use Rattle.line.specs.History.{Way, downward, upward, Envelope, Lane}
-use Rattle.line.specs.Run.{State, laneAt, onuAt, sentAt, noEnvelope}
-use Rattle.line.specs.Claim.{senderMac, senderClock, nonceFor, indexTurn, BlocksApart, LastKeyHeld, Claim}
-use Rattle.line.proofs.Invariant.{Joined, Common, Invariant}
-use Rattle.line.proofs.Alive.{Alive, sent-alive, arrived-alive}
-use Rattle.line.proofs.Past.{sent-most}
-use Rattle.line.proofs.OverheardSteps.{overheard-refused}
+use Rattle.protocol.specs.declared.Passage.{Passage}
+use Rattle.unicast.specs.Setting.{Site, Setting, clockDown}
+use Rattle.unicast.specs.History.{downward, Envelope, envelope}
+use Rattle.unicast.specs.Run.{laneAt, sentAt, noSite, noEnvelope}
+use Rattle.unicast.specs.Claim.{nonceFor, indexTurn, PassageRight, SentRight, ArrivedRight}
+use Rattle.unicast.proofs.Alive.{sent-alive}
+use Rattle.unicast.proofs.Claims as units
+use Rattle.unicast.proofs.Claims.{olt-mac-below, offer-below}
+use Rattle.line.specs.History.{GroupAnswered, GroupArrival, GroupLane, hasTaken}
+use Rattle.line.specs.Run.{State, alone, joinedBy, groupLaneAt, noGroupLane, groupSentAt, groupThingAt, groupReceipt}
+use Rattle.line.specs.Claim.{groupNonce, GroupPassageRight, GroupSentRight, GroupOpened, GroupArrivedRight, unit, group, BlocksApart, Claim}
+use Rattle.line.specs.Premises.{DueOfGroup}
+use Rattle.line.proofs.AnswerSteps.{known-line}
+use Rattle.line.proofs.GroupArrivalSteps.{arrive-group-untouched}
+use Rattle.line.proofs.GroupEnvelopeSteps.{send, arrived-right}
+use Rattle.line.proofs.Invariant.{laneOf, arrivalIn, Invariant}
+use Rattle.line.proofs.OverheardSteps.{unit-overheard, group-overheard}
 
----- (2) counter blocks
+---- what was sent, and what arrived
 
--- the sender's MAC and clock are in their ranges
-mac-below : (m : ℕ) → validMac m ≡ true → m < 2 ^ 48
-unfolding validMac
-mac-below m e = ltb-true _ _ e
+nonce-is : (w : Setting) (s : Site) (e : Envelope) → e .way ≡ downward → nonceFor w s e ≡ groupNonce w e
+nonce-is w s e d = rw d
 
-olt-mac-below : (w : Setting) (s : State) → Invariant w s → w .mac < 2 ^ 48
-olt-mac-below w s inv =
-    rw (inv .shared .mac) at (mac-below (s .olt .shared .mac) (shared-in-range (s .olt .shared) (olt-in-range (s .olt) (inv .valid) .shared) .mac))
+passage-claim : (w : Setting) (g : GroupLane) (e : Envelope) (channel : ℕ) (q : Passage) → e .way ≡ downward → PassageRight w (laneOf g) e channel q
+    → GroupPassageRight w g e channel q
+passage-claim w g e channel q d r =
+    record { enciphered = r .enciphered; key = r .key; nonce = λ h. r .nonce h ∙ nonce-is w noSite e d }
 
-onu-mac-below : (w : Setting) (now : ℕ) (l : Lane) (o : Onu) → Common w now l o → l .site .identity .mac < 2 ^ 48
-unfolding validIdentity
-onu-mac-below w now l o c = rw (c .mac) at (mac-below (o .identity .mac) (both-left _ _ (onu-in-range o (c .valid) .identity)))
-
-sender-mac-below : (w : Setting) (s : Site) (x : Way) → w .mac < 2 ^ 48 → s .identity .mac < 2 ^ 48 → senderMac w s x < 2 ^ 48
-sender-mac-below w s downward a b = a
-sender-mac-below w s upward a b = b
-
-sender-clock-below : (w : Setting) (s : Site) (x : Way) (tick : ℕ) → senderClock w s x tick < 2 ^ 48
-sender-clock-below w s downward tick = mod-lt (w .first + tick) (omega arith)
-sender-clock-below w s upward tick = mod-lt (w .first + tick + s .up) (omega arith)
-
--- of two sends of a unit or to it under one key, the later has another channel index or clock
-later-differs : (w : Setting) (sh : Shared) (now : ℕ) (l : Lane) (u : UnitRecord) (o : Onu) → Joined w sh now l u o → (i j : ℕ) → i < j
-    → j < length (l .past .sent) → 1 ≤ getD (l .past .sent) i noEnvelope .number
-    → getD (l .past .sent) i noEnvelope .number ≡ getD (l .past .sent) j noEnvelope .number
-    → getD (l .past .sent) i noEnvelope .channel ≡ getD (l .past .sent) j noEnvelope .channel
-    → senderClock w (l .site) (getD (l .past .sent) i noEnvelope .way) (getD (l .past .sent) i noEnvelope .left)
-    ≡ senderClock w (l .site) (getD (l .past .sent) j noEnvelope .way) (getD (l .past .sent) j noEnvelope .left)
-    → ⊥
-later-differs w sh now l u o jn i j before below sealed number channel clock =
-    by (getD (l .past .sent) i noEnvelope .way) (getD (l .past .sent) j noEnvelope .way) refl refl clock where
-      first : Envelope
-      first = getD (l .past .sent) i noEnvelope
-
-      second : Envelope
-      second = getD (l .past .sent) j noEnvelope
-
-      at-i : List·Memᴰ first (l .past .sent)
-      at-i = mem-at (l .past .sent) i noEnvelope (omega (arith, before, below))
-
-      at-j : List·Memᴰ second (l .past .sent)
-      at-j = mem-at (l .past .sent) j noEnvelope below
-
-      by : (x y : Way) → first .way ≡ x → second .way ≡ y → senderClock w (l .site) x (first .left) ≡ senderClock w (l .site) y (second .left) → ⊥
-      by downward downward p q e =
-          let t = jn .spending .spaced .apart i j before below (p ∙ sym q) sealed number channel in
-          clocks-differ (w .first) (first .left) (first .left) (second .left) (omega arith) (t .0) (t .1) e
-      by upward upward p q e =
-          let t = jn .spending .spaced .apart i j before below (p ∙ sym q) sealed number channel in
-          clocks-differ (w .first + l .site .up) (first .left) (first .left) (second .left) (omega arith) (t .0) (t .1)
-          (ap (λ (x : ℕ). x % clockTurn) (omega arith) ∙ e ∙ ap (λ (x : ℕ). x % clockTurn) (omega arith))
-      by downward upward p q e =
-          let low = downstream-below (first .channel) (jn .spending .downs first at-i p .0) in
-          let high = upstream-between (second .channel) (jn .spending .ups second at-j q .0) in
-          absurd (omega (arith, channel, low, high .0))
-      by upward downward p q e =
-          let high = upstream-between (first .channel) (jn .spending .ups first at-i p .0) in
-          let low = downstream-below (second .channel) (jn .spending .downs second at-j q .0) in
-          absurd (omega (arith, channel, low, high .0))
-
-one-send : (w : Setting) (sh : Shared) (now : ℕ) (l : Lane) (u : UnitRecord) (o : Onu) → Joined w sh now l u o
-    → w .mac < 2 ^ 48 → l .site .identity .mac < 2 ^ 48 → (i j a b : ℕ) → i < length (l .past .sent)
-    → j < length (l .past .sent) → 1 ≤ getD (l .past .sent) i noEnvelope .number
-    → getD (l .past .sent) i noEnvelope .number ≡ getD (l .past .sent) j noEnvelope .number → a < indexTurn → b < indexTurn
-    → counterBlock (nonceFor w (l .site) (getD (l .past .sent) i noEnvelope)) a
-    ≡ counterBlock (nonceFor w (l .site) (getD (l .past .sent) j noEnvelope)) b
-    → (i ≡ j) × (a ≡ b)
-one-send w sh now l u o jn olt onu i j a b hi hj sealed number ha hb e = (by (ltb i j) (ltb j i) refl refl, fields .3) where
-  first : Envelope
-  first = getD (l .past .sent) i noEnvelope
-
-  second : Envelope
-  second = getD (l .past .sent) j noEnvelope
-
-  fields : (first .channel ≡ second .channel)
-      × (senderMac w (l .site) (first .way) ≡ senderMac w (l .site) (second .way))
-      × (senderClock w (l .site) (first .way) (first .left) ≡ senderClock w (l .site) (second .way) (second .left))
-      × (a ≡ b)
-  fields =
-      counter-block-injective (nonceFor w (l .site) first) (nonceFor w (l .site) second) a b
-      (sender-mac-below w (l .site) (first .way) olt onu) (sender-mac-below w (l .site) (second .way) olt onu)
-      (sender-clock-below w (l .site) (first .way) (first .left)) (sender-clock-below w (l .site) (second .way) (second .left)) ha hb e
-
-  by : (x y : Bool) → ltb i j ≡ x → ltb j i ≡ y → i ≡ j
-  by true y p q =
-      absurd (later-differs w sh now l u o jn i j (ltb-true _ _ p) hj sealed number (fields .0) (fields .2))
-  by false true p q =
-      absurd (later-differs w sh now l u o jn j i (ltb-true _ _ q) hi (omega (arith, sealed, number)) (sym number) (sym (fields .0)) (sym (fields .2)))
-  by false false p q = omega (arith, ltb-false i j p, ltb-false j i q)
-
--- a sealed envelope's number is that of an offer
-offer-below : (w : Setting) (s : State) (u i : ℕ) → Alive w s u → i < length (laneAt s u .past .sent) → 1 ≤ sentAt s u i .number
-    → sentAt s u i .number - 1 < length (laneAt s u .keys .offers)
-offer-below w s u i v h sealed =
-    let n = v .joined .numbers in
-    let most = sent-most (laneAt s u) (s .olt .shared .channels) _ (onuAt s u) (v .joined .spending) (n .mid) (sentAt s u i) (mem-at _ i noEnvelope h) in
-    omega (arith, sealed, most, n .high, n .top, n .listed)
-
-blocks-apart : (w : Setting) (s : State) → Invariant w s → BlocksApart w s
-blocks-apart w s inv u v i j a b hi hj pi pj key ha hb e =
-    let x = sent-alive w s u inv (sentAt s u i) (mem-at _ i noEnvelope hi) in
-    let y = sent-alive w s v inv (sentAt s v j) (mem-at _ j noEnvelope hj) in
-    let q = inv .keys u v (sentAt s u i .number - 1) (sentAt s v j .number - 1) (offer-below w s u i x hi pi) (offer-below w s v j y hj pj) key in
-    let number : sentAt s u i .number ≡ sentAt s v j .number = omega (arith, pi, pj, q .1) in (
-      q .0,
-      subst
-          (λ (z : ℕ). j < length (laneAt s z .past .sent) → sentAt s u i .number ≡ sentAt s z j .number
-          → counterBlock (nonceFor w (laneAt s u .site) (sentAt s u i)) a ≡ counterBlock (nonceFor w (laneAt s z .site) (sentAt s z j)) b → (i ≡ j) × (a ≡ b))
-          (q .0)
-          (λ k n f. one-send w (s .olt .shared) (s .history .now) (laneAt s u) _ (onuAt s u) (x .joined) (olt-mac-below w s inv)
-          (onu-mac-below w (s .history .now) (laneAt s u) (onuAt s u) (inv .lane u (x .known) .common)) i j a b hi k pi n ha hb f)
-          hj number e,
-    )
-
----- (3) the last key
-
-both-hold : (w : Setting) (s : State) → Invariant w s → LastKeyHeld s
-both-hold w s inv u n some switches down up =
-    let jn = arrived-alive w s u inv (up .arrival) (up .among) .joined in
-    let m = jn .numbers in
-    let least = jn .passing .up (up .arrival) (up .among) (up .thatWay) in
+sent-claim : (w : Setting) (g : GroupLane) (e : Envelope) → e .way ≡ downward → SentRight w (laneOf g) e → GroupSentRight w g e
+sent-claim w g e d r =
     record {
-      llids = jn .llids;
-      active = m .counted ∙ switches;
-      confirmed = omega (arith, switches, least, up .numbered, m .low, m .mid, m .counted);
-      unit = omega (arith, switches, least, up .numbered, m .low, m .mid, m .counted);
-      oltKey =
-          jn .stored .olt n some (omega (arith, switches, m .low, m .mid, m .counted)) (omega (arith, switches, m .counted, m .high, m .top));
-      onuKey =
-          jn .stored .onu n some (omega (arith, switches, m .mid, m .counted)) (omega (arith, switches, m .high, m .counted));
+      passage = passage-claim w g e (e .channel) (e .passage) d (r .passage);
+      header = rw d at (r .header);
+      octets = rw (nonce-is w noSite e d) at (r .octets);
+      count = r .count;
+      runs = r .runs;
     }
 
-pub claim-holds : (w : Setting) (s : State) → Invariant w s → Claim w s
-claim-holds w s inv =
+opened-claim : (w : Setting) (g : GroupLane) (r : GroupArrival) → r .envelope .way ≡ downward → ArrivedRight w (laneOf g) (arrivalIn r) → GroupOpened w g r
+opened-claim w g r d a =
     record {
-      sent = λ u e m. sent-alive w s u inv e m .joined .passing .sent e m;
-      arrived = λ u r m. arrived-alive w s u inv r m .joined .passing .arrived r m;
-      blocks = blocks-apart w s inv;
-      held = both-hold w s inv;
-      overheard = overheard-refused w s inv;
+      accepted = a .accepted;
+      passage = passage-claim w g (r .envelope) (r .envelope .header .channel) (r .passage) d (a .passage);
+      payload = a .payload;
+      count = a .count;
+      runs = a .runs;
     }
+
+module _ (w : Setting) (s : State) (i : Invariant w s) where
+  -- a group to which something has happened is registered
+  known-by : {A : Type 0} (part : GroupLane → List A) (g : ℕ) (x : A) → (part noGroupLane ≡ []) → List·Memᴰ x (part (groupLaneAt s g))
+      → g < length (s .history .groups)
+  known-by part g x none m = known-line s g (λ e. none-in (part (groupLaneAt s g)) x (ap part e ∙ none) m)
+
+  sent-known : (g : ℕ) (e : Envelope) → List·Memᴰ e (groupLaneAt s g .sent) → g < length (s .history .groups)
+  unfolding noGroupLane
+  sent-known g e m = known-by (λ (y : GroupLane). y .sent) g e refl m
+
+  arrived-known : (g : ℕ) (r : GroupArrival) → List·Memᴰ r (groupLaneAt s g .arrived) → g < length (s .history .groups)
+  unfolding noGroupLane
+  arrived-known g r m = known-by (λ (y : GroupLane). y .arrived) g r refl m
+
+  answered-known : (g : ℕ) (a : GroupAnswered) → List·Memᴰ a (groupLaneAt s g .answered) → g < length (s .history .groups)
+  unfolding noGroupLane
+  answered-known g a m = known-by (λ (y : GroupLane). y .answered) g a refl m
+
+  group-sent : (g : ℕ) (e : Envelope) → List·Memᴰ e (groupLaneAt s g .sent) → GroupSentRight w (groupLaneAt s g) e
+  group-sent g e m = let q = i .group g (sent-known g e m) .sends e m in sent-claim w (groupLaneAt s g) e (q .way) (q .right)
+
+  group-arrived : (g : ℕ) (r : GroupArrival) → List·Memᴰ r (groupLaneAt s g .arrived) → GroupArrivedRight w (groupLaneAt s g) r
+  group-arrived g r m =
+      let j = i .group g (arrived-known g r m) in
+      let a = j .arrived r m in
+      let way = j .sends (r .envelope) (a .sent) .way in
+      record {
+        sent = a .sent;
+        clear = λ p q. opened-claim w (groupLaneAt s g) r way (a .clear p q);
+        sealed = λ p q. opened-claim w (groupLaneAt s g) r way (a .sealed p q);
+      }
+
+  ---- counter blocks
+
+  at-sent : (g k : ℕ) → k < length (groupLaneAt s g .sent) → List·Memᴰ (groupSentAt s g k) (groupLaneAt s g .sent)
+  at-sent g k h = mem-at (groupLaneAt s g .sent) k noEnvelope h
+
+  -- a sealed envelope's number is that of an offer
+  group-offer-below : (g k : ℕ) → k < length (groupLaneAt s g .sent) → 1 ≤ groupSentAt s g k .number
+      → groupSentAt s g k .number - 1 < length (groupLaneAt s g .keys .offers)
+  group-offer-below g k h sealed =
+      let m = at-sent g k h in
+      let j = i .group g (sent-known g (groupSentAt s g k) m) in
+      omega (arith, sealed, j .sends (groupSentAt s g k) m .spent .most, j .mid, j .listed)
+
+  -- of two sends under one key, the later has another channel index or clock
+  later-differs : (g a b : ℕ) → a < b → b < length (groupLaneAt s g .sent) → 1 ≤ groupSentAt s g a .number
+      → groupSentAt s g a .number ≡ groupSentAt s g b .number → groupSentAt s g a .channel ≡ groupSentAt s g b .channel
+      → clockDown (w .first) (groupSentAt s g a .left) ≡ clockDown (w .first) (groupSentAt s g b .left) → ⊥
+  later-differs g a b before below sealed number channel clock =
+      let x = groupSentAt s g a in
+      let y = groupSentAt s g b in
+      let here = at-sent g b below in
+      let j = i .group g (sent-known g y here) in
+      let ways = j .sends x (at-sent g a (omega (arith, before, below))) .way ∙ sym (j .sends y here .way) in
+      let t = j .spaced .apart a b before below ways sealed number channel in
+      clocks-differ (w .first) (x .left) (x .left) (y .left) (omega arith) (t .0) (t .1) clock
+
+  one-send : (g m n a b : ℕ) → m < length (groupLaneAt s g .sent) → n < length (groupLaneAt s g .sent) → 1 ≤ groupSentAt s g m .number
+      → groupSentAt s g m .number ≡ groupSentAt s g n .number → a < indexTurn → b < indexTurn
+      → counterBlock (groupNonce w (groupSentAt s g m)) a ≡ counterBlock (groupNonce w (groupSentAt s g n)) b → (m ≡ n) × (a ≡ b)
+  one-send g m n a b hm hn sealed number ha hb e = (by (ltb m n) (ltb n m) refl refl, fields .3) where
+    below : w .mac < 2 ^ 48
+    below = olt-mac-below w (alone s) (i .units)
+
+    clocks : (t : ℕ) → clockDown (w .first) t < 2 ^ 48
+    clocks t = mod-lt (w .first + t) (omega arith)
+
+    fields : (groupSentAt s g m .channel ≡ groupSentAt s g n .channel)
+        × (w .mac ≡ w .mac)
+        × (clockDown (w .first) (groupSentAt s g m .left) ≡ clockDown (w .first) (groupSentAt s g n .left))
+        × (a ≡ b)
+    fields =
+        counter-block-injective (groupNonce w (groupSentAt s g m)) (groupNonce w (groupSentAt s g n)) a b below below
+        (clocks (groupSentAt s g m .left)) (clocks (groupSentAt s g n .left)) ha hb e
+
+    by : (x y : Bool) → ltb m n ≡ x → ltb n m ≡ y → m ≡ n
+    by true y p q = absurd (later-differs g m n (ltb-true m n p) hn sealed number (fields .0) (fields .2))
+    by false true p q =
+        absurd (later-differs g n m (ltb-true n m q) hm (omega (arith, sealed, number)) (sym number) (sym (fields .0)) (sym (fields .2)))
+    by false false p q = omega (arith, ltb-false m n p, ltb-false n m q)
+
+  group-blocks : (g h m n a b : ℕ) → m < length (groupLaneAt s g .sent) → n < length (groupLaneAt s h .sent)
+      → 1 ≤ groupSentAt s g m .number → 1 ≤ groupSentAt s h n .number
+      → getD (groupLaneAt s g .keys .offers) (groupSentAt s g m .number - 1) [] ≡ getD (groupLaneAt s h .keys .offers) (groupSentAt s h n .number - 1) []
+      → a < indexTurn → b < indexTurn
+      → counterBlock (groupNonce w (groupSentAt s g m)) a ≡ counterBlock (groupNonce w (groupSentAt s h n)) b
+      → (group g ≡ group h) × ((m ≡ n) × (a ≡ b))
+  group-blocks g h m n a b hm hn pm pn key ha hb e =
+      let q = i .keys g h (groupSentAt s g m .number - 1) (groupSentAt s h n .number - 1) (group-offer-below g m hm pm) (group-offer-below h n hn pn) key in
+      let number : groupSentAt s g m .number ≡ groupSentAt s h n .number = omega (arith, pm, pn, q .1) in (
+        ap group (q .0),
+        subst (λ (z : ℕ). n < length (groupLaneAt s z .sent) → groupSentAt s g m .number ≡ groupSentAt s z n .number
+            → counterBlock (groupNonce w (groupSentAt s g m)) a ≡ counterBlock (groupNonce w (groupSentAt s z n)) b → (m ≡ n) × (a ≡ b))
+            (q .0) (λ k same f. one-send g m n a b hm k pm same ha hb f) hn number e,
+      )
+
+  mixed-blocks : {P : Type 0} (u g m n : ℕ) → m < length (laneAt (alone s) u .past .sent) → n < length (groupLaneAt s g .sent)
+      → 1 ≤ sentAt (alone s) u m .number → 1 ≤ groupSentAt s g n .number
+      → getD (laneAt (alone s) u .keys .offers) (sentAt (alone s) u m .number - 1) []
+      ≡ getD (groupLaneAt s g .keys .offers) (groupSentAt s g n .number - 1) [] → P
+  mixed-blocks u g m n hm hn pm pn key =
+      let x = sent-alive w (alone s) u (i .units) (sentAt (alone s) u m) (mem-at _ m noEnvelope hm) in
+      absurd
+      (i .mixed u g (sentAt (alone s) u m .number - 1) (groupSentAt s g n .number - 1) (offer-below w (alone s) u m x hm pm) (group-offer-below g n hn pn) key)
+
+  blocks-apart : BlocksApart w s
+  blocks-apart (unit u) (unit v) m n a b hm hn pm pn key ha hb e =
+      let q = units.claim-holds w (alone s) (i .units) .blocks u v m n a b hm hn pm pn key ha hb e in
+      (ap unit (q .0), q .1)
+  blocks-apart (unit u) (group g) m n a b hm hn pm pn key ha hb e = mixed-blocks u g m n hm hn pm pn key
+  blocks-apart (group g) (unit v) m n a b hm hn pm pn key ha hb e = mixed-blocks v g n m hn hm pn pm (sym key)
+  blocks-apart (group g) (group h) m n a b hm hn pm pn key ha hb e = group-blocks g h m n a b hm hn pm pn key ha hb e
+
+  -- an envelope under a key that the unit acknowledged
+  back : (u g k : ℕ) (out : List ℕ) (e : Envelope) (a : GroupAnswered) → DueOfGroup s u g k out → groupThingAt s u g k ≡ envelope e
+      → List·Memᴰ a (groupLaneAt s g .answered) → a .unit ≡ u → a .answer .number ≡ e .number → 1 ≤ e .number
+      → GroupOpened w (groupLaneAt s g) (groupReceipt s u e out)
+  unfolding groupReceipt
+  back u g k out e a d is m who number sealed =
+      let q = send w s u g k out i d e is in
+      let took : hasTaken (joinedBy s u) (e .llid) (e .number) ≡ true =
+      rw (who, number, ← q .llid) at (i .answered g a (answered-known g a m) m) in
+      opened-claim w (groupLaneAt s g) (groupReceipt s u e out) (q .way) (arrived-right w s u g k out i d e is .sealed took sealed)
+
+  pub claim-holds : Claim w s
+  claim-holds =
+      record {
+        units = units.claim-holds w (alone s) (i .units);
+        blocks = blocks-apart;
+        overheard = λ u v k out h. unit-overheard w s i u v k out h;
+        overheardOfGroup = λ u g k out h. group-overheard w s i u g k out h;
+        groupSent = group-sent;
+        groupArrived = group-arrived;
+        answered = λ g a m. i .answered g a (answered-known g a m) m;
+        back = back;
+        untouched = arrive-group-untouched w s i;
+      }

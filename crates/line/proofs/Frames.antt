@@ -1,93 +1,102 @@
--- Laws of a registered unit of which only a part changes. Assumes nothing.
-use mathlib.Core.Path.{_≡_, refl, sym, subst}
-use mathlib.Core.List.{List, [], _∷_, _++_, List·Memᴰ·append-cases, List·Memᴰ·eq-of-singleton}
-use mathlib.Core.Logic.{⊎-elim}
-use Prim.Native.Nat.{ℕ, suc, _≤_}
+-- What holds of a group at the OLT and at a unit holds when the line knows more, the unit's clock is set, or channels are free later.
+-- Assumes nothing.
+use mathlib.Core.Path.{_≡_, refl, sym, _∙_, ap}
+use mathlib.Core.Bool.{Bool, true, false}
+use mathlib.Core.List.{List}
+use Prim.Native.Nat.{ℕ, _≤_}
 use native.Mathlib.Omega.{arith}
-use Rattle.protocol.specs.Messages.{keyKind}
-use Rattle.protocol.specs.declared.Acknowledgement.{Acknowledgement}
-use Rattle.ends.specs.declared.Onu.{Onu}
-use Rattle.ends.specs.declared.OnuClock.{OnuClock}
-use Rattle.ends.specs.declared.OnuKeys.{OnuKeys}
-use Rattle.ends.specs.declared.Shared.{Shared}
-use Rattle.ends.specs.declared.UnitRecord.{UnitRecord}
-use Rattle.line.specs.Setting.{Setting}
-use Rattle.line.specs.History.{Thing, Answered, Transit, Lane, laneWith, leaving, laneLeaving, laneTaken, laneAnswered}
-use Rattle.line.proofs.Invariant.{reachOf, Answers, Towards, From, Joined, Common}
-use Rattle.line.proofs.Queues.{Knows, towards-moved, towards-dropped, from-moved}
-use Rattle.line.proofs.Past.{passing-moved, sent-most}
+use Rattle.octets.specs.Choice.{both}
+use Rattle.ends.specs.Identities.{llidsOf, meets}
+use Rattle.ends.specs.Occupancy.{freeFrom}
+use Rattle.ends.specs.declared.Channels.{Channels}
+use Rattle.ends.specs.declared.FirstSend.{FirstSend}
+use Rattle.groups.specs.Subscriber.{findJoined}
+use Rattle.groups.specs.declared.GroupRecord.{GroupRecord}
+use Rattle.groups.specs.declared.Joined.{Joined}
+use Rattle.groups.specs.declared.Memberships.{Memberships}
+use Rattle.groups.specs.declared.Subscriber.{Subscriber}
+use Rattle.unicast.specs.Setting.{Setting}
+use Rattle.unicast.specs.History.{Envelope, Thing, Lane}
+use Rattle.unicast.proofs.Past.{sent-carried, arrived-carried}
+use Rattle.line.specs.History.{GroupArrival, GroupLane, Membership, isMember}
+use Rattle.line.proofs.Invariant.{laneOf, arrivalIn, GroupSend, GroupArrived, Recorded, joinedFor, KeyHeld, Follows}
+use Rattle.line.proofs.Queues.{Grown, itself, knows, under-carried}
 
--- an answer more, of a synced unit, for a key that it holds
-pub answers-more : (now : ℕ) (k : OnuKeys) (c : OnuClock) (answered : List Answered) (x : Answered) → c .synced ≡ 1
-    → (x .acknowledgement .kind ≡ keyKind → x .acknowledgement .number ≤ reachOf k) → Answers now k c answered → Answers now k c (answered ++ (x ∷ []))
-answers-more now k c answered x synced held a =
+---- at a unit
+
+pub held-moved : (g g' : GroupLane) (offered offered' : ℕ) (j : Joined) (n : ℕ) → Grown g g' offered → offered ≤ offered' → KeyHeld g offered j n
+    → KeyHeld g' offered' j n
+held-moved g g' offered offered' j n k h r =
+    record { some = r .some; most = omega (arith, r .most); key = r .key ∙ k .keys n (r .some) (r .most) }
+
+-- the line knows more, the unit may have become a member, and its clock may have been set
+pub follows-moved : (g g' : GroupLane) (active active' offered offered' : ℕ) (member member' : Bool) (ms : List Membership) (synced synced' : ℕ) (j : Joined)
+    (xs : List Thing) → Grown g g' offered → active ≤ active' → offered ≤ offered' → (member' ≡ false → member ≡ false) → (synced ≡ 1 → synced' ≡ 1)
+    → Follows g active offered member ms synced j xs → Follows g' active' offered' member' ms synced' j xs
+follows-moved g g' active active' offered offered' member member' ms synced synced' j xs k a b c d f =
     record {
-      keyed = a .keyed;
-      each = λ y m.
-          ⊎-elim (λ before. a .each y before)
-          (λ last.
-          subst (λ (z : Answered). (c .synced ≡ 1) × (z .acknowledgement .kind ≡ keyKind → z .acknowledgement .number ≤ reachOf k))
-          (sym (List·Memᴰ·eq-of-singleton last)) (synced, held))
-          (List·Memᴰ·append-cases answered m);
+      low = omega (arith, f .low);
+      kept = λ e. held-moved g g' offered offered' j _ k b (f .kept e);
+      held = λ e. held-moved g g' offered offered' j _ k b (f .held e);
+      took = λ n t. let r = f .took n (rw (k .llid) at t) in (d (r .0), r .1);
+      queue = under-carried g g' (j .keys .active) (j .keys .active) active active' offered offered' xs k (omega arith) a b (f .queue);
+      stranger = λ e. f .stranger (c e);
     }
 
-module _ (w : Setting) (sh : Shared) (now : ℕ) (l : Lane) (u : UnitRecord) (o : Onu) where
-  -- only what is under way changes
-  pub transit-replaced : (t : Transit) → Joined w sh now l u o → Answers now (o .keys) (o .clock) (t .answered)
-      → Towards (w .first) l (o .keys .active) (u .keys .active) (u .keys .offered) (t .towards)
-      → From l (u .confirmation .confirmed) (o .keys .active) (t .from) → Joined w sh now (laneWith l (l .keys) t (l .past)) u o
-  unfolding laneWith
-  transit-replaced t j answers towards from =
-      let after = laneWith l (l .keys) t (l .past) in
-      let knows : Knows l after (u .keys .offered) = record { site = refl; sent = λ e m. m; keys = λ n p q. refl } in
-      record {
-        mac = j .mac;
-        llids = j .llids;
-        oltmac = j .oltmac;
-        numbers = j .numbers;
-        stored = j .stored;
-        timing = j .timing;
-        clocks = j .clocks;
-        answers = answers;
-        towards =
-            towards-moved (w .first) l after (o .keys .active) (u .keys .active) (u .keys .offered) (t .towards) knows towards;
-        from = from-moved l after (u .keys .offered) (u .confirmation .confirmed) (o .keys .active) (t .from) knows from;
-        spending = record { downs = j .spending .downs; ups = j .spending .ups; spaced = j .spending .spaced };
-        passing =
-            passing-moved w l after (u .keys .offered) knows (u .confirmation .confirmed) (o .keys .active) refl
-            (λ e m. let n = j .numbers in omega (arith, sent-most l (sh .channels) u o (j .spending) (n .mid) e m)) (j .passing);
-      }
+-- of what a unit joined only its memberships matter
+pub joined-for-same : (x y : Subscriber) (llid : ℕ) → x .memberships ≡ y .memberships → joinedFor x llid ≡ joinedFor y llid
+unfolding joinedFor findJoined
+joined-for-same x y llid e = ap (λ (m : Memberships). joinedFor (record { onu = x .onu; memberships = m }) llid) e
 
-  -- a thing leaves for the unit
-  pub leaving-keeps : (x : Thing) → Joined w sh now l u o
-      → Towards (w .first) l (o .keys .active) (u .keys .active) (u .keys .offered) (l .transit .towards ++ (x ∷ []))
-      → Joined w sh now (laneLeaving x l) u o
-  unfolding laneLeaving leaving
-  leaving-keeps x j q = transit-replaced (leaving (l .transit) x) j (j .answers) q (j .from)
+---- members
 
-  -- the first of what is under way to the unit are taken from it, or lost
-  pub taken-keeps : (k : ℕ) → Joined w sh now l u o → Joined w sh now (laneTaken k l) u o
-  unfolding laneTaken
-  taken-keeps k j =
-      transit-replaced _ j (j .answers)
-      (towards-dropped (w .first) l (o .keys .active) (u .keys .active) (u .keys .offered) (l .transit .towards) (suc k) (j .towards)) (j .from)
+-- once a member, always a member
+pub member-stays : (g g' : GroupLane) (l l' : Lane) → g' .roster ≡ g .roster → l' .site ≡ l .site → (l .entry .registered ≡ true → l' .entry .registered ≡ true)
+    → isMember g' l' ≡ false → isMember g l ≡ false
+unfolding isMember both
+member-stays g g' l l' e f r h = by-registered (l .entry .registered) refl where
+  by-registered : (t : Bool) → l .entry .registered ≡ t → both t (meets (llidsOf (l .site .identity)) (g .roster)) ≡ false
+  by-registered false p = refl
+  by-registered true p = rw (r p, f, e) at h
 
-  -- the unit answers, for a key that it holds
-  pub answered-keeps : (a : Acknowledgement) → Joined w sh now l u o → o .clock .synced ≡ 1 → (a .kind ≡ keyKind → a .number ≤ reachOf (o .keys))
-      → Joined w sh now (laneAnswered a now l) u o
-  unfolding laneAnswered
-  answered-keeps a j synced held =
-      transit-replaced _ j
-      (answers-more now (o .keys) (o .clock) (l .transit .answered) (record { acknowledgement = a; tick = now }) synced held (j .answers)) (j .towards)
-      (j .from)
+---- at the OLT
 
--- nothing of the lane but its site matters
-pub common-moved : (w : Setting) (now : ℕ) (l l' : Lane) (o : Onu) → l .site ≡ l' .site → Common w now l o → Common w now l' o
-common-moved w now l l' o e c =
+pub send-moved : (w : Setting) (c c' : Channels) (first : FirstSend) (active : ℕ) (g g' : GroupLane) (e : Envelope) (top : ℕ) → Grown g g' top → active ≤ top
+    → ((i : ℕ) → freeFrom c i ≤ freeFrom c' i) → GroupSend w c first active g e → GroupSend w c' first active g' e
+send-moved w c c' first active g g' e top n h rises s =
+    let p = s .spent in
     record {
-      valid = c .valid;
-      tick = c .tick;
-      mac = rw e at (c .mac);
-      llids = rw e at (c .llids);
-      oltmac = rw e at (c .oltmac);
+      way = s .way;
+      llid = s .llid ∙ sym (n .llid);
+      down = s .down;
+      fits = s .fits;
+      spent = record { most = p .most; passed = omega (arith, p .passed, rises (e .channel)); noted = p .noted };
+      right = sent-carried w (laneOf g) (laneOf g') top (knows g g' top n) e (omega (arith, p .most)) (s .right);
+    }
+
+pub arrived-moved : (w : Setting) (g g' : GroupLane) (a : GroupArrival) (top : ℕ) → Grown g g' top → a .envelope .number ≤ top → GroupArrived w g a
+    → GroupArrived w g' a
+arrived-moved w g g' a top n h r =
+    record {
+      sent = n .sent (a .envelope) (r .sent);
+      clear = λ p q. arrived-carried w (laneOf g) (laneOf g') top (knows g g' top n) (arrivalIn a) h (r .clear p q);
+      sealed = λ p q. arrived-carried w (laneOf g) (laneOf g') top (knows g g' top n) (arrivalIn a) h (r .sealed p q);
+    }
+
+-- channels are free from no earlier
+pub recorded-beside : (w : Setting) (c c' : Channels) (now : ℕ) (g : GroupLane) (r : GroupRecord) → ((i : ℕ) → freeFrom c i ≤ freeFrom c' i)
+    → Recorded w c now g r → Recorded w c' now g r
+recorded-beside w c c' now g r rises q =
+    record {
+      llid = q .llid;
+      counted = q .counted;
+      listed = q .listed;
+      mid = q .mid;
+      next = q .next;
+      stored = q .stored;
+      timing = q .timing;
+      sends = λ e m.
+          send-moved w c c' (r .keys .first) (r .keys .active) g g e (r .keys .active) (itself g (r .keys .active)) (omega arith) rises (q .sends e m);
+      spaced = q .spaced;
+      arrived = q .arrived;
     }

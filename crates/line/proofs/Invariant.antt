@@ -1,232 +1,161 @@
--- The invariant: what holds of the ends and the history after every list of events. One record for each subject, over just the
--- fields that it speaks of, so that a call that leaves these leaves the record. Assumes nothing.
+-- The invariant of a line with groups: that of the units, and what holds of the groups at the OLT and at each unit after every list of
+-- events. The level of what is under way of a group is the number in use when it left: n - 1 for the message of key n, the number of an
+-- envelope; it never falls. Assumes nothing.
 use mathlib.Core.Path.{_≡_}
 use mathlib.Core.Bool.{Bool, true, false}
-use mathlib.Core.List.{List, [], _∷_, List·Memᴰ}
-use Prim.Native.Nat.{ℕ, _+_, _-_, _%_, _<_, _≤_}
+use mathlib.Core.List.{List, [], _∷_, map, List·Memᴰ}
+use Prim.Native.Nat.{ℕ, _+_, _-_, _<_, _≤_}
+use lib.Dec.{ltb}
 use lib.ListN.{length, getD}
-use Rattle.clock.specs.Ticks.{clockTurn, localTurn, ticksPerSecond, keyLife}
-use Rattle.clock.specs.Stamping.{capturedAt}
-use Rattle.clock.specs.Aligned.{Aligned}
-use Rattle.clock.specs.declared.Stamps.{Stamps}
+use Rattle.octets.specs.Choice.{either}
 use Rattle.envelope.specs.Acceptance.{lengthsFit}
-use Rattle.ends.specs.Identities.{has}
+use Rattle.envelope.specs.Channels.{downstream}
 use Rattle.ends.specs.Keys.{keyIn}
-use Rattle.protocol.specs.Messages.{keyKind}
-use Rattle.envelope.specs.Channels.{downstream, upstream}
-use Rattle.ends.specs.Occupancy.{freeFrom}
-use Rattle.ends.specs.Table.{unitAt}
-use Rattle.ends.specs.Validity.{validOlt, validOnu}
+use Rattle.ends.specs.Limits.{maxUnits}
 use Rattle.ends.specs.declared.Channels.{Channels}
 use Rattle.ends.specs.declared.FirstSend.{FirstSend}
-use Rattle.ends.specs.declared.Identity.{Identity}
 use Rattle.protocol.specs.declared.KeyMessage.{KeyMessage}
-use Rattle.ends.specs.declared.Olt.{Olt}
-use Rattle.ends.specs.declared.Onu.{Onu}
-use Rattle.ends.specs.declared.OnuClock.{OnuClock}
-use Rattle.ends.specs.declared.OnuKeys.{OnuKeys}
-use Rattle.ends.specs.declared.Shared.{Shared}
-use Rattle.ends.specs.declared.Slots.{Slots}
-use Rattle.ends.specs.declared.Timer.{Timer}
-use Rattle.ends.specs.declared.UnitRecord.{UnitRecord}
-use Rattle.ends.specs.declared.UnitClock.{UnitClock}
-use Rattle.line.specs.Setting.{Site, Setting}
-use Rattle.line.specs.History.{Way, downward, upward, Envelope, Thing, clockMessage, keyMessage, envelope, Answered, Arrival, Entry, Keys, Lane, keyOf, due}
-use Rattle.line.specs.Run.{State, laneAt, onuAt, noEnvelope}
-use Rattle.line.specs.Claim.{SentRight, ArrivedRight}
+use Rattle.groups.specs.Limits.{maxJoined}
+use Rattle.groups.specs.Head.{groupAt, validGroups}
+use Rattle.groups.specs.Subscriber.{freshJoined, joinedLlids, joinedGroups, findJoined, joinedAt, validMemberships}
+use Rattle.groups.specs.JoinedCalls.{holds}
+use Rattle.groups.specs.declared.GroupRecord.{GroupRecord}
+use Rattle.groups.specs.declared.Joined.{Joined}
+use Rattle.groups.specs.declared.Subscriber.{Subscriber}
+use Rattle.multicast.specs.Naming.{byLlid}
+use Rattle.unicast.specs.Setting.{Setting}
+use Rattle.unicast.specs.History.{downward, Envelope, Thing, clockMessage, keyMessage, envelope, Arrival, Lane, keyOf}
+use Rattle.unicast.specs.Run.{noSite, laneAt}
+use Rattle.unicast.specs.Claim.{SentRight, ArrivedRight}
+use Rattle.unicast.proofs.Invariant.{Timing, Spent, Spaced}
+use Rattle.unicast.proofs.Invariant as units
+use Rattle.line.specs.History.{GroupAnswered, GroupArrival, GroupLane, Membership, isMember, hasTaken}
+use Rattle.line.specs.Run.{State, alone, subscriberAt, joinedBy, noGroupLane, groupLaneAt, now, lanes}
 
--- a test as a flag
-abbrev pub flagOf : Bool → ℕ
-flagOf true = 1
-flagOf false = 0
+---- a group at the OLT
 
--- the highest number that a unit holds a key for
-abbrev pub reachOf : OnuKeys → ℕ
-reachOf k = k .active + k .held
+-- its line as that of a unit: its keys, and what was sent under them
+abbrev pub laneOf : GroupLane → Lane
+laneOf g =
+    record {
+      site = noSite;
+      entry = g .entry;
+      captured = 0;
+      keys = g .keys;
+      transit = record { towards = []; from = []; answered = [] };
+      past = record { sent = g .sent; arrived = [] };
+    }
 
----- one registered unit: numbers and keys
+-- an envelope that was sent to it, with the channels, the first send under the key in use and its number as they stand
+pub record GroupSend (w : Setting) (channels : Channels) (first : FirstSend) (active : ℕ) (g : GroupLane) (e : Envelope) : Type 0 where
+  pub way : e .way ≡ downward
+  pub llid : e .llid ≡ g .llid
+  pub down : downstream (e .channel) ≡ true
+  pub fits : lengthsFit (length (e .payload)) (length (e .payload)) ≡ true
+  pub spent : Spent channels first active e
+  pub right : SentRight w (laneOf g) e
 
--- C ≤ a ≤ A ≤ reach ≤ O ≤ C + 1, and an acknowledged offer is held
-pub record Numbers (k : Keys) (active offered confirmed acknowledged : ℕ) (o : OnuKeys) : Type 0 where
-  pub counted : active ≡ k .switches
-  pub listed : offered ≡ length (k .offers)
-  pub last : o .active ≡ k .number
-  pub marked : acknowledged ≡ flagOf (k .acknowledged)
-  pub flag : o .held ≤ 1
-  pub low : confirmed ≤ o .active
-  pub mid : o .active ≤ active
-  pub high : active ≤ reachOf o
-  pub top : reachOf o ≤ offered
-  pub next : offered ≤ confirmed + 1
-  pub taken : k .acknowledged ≡ true → offered ≤ reachOf o
+abbrev pub arrivalIn : GroupArrival → Arrival
+arrivalIn r =
+    record { envelope = r .envelope; number = r .number; count = r .count; runs = r .runs; output = r .output; passage = r .passage }
 
--- every stored key is the key of its number
-pub record Stored (k : Keys) (confirmed offered : ℕ) (slots : Slots) (o : OnuKeys) : Type 0 where
-  pub olt : (n : ℕ) → 1 ≤ n → confirmed ≤ n → n ≤ offered → keyIn slots n ≡ keyOf k n
-  pub onu : (n : ℕ) → 1 ≤ n → o .active ≤ n → n ≤ reachOf o → keyIn (o .slots) n ≡ keyOf k n
+pub record GroupArrived (w : Setting) (g : GroupLane) (r : GroupArrival) : Type 0 where
+  pub sent : List·Memᴰ (r .envelope) (g .sent)
+  pub clear : r .joined ≡ true → r .envelope .number ≡ 0 → ArrivedRight w (laneOf g) (arrivalIn r)
+  pub sealed : r .took ≡ true → 1 ≤ r .envelope .number → ArrivedRight w (laneOf g) (arrivalIn r)
 
----- timer and clocks
+-- with the OLT's record of it
+pub record Recorded (w : Setting) (channels : Channels) (now : ℕ) (g : GroupLane) (r : GroupRecord) : Type 0 where
+  pub llid : r .llid ≡ g .llid
+  pub counted : r .keys .active ≡ g .keys .switches
+  pub listed : r .keys .offered ≡ length (g .keys .offers)
+  pub mid : r .keys .active ≤ r .keys .offered
+  pub next : r .keys .offered ≤ r .keys .active + 1
+  pub stored : (n : ℕ) → 1 ≤ n → r .keys .active ≤ n → n ≤ r .keys .offered → keyIn (r .keys .slots) n ≡ keyOf (g .keys) n
+  pub timing : Timing (g .entry) (g .keys) now (r .keys .timer)
+  pub sends : (e : Envelope) → List·Memᴰ e (g .sent) → GroupSend w channels (r .keys .first) (r .keys .active) g e
+  pub spaced : Spaced (g .sent)
+  pub arrived : (a : GroupArrival) → List·Memᴰ a (g .arrived) → GroupArrived w g a
 
-pub record Timing (r : Entry) (k : Keys) (now : ℕ) (t : Timer) : Type 0 where
-  pub interval : t .interval ≡ r .interval
-  pub some : 1 ≤ r .interval
-  pub since : r .since ≤ k .switched
-  pub switched : k .switched ≤ now
-  pub count : t .count ≡ (now - r .since) % r .interval
-  pub flag : t .flag ≡ flagOf (due r k now)
+---- what is under way of a group to a unit
 
--- first is the OLT's first clock
-pub record Clocks (first now : ℕ) (s : Site) (captured : ℕ) (c : UnitClock) (o : OnuClock) : Type 0 where
-  pub trip : c .trip ≡ s .up + s .down
-  pub capture : c .captured ≡ 1 → (c .tick ≡ captured) × (captured ≤ now)
-  pub flag : o .synced ≤ 1
-  pub unsynced : o .synced ≡ 0 → o .time ≡ (first + now + s .up) % localTurn
-  pub synced : o .synced ≡ 1 → Aligned (first + now) (s .up) (s .down) (record { rx = o .rx; tx = o .time })
-  pub acknowledged : c .acknowledged ≡ 1 → o .synced ≡ 1
-
--- a unit that holds a key, or has answered, is synced; it holds what it answered for
-pub record Answers (now : ℕ) (k : OnuKeys) (o : OnuClock) (answered : List Answered) : Type 0 where
-  pub keyed : 1 ≤ reachOf k → o .synced ≡ 1
-  pub each : (x : Answered) → List·Memᴰ x answered
-      → (o .synced ≡ 1) × (x .acknowledgement .kind ≡ keyKind → x .acknowledgement .number ≤ reachOf k)
-
----- what is under way
-
-pub record ClockRight (first : ℕ) (s : Site) (m : Stamps) (c t : ℕ) : Type 0 where
-  pub stamps : m ≡ capturedAt ((first + c) % clockTurn) (s .up + s .down)
-  pub before : c ≤ t
-  pub young : t ≤ c + ticksPerSecond
-
-pub record KeyRight (k : Keys) (i : Identity) (lo top : ℕ) (m : KeyMessage) : Type 0 where
+pub record KeyUnder (g : GroupLane) (lo hi top : ℕ) (m : KeyMessage) : Type 0 where
   pub above : lo < m .number
+  pub level : m .number ≤ hi + 1
   pub most : m .number ≤ top
-  pub key : m .key ≡ keyOf k (m .number)
-  pub named : has i (m .llid) ≡ true
+  pub key : m .key ≡ keyOf (g .keys) (m .number)
+  pub llid : m .llid ≡ g .llid
 
--- an envelope under way was sent that way, and its number lies between lo and hi
-pub record Under (i : Identity) (past : List Envelope) (way : Way) (lo hi : ℕ) (e : Envelope) : Type 0 where
+pub record EnvelopeUnder (g : GroupLane) (lo hi : ℕ) (e : Envelope) : Type 0 where
   pub above : lo ≤ e .number
   pub most : e .number ≤ hi
-  pub sent : List·Memᴰ e past
-  pub thatWay : e .way ≡ way
-  pub named : has i (e .llid) ≡ true
+  pub sent : List·Memᴰ e (g .sent)
 
--- towards a unit: numbers never fall, envelopes in [lo, hi], keys above lo and at most top
-abbrev pub Towards : ℕ → Lane → ℕ → ℕ → ℕ → List Thing → Type 0
-Towards first l lo hi top [] = Prim.Unit {0}
-Towards first l lo hi top (clockMessage m c t ∷ xs) = ClockRight first (l .site) m c t × Towards first l lo hi top xs
-Towards first l lo hi top (keyMessage m t ∷ xs) = KeyRight (l .keys) (l .site .identity) lo top m × Towards first l lo hi top xs
-Towards first l lo hi top (envelope e ∷ xs) =
-    Under (l .site .identity) (l .past .sent) downward lo hi e × Towards first l (e .number) hi top xs
+-- levels never fall: they lie in [lo, hi], and no key is above top
+abbrev pub Under : GroupLane → ℕ → ℕ → ℕ → List Thing → Type 0
+Under g lo hi top [] = Prim.Unit {0}
+Under g lo hi top (clockMessage m c t ∷ xs) = ⊥
+Under g lo hi top (keyMessage m t ∷ xs) = KeyUnder g lo hi top m × Under g (m .number - 1) hi top xs
+Under g lo hi top (envelope e ∷ xs) = EnvelopeUnder g lo hi e × Under g (e .number) hi top xs
 
--- from a unit: numbers never fall
-abbrev pub From : Lane → ℕ → ℕ → List Envelope → Type 0
-From l lo hi [] = Prim.Unit {0}
-From l lo hi (e ∷ es) = Under (l .site .identity) (l .past .sent) upward lo hi e × From l (e .number) hi es
+---- a group at a unit
 
----- counter blocks
+-- what the unit has of the LLID: of one that it has not joined, what it has of one just joined
+unfoldable pub joinedFor : Subscriber → ℕ → Joined
+joinedFor x llid = byLlid (findJoined x llid) (freshJoined llid) (joinedAt x)
 
--- a send of that way: its channel was free, and under the key in use it was not before the first send
-pub record Spent (channels : Channels) (first : FirstSend) (current : ℕ) (e : Envelope) : Type 0 where
-  pub most : e .number ≤ current
-  pub passed : e .left < freeFrom channels (e .channel)
-  pub noted : 1 ≤ e .number → e .number ≡ current → (first .noted ≡ 1) × (first .tick ≤ e .left)
+-- the key of that number is stored, and is the one that was offered
+pub record KeyHeld (g : GroupLane) (offered : ℕ) (j : Joined) (n : ℕ) : Type 0 where
+  pub some : 1 ≤ n
+  pub most : n ≤ offered
+  pub key : keyIn (j .keys .slots) n ≡ keyOf (g .keys) n
 
--- two sends of one way under one number on one channel index: the later one is later, and within a key's life
-pub record Spaced (sent : List Envelope) : Type 0 where
-  pub apart : (i j : ℕ) → i < j → j < length sent
-      → getD sent i noEnvelope .way ≡ getD sent j noEnvelope .way
-      → 1 ≤ getD sent i noEnvelope .number → getD sent i noEnvelope .number ≡ getD sent j noEnvelope .number
-      → getD sent i noEnvelope .channel ≡ getD sent j noEnvelope .channel
-      → (getD sent i noEnvelope .left < getD sent j noEnvelope .left)
-      × (getD sent j noEnvelope .left < getD sent i noEnvelope .left + keyLife)
+-- a unit and a group of which A and O are those at the OLT; what the unit took it has, or had before a
+pub record Follows (g : GroupLane) (active offered : ℕ) (member : Bool) (ms : List Membership) (synced : ℕ) (j : Joined) (xs : List Thing) : Type 0 where
+  pub low : j .keys .active ≤ active
+  pub kept : j .kept ≡ 1 → KeyHeld g offered j (j .keys .active)
+  pub held : j .keys .held ≡ 1 → KeyHeld g offered j (j .keys .active + 1)
+  pub took : (n : ℕ) → hasTaken ms (g .llid) n ≡ true → (synced ≡ 1) × (either (ltb n (j .keys .active)) (holds j n) ≡ true)
+  pub queue : Under g (j .keys .active) active offered xs
+  pub stranger : member ≡ false → xs ≡ []
 
-pub record Spending (l : Lane) (down : Channels) (u : UnitRecord) (o : Onu) : Type 0 where
-  pub downs : (e : Envelope) → List·Memᴰ e (l .past .sent) → e .way ≡ downward
-      → (downstream (e .channel) ≡ true) × Spent down (u .keys .first) (u .keys .active) e
-  pub ups : (e : Envelope) → List·Memᴰ e (l .past .sent) → e .way ≡ upward
-      → (upstream (e .channel) ≡ true) × Spent (o .channels) (o .first) (o .keys .active) e
-  pub spaced : Spaced (l .past .sent)
+-- nothing has been taken
+pub record Empty (j : Joined) : Type 0 where
+  pub active : j .keys .active ≡ 0
+  pub held : j .keys .held ≡ 0
+  pub kept : j .kept ≡ 0
 
----- what has been
+-- no group of that LLID has the unit as a member
+abbrev pub Stranger : List GroupLane → Lane → ℕ → Type 0
+Stranger gs l llid = (g : ℕ) → g < length gs → getD gs g noGroupLane .llid ≡ llid → isMember (getD gs g noGroupLane) l ≡ false
 
-pub record Passing (w : Setting) (l : Lane) (confirmed active : ℕ) : Type 0 where
-  pub sent : (e : Envelope) → List·Memᴰ e (l .past .sent) → SentRight w l e
-  pub named : (e : Envelope) → List·Memᴰ e (l .past .sent) → has (l .site .identity) (e .llid) ≡ true
-  pub fits : (e : Envelope) → List·Memᴰ e (l .past .sent) → lengthsFit (length (e .payload)) (length (e .payload)) ≡ true
-  pub arrived : (r : Arrival) → List·Memᴰ r (l .past .arrived) → ArrivedRight w l r
-  pub down : (r : Arrival) → List·Memᴰ r (l .past .arrived) → r .envelope .way ≡ downward → r .envelope .number ≤ active
-  pub up : (r : Arrival) → List·Memᴰ r (l .past .arrived) → r .envelope .way ≡ upward → r .envelope .number ≤ confirmed
-
----- a lane
-
--- a unit that is not registered: nothing has happened to it but advances
-pub record Idle (now : ℕ) (l : Lane) (o : Onu) : Type 0 where
-  pub unsynced : o .clock .synced ≡ 0
-  pub time : o .clock .time ≡ (l .site .time + now) % localTurn
-  pub active : o .keys .active ≡ 0
-  pub held : o .keys .held ≡ 0
-  pub offers : l .keys .offers ≡ []
-  pub acknowledged : l .keys .acknowledged ≡ false
-  pub switches : l .keys .switches ≡ 0
-  pub number : l .keys .number ≡ 0
-  pub towards : l .transit .towards ≡ []
-  pub from : l .transit .from ≡ []
-  pub answered : l .transit .answered ≡ []
-  pub sent : l .past .sent ≡ []
-  pub arrived : l .past .arrived ≡ []
-
--- a registered unit, with the OLT's record of it
-pub record Joined (w : Setting) (sh : Shared) (now : ℕ) (l : Lane) (u : UnitRecord) (o : Onu) : Type 0 where
-  pub mac : u .identity .mac ≡ l .site .identity .mac
-  pub llids : (x : ℕ) → has (u .identity) x ≡ has (l .site .identity) x
-  pub oltmac : l .site .oltmac ≡ w .mac
-  pub numbers : Numbers (l .keys) (u .keys .active) (u .keys .offered) (u .confirmation .confirmed) (u .confirmation .acknowledged) (o .keys)
-  pub stored : Stored (l .keys) (u .confirmation .confirmed) (u .keys .offered) (u .keys .slots) (o .keys)
-  pub timing : Timing (l .entry) (l .keys) now (u .keys .timer)
-  pub clocks : Clocks (w .first) now (l .site) (l .captured) (u .clock) (o .clock)
-  pub answers : Answers now (o .keys) (o .clock) (l .transit .answered)
-  pub towards : Towards (w .first) l (o .keys .active) (u .keys .active) (u .keys .offered) (l .transit .towards)
-  pub from : From l (u .confirmation .confirmed) (o .keys .active) (l .transit .from)
-  pub spending : Spending l (sh .channels) u o
-  pub passing : Passing w l (u .confirmation .confirmed) (o .keys .active)
-
--- a unit at the OLT's tick
-pub record Common (w : Setting) (now : ℕ) (l : Lane) (o : Onu) : Type 0 where
-  pub valid : validOnu o ≡ true
-  pub tick : o .tick ≡ now
-  pub mac : o .identity .mac ≡ l .site .identity .mac
-  pub llids : (x : ℕ) → has (o .identity) x ≡ has (l .site .identity) x
-  pub oltmac : o .oltmac ≡ l .site .oltmac
-
--- by whether it is registered
-abbrev pub Standing : Bool → Setting → Olt → ℕ → Lane → Onu → Type 0
-Standing false w t now l o = Idle now l o
-Standing true w t now l o = (l .entry .place < t .count) × Joined w (t .shared) now l (unitAt t (l .entry .place)) o
-
-pub record LaneRight (w : Setting) (t : Olt) (now : ℕ) (l : Lane) (o : Onu) : Type 0 where
-  pub common : Common w now l o
-  pub standing : Standing (l .entry .registered) w t now l o
-
--- the OLT's part at a tick
-pub record AtTick (w : Setting) (now : ℕ) (sh : Shared) : Type 0 where
-  pub mac : sh .mac ≡ w .mac
-  pub tick : sh .tick ≡ now
-  pub clock : sh .clock ≡ (w .first + now) % clockTurn
+pub record Joins (gs : List GroupLane) (l : Lane) (x : Subscriber) (ms : List Membership) : Type 0 where
+  pub valid : validMemberships x ≡ true
+  pub places : length (x .memberships .table) ≡ maxJoined
+  pub llids : map (λ (m : Membership). m .llid) ms ≡ joinedLlids (joinedGroups x)
+  pub stranger : (llid : ℕ) → Stranger gs l llid → Empty (joinedFor x llid)
+  pub untaken : (llid : ℕ) → Stranger gs l llid → (n : ℕ) → hasTaken ms llid n ≡ false
 
 ---- the whole
 
 pub record Invariant (w : Setting) (s : State) : Type 0 where
-  pub valid : validOlt (s .olt) ≡ true
-  pub places : length (s .olt .units) ≡ 16
-  pub count : s .olt .count ≡ s .history .registrations
-  pub shared : AtTick w (s .history .now) (s .olt .shared)
-  pub paired : length (s .onus) ≡ length (s .history .lanes)
-  pub lane : (u : ℕ) → u < length (s .history .lanes) → LaneRight w (s .olt) (s .history .now) (laneAt s u) (onuAt s u)
-  -- no two registered units have one place
-  pub apart : (u v : ℕ) → u < length (s .history .lanes) → v < length (s .history .lanes)
-      → laneAt s u .entry .registered ≡ true → laneAt s v .entry .registered ≡ true
-      → laneAt s u .entry .place ≡ laneAt s v .entry .place → u ≡ v
+  pub units : units.Invariant w (alone s)
+  pub valid : validGroups (s .head) ≡ true
+  pub places : length (s .head .groups .table) ≡ maxUnits
+  pub count : s .head .groups .count ≡ length (s .history .groups)
+  pub paired : length (s .history .joined) ≡ length (lanes s)
+  pub queues : (g : ℕ) → g < length (s .history .groups) → length (groupLaneAt s g .towards) ≡ length (lanes s)
+  pub group : (g : ℕ) → g < length (s .history .groups) → Recorded w (s .head .olt .shared .channels) (now s) (groupLaneAt s g) (groupAt (s .head) g)
+  pub joins : (u : ℕ) → u < length (lanes s) → Joins (s .history .groups) (laneAt (alone s) u) (subscriberAt s u) (joinedBy s u)
+  pub follows : (u g : ℕ) → u < length (lanes s) → g < length (s .history .groups)
+      → Follows (groupLaneAt s g) (groupAt (s .head) g .keys .active) (groupAt (s .head) g .keys .offered)
+      (isMember (groupLaneAt s g) (laneAt (alone s) u)) (joinedBy s u) (subscriberAt s u .onu .clock .synced)
+      (joinedFor (subscriberAt s u) (groupLaneAt s g .llid)) (getD (groupLaneAt s g .towards) u [])
+  -- what a unit answered for it has taken
+  pub answered : (g : ℕ) (a : GroupAnswered) → g < length (s .history .groups) → List·Memᴰ a (groupLaneAt s g .answered)
+      → hasTaken (joinedBy s (a .unit)) (groupLaneAt s g .llid) (a .answer .number) ≡ true
   -- all keys different
-  pub keys : (u v m n : ℕ) → m < length (laneAt s u .keys .offers) → n < length (laneAt s v .keys .offers)
-      → getD (laneAt s u .keys .offers) m [] ≡ getD (laneAt s v .keys .offers) n [] → (u ≡ v) × (m ≡ n)
+  pub keys : (g h m n : ℕ) → m < length (groupLaneAt s g .keys .offers) → n < length (groupLaneAt s h .keys .offers)
+      → getD (groupLaneAt s g .keys .offers) m [] ≡ getD (groupLaneAt s h .keys .offers) n [] → (g ≡ h) × (m ≡ n)
+  pub mixed : (u g m n : ℕ) → m < length (laneAt (alone s) u .keys .offers) → n < length (groupLaneAt s g .keys .offers)
+      → getD (laneAt (alone s) u .keys .offers) m [] ≡ getD (groupLaneAt s g .keys .offers) n [] → ⊥

@@ -1,108 +1,93 @@
--- An offer keeps the invariant, and with it that no key was offered twice. Assumes nothing.
+-- An offer to a unit keeps the invariant: its key is no group's. Assumes nothing.
 use mathlib.Core.Path.{_≡_, refl, sym, _∙_, ap}
 use mathlib.Core.Bool.{Bool, true, false}
-use mathlib.Core.Logic.{_⊎_, inl, inr, ⊎-elim}
-use mathlib.Core.List.{List, [], _∷_, _++_, map}
-use Prim.Native.Nat.{ℕ, _<_}
+use mathlib.Core.List.{List, [], _∷_, _++_}
+use mathlib.Core.Logic.{_⊎_, inl, inr}
+use Prim.Native.Nat.{ℕ, _+_, _<_}
 use native.Mathlib.Omega.{arith}
-use lib.Dec.{ltb}
+use lib.Dec.{eqb, ltb}
 use lib.ListN.{length, getD, length-append, List·getD-append}
 use lib.Seq.{getD-at}
-use borrow.Author.Tests.{ltb-true, ltb-false}
-use Rattle.octets.specs.Choice.{both}
-use Rattle.octets.proofs.Choice.{pick-true, pick-false}
-use Rattle.refusal.specs.Number.{verdictNumber}
-use Rattle.refusal.specs.declared.Verdict.the-variants.{Accepted}
+use borrow.Author.Tests.{eqb-true, ltb-true, ltb-false}
+use Rattle.octets.specs.Choice.{both, pick}
+use Rattle.octets.proofs.Maps.{map-always}
 use Rattle.ends.specs.Identities.{has}
-use Rattle.ends.specs.Records.{withChannels}
-use Rattle.ends.specs.Table.{find, unitAt}
-use Rattle.protocol.specs.Lift.{outcome, lift}
-use Rattle.protocol.specs.Messages.{noKeyMessage}
-use Rattle.protocol.specs.UnitCalls.{offerUnit}
-use Rattle.protocol.specs.OltCalls.{keySent, offerOf}
-use Rattle.ends.specs.declared.Found.the-variants.{At}
-use Rattle.protocol.proofs.OltCalls.{offer-valid}
-use Rattle.line.specs.Setting.{Setting}
-use Rattle.line.specs.History.{keyMessage, Lane, laneWith, laneLeaving, laneOffered}
+use Rattle.ends.specs.declared.Found.the-variants.{Nowhere}
+use Rattle.ends.specs.declared.Olt.{Olt}
+use Rattle.protocol.specs.OltCalls.{offerOf}
+use Rattle.groups.specs.Head.{findGroup, withOlt}
+use Rattle.multicast.specs.declared.HeadKeySent.{HeadKeySent}
+use Rattle.unicast.specs.Setting.{Setting}
+use Rattle.unicast.specs.History.{Lane, laneWith, laneLeaving, laneOffered}
+use Rattle.unicast.specs.Events as events
+use Rattle.unicast.specs.Run as run
+use Rattle.unicast.specs.Run.{laneAt, atOlt, noted, named, freshLane, noSite, withLanes, offering}
+use Rattle.unicast.proofs.Theorem.{step-right}
 use Rattle.line.specs.Events.{offer}
-use Rattle.line.specs.Run.{State, laneAt, onuAt, named, offering, step}
+use Rattle.line.specs.Run.{State, alone, groupLaneAt, atHead, keySentAlone, offeringTo, step}
 use Rattle.line.specs.Premises.{NewKey, Fits}
 use Rattle.line.proofs.Invariant.{Invariant}
-use Rattle.line.proofs.KeySteps.{offer-keeps}
-use Rattle.line.proofs.Places.{laneOf, KeysApart, Held, held-once, named-held}
-use Rattle.line.proofs.LiftSteps.{named-at, call-right}
+use Rattle.line.proofs.AloneHead.{offer-olt, offer-alone}
+use Rattle.line.proofs.Kept.{offer-kept}
+use Rattle.line.proofs.Beside.{beside-right}
+use Rattle.line.proofs.Lines.{noted-none}
+use Rattle.line.proofs.OltSteps.{noted-fresh, named-beside}
 
--- the last of a list with one more, or one before it
-last-or-before : (os : List (List ℕ)) (key : List ℕ) (m : ℕ) → m < length (os ++ (key ∷ []))
-    → ((m < length os) × (getD (os ++ (key ∷ [])) m [] ≡ getD os m [])) ⊎ ((m ≡ length os) × (getD (os ++ (key ∷ [])) m [] ≡ key))
-last-or-before os key m h = by-test (ltb m (length os)) refl where
-  by-test : (t : Bool) → ltb m (length os) ≡ t
-      → ((m < length os) × (getD (os ++ (key ∷ [])) m [] ≡ getD os m [])) ⊎ ((m ≡ length os) × (getD (os ++ (key ∷ [])) m [] ≡ key))
-  by-test true e = let k = ltb-true _ _ e in inl (k, List·getD-append os (key ∷ []) [] m k)
-  by-test false e =
-      let k : m ≡ length os = omega (arith, h, ltb-false m (length os) e, length-append os (key ∷ [])) in
-      inr (k, getD-at os key [] [] m (sym k))
+-- one offer more, or none
+More : List ℕ → ℕ → List (List ℕ) → List (List ℕ) → Type 0
+More key number old new = (new ≡ old) ⊎ ((number ≡ 0) × (new ≡ old ++ (key ∷ [])))
 
--- what an offer to the unit in place p makes of the offers of lane u
-data Offered (s : State) (p : ℕ) (key : List ℕ) (lanes : List Lane) (u : ℕ) : Type 0 where
-  kept : laneOf lanes u .keys .offers ≡ laneAt s u .keys .offers → Offered s p key lanes u
-  more : Held s p u → laneOf lanes u .keys .offers ≡ laneAt s u .keys .offers ++ (key ∷ []) → Offered s p key lanes u
+noted-offer : (key : List ℕ) (number llid : ℕ) (f : Lane → Lane) (l : Lane) → f l .keys .offers ≡ l .keys .offers ++ (key ∷ [])
+    → More key number (l .keys .offers) (noted number (named llid f) l .keys .offers)
+unfolding noted named More pick
+noted-offer key number llid f l e = by-test (eqb number 0) (both (l .entry .registered) (has (l .site .identity) llid)) refl where
+  by-test : (t u : Bool) → eqb number 0 ≡ t → More key number (l .keys .offers) (pick t (pick u (f l) l) l .keys .offers)
+  by-test false u p = inl refl
+  by-test true false p = inl refl
+  by-test true true p = inr (eqb-true number 0 p, e)
 
-module _ (w : Setting) (s : State) (p : ℕ) (key : List ℕ) (lanes : List Lane) (i : Invariant w s) (new : NewKey s key) where
-  -- one of before and one after
-  keys-beside : (u v m n : ℕ) → m < length (laneAt s u .keys .offers) → n < length (laneAt s v .keys .offers ++ (key ∷ []))
-      → getD (laneAt s u .keys .offers) m [] ≡ getD (laneAt s v .keys .offers ++ (key ∷ [])) n [] → (u ≡ v) × (m ≡ n)
-  keys-beside u v m n g h e =
-      ⊎-elim (λ a. i .keys u v m n g (a .0) (e ∙ a .1)) (λ a. absurd (new .unused u m g (e ∙ a .1))) (last-or-before (laneAt s v .keys .offers) key n h)
+named-offer : (key : List ℕ) (s : run.State) (o : Olt) (number llid : ℕ) (f : Lane → Lane) → ((l : Lane) → f l .keys .offers ≡ l .keys .offers ++ (key ∷ []))
+    → (u : ℕ) → More key number (laneAt s u .keys .offers) (laneAt (atOlt s o number llid f) u .keys .offers)
+unfolding atOlt withLanes
+named-offer key s o number llid f e u =
+    rw (map-always (noted number (named llid f)) (s .history .lanes) u (freshLane noSite) (noted-fresh number llid f))
+    (noted-offer key number llid f (laneAt s u) (e (laneAt s u)))
 
-  keys-both : (u v m n : ℕ) → u ≡ v → m < length (laneAt s u .keys .offers ++ (key ∷ [])) → n < length (laneAt s v .keys .offers ++ (key ∷ []))
-      → getD (laneAt s u .keys .offers ++ (key ∷ [])) m [] ≡ getD (laneAt s v .keys .offers ++ (key ∷ [])) n [] → (u ≡ v) × (m ≡ n)
-  keys-both u v m n same g h e =
-      ⊎-elim (λ a. keys-beside u v m n (a .0) h (sym (a .1) ∙ e))
-      (λ a.
-      ⊎-elim (λ b. absurd (new .unused v n (b .0) (sym (b .1) ∙ sym e ∙ a .1)))
-      (λ b. (same, a .0 ∙ ap (λ (x : ℕ). length (laneAt s x .keys .offers)) same ∙ sym (b .0)))
-      (last-or-before (laneAt s v .keys .offers) key n h))
-      (last-or-before (laneAt s u .keys .offers) key m g)
+-- a key of the list with one more is the new one, or an old one
+pub key-of-more : (P : Type 0) (old : List (List ℕ)) (key x : List ℕ) (m : ℕ) → m < length (old ++ (key ∷ [])) → getD (old ++ (key ∷ [])) m [] ≡ x
+    → (m < length old → getD old m [] ≡ x → P) → (m ≡ length old → key ≡ x → P) → P
+key-of-more P old key x m h e before last = by-place (ltb m (length old)) refl where
+  by-place : (t : Bool) → ltb m (length old) ≡ t → P
+  by-place true q =
+      let l = ltb-true m (length old) q in
+      before l (sym (List·getD-append old (key ∷ []) [] m l) ∙ e)
+  by-place false q =
+      let l : length old ≡ m = omega (arith, ltb-false m (length old) q, length-append old (key ∷ [])) in
+      last (sym l) (sym (getD-at old key [] [] m l) ∙ e)
 
-  keys-offered : ((u : ℕ) → Offered s p key lanes u) → KeysApart lanes
-  keys-offered each u v m n g h e = by-lanes (each u) (each v) where
-    by-lanes : Offered s p key lanes u → Offered s p key lanes v → (u ≡ v) × (m ≡ n)
-    by-lanes (kept a) (kept b) = i .keys u v m n (rw a at g) (rw b at h) (rw (a, b) at e)
-    by-lanes (kept a) (more k b) = keys-beside u v m n (rw a at g) (rw b at h) (rw (a, b) at e)
-    by-lanes (more k a) (kept b) =
-        let x = keys-beside v u n m (rw b at h) (rw a at g) (sym (rw (a, b) at e)) in
-        (sym (x .0), sym (x .1))
-    by-lanes (more j a) (more k b) = keys-both u v m n (held-once w s p u v i j k) (rw a at g) (rw b at h) (rw (a, b) at e)
+-- the key of an accepted offer is no group's
+mixed-offered : (w : Setting) (s : State) (key : List ℕ) (number : ℕ) (new : ℕ → List (List ℕ)) → Invariant w s → (number ≡ 0 → NewKey s key)
+    → ((u : ℕ) → More key number (laneAt (alone s) u .keys .offers) (new u)) → (u g m n : ℕ) → m < length (new u)
+    → n < length (groupLaneAt s g .keys .offers) → getD (new u) m [] ≡ getD (groupLaneAt s g .keys .offers) n [] → ⊥
+unfolding More
+mixed-offered w s key number new i fits more u g m n p q e = by-more (more u) where
+  by-more : More key number (laneAt (alone s) u .keys .offers) (new u) → ⊥
+  by-more (inl same) = i .mixed u g m n (rw same at p) q (rw same at e)
+  by-more (inr one) =
+      key-of-more ⊥ (laneAt (alone s) u .keys .offers) key (getD (groupLaneAt s g .keys .offers) n []) m (rw (one .1) at p) (rw (one .1) at e)
+      (λ l f. i .mixed u g m n l q f) (λ l f. fits (one .0) .groups g n q (sym f))
 
-named-offered : (w : Setting) (s : State) (p llid : ℕ) (key : List ℕ) (f : Lane → Lane) → Invariant w s → find (s .olt) llid ≡ At p
-    → ((l : Lane) → f l .keys .offers ≡ l .keys .offers ++ (key ∷ [])) → (u : ℕ) → Offered s p key (map (named llid f) (s .history .lanes)) u
-unfolding named
-named-offered w s p llid key f i e more-by u =
-    by-test (both (laneAt s u .entry .registered) (has (laneAt s u .site .identity) llid)) refl where
-      by-test : (b : Bool) → both (laneAt s u .entry .registered) (has (laneAt s u .site .identity) llid) ≡ b
-          → Offered s p key (map (named llid f) (s .history .lanes)) u
-      by-test false h =
-          kept (ap (λ (l : Lane). l .keys .offers) (named-at llid f (s .history .lanes) u ∙ pick-false (f (laneAt s u)) (laneAt s u) h))
-      by-test true h =
-          more (named-held w s p u llid i e h)
-          (ap (λ (l : Lane). l .keys .offers) (named-at llid f (s .history .lanes) u ∙ pick-true (f (laneAt s u)) (laneAt s u) h) ∙ more-by (laneAt s u))
-
-pub offer-right : (w : Setting) (s : State) (llid : ℕ) (key : List ℕ) → Invariant w s → Fits w s (offer llid key) → Invariant w (step s (offer llid key))
-unfolding step offering offerOf keySent offerUnit outcome withChannels laneLeaving laneOffered laneWith
-offer-right w s llid key i fits =
-    let f : Lane → Lane =
-    λ l. laneLeaving (keyMessage (lift (s .olt) noKeyMessage Accepted llid (offerUnit llid key) .handed) (s .history .now)) (laneOffered key l) in
-    call-right w s noKeyMessage Accepted llid (offerUnit llid key) f i
-    (record {
-      valid = offer-valid (s .olt) llid key (i .valid);
-      rises = λ u a k. omega arith;
-      site = λ l. refl;
-      entry = λ l. refl;
-      own = λ l u h e j.
-          rw (l .handed)
-          (offer-keeps w (s .olt .shared) (s .history .now) (laneAt s u) (unitAt (s .olt) (l .at)) (onuAt s u) llid key (i .shared) j e (l .accepts));
-      keys = λ l.
-          keys-offered w s (l .at) key (map (named llid f) (s .history .lanes)) i (fits (ap verdictNumber (l .verdict)))
-          (named-offered w s (l .at) llid key f i (l .found) (λ y. refl));
-    })
+pub unit-offer-right : (w : Setting) (s : State) (llid : ℕ) (key : List ℕ) → Invariant w s → findGroup (s .head) llid ≡ Nowhere → Fits w s (offer llid key)
+    → Invariant w (step s (offer llid key))
+unfolding step offeringTo keySentAlone offering atHead alone withOlt laneLeaving laneOffered laneWith
+unit-offer-right w s llid key i none fits =
+    let r = offerOf (s .head .olt) llid key in
+    let is = offer-olt (s .head) (i .valid) llid none key in
+    let new : r .number ≡ 0 → NewKey s key = λ z. fits (ap (λ (x : HeadKeySent). x .number) is ∙ z) in
+    beside-right w s (step s (offer llid key)) i
+    (rw is
+    (named-beside w s (r .olt) (r .number) llid _ _ i (offer-kept (s .head .olt) llid key) (record { site = λ l. refl; entry = λ l. refl })
+    (noted-none w s i _ llid _ none)))
+    (rw (offer-alone s (i .valid) llid none key) (step-right w (alone s) (events.offer llid key) (i .units) (λ z. new z .units)))
+    (mixed-offered w s key (r .number) (λ u. laneAt (alone (step s (offer llid key))) u .keys .offers) i new
+    (rw is (named-offer key (alone s) (r .olt) (r .number) llid _ (λ l. refl))))

@@ -1,161 +1,152 @@
--- The calls on the OLT keep the invariant: captures, clock messages, retries, acknowledgements, sends, and refused receipts. Assumes nothing.
-use mathlib.Core.Path.{_≡_, refl, sym, _∙_, ap, subst}
-use mathlib.Core.List.{List, List·Memᴰ}
+-- The calls of the OLT on a unit keep the invariant. Assumes nothing.
+use mathlib.Core.Path.{_≡_, refl, _∙_, ap}
+use mathlib.Core.List.{List}
 use Prim.Native.Nat.{ℕ}
-use native.Mathlib.Omega.{arith}
-use lib.ListN.{length}
-use borrow.Author.Tests.{not-false}
-use Rattle.octets.proofs.Members.{mem-at}
-use Rattle.refusal.specs.declared.Verdict.the-variants.{Accepted}
-use Rattle.envelope.specs.ControlMask.{eqsOf}
-use Rattle.ends.specs.Records.{withChannels}
-use Rattle.protocol.specs.Replies.{silent}
-use Rattle.ends.specs.Table.{unitAt}
-use Rattle.protocol.specs.Lift.{outcome, lift}
-use Rattle.protocol.specs.Headers.{noPassage, noSending}
-use Rattle.protocol.specs.Messages.{noStamps, noKeyMessage}
-use Rattle.protocol.specs.UnitCalls.{captureUnit, clockSendUnit, retryUnit, acknowledgeUnit}
-use Rattle.protocol.specs.UnitTraffic.{sendUnit}
-use Rattle.protocol.specs.OltCalls.{oltAnswer, clockSent, keySent, captureOf, clockSendOf, retryOf, acknowledgeOf}
-use Rattle.protocol.specs.OltTraffic.{sendingOlt, receivingOlt}
-use Rattle.protocol.specs.declared.Acknowledgement.{Acknowledgement}
-use Rattle.protocol.specs.declared.Header.{Header}
-use Rattle.refusal.proofs.Order.{refuse-accepted}
-use Rattle.protocol.proofs.Replies.{number-refused}
-use Rattle.ends.proofs.Table.{find-at}
-use Rattle.protocol.proofs.Lift.{unit-at-valid}
-use Rattle.protocol.proofs.UnitCalls.{acknowledged-channels}
-use Rattle.protocol.proofs.OltCalls.{capture-valid, clock-send-valid, retry-valid, acknowledge-valid, acknowledge-refused}
-use Rattle.protocol.proofs.OltTraffic.{sendAhead, sending-valid, receiving-untouched}
-use Rattle.traffic.specs.Passages.{misfit}
-use Rattle.traffic.specs.Receipts.{oltReceived, oltReceiveOf}
-use Rattle.traffic.specs.Sends.{oltSent, oltSendOf}
-use Rattle.traffic.proofs.Passages.{few-eqs}
-use Rattle.line.specs.Setting.{Setting}
-use Rattle.line.specs.History.{Envelope, clockMessage, keyMessage, Lane, numberDown, laneWith, laneCaptured, laneLeaving, laneAcknowledged, laneSentDown}
-use Rattle.line.specs.Events.{capture, clockSend, retry, sendDown, arriveAnswer, strayAnswer, strayUp}
-use Rattle.line.specs.Run.{State, laneAt, onuAt, answerAt, freshLane, clockSending, retrying, envelopeDown, sendingDown, answering, oltAfter, step}
+use lib.ListN.{length, length-map}
+use Rattle.octets.specs.Choice.{both, pick}
+use Rattle.octets.proofs.Choice.{pick-holds, pick-same}
+use Rattle.octets.proofs.Maps.{map-always}
+use Rattle.ends.specs.Identities.{has}
+use Rattle.ends.specs.declared.Found.the-variants.{Nowhere}
+use Rattle.ends.specs.declared.Olt.{Olt}
+use Rattle.protocol.specs.OltCalls.{captureOf, clockSendOf, retryOf, acknowledgeOf}
+use Rattle.traffic.specs.Sends.{oltSendOf}
+use Rattle.groups.specs.Head.{findGroup, withOlt}
+use Rattle.multicast.specs.Naming.{byLlid}
+use Rattle.multicast.specs.HeadCalls.{headCaptureOf, headClockSendOf}
+use Rattle.unicast.specs.Setting.{Setting}
+use Rattle.unicast.specs.History as history
+use Rattle.unicast.specs.History.{Lane, laneWith, laneCaptured, laneLeaving, laneSentDown, laneAcknowledged}
+use Rattle.unicast.specs.Events as events
+use Rattle.unicast.specs.Run as run
+use Rattle.unicast.specs.Run.{laneAt, atOlt, noted, named, accepted, freshLane, noSite, withLanes, clockSending, retrying, answerAt}
+use Rattle.unicast.specs.Premises as premises
+use Rattle.unicast.proofs.Alive.{answered-alive}
+use Rattle.unicast.proofs.Theorem.{step-right}
+use Rattle.line.specs.History.{GroupLane}
+use Rattle.line.specs.Events.{capture, clockSend, retry, sendDown, arriveAnswer}
+use Rattle.line.specs.Run.{State, alone, atHead, clockSentAlone, keySentAlone, clockSendingTo, retryingTo, headPassage, envelopeDown, sendingDown, answering, step}
 use Rattle.line.specs.Premises.{Fits}
-use Rattle.line.proofs.Invariant.{Joined, Invariant}
-use Rattle.line.proofs.ClockSteps.{capture-keeps, clock-send-keeps}
-use Rattle.line.proofs.KeySteps.{retry-keeps}
-use Rattle.line.proofs.AnswerSteps.{answer-keeps}
-use Rattle.line.proofs.SendDownSteps.{send-down-keeps, send-channels, envelope-down-is}
-use Rattle.line.proofs.Places.{held-once, held-found, busy-held, at-once}
-use Rattle.line.proofs.LiftSteps.{keys-named, call-right}
+use Rattle.line.proofs.Invariant.{Invariant}
+use Rattle.line.proofs.AloneHead.{answered-olt, clock-sent-olt, retry-olt, acknowledge-olt, send-olt}
+use Rattle.line.proofs.Kept.{OltKept, capture-kept, clock-send-kept, retry-kept, acknowledge-kept, send-kept}
+use Rattle.line.proofs.Beside.{Beside, head-kept, unit-itself, beside-right}
+use Rattle.line.proofs.Lines.{noted-none, unit-no-group}
 
----- captures
+---- what a lane keeps
 
-pub capture-right : (w : Setting) (s : State) (llid : ℕ) → Invariant w s → Fits w s (capture llid) → Invariant w (step s (capture llid))
-unfolding step captureOf oltAnswer captureUnit outcome withChannels laneCaptured
-capture-right w s llid i fits =
-    call-right w s silent Accepted llid captureUnit (laneCaptured (s .history .now)) i
-    (record {
-      valid = capture-valid (s .olt) llid (i .valid);
-      rises = λ u a k. omega arith;
-      site = λ l. refl;
-      entry = λ l. refl;
-      own = λ l u h e j.
-          capture-keeps w (s .olt .shared) (s .history .now) (laneAt s u) (unitAt (s .olt) (l .at)) (onuAt s u) (i .shared) j;
-      keys = λ l. keys-named llid (laneCaptured (s .history .now)) (s .history .lanes) (λ y. refl) (i .keys);
-    })
+noted-field : {A : Type 0} (q : Lane → A) (number llid : ℕ) (f : Lane → Lane) (l : Lane) → q (f l) ≡ q l → q (noted number (named llid f) l) ≡ q l
+unfolding noted named
+noted-field q number llid f l e =
+    pick-holds (λ (x : Lane). q x ≡ q l) (accepted number) (named llid f l) l
+    (λ p. pick-holds (λ (x : Lane). q x ≡ q l) (both (l .entry .registered) (has (l .site .identity) llid)) (f l) l (λ r. e) (λ r. refl)) (λ p. refl)
 
----- clock messages, retries
+pub noted-fresh : (number llid : ℕ) (f : Lane → Lane) → noted number (named llid f) (freshLane noSite) ≡ freshLane noSite
+unfolding noted named freshLane both pick
+noted-fresh number llid f = pick-same (accepted number) (freshLane noSite)
 
-pub clock-send-right : (w : Setting) (s : State) (llid : ℕ) → Invariant w s → Fits w s (clockSend llid) → Invariant w (step s (clockSend llid))
-unfolding step clockSending clockSendOf clockSent clockSendUnit outcome withChannels laneLeaving laneWith
-clock-send-right w s llid i fits =
-    let f : Lane → Lane =
-    λ l. laneLeaving (clockMessage (lift (s .olt) noStamps Accepted llid clockSendUnit .handed) (l .captured) (s .history .now)) l in
-    call-right w s noStamps Accepted llid clockSendUnit f i
-    (record {
-      valid = clock-send-valid (s .olt) llid (i .valid);
-      rises = λ u a k. omega arith;
-      site = λ l. refl;
-      entry = λ l. refl;
-      own = λ l u h e j.
-          rw (l .handed)
-          (clock-send-keeps w (s .olt .shared) (s .history .now) (laneAt s u) (unitAt (s .olt) (l .at)) (onuAt s u) (i .shared) j (l .accepts));
-      keys = λ l. keys-named llid f (s .history .lanes) (λ y. refl) (i .keys);
-    })
+-- a call that names a unit
+pub named-field : {A : Type 0} (q : Lane → A) (s : run.State) (o : Olt) (number llid : ℕ) (f : Lane → Lane) → ((l : Lane) → q (f l) ≡ q l) → (u : ℕ)
+    → q (laneAt (atOlt s o number llid f) u) ≡ q (laneAt s u)
+unfolding atOlt withLanes
+named-field q s o number llid f e u =
+    ap q (map-always (noted number (named llid f)) (s .history .lanes) u (freshLane noSite) (noted-fresh number llid f))
+    ∙ noted-field q number llid f (laneAt s u) (e (laneAt s u))
 
-pub retry-right : (w : Setting) (s : State) (llid : ℕ) → Invariant w s → Fits w s (retry llid) → Invariant w (step s (retry llid))
-unfolding step retrying retryOf keySent retryUnit outcome withChannels laneLeaving laneWith
-retry-right w s llid i fits =
-    let f : Lane → Lane = λ l. laneLeaving (keyMessage (lift (s .olt) noKeyMessage Accepted llid (retryUnit llid) .handed) (s .history .now)) l in
-    call-right w s noKeyMessage Accepted llid (retryUnit llid) f i
-    (record {
-      valid = retry-valid (s .olt) llid (i .valid);
-      rises = λ u a k. omega arith;
-      site = λ l. refl;
-      entry = λ l. refl;
-      own = λ l u h e j.
-          rw (l .handed)
-          (retry-keeps w (s .olt .shared) (s .history .now) (laneAt s u) (unitAt (s .olt) (l .at)) (onuAt s u) llid (i .shared) j e (l .accepts));
-      keys = λ l. keys-named llid f (s .history .lanes) (λ y. refl) (i .keys);
-    })
+named-length : (s : run.State) (o : Olt) (number llid : ℕ) (f : Lane → Lane) → length (atOlt s o number llid f .history .lanes) ≡ length (s .history .lanes)
+unfolding atOlt withLanes
+named-length s o number llid f = length-map (s .history .lanes) (noted number (named llid f))
 
----- acknowledgements
+named-ticks : (s : run.State) (o : Olt) (number llid : ℕ) (f : Lane → Lane) → atOlt s o number llid f .history .now ≡ s .history .now
+unfolding atOlt withLanes
+named-ticks s o number llid f = refl
 
+---- the groups beside such a call
+
+-- the lane that f makes is of the same site, entry and offers
+pub record LaneKept (f : Lane → Lane) : Type 0 where
+  pub site : (l : Lane) → f l .site ≡ l .site
+  pub entry : (l : Lane) → f l .entry ≡ l .entry
+
+pub named-beside : (w : Setting) (s : State) (o : Olt) (number llid : ℕ) (f : Lane → Lane) (gs : List GroupLane) → Invariant w s → OltKept (s .head .olt) o
+    → LaneKept f → gs ≡ s .history .groups → Beside s (atHead s (withOlt (s .head) o) (atOlt (alone s) o number llid f .history) gs)
+unfolding atHead alone withOlt
+named-beside w s o number llid f gs i k f-keeps same =
+    record {
+      groups = refl;
+      valid = head-kept (s .head) o k (i .valid);
+      rises = k .rises;
+      ticks = named-ticks (alone s) o number llid f;
+      paired = named-length (alone s) o number llid f;
+      site = named-field (λ (l : Lane). l .site) (alone s) o number llid f (f-keeps .site);
+      entry = λ u e. ap (λ (x : history.Entry). x .registered) (named-field (λ (l : Lane). l .entry) (alone s) o number llid f (f-keeps .entry) u) ∙ e;
+      unit = λ u. unit-itself _;
+      joined = refl;
+      lines = same;
+    }
+
+-- it offers no key
+pub named-right : (w : Setting) (s : State) (o : Olt) (number llid : ℕ) (f : Lane → Lane) (gs : List GroupLane) → Invariant w s → OltKept (s .head .olt) o
+    → LaneKept f → ((l : Lane) → f l .keys .offers ≡ l .keys .offers) → gs ≡ s .history .groups → (e : events.Event)
+    → atOlt (alone s) o number llid f ≡ run.step (alone s) e → premises.Fits w (alone s) e
+    → Invariant w (atHead s (withOlt (s .head) o) (atOlt (alone s) o number llid f .history) gs)
+unfolding atHead alone withOlt atOlt
+named-right w s o number llid f gs i k f-keeps offers same e is fits =
+    beside-right w s _ i (named-beside w s o number llid f gs i k f-keeps same)
+    (rw is (step-right w (alone s) e (i .units) fits))
+    (λ u g m n p q z.
+    let stay = named-field (λ (l : Lane). l .keys .offers) (alone s) o number llid f offers u in
+    i .mixed u g m n (rw stay at p) q (rw stay at z))
+
+---- captures, clock messages
+
+pub capture-right : (w : Setting) (s : State) (llid : ℕ) → Invariant w s → Invariant w (step s (capture llid))
+unfolding step headCaptureOf run.step alone withOlt laneCaptured
+capture-right w s llid i =
+    rw (answered-olt (s .head) (i .valid) (captureOf (s .head .olt) llid))
+    (named-right w s (captureOf (s .head .olt) llid .olt) (captureOf (s .head .olt) llid .number) llid (laneCaptured (alone s .history .now))
+    (s .history .groups) i (capture-kept (s .head .olt) llid) (record { site = λ l. refl; entry = λ l. refl }) (λ l. refl) refl
+    (events.capture llid) refl tt)
+
+pub clock-send-right : (w : Setting) (s : State) (llid : ℕ) → Invariant w s → Invariant w (step s (clockSend llid))
+unfolding step headClockSendOf clockSendingTo clockSentAlone clockSending run.step alone withOlt laneLeaving laneWith
+clock-send-right w s llid i =
+    rw (clock-sent-olt (s .head) (i .valid) (clockSendOf (s .head .olt) llid))
+    (named-right w s (clockSendOf (s .head .olt) llid .olt) (clockSendOf (s .head .olt) llid .number) llid _
+    (s .history .groups) i (clock-send-kept (s .head .olt) llid) (record { site = λ l. refl; entry = λ l. refl }) (λ l. refl) refl
+    (events.clockSend llid) refl tt)
+
+---- where no group has the LLID
+
+module _ (w : Setting) (s : State) (llid : ℕ) (i : Invariant w s) (none : findGroup (s .head) llid ≡ Nowhere) where
+  pub unit-retry-right : Invariant w (step s (retry llid))
+  unfolding step retryingTo keySentAlone retrying run.step alone withOlt laneLeaving laneWith
+  unit-retry-right =
+      rw (retry-olt (s .head) (i .valid) llid none)
+      (named-right w s (retryOf (s .head .olt) llid .olt) (retryOf (s .head .olt) llid .number) llid _
+      _ i (retry-kept (s .head .olt) llid) (record { site = λ l. refl; entry = λ l. refl }) (λ l. refl) (noted-none w s i _ llid _ none)
+      (events.retry llid) refl tt)
+
+  pub unit-send-right : (channel : ℕ) (p out : List ℕ) → Invariant w (step s (sendDown llid channel p out))
+  unfolding step sendingDown run.sendingDown envelopeDown run.envelopeDown headPassage byLlid run.step alone withOlt laneSentDown laneWith
+  unit-send-right channel p out =
+      let r = oltSendOf (s .head .olt) llid channel p out in
+      rw (none, send-olt (s .head) (i .valid) llid none channel p out)
+      (named-right w s (r .answer .olt) (r .answer .number) llid _
+      _ i (send-kept (s .head .olt) llid channel p out) (record { site = λ l. refl; entry = λ l. refl }) (λ l. refl) (noted-none w s i _ llid _ none)
+      (events.sendDown llid channel p out) refl tt)
+
+  pub unit-answer-right : (u k : ℕ) → premises.DueAnswer (alone s) u k llid → Invariant w (step s (arriveAnswer u k llid))
+  unfolding step answering run.answering run.step alone withOlt laneAcknowledged laneWith
+  unit-answer-right u k due =
+      let a = answerAt (alone s) u k .acknowledgement in
+      rw (acknowledge-olt (s .head) (i .valid) llid none a)
+      (named-right w s (acknowledgeOf (s .head .olt) llid a .olt) (acknowledgeOf (s .head .olt) llid a .number) llid _
+      (s .history .groups) i (acknowledge-kept (s .head .olt) llid a) (record { site = λ l. refl; entry = λ l. refl }) (λ l. refl) refl
+      (events.arriveAnswer u k llid) refl due)
+
+-- an acknowledgement of a unit names one of its LLIDs
 pub answer-right : (w : Setting) (s : State) (u k llid : ℕ) → Invariant w s → Fits w s (arriveAnswer u k llid) → Invariant w (step s (arriveAnswer u k llid))
-unfolding step answering acknowledgeOf oltAnswer withChannels laneAcknowledged laneWith freshLane
-answer-right w s u k llid i d =
-    let a = answerAt s u k .acknowledgement in
-    let held = busy-held w s (λ (l : Lane). length (l .transit .answered)) u k i refl (λ o h. ap length (h .answered)) (d .some) in
-    let found = held-found w s (laneAt s u .entry .place) u llid i held (d .named) in
-    call-right w s silent Accepted llid (acknowledgeUnit a) (laneAcknowledged a) i
-    (record {
-      valid = acknowledge-valid (s .olt) llid a (i .valid);
-      rises = λ x y n. rw (acknowledged-channels a (s .olt .shared) x) (omega arith);
-      site = λ l. refl;
-      entry = λ l. refl;
-      own = λ l v h e j.
-          let place = at-once _ _ (sym found ∙ l .found) in
-          let same : v ≡ u = held-once w s (l .at) v u i h (record { known = held .known; registered = held .registered; place = place }) in
-          let mem : List·Memᴰ (answerAt s u k) (laneAt s v .transit .answered) = rw same (mem-at (laneAt s u .transit .answered) k _ (d .some)) in
-          rw (acknowledged-channels a (s .olt .shared) (unitAt (s .olt) (l .at)))
-          (answer-keeps w (s .olt .shared) (s .history .now) (laneAt s v) (unitAt (s .olt) (l .at)) (onuAt s v) a (answerAt s u k) (i .shared) j mem refl
-          (l .accepts));
-      keys = λ l. keys-named llid (laneAcknowledged a) (s .history .lanes) (λ y. refl) (i .keys);
-    })
-
----- sends
-
-pub send-down-right : (w : Setting) (s : State) (llid channel : ℕ) (p out : List ℕ) → Invariant w s → Fits w s (sendDown llid channel p out)
-    → Invariant w (step s (sendDown llid channel p out))
-unfolding step sendingDown oltSendOf oltSent sendingOlt laneSentDown laneWith
-send-down-right w s llid channel p out i fits =
-    let sh = s .olt .shared in
-    let now = s .history .now in
-    let call = sendUnit llid channel (eqsOf p) in
-    let f : Lane → Lane =
-    λ l. laneSentDown now (envelopeDown now (s .olt) llid channel p out (numberDown l now)) l in
-    call-right w s noSending (sendAhead (misfit p out) channel) llid call f i
-    (record {
-      valid = sending-valid (s .olt) (misfit p out) llid channel (eqsOf p) (few-eqs p out) (i .valid);
-      rises = λ u a k. send-channels llid channel (eqsOf p) sh u a k;
-      site = λ l. refl;
-      entry = λ l. refl;
-      own = λ l u h e j.
-          let x = unitAt (s .olt) (l .at) in
-          let met = refuse-accepted _ _ _ (l .passed) in
-          subst (λ (y : Envelope). Joined w (withChannels sh (call sh x .channels)) now (laneSentDown now y (laneAt s u)) (call sh x .unit) (onuAt s u))
-          (sym (envelope-down-is (s .olt) now llid channel p out (numberDown (laneAt s u) now) (call sh x .handed) (l .verdict) (l .handed)))
-          (send-down-keeps w sh now (laneAt s u) x (onuAt s u) llid channel (eqsOf p) p out (i .shared) j
-          (unit-at-valid (s .olt) llid (l .at) (i .valid) (find-at (s .olt) llid (l .at) (l .found)))
-          e (not-false _ (refuse-accepted _ _ _ (met .1) .0)) (met .0) (l .accepts));
-      keys = λ l. keys-named llid f (s .history .lanes) (λ y. refl) (i .keys);
-    })
-
----- refused receipts
-
-pub stray-answer-right : (w : Setting) (s : State) (llid : ℕ) (a : Acknowledgement) → Invariant w s → Fits w s (strayAnswer llid a)
-    → Invariant w (step s (strayAnswer llid a))
-unfolding step oltAfter
-stray-answer-right w s llid a i n = rw (acknowledge-refused (s .olt) llid a n) i
-
-pub stray-up-right : (w : Setting) (s : State) (h : Header) (p out : List ℕ) → Invariant w s → Fits w s (strayUp h p out)
-    → Invariant w (step s (strayUp h p out))
-unfolding step oltAfter oltReceiveOf oltReceived
-stray-up-right w s h p out i n =
-    rw (number-refused (s .olt) noPassage (receivingOlt (s .olt) (misfit p out) h) (receiving-untouched (s .olt) (misfit p out) h) n .end) i
+answer-right w s u k llid i due =
+    let a = answered-alive w (alone s) u (i .units) k (due .some) in
+    unit-answer-right w s llid i (unit-no-group w s i u llid (a .registered) (due .named)) u k due

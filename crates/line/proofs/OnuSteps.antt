@@ -1,258 +1,192 @@
--- The calls on a unit keep the invariant: they touch that unit and its lane alone, and one that is refused leaves both. Assumes nothing.
-use mathlib.Core.Path.{_≡_, refl, sym, _∙_, ap, subst}
-use mathlib.Core.Bool.{Bool, true, false}
+-- The calls of a unit on its own line keep the invariant. Assumes nothing.
+use mathlib.Core.Path.{_≡_, refl, sym, _∙_, ap}
+use mathlib.Core.Bool.{Bool, true}
 use mathlib.Core.List.{List}
-use Prim.Native.Nat.{ℕ, _+_, _<_}
+use Prim.Native.Nat.{ℕ}
 use native.Mathlib.Omega.{arith}
-use lib.Dec.{eqb}
-use lib.ListN.{length, getD, set, length-set, List·getD-map}
-use lib.Seq.{getD-set-same, getD-set-other, set-getD, map-set-same}
-use borrow.Author.Tests.{eqb-true, eqb-false}
-use Rattle.octets.proofs.Choice.{pick-holds}
+use lib.ListN.{length-set}
+use lib.Seq.{set-getD}
+use borrow.Author.Tests.{ne-eqb}
 use Rattle.octets.specs.Output.{WithOutput}
-use Rattle.clock.specs.declared.Stamps.{Stamps}
-use Rattle.protocol.specs.Headers.{noPassage, noSending}
-use Rattle.ends.specs.Identities.{noIdentity}
-use Rattle.protocol.specs.Messages.{noAcknowledgement, ofKey}
-use Rattle.protocol.specs.OnuCalls.{onuAcknowledged, clockMessageAt, keyMessageVerdict, keysTaken, keyMessageTo, keyMessageAt}
-use Rattle.ends.specs.Records.{newOnu, withOnuKeys}
-use Rattle.ends.specs.Table.{unitAt}
-use Rattle.protocol.specs.declared.Header.{Header}
-use Rattle.protocol.specs.declared.KeyMessage.{KeyMessage}
+use Rattle.octets.proofs.Choice.{pick-false, pick-holds}
+use Rattle.refusal.specs.Number.{verdictNumber}
+use Rattle.refusal.proofs.Order.{refuse-accepted, refused-accepts}
+use Rattle.refusal.proofs.Numbers.{number-accepted}
+use Rattle.ends.specs.Identities.{has}
 use Rattle.ends.specs.declared.Onu.{Onu}
-use Rattle.protocol.specs.declared.OnuAcknowledged.{OnuAcknowledged}
-use Rattle.protocol.proofs.OnuCalls.{onu-keeps, clock-message-refused, key-message-refused}
-use Rattle.protocol.proofs.OnuTraffic.{sending-onu-untouched, receiving-onu-untouched}
-use Rattle.protocol.proofs.Replies.{number-refused}
-use Rattle.ends.proofs.Validity.{onu-in-range}
-use Rattle.protocol.proofs.KeyMessages.{keys-taken-valid, keys-replaced-valid}
-use Rattle.traffic.specs.Receipts.{onuReceived, onuNotReceived, onuReceiveOf}
-use Rattle.traffic.specs.Sends.{onuSent, onuSendOf}
-use Rattle.traffic.specs.declared.OnuReceived.{OnuReceived}
-use Rattle.line.specs.Setting.{Setting}
-use Rattle.line.specs.History.{Thing, clockMessage, keyMessage, envelope, Entry, Lane, leftAt, laneWith, laneSentUp, laneTaken, laneAnswered, laneArrivedDown}
-use Rattle.line.specs.Events.{sendUp, arriveDown, overhear, strayClock, strayKey, strayDown}
-use Rattle.line.specs.Run.{State, noSite, freshLane, laneAt, onuAt, accepted, noted, withLanes, atOnu, sendingUp, messageArriving, receiptDown, envelopeArriving, thingArriving, noEnvelope, thingAt, unitAfter, step}
-use Rattle.line.specs.Premises.{FittingBuffer, DueDown, Fits}
-use Rattle.line.proofs.Invariant.{Joined, Common, Standing, LaneRight, Invariant}
-use Rattle.line.proofs.Alive.{Alive, registered-alive, towards-alive}
-use Rattle.line.proofs.ClockSteps.{clock-arrives, common-clock-keeps}
-use Rattle.line.proofs.KeySteps.{key-arrives}
-use Rattle.line.proofs.Frames.{common-moved}
-use Rattle.line.proofs.SendUpSteps.{send-up-keeps, send-common}
-use Rattle.line.proofs.ReceiptDownSteps.{arrive-down, receive-common}
-use Rattle.line.proofs.OverheardSteps.{overheard-refused}
+use Rattle.ends.specs.declared.Found.{Found}
+use Rattle.ends.specs.declared.Found.the-variants.{At, Nowhere}
+use Rattle.protocol.specs.Headers.{envelopeHeader}
+use Rattle.protocol.specs.declared.Header.{Header}
+use Rattle.traffic.specs.Passages.{misfit}
+use Rattle.traffic.specs.Sends.{onuSendOf}
+use Rattle.groups.specs.Subscriber.{findJoined, withOnu}
+use Rattle.groups.specs.declared.Subscriber.{Subscriber}
+use Rattle.multicast.specs.Naming.{byLlid}
+use Rattle.multicast.specs.SubscriberCalls.{subscriberClockMessageOf, subscriberKeyMessageOf}
+use Rattle.multicast.specs.SubscriberTraffic.{groupSendVerdict, subscriberSendOf}
+use Rattle.multicast.specs.declared.SubscriberAcknowledged.{SubscriberAcknowledged}
+use Rattle.multicast.specs.declared.SubscriberSent.{SubscriberSent}
+use Rattle.unicast.specs.Setting.{Setting}
+use Rattle.unicast.specs.History.{Thing, clockMessage, keyMessage, envelope, Entry, Lane, laneWith, laneSentUp, laneTaken, laneAnswered, laneArrivedDown}
+use Rattle.unicast.specs.Events as events
+use Rattle.unicast.specs.Run as run
+use Rattle.unicast.specs.Run.{laneAt, onuAt, atOnu, accepted, noted, freshLane, noSite, withLanes, thingAt}
+use Rattle.unicast.specs.Premises.{DueDown}
+use Rattle.unicast.proofs.Invariant as units
+use Rattle.unicast.proofs.Alive.{Alive, towards-alive}
+use Rattle.unicast.proofs.Queues.{towards-taken}
+use Rattle.unicast.proofs.Theorem.{step-right}
+use Rattle.line.specs.Events.{sendUp, arriveDown}
+use Rattle.line.specs.Run.{State, alone, subscriberAt, noSubscriber, atUnit, atUnitAlone, sendingUp, messageArriving, receiptDown, thingArriving, step}
+use Rattle.line.specs.Premises.{Fits}
+use Rattle.line.proofs.Invariant.{Invariant}
+use Rattle.line.proofs.Alone.{onu-alone}
+use Rattle.line.proofs.AloneUnit.{clock-message-onu, key-message-onu, send-onu, receive-onu, send-up-alone, clock-alone, key-alone, envelope-alone}
+use Rattle.line.proofs.Kept.{clock-message-kept, key-message-kept, onu-send-kept, onu-receive-kept}
+use Rattle.line.proofs.Beside.{Beside, UnitKept, with-onu-kept, unit-itself, beside-right}
+use Rattle.line.proofs.Lines.{own-not-joined, memberships-right}
+use Rattle.line.proofs.Places.{set-field, set-holds}
 
----- one unit replaced
+---- a unit and its own line replaced
 
--- a unit and its lane are replaced, past the end nothing; registration and offers stay
-module _ (w : Setting) (s : State) (u : ℕ) (o : Onu) (m : Lane) (v : Invariant w s)
-    (right : u < length (s .history .lanes) → LaneRight w (s .olt) (s .history .now) m o) (entry : m .entry ≡ laneAt s u .entry)
-    (offers : m .keys .offers ≡ laneAt s u .keys .offers) where
-  abbrev after : State
-  after =
-      record {
-        olt = s .olt;
-        onus = set (s .onus) u o;
-        history = record { now = s .history .now; registrations = s .history .registrations; lanes = set (s .history .lanes) u m };
-      }
-
-  -- what the new lane has of the old one, each lane has
-  field-stays : {B : Type 0} (f : Lane → B) → f m ≡ f (laneAt s u) → (x : ℕ) → f (laneAt after x) ≡ f (laneAt s x)
-  field-stays {B} f e x =
-      sym (List·getD-map f (set (s .history .lanes) u m) x (freshLane noSite))
-      ∙ ap (λ (l : List B). getD l x (f (freshLane noSite))) (map-set-same f (s .history .lanes) u m (freshLane noSite) e)
-      ∙ List·getD-map f (s .history .lanes) x (freshLane noSite)
-
-  lane-right : (x : ℕ) → x < length (s .history .lanes) → LaneRight w (s .olt) (s .history .now) (laneAt after x) (onuAt after x)
-  lane-right x h = by-lane (eqb x u) refl where
-    by-lane : (t : Bool) → eqb x u ≡ t → LaneRight w (s .olt) (s .history .now) (laneAt after x) (onuAt after x)
-    by-lane true e =
-        let z : x ≡ u = eqb-true x u e in
-        let known : u < length (s .history .lanes) = rw z at h in
-        rw (
-          z,
-          getD-set-same (s .history .lanes) u m (freshLane noSite) known,
-          getD-set-same (s .onus) u o (newOnu noIdentity 0 0) (omega (arith, known, v .paired)),
-        ) (right known)
-    by-lane false e =
-        let n = eqb-false x u e in
-        rw (
-          getD-set-other (s .history .lanes) u x m (freshLane noSite) n,
-          getD-set-other (s .onus) u x o (newOnu noIdentity 0 0) n,
-        ) (v .lane x h)
-
-  pub replaced-right : Invariant w after
-  replaced-right =
-      let places = length-set (s .history .lanes) u m in
-      let entries = field-stays (λ (l : Lane). l .entry) entry in
-      let keys = field-stays (λ (l : Lane). l .keys .offers) offers in
-      record {
-        valid = v .valid;
-        places = v .places;
-        count = v .count;
-        shared = v .shared;
-        paired = length-set (s .onus) u o ∙ v .paired ∙ sym places;
-        lane = λ x h. lane-right x (rw places at h);
-        apart = λ x y h k b c e.
-            v .apart x y (rw places at h) (rw places at k) (rw (entries x) at b) (rw (entries y) at c) (rw (entries x, entries y) at e);
-        keys = λ x y i j h k e. v .keys x y i j (rw (keys x) at h) (rw (keys y) at k) (rw (keys x, keys y) at e);
-      }
-
-pub at-onu-right : (w : Setting) (s : State) (u : ℕ) (o : Onu) (f : Lane → Lane) → Invariant w s
-    → (u < length (s .history .lanes) → LaneRight w (s .olt) (s .history .now) (f (laneAt s u)) o)
-    → f (laneAt s u) .entry ≡ laneAt s u .entry → f (laneAt s u) .keys .offers ≡ laneAt s u .keys .offers → Invariant w (atOnu s u o f)
-unfolding atOnu withLanes
-at-onu-right w s u o f v right entry offers = replaced-right w s u o (f (laneAt s u)) v right entry offers
-
--- what the lane is told by an accepted call
-noted-right : (w : Setting) (s : State) (u : ℕ) (o : Onu) (number : ℕ) (f g : Lane → Lane) → (number ≡ 0 → Invariant w (atOnu s u o (λ l. f (g l))))
-    → ((number ≡ 0 → ⊥) → Invariant w (atOnu s u o g)) → Invariant w (atOnu s u o (λ l. noted number f (g l)))
-unfolding atOnu noted
-noted-right w s u o number f g taken refused =
-    pick-holds (λ (m : Lane). Invariant w (atOnu s u o (λ l. m))) (accepted number) (f (g (laneAt s u))) (g (laneAt s u))
-    (λ e. taken (eqb-true number 0 e)) (λ e. refused (eqb-false number 0 e))
-
--- a unit that is left as it was
-pub unit-after-right : (w : Setting) (s : State) (u : ℕ) (o : Onu) → o ≡ onuAt s u → Invariant w s → Invariant w (unitAfter s u o)
-unfolding unitAfter
-unit-after-right w s u o e v = rw (e, set-getD (s .onus) u (newOnu noIdentity 0 0)) v
-
----- a registered unit
-
-module _ (w : Setting) (s : State) (u : ℕ) (v : Invariant w s) where
-  -- a registered unit and its lane are replaced
-  pub alive-right : (o : Onu) (f : Lane → Lane) → Alive w s u → f (laneAt s u) .entry ≡ laneAt s u .entry
-      → f (laneAt s u) .keys .offers ≡ laneAt s u .keys .offers → Common w (s .history .now) (f (laneAt s u)) o
-      → Joined w (s .olt .shared) (s .history .now) (f (laneAt s u)) (unitAt (s .olt) (laneAt s u .entry .place)) o → Invariant w (atOnu s u o f)
-  alive-right o f r entry offers c j =
-      let m = f (laneAt s u) in
-      let place : laneAt s u .entry .place ≡ m .entry .place = ap (λ (t : Entry). t .place) (sym entry) in
-      at-onu-right w s u o f v
-      (λ known.
-      record {
-        common = c;
-        standing =
-            subst (λ (t : Bool). Standing t w (s .olt) (s .history .now) m o) (sym (ap (λ (t : Entry). t .registered) entry ∙ r .registered)) (
-              omega (arith, r .used, place),
-              subst (λ (i : ℕ). Joined w (s .olt .shared) (s .history .now) m (unitAt (s .olt) i) o) place j,
-            );
-      }) entry offers
-
----- a send
-
-send-up-refused : (o : Onu) (llid channel : ℕ) (p out : List ℕ) → (onuSendOf o llid channel p out .answer .number ≡ 0 → ⊥)
-    → onuSendOf o llid channel p out .answer .onu ≡ o
-unfolding onuSendOf onuSent
-send-up-refused o llid channel p out n = number-refused o noSending _ (sending-onu-untouched o _ llid channel _) n .end
-
-pub send-up-right : (w : Setting) (s : State) (u llid channel : ℕ) (p out : List ℕ) → Invariant w s → Fits w s (sendUp u llid channel p out)
-    → Invariant w (step s (sendUp u llid channel p out))
-unfolding step sendingUp laneSentUp laneWith
-send-up-right w s u llid channel p out v f =
-    let x = onuSendOf (onuAt s u) llid channel p out in
-    noted-right w s u (x .answer .onu) (x .answer .number) _ (λ l. l)
-    (λ z.
-    let r = registered-alive w s u v (f z) in
-    alive-right w s u v (x .answer .onu) _ r refl refl
-    (send-common w (s .history .now) (laneAt s u) _ (onuAt s u) llid channel p out refl (r .common))
-    (send-up-keeps w (s .olt .shared) (s .history .now) (laneAt s u) (unitAt (s .olt) (laneAt s u .entry .place)) (onuAt s u) llid channel p out (r .common)
-    (r .joined) z))
-    (λ n.
-    rw (send-up-refused (onuAt s u) llid channel p out n) (at-onu-right w s u (onuAt s u) (λ l. l) v (λ known. v .lane u known) refl refl))
-
----- what arrives
-
-key-common : (w : Setting) (now : ℕ) (l : Lane) (o : Onu) (m : KeyMessage) → Common w now l o → Common w now l (keyMessageAt o m .onu)
-unfolding keyMessageAt keyMessageTo onuAcknowledged withOnuKeys
-key-common w now l o m c =
-    onu-keeps (λ (p : Onu). Common w now l p) o noAcknowledgement (keyMessageVerdict o m) (withOnuKeys o (keysTaken (o .keys) m)) (ofKey (m .number)) c
-    (λ v a.
+own-beside : (w : Setting) (s : State) (u : ℕ) (x : Subscriber) (f : Lane → Lane) → Invariant w s → UnitKept (subscriberAt s u) x
+    → f (laneAt (alone s) u) .site ≡ laneAt (alone s) u .site → f (laneAt (alone s) u) .entry ≡ laneAt (alone s) u .entry
+    → Beside s (atUnitAlone s u x f)
+unfolding atUnitAlone atUnit alone atOnu withLanes
+own-beside w s u x f i k site entry =
+    let ls = s .history .units .lanes in
+    let l = f (laneAt (alone s) u) in
     record {
-      valid = keys-replaced-valid o (keysTaken (o .keys) m) (keys-taken-valid (o .keys) m (onu-in-range o v .keys)) v;
-      tick = c .tick;
-      mac = c .mac;
-      llids = c .llids;
-      oltmac = c .oltmac;
-    })
+      groups = refl;
+      valid = i .valid;
+      rises = λ c. omega arith;
+      ticks = refl;
+      paired = length-set ls u l;
+      site = set-field (λ (y : Lane). y .site) ls u l (freshLane noSite) site;
+      entry = λ v e. ap (λ (y : Entry). y .registered) (set-field (λ (y : Lane). y .entry) ls u l (freshLane noSite) entry v) ∙ e;
+      unit = set-holds (λ (v : ℕ) (y : Subscriber). UnitKept (subscriberAt s v) y) (s .subscribers) u x noSubscriber (λ v. unit-itself (subscriberAt s v)) k;
+      joined = refl;
+      lines = refl;
+    }
 
-module _ (w : Setting) (s : State) (u k : ℕ) (out : List ℕ) (v : Invariant w s) (d : DueDown s u k out) where
-  abbrev place : Alive w s u
-  place = towards-alive w s u v k (d .some)
+offers-stay : (s : State) (u : ℕ) (x : Subscriber) (f : Lane → Lane) → f (laneAt (alone s) u) .keys .offers ≡ laneAt (alone s) u .keys .offers → (v : ℕ)
+    → laneAt (alone (atUnitAlone s u x f)) v .keys .offers ≡ laneAt (alone s) v .keys .offers
+unfolding atUnitAlone atUnit alone atOnu withLanes
+offers-stay s u x f e = set-field (λ (y : Lane). y .keys .offers) (s .history .units .lanes) u (f (laneAt (alone s) u)) (freshLane noSite) e
 
-  -- a message, taken or refused
-  message-right : (r : OnuAcknowledged) → Common w (s .history .now) (laneAt s u) (r .onu)
-      → (r .number ≡ 0
-      → Joined w (s .olt .shared) (s .history .now) (laneAnswered (r .acknowledgement) (s .history .now) (laneTaken k (laneAt s u)))
-      (unitAt (s .olt) (laneAt s u .entry .place)) (r .onu))
-      → ((r .number ≡ 0 → ⊥)
-      → (r .onu ≡ onuAt s u)
-      × Joined w (s .olt .shared) (s .history .now) (laneTaken k (laneAt s u)) (unitAt (s .olt) (laneAt s u .entry .place)) (onuAt s u))
-      → Invariant w (messageArriving s u k r)
-  unfolding messageArriving laneAnswered laneTaken laneWith
-  message-right r c taken refused =
-      noted-right w s u (r .onu) (r .number) (laneAnswered (r .acknowledgement) (s .history .now)) (laneTaken k)
-      (λ z.
-      alive-right w s u v (r .onu) (λ l. laneAnswered (r .acknowledgement) (s .history .now) (laneTaken k l)) place refl refl
-      (common-moved w (s .history .now) (laneAt s u) _ (r .onu) refl c) (taken z))
-      (λ n.
-      let same = refused n in
-      alive-right w s u v (r .onu) (laneTaken k) place refl refl (common-moved w (s .history .now) (laneAt s u) _ (r .onu) refl c) (rw (same .0) (same .1)))
+pub own-right : (w : Setting) (s : State) (u : ℕ) (x : Subscriber) (f : Lane → Lane) → Invariant w s → UnitKept (subscriberAt s u) x
+    → f (laneAt (alone s) u) .site ≡ laneAt (alone s) u .site → f (laneAt (alone s) u) .entry ≡ laneAt (alone s) u .entry
+    → f (laneAt (alone s) u) .keys .offers ≡ laneAt (alone s) u .keys .offers → units.Invariant w (alone (atUnitAlone s u x f))
+    → Invariant w (atUnitAlone s u x f)
+own-right w s u x f i k site entry offers v =
+    beside-right w s (atUnitAlone s u x f) i (own-beside w s u x f i k site entry) v
+    (λ y g m n p q e. let stay = offers-stay s u x f offers y in i .mixed y g m n (rw stay at p) q (rw stay at e))
 
-  thing-right : (x : Thing) → thingAt s u k ≡ x → leftAt x + laneAt s u .site .down ≡ s .history .now → FittingBuffer x out
-      → Invariant w (thingArriving s u k out x)
-  unfolding thingArriving envelopeArriving receiptDown laneArrivedDown laneTaken laneWith
-  thing-right (clockMessage m c t) e due b =
-      let r = place in
-      let arrives =
-      clock-arrives w (s .olt .shared) (s .history .now) (laneAt s u) (unitAt (s .olt) (laneAt s u .entry .place)) (onuAt s u) k (envelope noEnvelope)
-      m c t (r .common) (r .joined) (d .some) e due in
-      message-right (clockMessageAt (onuAt s u) m) (common-clock-keeps w (s .history .now) (laneAt s u) (onuAt s u) m (r .common)) (arrives .0) (arrives .1)
-  thing-right (keyMessage m t) e due b =
-      let r = place in
-      let arrives =
-      key-arrives w (s .olt .shared) (s .history .now) (laneAt s u) (unitAt (s .olt) (laneAt s u .entry .place)) (onuAt s u) k (envelope noEnvelope)
-      m t (r .common) (r .joined) (d .some) e in
-      message-right (keyMessageAt (onuAt s u) m) (key-common w (s .history .now) (laneAt s u) (onuAt s u) m (r .common)) (arrives .0) (arrives .1)
-  thing-right (envelope x) e due b =
-      let r = place in
-      alive-right w s u v _ (λ l. laneArrivedDown (receiptDown s u x out) (laneTaken k l)) r refl refl
-      (receive-common w (s .history .now) (laneAt s u) _ (onuAt s u) (x .header) (x .octets) out refl (r .common))
-      (arrive-down w (s .olt .shared) (s .history .now) (laneAt s u) (unitAt (s .olt) (laneAt s u .entry .place)) (onuAt s u) (r .common) (r .joined)
-      k (envelope noEnvelope) x out (d .some) e due b)
+-- nothing of either changes
+pub own-unchanged : (s : State) (u : ℕ) (x : Subscriber) (f : Lane → Lane) → x ≡ subscriberAt s u → f (laneAt (alone s) u) ≡ laneAt (alone s) u
+    → atUnitAlone s u x f ≡ s
+unfolding atUnitAlone atUnit alone atOnu withLanes
+own-unchanged s u x f e g =
+    rw (e, g, set-getD (s .subscribers) u noSubscriber, set-getD (s .history .units .lanes) u (freshLane noSite))
+
+---- a send: on the LLID of a group that the unit joined it is refused
+
+group-send-refused : {P : Type 0} (x : Subscriber) (channel : ℕ) (m : Bool) → verdictNumber (groupSendVerdict x channel m) ≡ 0 → P
+unfolding groupSendVerdict
+group-send-refused x channel m e =
+    let a = refuse-accepted _ _ _ (number-accepted _ e) in
+    let b = refuse-accepted _ _ _ (a .1) in
+    refused-accepts _ (refuse-accepted _ _ _ (b .1) .1)
+
+noted-keeps : {A : Type 0} (q : Lane → A) (number : ℕ) (f : Lane → Lane) (l : Lane) → q (f l) ≡ q l → q (noted number f l) ≡ q l
+unfolding noted
+noted-keeps q number f l e = pick-holds (λ (x : Lane). q x ≡ q l) (accepted number) (f l) l (λ p. e) (λ p. refl)
+
+joined-send-up : (s : State) (u llid channel : ℕ) (p out : List ℕ) (k : ℕ) → findJoined (subscriberAt s u) llid ≡ At k
+    → step s (sendUp u llid channel p out) ≡ s
+unfolding step sendingUp subscriberSendOf byLlid noted
+joined-send-up s u llid channel p out k found =
+    rw found
+    (own-unchanged s u (subscriberAt s u) _ refl
+    (pick-false _ _ (ne-eqb _ 0 (λ e. group-send-refused (subscriberAt s u) channel (misfit p out) e))))
+
+unit-send-up-right : (w : Setting) (s : State) (u llid channel : ℕ) (p out : List ℕ) → Invariant w s
+    → Fits w s (sendUp u llid channel p out) → findJoined (subscriberAt s u) llid ≡ Nowhere → Invariant w (step s (sendUp u llid channel p out))
+unfolding step sendingUp withOnu laneSentUp laneWith
+unit-send-up-right w s u llid channel p out i fits none =
+    let x = subscriberAt s u in
+    let v = memberships-right w s i u in
+    let is = send-onu x v llid channel p out none in
+    let fit : onuSendOf (onuAt (alone s) u) llid channel p out .answer .number ≡ 0 → laneAt (alone s) u .entry .registered ≡ true =
+    λ z. fits (ap (λ (r : WithOutput SubscriberSent). r .answer .number) is ∙ rw (onu-alone s u) at z) in
+    own-right w s u _ _ i (rw is (with-onu-kept x _ (onu-send-kept (x .onu) llid channel p out)))
+    (noted-keeps (λ (l : Lane). l .site) _ _ (laneAt (alone s) u) refl) (noted-keeps (λ (l : Lane). l .entry) _ _ (laneAt (alone s) u) refl)
+    (noted-keeps (λ (l : Lane). l .keys .offers) _ _ (laneAt (alone s) u) refl)
+    (rw (send-up-alone s u v llid channel p out none) (step-right w (alone s) (events.sendUp u llid channel p out) (i .units) fit))
+
+pub send-up-right : (w : Setting) (s : State) (u llid channel : ℕ) (p out : List ℕ) → Invariant w s
+    → Fits w s (sendUp u llid channel p out) → Invariant w (step s (sendUp u llid channel p out))
+send-up-right w s u llid channel p out i fits = by-found (findJoined (subscriberAt s u) llid) refl where
+  x : Subscriber
+  x = subscriberAt s u
+
+  by-found : (f : Found) → findJoined x llid ≡ f → Invariant w (step s (sendUp u llid channel p out))
+  by-found Nowhere none = unit-send-up-right w s u llid channel p out i fits none
+  by-found (At k) found = rw (joined-send-up s u llid channel p out k found) i
+
+---- what arrives of its own
+
+-- a message, taken or refused
+message-right : (w : Setting) (s : State) (u k : ℕ) (r : SubscriberAcknowledged) → Invariant w s → UnitKept (subscriberAt s u) (r .subscriber)
+    → units.Invariant w (alone (messageArriving s u k r)) → Invariant w (messageArriving s u k r)
+unfolding messageArriving laneAnswered laneTaken laneWith
+message-right w s u k r i kept v =
+    let l = laneTaken k (laneAt (alone s) u) in
+    own-right w s u (r .subscriber) _ i kept (noted-keeps (λ (y : Lane). y .site) _ _ l refl) (noted-keeps (λ (y : Lane). y .entry) _ _ l refl)
+    (noted-keeps (λ (y : Lane). y .keys .offers) _ _ l refl) v
+
+module _ (w : Setting) (s : State) (u k : ℕ) (out : List ℕ) (i : Invariant w s) (d : DueDown (alone s) u k out) where
+  own-alive : Alive w (alone s) u
+  own-alive = towards-alive w (alone s) u (i .units) k (d .some)
+
+  -- none of its own LLIDs is one that it joined
+  own-nowhere : (llid : ℕ) → has (laneAt (alone s) u .site .identity) llid ≡ true → findJoined (subscriberAt s u) llid ≡ Nowhere
+  own-nowhere llid h =
+      own-not-joined (subscriberAt s u) llid (memberships-right w s i u)
+      (ap (λ (o : Onu). has (o .identity) llid) (sym (onu-alone s u)) ∙ own-alive .common .llids llid ∙ h)
+
+  thing-right : (x : Thing) → thingAt (alone s) u k ≡ x → units.Invariant w (run.thingArriving (alone s) u k out x) → Invariant w (thingArriving s u k out x)
+  unfolding thingArriving withOnu laneArrivedDown laneTaken laneWith envelopeHeader
+  thing-right (clockMessage m c t) e right =
+      let x = subscriberAt s u in
+      let v = memberships-right w s i u in
+      message-right w s u k (subscriberClockMessageOf x m) i
+      (rw (clock-message-onu x v m) (with-onu-kept x _ (clock-message-kept (x .onu) m)))
+      (rw (clock-alone s u v k out m c t) right)
+  thing-right (keyMessage m t) e right =
+      let x = subscriberAt s u in
+      let v = memberships-right w s i u in
+      let j = own-alive .joined in
+      let r = towards-taken (w .first) (laneAt (alone s) u) _ _ _ (laneAt (alone s) u .transit .towards) k _ (keyMessage m t) (d .some) e (j .towards) .0 in
+      let none = own-nowhere (m .llid) (r .named) in
+      message-right w s u k (subscriberKeyMessageOf x m) i
+      (rw (key-message-onu x v m none) (with-onu-kept x _ (key-message-kept (x .onu) m)))
+      (rw (key-alone s u v k out m t none) right)
+  thing-right (envelope y) e right =
+      let x = subscriberAt s u in
+      let v = memberships-right w s i u in
+      let j = own-alive .joined in
+      let r = towards-taken (w .first) (laneAt (alone s) u) _ _ _ (laneAt (alone s) u .transit .towards) k _ (envelope y) (d .some) e (j .towards) .0 in
+      let none = own-nowhere (y .header .llid)
+      (ap (λ (h : Header). has (laneAt (alone s) u .site .identity) (h .llid)) (j .passing .sent y (r .sent) .header) ∙ r .named) in
+      own-right w s u _ (λ l. laneArrivedDown (receiptDown s u y out) (laneTaken k l)) i
+      (rw (receive-onu x v (y .header) (y .octets) out none) (with-onu-kept x _ (onu-receive-kept (x .onu) (y .header) (y .octets) out)))
+      refl refl refl
+      (rw (envelope-alone s u v k out y none) right)
 
 pub arrive-down-right : (w : Setting) (s : State) (u k : ℕ) (out : List ℕ) → Invariant w s → Fits w s (arriveDown u k out)
     → Invariant w (step s (arriveDown u k out))
-unfolding step
-arrive-down-right w s u k out v d = thing-right w s u k out v d (thingAt s u k) refl (d .now) (d .buffer)
-
----- what is overheard
-
--- another unit's envelope, sent to it or by it
-pub overhear-right : (w : Setting) (s : State) (u other k : ℕ) (out : List ℕ) → Invariant w s → Fits w s (overhear u other k out)
-    → Invariant w (step s (overhear u other k out))
-unfolding step onuNotReceived
-overhear-right w s u other k out v h =
-    unit-after-right w s u _ (ap (λ (x : WithOutput OnuReceived). x .answer .onu) (overheard-refused w s v u other k out h)) v
-
----- any other receipt, which is refused
-
-pub stray-clock-right : (w : Setting) (s : State) (u : ℕ) (m : Stamps) → Invariant w s → Fits w s (strayClock u m)
-    → Invariant w (step s (strayClock u m))
-unfolding step
-stray-clock-right w s u m v n = unit-after-right w s u _ (clock-message-refused (onuAt s u) m n .0) v
-
-pub stray-key-right : (w : Setting) (s : State) (u : ℕ) (m : KeyMessage) → Invariant w s → Fits w s (strayKey u m)
-    → Invariant w (step s (strayKey u m))
-unfolding step
-stray-key-right w s u m v n = unit-after-right w s u _ (key-message-refused (onuAt s u) m n .0) v
-
-receive-refused : (o : Onu) (h : Header) (p out : List ℕ) → (onuReceiveOf o h p out .answer .number ≡ 0 → ⊥)
-    → onuReceiveOf o h p out .answer .onu ≡ o
-unfolding onuReceiveOf onuReceived
-receive-refused o h p out n = number-refused o noPassage _ (receiving-onu-untouched o _ h) n .end
-
-pub stray-down-right : (w : Setting) (s : State) (u : ℕ) (h : Header) (p out : List ℕ) → Invariant w s → Fits w s (strayDown u h p out)
-    → Invariant w (step s (strayDown u h p out))
-unfolding step
-stray-down-right w s u h p out v n = unit-after-right w s u _ (receive-refused (onuAt s u) h p out n) v
+unfolding step run.step
+arrive-down-right w s u k out i d =
+    thing-right w s u k out i d (thingAt (alone s) u k) refl (step-right w (alone s) (events.arriveDown u k out) (i .units) d)

@@ -1,117 +1,65 @@
--- Who has which place: the lane of the unit in a place, found by any of its LLIDs, and what is replaced of one lane alone. Assumes nothing.
-use mathlib.Core.Path.{_≡_, refl, sym, _∙_, ap, subst}
-use mathlib.Core.Bool.{Bool, true, false}
-use mathlib.Core.List.{List, [], _∷_}
-use Prim.Native.Nat.{ℕ, zero, suc, _<_}
+-- Laws of lists by their places: what is replaced at one place, and a map that leaves each place. Assumes nothing.
+use mathlib.Core.Path.{_≡_, refl, sym, _∙_, ap, ap₂}
+use mathlib.Core.List.{List, [], _∷_, map}
+use Prim.Native.Nat.{ℕ, zero, suc, _<_, _≤_}
 use native.Mathlib.Omega.{arith}
-use lib.Dec.{eqb}
-use lib.ListN.{length, getD, set}
-use lib.Seq.{getD-set-same, getD-set-other}
-use borrow.Author.Tests.{eqb-true, eqb-false}
-use Rattle.octets.specs.Choice.{both}
-use Rattle.octets.proofs.Choice.{both-left, both-right}
-use Rattle.ends.specs.Identities.{has}
-use Rattle.ends.specs.Table.{find, unitAt}
-use Rattle.ends.specs.declared.Found.the-variants.{At}
-use Rattle.ends.specs.declared.Olt.{Olt}
-use Rattle.ends.specs.declared.Onu.{Onu}
-use Rattle.ends.proofs.Table.{find-at, find-own}
-use Rattle.ends.proofs.Validity.{olt-in-range}
-use Rattle.line.specs.Setting.{Setting}
-use Rattle.line.specs.History.{Lane}
-use Rattle.line.specs.Run.{State, laneAt, onuAt, noSite, freshLane}
-use Rattle.line.proofs.Invariant.{flagOf, Idle, Joined, Standing, Invariant}
+use lib.ListN.{length, getD, set, List·getD-map}
+use lib.Seq.{map-set-same}
 
----- lanes
+pub map-set : {A B : Type 0} (f : A → B) (l : List A) (i : ℕ) (a : A) → map f (set l i a) ≡ set (map f l) i (f a)
+map-set f [] i a = refl
+map-set f (x ∷ l) zero a = refl
+map-set {A} {B} f (x ∷ l) (suc i) a = ap (λ (m : List B). f x ∷ m) (map-set f l i a)
 
-abbrev pub laneOf : List Lane → ℕ → Lane
-laneOf ls u = getD ls u (freshLane noSite)
+-- two maps that agree at each place
+pub map-each : {A B : Type 0} (f g : A → B) (l : List A) (d : A) → ((i : ℕ) → i < length l → f (getD l i d) ≡ g (getD l i d)) → map f l ≡ map g l
+map-each f g [] d h = refl
+map-each {A} {B} f g (x ∷ l) d h =
+    ap₂ (λ (y : B) (m : List B). y ∷ m) (h 0 (omega arith)) (map-each f g l d (λ i k. h (suc i) (omega (arith, k))))
 
--- no key was offered twice
-abbrev pub KeysApart : List Lane → Type 0
-KeysApart ls =
-    (u v m n : ℕ) → m < length (laneOf ls u .keys .offers) → n < length (laneOf ls v .keys .offers)
-    → getD (laneOf ls u .keys .offers) m [] ≡ getD (laneOf ls v .keys .offers) n [] → (u ≡ v) × (m ≡ n)
+pub map-itself : {A : Type 0} (l : List A) → map (λ (x : A). x) l ≡ l
+map-itself [] = refl
+map-itself {A} (x ∷ l) = ap (λ (m : List A). x ∷ m) (map-itself l)
 
-pub keys-stay : (ls ms : List Lane) → ((u : ℕ) → laneOf ms u .keys .offers ≡ laneOf ls u .keys .offers) → KeysApart ls → KeysApart ms
-keys-stay ls ms same k u v m n g h e = k u v m n (rw (same u) at g) (rw (same v) at h) (rw (same u, same v) at e)
+-- a map that leaves each place
+pub map-stays : {A : Type 0} (f : A → A) (l : List A) (d : A) → ((i : ℕ) → i < length l → f (getD l i d) ≡ getD l i d) → map f l ≡ l
+map-stays {A} f l d h = map-each f (λ (x : A). x) l d h ∙ map-itself l
 
--- a lane that has something of which a fresh one has none is in the list
-known-by : (g : Lane → ℕ) (ls : List Lane) (u k : ℕ) → g (freshLane noSite) ≡ 0 → k < g (laneOf ls u) → u < length ls
-known-by g [] u k e h = absurd (omega (arith, e, h))
-known-by g (l ∷ ls) zero k e h = omega arith
-known-by g (l ∷ ls) (suc u) k e h = omega (arith, known-by g ls u k e h)
+-- two ways round
+pub map-square : {A B C D : Type 0} (f : B → D) (g : A → B) (h : C → D) (k : A → C) (l : List A) (d : A)
+    → ((i : ℕ) → i < length l → f (g (getD l i d)) ≡ h (k (getD l i d))) → map f (map g l) ≡ map h (map k l)
+map-square f g h k [] d e = refl
+map-square {A} {B} {C} {D} f g h k (x ∷ l) d e =
+    ap₂ (λ (y : D) (m : List D). y ∷ m) (e 0 (omega arith)) (map-square f g h k l d (λ i p. e (suc i) (omega (arith, p))))
 
-registered-known : (ls : List Lane) (u : ℕ) → laneOf ls u .entry .registered ≡ true → u < length ls
-unfolding freshLane
-registered-known ls u e = known-by (λ (l : Lane). flagOf (l .entry .registered)) ls u 0 refl (omega (arith, ap flagOf e))
+-- one that leaves every place but i
+pub map-one : {A : Type 0} (f : A → A) (l : List A) (i : ℕ) (d : A) → i < length l
+    → ((k : ℕ) → k < length l → (k ≡ i → ⊥) → f (getD l k d) ≡ getD l k d) → map f l ≡ set l i (f (getD l i d))
+map-one f [] i d h n = refl
+map-one {A} f (x ∷ l) zero d h n =
+    ap (λ (m : List A). f x ∷ m) (map-stays f l d (λ k p. n (suc k) (omega (arith, p)) (λ e. omega arith)))
+map-one {A} f (x ∷ l) (suc i) d h n =
+    ap₂ (λ (y : A) (m : List A). y ∷ m) (n 0 (omega arith) (λ e. omega arith))
+    (map-one f l i d (omega (arith, h)) (λ k p e. n (suc k) (omega (arith, p)) (λ q. e (omega (arith, q)))))
 
----- who has which place
+-- what an element put in place i has of the old one, every place has
+pub set-field : {A B : Type 0} (q : A → B) (l : List A) (i : ℕ) (y d : A) → q y ≡ q (getD l i d) → (k : ℕ) → q (getD (set l i y) k d) ≡ q (getD l k d)
+set-field {A} {B} q l i y d e k =
+    sym (List·getD-map q (set l i y) k d) ∙ ap (λ (m : List B). getD m k (q d)) (map-set-same q l i y d e) ∙ List·getD-map q l k d
 
--- lane u is that of the unit in place p
-pub record Held (s : State) (p u : ℕ) : Type 0 where
-  pub known : u < length (s .history .lanes)
-  pub registered : laneAt s u .entry .registered ≡ true
-  pub place : laneAt s u .entry .place ≡ p
+-- what holds of every place, and of the element put in place i, holds of every place then
+pub set-holds : {A : Type 0} (P : ℕ → A → Type 0) (l : List A) (i : ℕ) (y d : A) → ((k : ℕ) → P k (getD l k d)) → P i y
+    → (k : ℕ) → P k (getD (set l i y) k d)
+set-holds P [] i y d p q k = p k
+set-holds P (x ∷ l) zero y d p q zero = q
+set-holds P (x ∷ l) zero y d p q (suc k) = p (suc k)
+set-holds P (x ∷ l) (suc i) y d p q zero = p 0
+set-holds {A} P (x ∷ l) (suc i) y d p q (suc k) = set-holds (λ (n : ℕ) (z : A). P (suc n) z) l i y d (λ n. p (suc n)) q k
 
-pub held-once : (w : Setting) (s : State) (p u v : ℕ) → Invariant w s → Held s p u → Held s p v → u ≡ v
-held-once w s p u v i a b = i .apart u v (a .known) (b .known) (a .registered) (b .registered) (a .place ∙ sym (b .place))
-
--- a registered lane is joined with its place
-pub joined-at : (w : Setting) (s : State) (p u : ℕ) → Invariant w s → Held s p u
-    → (p < s .olt .count) × Joined w (s .olt .shared) (s .history .now) (laneAt s u) (unitAt (s .olt) p) (onuAt s u)
-joined-at w s p u i h =
-    let stands : Standing true w (s .olt) (s .history .now) (laneAt s u) (onuAt s u) =
-    subst (λ (b : Bool). Standing b w (s .olt) (s .history .now) (laneAt s u) (onuAt s u)) (h .registered) (i .lane u (h .known) .standing) in
-    rw (h .place) at stands
-
--- it is found by any of its LLIDs
-pub held-found : (w : Setting) (s : State) (p u llid : ℕ) → Invariant w s → Held s p u → has (laneAt s u .site .identity) llid ≡ true
-    → find (s .olt) llid ≡ At p
-held-found w s p u llid i h e =
-    let j = joined-at w s p u i h in
-    let r = olt-in-range (s .olt) (i .valid) in
-    find-own (s .olt) llid p (r .distinct)
-    (record { used = j .0; place = omega (arith, j .0, r .count, i .places); has = j .1 .llids llid ∙ e })
-
--- and has the LLID that finds it
-pub found-has : (w : Setting) (s : State) (p u llid : ℕ) → Invariant w s → Held s p u → find (s .olt) llid ≡ At p → has (laneAt s u .site .identity) llid ≡ true
-found-has w s p u llid i h e = sym (joined-at w s p u i h .1 .llids llid) ∙ find-at (s .olt) llid p e .has
-
-not-idle : (b : Bool) (w : Setting) (t : Olt) (now : ℕ) (l : Lane) (o : Onu) → (Idle now l o → ⊥) → Standing b w t now l o → b ≡ true
-not-idle true w t now l o n s = refl
-not-idle false w t now l o n s = absurd (n s)
-
--- a lane that has something of which an idle one has none is registered
-pub busy-held : (w : Setting) (s : State) (g : Lane → ℕ) (u k : ℕ) → Invariant w s → g (freshLane noSite) ≡ 0
-    → ((o : Onu) → Idle (s .history .now) (laneAt s u) o → g (laneAt s u) ≡ 0) → k < g (laneAt s u) → Held s (laneAt s u .entry .place) u
-busy-held w s g u k i e n h =
-    let known = known-by g (s .history .lanes) u k e h in
-    record {
-      known = known;
-      registered =
-          not-idle (laneAt s u .entry .registered) w (s .olt) (s .history .now) (laneAt s u) (onuAt s u) (λ d. omega (arith, h, n (onuAt s u) d))
-          (i .lane u known .standing);
-      place = refl;
-    }
-
-pub at-once : (p q : ℕ) → At p ≡ At q → p ≡ q
-at-once p q e = cc
-
--- a lane that is named is that of the place found
-pub named-held : (w : Setting) (s : State) (p u llid : ℕ) → Invariant w s → find (s .olt) llid ≡ At p
-    → both (laneAt s u .entry .registered) (has (laneAt s u .site .identity) llid) ≡ true → Held s p u
-named-held w s p u llid i e h =
-    let r = both-left _ _ h in
-    let known = registered-known (s .history .lanes) u r in
-    let found = held-found w s (laneAt s u .entry .place) u llid i (record { known = known; registered = r; place = refl }) (both-right _ _ h) in
-    record { known = known; registered = r; place = at-once _ _ (sym found ∙ e) }
-
----- one lane replaced
-
-pub set-keeps : {A : Type 0} (g : Lane → A) (ls : List Lane) (u : ℕ) (l : Lane) → u < length ls → g l ≡ g (laneOf ls u) → (v : ℕ)
-    → g (laneOf (set ls u l) v) ≡ g (laneOf ls v)
-set-keeps g ls u l h e v = by-test (eqb v u) refl where
-  by-test : (t : Bool) → eqb v u ≡ t → g (laneOf (set ls u l) v) ≡ g (laneOf ls v)
-  by-test true f = let same = eqb-true v u f in rw same (ap g (getD-set-same ls u l (freshLane noSite) h) ∙ e)
-  by-test false f = ap g (getD-set-other ls u v l (freshLane noSite) (eqb-false v u f))
+-- what holds of each mapped element, and of what stands past the end
+pub map-holds : {A B : Type 0} (P : ℕ → B → Type 0) (f : A → B) (l : List A) (d : A) (e : B) → ((k : ℕ) → k < length l → P k (f (getD l k d)))
+    → ((k : ℕ) → length l ≤ k → P k e) → (k : ℕ) → P k (getD (map f l) k e)
+map-holds P f [] d e p q k = q k (omega arith)
+map-holds P f (x ∷ l) d e p q zero = p 0 (omega arith)
+map-holds {A} {B} P f (x ∷ l) d e p q (suc k) =
+    map-holds (λ (n : ℕ) (y : B). P (suc n) y) f l d e (λ n h. p (suc n) (omega (arith, h))) (λ n h. q (suc n) (omega (arith, h))) k

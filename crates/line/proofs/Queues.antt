@@ -1,153 +1,91 @@
--- Laws of what is under way: a queue holds under wider bounds and for a lane that knows more, with one thing more at its end, and
--- from any of its things on. Assumes nothing.
-use mathlib.Core.Path.{_≡_, refl, _∙_, subst}
+-- Laws of what is under way of a group: a queue holds under wider bounds and for a line that knows more, with one thing more at its end,
+-- and from any of its things on. Assumes nothing.
+use mathlib.Core.Path.{_≡_, refl, sym, _∙_, subst}
 use mathlib.Core.List.{List, [], _∷_, _++_, List·Memᴰ}
-use Prim.Native.Nat.{ℕ, zero, suc, _<_, _≤_}
-use native.Mathlib.Nat.{le-of-suc-le-suc, not-suc-le-zero}
+use Prim.Native.Nat.{ℕ, zero, suc, _+_, _-_, _<_, _≤_}
+use native.Mathlib.Nat.{not-suc-le-zero, le-of-suc-le-suc}
 use native.Mathlib.Omega.{arith}
 use lib.ListN.{length, getD, drop}
 use Rattle.protocol.specs.declared.KeyMessage.{KeyMessage}
-use Rattle.clock.specs.declared.Stamps.{Stamps}
-use Rattle.line.specs.Setting.{Site}
-use Rattle.line.specs.History.{Way, downward, upward, Envelope, Thing, clockMessage, keyMessage, envelope, Lane, keyOf}
-use Rattle.line.proofs.Invariant.{ClockRight, KeyRight, Under, Towards, From}
+use Rattle.unicast.specs.History.{Envelope, Thing, clockMessage, keyMessage, envelope, keyOf}
+use Rattle.unicast.proofs.Queues.{Knows}
+use Rattle.line.specs.History.{GroupLane}
+use Rattle.line.proofs.Invariant.{laneOf, KeyUnder, EnvelopeUnder, Under}
 
--- a lane of the same site that knows the sends and the keys up to top of another
-pub record Knows (l l' : Lane) (top : ℕ) : Type 0 where
-  pub site : l .site ≡ l' .site
-  pub sent : (e : Envelope) → List·Memᴰ e (l .past .sent) → List·Memᴰ e (l' .past .sent)
-  pub keys : (n : ℕ) → 1 ≤ n → n ≤ top → keyOf (l .keys) n ≡ keyOf (l' .keys) n
+-- a line of the same LLID that knows the sends and the keys up to top of another
+pub record Grown (g g' : GroupLane) (top : ℕ) : Type 0 where
+  pub llid : g' .llid ≡ g .llid
+  pub sent : (e : Envelope) → List·Memᴰ e (g .sent) → List·Memᴰ e (g' .sent)
+  pub keys : (n : ℕ) → 1 ≤ n → n ≤ top → keyOf (g .keys) n ≡ keyOf (g' .keys) n
 
----- one thing
+pub knows : (g g' : GroupLane) (top : ℕ) → Grown g g' top → Knows (laneOf g) (laneOf g') top
+knows g g' top k = record { site = refl; sent = k .sent; keys = k .keys }
 
-under-carried : (l l' : Lane) (top lo lo' hi hi' : ℕ) (way : Way) (e : Envelope) → Knows l l' top → lo' ≤ lo → hi ≤ hi'
-    → Under (l .site .identity) (l .past .sent) way lo hi e → Under (l' .site .identity) (l' .past .sent) way lo' hi' e
-under-carried l l' top lo lo' hi hi' way e k h g u =
-    record {
-      above = omega (arith, u .above);
-      most = omega (arith, u .most);
-      sent = k .sent e (u .sent);
-      thatWay = u .thatWay;
-      named = rw (k .site) at (u .named);
-    }
+pub under-carried : (g g' : GroupLane) (lo lo' hi hi' top top' : ℕ) (xs : List Thing) → Grown g g' top → lo' ≤ lo → hi ≤ hi' → top ≤ top'
+    → Under g lo hi top xs → Under g' lo' hi' top' xs
+under-carried g g' lo lo' hi hi' top top' [] k a b c q = tt
+under-carried g g' lo lo' hi hi' top top' (clockMessage m e t ∷ xs) k a b c q = absurd q
+under-carried g g' lo lo' hi hi' top top' (keyMessage m t ∷ xs) k a b c q =
+    let r = q .0 in (
+      record {
+        above = omega (arith, r .above);
+        level = omega (arith, r .level);
+        most = omega (arith, r .most);
+        key = r .key ∙ k .keys (m .number) (omega (arith, r .above)) (r .most);
+        llid = r .llid ∙ sym (k .llid);
+      },
+      under-carried g g' (m .number - 1) (m .number - 1) hi hi' top top' xs k (omega arith) b c (q .1),
+    )
+under-carried g g' lo lo' hi hi' top top' (envelope e ∷ xs) k a b c q =
+    let r = q .0 in (
+      record { above = omega (arith, r .above); most = omega (arith, r .most); sent = k .sent e (r .sent) },
+      under-carried g g' (e .number) (e .number) hi hi' top top' xs k (omega arith) b c (q .1),
+    )
 
-key-carried : (l l' : Lane) (lo lo' top top' : ℕ) (m : KeyMessage) → Knows l l' top → lo' ≤ lo → top ≤ top'
-    → KeyRight (l .keys) (l .site .identity) lo top m → KeyRight (l' .keys) (l' .site .identity) lo' top' m
-key-carried l l' lo lo' top top' m k h g r =
-    record {
-      above = omega (arith, r .above);
-      most = omega (arith, r .most);
-      key = r .key ∙ k .keys (m .number) (omega (arith, r .above)) (r .most);
-      named = rw (k .site) at (r .named);
-    }
+pub itself : (g : GroupLane) (top : ℕ) → Grown g g top
+itself g top = record { llid = refl; sent = λ e m. m; keys = λ n p q. refl }
 
----- towards a unit
+pub under-lower : (g : GroupLane) (lo lo' hi top : ℕ) (xs : List Thing) → lo' ≤ lo → Under g lo hi top xs → Under g lo' hi top xs
+under-lower g lo lo' hi top xs a q =
+    under-carried g g lo lo' hi hi top top xs (itself g top) a (omega arith) (omega arith) q
 
--- under wider bounds, for a lane that knows more
-pub towards-carried : (first : ℕ) (l l' : Lane) (lo lo' hi hi' top top' : ℕ) (xs : List Thing) → Knows l l' top
-    → lo' ≤ lo → hi ≤ hi' → top ≤ top' → Towards first l lo hi top xs → Towards first l' lo' hi' top' xs
-towards-carried first l l' lo lo' hi hi' top top' [] k h g f q = tt
-towards-carried first l l' lo lo' hi hi' top top' (clockMessage m c t ∷ xs) k h g f q =
-    (subst (λ (s : Site). ClockRight first s m c t) (k .site) (q .0), towards-carried first l l' lo lo' hi hi' top top' xs k h g f (q .1))
-towards-carried first l l' lo lo' hi hi' top top' (keyMessage m t ∷ xs) k h g f q =
-    (key-carried l l' lo lo' top top' m k h f (q .0), towards-carried first l l' lo lo' hi hi' top top' xs k h g f (q .1))
-towards-carried first l l' lo lo' hi hi' top top' (envelope e ∷ xs) k h g f q = (
-  under-carried l l' top lo lo' hi hi' downward e k h g (q .0),
-  towards-carried first l l' (e .number) (e .number) hi hi' top top' xs k (omega arith) g f (q .1),
-)
+-- more at the end: right above every level that the queue can have
+under-append : (g : GroupLane) (lo hi top : ℕ) (xs ys : List Thing) → lo ≤ hi → Under g lo hi top xs
+    → ((low : ℕ) → low ≤ hi → Under g low hi top ys) → Under g lo hi top (xs ++ ys)
+under-append g lo hi top [] ys h q r = r lo h
+under-append g lo hi top (clockMessage m e t ∷ xs) ys h q r = absurd q
+under-append g lo hi top (keyMessage m t ∷ xs) ys h q r =
+    (q .0, under-append g (m .number - 1) hi top xs ys (omega (arith, q .0 .level)) (q .1) r)
+under-append g lo hi top (envelope e ∷ xs) ys h q r = (q .0, under-append g (e .number) hi top xs ys (q .0 .most) (q .1) r)
 
-pub towards-weakened : (first : ℕ) (l : Lane) (lo lo' hi hi' top top' : ℕ) (xs : List Thing)
-    → lo' ≤ lo → hi ≤ hi' → top ≤ top' → Towards first l lo hi top xs → Towards first l lo' hi' top' xs
-towards-weakened first l lo lo' hi hi' top top' xs h g f q =
-    towards-carried first l l lo lo' hi hi' top top' xs (record { site = refl; sent = λ e m. m; keys = λ n p r. refl }) h g f q
-
-pub towards-moved : (first : ℕ) (l l' : Lane) (lo hi top : ℕ) (xs : List Thing) → Knows l l' top
-    → Towards first l lo hi top xs → Towards first l' lo hi top xs
-towards-moved first l l' lo hi top xs k q =
-    towards-carried first l l' lo lo hi hi top top xs k (omega arith) (omega arith) (omega arith) q
-
--- more at the end: right above every number that the queue can have
-towards-append : (first : ℕ) (l : Lane) (lo hi top : ℕ) (xs ys : List Thing) → lo ≤ hi → Towards first l lo hi top xs
-    → ((low : ℕ) → low ≤ hi → Towards first l low hi top ys) → Towards first l lo hi top (xs ++ ys)
-towards-append first l lo hi top [] ys h q r = r lo h
-towards-append first l lo hi top (clockMessage m c t ∷ xs) ys h q r = (q .0, towards-append first l lo hi top xs ys h (q .1) r)
-towards-append first l lo hi top (keyMessage m t ∷ xs) ys h q r = (q .0, towards-append first l lo hi top xs ys h (q .1) r)
-towards-append first l lo hi top (envelope e ∷ xs) ys h q r =
-    (q .0, towards-append first l (e .number) hi top xs ys (q .0 .most) (q .1) r)
-
-pub towards-clock : (first : ℕ) (l : Lane) (lo hi top : ℕ) (xs : List Thing) (m : Stamps) (c t : ℕ) → lo ≤ hi
-    → ClockRight first (l .site) m c t → Towards first l lo hi top xs → Towards first l lo hi top (xs ++ (clockMessage m c t ∷ []))
-towards-clock first l lo hi top xs m c t h r q = towards-append first l lo hi top xs (clockMessage m c t ∷ []) h q (λ low g. (r, tt))
-
--- a key above hi
-pub towards-key : (first : ℕ) (l : Lane) (lo hi top : ℕ) (xs : List Thing) (m : KeyMessage) (t : ℕ) → lo ≤ hi
-    → KeyRight (l .keys) (l .site .identity) hi top m → Towards first l lo hi top xs → Towards first l lo hi top (xs ++ (keyMessage m t ∷ []))
-towards-key first l lo hi top xs m t h r q =
-    towards-append first l lo hi top xs (keyMessage m t ∷ []) h q
-    (λ low g. (record { above = omega (arith, r .above); most = r .most; key = r .key; named = r .named }, tt))
+-- key hi + 1
+pub under-key : (g : GroupLane) (lo hi top : ℕ) (xs : List Thing) (m : KeyMessage) (t : ℕ) → lo ≤ hi → KeyUnder g hi hi top m → Under g lo hi top xs
+    → Under g lo hi top (xs ++ (keyMessage m t ∷ []))
+under-key g lo hi top xs m t h r q =
+    under-append g lo hi top xs (keyMessage m t ∷ []) h q
+    (λ low k. (record { above = omega (arith, r .above); level = r .level; most = r .most; key = r .key; llid = r .llid }, tt))
 
 -- an envelope numbered hi
-pub towards-envelope : (first : ℕ) (l : Lane) (lo hi top : ℕ) (xs : List Thing) (e : Envelope) → lo ≤ hi
-    → Under (l .site .identity) (l .past .sent) downward hi hi e → Towards first l lo hi top xs
-    → Towards first l lo hi top (xs ++ (envelope e ∷ []))
-towards-envelope first l lo hi top xs e h u q =
-    towards-append first l lo hi top xs (envelope e ∷ []) h q
-    (λ low g. (record { above = omega (arith, u .above); most = u .most; sent = u .sent; thatWay = u .thatWay; named = u .named }, tt))
+pub under-envelope : (g : GroupLane) (lo hi top : ℕ) (xs : List Thing) (e : Envelope) → lo ≤ hi → EnvelopeUnder g hi hi e → Under g lo hi top xs
+    → Under g lo hi top (xs ++ (envelope e ∷ []))
+under-envelope g lo hi top xs e h r q =
+    under-append g lo hi top xs (envelope e ∷ []) h q
+    (λ low k. (record { above = omega (arith, r .above); most = r .most; sent = r .sent }, tt))
 
--- the kth and what follows it: at a message it is right, and the rest; at an envelope it lies within the bounds, and the rest
--- lies above it
-pub towards-taken : (first : ℕ) (l : Lane) (lo hi top : ℕ) (xs : List Thing) (k : ℕ) (d x : Thing) → k < length xs → getD xs k d ≡ x
-    → Towards first l lo hi top xs → Towards first l lo hi top (x ∷ drop (suc k) xs)
-towards-taken first l lo hi top [] k d x h e q = absurd (not-suc-le-zero h)
-towards-taken first l lo hi top (y ∷ xs) zero d x h e q = subst (λ (z : Thing). Towards first l lo hi top (z ∷ xs)) e q
-towards-taken first l lo hi top (clockMessage m c t ∷ xs) (suc k) d x h e q =
-    towards-taken first l lo hi top xs k d x (le-of-suc-le-suc h) e (q .1)
-towards-taken first l lo hi top (keyMessage m t ∷ xs) (suc k) d x h e q =
-    towards-taken first l lo hi top xs k d x (le-of-suc-le-suc h) e (q .1)
-towards-taken first l lo hi top (envelope y ∷ xs) (suc k) d x h e q =
-    towards-weakened first l (y .number) lo hi hi top top (x ∷ drop (suc k) xs) (q .0 .above) (omega arith) (omega arith)
-    (towards-taken first l (y .number) hi top xs k d x (le-of-suc-le-suc h) e (q .1))
+-- the kth and what follows it
+pub under-taken : (g : GroupLane) (lo hi top : ℕ) (xs : List Thing) (k : ℕ) (d x : Thing) → k < length xs → getD xs k d ≡ x → Under g lo hi top xs
+    → Under g lo hi top (x ∷ drop (suc k) xs)
+under-taken g lo hi top [] k d x h e q = absurd (not-suc-le-zero h)
+under-taken g lo hi top (y ∷ xs) zero d x h e q = subst (λ (z : Thing). Under g lo hi top (z ∷ xs)) e q
+under-taken g lo hi top (clockMessage m c t ∷ xs) (suc k) d x h e q = absurd q
+under-taken g lo hi top (keyMessage m t ∷ xs) (suc k) d x h e q =
+    under-lower g (m .number - 1) lo hi top (x ∷ drop (suc k) xs) (omega (arith, q .0 .above))
+    (under-taken g (m .number - 1) hi top xs k d x (le-of-suc-le-suc h) e (q .1))
+under-taken g lo hi top (envelope y ∷ xs) (suc k) d x h e q =
+    under-lower g (y .number) lo hi top (x ∷ drop (suc k) xs) (q .0 .above) (under-taken g (y .number) hi top xs k d x (le-of-suc-le-suc h) e (q .1))
 
--- the first k lost
-pub towards-dropped : (first : ℕ) (l : Lane) (lo hi top : ℕ) (xs : List Thing) (k : ℕ) → Towards first l lo hi top xs
-    → Towards first l lo hi top (drop k xs)
-towards-dropped first l lo hi top [] zero q = tt
-towards-dropped first l lo hi top [] (suc k) q = tt
-towards-dropped first l lo hi top (x ∷ xs) zero q = q
-towards-dropped first l lo hi top (clockMessage m c t ∷ xs) (suc k) q = towards-dropped first l lo hi top xs k (q .1)
-towards-dropped first l lo hi top (keyMessage m t ∷ xs) (suc k) q = towards-dropped first l lo hi top xs k (q .1)
-towards-dropped first l lo hi top (envelope e ∷ xs) (suc k) q =
-    towards-weakened first l (e .number) lo hi hi top top (drop k xs) (q .0 .above) (omega arith) (omega arith)
-    (towards-dropped first l (e .number) hi top xs k (q .1))
-
----- from a unit
-
-pub from-carried : (l l' : Lane) (top lo lo' hi hi' : ℕ) (es : List Envelope) → Knows l l' top → lo' ≤ lo → hi ≤ hi'
-    → From l lo hi es → From l' lo' hi' es
-from-carried l l' top lo lo' hi hi' [] k h g q = tt
-from-carried l l' top lo lo' hi hi' (e ∷ es) k h g q = (
-  under-carried l l' top lo lo' hi hi' upward e k h g (q .0),
-  from-carried l l' top (e .number) (e .number) hi hi' es k (omega arith) g (q .1),
-)
-
-pub from-weakened : (l : Lane) (lo lo' hi hi' : ℕ) (es : List Envelope) → lo' ≤ lo → hi ≤ hi' → From l lo hi es → From l lo' hi' es
-from-weakened l lo lo' hi hi' es h g q =
-    from-carried l l 0 lo lo' hi hi' es (record { site = refl; sent = λ e m. m; keys = λ n p r. refl }) h g q
-
-pub from-moved : (l l' : Lane) (top lo hi : ℕ) (es : List Envelope) → Knows l l' top → From l lo hi es → From l' lo hi es
-from-moved l l' top lo hi es k q = from-carried l l' top lo lo hi hi es k (omega arith) (omega arith) q
-
--- an envelope numbered hi
-pub from-envelope : (l : Lane) (lo hi : ℕ) (es : List Envelope) (e : Envelope) → lo ≤ hi
-    → Under (l .site .identity) (l .past .sent) upward hi hi e → From l lo hi es → From l lo hi (es ++ (e ∷ []))
-from-envelope l lo hi [] e h u q =
-    (record { above = omega (arith, u .above); most = u .most; sent = u .sent; thatWay = u .thatWay; named = u .named }, tt)
-from-envelope l lo hi (x ∷ es) e h u q = (q .0, from-envelope l (x .number) hi es e (q .0 .most) u (q .1))
-
-pub from-taken : (l : Lane) (lo hi : ℕ) (es : List Envelope) (k : ℕ) (d e : Envelope) → k < length es → getD es k d ≡ e
-    → From l lo hi es → From l lo hi (e ∷ drop (suc k) es)
-from-taken l lo hi [] k d e h p q = absurd (not-suc-le-zero h)
-from-taken l lo hi (x ∷ es) zero d e h p q = subst (λ (z : Envelope). From l lo hi (z ∷ es)) p q
-from-taken l lo hi (x ∷ es) (suc k) d e h p q =
-    from-weakened l (x .number) lo hi hi (e ∷ drop (suc k) es) (q .0 .above) (omega arith)
-    (from-taken l (x .number) hi es k d e (le-of-suc-le-suc h) p (q .1))
+-- without its first
+pub under-tail : (g : GroupLane) (lo hi top : ℕ) (x : Thing) (xs : List Thing) → Under g lo hi top (x ∷ xs) → Under g lo hi top xs
+under-tail g lo hi top (clockMessage m c t) xs q = absurd q
+under-tail g lo hi top (keyMessage m t) xs q = under-lower g (m .number - 1) lo hi top xs (omega (arith, q .0 .above)) (q .1)
+under-tail g lo hi top (envelope e) xs q = under-lower g (e .number) lo hi top xs (q .0 .above) (q .1)

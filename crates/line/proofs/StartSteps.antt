@@ -1,149 +1,103 @@
--- From fresh ends the invariant holds: nothing has happened. Assumes nothing.
+-- From fresh ends the invariant holds: there are no groups. Assumes nothing.
 use mathlib.Core.Path.{_≡_, refl, sym, _∙_, ap}
-use mathlib.Core.Bool.{true, false}
+use mathlib.Core.Bool.{true}
 use mathlib.Core.List.{List, [], _∷_, map}
-use Prim.Native.Nat.{ℕ, zero, suc, _<_}
-use native.Mathlib.Nat.{le-of-suc-le-suc, not-suc-le-zero}
+use Prim.Native.Nat.{ℕ, zero, suc, _+_, _≤_}
 use native.Mathlib.Omega.{arith}
-use lib.ListN.{length, getD, length-map}
-use borrow.Author.Tests.{ltb-true, not-false}
-use Rattle.octets.proofs.Choice.{both-left, both-right, true-false}
-use Rattle.refusal.specs.declared.Verdict.the-variants.{Accepted}
-use Rattle.clock.specs.Ticks.{clockTurn, localTurn}
-use Rattle.protocol.specs.Replies.{Silence, silent, Reply}
-use Rattle.ends.specs.Identities.{kept, noIdentity, validIdentity}
-use Rattle.ends.specs.Records.{newOlt, newOnu}
-use Rattle.protocol.specs.OltCalls.{oltAnswer, freshOltOf}
-use Rattle.protocol.specs.OnuCalls.{onuAnswer, freshOnuVerdict, freshOnuOf}
-use Rattle.ends.specs.declared.Identity.{Identity}
+use lib.ListN.{length, getD, replicate, length-map, length-replicate}
+use borrow.Author.Tests.{le-leb}
+use Rattle.octets.specs.Choice.{both}
+use Rattle.octets.specs.Lists.{all}
+use Rattle.ends.specs.Identities.{distinct, meets}
+use Rattle.ends.specs.Limits.{maxUnits}
 use Rattle.ends.specs.declared.Olt.{Olt}
 use Rattle.ends.specs.declared.Onu.{Onu}
-use Rattle.ends.proofs.Identities.{identity-valid, kept-has}
-use Rattle.refusal.proofs.Order.{refuse-accepted}
-use Rattle.refusal.proofs.Numbers.{number-accepted}
-use Rattle.protocol.proofs.Replies.{reply-verdict, reply-accepted}
-use Rattle.protocol.proofs.OltCalls.{fresh-valid, fresh-places}
-use Rattle.protocol.proofs.OnuCalls.{new-onu-valid}
-use Rattle.line.specs.Setting.{Site, Setting}
-use Rattle.line.specs.History.{Lane}
-use Rattle.line.specs.Run.{laneAt, noSite, freshLane, freshOnu, start}
-use Rattle.line.specs.Premises.{Fresh}
-use Rattle.line.proofs.Invariant.{Idle, Common, LaneRight, AtTick, Invariant}
+use Rattle.ends.proofs.Validity.{olt-in-range}
+use Rattle.protocol.proofs.OltCalls.{fresh-valid}
+use Rattle.groups.specs.Head.{noGroups, groupLlids, apartLlids, validGroups}
+use Rattle.groups.specs.Members.{placeFrom}
+use Rattle.groups.specs.Subscriber as subscribers
+use Rattle.groups.specs.Subscriber.{freshJoined, joinedLlids, findJoined, noMemberships}
+use Rattle.groups.specs.declared.Subscriber.{Subscriber}
+use Rattle.groups.proofs.Subscribers.{alone-valid}
+use Rattle.multicast.specs.Naming.{byLlid}
+use Rattle.multicast.specs.HeadCalls.{freshHeadOf}
+use Rattle.multicast.specs.SubscriberCalls.{freshSubscriberOf}
+use Rattle.unicast.specs.Setting.{Site, Setting}
+use Rattle.unicast.specs.History.{Lane}
+use Rattle.unicast.specs.Run as run
+use Rattle.unicast.specs.Run.{noSite}
+use Rattle.unicast.specs.Premises.{Fresh}
+use Rattle.unicast.proofs.StartSteps as units-start
+use Rattle.line.specs.History.{Membership, hasTaken}
+use Rattle.line.specs.Run.{alone, noSubscriber, noGroupLane, freshSubscriber, start}
+use Rattle.line.proofs.Invariant.{joinedFor, Joins, Invariant}
+use Rattle.line.proofs.Places.{map-holds}
 
----- the OLT
+fresh-onus : (sites : List Site) → map (λ (x : Subscriber). x .onu) (map freshSubscriber sites) ≡ map run.freshOnu sites
+unfolding freshSubscriber freshSubscriberOf subscribers.alone run.freshOnu
+fresh-onus [] = refl
+fresh-onus (x ∷ sites) = ap (λ (os : List Onu). run.freshOnu x ∷ os) (fresh-onus sites)
 
--- an accepted fresh OLT is a new one
-pub record OltMade (mac clock : ℕ) : Type 0 where
-  pub made : freshOltOf mac clock .olt ≡ newOlt mac clock
-  pub below : clock < clockTurn
+-- the units of the start are those without groups
+pub start-alone : (w : Setting) → alone (start w) ≡ run.start w
+unfolding alone start run.start freshHeadOf
+start-alone w = ap (λ (os : List Onu). record { olt = run.start w .olt; onus = os; history = run.start w .history }) (fresh-onus (w .sites))
 
-pub olt-made : (mac clock : ℕ) → freshOltOf mac clock .number ≡ 0 → OltMade mac clock
-unfolding freshOltOf oltAnswer
-olt-made mac clock e =
-    let a = sym (reply-verdict _ (newOlt 0 0) silent (newOlt mac clock) silent) ∙ number-accepted _ e in
+-- a unit that joined nothing
+alone-joins : (o : Onu) (l : Lane) → Joins [] l (subscribers.alone o) []
+unfolding subscribers.alone noMemberships joinedFor findJoined joinedLlids placeFrom byLlid freshJoined hasTaken
+alone-joins o l =
     record {
-      made = ap (λ (r : Reply Olt Silence). r .end) (reply-accepted _ (newOlt 0 0) silent (newOlt mac clock) silent a);
-      below = ltb-true _ _ (both-right _ _ (not-false _ (refuse-accepted _ _ _ a .0)));
+      valid = alone-valid o;
+      places = refl;
+      llids = refl;
+      stranger = λ llid n. record { active = refl; held = refl; kept = refl };
+      untaken = λ llid n k. refl;
     }
 
-pub fresh-count : (mac clock : ℕ) → freshOltOf mac clock .number ≡ 0 → freshOltOf mac clock .olt .count ≡ 0
-unfolding newOlt
-fresh-count mac clock e = ap (λ (o : Olt). o .count) (olt-made mac clock e .made)
+fresh-joins : (w : Setting) (l : Lane) (u : ℕ) → Joins [] l (getD (map freshSubscriber (w .sites)) u noSubscriber) []
+unfolding freshSubscriber freshSubscriberOf noSubscriber subscribers.alone
+fresh-joins w l =
+    map-holds (λ (u : ℕ) (x : Subscriber). Joins [] l x []) freshSubscriber (w .sites) noSite noSubscriber (λ u h. alone-joins _ l) (λ u h. alone-joins _ l)
 
-pub fresh-at-tick : (w : Setting) → freshOltOf (w .mac) (w .first) .number ≡ 0 → AtTick w 0 (freshOltOf (w .mac) (w .first) .olt .shared)
-unfolding newOlt
-fresh-at-tick w e =
-    let m = olt-made (w .mac) (w .first) e in
-    rw (m .made) (record { mac = refl; tick = refl; clock = omega (arith, m .below) })
+no-groups : (o : Olt) → o .count ≤ maxUnits → validGroups (record { olt = o; groups = noGroups }) ≡ true
+unfolding validGroups noGroups all apartLlids groupLlids distinct meets both
+no-groups o h = rw (le-leb (o .count + 0) maxUnits (omega arith))
 
----- a unit
+no-places : length (noGroups .table) ≡ maxUnits
+unfolding noGroups
+no-places = refl
 
-pub record OnuMade (i : Identity) (oltmac time : ℕ) : Type 0 where
-  pub made : freshOnuOf i oltmac time .onu ≡ newOnu i oltmac time
-  pub accepted : freshOnuVerdict i oltmac time ≡ Accepted
-  pub identity : validIdentity i ≡ true
-  pub below : time < localTurn
+no-count : noGroups .count ≡ 0
+unfolding noGroups
+no-count = refl
 
-pub onu-made : (i : Identity) (oltmac time : ℕ) → freshOnuOf i oltmac time .number ≡ 0 → OnuMade i oltmac time
-unfolding freshOnuOf onuAnswer freshOnuVerdict
-onu-made i oltmac time e =
-    let a = sym (reply-verdict (freshOnuVerdict i oltmac time) (newOnu noIdentity 0 0) silent (newOnu i oltmac time) silent) ∙ number-accepted _ e in
-    let v = not-false _ (refuse-accepted _ _ _ a .0) in
-    record {
-      made = ap (λ (r : Reply Onu Silence). r .end) (reply-accepted _ (newOnu noIdentity 0 0) silent (newOnu i oltmac time) silent a);
-      accepted = a;
-      identity = both-left _ _ v;
-      below = ltb-true _ _ (both-right _ _ (both-right _ _ v));
-    }
+pub replicate-at : (n u : ℕ) → getD {A = List Membership} (replicate n []) u [] ≡ []
+replicate-at zero u = refl
+replicate-at (suc n) zero = refl
+replicate-at (suc n) (suc u) = replicate-at n u
 
-pub fresh-common : (w : Setting) (s : Site) → freshOnuOf (s .identity) (s .oltmac) (s .time) .number ≡ 0 → Common w 0 (freshLane s) (freshOnu s)
-unfolding freshLane freshOnu newOnu kept
-fresh-common w s e =
-    let m = onu-made (s .identity) (s .oltmac) (s .time) e in
-    rw (m .made)
-    (record {
-      valid = new-onu-valid (s .identity) (s .oltmac) (s .time) (m .accepted);
-      tick = refl;
-      mac = refl;
-      llids = λ x. kept-has (s .identity) x (identity-valid (s .identity) (m .identity) .1);
-      oltmac = refl;
-    })
-
-pub fresh-idle : (s : Site) → freshOnuOf (s .identity) (s .oltmac) (s .time) .number ≡ 0 → Idle 0 (freshLane s) (freshOnu s)
-unfolding freshLane freshOnu newOnu
-fresh-idle s e =
-    let m = onu-made (s .identity) (s .oltmac) (s .time) e in
-    rw (m .made)
-    (record {
-      unsynced = refl;
-      time = omega (arith, m .below);
-      active = refl;
-      held = refl;
-      offers = refl;
-      acknowledged = refl;
-      switches = refl;
-      number = refl;
-      towards = refl;
-      from = refl;
-      answered = refl;
-      sent = refl;
-      arrived = refl;
-    })
-
-fresh-lane-right : (w : Setting) (t : Olt) (s : Site) → freshOnuOf (s .identity) (s .oltmac) (s .time) .number ≡ 0
-    → LaneRight w t 0 (freshLane s) (freshOnu s)
-unfolding freshLane
-fresh-lane-right w t s e = record { common = fresh-common w s e; standing = fresh-idle s e }
-
----- the whole
-
--- every lane is fresh
-lane-fresh : (P : Lane → Type 0) (sites : List Site) (u : ℕ) → ((s : Site) → P (freshLane s)) → P (getD (map freshLane sites) u (freshLane noSite))
-lane-fresh P [] u p = p noSite
-lane-fresh P (s ∷ sites) zero p = p s
-lane-fresh P (s ∷ sites) (suc u) p = lane-fresh P sites u p
-
-lanes-right : (w : Setting) (t : Olt) (sites : List Site) (u : ℕ) (d : Onu)
-    → ((v : ℕ) (s : Site) → v < length sites → freshOnuOf (getD sites v s .identity) (getD sites v s .oltmac) (getD sites v s .time) .number ≡ 0)
-    → u < length (map freshLane sites) → LaneRight w t 0 (getD (map freshLane sites) u (freshLane noSite)) (getD (map freshOnu sites) u d)
-lanes-right w t [] u d f h = absurd (not-suc-le-zero h)
-lanes-right w t (s ∷ sites) zero d f h = fresh-lane-right w t s (f zero s (omega arith))
-lanes-right w t (s ∷ sites) (suc u) d f h = lanes-right w t sites u d (λ v x k. f (suc v) x (omega (arith, k))) (le-of-suc-le-suc h)
+lanes-length : (w : Setting) → length (run.start w .history .lanes) ≡ length (w .sites)
+unfolding run.start
+lanes-length w = length-map (w .sites) run.freshLane
 
 pub start-right : (w : Setting) → Fresh w → Invariant w (start w)
-unfolding start freshLane
+unfolding start freshHeadOf noGroupLane
 start-right w f =
-    let unregistered : (u : ℕ) → laneAt (start w) u .entry .registered ≡ false =
-    λ u. lane-fresh (λ (l : Lane). l .entry .registered ≡ false) (w .sites) u (λ s. refl) in
-    let none : (u : ℕ) → length (laneAt (start w) u .keys .offers) ≡ 0 =
-    λ u. lane-fresh (λ (l : Lane). length (l .keys .offers) ≡ 0) (w .sites) u (λ s. refl) in
+    let n = length (w .sites) in
+    let none : (u : ℕ) → getD {A = List Membership} (replicate n []) u [] ≡ [] = λ u. replicate-at n u in
     record {
-      valid = fresh-valid (w .mac) (w .first);
-      places = fresh-places (w .mac) (w .first);
-      count = fresh-count (w .mac) (w .first) (f .olt);
-      shared = fresh-at-tick w (f .olt);
-      paired = length-map (w .sites) freshOnu ∙ sym (length-map (w .sites) freshLane);
-      lane = λ u h. lanes-right w (start w .olt) (w .sites) u (newOnu noIdentity 0 0) (f .onus) h;
-      apart = λ u v h k a b e. true-false (sym a ∙ unregistered u);
-      keys = λ u v m n h k e. absurd (omega (arith, h, none u));
+      units = rw (start-alone w) (units-start.start-right w f);
+      valid = no-groups (start w .head .olt) (olt-in-range (start w .head .olt) (fresh-valid (w .mac) (w .first)) .count);
+      places = no-places;
+      count = no-count;
+      paired = length-replicate n [] ∙ sym (lanes-length w);
+      queues = λ g h. absurd (omega (arith, h));
+      group = λ g h. absurd (omega (arith, h));
+      joins = λ u h. rw (none u) (fresh-joins w _ u);
+      follows = λ u g h k. absurd (omega (arith, k));
+      answered = λ g a h m. absurd (omega (arith, h));
+      keys = λ g h m k p q e. absurd (omega (arith, p));
+      mixed = λ u g m k p q e. absurd (omega (arith, q));
     }

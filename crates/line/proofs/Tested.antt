@@ -1,197 +1,120 @@
--- The premises as a test that computes: a list that passes it meets them. Assumes nothing.
-use mathlib.Core.Path.{_≡_, refl, sym, _∙_, ap}
-use mathlib.Core.Bool.{Bool, true, false, not}
+-- The premises as a test that computes: a list that passes it meets them. Of the units' own lines it is the test of unicast. Assumes nothing.
+use mathlib.Core.Path.{_≡_, refl}
+use mathlib.Core.Bool.{Bool, true, not}
 use mathlib.Core.List.{List, [], _∷_, _++_}
-use mathlib.Core.Logic.{⊎-elim}
-use Prim.Native.Nat.{ℕ, zero, suc, _+_, _%_, _<_}
-use native.Mathlib.Nat.{not-suc-le-zero}
+use Prim.Native.Nat.{ℕ, _+_}
 use lib.Dec.{eqb, leb, ltb}
 use lib.ListN.{length, getD}
-use borrow.Author.Tests.{ltb-true, leb-true, eqb-true, eqb-false, eq-eqb, not-true}
-use Rattle.octets.specs.Choice.{both, either}
-use Rattle.octets.specs.Lists.{same, all}
-use Rattle.octets.proofs.Choice.{both-left, both-right, either-cases, true-false}
-use Rattle.octets.proofs.Lists.{same-refl}
-use Rattle.octets.proofs.Tests.{all-at}
-use Rattle.clock.specs.Ticks.{localTurn}
-use Rattle.ends.specs.Identities.{among, has, llidsOf}
-use Rattle.protocol.specs.OltCalls.{registerOf, offerOf, acknowledgeOf}
-use Rattle.protocol.specs.OnuCalls.{clockMessageAt, keyMessageAt}
-use Rattle.ends.specs.declared.Identity.{Identity}
-use Rattle.traffic.specs.Sends.{onuSendOf}
-use Rattle.traffic.specs.Receipts.{oltReceiveOf, onuReceiveOf}
-use Rattle.line.specs.Setting.{Setting}
-use Rattle.line.specs.History.{Thing, clockMessage, keyMessage, envelope, leftAt, Lane}
-use Rattle.line.specs.Events.{Event, advance, register, capture, clockSend, offer, retry, sendDown, sendUp, arriveDown, arriveUp, arriveAnswer, overhear, strayClock, strayKey, strayAnswer, strayDown, strayUp}
-use Rattle.line.specs.Run.{State, step, laneAt, onuAt, thingAt, envelopeAt, answerAt, noSite, freshLane}
-use Rattle.line.specs.Premises.{Agrees, FittingBuffer, DueDown, DueUp, DueAnswer, Overhears, Fits, Meets}
+use borrow.Author.Tests.{ltb-true, leb-true, eqb-true, not-true}
+use Rattle.octets.specs.Choice.{both}
+use Rattle.octets.proofs.Choice.{both-left, both-right}
+use Rattle.multicast.specs.HeadCalls.{headRegisterOf, headOfferOf, headAcknowledgeOf}
+use Rattle.multicast.specs.HeadTraffic.{headReceiveOf}
+use Rattle.multicast.specs.SubscriberCalls.{subscriberClockMessageOf, subscriberKeyMessageOf}
+use Rattle.multicast.specs.SubscriberTraffic.{subscriberSendOf, subscriberReceiveOf}
+use Rattle.unicast.specs.Setting.{Setting}
+use Rattle.unicast.specs.History.{leftAt}
+use Rattle.unicast.specs.Run.{laneAt}
+use Rattle.unicast.proofs.Tested.{ifAccepted, if-accepted, not-accepted, agrees, agrees-true, unused, unused-at, laneOffers, new-key, fitting, fitting-true, dueDown, due-down-true, dueUp, due-up-true, dueAnswer, due-answer-true, overhears, overhears-true}
+use Rattle.unicast.proofs.Tested as units
+use Rattle.line.specs.History.{GroupLane, isMember}
+use Rattle.line.specs.Events.{Event, advance, register, registerGroup, capture, clockSend, offer, retry, sendDown, join, sendUp, arriveDown, arriveGroup, arriveUp, arriveAnswer, arriveGroupAnswer, overhear, overhearGroup, strayClock, strayKey, strayAnswer, strayDown, strayUp}
+use Rattle.line.specs.Run.{State, alone, subscriberAt, groupLaneAt, noGroupLane, groupThingAt, groupAnswerAt, now, step}
+use Rattle.line.specs.Premises.{NewKey, DueOfGroup, DueGroupAnswer, OverhearsGroup, Fits, Meets}
 
----- what binds accepted calls only
+---- each premise of groups
 
-unfoldable pub ifAccepted : ℕ → Bool → Bool
-ifAccepted number t = either (not (eqb number 0)) t
+abbrev groupOffers : GroupLane → List (List ℕ)
+groupOffers g = g .keys .offers
 
-if-accepted : (number : ℕ) (t : Bool) → ifAccepted number t ≡ true → number ≡ 0 → t ≡ true
-unfolding ifAccepted either
-if-accepted number t h e = sym (ap (λ (x : Bool). either (not x) t) (eq-eqb number 0 e)) ∙ h
+unfoldable pub newTo : State → List ℕ → Bool
+newTo s key = both (unused laneOffers key (alone s .history .lanes)) (unused groupOffers key (s .history .groups))
 
-not-accepted : (number : ℕ) → not (eqb number 0) ≡ true → number ≡ 0 → ⊥
-not-accepted number h = eqb-false number 0 (not-true (eqb number 0) h)
-
----- each premise
-
--- each number of one list is in the other
-unfoldable pub alike : List ℕ → List ℕ → Bool
-alike xs ys = both (all (λ x. among x ys) xs) (all (λ y. among y xs) ys)
-
-all-among : (p : ℕ → Bool) (xs : List ℕ) (x : ℕ) → all p xs ≡ true → among x xs ≡ true → p x ≡ true
-unfolding all among
-all-among p [] x e m = true-false (sym m)
-all-among p (y ∷ xs) x e m =
-    ⊎-elim (λ h. ap p (sym (eqb-true y x h)) ∙ both-left _ _ e) (λ h. all-among p xs x (both-right _ _ e) h) (either-cases (eqb y x) (among x xs) m)
-
-alike-true : (xs ys : List ℕ) → alike xs ys ≡ true → (x : ℕ) → among x xs ≡ among x ys
-unfolding alike
-alike-true xs ys e x =
-    by-cases (among x xs) (among x ys) (all-among _ xs x (both-left _ _ e)) (all-among _ ys x (both-right _ _ e)) where
-      by-cases : (a b : Bool) → (a ≡ true → b ≡ true) → (b ≡ true → a ≡ true) → a ≡ b
-      by-cases true b f g = sym (f refl)
-      by-cases false true f g = g refl
-      by-cases false false f g = refl
-
-unfoldable pub agrees : Setting → State → ℕ → Identity → ℕ → Bool
-agrees w s u i trip =
-    both (ltb u (length (s .history .lanes)))
-    (both (eqb (i .mac) (laneAt s u .site .identity .mac))
-    (both (alike (llidsOf i) (llidsOf (laneAt s u .site .identity)))
-    (both (eqb (laneAt s u .site .oltmac) (w .mac))
-    (both (eqb (laneAt s u .site .time) ((w .first + laneAt s u .site .up) % localTurn))
-    (eqb trip (laneAt s u .site .up + laneAt s u .site .down))))))
-
-agrees-true : (w : Setting) (s : State) (u : ℕ) (i : Identity) (trip : ℕ) → agrees w s u i trip ≡ true → Agrees w s u i trip
-unfolding agrees has
-agrees-true w s u i trip e =
-    let a = both-right _ _ e in
-    let b = both-right _ _ a in
-    let c = both-right _ _ b in
-    let d = both-right _ _ c in
+new-true : (s : State) (key : List ℕ) → newTo s key ≡ true → NewKey s key
+unfolding newTo noGroupLane
+new-true s key e =
     record {
-      known = ltb-true _ _ (both-left _ _ e);
-      mac = eqb-true _ _ (both-left _ _ a);
-      llids = alike-true _ _ (both-left _ _ b);
-      oltmac = eqb-true _ _ (both-left _ _ c);
-      time = eqb-true _ _ (both-left _ _ d);
-      delays = eqb-true _ _ (both-right _ _ d);
+      units = new-key (alone s) key (both-left _ _ e);
+      groups = unused-at groupOffers noGroupLane refl key (s .history .groups) (both-right _ _ e);
     }
 
-unfoldable pub other : List ℕ → List ℕ → Bool
-other key k = not (same k key)
+unfoldable pub dueOfGroup : State → ℕ → ℕ → ℕ → List ℕ → Bool
+dueOfGroup s u g k out =
+    both (ltb k (length (getD (groupLaneAt s g .towards) u [])))
+    (both (eqb (leftAt (groupThingAt s u g k) + laneAt (alone s) u .site .down) (now s)) (fitting (groupThingAt s u g k) out))
 
-unfoldable pub unused : List ℕ → List Lane → Bool
-unused key [] = true
-unused key (l ∷ ls) = both (all (other key) (l .keys .offers)) (unused key ls)
-
-other-true : (key k : List ℕ) → other key k ≡ true → k ≡ key → ⊥
-unfolding other
-other-true key k h e = true-false (sym (same-refl k) ∙ ap (λ (x : List ℕ). same k x) e ∙ not-true _ h)
-
-unused-at : (key : List ℕ) (ls : List Lane) → unused key ls ≡ true → (u n : ℕ)
-    → n < length (getD ls u (freshLane noSite) .keys .offers) → getD (getD ls u (freshLane noSite) .keys .offers) n [] ≡ key → ⊥
-unfolding unused freshLane
-unused-at key [] e u n h = λ _. not-suc-le-zero h
-unused-at key (l ∷ ls) e zero n h = other-true key _ (all-at (other key) (l .keys .offers) n [] (both-left _ _ e) h)
-unused-at key (l ∷ ls) e (suc u) n h = unused-at key ls (both-right _ _ e) u n h
-
-unfoldable pub fitting : Thing → List ℕ → Bool
-fitting (clockMessage m c t) out = true
-fitting (keyMessage m t) out = true
-fitting (envelope e) out = eqb (length out) (length (e .octets))
-
-fitting-true : (x : Thing) (out : List ℕ) → fitting x out ≡ true → FittingBuffer x out
-unfolding fitting
-fitting-true (clockMessage m c t) out e = tt
-fitting-true (keyMessage m t) out e = tt
-fitting-true (envelope x) out e = eqb-true _ _ e
-
-unfoldable pub dueDown : State → ℕ → ℕ → List ℕ → Bool
-dueDown s u k out =
-    both (ltb k (length (laneAt s u .transit .towards)))
-    (both (eqb (leftAt (thingAt s u k) + laneAt s u .site .down) (s .history .now)) (fitting (thingAt s u k) out))
-
-due-down-true : (s : State) (u k : ℕ) (out : List ℕ) → dueDown s u k out ≡ true → DueDown s u k out
-unfolding dueDown
-due-down-true s u k out e =
+pub due-of-group-true : (s : State) (u g k : ℕ) (out : List ℕ) → dueOfGroup s u g k out ≡ true → DueOfGroup s u g k out
+unfolding dueOfGroup
+due-of-group-true s u g k out e =
     let a = both-right _ _ e in
-    record { some = ltb-true _ _ (both-left _ _ e); now = eqb-true _ _ (both-left _ _ a); buffer = fitting-true _ _ (both-right _ _ a) }
+    record { some = ltb-true _ _ (both-left _ _ e); at = eqb-true _ _ (both-left _ _ a); buffer = fitting-true _ _ (both-right _ _ a) }
 
-unfoldable pub dueUp : State → ℕ → ℕ → List ℕ → Bool
-dueUp s u k out =
-    both (ltb k (length (laneAt s u .transit .from)))
-    (both (eqb (envelopeAt s u k .left + laneAt s u .site .up) (s .history .now)) (eqb (length out) (length (envelopeAt s u k .octets))))
+unfoldable pub dueGroupAnswer : State → ℕ → ℕ → Bool
+dueGroupAnswer s g k =
+    both (ltb k (length (groupLaneAt s g .answered)))
+    (leb (groupAnswerAt s g k .tick + laneAt (alone s) (groupAnswerAt s g k .unit) .site .up) (now s))
 
-due-up-true : (s : State) (u k : ℕ) (out : List ℕ) → dueUp s u k out ≡ true → DueUp s u k out
-unfolding dueUp
-due-up-true s u k out e =
+due-group-answer-true : (s : State) (g k : ℕ) → dueGroupAnswer s g k ≡ true → DueGroupAnswer s g k
+unfolding dueGroupAnswer
+due-group-answer-true s g k e = record { some = ltb-true _ _ (both-left _ _ e); left = leb-true _ _ (both-right _ _ e) }
+
+unfoldable pub overhearsGroup : State → ℕ → ℕ → ℕ → Bool
+overhearsGroup s u g k =
+    both (laneAt (alone s) u .entry .registered)
+    (both (not (isMember (groupLaneAt s g) (laneAt (alone s) u))) (ltb k (length (groupLaneAt s g .sent))))
+
+pub overhears-group-true : (s : State) (u g k : ℕ) → overhearsGroup s u g k ≡ true → OverhearsGroup s u g k
+unfolding overhearsGroup
+overhears-group-true s u g k e =
     let a = both-right _ _ e in
-    record { some = ltb-true _ _ (both-left _ _ e); now = eqb-true _ _ (both-left _ _ a); buffer = eqb-true _ _ (both-right _ _ a) }
-
-unfoldable pub dueAnswer : State → ℕ → ℕ → ℕ → Bool
-dueAnswer s u k llid =
-    both (ltb k (length (laneAt s u .transit .answered)))
-    (both (leb (answerAt s u k .tick + laneAt s u .site .up) (s .history .now)) (has (laneAt s u .site .identity) llid))
-
-due-answer-true : (s : State) (u k llid : ℕ) → dueAnswer s u k llid ≡ true → DueAnswer s u k llid
-unfolding dueAnswer
-due-answer-true s u k llid e =
-    let a = both-right _ _ e in
-    record { some = ltb-true _ _ (both-left _ _ e); left = leb-true _ _ (both-left _ _ a); named = both-right _ _ a }
-
-unfoldable pub overhears : State → ℕ → ℕ → ℕ → Bool
-overhears s u v k =
-    both (laneAt s u .entry .registered) (both (not (eqb u v)) (ltb k (length (laneAt s v .past .sent))))
-
-overhears-true : (s : State) (u v k : ℕ) → overhears s u v k ≡ true → Overhears s u v k
-unfolding overhears
-overhears-true s u v k e =
-    let a = both-right _ _ e in
-    record { registered = both-left _ _ e; apart = eqb-false u v (not-true _ (both-left _ _ a)); some = ltb-true _ _ (both-right _ _ a) }
+    record { registered = both-left _ _ e; stranger = not-true _ (both-left _ _ a); some = ltb-true _ _ (both-right _ _ a) }
 
 ---- an event, and a list
 
 unfoldable pub fits : Setting → State → Event → Bool
 fits w s (advance n) = true
-fits w s (register u i trip interval) = ifAccepted (registerOf (s .olt) i trip interval .number) (agrees w s u i trip)
+fits w s (register u i trip interval) = ifAccepted (headRegisterOf (s .head) i trip interval .number) (agrees w (alone s) u i trip)
+fits w s (registerGroup llid interval r) = true
 fits w s (capture llid) = true
 fits w s (clockSend llid) = true
-fits w s (offer llid key) = ifAccepted (offerOf (s .olt) llid key .number) (unused key (s .history .lanes))
+fits w s (offer llid key) = ifAccepted (headOfferOf (s .head) llid key .number) (newTo s key)
 fits w s (retry llid) = true
 fits w s (sendDown llid channel p out) = true
+fits w s (join u llid) = true
 fits w s (sendUp u llid channel p out) =
-    ifAccepted (onuSendOf (onuAt s u) llid channel p out .answer .number) (laneAt s u .entry .registered)
-fits w s (arriveDown u k out) = dueDown s u k out
-fits w s (arriveUp u k out) = dueUp s u k out
-fits w s (arriveAnswer u k llid) = dueAnswer s u k llid
-fits w s (overhear u v k out) = overhears s u v k
-fits w s (strayClock u m) = not (eqb (clockMessageAt (onuAt s u) m .number) 0)
-fits w s (strayKey u m) = not (eqb (keyMessageAt (onuAt s u) m .number) 0)
-fits w s (strayAnswer llid a) = not (eqb (acknowledgeOf (s .olt) llid a .number) 0)
-fits w s (strayDown u h p out) = not (eqb (onuReceiveOf (onuAt s u) h p out .answer .number) 0)
-fits w s (strayUp h p out) = not (eqb (oltReceiveOf (s .olt) h p out .answer .number) 0)
+    ifAccepted (subscriberSendOf (subscriberAt s u) llid channel p out .answer .number) (laneAt (alone s) u .entry .registered)
+fits w s (arriveDown u k out) = dueDown (alone s) u k out
+fits w s (arriveGroup u g k out) = dueOfGroup s u g k out
+fits w s (arriveUp u k out) = dueUp (alone s) u k out
+fits w s (arriveAnswer u k llid) = dueAnswer (alone s) u k llid
+fits w s (arriveGroupAnswer g k) = dueGroupAnswer s g k
+fits w s (overhear u other k out) = overhears (alone s) u other k
+fits w s (overhearGroup u g k out) = overhearsGroup s u g k
+fits w s (strayClock u m) = not (eqb (subscriberClockMessageOf (subscriberAt s u) m .number) 0)
+fits w s (strayKey u m) = not (eqb (subscriberKeyMessageOf (subscriberAt s u) m .number) 0)
+fits w s (strayAnswer llid a) = not (eqb (headAcknowledgeOf (s .head) llid a .number) 0)
+fits w s (strayDown u h p out) = not (eqb (subscriberReceiveOf (subscriberAt s u) h p out .answer .number) 0)
+fits w s (strayUp h p out) = not (eqb (headReceiveOf (s .head) h p out .answer .number) 0)
 
 fits-true : (w : Setting) (s : State) (e : Event) → fits w s e ≡ true → Fits w s e
 unfolding fits
 fits-true w s (advance n) h = tt
-fits-true w s (register u i trip interval) h = λ a. agrees-true w s u i trip (if-accepted _ _ h a)
+fits-true w s (register u i trip interval) h = λ a. agrees-true w (alone s) u i trip (if-accepted _ _ h a)
+fits-true w s (registerGroup llid interval r) h = tt
 fits-true w s (capture llid) h = tt
 fits-true w s (clockSend llid) h = tt
-fits-true w s (offer llid key) h = λ a. record { unused = unused-at key (s .history .lanes) (if-accepted _ _ h a) }
+fits-true w s (offer llid key) h = λ a. new-true s key (if-accepted _ _ h a)
 fits-true w s (retry llid) h = tt
 fits-true w s (sendDown llid channel p out) h = tt
+fits-true w s (join u llid) h = tt
 fits-true w s (sendUp u llid channel p out) h = if-accepted _ _ h
-fits-true w s (arriveDown u k out) h = due-down-true s u k out h
-fits-true w s (arriveUp u k out) h = due-up-true s u k out h
-fits-true w s (arriveAnswer u k llid) h = due-answer-true s u k llid h
-fits-true w s (overhear u v k out) h = overhears-true s u v k h
+fits-true w s (arriveDown u k out) h = due-down-true (alone s) u k out h
+fits-true w s (arriveGroup u g k out) h = due-of-group-true s u g k out h
+fits-true w s (arriveUp u k out) h = due-up-true (alone s) u k out h
+fits-true w s (arriveAnswer u k llid) h = due-answer-true (alone s) u k llid h
+fits-true w s (arriveGroupAnswer g k) h = due-group-answer-true s g k h
+fits-true w s (overhear u other k out) h = overhears-true (alone s) u other k h
+fits-true w s (overhearGroup u g k out) h = overhears-group-true s u g k h
 fits-true w s (strayClock u m) h = not-accepted _ h
 fits-true w s (strayKey u m) h = not-accepted _ h
 fits-true w s (strayAnswer llid a) h = not-accepted _ h
@@ -214,5 +137,5 @@ meets-start w s (e ∷ es) rest m = (m .0, meets-start w (step s e) es rest (m .
 
 -- to compute the test
 unfoldable pub tested : Unit {0}
-unfolding ifAccepted alike agrees other unused fitting dueDown dueUp dueAnswer overhears fits meets
+unfolding units.tested newTo dueOfGroup dueGroupAnswer overhearsGroup fits meets
 tested = tt

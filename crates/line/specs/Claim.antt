@@ -1,125 +1,133 @@
--- What holds on the whole list (demand 3 of 01; 01, The line). Assumes nothing.
+-- What holds on the whole list, groups included (demand 3 of 01; 02, C-14). Assumes nothing.
 use mathlib.Core.Path.{_≡_}
-use mathlib.Core.Bool.{Bool, true, false}
+use mathlib.Core.Bool.{true, false}
 use mathlib.Core.List.{List, List·Memᴰ}
-use Prim.Native.Nat.{ℕ, _<_, _≤_, _^_}
-use lib.Dec.{leb}
+use Prim.Native.Nat.{ℕ, _≤_, _<_}
 use lib.ListN.{length}
 use Rattle.octets.specs.Output.{withOutput}
+use Rattle.refusal.specs.Number.{numberOf}
 use Rattle.refusal.specs.declared.Refusal.{Refusal}
-use Rattle.refusal.specs.declared.Refusal.the-variants.{OutOfRange, UnknownLlid, BadLength}
-use Rattle.envelope.specs.CounterBlock.{counterBlock}
 use Rattle.envelope.specs.declared.Nonce.{Nonce}
+use Rattle.envelope.specs.CounterBlock.{counterBlock}
 use Rattle.sealing.specs.KeyExpansion.{keyExpansion}
 use Rattle.sealing.specs.Seal.{carried, countCarried, runsCarried}
 use Rattle.protocol.specs.Headers.{envelopeHeader}
-use Rattle.ends.specs.Identities.{has}
-use Rattle.ends.specs.Keys.{keyIn}
-use Rattle.ends.specs.Table.{unitAt}
-use Rattle.ends.specs.declared.Onu.{Onu}
 use Rattle.protocol.specs.declared.Passage.{Passage}
-use Rattle.ends.specs.declared.UnitRecord.{UnitRecord}
 use Rattle.traffic.specs.Passages.{misfit, choiceEnciphered, passageNonce}
-use Rattle.traffic.specs.Receipts.{onuNotReceived}
-use Rattle.line.specs.Setting.{Site, Setting, clockDown, clockUp}
-use Rattle.line.specs.History.{Way, downward, upward, Envelope, Arrival, Lane, keyOf}
-use Rattle.line.specs.Run.{State, laneAt, onuAt, sentAt, overhearing}
-use Rattle.line.specs.Premises.{Overhears}
+use Rattle.groups.specs.declared.Subscriber.{Subscriber}
+use Rattle.multicast.specs.declared.SubscriberReceived.{SubscriberReceived}
+use Rattle.unicast.specs.Setting.{Setting, clockDown}
+use Rattle.unicast.specs.History.{Envelope, envelope, keyOf, Keys}
+use Rattle.unicast.specs.Run.{laneAt, sentAt}
+use Rattle.unicast.specs.Claim.{isSealed, nonceFor, indexTurn, overheardFor}
+use Rattle.unicast.specs.Premises.{Overhears}
+use Rattle.unicast.specs.Claim as units
+use Rattle.line.specs.History.{GroupArrival, GroupLane, GroupAnswered, isJoined, hasTaken}
+use Rattle.line.specs.Events.{arriveGroup}
+use Rattle.line.specs.Run.{State, alone, subscriberAt, joinedBy, groupLaneAt, groupSentAt, groupThingAt, receiving, groupReceipt, step}
+use Rattle.line.specs.Premises.{DueOfGroup, OverhearsGroup}
 
--- the sender's MAC and clock
-abbrev pub senderMac : Setting → Site → Way → ℕ
-senderMac w s downward = w .mac
-senderMac w s upward = s .identity .mac
+-- what tells the counter blocks of a group's envelope from another's: the OLT's MAC and clock
+abbrev pub groupNonce : Setting → Envelope → Nonce
+groupNonce w e = record { channel = e .channel; mac = w .mac; clock = clockDown (w .first) (e .left) }
 
-abbrev pub senderClock : Setting → Site → Way → ℕ → ℕ
-senderClock w s downward tick = clockDown (w .first) tick
-senderClock w s upward tick = clockUp (w .first) (s .up) tick
-
--- what tells an envelope's counter blocks from another's
-abbrev pub nonceFor : Setting → Site → Envelope → Nonce
-nonceFor w s e =
-    record { channel = e .channel; mac = senderMac w s (e .way); clock = senderClock w s (e .way) (e .left) }
-
--- number 0 is clear; n ≥ 1 is sealed with key n
-abbrev pub isSealed : Envelope → Bool
-isSealed e = leb 1 (e .number)
-
--- what an end sealed or opened an envelope with, on that channel: 0 went in clear, n ≥ 1 under key n and its sender's MAC and clock
-pub record PassageRight (w : Setting) (l : Lane) (e : Envelope) (channel : ℕ) (q : Passage) : Type 0 where
+-- what an end sealed or opened a group's envelope with, on that channel: 0 went in clear, n ≥ 1 under the group's key n
+pub record GroupPassageRight (w : Setting) (g : GroupLane) (e : Envelope) (channel : ℕ) (q : Passage) : Type 0 where
   pub enciphered : choiceEnciphered (q .choice) ≡ isSealed e
-  pub key : 1 ≤ e .number → q .key ≡ keyOf (l .keys) (e .number)
-  pub nonce : 1 ≤ e .number → passageNonce channel q ≡ nonceFor w (l .site) e
+  pub key : 1 ≤ e .number → q .key ≡ keyOf (g .keys) (e .number)
+  pub nonce : 1 ≤ e .number → passageNonce channel q ≡ groupNonce w e
 
--- (0) an accepted send sealed under its key and counter block, and handed over the header, octets and count that the definitions
--- give for them
-pub record SentRight (w : Setting) (l : Lane) (e : Envelope) : Type 0 where
-  pub passage : PassageRight w l e (e .channel) (e .passage)
-  pub header : e .header ≡ envelopeHeader (e .number) (e .channel) (e .llid) (senderClock w (l .site) (e .way) (e .left))
-  pub octets : e .octets ≡ carried (isSealed e) (keyExpansion (keyOf (l .keys) (e .number))) (nonceFor w (l .site) e) (e .payload)
+-- (5) an accepted send to a group sealed under its key and counter block, and handed over header, octets, count and runs
+pub record GroupSentRight (w : Setting) (g : GroupLane) (e : Envelope) : Type 0 where
+  pub passage : GroupPassageRight w g e (e .channel) (e .passage)
+  pub header : e .header ≡ envelopeHeader (e .number) (e .channel) (e .llid) (clockDown (w .first) (e .left))
+  pub octets : e .octets ≡ carried (isSealed e) (keyExpansion (keyOf (g .keys) (e .number))) (groupNonce w e) (e .payload)
   pub count : e .count ≡ countCarried (isSealed e) (e .payload)
-  -- 02, C-17
   pub runs : e .runs ≡ runsCarried (isSealed e) (e .payload)
 
--- (1) an envelope that arrived was accepted, opened under its sender's key and counter block, and gave back payload and count
-pub record ArrivedRight (w : Setting) (l : Lane) (r : Arrival) : Type 0 where
-  pub sent : List·Memᴰ (r .envelope) (l .past .sent)
+-- a receipt that gave the envelope back
+pub record GroupOpened (w : Setting) (g : GroupLane) (r : GroupArrival) : Type 0 where
   pub accepted : r .number ≡ 0
-  pub passage : PassageRight w l (r .envelope) (r .envelope .header .channel) (r .passage)
+  pub passage : GroupPassageRight w g (r .envelope) (r .envelope .header .channel) (r .passage)
   pub payload : r .output ≡ r .envelope .payload
   pub count : r .count ≡ r .envelope .count
-  -- 02, C-17: the receipt ran the cipher as often as the send
   pub runs : r .runs ≡ r .envelope .runs
 
--- a block index has three octets
-abbrev pub indexTurn : ℕ
-indexTurn = 2 ^ 24
+-- (6) an envelope of the group that arrived at a unit which had joined it was accepted if it was clear, or if the unit had accepted its
+-- key's message since: opened under that key and counter block, it gave back payload, count and runs. Nothing is claimed for a member under
+-- a key that it missed
+pub record GroupArrivedRight (w : Setting) (g : GroupLane) (r : GroupArrival) : Type 0 where
+  pub sent : List·Memᴰ (r .envelope) (g .sent)
+  pub clear : r .joined ≡ true → r .envelope .number ≡ 0 → GroupOpened w g r
+  pub sealed : r .took ≡ true → 1 ≤ r .envelope .number → GroupOpened w g r
 
--- (2) two sealed envelopes that share key and counter block are one, and so are the two block indices
+---- (2) of units and groups together
+
+pub data Sender : Type 0 where
+  -- the line of a unit, both ways, or of a group
+  unit : ℕ → Sender
+  group : ℕ → Sender
+
+abbrev pub sentBy : State → Sender → List Envelope
+sentBy s (unit u) = laneAt (alone s) u .past .sent
+sentBy s (group g) = groupLaneAt s g .sent
+
+abbrev pub sentByAt : State → Sender → ℕ → Envelope
+sentByAt s (unit u) i = sentAt (alone s) u i
+sentByAt s (group g) i = groupSentAt s g i
+
+abbrev pub keysOf : State → Sender → Keys
+keysOf s (unit u) = laneAt (alone s) u .keys
+keysOf s (group g) = groupLaneAt s g .keys
+
+abbrev pub nonceBy : Setting → State → Sender → Envelope → Nonce
+nonceBy w s (unit u) e = nonceFor w (laneAt (alone s) u .site) e
+nonceBy w s (group g) e = groupNonce w e
+
+-- two sealed envelopes that share key and counter block are one, and so are the two block indices
 abbrev pub BlocksApart : Setting → State → Type 0
 BlocksApart w s =
-    (u v i j a b : ℕ) → i < length (laneAt s u .past .sent) → j < length (laneAt s v .past .sent)
-    → 1 ≤ sentAt s u i .number → 1 ≤ sentAt s v j .number
-    → keyOf (laneAt s u .keys) (sentAt s u i .number) ≡ keyOf (laneAt s v .keys) (sentAt s v j .number)
+    (x y : Sender) (i j a b : ℕ) → i < length (sentBy s x) → j < length (sentBy s y)
+    → 1 ≤ sentByAt s x i .number → 1 ≤ sentByAt s y j .number
+    → keyOf (keysOf s x) (sentByAt s x i .number) ≡ keyOf (keysOf s y) (sentByAt s y j .number)
     → a < indexTurn → b < indexTurn
-    → counterBlock (nonceFor w (laneAt s u .site) (sentAt s u i)) a ≡ counterBlock (nonceFor w (laneAt s v .site) (sentAt s v j)) b
-    → (u ≡ v) × ((i ≡ j) × (a ≡ b))
+    → counterBlock (nonceBy w s x (sentByAt s x i)) a ≡ counterBlock (nonceBy w s y (sentByAt s y j)) b
+    → (x ≡ y) × ((i ≡ j) × (a ≡ b))
 
--- (3) both ends hold key n, and the OLT's record is the unit's: it has the unit's LLIDs
-pub record Holds (l : Lane) (n : ℕ) (u : UnitRecord) (o : Onu) : Type 0 where
-  pub llids : (x : ℕ) → has (u .identity) x ≡ has (l .site .identity) x
-  pub active : u .keys .active ≡ n
-  pub confirmed : u .confirmation .confirmed ≡ n
-  pub unit : o .keys .active ≡ n
-  pub oltKey : keyIn (u .keys .slots) n ≡ keyOf (l .keys) n
-  pub onuKey : keyIn (o .keys .slots) n ≡ keyOf (l .keys) n
+---- (4) what is overheard
 
--- an envelope numbered n has arrived that way
-pub record ArrivedNumbered (l : Lane) (way : Way) (n : ℕ) : Type 0 where
-  pub arrival : Arrival
-  pub among : List·Memᴰ arrival (l .past .arrived)
-  pub thatWay : arrival .envelope .way ≡ way
-  pub numbered : arrival .envelope .number ≡ n
+-- by a unit that has not joined the LLID: refused, 14 for its buffer, else 2 downstream and 1 upstream, and unit and buffer are as they were
+unfoldable pub notReceived : Subscriber → Refusal → SubscriberReceived
+notReceived x r = record { number = numberOf r; subscriber = x; count = 0; runs = 0 }
 
--- (3) where the switches are n and an envelope numbered n has arrived each way, both ends hold key n
-abbrev pub LastKeyHeld : State → Type 0
-LastKeyHeld s =
-    (u n : ℕ) → 1 ≤ n → laneAt s u .keys .switches ≡ n
-    → ArrivedNumbered (laneAt s u) downward n → ArrivedNumbered (laneAt s u) upward n
-    → Holds (laneAt s u) n (unitAt (s .olt) (laneAt s u .entry .place)) (onuAt s u)
+abbrev pub RefusedThere : State → ℕ → Envelope → List ℕ → Type 0
+RefusedThere s u e out =
+    receiving s u e out ≡ withOutput (notReceived (subscriberAt s u) (overheardFor (misfit (e .octets) out) (e .way))) out
 
--- (4) what an overheard envelope is refused for: a buffer that does not fit, else downstream an LLID of another unit, upstream its
--- direction
-abbrev pub overheardFor : Bool → Way → Refusal
-overheardFor true way = BadLength
-overheardFor false downward = UnknownLlid
-overheardFor false upward = OutOfRange
+-- by one that has joined it, and for which it is not meant: the unit is left as it was
+abbrev pub LeftThere : State → ℕ → Envelope → List ℕ → Type 0
+LeftThere s u e out = receiving s u e out .answer .subscriber ≡ subscriberAt s u
+
+pub record OverheardRight (s : State) (u : ℕ) (e : Envelope) (out : List ℕ) : Type 0 where
+  pub refused : isJoined (joinedBy s u) (e .llid) ≡ false → RefusedThere s u e out
+  pub left : LeftThere s u e out
+
+---- the whole
 
 pub record Claim (w : Setting) (s : State) : Type 0 where
-  pub sent : (u : ℕ) (e : Envelope) → List·Memᴰ e (laneAt s u .past .sent) → SentRight w (laneAt s u) e
-  pub arrived : (u : ℕ) (r : Arrival) → List·Memᴰ r (laneAt s u .past .arrived) → ArrivedRight w (laneAt s u) r
+  -- (0), (1) and (3) of the units, as without groups
+  pub units : units.Claim w (alone s)
   pub blocks : BlocksApart w s
-  pub held : LastKeyHeld s
-  -- (4) what another registered unit overhears is refused, with count 0, and leaves that unit and its buffer as they were
-  pub overheard : (u v k : ℕ) (out : List ℕ) → Overhears s u v k
-      → overhearing s u v k out
-      ≡ withOutput (onuNotReceived (onuAt s u) (overheardFor (misfit (sentAt s v k .octets) out) (sentAt s v k .way))) out
+  pub overheard : (u v k : ℕ) (out : List ℕ) → Overhears (alone s) u v k → OverheardRight s u (sentAt (alone s) v k) out
+  pub overheardOfGroup : (u g k : ℕ) (out : List ℕ) → OverhearsGroup s u g k → OverheardRight s u (groupSentAt s g k) out
+  pub groupSent : (g : ℕ) (e : Envelope) → List·Memᴰ e (groupLaneAt s g .sent) → GroupSentRight w (groupLaneAt s g) e
+  pub groupArrived : (g : ℕ) (r : GroupArrival) → List·Memᴰ r (groupLaneAt s g .arrived) → GroupArrivedRight w (groupLaneAt s g) r
+  -- a unit whose acknowledgement of key n went out has accepted that key's message since it joined: so the next acknowledged key brings a
+  -- member back, whatever it missed
+  pub answered : (g : ℕ) (a : GroupAnswered) → List·Memᴰ a (groupLaneAt s g .answered)
+      → hasTaken (joinedBy s (a .unit)) (groupLaneAt s g .llid) (a .answer .number) ≡ true
+  pub back : (u g k : ℕ) (out : List ℕ) (e : Envelope) (a : GroupAnswered) → DueOfGroup s u g k out → groupThingAt s u g k ≡ envelope e
+      → List·Memᴰ a (groupLaneAt s g .answered) → a .unit ≡ u → a .answer .number ≡ e .number → 1 ≤ e .number
+      → GroupOpened w (groupLaneAt s g) (groupReceipt s u e out)
+  -- what arrives of a group leaves the OLT, the units and their own lines: their numbers too
+  pub untouched : (u g k : ℕ) (out : List ℕ) → DueOfGroup s u g k out → alone (step s (arriveGroup u g k out)) ≡ alone s

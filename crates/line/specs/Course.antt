@@ -2,23 +2,22 @@
 use mathlib.Core.Path.{_≡_}
 use mathlib.Core.List.{List, [], _∷_, _++_, map}
 use Prim.Native.Nat.{ℕ}
-use Rattle.clock.specs.Ticks.{maxTick}
 use Rattle.octets.specs.Choice.{pick}
-use Rattle.ends.specs.Limits.{maxUnits}
-use Rattle.protocol.specs.OltCalls.{registerOf, advanceOltOf, captureOf, clockSendOf, offerOf, retryOf, acknowledgeOf}
-use Rattle.protocol.specs.OnuCalls.{clockMessageAt, keyMessageAt}
-use Rattle.ends.specs.declared.Onu.{Onu}
-use Rattle.traffic.specs.Sends.{oltSendOf, onuSendOf}
-use Rattle.traffic.specs.Receipts.{oltReceiveOf, onuReceiveOf}
-use Rattle.line.specs.History.{Envelope, Thing, clockMessage, keyMessage, envelope, Arrival}
-use Rattle.line.specs.Events.{Event, advance, register, capture, clockSend, offer, retry, sendDown, sendUp, arriveDown, arriveUp, arriveAnswer, overhear, strayClock, strayKey, strayAnswer, strayDown, strayUp}
-use Rattle.line.specs.Run.{State, start, step, run, accepted, laneAt, onuAt, thingAt, envelopeAt, sentAt, overhearing, answerAt}
-use Rattle.line.specs.Claim.{nonceFor}
-use Rattle.line.specs.Example.{example, events}
+use Rattle.multicast.specs.HeadCalls.{headRegisterOf, registerGroupOf, headAdvanceOf, headCaptureOf, headClockSendOf, headOfferOf, headRetryOf, headAcknowledgeOf}
+use Rattle.multicast.specs.HeadTraffic.{headSendOf, headReceiveOf}
+use Rattle.multicast.specs.SubscriberCalls.{joinOf, subscriberClockMessageOf, subscriberKeyMessageOf, ownAnswer}
+use Rattle.multicast.specs.SubscriberTraffic.{subscriberSendOf, subscriberReceiveOf}
+use Rattle.groups.specs.declared.Subscriber.{Subscriber}
+use Rattle.unicast.specs.History.{Envelope, Thing, clockMessage, keyMessage, envelope, Arrival}
+use Rattle.unicast.specs.Run.{accepted, laneAt, thingAt, envelopeAt, sentAt, answerAt}
+use Rattle.line.specs.History.{GroupAnswered, GroupArrival}
+use Rattle.line.specs.Events.{Event, advance, register, registerGroup, capture, clockSend, offer, retry, sendDown, join, sendUp, arriveDown, arriveGroup, arriveUp, arriveAnswer, arriveGroupAnswer, overhear, overhearGroup, strayClock, strayKey, strayAnswer, strayDown, strayUp}
+use Rattle.line.specs.Run.{State, alone, start, step, runs, subscriberAt, joinedBy, groupLaneAt, groupThingAt, groupAnswerAt, groupSentAt, receiving, now}
+use Rattle.line.specs.Example.{example, groupLlid, events}
 
 -- where the example stands after events
 abbrev pub after : List Event → State
-after es = run (start example) es
+after es = runs (start example) es
 
 abbrev pub played : State
 played = after events
@@ -26,30 +25,36 @@ played = after events
 ---- the calls that were refused
 
 -- the number that the unit's call on what arrived returned
-unfoldable pub arrivalNumber : Onu → List ℕ → Thing → ℕ
-arrivalNumber o out (clockMessage m c t) = clockMessageAt o m .number
-arrivalNumber o out (keyMessage m t) = keyMessageAt o m .number
-arrivalNumber o out (envelope e) = onuReceiveOf o (e .header) (e .octets) out .answer .number
+unfoldable pub arrivalNumber : Subscriber → List ℕ → Thing → ℕ
+arrivalNumber x out (clockMessage m c t) = subscriberClockMessageOf x m .number
+arrivalNumber x out (keyMessage m t) = subscriberKeyMessageOf x m .number
+arrivalNumber x out (envelope e) = subscriberReceiveOf x (e .header) (e .octets) out .answer .number
 
 -- the number that an event's call returned
 unfoldable pub callNumber : State → Event → ℕ
-callNumber s (advance n) = advanceOltOf (s .olt) n .number
-callNumber s (register u i trip interval) = registerOf (s .olt) i trip interval .number
-callNumber s (capture llid) = captureOf (s .olt) llid .number
-callNumber s (clockSend llid) = clockSendOf (s .olt) llid .number
-callNumber s (offer llid key) = offerOf (s .olt) llid key .number
-callNumber s (retry llid) = retryOf (s .olt) llid .number
-callNumber s (sendDown llid channel p out) = oltSendOf (s .olt) llid channel p out .answer .number
-callNumber s (sendUp u llid channel p out) = onuSendOf (onuAt s u) llid channel p out .answer .number
-callNumber s (arriveDown u k out) = arrivalNumber (onuAt s u) out (thingAt s u k)
-callNumber s (arriveUp u k out) = oltReceiveOf (s .olt) (envelopeAt s u k .header) (envelopeAt s u k .octets) out .answer .number
-callNumber s (arriveAnswer u k llid) = acknowledgeOf (s .olt) llid (answerAt s u k .acknowledgement) .number
-callNumber s (overhear u v k out) = overhearing s u v k out .answer .number
-callNumber s (strayClock u m) = clockMessageAt (onuAt s u) m .number
-callNumber s (strayKey u m) = keyMessageAt (onuAt s u) m .number
-callNumber s (strayAnswer llid a) = acknowledgeOf (s .olt) llid a .number
-callNumber s (strayDown u h p out) = onuReceiveOf (onuAt s u) h p out .answer .number
-callNumber s (strayUp h p out) = oltReceiveOf (s .olt) h p out .answer .number
+callNumber s (advance n) = headAdvanceOf (s .head) n .number
+callNumber s (register u i trip interval) = headRegisterOf (s .head) i trip interval .number
+callNumber s (registerGroup llid interval r) = registerGroupOf (s .head) llid interval r .number
+callNumber s (capture llid) = headCaptureOf (s .head) llid .number
+callNumber s (clockSend llid) = headClockSendOf (s .head) llid .number
+callNumber s (offer llid key) = headOfferOf (s .head) llid key .number
+callNumber s (retry llid) = headRetryOf (s .head) llid .number
+callNumber s (sendDown llid channel p out) = headSendOf (s .head) llid channel p out .answer .number
+callNumber s (join u llid) = joinOf (subscriberAt s u) llid .number
+callNumber s (sendUp u llid channel p out) = subscriberSendOf (subscriberAt s u) llid channel p out .answer .number
+callNumber s (arriveDown u k out) = arrivalNumber (subscriberAt s u) out (thingAt (alone s) u k)
+callNumber s (arriveGroup u g k out) = arrivalNumber (subscriberAt s u) out (groupThingAt s u g k)
+callNumber s (arriveUp u k out) =
+    headReceiveOf (s .head) (envelopeAt (alone s) u k .header) (envelopeAt (alone s) u k .octets) out .answer .number
+callNumber s (arriveAnswer u k llid) = headAcknowledgeOf (s .head) llid (ownAnswer (answerAt (alone s) u k .acknowledgement)) .number
+callNumber s (arriveGroupAnswer g k) = headAcknowledgeOf (s .head) (groupLaneAt s g .llid) (groupAnswerAt s g k .answer) .number
+callNumber s (overhear u other k out) = receiving s u (sentAt (alone s) other k) out .answer .number
+callNumber s (overhearGroup u g k out) = receiving s u (groupSentAt s g k) out .answer .number
+callNumber s (strayClock u m) = subscriberClockMessageOf (subscriberAt s u) m .number
+callNumber s (strayKey u m) = subscriberKeyMessageOf (subscriberAt s u) m .number
+callNumber s (strayAnswer llid a) = headAcknowledgeOf (s .head) llid a .number
+callNumber s (strayDown u h p out) = subscriberReceiveOf (subscriberAt s u) h p out .answer .number
+callNumber s (strayUp h p out) = headReceiveOf (s .head) h p out .answer .number
 
 -- the numbers of the calls that were refused, in order
 unfoldable pub refusals : State → List Event → List ℕ
@@ -58,38 +63,39 @@ refusals s (e ∷ es) = pick (accepted (callNumber s e)) [] (callNumber s e ∷ 
 
 ---- what came to pass
 
+-- of a unit's own line
 abbrev pub sentNumbers : ℕ → List ℕ
-sentNumbers u = map (λ (e : Envelope). e .number) (laneAt played u .past .sent)
+sentNumbers u = map (λ (e : Envelope). e .number) (laneAt (alone played) u .past .sent)
 
 abbrev pub arrivedNumbers : ℕ → List ℕ
-arrivedNumbers u = map (λ (r : Arrival). r .envelope .number) (laneAt played u .past .arrived)
+arrivedNumbers u = map (λ (r : Arrival). r .envelope .number) (laneAt (alone played) u .past .arrived)
 
 -- the numbers of the refused calls, by the parts of the list
 abbrev pub refusedNumbers : List ℕ
 refusedNumbers =
-    -- strangers
-    (2 ∷ 2 ∷ 2 ∷ 2 ∷ 2 ∷ 2 ∷ 2 ∷ 14 ∷ 5 ∷ 5 ∷ 1 ∷ 1 ∷ 1 ∷ 1 ∷ 1 ∷ [])
-    -- firstUnit, firstKeyA
-    ++ ((3 ∷ 3 ∷ 8 ∷ 8 ∷ 5 ∷ 8 ∷ [])
-    ++ ((12 ∷ 12 ∷ 6 ∷ 6 ∷ [])
-    -- refusedCalls, refusedEnvelopes
-    ++ ((2 ∷ 2 ∷ 2 ∷ 7 ∷ 2 ∷ 8 ∷ 14 ∷ 1 ∷ 2 ∷ 14 ∷ 1 ∷ 2 ∷ 2 ∷ 8 ∷ 1 ∷ 2 ∷ 8 ∷ [])
-    ++ ((14 ∷ 1 ∷ 2 ∷ 10 ∷ 11 ∷ 9 ∷ 14 ∷ 1 ∷ 2 ∷ 10 ∷ 11 ∷ 9 ∷ [])
-    -- secondUnit, secondKeyA, overheard
-    ++ ((8 ∷ []) ++ ((16 ∷ []) ++ ((2 ∷ 1 ∷ 14 ∷ 2 ∷ [])
-    -- lastSends, fullTable, lastTick
-    ++ ((13 ∷ 13 ∷ []) ++ ((4 ∷ []) ++ (17 ∷ []))))))))))
+    -- registrations, joins, clocks
+    (21 ∷ 21 ∷ 3 ∷ 3 ∷ [])
+    ++ ((3 ∷ 3 ∷ 2 ∷ 2 ∷ 5 ∷ 8 ∷ 5 ∷ [])
+    ++ ((5 ∷ [])
+    -- firstKey, overheard
+    ++ ((6 ∷ 8 ∷ 8 ∷ 8 ∷ 2 ∷ 12 ∷ []) ++ ((2 ∷ [])
+    -- missedKey, joinedStranger
+    ++ ((10 ∷ 20 ∷ 20 ∷ 9 ∷ []) ++ (5 ∷ []))))))
 
 pub record Course : Type 0 where
-  pub registered : played .history .registrations ≡ maxUnits
-  pub since : map (λ u. laneAt played u .entry .since) (0 ∷ 1 ∷ 2 ∷ []) ≡ 0 ∷ 155 ∷ 155 ∷ []
   pub refused : refusals (start example) events ≡ refusedNumbers
-  pub sentA : sentNumbers 0 ≡ 0 ∷ 0 ∷ 1 ∷ 1 ∷ 1 ∷ 1 ∷ 2 ∷ 2 ∷ 2 ∷ 2 ∷ []
-  pub arrivedA : arrivedNumbers 0 ≡ 0 ∷ 0 ∷ 1 ∷ 1 ∷ 2 ∷ 2 ∷ 2 ∷ 2 ∷ []
-  pub sentB : sentNumbers 1 ≡ 1 ∷ 1 ∷ 2 ∷ 2 ∷ []
-  pub arrivedB : arrivedNumbers 1 ≡ 1 ∷ 1 ∷ 2 ∷ 2 ∷ []
-  pub sentC : sentNumbers 2 ≡ 0 ∷ 1 ∷ 1 ∷ 1 ∷ []
-  pub arrivedC : arrivedNumbers 2 ≡ 0 ∷ 1 ∷ 1 ∷ 1 ∷ []
-  -- an envelope to the first unit and one to the third, 2^48 ticks later, have the same counter blocks, under two keys
-  pub sameBlocks : nonceFor example (laneAt played 0 .site) (sentAt played 0 6) ≡ nonceFor example (laneAt played 2 .site) (sentAt played 2 3)
-  pub ended : played .history .now ≡ maxTick
+  -- the group's envelopes, by number; where each arrived, and with which number the unit answered
+  pub sent : map (λ (e : Envelope). e .number) (groupLaneAt played 0 .sent) ≡ 0 ∷ 1 ∷ 2 ∷ 2 ∷ 3 ∷ []
+  pub arrivedAt : map (λ (r : GroupArrival). r .unit) (groupLaneAt played 0 .arrived) ≡ 1 ∷ 0 ∷ 1 ∷ 0 ∷ 1 ∷ 0 ∷ 1 ∷ 0 ∷ []
+  pub arrived : map (λ (r : GroupArrival). r .envelope .number) (groupLaneAt played 0 .arrived) ≡ 0 ∷ 0 ∷ 1 ∷ 1 ∷ 2 ∷ 2 ∷ 3 ∷ 3 ∷ []
+  pub answered : map (λ (r : GroupArrival). r .number) (groupLaneAt played 0 .arrived) ≡ 0 ∷ 0 ∷ 0 ∷ 0 ∷ 9 ∷ 0 ∷ 0 ∷ 0 ∷ []
+  -- who acknowledged which key
+  pub acknowledgedBy : map (λ (a : GroupAnswered). a .unit) (groupLaneAt played 0 .answered) ≡ 1 ∷ 1 ∷ 0 ∷ 0 ∷ 1 ∷ 0 ∷ []
+  pub acknowledged : map (λ (a : GroupAnswered). a .answer .number) (groupLaneAt played 0 .answered) ≡ 1 ∷ 1 ∷ 1 ∷ 2 ∷ 3 ∷ 3 ∷ []
+  -- whose messages each member took since it joined: the second missed that of key 2
+  pub joinedA : joinedBy played 0 ≡ record { llid = groupLlid; took = 1 ∷ 2 ∷ 3 ∷ [] } ∷ []
+  pub joinedB : joinedBy played 1 ≡ record { llid = groupLlid; took = 1 ∷ 1 ∷ 3 ∷ [] } ∷ []
+  -- the first unit's own line
+  pub sentA : sentNumbers 0 ≡ 1 ∷ 1 ∷ 1 ∷ 1 ∷ []
+  pub arrivedA : arrivedNumbers 0 ≡ 1 ∷ 1 ∷ 1 ∷ 1 ∷ []
+  pub ended : now played ≡ 350

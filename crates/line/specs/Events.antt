@@ -1,36 +1,43 @@
--- The events of a list: calls on the ends, and arrivals. A unit is known by its place among the sites, what is under way by its
--- place in its queue. Arguments are any values. Assumes nothing.
+-- The events of a list: calls on the ends, and arrivals. A unit is known by its place among the sites, a group by its place among the
+-- registered groups, what is under way by its place in its queue. A call that names an LLID means the unit or the group that has it.
+-- Arguments are any values. Assumes nothing.
 use mathlib.Core.List.{List}
 use Prim.Native.Nat.{ℕ}
 use Rattle.clock.specs.declared.Stamps.{Stamps}
-use Rattle.protocol.specs.declared.Acknowledgement.{Acknowledgement}
-use Rattle.protocol.specs.declared.Header.{Header}
 use Rattle.ends.specs.declared.Identity.{Identity}
+use Rattle.protocol.specs.declared.Header.{Header}
 use Rattle.protocol.specs.declared.KeyMessage.{KeyMessage}
+use Rattle.groups.specs.declared.Roster.{Roster}
+use Rattle.groups.specs.declared.Answer.{Answer}
 
 pub data Event : Type 0 where
   -- by n ticks, at all ends
   advance : (n : ℕ) → Event
   -- calls of the OLT; a registration also says which unit is meant
   register : (unit : ℕ) → Identity → (trip interval : ℕ) → Event
+  registerGroup : (llid interval : ℕ) → Roster → Event
   capture : (llid : ℕ) → Event
   clockSend : (llid : ℕ) → Event
   offer : (llid : ℕ) (key : List ℕ) → Event
   retry : (llid : ℕ) → Event
   sendDown : (llid channel : ℕ) (payload out : List ℕ) → Event
-  -- a send of a unit
+  -- calls of a unit
+  join : (unit llid : ℕ) → Event
   sendUp : (unit llid channel : ℕ) (payload out : List ℕ) → Event
-  -- the kth of what is under way to the unit arrives, an envelope with that output
+  -- the kth of what is under way to the unit, of its own or of a group, arrives, an envelope with that output
   arriveDown : (unit k : ℕ) (out : List ℕ) → Event
+  arriveGroup : (unit group k : ℕ) (out : List ℕ) → Event
   -- the kth of the unit's envelopes under way arrives at the OLT
   arriveUp : (unit k : ℕ) (out : List ℕ) → Event
-  -- the kth acknowledgement of the unit arrives at the OLT, which names the unit by that LLID
+  -- the kth acknowledgement of the unit arrives at the OLT, which names the unit by that LLID; the kth of a group's keys
   arriveAnswer : (unit k llid : ℕ) → Event
-  -- a unit overhears the kth envelope that was sent to or by another
+  arriveGroupAnswer : (group k : ℕ) → Event
+  -- a unit overhears the kth envelope that was sent to or by another, or to a group
   overhear : (unit other k : ℕ) (out : List ℕ) → Event
+  overhearGroup : (unit group k : ℕ) (out : List ℕ) → Event
   -- any other receipt
   strayClock : (unit : ℕ) → Stamps → Event
   strayKey : (unit : ℕ) → KeyMessage → Event
-  strayAnswer : (llid : ℕ) → Acknowledgement → Event
+  strayAnswer : (llid : ℕ) → Answer → Event
   strayDown : (unit : ℕ) → Header → (octets out : List ℕ) → Event
   strayUp : Header → (octets out : List ℕ) → Event

@@ -1,244 +1,173 @@
--- What has come to pass on each unit's line, from the calls and their answers alone: no field of an end's record is read here
--- (01, The line). Assumes nothing.
-use mathlib.Core.Bool.{Bool, true, false}
-use mathlib.Core.List.{List, [], _∷_, _++_}
-use Prim.Native.Nat.{ℕ, suc, _+_, _-_, _/_}
+-- What has come to pass on the line, groups included, from the calls and their answers alone: no field of an end's record is read here
+-- (02, C-14; 01, The line). What a unit's own line notes is as without groups. Assumes nothing.
+use mathlib.Core.Bool.{Bool, false}
+use mathlib.Core.List.{List, [], _∷_, _++_, map}
+use Prim.Native.Nat.{ℕ, suc, _+_}
 use lib.Dec.{eqb, ltb}
-use lib.ListN.{length, getD, drop}
-use Rattle.octets.specs.Choice.{both, pick}
-use Rattle.clock.specs.declared.Stamps.{Stamps}
-use Rattle.protocol.specs.Messages.{keyKind}
-use Rattle.protocol.specs.declared.Acknowledgement.{Acknowledgement}
-use Rattle.protocol.specs.declared.Header.{Header}
-use Rattle.protocol.specs.declared.KeyMessage.{KeyMessage}
+use lib.ListN.{length, drop, getD, set}
+use Rattle.octets.specs.Lists.{tabulate}
+use Rattle.octets.specs.Choice.{both, either, pick}
+use Rattle.ends.specs.Identities.{among, llidsOf, meets}
 use Rattle.protocol.specs.declared.Passage.{Passage}
-use Rattle.line.specs.Setting.{Site}
+use Rattle.groups.specs.declared.Answer.{Answer}
+use Rattle.unicast.specs.History as units
+use Rattle.unicast.specs.History.{Envelope, Thing, envelope, Entry, Keys, Lane, due}
+use Rattle.unicast.specs.Run.{freshLane, noSite}
 
--- which way an envelope goes
-pub data Way : Type 0 where
-  downward : Way
-  upward : Way
-
--- an envelope that an accepted send handed over: what it was sent with, what was handed over, what it was sealed with, its number
-pub record Envelope : Type 0 where
-  pub way : Way
-  pub left : ℕ
-  pub llid : ℕ
-  pub channel : ℕ
-  pub payload : List ℕ
-  pub header : Header
-  pub octets : List ℕ
-  pub count : ℕ
-  pub runs : ℕ
-  pub passage : Passage
-  pub number : ℕ
-
--- what is under way to a unit, with the tick at which it left; a clock message also with the tick of its capture
-pub data Thing : Type 0 where
-  clockMessage : Stamps → ℕ → ℕ → Thing
-  keyMessage : KeyMessage → ℕ → Thing
-  envelope : Envelope → Thing
-
-abbrev pub leftAt : Thing → ℕ
-leftAt (clockMessage m c t) = t
-leftAt (keyMessage m t) = t
-leftAt (envelope e) = e .left
-
--- an acknowledgement that an accepted call of the unit handed over, and when
-pub record Answered : Type 0 where
-  pub acknowledgement : Acknowledgement
+-- an acknowledgement of a group's key that an accepted call of that unit handed over, and when
+pub record GroupAnswered : Type 0 where
+  pub unit : ℕ
+  pub answer : Answer
   pub tick : ℕ
 
--- an envelope that arrived where it is meant for: the number, count, runs of the cipher and output of its receipt, and what it was opened with
-pub record Arrival : Type 0 where
+-- an envelope of a group that arrived at a unit: whether the unit had joined the group's LLID by then, and had since accepted the message of
+-- the envelope's key; the number, count, runs and output of its receipt, and what it was opened with
+pub record GroupArrival : Type 0 where
+  pub unit : ℕ
   pub envelope : Envelope
+  pub joined : Bool
+  pub took : Bool
   pub number : ℕ
   pub count : ℕ
   pub runs : ℕ
   pub output : List ℕ
   pub passage : Passage
 
--- the registration of a unit: how many came before it, its tick and its interval
-pub record Entry : Type 0 where
-  pub registered : Bool
-  pub place : ℕ
-  pub since : ℕ
-  pub interval : ℕ
-
--- the unit's keys
-pub record Keys : Type 0 where
-  -- the keys of the accepted offers, in order; whether the last one has an accepted acknowledgement
-  pub offers : List (List ℕ)
-  pub acknowledged : Bool
-  -- the switches so far; the tick of the last, or of the registration
-  pub switches : ℕ
-  pub switched : ℕ
-  -- the number of the last envelope that arrived for the unit, at first 0
-  pub number : ℕ
-
--- what has left and may still arrive, in order, and the unit's acknowledgements
-pub record Transit : Type 0 where
-  pub towards : List Thing
-  pub from : List Envelope
-  pub answered : List Answered
-
--- every accepted send, and every envelope that arrived where it was meant for
-pub record Past : Type 0 where
-  pub sent : List Envelope
-  pub arrived : List Arrival
-
--- one unit's line; captured is the tick of the last accepted capture
-pub record Lane : Type 0 where
-  pub site : Site
+-- one group's line. The nth accepted offer gives key n; `acknowledged` and `number` of the keys are a unit's and stay as they were. What is
+-- under way of the group is a queue for each unit; the units' own queues are beside it: what arrives left its delay ago, so only what left
+-- at one tick could change places, and that is allowed here
+pub record GroupLane : Type 0 where
+  pub llid : ℕ
   pub entry : Entry
-  pub captured : ℕ
+  -- the LLIDs by which its registration named the members
+  pub roster : List ℕ
   pub keys : Keys
-  pub transit : Transit
-  pub past : Past
+  pub towards : List (List Thing)
+  pub answered : List GroupAnswered
+  pub sent : List Envelope
+  pub arrived : List GroupArrival
+
+-- a group that a unit joined, and the numbers of the key messages that it has accepted since
+pub record Membership : Type 0 where
+  pub llid : ℕ
+  pub took : List ℕ
 
 pub record History : Type 0 where
-  -- the ticks of the accepted advances, and the accepted registrations
-  pub now : ℕ
-  pub registrations : ℕ
-  pub lanes : List Lane
+  -- the units' own lines
+  pub units : units.History
+  -- the groups that each unit joined
+  pub joined : List (List Membership)
+  pub groups : List GroupLane
 
--- the nth accepted offer gives key n
-abbrev pub keyOf : Keys → ℕ → List ℕ
-keyOf k n = getD (k .offers) (n - 1) []
+-- a line of no unit
+abbrev pub noLane : Lane
+noLane = freshLane noSite
 
--- a multiple of the interval since registration was reached after the last switch
-unfoldable pub due : Entry → Keys → ℕ → Bool
-due r k now = ltb ((k .switched - r .since) / r .interval) ((now - r .since) / r .interval)
+-- a unit that the group's registration named
+unfoldable pub isMember : GroupLane → Lane → Bool
+isMember g l = both (l .entry .registered) (meets (llidsOf (l .site .identity)) (g .roster))
 
--- an accepted send to the unit is a switch: there is an offer more than switches, acknowledged, and it is due
-unfoldable pub switching : Lane → ℕ → Bool
-switching l now =
-    both (ltb (l .keys .switches) (length (l .keys .offers))) (both (l .keys .acknowledged) (due (l .entry) (l .keys) now))
+-- an accepted send to the group is a switch: there is an offer more than switches, and it is due
+unfoldable pub groupSwitching : GroupLane → ℕ → Bool
+groupSwitching g now = both (ltb (g .keys .switches) (length (g .keys .offers))) (due (g .entry) (g .keys) now)
 
--- the number of an OLT envelope counts the switches to its unit so far, its own too
-unfoldable pub numberDown : Lane → ℕ → ℕ
-numberDown l now = pick (switching l now) (l .keys .switches + 1) (l .keys .switches)
+-- the number of a group's envelope counts the switches so far, its own too
+unfoldable pub groupNumber : GroupLane → ℕ → ℕ
+groupNumber g now = pick (groupSwitching g now) (g .keys .switches + 1) (g .keys .switches)
 
----- what an accepted call or an arrival adds to a lane, at the tick now
+---- what an accepted call or an arrival adds to a group's line
 
-unfoldable pub laneWith : Lane → Keys → Transit → Past → Lane
-laneWith l k t p = record { site = l .site; entry = l .entry; captured = l .captured; keys = k; transit = t; past = p }
-
-unfoldable pub laneRegistered : ℕ → ℕ → ℕ → Lane → Lane
-laneRegistered place now interval l =
+unfoldable pub groupWith : GroupLane → Keys → List (List Thing) → List Envelope → GroupLane
+groupWith g k towards sent =
     record {
-      site = l .site;
-      entry = record { registered = true; place = place; since = now; interval = interval };
-      captured = l .captured;
-      keys =
-          record {
-            offers = l .keys .offers;
-            acknowledged = l .keys .acknowledged;
-            switches = l .keys .switches;
-            switched = now;
-            number = l .keys .number;
-          };
-      transit = l .transit;
-      past = l .past;
+      llid = g .llid;
+      entry = g .entry;
+      roster = g .roster;
+      keys = k;
+      towards = towards;
+      answered = g .answered;
+      sent = sent;
+      arrived = g .arrived;
     }
 
-unfoldable pub laneCaptured : ℕ → Lane → Lane
-laneCaptured now l =
-    record { site = l .site; entry = l .entry; captured = now; keys = l .keys; transit = l .transit; past = l .past }
+-- x leaves for each member among the units
+unfoldable pub leavingFor : GroupLane → List Lane → Thing → List (List Thing)
+leavingFor g ls x =
+    tabulate 0 (length ls) (λ u. pick (isMember g (getD ls u noLane)) (getD (g .towards) u [] ++ (x ∷ [])) (getD (g .towards) u []))
 
--- a message or an envelope leaves for the unit
-unfoldable pub leaving : Transit → Thing → Transit
-leaving t x = record { towards = t .towards ++ (x ∷ []); from = t .from; answered = t .answered }
-
-unfoldable pub laneLeaving : Thing → Lane → Lane
-laneLeaving x l = laneWith l (l .keys) (leaving (l .transit) x) (l .past)
-
-unfoldable pub laneOffered : List ℕ → Lane → Lane
-laneOffered key l =
-    laneWith l
+-- a key message leaves: at an offer, which gives a key more, and at a retry
+unfoldable pub groupOffered : List ℕ → GroupLane → GroupLane
+groupOffered key g =
+    groupWith g
     (record {
-      offers = l .keys .offers ++ (key ∷ []);
-      acknowledged = false;
-      switches = l .keys .switches;
-      switched = l .keys .switched;
-      number = l .keys .number;
+      offers = g .keys .offers ++ (key ∷ []);
+      acknowledged = g .keys .acknowledged;
+      switches = g .keys .switches;
+      switched = g .keys .switched;
+      number = g .keys .number;
     })
-    (l .transit) (l .past)
+    (g .towards) (g .sent)
 
--- an accepted acknowledgement: it counts where it is the last offer's
-unfoldable pub laneAcknowledged : Acknowledgement → Lane → Lane
-laneAcknowledged a l =
-    laneWith l
+unfoldable pub groupLeaving : List Lane → Thing → GroupLane → GroupLane
+groupLeaving ls x g = groupWith g (g .keys) (leavingFor g ls x) (g .sent)
+
+-- an envelope that the OLT sent to the group; where it is a switch, that is counted
+unfoldable pub groupSent : ℕ → List Lane → Envelope → GroupLane → GroupLane
+groupSent now ls e g =
+    groupWith g
     (record {
-      offers = l .keys .offers;
-      acknowledged =
-          pick (both (eqb (a .kind) keyKind) (eqb (a .number) (length (l .keys .offers)))) true (l .keys .acknowledged);
-      switches = l .keys .switches;
-      switched = l .keys .switched;
-      number = l .keys .number;
-    })
-    (l .transit) (l .past)
-
-unfoldable pub sending : Past → Envelope → Past
-sending p e = record { sent = p .sent ++ (e ∷ []); arrived = p .arrived }
-
--- an envelope that the OLT sent to the unit; where it is a switch, that is counted
-unfoldable pub laneSentDown : ℕ → Envelope → Lane → Lane
-laneSentDown now e l =
-    laneWith l
-    (record {
-      offers = l .keys .offers;
-      acknowledged = l .keys .acknowledged;
+      offers = g .keys .offers;
+      acknowledged = g .keys .acknowledged;
       switches = e .number;
-      switched = pick (switching l now) now (l .keys .switched);
-      number = l .keys .number;
+      switched = pick (groupSwitching g now) now (g .keys .switched);
+      number = g .keys .number;
     })
-    (leaving (l .transit) (envelope e)) (sending (l .past) e)
+    (leavingFor g ls (envelope e)) (g .sent ++ (e ∷ []))
 
--- an envelope that the unit sent
-unfoldable pub laneSentUp : Envelope → Lane → Lane
-laneSentUp e l =
-    laneWith l (l .keys)
-    (record { towards = l .transit .towards; from = l .transit .from ++ (e ∷ []); answered = l .transit .answered })
-    (sending (l .past) e)
+-- the kth of what is under way of the group to that unit arrives: what left before it and has not arrived is lost
+unfoldable pub groupTaken : ℕ → ℕ → GroupLane → GroupLane
+groupTaken u k g = groupWith g (g .keys) (set (g .towards) u (drop (suc k) (getD (g .towards) u []))) (g .sent)
 
--- the kth of what is under way to the unit arrives: what left before it and has not arrived is lost
-unfoldable pub laneTaken : ℕ → Lane → Lane
-laneTaken k l =
-    laneWith l (l .keys)
-    (record { towards = drop (suc k) (l .transit .towards); from = l .transit .from; answered = l .transit .answered })
-    (l .past)
+-- a unit's accepted call handed over an acknowledgement of the group's key
+unfoldable pub groupAnswered : GroupAnswered → GroupLane → GroupLane
+groupAnswered a g =
+    record {
+      llid = g .llid;
+      entry = g .entry;
+      roster = g .roster;
+      keys = g .keys;
+      towards = g .towards;
+      answered = g .answered ++ (a ∷ []);
+      sent = g .sent;
+      arrived = g .arrived;
+    }
 
--- the unit's accepted call handed over an acknowledgement
-unfoldable pub laneAnswered : Acknowledgement → ℕ → Lane → Lane
-laneAnswered a now l =
-    laneWith l (l .keys)
-    (record {
-      towards = l .transit .towards;
-      from = l .transit .from;
-      answered = l .transit .answered ++ (record { acknowledgement = a; tick = now } ∷ []);
-    })
-    (l .past)
+unfoldable pub groupArrived : GroupArrival → GroupLane → GroupLane
+groupArrived r g =
+    record {
+      llid = g .llid;
+      entry = g .entry;
+      roster = g .roster;
+      keys = g .keys;
+      towards = g .towards;
+      answered = g .answered;
+      sent = g .sent;
+      arrived = g .arrived ++ (r ∷ []);
+    }
 
-unfoldable pub arriving : Past → Arrival → Past
-arriving p r = record { sent = p .sent; arrived = p .arrived ++ (r ∷ []) }
+---- the groups that a unit joined
 
--- an envelope arrived for the unit: its number is the unit's
-unfoldable pub laneArrivedDown : Arrival → Lane → Lane
-laneArrivedDown r l =
-    laneWith l
-    (record {
-      offers = l .keys .offers;
-      acknowledged = l .keys .acknowledged;
-      switches = l .keys .switches;
-      switched = l .keys .switched;
-      number = r .envelope .number;
-    })
-    (l .transit) (arriving (l .past) r)
+unfoldable pub isJoined : List Membership → ℕ → Bool
+isJoined ms llid = among llid (map (λ (m : Membership). m .llid) ms)
 
--- the kth of the unit's envelopes under way arrived at the OLT
-unfoldable pub laneArrivedUp : ℕ → Arrival → Lane → Lane
-laneArrivedUp k r l =
-    laneWith l (l .keys)
-    (record { towards = l .transit .towards; from = drop (suc k) (l .transit .from); answered = l .transit .answered })
-    (arriving (l .past) r)
+-- since it joined the group's LLID it has accepted the message of key n
+unfoldable pub hasTaken : List Membership → ℕ → ℕ → Bool
+hasTaken [] llid n = false
+hasTaken (m ∷ ms) llid n = either (both (eqb (m .llid) llid) (among n (m .took))) (hasTaken ms llid n)
+
+unfoldable pub joining : ℕ → List Membership → List Membership
+joining llid ms = ms ++ (record { llid = llid; took = [] } ∷ [])
+
+-- the message of key n was accepted
+unfoldable pub taking : ℕ → ℕ → List Membership → List Membership
+taking llid n ms = map (λ (m : Membership). pick (eqb (m .llid) llid) (record { llid = m .llid; took = m .took ++ (n ∷ []) }) m) ms

@@ -1,33 +1,27 @@
--- The theorem on the whole list (demand 3 of 01; 01, The line).
+-- The theorem on the whole list, groups included (demand 3 of 01; 02, C-14).
 --
--- For every OLT and any number of fresh units, and for every list of events that meets the premises, the claim holds of what then
--- has come to pass. In the order of reading:
---   Setting   what a list starts from: the OLT's MAC and first clock, each unit's MAC, LLIDs, LocalTime and delays up and down; the
---             clock at a tick, from these alone
---   History   what has come to pass on each unit's line, from the calls and their answers alone: key n is that of the nth accepted
---             offer, a switch is told from offers, acknowledgements and ticks, an envelope's number from the switches and arrivals
---   Events    advances, the calls of both ends, arrivals (what left earlier and has not arrived is lost), overheard receipts, and any
---             other receipt
---   Run       each event as the definition of its call, the one that the function's contract cites, and what it adds to the history
---   Premises  fresh ends; a registration agrees with its unit (MACs, LLIDs, LocalTime, delays); all keys different; units are
---             registered before they send; what arrives does so its delay after it left, with a fitting buffer; an acknowledgement
---             was handed over at least its delay ago; any other receipt is refused. Calls that are refused are bound by nothing
---   Claim     (0) every accepted send, arrived or lost, sealed under the key of its number and its sender's MAC and clock, and handed
---             over their header, octets, count and runs of the cipher; (1) every envelope that arrived was accepted, opened under that
---             key and counter block, and gave back its payload and count, by as many runs as its send; (2) two sealed envelopes that
---             share a key and a counter block are one, and so are the two block indices; (3) where the switches are n and an envelope
---             numbered n has arrived each way, both ends hold key n as A, C and a, the OLT in the record that has the unit's LLIDs;
---             (4) what another registered unit overhears is refused, 14 for its buffer, else 2 downstream and 1 upstream, and leaves
---             unit and buffer as they were
---   Example   a list that meets the premises, with refused calls of every kind
+-- For every OLT and any number of fresh units, and for every list of events that meets the premises, the claim holds of what then has come
+-- to pass. Setting, and what the units' own lines note, are those of the theorem without groups (unicast). In the order of reading:
+--   History   what has come to pass of groups: key n is that of a group's nth accepted offer, a switch is told from offers and ticks, what is
+--             under way of a group is a queue for each unit; the groups that a unit joined, and which keys' messages it has accepted since
+--   Events    those without groups, and register group, join, what arrives of a group, acknowledgements of its keys, what is overheard of it
+--   Run       each event as the definition of its call, and what it adds to the history; `alone` is the line without the groups
+--   Premises  as without groups; all keys of units and groups different; a member does not overhear its own group's envelopes
+--   Claim     that of the units; (2) no two sealed envelopes, of units and groups together, share a key and a counter block; (4) what is
+--             overheard leaves the unit as it was, and is refused where the unit has not joined the LLID; (5) every accepted send to a group
+--             handed over what number, key, the OLT's MAC and clock give; (6) an envelope of a group that arrived at a unit which had joined
+--             was accepted and gave back payload and count if it was clear, or if the unit had accepted its key's message since; a key that
+--             the unit acknowledged brings it back; what arrives of a group leaves the units' own lines
+--   Without   lists without groups and joins run as before
+--   Example   a list with a group that meets the premises: one of two members misses a key and comes back
 --   Course    how it runs: which calls were refused, what was sent and what arrived
 --   Demand    the theorem as one statement, and what it says of the example
-pub mod Setting
 pub mod History
 pub mod Events
 pub mod Run
 pub mod Premises
 pub mod Claim
+pub mod Without
 pub mod Example
 pub mod Course
 pub mod Demand

@@ -1,306 +1,396 @@
--- How a list of events runs: each event is the definition of its call, on the ends as the last call left them, and what it adds
--- to the history. Assumes nothing.
-use mathlib.Core.Bool.{Bool, false}
-use mathlib.Core.List.{List, [], _∷_, map}
+-- How a list of events runs: each event is the definition of its call, on the ends as the last call left them, and what it adds to the
+-- history. A unit's own line notes it as without groups. Assumes nothing.
+use mathlib.Core.Bool.{true, false}
+use mathlib.Core.List.{List, [], _∷_, _++_, map}
 use Prim.Native.Nat.{ℕ, _+_}
 use lib.Dec.{eqb}
-use lib.ListN.{getD, set}
-use Rattle.octets.specs.Choice.{both, pick}
+use lib.ListN.{length, getD, set, replicate}
+use Rattle.octets.specs.Choice.{pick}
 use Rattle.octets.specs.Output.{WithOutput}
 use Rattle.envelope.specs.ControlMask.{eqsOf}
-use Rattle.protocol.specs.Headers.{noSending}
-use Rattle.ends.specs.Identities.{has, noIdentity}
+use Rattle.ends.specs.Identities.{noIdentity}
 use Rattle.ends.specs.Records.{newOnu}
-use Rattle.protocol.specs.OltCalls.{freshOltOf, registerOf, advanceOltOf, captureOf, clockSendOf, offerOf, retryOf, acknowledgeOf}
-use Rattle.protocol.specs.OnuCalls.{freshOnuOf, advanceOnuOf, clockMessageAt, keyMessageAt}
+use Rattle.protocol.specs.Headers.{noSending, noPassage}
 use Rattle.protocol.specs.OltTraffic.{sendingOlt, receivingOlt}
 use Rattle.protocol.specs.OnuTraffic.{sendingOnu, receivingOnu}
 use Rattle.protocol.specs.declared.Acknowledgement.{Acknowledgement}
 use Rattle.protocol.specs.declared.ClockSent.{ClockSent}
 use Rattle.protocol.specs.declared.KeySent.{KeySent}
-use Rattle.ends.specs.declared.Olt.{Olt}
-use Rattle.ends.specs.declared.Onu.{Onu}
-use Rattle.protocol.specs.declared.OnuAcknowledged.{OnuAcknowledged}
+use Rattle.protocol.specs.declared.KeyMessage.{KeyMessage}
+use Rattle.protocol.specs.declared.Passage.{Passage}
 use Rattle.traffic.specs.Passages.{misfit}
-use Rattle.traffic.specs.Sends.{oltSendOf, onuSendOf}
-use Rattle.traffic.specs.Receipts.{oltReceiveOf, onuReceiveOf}
-use Rattle.traffic.specs.declared.OnuReceived.{OnuReceived}
-use Rattle.line.specs.Setting.{Site, Setting}
-use Rattle.line.specs.History.{downward, upward, Envelope, Thing, clockMessage, keyMessage, envelope, Answered, Arrival, Lane, History, numberDown, laneRegistered, laneCaptured, laneLeaving, laneOffered, laneAcknowledged, laneSentDown, laneSentUp, laneTaken, laneAnswered, laneArrivedDown, laneArrivedUp}
-use Rattle.line.specs.Events.{Event, advance, register, capture, clockSend, offer, retry, sendDown, sendUp, arriveDown, arriveUp, arriveAnswer, overhear, strayClock, strayKey, strayAnswer, strayDown, strayUp}
+use Rattle.groups.specs.Members.{rosterLlids}
+use Rattle.groups.specs.Head.{findGroup}
+use Rattle.groups.specs.GroupCalls.{sendGroup}
+use Rattle.groups.specs.Subscriber.{noMemberships, findJoined}
+use Rattle.groups.specs.JoinedCalls.{noAnswer, receiveJoined}
+use Rattle.groups.specs.declared.HeadEnd.{HeadEnd}
+use Rattle.groups.specs.declared.Subscriber.{Subscriber}
+use Rattle.groups.specs.declared.Roster.{Roster}
+use Rattle.groups.specs.declared.Answer.{Answer}
+use Rattle.multicast.specs.Naming.{byLlid, groupLift}
+use Rattle.multicast.specs.HeadCalls.{freshHeadOf, headRegisterOf, registerGroupOf, headAdvanceOf, headCaptureOf, headClockSendOf, headOfferOf, headRetryOf, headAcknowledgeOf}
+use Rattle.multicast.specs.HeadTraffic.{sendAhead, headSendOf, headReceiveOf}
+use Rattle.multicast.specs.SubscriberCalls.{freshSubscriberOf, joinOf, subscriberAdvanceOf, subscriberClockMessageOf, subscriberKeyMessageOf, ownAnswer, joinedLift}
+use Rattle.multicast.specs.SubscriberTraffic.{subscriberSendOf, subscriberReceiveOf}
+use Rattle.multicast.specs.declared.HeadClockSent.{HeadClockSent}
+use Rattle.multicast.specs.declared.HeadKeySent.{HeadKeySent}
+use Rattle.multicast.specs.declared.SubscriberAcknowledged.{SubscriberAcknowledged}
+use Rattle.multicast.specs.declared.SubscriberReceived.{SubscriberReceived}
+use Rattle.unicast.specs.Setting.{Site, Setting}
+use Rattle.unicast.specs.History as units
+use Rattle.unicast.specs.History.{downward, upward, Envelope, Thing, clockMessage, keyMessage, envelope, Arrival, Lane, numberDown, laneCaptured, laneSentDown, laneSentUp, laneTaken, laneAnswered, laneArrivedDown, laneArrivedUp, laneAcknowledged}
+use Rattle.unicast.specs.Run as run
+use Rattle.unicast.specs.Run.{accepted, noted, atOlt, atOnu, atOltFor, entering, clockSending, offering, retrying, thingAt, envelopeAt, sentAt, answerAt, noEnvelope}
+use Rattle.line.specs.History.{GroupAnswered, GroupArrival, GroupLane, Membership, History, groupNumber, groupOffered, groupLeaving, groupSent, groupTaken, groupAnswered, groupArrived, isJoined, hasTaken, joining, taking}
+use Rattle.line.specs.Events.{Event, advance, register, registerGroup, capture, clockSend, offer, retry, sendDown, join, sendUp, arriveDown, arriveGroup, arriveUp, arriveAnswer, arriveGroupAnswer, overhear, overhearGroup, strayClock, strayKey, strayAnswer, strayDown, strayUp}
 
 -- the ends and the history
 pub record State : Type 0 where
-  pub olt : Olt
-  pub onus : List Onu
+  pub head : HeadEnd
+  pub subscribers : List Subscriber
   pub history : History
+
+-- the OLT, the units and their own lines, without the groups
+unfoldable pub alone : State → run.State
+alone s =
+    record { olt = s .head .olt; onus = map (λ (x : Subscriber). x .onu) (s .subscribers); history = s .history .units }
 
 ---- the start: fresh ends, nothing has happened
 
-unfoldable pub freshLane : Site → Lane
-freshLane s =
-    record {
-      site = s;
-      entry = record { registered = false; place = 0; since = 0; interval = 0 };
-      captured = 0;
-      keys = record { offers = []; acknowledged = false; switches = 0; switched = 0; number = 0 };
-      transit = record { towards = []; from = []; answered = [] };
-      past = record { sent = []; arrived = [] };
-    }
-
-unfoldable pub freshOnu : Site → Onu
-freshOnu s = freshOnuOf (s .identity) (s .oltmac) (s .time) .onu
+unfoldable pub freshSubscriber : Site → Subscriber
+freshSubscriber s = freshSubscriberOf (s .identity) (s .oltmac) (s .time) .subscriber
 
 unfoldable pub start : Setting → State
 start w =
     record {
-      olt = freshOltOf (w .mac) (w .first) .olt;
-      onus = map freshOnu (w .sites);
-      history = record { now = 0; registrations = 0; lanes = map freshLane (w .sites) };
+      head = freshHeadOf (w .mac) (w .first) .head;
+      subscribers = map freshSubscriber (w .sites);
+      history =
+          record { units = run.start w .history; joined = replicate (length (w .sites)) []; groups = [] };
     }
 
----- places that no unit has
-
-abbrev pub noSite : Site
-noSite = record { identity = noIdentity; oltmac = 0; time = 0; up = 0; down = 0 }
+---- places that no unit and no group has
 
 -- an end of zeros, which no call accepts
-abbrev pub onuAt : State → ℕ → Onu
-onuAt s u = getD (s .onus) u (newOnu noIdentity 0 0)
+unfoldable pub noSubscriber : Subscriber
+noSubscriber = record { onu = newOnu noIdentity 0 0; memberships = noMemberships }
 
-abbrev pub laneAt : State → ℕ → Lane
-laneAt s u = getD (s .history .lanes) u (freshLane noSite)
+abbrev pub subscriberAt : State → ℕ → Subscriber
+subscriberAt s u = getD (s .subscribers) u noSubscriber
+
+abbrev pub joinedBy : State → ℕ → List Membership
+joinedBy s u = getD (s .history .joined) u []
+
+unfoldable pub noGroupLane : GroupLane
+noGroupLane =
+    record {
+      llid = 0;
+      entry = record { registered = false; place = 0; since = 0; interval = 0 };
+      roster = [];
+      keys = record { offers = []; acknowledged = false; switches = 0; switched = 0; number = 0 };
+      towards = [];
+      answered = [];
+      sent = [];
+      arrived = [];
+    }
+
+abbrev pub groupLaneAt : State → ℕ → GroupLane
+groupLaneAt s g = getD (s .history .groups) g noGroupLane
+
+abbrev pub now : State → ℕ
+now s = s .history .units .now
+
+abbrev pub lanes : State → List Lane
+lanes s = s .history .units .lanes
 
 ---- how a call is added
 
--- acceptance returns 0
-abbrev pub accepted : ℕ → Bool
-accepted number = eqb number 0
+-- where the call was accepted, to the group that has the LLID
+unfoldable pub notedFor : ℕ → ℕ → (GroupLane → GroupLane) → List GroupLane → List GroupLane
+notedFor number llid f gs = map (λ (g : GroupLane). pick (accepted number) (pick (eqb (g .llid) llid) (f g) g) g) gs
 
--- where the call was accepted
-unfoldable pub noted : ℕ → (Lane → Lane) → Lane → Lane
-noted number f l = pick (accepted number) (f l) l
-
--- the lane of the registered unit that has the LLID
-unfoldable pub named : ℕ → (Lane → Lane) → Lane → Lane
-named llid f l = pick (both (l .entry .registered) (has (l .site .identity) llid)) (f l) l
-
-unfoldable pub withLanes : History → List Lane → History
-withLanes h ls = record { now = h .now; registrations = h .registrations; lanes = ls }
-
--- a call on the OLT that names a unit by its LLID
-unfoldable pub atOlt : State → Olt → ℕ → ℕ → (Lane → Lane) → State
-atOlt s o number llid f =
-    record { olt = o; onus = s .onus; history = withLanes (s .history) (map (noted number (named llid f)) (s .history .lanes)) }
+-- a call on the head end
+unfoldable pub atHead : State → HeadEnd → units.History → List GroupLane → State
+atHead s h us gs =
+    record { head = h; subscribers = s .subscribers; history = record { units = us; joined = s .history .joined; groups = gs } }
 
 -- a call on a unit
-unfoldable pub atOnu : State → ℕ → Onu → (Lane → Lane) → State
-atOnu s u o f =
-    record {
-      olt = s .olt;
-      onus = set (s .onus) u o;
-      history = withLanes (s .history) (set (s .history .lanes) u (f (laneAt s u)));
-    }
+unfoldable pub atUnit : State → ℕ → Subscriber → units.History → List (List Membership) → List GroupLane → State
+atUnit s u x us js gs =
+    record { head = s .head; subscribers = set (s .subscribers) u x; history = record { units = us; joined = js; groups = gs } }
 
--- a call on the OLT, of which the lane of unit u is told
-unfoldable pub atOltFor : State → ℕ → Olt → (Lane → Lane) → State
-atOltFor s u o f =
-    record { olt = o; onus = s .onus; history = withLanes (s .history) (set (s .history .lanes) u (f (laneAt s u))) }
+-- a call on a unit of which only its own line is told
+unfoldable pub atUnitAlone : State → ℕ → Subscriber → (Lane → Lane) → State
+atUnitAlone s u x f = atUnit s u x (atOnu (alone s) u (x .onu) f .history) (s .history .joined) (s .history .groups)
 
 ---- the events
 
 unfoldable pub advancing : State → ℕ → State
 advancing s n =
     record {
-      olt = advanceOltOf (s .olt) n .olt;
-      onus = map (λ o. advanceOnuOf o n .onu) (s .onus);
+      head = headAdvanceOf (s .head) n .head;
+      subscribers = map (λ x. subscriberAdvanceOf x n .subscriber) (s .subscribers);
       history =
           record {
-            now = pick (accepted (advanceOltOf (s .olt) n .number)) (s .history .now + n) (s .history .now);
-            registrations = s .history .registrations;
-            lanes = s .history .lanes;
+            units =
+                record {
+                  now = pick (accepted (headAdvanceOf (s .head) n .number)) (now s + n) (now s);
+                  registrations = s .history .units .registrations;
+                  lanes = lanes s;
+                };
+            joined = s .history .joined;
+            groups = s .history .groups;
           };
     }
 
-unfoldable pub entering : State → ℕ → ℕ → ℕ → Olt → State
-entering s u interval number o =
+unfoldable pub registering : State → ℕ → ℕ → ℕ → HeadEnd → State
+registering s u interval number h = atHead s h (entering (alone s) u interval number (h .olt) .history) (s .history .groups)
+
+-- a group of that LLID, interval and roster, as it is registered
+unfoldable pub newGroupLane : State → ℕ → ℕ → Roster → GroupLane
+newGroupLane s llid interval r =
     record {
-      olt = o;
-      onus = s .onus;
-      history =
-          record {
-            now = s .history .now;
-            registrations = pick (accepted number) (s .history .registrations + 1) (s .history .registrations);
-            lanes =
-                set (s .history .lanes) u
-                (noted number (laneRegistered (s .history .registrations) (s .history .now) interval) (laneAt s u));
-          };
+      llid = llid;
+      entry = record { registered = true; place = length (s .history .groups); since = now s; interval = interval };
+      roster = rosterLlids r;
+      keys = record { offers = []; acknowledged = false; switches = 0; switched = now s; number = 0 };
+      towards = replicate (length (lanes s)) [];
+      answered = [];
+      sent = [];
+      arrived = [];
     }
 
-unfoldable pub clockSending : State → ℕ → ClockSent → State
-clockSending s llid r =
-    atOlt s (r .olt) (r .number) llid (λ l. laneLeaving (clockMessage (r .message) (l .captured) (s .history .now)) l)
+unfoldable pub registeringGroup : State → ℕ → ℕ → Roster → State
+registeringGroup s llid interval r =
+    atHead s (registerGroupOf (s .head) llid interval r .head) (s .history .units)
+    (pick (accepted (registerGroupOf (s .head) llid interval r .number)) (s .history .groups ++ (newGroupLane s llid interval r ∷ []))
+    (s .history .groups))
 
-unfoldable pub offering : State → ℕ → List ℕ → KeySent → State
-offering s llid key r =
-    atOlt s (r .olt) (r .number) llid (λ l. laneLeaving (keyMessage (r .message) (s .history .now)) (laneOffered key l))
+-- what a unit's line is told of a call: the answer without the groups
+unfoldable pub clockSentAlone : HeadClockSent → ClockSent
+clockSentAlone r = record { number = r .number; olt = r .head .olt; message = r .message }
 
-unfoldable pub retrying : State → ℕ → KeySent → State
-retrying s llid r = atOlt s (r .olt) (r .number) llid (λ l. laneLeaving (keyMessage (r .message) (s .history .now)) l)
+unfoldable pub keySentAlone : HeadKeySent → KeySent
+keySentAlone r = record { number = r .number; olt = r .head .olt; message = r .message }
+
+unfoldable pub clockSendingTo : State → ℕ → HeadClockSent → State
+clockSendingTo s llid r = atHead s (r .head) (clockSending (alone s) llid (clockSentAlone r) .history) (s .history .groups)
+
+unfoldable pub offeringTo : State → ℕ → List ℕ → HeadKeySent → State
+offeringTo s llid key r =
+    atHead s (r .head) (offering (alone s) llid key (keySentAlone r) .history)
+    (notedFor (r .number) llid (λ g. groupLeaving (lanes s) (keyMessage (r .message) (now s)) (groupOffered key g)) (s .history .groups))
+
+unfoldable pub retryingTo : State → ℕ → HeadKeySent → State
+retryingTo s llid r =
+    atHead s (r .head) (retrying (alone s) llid (keySentAlone r) .history)
+    (notedFor (r .number) llid (groupLeaving (lanes s) (keyMessage (r .message) (now s))) (s .history .groups))
+
+-- what a send of the OLT sealed under
+unfoldable pub headPassage : HeadEnd → ℕ → ℕ → List ℕ → List ℕ → Passage
+headPassage h llid channel p out =
+    byLlid (findGroup h llid) (sendingOlt (h .olt) (misfit p out) llid channel (eqsOf p) .handed .passage)
+    (λ i. groupLift h noSending (sendAhead p out channel) (λ o g. sendGroup llid channel (eqsOf p) (o .shared) g) i .handed .passage)
 
 -- the envelope of the OLT's send at the tick now, under that number
-unfoldable pub envelopeDown : ℕ → Olt → ℕ → ℕ → List ℕ → List ℕ → ℕ → Envelope
-envelopeDown now o llid channel p out number =
+unfoldable pub envelopeDown : ℕ → HeadEnd → ℕ → ℕ → List ℕ → List ℕ → ℕ → Envelope
+envelopeDown tick h llid channel p out number =
     record {
       way = downward;
-      left = now;
+      left = tick;
       llid = llid;
       channel = channel;
       payload = p;
-      header = oltSendOf o llid channel p out .answer .header;
-      octets = oltSendOf o llid channel p out .output;
-      count = oltSendOf o llid channel p out .answer .count;
-      runs = oltSendOf o llid channel p out .answer .runs;
-      passage = sendingOlt o (misfit p out) llid channel (eqsOf p) .handed .passage;
+      header = headSendOf h llid channel p out .answer .header;
+      octets = headSendOf h llid channel p out .output;
+      count = headSendOf h llid channel p out .answer .count;
+      runs = headSendOf h llid channel p out .answer .runs;
+      passage = headPassage h llid channel p out;
       number = number;
     }
 
 unfoldable pub sendingDown : State → ℕ → ℕ → List ℕ → List ℕ → State
 sendingDown s llid channel p out =
-    atOlt s (oltSendOf (s .olt) llid channel p out .answer .olt) (oltSendOf (s .olt) llid channel p out .answer .number) llid
-    (λ l.
-    laneSentDown (s .history .now) (envelopeDown (s .history .now) (s .olt) llid channel p out (numberDown l (s .history .now))) l)
+    atHead s (headSendOf (s .head) llid channel p out .answer .head)
+    (atOlt (alone s) (headSendOf (s .head) llid channel p out .answer .head .olt) (headSendOf (s .head) llid channel p out .answer .number) llid
+    (λ l. laneSentDown (now s) (envelopeDown (now s) (s .head) llid channel p out (numberDown l (now s))) l)
+    .history)
+    (notedFor (headSendOf (s .head) llid channel p out .answer .number) llid
+    (λ g. groupSent (now s) (lanes s) (envelopeDown (now s) (s .head) llid channel p out (groupNumber g (now s))) g)
+    (s .history .groups))
+
+unfoldable pub joiningAt : State → ℕ → ℕ → State
+joiningAt s u llid =
+    atUnit s u (joinOf (subscriberAt s u) llid .subscriber) (s .history .units)
+    (pick (accepted (joinOf (subscriberAt s u) llid .number)) (set (s .history .joined) u (joining llid (joinedBy s u))) (s .history .joined))
+    (s .history .groups)
 
 -- the envelope of a unit's send
-unfoldable pub envelopeUp : ℕ → Onu → ℕ → ℕ → List ℕ → List ℕ → ℕ → Envelope
-envelopeUp now o llid channel p out number =
+unfoldable pub envelopeUp : ℕ → Subscriber → ℕ → ℕ → List ℕ → List ℕ → ℕ → Envelope
+envelopeUp tick x llid channel p out number =
     record {
       way = upward;
-      left = now;
+      left = tick;
       llid = llid;
       channel = channel;
       payload = p;
-      header = onuSendOf o llid channel p out .answer .header;
-      octets = onuSendOf o llid channel p out .output;
-      count = onuSendOf o llid channel p out .answer .count;
-      runs = onuSendOf o llid channel p out .answer .runs;
-      passage = sendingOnu o (misfit p out) llid channel (eqsOf p) .handed .passage;
+      header = subscriberSendOf x llid channel p out .answer .header;
+      octets = subscriberSendOf x llid channel p out .output;
+      count = subscriberSendOf x llid channel p out .answer .count;
+      runs = subscriberSendOf x llid channel p out .answer .runs;
+      passage = sendingOnu (x .onu) (misfit p out) llid channel (eqsOf p) .handed .passage;
       number = number;
     }
 
 unfoldable pub sendingUp : State → ℕ → ℕ → ℕ → List ℕ → List ℕ → State
 sendingUp s u llid channel p out =
-    atOnu s u (onuSendOf (onuAt s u) llid channel p out .answer .onu)
-    (noted (onuSendOf (onuAt s u) llid channel p out .answer .number)
-    (λ l. laneSentUp (envelopeUp (s .history .now) (onuAt s u) llid channel p out (l .keys .number)) l))
+    atUnitAlone s u (subscriberSendOf (subscriberAt s u) llid channel p out .answer .subscriber)
+    (noted (subscriberSendOf (subscriberAt s u) llid channel p out .answer .number)
+    (λ l. laneSentUp (envelopeUp (now s) (subscriberAt s u) llid channel p out (l .keys .number)) l))
 
--- the unit's answer to a message that arrived
-unfoldable pub messageArriving : State → ℕ → ℕ → OnuAcknowledged → State
+-- an acknowledgement without the unit that it names
+unfoldable pub answerAlone : Answer → Acknowledgement
+answerAlone a = record { kind = a .kind; number = a .number }
+
+-- the unit's answer to a message of its own that arrived
+unfoldable pub messageArriving : State → ℕ → ℕ → SubscriberAcknowledged → State
 messageArriving s u k r =
-    atOnu s u (r .onu) (λ l. noted (r .number) (laneAnswered (r .acknowledgement) (s .history .now)) (laneTaken k l))
+    atUnitAlone s u (r .subscriber) (λ l. noted (r .number) (laneAnswered (answerAlone (r .answer)) (now s)) (laneTaken k l))
+
+abbrev pub receiving : State → ℕ → Envelope → List ℕ → WithOutput SubscriberReceived
+receiving s u e out = subscriberReceiveOf (subscriberAt s u) (e .header) (e .octets) out
 
 -- the receipt of an envelope that arrived for the unit
 unfoldable pub receiptDown : State → ℕ → Envelope → List ℕ → Arrival
 receiptDown s u e out =
     record {
       envelope = e;
-      number = onuReceiveOf (onuAt s u) (e .header) (e .octets) out .answer .number;
-      count = onuReceiveOf (onuAt s u) (e .header) (e .octets) out .answer .count;
-      runs = onuReceiveOf (onuAt s u) (e .header) (e .octets) out .answer .runs;
-      output = onuReceiveOf (onuAt s u) (e .header) (e .octets) out .output;
-      passage = receivingOnu (onuAt s u) (misfit (e .octets) out) (e .header) .handed;
+      number = receiving s u e out .answer .number;
+      count = receiving s u e out .answer .count;
+      runs = receiving s u e out .answer .runs;
+      output = receiving s u e out .output;
+      passage = receivingOnu (subscriberAt s u .onu) (misfit (e .octets) out) (e .header) .handed;
     }
-
-unfoldable pub envelopeArriving : State → ℕ → ℕ → Envelope → List ℕ → State
-envelopeArriving s u k e out =
-    atOnu s u (onuReceiveOf (onuAt s u) (e .header) (e .octets) out .answer .onu)
-    (λ l. laneArrivedDown (receiptDown s u e out) (laneTaken k l))
 
 unfoldable pub thingArriving : State → ℕ → ℕ → List ℕ → Thing → State
-thingArriving s u k out (clockMessage m c t) = messageArriving s u k (clockMessageAt (onuAt s u) m)
-thingArriving s u k out (keyMessage m t) = messageArriving s u k (keyMessageAt (onuAt s u) m)
-thingArriving s u k out (envelope e) = envelopeArriving s u k e out
+thingArriving s u k out (clockMessage m c t) = messageArriving s u k (subscriberClockMessageOf (subscriberAt s u) m)
+thingArriving s u k out (keyMessage m t) = messageArriving s u k (subscriberKeyMessageOf (subscriberAt s u) m)
+thingArriving s u k out (envelope e) =
+    atUnitAlone s u (receiving s u e out .answer .subscriber) (λ l. laneArrivedDown (receiptDown s u e out) (laneTaken k l))
 
--- an envelope that never was: of zeros
-unfoldable pub noEnvelope : Envelope
-noEnvelope =
+---- of groups
+
+abbrev pub groupThingAt : State → ℕ → ℕ → ℕ → Thing
+groupThingAt s u g k = getD (getD (groupLaneAt s g .towards) u []) k (envelope noEnvelope)
+
+-- the unit's answer to a group's key message that arrived
+unfoldable pub groupMessageArriving : State → ℕ → ℕ → ℕ → KeyMessage → SubscriberAcknowledged → State
+groupMessageArriving s u g k m r =
+    atUnit s u (r .subscriber) (s .history .units)
+    (pick (accepted (r .number)) (set (s .history .joined) u (taking (m .llid) (m .number) (joinedBy s u))) (s .history .joined))
+    (set (s .history .groups) g
+    (pick (accepted (r .number)) (groupAnswered (record { unit = u; answer = r .answer; tick = now s }) (groupTaken u k (groupLaneAt s g)))
+    (groupTaken u k (groupLaneAt s g))))
+
+-- what a group's envelope is opened under at a unit that joined the group
+unfoldable pub groupPassage : Subscriber → Envelope → List ℕ → Passage
+groupPassage x e out =
+    byLlid (findJoined x (e .header .llid)) (receivingOnu (x .onu) (misfit (e .octets) out) (e .header) .handed)
+    (λ i. joinedLift x noPassage (receiveJoined (misfit (e .octets) out) (e .header)) i .handed)
+
+unfoldable pub groupReceipt : State → ℕ → Envelope → List ℕ → GroupArrival
+groupReceipt s u e out =
     record {
-      way = downward;
-      left = 0;
-      llid = 0;
-      channel = 0;
-      payload = [];
-      header = noSending .header;
-      octets = [];
-      count = 0;
-      runs = 0;
-      passage = noSending .passage;
-      number = 0;
+      unit = u;
+      envelope = e;
+      joined = isJoined (joinedBy s u) (e .llid);
+      took = hasTaken (joinedBy s u) (e .llid) (e .number);
+      number = receiving s u e out .answer .number;
+      count = receiving s u e out .answer .count;
+      runs = receiving s u e out .answer .runs;
+      output = receiving s u e out .output;
+      passage = groupPassage (subscriberAt s u) e out;
     }
 
-abbrev pub thingAt : State → ℕ → ℕ → Thing
-thingAt s u k = getD (laneAt s u .transit .towards) k (envelope noEnvelope)
+-- no clock message is a group's
+unfoldable pub groupThingArriving : State → ℕ → ℕ → ℕ → List ℕ → Thing → State
+groupThingArriving s u g k out (clockMessage m c t) = s
+groupThingArriving s u g k out (keyMessage m t) = groupMessageArriving s u g k m (subscriberKeyMessageOf (subscriberAt s u) m)
+groupThingArriving s u g k out (envelope e) =
+    atUnit s u (receiving s u e out .answer .subscriber) (s .history .units) (s .history .joined)
+    (set (s .history .groups) g (groupArrived (groupReceipt s u e out) (groupTaken u k (groupLaneAt s g))))
 
-abbrev pub envelopeAt : State → ℕ → ℕ → Envelope
-envelopeAt s u k = getD (laneAt s u .transit .from) k noEnvelope
+abbrev pub groupAnswerAt : State → ℕ → ℕ → GroupAnswered
+groupAnswerAt s g k = getD (groupLaneAt s g .answered) k (record { unit = 0; answer = noAnswer; tick = 0 })
 
-abbrev pub sentAt : State → ℕ → ℕ → Envelope
-sentAt s u k = getD (laneAt s u .past .sent) k noEnvelope
-
--- a unit's receipt of the kth envelope that was sent to or by another
-abbrev pub overhearing : State → ℕ → ℕ → ℕ → List ℕ → WithOutput OnuReceived
-overhearing s u other k out = onuReceiveOf (onuAt s u) (sentAt s other k .header) (sentAt s other k .octets) out
-
-abbrev pub answerAt : State → ℕ → ℕ → Answered
-answerAt s u k = getD (laneAt s u .transit .answered) k (record { acknowledgement = record { kind = 0; number = 0 }; tick = 0 })
+---- what arrives at the OLT
 
 unfoldable pub receiptUp : State → Envelope → List ℕ → Arrival
 receiptUp s e out =
     record {
       envelope = e;
-      number = oltReceiveOf (s .olt) (e .header) (e .octets) out .answer .number;
-      count = oltReceiveOf (s .olt) (e .header) (e .octets) out .answer .count;
-      runs = oltReceiveOf (s .olt) (e .header) (e .octets) out .answer .runs;
-      output = oltReceiveOf (s .olt) (e .header) (e .octets) out .output;
-      passage = receivingOlt (s .olt) (misfit (e .octets) out) (e .header) .handed;
+      number = headReceiveOf (s .head) (e .header) (e .octets) out .answer .number;
+      count = headReceiveOf (s .head) (e .header) (e .octets) out .answer .count;
+      runs = headReceiveOf (s .head) (e .header) (e .octets) out .answer .runs;
+      output = headReceiveOf (s .head) (e .header) (e .octets) out .output;
+      passage = receivingOlt (s .head .olt) (misfit (e .octets) out) (e .header) .handed;
     }
 
 unfoldable pub arrivingUp : State → ℕ → ℕ → Envelope → List ℕ → State
 arrivingUp s u k e out =
-    atOltFor s u (oltReceiveOf (s .olt) (e .header) (e .octets) out .answer .olt) (laneArrivedUp k (receiptUp s e out))
+    atHead s (headReceiveOf (s .head) (e .header) (e .octets) out .answer .head)
+    (atOltFor (alone s) u (headReceiveOf (s .head) (e .header) (e .octets) out .answer .head .olt) (laneArrivedUp k (receiptUp s e out)) .history)
+    (s .history .groups)
 
 unfoldable pub answering : State → ℕ → Acknowledgement → State
 answering s llid a =
-    atOlt s (acknowledgeOf (s .olt) llid a .olt) (acknowledgeOf (s .olt) llid a .number) llid (laneAcknowledged a)
+    atHead s (headAcknowledgeOf (s .head) llid (ownAnswer a) .head)
+    (atOlt (alone s) (headAcknowledgeOf (s .head) llid (ownAnswer a) .head .olt) (headAcknowledgeOf (s .head) llid (ownAnswer a) .number) llid
+    (laneAcknowledged a)
+    .history)
+    (s .history .groups)
 
--- a receipt that is told to no lane: it leaves what the end answers with
-unfoldable pub unitAfter : State → ℕ → Onu → State
-unitAfter s u o = record { olt = s .olt; onus = set (s .onus) u o; history = s .history }
+---- a receipt that is told to no line: it leaves what the end answers with
 
-unfoldable pub oltAfter : State → Olt → State
-oltAfter s o = record { olt = o; onus = s .onus; history = s .history }
+unfoldable pub subscriberAfter : State → ℕ → Subscriber → State
+subscriberAfter s u x = record { head = s .head; subscribers = set (s .subscribers) u x; history = s .history }
+
+unfoldable pub headAfter : State → HeadEnd → State
+headAfter s h = record { head = h; subscribers = s .subscribers; history = s .history }
+
+-- the kth envelope that was sent to a group
+abbrev pub groupSentAt : State → ℕ → ℕ → Envelope
+groupSentAt s g k = getD (groupLaneAt s g .sent) k noEnvelope
 
 unfoldable pub step : State → Event → State
 step s (advance n) = advancing s n
 step s (register u i trip interval) =
-    entering s u interval (registerOf (s .olt) i trip interval .number) (registerOf (s .olt) i trip interval .olt)
+    registering s u interval (headRegisterOf (s .head) i trip interval .number) (headRegisterOf (s .head) i trip interval .head)
+step s (registerGroup llid interval r) = registeringGroup s llid interval r
 step s (capture llid) =
-    atOlt s (captureOf (s .olt) llid .olt) (captureOf (s .olt) llid .number) llid (laneCaptured (s .history .now))
-step s (clockSend llid) = clockSending s llid (clockSendOf (s .olt) llid)
-step s (offer llid key) = offering s llid key (offerOf (s .olt) llid key)
-step s (retry llid) = retrying s llid (retryOf (s .olt) llid)
+    atHead s (headCaptureOf (s .head) llid .head)
+    (atOlt (alone s) (headCaptureOf (s .head) llid .head .olt) (headCaptureOf (s .head) llid .number) llid (laneCaptured (now s)) .history)
+    (s .history .groups)
+step s (clockSend llid) = clockSendingTo s llid (headClockSendOf (s .head) llid)
+step s (offer llid key) = offeringTo s llid key (headOfferOf (s .head) llid key)
+step s (retry llid) = retryingTo s llid (headRetryOf (s .head) llid)
 step s (sendDown llid channel p out) = sendingDown s llid channel p out
+step s (join u llid) = joiningAt s u llid
 step s (sendUp u llid channel p out) = sendingUp s u llid channel p out
-step s (arriveDown u k out) = thingArriving s u k out (thingAt s u k)
-step s (arriveUp u k out) = arrivingUp s u k (envelopeAt s u k) out
-step s (arriveAnswer u k llid) = answering s llid (answerAt s u k .acknowledgement)
-step s (overhear u other k out) = unitAfter s u (overhearing s u other k out .answer .onu)
-step s (strayClock u m) = unitAfter s u (clockMessageAt (onuAt s u) m .onu)
-step s (strayKey u m) = unitAfter s u (keyMessageAt (onuAt s u) m .onu)
-step s (strayAnswer llid a) = oltAfter s (acknowledgeOf (s .olt) llid a .olt)
-step s (strayDown u h p out) = unitAfter s u (onuReceiveOf (onuAt s u) h p out .answer .onu)
-step s (strayUp h p out) = oltAfter s (oltReceiveOf (s .olt) h p out .answer .olt)
+step s (arriveDown u k out) = thingArriving s u k out (thingAt (alone s) u k)
+step s (arriveGroup u g k out) = groupThingArriving s u g k out (groupThingAt s u g k)
+step s (arriveUp u k out) = arrivingUp s u k (envelopeAt (alone s) u k) out
+step s (arriveAnswer u k llid) = answering s llid (answerAt (alone s) u k .acknowledgement)
+step s (arriveGroupAnswer g k) = headAfter s (headAcknowledgeOf (s .head) (groupLaneAt s g .llid) (groupAnswerAt s g k .answer) .head)
+step s (overhear u other k out) = subscriberAfter s u (receiving s u (sentAt (alone s) other k) out .answer .subscriber)
+step s (overhearGroup u g k out) = subscriberAfter s u (receiving s u (groupSentAt s g k) out .answer .subscriber)
+step s (strayClock u m) = subscriberAfter s u (subscriberClockMessageOf (subscriberAt s u) m .subscriber)
+step s (strayKey u m) = subscriberAfter s u (subscriberKeyMessageOf (subscriberAt s u) m .subscriber)
+step s (strayAnswer llid a) = headAfter s (headAcknowledgeOf (s .head) llid a .head)
+step s (strayDown u h p out) = subscriberAfter s u (subscriberReceiveOf (subscriberAt s u) h p out .answer .subscriber)
+step s (strayUp h p out) = headAfter s (headReceiveOf (s .head) h p out .answer .head)
 
-unfoldable pub run : State → List Event → State
-run s [] = s
-run s (e ∷ es) = run (step s e) es
+unfoldable pub runs : State → List Event → State
+runs s [] = s
+runs s (e ∷ es) = runs (step s e) es

@@ -2,7 +2,7 @@
 use mathlib.Core.Path.{_≡_, refl}
 use native.Mathlib.Omega.{arith}
 use Rattle.refusal.specs.declared.Refusal.{Refusal}
-use Rattle.refusal.specs.declared.Refusal.the-variants.{OutOfRange, UnknownLlid, RepeatedLlid, TableFull, ClockNotSet, OfferPending, SameKey, NothingOutstanding, NoKey, EpamDiffers, ClearEnvelope, ChannelTaken, KeyTooOld, BadLength, BadDirectory, CaptureTooOld, AtEnd, BrokenChain, UnsuitedLength, RepeatedRecord, UnknownUser, NoRight, OtherKeyIndex, BadScript}
+use Rattle.refusal.specs.declared.Refusal.the-variants.{OutOfRange, UnknownLlid, RepeatedLlid, TableFull, ClockNotSet, OfferPending, SameKey, NothingOutstanding, NoKey, EpamDiffers, ClearEnvelope, ChannelTaken, KeyTooOld, BadLength, BadDirectory, CaptureTooOld, AtEnd, BrokenChain, UnsuitedLength, GroupLlid, BadMember, RepeatedRecord, UnknownUser, NoRight, OtherKeyIndex, BadScript}
 use Rattle.refusal.specs.declared.Verdict.{Verdict}
 use Rattle.refusal.specs.declared.Verdict.the-variants.{Accepted, Refused}
 use Rattle.refusal.specs.Number.{numberOf, verdictNumber}
@@ -31,6 +31,8 @@ number-accepted (Refused r) e = absurd (by-refusal r e) where
   by-refusal AtEnd e = omega arith
   by-refusal (BrokenChain k) e = omega arith
   by-refusal (UnsuitedLength k) e = omega arith
+  by-refusal GroupLlid e = omega arith
+  by-refusal BadMember e = omega arith
   by-refusal RepeatedRecord e = omega arith
   by-refusal UnknownUser e = omega arith
   by-refusal NoRight e = omega arith

@@ -1,7 +1,7 @@
--- The number of each refusal (01, 'When the reader says no'; 02, C-11, C-15, C-19, C-21, C-23), and the pair that it names. Assumes nothing.
+-- The number of each refusal (01, 'When the reader says no'; 02, C-11, C-14, C-15, C-19, C-21, C-23), and the pair that it names. Assumes nothing.
 use Prim.Native.Nat.{ℕ}
 use Rattle.refusal.specs.declared.Refusal.{Refusal}
-use Rattle.refusal.specs.declared.Refusal.the-variants.{OutOfRange, UnknownLlid, RepeatedLlid, TableFull, ClockNotSet, OfferPending, SameKey, NothingOutstanding, NoKey, EpamDiffers, ClearEnvelope, ChannelTaken, KeyTooOld, BadLength, BadDirectory, CaptureTooOld, AtEnd, BrokenChain, UnsuitedLength, RepeatedRecord, UnknownUser, NoRight, OtherKeyIndex, BadScript}
+use Rattle.refusal.specs.declared.Refusal.the-variants.{OutOfRange, UnknownLlid, RepeatedLlid, TableFull, ClockNotSet, OfferPending, SameKey, NothingOutstanding, NoKey, EpamDiffers, ClearEnvelope, ChannelTaken, KeyTooOld, BadLength, BadDirectory, CaptureTooOld, AtEnd, BrokenChain, UnsuitedLength, GroupLlid, BadMember, RepeatedRecord, UnknownUser, NoRight, OtherKeyIndex, BadScript}
 use Rattle.refusal.specs.declared.Verdict.{Verdict}
 use Rattle.refusal.specs.declared.Verdict.the-variants.{Accepted, Refused}
 
@@ -25,6 +25,8 @@ numberOf CaptureTooOld = 16
 numberOf AtEnd = 17
 numberOf (BrokenChain k) = 18
 numberOf (UnsuitedLength k) = 19
+numberOf GroupLlid = 20
+numberOf BadMember = 21
 numberOf RepeatedRecord = 22
 numberOf UnknownUser = 23
 numberOf NoRight = 24
@@ -52,6 +54,8 @@ pairNumber CaptureTooOld = 0
 pairNumber AtEnd = 0
 pairNumber (BrokenChain k) = k
 pairNumber (UnsuitedLength k) = k
+pairNumber GroupLlid = 0
+pairNumber BadMember = 0
 pairNumber RepeatedRecord = 0
 pairNumber UnknownUser = 0
 pairNumber NoRight = 0

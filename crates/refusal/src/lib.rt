@@ -42,6 +42,10 @@ pub enum Refusal {
     BrokenChain(u16),
     // 19: this pair's length, from 1, does not suit the EQs of its record
     UnsuitedLength(u16),
+    // 20: a unit sends, or the OLT receives, on a group's LLID (02, C-14)
+    GroupLlid,
+    // 21: a ninth, repeated or unregistered member is named (02, C-14)
+    BadMember,
     // 22: two records of one capture block agree in channel index, LLID and clock (02, C-15)
     RepeatedRecord,
     // 23: the number of a class's user is 0 or above the count of its users (02, C-19)
@@ -78,6 +82,8 @@ pub fn number(refusal: Refusal) -> u8
         Refusal::AtEnd => 17,
         Refusal::BrokenChain(_) => 18,
         Refusal::UnsuitedLength(_) => 19,
+        Refusal::GroupLlid => 20,
+        Refusal::BadMember => 21,
         Refusal::RepeatedRecord => 22,
         Refusal::UnknownUser => 23,
         Refusal::NoRight => 24,
@@ -110,6 +116,8 @@ pub fn pair(refusal: Refusal) -> u16
         Refusal::AtEnd => 0,
         Refusal::BrokenChain(k) => k,
         Refusal::UnsuitedLength(k) => k,
+        Refusal::GroupLlid => 0,
+        Refusal::BadMember => 0,
         Refusal::RepeatedRecord => 0,
         Refusal::UnknownUser => 0,
         Refusal::NoRight => 0,

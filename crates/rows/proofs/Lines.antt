@@ -12,7 +12,7 @@ use borrow.Author.Tests.{lt-ltb, le-ltb, ltb-false}
 use Rattle.octets.proofs.Choice.{pick-true, pick-false, pick-holds, pick-same}
 use Rattle.refusal.specs.Number.{numberOf, pairNumber}
 use Rattle.refusal.specs.declared.Refusal.{Refusal}
-use Rattle.refusal.specs.declared.Refusal.the-variants.{OutOfRange, UnknownLlid, RepeatedLlid, TableFull, ClockNotSet, OfferPending, SameKey, NothingOutstanding, NoKey, EpamDiffers, ClearEnvelope, ChannelTaken, KeyTooOld, BadLength, BadDirectory, CaptureTooOld, AtEnd, BrokenChain, UnsuitedLength, RepeatedRecord, UnknownUser, NoRight, OtherKeyIndex, BadScript}
+use Rattle.refusal.specs.declared.Refusal.the-variants.{OutOfRange, UnknownLlid, RepeatedLlid, TableFull, ClockNotSet, OfferPending, SameKey, NothingOutstanding, NoKey, EpamDiffers, ClearEnvelope, ChannelTaken, KeyTooOld, BadLength, BadDirectory, CaptureTooOld, AtEnd, BrokenChain, UnsuitedLength, GroupLlid, BadMember, RepeatedRecord, UnknownUser, NoRight, OtherKeyIndex, BadScript}
 use Rattle.records.specs.declared.header.Header.{Header}
 use Rattle.records.specs.declared.header.RecordVerdict.{RecordVerdict}
 use Rattle.records.specs.declared.header.RecordVerdict.the-variants.{Clear, Sealed}
@@ -96,6 +96,8 @@ number-few CaptureTooOld = omega arith
 number-few AtEnd = omega arith
 number-few (BrokenChain k) = omega arith
 number-few (UnsuitedLength k) = omega arith
+number-few GroupLlid = omega arith
+number-few BadMember = omega arith
 number-few RepeatedRecord = omega arith
 number-few UnknownUser = omega arith
 number-few NoRight = omega arith

@@ -1,19 +1,20 @@
 // An OLT and one unit, 150 ticks apart downwards and 100 upwards: both are set up, set the clock, bring key 1 into use and send both ways,
-// clear and sealed. The OLT's clock passes 2^48 on the way.
+// clear and sealed. The OLT's clock passes 2^48 on the way. Then a group of that unit does the same downwards.
 use crate::olt_calls;
 use crate::onu_calls;
 use crate::values;
 use clock::Stamps;
-use ends::Olt;
-use ends::Onu;
+use groups::HeadEnd;
+use groups::Subscriber;
+use protocol::Header;
 use protocol::KeyMessage;
 
 struct Line {
-    pub olt: Olt,
-    pub onu: Onu,
+    pub olt: HeadEnd,
+    pub onu: Subscriber,
 }
 
-fn ends_of(olt: Olt, onu: Onu) -> Line {
+fn ends_of(olt: HeadEnd, onu: Subscriber) -> Line {
     Line { olt, onu }
 }
 
@@ -24,7 +25,7 @@ fn advance(l: Line, n: u64) -> Line {
 }
 
 // Interval 1000; the second registration is refused.
-fn olt_start() -> Olt {
+fn olt_start() -> HeadEnd {
     let olt = olt_calls::fresh(values::OLT_MAC, 0xffff_ffff_fc18);
     let named = olt_calls::register(olt, 1000);
     olt_calls::register(named, 1000)
@@ -39,7 +40,7 @@ fn start() -> Line {
 fn down(l: Line, llid: u16, channel: u8) -> Line {
     let mut octets = values::lent();
     let sent = olt_calls::send(l.olt, llid, channel, &mut octets);
-    let there = advance(ends_of(sent.olt, l.onu), 150);
+    let there = advance(ends_of(sent.head, l.onu), 150);
     let onu = onu_calls::receive(there.onu, sent.header, &octets);
     ends_of(there.olt, onu)
 }
@@ -47,7 +48,7 @@ fn down(l: Line, llid: u16, channel: u8) -> Line {
 fn up(l: Line, llid: u16, channel: u8) -> Line {
     let mut octets = values::lent();
     let sent = onu_calls::send(l.onu, llid, channel, &mut octets);
-    let there = advance(ends_of(l.olt, sent.onu), 100);
+    let there = advance(ends_of(l.olt, sent.subscriber), 100);
     let olt = olt_calls::receive(there.olt, sent.header, &octets);
     ends_of(olt, there.onu)
 }
@@ -55,8 +56,8 @@ fn up(l: Line, llid: u16, channel: u8) -> Line {
 // The unit takes the clock message, and the OLT its acknowledgement.
 fn take_clock(l: Line, message: Stamps) -> Line {
     let set = onu_calls::clock_message(l.onu, message);
-    let there = advance(ends_of(l.olt, set.onu), 100);
-    let olt = olt_calls::acknowledge(there.olt, 5, set.acknowledgement);
+    let there = advance(ends_of(l.olt, set.subscriber), 100);
+    let olt = olt_calls::acknowledge(there.olt, 5, set.answer);
     ends_of(olt, there.onu)
 }
 
@@ -65,22 +66,22 @@ fn set_clock(l: Line) -> Line {
     let captured = olt_calls::capture(l.olt, 5);
     let later = advance(ends_of(captured, l.onu), 40);
     let sent = olt_calls::clock_send(later.olt, 6);
-    let there = advance(ends_of(sent.olt, later.onu), 150);
+    let there = advance(ends_of(sent.head, later.onu), 150);
     take_clock(there, sent.message)
 }
 
 fn take_key(l: Line, message: KeyMessage) -> Line {
     let taken = onu_calls::key_message(l.onu, message);
-    let there = advance(ends_of(l.olt, taken.onu), 100);
-    let olt = olt_calls::acknowledge(there.olt, 6, taken.acknowledgement);
+    let there = advance(ends_of(l.olt, taken.subscriber), 100);
+    let olt = olt_calls::acknowledge(there.olt, 6, taken.answer);
     ends_of(olt, there.onu)
 }
 
 // The offer is lost, the retry arrives.
 fn give_key(l: Line) -> Line {
     let lost = olt_calls::offer(l.olt, 5);
-    let sent = olt_calls::retry(lost.olt, 6);
-    let there = advance(ends_of(sent.olt, l.onu), 150);
+    let sent = olt_calls::retry(lost.head, 6);
+    let there = advance(ends_of(sent.head, l.onu), 150);
     take_key(there, sent.message)
 }
 
@@ -95,22 +96,64 @@ fn switch(l: Line) -> Line {
 }
 
 // LLID 9 is no unit's, nothing is offered, and ticks end at 2^62.
-fn olt_refusals(olt: Olt) {
+fn olt_refusals(olt: HeadEnd) {
     olt_calls::capture(olt, 9);
     olt_calls::retry(olt, 5);
     olt_calls::advance(olt, 0x4000_0000_0000_0000);
     olt_calls::fresh(0x1_0000_0000_0000, 0);
 }
 
-fn onu_refusals(onu: Onu) {
+fn onu_refusals(onu: Subscriber) {
     let mut octets = values::lent();
     onu_calls::send(onu, 9, 0x80, &mut octets);
     onu_calls::advance(onu, 0x4000_0000_0000_0000);
     onu_calls::fresh(0x1_0000_0000_0000, 0);
 }
 
+// No member, the unit twice, one member, and the LLID again; joined, and joined again.
+fn join_group(l: Line) -> Line {
+    let none = olt_calls::register_group(l.olt, 1000, 0);
+    let twice = olt_calls::register_group(none, 1000, 2);
+    let one = olt_calls::register_group(twice, 1000, 1);
+    let olt = olt_calls::register_group(one, 1000, 1);
+    let onu = onu_calls::join(onu_calls::join(l.onu, 7), 7);
+    ends_of(olt, onu)
+}
+
+// Key 1 of the group.
+fn give_group_key(l: Line) -> Line {
+    let sent = olt_calls::offer(l.olt, 7);
+    let there = advance(ends_of(sent.head, l.onu), 150);
+    let taken = onu_calls::group_message(there.onu, sent.message);
+    let back = advance(ends_of(there.olt, taken.subscriber), 100);
+    let olt = olt_calls::acknowledge(back.olt, 7, taken.answer);
+    ends_of(olt, back.onu)
+}
+
+// LLID 7 upwards.
+fn up_refused(l: Line) {
+    let mut octets = values::lent();
+    onu_calls::send(l.onu, 7, 0x80, &mut octets);
+    let header = Header {
+        channel: 0x80,
+        llid: 7,
+        encenabled: 0,
+        enckey: 0,
+        epam: 0,
+    };
+    olt_calls::receive(l.olt, header, &octets);
+}
+
+// Clear, sealed, and upwards, where the group's LLID is refused at both ends.
+fn view(l: Line) {
+    let clear = down(join_group(l), 7, 0x00);
+    let sealed = down(advance(give_group_key(clear), 1000), 7, 0x01);
+    up_refused(sealed);
+}
+
 pub(crate) fn play() {
     let done = switch(give_key(set_clock(clear())));
     olt_refusals(done.olt);
     onu_refusals(done.onu);
+    view(done);
 }

@@ -2,57 +2,81 @@
 use crate::show;
 use crate::values;
 use clock::Stamps;
-use ends::Onu;
+use groups::Subscriber;
 use jazmotip::at_onu::jazmotip_onu_advance;
 use jazmotip::at_onu::jazmotip_onu_clock_message;
 use jazmotip::at_onu::jazmotip_onu_fresh;
+use jazmotip::at_onu::jazmotip_onu_join;
 use jazmotip::at_onu::jazmotip_onu_key_message;
 use jazmotip::at_onu::jazmotip_onu_receive;
 use jazmotip::at_onu::jazmotip_onu_send;
+use multicast::SubscriberAcknowledged;
+use multicast::SubscriberAnswer;
+use multicast::SubscriberSent;
 use protocol::Header;
 use protocol::KeyMessage;
-use protocol::OnuAcknowledged;
-use protocol::OnuAnswer;
-use traffic::OnuSent;
 
-pub(crate) fn fresh(mac: u64, time: u64) -> Onu {
+pub(crate) fn fresh(mac: u64, time: u64) -> Subscriber {
     let answer = jazmotip_onu_fresh(values::unit(), mac, time);
     show::row(b"onu_fresh", answer.number);
-    answer.onu
+    answer.subscriber
+}
+
+pub(crate) fn join(onu: Subscriber, llid: u16) -> Subscriber {
+    let answer = jazmotip_onu_join(onu, llid);
+    show::row(b"onu_join", answer.number);
+    answer.subscriber
 }
 
 // Lends its own copy, which the call changes in place.
-fn advanced(onu: Onu, n: u64) -> OnuAnswer {
+fn advanced(onu: Subscriber, n: u64) -> SubscriberAnswer {
     let mut next = onu;
     let number = jazmotip_onu_advance(&mut next, n);
-    OnuAnswer { number, onu: next }
+    SubscriberAnswer {
+        number,
+        subscriber: next,
+    }
 }
 
-pub(crate) fn advance(onu: Onu, n: u64) -> Onu {
+pub(crate) fn advance(onu: Subscriber, n: u64) -> Subscriber {
     let answer = advanced(onu, n);
     show::begin(b"onu_advance", answer.number);
-    show::decimal(answer.onu.tick);
-    show::stamps(answer.onu.clock.rx, answer.onu.clock.time);
+    show::decimal(answer.subscriber.onu.tick);
+    show::stamps(
+        answer.subscriber.onu.clock.rx,
+        answer.subscriber.onu.clock.time,
+    );
     show::end();
-    answer.onu
+    answer.subscriber
 }
 
-pub(crate) fn clock_message(onu: Onu, message: Stamps) -> OnuAcknowledged {
+pub(crate) fn clock_message(onu: Subscriber, message: Stamps) -> SubscriberAcknowledged {
     let answer = jazmotip_onu_clock_message(onu, message);
     show::begin(b"onu_clock_message", answer.number);
-    show::stamps(answer.onu.clock.rx, answer.onu.clock.time);
-    show::acknowledgement(answer.acknowledgement);
+    show::stamps(
+        answer.subscriber.onu.clock.rx,
+        answer.subscriber.onu.clock.time,
+    );
+    show::acknowledgement(answer.answer);
     answer
 }
 
-pub(crate) fn key_message(onu: Onu, message: KeyMessage) -> OnuAcknowledged {
+pub(crate) fn key_message(onu: Subscriber, message: KeyMessage) -> SubscriberAcknowledged {
     let answer = jazmotip_onu_key_message(onu, message);
     show::begin(b"onu_key_message", answer.number);
-    show::acknowledgement(answer.acknowledgement);
+    show::acknowledgement(answer.answer);
     answer
 }
 
-pub(crate) fn send(onu: Onu, llid: u16, channel: u8, output: &mut [u8]) -> OnuSent {
+// A group's message: the answer also names the unit.
+pub(crate) fn group_message(onu: Subscriber, message: KeyMessage) -> SubscriberAcknowledged {
+    let answer = jazmotip_onu_key_message(onu, message);
+    show::begin(b"onu_key_message", answer.number);
+    show::group_acknowledgement(answer.answer);
+    answer
+}
+
+pub(crate) fn send(onu: Subscriber, llid: u16, channel: u8, output: &mut [u8]) -> SubscriberSent {
     let payload = values::payload();
     let answer = jazmotip_onu_send(onu, llid, channel, &payload, output);
     show::begin(b"onu_send", answer.number);
@@ -61,10 +85,10 @@ pub(crate) fn send(onu: Onu, llid: u16, channel: u8, output: &mut [u8]) -> OnuSe
     answer
 }
 
-pub(crate) fn receive(onu: Onu, header: Header, octets: &[u8]) -> Onu {
+pub(crate) fn receive(onu: Subscriber, header: Header, octets: &[u8]) -> Subscriber {
     let mut output = values::lent();
     let answer = jazmotip_onu_receive(onu, header, octets, &mut output);
     show::begin(b"onu_receive", answer.number);
     show::passed(answer.count, &output);
-    answer.onu
+    answer.subscriber
 }

@@ -1,6 +1,6 @@
 // A line: the call, its number, and what it handed over.
+use groups::Answer;
 use libc::STDOUT_FILENO;
-use protocol::Acknowledgement;
 use protocol::Header;
 use protocol::KeyMessage;
 
@@ -93,8 +93,16 @@ pub(crate) fn key_message(m: KeyMessage) {
     octets(&key);
 }
 
-pub(crate) fn acknowledgement(a: Acknowledgement) {
+pub(crate) fn acknowledgement(a: Answer) {
     octet(a.kind);
+    decimal(a.number as u64);
+    end();
+}
+
+pub(crate) fn group_acknowledgement(a: Answer) {
+    octet(a.kind);
+    octet(a.named);
+    decimal(a.unit as u64);
     decimal(a.number as u64);
     end();
 }

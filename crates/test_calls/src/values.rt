@@ -1,6 +1,7 @@
 // Names, keys, payloads, settings and blocks.
 use ends::Identity;
 use envelope::Nonce;
+use groups::Roster;
 
 pub const OLT_MAC: u64 = 0x0200_0000_0001;
 
@@ -10,6 +11,14 @@ pub(crate) fn unit() -> Identity {
         mac: 0x0200_0000_0002,
         llids: [5, 6, 0, 0],
         count: 2,
+    }
+}
+
+// LLIDs 6 and 5 are of one unit.
+pub(crate) fn roster(count: u8) -> Roster {
+    Roster {
+        llids: [6, 5, 0, 0, 0, 0, 0, 0],
+        count,
     }
 }
 

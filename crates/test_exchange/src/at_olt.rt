@@ -8,28 +8,32 @@ use crate::script::Numbers;
 use crate::values;
 use clock::Stamps;
 use ends::Identity;
-use ends::Olt;
 use ends::UnitKeys;
 use ends::UnitRecord;
-use protocol::Acknowledgement;
-use protocol::ClockSent;
+use groups::Answer;
+use groups::GroupRecord;
+use groups::HeadEnd;
+use groups::Members;
+use multicast::HeadAnswer;
+use multicast::HeadClockSent;
+use multicast::HeadKeySent;
+use multicast::at_head;
+use multicast::head_traffic;
 use protocol::Header;
 use protocol::KeyMessage;
-use protocol::KeySent;
-use protocol::OltAnswer;
 
 // The OLT after a send or a receipt, and what passed.
 struct OltPassed {
     number: u8,
-    olt: Olt,
+    head: HeadEnd,
     count: u64,
     envelope: Envelope,
 }
 
 // Clock 0, and a unit with LLIDs 5 and 6 and round trip 250.
-fn one(interval: u64) -> OltAnswer {
-    let fresh = olt::fresh(values::OLT_MAC, 0);
-    olt::register(fresh.olt, values::unit(), 250, interval)
+fn one(interval: u64) -> HeadAnswer {
+    let fresh = at_head::fresh(values::OLT_MAC, 0);
+    at_head::register(fresh.head, values::unit(), 250, interval)
 }
 
 // At C, A and O, its clock sent and acknowledged.
@@ -52,50 +56,111 @@ fn numbered(unit: UnitRecord, confirmed: u32, active: u32, offered: u32, other: 
     u
 }
 
+// The unit in a place replaced.
+fn with_unit(h: HeadEnd, place: usize, unit: UnitRecord) -> HeadEnd {
+    let at = place % 16;
+    let mut olt = h.olt;
+    olt.units[at] = unit;
+    let mut r = h;
+    r.olt = olt;
+    r
+}
+
+fn unit_at(h: HeadEnd, place: usize) -> UnitRecord {
+    let units = h.olt.units;
+    units[place % 16]
+}
+
 // Tick 100, clock 65, and that unit at C, A and O with interval 1000.
-fn keyed(n: Numbers) -> OltAnswer {
+fn keyed(n: Numbers) -> HeadAnswer {
     let start = one(1000);
-    let mut olt = start.olt;
-    olt.shared.tick = 100;
-    olt.shared.clock = 65;
     let u = numbered(
-        olt.units[0],
+        unit_at(start.head, 0),
         script::u32_of(n.a),
         script::u32_of(n.b),
         script::u32_of(n.c),
         n.d,
     );
-    olt.units[0] = u;
-    OltAnswer { number: 0, olt }
+    let mut head = with_unit(start.head, 0, u);
+    head.olt.shared.tick = 100;
+    head.olt.shared.clock = 65;
+    HeadAnswer { number: 0, head }
 }
 
-fn with_four(o: Olt, n: u16) -> OltAnswer {
+// Key A of a group has the first octet 17, that of the other slot is `other`.
+fn with_group_keys(h: HeadEnd, active: u32, offered: u32, other: u64) -> HeadEnd {
+    let slots = values::slots(active, other);
+    let mut groups = h.groups;
+    let mut g = groups.table[0];
+    let timer = g.keys.timer;
+    let first = g.keys.first;
+    let keys = UnitKeys {
+        timer,
+        active,
+        offered,
+        slots,
+        first,
+    };
+    g.keys = keys;
+    groups.table[0] = g;
+    let mut r = h;
+    r.groups = groups;
+    r
+}
+
+// The OLT of `keyed`, a second unit with LLID 7 whose clock is acknowledged too, and a group of both with LLID 9 and interval 1000 at A and O.
+fn viewers(n: Numbers) -> HeadAnswer {
+    let start = keyed(Numbers {
+        a: 0,
+        b: 0,
+        c: 0,
+        d: 0,
+        e: 0,
+        f: 0,
+    });
+    let identity = Identity {
+        mac: 0x0200_0000_0003,
+        llids: [7, 0, 0, 0],
+        count: 1,
+    };
+    let two = at_head::register(start.head, identity, 0, 1000);
+    let u = numbered(unit_at(two.head, 1), 0, 0, 0, 0);
+    let roster = values::roster(2, 6, 7, 0);
+    let grouped = at_head::register_group(with_unit(two.head, 1, u), 9, 1000, roster);
+    let head = with_group_keys(grouped.head, script::u32_of(n.a), script::u32_of(n.b), n.c);
+    HeadAnswer {
+        number: grouped.number,
+        head,
+    }
+}
+
+fn with_four(h: HeadEnd, n: u16) -> HeadAnswer {
     let llid = n % 16 * 4;
     let identity = Identity {
         mac: 3,
         llids: [llid, llid + 1, llid + 2, llid + 3],
         count: 4,
     };
-    olt::register(o, identity, 0, 100)
+    at_head::register(h, identity, 0, 100)
 }
 
 // Sixteen units of four LLIDs, 0 to 63, with interval 100.
-fn full() -> OltAnswer {
-    let mut answer = olt::fresh(values::OLT_MAC, 0);
+fn full() -> HeadAnswer {
+    let mut answer = at_head::fresh(values::OLT_MAC, 0);
     let mut n: u16 = 0;
     while n < 16 {
-        let more = with_four(answer.olt, n);
+        let more = with_four(answer.head, n);
         answer = more;
         n += 1;
     }
     answer
 }
 
-fn timer_flag(olt: Olt) -> OltAnswer {
-    let u = olt.units[0];
-    OltAnswer {
+fn timer_flag(head: HeadEnd) -> HeadAnswer {
+    let u = unit_at(head, 0);
+    HeadAnswer {
         number: u.keys.timer.flag,
-        olt,
+        head,
     }
 }
 
@@ -122,100 +187,165 @@ fn unit_field(unit: UnitRecord, k: usize, n: Numbers) -> UnitRecord {
     u
 }
 
-fn with_field(o: Olt, place: usize, k: usize, n: Numbers) -> OltAnswer {
-    let value = n.a;
-    let at = place % 16;
-    let mut olt = o;
-    let u = unit_field(olt.units[at], k, n);
-    olt.units[at] = u;
+// A place and a value: the place of a member's unit, or a member's mark.
+fn members_field(members: Members, k: usize, n: Numbers) -> Members {
+    let at = (n.a % 8) as usize;
+    let mut places = members.places;
+    let mut marks = members.marks;
     match k {
-        16 => olt.shared.mac = value,
-        17 => olt.shared.tick = value,
-        18 => olt.shared.clock = value,
-        19 => olt.shared.channels.zero = value,
-        20 => olt.shared.channels.one = value,
-        21 => olt.count = script::u8_of(value),
+        46 => places[at] = script::u8_of(n.b),
+        47 => marks[at] = script::u8_of(n.b),
         _ => {}
     }
-    OltAnswer { number: 0, olt }
+    Members {
+        places,
+        marks,
+        count: members.count,
+    }
 }
 
-fn answer(o: Olt, place: usize, k: usize, n: Numbers, under_way: Acknowledgement) -> OltAnswer {
+fn group_field(group: GroupRecord, k: usize, n: Numbers) -> GroupRecord {
+    let value = n.a;
+    let low = script::u8_of(value);
+    let number = script::u32_of(value);
+    let mut members = members_field(group.members, k, n);
+    let mut g = group;
+    match k {
+        37 => g.llid = script::u16_of(value),
+        38 => g.keys.timer.interval = value,
+        39 => g.keys.timer.count = value,
+        40 => g.keys.timer.flag = low,
+        41 => g.keys.first.noted = low,
+        42 => g.keys.first.tick = value,
+        43 => g.keys.active = number,
+        44 => g.keys.offered = number,
+        45 => members.count = low,
+        _ => {}
+    }
+    g.members = members;
+    g
+}
+
+fn with_group_field(h: HeadEnd, place: usize, k: usize, n: Numbers) -> HeadEnd {
+    let at = place % 16;
+    let mut groups = h.groups;
+    let g = group_field(groups.table[at], k, n);
+    groups.table[at] = g;
+    if k == 36 {
+        groups.count = script::u8_of(n.a);
+    }
+    let mut r = h;
+    r.groups = groups;
+    r
+}
+
+fn with_field(h: HeadEnd, aim: Aim, k: usize, n: Numbers) -> HeadAnswer {
+    let value = n.a;
+    let low = script::u8_of(value);
+    let u = unit_field(unit_at(h, aim.place), k, n);
+    let mut head = with_group_field(with_unit(h, aim.place, u), aim.group, k, n);
+    match k {
+        16 => head.olt.shared.mac = value,
+        17 => head.olt.shared.tick = value,
+        18 => head.olt.shared.clock = value,
+        19 => head.olt.shared.channels.zero = value,
+        20 => head.olt.shared.channels.one = value,
+        21 => head.olt.count = low,
+        _ => {}
+    }
+    HeadAnswer { number: 0, head }
+}
+
+// LLID, interval, how many members, and the LLIDs that name them.
+fn register_group(h: HeadEnd, n: Numbers) -> HeadAnswer {
+    let roster = values::roster(n.c, n.d, n.e, n.f);
+    at_head::register_group(h, script::u16_of(n.a), n.b, roster)
+}
+
+fn answer(h: HeadEnd, aim: Aim, k: usize, n: Numbers, under_way: Answer) -> HeadAnswer {
     let llid = script::u16_of(n.a);
     match k {
-        3 => olt::fresh(n.a, n.b),
-        4 => olt::register(o, values::identity(n), n.e, n.f),
-        5 => olt::advance(o, n.a),
-        6 => olt::capture(o, llid),
-        7 => olt::acknowledge(o, llid, values::acknowledgement(n)),
-        8 => olt::acknowledge(o, llid, under_way),
+        3 => at_head::fresh(n.a, n.b),
+        4 => at_head::register(h, values::identity(n), n.e, n.f),
+        5 => at_head::advance(h, n.a),
+        6 => at_head::capture(h, llid),
+        7 => at_head::acknowledge(h, llid, values::acknowledgement(n)),
+        8 => at_head::acknowledge(h, llid, under_way),
         9 => one(n.a),
         10 => keyed(n),
         11 => full(),
-        12 => timer_flag(o),
-        _ => with_field(o, place, k, n),
+        12 => timer_flag(h),
+        34 => register_group(h, n),
+        35 => viewers(n),
+        _ => with_field(h, aim, k, n),
     }
 }
 
-fn clock_sent(a: OltAnswer, k: usize, llid: u16, message: Stamps) -> ClockSent {
-    let olt = a.olt;
+fn clock_sent(a: HeadAnswer, k: usize, llid: u16, message: Stamps) -> HeadClockSent {
+    let head = a.head;
     if k == 13 {
-        return olt::clock_send(olt, llid);
+        return at_head::clock_send(head, llid);
     }
-    ClockSent {
+    HeadClockSent {
         number: a.number,
-        olt,
+        head,
         message,
     }
 }
 
-fn key_sent(a: ClockSent, k: usize, n: Numbers, message: KeyMessage) -> KeySent {
-    let olt = a.olt;
+fn key_sent(a: HeadClockSent, k: usize, n: Numbers, message: KeyMessage) -> HeadKeySent {
+    let head = a.head;
     let llid = script::u16_of(n.a);
     match k {
-        14 => olt::offer(olt, llid, values::key(n.b)),
-        15 => olt::retry(olt, llid),
-        _ => KeySent {
+        14 => at_head::offer(head, llid, values::key(n.b)),
+        15 => at_head::retry(head, llid),
+        _ => HeadKeySent {
             number: a.number,
-            olt,
+            head,
             message,
         },
     }
 }
 
 // LLID and channel index.
-fn sent(o: Olt, n: Numbers, payload: [u8; 36], length: usize, room: usize) -> OltPassed {
+fn sent(h: HeadEnd, n: Numbers, payload: [u8; 36], length: usize, room: usize) -> OltPassed {
     let mut octets = play::lent();
     let used = length % 37;
     let free = room % 37;
-    let answer = traffic::olt_send(
-        o,
+    let answer = head_traffic::send(
+        h,
         script::u16_of(n.a),
         script::u8_of(n.b),
         &payload[..used],
         &mut octets[..free],
     );
-    let olt = answer.olt;
+    let head = answer.head;
     let header = answer.header;
     let envelope = Envelope { header, octets };
     OltPassed {
         number: answer.number,
-        olt,
+        head,
         count: answer.count,
         envelope,
     }
 }
 
-fn received(o: Olt, header: Header, payload: [u8; 36], length: usize, room: usize) -> OltPassed {
+fn received(
+    h: HeadEnd,
+    header: Header,
+    payload: [u8; 36],
+    length: usize,
+    room: usize,
+) -> OltPassed {
     let mut octets = play::lent();
     let used = length % 37;
     let free = room % 37;
-    let answer = traffic::olt_receive(o, header, &payload[..used], &mut octets[..free]);
-    let olt = answer.olt;
+    let answer = head_traffic::receive(h, header, &payload[..used], &mut octets[..free]);
+    let head = answer.head;
     let envelope = Envelope { header, octets };
     OltPassed {
         number: answer.number,
-        olt,
+        head,
         count: answer.count,
         envelope,
     }
@@ -224,35 +354,37 @@ fn received(o: Olt, header: Header, payload: [u8; 36], length: usize, room: usiz
 fn passed(before: OltPassed, k: usize, n: Numbers, aim: Aim, carried: Envelope) -> OltPassed {
     let payload = carried.octets;
     match k {
-        0 => sent(before.olt, n, payload, aim.length, aim.room),
-        1 | 2 => received(before.olt, carried.header, payload, aim.length, aim.room),
+        0 => sent(before.head, n, payload, aim.length, aim.room),
+        1 | 2 => received(before.head, carried.header, payload, aim.length, aim.room),
         _ => before,
     }
 }
 
-// `receive` gives a header with the payload that is spoken of, `take` an envelope that is under way; `acknowledge` gives any
-// acknowledgement, `arrive` the one under way. `timer` makes the flag of the timer the row's number. From `mac` on the words set fields:
-// `marked` is the mark that the offer is acknowledged, `sent` and `clocked` that the clock is sent and acknowledged.
+// `register_group` takes LLID, interval, how many members, and three LLIDs that name them; each one after is four higher than the one
+// before. `viewers` starts from two units and a group of both, LLID 9, at A and O. `receive` gives a header with the payload that is
+// spoken of, `take` an envelope that is under way; `acknowledge` gives any acknowledgement, `arrive` the one under way. `timer` makes the
+// flag of the timer the row's number. From `mac` on the words set fields, those of a group from `groups` on: `marked` is the mark that the
+// offer is acknowledged, `sent` and `clocked` that the clock is sent and acknowledged.
 pub(crate) fn command(p: Play, s: &[u8], at: usize, to: usize, n: Numbers) -> Play {
     let k = script::word(
         s,
         at,
         to,
-        b"send receive take fresh register advance capture acknowledge arrive one keyed full timer clock_send offer retry mac tick clock channel0 channel1 units interval count flag noted first marked trip captured captured_at sent clocked identity",
+        b"send receive take fresh register advance capture acknowledge arrive one keyed full timer clock_send offer retry mac tick clock channel0 channel1 units interval count flag noted first marked trip captured captured_at sent clocked identity register_group viewers groups group_llid group_interval group_count group_flag group_noted group_first group_active group_offered members member group_mark",
     );
-    script::mark(k > 33, b'?');
-    let asked = answer(p.olt, p.aim.place, k, n, p.acknowledgement);
+    script::mark(k > 47, b'?');
+    let asked = answer(p.head, p.aim, k, n, p.acknowledgement);
     let timed = clock_sent(asked, k, script::u16_of(n.a), p.stamps);
     let keyed = key_sent(timed, k, n, p.message);
-    let olt = keyed.olt;
+    let head = keyed.head;
     let envelope = p.passed;
     let before = OltPassed {
         number: keyed.number,
-        olt,
+        head,
         count: p.count,
         envelope,
     };
     let done = passed(before, k, n, p.aim, play::carried(p, k, n));
     let r = play::after(p, k, n, done.number, done.count, done.envelope);
-    play::after_olt(r, done.olt, timed.message, keyed.message)
+    play::after_olt(r, done.head, timed.message, keyed.message)
 }

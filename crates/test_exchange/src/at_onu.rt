@@ -9,39 +9,75 @@ use crate::values;
 use clock::Stamps;
 use ends::Onu;
 use ends::OnuKeys;
-use protocol::Acknowledgement;
+use groups::Answer;
+use groups::Joined;
+use groups::Subscriber;
+use multicast::SubscriberAcknowledged;
+use multicast::SubscriberAnswer;
+use multicast::at_subscriber;
+use multicast::subscriber_traffic;
 use protocol::Header;
 use protocol::KeyMessage;
-use protocol::OnuAcknowledged;
-use protocol::OnuAnswer;
 
 // The unit after a send or a receipt, and what passed.
 struct OnuPassed {
     number: u8,
-    onu: Onu,
+    subscriber: Subscriber,
     count: u64,
     envelope: Envelope,
 }
 
 // Key a is `active`, and a + 1 is held or not; tick 100, Tx 2^32 + 65, Rx 250 less.
-fn keyed(active: u32, held: u8, other: u64) -> OnuAnswer {
+fn keyed(active: u32, held: u8, other: u64) -> SubscriberAnswer {
     let slots = values::slots(active, other);
     let keys = OnuKeys {
         active,
         held,
         slots,
     };
-    let fresh = onu::fresh(values::unit(), values::OLT_MAC, 65);
-    let mut onu = fresh.onu;
+    let fresh = at_subscriber::fresh(values::unit(), values::OLT_MAC, 65);
+    let mut onu = fresh.subscriber.onu;
     onu.tick = 100;
     onu.clock.synced = 1;
     onu.clock.time = 0x1_0000_0041;
     onu.clock.rx = 0xffff_ff47;
     onu.keys = keys;
-    OnuAnswer { number: 0, onu }
+    let mut subscriber = fresh.subscriber;
+    subscriber.onu = onu;
+    SubscriberAnswer {
+        number: 0,
+        subscriber,
+    }
 }
 
-fn with_field(o: Onu, k: usize, n: Numbers) -> OnuAnswer {
+fn joined_field(joined: Joined, k: usize, value: u64) -> Joined {
+    let low = script::u8_of(value);
+    let number = script::u32_of(value);
+    let mut j = joined;
+    match k {
+        22 => j.llid = script::u16_of(value),
+        23 => j.keys.active = number,
+        24 => j.keys.held = low,
+        25 => j.kept = low,
+        _ => {}
+    }
+    j
+}
+
+fn with_joined_field(s: Subscriber, place: usize, k: usize, value: u64) -> Subscriber {
+    let at = place % 4;
+    let mut memberships = s.memberships;
+    let j = joined_field(memberships.table[at], k, value);
+    memberships.table[at] = j;
+    if k == 21 {
+        memberships.count = script::u8_of(value);
+    }
+    let mut r = s;
+    r.memberships = memberships;
+    r
+}
+
+fn unit_field(o: Onu, k: usize, n: Numbers) -> Onu {
     let value = n.a;
     let low = script::u8_of(value);
     let identity = values::identity(n);
@@ -59,74 +95,91 @@ fn with_field(o: Onu, k: usize, n: Numbers) -> OnuAnswer {
         19 => onu.identity = identity,
         _ => {}
     }
-    OnuAnswer { number: 0, onu }
+    onu
 }
 
-fn answer(o: Onu, k: usize, n: Numbers) -> OnuAnswer {
+fn with_field(s: Subscriber, place: usize, k: usize, n: Numbers) -> SubscriberAnswer {
+    let onu = unit_field(s.onu, k, n);
+    let mut subscriber = with_joined_field(s, place, k, n.a);
+    subscriber.onu = onu;
+    SubscriberAnswer {
+        number: 0,
+        subscriber,
+    }
+}
+
+fn answer(s: Subscriber, place: usize, k: usize, n: Numbers) -> SubscriberAnswer {
     match k {
-        3 => onu::fresh(values::identity(n), n.e, n.f),
-        4 => onu::advance(o, n.a),
+        3 => at_subscriber::fresh(values::identity(n), n.e, n.f),
+        4 => at_subscriber::advance(s, n.a),
         5 => keyed(script::u32_of(n.a), script::u8_of(n.b), n.c),
-        _ => with_field(o, k, n),
+        20 => at_subscriber::join(s, script::u16_of(n.a)),
+        _ => with_field(s, place, k, n),
     }
 }
 
 // `clock_arrives` and `key_arrives` are the messages that are under way.
 fn acknowledged(
-    a: OnuAnswer,
+    a: SubscriberAnswer,
     k: usize,
     n: Numbers,
     stamps: Stamps,
     message: KeyMessage,
-    acknowledgement: Acknowledgement,
-) -> OnuAcknowledged {
-    let onu = a.onu;
+    answer: Answer,
+) -> SubscriberAcknowledged {
+    let subscriber = a.subscriber;
     match k {
-        6 => onu::clock_message(onu, Stamps { rx: n.a, tx: n.b }),
-        7 => onu::clock_message(onu, stamps),
-        8 => onu::key_message(onu, values::key_message(n)),
-        9 => onu::key_message(onu, message),
-        _ => OnuAcknowledged {
+        6 => at_subscriber::clock_message(subscriber, Stamps { rx: n.a, tx: n.b }),
+        7 => at_subscriber::clock_message(subscriber, stamps),
+        8 => at_subscriber::key_message(subscriber, values::key_message(n)),
+        9 => at_subscriber::key_message(subscriber, message),
+        _ => SubscriberAcknowledged {
             number: a.number,
-            onu,
-            acknowledgement,
+            subscriber,
+            answer,
         },
     }
 }
 
 // LLID and channel index.
-fn sent(o: Onu, n: Numbers, payload: [u8; 36], length: usize, room: usize) -> OnuPassed {
+fn sent(s: Subscriber, n: Numbers, payload: [u8; 36], length: usize, room: usize) -> OnuPassed {
     let mut octets = play::lent();
     let used = length % 37;
     let free = room % 37;
-    let answer = traffic::onu_send(
-        o,
+    let answer = subscriber_traffic::send(
+        s,
         script::u16_of(n.a),
         script::u8_of(n.b),
         &payload[..used],
         &mut octets[..free],
     );
-    let onu = answer.onu;
+    let subscriber = answer.subscriber;
     let header = answer.header;
     let envelope = Envelope { header, octets };
     OnuPassed {
         number: answer.number,
-        onu,
+        subscriber,
         count: answer.count,
         envelope,
     }
 }
 
-fn received(o: Onu, header: Header, payload: [u8; 36], length: usize, room: usize) -> OnuPassed {
+fn received(
+    s: Subscriber,
+    header: Header,
+    payload: [u8; 36],
+    length: usize,
+    room: usize,
+) -> OnuPassed {
     let mut octets = play::lent();
     let used = length % 37;
     let free = room % 37;
-    let answer = traffic::onu_receive(o, header, &payload[..used], &mut octets[..free]);
-    let onu = answer.onu;
+    let answer = subscriber_traffic::receive(s, header, &payload[..used], &mut octets[..free]);
+    let subscriber = answer.subscriber;
     let envelope = Envelope { header, octets };
     OnuPassed {
         number: answer.number,
-        onu,
+        subscriber,
         count: answer.count,
         envelope,
     }
@@ -135,8 +188,14 @@ fn received(o: Onu, header: Header, payload: [u8; 36], length: usize, room: usiz
 fn passed(before: OnuPassed, k: usize, n: Numbers, aim: Aim, carried: Envelope) -> OnuPassed {
     let payload = carried.octets;
     match k {
-        0 => sent(before.onu, n, payload, aim.length, aim.room),
-        1 | 2 => received(before.onu, carried.header, payload, aim.length, aim.room),
+        0 => sent(before.subscriber, n, payload, aim.length, aim.room),
+        1 | 2 => received(
+            before.subscriber,
+            carried.header,
+            payload,
+            aim.length,
+            aim.room,
+        ),
         _ => before,
     }
 }
@@ -146,20 +205,20 @@ pub(crate) fn command(p: Play, s: &[u8], at: usize, to: usize, n: Numbers) -> Pl
         s,
         at,
         to,
-        b"send receive take fresh advance keyed clock_message clock_arrives key_message key_arrives tick channel0 channel1 noted first synced time rx olt_mac identity",
+        b"send receive take fresh advance keyed clock_message clock_arrives key_message key_arrives tick channel0 channel1 noted first synced time rx olt_mac identity join groups joined_llid joined_active joined_held joined_kept",
     );
-    script::mark(k > 19, b'?');
-    let asked = answer(play::unit(p), k, n);
+    script::mark(k > 25, b'?');
+    let asked = answer(play::unit(p), p.aim.group, k, n);
     let taken = acknowledged(asked, k, n, p.stamps, p.message, p.acknowledgement);
-    let onu = taken.onu;
+    let subscriber = taken.subscriber;
     let envelope = p.passed;
     let before = OnuPassed {
         number: taken.number,
-        onu,
+        subscriber,
         count: p.count,
         envelope,
     };
     let done = passed(before, k, n, p.aim, play::carried(p, k, n));
     let r = play::after(p, k, n, done.number, done.count, done.envelope);
-    play::after_unit(r, done.onu, taken.acknowledgement)
+    play::after_unit(r, done.subscriber, taken.answer)
 }

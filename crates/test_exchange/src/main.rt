@@ -1,6 +1,7 @@
-// Plays the script on standard input: exchanges between an OLT and two units, of clocks and keys and of envelopes, with losses, retries
-// and switches; every refusal of the calls of both ends; and what the readings of 01 tell apart. A line is a remark (#), a title, or a
-// row: its label, what is played, and after the colon what is shown of it. What it must print is made by tools/test_exchange.py.
+// Plays the script on standard input: exchanges between an OLT and two units, of clocks and keys and of envelopes, their own and of groups,
+// with losses, retries and switches; every refusal of the calls of both ends; and what the readings of 01 and of 02, C-14, tell apart. A
+// line is a remark (#), a title, or a row: its label, what is played, and after the colon what is shown of it. What it must print is made
+// by tools/test_exchange.py.
 mod at_olt;
 mod at_onu;
 mod named;
@@ -23,12 +24,12 @@ fn command(p: Play, s: &[u8], at: usize, to: usize, end: usize) -> Play
         show::show(p, s, at, to);
         return p;
     }
-    let k = script::word(s, at, to, b"olt onu onu2 unit lengths control all :");
+    let k = script::word(s, at, to, b"olt onu onu2 unit lengths group control all :");
     let n = script::numbers_after(s, at, end);
-    if k < 7 {
+    if k < 8 {
         return play::turned(p, k, n);
     }
-    if k == 7 {
+    if k == 8 {
         show::number(p.number);
         return p;
     }

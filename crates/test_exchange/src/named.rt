@@ -3,12 +3,13 @@ use crate::play;
 use crate::play::Play;
 use crate::script;
 use clock::Stamps;
-use ends::Olt;
-use ends::Onu;
 use ends::UnitRecord;
+use groups::HeadEnd;
+use groups::Subscriber;
 use libc::STDOUT_FILENO;
 
-fn at_olt(o: Olt, u: UnitRecord, sent: Stamps, k: usize) -> u64 {
+fn at_olt(h: HeadEnd, u: UnitRecord, sent: Stamps, k: usize) -> u64 {
+    let o = h.olt;
     let values = [
         o.shared.clock,
         o.count as u64,
@@ -19,40 +20,43 @@ fn at_olt(o: Olt, u: UnitRecord, sent: Stamps, k: usize) -> u64 {
         o.shared.tick,
         sent.rx,
         sent.tx,
+        h.groups.count as u64,
     ];
-    values[k % 9]
+    values[k % 10]
 }
 
-fn at_onu(o: Onu, kind: u8, k: usize) -> u64 {
+fn at_onu(s: Subscriber, kind: u8, k: usize) -> u64 {
+    let o = s.onu;
     let values = [
         o.identity.mac,
         o.tick,
         o.clock.rx,
         o.clock.time,
+        s.memberships.count as u64,
         o.identity.count as u64,
         o.keys.held as u64,
         o.clock.time,
         kind as u64,
     ];
-    values[std::num::wrapping_sub_usize(k, 5) % 8]
+    values[std::num::wrapping_sub_usize(k, 5) % 9]
 }
 
 fn value(p: Play, u: UnitRecord, k: usize) -> u64 {
     if p.aim.side == 0 {
-        return at_olt(p.olt, u, p.stamps, k);
+        return at_olt(p.head, u, p.stamps, k);
     }
     at_onu(play::unit(p), p.acknowledgement.kind, k)
 }
 
-// The first nine are the OLT's, the last eight a unit's.
+// The first ten are the OLT's, the last nine a unit's.
 pub(crate) fn show(p: Play, u: UnitRecord, s: &[u8], at: usize, to: usize) {
     let k = script::word(
         s,
         at,
         to,
-        b"clock units count flag acknowledged MAC tick Rx Tx LLIDs held LocalTime kind",
+        b"clock units count flag acknowledged MAC tick Rx Tx groups LLIDs held LocalTime kind",
     );
-    script::mark(k > 12, b'?');
+    script::mark(k > 13, b'?');
     script::put(b',');
     script::put(b' ');
     script::write(s, at, to);

@@ -4,9 +4,11 @@ ghost use mathlib.Core.Path.{_≡_};
 use crate::script::Numbers;
 use crate::values;
 use clock::Stamps;
-use ends::Olt;
-use ends::Onu;
-use protocol::Acknowledgement;
+use groups::Answer;
+use groups::HeadEnd;
+use groups::Subscriber;
+use multicast::at_head;
+use multicast::at_subscriber;
 use protocol::Header;
 use protocol::KeyMessage;
 
@@ -15,11 +17,12 @@ pub struct Envelope {
     pub octets: [u8; 36],
 }
 
-// What the words speak of: the OLT (side 0) or a unit (1, 2), and the place of a unit's record in the OLT's table. Of four EQs the
-// first `length` octets are sent, and `room` octets are lent for the output.
+// What the words speak of: the OLT (side 0) or a unit (1, 2), the place of a unit's record in the OLT's table and that of a group in its
+// end's. Of four EQs the first `length` octets are sent, and `room` octets are lent for the output.
 pub struct Aim {
     pub side: u8,
     pub place: usize,
+    pub group: usize,
     pub eqs: [u8; 36],
     pub length: usize,
     pub room: usize,
@@ -32,12 +35,12 @@ pub struct Play {
     pub number: u8,
     pub first: u8,
     pub second: u8,
-    pub olt: Olt,
-    pub one: Onu,
-    pub two: Onu,
+    pub head: HeadEnd,
+    pub one: Subscriber,
+    pub two: Subscriber,
     pub stamps: Stamps,
     pub message: KeyMessage,
-    pub acknowledgement: Acknowledgement,
+    pub acknowledgement: Answer,
     pub envelopes: [Envelope; 4],
     pub passed: Envelope,
     pub count: u64,
@@ -49,6 +52,7 @@ fn usual(side: u8) -> Aim {
     Aim {
         side,
         place: 0,
+        group: 0,
         eqs,
         length: 27,
         room: 27,
@@ -57,10 +61,10 @@ fn usual(side: u8) -> Aim {
 
 pub(crate) fn start() -> Play {
     let aim = usual(0);
-    let down = olt::fresh(values::OLT_MAC, 0);
-    let up = onu::fresh(values::unit(), values::OLT_MAC, 0);
-    let olt = down.olt;
-    let onu = up.onu;
+    let down = at_head::fresh(values::OLT_MAC, 0);
+    let up = at_subscriber::fresh(values::unit(), values::OLT_MAC, 0);
+    let head = down.head;
+    let unit = up.subscriber;
     let key = values::key(0);
     let octets = aim.eqs;
     let none = Envelope {
@@ -78,23 +82,28 @@ pub(crate) fn start() -> Play {
         number: 0,
         first: 0,
         second: 0,
-        olt,
-        one: onu,
-        two: onu,
+        head,
+        one: unit,
+        two: unit,
         stamps: Stamps { rx: 0, tx: 0 },
         message: KeyMessage {
             llid: 0,
             number: 0,
             key,
         },
-        acknowledgement: Acknowledgement { kind: 0, number: 0 },
+        acknowledgement: Answer {
+            kind: 0,
+            named: 0,
+            unit: 0,
+            number: 0,
+        },
         envelopes: [none; 4],
         passed: none,
         count: 0,
     }
 }
 
-pub(crate) fn unit(p: Play) -> Onu {
+pub(crate) fn unit(p: Play) -> Subscriber {
     if p.aim.side == 2 {
         return p.two;
     }
@@ -111,6 +120,7 @@ fn aimed(aim: Aim, k: usize, n: Numbers) -> Aim {
             r.length = (n.a % 37) as usize;
             r.room = (n.b % 37) as usize;
         }
+        5 => r.group = (n.a % 16) as usize,
         _ => {
             let eqs = values::payload(n.a, n.b, n.c);
             r.eqs = eqs;
@@ -121,25 +131,25 @@ fn aimed(aim: Aim, k: usize, n: Numbers) -> Aim {
 
 // An advance of all ends.
 fn advance(p: Play, n: u64) -> Play {
-    let down = olt::advance(p.olt, n);
-    let first = onu::advance(p.one, n);
-    let second = onu::advance(p.two, n);
-    let olt = down.olt;
-    let one = first.onu;
-    let two = second.onu;
+    let down = at_head::advance(p.head, n);
+    let first = at_subscriber::advance(p.one, n);
+    let second = at_subscriber::advance(p.two, n);
+    let head = down.head;
+    let one = first.subscriber;
+    let two = second.subscriber;
     let mut r = p;
     r.number = down.number;
     r.first = first.number;
     r.second = second.number;
-    r.olt = olt;
+    r.head = head;
     r.one = one;
     r.two = two;
     r
 }
 
-// The words olt onu onu2 unit lengths control all, by their place.
+// The words olt onu onu2 unit lengths group control all, by their place.
 pub(crate) fn turned(p: Play, k: usize, n: Numbers) -> Play {
-    if k == 6 {
+    if k == 7 {
         return advance(p, n.a);
     }
     let aim = aimed(p.aim, k, n);
@@ -194,21 +204,21 @@ pub(crate) fn after(
     r
 }
 
-pub(crate) fn after_olt(p: Play, olt: Olt, stamps: Stamps, message: KeyMessage) -> Play {
+pub(crate) fn after_olt(p: Play, head: HeadEnd, stamps: Stamps, message: KeyMessage) -> Play {
     let mut r = p;
-    r.olt = olt;
+    r.head = head;
     r.stamps = stamps;
     r.message = message;
     r
 }
 
-pub(crate) fn after_unit(p: Play, onu: Onu, acknowledgement: Acknowledgement) -> Play {
+pub(crate) fn after_unit(p: Play, unit: Subscriber, acknowledgement: Answer) -> Play {
     let mut r = p;
     r.acknowledgement = acknowledgement;
     if p.aim.side == 2 {
-        r.two = onu;
+        r.two = unit;
     } else {
-        r.one = onu;
+        r.one = unit;
     }
     r
 }

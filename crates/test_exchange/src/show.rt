@@ -6,13 +6,15 @@ use crate::play::Play;
 use crate::script;
 use clock::Stamps;
 use ends::Channels;
-use ends::Olt;
 use ends::Onu;
 use ends::Shared;
 use ends::Slots;
 use ends::UnitRecord;
+use groups::Answer;
+use groups::GroupRecord;
+use groups::Joined;
+use groups::Members;
 use libc::STDOUT_FILENO;
-use protocol::Acknowledgement;
 use protocol::Header;
 use protocol::KeyMessage;
 
@@ -160,8 +162,90 @@ fn message(m: KeyMessage) {
     );
 }
 
-fn answer(a: Acknowledgement) {
+fn answer(a: Answer) {
     few(b", kind %, number %", a.kind as u64, a.number as u64, 0, 0);
+}
+
+// The unit that an acknowledgement names.
+fn named_unit(a: Answer) {
+    few(b", named %, unit %", a.named as u64, a.unit as u64, 0, 0);
+}
+
+// The first n octets as numbers.
+fn list(text: &[u8], s: &[u8], n: usize) {
+    few(text, 0, 0, 0, 0);
+    for i in 0..n {
+        few(b" %", wide(script::octet(s, i)), 0, 0, 0);
+    }
+}
+
+fn members(m: Members) {
+    let places = m.places;
+    let marks = m.marks;
+    let n = m.count as usize;
+    list(b", members", &places, n);
+    list(b", marks", &marks, n);
+}
+
+// A group at the OLT.
+fn group(g: GroupRecord, free: Channels) {
+    fill(
+        b", LLID % A % O %, flag %, first % %, free % %",
+        [
+            g.llid as u64,
+            g.keys.active as u64,
+            g.keys.offered as u64,
+            g.keys.timer.flag as u64,
+            wide(g.keys.first.noted),
+            g.keys.first.tick,
+            free.zero,
+            free.one,
+            0,
+        ],
+    );
+    members(g.members);
+}
+
+// A group that a unit joined.
+fn joined(j: Joined) {
+    few(
+        b", LLID % a % kept % held %",
+        j.llid as u64,
+        j.keys.active as u64,
+        j.kept as u64,
+        j.keys.held as u64,
+    );
+}
+
+// The words group and group_slots at the OLT.
+fn group_at_olt(p: Play, k: usize) {
+    let groups = p.head.groups;
+    let g = groups.table[p.aim.group % 16];
+    if k == 11 {
+        slots(g.keys.slots);
+    } else {
+        group(g, p.head.olt.shared.channels);
+    }
+}
+
+// The same at a unit.
+fn group_at_unit(p: Play, k: usize) {
+    let unit = play::unit(p);
+    let memberships = unit.memberships;
+    let j = memberships.table[p.aim.group % 4];
+    if k == 11 {
+        slots(j.keys.slots);
+    } else {
+        joined(j);
+    }
+}
+
+fn spoken_group(p: Play, k: usize) {
+    if p.aim.side == 0 {
+        group_at_olt(p, k);
+    } else {
+        group_at_unit(p, k);
+    }
 }
 
 fn output(passed: Envelope, count: u64, room: usize) {
@@ -171,11 +255,11 @@ fn output(passed: Envelope, count: u64, room: usize) {
 }
 
 // The words state, stamps and slots at the OLT.
-fn at_olt(o: Olt, u: UnitRecord, sent: Stamps, k: usize) {
+fn at_olt(free: Channels, u: UnitRecord, sent: Stamps, k: usize) {
     match k {
         3 => stamps(sent.rx, sent.tx),
         4 => slots(u.keys.slots),
-        _ => record(u, o.shared.channels),
+        _ => record(u, free),
     }
 }
 
@@ -212,18 +296,19 @@ fn at_end(p: Play, u: UnitRecord, k: usize) {
         output(p.passed, p.count, p.aim.room);
     }
     if p.aim.side == 0 {
-        at_olt(p.olt, u, p.stamps, k);
+        at_olt(p.head.olt.shared.channels, u, p.stamps, k);
     } else {
-        at_onu(play::unit(p), k);
+        let unit = play::unit(p);
+        at_onu(unit.onu, k);
     }
 }
 
 // The key that a unit has in use at both ends.
 fn keys(p: Play, u: UnitRecord) {
     if p.aim.place == 1 {
-        held(u, p.two);
+        held(u, p.two.onu);
     } else {
-        held(u, p.one);
+        held(u, p.one.onu);
     }
 }
 
@@ -244,18 +329,21 @@ pub(crate) fn show(p: Play, s: &[u8], at: usize, to: usize) {
         s,
         at,
         to,
-        b"sent received state stamps slots message answer ends keys clocks",
+        b"sent received state stamps slots message answer ends keys clocks group group_slots passed named",
     );
-    let olt = p.olt;
+    let units = p.head.olt.units;
     let place = p.aim.place % 16;
-    let u = olt.units[place];
+    let u = units[place];
     match k {
         5 => message(p.message),
         6 => answer(p.acknowledgement),
-        7 => all_ends(p.first, p.second, p.olt.shared),
+        7 => all_ends(p.first, p.second, p.head.olt.shared),
         8 => keys(p, u),
-        9 => clocks(p.olt.shared.clock, p.one),
-        10 => named::show(p, u, s, at, to),
+        9 => clocks(p.head.olt.shared.clock, p.one.onu),
+        10 | 11 => spoken_group(p, k),
+        12 => output(p.passed, p.count, p.aim.room),
+        13 => named_unit(p.acknowledgement),
+        14 => named::show(p, u, s, at, to),
         _ => at_end(p, u, k),
     }
 }

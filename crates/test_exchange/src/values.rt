@@ -3,7 +3,8 @@ use crate::script;
 use crate::script::Numbers;
 use ends::Identity;
 use ends::Slots;
-use protocol::Acknowledgement;
+use groups::Answer;
+use groups::Roster;
 use protocol::Header;
 use protocol::KeyMessage;
 
@@ -46,11 +47,34 @@ pub(crate) fn slots(n: u32, other: u64) -> Slots {
     ends::keyslots::with_key(one, 1 - n % 2, key(other))
 }
 
-// Kind and number, after an LLID.
-pub(crate) fn acknowledgement(n: Numbers) -> Acknowledgement {
-    Acknowledgement {
+// Kind and number, after an LLID; then whether a unit is named, and by which LLID.
+pub(crate) fn acknowledgement(n: Numbers) -> Answer {
+    Answer {
         kind: script::u8_of(n.b),
+        named: script::u8_of(n.d),
+        unit: script::u16_of(n.e),
         number: script::u32_of(n.c),
+    }
+}
+
+fn higher(llid: u64, n: u64) -> u16 {
+    script::u16_of(std::num::wrapping_add_u64(llid, n))
+}
+
+// How many members, and the LLIDs that name the first three; each one after is four higher than the one before.
+pub(crate) fn roster(count: u64, one: u64, two: u64, three: u64) -> Roster {
+    Roster {
+        llids: [
+            script::u16_of(one),
+            script::u16_of(two),
+            script::u16_of(three),
+            higher(three, 4),
+            higher(three, 8),
+            higher(three, 12),
+            higher(three, 16),
+            higher(three, 20),
+        ],
+        count: script::u8_of(count),
     }
 }
 

@@ -4,9 +4,10 @@ use mathlib.Core.List.{List}
 use Prim.Native.Nat.{ℕ}
 use lib.ListN.{length}
 use Rattle.octets.specs.Output.{WithOutput, withOutput}
+use Rattle.refusal.specs.Order.{andThen}
 use Rattle.refusal.specs.declared.Verdict.{Verdict}
 use Rattle.refusal.specs.declared.Verdict.the-variants.{Accepted, Refused}
-use Rattle.envelope.specs.Acceptance.{lengthsFit}
+use Rattle.envelope.specs.Acceptance.{lengthsFit, sealVerdict}
 use Rattle.envelope.specs.declared.Nonce.{Nonce}
 use Rattle.sealing.specs.KeyExpansion.{keyExpansion}
 use Rattle.sealing.specs.Seal.{carried, countCarried, runsCarried}
@@ -52,3 +53,7 @@ outputAfter (Refused r) next lent = lent
 unfoldable pub carriedAfter : Verdict → ℕ → Passage → List ℕ → List ℕ → WithOutput Work
 carriedAfter Accepted channel q p out = withOutput (passedWork q p) (passed channel q p)
 carriedAfter (Refused r) channel q p out = withOutput (record { count = 0; runs = 0 }) out
+
+-- the same, what sealing refuses being refused after the verdict
+abbrev pub carriedFitting : Verdict → ℕ → Passage → List ℕ → List ℕ → WithOutput Work
+carriedFitting v channel q p out = carriedAfter (andThen v (sealVerdict (length p) (length out) (passageNonce channel q))) channel q p out

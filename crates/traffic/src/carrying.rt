@@ -5,18 +5,20 @@ ghost use lib.ListN.{length};
 ghost use Rattle.refusal.specs.declared.Verdict.the-variants.{Accepted};
 ghost use Rattle.envelope.specs.Acceptance.{sealVerdict, lengthsFit};
 ghost use Rattle.octets.specs.Output.{withOutput};
-ghost use Rattle.traffic.specs.Passages.{choiceEnciphered, passageNonce, passed, passedWork, carriedAfter};
+ghost use Rattle.traffic.specs.Passages.{choiceEnciphered, passageNonce, passed, passedWork, carriedAfter, carriedFitting};
 use envelope::Nonce;
 use envelope::lengths_fit;
 use envelope::seal_count;
 use envelope::seal_runs;
+use envelope::seal_verdict;
 use protocol::KeyChoice;
 use protocol::Passage;
 use refusal::Verdict;
+use refusal::and_then;
 use sealing::counter_mode::seal;
 
 // What a payload took: the octets enciphered, and the runs of the cipher (02, C-17).
-pub(crate) struct Work {
+pub struct Work {
     pub count: u64,
     pub runs: u64,
 }
@@ -74,4 +76,23 @@ pub(crate) fn carry_accepted(
         Verdict::Accepted => carry(passage, channel, payload, output),
         Verdict::Refused(_) => Work { count: 0, runs: 0 },
     }
+}
+
+// The same for any lengths and any counter block: what sealing refuses is refused after the verdict.
+pub fn carry_fitting(
+    verdict: Verdict,
+    passage: Passage,
+    channel: u8,
+    payload: &[u8],
+    output: &mut [u8],
+) -> Work
+    ensures { λ r. ⌜ withOutput r (now (output .exit)) ≡ carriedFitting verdict channel passage (now (payload .entry)) (now (output .entry)) ⌝ }
+{
+    let nonce = Nonce {
+        channel,
+        mac: passage.mac,
+        clock: passage.clock,
+    };
+    let fits = seal_verdict(payload.len(), output.len(), nonce);
+    carry_accepted(and_then(verdict, fits), passage, channel, payload, output)
 }

@@ -2,7 +2,7 @@
 // header, the octets enciphered and the runs of the cipher, and writes the output; refused, the end and the output are those that were lent.
 mod at_olt;
 mod at_onu;
-mod carrying;
+pub mod carrying;
 
 ghost use mathlib.Core.Path.{_≡_};
 ghost use Rattle.octets.specs.Output.{withOutput};

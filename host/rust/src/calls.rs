@@ -20,22 +20,27 @@ pub fn olt_register(olt: Olt, identity: Identity, trip: u64, interval: u64) -> O
     unsafe { raw::jazmotip_olt_register(olt, identity, trip, interval) }
 }
 
+/// Order of refusals: 1, 21, 3, 4.
+pub fn olt_register_group(olt: Olt, llid: u16, interval: u64, roster: Roster) -> OltAnswer {
+    unsafe { raw::jazmotip_olt_register_group(olt, llid, interval, roster) }
+}
+
 /// Order of refusals: 17.
 pub fn olt_advance(olt: &mut Olt, n: u64) -> u8 {
     unsafe { raw::jazmotip_olt_advance(olt, n) }
 }
 
-/// Order of refusals: 2.
+/// Order of refusals: 2, for a group's LLID too.
 pub fn olt_capture(olt: Olt, llid: u16) -> OltAnswer {
     unsafe { raw::jazmotip_olt_capture(olt, llid) }
 }
 
-/// Order of refusals: 2, 8, 16.
+/// Order of refusals: 2, for a group's LLID too, 8, 16.
 pub fn olt_clock_send(olt: Olt, llid: u16) -> ClockSent {
     unsafe { raw::jazmotip_olt_clock_send(olt, llid) }
 }
 
-/// Order of refusals: 2, 5, 6, 7, 17.
+/// Order of refusals: 2, 5 (for a group until the clock of every member is acknowledged), 6, 7, 17.
 pub fn olt_offer(olt: Olt, llid: u16, key: &[u8; 16]) -> KeySent {
     unsafe { raw::jazmotip_olt_offer(olt, llid, key.as_ptr()) }
 }
@@ -45,7 +50,7 @@ pub fn olt_retry(olt: Olt, llid: u16) -> KeySent {
     unsafe { raw::jazmotip_olt_retry(olt, llid) }
 }
 
-/// Order of refusals: 2, 8.
+/// Order of refusals: 2, for a group's LLID with kind 1 too, 8.
 pub fn olt_acknowledge(olt: Olt, llid: u16, acknowledgement: Acknowledgement) -> OltAnswer {
     unsafe { raw::jazmotip_olt_acknowledge(olt, llid, acknowledgement) }
 }
@@ -55,13 +60,18 @@ pub fn olt_send(olt: Olt, llid: u16, channel: u8, payload: &[u8], output: &mut [
     unsafe { raw::jazmotip_olt_send(olt, llid, channel, payload.as_ptr(), payload.len(), output.as_mut_ptr(), output.len()) }
 }
 
-/// Order of refusals: 14, 1, 2, 10, 11, 9.
+/// Order of refusals: 14, 1, 2, 20, 10, 11, 9.
 pub fn olt_receive(olt: Olt, header: Header, octets: &[u8], output: &mut [u8]) -> OltReceived {
     unsafe { raw::jazmotip_olt_receive(olt, header, octets.as_ptr(), octets.len(), output.as_mut_ptr(), output.len()) }
 }
 
 pub fn onu_fresh(identity: Identity, oltmac: u64, time: u64) -> OnuAnswer {
     unsafe { raw::jazmotip_onu_fresh(identity, oltmac, time) }
+}
+
+/// Order of refusals: 3, 4.
+pub fn onu_join(onu: Onu, llid: u16) -> OnuAnswer {
+    unsafe { raw::jazmotip_onu_join(onu, llid) }
 }
 
 /// Order of refusals: 17.
@@ -79,7 +89,7 @@ pub fn onu_key_message(onu: Onu, message: KeyMessage) -> OnuAcknowledged {
     unsafe { raw::jazmotip_onu_key_message(onu, message) }
 }
 
-/// Order of refusals: 14, 1, 2, 12, 13.
+/// Order of refusals: 14, 1, 2, 20, 12, 13.
 pub fn onu_send(onu: Onu, llid: u16, channel: u8, payload: &[u8], output: &mut [u8]) -> OnuSent {
     unsafe { raw::jazmotip_onu_send(onu, llid, channel, payload.as_ptr(), payload.len(), output.as_mut_ptr(), output.len()) }
 }

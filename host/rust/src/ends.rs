@@ -32,8 +32,17 @@ impl Identity {
     }
 }
 
+impl Roster {
+    /// The members of a group, each by any LLID of its unit. More than eight keep their count, which the engine refuses by 21.
+    pub fn new(llids: &[u16]) -> Roster {
+        let mut places = [0; 8];
+        places.iter_mut().zip(llids).for_each(|(place, llid)| *place = *llid);
+        Roster { llids: places, count: u8::try_from(llids.len()).unwrap_or(u8::MAX) }
+    }
+}
+
 impl Olt {
-    /// A head end with no units: its MAC and first clock, both below 2^48.
+    /// A head end with no units and no groups: its MAC and first clock, both below 2^48.
     pub fn fresh(mac: u64, clock: u64) -> Result<Olt, Refusal> {
         let answer = calls::olt_fresh(mac, clock);
         Refusal::verdict(answer.number).map(|()| answer.olt)
@@ -42,6 +51,13 @@ impl Olt {
     /// Registers a unit: who it is, its round trip (up to 1,000,000 ticks) and the interval of its key timer.
     pub fn register(&mut self, identity: Identity, trip: u64, interval: u64) -> Result<(), Refusal> {
         let answer = calls::olt_register(*self, identity, trip, interval);
+        *self = answer.olt;
+        Refusal::verdict(answer.number)
+    }
+
+    /// Registers a group: its LLID, the interval of its key timer, and its 1 to 8 members, which stay.
+    pub fn register_group(&mut self, llid: u16, interval: u64, members: &[u16]) -> Result<(), Refusal> {
+        let answer = calls::olt_register_group(*self, llid, interval, Roster::new(members));
         *self = answer.olt;
         Refusal::verdict(answer.number)
     }
@@ -65,7 +81,8 @@ impl Olt {
         Refusal::verdict(answer.number).map(|()| answer.message)
     }
 
-    /// Offers a new key, from a good random source, and hands over its message.
+    /// Offers a new key, from a good random source, and hands over its message. A group's needs the clock of every member
+    /// acknowledged, and may follow the switch at once.
     pub fn offer(&mut self, llid: u16, key: &[u8; 16]) -> Result<KeyMessage, Refusal> {
         let answer = calls::olt_offer(*self, llid, key);
         *self = answer.olt;
@@ -79,15 +96,15 @@ impl Olt {
         Refusal::verdict(answer.number).map(|()| answer.message)
     }
 
-    /// Takes in a unit's acknowledgement.
+    /// Takes in a unit's acknowledgement, under an LLID of its own or, for a group's key, under the group's.
     pub fn acknowledge(&mut self, llid: u16, acknowledgement: Acknowledgement) -> Result<(), Refusal> {
         let answer = calls::olt_acknowledge(*self, llid, acknowledgement);
         *self = answer.olt;
         Refusal::verdict(answer.number)
     }
 
-    /// Seals a payload for a unit into `output`, of the same length. Index 00 or 01 hex. With the timer's flag up and the offer
-    /// acknowledged this is the envelope that switches keys.
+    /// Seals a payload for a unit or a group into `output`, of the same length. Index 00 or 01 hex. With the timer's flag up and
+    /// the offer acknowledged this is the envelope that switches keys; a group's switches acknowledged or not.
     pub fn send(&mut self, llid: u16, channel: u8, payload: &[u8], output: &mut [u8]) -> Result<Sent, Refusal> {
         let answer = calls::olt_send(*self, llid, channel, payload, output);
         *self = answer.olt;
@@ -109,6 +126,13 @@ impl Onu {
         Refusal::verdict(answer.number).map(|()| answer.onu)
     }
 
+    /// Joins a group by its LLID. What is promised to a member counts from here.
+    pub fn join(&mut self, llid: u16) -> Result<(), Refusal> {
+        let answer = calls::onu_join(*self, llid);
+        *self = answer.onu;
+        Refusal::verdict(answer.number)
+    }
+
     /// Moves ticks and clocks on by `n`.
     pub fn advance(&mut self, n: u64) -> Result<(), Refusal> {
         Refusal::verdict(calls::onu_advance(self, n))
@@ -121,7 +145,8 @@ impl Onu {
         Refusal::verdict(answer.number).map(|()| answer.acknowledgement)
     }
 
-    /// Takes a key message and hands over the acknowledgement.
+    /// Takes a key message, its own or of a group that it joined, and hands over the acknowledgement. Of a group any number above
+    /// those that it holds is taken.
     pub fn key_message(&mut self, message: KeyMessage) -> Result<Acknowledgement, Refusal> {
         let answer = calls::onu_key_message(*self, message);
         *self = answer.onu;
@@ -135,8 +160,8 @@ impl Onu {
         Refusal::verdict(answer.number).map(|()| Sent { header: answer.header, count: answer.count, runs: answer.runs })
     }
 
-    /// Opens an envelope from the head end into `output`, of the same length; gives what that took. An envelope under the next
-    /// key makes that key the active one.
+    /// Opens an envelope from the head end, for the unit or for a group that it joined, into `output`, of the same length; gives
+    /// what that took. An envelope under the next key makes that key the active one.
     pub fn receive(&mut self, header: Header, octets: &[u8], output: &mut [u8]) -> Result<Work, Refusal> {
         let answer = calls::onu_receive(*self, header, octets, output);
         *self = answer.onu;

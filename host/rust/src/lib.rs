@@ -56,10 +56,14 @@ pub use refusal::Refusal;
 pub const EQ_OCTETS: usize = 9;
 /// EQs of a payload, at most.
 pub const MAX_EQS: usize = 4_194_303;
-/// Units of an OLT, at most.
+/// Units and groups of an OLT together, at most.
 pub const UNITS: usize = 16;
 /// LLIDs of a unit, at most; at least 1.
 pub const LLIDS: usize = 4;
+/// Members of a group, at most; at least 1.
+pub const MEMBERS: usize = 8;
+/// Groups that a unit joins, at most.
+pub const JOINED: usize = 4;
 /// Ticks of a second. A clock capture may be sent up to then.
 pub const SECOND: u64 = 390_625_000;
 /// Ticks of a round trip, at most.

@@ -11,6 +11,7 @@ use crate::records::*;
 extern "C" {
     pub fn jazmotip_olt_fresh(mac: u64, clock: u64) -> OltAnswer;
     pub fn jazmotip_olt_register(olt: Olt, identity: Identity, trip: u64, interval: u64) -> OltAnswer;
+    pub fn jazmotip_olt_register_group(olt: Olt, llid: u16, interval: u64, roster: Roster) -> OltAnswer;
     pub fn jazmotip_olt_advance(olt: *mut Olt, n: u64) -> u8;
     pub fn jazmotip_olt_capture(olt: Olt, llid: u16) -> OltAnswer;
     pub fn jazmotip_olt_clock_send(olt: Olt, llid: u16) -> ClockSent;
@@ -36,6 +37,7 @@ extern "C" {
     ) -> OltReceived;
 
     pub fn jazmotip_onu_fresh(identity: Identity, oltmac: u64, time: u64) -> OnuAnswer;
+    pub fn jazmotip_onu_join(onu: Onu, llid: u16) -> OnuAnswer;
     pub fn jazmotip_onu_advance(onu: *mut Onu, n: u64) -> u8;
     pub fn jazmotip_onu_clock_message(onu: Onu, message: Stamps) -> OnuAcknowledged;
     pub fn jazmotip_onu_key_message(onu: Onu, message: KeyMessage) -> OnuAcknowledged;

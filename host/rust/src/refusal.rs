@@ -26,6 +26,8 @@ pub enum Refusal {
     BrokenChain(u16),
     /// The same, where the pair's length does not suit the EQs of its record.
     UnsuitedLength(u16),
+    GroupLlid,
+    BadMember,
     RepeatedRecord,
     UnknownUser,
     NoRight,
@@ -35,7 +37,7 @@ pub enum Refusal {
 
 impl Refusal {
     /// The refusals that name no pair, in the order of their numbers.
-    const WITHOUT_PAIR: [Refusal; 22] = [
+    const WITHOUT_PAIR: [Refusal; 24] = [
         Refusal::OutOfRange,
         Refusal::UnknownLlid,
         Refusal::RepeatedLlid,
@@ -53,6 +55,8 @@ impl Refusal {
         Refusal::BadDirectory,
         Refusal::CaptureTooOld,
         Refusal::AtEnd,
+        Refusal::GroupLlid,
+        Refusal::BadMember,
         Refusal::RepeatedRecord,
         Refusal::UnknownUser,
         Refusal::NoRight,
@@ -60,7 +64,7 @@ impl Refusal {
         Refusal::BadScript,
     ];
 
-    /// The number that the engine returns for it, 1 to 19 or 22 to 26.
+    /// The number that the engine returns for it, 1 to 26.
     pub fn number(self) -> u8 {
         match self {
             Refusal::OutOfRange => 1,
@@ -82,6 +86,8 @@ impl Refusal {
             Refusal::AtEnd => 17,
             Refusal::BrokenChain(_) => 18,
             Refusal::UnsuitedLength(_) => 19,
+            Refusal::GroupLlid => 20,
+            Refusal::BadMember => 21,
             Refusal::RepeatedRecord => 22,
             Refusal::UnknownUser => 23,
             Refusal::NoRight => 24,
@@ -119,8 +125,8 @@ impl fmt::Display for Refusal {
         let cause = match self {
             Refusal::OutOfRange => "a value outside its range",
             Refusal::UnknownLlid => "LLID not registered",
-            Refusal::RepeatedLlid => "LLID already registered, or twice in one call",
-            Refusal::TableFull => "seventeenth unit",
+            Refusal::RepeatedLlid => "LLID already registered or joined, or twice in one call",
+            Refusal::TableFull => "seventeenth unit or group, or a unit's fifth group",
             Refusal::ClockNotSet => "clock not set or not acknowledged",
             Refusal::OfferPending => "an offer is under way, or the last key is not confirmed",
             Refusal::SameKey => "the offered key is the active one",
@@ -136,6 +142,8 @@ impl fmt::Display for Refusal {
             Refusal::AtEnd => "tick or key number at its end",
             Refusal::BrokenChain(_) => "pair off the chain of offsets",
             Refusal::UnsuitedLength(_) => "length does not suit the record's EQs",
+            Refusal::GroupLlid => "a unit sends, or the OLT receives, on a group's LLID",
+            Refusal::BadMember => "a ninth, repeated or unregistered member",
             Refusal::RepeatedRecord => "two records of one block agree in channel index, LLID and clock",
             Refusal::UnknownUser => "the user's number is 0 or above their count",
             Refusal::NoRight => "a key loaded without the right to, or for an LLID outside the settings",

@@ -1,5 +1,5 @@
 //! The C programs of `host/c`, compiled against the header and the archive, and run. The header itself checks the layout of every
-//! struct. `exchange` must print `exchange.stdout`; what `capture` and `xgpon` must print is the tests' own.
+//! struct. `exchange` and `group` must print what their `.stdout` has; what `capture` and `xgpon` must print is the tests' own.
 
 use crate::captures::answers;
 use crate::captures::blocks::{random_block, settings};
@@ -43,12 +43,22 @@ fn printed(program: &Path, input: &[u8]) -> String {
     text
 }
 
+/// A program that reads nothing prints what stands in its file.
+fn prints_its_file(name: &str) {
+    let expected = std::fs::read_to_string(host().join(format!("c/{name}.stdout"))).expect("the expected output");
+    for level in ["-O0", "-O2"] {
+        assert_eq!(printed(&compiled(name, level), &[]), expected, "{level}");
+    }
+}
+
 #[test]
 fn exchange_plays_to_the_second_switch() {
-    let expected = std::fs::read_to_string(host().join("c/exchange.stdout")).expect("the expected output");
-    for level in ["-O0", "-O2"] {
-        assert_eq!(printed(&compiled("exchange", level), &[]), expected, "{level}");
-    }
+    prints_its_file("exchange");
+}
+
+#[test]
+fn group_brings_a_viewer_back() {
+    prints_its_file("group");
 }
 
 /// NULL with length 0: an empty payload is sealed, empty settings and an empty block are refused, and nothing is read or written.

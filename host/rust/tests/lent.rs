@@ -6,7 +6,7 @@ use crate::random::{cases, Random};
 use crate::reference::olt::Olt;
 use crate::reference::onu::Onu;
 use crate::tally::Tally;
-use jazmotip::{Identity, Unit};
+use jazmotip::{Group, Identity, Unit};
 
 /// Values at and about the bounds of the papers.
 const BOUNDS: [u64; 21] = [
@@ -62,12 +62,35 @@ fn set_olt_field(olt: &mut jazmotip::Olt, place: usize, field: usize, value: u64
         25 => unit.clock.tick = value,
         26 => unit.clock.sent = value as u8,
         27 => unit.clock.acknowledged = value as u8,
+        28 => olt.groupcount = value as u8,
+        _ => return set_group_field(&mut olt.groups[place], field - 29, value),
+    }
+    Some(())
+}
+
+/// One field of a group, by number; `None` past the last.
+fn set_group_field(group: &mut Group, field: usize, value: u64) -> Option<()> {
+    match field {
+        0 => group.llid = value as u16,
+        1 => group.members.count = value as u8,
+        2..=9 => group.members.places[field - 2] = value as u8,
+        10..=17 => group.members.marks[field - 10] = value as u8,
+        18 => group.keys.timer.interval = value,
+        19 => group.keys.timer.count = value,
+        20 => group.keys.timer.flag = value as u8,
+        21 => group.keys.active = value as u32,
+        22 => group.keys.offered = value as u32,
+        23 => group.keys.slots.even[0] = value as u8,
+        24 => group.keys.slots.odd[0] = value as u8,
+        25 => group.keys.first.noted = value as u8,
+        26 => group.keys.first.tick = value,
         _ => return None,
     }
     Some(())
 }
 
-fn set_onu_field(onu: &mut jazmotip::Onu, field: usize, value: u64) -> Option<()> {
+fn set_onu_field(onu: &mut jazmotip::Onu, place: usize, field: usize, value: u64) -> Option<()> {
+    let joined = &mut onu.joined[place];
     match field {
         0 => onu.identity.mac = value,
         1 => onu.identity.count = value as u8,
@@ -85,13 +108,20 @@ fn set_onu_field(onu: &mut jazmotip::Onu, field: usize, value: u64) -> Option<()
         16 => onu.first.tick = value,
         17 => onu.channels.zero = value,
         18 => onu.channels.one = value,
+        19 => onu.joinedcount = value as u8,
+        20 => joined.llid = value as u16,
+        21 => joined.kept = value as u8,
+        22 => joined.keys.active = value as u32,
+        23 => joined.keys.held = value as u8,
+        24 => joined.keys.slots.even[0] = value as u8,
+        25 => joined.keys.slots.odd[0] = value as u8,
         _ => return None,
     }
     Some(())
 }
 
-const OLT_FIELDS: u64 = 28;
-const ONU_FIELDS: u64 = 19;
+const OLT_FIELDS: u64 = 56;
+const ONU_FIELDS: u64 = 26;
 
 /// A value that may be bad: a bound, one beside the tick, or any.
 fn value(random: &mut Random, tick: u64) -> u64 {
@@ -113,8 +143,16 @@ fn damage_octet<T: Copy>(random: &mut Random, record: &mut T) {
 pub fn damage_olt(random: &mut Random, olt: &mut jazmotip::Olt) {
     let place = random.below(u64::from(olt.count).max(1)) as usize;
     let tick = olt.shared.tick;
-    match random.below(4) {
+    match random.below(5) {
         0 => damage_octet(random, olt),
+        4 => {
+            // a group's numbers beside each other, and a member twice
+            let group = &mut olt.groups[random.below(2) as usize];
+            group.keys.active = random.pick(&[0, 1, 2, 5, u32::MAX - 1, u32::MAX]);
+            group.keys.offered =
+                (u64::from(group.keys.active) + random.below(4)).saturating_sub(1).min(u64::from(u32::MAX)) as u32;
+            group.members.places[1] = random.below(3) as u8;
+        }
         1 => {
             // numbers beside each other, allowed or not
             let unit = &mut olt.units[place];
@@ -133,20 +171,26 @@ pub fn damage_olt(random: &mut Random, olt: &mut jazmotip::Olt) {
 
 pub fn damage_onu(random: &mut Random, onu: &mut jazmotip::Onu) {
     let tick = onu.tick;
-    match random.below(4) {
+    match random.below(5) {
         0 => damage_octet(random, onu),
+        4 => {
+            let joined = &mut onu.joined[random.below(2) as usize];
+            joined.keys.active = random.pick(&[0, 1, 2, u32::MAX - 1, u32::MAX]);
+            (joined.keys.held, joined.kept) = (random.below(2) as u8, random.below(2) as u8);
+        }
         1 => {
             onu.keys.active = random.pick(&[0, 1, 2, u32::MAX - 1, u32::MAX]);
             onu.keys.held = random.below(2) as u8;
         }
         _ => {
             let (field, value) = (random.below(ONU_FIELDS) as usize, value(random, tick));
-            set_onu_field(onu, field, value);
+            set_onu_field(onu, random.below(4) as usize, field, value);
         }
     }
 }
 
-/// An OLT in the middle of things: a unit with a key offered, one that is fresh, and a capture.
+/// An OLT in the middle of things: a unit with a key offered, one that is fresh, a capture, a group of one under key 1 with key 2
+/// offered and acknowledged, and a fresh group of both.
 fn some_olt() -> jazmotip::Olt {
     let mut olt = jazmotip::Olt::fresh(7, 100).expect("fresh");
     olt.register(Identity::new(1, &[5, 6, 7]), 10, 1000).expect("registered");
@@ -154,8 +198,15 @@ fn some_olt() -> jazmotip::Olt {
     olt.advance(5000).expect("advanced");
     olt.capture(5).expect("captured");
     olt.clock_send(5).expect("sent");
-    olt.acknowledge(5, jazmotip::Acknowledgement { kind: 1, number: 0 }).expect("acknowledged");
+    olt.acknowledge(5, jazmotip::Acknowledgement { kind: 1, ..Default::default() }).expect("acknowledged");
     olt.offer(5, &[1; 16]).expect("offered");
+    olt.register_group(20, 1000, &[6]).expect("registered");
+    olt.register_group(21, 7, &[8, 7]).expect("registered");
+    olt.offer(20, &[2; 16]).expect("offered");
+    olt.advance(1000).expect("advanced");
+    olt.send(20, 0x00, &[], &mut []).expect("sent");
+    olt.offer(20, &[3; 16]).expect("offered");
+    olt.acknowledge(20, jazmotip::Acknowledgement { kind: 2, named: 1, unit: 7, number: 2 }).expect("acknowledged");
     olt
 }
 
@@ -164,6 +215,12 @@ fn some_onu() -> jazmotip::Onu {
     onu.advance(5000).expect("advanced");
     onu.clock_message(jazmotip::Stamps { rx: 5000, tx: 5010 }).expect("set");
     onu.key_message(jazmotip::KeyMessage { llid: 5, number: 1, key: [1; 16] }).expect("taken");
+    for llid in [20, 21] {
+        onu.join(llid).expect("joined");
+    }
+    for number in [1, 2] {
+        onu.key_message(jazmotip::KeyMessage { llid: 20, number, key: [number as u8; 16] }).expect("taken");
+    }
     onu
 }
 
@@ -173,32 +230,102 @@ fn every_field_at_every_bound() {
     for start in [some_olt(), jazmotip::Olt::default()] {
         for field in 0..OLT_FIELDS as usize {
             for place in [0, 1, 2, 15] {
-                for value in BOUNDS.into_iter().chain([4999, 5000, 5001, 6, 8, 999, 1000, u64::MAX]) {
+                for value in BOUNDS.into_iter().chain([5999, 6000, 6001, 6, 8, 20, 21, 999, 1000, u64::MAX]) {
                     let mut olt = start;
                     set_olt_field(&mut olt, place, field, value).expect("a field");
                     let _ = Pair::<Olt>::lent(olt).advance(&mut tally, 0);
                     let _ = Pair::<Olt>::lent(olt).offer(&mut tally, 5, &[2; 16]);
                     let _ = Pair::<Olt>::lent(olt).capture(&mut tally, 8);
+                    let _ = Pair::<Olt>::lent(olt).retry(&mut tally, 20);
                 }
             }
         }
     }
     for start in [some_onu(), jazmotip::Onu::default()] {
         for field in 0..ONU_FIELDS as usize {
-            for value in BOUNDS.into_iter().chain([4999, 5000, 5001, 6, u64::MAX]) {
-                let mut onu = start;
-                set_onu_field(&mut onu, field, value).expect("a field");
-                let _ = Pair::<Onu>::lent(onu).advance(&mut tally, 0);
-                let message = jazmotip::KeyMessage { llid: 5, number: 1, key: [1; 16] };
-                let _ = Pair::<Onu>::lent(onu).key_message(&mut tally, message);
+            for value in BOUNDS.into_iter().chain([4999, 5000, 5001, 6, 20, 21, u64::MAX]) {
+                for place in 0..4 {
+                    let mut onu = start;
+                    set_onu_field(&mut onu, place, field, value).expect("a field");
+                    let _ = Pair::<Onu>::lent(onu).advance(&mut tally, 0);
+                    for llid in [5, 20] {
+                        let message = jazmotip::KeyMessage { llid, number: 1, key: [1; 16] };
+                        let _ = Pair::<Onu>::lent(onu).key_message(&mut tally, message);
+                    }
+                    let _ = Pair::<Onu>::lent(onu).join(&mut tally, 22);
+                }
             }
         }
     }
     assert_eq!(set_olt_field(&mut some_olt(), 0, OLT_FIELDS as usize, 0), None);
-    assert_eq!(set_onu_field(&mut some_onu(), ONU_FIELDS as usize, 0), None);
+    assert_eq!(set_onu_field(&mut some_onu(), 0, ONU_FIELDS as usize, 0), None);
     for number in [0, 1] {
         tally.gave("olt_advance", number, 501);
         tally.gave("onu_advance", number, 101);
+    }
+}
+
+/// What a lent end's groups are refused for, by name (02, C-14): those causes of 1 came, and no others.
+#[test]
+fn causes_of_1_in_groups() {
+    type Change<E> = fn(&mut E);
+    let broken_olts: [(&str, Change<jazmotip::Olt>); 14] = [
+        ("no member", |olt| olt.groups[0].members.count = 0),
+        ("nine members", |olt| olt.groups[0].members.count = 9),
+        ("a member that names no unit", |olt| olt.groups[0].members.places[0] = 2),
+        ("a member twice", |olt| olt.groups[1].members.places = [1; 8]),
+        ("a mark above 1", |olt| olt.groups[0].members.marks[0] = 2),
+        ("seventeen places", |olt| olt.groupcount = 15),
+        ("a group's LLID that is a unit's", |olt| olt.groups[1].llid = 6),
+        ("a group's LLID that is another's", |olt| olt.groups[1].llid = 20),
+        ("an interval of 0", |olt| olt.groups[0].keys.timer.interval = 0),
+        ("a count that is the interval", |olt| olt.groups[0].keys.timer.count = 1000),
+        ("a timer's flag above 1", |olt| olt.groups[0].keys.timer.flag = 2),
+        ("a first send after the tick", |olt| olt.groups[0].keys.first.tick = 6001),
+        ("O = A + 2", |olt| olt.groups[0].keys.offered = 3),
+        ("O = A - 1", |olt| olt.groups[0].keys.offered = 0),
+    ];
+    let sound_olts: [(&str, Change<jazmotip::Olt>); 6] = [
+        ("sixteen places", |olt| {
+            let filled = |place: usize| Group { llid: 100 + place as u16, ..olt.groups[0] };
+            olt.groups = std::array::from_fn(|place| if place < 2 { olt.groups[place] } else { filled(place) });
+            olt.groupcount = 14;
+        }),
+        ("a place past the members' count", |olt| olt.groups[0].members.places[1] = 255),
+        ("a mark past the members' count", |olt| olt.groups[0].members.marks[1] = 255),
+        ("a group past the count", |olt| olt.groups[2].keys.timer.flag = 9),
+        ("O = A", |olt| olt.groups[0].keys.offered = 1),
+        ("numbers at their end", |olt| (olt.groups[0].keys.active, olt.groups[0].keys.offered) = (u32::MAX, u32::MAX)),
+    ];
+    let broken_onus: [(&str, Change<jazmotip::Onu>); 7] = [
+        ("five groups", |onu| onu.joinedcount = 5),
+        ("a joined LLID that is an own one", |onu| onu.joined[1].llid = 7),
+        ("a joined LLID that is another's", |onu| onu.joined[1].llid = 20),
+        ("key a held with a = 0", |onu| onu.joined[1].kept = 1),
+        ("key a + 1 held at a = 2^32 - 1", |onu| onu.joined[0].keys.active = u32::MAX),
+        ("held above 1", |onu| onu.joined[1].keys.held = 2),
+        ("kept above 1", |onu| onu.joined[0].kept = 2),
+    ];
+    let sound_onus: [(&str, Change<jazmotip::Onu>); 3] = [
+        ("four groups", |onu| (onu.joined[2].llid, onu.joined[3].llid, onu.joinedcount) = (22, 23, 4)),
+        ("a group past the count", |onu| onu.joined[2].kept = 9),
+        ("nothing held at a = 2^32 - 1", |onu| (onu.joined[0].keys.active, onu.joined[0].keys.held) = (u32::MAX, 0)),
+    ];
+    let mut tally = Tally::default();
+    for (expected, changes) in [(Err(1), &broken_olts[..]), (Ok(()), &sound_olts[..])] {
+        for (name, change) in changes {
+            let mut olt = some_olt();
+            change(&mut olt);
+            assert_eq!(Pair::<Olt>::lent(olt).advance(&mut tally, 0), expected, "{name}");
+            assert_eq!(Pair::<Olt>::lent(olt).capture(&mut tally, 5), expected, "{name}");
+        }
+    }
+    for (expected, changes) in [(Err(1), &broken_onus[..]), (Ok(()), &sound_onus[..])] {
+        for (name, change) in changes {
+            let mut onu = some_onu();
+            change(&mut onu);
+            assert_eq!(Pair::<Onu>::lent(onu).advance(&mut tally, 0), expected, "{name}");
+        }
     }
 }
 

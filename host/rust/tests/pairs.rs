@@ -7,7 +7,7 @@ use crate::reference::onu::Onu;
 use crate::reference::records::End;
 use crate::reference::{Envelope, Identity, Key, Passed, Reply};
 use crate::tally::Tally;
-use jazmotip::{calls, Acknowledgement, Header, KeyMessage, Stamps};
+use jazmotip::{calls, Acknowledgement, Header, KeyMessage, Roster, Stamps};
 
 pub struct Pair<E: End> {
     pub record: E::Record,
@@ -105,6 +105,15 @@ impl Pair<Olt> {
         expected
     }
 
+    pub fn register_group(&mut self, tally: &mut Tally, llid: u16, interval: u64, roster: Roster) -> Reply<()> {
+        let answer = calls::olt_register_group(self.record, llid, interval, roster);
+        // a count above eight is that many members, whoever they are
+        let named: Vec<u16> = (0..usize::from(roster.count)).map(|j| roster.llids.get(j).copied().unwrap_or(0)).collect();
+        let expected = self.judge(|olt| olt.register_group(llid, interval, &named));
+        self.settle(tally, "olt_register_group", answer.number, answer.olt, &expected);
+        expected
+    }
+
     pub fn capture(&mut self, tally: &mut Tally, llid: u16) -> Reply<()> {
         let answer = calls::olt_capture(self.record, llid);
         let expected = self.judge(|olt| olt.capture(llid));
@@ -149,6 +158,13 @@ impl Pair<Onu> {
         let answer = calls::onu_fresh(identity, oltmac, time);
         let expected = Onu::fresh(Identity::of(&identity), oltmac, time);
         Pair::made(tally, "onu_fresh", answer.number, answer.onu, expected)
+    }
+
+    pub fn join(&mut self, tally: &mut Tally, llid: u16) -> Reply<()> {
+        let answer = calls::onu_join(self.record, llid);
+        let expected = self.judge(|onu| onu.join(llid));
+        self.settle(tally, "onu_join", answer.number, answer.onu, &expected);
+        expected
     }
 
     pub fn clock_message(&mut self, tally: &mut Tally, message: Stamps) -> Reply<Acknowledgement> {

@@ -46,7 +46,7 @@ pub struct Identity {
     pub count: u8,
 }
 
-/// What the OLT sends to a unit under.
+/// What the OLT sends to a unit, or to a group, under.
 #[repr(C)]
 #[derive(Clone, Copy, Debug, Default, PartialEq, Eq)]
 pub struct UnitKeys {
@@ -92,7 +92,26 @@ pub struct Unit {
     pub clock: UnitClock,
 }
 
-/// What all units share at the OLT.
+/// The members of a group: the places of their units, and a mark for each that acknowledged key O. A new offer clears the marks;
+/// they hold nothing back.
+#[repr(C)]
+#[derive(Clone, Copy, Debug, Default, PartialEq, Eq)]
+pub struct Members {
+    pub places: [u8; 8],
+    pub marks: [u8; 8],
+    pub count: u8,
+}
+
+/// A group at the OLT: downstream envelopes for several units under one LLID and one key. It has no C and no clock of its own.
+#[repr(C)]
+#[derive(Clone, Copy, Debug, Default, PartialEq, Eq)]
+pub struct Group {
+    pub keys: UnitKeys,
+    pub members: Members,
+    pub llid: u16,
+}
+
+/// What all units and groups share at the OLT.
 #[repr(C)]
 #[derive(Clone, Copy, Debug, Default, PartialEq, Eq)]
 pub struct Shared {
@@ -112,9 +131,12 @@ pub struct Olt {
     /// Units registered.
     pub count: u8,
     pub units: [Unit; 16],
+    /// Groups registered.
+    pub groupcount: u8,
+    pub groups: [Group; 16],
 }
 
-/// A unit's own keys.
+/// A unit's keys, its own or those of a group.
 #[repr(C)]
 #[derive(Clone, Copy, Debug, Default, PartialEq, Eq)]
 pub struct OnuKeys {
@@ -137,6 +159,17 @@ pub struct OnuClock {
     pub rx: u64,
 }
 
+/// A group that a unit joined. The message of key n tells that key n - 1 is in use: a is then n - 1, held or not, and older keys
+/// are forgotten.
+#[repr(C)]
+#[derive(Clone, Copy, Debug, Default, PartialEq, Eq)]
+pub struct Joined {
+    pub keys: OnuKeys,
+    /// Whether key a is held.
+    pub kept: u8,
+    pub llid: u16,
+}
+
 /// The subscriber unit. Holds keys: wipe what you leave behind.
 #[repr(C)]
 #[derive(Clone, Copy, Debug, Default, PartialEq, Eq)]
@@ -149,4 +182,7 @@ pub struct Onu {
     pub keys: OnuKeys,
     pub first: FirstSend,
     pub channels: Channels,
+    /// Groups joined.
+    pub joinedcount: u8,
+    pub joined: [Joined; 4],
 }

@@ -19,14 +19,27 @@ pub struct KeyMessage {
     pub key: [u8; 16],
 }
 
-/// What a unit answers.
+/// What a unit answers; to a group's key message, also who it is.
 #[repr(C)]
 #[derive(Clone, Copy, Debug, Default, PartialEq, Eq)]
 pub struct Acknowledgement {
     /// 1 to a clock message, 2 to a key message, 0 none.
     pub kind: u8,
+    /// 1 if `unit` names the unit, for a group; 0, with `unit` 0, for the unit's own.
+    pub named: u8,
+    /// An LLID of the unit's own; a unit names itself by its first.
+    pub unit: u16,
     /// The key's number, 0 to a clock message.
     pub number: u32,
+}
+
+/// The members that a group's registration names, each by any LLID of its unit.
+#[repr(C)]
+#[derive(Clone, Copy, Debug, Default, PartialEq, Eq)]
+pub struct Roster {
+    /// Places past `count` are ignored.
+    pub llids: [u16; 8],
+    pub count: u8,
 }
 
 /// An envelope's header, start (ESH) or continuation (ECH).

@@ -7,7 +7,7 @@ use crate::pairs::Pair;
 use crate::random::Random;
 use crate::reference::olt::Olt;
 use crate::reference::onu::Onu;
-use jazmotip::{Acknowledgement, Header, Identity, KeyMessage, Stamps};
+use jazmotip::{Acknowledgement, Header, Identity, KeyMessage, Roster, Stamps};
 
 const ADVANCES: [u64; 5] = [0, 1, 1000, 1 << 48, 1 << 62];
 
@@ -24,23 +24,25 @@ impl World<'_> {
         let mut end = Pair::<Olt>::lent(record);
         self.tally.event(if end.model.is_some() { "changed OLT still valid" } else { "changed OLT invalid" });
         let (tally, random, station) = (&mut *self.tally, &mut *self.random, &self.stations[i]);
-        let llid = station.llid(random);
+        let unit = station.llid(random);
+        let llid = if random.once_in(3) { self.groupings[0].llid } else { unit };
         let payload = random.payload(2);
         let output = if random.once_in(6) { 17 } else { 18 };
         let header = any_header(random, 0x80, llid, record.shared.clock);
         for _ in 0..3 {
-            let kind = random.below(4) as u8;
-            let number = record.units[0].keys.offered;
+            let (kind, named) = (random.below(4) as u8, random.below(2) as u8);
+            let number = random.pick(&[record.units[0].keys.offered, record.groups[0].keys.offered]);
             let n = random.pick(&ADVANCES);
             let key = random.key();
-            let _ = match random.below(9) {
+            let _ = match random.below(10) {
+                9 => end.register_group(tally, STRANGERS - 1, 1, Roster::new(&[unit])),
                 0 => end.register(tally, Identity::new(1, &[STRANGERS - 1]), 0, 1),
                 1 => end.advance(tally, n),
                 2 => end.capture(tally, llid),
                 3 => end.clock_send(tally, llid).map(|_| ()),
                 4 => end.offer(tally, llid, &key).map(|_| ()),
                 5 => end.retry(tally, llid).map(|_| ()),
-                6 => end.acknowledge(tally, llid, Acknowledgement { kind, number }),
+                6 => end.acknowledge(tally, llid, Acknowledgement { kind, named, unit, number }),
                 7 => end.send(tally, random, llid, 0x00, &payload, output).map(|_| ()),
                 _ => end.receive(tally, random, header, &payload, output).map(|_| ()),
             };
@@ -55,7 +57,7 @@ impl World<'_> {
         let mut end = Pair::<Onu>::lent(record);
         self.tally.event(if end.model.is_some() { "changed ONU still valid" } else { "changed ONU invalid" });
         let (tally, random) = (&mut *self.tally, &mut *self.random);
-        let llid = station.llid(random);
+        let llid = if random.once_in(3) { self.groupings[0].llid } else { station.llid(random) };
         let payload = random.payload(2);
         let output = if random.once_in(6) { 19 } else { 18 };
         for _ in 0..3 {
@@ -64,7 +66,8 @@ impl World<'_> {
             let key = random.pick(&[end.record.keys.slots.even, end.record.keys.slots.odd, [9; 16]]);
             let n = random.pick(&ADVANCES);
             let message = Stamps { rx: random.clock(), tx: random.clock() };
-            let _ = match random.below(5) {
+            let _ = match random.below(6) {
+                5 => end.join(tally, STRANGERS - 1),
                 0 => end.advance(tally, n),
                 1 => end.clock_message(tally, message).map(|_| ()),
                 2 => end.key_message(tally, KeyMessage { llid, number, key }).map(|_| ()),

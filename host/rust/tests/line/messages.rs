@@ -46,13 +46,13 @@ impl World<'_> {
     /// An acknowledgement arrives, for the first time or again.
     pub fn acknowledge(&mut self, i: usize) {
         let (tick, station) = (self.tick(), &self.stations[i]);
-        let there: Vec<_> = station.acknowledgements.iter().filter(|(due, _)| *due <= tick).collect();
+        let there: Vec<_> = station.acknowledgements.iter().filter(|(due, ..)| *due <= tick).collect();
         if there.is_empty() {
             return;
         }
         let late = self.random.once_in(3);
-        let (_, acknowledgement) = if late { self.random.pick(&there) } else { there[there.len() - 1] };
-        let llid = station.llid(self.random);
+        let (_, group, acknowledgement) = if late { self.random.pick(&there) } else { there[there.len() - 1] };
+        let llid = group.unwrap_or(station.llid(self.random));
         let _ = self.olt.acknowledge(self.tally, llid, *acknowledgement);
     }
 }

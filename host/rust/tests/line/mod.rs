@@ -2,9 +2,11 @@
 //!
 //! A list of `Kind::Line` keeps to what 01 says of the line: messages and envelopes arrive in order, a way's delay after they left,
 //! or never, and whatever else is received is refused. There every envelope that arrives must open to its payload, and no two
-//! sealed envelopes may share a key, a channel index, a MAC and a clock. In a list of `Kind::Wild` anything arrives at any time,
+//! sealed envelopes, of units and groups together, may share a key, a channel index, a MAC and a clock. Of a group's envelopes those
+//! must open that are clear, or under a key whose message the member accepted since it joined. In a list of `Kind::Wild` anything arrives at any time,
 //! damaged or not.
 
+mod groups;
 mod lent_ends;
 mod messages;
 mod strays;
@@ -52,6 +54,23 @@ impl World<'_> {
             98 => self.lent_onu(i),
             _ => self.unknown_llid(),
         }
+        if self.random.once_in(3) {
+            let g = self.any_group();
+            self.group_step(i, g);
+        }
+    }
+
+    /// A step of a list with a group.
+    fn group_step(&mut self, i: usize, g: usize) {
+        match self.random.below(100) {
+            0..=39 => self.group_send(g),
+            40..=69 => self.offer_to_group(g),
+            70..=77 => self.join(i, g),
+            78..=83 => self.register_group(g),
+            84..=87 => self.register_group_wrongly(i, g),
+            88..=93 => self.wrong_way(i, g),
+            _ => self.group_stray(i, g),
+        }
     }
 }
 
@@ -63,7 +82,9 @@ fn lists(kind: Kind, count: u64, steps: u64, tally: &mut Tally) -> bool {
             if step >= lift_at {
                 let i = world.any_station();
                 if world.random.once_in(50) {
+                    let g = world.any_group();
                     world.lift(i);
+                    world.lift_group(g);
                 }
             }
             world.late = step >= steps / 10 * 9;
@@ -77,7 +98,7 @@ fn lists(kind: Kind, count: u64, steps: u64, tally: &mut Tally) -> bool {
 }
 
 /// What the lists of one test must reach, so that an engine that stops early, or lists that do, are noticed.
-const LEAST: [(&str, u64); 18] = [
+const LEAST: [(&str, u64); 26] = [
     ("OLT sends clear", 3000),
     ("OLT sends under key 1", 1500),
     ("OLT sends under key 2", 1000),
@@ -96,12 +117,28 @@ const LEAST: [(&str, u64); 18] = [
     ("key numbers near their end", 200),
     ("lost on the line", 3000),
     ("overheard", 3000),
+    ("group sends clear", 3000),
+    ("group sends under key 1", 1500),
+    ("group sends under key 2", 1000),
+    ("group sends under key 3 or later", 2000),
+    ("group switched unacknowledged", 500),
+    ("group sends at the last tick of a key", 15),
+    ("member missed a key", 300),
+    ("a group's key numbers near their end", 50),
 ];
 
-const LEAST_ARRIVED: [(&str, u64); 4] =
-    [("arrived down clear", 1500), ("arrived down sealed", 3000), ("arrived up clear", 1500), ("arrived up sealed", 3000)];
+const LEAST_ARRIVED: [(&str, u64); 8] = [
+    ("arrived down clear", 1500),
+    ("arrived down sealed", 3000),
+    ("arrived up clear", 1500),
+    ("arrived up sealed", 3000),
+    ("arrived at a member clear", 1500),
+    ("arrived at a member sealed", 1500),
+    ("member came back", 300),
+    ("overheard by a joined unit", 300),
+];
 
-/// Each number, but for 15, which is the capture reader's alone.
+/// Each number of the ends: 15 is the capture reader's alone, 18 and 19 too.
 const LEAST_REFUSED: u64 = 100;
 
 /// Prints what the lists reached, and fails where that is too little.
@@ -115,12 +152,12 @@ fn check_reach(tally: &Tally, least: impl IntoIterator<Item = (&'static str, u64
     for (event, wanted) in least {
         tally.reached(event, wanted);
     }
-    for number in (1..=17).filter(|&number| number != 15) {
+    for number in (1..=21).filter(|&number| ![15, 18, 19].contains(&number)) {
         let times = tally.refusals(number);
         assert!(times >= LEAST_REFUSED, "refused {number}: {times} times, wanted {LEAST_REFUSED}");
     }
     let calls: BTreeSet<&str> = tally.numbers.keys().map(|(call, _)| *call).collect();
-    assert_eq!(calls.len(), 16, "calls made: {calls:?}");
+    assert_eq!(calls.len(), 18, "calls made: {calls:?}");
 }
 
 #[test]

@@ -29,7 +29,7 @@ fn damage(random: &mut Random, header: &mut Header, octets: &mut Vec<u8>, output
 impl World<'_> {
     /// A receipt of an envelope that is on its way or past, with something wrong. In a list of the line only what is refused.
     pub fn receive_damaged(&mut self, i: usize) {
-        let Some((_, mut header, mut octets)) = self.past.back().cloned() else { return };
+        let Some((of, mut header, mut octets)) = self.past.back().cloned() else { return };
         let at_olt = header.channel & 0x80 != 0;
         let mut output = octets.len();
         let random = &mut *self.random;
@@ -40,7 +40,9 @@ impl World<'_> {
                 false => self.stations[i].end.sound().clocks.map_or(0, |clocks| clocks.rx),
             };
             header.epam = (clock % 64) as u8;
-            header.llid = self.stations[i].identity.llids[0];
+            if of.is_some() || random.once_in(3) {
+                header.llid = self.stations[i].identity.llids[0];
+            }
         }
         damage(random, &mut header, &mut octets, &mut output);
         if self.kind == Kind::Line {
@@ -62,7 +64,9 @@ impl World<'_> {
     pub fn overhear(&mut self) {
         let i = self.any_station();
         let Some((of, header, octets)) = self.past.front().cloned() else { return };
-        if of != i {
+        if self.stations[i].end.sound().group(header.llid).is_some() {
+            self.overhear_joined(i, header, &octets);
+        } else if of != Some(i) {
             let output = if self.random.once_in(4) { octets.len() + 1 } else { octets.len() };
             let refused = self.stations[i].end.receive(self.tally, self.random, header, &octets, output);
             assert!(matches!(refused, Err(1 | 2 | 14)), "overheard: {refused:?}");
@@ -81,7 +85,8 @@ impl World<'_> {
         match self.random.below(4) {
             0 => {
                 let kind = self.random.pick(&[0, 1, 2, 2, 2, 3, 255]);
-                let acknowledgement = Acknowledgement { kind, number };
+                let named = u8::from(self.random.once_in(6));
+                let acknowledgement = Acknowledgement { kind, named, unit: llid, number };
                 if !line || self.olt.refuses(|olt| olt.acknowledge(llid, acknowledgement)) {
                     let _ = self.olt.acknowledge(self.tally, llid, acknowledgement);
                 }
@@ -145,7 +150,7 @@ impl World<'_> {
             1 => assert_eq!(self.olt.clock_send(tally, llid), Err(2)),
             2 => assert_eq!(self.olt.offer(tally, llid, &[0; 16]), Err(2)),
             3 => assert_eq!(self.olt.retry(tally, llid), Err(2)),
-            4 => assert_eq!(self.olt.acknowledge(tally, llid, Acknowledgement { kind: 1, number: 0 }), Err(2)),
+            4 => assert_eq!(self.olt.acknowledge(tally, llid, Acknowledgement { kind: 1, ..Default::default() }), Err(2)),
             5 => assert_eq!(self.olt.send(tally, random, llid, 0x00, &[], 0), Err(2)),
             _ => assert_eq!(self.olt.receive(tally, random, header, &[], 0), Err(2)),
         }

@@ -13,7 +13,7 @@ impl World<'_> {
         let tick = self.tick();
         let ways = self.stations.iter().flat_map(|station| station.down.iter().chain(&station.up));
         let acknowledgements = self.stations.iter().flat_map(|station| &station.acknowledgements);
-        let due = ways.map(|leaving| leaving.due).chain(acknowledgements.map(|(due, _)| *due));
+        let due = ways.map(|leaving| leaving.due).chain(acknowledgements.map(|(due, ..)| *due));
         due.filter(|&due| due > tick).min().map(|due| due - tick)
     }
 
@@ -22,7 +22,11 @@ impl World<'_> {
         let n = match self.random.below(20) {
             0..=9 => self.ticks_to_arrival().unwrap_or(1),
             10..=14 => self.random.below(13),
-            15..=17 => self.unit(i).map_or(1, |unit| unit.interval - unit.count),
+            15..=16 => self.unit(i).map_or(1, |unit| unit.interval - unit.count),
+            17 => {
+                let g = self.any_group();
+                self.group(g).map_or(1, |group| group.interval - group.count)
+            }
             18 => self.random.below(5000),
             _ => 0,
         };
@@ -69,7 +73,13 @@ impl World<'_> {
                 self.olt_send(i);
                 self.onu_send(i);
             }
-            17..=18 => {
+            17 => {
+                let g = self.any_group();
+                let Some(first) = self.group(g).and_then(|group| group.first_send) else { return };
+                self.advance((first + KEY_LIFE - 1 + beside).saturating_sub(tick));
+                self.group_send(g);
+            }
+            18 => {
                 let past = self.random.pick(&[1, 2, u64::MAX - LAST_TICK]);
                 self.advance(LAST_TICK - tick + past);
             }
@@ -122,12 +132,17 @@ impl World<'_> {
         unit.offered += up;
         onu.active += up;
         for leaving in &mut station.down {
-            if let Thing::Key(message) = &mut leaving.thing {
-                message.number += up as u32;
+            match &mut leaving.thing {
+                Thing::Key(message)
+                    if station.identity.llids[..usize::from(station.identity.count)].contains(&message.llid) =>
+                {
+                    message.number += up as u32;
+                }
+                _ => (),
             }
         }
-        for (_, acknowledgement) in &mut station.acknowledgements {
-            if acknowledgement.kind == 2 {
+        for (_, group, acknowledgement) in &mut station.acknowledgements {
+            if group.is_none() && acknowledgement.kind == 2 {
                 acknowledgement.number += up as u32;
             }
         }

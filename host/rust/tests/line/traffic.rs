@@ -7,7 +7,7 @@ use crate::reference::{Envelope, Passed, KEY_LIFE};
 
 impl World<'_> {
     /// A payload, the length of the output, and a channel index; now and then one that is refused.
-    fn drawn(&mut self, direction: u8) -> (Vec<u8>, usize, u8) {
+    pub fn drawn(&mut self, direction: u8) -> (Vec<u8>, usize, u8) {
         let eqs = match self.random.below(20) {
             0 | 1 => 0,
             2 => self.random.below(300),
@@ -34,6 +34,21 @@ impl World<'_> {
         (payload, output, channel)
     }
 
+    /// No two sealed envelopes of a list of the line, of units and groups together, share a key and a counter block.
+    pub fn note_sealed(&mut self, envelope: &Envelope) {
+        if let (Kind::Line, Some((key, mac, clock))) = (self.kind, envelope.sealed_under) {
+            assert!(self.sealed.insert((envelope.header.channel, key, mac, clock)), "a counter block is used twice");
+        }
+    }
+
+    /// An envelope to station `of`, or to a group, that others overhear.
+    pub fn overheard_later(&mut self, of: Option<usize>, envelope: &Envelope) {
+        self.past.push_back((of, envelope.header, envelope.octets.clone()));
+        if self.past.len() > 8 {
+            self.past.pop_front();
+        }
+    }
+
     fn sent(&mut self, i: usize, downwards: bool, number: u64, envelope: Envelope, payload: Vec<u8>) {
         self.tally.event(match (downwards, number) {
             (true, 0) => "OLT sends clear",
@@ -45,14 +60,9 @@ impl World<'_> {
             (false, 2) => "unit sends under key 2",
             (false, _) => "unit sends under key 3 or later",
         });
-        let Envelope { header, octets, count, runs, sealed_under } = envelope;
-        if let (Kind::Line, Some((key, mac, clock))) = (self.kind, sealed_under) {
-            assert!(self.sealed.insert((header.channel, key, mac, clock)), "a counter block is used twice");
-        }
-        self.past.push_back((i, header, octets.clone()));
-        if self.past.len() > 8 {
-            self.past.pop_front();
-        }
+        self.note_sealed(&envelope);
+        self.overheard_later(Some(i), &envelope);
+        let Envelope { header, octets, count, runs, .. } = envelope;
         self.leaves(i, downwards, Thing::Envelope { header, octets, payload: Passed { octets: payload, count, runs } });
     }
 
@@ -93,10 +103,17 @@ impl World<'_> {
         let Some((thing, on_time)) = self.arriving(i, true) else { return };
         let must_open = on_time && self.kind == Kind::Line;
         let due_back = self.tick() + self.stations[i].delay_up;
+        let is_group = |llid: u16| self.groupings.iter().any(|group| group.llid == llid);
+        let group = match &thing {
+            Thing::Key(message) => Some(message.llid).filter(|&llid| is_group(llid)),
+            _ => None,
+        };
         let (tally, random, station) = (&mut *self.tally, &mut *self.random, &mut self.stations[i]);
         let answered = match thing {
             Thing::Clock(message) => station.end.clock_message(tally, message).ok(),
+            Thing::Key(message) if group.is_some() => self.group_key_arrives(i, message),
             Thing::Key(message) => station.end.key_message(tally, message).ok(),
+            Thing::GroupEnvelope { .. } => return self.group_envelope_arrives(i, thing, must_open),
             Thing::Envelope { header, octets, payload } => {
                 let before = station.end.sound().active;
                 let opened = station.end.receive(tally, random, header, &octets, octets.len());
@@ -110,7 +127,8 @@ impl World<'_> {
                 None
             }
         };
-        station.acknowledgements.extend(answered.map(|acknowledgement| (due_back, acknowledgement)));
+        let station = &mut self.stations[i];
+        station.acknowledgements.extend(answered.map(|acknowledgement| (due_back, group, acknowledgement)));
         if station.acknowledgements.len() > 12 {
             station.acknowledgements.remove(0);
         }

@@ -1,5 +1,6 @@
 //! The ends of a list, and the line between them.
 
+use super::groups::{groupings, Grouping};
 use super::Kind;
 use crate::pairs::Pair;
 use crate::random::Random;
@@ -8,7 +9,7 @@ use crate::reference::onu::Onu;
 use crate::reference::{Key, Passed};
 use crate::tally::Tally;
 use jazmotip::{Acknowledgement, Header, Identity, KeyMessage, Stamps};
-use std::collections::{HashSet, VecDeque};
+use std::collections::{BTreeSet, HashSet, VecDeque};
 
 /// What a call handed over, on its way.
 #[derive(Clone)]
@@ -20,6 +21,13 @@ pub enum Thing {
         header: Header,
         octets: Vec<u8>,
         payload: Passed,
+    },
+    /// The same of a group, with the number of the key that it was sent under, 0 for clear.
+    GroupEnvelope {
+        header: Header,
+        octets: Vec<u8>,
+        payload: Passed,
+        number: u64,
     },
 }
 
@@ -38,8 +46,10 @@ pub struct Station {
     pub registered: bool,
     pub down: VecDeque<Leaving>,
     pub up: VecDeque<Leaving>,
-    /// Acknowledgements handed over, and the tick from which they can be there.
-    pub acknowledgements: Vec<(u64, Acknowledgement)>,
+    /// Acknowledgements handed over, for a group with its LLID, and the tick from which they can be there.
+    pub acknowledgements: Vec<(u64, Option<u16>, Acknowledgement)>,
+    /// The keys of groups whose messages were accepted, by LLID and number.
+    pub taken: BTreeSet<(u16, u64)>,
 }
 
 impl Station {
@@ -72,7 +82,25 @@ impl Station {
             down: VecDeque::new(),
             up: VecDeque::new(),
             acknowledgements: Vec::new(),
+            taken: BTreeSet::new(),
         }
+    }
+
+    /// A group's key numbers in what is under way are so many higher.
+    pub fn lift(&mut self, llid: u16, up: u64) {
+        for leaving in &mut self.down {
+            match &mut leaving.thing {
+                Thing::Key(message) if message.llid == llid => message.number += up as u32,
+                Thing::GroupEnvelope { header, number, .. } if header.llid == llid && *number >= 1 => *number += up,
+                _ => (),
+            }
+        }
+        for (_, group, acknowledgement) in &mut self.acknowledgements {
+            if *group == Some(llid) {
+                acknowledgement.number += up as u32;
+            }
+        }
+        self.taken = self.taken.iter().map(|&(of, number)| (of, number + if of == llid { up } else { 0 })).collect();
     }
 
     pub fn llid(&self, random: &mut Random) -> u16 {
@@ -95,7 +123,8 @@ pub struct World<'a> {
     /// Channel index, key, MAC and clock of every sealed envelope.
     pub sealed: HashSet<(u8, Key, u64, u64)>,
     /// Envelopes that have left, for others to overhear.
-    pub past: VecDeque<(usize, Header, Vec<u8>)>,
+    pub past: VecDeque<(Option<usize>, Header, Vec<u8>)>,
+    pub groupings: Vec<Grouping>,
 }
 
 impl<'a> World<'a> {
@@ -105,8 +134,8 @@ impl<'a> World<'a> {
         let mut free: Vec<u16> = (0..=20).chain([0xFFFF, 0xFFFE]).collect();
         let stations = (0..3).map(|_| Station::new(kind, random, tally, &mut free, mac, clock)).collect();
         let (loss, calm) = (random.pick(&[0, 10, 4]), random.pick(&[20, 200, 1000]));
-        let (sealed, past) = (HashSet::new(), VecDeque::new());
-        let mut world = World { kind, random, tally, olt, stations, loss, calm, late: false, sealed, past };
+        let (sealed, past, groupings) = (HashSet::new(), VecDeque::new(), groupings(random, &mut free));
+        let mut world = World { kind, random, tally, olt, stations, loss, calm, late: false, sealed, past, groupings };
         if world.random.once_in(4) {
             let strangers = world.random.within(12, 15);
             (0..strangers).for_each(|_| world.register_stranger());
@@ -114,6 +143,12 @@ impl<'a> World<'a> {
         for i in 0..3 {
             if !world.random.once_in(4) {
                 world.register(i);
+            }
+        }
+        for g in 0..2 {
+            if !world.random.once_in(3) {
+                world.register_group(g);
+                (0..3).for_each(|i| world.join(i, g));
             }
         }
         world

@@ -1,10 +1,11 @@
-//! Document 01 a second time, written from the papers alone, for the engine to be held against. It shares no code, no table and no
-//! representation with the engine: keys are a map by number, a unit's LLIDs a list, a capture its stamps, a clock that is not set is
-//! absent. `records` puts it into the records of the C boundary and reads it out of them.
+//! Document 01, and of document 02 what has landed, a second time, written from the papers alone, for the engine to be held against. It
+//! shares no code, no table and no representation with the engine: keys are a map by number, a unit's LLIDs a list, a capture its stamps,
+//! a clock that is not set is absent. `records` puts it into the records of the C boundary and reads it out of them.
 
 pub mod aes;
 pub mod capture;
 pub mod class;
+pub mod groups;
 pub mod losses;
 pub mod near;
 pub mod olt;

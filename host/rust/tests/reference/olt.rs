@@ -1,5 +1,6 @@
-//! The OLT (01, Clock; Keys; When the reader says no). Every call checks in the order of its list, then changes.
+//! The OLT (01, Clock; Keys; When the reader says no; 02, C-14). Every call checks in the order of its list, then changes.
 
+use super::groups::Group;
 use super::*;
 use jazmotip::{Acknowledgement, Header, KeyMessage, Stamps};
 use std::collections::BTreeMap;
@@ -38,12 +39,27 @@ pub struct Olt {
     pub clock: u64,
     pub channels: Channels,
     pub units: Vec<Unit>,
+    pub groups: Vec<Group>,
 }
 
 impl Unit {
     /// Whether the next accepted send switches.
     pub fn switches(&self) -> bool {
         self.flag && self.offered == self.active + 1 && self.offer_acknowledged
+    }
+
+    /// The number and key that a send at that tick is under, none while clear; 13.
+    fn sends_under(&mut self, tick: u64) -> Reply<Option<(u64, Key)>> {
+        if self.switches() {
+            self.active = self.offered;
+            self.flag = false;
+            self.first_send = Some(tick);
+        } else if self.active >= 1 {
+            let first = self.first_send.unwrap_or(tick);
+            refuse_if(tick - first >= KEY_LIFE, 13)?;
+            self.first_send = Some(first);
+        }
+        Ok((self.active >= 1).then(|| (self.active, self.keys[&self.active])))
     }
 
     fn forget_all_but_active(&mut self) {
@@ -55,7 +71,7 @@ impl Unit {
 impl Olt {
     pub fn fresh(mac: u64, clock: u64) -> Reply<Olt> {
         refuse_if(mac >= CLOCK || clock >= CLOCK, 1)?;
-        Ok(Olt { mac, tick: 0, clock, channels: Channels { free_from: [0, 0] }, units: Vec::new() })
+        Ok(Olt { mac, tick: 0, clock, channels: Channels { free_from: [0, 0] }, units: Vec::new(), groups: Vec::new() })
     }
 
     fn place(&self, llid: u16) -> Reply<usize> {
@@ -66,6 +82,24 @@ impl Olt {
         self.place(llid).map(|place| &self.units[place])
     }
 
+    pub fn group(&self, llid: u16) -> Option<&Group> {
+        self.groups.iter().find(|group| group.llid == llid)
+    }
+
+    fn group_mut(&mut self, llid: u16) -> Option<&mut Group> {
+        self.groups.iter_mut().find(|group| group.llid == llid)
+    }
+
+    /// The LLIDs of units and groups.
+    fn llids(&self) -> impl Iterator<Item = u16> + '_ {
+        let units = self.units.iter().flat_map(|unit| unit.identity.llids.iter().copied());
+        units.chain(self.groups.iter().map(|group| group.llid))
+    }
+
+    fn is_full(&self) -> bool {
+        self.units.len() + self.groups.len() >= 16
+    }
+
     fn unit_mut(&mut self, llid: u16) -> Reply<&mut Unit> {
         self.place(llid).map(|place| &mut self.units[place])
     }
@@ -73,9 +107,8 @@ impl Olt {
     pub fn register(&mut self, identity: Identity, round_trip: u64, interval: u64) -> Reply<()> {
         let interval_known = (1..=1 << 47).contains(&interval);
         refuse_if(!identity.in_range() || round_trip > 1_000_000 || !interval_known, 1)?;
-        let known = self.units.iter().flat_map(|unit| unit.identity.llids.iter().copied());
-        refuse_if(repeats(known.chain(identity.llids.iter().copied())), 3)?;
-        refuse_if(self.units.len() >= 16, 4)?;
+        refuse_if(repeats(self.llids().chain(identity.llids.iter().copied())), 3)?;
+        refuse_if(self.is_full(), 4)?;
         self.units.push(Unit {
             identity,
             round_trip,
@@ -95,6 +128,18 @@ impl Olt {
         Ok(())
     }
 
+    /// Each member is named by an LLID of its unit: 1, 21, 3, 4.
+    pub fn register_group(&mut self, llid: u16, interval: u64, named: &[u16]) -> Reply<()> {
+        refuse_if(!(1..=1 << 47).contains(&interval) || named.is_empty(), 1)?;
+        let units: Vec<usize> = named.iter().filter_map(|&member| self.place(member).ok()).collect();
+        let twice = repeats(units.iter().map(|&unit| unit as u16));
+        refuse_if(named.len() > 8 || units.len() < named.len() || twice, 21)?;
+        refuse_if(self.llids().any(|known| known == llid), 3)?;
+        refuse_if(self.is_full(), 4)?;
+        self.groups.push(Group::fresh(llid, interval, units.into_iter()));
+        Ok(())
+    }
+
     pub fn advance(&mut self, n: u64) -> Reply<()> {
         refuse_if(u128::from(self.tick) + u128::from(n) > u128::from(LAST_TICK), 17)?;
         self.tick += n;
@@ -104,6 +149,7 @@ impl Olt {
             unit.flag |= count >= unit.interval;
             unit.count = count % unit.interval;
         }
+        self.groups.iter_mut().for_each(|group| group.advance(n));
         Ok(())
     }
 
@@ -125,6 +171,11 @@ impl Olt {
     }
 
     pub fn offer(&mut self, llid: u16, key: &Key) -> Reply<KeyMessage> {
+        if let Some(group) = self.group(llid) {
+            let unset = group.members.iter().any(|member| !self.units[member.unit].clock_acknowledged);
+            refuse_if(unset, 5)?;
+            return self.group_mut(llid).ok_or(2)?.offer(key);
+        }
         let unit = self.unit_mut(llid)?;
         refuse_if(!unit.clock_acknowledged, 5)?;
         refuse_if(unit.offered > unit.active || unit.confirmed < unit.active, 6)?;
@@ -137,13 +188,21 @@ impl Olt {
     }
 
     pub fn retry(&self, llid: u16) -> Reply<KeyMessage> {
+        if let Some(group) = self.group(llid) {
+            return group.retry();
+        }
         let unit = self.unit(llid)?;
         refuse_if(unit.offered == unit.active, 8)?;
         Ok(KeyMessage { llid, number: unit.offered as u32, key: unit.keys[&unit.offered] })
     }
 
     pub fn acknowledge(&mut self, llid: u16, acknowledgement: Acknowledgement) -> Reply<()> {
+        let named = self.place(acknowledgement.unit).ok().filter(|_| acknowledgement.named == 1);
+        if let Some(group) = self.group_mut(llid) {
+            return group.acknowledge(acknowledgement, named);
+        }
         let unit = self.unit_mut(llid)?;
+        refuse_if(acknowledgement.named != 0, 8)?;
         match acknowledgement.kind {
             1 if unit.clock_sent => unit.clock_acknowledged = true,
             2 if unit.offered >= 1 && u64::from(acknowledgement.number) == unit.offered => unit.offer_acknowledged = true,
@@ -156,26 +215,20 @@ impl Olt {
         payload::check_lengths(payload.len(), output)?;
         refuse_if(channel != 0x00 && channel != 0x01, 1)?;
         let (tick, clock, mac) = (self.tick, self.clock, self.mac);
-        let place = self.place(llid)?;
-        refuse_if(self.channels.is_taken(channel, tick), 12)?;
-        let unit = &mut self.units[place];
-        if unit.switches() {
-            unit.active = unit.offered;
-            unit.flag = false;
-            unit.first_send = Some(tick);
-        } else if unit.active >= 1 {
-            let first = unit.first_send.unwrap_or(tick);
-            refuse_if(tick - first >= KEY_LIFE, 13)?;
-            unit.first_send = Some(first);
-        }
+        let taken = self.channels.is_taken(channel, tick);
+        let under = match (self.place(llid), self.group_mut(llid)) {
+            (Ok(_), _) | (_, Some(_)) if taken => return Err(12),
+            (Ok(place), _) => self.units[place].sends_under(tick)?,
+            (_, Some(group)) => group.sends_under(tick)?,
+            _ => return Err(2),
+        };
         let epam = (clock % 64) as u8;
-        let envelope = match unit.active {
-            0 => {
+        let envelope = match under {
+            None => {
                 let header = Header { channel, llid, encenabled: 0, enckey: 0, epam };
                 Envelope { header, octets: payload.to_vec(), count: 0, runs: 0, sealed_under: None }
             }
-            active => {
-                let key = unit.keys[&active];
+            Some((active, key)) => {
                 let Passed { octets, count, runs } = payload::pass(&key, channel, mac, clock, payload);
                 let header = Header { channel, llid, encenabled: 1, enckey: (active % 2) as u8, epam };
                 Envelope { header, octets, count, runs, sealed_under: Some((key, mac, clock)) }
@@ -189,6 +242,7 @@ impl Olt {
         payload::check_lengths(octets.len(), output)?;
         refuse_if(header_out_of_range(header, 0x80), 1)?;
         let clock = self.clock;
+        refuse_if(self.group(header.llid).is_some(), 20)?;
         let unit = self.unit_mut(header.llid)?;
         refuse_if(u64::from(header.epam) != clock % 64, 10)?;
         if header.encenabled == 0 {

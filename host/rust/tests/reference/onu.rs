@@ -1,5 +1,6 @@
-//! The ONU (01, Clock; Keys; When the reader says no). Every call checks in the order of its list, then changes.
+//! The ONU (01, Clock; Keys; When the reader says no; 02, C-14). Every call checks in the order of its list, then changes.
 
+use super::groups::Joined;
 use super::*;
 use jazmotip::{Acknowledgement, Header, KeyMessage, Stamps};
 use std::collections::BTreeMap;
@@ -18,6 +19,7 @@ pub struct Onu {
     pub keys: BTreeMap<u64, Key>,
     pub first_send: Option<u64>,
     pub channels: Channels,
+    pub joined: Vec<Joined>,
 }
 
 impl Onu {
@@ -34,7 +36,27 @@ impl Onu {
             keys: BTreeMap::new(),
             first_send: None,
             channels: Channels { free_from: [0, 0] },
+            joined: Vec::new(),
         })
+    }
+
+    pub fn group(&self, llid: u16) -> Option<&Joined> {
+        self.joined.iter().find(|group| group.llid == llid)
+    }
+
+    fn group_mut(&mut self, llid: u16) -> Option<&mut Joined> {
+        self.joined.iter_mut().find(|group| group.llid == llid)
+    }
+
+    fn is_own(&self, llid: u16) -> bool {
+        self.identity.llids.contains(&llid)
+    }
+
+    pub fn join(&mut self, llid: u16) -> Reply<()> {
+        refuse_if(self.is_own(llid) || self.group(llid).is_some(), 3)?;
+        refuse_if(self.joined.len() >= 4, 4)?;
+        self.joined.push(Joined::fresh(llid));
+        Ok(())
     }
 
     pub fn advance(&mut self, n: u64) -> Reply<()> {
@@ -53,12 +75,17 @@ impl Onu {
         // 000's loop raises both by one until the low 32 bits of Tx equal LocalTime: this many times
         let raise = (u64::from(self.local_time) + (1 << 32) - message.tx % (1 << 32)) % (1 << 32);
         self.clocks = Some(Stamps { rx: (message.rx + raise) % CLOCK, tx: (message.tx + raise) % CLOCK });
-        Ok(Acknowledgement { kind: 1, number: 0 })
+        Ok(Acknowledgement { kind: 1, named: 0, unit: 0, number: 0 })
     }
 
     pub fn key_message(&mut self, message: KeyMessage) -> Reply<Acknowledgement> {
-        refuse_if(!self.identity.llids.contains(&message.llid), 2)?;
+        refuse_if(!self.is_own(message.llid) && self.group(message.llid).is_none(), 2)?;
         refuse_if(self.clocks.is_none(), 5)?;
+        let first = self.identity.llids[0];
+        if let Some(group) = self.group_mut(message.llid) {
+            group.key_message(&message)?;
+            return Ok(Acknowledgement { kind: 2, named: 1, unit: first, number: message.number });
+        }
         let number = u64::from(message.number);
         match self.keys.get(&number) {
             Some(key) => refuse_if(*key != message.key, 8)?,
@@ -67,7 +94,7 @@ impl Onu {
                 self.keys.insert(number, message.key);
             }
         }
-        Ok(Acknowledgement { kind: 2, number: message.number })
+        Ok(Acknowledgement { kind: 2, named: 0, unit: 0, number: message.number })
     }
 
     /// The Tx clock, or LocalTime if unsynced.
@@ -78,7 +105,8 @@ impl Onu {
     pub fn send(&mut self, llid: u16, channel: u8, payload: &[u8], output: usize) -> Reply<Envelope> {
         payload::check_lengths(payload.len(), output)?;
         refuse_if(channel != 0x80 && channel != 0x81, 1)?;
-        refuse_if(!self.identity.llids.contains(&llid), 2)?;
+        refuse_if(!self.is_own(llid) && self.group(llid).is_none(), 2)?;
+        refuse_if(self.group(llid).is_some(), 20)?;
         refuse_if(self.channels.is_taken(channel, self.tick), 12)?;
         let clock = self.sender_clock();
         let epam = (clock % 64) as u8;
@@ -101,8 +129,11 @@ impl Onu {
     pub fn receive(&mut self, header: &Header, octets: &[u8], output: usize) -> Reply<Passed> {
         payload::check_lengths(octets.len(), output)?;
         refuse_if(header_out_of_range(header, 0x00), 1)?;
-        refuse_if(!self.identity.llids.contains(&header.llid), 2)?;
+        refuse_if(!self.is_own(header.llid) && self.group(header.llid).is_none(), 2)?;
         refuse_if(self.clocks.is_some_and(|clocks| u64::from(header.epam) != clocks.rx % 64), 10)?;
+        if self.group(header.llid).is_some() {
+            return self.receive_for_group(header, octets);
+        }
         if header.encenabled == 0 {
             refuse_if(self.active >= 1, 11)?;
             return Ok(Passed::clear(octets));
@@ -118,5 +149,16 @@ impl Onu {
             self.first_send = None;
         }
         Ok(passed)
+    }
+
+    /// The rest of a receipt on a group's LLID: 5, 11, 9. Nothing of the unit's own moves.
+    fn receive_for_group(&mut self, header: &Header, octets: &[u8]) -> Reply<Passed> {
+        refuse_if(header.encenabled == 1 && self.clocks.is_none(), 5)?;
+        let (mac, clock) = (self.olt_mac, self.clocks.map_or(0, |clocks| clocks.rx));
+        let group = self.group_mut(header.llid).ok_or(2)?;
+        Ok(match group.opens_under(header)? {
+            None => Passed::clear(octets),
+            Some(key) => payload::pass(&key, header.channel, mac, clock, octets),
+        })
     }
 }

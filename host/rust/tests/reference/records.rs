@@ -1,6 +1,7 @@
 //! The reference's ends as records of the C boundary, and back. A place that is not in use holds zeros. Reading is where a lent end
 //! is judged (01: "Ahead of each list comes 1 for a lent end with ..."): an invalid one has no reading.
 
+use super::groups::{Group, Joined, Member};
 use super::olt::{Capture, Olt, Unit};
 use super::onu::Onu;
 use super::*;
@@ -139,16 +140,87 @@ impl Unit {
     }
 }
 
+impl Group {
+    fn record(&self) -> jazmotip::Group {
+        let mut members = jazmotip::Members { count: self.members.len() as u8, ..Default::default() };
+        for (j, member) in self.members.iter().enumerate() {
+            members.places[j] = member.unit as u8;
+            members.marks[j] = u8::from(member.acknowledged);
+        }
+        jazmotip::Group {
+            keys: jazmotip::UnitKeys {
+                timer: jazmotip::Timer { interval: self.interval, count: self.count, flag: u8::from(self.flag) },
+                active: self.active as u32,
+                offered: self.offered as u32,
+                slots: keys_record(&self.keys),
+                first: first_record(self.first_send),
+            },
+            members,
+            llid: self.llid,
+        }
+    }
+
+    /// Of an OLT with that many units, at that tick.
+    fn lent(record: &jazmotip::Group, units: usize, tick: u64) -> Option<Group> {
+        let count = within(u64::from(record.members.count), 1, 8)? as usize;
+        let (places, marks) = (&record.members.places[..count], &record.members.marks[..count]);
+        let known = places.iter().all(|&place| usize::from(place) < units);
+        (known && !repeats(places.iter().map(|&place| u16::from(place)))).then_some(())?;
+        let member = |(&place, &mark): (&u8, &u8)| Some(Member { unit: usize::from(place), acknowledged: flag(mark)? });
+        let interval = within(record.keys.timer.interval, 1, 1 << 47)?;
+        let active = u64::from(record.keys.active);
+        let offered = within(u64::from(record.keys.offered), active, active + 1)?;
+        Some(Group {
+            llid: record.llid,
+            members: places.iter().zip(marks).map(member).collect::<Option<_>>()?,
+            interval,
+            count: within(record.keys.timer.count, 0, interval - 1)?,
+            flag: flag(record.keys.timer.flag)?,
+            active,
+            offered,
+            keys: keys_lent(&record.keys.slots, active..=offered),
+            first_send: first_lent(&record.keys.first, tick)?,
+        })
+    }
+}
+
+impl Joined {
+    fn record(&self) -> jazmotip::Joined {
+        let holds = |number| u8::from(self.keys.contains_key(&number));
+        jazmotip::Joined {
+            keys: jazmotip::OnuKeys {
+                active: self.active as u32,
+                held: holds(self.active + 1),
+                slots: keys_record(&self.keys),
+            },
+            kept: holds(self.active),
+            llid: self.llid,
+        }
+    }
+
+    fn lent(record: &jazmotip::Joined) -> Option<Joined> {
+        let active = u64::from(record.keys.active);
+        let (kept, held) = (flag(record.kept)?, flag(record.keys.held)?);
+        (!(kept && active == 0 || held && active == u64::from(u32::MAX))).then_some(())?;
+        let numbers = [(kept, active), (held, active + 1)].into_iter().filter(|(there, _)| *there);
+        Some(Joined { llid: record.llid, active, keys: keys_lent(&record.keys.slots, numbers.map(|(_, number)| number)) })
+    }
+}
+
 impl End for Olt {
     type Record = jazmotip::Olt;
 
     fn record(&self) -> jazmotip::Olt {
         let mut units = [jazmotip::Unit::default(); 16];
         units.iter_mut().zip(&self.units).for_each(|(place, unit)| *place = unit.record());
+        let mut groups = [jazmotip::Group::default(); 16];
+        groups.iter_mut().zip(&self.groups).for_each(|(place, group)| *place = group.record());
         jazmotip::Olt {
             shared: jazmotip::Shared { mac: self.mac, tick: self.tick, clock: self.clock, channels: self.channels.record() },
             count: self.units.len() as u8,
             units,
+            groupcount: self.groups.len() as u8,
+            groups,
         }
     }
 
@@ -157,14 +229,18 @@ impl End for Olt {
         let clock = within(record.shared.clock, 0, CLOCK - 1)?;
         let places = record.units.get(..usize::from(record.count))?;
         let units: Vec<Unit> = places.iter().map(|unit| Unit::lent(unit, tick, clock)).collect::<Option<_>>()?;
-        let twice = repeats(units.iter().flat_map(|unit| unit.identity.llids.iter().copied()));
-        (!twice).then_some(())?;
+        within(u64::from(record.count) + u64::from(record.groupcount), 0, 16)?;
+        let places = &record.groups[..usize::from(record.groupcount)];
+        let groups: Vec<Group> = places.iter().map(|group| Group::lent(group, units.len(), tick)).collect::<Option<_>>()?;
+        let llids = units.iter().flat_map(|unit| unit.identity.llids.iter().copied());
+        (!repeats(llids.chain(groups.iter().map(|group| group.llid)))).then_some(())?;
         Some(Olt {
             mac: within(record.shared.mac, 0, CLOCK - 1)?,
             tick,
             clock,
             channels: Channels::lent(&record.shared.channels)?,
             units,
+            groups,
         })
     }
 }
@@ -177,6 +253,8 @@ impl End for Onu {
             None => jazmotip::OnuClock { synced: 0, time: u64::from(self.local_time), rx: 0 },
             Some(clocks) => jazmotip::OnuClock { synced: 1, time: clocks.tx, rx: clocks.rx },
         };
+        let mut joined = [jazmotip::Joined::default(); 4];
+        joined.iter_mut().zip(&self.joined).for_each(|(place, group)| *place = group.record());
         jazmotip::Onu {
             identity: self.identity.record(),
             oltmac: self.olt_mac,
@@ -189,6 +267,8 @@ impl End for Onu {
             },
             first: first_record(self.first_send),
             channels: self.channels.record(),
+            joinedcount: self.joined.len() as u8,
+            joined,
         }
     }
 
@@ -202,7 +282,10 @@ impl End for Onu {
         let active = u64::from(record.keys.active);
         let reach = within(active + u64::from(flag(record.keys.held)?), 0, u64::from(u32::MAX))?;
         let identity = Identity::lent(&record.identity)?;
-        (!repeats(identity.llids.iter().copied())).then_some(())?;
+        let places = record.joined.get(..usize::from(record.joinedcount))?;
+        let joined: Vec<Joined> = places.iter().map(Joined::lent).collect::<Option<_>>()?;
+        let llids = identity.llids.iter().copied().chain(joined.iter().map(|group| group.llid));
+        (!repeats(llids)).then_some(())?;
         Some(Onu {
             identity,
             olt_mac: within(record.oltmac, 0, CLOCK - 1)?,
@@ -213,6 +296,7 @@ impl End for Onu {
             keys: keys_lent(&record.keys.slots, active..=reach),
             first_send: first_lent(&record.first, tick)?,
             channels: Channels::lent(&record.channels)?,
+            joined,
         })
     }
 }

@@ -2,9 +2,9 @@
 use contract.Running.{givenOf, tables, tablesOf}
 use denote.Triple.Spec.{tripleOf}
 use denote.Triple.Table.{cited, entered}
-use Rattle.onu.proofs.advance.Met as by-value
-use Rattle.onu.proofs.advance.Symbol as callee
-use Rattle.jazmotip.proofs.End.{onu}
+use Rattle.jazmotip.proofs.at_onu.advanced.Met as by-value
+use Rattle.jazmotip.proofs.at_onu.advanced.Symbol as callee
+use Rattle.jazmotip.proofs.End.{subscriber}
 use Rattle.jazmotip.proofs.InPlace.{Known, advances}
 use Rattle.jazmotip.proofs.at_onu.jazmotip_onu_advance as in-place
 use Rattle.jazmotip.proofs.at_onu.jazmotip_onu_advance.Code as code
@@ -16,5 +16,5 @@ unfolding code.routine tablesOf
 jazmotip-onu-advance-spec 𝓤 H 𝓜 𝓖 𝓡 =
     entered 𝓤 H (tripleOf 𝓤 H (𝓖 .A) in-place.signature (in-place.spec 𝓤 H (𝓖 .A) (𝓜 .mem) (𝓡 .run)))
     (tables 𝓤 H 𝓜 𝓡 code.env .C) (tables 𝓤 H 𝓜 𝓡 code.env .Λ) name code.function (code.unfolded 𝓤 H 𝓜 𝓡)
-    (advances onu 𝓤 H (𝓖 .A) (givenOf 𝓤 H 𝓜 𝓖) callee.name (tablesOf 𝓤 H 𝓜 (tables 𝓤 H 𝓜 𝓡 code.env))
-    (cited 𝓤 H (Known onu 𝓤 H (𝓖 .A)) 𝓜 𝓡 code.env callee.name callee.routine code.calls-onu·advance (by-value.met 𝓤 H 𝓜 𝓖 𝓡)))
+    (advances subscriber 𝓤 H (𝓖 .A) (givenOf 𝓤 H 𝓜 𝓖) callee.name (tablesOf 𝓤 H 𝓜 (tables 𝓤 H 𝓜 𝓡 code.env))
+    (cited 𝓤 H (Known subscriber 𝓤 H (𝓖 .A)) 𝓜 𝓡 code.env callee.name callee.routine code.calls-jazmotip·at-onu·advanced (by-value.met 𝓤 H 𝓜 𝓖 𝓡)))

@@ -1,0 +1,73 @@
+-- What validity says of a group and of a head end, as facts, and that the facts give it. Assumes nothing.
+use mathlib.Core.Path.{_≡_}
+use mathlib.Core.Bool.{true, false}
+use Prim.Native.Nat.{ℕ, _+_, _≤_}
+use borrow.Author.Tests.{leb-true, le-leb, not-true}
+use Rattle.octets.specs.Lists.{all}
+use Rattle.octets.proofs.Choice.{both-left, both-right, both-true, not-of-false}
+use Rattle.ends.specs.Identities.{distinct, meets}
+use Rattle.ends.specs.Keys.{validFirst}
+use Rattle.ends.specs.Limits.{maxUnits}
+use Rattle.ends.specs.Table.{registered, tableLlids}
+use Rattle.ends.specs.Timers.{validTimer}
+use Rattle.ends.specs.Validity.{validKeys, validOlt}
+use Rattle.groups.specs.Head.{apartLlids, groupLlids, placesTaken, registeredGroups, validGroup, validGroupNumbers, validGroups, validHead}
+use Rattle.groups.specs.Members.{validMembers}
+use Rattle.groups.specs.declared.GroupRecord.{GroupRecord}
+use Rattle.groups.specs.declared.HeadEnd.{HeadEnd}
+
+---- a group
+
+pub record GroupInRange (tick units : ℕ) (g : GroupRecord) : Type 0 where
+  pub members : validMembers units (g .members) ≡ true
+  pub timer : validTimer (g .keys .timer) ≡ true
+  pub first : validFirst (g .keys .first) tick ≡ true
+  pub low : g .keys .active ≤ g .keys .offered
+  pub high : g .keys .offered ≤ g .keys .active + 1
+
+pub group-in-range : (tick units : ℕ) (g : GroupRecord) → validGroup tick units g ≡ true → GroupInRange tick units g
+unfolding validGroup validKeys validGroupNumbers
+group-in-range tick units g e =
+    let a = both-right _ _ e in
+    let k = both-left _ _ a in
+    let n = both-right _ _ a in
+    record {
+      members = both-left _ _ e;
+      timer = both-left _ _ k;
+      first = both-right _ _ k;
+      low = leb-true _ _ (both-left _ _ n);
+      high = leb-true _ _ (both-right _ _ n);
+    }
+
+pub group-valid : (tick units : ℕ) (g : GroupRecord) → GroupInRange tick units g → validGroup tick units g ≡ true
+unfolding validGroup validKeys validGroupNumbers
+group-valid tick units g r =
+    both-true (r .members) (both-true (both-true (r .timer) (r .first)) (both-true (le-leb _ _ (r .low)) (le-leb _ _ (r .high))))
+
+---- the head end
+
+pub record HeadInRange (h : HeadEnd) : Type 0 where
+  pub olt : validOlt (h .olt) ≡ true
+  pub places : placesTaken h ≤ maxUnits
+  pub groups : all (validGroup (h .olt .shared .tick) (h .olt .count)) (registeredGroups h) ≡ true
+  pub distinct : distinct (groupLlids (registeredGroups h)) ≡ true
+  pub apart : meets (groupLlids (registeredGroups h)) (tableLlids (registered (h .olt))) ≡ false
+
+pub head-in-range : (h : HeadEnd) → validHead h ≡ true → HeadInRange h
+unfolding validHead validGroups apartLlids
+head-in-range h e =
+    let a = both-right _ _ e in
+    let b = both-right _ _ a in
+    let c = both-right _ _ b in
+    record {
+      olt = both-left _ _ e;
+      places = leb-true _ _ (both-left _ _ a);
+      groups = both-left _ _ b;
+      distinct = both-left _ _ c;
+      apart = not-true _ (both-right _ _ c);
+    }
+
+pub head-valid : (h : HeadEnd) → HeadInRange h → validHead h ≡ true
+unfolding validHead validGroups apartLlids
+head-valid h r =
+    both-true (r .olt) (both-true (le-leb _ _ (r .places)) (both-true (r .groups) (both-true (r .distinct) (not-of-false (r .apart)))))

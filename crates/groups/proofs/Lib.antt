@@ -1,0 +1,9 @@
+pub mod Found
+pub mod GroupSteps
+pub mod HeadValidity
+pub mod JoinedCalls
+pub mod JoinedGroups
+pub mod OneGroup
+pub mod Places
+pub mod Subscribers
+pub mod Walks

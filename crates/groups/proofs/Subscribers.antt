@@ -1,0 +1,162 @@
+-- Laws of a subscriber: the group that a call names, and what keeps a subscriber valid. Assumes nothing.
+use mathlib.Core.Path.{_≡_, refl, sym, _∙_, ap}
+use mathlib.Core.Bool.{true, false}
+use mathlib.Core.List.{List, [], _∷_, _++_, map-append}
+use Prim.Native.Nat.{ℕ, _+_, _≤_, _<_}
+use native.Mathlib.Numerals.{add-one}
+use native.Mathlib.Omega.{arith}
+use lib.ListN.{length, take, set, length-take, length-map}
+use lib.Seq.{set-getD, take-set-lt, take-suc-set, map-set-same}
+use borrow.Author.Tests.{leb-true, le-leb, not-true}
+use Rattle.octets.specs.Choice.{both, either}
+use Rattle.octets.specs.Lists.{all}
+use Rattle.octets.proofs.Choice.{both-left, both-right, both-true, either-false, either-none, not-of-false}
+use Rattle.octets.proofs.Maps.{map-take}
+use Rattle.octets.proofs.Tests.{all-one, all-set, all-append}
+use Rattle.ends.specs.Identities.{among, distinct, meets, llidsOf}
+use Rattle.ends.specs.Validity.{validOnuKeys, validOnu}
+use Rattle.ends.specs.declared.Onu.{Onu}
+use Rattle.ends.specs.declared.Found.the-variants.{At}
+use Rattle.ends.proofs.Identities.{distinct-more}
+use Rattle.groups.specs.Limits.{maxJoined}
+use Rattle.groups.specs.Subscriber.{freshJoined, joinedGroups, joinedLlids, hasJoined, findJoined, pastJoined, joinedAt, withOnu, withJoined, withOneJoinedMore, noMemberships, alone, validJoined, validGroupsOf, validMemberships, validSubscriber}
+use Rattle.groups.specs.declared.Joined.{Joined}
+use Rattle.groups.specs.declared.Subscriber.{Subscriber}
+use Rattle.groups.proofs.Places.{place-at}
+use Rattle.groups.proofs.JoinedGroups.{groups-none}
+
+---- the group that a call names
+
+pub record JoinedPlace (s : Subscriber) (i : ℕ) : Type 0 where
+  pub used : i < s .memberships .count
+  pub placed : i < length (s .memberships .table)
+
+pub found-place : (s : Subscriber) (llid i : ℕ) → findJoined s llid ≡ At i → JoinedPlace s i
+unfolding findJoined joinedLlids
+found-place s llid i e =
+    let below : i < length (take (s .memberships .count) (s .memberships .table)) =
+    omega (arith, place-at 0 (joinedLlids (joinedGroups s)) llid i e .below, length-map (joinedGroups s) (λ (j : Joined). j .llid)) in
+    let low = simp length-take at below in
+    record { used = omega arith; placed = omega arith }
+
+---- what validity says
+
+pub record Joins (s : Subscriber) : Type 0 where
+  pub few : s .memberships .count ≤ maxJoined
+  pub each : all validJoined (joinedGroups s) ≡ true
+  pub distinct : distinct (joinedLlids (joinedGroups s)) ≡ true
+  pub apart : meets (joinedLlids (joinedGroups s)) (llidsOf (s .onu .identity)) ≡ false
+
+pub memberships-valid : (s : Subscriber) → validMemberships s ≡ true → Joins s
+unfolding validMemberships validGroupsOf
+memberships-valid s e =
+    let g = both-right _ _ e in
+    let d = both-right _ _ g in
+    record {
+      few = leb-true _ _ (both-left _ _ e);
+      each = both-left _ _ g;
+      distinct = both-left _ _ d;
+      apart = not-true _ (both-right _ _ d);
+    }
+
+pub valid-memberships : (s : Subscriber) → Joins s → validMemberships s ≡ true
+unfolding validMemberships validGroupsOf
+valid-memberships s r =
+    both-true (le-leb _ _ (r .few)) (both-true (r .each) (both-true (r .distinct) (not-of-false (r .apart))))
+
+pub valid-unit : (s : Subscriber) → validSubscriber s ≡ true → validOnu (s .onu) ≡ true
+unfolding validSubscriber
+valid-unit s v = both-left _ _ v
+
+pub valid-joins : (s : Subscriber) → validSubscriber s ≡ true → validMemberships s ≡ true
+unfolding validSubscriber
+valid-joins s v = both-right _ _ v
+
+pub valid-both : (s : Subscriber) → validOnu (s .onu) ≡ true → validMemberships s ≡ true → validSubscriber s ≡ true
+unfolding validSubscriber
+valid-both s u m = both-true u m
+
+-- a group that a valid subscriber joined is valid
+pub found-valid : (s : Subscriber) (llid i : ℕ) → validMemberships s ≡ true → findJoined s llid ≡ At i → validJoined (joinedAt s i) ≡ true
+found-valid s llid i v e =
+    let p = found-place s llid i e in
+    all-one validJoined (s .memberships .count) (s .memberships .table) pastJoined (memberships-valid s v .each) i (p .used) (p .placed)
+
+-- and stands at one of the places
+pub found-below : (s : Subscriber) (llid i : ℕ) → validMemberships s ≡ true → findJoined s llid ≡ At i → i < maxJoined
+found-below s llid i v e = omega (arith, found-place s llid i e .used, memberships-valid s v .few)
+
+---- one group replaced, or more by one
+
+-- the unit's own part stays
+pub with-joined-unit : (s : Subscriber) (i : ℕ) (j : Joined) → withJoined s i j .onu ≡ s .onu
+unfolding withJoined
+with-joined-unit s i j = refl
+
+-- a group put where it stands
+pub with-itself : (s : Subscriber) (i : ℕ) → withJoined s i (joinedAt s i) ≡ s
+unfolding withJoined
+with-itself s i = rw (set-getD (s .memberships .table) i pastJoined)
+
+-- a group with the LLID of the one whose place it takes
+pub with-joined-valid : (s : Subscriber) (i : ℕ) (j : Joined) → i < s .memberships .count → j .llid ≡ joinedAt s i .llid → validJoined j ≡ true
+    → validMemberships s ≡ true → validMemberships (withJoined s i j) ≡ true
+unfolding withJoined joinedLlids
+with-joined-valid s i j h e v w =
+    let r = memberships-valid s w in
+    let n = s .memberships .count in
+    let l = s .memberships .table in
+    let same : joinedLlids (take n (set l i j)) ≡ joinedLlids (take n l) =
+    map-take (λ (x : Joined). x .llid) n (set l i j)
+    ∙ ap (take n) (map-set-same (λ (x : Joined). x .llid) l i j pastJoined e)
+    ∙ sym (map-take (λ (x : Joined). x .llid) n l) in
+    valid-memberships (withJoined s i j)
+    (record {
+      few = r .few;
+      each = rw (take-set-lt n l i j h) (all-set validJoined (joinedGroups s) i j (r .each) v);
+      distinct = ap distinct same ∙ r .distinct;
+      apart = ap (λ (x : List ℕ). meets x (llidsOf (s .onu .identity))) same ∙ r .apart;
+    })
+
+-- one number more
+meets-more : (xs : List ℕ) (x : ℕ) (ys : List ℕ) → meets xs ys ≡ false → among x ys ≡ false → meets (xs ++ (x ∷ [])) ys ≡ false
+unfolding meets
+meets-more [] x ys m a = either-none a refl
+meets-more (y ∷ xs) x ys m a = let r = either-false _ _ m in either-none (r .0) (meets-more xs x ys (r .1) a)
+
+-- one group more, whose LLID the unit does not hold
+pub one-more-valid : (s : Subscriber) (j : Joined) → s .memberships .count < maxJoined → s .memberships .count < length (s .memberships .table)
+    → hasJoined s (j .llid) ≡ false → among (j .llid) (llidsOf (s .onu .identity)) ≡ false → validJoined j ≡ true → validMemberships s ≡ true
+    → validMemberships (withOneJoinedMore s j) ≡ true
+unfolding withOneJoinedMore joinedLlids all
+one-more-valid s j few h new other v w =
+    let r = memberships-valid s w in
+    let n = s .memberships .count in
+    let l = s .memberships .table in
+    let grown : take (n + 1) (set l n j) ≡ take n l ++ (j ∷ []) = rw (add-one, take-suc-set l n j h) in
+    let llids : joinedLlids (take (n + 1) (set l n j)) ≡ joinedLlids (take n l) ++ (j .llid ∷ []) =
+    ap joinedLlids grown ∙ map-append (λ (x : Joined). x .llid) (take n l) (j ∷ []) in
+    valid-memberships (withOneJoinedMore s j)
+    (record {
+      few = omega arith;
+      each = rw grown (all-append validJoined (take n l) (j ∷ []) (r .each) (last-valid j v));
+      distinct = ap distinct llids ∙ distinct-more (joinedLlids (take n l)) (j .llid) (r .distinct) new;
+      apart = ap (λ (x : List ℕ). meets x (llidsOf (s .onu .identity))) llids
+          ∙ meets-more (joinedLlids (take n l)) (j .llid) (llidsOf (s .onu .identity)) (r .apart) other;
+    }) where
+      last-valid : (j : Joined) → validJoined j ≡ true → all validJoined (j ∷ []) ≡ true
+      last-valid j v = both-true v refl
+
+pub fresh-joined-valid : (llid : ℕ) → validJoined (freshJoined llid) ≡ true
+unfolding validJoined freshJoined validOnuKeys both either
+fresh-joined-valid llid = refl
+
+-- a unit without groups
+pub alone-valid : (o : Onu) → validMemberships (alone o) ≡ true
+unfolding alone noMemberships validMemberships
+alone-valid o = both-true refl (groups-none (llidsOf (o .identity)) _ refl)
+
+-- a unit that keeps its identity
+pub with-onu-valid : (s : Subscriber) (o : Onu) → o .identity ≡ s .onu .identity → validMemberships s ≡ true → validMemberships (withOnu s o) ≡ true
+unfolding withOnu validMemberships
+with-onu-valid s o e v = rw e v

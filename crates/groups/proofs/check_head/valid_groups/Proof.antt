@@ -1,0 +1,35 @@
+-- `groups::check_head::valid_groups` meets its contract: too many places, no group, or the tests of the definition. Assumes nothing.
+use Prim.Native.Nat.{_+_}
+use native.Mathlib.Omega.{arith}
+use borrow.Author.Needs.{needs}
+use borrow.Author.Tests.{lt-leb, le-leb}
+use Rattle.octets.specs.Choice.{both}
+use Rattle.octets.specs.Lists.{all}
+use Rattle.ends.specs.Identities.{distinct, meets}
+use Rattle.ends.specs.Limits.{maxUnits}
+use Rattle.groups.specs.Head.{apartLlids, groupLlids, validGroups}
+use Rattle.groups.proofs.check_head.valid_groups.Statement.{statement}
+use Rattle.groups.proofs.check_head.valid_groups.Tie as tie
+
+returns : tie.Need-returns
+unfolding validGroups both
+returns c = let h = c .before .args .head in rw (lt-leb (h .olt .count + h .groups .count) maxUnits (c .if1 .taken))
+
+returns-2 : tie.Need-returns-2
+unfolding validGroups both all groupLlids apartLlids distinct meets
+returns-2 c =
+    let h = c .before .before .args .head in
+    rw (le-leb (h .olt .count + h .groups .count) maxUnits (c .before .if1 .left), c .if2 .taken)
+
+returns-3 : tie.Need-returns-3
+unfolding validGroups both
+returns-3 c =
+    let start = c .before .before .before .before .before in
+    let h = start .before .args .head in
+    rw (le-leb (h .olt .count + h .groups .count) maxUnits (start .if1 .left), c .before .all-valid .ensures, c .apart .ensures)
+
+pub valid-groups-spec : {M : Type 1} → statement M
+valid-groups-spec =
+    tie.close
+    (tie.spec (λ c. search needs) (λ c. search needs) (λ c. search needs) (λ c. search needs) returns returns-2 (λ c κs. omega arith) (λ c κs. omega arith)
+    returns-3)

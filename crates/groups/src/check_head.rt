@@ -1,0 +1,121 @@
+// Whether a head end that is lent is valid (02, C-14; 01, 'When the reader says no': Ahead of each list comes 1).
+ghost use mathlib.Core.Path.{_≡_};
+ghost use Prim.Native.Nat.{_≤_};
+ghost use lib.ListN.{take};
+ghost use Rattle.octets.specs.Lists.{all};
+ghost use Rattle.ends.specs.Identities.{distinct, meets};
+ghost use Rattle.ends.specs.Limits.{maxUnits};
+ghost use Rattle.ends.specs.Table.{registered, tableLlids};
+ghost use Rattle.groups.specs.Head.{apartLlids, groupLlids, validGroup, validGroups, validHead};
+use crate::GroupRecord;
+use crate::HeadEnd;
+use crate::MAX_GROUPS;
+use crate::membership::valid_members;
+use crate::search::is_group;
+use crate::search::is_registered;
+use ends::Olt;
+use ends::UnitRecord;
+use ends::check_olt::valid_olt;
+use ends::check_olt::valid_timer;
+use ends::limits::MAX_UNITS;
+use ends::sends::valid_first;
+
+// At that tick, of an OLT with that many units.
+pub fn valid_group(tick: u64, units: u8, group: GroupRecord) -> bool
+    ensures { λ r. ⌜ r ≡ validGroup tick units group ⌝ }
+{
+    let members = valid_members(units, group.members);
+    let timer = valid_timer(group.keys.timer);
+    let first = valid_first(group.keys.first, tick);
+    let active = group.keys.active as u64;
+    let offered = group.keys.offered as u64;
+    members & ((timer & first) & ((active <= offered) & (offered <= active + 1)))
+}
+
+fn all_valid(table: [GroupRecord; MAX_GROUPS as usize], count: u8, tick: u64, units: u8) -> bool
+    requires { ⌜ count ≤ maxUnits ⌝ }
+    ensures { λ r. ⌜ r ≡ all (validGroup tick units) (take count table) ⌝ }
+{
+    let mut i: u8 = 0;
+    while i < count {
+        let group = table[i as usize];
+        if !valid_group(tick, units, group) {
+            return false;
+        }
+        i += 1;
+    }
+    true
+}
+
+fn distinct_groups(table: [GroupRecord; MAX_GROUPS as usize], count: u8) -> bool
+    requires { ⌜ count ≤ maxUnits ⌝ }
+    ensures { λ r. ⌜ r ≡ distinct (groupLlids (take count table)) ⌝ }
+{
+    let mut i: u8 = 0;
+    while i < count {
+        let group = table[i as usize];
+        if is_group(table, i, group.llid) {
+            return false;
+        }
+        i += 1;
+    }
+    true
+}
+
+// Whether a group has an LLID of a registered unit.
+fn meet_units(
+    table: [GroupRecord; MAX_GROUPS as usize],
+    count: u8,
+    units: [UnitRecord; MAX_UNITS as usize],
+    n: u8,
+) -> bool
+    requires { ⌜ count ≤ maxUnits ⌝ }
+    ensures { λ r. ⌜ r ≡ meets (groupLlids (take count table)) (tableLlids (take n units)) ⌝ }
+{
+    let mut i: u8 = 0;
+    while i < count {
+        let group = table[i as usize];
+        if is_registered(units, n, group.llid) {
+            return true;
+        }
+        i += 1;
+    }
+    false
+}
+
+fn apart(olt: Olt, table: [GroupRecord; MAX_GROUPS as usize], count: u8) -> bool
+    requires { ⌜ count ≤ maxUnits ⌝ }
+    ensures { λ r. ⌜ r ≡ apartLlids (tableLlids (registered olt)) (groupLlids (take count table)) ⌝ }
+{
+    let units = olt.units;
+    let distinct = distinct_groups(table, count);
+    let met = meet_units(table, count, units, olt.count);
+    distinct & !met
+}
+
+// The groups alone. Without one there is next to nothing to do.
+pub fn valid_groups(head: HeadEnd) -> bool
+    ensures { λ r. ⌜ r ≡ validGroups head ⌝ }
+{
+    let count = head.groups.count;
+    let units = head.olt.count;
+    if (MAX_UNITS as u64) < units as u64 + count as u64 {
+        return false;
+    }
+    if count == 0 {
+        return true;
+    }
+    let olt = head.olt;
+    let table = head.groups.table;
+    let valid = all_valid(table, count, olt.shared.tick, units);
+    let llids = apart(olt, table, count);
+    valid & llids
+}
+
+pub fn valid_head(head: HeadEnd) -> bool
+    ensures { λ r. ⌜ r ≡ validHead head ⌝ }
+{
+    let olt = valid_olt(head.olt);
+    let groups = valid_groups(head);
+    olt & groups
+}

@@ -1,0 +1,63 @@
+// Send of the OLT on one group: the verdict, the record after, and what the payload passes under (02, C-14).
+ghost use mathlib.Core.Path.{_≡_};
+ghost use Prim.Native.Nat.{_≤_};
+ghost use Rattle.octets.specs.Eqs.{maxEqs};
+ghost use Rattle.refusal.specs.declared.Verdict.the-variants.{Accepted};
+ghost use Rattle.clock.specs.Ticks.{maxTick};
+ghost use Rattle.protocol.specs.Headers.{noSending};
+ghost use Rattle.groups.specs.GroupCalls.{groupSentOutcome, reachedGroup, sendGroup, wipedAtSwitch};
+use crate::GroupRecord;
+use crate::GroupSent;
+use crate::one_group::as_unit;
+use ends::Shared;
+use ends::UnitKeys;
+use ends::keyslots::only_key;
+use protocol::KeyChoice;
+use refusal::Verdict;
+use unit::traffic;
+
+// At the switch the old key is wiped.
+fn wiped(choice: KeyChoice, keys: UnitKeys) -> UnitKeys
+    ensures { λ r. ⌜ r ≡ wipedAtSwitch choice keys ⌝ }
+{
+    match choice {
+        KeyChoice::Clear => keys,
+        KeyChoice::Current(_) => keys,
+        KeyChoice::Next(_) => {
+            let slots = only_key(keys.slots, keys.active);
+            let mut r = keys;
+            r.slots = slots;
+            r
+        }
+        KeyChoice::Barred(_) => keys,
+    }
+}
+
+// 12, 13. A valid end's tick and a payload that fits are what the way to the group has judged.
+pub fn send(
+    way: Verdict,
+    shared: Shared,
+    group: GroupRecord,
+    llid: u16,
+    channel: u8,
+    eqs: u64,
+) -> GroupSent
+    ensures { λ r. ⌜ ((way ≡ Accepted → (shared .tick ≤ maxTick) × (eqs ≤ maxEqs)) → groupSentOutcome r ≡ reachedGroup way noSending shared group (sendGroup llid channel eqs shared group)) ⌝ }
+{
+    let unit = as_unit(group, true);
+    let done = traffic::send(way, shared, unit, llid, channel, eqs);
+    let verdict = done.verdict;
+    let channels = done.channels;
+    let sending = done.sending;
+    let passage = sending.passage;
+    let choice = passage.choice;
+    let keys = wiped(choice, done.unit.keys);
+    let mut next = group;
+    next.keys = keys;
+    GroupSent {
+        verdict,
+        group: next,
+        channels,
+        sending,
+    }
+}

@@ -1,0 +1,13 @@
+pub mod Advancing
+pub mod GroupSends
+pub mod HeadAnswers
+pub mod HeadLift
+pub mod HeadSteps
+pub mod HeadUnits
+pub mod HeadGrowth
+pub mod NoGroups
+pub mod Registrations
+pub mod SubscriberLift
+pub mod SubscriberSteps
+pub mod SubscriberTraffic
+pub mod UnitPassages

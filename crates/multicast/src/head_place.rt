@@ -1,0 +1,71 @@
+// The group that a call on a head end names (02, C-14).
+ghost use mathlib.Core.Path.{_≡_};
+ghost use Prim.Native.Nat.{_<_};
+ghost use lib.Dec.{eqb};
+ghost use Rattle.octets.specs.Choice.{either};
+ghost use Rattle.ends.specs.Limits.{maxUnits};
+ghost use Rattle.protocol.specs.Replies.{onValid};
+ghost use Rattle.groups.specs.Head.{findGroup, validGroups, validHead, withGroup};
+use ends::Channels;
+use ends::Found;
+use groups::GroupRecord;
+use groups::HeadEnd;
+use groups::MAX_GROUPS;
+use groups::check_head::valid_groups;
+use groups::check_head::valid_head;
+use refusal::Refusal;
+use refusal::Verdict;
+use refusal::refuse_if;
+
+// The verdict on the way to the group: 1 for an end that is not valid, then what the call refuses ahead of 2.
+pub(crate) fn way_to(head: HeadEnd, ahead: Verdict) -> Verdict
+    ensures { λ r. ⌜ r ≡ onValid (validHead head) ahead ⌝ }
+{
+    let valid = valid_head(head);
+    refuse_if(!valid, Refusal::OutOfRange, ahead)
+}
+
+// The group that has the LLID. It is looked for in the end itself, so that a call hands that over as it lies.
+pub(crate) fn group_named(head: HeadEnd, llid: u16) -> Found
+    ensures { λ r. ⌜ r ≡ findGroup head llid ⌝ }
+{
+    let groups = head.groups;
+    let count = groups.count;
+    let mut i: usize = 0;
+    while i < MAX_GROUPS as usize {
+        if count as usize <= i {
+            return Found::Nowhere;
+        }
+        let group = groups.table[i];
+        if group.llid == llid {
+            return Found::At(i);
+        }
+        i += 1;
+    }
+    Found::Nowhere
+}
+
+// Whether the groups of a valid OLT are valid. Without one nothing is copied for that.
+pub(crate) fn sound_groups(head: HeadEnd) -> bool
+    ensures { λ r. ⌜ r ≡ either (eqb (head .groups .count) 0) (validGroups head) ⌝ }
+{
+    if head.groups.count == 0 {
+        return true;
+    }
+    let whole = head;
+    valid_groups(whole)
+}
+
+// One group and the channels replaced.
+pub(crate) fn put(head: HeadEnd, i: usize, channels: Channels, group: GroupRecord) -> HeadEnd
+    requires { ⌜ i < maxUnits ⌝ }
+    ensures { λ r. ⌜ r ≡ withGroup head i channels group ⌝ }
+{
+    let mut groups = head.groups;
+    groups.table[i] = group;
+    let mut r = head;
+    r.olt.shared.channels.zero = channels.zero;
+    r.olt.shared.channels.one = channels.one;
+    r.groups = groups;
+    r
+}

@@ -1,0 +1,86 @@
+// The calls of both ends with their groups (02, C-14). A call that names a group's LLID is made on the group, any other on the OLT or on the
+// unit as 01 has it. Each takes the end by value and gives back the number, the end and what is handed over; refused, the end and the
+// output are those that were lent.
+
+mod answers;
+pub mod at_head;
+pub mod at_subscriber;
+mod head_place;
+pub mod head_traffic;
+mod registering;
+pub mod subscriber_traffic;
+mod timing;
+
+use clock::Stamps;
+use groups::Answer;
+use groups::HeadEnd;
+use groups::Subscriber;
+use protocol::Header;
+use protocol::KeyMessage;
+
+#[repr(C)]
+pub struct HeadAnswer {
+    pub number: u8,
+    pub head: HeadEnd,
+}
+
+#[repr(C)]
+pub struct HeadClockSent {
+    pub number: u8,
+    pub head: HeadEnd,
+    pub message: Stamps,
+}
+
+#[repr(C)]
+pub struct HeadKeySent {
+    pub number: u8,
+    pub head: HeadEnd,
+    pub message: KeyMessage,
+}
+
+#[repr(C)]
+pub struct HeadSent {
+    pub number: u8,
+    pub head: HeadEnd,
+    pub header: Header,
+    pub count: u64,
+    pub runs: u64,
+}
+
+#[repr(C)]
+pub struct HeadReceived {
+    pub number: u8,
+    pub head: HeadEnd,
+    pub count: u64,
+    pub runs: u64,
+}
+
+#[repr(C)]
+pub struct SubscriberAnswer {
+    pub number: u8,
+    pub subscriber: Subscriber,
+}
+
+#[repr(C)]
+pub struct SubscriberAcknowledged {
+    pub number: u8,
+    pub subscriber: Subscriber,
+    pub answer: Answer,
+}
+
+#[repr(C)]
+pub struct SubscriberSent {
+    pub number: u8,
+    pub subscriber: Subscriber,
+    pub header: Header,
+    pub count: u64,
+    pub runs: u64,
+}
+
+#[repr(C)]
+pub struct SubscriberReceived {
+    pub number: u8,
+    pub subscriber: Subscriber,
+    pub count: u64,
+    pub runs: u64,
+}

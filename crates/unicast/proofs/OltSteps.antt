@@ -1,0 +1,161 @@
+-- The calls on the OLT keep the invariant: captures, clock messages, retries, acknowledgements, sends, and refused receipts. Assumes nothing.
+use mathlib.Core.Path.{_≡_, refl, sym, _∙_, ap, subst}
+use mathlib.Core.List.{List, List·Memᴰ}
+use Prim.Native.Nat.{ℕ}
+use native.Mathlib.Omega.{arith}
+use lib.ListN.{length}
+use borrow.Author.Tests.{not-false}
+use Rattle.octets.proofs.Members.{mem-at}
+use Rattle.refusal.specs.declared.Verdict.the-variants.{Accepted}
+use Rattle.envelope.specs.ControlMask.{eqsOf}
+use Rattle.ends.specs.Records.{withChannels}
+use Rattle.protocol.specs.Replies.{silent}
+use Rattle.ends.specs.Table.{unitAt}
+use Rattle.protocol.specs.Lift.{outcome, lift}
+use Rattle.protocol.specs.Headers.{noPassage, noSending}
+use Rattle.protocol.specs.Messages.{noStamps, noKeyMessage}
+use Rattle.protocol.specs.UnitCalls.{captureUnit, clockSendUnit, retryUnit, acknowledgeUnit}
+use Rattle.protocol.specs.UnitTraffic.{sendUnit}
+use Rattle.protocol.specs.OltCalls.{oltAnswer, clockSent, keySent, captureOf, clockSendOf, retryOf, acknowledgeOf}
+use Rattle.protocol.specs.OltTraffic.{sendingOlt, receivingOlt}
+use Rattle.protocol.specs.declared.Acknowledgement.{Acknowledgement}
+use Rattle.protocol.specs.declared.Header.{Header}
+use Rattle.refusal.proofs.Order.{refuse-accepted}
+use Rattle.protocol.proofs.Replies.{number-refused}
+use Rattle.ends.proofs.Table.{find-at}
+use Rattle.protocol.proofs.Lift.{unit-at-valid}
+use Rattle.protocol.proofs.UnitCalls.{acknowledged-channels}
+use Rattle.protocol.proofs.OltCalls.{capture-valid, clock-send-valid, retry-valid, acknowledge-valid, acknowledge-refused}
+use Rattle.protocol.proofs.OltTraffic.{sendAhead, sending-valid, receiving-untouched}
+use Rattle.traffic.specs.Passages.{misfit}
+use Rattle.traffic.specs.Receipts.{oltReceived, oltReceiveOf}
+use Rattle.traffic.specs.Sends.{oltSent, oltSendOf}
+use Rattle.traffic.proofs.Passages.{few-eqs}
+use Rattle.unicast.specs.Setting.{Setting}
+use Rattle.unicast.specs.History.{Envelope, clockMessage, keyMessage, Lane, numberDown, laneWith, laneCaptured, laneLeaving, laneAcknowledged, laneSentDown}
+use Rattle.unicast.specs.Events.{capture, clockSend, retry, sendDown, arriveAnswer, strayAnswer, strayUp}
+use Rattle.unicast.specs.Run.{State, laneAt, onuAt, answerAt, freshLane, clockSending, retrying, envelopeDown, sendingDown, answering, oltAfter, step}
+use Rattle.unicast.specs.Premises.{Fits}
+use Rattle.unicast.proofs.Invariant.{Joined, Invariant}
+use Rattle.unicast.proofs.ClockSteps.{capture-keeps, clock-send-keeps}
+use Rattle.unicast.proofs.KeySteps.{retry-keeps}
+use Rattle.unicast.proofs.AnswerSteps.{answer-keeps}
+use Rattle.unicast.proofs.SendDownSteps.{send-down-keeps, send-channels, envelope-down-is}
+use Rattle.unicast.proofs.Places.{held-once, held-found, busy-held, at-once}
+use Rattle.unicast.proofs.LiftSteps.{keys-named, call-right}
+
+---- captures
+
+pub capture-right : (w : Setting) (s : State) (llid : ℕ) → Invariant w s → Fits w s (capture llid) → Invariant w (step s (capture llid))
+unfolding step captureOf oltAnswer captureUnit outcome withChannels laneCaptured
+capture-right w s llid i fits =
+    call-right w s silent Accepted llid captureUnit (laneCaptured (s .history .now)) i
+    (record {
+      valid = capture-valid (s .olt) llid (i .valid);
+      rises = λ u a k. omega arith;
+      site = λ l. refl;
+      entry = λ l. refl;
+      own = λ l u h e j.
+          capture-keeps w (s .olt .shared) (s .history .now) (laneAt s u) (unitAt (s .olt) (l .at)) (onuAt s u) (i .shared) j;
+      keys = λ l. keys-named llid (laneCaptured (s .history .now)) (s .history .lanes) (λ y. refl) (i .keys);
+    })
+
+---- clock messages, retries
+
+pub clock-send-right : (w : Setting) (s : State) (llid : ℕ) → Invariant w s → Fits w s (clockSend llid) → Invariant w (step s (clockSend llid))
+unfolding step clockSending clockSendOf clockSent clockSendUnit outcome withChannels laneLeaving laneWith
+clock-send-right w s llid i fits =
+    let f : Lane → Lane =
+    λ l. laneLeaving (clockMessage (lift (s .olt) noStamps Accepted llid clockSendUnit .handed) (l .captured) (s .history .now)) l in
+    call-right w s noStamps Accepted llid clockSendUnit f i
+    (record {
+      valid = clock-send-valid (s .olt) llid (i .valid);
+      rises = λ u a k. omega arith;
+      site = λ l. refl;
+      entry = λ l. refl;
+      own = λ l u h e j.
+          rw (l .handed)
+          (clock-send-keeps w (s .olt .shared) (s .history .now) (laneAt s u) (unitAt (s .olt) (l .at)) (onuAt s u) (i .shared) j (l .accepts));
+      keys = λ l. keys-named llid f (s .history .lanes) (λ y. refl) (i .keys);
+    })
+
+pub retry-right : (w : Setting) (s : State) (llid : ℕ) → Invariant w s → Fits w s (retry llid) → Invariant w (step s (retry llid))
+unfolding step retrying retryOf keySent retryUnit outcome withChannels laneLeaving laneWith
+retry-right w s llid i fits =
+    let f : Lane → Lane = λ l. laneLeaving (keyMessage (lift (s .olt) noKeyMessage Accepted llid (retryUnit llid) .handed) (s .history .now)) l in
+    call-right w s noKeyMessage Accepted llid (retryUnit llid) f i
+    (record {
+      valid = retry-valid (s .olt) llid (i .valid);
+      rises = λ u a k. omega arith;
+      site = λ l. refl;
+      entry = λ l. refl;
+      own = λ l u h e j.
+          rw (l .handed)
+          (retry-keeps w (s .olt .shared) (s .history .now) (laneAt s u) (unitAt (s .olt) (l .at)) (onuAt s u) llid (i .shared) j e (l .accepts));
+      keys = λ l. keys-named llid f (s .history .lanes) (λ y. refl) (i .keys);
+    })
+
+---- acknowledgements
+
+pub answer-right : (w : Setting) (s : State) (u k llid : ℕ) → Invariant w s → Fits w s (arriveAnswer u k llid) → Invariant w (step s (arriveAnswer u k llid))
+unfolding step answering acknowledgeOf oltAnswer withChannels laneAcknowledged laneWith freshLane
+answer-right w s u k llid i d =
+    let a = answerAt s u k .acknowledgement in
+    let held = busy-held w s (λ (l : Lane). length (l .transit .answered)) u k i refl (λ o h. ap length (h .answered)) (d .some) in
+    let found = held-found w s (laneAt s u .entry .place) u llid i held (d .named) in
+    call-right w s silent Accepted llid (acknowledgeUnit a) (laneAcknowledged a) i
+    (record {
+      valid = acknowledge-valid (s .olt) llid a (i .valid);
+      rises = λ x y n. rw (acknowledged-channels a (s .olt .shared) x) (omega arith);
+      site = λ l. refl;
+      entry = λ l. refl;
+      own = λ l v h e j.
+          let place = at-once _ _ (sym found ∙ l .found) in
+          let same : v ≡ u = held-once w s (l .at) v u i h (record { known = held .known; registered = held .registered; place = place }) in
+          let mem : List·Memᴰ (answerAt s u k) (laneAt s v .transit .answered) = rw same (mem-at (laneAt s u .transit .answered) k _ (d .some)) in
+          rw (acknowledged-channels a (s .olt .shared) (unitAt (s .olt) (l .at)))
+          (answer-keeps w (s .olt .shared) (s .history .now) (laneAt s v) (unitAt (s .olt) (l .at)) (onuAt s v) a (answerAt s u k) (i .shared) j mem refl
+          (l .accepts));
+      keys = λ l. keys-named llid (laneAcknowledged a) (s .history .lanes) (λ y. refl) (i .keys);
+    })
+
+---- sends
+
+pub send-down-right : (w : Setting) (s : State) (llid channel : ℕ) (p out : List ℕ) → Invariant w s → Fits w s (sendDown llid channel p out)
+    → Invariant w (step s (sendDown llid channel p out))
+unfolding step sendingDown oltSendOf oltSent sendingOlt laneSentDown laneWith
+send-down-right w s llid channel p out i fits =
+    let sh = s .olt .shared in
+    let now = s .history .now in
+    let call = sendUnit llid channel (eqsOf p) in
+    let f : Lane → Lane =
+    λ l. laneSentDown now (envelopeDown now (s .olt) llid channel p out (numberDown l now)) l in
+    call-right w s noSending (sendAhead (misfit p out) channel) llid call f i
+    (record {
+      valid = sending-valid (s .olt) (misfit p out) llid channel (eqsOf p) (few-eqs p out) (i .valid);
+      rises = λ u a k. send-channels llid channel (eqsOf p) sh u a k;
+      site = λ l. refl;
+      entry = λ l. refl;
+      own = λ l u h e j.
+          let x = unitAt (s .olt) (l .at) in
+          let met = refuse-accepted _ _ _ (l .passed) in
+          subst (λ (y : Envelope). Joined w (withChannels sh (call sh x .channels)) now (laneSentDown now y (laneAt s u)) (call sh x .unit) (onuAt s u))
+          (sym (envelope-down-is (s .olt) now llid channel p out (numberDown (laneAt s u) now) (call sh x .handed) (l .verdict) (l .handed)))
+          (send-down-keeps w sh now (laneAt s u) x (onuAt s u) llid channel (eqsOf p) p out (i .shared) j
+          (unit-at-valid (s .olt) llid (l .at) (i .valid) (find-at (s .olt) llid (l .at) (l .found)))
+          e (not-false _ (refuse-accepted _ _ _ (met .1) .0)) (met .0) (l .accepts));
+      keys = λ l. keys-named llid f (s .history .lanes) (λ y. refl) (i .keys);
+    })
+
+---- refused receipts
+
+pub stray-answer-right : (w : Setting) (s : State) (llid : ℕ) (a : Acknowledgement) → Invariant w s → Fits w s (strayAnswer llid a)
+    → Invariant w (step s (strayAnswer llid a))
+unfolding step oltAfter
+stray-answer-right w s llid a i n = rw (acknowledge-refused (s .olt) llid a n) i
+
+pub stray-up-right : (w : Setting) (s : State) (h : Header) (p out : List ℕ) → Invariant w s → Fits w s (strayUp h p out)
+    → Invariant w (step s (strayUp h p out))
+unfolding step oltAfter oltReceiveOf oltReceived
+stray-up-right w s h p out i n =
+    rw (number-refused (s .olt) noPassage (receivingOlt (s .olt) (misfit p out) h) (receiving-untouched (s .olt) (misfit p out) h) n .end) i

@@ -1,0 +1,133 @@
+-- Laws of what has been: it holds for every lane that knows more keys and sends. Assumes nothing.
+use mathlib.Core.Path.{_≡_, refl, _∙_, ap, subst}
+use mathlib.Core.Bool.{Bool, true, false}
+use mathlib.Core.List.{List, List·Memᴰ, [], _∷_, _++_}
+use Prim.Native.Nat.{ℕ, _≤_}
+use native.Mathlib.Omega.{arith}
+use lib.ListN.{length}
+use borrow.Author.Tests.{leb-true}
+use Rattle.octets.specs.Choice.{pick}
+use Rattle.octets.proofs.Members.{each-more}
+use Rattle.envelope.specs.Acceptance.{lengthsFit}
+use Rattle.envelope.specs.declared.Nonce.{Nonce}
+use Rattle.sealing.specs.KeyExpansion.{keyExpansion}
+use Rattle.sealing.specs.Seal.{carried}
+use Rattle.ends.specs.Identities.{has}
+use Rattle.ends.specs.declared.Channels.{Channels}
+use Rattle.ends.specs.declared.Onu.{Onu}
+use Rattle.protocol.specs.declared.Passage.{Passage}
+use Rattle.ends.specs.declared.UnitRecord.{UnitRecord}
+use Rattle.unicast.specs.Setting.{Site, Setting}
+use Rattle.unicast.specs.History.{Way, downward, upward, Envelope, Arrival, Past, Lane, keyOf}
+use Rattle.unicast.specs.Claim.{nonceFor, isSealed, PassageRight, SentRight, ArrivedRight}
+use Rattle.unicast.proofs.Invariant.{Spending, Passing}
+use Rattle.unicast.proofs.Queues.{Knows}
+
+-- a clear envelope carries its payload, whatever the key
+carried-same : (t : Bool) (k k' : List ℕ) (n : Nonce) (p : List ℕ) → (t ≡ true → k ≡ k') → carried t (keyExpansion k) n p ≡ carried t (keyExpansion k') n p
+unfolding carried pick
+carried-same true k k' n p h = ap (λ (x : List ℕ). carried true (keyExpansion x) n p) (h refl)
+carried-same false k k' n p h = refl
+
+module _ (w : Setting) (l l' : Lane) (top : ℕ) (k : Knows l l' top) where
+  passage-carried : (e : Envelope) (channel : ℕ) (q : Passage) → e .number ≤ top → PassageRight w l e channel q → PassageRight w l' e channel q
+  passage-carried e channel q h r =
+      record {
+        enciphered = r .enciphered;
+        key = λ p. r .key p ∙ k .keys (e .number) p h;
+        nonce = λ p. r .nonce p ∙ ap (λ (s : Site). nonceFor w s e) (k .site);
+      }
+
+  pub sent-carried : (e : Envelope) → e .number ≤ top → SentRight w l e → SentRight w l' e
+  sent-carried e h r =
+      record {
+        passage = passage-carried e (e .channel) (e .passage) h (r .passage);
+        header = rw (k .site) at (r .header);
+        octets =
+            r .octets
+            ∙ carried-same (isSealed e) _ _ _ _ (λ t. k .keys (e .number) (leb-true 1 (e .number) t) h)
+            ∙ ap (λ (s : Site). carried (isSealed e) (keyExpansion (keyOf (l' .keys) (e .number))) (nonceFor w s e) (e .payload)) (k .site);
+        count = r .count;
+        runs = r .runs;
+      }
+
+  pub arrived-carried : (r : Arrival) → r .envelope .number ≤ top → ArrivedRight w l r → ArrivedRight w l' r
+  arrived-carried r h a =
+      record {
+        sent = k .sent (r .envelope) (a .sent);
+        accepted = a .accepted;
+        passage = passage-carried (r .envelope) (r .envelope .header .channel) (r .passage) h (a .passage);
+        payload = a .payload;
+        count = a .count;
+        runs = a .runs;
+      }
+
+  -- where no more is sent and no more has arrived
+  pub passing-moved : (confirmed active : ℕ) → l' .past ≡ l .past → ((e : Envelope) → List·Memᴰ e (l .past .sent) → e .number ≤ top)
+      → Passing w l confirmed active → Passing w l' confirmed active
+  passing-moved confirmed active same h p =
+      let was : (e : Envelope) → List·Memᴰ e (l' .past .sent) → List·Memᴰ e (l .past .sent) =
+      λ e m. subst (λ (x : Past). List·Memᴰ e (x .sent)) same m in
+      let came : (r : Arrival) → List·Memᴰ r (l' .past .arrived) → List·Memᴰ r (l .past .arrived) =
+      λ r m. subst (λ (x : Past). List·Memᴰ r (x .arrived)) same m in
+      record {
+        sent = λ e m. sent-carried e (h e (was e m)) (p .sent e (was e m));
+        named = λ e m. rw (k .site) at (p .named e (was e m));
+        fits = λ e m. p .fits e (was e m);
+        arrived = λ r m. let a = p .arrived r (came r m) in arrived-carried r (h (r .envelope) (a .sent)) a;
+        down = λ r m. p .down r (came r m);
+        up = λ r m. p .up r (came r m);
+      }
+
+-- no send is numbered above A
+pub sent-most : (l : Lane) (down : Channels) (u : UnitRecord) (o : Onu) → Spending l down u o → o .keys .active ≤ u .keys .active → (e : Envelope)
+    → List·Memᴰ e (l .past .sent) → e .number ≤ u .keys .active
+sent-most l down u o s h e m = by-way (e .way) refl where
+  by-way : (x : Way) → e .way ≡ x → e .number ≤ u .keys .active
+  by-way downward f = s .downs e m f .1 .most
+  by-way upward f = omega (arith, s .ups e m f .1 .most)
+
+---- one more
+
+-- one send more
+pub passing-sent : (w : Setting) (l m : Lane) (e : Envelope) (confirmed active : ℕ) → ((top : ℕ) → Knows l m top)
+    → m .past .sent ≡ l .past .sent ++ (e ∷ []) → m .past .arrived ≡ l .past .arrived
+    → SentRight w m e → has (l .site .identity) (e .llid) ≡ true → lengthsFit (length (e .payload)) (length (e .payload)) ≡ true
+    → Passing w l confirmed active → Passing w m confirmed active
+passing-sent w l m e confirmed active k t a right named fits p =
+    record {
+      sent = λ x h.
+          each-more (SentRight w m) (l .past .sent) e (λ y g. sent-carried w l m (y .number) (k (y .number)) y (omega arith) (p .sent y g)) right x (rw t at h);
+      named = λ x h.
+          rw (k 0 .site)
+          at (each-more (λ (y : Envelope). has (l .site .identity) (y .llid) ≡ true) (l .past .sent) e (p .named) named x (rw t at h));
+      fits = λ x h.
+          each-more (λ (y : Envelope). lengthsFit (length (y .payload)) (length (y .payload)) ≡ true) (l .past .sent) e (p .fits) fits x
+          (rw t at h);
+      arrived = λ r h.
+          arrived-carried w l m (r .envelope .number) (k (r .envelope .number)) r (omega arith) (p .arrived r (rw a at h));
+      down = λ r h. p .down r (rw a at h);
+      up = λ r h. p .up r (rw a at h);
+    }
+
+-- one arrival more
+pub passing-arrived : (w : Setting) (l m : Lane) (r : Arrival) (confirmed confirmed' active active' : ℕ) → ((top : ℕ) → Knows l m top)
+    → m .past .sent ≡ l .past .sent → m .past .arrived ≡ l .past .arrived ++ (r ∷ []) → confirmed ≤ confirmed' → active ≤ active'
+    → ArrivedRight w l r → (r .envelope .way ≡ downward → r .envelope .number ≤ active') → (r .envelope .way ≡ upward → r .envelope .number ≤ confirmed')
+    → Passing w l confirmed active → Passing w m confirmed' active'
+passing-arrived w l m r confirmed confirmed' active active' k s t c a right down up p =
+    record {
+      sent = λ x h. sent-carried w l m (x .number) (k (x .number)) x (omega arith) (p .sent x (rw s at h));
+      named = λ x h. rw (k 0 .site) at (p .named x (rw s at h));
+      fits = λ x h. p .fits x (rw s at h);
+      arrived = λ x h.
+          each-more (ArrivedRight w m) (l .past .arrived) r (λ y g. carry y (p .arrived y g)) (carry r right) x (rw t at h);
+      down = λ x h.
+          each-more (λ (y : Arrival). y .envelope .way ≡ downward → y .envelope .number ≤ active') (l .past .arrived) r
+          (λ y g q. let was = p .down y g q in omega (arith, was)) down x (rw t at h);
+      up = λ x h.
+          each-more (λ (y : Arrival). y .envelope .way ≡ upward → y .envelope .number ≤ confirmed') (l .past .arrived) r
+          (λ y g q. let was = p .up y g q in omega (arith, was)) up x (rw t at h);
+    } where
+      carry : (y : Arrival) → ArrivedRight w l y → ArrivedRight w m y
+      carry y g = arrived-carried w l m (y .envelope .number) (k (y .envelope .number)) y (omega arith) g

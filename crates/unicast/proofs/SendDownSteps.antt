@@ -1,0 +1,220 @@
+-- A send of the OLT keeps the invariant of the lane that it is on, and of the others. Assumes nothing.
+use mathlib.Core.Path.{_≡_, refl, sym, _∙_, ap}
+use mathlib.Core.Bool.{true, false}
+use mathlib.Core.List.{List, [], _∷_, List·Memᴰ·head, Memᴰ·append-left, Memᴰ·append-right}
+use Prim.Native.Nat.{ℕ, _<_, _≤_}
+use native.Mathlib.Omega.{arith}
+use lib.ListN.{length}
+use Rattle.octets.specs.Choice.{pick}
+use Rattle.octets.proofs.Members.{each-more}
+use Rattle.refusal.specs.declared.Verdict.the-variants.{Accepted}
+use Rattle.envelope.specs.ControlMask.{eqsOf}
+use Rattle.envelope.specs.Acceptance.{lengthsFit}
+use Rattle.protocol.specs.Headers.{keyFor, passageOf, sendingOf}
+use Rattle.ends.specs.Identities.{has}
+use Rattle.envelope.specs.Channels.{downstream, upstream}
+use Rattle.ends.specs.Occupancy.{freeFrom, occupied}
+use Rattle.protocol.specs.OltTraffic.{sendingOlt}
+use Rattle.ends.specs.Records.{withKeys, withChannels}
+use Rattle.protocol.specs.UnitTraffic.{unitSendChoice, unitSendVerdict, keysAfterSend, sendUnit}
+use Rattle.ends.specs.Validity.{validUnit}
+use Rattle.ends.specs.declared.Channels.{Channels}
+use Rattle.protocol.specs.declared.KeyChoice.{KeyChoice}
+use Rattle.ends.specs.declared.Olt.{Olt}
+use Rattle.ends.specs.declared.Onu.{Onu}
+use Rattle.protocol.specs.declared.Sending.{Sending}
+use Rattle.ends.specs.declared.Shared.{Shared}
+use Rattle.ends.specs.declared.UnitRecord.{UnitRecord}
+use Rattle.ends.specs.declared.UnitKeys.{UnitKeys}
+use Rattle.protocol.proofs.Headers.{key-for}
+use Rattle.ends.proofs.Occupancy.{free-own, taken-false, free-later}
+use Rattle.refusal.proofs.Order.{refuse-accepted}
+use Rattle.traffic.specs.Passages.{misfit, outputAfter}
+use Rattle.traffic.specs.Sends.{oltSent, oltSendOf}
+use Rattle.unicast.specs.Setting.{Setting}
+use Rattle.unicast.specs.History.{downward, upward, Envelope, Lane, switching, numberDown, laneWith, leaving, sending, laneSentDown}
+use Rattle.unicast.specs.Run.{envelopeDown}
+use Rattle.unicast.specs.Claim.{PassageRight, SentRight}
+use Rattle.unicast.proofs.Invariant.{reachOf, Spent, Joined, AtTick}
+use Rattle.unicast.proofs.Queues.{Knows, towards-carried, towards-envelope, from-carried}
+use Rattle.unicast.proofs.Past.{sent-carried, passing-sent}
+use Rattle.unicast.proofs.Envelopes.{ways-apart, envelopeOf, passed-right, count-right, runs-right, fits-alone}
+use Rattle.unicast.proofs.Spending.{Renewed, spent-kept, spent-new, apart-new, spaced-more}
+use Rattle.unicast.proofs.SendChoices.{Chosen, chosen-down, unit-first}
+
+---- the lane of the unit
+
+module _ (w : Setting) (sh : Shared) (now : ℕ) (l : Lane) (u : UnitRecord) (o : Onu) (j : Joined w sh now l u o) where
+  -- an envelope that left for the unit, and keys and channels after it
+  sent-down-joined : (k : UnitKeys) (choice : KeyChoice) (c : Channels) (e : Envelope)
+      → Chosen (l .entry) now (reachOf (o .keys)) (u .keys) k choice (e .number) (pick (switching l now) now (l .keys .switched))
+      → Renewed (u .keys .first) (k .first) (u .keys .active) (e .number) now
+      → e .way ≡ downward → e .left ≡ now → downstream (e .channel) ≡ true → has (l .site .identity) (e .llid) ≡ true
+      → lengthsFit (length (e .payload)) (length (e .payload)) ≡ true → SentRight w l e
+      → freeFrom (sh .channels) (e .channel) ≤ now → ((i : ℕ) → freeFrom (sh .channels) i ≤ freeFrom c i) → now < freeFrom c (e .channel)
+      → Joined w (withChannels sh c) now (laneSentDown now e l) (withKeys u k) o
+  unfolding laneSentDown laneWith leaving sending withKeys withChannels
+  sent-down-joined k choice c e h r way left down named fits right free rises after =
+      let n = j .numbers in
+      let m = laneSentDown now e l in
+      let knows : (top : ℕ) → Knows l m top =
+      λ top. record { site = refl; sent = λ x i. Memᴰ·append-left (e ∷ []) i; keys = λ x p q. refl } in
+      let low : o .keys .active ≤ k .active = omega (arith, n .mid, h .low, h .active) in
+      record {
+        mac = j .mac;
+        llids = j .llids;
+        oltmac = j .oltmac;
+        numbers =
+            record {
+              counted = h .active;
+              listed = h .offered ∙ n .listed;
+              last = n .last;
+              marked = n .marked;
+              flag = n .flag;
+              low = n .low;
+              mid = low;
+              high = omega (arith, h .high, h .active);
+              top = omega (arith, n .top, h .offered);
+              next = omega (arith, n .next, h .offered);
+              taken = λ q. rw (h .offered) (n .taken q);
+            };
+        stored = record { olt = λ x p q t. rw (h .slots) (j .stored .olt x p q (rw (h .offered) at t)); onu = j .stored .onu };
+        timing = h .timing (m .keys) refl;
+        clocks = j .clocks;
+        answers = j .answers;
+        towards =
+            towards-envelope (w .first) m (o .keys .active) (k .active) (k .offered) (l .transit .towards) e low
+            (record {
+              above = omega (arith, h .active);
+              most = omega (arith, h .active);
+              sent = Memᴰ·append-right (l .past .sent) (List·Memᴰ·head refl);
+              thatWay = way;
+              named = named;
+            })
+            (towards-carried (w .first) l m (o .keys .active) (o .keys .active) (u .keys .active) (k .active) (u .keys .offered) (k .offered)
+            (l .transit .towards) (knows (u .keys .offered))
+            (omega arith) (omega (arith, h .low, h .active)) (omega (arith, h .offered)) (j .towards));
+        from =
+            from-carried l m 0 (u .confirmation .confirmed) (u .confirmation .confirmed) (o .keys .active) (o .keys .active) (l .transit .from) (knows 0)
+            (omega arith) (omega arith) (j .from);
+        spending =
+            record {
+              downs =
+                  each-more (λ (x : Envelope). x .way ≡ downward → (downstream (x .channel) ≡ true) × Spent c (k .first) (k .active) x) (l .past .sent) e
+                  (λ x i q.
+                  let was = j .spending .downs x i q in (
+                    was .0,
+                    rw (h .active)
+                        (spent-kept (sh .channels) c (u .keys .first) (k .first) (u .keys .active) (e .number) now x r (rises (x .channel)) (was .1)),
+                  ))
+                  (λ q.
+                  (down, rw (h .active) (spent-new c (u .keys .first) (k .first) (u .keys .active) (e .number) now e r refl left after)));
+              ups =
+                  each-more (λ (x : Envelope). x .way ≡ upward → (upstream (x .channel) ≡ true) × Spent (o .channels) (o .first) (o .keys .active) x)
+                  (l .past .sent) e (j .spending .ups) (λ q. ways-apart (sym way ∙ q));
+              spaced =
+                  spaced-more (l .past .sent) e
+                  (λ x i.
+                  apart-new (sh .channels) (u .keys .first) (k .first) (u .keys .active) now x e r left free
+                  (λ q. j .spending .downs x i (q ∙ way) .1))
+                  (j .spending .spaced);
+            };
+        passing =
+            passing-sent w l m e (u .confirmation .confirmed) (o .keys .active) knows refl refl
+            (sent-carried w l m (e .number) (knows (e .number)) e (omega arith) right) named fits (j .passing);
+      }
+
+module _ (w : Setting) (sh : Shared) (now : ℕ) (l : Lane) (u : UnitRecord) (o : Onu) (llid channel eqs : ℕ) (p out : List ℕ) where
+  sent-down-right : AtTick w now sh → Joined w sh now l u o → validUnit (sh .tick) u ≡ true
+      → SentRight w l (envelopeOf downward now llid channel p (sendUnit llid channel eqs sh u .handed) (numberDown l now))
+  unfolding sendUnit sendingOf passageOf
+  sent-down-right t j v =
+      let h = chosen-down w sh now l u o j (sh .tick) (t .tick) (unit-first (sh .tick) u v) in
+      let n = j .numbers in
+      let q = sendUnit llid channel eqs sh u .handed .passage in
+      let e = envelopeOf downward now llid channel p (sendUnit llid channel eqs sh u .handed) (numberDown l now) in
+      let under : PassageRight w l e channel q =
+      record {
+        enciphered = h .enciphered;
+        key = λ some.
+            ap (λ (x : ℕ). keyFor x (u .keys .slots)) (h .chosen)
+            ∙ key-for (numberDown l now) (u .keys .slots) some
+            ∙ j .stored .olt (numberDown l now) some (omega (arith, n .low, n .mid, h .low)) (omega (arith, h .high, n .top));
+        nonce = λ some. rw (t .mac, t .clock);
+      } in
+      record {
+        passage = under;
+        header = rw (h .chosen, t .clock);
+        octets = passed-right w l e channel q under p;
+        count = count-right w l e channel q under p;
+        runs = runs-right w l e channel q under p;
+      }
+
+  -- the lane that the send is on
+  pub send-down-keeps : AtTick w now sh → Joined w sh now l u o → validUnit (sh .tick) u ≡ true → has (l .site .identity) llid ≡ true
+      → downstream channel ≡ true → misfit p out ≡ false → sendUnit llid channel eqs sh u .verdict ≡ Accepted
+      → Joined w (withChannels sh (sendUnit llid channel eqs sh u .channels)) now
+      (laneSentDown now (envelopeOf downward now llid channel p (sendUnit llid channel eqs sh u .handed) (numberDown l now)) l)
+      (sendUnit llid channel eqs sh u .unit) o
+  unfolding sendUnit unitSendVerdict
+  send-down-keeps t j v named down fit a =
+      let first = refuse-accepted _ _ _ a in
+      let second = refuse-accepted _ _ _ (first .1) in
+      let h = chosen-down w sh now l u o j (sh .tick) (t .tick) (unit-first (sh .tick) u v) in
+      let free : freeFrom (sh .channels) channel ≤ sh .tick = taken-false (sh .channels) channel (sh .tick) (first .0) in
+      sent-down-joined w sh now l u o j (keysAfterSend (unitSendChoice u) (u .keys) (sh .tick)) (unitSendChoice u)
+      (occupied (sh .channels) channel (sh .tick) eqs)
+      (envelopeOf downward now llid channel p (sendUnit llid channel eqs sh u .handed) (numberDown l now))
+      h (h .renewed (rw (t .tick) at (second .0))) refl refl down named (fits-alone p out fit) (sent-down-right t j v)
+      (omega (arith, free, t .tick))
+      (λ i. free-later (sh .channels) channel i (sh .tick) eqs (first .0))
+      (omega (arith, free-own (sh .channels) channel (sh .tick) eqs, t .tick))
+
+---- the envelope of an accepted send
+
+pub envelope-down-is : (o : Olt) (now llid channel : ℕ) (p out : List ℕ) (number : ℕ) (s : Sending)
+    → sendingOlt o (misfit p out) llid channel (eqsOf p) .verdict ≡ Accepted → sendingOlt o (misfit p out) llid channel (eqsOf p) .handed ≡ s
+    → envelopeDown now o llid channel p out number ≡ envelopeOf downward now llid channel p s number
+unfolding envelopeDown oltSendOf oltSent outputAfter
+envelope-down-is o now llid channel p out number s a h = rw (a, h)
+
+---- other lanes
+
+-- a send of the OLT leaves the other lanes, since its channels are free from no earlier
+pub channels-keep : (w : Setting) (sh : Shared) (now : ℕ) (l : Lane) (u : UnitRecord) (o : Onu) (c : Channels)
+    → ((i : ℕ) → freeFrom (sh .channels) i ≤ freeFrom c i) → Joined w sh now l u o → Joined w (withChannels sh c) now l u o
+unfolding withChannels
+channels-keep w sh now l u o c rises j =
+    record {
+      mac = j .mac;
+      llids = j .llids;
+      oltmac = j .oltmac;
+      numbers = j .numbers;
+      stored = j .stored;
+      timing = j .timing;
+      clocks = j .clocks;
+      answers = j .answers;
+      towards = j .towards;
+      from = j .from;
+      spending =
+          record {
+            downs = λ x i q.
+                let was = j .spending .downs x i q in
+                let s = was .1 in
+                (was .0, record { most = s .most; passed = omega (arith, s .passed, rises (x .channel)); noted = s .noted });
+            ups = j .spending .ups;
+            spaced = j .spending .spaced;
+          };
+      passing = j .passing;
+    }
+
+-- the channels after an accepted send
+pub send-channels : (llid channel eqs : ℕ) (sh : Shared) (u : UnitRecord) → sendUnit llid channel eqs sh u .verdict ≡ Accepted
+    → (i : ℕ) → freeFrom (sh .channels) i ≤ freeFrom (sendUnit llid channel eqs sh u .channels) i
+unfolding sendUnit unitSendVerdict
+send-channels llid channel eqs sh u a i = free-later (sh .channels) channel i (sh .tick) eqs (refuse-accepted _ _ _ a .0)
+
+-- the OLT's part is at its tick still
+pub channels-at-tick : (w : Setting) (now : ℕ) (sh : Shared) (c : Channels) → AtTick w now sh → AtTick w now (withChannels sh c)
+unfolding withChannels
+channels-at-tick w now sh c t = record { mac = t .mac; tick = t .tick; clock = t .clock }

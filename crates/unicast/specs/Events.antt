@@ -1,0 +1,36 @@
+-- The events of a list: calls on the ends, and arrivals. A unit is known by its place among the sites, what is under way by its
+-- place in its queue. Arguments are any values. Assumes nothing.
+use mathlib.Core.List.{List}
+use Prim.Native.Nat.{ℕ}
+use Rattle.clock.specs.declared.Stamps.{Stamps}
+use Rattle.protocol.specs.declared.Acknowledgement.{Acknowledgement}
+use Rattle.protocol.specs.declared.Header.{Header}
+use Rattle.ends.specs.declared.Identity.{Identity}
+use Rattle.protocol.specs.declared.KeyMessage.{KeyMessage}
+
+pub data Event : Type 0 where
+  -- by n ticks, at all ends
+  advance : (n : ℕ) → Event
+  -- calls of the OLT; a registration also says which unit is meant
+  register : (unit : ℕ) → Identity → (trip interval : ℕ) → Event
+  capture : (llid : ℕ) → Event
+  clockSend : (llid : ℕ) → Event
+  offer : (llid : ℕ) (key : List ℕ) → Event
+  retry : (llid : ℕ) → Event
+  sendDown : (llid channel : ℕ) (payload out : List ℕ) → Event
+  -- a send of a unit
+  sendUp : (unit llid channel : ℕ) (payload out : List ℕ) → Event
+  -- the kth of what is under way to the unit arrives, an envelope with that output
+  arriveDown : (unit k : ℕ) (out : List ℕ) → Event
+  -- the kth of the unit's envelopes under way arrives at the OLT
+  arriveUp : (unit k : ℕ) (out : List ℕ) → Event
+  -- the kth acknowledgement of the unit arrives at the OLT, which names the unit by that LLID
+  arriveAnswer : (unit k llid : ℕ) → Event
+  -- a unit overhears the kth envelope that was sent to or by another
+  overhear : (unit other k : ℕ) (out : List ℕ) → Event
+  -- any other receipt
+  strayClock : (unit : ℕ) → Stamps → Event
+  strayKey : (unit : ℕ) → KeyMessage → Event
+  strayAnswer : (llid : ℕ) → Acknowledgement → Event
+  strayDown : (unit : ℕ) → Header → (octets out : List ℕ) → Event
+  strayUp : Header → (octets out : List ℕ) → Event

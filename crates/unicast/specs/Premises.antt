@@ -1,0 +1,94 @@
+-- What a list must keep to (01, The line), in the paper's order. A call of an end is bound only where it is accepted; an arrival,
+-- an overheard receipt and any other receipt by what makes it one. Assumes nothing.
+use mathlib.Core.Path.{_≡_}
+use mathlib.Core.Bool.{true}
+use mathlib.Core.List.{List, [], _∷_}
+use Prim.Native.Nat.{ℕ, _+_, _%_, _<_, _≤_}
+use lib.ListN.{length, getD}
+use Rattle.clock.specs.Ticks.{localTurn}
+use Rattle.ends.specs.Identities.{has}
+use Rattle.protocol.specs.OltCalls.{freshOltOf, registerOf, offerOf, acknowledgeOf}
+use Rattle.protocol.specs.OnuCalls.{freshOnuOf, clockMessageAt, keyMessageAt}
+use Rattle.ends.specs.declared.Identity.{Identity}
+use Rattle.traffic.specs.Sends.{onuSendOf}
+use Rattle.traffic.specs.Receipts.{oltReceiveOf, onuReceiveOf}
+use Rattle.unicast.specs.Setting.{Site, Setting}
+use Rattle.unicast.specs.History.{Thing, clockMessage, keyMessage, envelope, leftAt}
+use Rattle.unicast.specs.Events.{Event, advance, register, capture, clockSend, offer, retry, sendDown, sendUp, arriveDown, arriveUp, arriveAnswer, overhear, strayClock, strayKey, strayAnswer, strayDown, strayUp}
+use Rattle.unicast.specs.Run.{State, step, laneAt, onuAt, thingAt, envelopeAt, answerAt}
+
+-- "from fresh ends": the OLT and every unit were made
+pub record Fresh (w : Setting) : Type 0 where
+  pub olt : freshOltOf (w .mac) (w .first) .number ≡ 0
+  pub onus : (u : ℕ) (s : Site) → u < length (w .sites)
+      → freshOnuOf (getD (w .sites) u s .identity) (getD (w .sites) u s .oltmac) (getD (w .sites) u s .time) .number ≡ 0
+
+-- an accepted registration: the ends agree on MACs and LLIDs, LocalTime is the low half of the OLT's clock plus the delay up, and
+-- the delays add up to the round trip. That it is the unit's first follows: a second one's LLIDs are in the table, and refused 3
+pub record Agrees (w : Setting) (s : State) (u : ℕ) (i : Identity) (trip : ℕ) : Type 0 where
+  pub known : u < length (s .history .lanes)
+  pub mac : i .mac ≡ laneAt s u .site .identity .mac
+  pub llids : (x : ℕ) → has i x ≡ has (laneAt s u .site .identity) x
+  pub oltmac : laneAt s u .site .oltmac ≡ w .mac
+  pub time : laneAt s u .site .time ≡ (w .first + laneAt s u .site .up) % localTurn
+  pub delays : trip ≡ laneAt s u .site .up + laneAt s u .site .down
+
+-- all keys different: no accepted offer to any unit gave this key before
+pub record NewKey (s : State) (key : List ℕ) : Type 0 where
+  pub unused : (u n : ℕ) → n < length (laneAt s u .keys .offers) → getD (laneAt s u .keys .offers) n [] ≡ key → ⊥
+
+-- an envelope comes with a fitting buffer
+abbrev pub FittingBuffer : Thing → List ℕ → Type 0
+FittingBuffer (clockMessage m c t) out = Unit {0}
+FittingBuffer (keyMessage m t) out = Unit {0}
+FittingBuffer (envelope e) out = length out ≡ length (e .octets)
+
+-- the kth of what is under way to the unit: it arrives its way's delay after it left, and in order, since what left before it
+-- is no longer under way
+pub record DueDown (s : State) (u k : ℕ) (out : List ℕ) : Type 0 where
+  pub some : k < length (laneAt s u .transit .towards)
+  pub now : leftAt (thingAt s u k) + laneAt s u .site .down ≡ s .history .now
+  pub buffer : FittingBuffer (thingAt s u k) out
+
+pub record DueUp (s : State) (u k : ℕ) (out : List ℕ) : Type 0 where
+  pub some : k < length (laneAt s u .transit .from)
+  pub now : envelopeAt s u k .left + laneAt s u .site .up ≡ s .history .now
+  pub buffer : length out ≡ length (envelopeAt s u k .octets)
+
+-- an acknowledgement may leave later or again: it was handed over at least its delay ago
+pub record DueAnswer (s : State) (u k llid : ℕ) : Type 0 where
+  pub some : k < length (laneAt s u .transit .answered)
+  pub left : answerAt s u k .tick + laneAt s u .site .up ≤ s .history .now
+  pub named : has (laneAt s u .site .identity) llid ≡ true
+
+-- another registered unit
+pub record Overhears (s : State) (u other k : ℕ) : Type 0 where
+  pub registered : laneAt s u .entry .registered ≡ true
+  pub apart : u ≡ other → ⊥
+  pub some : k < length (laneAt s other .past .sent)
+
+abbrev pub Fits : Setting → State → Event → Type 0
+Fits w s (advance n) = Unit {0}
+Fits w s (register u i trip interval) = registerOf (s .olt) i trip interval .number ≡ 0 → Agrees w s u i trip
+Fits w s (capture llid) = Unit {0}
+Fits w s (clockSend llid) = Unit {0}
+Fits w s (offer llid key) = offerOf (s .olt) llid key .number ≡ 0 → NewKey s key
+Fits w s (retry llid) = Unit {0}
+Fits w s (sendDown llid channel p out) = Unit {0}
+-- units are registered before their traffic
+Fits w s (sendUp u llid channel p out) = onuSendOf (onuAt s u) llid channel p out .answer .number ≡ 0 → laneAt s u .entry .registered ≡ true
+Fits w s (arriveDown u k out) = DueDown s u k out
+Fits w s (arriveUp u k out) = DueUp s u k out
+Fits w s (arriveAnswer u k llid) = DueAnswer s u k llid
+Fits w s (overhear u other k out) = Overhears s u other k
+-- any other receipt is in the list only if refused
+Fits w s (strayClock u m) = clockMessageAt (onuAt s u) m .number ≡ 0 → ⊥
+Fits w s (strayKey u m) = keyMessageAt (onuAt s u) m .number ≡ 0 → ⊥
+Fits w s (strayAnswer llid a) = acknowledgeOf (s .olt) llid a .number ≡ 0 → ⊥
+Fits w s (strayDown u h p out) = onuReceiveOf (onuAt s u) h p out .answer .number ≡ 0 → ⊥
+Fits w s (strayUp h p out) = oltReceiveOf (s .olt) h p out .answer .number ≡ 0 → ⊥
+
+-- every event of the list fits where it stands
+abbrev pub Meets : Setting → State → List Event → Type 0
+Meets w s [] = Unit {0}
+Meets w s (e ∷ es) = Fits w s e × Meets w (step s e) es

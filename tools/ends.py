@@ -1,5 +1,5 @@
 """What the two ends of tools/olt.py and tools/onu.py share, written from document 01 (Clock; Keys; 'When the reader says no'), from
-document 02 (C-14) and the decisions on both (docs/DECISIONS.md).
+document 02 (C-14, C-16) and the decisions on both (docs/DECISIONS.md).
 
 These ends share no code with the engine; the tools that say what it must give play on them. A call returns the number, and beside it
 what it hands over.
@@ -9,6 +9,7 @@ from collections import namedtuple
 
 TURN, LOCAL, LAST, SECOND, LIFE = 2**48, 2**32, 2**62, 390625000, 2**48
 TOP = 2**32 - 1
+NEAR, CHANGES = 1000000, 2**61
 
 # kind 1 to a clock message, 2 to a key message; to a group's the unit is named, by an LLID of its own
 Answer = namedtuple("Answer", "kind number named unit", defaults=(0, 0))
@@ -34,9 +35,9 @@ class Named:
         return Named(self.mac, self.llids())
 
 
-def old(end, tick):
-    """Whether the key in use was first sent under 2^48 ticks ago."""
-    return end.noted == 1 and tick - end.first >= LIFE
+def old(end, now):
+    """Whether the key in use was first sent under 2^48 ago, in ticks at the OLT and in travel at a unit (02, C-16)."""
+    return end.noted == 1 and now - end.first >= LIFE
 
 
 def good_header(header, high):

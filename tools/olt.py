@@ -1,4 +1,5 @@
-"""The OLT with its groups, written from document 01, from document 02 (C-14) and the decisions on both. Shares no code with the engine."""
+"""The OLT with its groups, written from document 01, from document 02 (C-14, C-16) and the decisions on both. Shares no code with the
+engine."""
 from ends import LAST, NO_HEADER, NO_MESSAGE, NO_STAMPS, SECOND, TOP, TURN, Named, good_header, old
 from sealing import misfit, seal
 
@@ -119,6 +120,16 @@ class Olt:
             u.captured, u.capture = 1, self.tick
         return number
 
+    def measure(self, llid, trip):
+        if not self.valid() or trip > 1000000:
+            return 1
+        u = self.unit(llid)
+        if u is None:
+            return 2
+        u.trip = trip
+        u.captured = u.capture = u.sent = u.clocked = 0
+        return 0
+
     def clock_send(self, llid):
         number, u = self.ahead(llid), self.unit(llid)
         if number:
@@ -189,9 +200,12 @@ class Olt:
             return 14
         if channel not in (0x00, 0x01):
             return 1
-        u = self.group(llid) or self.unit(llid)
+        g = self.group(llid)
+        u = g or self.unit(llid)
         if u is None:
             return 2
+        if not g and (u.switches() or u.A >= 1) and not u.clocked:
+            return 5
         if self.tick < self.free[channel]:
             return 12
         return 13 if not u.switches() and u.A >= 1 and old(u, self.tick) else 0

@@ -1,6 +1,6 @@
-"""A unit with the groups that it joined, written from document 01, from document 02 (C-14) and the decisions on both. Shares no code with
-the engine."""
-from ends import LAST, LOCAL, NO_ANSWER, NO_HEADER, TOP, TURN, Answer, Named, good_header, old
+"""A unit with the groups that it joined, written from document 01, from document 02 (C-14, C-16) and the decisions on both. Shares no code
+with the engine."""
+from ends import CHANGES, LAST, LOCAL, NEAR, NO_ANSWER, NO_HEADER, TOP, TURN, Answer, Named, good_header, old
 from sealing import misfit, seal
 
 
@@ -38,16 +38,21 @@ class Joined:
 
 
 class Onu:
-    """`time` is LocalTime while unsynced, and Tx, whose low 32 bits are LocalTime, once synced."""
+    """`time` is LocalTime while unsynced, and Tx, whose low 32 bits are LocalTime, once synced. Travel is a signed number here: `first` is the
+    travel of the first send, `spent` the least that is past the end of every enciphered send, and `bar` what that was at the last change."""
 
     def __init__(self, named=None, oltmac=0, time=0):
         self.named, self.oltmac, self.time, self.rx, self.synced = named or Named(0, []), oltmac, time, 0, 0
         self.tick, self.free, self.a, self.held, self.keys = 0, [0, 0], 0, 0, [bytes(16), bytes(16)]
-        self.noted = self.first = 0
+        self.noted = self.first = self.changes = 0
+        self.spent = self.bar = -CHANGES
         self.joined, self.joinedcount = [Joined(0) for _ in range(4)], 0
 
     def group(self, llid):
         return next((g for g in self.joined[:self.joinedcount] if g.llid == llid), None)
+
+    def travel(self):
+        return self.tick + self.changes
 
     def valid(self):
         groups = self.joined[:self.joinedcount]
@@ -55,7 +60,7 @@ class Onu:
         return (self.joinedcount <= 4 and all(g.valid() for g in groups) and len(set(llids)) == len(llids)
                 and self.named.in_range() and self.oltmac < 2**48 and self.tick <= LAST
                 and max(self.synced, self.held, self.noted) <= 1 and self.rx < TURN and self.time < (TURN if self.synced else LOCAL)
-                and self.a + self.held <= TOP and not (self.noted and self.first > self.tick) and max(self.free) <= LAST + 4194304)
+                and self.a + self.held <= TOP and abs(self.changes) <= CHANGES and max(self.free) <= LAST + 4194304)
 
     def join(self, llid):
         if not self.valid():
@@ -75,6 +80,18 @@ class Onu:
             return 17
         self.tick, self.time = self.tick + n, (self.time + n) % (TURN if self.synced else LOCAL)
         self.rx = (self.rx + n) % TURN if self.synced else self.rx
+        return 0
+
+    def new_time(self, time):
+        if not self.valid() or time >= LOCAL:
+            return 1
+        change = (time - self.time + LOCAL // 2) % LOCAL - LOCAL // 2
+        if abs(change) > NEAR:
+            return 1
+        if abs(self.changes + change) > CHANGES:
+            return 17
+        self.changes, self.bar = self.changes + change, self.spent
+        self.synced, self.time, self.rx = 0, time, 0
         return 0
 
     def clock_message(self, stamps):
@@ -116,16 +133,19 @@ class Onu:
             return 20
         if llid not in self.named.llids():
             return 2
-        if self.tick < self.free[channel - 0x80]:
+        if self.a >= 1 and not self.synced:
+            return 5
+        if self.tick < self.free[channel - 0x80] or self.a >= 1 and self.travel() < self.bar:
             return 12
-        return 13 if self.a >= 1 and old(self, self.tick) else 0
+        return 13 if self.a >= 1 and old(self, self.travel()) else 0
 
     def send(self, llid, channel, payload, out):
         number = self.send_number(llid, channel, payload, out)
         if number:
             return number, NO_HEADER, 0, out
-        if self.a >= 1 and not self.noted:
-            self.noted, self.first = 1, self.tick
+        if self.a >= 1:
+            self.noted, self.first = 1, self.first if self.noted else self.travel()
+            self.spent = max(self.spent, self.travel() + len(payload) // 9 + 1)
         self.free[channel - 0x80] = self.tick + len(payload) // 9 + 1
         sealed, count = seal(self.keys[self.a % 2] if self.a else None, channel, self.named.mac, self.time, payload)
         return 0, (channel, llid, int(self.a > 0), self.a % 2, self.time % 64), count, sealed

@@ -61,14 +61,14 @@ class Line:
         number, count, octets = getattr(self, end).receive(*envelope, LENT)
         show(f"{end}_receive", number, passed(count, octets))
 
-    def down(self, llid, channel):
+    def down(self, llid, channel, delay=150):
         envelope = self.send("olt", llid, channel)
-        self.advance(150)
+        self.advance(delay)
         self.receive("onu", envelope)
 
-    def up(self, llid, channel):
+    def up(self, llid, channel, delay=100):
         envelope = self.send("onu", llid, channel)
-        self.advance(100)
+        self.advance(delay)
         self.receive("olt", envelope)
 
     def clock(self):
@@ -113,6 +113,32 @@ class Line:
         _, octets = self.send("onu", 7, 0x80)
         self.receive("olt", ((0x80, 7, 0, 0, 0), octets))
 
+    def new_time(self, time):
+        number = self.onu.new_time(time)
+        show("onu_new_time", number, f" {self.onu.rx:012x} {self.onu.time:012x}")
+
+    def path(self):
+        """10 ticks down, 20 up: LocalTime goes back by 80, and the unit waits until its Tx clock has passed its last envelope."""
+        self.send("onu", 5, 0x80)
+        for llid, trip in ((7, 30), (5, 1000001), (5, 30)):
+            show("olt_measure", self.olt.measure(llid, trip))
+        for time in (LOCAL, (self.olt.clock + 20) % LOCAL):
+            self.new_time(time)
+        self.send("olt", 5, 0x00)
+        self.send("onu", 5, 0x80)
+        show("olt_capture", self.olt.capture(5))
+        number, stamps = self.olt.clock_send(5)
+        show("olt_clock_send", number, f" {stamps[0]:012x} {stamps[1]:012x}")
+        self.advance(10)
+        number, ack = self.onu.clock_message(stamps)
+        show("onu_clock_message", number, f" {self.onu.rx:012x} {self.onu.time:012x} {ack[0]} {ack[1]}")
+        self.send("onu", 6, 0x81)
+        self.advance(20)
+        show("olt_acknowledge", self.olt.acknowledge(5, ack))
+        self.advance(54)
+        self.up(6, 0x81, 20)
+        self.down(5, 0x00, 10)
+
     def refusals(self):
         show("olt_capture", self.olt.capture(9))
         self.offered("olt_retry", *self.olt.retry(5))
@@ -134,6 +160,7 @@ def ends():
     line.up(6, 0x81)
     line.refusals()
     line.group()
+    line.path()
 
 
 # ---- payloads

@@ -7,7 +7,7 @@ Shares no code with the engine; AES-128 is that of the Python package `cryptogra
 import sys
 
 import script
-from ends import NO_ANSWER, NO_HEADER, NO_MESSAGE, NO_STAMPS, Answer, Named
+from ends import CHANGES, NO_ANSWER, NO_HEADER, NO_MESSAGE, NO_STAMPS, Answer, Named
 from olt import fresh_olt
 from onu import fresh_onu
 
@@ -27,6 +27,15 @@ def eqs(*controls):
 def keyed(keys, number, other):
     """Key `number` has the first octet 17, the one beside it `other`."""
     keys[number % 2], keys[1 - number % 2] = key(17), key(other)
+
+
+def travelled(value):
+    """A travel that a record of 64 bits can hold: it counts from 2^61 below zero."""
+    return (value + CHANGES) % 2**64 - CHANGES
+
+
+def signed(value):
+    return (value + 2**63) % 2**64 - 2**63
 
 
 def named(n):
@@ -123,6 +132,10 @@ class Play:
         else:
             holder = self.unit() if self.at == "olt" and name not in ("mac", "tick", "clock") else end
             field = {"marked": "mark", "captured_at": "capture", "olt_mac": "oltmac", "identity": "named"}.get(name, name)
+            if self.at != "olt" and name in ("first", "spent", "bar"):
+                value = travelled(value)
+            if name == "changes":
+                value = signed(value)
             if not hasattr(holder, field):
                 sys.exit(f"no word of the {self.at}: {name}")
             setattr(holder, field, value)
@@ -149,6 +162,8 @@ class Play:
             self.number = o.register(named(n), n[4], n[5])
         elif word == "capture":
             self.number = o.capture(n[0])
+        elif word == "measure":
+            self.number = o.measure(n[0], n[1])
         elif word == "clock_send":
             self.number, self.stamps = o.clock_send(n[0])
         elif word == "offer":
@@ -170,6 +185,8 @@ class Play:
             self.keyed_onu(*n[:3])
         elif word == "join":
             self.number = o.join(n[0])
+        elif word == "new_time":
+            self.number = o.new_time(n[0])
         elif word == "clock_message":
             self.number, self.answer = o.clock_message((n[0], n[1]))
         elif word == "clock_arrives":
@@ -209,7 +226,7 @@ class Play:
         o, u = self.end(), self.unit()
         text = f", A {u.A} C {u.C} O {u.O}, acknowledged {u.mark}, flag {u.flag}" if self.at == "olt" else f", a {o.a} held {o.held}"
         noted = u if self.at == "olt" else o
-        return text + f", first {noted.noted} {noted.first}, free {o.free[0]} {o.free[1]}"
+        return text + f", first {noted.noted} {noted.first % 2**64}, free {o.free[0]} {o.free[1]}"
 
     def group_state(self):
         o, g = self.end(), self.group()
@@ -225,7 +242,8 @@ class Play:
             return {"MAC": o.mac, "tick": o.tick, "clock": o.clock, "units": o.count, "count": u.count, "flag": u.flag,
                     "acknowledged": u.mark, "Rx": self.stamps[0], "Tx": self.stamps[1], "groups": o.groupcount}[name]
         return {"MAC": o.named.mac, "LLIDs": o.named.count, "tick": o.tick, "Rx": o.rx, "Tx": o.time, "LocalTime": o.time,
-                "held": o.held, "kind": self.answer.kind, "groups": o.joinedcount}[name]
+                "held": o.held, "kind": self.answer.kind, "groups": o.joinedcount,
+                "changes": o.changes % 2**64, "spent": o.spent + CHANGES, "bar": o.bar + CHANGES}[name]
 
     def shown(self, name):
         u, o, (i, l, e, k, p) = self.unit(), self.end(), self.header

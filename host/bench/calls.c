@@ -29,6 +29,7 @@ CALL(olt_fresh, jazmotip_olt_answer, jazmotip_olt_fresh(SCENE_OLT_MAC, 0), 0)
 CALL(olt_register, jazmotip_olt_answer, jazmotip_olt_register(s->one_less, s->identity, SCENE_TRIP, SCENE_INTERVAL), 0)
 CALL(olt_register_full, jazmotip_olt_answer, jazmotip_olt_register(s->steady, s->stranger, SCENE_TRIP, SCENE_INTERVAL), 4)
 CALL(olt_capture, jazmotip_olt_answer, jazmotip_olt_capture(s->steady, s->llid), s->number)
+CALL(olt_measure, jazmotip_olt_answer, jazmotip_olt_measure(s->steady, s->llid, SCENE_TRIP), s->number)
 CALL(olt_clock_send, jazmotip_clock_sent, jazmotip_olt_clock_send(s->captured, s->llid), s->number)
 CALL(olt_offer, jazmotip_key_sent, jazmotip_olt_offer(s->steady, s->llid, second_key), s->number)
 CALL(olt_retry, jazmotip_key_sent, jazmotip_olt_retry(s->offered, s->llid), s->number)
@@ -51,6 +52,7 @@ static void olt_advance(void *job)
 }
 
 CALL(onu_fresh, jazmotip_onu_answer, jazmotip_onu_fresh(s->identity, SCENE_OLT_MAC, 0), 0)
+CALL(onu_new_time, jazmotip_onu_answer, jazmotip_onu_new_time(s->active, s->active.clock.time % (UINT64_C(1) << 32)), 0)
 CALL(onu_clock_message, jazmotip_onu_acknowledged, jazmotip_onu_clock_message(s->unsynced, s->stamps), 0)
 CALL(onu_key_message, jazmotip_onu_acknowledged, jazmotip_onu_key_message(s->synced, s->key_message), 0)
 CALL(onu_send_0, jazmotip_onu_sent,
@@ -175,6 +177,7 @@ static void print_ends(void)
         {"register the table's last unit", olt_register},
         {"advance", olt_advance},
         {"capture", olt_capture},
+        {"measure", olt_measure},
         {"clock_send", olt_clock_send},
         {"offer", olt_offer},
         {"retry", olt_retry},
@@ -187,6 +190,7 @@ static void print_ends(void)
     static const struct row onu[] = {
         {"fresh", onu_fresh},
         {"advance", onu_advance},
+        {"new_time", onu_new_time},
         {"clock_message", onu_clock_message},
         {"key_message", onu_key_message},
         {"send, 0 EQs", onu_send_0},

@@ -49,7 +49,7 @@ static inline int valid_keys(const jazmotip_unit_keys *k, uint64_t tick)
     const jazmotip_timer *timer = &k->timer;
     const jazmotip_first_send *first = &k->first;
     return timer->interval <= JAZMOTIP_MAX_INTERVAL && timer->count < timer->interval && timer->flag <= 1 && first->noted <= 1 &&
-           (!first->noted || first->tick <= tick) && k->active <= k->offered;
+           (!first->noted || first->at <= tick) && k->active <= k->offered;
 }
 
 static inline int valid_unit(const jazmotip_unit *u, uint64_t tick)
@@ -170,7 +170,7 @@ static inline int switches(const jazmotip_unit_keys *k, int acknowledged)
 
 static inline int too_old(const jazmotip_first_send *first, uint64_t tick)
 {
-    return first->noted && tick - first->tick >= TURN;
+    return first->noted && tick - first->at >= TURN;
 }
 
 /* What an accepted send makes of the keys, and the number of the key that it goes under. */
@@ -218,12 +218,15 @@ struct pointer_sent pointer_olt_send(jazmotip_olt *olt, uint16_t llid, uint8_t c
     if (u == NULL && g == NULL)
         return sent;
     jazmotip_unit_keys *keys = u != NULL ? &u->keys : &g->keys;
+    sent.number = JAZMOTIP_CLOCK_NOT_SET;
+    int switching = switches(keys, u == NULL || u->confirmation.acknowledged);
+    if (u != NULL && !u->clock.acknowledged && (switching || keys->active != 0))
+        return sent;
     sent.number = JAZMOTIP_CHANNEL_TAKEN;
     uint64_t *free_from = channel == 0 ? &s->channels.zero : &s->channels.one;
     if (s->tick < *free_from)
         return sent;
     sent.number = JAZMOTIP_KEY_TOO_OLD;
-    int switching = switches(keys, u == NULL || u->confirmation.acknowledged);
     if (!switching && keys->active != 0 && too_old(&keys->first, s->tick))
         return sent;
     sent.number = JAZMOTIP_ACCEPTED;

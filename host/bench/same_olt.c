@@ -70,7 +70,7 @@ static jazmotip_unit_keys random_keys(uint64_t tick)
     k.active = k.offered = (uint32_t)up_to(UINT32_MAX);
     random_octets(k.slots.even, 16);
     random_octets(k.slots.odd, 16);
-    k.first.tick = k.first.noted ? tick_before(tick) : random64();
+    k.first.at = k.first.noted ? tick_before(tick) : random64();
     return k;
 }
 
@@ -167,7 +167,7 @@ static void damage_group(jazmotip_olt *olt)
 static void damage_field(jazmotip_unit *u, uint64_t tick)
 {
     uint64_t *const fields[] = {&u->identity.mac, &u->keys.timer.interval, &u->keys.timer.count,
-                                &u->clock.trip,   &u->keys.first.tick,     &u->clock.tick};
+                                &u->clock.trip,   &u->keys.first.at,     &u->clock.tick};
     const uint64_t most[] = {TURN - 1, JAZMOTIP_MAX_INTERVAL, u->keys.timer.interval - 1, JAZMOTIP_MAX_TRIP, tick, tick};
     size_t k = below(COUNT(fields));
     *fields[k] = k == 1 && below(2) == 0 ? below(2) : near(most[k]);
@@ -197,7 +197,7 @@ static void damage(jazmotip_olt *olt)
 static int same_keys(const jazmotip_unit_keys *a, const jazmotip_unit_keys *b)
 {
     return SAME(timer.interval) && SAME(timer.count) && SAME(timer.flag) && SAME(active) && SAME(offered) && SAME(first.noted) &&
-           SAME(first.tick) && memcmp(&a->slots, &b->slots, sizeof a->slots) == 0;
+           SAME(first.at) && memcmp(&a->slots, &b->slots, sizeof a->slots) == 0;
 }
 
 static int same_unit(const jazmotip_unit *a, const jazmotip_unit *b)

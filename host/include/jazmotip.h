@@ -63,12 +63,12 @@ enum {
     JAZMOTIP_NO_KEY = 9,              /* no key for that index */
     JAZMOTIP_EPAM_DIFFERS = 10,       /* EPAM is not the low six bits of the receiver's clock */
     JAZMOTIP_CLEAR_ENVELOPE = 11,     /* clear envelope after the first confirmed or active key */
-    JAZMOTIP_CHANNEL_TAKEN = 12,      /* channel still taken by the envelope before */
-    JAZMOTIP_KEY_TOO_OLD = 13,        /* 2^48 ticks since the first send under the key */
+    JAZMOTIP_CHANNEL_TAKEN = 12,      /* channel still taken by the envelope before, or after a change of path by those before it */
+    JAZMOTIP_KEY_TOO_OLD = 13,        /* 2^48 ticks, at a unit of travel, since the first send under the key */
     JAZMOTIP_BAD_LENGTH = 14,         /* payload no multiple of 9 or too long; output of another length; settings not 41 octets */
     JAZMOTIP_BAD_DIRECTORY = 15,      /* capture block over a limit, shorter than its directory, or empty with octets left */
     JAZMOTIP_CAPTURE_TOO_OLD = 16,    /* clock capture older than a second */
-    JAZMOTIP_AT_END = 17,             /* tick or key number at its end */
+    JAZMOTIP_AT_END = 17,             /* tick, key number or sum of changes at its end */
     JAZMOTIP_BROKEN_CHAIN = 18,       /* a capture's pair off the chain of offsets, past the block's end, or the last short of it */
     JAZMOTIP_UNSUITED_LENGTH = 19,    /* a capture's pair whose length is under 16 or not 16 + 9 x EQs */
     JAZMOTIP_GROUP_LLID = 20,         /* a unit sends, or the OLT receives, on a group's LLID */
@@ -90,6 +90,8 @@ enum {
 #define JAZMOTIP_JOINED 4u                   /* groups that a unit joins, at most */
 #define JAZMOTIP_SECOND 390625000u           /* ticks of a second; a capture may be sent up to then */
 #define JAZMOTIP_MAX_TRIP 1000000u           /* ticks of a round trip, at most */
+#define JAZMOTIP_MAX_TIME_CHANGE 1000000u    /* ticks by which LocalTime changes, at most, either way */
+#define JAZMOTIP_MAX_CHANGES (INT64_C(1) << 61)   /* ticks that the changes add up to, at most, either way */
 #define JAZMOTIP_MAX_INTERVAL (UINT64_C(1) << 47) /* ticks of a key timer, at most; at least 1 */
 #define JAZMOTIP_MAX_TICK (UINT64_C(1) << 62)     /* ticks that an end counts, at most: over 370 years */
 #define JAZMOTIP_CLOCK_TURN (UINT64_C(1) << 48)   /* clocks and MACs are below this */
@@ -108,14 +110,14 @@ enum {
  *   - MACs and the OLT's clock are below 2^48; a tick is at most JAZMOTIP_MAX_TICK
  *   - a channel is free from a tick of at most JAZMOTIP_MAX_TICK + JAZMOTIP_MAX_EQS + 1, 2^62 + 4,194,304
  *   - a unit has 1 to 4 LLIDs, and no LLID stands twice at an end, be it a unit's own, a group's or one that was joined
- *   - a first send that is noted, and a capture, are not after the end's tick
- *   - at an OLT: at most 16 units and groups together; a round trip of at most JAZMOTIP_MAX_TRIP; an interval of 1 to
- *     JAZMOTIP_MAX_INTERVAL, its count below it; C is A or A - 1, O is A or A + 1, and not both C = A - 1 and O = A + 1; a group has
- *     1 to 8 members, each the place of a unit and none twice
+ *   - at an OLT: at most 16 units and groups together; a round trip of at most JAZMOTIP_MAX_TRIP; a first send that is noted, and a
+ *     capture, are not after the tick; an interval of 1 to JAZMOTIP_MAX_INTERVAL, its count below it; C is A or A - 1, O is A or
+ *     A + 1, and not both C = A - 1 and O = A + 1; a group has 1 to 8 members, each the place of a unit and none twice
  *   - at an ONU: time is below 2^48 once synced and below 2^32 before; rx is below 2^48; at most 4 groups joined; no key is held at
- *     a = 2^32 - 1, and none kept at a = 0, both for each group too
+ *     a = 2^32 - 1, and none kept at a = 0, both for each group too; changes is within JAZMOTIP_MAX_CHANGES either way. The travel of
+ *     a first send, spent and bar may be anything
  * Places that are not in use are not judged, and calls carry along what they hold: LLIDs, members and marks past a count, units,
- * groups and joined groups past theirs, the tick of a first send or capture that is not noted. A fresh end has zeros there. Any
+ * groups and joined groups past theirs, the time of a first send or capture that is not noted. A fresh end has zeros there. Any
  * octets are a key. */
 
 typedef struct jazmotip_timer {
@@ -130,10 +132,10 @@ typedef struct jazmotip_slots {
     uint8_t odd[16];
 } jazmotip_slots;
 
-/* The first send under the key in use. */
+/* The first send under the key in use, by the end's own count: ticks at the OLT, at a unit travel (see jazmotip_travel). */
 typedef struct jazmotip_first_send {
     uint8_t noted;
-    uint64_t tick;
+    uint64_t at;
 } jazmotip_first_send;
 
 /* The tick from which each channel is free. */
@@ -226,6 +228,14 @@ typedef struct jazmotip_onu_clock {
     uint64_t rx;    /* the Rx clock; 0 while unsynced */
 } jazmotip_onu_clock;
 
+/* The travel of a unit's Tx clock: its ticks plus the changes of its LocalTime. Travel is counted from 2^61 below zero, here and in
+ * the unit's first send, so it is tick + changes + JAZMOTIP_MAX_CHANGES. */
+typedef struct jazmotip_travel {
+    int64_t changes; /* the sum of the signed changes of LocalTime */
+    uint64_t spent;  /* one past the last end of an enciphered send, which is its travel plus its EQs; 0 before the first */
+    uint64_t bar;    /* what spent was at the last change: enciphered sends wait until travel has come to it */
+} jazmotip_travel;
+
 /* A group that a unit joined. The message of key n tells that key n - 1 is in use: a is then n - 1, held or not, and older keys are
  * forgotten. */
 typedef struct jazmotip_joined {
@@ -242,6 +252,7 @@ typedef struct jazmotip_onu {
     jazmotip_onu_clock clock;
     jazmotip_onu_keys keys;
     jazmotip_first_send first;
+    jazmotip_travel travel;
     jazmotip_channels channels;
     uint8_t joinedcount; /* groups joined */
     jazmotip_joined joined[4];
@@ -369,6 +380,12 @@ uint8_t jazmotip_olt_advance(jazmotip_olt *olt, uint64_t n);
 /* Captures the clock for a unit; it stays until the next capture. Order: 2, for a group's LLID too. */
 jazmotip_olt_answer jazmotip_olt_capture(jazmotip_olt olt, uint16_t llid);
 
+/* Gives a unit a new round trip, where its path changed: capture, clock message and clock acknowledgement so far are forgotten, and
+ * enciphered sends to it are refused 5 until a new clock message is acknowledged. Clear ones go on, and so do its groups'. Make this
+ * call and jazmotip_onu_new_time at one tick, before anything goes over the new path. Nothing that was under way arrives after it, and
+ * no acknowledgement of a clock message from before it, ever: that is for the host to keep. Order: 1, 2, for a group's LLID too. */
+jazmotip_olt_answer jazmotip_olt_measure(jazmotip_olt olt, uint16_t llid, uint64_t trip);
+
 /* Hands over the clock message of the capture, any number of times within a second. Order: 2, for a group's LLID too, 8, 16. */
 jazmotip_clock_sent jazmotip_olt_clock_send(jazmotip_olt olt, uint16_t llid);
 
@@ -387,7 +404,8 @@ jazmotip_olt_answer jazmotip_olt_acknowledge(jazmotip_olt olt, uint16_t llid, ja
 
 /* Seals a payload for a unit or a group into output, of the same length, and hands over its header. With the timer's flag up and the
  * offer acknowledged this is the envelope that switches keys; a group's switches acknowledged or not, and its old key is wiped. Index
- * 0x00 or 0x01. A header at tick t with p EQs keeps its channel until t + p; t + p + 1 is free. Order: 14, 1, 2, 12, 13. */
+ * 0x00 or 0x01. A header at tick t with p EQs keeps its channel until t + p; t + p + 1 is free. 5 is for an envelope to a unit that
+ * would be enciphered, a switching one included, while the unit's clock is not acknowledged. Order: 14, 1, 2, 5, 12, 13. */
 jazmotip_olt_sent jazmotip_olt_send(jazmotip_olt olt, uint16_t llid, uint8_t channel, const uint8_t *payload, size_t payload_length,
                                     uint8_t *output, size_t output_length);
 
@@ -407,6 +425,13 @@ jazmotip_onu_answer jazmotip_onu_join(jazmotip_onu onu, uint16_t llid);
 /* Moves ticks and clocks on by n, in place, and gives the number. Order: 17. */
 uint8_t jazmotip_onu_advance(jazmotip_onu *onu, uint64_t n);
 
+/* Gives a unit its new LocalTime, where its path changed: the low 32 bits of the OLT's clock plus the new delay up, at most
+ * JAZMOTIP_MAX_TIME_CHANGE either way from the old, modulo 2^32, else 1. The unit is unsynced again, and refuses what is enciphered,
+ * its own sends too, with 5 until it has taken a clock message; then its enciphered sends on both channels are 12 until travel has
+ * passed the end of each one made before the change. Keys stay. 17 is for a sum of changes that would pass JAZMOTIP_MAX_CHANGES either
+ * way. Order: 1, 17. */
+jazmotip_onu_answer jazmotip_onu_new_time(jazmotip_onu onu, uint64_t time);
+
 /* Sets the clocks by a clock message and hands over the acknowledgement. Order: 1. */
 jazmotip_onu_acknowledged jazmotip_onu_clock_message(jazmotip_onu onu, jazmotip_stamps message);
 
@@ -415,7 +440,8 @@ jazmotip_onu_acknowledged jazmotip_onu_clock_message(jazmotip_onu onu, jazmotip_
 jazmotip_onu_acknowledged jazmotip_onu_key_message(jazmotip_onu onu, jazmotip_key_message message);
 
 /* Seals a payload for the head end into output, of the same length, and hands over its header. Index 0x80 or 0x81. The channel is
- * kept as at the OLT. Order: 14, 1, 2, 20, 12, 13. */
+ * kept as at the OLT, and the key's age is counted in travel. 5 is for an enciphered envelope while unsynced. Order: 14, 1, 2, 20, 5,
+ * 12, 13. */
 jazmotip_onu_sent jazmotip_onu_send(jazmotip_onu onu, uint16_t llid, uint8_t channel, const uint8_t *payload, size_t payload_length,
                                     uint8_t *output, size_t output_length);
 
@@ -794,7 +820,7 @@ JAZMOTIP_LAYOUT(offsetof(jazmotip_timer, flag) == 16);
 JAZMOTIP_LAYOUT(sizeof(jazmotip_slots) == 32);
 JAZMOTIP_LAYOUT(offsetof(jazmotip_slots, odd) == 16);
 JAZMOTIP_LAYOUT(sizeof(jazmotip_first_send) == 16);
-JAZMOTIP_LAYOUT(offsetof(jazmotip_first_send, tick) == 8);
+JAZMOTIP_LAYOUT(offsetof(jazmotip_first_send, at) == 8);
 JAZMOTIP_LAYOUT(sizeof(jazmotip_channels) == 16);
 JAZMOTIP_LAYOUT(offsetof(jazmotip_channels, one) == 8);
 JAZMOTIP_LAYOUT(sizeof(jazmotip_identity) == 24);
@@ -837,18 +863,22 @@ JAZMOTIP_LAYOUT(offsetof(jazmotip_onu_keys, slots) == 5);
 JAZMOTIP_LAYOUT(sizeof(jazmotip_onu_clock) == 24);
 JAZMOTIP_LAYOUT(offsetof(jazmotip_onu_clock, time) == 8);
 JAZMOTIP_LAYOUT(offsetof(jazmotip_onu_clock, rx) == 16);
+JAZMOTIP_LAYOUT(sizeof(jazmotip_travel) == 24);
+JAZMOTIP_LAYOUT(offsetof(jazmotip_travel, spent) == 8);
+JAZMOTIP_LAYOUT(offsetof(jazmotip_travel, bar) == 16);
 JAZMOTIP_LAYOUT(sizeof(jazmotip_joined) == 44);
 JAZMOTIP_LAYOUT(offsetof(jazmotip_joined, kept) == 40);
 JAZMOTIP_LAYOUT(offsetof(jazmotip_joined, llid) == 42);
-JAZMOTIP_LAYOUT(sizeof(jazmotip_onu) == 320);
+JAZMOTIP_LAYOUT(sizeof(jazmotip_onu) == 344);
 JAZMOTIP_LAYOUT(offsetof(jazmotip_onu, oltmac) == 24);
 JAZMOTIP_LAYOUT(offsetof(jazmotip_onu, tick) == 32);
 JAZMOTIP_LAYOUT(offsetof(jazmotip_onu, clock) == 40);
 JAZMOTIP_LAYOUT(offsetof(jazmotip_onu, keys) == 64);
 JAZMOTIP_LAYOUT(offsetof(jazmotip_onu, first) == 104);
-JAZMOTIP_LAYOUT(offsetof(jazmotip_onu, channels) == 120);
-JAZMOTIP_LAYOUT(offsetof(jazmotip_onu, joinedcount) == 136);
-JAZMOTIP_LAYOUT(offsetof(jazmotip_onu, joined) == 140);
+JAZMOTIP_LAYOUT(offsetof(jazmotip_onu, travel) == 120);
+JAZMOTIP_LAYOUT(offsetof(jazmotip_onu, channels) == 144);
+JAZMOTIP_LAYOUT(offsetof(jazmotip_onu, joinedcount) == 160);
+JAZMOTIP_LAYOUT(offsetof(jazmotip_onu, joined) == 164);
 JAZMOTIP_LAYOUT(sizeof(jazmotip_stamps) == 16);
 JAZMOTIP_LAYOUT(offsetof(jazmotip_stamps, tx) == 8);
 JAZMOTIP_LAYOUT(sizeof(jazmotip_key_message) == 24);
@@ -882,20 +912,20 @@ JAZMOTIP_LAYOUT(sizeof(jazmotip_olt_received) == 4048);
 JAZMOTIP_LAYOUT(offsetof(jazmotip_olt_received, olt) == 8);
 JAZMOTIP_LAYOUT(offsetof(jazmotip_olt_received, count) == 4032);
 JAZMOTIP_LAYOUT(offsetof(jazmotip_olt_received, runs) == 4040);
-JAZMOTIP_LAYOUT(sizeof(jazmotip_onu_answer) == 328);
+JAZMOTIP_LAYOUT(sizeof(jazmotip_onu_answer) == 352);
 JAZMOTIP_LAYOUT(offsetof(jazmotip_onu_answer, onu) == 8);
-JAZMOTIP_LAYOUT(sizeof(jazmotip_onu_acknowledged) == 336);
+JAZMOTIP_LAYOUT(sizeof(jazmotip_onu_acknowledged) == 360);
 JAZMOTIP_LAYOUT(offsetof(jazmotip_onu_acknowledged, onu) == 8);
-JAZMOTIP_LAYOUT(offsetof(jazmotip_onu_acknowledged, acknowledgement) == 328);
-JAZMOTIP_LAYOUT(sizeof(jazmotip_onu_sent) == 352);
+JAZMOTIP_LAYOUT(offsetof(jazmotip_onu_acknowledged, acknowledgement) == 352);
+JAZMOTIP_LAYOUT(sizeof(jazmotip_onu_sent) == 376);
 JAZMOTIP_LAYOUT(offsetof(jazmotip_onu_sent, onu) == 8);
-JAZMOTIP_LAYOUT(offsetof(jazmotip_onu_sent, header) == 328);
-JAZMOTIP_LAYOUT(offsetof(jazmotip_onu_sent, count) == 336);
-JAZMOTIP_LAYOUT(offsetof(jazmotip_onu_sent, runs) == 344);
-JAZMOTIP_LAYOUT(sizeof(jazmotip_onu_received) == 344);
+JAZMOTIP_LAYOUT(offsetof(jazmotip_onu_sent, header) == 352);
+JAZMOTIP_LAYOUT(offsetof(jazmotip_onu_sent, count) == 360);
+JAZMOTIP_LAYOUT(offsetof(jazmotip_onu_sent, runs) == 368);
+JAZMOTIP_LAYOUT(sizeof(jazmotip_onu_received) == 368);
 JAZMOTIP_LAYOUT(offsetof(jazmotip_onu_received, onu) == 8);
-JAZMOTIP_LAYOUT(offsetof(jazmotip_onu_received, count) == 328);
-JAZMOTIP_LAYOUT(offsetof(jazmotip_onu_received, runs) == 336);
+JAZMOTIP_LAYOUT(offsetof(jazmotip_onu_received, count) == 352);
+JAZMOTIP_LAYOUT(offsetof(jazmotip_onu_received, runs) == 360);
 JAZMOTIP_LAYOUT(sizeof(jazmotip_nonce) == 24);
 JAZMOTIP_LAYOUT(offsetof(jazmotip_nonce, mac) == 8);
 JAZMOTIP_LAYOUT(offsetof(jazmotip_nonce, clock) == 16);

@@ -14,11 +14,12 @@ use Rattle.ends.specs.Identities.{among, llidsOf, has}
 use Rattle.ends.specs.Keys.{aged}
 use Rattle.envelope.specs.Channels.{upstream, onZero}
 use Rattle.ends.specs.Occupancy.{freeFrom, occupied, taken}
-use Rattle.ends.specs.Records.{freshUnit, withKeys}
+use Rattle.ends.specs.Records.{freshUnit, withKeys, withClock}
 use Rattle.ends.specs.Timers.{timerAdvanced, freshTimer}
-use Rattle.protocol.specs.Headers.{choiceAged}
+use Rattle.ends.specs.Travels.{shiftOf, travelOf, waits}
+use Rattle.protocol.specs.Headers.{choiceEnciphered, choiceAged}
 use Rattle.protocol.specs.UnitTraffic.{switches, unitSendChoice, unitSendVerdict}
-use Rattle.protocol.specs.OnuTraffic.{onuSendChoice, onuSendVerdict}
+use Rattle.protocol.specs.OnuTraffic.{onuSendChoice, busyUp, onuSendVerdict}
 use Rattle.bench_values.specs.Rows.{Rows}
 
 xored : (j k x : ℕ) → 0 < j → j < 7 → masked 0x81 j k x ≡ bitXor x k
@@ -34,8 +35,8 @@ xored (suc (suc (suc (suc (suc (suc (suc j))))))) k x h l = absurd (omega arith)
 
 pub rows-hold : Rows
 unfolding counterBlock capturedAt raiseOf movedBy raisedTo timerAdvanced pick onZero freeFrom occupied taken both either aged refuseIf
-    freshUnit withKeys freshTimer choiceAged switches unitSendChoice unitSendVerdict among llidsOf has upstream onuSendChoice onuSendVerdict
-    masked bitOf countEnciphered ones onesIn
+    freshUnit withKeys withClock freshTimer choiceEnciphered choiceAged switches unitSendChoice unitSendVerdict among llidsOf has upstream shiftOf
+    travelOf waits onuSendChoice busyUp onuSendVerdict masked bitOf countEnciphered ones onesIn
 rows-hold =
     record {
       p1 = refl;

@@ -11,10 +11,11 @@ use Rattle.clock.specs.Stamping.{capturedAt, raisedTo}
 use Rattle.refusal.specs.Number.{verdictNumber}
 use Rattle.ends.specs.Identities.{noIdentity}
 use Rattle.ends.specs.Keys.{noSlots, notedAt}
-use Rattle.ends.specs.Limits.{maxLlids}
+use Rattle.ends.specs.Limits.{maxLlids, maxChanges}
 use Rattle.ends.specs.Occupancy.{occupied, freeChannels}
-use Rattle.ends.specs.Records.{freshUnit, withKeys}
+use Rattle.ends.specs.Records.{freshUnit, withKeys, withClock}
 use Rattle.ends.specs.Timers.{timerAdvanced, freshTimer}
+use Rattle.ends.specs.Travels.{noTravel}
 use Rattle.protocol.specs.UnitTraffic.{unitSendVerdict}
 use Rattle.protocol.specs.OnuTraffic.{onuSendVerdict}
 use Rattle.ends.specs.declared.Channels.{Channels}
@@ -30,11 +31,14 @@ timer count flag = record { interval = 10; count = count; flag = flag }
 abbrev pub firstUse : ℕ
 firstUse = 100
 
--- an OLT's unit and an ONU, with key 1 in use since then; the ONU's one LLID is 0
+-- an OLT's unit and an ONU, with key 1 in use since then and their clocks set; the ONU's one LLID is 0, and its travel is ticks, counted
+-- from 2^61 below zero (02, C-16)
 abbrev pub unitInUse : UnitRecord
 unitInUse =
-    withKeys (freshUnit noIdentity 0 1)
-    (record { timer = freshTimer 1; active = 1; offered = 1; slots = noSlots; first = notedAt firstUse })
+    withClock
+    (withKeys (freshUnit noIdentity 0 1)
+    (record { timer = freshTimer 1; active = 1; offered = 1; slots = noSlots; first = notedAt firstUse }))
+    (record { trip = 0; captured = 1; tick = 0; sent = 1; acknowledged = 1 })
 
 abbrev pub onuInUse : ℕ → Channels → Onu
 onuInUse tick channels =
@@ -44,7 +48,8 @@ onuInUse tick channels =
       tick = tick;
       clock = record { synced = 1; time = 0; rx = 0 };
       keys = record { active = 1; held = 0; slots = noSlots };
-      first = notedAt firstUse;
+      first = notedAt (maxChanges + firstUse);
+      travel = noTravel;
       channels = channels;
     }
 

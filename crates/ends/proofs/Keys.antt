@@ -53,9 +53,9 @@ only-forgotten s n = key-stored s (n + 1) noKey
 ---- first sends
 
 -- a key that is not too old and has had its first send is within its life
-pub aged-false : (f : FirstSend) (tick : ℕ) → f .noted ≡ 1 → aged f tick ≡ false → tick < f .tick + keyLife
+pub aged-false : (f : FirstSend) (tick : ℕ) → f .noted ≡ 1 → aged f tick ≡ false → tick < f .at + keyLife
 unfolding aged both
-aged-false f tick n e = leb-false (f .tick + keyLife) tick (rw n at e)
+aged-false f tick n e = leb-false (f .at + keyLife) tick (rw n at e)
 
 -- once noted, a first send stays
 pub first-stays : (f : FirstSend) (tick : ℕ) → f .noted ≡ 1 → firstSend f tick ≡ f
@@ -65,6 +65,10 @@ first-stays f tick n = pick-true f (notedAt tick) (eq-eqb (f .noted) 1 n)
 pub first-noted : (f : FirstSend) (tick : ℕ) → (f .noted ≡ 1 → ⊥) → firstSend f tick ≡ notedAt tick
 unfolding firstSend
 first-noted f tick n = pick-false f (notedAt tick) (ne-eqb (f .noted) 1 n)
+
+pub first-send-flag : (f : FirstSend) (now : ℕ) → f .noted ≤ 1 → firstSend f now .noted ≤ 1
+unfolding firstSend
+first-send-flag f now h = pick-holds (λ (x : FirstSend). x .noted ≤ 1) (isUp (f .noted)) f (notedAt now) (λ p. h) (λ p. omega arith)
 
 pub first-none-valid : (tick : ℕ) → validFirst notNoted tick ≡ true
 unfolding validFirst both either
@@ -79,7 +83,7 @@ pub first-later-valid : (f : FirstSend) (s t : ℕ) → s ≤ t → validFirst f
 unfolding validFirst
 first-later-valid f s t h e =
     both-true (both-left _ _ e)
-    (⊎-elim (λ n. either-left _ n) (λ l. either-right _ (le-leb (f .tick) t (omega (arith, leb-true (f .tick) s l))))
+    (⊎-elim (λ n. either-left _ n) (λ l. either-right _ (le-leb (f .at) t (omega (arith, leb-true (f .at) s l))))
     (either-cases _ _ (both-right _ _ e)))
 
 pub first-send-valid : (f : FirstSend) (tick : ℕ) → validFirst f tick ≡ true → validFirst (firstSend f tick) tick ≡ true

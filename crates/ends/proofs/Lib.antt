@@ -4,5 +4,6 @@ pub mod Marks
 pub mod Occupancy
 pub mod Table
 pub mod Timers
+pub mod Travels
 pub mod Validity
 pub mod Walks

@@ -10,6 +10,7 @@ use Rattle.clock.specs.Ticks.{maxTick, clockTurn, maxRoundTrip, localTurn}
 use Rattle.ends.specs.Limits.{maxUnits, maxKeyNumber}
 use Rattle.ends.specs.Timers.{validTimer}
 use Rattle.ends.specs.Keys.{validFirst}
+use Rattle.ends.specs.Travels.{validChanges}
 use Rattle.ends.specs.Occupancy.{validChannels}
 use Rattle.ends.specs.Identities.{distinct, llidsOf, validMac, validIdentity}
 use Rattle.ends.specs.Table.{registered, tableLlids}
@@ -185,7 +186,8 @@ pub record OnuInRange (o : Onu) : Type 0 where
   pub tick : o .tick ≤ maxTick
   pub clock : validOnuClock (o .clock) ≡ true
   pub keys : validOnuKeys (o .keys) ≡ true
-  pub first : validFirst (o .first) (o .tick) ≡ true
+  pub noted : o .first .noted ≤ 1
+  pub changes : validChanges (o .travel .changes) ≡ true
   pub channels : validChannels (o .channels) ≡ true
 
 pub onu-in-range : (o : Onu) → validOnu o ≡ true → OnuInRange o
@@ -197,6 +199,7 @@ onu-in-range o e =
     let d = both-right _ _ c in
     let f = both-right _ _ d in
     let g = both-right _ _ f in
+    let h = both-right _ _ g in
     record {
       identity = both-left _ _ e;
       distinct = both-left _ _ a;
@@ -204,8 +207,9 @@ onu-in-range o e =
       tick = leb-true _ _ (both-left _ _ c);
       clock = both-left _ _ d;
       keys = both-left _ _ f;
-      first = both-left _ _ g;
-      channels = both-right _ _ g;
+      noted = leb-true _ _ (both-left _ _ g);
+      changes = both-left _ _ h;
+      channels = both-right _ _ h;
     }
 
 pub onu-valid : (o : Onu) → OnuInRange o → validOnu o ≡ true
@@ -215,7 +219,7 @@ onu-valid o r =
     (both-true (r .distinct)
     (both-true (r .oltmac)
     (both-true (le-leb _ _ (r .tick))
-    (both-true (r .clock) (both-true (r .keys) (both-true (r .first) (r .channels)))))))
+    (both-true (r .clock) (both-true (r .keys) (both-true (le-leb _ _ (r .noted)) (both-true (r .changes) (r .channels))))))))
 
 ---- what is found in a valid table
 

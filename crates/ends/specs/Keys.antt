@@ -29,19 +29,19 @@ unfoldable pub onlyKey : Slots → ℕ → Slots
 onlyKey s n = withKey s (n + 1) noKey
 
 abbrev pub notNoted : FirstSend
-notNoted = record { noted = 0; tick = 0 }
+notNoted = record { noted = 0; at = 0 }
 
 abbrev pub notedAt : ℕ → FirstSend
-notedAt tick = record { noted = 1; tick = tick }
+notedAt now = record { noted = 1; at = now }
 
--- the first send, where one is made at that tick
+-- the first send, where one is made now, by the end's own count: ticks at the OLT, travel at a unit (02, C-16)
 unfoldable pub firstSend : FirstSend → ℕ → FirstSend
-firstSend f tick = pick (isUp (f .noted)) f (notedAt tick)
+firstSend f now = pick (isUp (f .noted)) f (notedAt now)
 
--- the key's first send was 2^48 ticks ago or earlier
+-- the key's first send was 2^48 ago or earlier, by the same count
 unfoldable pub aged : FirstSend → ℕ → Bool
-aged f tick = both (isUp (f .noted)) (leb (f .tick + keyLife) tick)
+aged f now = both (isUp (f .noted)) (leb (f .at + keyLife) now)
 
--- a first send is not later than the end's tick
+-- a first send is not later than the OLT's tick
 unfoldable pub validFirst : FirstSend → ℕ → Bool
-validFirst f tick = both (leb (f .noted) 1) (either (eqb (f .noted) 0) (leb (f .tick) tick))
+validFirst f tick = both (leb (f .noted) 1) (either (eqb (f .noted) 0) (leb (f .at) tick))

@@ -2,6 +2,7 @@ pub mod Limits
 pub mod Flags
 pub mod Timers
 pub mod Keys
+pub mod Travels
 pub mod Occupancy
 pub mod Identities
 pub mod Marks

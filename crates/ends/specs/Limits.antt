@@ -26,6 +26,14 @@ maxInterval = 2 ^ 47
 abbrev pub maxKeyNumber : ℕ
 maxKeyNumber = 2 ^ 32 - 1
 
+-- a change of a unit's LocalTime, either way (02, C-16)
+abbrev pub maxTimeChange : ℕ
+maxTimeChange = 1000000
+
+-- what the changes of a unit's LocalTime add up to, either way (02, C-16)
+abbrev pub maxChanges : ℕ
+maxChanges = 2 ^ 61
+
 -- the latest tick from which a channel can be free: that of a longest payload at the last tick
 abbrev pub maxFree : ℕ
 maxFree = maxTick + (maxEqs + 1)

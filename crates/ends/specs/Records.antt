@@ -4,6 +4,7 @@ use lib.ListN.{replicate}
 use Rattle.ends.specs.Limits.{maxUnits}
 use Rattle.ends.specs.Timers.{freshTimer}
 use Rattle.ends.specs.Keys.{noSlots, notNoted}
+use Rattle.ends.specs.Travels.{noTravel}
 use Rattle.ends.specs.Occupancy.{freeChannels}
 use Rattle.ends.specs.Identities.{noIdentity, kept}
 use Rattle.ends.specs.declared.Timer.{Timer}
@@ -19,6 +20,7 @@ use Rattle.ends.specs.declared.Shared.{Shared}
 use Rattle.ends.specs.declared.Olt.{Olt}
 use Rattle.ends.specs.declared.OnuKeys.{OnuKeys}
 use Rattle.ends.specs.declared.OnuClock.{OnuClock}
+use Rattle.ends.specs.declared.Travel.{Travel}
 use Rattle.ends.specs.declared.Onu.{Onu}
 
 ---- a unit at the OLT
@@ -31,6 +33,10 @@ withConfirmation u c = record { identity = u .identity; keys = u .keys; confirma
 
 unfoldable pub withClock : UnitRecord → UnitClock → UnitRecord
 withClock u c = record { identity = u .identity; keys = u .keys; confirmation = u .confirmation; clock = c }
+
+-- nothing captured, sent or acknowledged
+abbrev pub newUnitClock : ℕ → UnitClock
+newUnitClock trip = record { trip = trip; captured = 0; tick = 0; sent = 0; acknowledged = 0 }
 
 unfoldable pub withTimer : UnitKeys → Timer → UnitKeys
 withTimer k t = record { timer = t; active = k .active; offered = k .offered; slots = k .slots; first = k .first }
@@ -48,7 +54,7 @@ freshUnit i trip interval =
       identity = kept i;
       keys = record { timer = freshTimer interval; active = 0; offered = 0; slots = noSlots; first = notNoted };
       confirmation = record { confirmed = 0; acknowledged = 0 };
-      clock = record { trip = trip; captured = 0; tick = 0; sent = 0; acknowledged = 0 };
+      clock = newUnitClock trip;
     }
 
 -- a place with no unit
@@ -75,6 +81,7 @@ withOnuClock o c =
       clock = c;
       keys = o .keys;
       first = o .first;
+      travel = o .travel;
       channels = o .channels;
     }
 
@@ -87,6 +94,7 @@ withOnuKeys o k =
       clock = o .clock;
       keys = k;
       first = o .first;
+      travel = o .travel;
       channels = o .channels;
     }
 
@@ -99,6 +107,7 @@ withOnuFirst o f =
       clock = o .clock;
       keys = o .keys;
       first = f;
+      travel = o .travel;
       channels = o .channels;
     }
 
@@ -111,8 +120,26 @@ withOnuChannels o c =
       clock = o .clock;
       keys = o .keys;
       first = o .first;
+      travel = o .travel;
       channels = c;
     }
+
+unfoldable pub withTravel : Onu → Travel → Onu
+withTravel o t =
+    record {
+      identity = o .identity;
+      oltmac = o .oltmac;
+      tick = o .tick;
+      clock = o .clock;
+      keys = o .keys;
+      first = o .first;
+      travel = t;
+      channels = o .channels;
+    }
+
+-- as before the first clock message
+abbrev pub unsyncedClock : ℕ → OnuClock
+unsyncedClock time = record { synced = 0; time = time; rx = 0 }
 
 unfoldable pub newOnu : Identity → ℕ → ℕ → Onu
 newOnu i oltmac time =
@@ -120,8 +147,9 @@ newOnu i oltmac time =
       identity = kept i;
       oltmac = oltmac;
       tick = 0;
-      clock = record { synced = 0; time = time; rx = 0 };
+      clock = unsyncedClock time;
       keys = record { active = 0; held = 0; slots = noSlots };
       first = notNoted;
+      travel = noTravel;
       channels = freeChannels;
     }

@@ -61,7 +61,7 @@ pastUnit =
             active = 0;
             offered = 0;
             slots = record { even = []; odd = [] };
-            first = record { noted = 0; tick = 0 };
+            first = record { noted = 0; at = 0 };
           };
       confirmation = record { confirmed = 0; acknowledged = 0 };
       clock = record { trip = 0; captured = 0; tick = 0; sent = 0; acknowledged = 0 };

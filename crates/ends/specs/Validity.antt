@@ -13,6 +13,7 @@ use Rattle.ends.specs.Limits.{maxUnits, maxKeyNumber}
 use Rattle.ends.specs.Flags.{isUp}
 use Rattle.ends.specs.Timers.{validTimer}
 use Rattle.ends.specs.Keys.{validFirst}
+use Rattle.ends.specs.Travels.{validChanges}
 use Rattle.ends.specs.Occupancy.{validChannels}
 use Rattle.ends.specs.Identities.{distinct, llidsOf, validMac, validIdentity}
 use Rattle.ends.specs.Table.{registered, tableLlids, findFrom, find}
@@ -99,5 +100,6 @@ validOnu o =
     (both (leb (o .tick) maxTick)  -- tick outside its range
     (both (validOnuClock (o .clock))
     (both (validOnuKeys (o .keys))
-    (both (validFirst (o .first) (o .tick))  -- flag outside its range; a first send later than the tick
-    (validChannels (o .channels))))))))  -- a channel's tick outside its range
+    (both (leb (o .first .noted) 1)  -- flag outside its range; a first send's travel may be anything
+    (both (validChanges (o .travel .changes))  -- a sum of changes outside its range (02, C-16)
+    (validChannels (o .channels)))))))))  -- a channel's tick outside its range

@@ -4,12 +4,12 @@ ghost use Rattle.ends.specs.Validity.{validOnu, validOnuKeys, validOnuCl
 use crate::Onu;
 use crate::OnuClock;
 use crate::OnuKeys;
+use crate::changes::valid_changes;
 use crate::limits::MAX_KEY_NUMBER;
 use crate::llids::distinct_llids;
 use crate::llids::valid_identity;
 use crate::llids::valid_mac;
 use crate::sends::valid_channels;
-use crate::sends::valid_first;
 use clock::CLOCK_TURN;
 use clock::LOCAL_TURN;
 use clock::MAX_TICK;
@@ -37,7 +37,8 @@ pub fn valid_onu(o: Onu) -> bool
     let mac = valid_mac(o.oltmac);
     let clock = valid_onu_clock(o.clock);
     let keys = valid_onu_keys(o.keys);
-    let first = valid_first(o.first, o.tick);
+    let changes = valid_changes(o.travel.changes);
     let channels = valid_channels(o.channels);
-    identity & (distinct & (mac & ((o.tick <= MAX_TICK) & (clock & (keys & (first & channels))))))
+    let rest = (o.first.noted <= 1) & (changes & channels);
+    identity & (distinct & (mac & ((o.tick <= MAX_TICK) & (clock & (keys & rest)))))
 }

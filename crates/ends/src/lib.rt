@@ -1,7 +1,8 @@
 // The records of both ends (01, Clock and Keys). A flag is a u8, 0 or 1. A place that is not in use
-// holds zeros: a unit's place past the count, an LLID's place past the count, the tick of a first send that was not noted or of
+// holds zeros: a unit's place past the count, an LLID's place past the count, the count of a first send that was not noted, the tick of
 // a capture that was not made, Rx while unsynced, a key that is no longer in use.
 
+pub mod changes;
 pub mod check_olt;
 pub mod check_onu;
 pub mod keyslots;
@@ -28,11 +29,11 @@ pub struct Slots {
     pub odd: [u8; 16],
 }
 
-// The first send under the key in use.
+// The first send under the key in use, by the end's own count: the OLT's tick, the travel of a unit's Tx clock.
 #[repr(C)]
 pub struct FirstSend {
     pub noted: u8,
-    pub tick: u64,
+    pub at: u64,
 }
 
 // The tick from which each channel of an end is free.
@@ -118,6 +119,16 @@ pub struct OnuClock {
     pub rx: u64,
 }
 
+// The travel of a unit's Tx clock (02, C-16): ticks and changes of LocalTime. `changes` is the sum of the signed changes, modulo 2^64; travel is
+// counted from 2^61 below zero, so that it is no negative number. `spent` is past the end of every enciphered send, and `bar` is what `spent`
+// was at the last change: till travel has come to it, no enciphered send goes.
+#[repr(C)]
+pub struct Travel {
+    pub changes: u64,
+    pub spent: u64,
+    pub bar: u64,
+}
+
 #[repr(C)]
 pub struct Onu {
     pub identity: Identity,
@@ -126,6 +137,7 @@ pub struct Onu {
     pub clock: OnuClock,
     pub keys: OnuKeys,
     pub first: FirstSend,
+    pub travel: Travel,
     pub channels: Channels,
 }
 

@@ -17,5 +17,11 @@ pub const MAX_INTERVAL: u64 = 0x8000_0000_0000;
 
 pub const MAX_KEY_NUMBER: u32 = 0xffff_ffff;
 
+// A change of a unit's LocalTime, either way.
+pub const MAX_TIME_CHANGE: u64 = 1_000_000;
+
+// What the changes of a unit's LocalTime add up to, either way.
+pub const MAX_CHANGES: u64 = 0x2000_0000_0000_0000;
+
 // The latest tick from which a channel can be free: that of a longest payload at the last tick.
 pub const MAX_FREE: u64 = MAX_TICK + (MAX_EQS as u64 + 1);

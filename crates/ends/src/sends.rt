@@ -9,7 +9,7 @@ use crate::limits::MAX_FREE;
 pub fn valid_first(first: FirstSend, tick: u64) -> bool
     ensures { λ r. ⌜ r ≡ validFirst first tick ⌝ }
 {
-    (first.noted <= 1) & ((first.noted == 0) | (first.tick <= tick))
+    (first.noted <= 1) & ((first.noted == 0) | (first.at <= tick))
 }
 
 pub fn valid_channels(channels: Channels) -> bool

@@ -34,7 +34,7 @@ use Rattle.unicast.specs.Run.{State, step, run, accepted, noted, named, withLan
 use Rattle.exercise.specs.declared.Play.{Play}
 use Rattle.exercise.specs.Play.{unitLlid, keyOfStep, channelDown, channelUp, withOlt, withOnu, withClockAnswer, withKeyAnswer, arrives, clockAnswered, clockSent, clockStepped, keyAnswered, keySent, answered, sentDown, sentUp, advanced}
 use Rattle.exercise.specs.Listed.{setting}
-use Rattle.exercise.proofs.Lanes.{site, Given, Latest, Kept, kept-on, clock-given, key-given, clock-none, key-none, key-offered, noted-either, named-either, noted-on, named-on, unit-has}
+use Rattle.exercise.proofs.Lanes.{noDelay, Given, Latest, Kept, kept-on, clock-given, key-given, clock-none, key-none, key-offered, noted-either, named-either, noted-on, named-on, unit-has}
 
 -- the state of a list in which the ends are those of a play, at the tick n, with the one line l
 abbrev pub at : Play → ℕ → ℕ → Lane → State
@@ -76,14 +76,14 @@ last-thing : (p : Play) (n r : ℕ) (l : Lane) (x : Thing) → thingAt (at p n r
 unfolding laneLeaving laneWith leaving
 last-thing p n r l x = getD-at (l .transit .towards) x [] (envelope noEnvelope) (length (l .transit .towards)) refl
 
-due-clock : (p : Play) (n r : ℕ) (l : Lane) (m : Stamps) (c : ℕ) → l .site ≡ site
+due-clock : (p : Play) (n r : ℕ) (l : Lane) (m : Stamps) (c : ℕ) → l .path ≡ noDelay
     → DueDown (at p n r (laneLeaving (clockMessage m c n) l)) 0 (length (l .transit .towards)) []
 unfolding laneLeaving laneWith leaving
 due-clock p n r l m c e =
     let x = last-thing p n r l (clockMessage m c n) in
     record { some = last-some (l .transit .towards) (clockMessage m c n); now = rw (x, e) (omega arith); buffer = rw x tt }
 
-due-key : (p : Play) (n r : ℕ) (l : Lane) (m : KeyMessage) → l .site ≡ site
+due-key : (p : Play) (n r : ℕ) (l : Lane) (m : KeyMessage) → l .path ≡ noDelay
     → DueDown (at p n r (laneLeaving (keyMessage m n) l)) 0 (length (l .transit .towards)) []
 unfolding laneLeaving laneWith leaving
 due-key p n r l m e =
@@ -93,11 +93,11 @@ due-key p n r l m e =
 -- what left and what arrived change nothing that is kept
 left-kept : (l : Lane) (x : Thing) (n k : ℕ) (a b : Acknowledgement) → Kept l n k a b → Kept (laneLeaving x l) n k a b
 unfolding laneLeaving laneWith leaving
-left-kept l x n k a b h = kept-on l _ n n k k a b refl refl refl refl (omega arith) (omega arith) h
+left-kept l x n k a b h = kept-on l _ n n k k a b refl refl refl refl refl (omega arith) (omega arith) h
 
 taken-kept : (l : Lane) (j n k : ℕ) (a b : Acknowledgement) → Kept l n k a b → Kept (laneTaken j l) n k a b
 unfolding laneTaken laneWith
-taken-kept l j n k a b h = kept-on l _ n n k k a b refl refl refl refl (omega arith) (omega arith) h
+taken-kept l j n k a b h = kept-on l _ n n k k a b refl refl refl refl refl (omega arith) (omega arith) h
 
 -- an answer where the number is 0, none where it is not
 answer-kept : (P : Lane → Type 0) (number : ℕ) (f : Lane → Lane) (l : Lane) → (eqb number 0 ≡ true → P (f l)) → (eqb number 0 ≡ false → P l)
@@ -116,7 +116,7 @@ clock-arrives p n r k l m c x =
       events = arriveDown 0 j [] ∷ [];
       now = n;
       lane = noted (a .number) (laneAnswered (a .acknowledgement) n) (laneTaken j (laneLeaving (clockMessage m c n) l));
-      meets = (due-clock p n r l m c (x .place), tt);
+      meets = (due-clock p n r l m c (x .path), tt);
       runs = rw (last-thing p n r l (clockMessage m c n)) refl;
       kept =
           answer-kept (λ (z : Lane). Kept z n k (a .acknowledgement) (p .key)) (a .number) _ _
@@ -135,7 +135,7 @@ key-arrives p n r k l m x =
       events = arriveDown 0 j [] ∷ [];
       now = n;
       lane = noted (a .number) (laneAnswered (a .acknowledgement) n) (laneTaken j (laneLeaving (keyMessage m n) l));
-      meets = (due-key p n r l m (x .place), tt);
+      meets = (due-key p n r l m (x .path), tt);
       runs = rw (last-thing p n r l (keyMessage m n)) refl;
       kept =
           answer-kept (λ (z : Lane). Kept z n k (p .clock) (a .acknowledgement)) (a .number) _ _
@@ -145,11 +145,11 @@ key-arrives p n r k l m x =
 
 captured-kept : (l : Lane) (n k : ℕ) (a b : Acknowledgement) → Kept l n k a b → Kept (laneCaptured n l) n k a b
 unfolding laneCaptured
-captured-kept l n k a b h = kept-on l _ n n k k a b refl refl refl refl (omega arith) (omega arith) h
+captured-kept l n k a b h = kept-on l _ n n k k a b refl refl refl refl refl (omega arith) (omega arith) h
 
 acknowledged-kept : (c : Acknowledgement) (l : Lane) (n k : ℕ) (a b : Acknowledgement) → Kept l n k a b → Kept (laneAcknowledged c l) n k a b
 unfolding laneAcknowledged laneWith
-acknowledged-kept c l n k a b h = kept-on l _ n n k k a b refl refl refl refl (omega arith) (omega arith) h
+acknowledged-kept c l n k a b h = kept-on l _ n n k k a b refl refl refl refl refl (omega arith) (omega arith) h
 
 ---- events after others
 
@@ -183,7 +183,7 @@ later {p} {q} {n} {r} {k} {l} g =
       lane = g .lane;
       meets = g .meets;
       runs = g .runs;
-      kept = kept-on (g .lane) (g .lane) (g .now) (g .now) k (suc k) _ _ refl refl refl refl (omega arith) (omega arith) (g .kept);
+      kept = kept-on (g .lane) (g .lane) (g .now) (g .now) k (suc k) _ _ refl refl refl refl refl (omega arith) (omega arith) (g .kept);
     }
 
 -- by whether what was sent arrives
@@ -276,7 +276,7 @@ module _ (p : Play) (n r k : ℕ) (l : Lane) (x : Kept l n k (p .clock) (p .key)
         kept =
             key-none _ n (suc k) (p .clock) (p .key) noAcknowledgement refl
             (named-either (λ (z : Lane). Kept z n (suc k) (p .clock) (p .key)) (q .number) unitLlid _ l
-            (kept-on l l n n k (suc k) (p .clock) (p .key) refl refl refl refl (omega arith) (omega arith) x)
+            (kept-on l l n n k (suc k) (p .clock) (p .key) refl refl refl refl refl (omega arith) (omega arith) x)
             (left-kept _ _ n (suc k) (p .clock) (p .key) offer-kept));
       }
 
@@ -335,7 +335,7 @@ module _ (p : Play) (n r k : ℕ) (l : Lane) (x : Kept l n k (p .clock) (p .key)
   ---- an acknowledgement
 
   due-answer : (a : Acknowledgement) (g : Given (l .transit .answered) n a) → DueAnswer (at p n r l) 0 (g .place) unitLlid
-  due-answer a g = record { some = g .some; left = rw (g .same, x .place) (omega (arith, g .by)); named = unit-has l (x .place) }
+  due-answer a g = record { some = g .some; left = rw (g .same, x .path) (omega (arith, g .by)); named = unit-has l (x .place) }
 
   answer-arrives : (a : Acknowledgement) → Given (l .transit .answered) n a → Goes p n r l (withOlt p (acknowledgeOf (p .olt) unitLlid a .olt)) k
   unfolding step run withOlt atOlt withLanes answering
@@ -381,16 +381,16 @@ up-octets o = nothing-left _ _ (carried-length _ _ _ [])
 
 sent-down-kept : (e : Envelope) (l : Lane) (n k : ℕ) (a b : Acknowledgement) → Kept l n k a b → Kept (laneSentDown n e l) n k a b
 unfolding laneSentDown laneWith leaving
-sent-down-kept e l n k a b h = kept-on l _ n n k k a b refl refl refl refl (omega arith) (omega arith) h
+sent-down-kept e l n k a b h = kept-on l _ n n k k a b refl refl refl refl refl (omega arith) (omega arith) h
 
 sent-up-kept : (e : Envelope) (l : Lane) (n k : ℕ) (a b : Acknowledgement) → Kept l n k a b → Kept (laneSentUp e l) n k a b
 unfolding laneSentUp laneWith
-sent-up-kept e l n k a b h = kept-on l _ n n k k a b refl refl refl refl (omega arith) (omega arith) h
+sent-up-kept e l n k a b h = kept-on l _ n n k k a b refl refl refl refl refl (omega arith) (omega arith) h
 
 module _ (p : Play) (n r k : ℕ) (l : Lane) (x : Kept l n k (p .clock) (p .key)) where
   -- the envelope down, and its line
   down : Lane → Envelope
-  down z = envelopeDown n (p .olt) unitLlid channelDown [] [] (numberDown z n)
+  down z = envelopeDown n (z .path) (p .olt) unitLlid channelDown [] [] (numberDown z n)
 
   down-lost : Goes p n r l (withOlt p (oltSendOf (p .olt) unitLlid channelDown [] [] .answer .olt)) k
   unfolding step run withOlt atOlt withLanes sendingDown down
@@ -438,13 +438,13 @@ module _ (p : Play) (n r k : ℕ) (l : Lane) (x : Kept l n k (p .clock) (p .key)
         meets = (
           record {
             some = last-some (l .transit .towards) (envelope (down l));
-            now = rw (last-down, x .place) (omega arith);
+            now = rw (last-down, x .path) (omega arith);
             buffer = rw (last-down, down-octets (p .olt)) refl;
           },
           tt,
         );
         runs = rw (last-down, down-octets (p .olt)) refl;
-        kept = kept-on l _ n n k k _ _ refl refl refl refl (omega arith) (omega arith) x;
+        kept = kept-on l _ n n k k _ _ refl refl refl refl refl (omega arith) (omega arith) x;
       }
 
   pub down-stepped : (lost : Bool) → Goes p n r l (sentDown p (oltSendOf (p .olt) unitLlid channelDown [] [] .answer) lost) k
@@ -453,7 +453,7 @@ module _ (p : Play) (n r k : ℕ) (l : Lane) (x : Kept l n k (p .clock) (p .key)
 
   -- the envelope up
   up : Lane → Envelope
-  up z = envelopeUp n (p .onu) unitLlid channelUp [] [] (z .keys .number)
+  up z = envelopeUp n (z .path) (p .onu) unitLlid channelUp [] [] (z .keys .number)
 
   up-lost : Goes p n r l (withOnu p (onuSendOf (p .onu) unitLlid channelUp [] [] .answer .onu)) k
   unfolding step run withOnu atOnu withLanes sendingUp up
@@ -500,13 +500,13 @@ module _ (p : Play) (n r k : ℕ) (l : Lane) (x : Kept l n k (p .clock) (p .key)
         meets = (
           record {
             some = last-some (l .transit .from) (up l);
-            now = rw (last-up, x .place) (omega arith);
+            now = rw (last-up, x .path) (omega arith);
             buffer = rw (last-up, up-octets (p .onu)) refl;
           },
           tt,
         );
         runs = rw (last-up, up-octets (p .onu)) refl;
-        kept = kept-on l _ n n k k _ _ refl refl refl refl (omega arith) (omega arith) x;
+        kept = kept-on l _ n n k k _ _ refl refl refl refl refl (omega arith) (omega arith) x;
       }
 
   pub up-stepped : (lost : Bool) → Goes p n r l (sentUp p (onuSendOf (p .onu) unitLlid channelUp [] [] .answer) lost) k
@@ -527,5 +527,5 @@ module _ (p : Play) (n r k : ℕ) (l : Lane) (x : Kept l n k (p .clock) (p .key)
         lane = l;
         meets = (tt, tt);
         runs = refl;
-        kept = kept-on l l n _ k k _ _ refl refl refl refl (advance-tick m) (omega arith) x;
+        kept = kept-on l l n _ k k _ _ refl refl refl refl refl (advance-tick m) (omega arith) x;
       }

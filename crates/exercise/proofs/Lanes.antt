@@ -1,4 +1,4 @@
--- What the unit's line keeps through a play: it is registered, the keys offered are those of the steps so far, and the unit's answers
+-- What the unit's line keeps through a play: its delays are 0, it is registered, the keys offered are those of the steps so far, and the unit's answers
 -- to the latest messages can still arrive. Assumes nothing.
 use mathlib.Core.Path.{_≡_, refl, sym, ap, _∙_, subst}
 use mathlib.Core.Bool.{Bool, true, false}
@@ -15,13 +15,16 @@ use Rattle.octets.proofs.Choice.{pick-holds, pick-true, both-true}
 use Rattle.protocol.specs.declared.Acknowledgement.{Acknowledgement}
 use Rattle.ends.specs.Identities.{has, llidsOf, among}
 use Rattle.unicast.specs.History.{Answered, Lane, laneAnswered, laneOffered, laneWith}
-use Rattle.unicast.specs.Setting.{Site}
+use Rattle.unicast.specs.Setting.{Delays, Site}
 use Rattle.unicast.specs.Run.{accepted, noted, named}
 use Rattle.exercise.specs.Play.{unitLlid, unitIdentity, oltMac, keyOfStep}
 
 -- the unit of every play
 abbrev pub site : Site
 site = record { identity = unitIdentity; oltmac = oltMac; time = 0; up = 0; down = 0 }
+
+abbrev pub noDelay : Delays
+noDelay = record { up = 0; down = 0 }
 
 -- the key of one of the steps up to k
 pub record OfStep (key : List ℕ) (k : ℕ) : Type 0 where
@@ -46,6 +49,7 @@ Latest given now a = (a .kind ≡ 0) ⊎ Given given now a
 
 pub record Kept (l : Lane) (now k : ℕ) (clock key : Acknowledgement) : Type 0 where
   pub place : l .site ≡ site
+  pub path : l .path ≡ noDelay
   pub registered : l .entry .registered ≡ true
   pub offered : (n : ℕ) → n < length (l .keys .offers) → OfStep (getD (l .keys .offers) n []) k
   pub clocks : Latest (l .transit .answered) now clock
@@ -58,11 +62,13 @@ latest-later given n m a h x =
     x
 
 -- a later tick, a later step, and a line of which other parts have changed
-pub kept-on : (l l' : Lane) (n m k j : ℕ) (a b : Acknowledgement) → l' .site ≡ l .site → l' .entry .registered ≡ l .entry .registered
-    → l' .keys .offers ≡ l .keys .offers → l' .transit .answered ≡ l .transit .answered → n ≤ m → k ≤ j → Kept l n k a b → Kept l' m j a b
-kept-on l l' n m k j a b e f g h later next x =
+pub kept-on : (l l' : Lane) (n m k j : ℕ) (a b : Acknowledgement) → l' .site ≡ l .site → l' .path ≡ l .path
+    → l' .entry .registered ≡ l .entry .registered → l' .keys .offers ≡ l .keys .offers → l' .transit .answered ≡ l .transit .answered
+    → n ≤ m → k ≤ j → Kept l n k a b → Kept l' m j a b
+kept-on l l' n m k j a b e d f g h later next x =
     record {
       place = e ∙ x .place;
+      path = d ∙ x .path;
       registered = f ∙ x .registered;
       offered =
           subst (λ (os : List (List ℕ)). (i : ℕ) → i < length os → OfStep (getD os i []) j) (sym g)
@@ -102,6 +108,7 @@ unfolding laneAnswered laneWith
 clock-given l n k a b c x =
     record {
       place = x .place;
+      path = x .path;
       registered = x .registered;
       offered = x .offered;
       clocks = latest-last (l .transit .answered) n c;
@@ -113,6 +120,7 @@ unfolding laneAnswered laneWith
 key-given l n k a b c x =
     record {
       place = x .place;
+      path = x .path;
       registered = x .registered;
       offered = x .offered;
       clocks = latest-more (l .transit .answered) _ n a (x .clocks);
@@ -122,17 +130,17 @@ key-given l n k a b c x =
 -- no answer any more
 pub clock-none : (l : Lane) (n k : ℕ) (a b c : Acknowledgement) → c .kind ≡ 0 → Kept l n k a b → Kept l n k c b
 clock-none l n k a b c e x =
-    record { place = x .place; registered = x .registered; offered = x .offered; clocks = inl e; keys = x .keys }
+    record { place = x .place; path = x .path; registered = x .registered; offered = x .offered; clocks = inl e; keys = x .keys }
 
 pub key-none : (l : Lane) (n k : ℕ) (a b c : Acknowledgement) → c .kind ≡ 0 → Kept l n k a b → Kept l n k a c
 key-none l n k a b c e x =
-    record { place = x .place; registered = x .registered; offered = x .offered; clocks = x .clocks; keys = inl e }
+    record { place = x .place; path = x .path; registered = x .registered; offered = x .offered; clocks = x .clocks; keys = inl e }
 
 -- the key of the next step is offered
 pub key-offered : (l : Lane) (n k : ℕ) (a b : Acknowledgement) → Kept l n k a b → Kept (laneOffered (keyOfStep (suc k)) l) n (suc k) a b
 unfolding laneOffered laneWith
 key-offered l n k a b x =
-    record { place = x .place; registered = x .registered; offered = each; clocks = x .clocks; keys = x .keys } where
+    record { place = x .place; path = x .path; registered = x .registered; offered = each; clocks = x .clocks; keys = x .keys } where
       each : (i : ℕ) → i < length (l .keys .offers ++ (keyOfStep (suc k) ∷ [])) → OfStep (getD (l .keys .offers ++ (keyOfStep (suc k) ∷ [])) i []) (suc k)
       each i h = by-test (ltb i (length (l .keys .offers))) refl where
         by-test : (t : Bool) → ltb i (length (l .keys .offers)) ≡ t → OfStep (getD (l .keys .offers ++ (keyOfStep (suc k) ∷ [])) i []) (suc k)

@@ -90,7 +90,7 @@ start-kept : (interval : ℕ) → validInterval interval ≡ true → Kept (firs
 unfolding first-lane laneRegistered freshLane started
 start-kept interval h =
     rw (noted-on _ (laneRegistered 0 0 interval) (freshLane site) (is-registered interval h))
-    (record { place = refl; registered = refl; offered = λ n q. absurd (omega (arith, q)); clocks = inl refl; keys = inl refl })
+    (record { place = refl; path = refl; registered = refl; offered = λ n q. absurd (omega (arith, q)); clocks = inl refl; keys = inl refl })
 
 -- what the unit is registered with agrees with the setting
 agrees : Agrees setting (start setting) 0 unitIdentity 0

@@ -117,7 +117,7 @@ pub send-reached : (way : Verdict) (s : Shared) (g : GroupRecord) (llid channel 
       handed = x .handed;
     }
     ≡ reachedGroup way noSending s g (sendGroup llid channel eqs s g)
-unfolding sendUnit unitSendVerdict sendGroup asUnit reached reachedGroup withKeys
+unfolding sendUnit unitSendVerdict sendGroup asUnit reached reachedGroup withKeys pick
 send-reached way s g llid channel eqs x e = rw (e, choice-as-unit g true) (by-verdict (andThen way (sendGroup llid channel eqs s g .verdict))) where
   by-verdict : (v : Verdict) → let d = sendGroup llid channel eqs s g in
       _≡_ {A = GroupOutcome Sending}

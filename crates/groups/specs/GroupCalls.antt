@@ -14,7 +14,7 @@ use Rattle.ends.specs.Limits.{maxKeyNumber}
 use Rattle.ends.specs.Flags.{isUp}
 use Rattle.ends.specs.Timers.{timerAdvanced}
 use Rattle.ends.specs.Keys.{keyIn, onlyKey}
-use Rattle.ends.specs.Occupancy.{occupied}
+use Rattle.ends.specs.Occupancy.{taken, occupied}
 use Rattle.ends.specs.Records.{withTimer, withSlots}
 use Rattle.ends.specs.Table.{find, unitAt}
 use Rattle.ends.specs.declared.Channels.{Channels}
@@ -27,7 +27,7 @@ use Rattle.protocol.specs.Messages.{clockKind, keyKind}
 use Rattle.protocol.specs.Replies.{Silence, silent}
 use Rattle.protocol.specs.UnitCalls.{keysOffered, keyMessageOf, retryVerdict}
 use Rattle.protocol.specs.UnitTraffic.{keysAfterSend}
-use Rattle.protocol.specs.Headers.{channelThenKey, sendingOf}
+use Rattle.protocol.specs.Headers.{clockChannelKey, sendingOf}
 use Rattle.protocol.specs.declared.KeyMessage.{KeyMessage}
 use Rattle.protocol.specs.declared.KeyChoice.{KeyChoice}
 use Rattle.protocol.specs.declared.KeyChoice.the-variants.{Clear, Current, Next, Barred}
@@ -138,7 +138,7 @@ groupKeysAfterSend choice k tick = wipedAtSwitch choice (keysAfterSend choice k 
 unfoldable pub sendGroup : ℕ → ℕ → ℕ → Shared → GroupRecord → GroupOutcome Sending
 sendGroup llid channel eqs s g =
     record {
-      verdict = channelThenKey (s .channels) channel (groupSendChoice (g .keys)) (g .keys .first) (s .tick);
+      verdict = clockChannelKey true (taken (s .channels) channel (s .tick)) (groupSendChoice (g .keys)) (g .keys .first) (s .tick);
       group = withGroupKeys g (groupKeysAfterSend (groupSendChoice (g .keys)) (g .keys) (s .tick));
       channels = occupied (s .channels) channel (s .tick) eqs;
       handed = sendingOf (groupSendChoice (g .keys)) (g .keys .slots) (s .mac) (s .clock) channel llid;

@@ -77,7 +77,7 @@ pastGroup =
             active = 0;
             offered = 0;
             slots = record { even = []; odd = [] };
-            first = record { noted = 0; tick = 0 };
+            first = record { noted = 0; at = 0 };
           };
       members = record { places = []; marks = []; count = 0 };
       llid = 0;

@@ -25,7 +25,7 @@ pub fn fresh_group(llid: u16, interval: u64, members: Members) -> GroupRecord
         even: [0; 16],
         odd: [0; 16],
     };
-    let first = FirstSend { noted: 0, tick: 0 };
+    let first = FirstSend { noted: 0, at: 0 };
     let keys = UnitKeys {
         timer,
         active: 0,

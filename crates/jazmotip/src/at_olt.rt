@@ -1,7 +1,7 @@
 // The calls of the OLT with its groups. All take the end by value but advance, which changes the end that is lent (01, Clock).
 ghost use mathlib.Core.Path.{_≡_};
 ghost use Rattle.octets.specs.Output.{withOutput};
-ghost use Rattle.multicast.specs.HeadCalls.{freshHeadOf, headAcknowledgeOf, headAdvanceOf, headCaptureOf, headClockSendOf, headOfferOf, headRegisterOf, headRetryOf, registerGroupOf};
+ghost use Rattle.multicast.specs.HeadCalls.{freshHeadOf, headAcknowledgeOf, headAdvanceOf, headCaptureOf, headClockSendOf, headMeasureOf, headOfferOf, headRegisterOf, headRetryOf, registerGroupOf};
 ghost use Rattle.multicast.specs.HeadTraffic.{headReceiveOf, headSendOf};
 use ends::Identity;
 use groups::Answer;
@@ -70,6 +70,14 @@ pub extern "C" fn jazmotip_olt_capture(olt: HeadEnd, llid: u16) -> HeadAnswer
     ensures { λ r. ⌜ r ≡ headCaptureOf olt llid ⌝ }
 {
     at_head::capture(olt, llid)
+}
+
+// The round trip measured again (02, C-16).
+#[no_mangle]
+pub extern "C" fn jazmotip_olt_measure(olt: HeadEnd, llid: u16, trip: u64) -> HeadAnswer
+    ensures { λ r. ⌜ r ≡ headMeasureOf olt llid trip ⌝ }
+{
+    at_head::measure(olt, llid, trip)
 }
 
 #[no_mangle]

@@ -1,7 +1,7 @@
 // The calls of the ONU with the groups that it joined. All take the end by value but advance, which changes the end that is lent (01, Clock).
 ghost use mathlib.Core.Path.{_≡_};
 ghost use Rattle.octets.specs.Output.{withOutput};
-ghost use Rattle.multicast.specs.SubscriberCalls.{freshSubscriberOf, joinOf, subscriberAdvanceOf, subscriberClockMessageOf, subscriberKeyMessageOf};
+ghost use Rattle.multicast.specs.SubscriberCalls.{freshSubscriberOf, joinOf, subscriberAdvanceOf, subscriberClockMessageOf, subscriberKeyMessageOf, subscriberNewTimeOf};
 ghost use Rattle.multicast.specs.SubscriberTraffic.{subscriberReceiveOf, subscriberSendOf};
 use clock::Stamps;
 use ends::Identity;
@@ -44,6 +44,14 @@ pub extern "C" fn jazmotip_onu_advance(onu: &mut Subscriber, n: u64) -> u8
     let answer = advanced(*onu, n);
     *onu = answer.subscriber;
     answer.number
+}
+
+// A new LocalTime (02, C-16).
+#[no_mangle]
+pub extern "C" fn jazmotip_onu_new_time(onu: Subscriber, time: u64) -> SubscriberAnswer
+    ensures { λ r. ⌜ r ≡ subscriberNewTimeOf onu time ⌝ }
+{
+    at_subscriber::new_time(onu, time)
 }
 
 #[no_mangle]

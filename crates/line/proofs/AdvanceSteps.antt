@@ -182,8 +182,8 @@ module _ (w : Setting) (s : State) (n : ℕ) (i : Invariant w s) where
               group-moved g k,
               joined-for-same (getD (map (moved n) (s .subscribers)) u noSubscriber) (subscriberAt s u) (groupLaneAt s g .llid) (units-kept u .memberships),
             )
-            (follows-moved (groupLaneAt s g) (groupLaneAt s g) _ _ _ _ _ _ (joinedBy s u) _ _ _ _ (itself (groupLaneAt s g) _) (omega arith) (omega arith)
-            (λ q. q) (units-kept u .onu .synced) (i .follows u g h k));
+            (follows-moved (groupLaneAt s g) (groupLaneAt s g) _ _ _ _ _ _ (joinedBy s u) _ _ (itself (groupLaneAt s g) _) (omega arith) (omega arith)
+            (λ q. q) (i .follows u g h k));
         answered = i .answered;
         keys = i .keys;
         mixed = i .mixed;

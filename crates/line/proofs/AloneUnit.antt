@@ -8,7 +8,7 @@ use Rattle.octets.specs.Output.{withOutput}
 use Rattle.octets.proofs.Choice.{pick-true}
 use Rattle.clock.specs.declared.Stamps.{Stamps}
 use Rattle.ends.specs.declared.Found.the-variants.{Nowhere}
-use Rattle.protocol.specs.OnuCalls.{advanceOnuOf, clockMessageAt, keyMessageAt}
+use Rattle.protocol.specs.OnuCalls.{advanceOnuOf, newTimeOf, clockMessageAt, keyMessageAt}
 use Rattle.protocol.specs.declared.Header.{Header}
 use Rattle.protocol.specs.declared.KeyMessage.{KeyMessage}
 use Rattle.protocol.specs.declared.OnuAcknowledged.{OnuAcknowledged}
@@ -19,7 +19,7 @@ use Rattle.traffic.specs.declared.OnuReceived.{OnuReceived}
 use Rattle.groups.specs.Subscriber.{findJoined, validMemberships, withOnu}
 use Rattle.groups.specs.declared.Subscriber.{Subscriber}
 use Rattle.multicast.specs.Naming.{byLlid}
-use Rattle.multicast.specs.SubscriberCalls.{ownAnswer, ownAnswered, ownAcknowledged, onuAnswered, onuAcknowledgedIn, subscriberAdvanceOf, subscriberClockMessageOf, subscriberKeyMessageOf}
+use Rattle.multicast.specs.SubscriberCalls.{ownAnswer, ownAnswered, ownAcknowledged, onuAnswered, onuAcknowledgedIn, subscriberAdvanceOf, subscriberNewTimeOf, subscriberClockMessageOf, subscriberKeyMessageOf}
 use Rattle.multicast.specs.SubscriberTraffic.{ownSent, unitSendOf, ownSendOf, ownReceived, unitReceiveOf, ownReceiveOf, subscriberSendOf, subscriberReceiveOf}
 use Rattle.multicast.specs.declared.SubscriberAcknowledged.{SubscriberAcknowledged}
 use Rattle.multicast.specs.declared.SubscriberSent.{SubscriberSent}
@@ -39,6 +39,11 @@ module _ (x : Subscriber) (v : validMemberships x ≡ true) where
       ≡ record { number = advanceOnuOf (x .onu) n .number; subscriber = withOnu x (advanceOnuOf (x .onu) n .onu) }
   unfolding subscriberAdvanceOf onuAnswered ownAnswered
   advance-onu n = pick-true _ _ v
+
+  pub new-time-onu : (time : ℕ) → subscriberNewTimeOf x time
+      ≡ record { number = newTimeOf (x .onu) time .number; subscriber = withOnu x (newTimeOf (x .onu) time .onu) }
+  unfolding subscriberNewTimeOf onuAnswered ownAnswered
+  new-time-onu time = pick-true _ _ v
 
   abbrev pub acknowledgedIn : OnuAcknowledged → SubscriberAcknowledged
   acknowledgedIn r = record { number = r .number; subscriber = withOnu x (r .onu); answer = ownAnswer (r .acknowledgement) }

@@ -108,7 +108,7 @@ head-replaced : (w : Setting) (s : State) (g : ℕ) (h : HeadEnd) → Invariant 
 unfolding atHead headAfter
 head-replaced w s g h i = rw (set-getD (s .history .groups) g noGroupLane) at i
 
-same-head : (w : Setting) (s : State) → Invariant w s → Invariant w (headAfter s (s .head))
+pub same-head : (w : Setting) (s : State) → Invariant w s → Invariant w (headAfter s (s .head))
 unfolding headAfter
 same-head w s i = i
 

@@ -67,7 +67,7 @@ module _ (w : Setting) (s : State) (u g k : ℕ) (out : List ℕ) (i : Invariant
         absurd (omega (arith, d .some, ap length none))
 
   pub follows : Follows (groupLaneAt s g) (groupAt (s .head) g .keys .active) (groupAt (s .head) g .keys .offered)
-      (isMember (groupLaneAt s g) (laneAt (alone s) u)) (joinedBy s u) (subscriberAt s u .onu .clock .synced)
+      (isMember (groupLaneAt s g) (laneAt (alone s) u)) (joinedBy s u)
       (joinedFor (subscriberAt s u) (groupLaneAt s g .llid)) queue
   follows = i .follows u g unit-known known
 

@@ -21,7 +21,7 @@ use Rattle.line.specs.Run.{State, alone, subscriberAt, joinedBy, groupLa
 use Rattle.line.proofs.Invariant.{Stranger, Joins, Invariant}
 use Rattle.line.proofs.Queues.{itself}
 use Rattle.line.proofs.Frames.{follows-moved, joined-for-same, member-stays, recorded-beside}
-use Rattle.line.proofs.Kept.{OltKept, OnuKept}
+use Rattle.line.proofs.Kept.{OltKept}
 
 ---- validity goes by what a call keeps
 
@@ -29,21 +29,21 @@ pub head-kept : (h : HeadEnd) (o : Olt) → OltKept (h .olt) o → validGroups h
 unfolding validGroups withOlt
 head-kept h o k v = rw (table-same o (h .olt) (k .units), k .units .count, k .tick) v
 
--- a unit of the same groups and LLIDs whose clock stays set
+-- a unit of the same groups and LLIDs
 pub record UnitKept (x y : Subscriber) : Type 0 where
   pub memberships : y .memberships ≡ x .memberships
-  pub onu : OnuKept (x .onu) (y .onu)
+  pub identity : y .onu .identity ≡ x .onu .identity
 
-pub with-onu-kept : (x : Subscriber) (o : Onu) → OnuKept (x .onu) o → UnitKept x (withOnu x o)
+pub with-onu-kept : (x : Subscriber) (o : Onu) → o .identity ≡ x .onu .identity → UnitKept x (withOnu x o)
 unfolding withOnu
-with-onu-kept x o k = record { memberships = refl; onu = k }
+with-onu-kept x o k = record { memberships = refl; identity = k }
 
 pub unit-itself : (x : Subscriber) → UnitKept x x
-unit-itself x = record { memberships = refl; onu = record { identity = refl; synced = λ e. e } }
+unit-itself x = record { memberships = refl; identity = refl }
 
 pub memberships-kept : (x y : Subscriber) → UnitKept x y → validMemberships x ≡ true → validMemberships y ≡ true
 unfolding validMemberships
-memberships-kept x y k v = rw (k .memberships, k .onu .identity) v
+memberships-kept x y k v = rw (k .memberships, k .identity) v
 
 ---- the whole
 
@@ -104,9 +104,9 @@ module _ (w : Setting) (s t : State) (i : Invariant w s) (b : Beside s t) where
               joined-for-same (subscriberAt t u) (subscriberAt s u) (groupLaneAt s g .llid) (b .unit u .memberships),
             )
             (follows-moved (groupLaneAt s g) (groupLaneAt s g) _ _ _ _ (isMember (groupLaneAt s g) (laneAt (alone s) u))
-            (isMember (groupLaneAt s g) (laneAt (alone t) u)) (joinedBy s u) _ _ _ _ (itself (groupLaneAt s g) _) (omega arith) (omega arith)
+            (isMember (groupLaneAt s g) (laneAt (alone t) u)) (joinedBy s u) _ _ (itself (groupLaneAt s g) _) (omega arith) (omega arith)
             (member-stays (groupLaneAt s g) (groupLaneAt s g) (laneAt (alone s) u) (laneAt (alone t) u) refl (b .site u) (b .entry u))
-            (b .unit u .onu .synced) (i .follows u g (rw (b .paired) at h) (rw (b .lines) at k)));
+            (i .follows u g (rw (b .paired) at h) (rw (b .lines) at k)));
         answered = λ g a h m. rw (b .lines, b .joined) (i .answered g a (rw (b .lines) at h) (rw (b .lines) at m));
         keys = λ g h m n p q e. i .keys g h m n (rw (b .lines) at p) (rw (b .lines) at q) (rw (b .lines) at e);
         mixed = λ u g m n p q e. mixed u g m n p (rw (b .lines) at q) (rw (b .lines) at e);

@@ -14,7 +14,7 @@ use Rattle.envelope.specs.CounterBlock.{counterBlock}
 use Rattle.envelope.proofs.CounterBlock.{counter-block-injective}
 use Rattle.protocol.specs.declared.Passage.{Passage}
 use Rattle.unicast.specs.Setting.{Site, Setting, clockDown}
-use Rattle.unicast.specs.History.{downward, Envelope, envelope}
+use Rattle.unicast.specs.History.{downward, Envelope, envelope, isSynced}
 use Rattle.unicast.specs.Run.{laneAt, sentAt, noSite, noEnvelope}
 use Rattle.unicast.specs.Claim.{nonceFor, indexTurn, PassageRight, SentRight, ArrivedRight}
 use Rattle.unicast.proofs.Alive.{sent-alive}
@@ -26,7 +26,7 @@ use Rattle.line.specs.Claim.{groupNonce, GroupPassageRight, GroupSentRig
 use Rattle.line.specs.Premises.{DueOfGroup}
 use Rattle.line.proofs.AnswerSteps.{known-line}
 use Rattle.line.proofs.GroupArrivalSteps.{arrive-group-untouched}
-use Rattle.line.proofs.GroupEnvelopeSteps.{send, arrived-right}
+use Rattle.line.proofs.GroupEnvelopeSteps.{send, arrived-right, unsynced-refused}
 use Rattle.line.proofs.Invariant.{laneOf, arrivalIn, Invariant}
 use Rattle.line.proofs.OverheardSteps.{unit-overheard, group-overheard}
 
@@ -89,7 +89,8 @@ module _ (w : Setting) (s : State) (i : Invariant w s) where
       record {
         sent = a .sent;
         clear = λ p q. opened-claim w (groupLaneAt s g) r way (a .clear p q);
-        sealed = λ p q. opened-claim w (groupLaneAt s g) r way (a .sealed p q);
+        sealed = λ p t q. opened-claim w (groupLaneAt s g) r way (a .sealed p t q);
+        unsynced = a .unsynced;
       }
 
   ---- counter blocks
@@ -114,8 +115,8 @@ module _ (w : Setting) (s : State) (i : Invariant w s) where
       let y = groupSentAt s g b in
       let here = at-sent g b below in
       let j = i .group g (sent-known g y here) in
-      let ways = j .sends x (at-sent g a (omega (arith, before, below))) .way ∙ sym (j .sends y here .way) in
-      let t = j .spaced .apart a b before below ways sealed number channel in
+      let first = j .sends x (at-sent g a (omega (arith, before, below))) .way in
+      let t = j .spaced .down a b before below first (j .sends y here .way) sealed number channel in
       clocks-differ (w .first) (x .left) (x .left) (y .left) (omega arith) (t .0) (t .1) clock
 
   one-send : (g m n a b : ℕ) → m < length (groupLaneAt s g .sent) → n < length (groupLaneAt s g .sent) → 1 ≤ groupSentAt s g m .number
@@ -176,14 +177,14 @@ module _ (w : Setting) (s : State) (i : Invariant w s) where
 
   -- an envelope under a key that the unit acknowledged
   back : (u g k : ℕ) (out : List ℕ) (e : Envelope) (a : GroupAnswered) → DueOfGroup s u g k out → groupThingAt s u g k ≡ envelope e
-      → List·Memᴰ a (groupLaneAt s g .answered) → a .unit ≡ u → a .answer .number ≡ e .number → 1 ≤ e .number
-      → GroupOpened w (groupLaneAt s g) (groupReceipt s u e out)
+      → List·Memᴰ a (groupLaneAt s g .answered) → a .unit ≡ u → a .answer .number ≡ e .number → isSynced (laneAt (alone s) u) ≡ true
+      → 1 ≤ e .number → GroupOpened w (groupLaneAt s g) (groupReceipt s u e out)
   unfolding groupReceipt
-  back u g k out e a d is m who number sealed =
+  back u g k out e a d is m who number synced sealed =
       let q = send w s u g k out i d e is in
       let took : hasTaken (joinedBy s u) (e .llid) (e .number) ≡ true =
       rw (who, number, ← q .llid) at (i .answered g a (answered-known g a m) m) in
-      opened-claim w (groupLaneAt s g) (groupReceipt s u e out) (q .way) (arrived-right w s u g k out i d e is .sealed took sealed)
+      opened-claim w (groupLaneAt s g) (groupReceipt s u e out) (q .way) (arrived-right w s u g k out i d e is .sealed took synced sealed)
 
   pub claim-holds : Claim w s
   claim-holds =
@@ -195,6 +196,7 @@ module _ (w : Setting) (s : State) (i : Invariant w s) where
         groupSent = group-sent;
         groupArrived = group-arrived;
         answered = λ g a m. i .answered g a (answered-known g a m) m;
+        unsynced = λ u g k out e d is joined down some. unsynced-refused w s u g k out i d e is joined down some;
         back = back;
         untouched = arrive-group-untouched w s i;
       }

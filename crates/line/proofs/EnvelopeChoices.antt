@@ -14,11 +14,10 @@ use Rattle.refusal.specs.declared.Refusal.the-variants.{NoKey, ClearEnvelope}
 use Rattle.refusal.specs.declared.Verdict.the-variants.{Accepted}
 use Rattle.ends.specs.Flags.{isUp}
 use Rattle.ends.proofs.Keys.{only-kept}
-use Rattle.protocol.specs.Headers.{choiceNumber, choiceVerdict}
+use Rattle.protocol.specs.Headers.{choiceEnciphered, choiceNumber, choiceVerdict}
 use Rattle.protocol.specs.declared.Header.{Header}
 use Rattle.protocol.specs.declared.KeyChoice.{KeyChoice}
 use Rattle.protocol.specs.declared.KeyChoice.the-variants.{Clear, Current, Next, Barred}
-use Rattle.traffic.specs.Passages.{choiceEnciphered}
 use Rattle.groups.specs.JoinedCalls.{holds, joinedChoice, joinedMoved, joinedAfterReceipt}
 use Rattle.groups.specs.declared.Joined.{Joined}
 use Rattle.groups.proofs.JoinedCalls.{next-held}
@@ -80,10 +79,10 @@ chosen-sealed j h n some e index held = ⊎-elim next current (either-cases _ _ 
 
 ---- what a receipt leaves
 
-module _ (l : GroupLane) (active offered : ℕ) (member : Bool) (ms : List Membership) (synced : ℕ) (j : Joined) (xs rest : List Thing) (n : ℕ)
-    (f : Follows l active offered member ms synced j xs) (low : j .keys .active ≤ n) (most : n ≤ active)
+module _ (l : GroupLane) (active offered : ℕ) (member : Bool) (ms : List Membership) (j : Joined) (xs rest : List Thing) (n : ℕ)
+    (f : Follows l active offered member ms j xs) (low : j .keys .active ≤ n) (most : n ≤ active)
     (after : Under l n active offered rest) (is : member ≡ true) where
-  same-follows : Follows l active offered member ms synced j rest
+  same-follows : Follows l active offered member ms j rest
   same-follows =
       record {
         low = f .low;
@@ -105,7 +104,7 @@ module _ (l : GroupLane) (active offered : ℕ) (member : Bool) (ms : List Membe
       (λ p. either-left _ (lt-ltb k (j .keys .active + 1) (omega (arith, eqb-true k (j .keys .active) (both-right _ _ p))))) (either-cases _ _ h))
       (either-cases _ _ e)
 
-  moved-follows : j .keys .held ≡ 1 → j .keys .active + 1 ≤ n → Follows l active offered member ms synced (joinedMoved j) rest
+  moved-follows : j .keys .held ≡ 1 → j .keys .active + 1 ≤ n → Follows l active offered member ms (joinedMoved j) rest
   unfolding joinedMoved
   moved-follows up above =
       let key = f .held up in
@@ -113,15 +112,15 @@ module _ (l : GroupLane) (active offered : ℕ) (member : Bool) (ms : List Membe
         low = omega (arith, above, most);
         kept = λ e. record { some = key .some; most = key .most; key = only-kept (j .keys .slots) (j .keys .active + 1) ∙ key .key };
         held = λ e. absurd (omega (arith, e));
-        took = λ k t. let was = f .took k t in (was .0, took-moved up k (was .1));
+        took = λ k t. took-moved up k (f .took k t);
         queue = under-lower l n (j .keys .active + 1) active offered rest above after;
         stranger = λ e. true-false (sym is ∙ e);
       }
 
-  pub receipt-follows : (h : Header) → h .enckey ≡ n % 2 → Follows l active offered member ms synced (joinedAfterReceipt (joinedChoice j h) j) rest
+  pub receipt-follows : (h : Header) → h .enckey ≡ n % 2 → Follows l active offered member ms (joinedAfterReceipt (joinedChoice j h) j) rest
   unfolding joinedAfterReceipt
   receipt-follows h index = by-choice (joinedChoice j h) refl where
-    by-choice : (c : KeyChoice) → joinedChoice j h ≡ c → Follows l active offered member ms synced (joinedAfterReceipt c j) rest
+    by-choice : (c : KeyChoice) → joinedChoice j h ≡ c → Follows l active offered member ms (joinedAfterReceipt c j) rest
     by-choice Clear e = same-follows
     by-choice (Current m) e = same-follows
     by-choice (Barred r) e = same-follows

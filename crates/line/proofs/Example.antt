@@ -11,28 +11,30 @@ use Rattle.octets.proofs.Choice.{true-false}
 use Rattle.octets.proofs.Members.{mem-at}
 use Rattle.octets.specs.Output.{WithOutput}
 use Rattle.refusal.specs.Number.{numberOf}
+use Rattle.refusal.specs.declared.Refusal.the-variants.{ClockNotSet}
 use Rattle.envelope.specs.declared.Nonce.{Nonce}
 use Rattle.sealing.specs.KeyExpansion.{keyExpansion}
 use Rattle.sealing.specs.Seal.{carried, countCarried}
 use Rattle.traffic.specs.Passages.{misfit}
 use Rattle.multicast.specs.declared.SubscriberReceived.{SubscriberReceived}
-use Rattle.unicast.specs.History.{Envelope, Thing, clockMessage, keyMessage, envelope, downward, upward, keyOf}
-use Rattle.unicast.specs.Run.{noEnvelope}
+use Rattle.unicast.specs.History.{Envelope, Thing, clockMessage, keyMessage, envelope, downward, upward, keyOf, isSynced}
+use Rattle.unicast.specs.Run.{laneAt, noEnvelope}
 use Rattle.unicast.specs.Premises.{Fresh}
 use Rattle.unicast.specs.Claim.{isSealed, overheardFor}
 use Rattle.unicast.specs.Example.{blank}
 use Rattle.unicast.proofs.Example.{nonce-is, header-is, carried-is, numbered, agreed}
 use Rattle.unicast.proofs.Tested.{fresh-true}
 use Rattle.line.specs.History.{GroupArrival, GroupLane, isJoined}
-use Rattle.line.specs.Run.{State, start, joinedBy, groupLaneAt, groupSentAt, groupThingAt, groupAnswerAt, groupReceipt}
+use Rattle.line.specs.Run.{State, alone, start, joinedBy, groupLaneAt, groupSentAt, groupThingAt, groupAnswerAt, groupReceipt}
 use Rattle.line.specs.Premises.{Meets}
 use Rattle.line.specs.Claim.{groupNonce, GroupOpened, Sender, unit, group, sentBy, sentByAt, notReceived, Claim}
-use Rattle.line.specs.Example.{example, groupLlid, toFirstKey, toReturn, events}
+use Rattle.line.specs.Example.{example, groupLlid, toFirstKey, toReturn, toUnsynced, toSynced, events}
 use Rattle.line.specs.Course.{after, played, arrivalNumber, callNumber, refusals, Course}
-use Rattle.line.specs.Demand.{arrivalAt, HandedClear, Handed, Opens, Passed, Delivered, Apart, Back, Overheard, Left, Shown, Demand}
+use Rattle.line.specs.Demand.{arrivalAt, HandedClear, Handed, Opens, Passed, Delivered, NotOpened, Apart, Back, Unsynced, Overheard, Left, Shown, Demand}
 use Rattle.line.proofs.Opened.{opened}
 use Rattle.line.proofs.Tested.{tested, meets, meets-true, meets-start, dueOfGroup, due-of-group-true, overhearsGroup, overhears-group-true}
 use Rattle.line.proofs.Theorem.{line-holds}
+use Rattle.line.proofs.Unchanged.{unchanged}
 use Rattle.line.proofs.Without.{without-groups}
 
 ---- the premises
@@ -150,7 +152,7 @@ module _ (c : Claim example played) where
       }
 
   delivered : (k u : ℕ) {key : List ℕ} {n : Nonce} {payload : List ℕ} {count : ℕ} → ltb k (length (groupLaneAt played 0 .arrived)) ≡ true
-      → arrivalAt k .unit ≡ u → arrivalAt k .took ≡ true → isSealed (arrivalAt k .envelope) ≡ true
+      → arrivalAt k .unit ≡ u → arrivalAt k .took ≡ true → arrivalAt k .synced ≡ true → isSealed (arrivalAt k .envelope) ≡ true
       → keyOf (groupLaneAt played 0 .keys) (arrivalAt k .envelope .number) ≡ key
       → eqb (groupNonce example (arrivalAt k .envelope) .channel) (n .channel) ≡ true
       → eqb (groupNonce example (arrivalAt k .envelope) .mac) (n .mac) ≡ true
@@ -158,15 +160,23 @@ module _ (c : Claim example played) where
       → arrivalAt k .envelope .payload ≡ payload
       → countCarried (isSealed (arrivalAt k .envelope)) (arrivalAt k .envelope .payload) ≡ count
       → Delivered k u key n payload count
-  delivered k u some there took sealed hkey hchannel hmac hclock hpayload hcount =
+  delivered k u some there took synced sealed hkey hchannel hmac hclock hpayload hcount =
       let below = ltb-true _ _ some in
       let r = c .groupArrived 0 (arrivalAt k) (mem-at (groupLaneAt played 0 .arrived) k _ below) in
       let sent = c .groupSent 0 (arrivalAt k .envelope) (r .sent) in
       record {
         some = below;
         there = there;
-        opens = opens-as (r .sealed took (leb-true _ _ sealed)) sealed hkey hchannel hmac hclock hpayload (sent .count ∙ hcount);
+        opens = opens-as (r .sealed took synced (leb-true _ _ sealed)) sealed hkey hchannel hmac hclock hpayload (sent .count ∙ hcount);
       }
+
+  not-opened : (k u : ℕ) {number : ℕ} → ltb k (length (groupLaneAt played 0 .arrived)) ≡ true → arrivalAt k .unit ≡ u
+      → arrivalAt k .joined ≡ true → arrivalAt k .synced ≡ false → isSealed (arrivalAt k .envelope) ≡ true → numberOf ClockNotSet ≡ number
+      → NotOpened k u number
+  not-opened k u some there member unsynced sealed hnumber =
+      let below = ltb-true _ _ some in
+      let r = c .groupArrived 0 (arrivalAt k) (mem-at (groupLaneAt played 0 .arrived) k _ below) in
+      record { some = below; there = there; refused = r .unsynced member unsynced (leb-true _ _ sealed) ∙ hnumber }
 
   apart : (x : Sender) (i : ℕ) (y : Sender) (j : ℕ) → ltb i (length (sentBy played x)) ≡ true → ltb j (length (sentBy played y)) ≡ true
       → isSealed (sentByAt played x i) ≡ true → isSealed (sentByAt played y j) ≡ true → ((x ≡ y) × (i ≡ j) → ⊥) → Apart x i y j
@@ -203,7 +213,7 @@ module _ {s : State} (c : Claim example s) where
   back-as : (u k j : ℕ) {out key : List ℕ} {n : Nonce} {payload : List ℕ} {count : ℕ} → dueOfGroup s u 0 k out ≡ true
       → isEnvelope (groupThingAt s u 0 k) ≡ true → ltb j (length (groupLaneAt s 0 .answered)) ≡ true → groupAnswerAt s 0 j .unit ≡ u
       → eqb (groupAnswerAt s 0 j .answer .number) (envelopeIn (groupThingAt s u 0 k) .number) ≡ true
-      → isSealed (envelopeIn (groupThingAt s u 0 k)) ≡ true
+      → isSynced (laneAt (alone s) u) ≡ true → isSealed (envelopeIn (groupThingAt s u 0 k)) ≡ true
       → keyOf (groupLaneAt s 0 .keys) (envelopeIn (groupThingAt s u 0 k) .number) ≡ key
       → eqb (groupNonce example (envelopeIn (groupThingAt s u 0 k)) .channel) (n .channel) ≡ true
       → eqb (groupNonce example (envelopeIn (groupThingAt s u 0 k)) .mac) (n .mac) ≡ true
@@ -211,17 +221,34 @@ module _ {s : State} (c : Claim example s) where
       → envelopeIn (groupThingAt s u 0 k) .payload ≡ payload → envelopeIn (groupThingAt s u 0 k) .count ≡ count
       → Back s u k out key n payload count
   unfolding groupReceipt
-  back-as u k j {out} due some answered who number sealed hkey hchannel hmac hclock hpayload hcount =
+  back-as u k j {out} due some answered who number synced sealed hkey hchannel hmac hclock hpayload hcount =
       let e = envelopeIn (groupThingAt s u 0 k) in
       let d = due-of-group-true s u 0 k out due in
       let comes = envelope-in (groupThingAt s u 0 k) some in
       let a = mem-at (groupLaneAt s 0 .answered) j _ (ltb-true _ _ answered) in
-      let o = c .back u 0 k out e (groupAnswerAt s 0 j) d comes a who (eqb-true _ _ number) (leb-true _ _ sealed) in
+      let o = c .back u 0 k out e (groupAnswerAt s 0 j) d comes a who (eqb-true _ _ number) synced (leb-true _ _ sealed) in
       record {
         arriving = e;
         due = comes;
         opens = opens-as o sealed hkey hchannel hmac hclock hpayload hcount;
         untouched = c .untouched u 0 k out d;
+      }
+
+  unsynced-as : (u k : ℕ) {out : List ℕ} {number : ℕ} → dueOfGroup s u 0 k out ≡ true → isEnvelope (groupThingAt s u 0 k) ≡ true
+      → isJoined (joinedBy s u) (envelopeIn (groupThingAt s u 0 k) .llid) ≡ true → isSynced (laneAt (alone s) u) ≡ false
+      → isSealed (envelopeIn (groupThingAt s u 0 k)) ≡ true → numberOf ClockNotSet ≡ number → Unsynced s u k out number
+  unfolding notReceived
+  unsynced-as u k {out} due some member unsynced sealed hnumber =
+      let comes = envelope-in (groupThingAt s u 0 k) some in
+      let e = c .unsynced u 0 k out _ (due-of-group-true s u 0 k out due) comes member unsynced (leb-true _ _ sealed) in
+      record {
+        arriving = envelopeIn (groupThingAt s u 0 k);
+        due = comes;
+        refused = ap (λ (r : WithOutput SubscriberReceived). r .answer .number) e ∙ hnumber;
+        count = ap (λ (r : WithOutput SubscriberReceived). r .answer .count) e;
+        runs = ap (λ (r : WithOutput SubscriberReceived). r .answer .runs) e;
+        unit = ap (λ (r : WithOutput SubscriberReceived). r .answer .subscriber) e;
+        buffer = ap (λ (r : WithOutput SubscriberReceived). r .output) e;
       }
 
   overheard-as : (u k : ℕ) {out : List ℕ} {number : ℕ} → overhearsGroup s u 0 k ≡ true → isJoined (joinedBy s u) (groupSentAt s 0 k .llid) ≡ false
@@ -240,23 +267,31 @@ module _ {s : State} (c : Claim example s) where
   left-as : (u k : ℕ) {out : List ℕ} → overhearsGroup s u 0 k ≡ true → Left s u k out
   left-as u k {out} hears = record { unit = c .overheardOfGroup u 0 k out (overhears-group-true s u 0 k hears) .left }
 
-shown : Claim example (after toFirstKey) → Claim example (after toReturn) → Claim example played → Shown
+shown : Claim example (after toFirstKey) → Claim example (after toReturn) → Claim example (after toUnsynced) → Claim example (after toSynced)
+    → Claim example played → Shown
 unfolding opened tested isEnvelope envelopeIn
-shown first before whole =
+shown first before unsynced synced whole =
     record {
       sentClear = handed-clear whole 0 refl refl refl refl refl refl (λ x n. refl) refl;
       clearB = passed whole 0 1 refl refl refl refl refl refl refl;
       clearA = passed whole 1 0 refl refl refl refl refl refl refl;
       sent1 = handed whole 1 refl refl refl refl refl refl refl refl refl refl;
-      downB1 = delivered whole 2 1 refl refl refl refl refl refl refl refl refl refl;
-      downA1 = delivered whole 3 0 refl refl refl refl refl refl refl refl refl refl;
+      downB1 = delivered whole 2 1 refl refl refl refl refl refl refl refl refl refl refl;
+      downA1 = delivered whole 3 0 refl refl refl refl refl refl refl refl refl refl refl;
       sent2 = handed whole 2 refl refl refl refl refl refl refl refl refl refl;
-      downA2 = delivered whole 5 0 refl refl refl refl refl refl refl refl refl refl;
+      downA2 = delivered whole 5 0 refl refl refl refl refl refl refl refl refl refl refl;
       lost2 = handed whole 3 refl refl refl refl refl refl refl refl refl refl;
       sent3 = handed whole 4 refl refl refl refl refl refl refl refl refl refl;
-      downB3 = delivered whole 6 1 refl refl refl refl refl refl refl refl refl refl;
-      downA3 = delivered whole 7 0 refl refl refl refl refl refl refl refl refl refl;
-      back = back-as before 1 1 4 {out = blank} refl refl refl refl refl refl refl refl refl refl refl refl;
+      downB3 = delivered whole 6 1 refl refl refl refl refl refl refl refl refl refl refl;
+      downA3 = delivered whole 7 0 refl refl refl refl refl refl refl refl refl refl refl;
+      back = back-as before 1 1 4 {out = blank} refl refl refl refl refl refl refl refl refl refl refl refl refl;
+      unsynced = unsynced-as unsynced 1 0 {out = blank} refl refl refl refl refl refl;
+      notOpenedB3 = not-opened whole 8 1 refl refl refl refl refl refl;
+      onA3 = delivered whole 9 0 refl refl refl refl refl refl refl refl refl refl refl;
+      againB3 = delivered whole 10 1 refl refl refl refl refl refl refl refl refl refl refl;
+      backSynced = back-as synced 1 0 7 {out = blank} refl refl refl refl refl refl refl refl refl refl refl refl refl;
+      downB4 = delivered whole 11 1 refl refl refl refl refl refl refl refl refl refl refl;
+      downA4 = delivered whole 12 0 refl refl refl refl refl refl refl refl refl refl refl;
       apartTicks = apart whole (group 0) 2 (group 0) 3 refl refl refl refl (λ one. omega (arith, one .1));
       apartLines = apart whole (group 0) 1 (unit 0) 0 refl refl refl refl (λ one. true-false cc);
       agreed =
@@ -268,8 +303,14 @@ shown first before whole =
 
 ---- the whole
 
+synced-meets : Meets example (start example) toSynced
+synced-meets = meets-start example (start example) toSynced _ example-meets
+
+unsynced-meets : Meets example (start example) toUnsynced
+unsynced-meets = meets-start example (start example) toUnsynced _ synced-meets
+
 return-meets : Meets example (start example) toReturn
-return-meets = meets-start example (start example) toReturn _ example-meets
+return-meets = meets-start example (start example) toReturn _ unsynced-meets
 
 first-meets : Meets example (start example) toFirstKey
 first-meets = meets-start example (start example) toFirstKey _ return-meets
@@ -279,10 +320,12 @@ demand =
     record {
       theorem = line-holds;
       asBefore = without-groups;
+      unchanged = unchanged;
       fresh = example-fresh;
       meets = example-meets;
       course = course;
       shown =
           shown (line-holds example toFirstKey example-fresh first-meets) (line-holds example toReturn example-fresh return-meets)
+          (line-holds example toUnsynced example-fresh unsynced-meets) (line-holds example toSynced example-fresh synced-meets)
           (line-holds example events example-fresh example-meets);
     }

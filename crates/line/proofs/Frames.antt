@@ -1,4 +1,4 @@
--- What holds of a group at the OLT and at a unit holds when the line knows more, the unit's clock is set, or channels are free later.
+-- What holds of a group at the OLT and at a unit holds when the line knows more, or channels are free later.
 -- Assumes nothing.
 use mathlib.Core.Path.{_≡_, refl, sym, _∙_, ap}
 use mathlib.Core.Bool.{Bool, true, false}
@@ -29,16 +29,16 @@ pub held-moved : (g g' : GroupLane) (offered offered' : ℕ) (j : Joined) (n : �
 held-moved g g' offered offered' j n k h r =
     record { some = r .some; most = omega (arith, r .most); key = r .key ∙ k .keys n (r .some) (r .most) }
 
--- the line knows more, the unit may have become a member, and its clock may have been set
-pub follows-moved : (g g' : GroupLane) (active active' offered offered' : ℕ) (member member' : Bool) (ms : List Membership) (synced synced' : ℕ) (j : Joined)
-    (xs : List Thing) → Grown g g' offered → active ≤ active' → offered ≤ offered' → (member' ≡ false → member ≡ false) → (synced ≡ 1 → synced' ≡ 1)
-    → Follows g active offered member ms synced j xs → Follows g' active' offered' member' ms synced' j xs
-follows-moved g g' active active' offered offered' member member' ms synced synced' j xs k a b c d f =
+-- the line knows more, and the unit may have become a member
+pub follows-moved : (g g' : GroupLane) (active active' offered offered' : ℕ) (member member' : Bool) (ms : List Membership) (j : Joined)
+    (xs : List Thing) → Grown g g' offered → active ≤ active' → offered ≤ offered' → (member' ≡ false → member ≡ false)
+    → Follows g active offered member ms j xs → Follows g' active' offered' member' ms j xs
+follows-moved g g' active active' offered offered' member member' ms j xs k a b c f =
     record {
       low = omega (arith, f .low);
       kept = λ e. held-moved g g' offered offered' j _ k b (f .kept e);
       held = λ e. held-moved g g' offered offered' j _ k b (f .held e);
-      took = λ n t. let r = f .took n (rw (k .llid) at t) in (d (r .0), r .1);
+      took = λ n t. f .took n (rw (k .llid) at t);
       queue = under-carried g g' (j .keys .active) (j .keys .active) active active' offered offered' xs k (omega arith) a b (f .queue);
       stranger = λ e. f .stranger (c e);
     }
@@ -80,7 +80,8 @@ arrived-moved w g g' a top n h r =
     record {
       sent = n .sent (a .envelope) (r .sent);
       clear = λ p q. arrived-carried w (laneOf g) (laneOf g') top (knows g g' top n) (arrivalIn a) h (r .clear p q);
-      sealed = λ p q. arrived-carried w (laneOf g) (laneOf g') top (knows g g' top n) (arrivalIn a) h (r .sealed p q);
+      sealed = λ p t q. arrived-carried w (laneOf g) (laneOf g') top (knows g g' top n) (arrivalIn a) h (r .sealed p t q);
+      unsynced = r .unsynced;
     }
 
 -- channels are free from no earlier

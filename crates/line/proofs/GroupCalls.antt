@@ -98,11 +98,11 @@ leaving-at g ls x u h =
     ∙ ap (λ (v : ℕ). pick (isMember g (getD ls v noLane)) (getD (g .towards) v [] ++ (x ∷ [])) (getD (g .towards) v [])) (omega arith)
 
 -- each queue has one thing more, or stays
-pub leaving-follows : (g g' : GroupLane) (active active' offered offered' : ℕ) (member : Bool) (ms : List Membership) (synced : ℕ) (j : Joined)
+pub leaving-follows : (g g' : GroupLane) (active active' offered offered' : ℕ) (member : Bool) (ms : List Membership) (j : Joined)
     (xs : List Thing) (x : Thing) → Grown g g' offered → active ≤ active' → offered ≤ offered'
     → (Under g' (j .keys .active) active' offered' xs → j .keys .active ≤ active' → Under g' (j .keys .active) active' offered' (xs ++ (x ∷ [])))
-    → Follows g active offered member ms synced j xs → Follows g' active' offered' member ms synced j (pick member (xs ++ (x ∷ [])) xs)
-leaving-follows g g' active active' offered offered' member ms synced j xs x k a b more f =
+    → Follows g active offered member ms j xs → Follows g' active' offered' member ms j (pick member (xs ++ (x ∷ [])) xs)
+leaving-follows g g' active active' offered offered' member ms j xs x k a b more f =
     let low : j .keys .active ≤ active' = omega (arith, f .low) in
     let old = under-carried g g' (j .keys .active) (j .keys .active) active active' offered offered' xs k (omega arith) a b (f .queue) in
     record {

@@ -10,21 +10,20 @@ use borrow.Author.Tests.{le-leb, eqb-true, eqb-false, ltb-true}
 use Rattle.octets.specs.Choice.{both, pick}
 use Rattle.octets.proofs.Choice.{both-left}
 use Rattle.ends.specs.Flags.{isUp}
-use Rattle.ends.specs.Keys.{keyIn, validFirst}
+use Rattle.ends.specs.Keys.{keyIn}
 use Rattle.ends.specs.Records.{withSlots, withFirst}
 use Rattle.ends.specs.declared.Channels.{Channels}
 use Rattle.ends.specs.declared.UnitKeys.{UnitKeys}
 use Rattle.ends.proofs.Keys.{only-kept}
-use Rattle.protocol.specs.Headers.{choiceNumber, choiceAged}
+use Rattle.protocol.specs.Headers.{choiceEnciphered, choiceNumber, choiceAged}
 use Rattle.protocol.specs.UnitTraffic.{keysSwitched, keysAfterSend}
 use Rattle.protocol.specs.declared.KeyChoice.{KeyChoice}
 use Rattle.protocol.specs.declared.KeyChoice.the-variants.{Clear, Current, Next}
-use Rattle.traffic.specs.Passages.{choiceEnciphered}
 use Rattle.groups.specs.GroupCalls.{groupSwitches, groupSendChoice, wipedAtSwitch, groupKeysAfterSend}
 use Rattle.groups.specs.declared.GroupRecord.{GroupRecord}
 use Rattle.unicast.specs.Setting.{Setting}
 use Rattle.unicast.specs.History.{Entry, Keys, due}
-use Rattle.unicast.proofs.Invariant.{Timing}
+use Rattle.unicast.proofs.Invariant.{Timing, Begun}
 use Rattle.unicast.proofs.SendChoices.{flag-up, one-ahead, timing-stayed, timing-switched}
 use Rattle.unicast.proofs.Spending.{Renewed, renewed-current, renewed-next, renewed-clear}
 use Rattle.line.specs.History.{GroupLane, groupSwitching, groupNumber}
@@ -60,7 +59,7 @@ module _ (w : Setting) (c : Channels) (now : ℕ) (g : GroupLane) (r : GroupReco
       one-ahead (r .keys .active) (r .keys .active) (r .keys .offered) (omega arith) (j .mid) (j .next) ∙ ap₂ ltb (j .counted) (j .listed) in
       rw (flag, ahead) (both-swapped (due (g .entry) (g .keys) now) (ltb (g .keys .switches) (length (g .keys .offers))))
 
-  chosen-by : validFirst (r .keys .first) now ≡ true → (s z : Bool) → groupSwitching g now ≡ s → eqb (r .keys .active) 0 ≡ z
+  chosen-by : Begun (r .keys .first) now → (s z : Bool) → groupSwitching g now ≡ s → eqb (r .keys .active) 0 ≡ z
       → Chosen (g .entry) now (r .keys)
       (groupKeysAfterSend (pick s (Next (r .keys .offered)) (pick z Clear (Current (r .keys .active)))) (r .keys) now)
       (pick s (Next (r .keys .offered)) (pick z Clear (Current (r .keys .active))))
@@ -113,7 +112,7 @@ module _ (w : Setting) (c : Channels) (now : ℕ) (g : GroupLane) (r : GroupReco
         renewed = λ a. rw (j .counted) (renewed-current (r .keys .first) (g .keys .switches) now v a);
       }
 
-  pub chosen-send : (tick : ℕ) → tick ≡ now → validFirst (r .keys .first) tick ≡ true
+  pub chosen-send : (tick : ℕ) → tick ≡ now → Begun (r .keys .first) tick
       → Chosen (g .entry) now (r .keys) (groupKeysAfterSend (groupSendChoice (r .keys)) (r .keys) tick) (groupSendChoice (r .keys)) (groupNumber g now)
       (pick (groupSwitching g now) now (g .keys .switched))
   unfolding groupSendChoice groupNumber

@@ -1,7 +1,7 @@
--- An envelope of a group that arrives at a unit keeps the invariant; where the unit has its key, or it is clear, it gives back what was sent.
--- Assumes nothing.
+-- An envelope of a group that arrives at a unit keeps the invariant; where the unit is synced and has its key, or it is clear, it gives back
+-- what was sent; a sealed one is refused 5 by a unit that is not synced. Assumes nothing.
 use mathlib.Core.Path.{_≡_, refl, sym, _∙_, ap, ap₂, subst}
-use mathlib.Core.Bool.{Bool, true, false}
+use mathlib.Core.Bool.{Bool, true, false, not}
 use mathlib.Core.List.{List, []}
 use mathlib.Core.Logic.{⊎-elim}
 use Prim.Native.Nat.{ℕ, suc, _+_, _%_, _≤_}
@@ -9,24 +9,26 @@ use native.Mathlib.Omega.{arith}
 use lib.Dec.{eqb}
 use lib.ListN.{getD, set, drop}
 use lib.Seq.{set-getD}
-use borrow.Author.Tests.{eqb-true, eqb-false, eq-eqb, ltb-true}
+use borrow.Author.Tests.{eqb-true, eqb-false, eq-eqb, ne-eqb, ltb-true}
+use Rattle.octets.specs.Choice.{both, pick}
 use Rattle.octets.specs.Output.{WithOutput}
-use Rattle.octets.proofs.Choice.{both-true, either-cases, not-of-true, then-both-false, true-false}
+use Rattle.octets.proofs.Choice.{both-true, both-false-left, either-cases, not-of-true, not-of-false, then-both-false, true-false}
 use Rattle.octets.proofs.Members.{each-more}
 use Rattle.refusal.specs.declared.Refusal.the-variants.{BadLength, OutOfRange, EpamDiffers, ClockNotSet}
 use Rattle.refusal.specs.declared.Verdict.{Verdict}
 use Rattle.refusal.specs.declared.Verdict.the-variants.{Accepted, Refused}
 use Rattle.refusal.proofs.Numbers.{number-accepted}
-use Rattle.refusal.proofs.Order.{refuse-passed}
+use Rattle.refusal.proofs.Order.{refuse-passed, refuse-stopped}
 use Rattle.clock.specs.Ticks.{epamOf}
 use Rattle.envelope.specs.Channels.{downstream}
+use Rattle.sealing.specs.Seal.{countCarried, runsCarried}
 use Rattle.ends.specs.Identities.{has}
 use Rattle.ends.specs.Keys.{keyIn}
 use Rattle.ends.specs.Validity.{validOnu}
 use Rattle.ends.specs.declared.Found.{Found}
 use Rattle.ends.specs.declared.Found.the-variants.{At, Nowhere}
 use Rattle.ends.specs.declared.Onu.{Onu}
-use Rattle.protocol.specs.Headers.{validHeader, envelopeHeader, keyFor, passageOf, noPassage}
+use Rattle.protocol.specs.Headers.{choiceEnciphered, validHeader, envelopeHeader, keyFor, passageOf, noPassage}
 use Rattle.protocol.specs.OnuTraffic.{receivingOnu}
 use Rattle.protocol.specs.Replies.{Reply}
 use Rattle.protocol.specs.declared.Header.{Header}
@@ -34,8 +36,8 @@ use Rattle.protocol.specs.declared.Passage.{Passage}
 use Rattle.protocol.proofs.Headers.{header-clear, header-sealed, header-valid, key-for}
 use Rattle.protocol.proofs.OnuCalls.{onu-accepted}
 use Rattle.protocol.proofs.OnuChoices.{onu-receive-accepted}
-use Rattle.protocol.proofs.Replies.{reply-accepted}
-use Rattle.traffic.specs.Passages.{misfit, outputAfter}
+use Rattle.protocol.proofs.Replies.{reply-accepted, reply-refused}
+use Rattle.traffic.specs.Passages.{misfit, passedCount, passedRuns, outputAfter}
 use Rattle.traffic.specs.Receipts.{onuReceived, onuReceiveOf}
 use Rattle.groups.specs.Head.{groupAt}
 use Rattle.groups.specs.JoinedCalls.{holds, joinedChoice, joinedReceiveVerdict, joinedAfterReceipt, receiveJoined}
@@ -49,16 +51,18 @@ use Rattle.multicast.specs.SubscriberCalls.{putJoined, joinedLift}
 use Rattle.multicast.specs.SubscriberTraffic.{subscriberReceived, groupReceiveOf, subscriberReceiveOf}
 use Rattle.multicast.specs.declared.SubscriberReceived.{SubscriberReceived}
 use Rattle.unicast.specs.Setting.{Setting, clockDown}
-use Rattle.unicast.specs.History.{Envelope, Thing, envelope, leftAt, keyOf}
+use Rattle.unicast.specs.History.{Envelope, Thing, envelope, leftAt, keyOf, isSynced}
 use Rattle.unicast.specs.Run.{laneAt}
 use Rattle.unicast.specs.Premises.{FittingBuffer}
 use Rattle.unicast.specs.Claim.{PassageRight, ArrivedRight}
+use Rattle.unicast.proofs.Frames.{clock-some}
 use Rattle.unicast.proofs.Envelopes.{arrivalOf, opens-right, octets-fit}
 use Rattle.unicast.proofs.OnuSteps.{receive-refused}
 use Rattle.unicast.proofs.ReceiptDownSteps.{rx-at}
 use Rattle.line.specs.History.{GroupLane, isMember, isJoined, hasTaken, groupWith, groupTaken, groupArrived}
 use Rattle.line.specs.Run.{State, alone, subscriberAt, joinedBy, groupLaneAt, groupThingAt, now, atUnit, receiving, groupPassage, groupReceipt, groupThingArriving}
 use Rattle.line.specs.Premises.{DueOfGroup}
+use Rattle.line.specs.Claim.{notReceived, RefusedFor}
 use Rattle.line.proofs.Alone.{onu-alone}
 use Rattle.line.proofs.AloneUnit.{receive-onu}
 use Rattle.line.proofs.Arriving.{joined-listed, known, unit-known, follows, member, alive, strange, taken, taken-own, taken-others, taken-length}
@@ -119,11 +123,22 @@ module _ (w : Setting) (s : State) (u g k : ℕ) (out : List ℕ) (i : Invariant
   unfolding alone
   rx up =
       let a = alive w s u g k out i d in
-      let due : e .left + laneAt (alone s) u .site .down ≡ now s = ap (λ (y : Thing). leftAt y + laneAt (alone s) u .site .down) (sym is) ∙ d .at in
+      let due : e .left + laneAt (alone s) u .path .down ≡ now s = ap (λ (y : Thing). leftAt y + laneAt (alone s) u .path .down) (sym is) ∙ d .at in
       let o = onu-alone s u in
       ap (λ (y : Onu). y .clock .rx) (sym o)
-      ∙ rx-at (w .first) (now s) (e .left) (laneAt (alone s) u .site .up) (laneAt (alone s) u .site .down) _
+      ∙ rx-at (w .first) (now s) (e .left) (laneAt (alone s) u .path .up) (laneAt (alone s) u .path .down) _
       (a .joined .clocks .synced (ap (λ (y : Onu). y .clock .synced) o ∙ up)) due
+
+  -- the list tells whether the unit is synced
+  synced-up : isSynced (laneAt (alone s) u) ≡ true → x .onu .clock .synced ≡ 1
+  synced-up t =
+      let a = alive w s u g k out i d .joined .answers in
+      ap (λ (y : Onu). y .clock .synced) (sym (onu-alone s u))
+      ∙ clock-some (laneAt (alone s) u .transit .answered) (λ y m kind. a .each y m .0 kind) t
+
+  synced-down : isSynced (laneAt (alone s) u) ≡ false → x .onu .clock .synced ≡ 1 → ⊥
+  synced-down f up =
+      true-false (sym (alive w s u g k out i d .joined .answers .set (ap (λ (y : Onu). y .clock .synced) (onu-alone s u) ∙ up)) ∙ f)
 
   -- only what is sealed says so
   sealed-some : e .header .encenabled ≡ 1 → 1 ≤ e .number
@@ -136,6 +151,17 @@ module _ (w : Setting) (s : State) (u g k : ℕ) (out : List ℕ) (i : Invariant
         ap (λ (y : Header). y .encenabled) header
         ∙ header-clear (e .number) (e .channel) (e .llid) (clockDown (w .first) (e .left)) (eqb-true (e .number) 0 z) in
         absurd (omega (arith, h, clear))
+
+  sealed-header : 1 ≤ e .number → e .header .encenabled ≡ 1
+  sealed-header some =
+      ap (λ (h : Header). h .encenabled) header ∙ header-sealed (e .number) (e .channel) (e .llid) (clockDown (w .first) (e .left)) some
+
+  in-range : not (both (downstream (e .header .channel)) (validHeader (e .header))) ≡ false
+  unfolding envelopeHeader
+  in-range =
+      not-of-true
+      (both-true (ap (λ (h : Header). downstream (h .channel)) header ∙ send .down)
+      (ap validHeader header ∙ header-valid (e .number) (e .channel) (e .llid) (clockDown (w .first) (e .left))))
 
   olt-mac : x .onu .oltmac ≡ w .mac
   olt-mac =
@@ -165,7 +191,7 @@ module _ (w : Setting) (s : State) (u g k : ℕ) (out : List ℕ) (i : Invariant
         (λ n. joinedLift x noPassage (receiveJoined (misfit (e .octets) out) (e .header)) n .handed)) here
 
     old : Follows lane (groupAt (s .head) g .keys .active) (groupAt (s .head) g .keys .offered) (isMember lane (laneAt (alone s) u)) (joinedBy s u)
-        (x .onu .clock .synced) y (getD (lane .towards) u [])
+        y (getD (lane .towards) u [])
     old = rw (joined-for-at x (lane .llid) j found) at (follows w s u g k out i d)
 
     low : y .keys .active ≤ e .number
@@ -177,10 +203,7 @@ module _ (w : Setting) (s : State) (u g k : ℕ) (out : List ℕ) (i : Invariant
       unfolding joinedReceiveVerdict envelopeHeader
       accepts =
           refuse-passed _ BadLength _ fits
-          ∙ refuse-passed _ OutOfRange _
-          (not-of-true
-          (both-true (ap (λ (h : Header). downstream (h .channel)) header ∙ send .down)
-          (ap validHeader header ∙ header-valid (e .number) (e .channel) (e .llid) (clockDown (w .first) (e .left)))))
+          ∙ refuse-passed _ OutOfRange _ in-range
           ∙ refuse-passed _ EpamDiffers _
           (then-both-false _ _
           (λ t. not-of-true (eq-eqb _ _ (ap (λ (h : Header). h .epam) header ∙ ap epamOf (sym (rx (eqb-true (x .onu .clock .synced) 1 t)))))))
@@ -226,15 +249,33 @@ module _ (w : Setting) (s : State) (u g k : ℕ) (out : List ℕ) (i : Invariant
         opened (chosen-clear y (e .header) (e .number) z clear (omega (arith, low, z))) (λ h. absurd (omega (arith, h, z))) (λ h. absurd (omega (arith, h, z)))
 
     -- a key that was taken is held, for a is no higher than the envelope's number
-    opens-sealed : hasTaken (joinedBy s u) (lane .llid) (e .number) ≡ true → 1 ≤ e .number → ArrivedRight w (laneOf lane) (arrivalIn (groupReceipt s u e out))
-    opens-sealed t some =
-        let was = old .took (e .number) t in
+    opens-sealed : hasTaken (joinedBy s u) (lane .llid) (e .number) ≡ true → x .onu .clock .synced ≡ 1 → 1 ≤ e .number
+        → ArrivedRight w (laneOf lane) (arrivalIn (groupReceipt s u e out))
+    opens-sealed t up some =
         let held : holds y (e .number) ≡ true =
-        ⊎-elim (λ h. absurd (omega (arith, low, ltb-true (e .number) (y .keys .active) h))) (λ h. h) (either-cases _ _ (was .1)) in
-        let sealed : e .header .encenabled ≡ 1 =
-        ap (λ (h : Header). h .encenabled) header ∙ header-sealed (e .number) (e .channel) (e .llid) (clockDown (w .first) (e .left)) some in
-        opened (chosen-sealed y (e .header) (e .number) some sealed index held) (λ h. was .0)
-        (λ h. held-key lane _ _ _ (joinedBy s u) _ y _ (e .number) old held .key)
+        ⊎-elim (λ h. absurd (omega (arith, low, ltb-true (e .number) (y .keys .active) h))) (λ h. h) (either-cases _ _ (old .took (e .number) t)) in
+        opened (chosen-sealed y (e .header) (e .number) some (sealed-header some) index held) (λ h. up)
+        (λ h. held-key lane _ _ _ (joinedBy s u) y _ (e .number) old held .key)
+
+    -- one that is sealed finds no clock at a unit that is not synced
+    refuses : (x .onu .clock .synced ≡ 1 → ⊥) → 1 ≤ e .number
+        → joinedReceiveVerdict (misfit (e .octets) out) (x .onu .clock) y (e .header) ≡ Refused ClockNotSet
+    unfolding joinedReceiveVerdict
+    refuses down some =
+        refuse-passed _ BadLength _ fits
+        ∙ refuse-passed _ OutOfRange _ in-range
+        ∙ refuse-passed _ EpamDiffers _ (both-false-left _ (ne-eqb (x .onu .clock .synced) 1 down))
+        ∙ refuse-stopped _ ClockNotSet _
+        (both-true (eq-eqb (e .header .encenabled) 1 (sealed-header some)) (not-of-false (ne-eqb (x .onu .clock .synced) 1 down)))
+
+    not-opened : (x .onu .clock .synced ≡ 1 → ⊥) → 1 ≤ e .number → RefusedFor ClockNotSet s u e out
+    unfolding joinedLift putJoined receiveJoined validSubscriber groupReceiveOf subscriberReceived outputAfter notReceived passedCount passedRuns
+        countCarried runsCarried choiceEnciphered pick
+    not-opened down some =
+        receiving-is
+        ∙ ap (λ (r : Reply Subscriber Passage). subscriberReceived r (e .header .channel) (e .octets) out)
+        (reply-refused _ x noPassage _ _ ClockNotSet
+        (refuse-passed _ OutOfRange _ (not-of-true (both-true valid-onu (memberships-right w s i u))) ∙ refuses down some))
 
   ---- the event
 
@@ -245,26 +286,36 @@ module _ (w : Setting) (s : State) (u g k : ℕ) (out : List ℕ) (i : Invariant
   unfolding groupArrived groupTaken groupWith
   grown top = record { llid = refl; sent = λ z m. m; keys = λ n a b. refl }
 
-  pub arrived-right : GroupArrived w lane (groupReceipt s u e out)
-  unfolding groupReceipt
-  arrived-right = by-found (findJoined x (lane .llid)) refl where
-    joins : isJoined (joinedBy s u) (e .llid) ≡ hasJoined x (lane .llid)
-    joins = ap (isJoined (joinedBy s u)) (send .llid) ∙ joined-listed _ _ x (joinedBy s u) (lane .llid) (i .joins u (unit-known w s u g k out i d))
+  joins : isJoined (joinedBy s u) (e .llid) ≡ hasJoined x (lane .llid)
+  joins = ap (isJoined (joinedBy s u)) (send .llid) ∙ joined-listed _ _ x (joinedBy s u) (lane .llid) (i .joins u (unit-known w s u g k out i d))
 
+  pub arrived-right : GroupArrived w lane (groupReceipt s u e out)
+  unfolding groupReceipt notReceived
+  arrived-right = by-found (findJoined x (lane .llid)) refl where
     by-found : (f : Found) → findJoined x (lane .llid) ≡ f → GroupArrived w lane (groupReceipt s u e out)
     by-found Nowhere none =
         let out-of : isJoined (joinedBy s u) (e .llid) ≡ false = joins ∙ joined-nowhere x (lane .llid) none in
         record {
           sent = under .0 .sent;
           clear = λ t z. true-false (sym t ∙ out-of);
-          sealed = λ t z. true-false (sym (taken-joined (joinedBy s u) (e .llid) (e .number) t) ∙ out-of);
+          sealed = λ t up z. true-false (sym (taken-joined (joinedBy s u) (e .llid) (e .number) t) ∙ out-of);
+          unsynced = λ t down z. true-false (sym t ∙ out-of);
         }
     by-found (At j) found =
         record {
           sent = under .0 .sent;
           clear = λ t z. opens-clear j found z;
-          sealed = λ t z. opens-sealed j found (ap (λ (n : ℕ). hasTaken (joinedBy s u) n (e .number)) (sym (send .llid)) ∙ t) z;
+          sealed = λ t up z.
+              opens-sealed j found (ap (λ (n : ℕ). hasTaken (joinedBy s u) n (e .number)) (sym (send .llid)) ∙ t) (synced-up up) z;
+          unsynced = λ t down z. ap (λ (r : WithOutput SubscriberReceived). r .answer .number) (not-opened j found (synced-down down) z);
         }
+
+  -- at a unit that joined the group and is not synced
+  pub unsynced-refused : isJoined (joinedBy s u) (e .llid) ≡ true → isSynced (laneAt (alone s) u) ≡ false → 1 ≤ e .number → RefusedFor ClockNotSet s u e out
+  unsynced-refused t down some = by-found (findJoined x (lane .llid)) refl where
+    by-found : (f : Found) → findJoined x (lane .llid) ≡ f → RefusedFor ClockNotSet s u e out
+    by-found Nowhere none = true-false (sym t ∙ joins ∙ joined-nowhere x (lane .llid) none)
+    by-found (At j) found = not-opened j found (synced-down down) some
 
   receipt-most : groupReceipt s u e out .envelope .number ≤ e .number
   unfolding groupReceipt
@@ -276,7 +327,7 @@ module _ (w : Setting) (s : State) (u g k : ℕ) (out : List ℕ) (i : Invariant
     joins : Joins (s .history .groups) (laneAt (alone s) u) z (joinedBy s u)
     apart : (llid : ℕ) → (llid ≡ lane .llid → ⊥) → joinedFor z llid ≡ joinedFor x llid
     follows : Follows after (groupAt (s .head) g .keys .active) (groupAt (s .head) g .keys .offered) (isMember after (laneAt (alone s) u)) (joinedBy s u)
-        (z .onu .clock .synced) (joinedFor z (after .llid)) (getD (after .towards) u [])
+        (joinedFor z (after .llid)) (getD (after .towards) u [])
 
   leaves-right : (z : Subscriber) → Leaves z → Invariant w (atUnit s u z (s .history .units) (s .history .joined) (set (s .history .groups) g after))
   unfolding groupArrived groupTaken groupWith
@@ -319,8 +370,8 @@ module _ (w : Setting) (s : State) (u g k : ℕ) (out : List ℕ) (i : Invariant
         apart = λ llid n. refl;
         follows =
             rw (member-same (groupTaken u k lane) after (laneAt (alone s) u) refl)
-            (follows-moved (groupTaken u k lane) after _ _ _ _ _ _ (joinedBy s u) _ _ _ _ (record { llid = refl; sent = λ z m. m; keys = λ n a b. refl })
-            (omega arith) (omega arith) (λ z. z) (λ z. z) f);
+            (follows-moved (groupTaken u k lane) after _ _ _ _ _ _ (joinedBy s u) _ _ (record { llid = refl; sent = λ z m. m; keys = λ n a b. refl })
+            (omega arith) (omega arith) (λ z. z) f);
       }
 
   module _ (j : ℕ) (found : findJoined x (lane .llid) ≡ At j) where
@@ -342,8 +393,8 @@ module _ (w : Setting) (s : State) (u g k : ℕ) (out : List ℕ) (i : Invariant
           apart = with-other x (lane .llid) j moved found named;
           follows =
               rw (taken-own s u g k (in-queue w s u g k out i d), with-own x (lane .llid) j moved found named, member-same lane after (laneAt (alone s) u) refl)
-              (follows-moved lane after _ _ _ _ _ _ (joinedBy s u) _ _ _ _ (grown _) (omega arith) (omega arith) (λ z. z) (λ z. z)
-              (receipt-follows lane _ _ _ (joinedBy s u) _ (joinedAt x j) _ _ (e .number) (old j found) (low j found) (under .0 .most) (under .1)
+              (follows-moved lane after _ _ _ _ _ _ (joinedBy s u) _ _ (grown _) (omega arith) (omega arith) (λ z. z)
+              (receipt-follows lane _ _ _ (joinedBy s u) (joinedAt x j) _ _ (e .number) (old j found) (low j found) (under .0 .most) (under .1)
               (member w s u g k out i d) (e .header) index));
         }
 

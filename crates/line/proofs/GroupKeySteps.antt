@@ -110,7 +110,7 @@ module _ (w : Setting) (s : State) (g : ℕ) (i : Invariant w s) (known : g < le
 
     offer-follows : (u : ℕ) → u < length (lanes s)
         → Follows after (record-of .keys .active) (record-of .keys .active + 1) (isMember after (laneAt (alone s) u)) (joinedBy s u)
-        (subscriberAt s u .onu .clock .synced) (joinedFor (subscriberAt s u) (after .llid)) (getD (after .towards) u [])
+        (joinedFor (subscriberAt s u) (after .llid)) (getD (after .towards) u [])
     unfolding alone groupLeaving groupOffered groupWith keyMessageOf keysOffered
     offer-follows u h =
         let r = i .group g known in
@@ -120,7 +120,7 @@ module _ (w : Setting) (s : State) (g : ℕ) (i : Invariant w s) (known : g < le
           member-same line-of after (laneAt (alone s) u) refl,
           member-same line-of (groupOffered key line-of) (laneAt (alone s) u) refl,
         )
-        (leaving-follows line-of after active active (record-of .keys .offered) (active + 1) (isMember line-of (laneAt (alone s) u)) (joinedBy s u) _ _ _
+        (leaving-follows line-of after active active (record-of .keys .offered) (active + 1) (isMember line-of (laneAt (alone s) u)) (joinedBy s u) _ _
         (keyMessage m (now s)) offer-grown (omega arith) (omega (arith, r .next))
         (λ q low.
         under-key after _ active (active + 1) (getD (line-of .towards) u []) m (now s) low
@@ -159,14 +159,14 @@ module _ (w : Setting) (s : State) (g : ℕ) (i : Invariant w s) (known : g < le
 
     retry-follows : (u : ℕ) → u < length (lanes s)
         → Follows again (record-of .keys .active) (record-of .keys .offered) (isMember again (laneAt (alone s) u)) (joinedBy s u)
-        (subscriberAt s u .onu .clock .synced) (joinedFor (subscriberAt s u) (again .llid)) (getD (again .towards) u [])
+        (joinedFor (subscriberAt s u) (again .llid)) (getD (again .towards) u [])
     unfolding alone groupLeaving groupWith keyMessageOf
     retry-follows u h =
         let r = i .group g known in
         let active = record-of .keys .active in
         let offered = record-of .keys .offered in
         rw (leaving-at line-of (lanes s) (keyMessage m (now s)) u h, member-same line-of again (laneAt (alone s) u) refl)
-        (leaving-follows line-of again active active offered offered (isMember line-of (laneAt (alone s) u)) (joinedBy s u) _ _ _
+        (leaving-follows line-of again active active offered offered (isMember line-of (laneAt (alone s) u)) (joinedBy s u) _ _
         (keyMessage m (now s)) (record { llid = refl; sent = λ e q. q; keys = λ n p q. refl }) (omega arith) (omega arith)
         (λ q low.
         under-key again _ active offered (getD (line-of .towards) u []) m (now s) low

@@ -6,7 +6,7 @@ use Prim.Native.Nat.{ℕ, _-_, _<_}
 use native.Mathlib.Omega.{arith}
 use lib.ListN.{length, getD, set, length-set}
 use lib.Seq.{set-getD, getD-set-same}
-use borrow.Author.Tests.{ne-eqb, eqb-true, not-false}
+use borrow.Author.Tests.{ne-eqb, not-false}
 use Rattle.octets.specs.Choice.{pick, either}
 use Rattle.octets.proofs.Choice.{true-false}
 use Rattle.octets.proofs.Members.{each-more}
@@ -54,10 +54,10 @@ use Rattle.line.proofs.Taken.{taking-llids, taking-other, taking-stays,
 ---- nothing is taken
 
 -- the unit and what it has taken stay
-pub dropped-follows : (l : GroupLane) (active offered : ℕ) (is : Bool) (ms : List Membership) (synced : ℕ) (j : Joined) (xs rest : List Thing) (x : Thing)
-    → is ≡ true → Under l (j .keys .active) active offered (x ∷ rest) → Follows l active offered is ms synced j xs
-    → Follows l active offered is ms synced j rest
-dropped-follows l active offered is ms synced j xs rest x e q f =
+pub dropped-follows : (l : GroupLane) (active offered : ℕ) (is : Bool) (ms : List Membership) (j : Joined) (xs rest : List Thing) (x : Thing)
+    → is ≡ true → Under l (j .keys .active) active offered (x ∷ rest) → Follows l active offered is ms j xs
+    → Follows l active offered is ms j rest
+dropped-follows l active offered is ms j xs rest x e q f =
     record {
       low = f .low;
       kept = f .kept;
@@ -94,12 +94,12 @@ module _ (w : Setting) (s : State) (u g k : ℕ) (out : List ℕ) (i : Invariant
 
   -- the rest of what is under way
   pub left-follows : Follows left (groupAt (s .head) g .keys .active) (groupAt (s .head) g .keys .offered) (isMember left (laneAt (alone s) u)) (joinedBy s u)
-      (x .onu .clock .synced) (joinedFor x (left .llid)) (getD (left .towards) u [])
+      (joinedFor x (left .llid)) (getD (left .towards) u [])
   unfolding groupTaken groupWith
   left-follows =
       rw (taken-own s u g k in-queue, member-same lane left (laneAt (alone s) u) refl)
-      (follows-moved lane left _ _ _ _ _ _ (joinedBy s u) _ _ _ _ (taken-grown _) (omega arith) (omega arith) (λ e. e) (λ e. e)
-      (dropped-follows lane _ _ _ (joinedBy s u) _ _ _ _ (groupThingAt s u g k) (member w s u g k out i d) (taken w s u g k out i d)
+      (follows-moved lane left _ _ _ _ _ _ (joinedBy s u) _ _ (taken-grown _) (omega arith) (omega arith) (λ e. e)
+      (dropped-follows lane _ _ _ (joinedBy s u) _ _ _ (groupThingAt s u g k) (member w s u g k out i d) (taken w s u g k out i d)
       (follows w s u g k out i d)))
 
   left-moved : Moved w s u g x (joinedBy s u) left
@@ -151,7 +151,7 @@ module _ (w : Setting) (s : State) (u g k : ℕ) (out : List ℕ) (i : Invariant
       }
 
   module _ (j : ℕ) (m : KeyMessage) (t : ℕ) (answer : Answer) (found : findJoined x (lane .llid) ≡ At j) (is : groupThingAt s u g k ≡ keyMessage m t)
-      (synced : x .onu .clock .synced ≡ 1) (fits : either (newNumber (joinedAt x j) m) (heldAgain (joinedAt x j) m) ≡ true)
+      (fits : either (newNumber (joinedAt x j) m) (heldAgain (joinedAt x j) m) ≡ true)
       (same : answer .number ≡ m .number) where
     abbrev after : GroupLane
     after = groupAnswered (record { unit = u; answer = answer; tick = now s }) left
@@ -166,16 +166,16 @@ module _ (w : Setting) (s : State) (u g k : ℕ) (out : List ℕ) (i : Invariant
     named = message-llid (joinedAt x j) m ∙ joined-found x (lane .llid) j found .is
 
     taken-follows : Follows after (groupAt (s .head) g .keys .active) (groupAt (s .head) g .keys .offered) (isMember after (laneAt (alone s) u)) now-taken
-        (x .onu .clock .synced) (joinedFor (withJoined x j now-joined) (after .llid)) (getD (after .towards) u [])
+        (joinedFor (withJoined x j now-joined) (after .llid)) (getD (after .towards) u [])
     unfolding groupAnswered groupTaken groupWith
     taken-follows =
         let old = rw (joined-for-at x (lane .llid) j found) at (follows w s u g k out i d) in
         let under = rw (is, joined-for-at x (lane .llid) j found) at (taken w s u g k out i d) in
         rw (taken-own s u g k in-queue, with-own x (lane .llid) j now-joined found named, member-same lane after (laneAt (alone s) u) refl)
-        (follows-moved lane after _ _ _ _ _ _ now-taken _ _ _ _ (record { llid = refl; sent = λ e q. q; keys = λ n a b. refl }) (omega arith) (omega arith)
-        (λ e. e) (λ e. e)
-        (message-follows lane _ _ _ (joinedBy s u) _ (joinedAt x j) _ _ m old
-        (found-valid x (lane .llid) j (memberships-right w s i u) found) (under .0) (under .1) synced (member w s u g k out i d) fits))
+        (follows-moved lane after _ _ _ _ _ _ now-taken _ _ (record { llid = refl; sent = λ e q. q; keys = λ n a b. refl }) (omega arith) (omega arith)
+        (λ e. e)
+        (message-follows lane _ _ _ (joinedBy s u) (joinedAt x j) _ _ m old
+        (found-valid x (lane .llid) j (memberships-right w s i u) found) (under .0) (under .1) (member w s u g k out i d) fits))
 
     taken-moved : Moved w s u g (withJoined x j now-joined) now-taken after
     unfolding groupAnswered groupTaken groupWith withJoined
@@ -254,7 +254,7 @@ module _ (w : Setting) (s : State) (u g k : ℕ) (out : List ℕ) (i : Invariant
         (set (s .history .joined) u (taking y (m .number) (joinedBy s u))) (set (s .history .groups) g after)))
         (sym llid)
         (moved-right w s u g _ _ after i
-        (taken-moved j m t answer found is (eqb-true _ _ (not-false _ (a .0))) (not-false _ (refuse-accepted _ _ _ (a .1) .0)) refl)))
+        (taken-moved j m t answer found is (not-false _ (refuse-accepted _ _ _ (a .1) .0)) refl)))
 
   -- the unit's own part stays
   pub message-onu : (m : KeyMessage) (t : ℕ) → groupThingAt s u g k ≡ keyMessage m t → subscriberKeyMessageOf x m .subscriber .onu ≡ x .onu

@@ -105,7 +105,7 @@ fresh-recorded w s c llid interval r m v =
       stored = λ n a b d. absurd (omega arith);
       timing = fresh-timing w s llid interval r v;
       sends = λ e q. none-in [] e refl q;
-      spaced = record { apart = λ x y a b. absurd (omega (arith, b)) };
+      spaced = record { down = λ x y a b. absurd (omega (arith, b)); up = λ x y a b. absurd (omega (arith, b)) };
       arrived = λ a q. none-in [] a refl q;
     }
 
@@ -189,7 +189,7 @@ module _ (w : Setting) (s : State) (llid interval : ℕ) (r : Roster) (i : Invar
       }
 
   new-follows : (u : ℕ) → u < length (lanes s)
-      → Follows new 0 0 (isMember new (laneAt (alone s) u)) (joinedBy s u) (subscriberAt s u .onu .clock .synced) (joinedFor (subscriberAt s u) llid)
+      → Follows new 0 0 (isMember new (laneAt (alone s) u)) (joinedBy s u) (joinedFor (subscriberAt s u) llid)
       (getD (new .towards) u [])
   unfolding newGroupLane
   new-follows u h =
@@ -206,7 +206,7 @@ module _ (w : Setting) (s : State) (llid interval : ℕ) (r : Roster) (i : Invar
 
   fresh-follows : (u : ℕ) → u < length (lanes s)
       → Follows new (fresh .keys .active) (fresh .keys .offered) (isMember new (laneAt (alone s) u)) (joinedBy s u)
-      (subscriberAt s u .onu .clock .synced) (joinedFor (subscriberAt s u) (new .llid)) (getD (new .towards) u [])
+      (joinedFor (subscriberAt s u) (new .llid)) (getD (new .towards) u [])
   unfolding freshGroup newGroupLane
   fresh-follows u h = new-follows u h
 
@@ -252,7 +252,7 @@ module _ (w : Setting) (s : State) (llid interval : ℕ) (r : Roster) (i : Invar
         joins = joins-stay;
         follows = λ u k h q.
             by-group (λ (y : GroupLane) (z : GroupRecord).
-            Follows y (z .keys .active) (z .keys .offered) (isMember y (laneAt (alone s) u)) (joinedBy s u) (subscriberAt s u .onu .clock .synced)
+            Follows y (z .keys .active) (z .keys .offered) (isMember y (laneAt (alone s) u)) (joinedBy s u)
             (joinedFor (subscriberAt s u) (y .llid)) (getD (y .towards) u []))
             k q (fresh-follows u h) (i .follows u k h);
         answered = λ k x h m.

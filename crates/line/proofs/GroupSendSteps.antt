@@ -2,12 +2,13 @@
 use mathlib.Core.Path.{_≡_, refl, sym, _∙_, ap, subst}
 use mathlib.Core.Bool.{true, false}
 use mathlib.Core.List.{List, [], _∷_, List·Memᴰ, List·Memᴰ·head, Memᴰ·append-left, Memᴰ·append-right}
+use mathlib.Core.Logic.{⊎-elim}
 use Prim.Native.Nat.{ℕ, _<_}
 use native.Mathlib.Omega.{arith}
 use lib.ListN.{length, getD}
-use borrow.Author.Tests.{not-false}
+use borrow.Author.Tests.{leb-true, eqb-true, not-false}
 use Rattle.octets.specs.Choice.{pick}
-use Rattle.octets.proofs.Choice.{both-left, both-right}
+use Rattle.octets.proofs.Choice.{both-left, both-right, either-cases}
 use Rattle.octets.proofs.Members.{each-more}
 use Rattle.refusal.specs.Number.{numberOf}
 use Rattle.refusal.specs.declared.Verdict.the-variants.{Accepted}
@@ -15,7 +16,7 @@ use Rattle.refusal.proofs.Order.{refuse-accepted}
 use Rattle.envelope.specs.Channels.{downstream}
 use Rattle.envelope.specs.ControlMask.{eqsOf}
 use Rattle.ends.specs.Keys.{validFirst}
-use Rattle.ends.specs.Occupancy.{taken, occupied}
+use Rattle.ends.specs.Occupancy.{freeFrom, taken, occupied}
 use Rattle.ends.specs.Validity.{validKeys}
 use Rattle.ends.specs.declared.Channels.{Channels}
 use Rattle.ends.specs.declared.Found.{Found}
@@ -28,7 +29,7 @@ use Rattle.protocol.specs.Headers.{keyFor, passageOf, sendingOf, noSending}
 use Rattle.protocol.specs.OltTraffic.{sendingOlt}
 use Rattle.protocol.specs.Replies.{Reply}
 use Rattle.protocol.specs.declared.Sending.{Sending}
-use Rattle.protocol.proofs.Headers.{key-for}
+use Rattle.protocol.proofs.Headers.{Goes, goes, key-for}
 use Rattle.traffic.specs.Passages.{misfit, outputAfter}
 use Rattle.traffic.proofs.Passages.{few-eqs}
 use Rattle.groups.specs.GroupCalls.{groupSendChoice, groupKeysAfterSend, sendGroup}
@@ -41,11 +42,11 @@ use Rattle.unicast.specs.Setting.{Setting}
 use Rattle.unicast.specs.History.{downward, Envelope, envelope}
 use Rattle.unicast.specs.Run.{laneAt}
 use Rattle.unicast.specs.Claim.{PassageRight, SentRight}
-use Rattle.unicast.proofs.Envelopes.{envelopeOf, passed-right, count-right, runs-right, fits-alone}
-use Rattle.unicast.proofs.Invariant.{AtTick}
+use Rattle.unicast.proofs.Envelopes.{ways-apart, envelopeOf, passed-right, count-right, runs-right, fits-alone}
+use Rattle.unicast.proofs.Invariant.{Begun, countDown, AtTick}
 use Rattle.unicast.proofs.Past.{sent-carried}
 use Rattle.unicast.proofs.Spending.{Renewed, spent-kept, spent-new, apart-new, spaced-more}
-use Rattle.line.specs.History.{GroupLane, isMember, groupNumber, groupSwitching, groupWith, groupSent}
+use Rattle.line.specs.History.{GroupLane, noPath, isMember, groupNumber, groupSwitching, groupWith, groupSent}
 use Rattle.line.specs.Events.{sendDown}
 use Rattle.line.specs.Run.{State, alone, subscriberAt, joinedBy, groupLaneAt, now, lanes, headPassage, envelopeDown, sendingDown, step}
 use Rattle.line.proofs.Invariant.{laneOf, GroupSend, Recorded, joinedFor, Follows, Invariant}
@@ -59,9 +60,12 @@ use Rattle.line.proofs.Lines.{found-line}
 use Rattle.line.proofs.Queues.{Grown, knows, under-envelope}
 
 -- the first send of a valid group is not later than the tick
-group-first : (tick units : ℕ) (g : GroupRecord) → validGroup tick units g ≡ true → validFirst (g .keys .first) tick ≡ true
-unfolding validGroup validKeys
-group-first tick units g v = both-right _ _ (both-left _ _ (both-right _ _ v))
+group-first : (tick units : ℕ) (g : GroupRecord) → validGroup tick units g ≡ true → Begun (g .keys .first) tick
+unfolding validGroup validKeys validFirst
+group-first tick units g v one =
+    let valid = both-right _ _ (both-left _ _ (both-right _ _ v)) in
+    ⊎-elim (λ z. absurd (omega (arith, eqb-true (g .keys .first .noted) 0 z))) (λ z. leb-true (g .keys .first .at) tick z)
+    (either-cases _ _ (both-right _ _ valid))
 
 at-tick : (w : Setting) (s : State) → Invariant w s → AtTick w (now s) (s .head .olt .shared)
 unfolding alone
@@ -83,7 +87,7 @@ module _ (w : Setting) (s : State) (g : ℕ) (i : Invariant w s) (known : g < le
   sending = sendGroup llid channel (eqsOf p) sh r .handed
 
   abbrev e : Envelope
-  e = envelopeOf downward (now s) llid channel p sending (groupNumber l (now s))
+  e = envelopeOf downward (now s) (noPath .up) llid channel p sending (groupNumber l (now s))
 
   abbrev k : UnitKeys
   k = groupKeysAfterSend (groupSendChoice (r .keys)) (r .keys) (sh .tick)
@@ -128,13 +132,16 @@ module _ (w : Setting) (s : State) (g : ℕ) (i : Invariant w s) (known : g < le
   unfolding groupSent groupWith
   grown top = record { llid = refl; sent = λ x q. Memᴰ·append-left (e ∷ []) q; keys = λ n a b. refl }
 
-  free : taken (sh .channels) channel (sh .tick) ≡ false
+  -- what it has met
+  met : Goes true (taken (sh .channels) channel (sh .tick)) (groupSendChoice (r .keys)) (r .keys .first) (sh .tick)
   unfolding sendGroup
-  free = refuse-accepted _ _ _ accepts .0
+  met = goes true (taken (sh .channels) channel (sh .tick)) (groupSendChoice (r .keys)) (r .keys .first) (sh .tick) accepts
+
+  free : taken (sh .channels) channel (sh .tick) ≡ false
+  free = met .free
 
   renewed : Renewed (r .keys .first) (k .first) (r .keys .active) (groupNumber l (now s)) (now s)
-  unfolding sendGroup
-  renewed = chosen .renewed (rw (at-tick w s i .tick) at (refuse-accepted _ _ _ (refuse-accepted _ _ _ accepts .1) .0))
+  renewed = chosen .renewed (rw (at-tick w s i .tick) at (met .young))
 
   sends : (x : Envelope) → List·Memᴰ x (after .sent) → GroupSend w c (k .first) (k .active) after x
   unfolding groupSent groupWith
@@ -152,7 +159,7 @@ module _ (w : Setting) (s : State) (g : ℕ) (i : Invariant w s) (known : g < le
         fits = was .fits;
         spent =
             rw (h .active)
-            (spent-kept (sh .channels) c (r .keys .first) (k .first) (r .keys .active) (groupNumber l (now s)) (now s) x renewed
+            (spent-kept (sh .channels) c (r .keys .first) (k .first) (r .keys .active) (groupNumber l (now s)) (now s) 0 0 (countDown x) x renewed
             (free-later (sh .channels) channel (x .channel) (sh .tick) (eqsOf p) free) (was .spent));
         right = sent-carried w (laneOf l) (laneOf after) (x .number) (knows l after (x .number) (grown (x .number))) x (omega arith) (was .right);
       })
@@ -163,8 +170,8 @@ module _ (w : Setting) (s : State) (g : ℕ) (i : Invariant w s) (known : g < le
         fits = fits-alone p out fit;
         spent =
             rw (h .active)
-            (spent-new c (r .keys .first) (k .first) (r .keys .active) (groupNumber l (now s)) (now s) e renewed refl refl
-            (omega (arith, free-own (sh .channels) channel (sh .tick) (eqsOf p), t .tick)));
+            (spent-new c (r .keys .first) (k .first) (r .keys .active) (groupNumber l (now s)) (now s) 0 0 (countDown e) e renewed refl
+            (omega arith) (omega (arith, free-own (sh .channels) channel (sh .tick) (eqsOf p), t .tick)));
         right = sent-carried w (laneOf l) (laneOf after) (e .number) (knows l after (e .number) (grown (e .number))) e (omega arith) sent-right;
       })
 
@@ -187,20 +194,23 @@ module _ (w : Setting) (s : State) (g : ℕ) (i : Invariant w s) (known : g < le
         spaced =
             spaced-more (l .sent) e
             (λ x q.
-            apart-new (sh .channels) (r .keys .first) (k .first) (r .keys .active) (now s) x e renewed refl
-            (omega (arith, taken-false (sh .channels) channel (sh .tick) free, t .tick)) (λ y. j .sends x q .spent))
+            apart-new countDown downward (sh .channels) (r .keys .first) (k .first) (r .keys .active) (now s) 0 0 x e renewed (omega arith)
+            (λ y. j .sends x q .spent)
+            (λ y some same index. let before : x .left < freeFrom (sh .channels) channel = rw index at (j .sends x q .spent .passed) in
+            omega (arith, before, taken-false (sh .channels) channel (sh .tick) free, t .tick)))
+            (λ x q y z. ways-apart z)
             (j .spaced);
         arrived = λ a q. arrived-moved w l after a (a .envelope .number) (grown (a .envelope .number)) (omega arith) (j .arrived a q);
       }
 
   follows : (u : ℕ) → u < length (lanes s)
-      → Follows after (k .active) (k .offered) (isMember after (laneAt (alone s) u)) (joinedBy s u) (subscriberAt s u .onu .clock .synced)
+      → Follows after (k .active) (k .offered) (isMember after (laneAt (alone s) u)) (joinedBy s u)
       (joinedFor (subscriberAt s u) (after .llid)) (getD (after .towards) u [])
   unfolding alone groupSent groupWith
   follows u h =
       let n = chosen in
       rw (leaving-at l (lanes s) (envelope e) u h, member-same l after (laneAt (alone s) u) refl)
-      (leaving-follows l after (r .keys .active) (k .active) (r .keys .offered) (k .offered) (isMember l (laneAt (alone s) u)) (joinedBy s u) _ _ _
+      (leaving-follows l after (r .keys .active) (k .active) (r .keys .offered) (k .offered) (isMember l (laneAt (alone s) u)) (joinedBy s u) _ _
       (envelope e) (grown (r .keys .offered)) (omega (arith, n .low, n .active)) (omega (arith, n .offered))
       (λ q low.
       under-envelope after _ (k .active) (k .offered) (getD (l .towards) u []) e low
@@ -243,7 +253,7 @@ group-passage-is h llid g channel p out end q found is =
 group-envelope-is : (h : HeadEnd) (tick llid g channel : ℕ) (p out : List ℕ) (number : ℕ) (end : HeadEnd) (q : Sending) → findGroup h llid ≡ At g
     → groupLift h noSending (sendAhead p out channel) (λ o x. sendGroup llid channel (eqsOf p) (o .shared) x) g
     ≡ record { verdict = Accepted; end = end; handed = q }
-    → envelopeDown tick h llid channel p out number ≡ envelopeOf downward tick llid channel p q number
+    → envelopeDown tick noPath h llid channel p out number ≡ envelopeOf downward tick (noPath .up) llid channel p q number
 unfolding envelopeDown headSendOf byLlid headSent outputAfter
 group-envelope-is h tick llid g channel p out number end q found is = rw (group-passage-is h llid g channel p out end q found is, found, is)
 

@@ -46,7 +46,7 @@ pub record Replaced (w : Setting) (s : State) (g : ℕ) (c : Channels) (r : Grou
   pub answered : l .answered ≡ groupLaneAt s g .answered
   pub recorded : Recorded w c (now s) l r
   pub follows : (u : ℕ) → u < length (lanes s)
-      → Follows l (r .keys .active) (r .keys .offered) (isMember l (laneAt (alone s) u)) (joinedBy s u) (subscriberAt s u .onu .clock .synced)
+      → Follows l (r .keys .active) (r .keys .offered) (isMember l (laneAt (alone s) u)) (joinedBy s u)
       (joinedFor (subscriberAt s u) (l .llid)) (getD (l .towards) u [])
   pub offers : MoreKeys s (groupLaneAt s g .keys .offers) (l .keys .offers)
 
@@ -177,7 +177,7 @@ module _ (w : Setting) (s : State) (g : ℕ) (c : Channels) (r : GroupRecord) (l
         joins = joins-stay;
         follows = λ u k h q.
             by-group (λ (y : GroupLane) (z : GroupRecord).
-            Follows y (z .keys .active) (z .keys .offered) (isMember y (laneAt (alone s) u)) (joinedBy s u) (subscriberAt s u .onu .clock .synced)
+            Follows y (z .keys .active) (z .keys .offered) (isMember y (laneAt (alone s) u)) (joinedBy s u)
             (joinedFor (subscriberAt s u) (y .llid)) (getD (y .towards) u []))
             k (rw places at q) (λ e. p .follows u h) (i .follows u k h (rw places at q));
         answered = λ k a h m. rw (llid-stays k) (i .answered k a (rw places at h) (rw (answered-stays k) at m));

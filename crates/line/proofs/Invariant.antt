@@ -8,6 +8,8 @@ use Prim.Native.Nat.{ℕ, _+_, _-_, _<_, _≤_}
 use lib.Dec.{ltb}
 use lib.ListN.{length, getD}
 use Rattle.octets.specs.Choice.{either}
+use Rattle.refusal.specs.Number.{numberOf}
+use Rattle.refusal.specs.declared.Refusal.the-variants.{ClockNotSet}
 use Rattle.envelope.specs.Acceptance.{lengthsFit}
 use Rattle.envelope.specs.Channels.{downstream}
 use Rattle.ends.specs.Keys.{keyIn}
@@ -27,9 +29,9 @@ use Rattle.unicast.specs.Setting.{Setting}
 use Rattle.unicast.specs.History.{downward, Envelope, Thing, clockMessage, keyMessage, envelope, Arrival, Lane, keyOf}
 use Rattle.unicast.specs.Run.{noSite, laneAt}
 use Rattle.unicast.specs.Claim.{SentRight, ArrivedRight}
-use Rattle.unicast.proofs.Invariant.{Timing, Spent, Spaced}
+use Rattle.unicast.proofs.Invariant.{Timing, Spent, countDown, Spaced}
 use Rattle.unicast.proofs.Invariant as units
-use Rattle.line.specs.History.{GroupAnswered, GroupArrival, GroupLane, Membership, isMember, hasTaken}
+use Rattle.line.specs.History.{GroupAnswered, GroupArrival, GroupLane, Membership, noPath, isMember, hasTaken}
 use Rattle.line.specs.Run.{State, alone, subscriberAt, joinedBy, noGroupLane, groupLaneAt, now, lanes}
 
 ---- a group at the OLT
@@ -39,6 +41,7 @@ abbrev pub laneOf : GroupLane → Lane
 laneOf g =
     record {
       site = noSite;
+      path = noPath;
       entry = g .entry;
       captured = 0;
       keys = g .keys;
@@ -52,7 +55,7 @@ pub record GroupSend (w : Setting) (channels : Channels) (first : FirstSend) (ac
   pub llid : e .llid ≡ g .llid
   pub down : downstream (e .channel) ≡ true
   pub fits : lengthsFit (length (e .payload)) (length (e .payload)) ≡ true
-  pub spent : Spent channels first active e
+  pub spent : Spent channels first active 0 0 (countDown e) e
   pub right : SentRight w (laneOf g) e
 
 abbrev pub arrivalIn : GroupArrival → Arrival
@@ -62,7 +65,8 @@ arrivalIn r =
 pub record GroupArrived (w : Setting) (g : GroupLane) (r : GroupArrival) : Type 0 where
   pub sent : List·Memᴰ (r .envelope) (g .sent)
   pub clear : r .joined ≡ true → r .envelope .number ≡ 0 → ArrivedRight w (laneOf g) (arrivalIn r)
-  pub sealed : r .took ≡ true → 1 ≤ r .envelope .number → ArrivedRight w (laneOf g) (arrivalIn r)
+  pub sealed : r .took ≡ true → r .synced ≡ true → 1 ≤ r .envelope .number → ArrivedRight w (laneOf g) (arrivalIn r)
+  pub unsynced : r .joined ≡ true → r .synced ≡ false → 1 ≤ r .envelope .number → r .number ≡ numberOf ClockNotSet
 
 -- with the OLT's record of it
 pub record Recorded (w : Setting) (channels : Channels) (now : ℕ) (g : GroupLane) (r : GroupRecord) : Type 0 where
@@ -111,11 +115,11 @@ pub record KeyHeld (g : GroupLane) (offered : ℕ) (j : Joined) (n : ℕ) : Type
   pub key : keyIn (j .keys .slots) n ≡ keyOf (g .keys) n
 
 -- a unit and a group of which A and O are those at the OLT; what the unit took it has, or had before a
-pub record Follows (g : GroupLane) (active offered : ℕ) (member : Bool) (ms : List Membership) (synced : ℕ) (j : Joined) (xs : List Thing) : Type 0 where
+pub record Follows (g : GroupLane) (active offered : ℕ) (member : Bool) (ms : List Membership) (j : Joined) (xs : List Thing) : Type 0 where
   pub low : j .keys .active ≤ active
   pub kept : j .kept ≡ 1 → KeyHeld g offered j (j .keys .active)
   pub held : j .keys .held ≡ 1 → KeyHeld g offered j (j .keys .active + 1)
-  pub took : (n : ℕ) → hasTaken ms (g .llid) n ≡ true → (synced ≡ 1) × (either (ltb n (j .keys .active)) (holds j n) ≡ true)
+  pub took : (n : ℕ) → hasTaken ms (g .llid) n ≡ true → either (ltb n (j .keys .active)) (holds j n) ≡ true
   pub queue : Under g (j .keys .active) active offered xs
   pub stranger : member ≡ false → xs ≡ []
 
@@ -149,7 +153,7 @@ pub record Invariant (w : Setting) (s : State) : Type 0 where
   pub joins : (u : ℕ) → u < length (lanes s) → Joins (s .history .groups) (laneAt (alone s) u) (subscriberAt s u) (joinedBy s u)
   pub follows : (u g : ℕ) → u < length (lanes s) → g < length (s .history .groups)
       → Follows (groupLaneAt s g) (groupAt (s .head) g .keys .active) (groupAt (s .head) g .keys .offered)
-      (isMember (groupLaneAt s g) (laneAt (alone s) u)) (joinedBy s u) (subscriberAt s u .onu .clock .synced)
+      (isMember (groupLaneAt s g) (laneAt (alone s) u)) (joinedBy s u)
       (joinedFor (subscriberAt s u) (groupLaneAt s g .llid)) (getD (groupLaneAt s g .towards) u [])
   -- what a unit answered for it has taken
   pub answered : (g : ℕ) (a : GroupAnswered) → g < length (s .history .groups) → List·Memᴰ a (groupLaneAt s g .answered)

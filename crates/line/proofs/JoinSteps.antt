@@ -68,12 +68,12 @@ module _ (w : Setting) (s : State) (u : ℕ) (x : Subscriber) (ms : List Members
 
   own-follows : (v g : ℕ) → v ≡ u → v < length (lanes s) → g < length (s .history .groups)
       → Follows (groupLaneAt s g) (groupAt (s .head) g .keys .active) (groupAt (s .head) g .keys .offered)
-      (isMember (groupLaneAt s g) (laneAt (alone s) v)) ms (x .onu .clock .synced) (joinedFor x (groupLaneAt s g .llid))
+      (isMember (groupLaneAt s g) (laneAt (alone s) v)) ms (joinedFor x (groupLaneAt s g .llid))
       (getD (groupLaneAt s g .towards) v [])
   own-follows v g e h k =
       let f = i .follows v g h k in
       let is : subscriberAt s v ≡ subscriberAt s u = ap (subscriberAt s) e in
-      rw (p .same (groupLaneAt s g .llid), p .onu, ← is)
+      rw (p .same (groupLaneAt s g .llid), ← is)
       (record {
         low = f .low;
         kept = f .kept;
@@ -99,7 +99,7 @@ module _ (w : Setting) (s : State) (u : ℕ) (x : Subscriber) (ms : List Members
         follows = λ v g h k.
             by-unit (λ (y : Subscriber) (js : List Membership).
             Follows (groupLaneAt s g) (groupAt (s .head) g .keys .active) (groupAt (s .head) g .keys .offered)
-            (isMember (groupLaneAt s g) (laneAt (alone s) v)) js (y .onu .clock .synced) (joinedFor y (groupLaneAt s g .llid))
+            (isMember (groupLaneAt s g) (laneAt (alone s) v)) js (joinedFor y (groupLaneAt s g .llid))
             (getD (groupLaneAt s g .towards) v []))
             v h (λ e. own-follows v g e h k) (i .follows v g h k);
         answered = λ g a h m.

@@ -1,6 +1,6 @@
 -- What a call on the OLT keeps of what groups rest on (who is registered, the tick, and that no channel is free earlier), and a call on a
--- unit (who it is, and that its clock stays set). Assumes nothing.
-use mathlib.Core.Path.{_≡_, refl, _∙_}
+-- unit (who it is). Assumes nothing.
+use mathlib.Core.Path.{_≡_, refl}
 use mathlib.Core.List.{List}
 use Prim.Native.Nat.{ℕ, _≤_}
 use native.Mathlib.Omega.{arith}
@@ -9,7 +9,7 @@ use Rattle.refusal.specs.declared.Verdict.the-variants.{Accepted}
 use Rattle.envelope.specs.ControlMask.{eqsOf}
 use Rattle.clock.specs.declared.Stamps.{Stamps}
 use Rattle.ends.specs.Occupancy.{freeFrom}
-use Rattle.ends.specs.Records.{withKeys, withOnuClock, withOnuKeys, withOnuFirst, withOnuChannels}
+use Rattle.ends.specs.Records.{withClock, withKeys, withOnuClock, withOnuKeys, withOnuFirst, withOnuChannels, withTravel}
 use Rattle.ends.specs.Table.{unitAt}
 use Rattle.ends.specs.declared.Olt.{Olt}
 use Rattle.ends.specs.declared.Onu.{Onu}
@@ -20,11 +20,11 @@ use Rattle.protocol.specs.Lift.{Outcome, outcome, lift}
 use Rattle.protocol.specs.Headers.{noPassage, noSending}
 use Rattle.protocol.specs.Messages.{noAcknowledgement, noStamps, noKeyMessage, ofClock, ofKey}
 use Rattle.protocol.specs.Replies.{silent}
-use Rattle.protocol.specs.UnitCalls.{captureUnit, clockSendUnit, offerUnit, retryUnit, acknowledgeUnit}
+use Rattle.protocol.specs.UnitCalls.{captureUnit, measureUnit, clockSendUnit, offerUnit, retryUnit, acknowledgeUnit}
 use Rattle.protocol.specs.UnitTraffic.{sendUnit, receiveUnit}
-use Rattle.protocol.specs.OltCalls.{oltAnswer, clockSent, keySent, captureOf, clockSendOf, offerOf, retryOf, acknowledgeOf}
+use Rattle.protocol.specs.OltCalls.{oltAnswer, clockSent, keySent, captureOf, measureOf, clockSendOf, offerOf, retryOf, acknowledgeOf}
 use Rattle.protocol.specs.OltTraffic.{sendingOlt, receivingOlt}
-use Rattle.protocol.specs.OnuCalls.{onuAnswer, onuAcknowledged, onuAdvanced, advancingOnu, advanceOnuOf, clockFrom, onuSynced, clockMessageTo, clockMessageAt, keyMessageTo, keyMessageAt}
+use Rattle.protocol.specs.OnuCalls.{onuAnswer, onuAcknowledged, onuAdvanced, advancingOnu, advanceOnuOf, onuRetimed, newTimeOf, onuSynced, clockMessageTo, clockMessageAt, keyMessageTo, keyMessageAt}
 use Rattle.protocol.specs.OnuTraffic.{onuSendChoice, onuNoted, onuAfterSend, sendingOnu, onuMoved, onuAfterReceipt, onuReceiveChoice, receivingOnu}
 use Rattle.protocol.specs.declared.Acknowledgement.{Acknowledgement}
 use Rattle.protocol.specs.declared.Header.{Header}
@@ -37,7 +37,6 @@ use Rattle.protocol.proofs.UnitCalls.{capture-keeps, clock-send-keeps, offer-ke
 use Rattle.protocol.proofs.UnitTraffic.{receive-keeps}
 use Rattle.traffic.specs.Receipts.{oltReceived, oltReceiveOf, onuReceived, onuReceiveOf}
 use Rattle.traffic.specs.Sends.{oltSent, oltSendOf, onuSent, onuSendOf}
-use Rattle.unicast.proofs.AdvanceSteps.{synced-advanced}
 use Rattle.unicast.proofs.SendDownSteps.{send-channels}
 
 ---- the OLT
@@ -64,6 +63,10 @@ lift-kept o nothing ahead llid call identity rises =
 pub capture-kept : (o : Olt) (llid : ℕ) → OltKept o (captureOf o llid .olt)
 unfolding captureOf oltAnswer captureUnit outcome
 capture-kept o llid = lift-kept o silent Accepted llid captureUnit (capture-keeps .identity) (λ u a k. omega arith)
+
+pub measure-kept : (o : Olt) (llid trip : ℕ) → OltKept o (measureOf o llid trip .olt)
+unfolding measureOf oltAnswer measureUnit outcome withClock
+measure-kept o llid trip = lift-kept o silent _ llid (measureUnit trip) (λ s u. refl) (λ u a k. omega arith)
 
 pub clock-send-kept : (o : Olt) (llid : ℕ) → OltKept o (clockSendOf o llid .olt)
 unfolding clockSendOf clockSent clockSendUnit outcome
@@ -99,50 +102,42 @@ receive-kept o h p out = lift-kept o noPassage _ (h .llid) (receiveUnit h) (rece
 
 ---- a unit
 
-pub record OnuKept (o p : Onu) : Type 0 where
-  pub identity : p .identity ≡ o .identity
-  pub synced : o .clock .synced ≡ 1 → p .clock .synced ≡ 1
-
-pub onu-itself : (o : Onu) → OnuKept o o
-onu-itself o = record { identity = refl; synced = λ e. e }
-
-pub onu-advance-kept : (o : Onu) (n : ℕ) → OnuKept o (advanceOnuOf o n .onu)
+pub onu-advance-kept : (o : Onu) (n : ℕ) → advanceOnuOf o n .onu .identity ≡ o .identity
 unfolding advanceOnuOf advancingOnu onuAnswer onuAdvanced
-onu-advance-kept o n =
-    onu-keeps (OnuKept o) o silent _ _ silent (onu-itself o) (λ v a. record { identity = refl; synced = λ e. synced-advanced (o .clock) n ∙ e })
+onu-advance-kept o n = onu-keeps (λ (p : Onu). p .identity ≡ o .identity) o silent _ _ silent refl (λ v a. refl)
 
-pub clock-message-kept : (o : Onu) (m : Stamps) → OnuKept o (clockMessageAt o m .onu)
-unfolding clockMessageAt clockMessageTo onuAcknowledged onuSynced withOnuClock clockFrom
-clock-message-kept o m = onu-keeps (OnuKept o) o noAcknowledgement _ _ ofClock (onu-itself o) (λ v a. record { identity = refl; synced = λ e. refl })
+pub new-time-kept : (o : Onu) (time : ℕ) → newTimeOf o time .onu .identity ≡ o .identity
+unfolding newTimeOf onuAnswer onuRetimed withOnuClock withTravel
+new-time-kept o time = onu-keeps (λ (p : Onu). p .identity ≡ o .identity) o silent _ _ silent refl (λ v a. refl)
 
-pub key-message-kept : (o : Onu) (m : KeyMessage) → OnuKept o (keyMessageAt o m .onu)
+pub clock-message-kept : (o : Onu) (m : Stamps) → clockMessageAt o m .onu .identity ≡ o .identity
+unfolding clockMessageAt clockMessageTo onuAcknowledged onuSynced withOnuClock
+clock-message-kept o m = onu-keeps (λ (p : Onu). p .identity ≡ o .identity) o noAcknowledgement _ _ ofClock refl (λ v a. refl)
+
+pub key-message-kept : (o : Onu) (m : KeyMessage) → keyMessageAt o m .onu .identity ≡ o .identity
 unfolding keyMessageAt keyMessageTo onuAcknowledged withOnuKeys
-key-message-kept o m =
-    onu-keeps (OnuKept o) o noAcknowledgement _ _ (ofKey (m .number)) (onu-itself o) (λ v a. record { identity = refl; synced = λ e. e })
+key-message-kept o m = onu-keeps (λ (p : Onu). p .identity ≡ o .identity) o noAcknowledgement _ _ (ofKey (m .number)) refl (λ v a. refl)
 
-noted-kept : (choice : KeyChoice) (o : Onu) → OnuKept o (onuNoted choice o)
-unfolding onuNoted withOnuFirst
-noted-kept Clear o = onu-itself o
-noted-kept (Current n) o = record { identity = refl; synced = λ e. e }
-noted-kept (Next n) o = onu-itself o
-noted-kept (Barred r) o = onu-itself o
+noted-kept : (choice : KeyChoice) (eqs : ℕ) (o : Onu) → onuNoted choice eqs o .identity ≡ o .identity
+unfolding onuNoted withOnuFirst withTravel
+noted-kept Clear eqs o = refl
+noted-kept (Current n) eqs o = refl
+noted-kept (Next n) eqs o = refl
+noted-kept (Barred r) eqs o = refl
 
-pub onu-send-kept : (o : Onu) (llid channel : ℕ) (p out : List ℕ) → OnuKept o (onuSendOf o llid channel p out .answer .onu)
+pub onu-send-kept : (o : Onu) (llid channel : ℕ) (p out : List ℕ) → onuSendOf o llid channel p out .answer .onu .identity ≡ o .identity
 unfolding onuSendOf onuSent sendingOnu onuAfterSend withOnuChannels
 onu-send-kept o llid channel p out =
-    onu-keeps (OnuKept o) o noSending _ _ _ (onu-itself o)
-    (λ v a.
-    let k = noted-kept (onuSendChoice (o .keys)) o in
-    record { identity = k .identity; synced = k .synced })
+    onu-keeps (λ (x : Onu). x .identity ≡ o .identity) o noSending _ _ _ refl (λ v a. noted-kept (onuSendChoice (o .keys)) (eqsOf p) o)
 
-received-kept : (choice : KeyChoice) (o : Onu) → OnuKept o (onuAfterReceipt choice o)
+received-kept : (choice : KeyChoice) (o : Onu) → onuAfterReceipt choice o .identity ≡ o .identity
 unfolding onuAfterReceipt onuMoved withOnuFirst withOnuKeys
-received-kept Clear o = onu-itself o
-received-kept (Current n) o = onu-itself o
-received-kept (Next n) o = record { identity = refl; synced = λ e. e }
-received-kept (Barred r) o = onu-itself o
+received-kept Clear o = refl
+received-kept (Current n) o = refl
+received-kept (Next n) o = refl
+received-kept (Barred r) o = refl
 
-pub onu-receive-kept : (o : Onu) (h : Header) (p out : List ℕ) → OnuKept o (onuReceiveOf o h p out .answer .onu)
+pub onu-receive-kept : (o : Onu) (h : Header) (p out : List ℕ) → onuReceiveOf o h p out .answer .onu .identity ≡ o .identity
 unfolding onuReceiveOf onuReceived receivingOnu
 onu-receive-kept o h p out =
-    onu-keeps (OnuKept o) o noPassage _ _ _ (onu-itself o) (λ v a. received-kept (onuReceiveChoice (o .keys) h) o)
+    onu-keeps (λ (x : Onu). x .identity ≡ o .identity) o noPassage _ _ _ refl (λ v a. received-kept (onuReceiveChoice (o .keys) h) o)

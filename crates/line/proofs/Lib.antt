@@ -36,10 +36,12 @@ pub mod GroupEnvelopeSteps
 pub mod GroupArrivalSteps
 pub mod OverheardSteps
 pub mod StraySteps
+pub mod ChangeSteps
 pub mod StartSteps
 pub mod Claims
 pub mod Theorem
 pub mod Without
+pub mod Unchanged
 pub mod Opened
 pub mod Tested
 pub mod Example

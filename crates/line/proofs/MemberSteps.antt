@@ -44,7 +44,7 @@ pub record Moved (w : Setting) (s : State) (u g : ℕ) (x : Subscriber) (ms : Li
   pub untouched : (llid n : ℕ) → (llid ≡ groupLaneAt s g .llid → ⊥) → hasTaken ms llid n ≡ hasTaken (joinedBy s u) llid n
   pub stays : (llid n : ℕ) → hasTaken (joinedBy s u) llid n ≡ true → hasTaken ms llid n ≡ true
   pub follows : Follows l (groupAt (s .head) g .keys .active) (groupAt (s .head) g .keys .offered) (isMember l (laneAt (alone s) u)) ms
-      (x .onu .clock .synced) (joinedFor x (l .llid)) (getD (l .towards) u [])
+      (joinedFor x (l .llid)) (getD (l .towards) u [])
   pub answered : (a : GroupAnswered) → List·Memᴰ a (l .answered)
       → hasTaken (getD (set (s .history .joined) u ms) (a .unit) []) (groupLaneAt s g .llid) (a .answer .number) ≡ true
 
@@ -151,14 +151,14 @@ module _ (w : Setting) (s : State) (u g : ℕ) (x : Subscriber) (ms : List Membe
   abbrev Pair : ℕ → ℕ → GroupLane → Subscriber → List Membership → Type 0
   Pair v k y z js =
       Follows y (groupAt (s .head) k .keys .active) (groupAt (s .head) k .keys .offered) (isMember y (laneAt (alone s) v)) js
-      (z .onu .clock .synced) (joinedFor z (y .llid)) (getD (y .towards) v [])
+      (joinedFor z (y .llid)) (getD (y .towards) v [])
 
   -- the unit, and another group
   other-group : (k : ℕ) → k < length gs → (k ≡ g → ⊥) → Pair u k (groupLaneAt s k) x ms
   other-group k h n =
       let f = i .follows u k (p .unit) h in
       let differs : groupLaneAt s k .llid ≡ groupLaneAt s g .llid → ⊥ = λ e. n (line-once w s i k g h (p .known) e) in
-      rw (p .apart (groupLaneAt s k .llid) differs, p .onu)
+      rw (p .apart (groupLaneAt s k .llid) differs)
       (record {
         low = f .low;
         kept = f .kept;
@@ -174,14 +174,14 @@ module _ (w : Setting) (s : State) (u g : ℕ) (x : Subscriber) (ms : List Membe
       let z = subscriberAt s v in
       let r = groupAt (s .head) g .keys in
       subst (λ (xs : List Thing).
-      Follows l (r .active) (r .offered) (isMember l (laneAt (alone s) v)) (joinedBy s v) (z .onu .clock .synced) (joinedFor z (l .llid)) xs)
+      Follows l (r .active) (r .offered) (isMember l (laneAt (alone s) v)) (joinedBy s v) (joinedFor z (l .llid)) xs)
       (sym (p .others v n))
       (subst (λ (y : ℕ).
-      Follows l (r .active) (r .offered) (isMember l (laneAt (alone s) v)) (joinedBy s v) (z .onu .clock .synced) (joinedFor z y)
+      Follows l (r .active) (r .offered) (isMember l (laneAt (alone s) v)) (joinedBy s v) (joinedFor z y)
       (getD (groupLaneAt s g .towards) v []))
       (sym (p .llid))
-      (follows-moved (groupLaneAt s g) l _ _ _ _ _ _ (joinedBy s v) _ _ _ _ (grown _) (omega arith) (omega arith)
-      (λ e. sym (member-same (groupLaneAt s g) l (laneAt (alone s) v) (p .roster)) ∙ e) (λ e. e) (i .follows v g h (p .known))))
+      (follows-moved (groupLaneAt s g) l _ _ _ _ _ _ (joinedBy s v) _ _ (grown _) (omega arith) (omega arith)
+      (λ e. sym (member-same (groupLaneAt s g) l (laneAt (alone s) v) (p .roster)) ∙ e) (i .follows v g h (p .known))))
 
   pairs : (v k : ℕ) → v < length (lanes s) → k < length gs
       → Pair v k (lineAt k) (getD (set (s .subscribers) u x) v noSubscriber) (getD (set (s .history .joined) u ms) v [])

@@ -26,10 +26,10 @@ use Rattle.line.proofs.Taken.{taking-cases}
 ---- which keys are held
 
 -- the key of a number that is held is the one that was offered
-pub held-key : (l : GroupLane) (active offered : ℕ) (member : Bool) (ms : List Membership) (synced : ℕ) (j : Joined) (xs : List Thing) (n : ℕ)
-    → Follows l active offered member ms synced j xs → holds j n ≡ true → KeyHeld l offered j n
+pub held-key : (l : GroupLane) (active offered : ℕ) (member : Bool) (ms : List Membership) (j : Joined) (xs : List Thing) (n : ℕ)
+    → Follows l active offered member ms j xs → holds j n ≡ true → KeyHeld l offered j n
 unfolding holds
-held-key l active offered member ms synced j xs n f e =
+held-key l active offered member ms j xs n f e =
     ⊎-elim
     (λ h. subst (KeyHeld l offered j) (sym (eqb-true n (j .keys .active + 1) (both-right _ _ h))) (f .held (eqb-true (j .keys .held) 1 (both-left _ _ h))))
     (λ h. subst (KeyHeld l offered j) (sym (eqb-true n (j .keys .active) (both-right _ _ h))) (f .kept (eqb-true (j .kept) 1 (both-left _ _ h))))
@@ -59,16 +59,16 @@ held-low j n e =
 
 ---- a key that is taken
 
-module _ (l : GroupLane) (active offered : ℕ) (member : Bool) (ms : List Membership) (synced : ℕ) (j : Joined) (xs rest : List Thing) (m : KeyMessage)
-    (f : Follows l active offered member ms synced j xs) (valid : validJoined j ≡ true) (r : KeyUnder l (j .keys .active) active offered m)
-    (after : Under l (m .number - 1) active offered rest) (set : synced ≡ 1) (is : member ≡ true) where
+module _ (l : GroupLane) (active offered : ℕ) (member : Bool) (ms : List Membership) (j : Joined) (xs rest : List Thing) (m : KeyMessage)
+    (f : Follows l active offered member ms j xs) (valid : validJoined j ≡ true) (r : KeyUnder l (j .keys .active) active offered m)
+    (after : Under l (m .number - 1) active offered rest) (is : member ≡ true) where
   -- key n - 1 stays if it was held
   kept-before : highestHeld j < m .number → (t : Bool) → holds j (m .number - 1) ≡ t → _≡_ {A = ℕ} (pick t 1 0) 1
       → KeyHeld l offered (joinedTaken j m) (m .number - 1)
   unfolding joinedTaken pick
   kept-before above false e z = absurd (omega arith)
   kept-before above true e z =
-      let h = held-key l active offered member ms synced j xs (m .number - 1) f e in
+      let h = held-key l active offered member ms j xs (m .number - 1) f e in
       record {
         some = h .some;
         most = h .most;
@@ -102,7 +102,7 @@ module _ (l : GroupLane) (active offered : ℕ) (member : Bool) (ms : List Membe
   took-now n e = either-right _ (either-left _ (both-true refl (eq-eqb n (m .number - 1 + 1) (omega (arith, r .above)))))
 
   -- of a number above those that are held
-  new-follows : highestHeld j < m .number → Follows l active offered member (taking (l .llid) (m .number) ms) synced (joinedTaken j m) rest
+  new-follows : highestHeld j < m .number → Follows l active offered member (taking (l .llid) (m .number) ms) (joinedTaken j m) rest
   unfolding joinedTaken
   new-follows above =
       let next : m .number - 1 + 1 ≡ m .number = omega (arith, r .above) in
@@ -115,31 +115,28 @@ module _ (l : GroupLane) (active offered : ℕ) (member : Bool) (ms : List Membe
               most = omega (arith, r .most);
               key = rw next (key-stored (pick (holds j (m .number - 1)) (j .keys .slots) noSlots) (m .number) (m .key) ∙ r .key);
             };
-        took = λ n t. (set, ⊎-elim (λ h. took-before above n (f .took n h .1)) (took-now n) (taking-cases (l .llid) (m .number) (l .llid) n ms t));
+        took = λ n t. ⊎-elim (λ h. took-before above n (f .took n h)) (took-now n) (taking-cases (l .llid) (m .number) (l .llid) n ms t);
         queue = after;
         stranger = λ e. true-false (sym is ∙ e);
       }
 
   -- of one that is held: nothing changes
-  again-follows : holds j (m .number) ≡ true → Follows l active offered member (taking (l .llid) (m .number) ms) synced j rest
+  again-follows : holds j (m .number) ≡ true → Follows l active offered member (taking (l .llid) (m .number) ms) j rest
   again-follows again =
       record {
         low = f .low;
         kept = f .kept;
         held = f .held;
-        took = λ n t. (
-          set,
-          ⊎-elim (λ h. f .took n h .1) (λ h. either-right _ (ap (holds j) h ∙ again)) (taking-cases (l .llid) (m .number) (l .llid) n ms t),
-        );
+        took = λ n t. ⊎-elim (λ h. f .took n h) (λ h. either-right _ (ap (holds j) h ∙ again)) (taking-cases (l .llid) (m .number) (l .llid) n ms t);
         queue = under-lower l (m .number - 1) (j .keys .active) active offered rest (omega (arith, r .above)) after;
         stranger = λ e. true-false (sym is ∙ e);
       }
 
   pub message-follows : either (newNumber j m) (heldAgain j m) ≡ true
-      → Follows l active offered member (taking (l .llid) (m .number) ms) synced (joinedAfterMessage j m) rest
+      → Follows l active offered member (taking (l .llid) (m .number) ms) (joinedAfterMessage j m) rest
   unfolding joinedAfterMessage newNumber heldAgain
   message-follows fits = by-test (newNumber j m) refl where
-    by-test : (t : Bool) → newNumber j m ≡ t → Follows l active offered member (taking (l .llid) (m .number) ms) synced (joinedAfterMessage j m) rest
+    by-test : (t : Bool) → newNumber j m ≡ t → Follows l active offered member (taking (l .llid) (m .number) ms) (joinedAfterMessage j m) rest
     by-test true e = rw (pick-true (joinedTaken j m) j e) (new-follows (ltb-true (highestHeld j) (m .number) (both-right _ _ e)))
     by-test false e =
         rw (pick-false (joinedTaken j m) j e)

@@ -168,7 +168,8 @@ module _ (w : Setting) (s : State) (u k : ℕ) (out : List ℕ) (i : Invariant w
       let x = subscriberAt s u in
       let v = memberships-right w s i u in
       let j = own-alive .joined in
-      let r = towards-taken (w .first) (laneAt (alone s) u) _ _ _ (laneAt (alone s) u .transit .towards) k _ (keyMessage m t) (d .some) e (j .towards) .0 in
+      let r = towards-taken (w .first) (laneAt (alone s) u .path) (laneAt (alone s) u) _ _ _ (laneAt (alone s) u .transit .towards) k _ (keyMessage m t)
+      (d .some) e (j .towards) .0 in
       let none = own-nowhere (m .llid) (r .named) in
       message-right w s u k (subscriberKeyMessageOf x m) i
       (rw (key-message-onu x v m none) (with-onu-kept x _ (key-message-kept (x .onu) m)))
@@ -177,7 +178,8 @@ module _ (w : Setting) (s : State) (u k : ℕ) (out : List ℕ) (i : Invariant w
       let x = subscriberAt s u in
       let v = memberships-right w s i u in
       let j = own-alive .joined in
-      let r = towards-taken (w .first) (laneAt (alone s) u) _ _ _ (laneAt (alone s) u .transit .towards) k _ (envelope y) (d .some) e (j .towards) .0 in
+      let r = towards-taken (w .first) (laneAt (alone s) u .path) (laneAt (alone s) u) _ _ _ (laneAt (alone s) u .transit .towards) k _ (envelope y)
+      (d .some) e (j .towards) .0 in
       let none = own-nowhere (y .header .llid)
       (ap (λ (h : Header). has (laneAt (alone s) u .site .identity) (h .llid)) (j .passing .sent y (r .sent) .header) ∙ r .named) in
       own-right w s u _ (λ l. laneArrivedDown (receiptDown s u y out) (laneTaken k l)) i

@@ -8,15 +8,15 @@ use Rattle.groups.specs.Subscriber as joined
 use Rattle.groups.specs.Subscriber.{freshJoined, joinedLlids, findJoined, pastJoined, withOnu, withJoined, withOneJoinedMore, noMemberships, validJoined, validGroupsOf, validMemberships, validSubscriber}
 use Rattle.groups.specs.JoinedCalls.{highestHeld, holds, heldAgain, newNumber, joinedMessageVerdict, joinedTaken, joinedAfterMessage, groupAnswer, messageJoined, joinedChoice, joinedReceiveVerdict, joinedMoved, joinedAfterReceipt, receiveJoined}
 use Rattle.multicast.specs.Naming.{byLlid, putGroup, groupLift}
-use Rattle.multicast.specs.HeadCalls.{headAnswer, headKeySent, oltAnswered, oltClockSent, oltKeySent, freshHeadOf, unitVerdict, headRegisterOf, placeFound, rosterMembers, validGroupRegistration, groupVerdict, registerGroupOf, groupsAdvanced, headAdvanced, headAdvanceOf, headCaptureOf, headClockSendOf, headOfferOf, headRetryOf, ownAcknowledgement, headAcknowledgeOf}
+use Rattle.multicast.specs.HeadCalls.{headAnswer, headKeySent, oltAnswered, oltClockSent, oltKeySent, freshHeadOf, unitVerdict, headRegisterOf, placeFound, rosterMembers, validGroupRegistration, groupVerdict, registerGroupOf, groupsAdvanced, headAdvanced, headAdvanceOf, headCaptureOf, headMeasureOf, headClockSendOf, headOfferOf, headRetryOf, ownAcknowledgement, headAcknowledgeOf}
 use Rattle.multicast.specs.HeadTraffic.{oltSentIn, headSent, headSendOf, oltReceivedIn, groupReceiveVerdict, headReceiveOf}
-use Rattle.multicast.specs.SubscriberCalls.{subscriberAnswer, subscriberAcknowledged, ownAnswer, putJoined, joinedLift, ownAnswered, onuAnswered, notAcknowledged, ownAcknowledged, onuAcknowledgedIn, freshSubscriberOf, joinVerdict, joinOf, subscriberAdvanceOf, subscriberClockMessageOf, subscriberKeyMessageOf}
+use Rattle.multicast.specs.SubscriberCalls.{subscriberAnswer, subscriberAcknowledged, ownAnswer, putJoined, joinedLift, ownAnswered, onuAnswered, notAcknowledged, ownAcknowledged, onuAcknowledgedIn, freshSubscriberOf, joinVerdict, joinOf, subscriberAdvanceOf, subscriberNewTimeOf, subscriberClockMessageOf, subscriberKeyMessageOf}
 use Rattle.multicast.specs.SubscriberTraffic.{ownSent, unitSendOf, ownSendOf, groupSendVerdict, subscriberSendOf, ownReceived, unitReceiveOf, ownReceiveOf, subscriberReceived, groupReceiveOf, subscriberReceiveOf}
 use Rattle.unicast.proofs.Opened as units
 use Rattle.line.specs.History as history
-use Rattle.line.specs.History.{isMember, groupSwitching, groupNumber, groupWith, leavingFor, groupLeaving, groupSent, groupTaken, groupAnswered, groupArrived, isJoined, hasTaken, joining, taking}
-use Rattle.line.specs.Run.{alone, freshSubscriber, start, noSubscriber, noGroupLane, notedFor, atHead, atUnit, atUnitAlone, advancing, registering, newGroupLane, registeringGroup, clockSentAlone, keySentAlone, clockSendingTo, offeringTo, retryingTo, headPassage, envelopeDown, sendingDown, joiningAt, envelopeUp, sendingUp, answerAlone, messageArriving, receiptDown, thingArriving, groupMessageArriving, groupPassage, groupReceipt, groupThingArriving, receiptUp, arrivingUp, answering, subscriberAfter, headAfter, step, runs}
-use Rattle.line.specs.Example.{registrations, joins, clocks, firstKey, overheard, missedKey, backAgain, joinedStranger}
+use Rattle.line.specs.History.{isMember, groupSwitching, groupNumber, groupWith, leavingFor, groupLeaving, groupSent, groupTaken, groupAnswered, groupArrived, answerAgain, groupMoved, isJoined, hasTaken, joining, taking}
+use Rattle.line.specs.Run.{alone, freshSubscriber, start, noSubscriber, noGroupLane, notedFor, atHead, atUnit, atUnitAlone, advancing, registering, newGroupLane, registeringGroup, clockSentAlone, keySentAlone, clockSendingTo, offeringTo, retryingTo, headPassage, envelopeDown, sendingDown, joiningAt, envelopeUp, sendingUp, answerAlone, messageArriving, receiptDown, thingArriving, groupMessageArriving, groupPassage, groupReceipt, groupThingArriving, receiptUp, arrivingUp, answering, changingPath, subscriberAfter, headAfter, step, runs}
+use Rattle.line.specs.Example.{registrations, joins, clocks, firstKey, overheard, missedKey, backAgain, joinedStranger, pathChange, syncedAgain, overTheNewPath}
 
 unfoldable pub opened : Unit {0}
 unfolding
@@ -33,18 +33,18 @@ unfolding
     joinedReceiveVerdict joinedMoved joinedAfterReceipt receiveJoined
     byLlid putGroup groupLift
     headAnswer headKeySent oltAnswered oltClockSent oltKeySent freshHeadOf unitVerdict headRegisterOf placeFound rosterMembers validGroupRegistration
-    groupVerdict registerGroupOf groupsAdvanced headAdvanced headAdvanceOf headCaptureOf headClockSendOf headOfferOf headRetryOf ownAcknowledgement
-    headAcknowledgeOf
+    groupVerdict registerGroupOf groupsAdvanced headAdvanced headAdvanceOf headCaptureOf headMeasureOf headClockSendOf headOfferOf headRetryOf
+    ownAcknowledgement headAcknowledgeOf
     oltSentIn headSent headSendOf oltReceivedIn groupReceiveVerdict headReceiveOf
     subscriberAnswer subscriberAcknowledged ownAnswer putJoined joinedLift ownAnswered onuAnswered notAcknowledged ownAcknowledged onuAcknowledgedIn
-    freshSubscriberOf joinVerdict joinOf subscriberAdvanceOf subscriberClockMessageOf subscriberKeyMessageOf
+    freshSubscriberOf joinVerdict joinOf subscriberAdvanceOf subscriberNewTimeOf subscriberClockMessageOf subscriberKeyMessageOf
     ownSent unitSendOf ownSendOf groupSendVerdict subscriberSendOf ownReceived unitReceiveOf ownReceiveOf subscriberReceived groupReceiveOf
     subscriberReceiveOf
-    history.groupOffered isMember groupSwitching groupNumber groupWith leavingFor groupLeaving groupSent groupTaken groupAnswered groupArrived isJoined
-    hasTaken joining taking
+    history.groupOffered isMember groupSwitching groupNumber groupWith leavingFor groupLeaving groupSent groupTaken groupAnswered groupArrived
+    answerAgain groupMoved isJoined hasTaken joining taking
     alone freshSubscriber start noSubscriber noGroupLane notedFor atHead atUnit atUnitAlone advancing registering newGroupLane registeringGroup
     clockSentAlone keySentAlone clockSendingTo offeringTo retryingTo headPassage envelopeDown sendingDown joiningAt envelopeUp sendingUp answerAlone
-    messageArriving receiptDown thingArriving groupMessageArriving groupPassage groupReceipt groupThingArriving receiptUp arrivingUp answering
+    messageArriving receiptDown thingArriving groupMessageArriving groupPassage groupReceipt groupThingArriving receiptUp arrivingUp answering changingPath
     subscriberAfter headAfter step runs
-    registrations joins clocks firstKey overheard missedKey backAgain joinedStranger
+    registrations joins clocks firstKey overheard missedKey backAgain joinedStranger pathChange syncedAgain overTheNewPath
 opened = tt

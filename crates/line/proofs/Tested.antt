@@ -2,25 +2,27 @@
 use mathlib.Core.Path.{_≡_, refl}
 use mathlib.Core.Bool.{Bool, true, not}
 use mathlib.Core.List.{List, [], _∷_, _++_}
-use Prim.Native.Nat.{ℕ, _+_}
+use Prim.Native.Nat.{ℕ, _+_, _%_}
 use lib.Dec.{eqb, leb, ltb}
 use lib.ListN.{length, getD}
 use borrow.Author.Tests.{ltb-true, leb-true, eqb-true, not-true}
 use Rattle.octets.specs.Choice.{both}
 use Rattle.octets.proofs.Choice.{both-left, both-right}
-use Rattle.multicast.specs.HeadCalls.{headRegisterOf, headOfferOf, headAcknowledgeOf}
+use Rattle.clock.specs.Ticks.{localTurn}
+use Rattle.ends.specs.Identities.{has}
+use Rattle.multicast.specs.HeadCalls.{headRegisterOf, headMeasureOf, headOfferOf, headAcknowledgeOf}
 use Rattle.multicast.specs.HeadTraffic.{headReceiveOf}
-use Rattle.multicast.specs.SubscriberCalls.{subscriberClockMessageOf, subscriberKeyMessageOf}
+use Rattle.multicast.specs.SubscriberCalls.{subscriberNewTimeOf, subscriberClockMessageOf, subscriberKeyMessageOf}
 use Rattle.multicast.specs.SubscriberTraffic.{subscriberSendOf, subscriberReceiveOf}
-use Rattle.unicast.specs.Setting.{Setting}
+use Rattle.unicast.specs.Setting.{Delays, Setting}
 use Rattle.unicast.specs.History.{leftAt}
 use Rattle.unicast.specs.Run.{laneAt}
 use Rattle.unicast.proofs.Tested.{ifAccepted, if-accepted, not-accepted, agrees, agrees-true, unused, unused-at, laneOffers, new-key, fitting, fitting-true, dueDown, due-down-true, dueUp, due-up-true, dueAnswer, due-answer-true, overhears, overhears-true}
 use Rattle.unicast.proofs.Tested as units
 use Rattle.line.specs.History.{GroupLane, isMember}
-use Rattle.line.specs.Events.{Event, advance, register, registerGroup, capture, clockSend, offer, retry, sendDown, join, sendUp, arriveDown, arriveGroup, arriveUp, arriveAnswer, arriveGroupAnswer, overhear, overhearGroup, strayClock, strayKey, strayAnswer, strayDown, strayUp}
+use Rattle.line.specs.Events.{Event, advance, register, registerGroup, capture, clockSend, offer, retry, sendDown, join, sendUp, arriveDown, arriveGroup, arriveUp, arriveAnswer, arriveGroupAnswer, overhear, overhearGroup, changePath, measure, newTime, strayClock, strayKey, strayAnswer, strayDown, strayUp}
 use Rattle.line.specs.Run.{State, alone, subscriberAt, groupLaneAt, noGroupLane, groupThingAt, groupAnswerAt, now, step}
-use Rattle.line.specs.Premises.{NewKey, DueOfGroup, DueGroupAnswer, OverhearsGroup, Fits, Meets}
+use Rattle.line.specs.Premises.{NewKey, DueOfGroup, DueGroupAnswer, Changes, OverhearsGroup, Fits, Meets}
 
 ---- each premise of groups
 
@@ -41,7 +43,7 @@ new-true s key e =
 unfoldable pub dueOfGroup : State → ℕ → ℕ → ℕ → List ℕ → Bool
 dueOfGroup s u g k out =
     both (ltb k (length (getD (groupLaneAt s g .towards) u [])))
-    (both (eqb (leftAt (groupThingAt s u g k) + laneAt (alone s) u .site .down) (now s)) (fitting (groupThingAt s u g k) out))
+    (both (eqb (leftAt (groupThingAt s u g k) + laneAt (alone s) u .path .down) (now s)) (fitting (groupThingAt s u g k) out))
 
 pub due-of-group-true : (s : State) (u g k : ℕ) (out : List ℕ) → dueOfGroup s u g k out ≡ true → DueOfGroup s u g k out
 unfolding dueOfGroup
@@ -52,7 +54,7 @@ due-of-group-true s u g k out e =
 unfoldable pub dueGroupAnswer : State → ℕ → ℕ → Bool
 dueGroupAnswer s g k =
     both (ltb k (length (groupLaneAt s g .answered)))
-    (leb (groupAnswerAt s g k .tick + laneAt (alone s) (groupAnswerAt s g k .unit) .site .up) (now s))
+    (leb (groupAnswerAt s g k .tick + laneAt (alone s) (groupAnswerAt s g k .unit) .path .up) (now s))
 
 due-group-answer-true : (s : State) (g k : ℕ) → dueGroupAnswer s g k ≡ true → DueGroupAnswer s g k
 unfolding dueGroupAnswer
@@ -68,6 +70,27 @@ unfolding overhearsGroup
 overhears-group-true s u g k e =
     let a = both-right _ _ e in
     record { registered = both-left _ _ e; stranger = not-true _ (both-left _ _ a); some = ltb-true _ _ (both-right _ _ a) }
+
+unfoldable pub changes : Setting → State → ℕ → ℕ → ℕ → Delays → Bool
+changes w s u llid time p =
+    both (laneAt (alone s) u .entry .registered)
+    (both (has (laneAt (alone s) u .site .identity) llid)
+    (both (eqb (headMeasureOf (s .head) llid (p .up + p .down) .number) 0)
+    (both (eqb (subscriberNewTimeOf (subscriberAt s u) time .number) 0) (eqb time ((w .first + now s + p .up) % localTurn)))))
+
+changes-true : (w : Setting) (s : State) (u llid time : ℕ) (p : Delays) → changes w s u llid time p ≡ true → Changes w s u llid time p
+unfolding changes
+changes-true w s u llid time p e =
+    let a = both-right _ _ e in
+    let b = both-right _ _ a in
+    let c = both-right _ _ b in
+    record {
+      registered = both-left _ _ e;
+      named = both-left _ _ a;
+      measured = eqb-true _ _ (both-left _ _ b);
+      retimed = eqb-true _ _ (both-left _ _ c);
+      follows = eqb-true _ _ (both-right _ _ c);
+    }
 
 ---- an event, and a list
 
@@ -90,6 +113,9 @@ fits w s (arriveAnswer u k llid) = dueAnswer (alone s) u k llid
 fits w s (arriveGroupAnswer g k) = dueGroupAnswer s g k
 fits w s (overhear u other k out) = overhears (alone s) u other k
 fits w s (overhearGroup u g k out) = overhearsGroup s u g k
+fits w s (changePath u llid time p) = changes w s u llid time p
+fits w s (measure llid trip) = not (eqb (headMeasureOf (s .head) llid trip .number) 0)
+fits w s (newTime u time) = not (eqb (subscriberNewTimeOf (subscriberAt s u) time .number) 0)
 fits w s (strayClock u m) = not (eqb (subscriberClockMessageOf (subscriberAt s u) m .number) 0)
 fits w s (strayKey u m) = not (eqb (subscriberKeyMessageOf (subscriberAt s u) m .number) 0)
 fits w s (strayAnswer llid a) = not (eqb (headAcknowledgeOf (s .head) llid a .number) 0)
@@ -115,6 +141,9 @@ fits-true w s (arriveAnswer u k llid) h = due-answer-true (alone s) u k llid h
 fits-true w s (arriveGroupAnswer g k) h = due-group-answer-true s g k h
 fits-true w s (overhear u other k out) h = overhears-true (alone s) u other k h
 fits-true w s (overhearGroup u g k out) h = overhears-group-true s u g k h
+fits-true w s (changePath u llid time p) h = changes-true w s u llid time p h
+fits-true w s (measure llid trip) h = not-accepted _ h
+fits-true w s (newTime u time) h = not-accepted _ h
 fits-true w s (strayClock u m) h = not-accepted _ h
 fits-true w s (strayKey u m) h = not-accepted _ h
 fits-true w s (strayAnswer llid a) h = not-accepted _ h
@@ -137,5 +166,5 @@ meets-start w s (e ∷ es) rest m = (m .0, meets-start w (step s e) es rest (m .
 
 -- to compute the test
 unfoldable pub tested : Unit {0}
-unfolding units.tested newTo dueOfGroup dueGroupAnswer overhearsGroup fits meets
+unfolding units.tested newTo dueOfGroup dueGroupAnswer overhearsGroup changes fits meets
 tested = tt

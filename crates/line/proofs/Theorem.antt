@@ -7,7 +7,7 @@ use Rattle.ends.specs.declared.Found.the-variants.{At, Nowhere}
 use Rattle.groups.specs.Head.{findGroup}
 use Rattle.unicast.specs.Setting.{Setting}
 use Rattle.unicast.specs.Premises.{Fresh}
-use Rattle.line.specs.Events.{Event, advance, register, registerGroup, capture, clockSend, offer, retry, sendDown, join, sendUp, arriveDown, arriveGroup, arriveUp, arriveAnswer, arriveGroupAnswer, overhear, overhearGroup, strayClock, strayKey, strayAnswer, strayDown, strayUp}
+use Rattle.line.specs.Events.{Event, advance, register, registerGroup, capture, clockSend, offer, retry, sendDown, join, sendUp, arriveDown, arriveGroup, arriveUp, arriveAnswer, arriveGroupAnswer, overhear, overhearGroup, changePath, measure, newTime, strayClock, strayKey, strayAnswer, strayDown, strayUp}
 use Rattle.line.specs.Run.{State, start, step, runs}
 use Rattle.line.specs.Premises.{Fits, Meets}
 use Rattle.line.specs.Claim.{Claim}
@@ -27,6 +27,7 @@ use Rattle.line.proofs.GroupArrivalSteps.{arrive-group-right}
 use Rattle.line.proofs.ArrivalSteps.{arrive-up-right}
 use Rattle.line.proofs.AnswerSteps.{group-acknowledged-right, stray-answer-right, stray-up-right}
 use Rattle.line.proofs.OverheardSteps.{overhear-right, overhear-group-right}
+use Rattle.line.proofs.ChangeSteps.{change-path-right, measure-right, new-time-right}
 use Rattle.line.proofs.StraySteps.{stray-clock-right, stray-key-right, stray-down-right}
 
 ---- calls of the OLT, by whom the LLID means
@@ -69,6 +70,9 @@ step-right w s (arriveAnswer u k llid) i f = answer-right w s u k llid i f
 step-right w s (arriveGroupAnswer g k) i f = group-acknowledged-right w s g k i f
 step-right w s (overhear u other k out) i f = overhear-right w s u other k out i f
 step-right w s (overhearGroup u g k out) i f = overhear-group-right w s u g k out i f
+step-right w s (changePath u llid time p) i f = change-path-right w s u llid time p i f
+step-right w s (measure llid trip) i f = measure-right w s llid trip i f
+step-right w s (newTime u time) i f = new-time-right w s u time i f
 step-right w s (strayClock u m) i f = stray-clock-right w s u m i f
 step-right w s (strayKey u m) i f = stray-key-right w s u m i f
 step-right w s (strayAnswer llid a) i f = stray-answer-right w s llid a i f

@@ -2,7 +2,7 @@
 use mathlib.Core.Path.{_≡_, refl, sym, _∙_, ap}
 use mathlib.Core.Bool.{Bool, true, false, not}
 use mathlib.Core.List.{List, [], _∷_, map}
-use Prim.Native.Nat.{ℕ, _<_}
+use Prim.Native.Nat.{ℕ, _+_, _<_}
 use native.Mathlib.Nat.{add-zero}
 use native.Mathlib.Omega.{arith}
 use lib.Dec.{ltb}
@@ -22,15 +22,16 @@ use Rattle.ends.specs.declared.Identity.{Identity}
 use Rattle.ends.specs.declared.Olt.{Olt}
 use Rattle.ends.specs.declared.Onu.{Onu}
 use Rattle.protocol.specs.Headers.{noPassage}
-use Rattle.protocol.specs.OltCalls.{oltAnswer, registerVerdict, registering, registerOf, acknowledgeOf}
+use Rattle.protocol.specs.OltCalls.{oltAnswer, registerVerdict, registering, registerOf, measureOf, acknowledgeOf}
 use Rattle.protocol.specs.OltTraffic.{receivingOlt}
 use Rattle.protocol.specs.declared.Acknowledgement.{Acknowledgement}
 use Rattle.protocol.specs.declared.Header.{Header}
-use Rattle.protocol.proofs.OltCalls.{acknowledge-refused}
+use Rattle.protocol.proofs.OltCalls.{measure-refused, acknowledge-refused}
 use Rattle.protocol.proofs.OltTraffic.{receiving-untouched}
+use Rattle.protocol.proofs.NewTimes.{new-time-refused}
 use Rattle.protocol.proofs.OnuCalls.{clock-message-refused, key-message-refused}
 use Rattle.protocol.proofs.Replies.{number-refused}
-use Rattle.protocol.specs.OnuCalls.{clockMessageAt, keyMessageAt}
+use Rattle.protocol.specs.OnuCalls.{newTimeOf, clockMessageAt, keyMessageAt}
 use Rattle.protocol.specs.Replies.{reply, silent}
 use Rattle.traffic.specs.Passages.{misfit}
 use Rattle.traffic.specs.Receipts.{oltReceived, oltReceiveOf, onuNotReceived, onuReceiveOf}
@@ -43,12 +44,13 @@ use Rattle.groups.specs.Members.{placeFrom}
 use Rattle.groups.specs.Subscriber.{findJoined, joinedLlids, noMemberships, validMemberships}
 use Rattle.groups.specs.declared.HeadEnd.{HeadEnd}
 use Rattle.groups.specs.declared.Subscriber.{Subscriber}
-use Rattle.multicast.specs.HeadCalls.{headAnswer, unitVerdict, headRegisterOf}
+use Rattle.multicast.specs.HeadCalls.{headAnswer, unitVerdict, headRegisterOf, headMeasureOf}
 use Rattle.multicast.specs.SubscriberCalls.{ownAnswer}
 use Rattle.multicast.specs.declared.HeadAnswer.{HeadAnswer}
 use Rattle.multicast.specs.declared.HeadKeySent.{HeadKeySent}
 use Rattle.multicast.specs.declared.HeadReceived.{HeadReceived}
 use Rattle.multicast.specs.declared.SubscriberAcknowledged.{SubscriberAcknowledged}
+use Rattle.multicast.specs.declared.SubscriberAnswer.{SubscriberAnswer}
 use Rattle.multicast.specs.declared.SubscriberReceived.{SubscriberReceived}
 use Rattle.multicast.specs.declared.SubscriberSent.{SubscriberSent}
 use Rattle.unicast.specs.Setting.{Setting}
@@ -59,20 +61,21 @@ use Rattle.unicast.specs.Run.{thingAt}
 use Rattle.unicast.specs.Premises as premises
 use Rattle.unicast.proofs.OnuSteps.{receive-refused}
 use Rattle.unicast.proofs.OverheardSteps.{overheard-refused}
-use Rattle.line.specs.History.{GroupLane, Membership, isJoined}
+use Rattle.line.specs.History.{GroupLane, Membership, isJoined, groupMoved}
 use Rattle.line.specs.Events.{register}
 use Rattle.line.specs.Run as line
-use Rattle.line.specs.Run.{State, alone, noSubscriber, subscriberAt, joinedBy, noGroupLane, groupLaneAt, lanes, notedFor, atHead, atUnit, atUnitAlone, advancing, clockSendingTo, offeringTo, retryingTo, sendingDown, sendingUp, messageArriving, thingArriving, arrivingUp, answering, subscriberAfter, headAfter, start, step, runs}
+use Rattle.line.specs.Run.{State, alone, noSubscriber, subscriberAt, joinedBy, noGroupLane, groupLaneAt, now, lanes, notedFor, atHead, atUnit, atUnitAlone, advancing, changingPath, clockSendingTo, offeringTo, retryingTo, sendingDown, sendingUp, messageArriving, thingArriving, arrivingUp, answering, subscriberAfter, headAfter, start, step, runs}
 use Rattle.line.specs.Premises.{Fits, Meets}
 use Rattle.line.specs.Without.{plain, AsBefore}
 use Rattle.line.proofs.Invariant.{Invariant}
 use Rattle.line.proofs.Alone.{onu-alone}
-use Rattle.line.proofs.AloneHead.{offer-olt, acknowledge-olt, receive-olt, capture-alone, clock-send-alone, offer-alone, retry-alone, send-down-alone, answer-alone, arrive-up-alone}
-use Rattle.line.proofs.AloneUnit.{clock-message-onu, key-message-onu, send-onu, receive-onu, send-up-alone, clock-alone, key-alone, envelope-alone}
+use Rattle.line.proofs.AloneHead.{answered-olt, offer-olt, acknowledge-olt, receive-olt, capture-alone, clock-send-alone, offer-alone, retry-alone, send-down-alone, answer-alone, arrive-up-alone}
+use Rattle.line.proofs.AloneUnit.{new-time-onu, clock-message-onu, key-message-onu, send-onu, receive-onu, send-up-alone, clock-alone, key-alone, envelope-alone}
 use Rattle.line.proofs.AdvanceSteps.{advance-alone}
 use Rattle.line.proofs.AnswerSteps.{answer-refused}
 use Rattle.line.proofs.AnswerSteps as answers
 use Rattle.line.proofs.Arriving.{joined-listed}
+use Rattle.line.proofs.ChangeSteps.{change-alone, head-refused, time-refused}
 use Rattle.line.proofs.Finding.{joined-none}
 use Rattle.line.proofs.OverheardSteps.{unit-overheard}
 use Rattle.line.proofs.StartSteps.{replicate-at, start-alone, start-right}
@@ -169,6 +172,11 @@ module _ (w : Setting) (s : State) (i : Invariant w s) (p : Plain s) where
   valid : (u : ℕ) → validMemberships (subscriberAt s u) ≡ true
   valid = memberships-right w s i
 
+  measured-olt : (llid trip : ℕ) → headMeasureOf (s .head) llid trip
+      ≡ record { number = measureOf (s .head .olt) llid trip .number; head = withOlt (s .head) (measureOf (s .head .olt) llid trip .olt) }
+  unfolding headMeasureOf
+  measured-olt llid trip = answered-olt (s .head) (i .valid) (measureOf (s .head .olt) llid trip)
+
   plain-fits : (e : units.Event) → premises.Fits w (alone s) e → Fits w s (plain e)
   unfolding plain alone
   plain-fits (units.advance n) f = tt
@@ -194,6 +202,24 @@ module _ (w : Setting) (s : State) (i : Invariant w s) (p : Plain s) where
   plain-fits (units.arriveUp u k out) f = f
   plain-fits (units.arriveAnswer u k llid) f = f
   plain-fits (units.overhear u v k out) f = f
+  plain-fits (units.changePath u llid time d) f =
+      record {
+        registered = f .registered;
+        named = f .named;
+        measured = ap (λ (r : HeadAnswer). r .number) (measured-olt llid (d .up + d .down)) ∙ f .measured;
+        retimed =
+            ap (λ (r : SubscriberAnswer). r .number) (new-time-onu (subscriberAt s u) (valid u) time)
+            ∙ sym (ap (λ (o : Onu). newTimeOf o time .number) (onu-alone s u))
+            ∙ f .retimed;
+        follows = f .follows;
+      }
+  plain-fits (units.measure llid trip) f = λ z. f (sym (ap (λ (r : HeadAnswer). r .number) (measured-olt llid trip)) ∙ z)
+  plain-fits (units.newTime u time) f =
+      λ z.
+      f
+      (ap (λ (o : Onu). newTimeOf o time .number) (onu-alone s u)
+      ∙ sym (ap (λ (r : SubscriberAnswer). r .number) (new-time-onu (subscriberAt s u) (valid u) time))
+      ∙ z)
   plain-fits (units.strayClock u m) f =
       λ z.
       f
@@ -230,7 +256,7 @@ module _ (w : Setting) (s : State) (i : Invariant w s) (p : Plain s) where
   thing-plain u k out (envelope e) = own-plain u _ _
 
   plain-stays : (e : units.Event) → Plain (step s (plain e))
-  unfolding plain step advancing line.registering clockSendingTo offeringTo retryingTo sendingDown sendingUp arrivingUp answering subscriberAfter
+  unfolding plain step advancing line.registering changingPath clockSendingTo offeringTo retryingTo sendingDown sendingUp arrivingUp answering subscriberAfter
       headAfter atHead
   plain-stays (units.advance n) = record { groups = p .groups; joined = p .joined }
   plain-stays (units.register u x trip interval) = record { groups = p .groups; joined = p .joined }
@@ -244,6 +270,10 @@ module _ (w : Setting) (s : State) (i : Invariant w s) (p : Plain s) where
   plain-stays (units.arriveUp u k out) = record { groups = p .groups; joined = p .joined }
   plain-stays (units.arriveAnswer u k llid) = record { groups = p .groups; joined = p .joined }
   plain-stays (units.overhear u v k out) = record { groups = p .groups; joined = p .joined }
+  plain-stays (units.changePath u llid time d) =
+      record { groups = ap (λ (gs : List GroupLane). map (groupMoved u (now s)) gs) (p .groups); joined = p .joined }
+  plain-stays (units.measure llid trip) = record { groups = p .groups; joined = p .joined }
+  plain-stays (units.newTime u time) = record { groups = p .groups; joined = p .joined }
   plain-stays (units.strayClock u m) = record { groups = p .groups; joined = p .joined }
   plain-stays (units.strayKey u m) = record { groups = p .groups; joined = p .joined }
   plain-stays (units.strayAnswer llid a) = record { groups = p .groups; joined = p .joined }
@@ -265,6 +295,10 @@ module _ (w : Setting) (s : State) (i : Invariant w s) (p : Plain s) where
   olt-stays : (llid : ℕ) (a : Acknowledgement) → (acknowledgeOf (alone s .olt) llid a .number ≡ 0 → ⊥) → acknowledgeOf (alone s .olt) llid a .olt ≡ s .head .olt
   unfolding alone
   olt-stays llid a n = acknowledge-refused (s .head .olt) llid a n
+
+  olt-measures : (llid trip : ℕ) → (measureOf (alone s .olt) llid trip .number ≡ 0 → ⊥) → measureOf (alone s .olt) llid trip .olt ≡ s .head .olt
+  unfolding alone
+  olt-measures llid trip n = measure-refused (s .head .olt) llid trip n
 
   olt-receives : (h : Header) (q out : List ℕ) → (oltReceiveOf (alone s .olt) h q out .answer .number ≡ 0 → ⊥)
       → oltReceiveOf (alone s .olt) h q out .answer .olt ≡ s .head .olt
@@ -298,6 +332,12 @@ module _ (w : Setting) (s : State) (i : Invariant w s) (p : Plain s) where
   plain-alone (units.overhear u v k out) f =
       unit-same u _ _ (unit-overheard w s i u v k out f .left)
       (ap (λ (r : WithOutput OnuReceived). r .answer .onu) (overheard-refused w (alone s) (i .units) u v k out f) ∙ not-received (run.onuAt (alone s) u) _)
+  plain-alone (units.changePath u llid time d) f = change-alone s u llid time d (i .valid) (valid u)
+  plain-alone (units.measure llid trip) f =
+      head-same _ _ (head-refused (s .head) llid trip (i .valid) (plain-fits (units.measure llid trip) f)) (olt-measures llid trip f)
+  plain-alone (units.newTime u time) f =
+      unit-same u _ _ (time-refused (subscriberAt s u) time (valid u) (plain-fits (units.newTime u time) f))
+      (new-time-refused (run.onuAt (alone s) u) time f)
   plain-alone (units.strayClock u m) f =
       unit-same u _ _ (clock-refused (subscriberAt s u) (valid u) m (plain-fits (units.strayClock u m) f))
       (clock-message-refused (run.onuAt (alone s) u) m f .0)

@@ -1,4 +1,4 @@
--- What holds on the whole list, groups included (demand 3 of 01; 02, C-14). Assumes nothing.
+-- What holds on the whole list, groups and path changes included (demand 3 of 01; 02, C-14, C-16). Assumes nothing.
 use mathlib.Core.Path.{_≡_}
 use mathlib.Core.Bool.{true, false}
 use mathlib.Core.List.{List, List·Memᴰ}
@@ -7,17 +7,18 @@ use lib.ListN.{length}
 use Rattle.octets.specs.Output.{withOutput}
 use Rattle.refusal.specs.Number.{numberOf}
 use Rattle.refusal.specs.declared.Refusal.{Refusal}
+use Rattle.refusal.specs.declared.Refusal.the-variants.{ClockNotSet}
 use Rattle.envelope.specs.declared.Nonce.{Nonce}
 use Rattle.envelope.specs.CounterBlock.{counterBlock}
 use Rattle.sealing.specs.KeyExpansion.{keyExpansion}
 use Rattle.sealing.specs.Seal.{carried, countCarried, runsCarried}
-use Rattle.protocol.specs.Headers.{envelopeHeader}
+use Rattle.protocol.specs.Headers.{choiceEnciphered, envelopeHeader}
 use Rattle.protocol.specs.declared.Passage.{Passage}
-use Rattle.traffic.specs.Passages.{misfit, choiceEnciphered, passageNonce}
+use Rattle.traffic.specs.Passages.{misfit, passageNonce}
 use Rattle.groups.specs.declared.Subscriber.{Subscriber}
 use Rattle.multicast.specs.declared.SubscriberReceived.{SubscriberReceived}
 use Rattle.unicast.specs.Setting.{Setting, clockDown}
-use Rattle.unicast.specs.History.{Envelope, envelope, keyOf, Keys}
+use Rattle.unicast.specs.History.{Envelope, envelope, isSynced, keyOf, Keys}
 use Rattle.unicast.specs.Run.{laneAt, sentAt}
 use Rattle.unicast.specs.Claim.{isSealed, nonceFor, indexTurn, overheardFor}
 use Rattle.unicast.specs.Premises.{Overhears}
@@ -53,13 +54,14 @@ pub record GroupOpened (w : Setting) (g : GroupLane) (r : GroupArrival) : Type 0
   pub count : r .count ≡ r .envelope .count
   pub runs : r .runs ≡ r .envelope .runs
 
--- (6) an envelope of the group that arrived at a unit which had joined it was accepted if it was clear, or if the unit had accepted its
--- key's message since: opened under that key and counter block, it gave back payload, count and runs. Nothing is claimed for a member under
--- a key that it missed
+-- (6) an envelope of the group that arrived at a unit which had joined it was accepted if it was clear, or if the unit was synced and had
+-- accepted its key's message since: opened under that key and counter block, it gave back payload, count and runs. A sealed one was refused
+-- 5 by a unit that was not synced (02, C-16). Nothing else is claimed for a member under a key that it missed
 pub record GroupArrivedRight (w : Setting) (g : GroupLane) (r : GroupArrival) : Type 0 where
   pub sent : List·Memᴰ (r .envelope) (g .sent)
   pub clear : r .joined ≡ true → r .envelope .number ≡ 0 → GroupOpened w g r
-  pub sealed : r .took ≡ true → 1 ≤ r .envelope .number → GroupOpened w g r
+  pub sealed : r .took ≡ true → r .synced ≡ true → 1 ≤ r .envelope .number → GroupOpened w g r
+  pub unsynced : r .joined ≡ true → r .synced ≡ false → 1 ≤ r .envelope .number → r .number ≡ numberOf ClockNotSet
 
 ---- (2) of units and groups together
 
@@ -94,15 +96,20 @@ BlocksApart w s =
     → counterBlock (nonceBy w s x (sentByAt s x i)) a ≡ counterBlock (nonceBy w s y (sentByAt s y j)) b
     → (x ≡ y) × ((i ≡ j) × (a ≡ b))
 
----- (4) what is overheard
+---- what a unit refuses
 
--- by a unit that has not joined the LLID: refused, 14 for its buffer, else 2 downstream and 1 upstream, and unit and buffer are as they were
 unfoldable pub notReceived : Subscriber → Refusal → SubscriberReceived
 notReceived x r = record { number = numberOf r; subscriber = x; count = 0; runs = 0 }
 
+-- unit and buffer are as they were
+abbrev pub RefusedFor : Refusal → State → ℕ → Envelope → List ℕ → Type 0
+RefusedFor r s u e out = receiving s u e out ≡ withOutput (notReceived (subscriberAt s u) r) out
+
+---- (4) what is overheard
+
+-- by a unit that has not joined the LLID: refused, 14 for its buffer, else 2 downstream and 1 upstream
 abbrev pub RefusedThere : State → ℕ → Envelope → List ℕ → Type 0
-RefusedThere s u e out =
-    receiving s u e out ≡ withOutput (notReceived (subscriberAt s u) (overheardFor (misfit (e .octets) out) (e .way))) out
+RefusedThere s u e out = RefusedFor (overheardFor (misfit (e .octets) out) (e .way)) s u e out
 
 -- by one that has joined it, and for which it is not meant: the unit is left as it was
 abbrev pub LeftThere : State → ℕ → Envelope → List ℕ → Type 0
@@ -122,12 +129,15 @@ pub record Claim (w : Setting) (s : State) : Type 0 where
   pub overheardOfGroup : (u g k : ℕ) (out : List ℕ) → OverhearsGroup s u g k → OverheardRight s u (groupSentAt s g k) out
   pub groupSent : (g : ℕ) (e : Envelope) → List·Memᴰ e (groupLaneAt s g .sent) → GroupSentRight w (groupLaneAt s g) e
   pub groupArrived : (g : ℕ) (r : GroupArrival) → List·Memᴰ r (groupLaneAt s g .arrived) → GroupArrivedRight w (groupLaneAt s g) r
+  -- a sealed envelope of a group that arrives at a unit which has joined it and is not synced is refused 5 (02, C-16)
+  pub unsynced : (u g k : ℕ) (out : List ℕ) (e : Envelope) → DueOfGroup s u g k out → groupThingAt s u g k ≡ envelope e
+      → isJoined (joinedBy s u) (e .llid) ≡ true → isSynced (laneAt (alone s) u) ≡ false → 1 ≤ e .number → RefusedFor ClockNotSet s u e out
   -- a unit whose acknowledgement of key n went out has accepted that key's message since it joined: so the next acknowledged key brings a
-  -- member back, whatever it missed
+  -- member back, once it is synced, whatever it missed
   pub answered : (g : ℕ) (a : GroupAnswered) → List·Memᴰ a (groupLaneAt s g .answered)
       → hasTaken (joinedBy s (a .unit)) (groupLaneAt s g .llid) (a .answer .number) ≡ true
   pub back : (u g k : ℕ) (out : List ℕ) (e : Envelope) (a : GroupAnswered) → DueOfGroup s u g k out → groupThingAt s u g k ≡ envelope e
-      → List·Memᴰ a (groupLaneAt s g .answered) → a .unit ≡ u → a .answer .number ≡ e .number → 1 ≤ e .number
-      → GroupOpened w (groupLaneAt s g) (groupReceipt s u e out)
+      → List·Memᴰ a (groupLaneAt s g .answered) → a .unit ≡ u → a .answer .number ≡ e .number → isSynced (laneAt (alone s) u) ≡ true
+      → 1 ≤ e .number → GroupOpened w (groupLaneAt s g) (groupReceipt s u e out)
   -- what arrives of a group leaves the OLT, the units and their own lines: their numbers too
   pub untouched : (u g k : ℕ) (out : List ℕ) → DueOfGroup s u g k out → alone (step s (arriveGroup u g k out)) ≡ alone s

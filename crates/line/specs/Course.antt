@@ -1,17 +1,17 @@
 -- How the list of Example runs, by computing alone: which calls were refused, what was sent and what arrived. Assumes nothing.
 use mathlib.Core.Path.{_≡_}
 use mathlib.Core.List.{List, [], _∷_, _++_, map}
-use Prim.Native.Nat.{ℕ}
+use Prim.Native.Nat.{ℕ, _+_}
 use Rattle.octets.specs.Choice.{pick}
-use Rattle.multicast.specs.HeadCalls.{headRegisterOf, registerGroupOf, headAdvanceOf, headCaptureOf, headClockSendOf, headOfferOf, headRetryOf, headAcknowledgeOf}
+use Rattle.multicast.specs.HeadCalls.{headRegisterOf, registerGroupOf, headAdvanceOf, headCaptureOf, headMeasureOf, headClockSendOf, headOfferOf, headRetryOf, headAcknowledgeOf}
 use Rattle.multicast.specs.HeadTraffic.{headSendOf, headReceiveOf}
-use Rattle.multicast.specs.SubscriberCalls.{joinOf, subscriberClockMessageOf, subscriberKeyMessageOf, ownAnswer}
+use Rattle.multicast.specs.SubscriberCalls.{joinOf, subscriberNewTimeOf, subscriberClockMessageOf, subscriberKeyMessageOf, ownAnswer}
 use Rattle.multicast.specs.SubscriberTraffic.{subscriberSendOf, subscriberReceiveOf}
 use Rattle.groups.specs.declared.Subscriber.{Subscriber}
 use Rattle.unicast.specs.History.{Envelope, Thing, clockMessage, keyMessage, envelope, Arrival}
 use Rattle.unicast.specs.Run.{accepted, laneAt, thingAt, envelopeAt, sentAt, answerAt}
 use Rattle.line.specs.History.{GroupAnswered, GroupArrival}
-use Rattle.line.specs.Events.{Event, advance, register, registerGroup, capture, clockSend, offer, retry, sendDown, join, sendUp, arriveDown, arriveGroup, arriveUp, arriveAnswer, arriveGroupAnswer, overhear, overhearGroup, strayClock, strayKey, strayAnswer, strayDown, strayUp}
+use Rattle.line.specs.Events.{Event, advance, register, registerGroup, capture, clockSend, offer, retry, sendDown, join, sendUp, arriveDown, arriveGroup, arriveUp, arriveAnswer, arriveGroupAnswer, overhear, overhearGroup, changePath, measure, newTime, strayClock, strayKey, strayAnswer, strayDown, strayUp}
 use Rattle.line.specs.Run.{State, alone, start, step, runs, subscriberAt, joinedBy, groupLaneAt, groupThingAt, groupAnswerAt, groupSentAt, receiving, now}
 use Rattle.line.specs.Example.{example, groupLlid, events}
 
@@ -50,6 +50,10 @@ callNumber s (arriveAnswer u k llid) = headAcknowledgeOf (s .head) llid (ownAnsw
 callNumber s (arriveGroupAnswer g k) = headAcknowledgeOf (s .head) (groupLaneAt s g .llid) (groupAnswerAt s g k .answer) .number
 callNumber s (overhear u other k out) = receiving s u (sentAt (alone s) other k) out .answer .number
 callNumber s (overhearGroup u g k out) = receiving s u (groupSentAt s g k) out .answer .number
+callNumber s (changePath u llid time p) =
+    headMeasureOf (s .head) llid (p .up + p .down) .number + subscriberNewTimeOf (subscriberAt s u) time .number
+callNumber s (measure llid trip) = headMeasureOf (s .head) llid trip .number
+callNumber s (newTime u time) = subscriberNewTimeOf (subscriberAt s u) time .number
 callNumber s (strayClock u m) = subscriberClockMessageOf (subscriberAt s u) m .number
 callNumber s (strayKey u m) = subscriberKeyMessageOf (subscriberAt s u) m .number
 callNumber s (strayAnswer llid a) = headAcknowledgeOf (s .head) llid a .number
@@ -80,22 +84,24 @@ refusedNumbers =
     -- firstKey, overheard
     ++ ((6 ∷ 8 ∷ 8 ∷ 8 ∷ 2 ∷ 12 ∷ []) ++ ((2 ∷ [])
     -- missedKey, joinedStranger
-    ++ ((10 ∷ 20 ∷ 20 ∷ 9 ∷ []) ++ (5 ∷ []))))))
+    ++ ((10 ∷ 20 ∷ 20 ∷ 9 ∷ []) ++ ((5 ∷ [])
+    -- pathChange, syncedAgain
+    ++ ((2 ∷ 1 ∷ 8 ∷ []) ++ (5 ∷ 5 ∷ []))))))))
 
 pub record Course : Type 0 where
   pub refused : refusals (start example) events ≡ refusedNumbers
   -- the group's envelopes, by number; where each arrived, and with which number the unit answered
-  pub sent : map (λ (e : Envelope). e .number) (groupLaneAt played 0 .sent) ≡ 0 ∷ 1 ∷ 2 ∷ 2 ∷ 3 ∷ []
-  pub arrivedAt : map (λ (r : GroupArrival). r .unit) (groupLaneAt played 0 .arrived) ≡ 1 ∷ 0 ∷ 1 ∷ 0 ∷ 1 ∷ 0 ∷ 1 ∷ 0 ∷ []
-  pub arrived : map (λ (r : GroupArrival). r .envelope .number) (groupLaneAt played 0 .arrived) ≡ 0 ∷ 0 ∷ 1 ∷ 1 ∷ 2 ∷ 2 ∷ 3 ∷ 3 ∷ []
-  pub answered : map (λ (r : GroupArrival). r .number) (groupLaneAt played 0 .arrived) ≡ 0 ∷ 0 ∷ 0 ∷ 0 ∷ 9 ∷ 0 ∷ 0 ∷ 0 ∷ []
+  pub sent : map (λ (e : Envelope). e .number) (groupLaneAt played 0 .sent) ≡ 0 ∷ 1 ∷ 2 ∷ 2 ∷ 3 ∷ 3 ∷ 3 ∷ 4 ∷ []
+  pub arrivedAt : map (λ (r : GroupArrival). r .unit) (groupLaneAt played 0 .arrived) ≡ 1 ∷ 0 ∷ 1 ∷ 0 ∷ 1 ∷ 0 ∷ 1 ∷ 0 ∷ 1 ∷ 0 ∷ 1 ∷ 1 ∷ 0 ∷ []
+  pub arrived : map (λ (r : GroupArrival). r .envelope .number) (groupLaneAt played 0 .arrived) ≡ 0 ∷ 0 ∷ 1 ∷ 1 ∷ 2 ∷ 2 ∷ 3 ∷ 3 ∷ 3 ∷ 3 ∷ 3 ∷ 4 ∷ 4 ∷ []
+  pub answered : map (λ (r : GroupArrival). r .number) (groupLaneAt played 0 .arrived) ≡ 0 ∷ 0 ∷ 0 ∷ 0 ∷ 9 ∷ 0 ∷ 0 ∷ 0 ∷ 5 ∷ 0 ∷ 0 ∷ 0 ∷ 0 ∷ []
   -- who acknowledged which key
-  pub acknowledgedBy : map (λ (a : GroupAnswered). a .unit) (groupLaneAt played 0 .answered) ≡ 1 ∷ 1 ∷ 0 ∷ 0 ∷ 1 ∷ 0 ∷ []
-  pub acknowledged : map (λ (a : GroupAnswered). a .answer .number) (groupLaneAt played 0 .answered) ≡ 1 ∷ 1 ∷ 1 ∷ 2 ∷ 3 ∷ 3 ∷ []
+  pub acknowledgedBy : map (λ (a : GroupAnswered). a .unit) (groupLaneAt played 0 .answered) ≡ 1 ∷ 1 ∷ 0 ∷ 0 ∷ 1 ∷ 0 ∷ 0 ∷ 1 ∷ []
+  pub acknowledged : map (λ (a : GroupAnswered). a .answer .number) (groupLaneAt played 0 .answered) ≡ 1 ∷ 1 ∷ 1 ∷ 2 ∷ 3 ∷ 3 ∷ 4 ∷ 4 ∷ []
   -- whose messages each member took since it joined: the second missed that of key 2
-  pub joinedA : joinedBy played 0 ≡ record { llid = groupLlid; took = 1 ∷ 2 ∷ 3 ∷ [] } ∷ []
-  pub joinedB : joinedBy played 1 ≡ record { llid = groupLlid; took = 1 ∷ 1 ∷ 3 ∷ [] } ∷ []
+  pub joinedA : joinedBy played 0 ≡ record { llid = groupLlid; took = 1 ∷ 2 ∷ 3 ∷ 4 ∷ [] } ∷ []
+  pub joinedB : joinedBy played 1 ≡ record { llid = groupLlid; took = 1 ∷ 1 ∷ 3 ∷ 4 ∷ [] } ∷ []
   -- the first unit's own line
   pub sentA : sentNumbers 0 ≡ 1 ∷ 1 ∷ 1 ∷ 1 ∷ []
   pub arrivedA : arrivedNumbers 0 ≡ 1 ∷ 1 ∷ 1 ∷ 1 ∷ []
-  pub ended : now played ≡ 350
+  pub ended : now played ≡ 430

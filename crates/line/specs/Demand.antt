@@ -1,4 +1,4 @@
--- Demand 3 of 01, groups included, as one statement, and what it says of the list of Example (02, C-14). Assumes nothing.
+-- Demand 3 of 01, groups included, as one statement, and what it says of the list of Example (02, C-14, C-16). Assumes nothing.
 use mathlib.Core.Path.{_≡_}
 use mathlib.Core.Bool.{true, false}
 use mathlib.Core.List.{List}
@@ -9,8 +9,8 @@ use Rattle.envelope.specs.CounterBlock.{counterBlock}
 use Rattle.envelope.specs.declared.Nonce.{Nonce}
 use Rattle.sealing.specs.KeyExpansion.{keyExpansion}
 use Rattle.sealing.specs.Seal.{carried}
-use Rattle.protocol.specs.Headers.{envelopeHeader}
-use Rattle.traffic.specs.Passages.{choiceEnciphered, passageNonce}
+use Rattle.protocol.specs.Headers.{choiceEnciphered, envelopeHeader}
+use Rattle.traffic.specs.Passages.{passageNonce}
 use Rattle.unicast.specs.Setting.{Setting}
 use Rattle.unicast.specs.Events as units
 use Rattle.unicast.specs.History.{Envelope, envelope, keyOf}
@@ -25,8 +25,8 @@ use Rattle.line.specs.Events.{Event, arriveGroup}
 use Rattle.line.specs.Run.{State, alone, start, step, runs, subscriberAt, groupLaneAt, groupSentAt, groupThingAt, groupReceipt, receiving}
 use Rattle.line.specs.Premises.{Meets}
 use Rattle.line.specs.Claim.{Claim, Sender, unit, group, sentBy, sentByAt, keysOf, nonceBy}
-use Rattle.line.specs.Without.{AsBefore}
-use Rattle.line.specs.Example.{example, groupLlid, toFirstKey, toReturn, events}
+use Rattle.line.specs.Without.{AsBefore, Unchanged}
+use Rattle.line.specs.Example.{example, groupLlid, toFirstKey, toReturn, toUnsynced, toSynced, events}
 use Rattle.line.specs.Course.{after, played, Course}
 
 -- the theorem
@@ -94,6 +94,12 @@ pub record Apart (x : Sender) (i : ℕ) (y : Sender) (j : ℕ) : Type 0 where
       → counterBlock (nonceBy example played x (sentByAt played x i)) a ≡ counterBlock (nonceBy example played y (sentByAt played y j)) b
       → ⊥
 
+-- the kth arrival of the group's line was at unit u, and was refused with that number
+pub record NotOpened (k u number : ℕ) : Type 0 where
+  pub some : k < length (groupLaneAt played 0 .arrived)
+  pub there : arrivalAt k .unit ≡ u
+  pub refused : arrivalAt k .number ≡ number
+
 ---- of a state that it comes to
 
 -- the kth of what is under way of the group to unit u is an envelope, and the unit, whatever it missed, opens it
@@ -103,6 +109,17 @@ pub record Back (s : State) (u k : ℕ) (out x : List ℕ) (n : Nonce) (p : List
   pub opens : Opens (groupReceipt s u arriving out) x n p count
   -- and its arrival leaves the OLT, the units and their own lines
   pub untouched : alone (step s (arriveGroup u 0 k out)) ≡ alone s
+
+-- the kth of what is under way of the group to unit u is an envelope, and the unit refuses it with that number; unit and buffer are as they
+-- were
+pub record Unsynced (s : State) (u k : ℕ) (out : List ℕ) (number : ℕ) : Type 0 where
+  pub arriving : Envelope
+  pub due : groupThingAt s u 0 k ≡ envelope arriving
+  pub refused : receiving s u arriving out .answer .number ≡ number
+  pub count : receiving s u arriving out .answer .count ≡ 0
+  pub runs : receiving s u arriving out .answer .runs ≡ 0
+  pub unit : receiving s u arriving out .answer .subscriber ≡ subscriberAt s u
+  pub buffer : receiving s u arriving out .output ≡ out
 
 -- unit u refuses the kth envelope of the group with that number; unit and buffer are as they were
 pub record Overheard (s : State) (u k : ℕ) (out : List ℕ) (number : ℕ) : Type 0 where
@@ -134,6 +151,14 @@ pub record Shown : Type 0 where
   pub downA3 : Delivered 7 0 (keyFrom 64) (nonce 0x00 oltMac (clockTurn - localTurn + 160)) (payloadFrom 5) encipheredOctets
   -- before it arrived: the acknowledged key 3 brings the second member back
   pub back : Back (after toReturn) 1 1 blank (keyFrom 64) (nonce 0x00 oltMac (clockTurn - localTurn + 160)) (payloadFrom 5) encipheredOctets
+  -- its path has changed, and it is not synced; then it opens again, under key 3 and under key 4
+  pub unsynced : Unsynced (after toUnsynced) 1 0 blank 5
+  pub notOpenedB3 : NotOpened 8 1 5
+  pub onA3 : Delivered 9 0 (keyFrom 64) (nonce 0x00 oltMac (clockTurn - localTurn + 215)) (payloadFrom 9) encipheredOctets
+  pub againB3 : Delivered 10 1 (keyFrom 64) (nonce 0x01 oltMac (clockTurn - localTurn + 230)) (payloadFrom 10) encipheredOctets
+  pub backSynced : Back (after toSynced) 1 0 blank (keyFrom 80) (nonce 0x00 oltMac (clockTurn - localTurn + 260)) (payloadFrom 11) encipheredOctets
+  pub downB4 : Delivered 11 1 (keyFrom 80) (nonce 0x00 oltMac (clockTurn - localTurn + 260)) (payloadFrom 11) encipheredOctets
+  pub downA4 : Delivered 12 0 (keyFrom 80) (nonce 0x00 oltMac (clockTurn - localTurn + 260)) (payloadFrom 11) encipheredOctets
   -- two envelopes to the group under one key, of which the second was lost; one to the group and one to the first unit, sent at one tick
   pub apartTicks : Apart (group 0) 2 (group 0) 3
   pub apartLines : Apart (group 0) 1 (unit 0) 0
@@ -149,6 +174,8 @@ pub record Demand : Type 0 where
   pub theorem : Theorem
   -- lists without groups and joins run as before, so that the theorem without groups is a corollary
   pub asBefore : (w : Setting) (es : List units.Event) → Fresh w → premises.Meets w (run.start w) es → AsBefore w es
+  -- and lists without path changes as before there were any
+  pub unchanged : Unchanged
   pub fresh : Fresh example
   pub meets : Meets example (start example) events
   pub course : Course

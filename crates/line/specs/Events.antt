@@ -9,6 +9,7 @@ use Rattle.protocol.specs.declared.Header.{Header}
 use Rattle.protocol.specs.declared.KeyMessage.{KeyMessage}
 use Rattle.groups.specs.declared.Roster.{Roster}
 use Rattle.groups.specs.declared.Answer.{Answer}
+use Rattle.unicast.specs.Setting.{Delays}
 
 pub data Event : Type 0 where
   -- by n ticks, at all ends
@@ -35,6 +36,11 @@ pub data Event : Type 0 where
   -- a unit overhears the kth envelope that was sent to or by another, or to a group
   overhear : (unit other k : ℕ) (out : List ℕ) → Event
   overhearGroup : (unit group k : ℕ) (out : List ℕ) → Event
+  -- the unit's path changes: the OLT measures its round trip anew, naming it by that LLID, and the unit is given its new LocalTime
+  changePath : (unit llid time : ℕ) → Delays → Event
+  -- either call alone
+  measure : (llid trip : ℕ) → Event
+  newTime : (unit time : ℕ) → Event
   -- any other receipt
   strayClock : (unit : ℕ) → Stamps → Event
   strayKey : (unit : ℕ) → KeyMessage → Event

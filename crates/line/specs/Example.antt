@@ -1,16 +1,18 @@
 -- A list of events with a group of two members that meets the premises (02, C-14): both have key 1; the message of key 2 never comes to the
--- second, for which the switch does not wait; key 3 brings it back. Between goes traffic of the first member's own line, and a unit that is
--- no member overhears. Of every call on a group there is one that is accepted and one that is refused. Assumes nothing.
+-- second, for which the switch does not wait; key 3 brings it back; its path changes while key 4 is offered (02, C-16). Between goes traffic of
+-- the first member's own line, and a unit that is no member overhears. Of every call on a group there is one that is accepted and one that is
+-- refused. Assumes nothing.
 use mathlib.Core.List.{List, [], _∷_, _++_}
-use Prim.Native.Nat.{ℕ}
+use Prim.Native.Nat.{ℕ, _+_, _%_}
 use lib.ListN.{replicate}
+use Rattle.clock.specs.Ticks.{localTurn}
 use Rattle.protocol.specs.Messages.{ofClock, ofKey, keyKind}
 use Rattle.groups.specs.declared.Answer.{Answer}
 use Rattle.groups.specs.declared.Roster.{Roster}
 use Rattle.multicast.specs.SubscriberCalls.{ownAnswer}
-use Rattle.unicast.specs.Setting.{Setting}
+use Rattle.unicast.specs.Setting.{Delays, Setting}
 use Rattle.unicast.specs.Example.{firstClock, oltMac, registeredA, identityB, identityC, identityOf, siteA, siteB, siteOf, keyFrom, payloadFrom, blank, headerWith, epamAt, keyMessageWith}
-use Rattle.line.specs.Events.{Event, advance, register, registerGroup, capture, clockSend, offer, retry, sendDown, join, sendUp, arriveDown, arriveGroup, arriveUp, arriveAnswer, arriveGroupAnswer, overhearGroup, strayKey, strayAnswer, strayDown, strayUp}
+use Rattle.line.specs.Events.{Event, advance, register, registerGroup, capture, clockSend, offer, retry, sendDown, join, sendUp, arriveDown, arriveGroup, arriveUp, arriveAnswer, arriveGroupAnswer, overhearGroup, changePath, measure, newTime, strayKey, strayAnswer, strayDown, strayUp}
 
 ---- the setting
 
@@ -24,6 +26,13 @@ groupLlid = 7
 -- of the group, and of the units
 abbrev pub interval : ℕ
 interval = 100
+
+-- the second unit's path changes
+abbrev pub changeTick : ℕ
+changeTick = 355
+
+abbrev pub pathB : Delays
+pathB = record { up = 1; down = 15 }
 
 -- named by two LLIDs
 abbrev pub rosterOf : (one two : ℕ) → Roster
@@ -183,6 +192,52 @@ backAgain =
 unfoldable pub joinedStranger : List Event
 joinedStranger = join 2 groupLlid ∷ overhearGroup 2 0 0 blank ∷ overhearGroup 2 0 4 blank ∷ []
 
+-- tick 350: the message of key 4 is on its way when the second member's path changes (02, C-16), to one that is shorter up by more ticks than
+-- an envelope takes. The OLT's call on the group is refused, 2, and a LocalTime of 33 bits, 1. Sends to the group and retries go on; the
+-- member's acknowledgement of key 3 comes again, 8
+unfoldable pub pathChange : List Event
+pathChange =
+    offer groupLlid (keyFrom 80)
+    ∷ advance 5
+    ∷ measure groupLlid 16
+    ∷ newTime 1 localTurn
+    ∷ changePath 1 9 ((firstClock + changeTick + pathB .up) % localTurn) pathB
+    ∷ sendDown groupLlid 0x00 (payloadFrom 9) blank
+    ∷ retry groupLlid
+    ∷ capture 9
+    ∷ clockSend 9
+    ∷ advance 1
+    ∷ arriveGroupAnswer 0 4
+    ∷ advance 14
+    ∷ []
+
+-- tick 370: the member is not synced, and refuses the envelope and the message of key 4, 5, until it has taken a clock message
+unfoldable pub syncedAgain : List Event
+syncedAgain =
+    arriveGroup 1 0 0 blank
+    ∷ arriveGroup 1 0 0 []
+    ∷ arriveDown 1 0 []
+    ∷ retry groupLlid
+    ∷ sendDown groupLlid 0x01 (payloadFrom 10) blank
+    ∷ advance 10
+    ∷ arriveGroup 0 0 0 []
+    ∷ advance 5
+    ∷ arriveGroup 0 0 0 blank
+    ∷ arriveGroup 1 0 0 []
+    ∷ arriveGroup 1 0 0 blank
+    ∷ arriveAnswer 1 0 9
+    ∷ advance 15
+    ∷ arriveGroupAnswer 0 6
+    ∷ arriveGroupAnswer 0 7
+    -- tick 400: the switch to key 4
+    ∷ sendDown groupLlid 0x00 (payloadFrom 11) blank
+    ∷ advance 15
+    ∷ []
+
+-- tick 415: both members open under key 4
+unfoldable pub overTheNewPath : List Event
+overTheNewPath = arriveGroup 1 0 0 blank ∷ advance 15 ∷ arriveGroup 0 0 3 blank ∷ []
+
 -- until the second member has opened an envelope under key 1
 abbrev pub toFirstKey : List Event
 toFirstKey = registrations ++ (joins ++ (clocks ++ firstKey))
@@ -191,5 +246,13 @@ toFirstKey = registrations ++ (joins ++ (clocks ++ firstKey))
 abbrev pub toReturn : List Event
 toReturn = toFirstKey ++ (overheard ++ missedKey)
 
+-- until a sealed envelope is due at the member whose path has changed
+abbrev pub toUnsynced : List Event
+toUnsynced = toReturn ++ (backAgain ++ (joinedStranger ++ pathChange))
+
+-- until an envelope under key 4 is due there
+abbrev pub toSynced : List Event
+toSynced = toUnsynced ++ syncedAgain
+
 abbrev pub events : List Event
-events = toReturn ++ (backAgain ++ joinedStranger)
+events = toSynced ++ overTheNewPath

@@ -1,5 +1,5 @@
 -- What has come to pass on the line, groups included, from the calls and their answers alone: no field of an end's record is read here
--- (02, C-14; 01, The line). What a unit's own line notes is as without groups. Assumes nothing.
+-- (02, C-14, C-16; 01, The line). What a unit's own line notes is as without groups. Assumes nothing.
 use mathlib.Core.Bool.{Bool, false}
 use mathlib.Core.List.{List, [], _∷_, _++_, map}
 use Prim.Native.Nat.{ℕ, suc, _+_}
@@ -10,6 +10,7 @@ use Rattle.octets.specs.Choice.{both, either, pick}
 use Rattle.ends.specs.Identities.{among, llidsOf, meets}
 use Rattle.protocol.specs.declared.Passage.{Passage}
 use Rattle.groups.specs.declared.Answer.{Answer}
+use Rattle.unicast.specs.Setting.{Delays}
 use Rattle.unicast.specs.History as units
 use Rattle.unicast.specs.History.{Envelope, Thing, envelope, Entry, Keys, Lane, due}
 use Rattle.unicast.specs.Run.{freshLane, noSite}
@@ -20,13 +21,14 @@ pub record GroupAnswered : Type 0 where
   pub answer : Answer
   pub tick : ℕ
 
--- an envelope of a group that arrived at a unit: whether the unit had joined the group's LLID by then, and had since accepted the message of
--- the envelope's key; the number, count, runs and output of its receipt, and what it was opened with
+-- an envelope of a group that arrived at a unit: whether the unit had joined the group's LLID by then, had since accepted the message of
+-- the envelope's key, and was synced; the number, count, runs and output of its receipt, and what it was opened with
 pub record GroupArrival : Type 0 where
   pub unit : ℕ
   pub envelope : Envelope
   pub joined : Bool
   pub took : Bool
+  pub synced : Bool
   pub number : ℕ
   pub count : ℕ
   pub runs : ℕ
@@ -58,6 +60,10 @@ pub record History : Type 0 where
   -- the groups that each unit joined
   pub joined : List (List Membership)
   pub groups : List GroupLane
+
+-- a group has no path of its own: what is sent to it goes by each member's
+abbrev pub noPath : Delays
+noPath = record { up = 0; down = 0 }
 
 -- a line of no unit
 abbrev pub noLane : Lane
@@ -153,6 +159,26 @@ groupArrived r g =
       answered = g .answered;
       sent = g .sent;
       arrived = g .arrived ++ (r ∷ []);
+    }
+
+---- a unit's path changes (02, C-16)
+
+-- the acknowledgements of that unit may leave again from now on
+unfoldable pub answerAgain : ℕ → ℕ → GroupAnswered → GroupAnswered
+answerAgain u now a = pick (eqb (a .unit) u) (record { unit = a .unit; answer = a .answer; tick = now }) a
+
+-- what is under way of the group to that unit is lost
+unfoldable pub groupMoved : ℕ → ℕ → GroupLane → GroupLane
+groupMoved u now g =
+    record {
+      llid = g .llid;
+      entry = g .entry;
+      roster = g .roster;
+      keys = g .keys;
+      towards = set (g .towards) u [];
+      answered = map (answerAgain u now) (g .answered);
+      sent = g .sent;
+      arrived = g .arrived;
     }
 
 ---- the groups that a unit joined

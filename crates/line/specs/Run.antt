@@ -29,21 +29,21 @@ use Rattle.groups.specs.declared.Subscriber.{Subscriber}
 use Rattle.groups.specs.declared.Roster.{Roster}
 use Rattle.groups.specs.declared.Answer.{Answer}
 use Rattle.multicast.specs.Naming.{byLlid, groupLift}
-use Rattle.multicast.specs.HeadCalls.{freshHeadOf, headRegisterOf, registerGroupOf, headAdvanceOf, headCaptureOf, headClockSendOf, headOfferOf, headRetryOf, headAcknowledgeOf}
+use Rattle.multicast.specs.HeadCalls.{freshHeadOf, headRegisterOf, registerGroupOf, headAdvanceOf, headCaptureOf, headMeasureOf, headClockSendOf, headOfferOf, headRetryOf, headAcknowledgeOf}
 use Rattle.multicast.specs.HeadTraffic.{sendAhead, headSendOf, headReceiveOf}
-use Rattle.multicast.specs.SubscriberCalls.{freshSubscriberOf, joinOf, subscriberAdvanceOf, subscriberClockMessageOf, subscriberKeyMessageOf, ownAnswer, joinedLift}
+use Rattle.multicast.specs.SubscriberCalls.{freshSubscriberOf, joinOf, subscriberAdvanceOf, subscriberNewTimeOf, subscriberClockMessageOf, subscriberKeyMessageOf, ownAnswer, joinedLift}
 use Rattle.multicast.specs.SubscriberTraffic.{subscriberSendOf, subscriberReceiveOf}
 use Rattle.multicast.specs.declared.HeadClockSent.{HeadClockSent}
 use Rattle.multicast.specs.declared.HeadKeySent.{HeadKeySent}
 use Rattle.multicast.specs.declared.SubscriberAcknowledged.{SubscriberAcknowledged}
 use Rattle.multicast.specs.declared.SubscriberReceived.{SubscriberReceived}
-use Rattle.unicast.specs.Setting.{Site, Setting}
+use Rattle.unicast.specs.Setting.{Delays, Site, Setting}
 use Rattle.unicast.specs.History as units
-use Rattle.unicast.specs.History.{downward, upward, Envelope, Thing, clockMessage, keyMessage, envelope, Arrival, Lane, numberDown, laneCaptured, laneSentDown, laneSentUp, laneTaken, laneAnswered, laneArrivedDown, laneArrivedUp, laneAcknowledged}
+use Rattle.unicast.specs.History.{downward, upward, Envelope, Thing, clockMessage, keyMessage, envelope, Arrival, Lane, isSynced, numberDown, laneCaptured, laneSentDown, laneSentUp, laneTaken, laneAnswered, laneArrivedDown, laneArrivedUp, laneAcknowledged}
 use Rattle.unicast.specs.Run as run
-use Rattle.unicast.specs.Run.{accepted, noted, atOlt, atOnu, atOltFor, entering, clockSending, offering, retrying, thingAt, envelopeAt, sentAt, answerAt, noEnvelope}
-use Rattle.line.specs.History.{GroupAnswered, GroupArrival, GroupLane, Membership, History, groupNumber, groupOffered, groupLeaving, groupSent, groupTaken, groupAnswered, groupArrived, isJoined, hasTaken, joining, taking}
-use Rattle.line.specs.Events.{Event, advance, register, registerGroup, capture, clockSend, offer, retry, sendDown, join, sendUp, arriveDown, arriveGroup, arriveUp, arriveAnswer, arriveGroupAnswer, overhear, overhearGroup, strayClock, strayKey, strayAnswer, strayDown, strayUp}
+use Rattle.unicast.specs.Run.{accepted, noted, atOlt, atOnu, atOltFor, entering, clockSending, offering, retrying, changing, laneAt, thingAt, envelopeAt, sentAt, answerAt, noEnvelope}
+use Rattle.line.specs.History.{GroupAnswered, GroupArrival, GroupLane, Membership, History, noPath, groupNumber, groupOffered, groupLeaving, groupSent, groupTaken, groupAnswered, groupArrived, groupMoved, isJoined, hasTaken, joining, taking}
+use Rattle.line.specs.Events.{Event, advance, register, registerGroup, capture, clockSend, offer, retry, sendDown, join, sendUp, arriveDown, arriveGroup, arriveUp, arriveAnswer, arriveGroupAnswer, overhear, overhearGroup, changePath, measure, newTime, strayClock, strayKey, strayAnswer, strayDown, strayUp}
 
 -- the ends and the history
 pub record State : Type 0 where
@@ -193,12 +193,13 @@ headPassage h llid channel p out =
     byLlid (findGroup h llid) (sendingOlt (h .olt) (misfit p out) llid channel (eqsOf p) .handed .passage)
     (λ i. groupLift h noSending (sendAhead p out channel) (λ o g. sendGroup llid channel (eqsOf p) (o .shared) g) i .handed .passage)
 
--- the envelope of the OLT's send at the tick now, under that number
-unfoldable pub envelopeDown : ℕ → HeadEnd → ℕ → ℕ → List ℕ → List ℕ → ℕ → Envelope
-envelopeDown tick h llid channel p out number =
+-- the envelope of the OLT's send at the tick now, by that path, under that number
+unfoldable pub envelopeDown : ℕ → Delays → HeadEnd → ℕ → ℕ → List ℕ → List ℕ → ℕ → Envelope
+envelopeDown tick path h llid channel p out number =
     record {
       way = downward;
       left = tick;
+      up = path .up;
       llid = llid;
       channel = channel;
       payload = p;
@@ -214,10 +215,10 @@ unfoldable pub sendingDown : State → ℕ → ℕ → List ℕ → List ℕ →
 sendingDown s llid channel p out =
     atHead s (headSendOf (s .head) llid channel p out .answer .head)
     (atOlt (alone s) (headSendOf (s .head) llid channel p out .answer .head .olt) (headSendOf (s .head) llid channel p out .answer .number) llid
-    (λ l. laneSentDown (now s) (envelopeDown (now s) (s .head) llid channel p out (numberDown l (now s))) l)
+    (λ l. laneSentDown (now s) (envelopeDown (now s) (l .path) (s .head) llid channel p out (numberDown l (now s))) l)
     .history)
     (notedFor (headSendOf (s .head) llid channel p out .answer .number) llid
-    (λ g. groupSent (now s) (lanes s) (envelopeDown (now s) (s .head) llid channel p out (groupNumber g (now s))) g)
+    (λ g. groupSent (now s) (lanes s) (envelopeDown (now s) noPath (s .head) llid channel p out (groupNumber g (now s))) g)
     (s .history .groups))
 
 unfoldable pub joiningAt : State → ℕ → ℕ → State
@@ -227,11 +228,12 @@ joiningAt s u llid =
     (s .history .groups)
 
 -- the envelope of a unit's send
-unfoldable pub envelopeUp : ℕ → Subscriber → ℕ → ℕ → List ℕ → List ℕ → ℕ → Envelope
-envelopeUp tick x llid channel p out number =
+unfoldable pub envelopeUp : ℕ → Delays → Subscriber → ℕ → ℕ → List ℕ → List ℕ → ℕ → Envelope
+envelopeUp tick path x llid channel p out number =
     record {
       way = upward;
       left = tick;
+      up = path .up;
       llid = llid;
       channel = channel;
       payload = p;
@@ -247,7 +249,7 @@ unfoldable pub sendingUp : State → ℕ → ℕ → ℕ → List ℕ → List �
 sendingUp s u llid channel p out =
     atUnitAlone s u (subscriberSendOf (subscriberAt s u) llid channel p out .answer .subscriber)
     (noted (subscriberSendOf (subscriberAt s u) llid channel p out .answer .number)
-    (λ l. laneSentUp (envelopeUp (now s) (subscriberAt s u) llid channel p out (l .keys .number)) l))
+    (λ l. laneSentUp (envelopeUp (now s) (l .path) (subscriberAt s u) llid channel p out (l .keys .number)) l))
 
 -- an acknowledgement without the unit that it names
 unfoldable pub answerAlone : Answer → Acknowledgement
@@ -306,6 +308,7 @@ groupReceipt s u e out =
       envelope = e;
       joined = isJoined (joinedBy s u) (e .llid);
       took = hasTaken (joinedBy s u) (e .llid) (e .number);
+      synced = isSynced (laneAt (alone s) u);
       number = receiving s u e out .answer .number;
       count = receiving s u e out .answer .count;
       runs = receiving s u e out .answer .runs;
@@ -351,7 +354,23 @@ answering s llid a =
     .history)
     (s .history .groups)
 
----- a receipt that is told to no line: it leaves what the end answers with
+---- a unit's path changes (02, C-16)
+
+-- both ends are told of the new path, before anything goes over it; what is under way to the unit is lost, of groups too
+unfoldable pub changingPath : State → ℕ → ℕ → ℕ → Delays → State
+changingPath s u llid time p =
+    record {
+      head = headMeasureOf (s .head) llid (p .up + p .down) .head;
+      subscribers = set (s .subscribers) u (subscriberNewTimeOf (subscriberAt s u) time .subscriber);
+      history =
+          record {
+            units = changing (alone s) u llid time p .history;
+            joined = s .history .joined;
+            groups = map (groupMoved u (now s)) (s .history .groups);
+          };
+    }
+
+---- a call that is told to no line: it leaves what the end answers with
 
 unfoldable pub subscriberAfter : State → ℕ → Subscriber → State
 subscriberAfter s u x = record { head = s .head; subscribers = set (s .subscribers) u x; history = s .history }
@@ -385,6 +404,9 @@ step s (arriveAnswer u k llid) = answering s llid (answerAt (alone s) u k .ackno
 step s (arriveGroupAnswer g k) = headAfter s (headAcknowledgeOf (s .head) (groupLaneAt s g .llid) (groupAnswerAt s g k .answer) .head)
 step s (overhear u other k out) = subscriberAfter s u (receiving s u (sentAt (alone s) other k) out .answer .subscriber)
 step s (overhearGroup u g k out) = subscriberAfter s u (receiving s u (groupSentAt s g k) out .answer .subscriber)
+step s (changePath u llid time p) = changingPath s u llid time p
+step s (measure llid trip) = headAfter s (headMeasureOf (s .head) llid trip .head)
+step s (newTime u time) = subscriberAfter s u (subscriberNewTimeOf (subscriberAt s u) time .subscriber)
 step s (strayClock u m) = subscriberAfter s u (subscriberClockMessageOf (subscriberAt s u) m .subscriber)
 step s (strayKey u m) = subscriberAfter s u (subscriberKeyMessageOf (subscriberAt s u) m .subscriber)
 step s (strayAnswer llid a) = headAfter s (headAcknowledgeOf (s .head) llid a .head)

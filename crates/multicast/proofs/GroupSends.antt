@@ -21,11 +21,11 @@ use Rattle.envelope.specs.ControlMask.{eqsOf}
 use Rattle.sealing.specs.Seal.{countCarried, runsCarried}
 use Rattle.ends.specs.declared.Shared.{Shared}
 use Rattle.ends.proofs.Validity.{SharedInRange, olt-in-range, shared-in-range}
-use Rattle.protocol.specs.Headers.{noSending, passageOf, sendingOf}
+use Rattle.protocol.specs.Headers.{choiceEnciphered, noSending, passageOf, sendingOf}
 use Rattle.protocol.specs.Replies.{Reply, onValid}
 use Rattle.protocol.specs.declared.Sending.{Sending}
 use Rattle.unit.specs.Reached.{ifAccepted}
-use Rattle.traffic.specs.Passages.{choiceEnciphered, passageNonce, passed, passedCount, passedRuns, passedWork, outputAfter, carriedAfter, carriedFitting}
+use Rattle.traffic.specs.Passages.{passageNonce, passed, passedCount, passedRuns, passedWork, outputAfter, carriedAfter, carriedFitting}
 use Rattle.traffic.specs.declared.OltReceived.{OltReceived}
 use Rattle.traffic.specs.declared.OltSent.{OltSent}
 use Rattle.traffic.specs.declared.carrying.Work.{Work}

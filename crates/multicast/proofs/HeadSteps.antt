@@ -14,7 +14,7 @@ use Rattle.refusal.specs.declared.Verdict.the-variants.{Accepted}
 use Rattle.refusal.proofs.Order.{refuse-accepted, then-accepted}
 use Rattle.ends.specs.Identities.{distinct, meets}
 use Rattle.ends.specs.Occupancy.{validChannels}
-use Rattle.ends.specs.Records.{withChannels, withKeys}
+use Rattle.ends.specs.Records.{withChannels, withClock, withKeys}
 use Rattle.ends.specs.Table.{registered, tableLlids}
 use Rattle.ends.specs.Validity.{validOlt}
 use Rattle.ends.specs.declared.Channels.{Channels}
@@ -30,18 +30,18 @@ use Rattle.envelope.specs.ControlMask.{eqsOf}
 use Rattle.octets.specs.Eqs.{maxEqs}
 use Rattle.octets.specs.Output.{WithOutput}
 use Rattle.protocol.specs.Headers.{noPassage, noSending}
-use Rattle.protocol.specs.Lift.{Outcome, lift}
+use Rattle.protocol.specs.Lift.{Outcome, outcome, lift}
 use Rattle.protocol.specs.Messages.{noKeyMessage, noStamps}
-use Rattle.protocol.specs.OltCalls.{acknowledgeOf, captureOf, clockSendOf, clockSent, keySent, offerOf, oltAnswer, retryOf}
+use Rattle.protocol.specs.OltCalls.{acknowledgeOf, captureOf, clockSendOf, clockSent, keySent, measureOf, offerOf, oltAnswer, retryOf}
 use Rattle.protocol.specs.OltTraffic.{receivingOlt, sendingOlt}
 use Rattle.protocol.specs.Replies.{silent}
-use Rattle.protocol.specs.UnitCalls.{acknowledgeUnit, captureUnit, clockSendUnit, offerUnit, retryUnit}
+use Rattle.protocol.specs.UnitCalls.{acknowledgeUnit, captureUnit, clockSendUnit, measureUnit, offerUnit, retryUnit}
 use Rattle.protocol.specs.UnitTraffic.{receiveUnit, sendUnit}
 use Rattle.protocol.specs.declared.Header.{Header}
 use Rattle.protocol.specs.declared.KeySent.{KeySent}
 use Rattle.protocol.specs.declared.OltAnswer.{OltAnswer}
 use Rattle.protocol.proofs.Lift.{lift-beside, lift-same-units}
-use Rattle.protocol.proofs.OltCalls.{acknowledge-valid, capture-valid, clock-send-valid, offer-valid, retry-valid}
+use Rattle.protocol.proofs.OltCalls.{acknowledge-valid, capture-valid, clock-send-valid, measure-valid, offer-valid, retry-valid}
 use Rattle.protocol.proofs.Replies.{reply-keeps}
 use Rattle.protocol.proofs.UnitCalls.{acknowledge-keeps, capture-keeps, clock-send-keeps, offer-keeps, retry-keeps}
 use Rattle.protocol.proofs.UnitTraffic.{receive-keeps}
@@ -60,7 +60,7 @@ use Rattle.groups.specs.declared.HeadEnd.{HeadEnd}
 use Rattle.groups.proofs.Found.{Stands, group-at}
 use Rattle.groups.proofs.GroupSteps.{group-marked-valid, group-offered-valid, group-sent-valid}
 use Rattle.groups.proofs.HeadValidity.{head-in-range, head-valid}
-use Rattle.multicast.specs.HeadCalls.{headAcknowledgeOf, headAnswer, headCaptureOf, headClockSendOf, headKeySent, headOfferOf, headRetryOf, oltAnswered, oltClockSent, oltKeySent, ownAcknowledgement}
+use Rattle.multicast.specs.HeadCalls.{headAcknowledgeOf, headAnswer, headCaptureOf, headClockSendOf, headKeySent, headMeasureOf, headOfferOf, headRetryOf, oltAnswered, oltClockSent, oltKeySent, ownAcknowledgement}
 use Rattle.multicast.specs.HeadTraffic.{headReceiveOf, headSendOf, headSent, oltReceivedIn, oltSentIn}
 use Rattle.multicast.specs.Naming.{byLlid, groupLift, putGroup}
 use Rattle.multicast.specs.declared.HeadAnswer.{HeadAnswer}
@@ -184,6 +184,12 @@ module _ (h : HeadEnd) (v : validHead h ≡ true) where
   valid-after-capture llid =
       answered-after _ (lift-table (h .olt) silent Accepted llid captureUnit (capture-keeps .identity))
       (capture-valid (h .olt) llid (head-in-range h v .olt))
+
+  pub valid-after-measure : (llid trip : ℕ) → validHead (headMeasureOf h llid trip .head) ≡ true
+  unfolding headMeasureOf measureOf oltAnswer measureUnit outcome withClock
+  valid-after-measure llid trip =
+      answered-after _ (lift-table (h .olt) silent _ llid (measureUnit trip) (λ s u. refl))
+      (measure-valid (h .olt) llid trip (head-in-range h v .olt))
 
   pub valid-after-clock-send : (llid : ℕ) → validHead (headClockSendOf h llid .head) ≡ true
   unfolding headClockSendOf oltClockSent clockSendOf clockSent

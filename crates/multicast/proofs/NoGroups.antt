@@ -23,16 +23,16 @@ use Rattle.ends.specs.declared.Found.the-variants.{Nowhere}
 use Rattle.ends.specs.declared.Identity.{Identity}
 use Rattle.ends.specs.declared.Olt.{Olt}
 use Rattle.protocol.specs.Messages.{noKeyMessage, noStamps}
-use Rattle.protocol.specs.Headers.{noPassage, noSending}
-use Rattle.protocol.specs.OltCalls.{acknowledgeOf, advanceOltOf, advancingOlt, captureOf, clockSendOf, clockSent, keySent, offerOf, oltAnswer, registering, registerOf, registerVerdict, retryOf}
+use Rattle.protocol.specs.Headers.{choiceEnciphered, noPassage, noSending}
+use Rattle.protocol.specs.OltCalls.{acknowledgeOf, advanceOltOf, advancingOlt, captureOf, clockSendOf, clockSent, keySent, measureOf, offerOf, oltAnswer, registering, registerOf, registerVerdict, retryOf}
 use Rattle.protocol.specs.OltTraffic.{receivingOlt, sendingOlt}
 use Rattle.protocol.specs.UnitTraffic.{receiveUnit, sendUnit}
 use Rattle.protocol.specs.declared.Header.{Header}
-use Rattle.traffic.specs.Passages.{choiceEnciphered, outputAfter, passedCount, passedRuns}
+use Rattle.traffic.specs.Passages.{outputAfter, passedCount, passedRuns}
 use Rattle.traffic.specs.Receipts.{oltReceived, oltReceiveOf}
 use Rattle.traffic.specs.Sends.{oltSendOf, oltSent}
 use Rattle.protocol.specs.Replies.{reply, silent}
-use Rattle.protocol.specs.UnitCalls.{acknowledgeUnit, captureUnit, clockSendUnit, offerUnit, retryUnit}
+use Rattle.protocol.specs.UnitCalls.{acknowledgeUnit, captureUnit, clockSendUnit, measureUnit, offerUnit, retryUnit}
 use Rattle.protocol.specs.declared.KeySent.{KeySent}
 use Rattle.protocol.specs.declared.OltAnswer.{OltAnswer}
 use Rattle.protocol.proofs.Lift.{lift-invalid}
@@ -41,7 +41,7 @@ use Rattle.groups.specs.Head.{apartLlids, findGroup, groupFrom, groupLlids, val
 use Rattle.groups.specs.declared.Answer.{Answer}
 use Rattle.groups.specs.declared.GroupRecord.{GroupRecord}
 use Rattle.groups.specs.declared.HeadEnd.{HeadEnd}
-use Rattle.multicast.specs.HeadCalls.{groupsAdvanced, headAcknowledgeOf, headAdvanced, headAdvanceOf, headAnswer, headCaptureOf, headClockSendOf, headOfferOf, headRegisterOf, headRetryOf, oltAnswered, oltClockSent, oltKeySent, ownAcknowledgement, unitVerdict}
+use Rattle.multicast.specs.HeadCalls.{groupsAdvanced, headAcknowledgeOf, headAdvanced, headAdvanceOf, headAnswer, headCaptureOf, headClockSendOf, headMeasureOf, headOfferOf, headRegisterOf, headRetryOf, oltAnswered, oltClockSent, oltKeySent, ownAcknowledgement, unitVerdict}
 use Rattle.multicast.specs.HeadTraffic.{headReceiveOf, headSendOf, oltReceivedIn, oltSentIn}
 use Rattle.multicast.specs.WithoutGroups.{WithoutGroups, answeredIn, clockSentIn, keySentIn, receivedIn, sentIn}
 use Rattle.multicast.proofs.GroupSends.{received-valid, sent-valid}
@@ -100,6 +100,10 @@ module _ (h : HeadEnd) (none : h .groups .count ≡ 0) where
   as-capture : (llid : ℕ) → headCaptureOf h llid ≡ answeredIn h (captureOf (h .olt) llid)
   unfolding headCaptureOf captureOf oltAnswer
   as-capture llid = as-answered _ (λ e. ap oltAnswer (lift-invalid (h .olt) silent Accepted llid captureUnit e))
+
+  as-measure : (llid trip : ℕ) → headMeasureOf h llid trip ≡ answeredIn h (measureOf (h .olt) llid trip)
+  unfolding headMeasureOf measureOf oltAnswer
+  as-measure llid trip = as-answered _ (λ e. ap oltAnswer (lift-invalid (h .olt) silent _ llid (measureUnit trip) e))
 
   as-clock-send : (llid : ℕ) → headClockSendOf h llid ≡ clockSentIn h (clockSendOf (h .olt) llid)
   unfolding headClockSendOf clockSendOf clockSent oltClockSent pick withOlt
@@ -180,6 +184,7 @@ without-groups =
             register = as-register h none;
             advance = as-advance h none;
             capture = as-capture h none;
+            measure = as-measure h none;
             clockSend = as-clock-send h none;
             offer = as-offer h none;
             retry = as-retry h none;

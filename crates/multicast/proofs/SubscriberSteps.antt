@@ -11,7 +11,7 @@ use Rattle.octets.specs.Output.{WithOutput}
 use Rattle.octets.proofs.Choice.{both-true, pick-true, pick-holds}
 use Rattle.clock.specs.declared.Stamps.{Stamps}
 use Rattle.ends.specs.Identities.{llidsOf}
-use Rattle.ends.specs.Records.{withOnuClock, withOnuKeys, withOnuFirst, withOnuChannels}
+use Rattle.ends.specs.Records.{withOnuClock, withOnuKeys, withOnuFirst, withOnuChannels, withTravel}
 use Rattle.ends.specs.Validity.{validOnu}
 use Rattle.ends.specs.declared.Identity.{Identity}
 use Rattle.ends.specs.declared.Onu.{Onu}
@@ -19,7 +19,7 @@ use Rattle.ends.specs.declared.Found.{Found}
 use Rattle.ends.specs.declared.Found.the-variants.{At, Nowhere}
 use Rattle.protocol.specs.Headers.{noPassage}
 use Rattle.protocol.specs.Replies.{silent}
-use Rattle.protocol.specs.OnuCalls.{freshOnuOf, onuAnswer, onuAcknowledged, onuAdvanced, advancingOnu, advanceOnuOf, onuSynced, clockMessageTo, clockMessageAt, keyMessageTo, keyMessageAt}
+use Rattle.protocol.specs.OnuCalls.{freshOnuOf, onuAnswer, onuAcknowledged, onuAdvanced, advancingOnu, advanceOnuOf, onuRetimed, newTimeOf, onuSynced, clockMessageTo, clockMessageAt, keyMessageTo, keyMessageAt}
 use Rattle.protocol.specs.OnuTraffic.{onuSendChoice, onuNoted, onuAfterSend, sendingOnu, onuMoved, onuAfterReceipt, receivingOnu}
 use Rattle.protocol.specs.declared.Header.{Header}
 use Rattle.protocol.specs.declared.KeyChoice.{KeyChoice}
@@ -30,6 +30,7 @@ use Rattle.protocol.specs.declared.OnuAcknowledged.{OnuAcknowledged}
 use Rattle.protocol.proofs.Replies.{reply-keeps}
 use Rattle.protocol.proofs.OnuCalls.{onu-keeps, fresh-onu-valid, clock-message-valid}
 use Rattle.protocol.proofs.OnuAdvance.{advance-onu-valid}
+use Rattle.protocol.proofs.NewTimes.{new-time-valid}
 use Rattle.protocol.proofs.KeyMessages.{key-message-valid}
 use Rattle.protocol.proofs.OnuTraffic.{sending-onu-valid, receiving-onu-valid}
 use Rattle.envelope.specs.ControlMask.{eqsOf}
@@ -47,7 +48,7 @@ use Rattle.groups.proofs.JoinedCalls.{message-valid, message-llid, receipt-vali
 use Rattle.groups.proofs.JoinedGroups.{groups-none}
 use Rattle.groups.proofs.Subscribers.{found-place, found-valid, valid-unit, valid-joins, valid-both, with-joined-unit, with-joined-valid, one-more-valid, fresh-joined-valid, alone-valid, with-onu-valid}
 use Rattle.multicast.specs.Naming.{byLlid}
-use Rattle.multicast.specs.SubscriberCalls.{subscriberAnswer, subscriberAcknowledged, onuAnswered, ownAnswered, notAcknowledged, ownAcknowledged, onuAcknowledgedIn, putJoined, joinedLift, freshSubscriberOf, joinOf, subscriberAdvanceOf, subscriberClockMessageOf, subscriberKeyMessageOf}
+use Rattle.multicast.specs.SubscriberCalls.{subscriberAnswer, subscriberAcknowledged, onuAnswered, ownAnswered, notAcknowledged, ownAcknowledged, onuAcknowledgedIn, putJoined, joinedLift, freshSubscriberOf, joinOf, subscriberAdvanceOf, subscriberNewTimeOf, subscriberClockMessageOf, subscriberKeyMessageOf}
 use Rattle.multicast.specs.SubscriberTraffic.{ownSent, unitSendOf, ownSendOf, subscriberSendOf, ownReceived, unitReceiveOf, ownReceiveOf, subscriberReceived, groupReceiveOf, subscriberReceiveOf}
 use Rattle.multicast.specs.SubscriberClaims.{Apart, SendsAlone, ReceivesAlone}
 use Rattle.multicast.specs.declared.SubscriberAnswer.{SubscriberAnswer}
@@ -143,7 +144,7 @@ valid-after-join s llid l v =
     valid-both _ (valid-unit s v)
     (one-more-valid s (freshJoined llid) room (omega arith) (held .1) (held .0) (fresh-joined-valid llid) (valid-joins s v)))
 
----- advance, clock message
+---- advance, a new LocalTime, clock message
 
 advance-identity : (o : Onu) (n : ℕ) → advanceOnuOf o n .onu .identity ≡ o .identity
 unfolding advanceOnuOf advancingOnu onuAnswer onuAdvanced
@@ -158,6 +159,20 @@ pub advance-told : (s : Subscriber) (n : ℕ) (r : SubscriberAnswer) → r ≡ s
     × ((r .subscriber .memberships ≡ s .memberships) × (s .memberships .count ≡ 0 → r ≡ ownAnswered s (advanceOnuOf (s .onu) n)))
 unfolding subscriberAdvanceOf onuAnswered
 advance-told s n r e = (e, (rw e (answered-groups s _), λ none. e ∙ pick-true _ _ (none-valid s none)))
+
+new-time-identity : (o : Onu) (time : ℕ) → newTimeOf o time .onu .identity ≡ o .identity
+unfolding newTimeOf onuAnswer onuRetimed withOnuClock withTravel
+new-time-identity o time = onu-keeps (λ (p : Onu). p .identity ≡ o .identity) o silent _ _ silent refl (λ _ _. refl)
+
+pub valid-after-new-time : (s : Subscriber) (time : ℕ) → validSubscriber s ≡ true → validSubscriber (subscriberNewTimeOf s time .subscriber) ≡ true
+unfolding subscriberNewTimeOf
+valid-after-new-time s time v = answered-valid s _ v (new-time-valid (s .onu) time (valid-unit s v)) (new-time-identity (s .onu) time)
+
+pub new-time-told : (s : Subscriber) (time : ℕ) (r : SubscriberAnswer) → r ≡ subscriberNewTimeOf s time
+    → (r ≡ subscriberNewTimeOf s time)
+    × ((r .subscriber .memberships ≡ s .memberships) × (s .memberships .count ≡ 0 → r ≡ ownAnswered s (newTimeOf (s .onu) time)))
+unfolding subscriberNewTimeOf onuAnswered
+new-time-told s time r e = (e, (rw e (answered-groups s _), λ none. e ∙ pick-true _ _ (none-valid s none)))
 
 clock-identity : (o : Onu) (m : Stamps) → clockMessageAt o m .onu .identity ≡ o .identity
 unfolding clockMessageAt clockMessageTo onuAcknowledged onuSynced withOnuClock
@@ -207,18 +222,18 @@ module _ (s : Subscriber) (m : KeyMessage) where
 
 ---- send
 
-noted-identity : (k : KeyChoice) (o : Onu) → onuNoted k o .identity ≡ o .identity
-unfolding onuNoted withOnuFirst
-noted-identity Clear o = refl
-noted-identity (Current n) o = refl
-noted-identity (Next n) o = refl
-noted-identity (Barred r) o = refl
+noted-identity : (k : KeyChoice) (eqs : ℕ) (o : Onu) → onuNoted k eqs o .identity ≡ o .identity
+unfolding onuNoted withOnuFirst withTravel
+noted-identity Clear eqs o = refl
+noted-identity (Current n) eqs o = refl
+noted-identity (Next n) eqs o = refl
+noted-identity (Barred r) eqs o = refl
 
 module _ (s : Subscriber) (llid channel : ℕ) (p out : List ℕ) where
   send-identity : onuSendOf (s .onu) llid channel p out .answer .onu .identity ≡ s .onu .identity
   unfolding onuSendOf onuSent sendingOnu onuAfterSend withOnuChannels
   send-identity =
-      onu-keeps (λ (o : Onu). o .identity ≡ s .onu .identity) (s .onu) _ _ _ _ refl (λ _ _. noted-identity (onuSendChoice (s .onu .keys)) (s .onu))
+      onu-keeps (λ (o : Onu). o .identity ≡ s .onu .identity) (s .onu) _ _ _ _ refl (λ _ _. noted-identity (onuSendChoice (s .onu .keys)) (eqsOf p) (s .onu))
 
   own-send-valid : validSubscriber s ≡ true → validSubscriber (ownSendOf s llid channel p out .answer .subscriber) ≡ true
   unfolding ownSendOf unitSendOf ownSent onuSendOf onuSent

@@ -18,11 +18,11 @@ use Rattle.sealing.specs.Seal.{countCarried, runsCarried}
 use Rattle.unit.specs.Reached.{ifAccepted}
 use Rattle.ends.specs.declared.Found.the-variants.{At}
 use Rattle.ends.proofs.Validity.{onu-in-range, onu-clock-in-range}
-use Rattle.protocol.specs.Headers.{noPassage, passageOf}
+use Rattle.protocol.specs.Headers.{choiceEnciphered, noPassage, passageOf}
 use Rattle.protocol.specs.Replies.{Reply}
 use Rattle.protocol.specs.declared.Header.{Header}
 use Rattle.protocol.specs.declared.Passage.{Passage}
-use Rattle.traffic.specs.Passages.{misfit, choiceEnciphered, passageNonce, passed, passedCount, passedRuns, passedWork, outputAfter, carriedAfter, carriedFitting}
+use Rattle.traffic.specs.Passages.{misfit, passageNonce, passed, passedCount, passedRuns, passedWork, outputAfter, carriedAfter, carriedFitting}
 use Rattle.traffic.specs.declared.carrying.Work.{Work}
 use Rattle.traffic.proofs.Passages.{judged, down-fits}
 use Rattle.groups.specs.Subscriber.{findJoined, joinedAt, withJoined, validSubscriber}

@@ -21,7 +21,7 @@ use Rattle.ends.specs.declared.Found.{Found}
 use Rattle.ends.specs.declared.Found.the-variants.{At, Nowhere}
 use Rattle.protocol.specs.Messages.{noStamps, noKeyMessage, noAcknowledgement}
 use Rattle.protocol.specs.Replies.{Reply, reply, onValid, Silence, silent, advanceVerdict}
-use Rattle.protocol.specs.OltCalls.{freshOltOf, validRegistration, oltAdvanced, captureOf, clockSendOf, offerOf, retryOf, acknowledgeOf}
+use Rattle.protocol.specs.OltCalls.{freshOltOf, validRegistration, oltAdvanced, captureOf, measureOf, clockSendOf, offerOf, retryOf, acknowledgeOf}
 use Rattle.protocol.specs.declared.Acknowledgement.{Acknowledgement}
 use Rattle.protocol.specs.declared.KeyMessage.{KeyMessage}
 use Rattle.protocol.specs.declared.OltAnswer.{OltAnswer}
@@ -126,10 +126,13 @@ headAdvanced h n = record { olt = oltAdvanced (h .olt) n; groups = groupsAdvance
 unfoldable pub headAdvanceOf : HeadEnd → ℕ → HeadAnswer
 headAdvanceOf h n = headAnswer (reply (onValid (validHead h) (advanceVerdict (h .olt .shared .tick) n)) h silent (headAdvanced h n) silent)
 
----- capture and clock send: a group's LLID is 2, for it is no unit's
+---- capture, the round trip measured again, and clock send: a group's LLID is 2, for it is no unit's
 
 unfoldable pub headCaptureOf : HeadEnd → ℕ → HeadAnswer
 headCaptureOf h llid = oltAnswered h (captureOf (h .olt) llid)
+
+unfoldable pub headMeasureOf : HeadEnd → ℕ → ℕ → HeadAnswer
+headMeasureOf h llid trip = oltAnswered h (measureOf (h .olt) llid trip)
 
 unfoldable pub headClockSendOf : HeadEnd → ℕ → HeadClockSent
 headClockSendOf h llid = oltClockSent h (clockSendOf (h .olt) llid)

@@ -12,7 +12,7 @@ use Rattle.ends.specs.Identities.{has}
 use Rattle.ends.specs.declared.Identity.{Identity}
 use Rattle.ends.specs.declared.Onu.{Onu}
 use Rattle.protocol.specs.Replies.{Reply, reply, onValid, Silence, silent}
-use Rattle.protocol.specs.OnuCalls.{freshOnuOf, advanceOnuOf, clockMessageAt, keyMessageAt}
+use Rattle.protocol.specs.OnuCalls.{freshOnuOf, advanceOnuOf, newTimeOf, clockMessageAt, keyMessageAt}
 use Rattle.protocol.specs.declared.Acknowledgement.{Acknowledgement}
 use Rattle.protocol.specs.declared.KeyMessage.{KeyMessage}
 use Rattle.protocol.specs.declared.OnuAnswer.{OnuAnswer}
@@ -80,10 +80,13 @@ joinOf s llid =
     subscriberAnswer
     (reply (onValid (validSubscriber s) (joinVerdict s llid)) s silent (withOneJoinedMore s (freshJoined llid)) silent)
 
----- advance: 17; clock message: 1
+---- advance: 17; a new LocalTime: 1, 17 (02, C-16); clock message: 1
 
 unfoldable pub subscriberAdvanceOf : Subscriber → ℕ → SubscriberAnswer
 subscriberAdvanceOf s n = onuAnswered s (advanceOnuOf (s .onu) n)
+
+unfoldable pub subscriberNewTimeOf : Subscriber → ℕ → SubscriberAnswer
+subscriberNewTimeOf s time = onuAnswered s (newTimeOf (s .onu) time)
 
 unfoldable pub subscriberClockMessageOf : Subscriber → Stamps → SubscriberAcknowledged
 subscriberClockMessageOf s m = onuAcknowledgedIn s (clockMessageAt (s .onu) m)

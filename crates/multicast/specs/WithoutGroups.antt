@@ -5,7 +5,7 @@ use mathlib.Core.Path.{_≡_}
 use Prim.Native.Nat.{ℕ}
 use Rattle.octets.specs.Output.{WithOutput, withOutput}
 use Rattle.ends.specs.declared.Identity.{Identity}
-use Rattle.protocol.specs.OltCalls.{acknowledgeOf, advanceOltOf, captureOf, clockSendOf, offerOf, registerOf, retryOf}
+use Rattle.protocol.specs.OltCalls.{acknowledgeOf, advanceOltOf, captureOf, clockSendOf, measureOf, offerOf, registerOf, retryOf}
 use Rattle.protocol.specs.declared.ClockSent.{ClockSent}
 use Rattle.protocol.specs.declared.Header.{Header}
 use Rattle.protocol.specs.declared.KeySent.{KeySent}
@@ -17,7 +17,7 @@ use Rattle.traffic.specs.declared.OltSent.{OltSent}
 use Rattle.groups.specs.Head.{withOlt}
 use Rattle.groups.specs.declared.Answer.{Answer}
 use Rattle.groups.specs.declared.HeadEnd.{HeadEnd}
-use Rattle.multicast.specs.HeadCalls.{headAcknowledgeOf, headAdvanceOf, headCaptureOf, headClockSendOf, headOfferOf, headRegisterOf, headRetryOf, ownAcknowledgement}
+use Rattle.multicast.specs.HeadCalls.{headAcknowledgeOf, headAdvanceOf, headCaptureOf, headClockSendOf, headMeasureOf, headOfferOf, headRegisterOf, headRetryOf, ownAcknowledgement}
 use Rattle.multicast.specs.HeadTraffic.{headReceiveOf, headSendOf}
 use Rattle.multicast.specs.declared.HeadAnswer.{HeadAnswer}
 use Rattle.multicast.specs.declared.HeadClockSent.{HeadClockSent}
@@ -60,6 +60,7 @@ pub record AsOlt (h : HeadEnd) : Type 0 where
   pub register : (i : Identity) (trip interval : ℕ) → headRegisterOf h i trip interval ≡ answeredIn h (registerOf (h .olt) i trip interval)
   pub advance : (n : ℕ) → headAdvanceOf h n ≡ answeredIn h (advanceOltOf (h .olt) n)
   pub capture : (llid : ℕ) → headCaptureOf h llid ≡ answeredIn h (captureOf (h .olt) llid)
+  pub measure : (llid trip : ℕ) → headMeasureOf h llid trip ≡ answeredIn h (measureOf (h .olt) llid trip)
   pub clockSend : (llid : ℕ) → headClockSendOf h llid ≡ clockSentIn h (clockSendOf (h .olt) llid)
   pub offer : (llid : ℕ) (key : List ℕ) → headOfferOf h llid key ≡ keySentIn h (offerOf (h .olt) llid key)
   pub retry : (llid : ℕ) → headRetryOf h llid ≡ keySentIn h (retryOf (h .olt) llid)

@@ -4,7 +4,7 @@ ghost use Prim.Native.Nat.{_<_};
 ghost use Rattle.ends.specs.Limits.{maxUnits};
 ghost use Rattle.protocol.specs.OltCalls.{acknowledgeOf, offerOf, retryOf};
 ghost use Rattle.groups.specs.GroupCalls.{memberNamed};
-ghost use Rattle.multicast.specs.HeadCalls.{freshHeadOf, groupAcknowledgeOf, groupOfferOf, groupRetryOf, headAcknowledgeOf, headAdvanceOf, headCaptureOf, headClockSendOf, headOfferOf, headRegisterOf, headRetryOf, oltAnswered, oltKeySent, ownAcknowledgement, registerGroupOf};
+ghost use Rattle.multicast.specs.HeadCalls.{freshHeadOf, groupAcknowledgeOf, groupOfferOf, groupRetryOf, headAcknowledgeOf, headAdvanceOf, headCaptureOf, headClockSendOf, headMeasureOf, headOfferOf, headRegisterOf, headRetryOf, oltAnswered, oltKeySent, ownAcknowledgement, registerGroupOf};
 ghost use Rattle.multicast.specs.WithoutGroups.{WithoutGroups};
 use crate::HeadAnswer;
 use crate::HeadClockSent;
@@ -17,6 +17,7 @@ use crate::head_place::sound_groups;
 use crate::head_place::way_to;
 use crate::registering;
 use crate::timing::table_advanced;
+use clock::MAX_ROUND_TRIP;
 use ends::Found;
 use ends::Identity;
 use ends::Olt;
@@ -155,6 +156,34 @@ pub fn capture(head: HeadEnd, llid: u16) -> HeadAnswer
     let way = at.verdict;
     let unit = olt.units[i];
     let done = calls::capture(way, olt.shared, unit);
+    let verdict = done.verdict;
+    let number = verdict_number(verdict);
+    let next = done.unit;
+    olt.units[i] = next;
+    let groups = head.groups;
+    HeadAnswer {
+        number,
+        head: HeadEnd { olt, groups },
+    }
+}
+
+// The round trip measured again (02, C-16). The unit's groups go on.
+pub fn measure(head: HeadEnd, llid: u16, trip: u64) -> HeadAnswer
+    ensures { λ r. ⌜ r ≡ headMeasureOf head llid trip ⌝ }
+{
+    let valid = sound_groups(head);
+    let ranged = refuse_if(
+        !(trip <= MAX_ROUND_TRIP),
+        Refusal::OutOfRange,
+        Verdict::Accepted,
+    );
+    let ahead = refuse_if(!valid, Refusal::OutOfRange, ranged);
+    let mut olt = head.olt;
+    let at = locate(olt, ahead, llid);
+    let i = at.place;
+    let way = at.verdict;
+    let unit = olt.units[i];
+    let done = calls::measure(way, olt.shared, unit, trip);
     let verdict = done.verdict;
     let number = verdict_number(verdict);
     let next = done.unit;

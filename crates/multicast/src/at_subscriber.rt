@@ -3,12 +3,12 @@ ghost use mathlib.Core.Path.{_≡_};
 ghost use Prim.Native.Nat.{_<_};
 ghost use Rattle.ends.specs.declared.Found.the-variants.{At};
 ghost use Rattle.protocol.specs.Replies.{onValid};
-ghost use Rattle.protocol.specs.OnuCalls.{advanceOnuOf, clockMessageAt, keyMessageAt};
+ghost use Rattle.protocol.specs.OnuCalls.{advanceOnuOf, clockMessageAt, keyMessageAt, newTimeOf};
 ghost use Rattle.groups.specs.JoinedCalls.{messageJoined, noAnswer};
 ghost use Rattle.groups.specs.Limits.{maxJoined};
 ghost use Rattle.groups.specs.Subscriber.{alone, findJoined, freshJoined, validMemberships, validSubscriber, withJoined, withOneJoinedMore};
 ghost use Rattle.multicast.specs.SubscriberClaims.{Apart};
-ghost use Rattle.multicast.specs.SubscriberCalls.{freshSubscriberOf, joinedLift, joinOf, joinVerdict, notAcknowledged, onuAcknowledgedIn, ownAcknowledged, ownAnswered, subscriberAcknowledged, subscriberAdvanceOf, subscriberClockMessageOf, subscriberKeyMessageOf};
+ghost use Rattle.multicast.specs.SubscriberCalls.{freshSubscriberOf, joinedLift, joinOf, joinVerdict, notAcknowledged, onuAcknowledgedIn, ownAcknowledged, ownAnswered, subscriberAcknowledged, subscriberAdvanceOf, subscriberClockMessageOf, subscriberKeyMessageOf, subscriberNewTimeOf};
 use crate::SubscriberAcknowledged;
 use crate::SubscriberAnswer;
 use clock::Stamps;
@@ -156,6 +156,27 @@ pub fn advance(subscriber: Subscriber, n: u64) -> SubscriberAnswer
         };
     }
     let answer = onu::advance(subscriber.onu, n);
+    let onu = answer.onu;
+    let memberships = subscriber.memberships;
+    SubscriberAnswer {
+        number: answer.number,
+        subscriber: Subscriber { onu, memberships },
+    }
+}
+
+// A new LocalTime (02, C-16). The groups stay, with their keys.
+pub fn new_time(subscriber: Subscriber, time: u64) -> SubscriberAnswer
+    ensures { λ r. ⌜ r ≡ subscriberNewTimeOf subscriber time ⌝ }
+    ensures groups { λ r. ⌜ r .subscriber .memberships ≡ subscriber .memberships ⌝ }
+    ensures alone { λ r. ⌜ (subscriber .memberships .count ≡ 0 → r ≡ ownAnswered subscriber (newTimeOf (subscriber .onu) time)) ⌝ }
+{
+    if !valid_memberships(subscriber) {
+        return SubscriberAnswer {
+            number: refusal::number(Refusal::OutOfRange),
+            subscriber,
+        };
+    }
+    let answer = onu::new_time(subscriber.onu, time);
     let onu = answer.onu;
     let memberships = subscriber.memberships;
     SubscriberAnswer {

@@ -9,8 +9,9 @@ ghost use mathlib.Core.Path.{_≡_};
 ghost use Rattle.octets.specs.Choice.{pick};
 ghost use Rattle.refusal.specs.Number.{verdictNumber};
 ghost use Rattle.protocol.specs.ClockCaptures.{Captures};
-ghost use Rattle.protocol.specs.OltCalls.{acknowledgeOf, acknowledgeOrder, advanceOltOf, captureOf, captureOrder, clockSendOf, clockSendOrder, freshOltOf, offerOf, offerOrder, registerOf, retryOf, retryOrder};
+ghost use Rattle.protocol.specs.OltCalls.{acknowledgeOf, acknowledgeOrder, advanceOltOf, captureOf, captureOrder, clockSendOf, clockSendOrder, freshOltOf, measureOf, measureOrder, offerOf, offerOrder, registerOf, retryOf, retryOrder};
 use clock::CLOCK_TURN;
+use clock::MAX_ROUND_TRIP;
 use ends::Identity;
 use ends::Olt;
 use ends::Timer;
@@ -110,6 +111,29 @@ pub fn capture(olt: Olt, llid: u16) -> OltAnswer
     let way = at.verdict;
     let unit = r.units[i];
     let done = calls::capture(way, r.shared, unit);
+    let verdict = done.verdict;
+    let number = verdict_number(verdict);
+    let next = done.unit;
+    r.units[i] = next;
+    OltAnswer { number, olt: r }
+}
+
+// The unit's round trip, measured again: the unit needs a new clock message (02, C-16).
+pub fn measure(olt: Olt, llid: u16, trip: u64) -> OltAnswer
+    ensures { λ r. ⌜ r ≡ measureOf olt llid trip ⌝ }
+    ensures order { λ r. ⌜ r .number ≡ verdictNumber (measureOrder olt llid trip) ⌝ }
+{
+    let mut r = olt;
+    let ahead = refuse_if(
+        !(trip <= MAX_ROUND_TRIP),
+        Refusal::OutOfRange,
+        Verdict::Accepted,
+    );
+    let at = place::locate(r, ahead, llid);
+    let i = at.place;
+    let way = at.verdict;
+    let unit = r.units[i];
+    let done = calls::measure(way, r.shared, unit, trip);
     let verdict = done.verdict;
     let number = verdict_number(verdict);
     let next = done.unit;

@@ -43,7 +43,7 @@ pub(crate) fn fresh_unit(identity: Identity, trip: u64, interval: u64) -> UnitRe
         even: [0; 16],
         odd: [0; 16],
     };
-    let first = FirstSend { noted: 0, tick: 0 };
+    let first = FirstSend { noted: 0, at: 0 };
     let keys = UnitKeys {
         timer,
         active: 0,

@@ -1,4 +1,6 @@
 // The calls of the ONU but send and receive, by value (01, Clock; Keys; 'When the reader says no').
+mod retiming;
+
 ghost use mathlib.Core.Path.{_≡_};
 ghost use Rattle.refusal.specs.declared.Verdict.the-variants.{Accepted};
 ghost use Rattle.clock.specs.Ticks.{localOf};
@@ -6,7 +8,7 @@ ghost use Rattle.clock.specs.Stamping.{raisedTo};
 ghost use Rattle.protocol.specs.Replies.{onValid, advanceVerdict};
 ghost use Rattle.ends.specs.Records.{newOnu};
 ghost use Rattle.ends.specs.Validity.{validOnu};
-ghost use Rattle.protocol.specs.OnuCalls.{freshOnuVerdict, freshOnuOf, onuClockAdvanced, onuAdvanced, advanceOnuOf, clockMessageVerdict, clockFrom, clockMessageAt, newKey, heldKey, activeKey, keyMessageVerdict, keysTaken, keyMessageAt};
+ghost use Rattle.protocol.specs.OnuCalls.{freshOnuVerdict, freshOnuOf, onuClockAdvanced, onuAdvanced, advanceOnuOf, newTimeOf, clockMessageVerdict, clockFrom, clockMessageAt, newKey, heldKey, activeKey, keyMessageVerdict, keysTaken, keyMessageAt};
 use clock::CLOCK_TURN;
 use clock::LOCAL_TURN;
 use clock::Stamps;
@@ -17,6 +19,7 @@ use ends::Onu;
 use ends::OnuClock;
 use ends::OnuKeys;
 use ends::Slots;
+use ends::Travel;
 use ends::check_onu::valid_onu;
 use ends::limits::MAX_KEY_NUMBER;
 use ends::limits::MAX_LLIDS;
@@ -52,7 +55,12 @@ fn new_onu(identity: Identity, oltmac: u64, time: u64) -> Onu
                 odd: [0; 16],
             },
         },
-        first: FirstSend { noted: 0, tick: 0 },
+        first: FirstSend { noted: 0, at: 0 },
+        travel: Travel {
+            changes: 0,
+            spent: 0,
+            bar: 0,
+        },
         channels: Channels { zero: 0, one: 0 },
     }
 }
@@ -95,6 +103,14 @@ pub fn fresh(identity: Identity, oltmac: u64, time: u64) -> OnuAnswer
     }
 }
 
+// 1 for a lent end that is not valid, then what the call refuses.
+pub(crate) fn on_valid(o: Onu, rest: Verdict) -> Verdict
+    ensures { λ r. ⌜ r ≡ onValid (validOnu o) rest ⌝ }
+{
+    let valid = valid_onu(o);
+    refuse_if(!valid, Refusal::OutOfRange, rest)
+}
+
 fn clock_advanced(c: OnuClock, n: u64) -> OnuClock
     ensures { λ r. ⌜ r ≡ onuClockAdvanced c n ⌝ }
 {
@@ -126,14 +142,28 @@ fn advanced(o: Onu, n: u64) -> Onu
 pub fn advance(o: Onu, n: u64) -> OnuAnswer
     ensures { λ r. ⌜ r ≡ advanceOnuOf o n ⌝ }
 {
-    let verdict = refuse_if(
-        !valid_onu(o),
-        Refusal::OutOfRange,
-        advance_verdict(o.tick, n),
-    );
+    let rest = advance_verdict(o.tick, n);
+    let verdict = on_valid(o, rest);
     match verdict {
         Verdict::Accepted => {
             let onu = advanced(o, n);
+            OnuAnswer { number: 0, onu }
+        }
+        Verdict::Refused(refusal) => OnuAnswer {
+            number: refusal::number(refusal),
+            onu: o,
+        },
+    }
+}
+
+// The path has changed: the unit's LocalTime over the new one (02, C-16).
+pub fn new_time(o: Onu, time: u64) -> OnuAnswer
+    ensures { λ r. ⌜ r ≡ newTimeOf o time ⌝ }
+{
+    let verdict = retiming::new_time_verdict(o, time);
+    match verdict {
+        Verdict::Accepted => {
+            let onu = retiming::retimed(o, time);
             OnuAnswer { number: 0, onu }
         }
         Verdict::Refused(refusal) => OnuAnswer {
@@ -147,13 +177,8 @@ pub fn advance(o: Onu, n: u64) -> OnuAnswer
 fn clock_message_verdict(o: Onu, s: Stamps) -> Verdict
     ensures { λ r. ⌜ r ≡ onValid (validOnu o) (clockMessageVerdict s) ⌝ }
 {
-    let valid = valid_onu(o);
     let ok = (s.rx < CLOCK_TURN) & (s.tx < CLOCK_TURN);
-    refuse_if(
-        !valid,
-        Refusal::OutOfRange,
-        refuse_if(!ok, Refusal::OutOfRange, Verdict::Accepted),
-    )
+    on_valid(o, refuse_if(!ok, Refusal::OutOfRange, Verdict::Accepted))
 }
 
 // LocalTime is the low half of the one field that both share.
@@ -228,15 +253,13 @@ fn key_message_verdict(o: Onu, message: KeyMessage, new: bool) -> Verdict
     requires { ⌜ new ≡ newKey (o .keys) message ⌝ }
     ensures { λ r. ⌜ r ≡ onValid (validOnu o) (keyMessageVerdict o message) ⌝ }
 {
-    let valid = valid_onu(o);
     let known = ends::llids::has(o.identity, message.llid);
     let unsynced = !(o.clock.synced == 1);
     let held = held_key(o.keys, message);
     let active = active_key(o.keys, message);
     let misfit = !(new | (held | active));
-    refuse_if(
-        !valid,
-        Refusal::OutOfRange,
+    on_valid(
+        o,
         refuse_if(
             !known,
             Refusal::UnknownLlid,

@@ -4,13 +4,37 @@ use mathlib.Core.Bool.{Bool, true, false}
 use Prim.Native.Nat.{ℕ, _%_, _≤_}
 use native.Mathlib.Omega.{arith}
 use lib.Dec.{leb, ltb, eqb}
-use borrow.Author.Tests.{eqb-true, le-leb, lt-ltb, eq-eqb, ne-eqb}
+use borrow.Author.Tests.{eqb-true, le-leb, lt-ltb, eq-eqb, ne-eqb, not-false}
 use Rattle.octets.specs.Choice.{both, pick}
-use Rattle.octets.proofs.Choice.{both-true, pick-true, pick-false}
+use Rattle.octets.proofs.Choice.{both-true, both-false-then, not-both, pick-true, pick-false}
+use Rattle.refusal.specs.declared.Verdict.the-variants.{Accepted}
 use Rattle.clock.specs.Ticks.{epamTurn, epamOf}
 use Rattle.ends.specs.Keys.{noKey, keyIn}
-use Rattle.protocol.specs.Headers.{validHeader, envelopeHeader, keyFor}
+use Rattle.protocol.specs.Headers.{validHeader, choiceEnciphered, choiceAged, clockChannelKey, envelopeHeader, keyFor}
 use Rattle.ends.specs.declared.Slots.{Slots}
+use Rattle.ends.specs.declared.FirstSend.{FirstSend}
+use Rattle.protocol.specs.declared.KeyChoice.{KeyChoice}
+use Rattle.refusal.proofs.Order.{refuse-accepted}
+
+---- what a send at either end has met
+
+pub record Goes (set busy : Bool) (choice : KeyChoice) (first : FirstSend) (now : ℕ) : Type 0 where
+  pub clock : choiceEnciphered choice ≡ true → set ≡ true
+  pub free : busy ≡ false
+  pub young : choiceAged choice first now ≡ false
+
+pub goes : (set busy : Bool) (choice : KeyChoice) (first : FirstSend) (now : ℕ) → clockChannelKey set busy choice first now ≡ Accepted
+    → Goes set busy choice first now
+goes set busy choice first now e =
+    let a = refuse-accepted _ _ _ e in
+    let b = refuse-accepted _ _ _ (a .1) in
+    record {
+      clock = λ sealed. not-false set (not-both _ _ (both-false-then _ _ (a .0)) sealed);
+      free = b .0;
+      young = refuse-accepted _ _ _ (b .1) .0;
+    }
+
+---- headers
 
 -- a clear envelope says so
 pub header-clear : (n channel llid clock : ℕ) → n ≡ 0 → envelopeHeader n channel llid clock .encenabled ≡ 0

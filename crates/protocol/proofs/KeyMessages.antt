@@ -89,7 +89,8 @@ keys-replaced-valid o k w v =
       tick = r .tick;
       clock = r .clock;
       keys = w;
-      first = r .first;
+      noted = r .noted;
+      changes = r .changes;
       channels = r .channels;
     })
 

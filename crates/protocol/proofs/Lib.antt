@@ -2,6 +2,7 @@ pub mod ClockCaptures
 pub mod Headers
 pub mod KeyMessages
 pub mod Lift
+pub mod NewTimes
 pub mod OltAdvance
 pub mod OltCalls
 pub mod OltTraffic

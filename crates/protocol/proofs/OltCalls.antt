@@ -1,19 +1,21 @@
 -- Laws of the OLT's calls: a valid OLT stays valid, its places stay as many, a refused call leaves it, and the number is that of the
 -- call's order. Assumes nothing.
 use mathlib.Core.Path.{_≡_, refl, _∙_, ap}
-use mathlib.Core.Bool.{true, not}
+use mathlib.Core.Bool.{Bool, true, false, not}
 use mathlib.Core.List.{List}
 use Prim.Native.Nat.{ℕ, _<_}
 use native.Mathlib.Omega.{arith}
 use lib.ListN.{length, length-replicate}
-use borrow.Author.Tests.{ltb-true, not-false}
+use lib.Dec.{leb}
+use borrow.Author.Tests.{leb-true, ltb-true, not-false}
 use Rattle.octets.specs.Lists.{all}
 use Rattle.octets.proofs.Choice.{both-left, both-right}
 use Rattle.refusal.specs.Number.{verdictNumber}
-use Rattle.refusal.specs.declared.Refusal.the-variants.{UnknownLlid}
+use Rattle.refusal.specs.declared.Refusal.{Refusal}
+use Rattle.refusal.specs.declared.Refusal.the-variants.{OutOfRange, UnknownLlid}
 use Rattle.refusal.specs.declared.Verdict.{Verdict}
 use Rattle.refusal.specs.declared.Verdict.the-variants.{Accepted}
-use Rattle.clock.specs.Ticks.{clockTurn}
+use Rattle.clock.specs.Ticks.{clockTurn, maxRoundTrip}
 use Rattle.ends.specs.Limits.{maxUnits}
 use Rattle.refusal.specs.Order.{refuseIf, andThen}
 use Rattle.protocol.specs.Replies.{onValid, silent}
@@ -23,8 +25,8 @@ use Rattle.ends.specs.Records.{noUnit, newOlt}
 use Rattle.ends.specs.Table.{tableLlids, isRegistered, unitNamed, find}
 use Rattle.ends.specs.Validity.{validOlt}
 use Rattle.protocol.specs.Lift.{outcome}
-use Rattle.protocol.specs.UnitCalls.{captureUnit, clockSendUnit, offerUnit, retryUnit, acknowledgeUnit}
-use Rattle.protocol.specs.OltCalls.{oltAnswer, clockSent, keySent, freshOltOf, registering, registerOf, advancingOlt, advanceOltOf, captureOrder, captureOf, clockSendOrder, clockSendOf, offerOrder, offerOf, retryOrder, retryOf, acknowledgeOrder, acknowledgeOf}
+use Rattle.protocol.specs.UnitCalls.{captureUnit, measureUnit, clockSendUnit, offerUnit, retryUnit, acknowledgeUnit}
+use Rattle.protocol.specs.OltCalls.{oltAnswer, clockSent, keySent, freshOltOf, registering, registerOf, advancingOlt, advanceOltOf, captureOrder, captureOf, measureOrder, measureOf, clockSendOrder, clockSendOf, offerOrder, offerOf, retryOrder, retryOf, acknowledgeOrder, acknowledgeOf}
 use Rattle.ends.specs.declared.Identity.{Identity}
 use Rattle.ends.specs.declared.Olt.{Olt}
 use Rattle.protocol.specs.declared.Acknowledgement.{Acknowledgement}
@@ -38,7 +40,7 @@ use Rattle.ends.proofs.Occupancy.{free-valid}
 use Rattle.ends.proofs.Table.{with-itself}
 use Rattle.ends.proofs.Validity.{shared-valid, olt-valid}
 use Rattle.protocol.proofs.Lift.{lift-verdict, lift-keeps, lift-valid, lift-again, lift-untouched}
-use Rattle.protocol.proofs.UnitCalls.{capture-keeps, clock-send-keeps, offer-keeps, acknowledge-verdict, acknowledge-keeps, acknowledged-channels, acknowledged-again}
+use Rattle.protocol.proofs.UnitCalls.{capture-keeps, measure-keeps, clock-send-keeps, offer-keeps, acknowledge-verdict, acknowledge-keeps, acknowledged-channels, acknowledged-again}
 
 ---- fresh
 
@@ -67,11 +69,22 @@ fresh-valid mac clock =
     let b = not-false _ (refuse-accepted _ _ _ a .0) in
     new-olt-valid mac clock (both-left _ _ b) (ltb-true _ _ (both-right _ _ b)))
 
+-- one cause goes on with the list that follows it
+one-then : (cause : Bool) (r : Refusal) (v : Verdict) → andThen (refuseIf cause r Accepted) v ≡ refuseIf cause r v
+unfolding andThen refuseIf
+one-then true r v = refl
+one-then false r v = refl
+
 ---- calls on one unit
 
 pub capture-valid : (o : Olt) (llid : ℕ) → validOlt o ≡ true → validOlt (captureOf o llid .olt) ≡ true
 unfolding captureOf oltAnswer
 capture-valid o llid v = lift-valid o silent Accepted llid captureUnit (λ a. capture-keeps) v
+
+pub measure-valid : (o : Olt) (llid trip : ℕ) → validOlt o ≡ true → validOlt (measureOf o llid trip .olt) ≡ true
+unfolding measureOf oltAnswer
+measure-valid o llid trip v =
+    lift-valid o silent _ llid (measureUnit trip) (λ a. measure-keeps trip (leb-true _ _ (not-false _ (refuse-accepted _ _ _ a .0)))) v
 
 pub clock-send-valid : (o : Olt) (llid : ℕ) → validOlt o ≡ true → validOlt (clockSendOf o llid .olt) ≡ true
 unfolding clockSendOf clockSent
@@ -129,6 +142,10 @@ pub capture-refused : (o : Olt) (llid : ℕ) → (captureOf o llid .number ≡ 0
 unfolding captureOf oltAnswer
 capture-refused o llid n = number-refused o silent _ (lift-untouched o silent Accepted llid captureUnit) n .end
 
+pub measure-refused : (o : Olt) (llid trip : ℕ) → (measureOf o llid trip .number ≡ 0 → ⊥) → measureOf o llid trip .olt ≡ o
+unfolding measureOf oltAnswer
+measure-refused o llid trip n = number-refused o silent _ (lift-untouched o silent _ llid (measureUnit trip)) n .end
+
 pub clock-send-refused : (o : Olt) (llid : ℕ) → (clockSendOf o llid .number ≡ 0 → ⊥)
     → (clockSendOf o llid .olt ≡ o) × (clockSendOf o llid .message ≡ noStamps)
 unfolding clockSendOf clockSent
@@ -159,6 +176,16 @@ pub capture-ordered : (o : Olt) (llid : ℕ) (r : OltAnswer) → r ≡ captureOf
     → (r ≡ captureOf o llid) × (r .number ≡ verdictNumber (captureOrder o llid))
 unfolding captureOf oltAnswer captureOrder captureUnit outcome andThen
 capture-ordered o llid r e = (e, ap (λ (x : OltAnswer). x .number) e ∙ ap verdictNumber (lift-verdict o silent Accepted llid captureUnit))
+
+pub measure-ordered : (o : Olt) (llid trip : ℕ) (r : OltAnswer) → r ≡ measureOf o llid trip
+    → (r ≡ measureOf o llid trip) × (r .number ≡ verdictNumber (measureOrder o llid trip))
+unfolding measureOf oltAnswer measureOrder measureUnit outcome
+measure-ordered o llid trip r e = (
+  e,
+  ap (λ (x : OltAnswer). x .number) e
+      ∙ ap verdictNumber
+      (lift-verdict o silent _ llid (measureUnit trip) ∙ ap (onValid (validOlt o)) (one-then (not (leb trip maxRoundTrip)) OutOfRange _)),
+)
 
 pub clock-send-ordered : (o : Olt) (llid : ℕ) (r : ClockSent) → r ≡ clockSendOf o llid
     → (r ≡ clockSendOf o llid) × (r .number ≡ verdictNumber (clockSendOrder o llid))

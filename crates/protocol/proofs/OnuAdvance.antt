@@ -11,6 +11,7 @@ use Rattle.refusal.specs.declared.Verdict.the-variants.{Accepted}
 use Rattle.clock.specs.Ticks.{maxTick, localTurn, advanced, localAdvanced}
 use Rattle.clock.proofs.Ticks.{advanced-below, advanced-sum, localAdvanced-sum}
 use Rattle.ends.specs.Flags.{isUp}
+use Rattle.ends.specs.Travels.{travelOf}
 use Rattle.protocol.specs.Replies.{Silence, silent, Reply}
 use Rattle.ends.specs.Validity.{validOnuClock, validOnu}
 use Rattle.protocol.specs.OnuCalls.{onuAnswer, onuClockAdvanced, onuAdvanced, advancingOnu, advanceOnuOf}
@@ -18,7 +19,6 @@ use Rattle.ends.specs.declared.OnuClock.{OnuClock}
 use Rattle.ends.specs.declared.Onu.{Onu}
 use Rattle.refusal.proofs.Numbers.{number-accepted}
 use Rattle.protocol.proofs.Replies.{advance-accepted, advance-accepts}
-use Rattle.ends.proofs.Keys.{first-later-valid}
 use Rattle.ends.proofs.Validity.{onu-in-range, onu-valid}
 use Rattle.protocol.proofs.OnuCalls.{onu-accepted, onu-accepts, onu-keeps}
 
@@ -65,9 +65,15 @@ onu-advanced-valid o n h v =
       tick = h;
       clock = onu-clock-advanced-valid n (o .clock) (r .clock);
       keys = r .keys;
-      first = first-later-valid (o .first) (o .tick) (o .tick + n) (omega arith) (r .first);
+      noted = r .noted;
+      changes = r .changes;
       channels = r .channels;
     })
+
+-- an advance is that much travel
+pub travel-advanced : (o : Onu) (n : ℕ) → travelOf (onuAdvanced o n) ≡ travelOf o + n
+unfolding travelOf onuAdvanced
+travel-advanced o n = omega arith
 
 pub advance-onu-valid : (o : Onu) (n : ℕ) → validOnu o ≡ true → validOnu (advanceOnuOf o n .onu) ≡ true
 unfolding advanceOnuOf advancingOnu onuAnswer

@@ -18,7 +18,7 @@ use Rattle.clock.proofs.Ticks.{advanced-below}
 use Rattle.protocol.specs.Replies.{Silence, silent, Reply}
 use Rattle.ends.specs.Keys.{noSlots}
 use Rattle.ends.specs.Identities.{noIdentity, distinct}
-use Rattle.ends.specs.Records.{newOnu, withOnuClock}
+use Rattle.ends.specs.Records.{unsyncedClock, newOnu, withOnuClock}
 use Rattle.ends.specs.Validity.{validOnuKeys, validOnuClock, validOnu}
 use Rattle.protocol.specs.Messages.{noAcknowledgement, ofClock, ofKey}
 use Rattle.protocol.specs.OnuCalls.{onuAnswer, onuAcknowledged, onuReply, freshOnuVerdict, freshOnuOf, advancingOnu, advanceOnuOf, clockFrom, onuSynced, clockMessageTo, clockMessageAt, keyMessageTo, keyMessageAt}
@@ -28,7 +28,7 @@ use Rattle.protocol.specs.declared.KeyMessage.{KeyMessage}
 use Rattle.refusal.proofs.Order.{refuse-accepted, refuse-passed}
 use Rattle.refusal.proofs.Numbers.{number-accepted}
 use Rattle.protocol.proofs.Replies.{number-refused, reply-verdict, reply-accepted, reply-keeps, reply-untouched, Untouched}
-use Rattle.ends.proofs.Keys.{first-none-valid}
+use Rattle.ends.proofs.Travels.{no-changes-valid}
 use Rattle.ends.proofs.Occupancy.{free-valid}
 use Rattle.ends.proofs.Identities.{none-invalid, identity-valid, kept-llids, kept-valid}
 use Rattle.ends.proofs.Validity.{onu-in-range, onu-valid}
@@ -62,7 +62,7 @@ onu-keeps P o nothing v next handed p q =
 
 ---- fresh
 
-new-clock-valid : (time : ℕ) → ltb time localTurn ≡ true → validOnuClock (record { synced = 0; time = time; rx = 0 }) ≡ true
+pub new-clock-valid : (time : ℕ) → ltb time localTurn ≡ true → validOnuClock (unsyncedClock time) ≡ true
 unfolding validOnuClock both pick
 new-clock-valid time e = e
 
@@ -84,7 +84,8 @@ new-onu-valid i oltmac time e =
       tick = omega arith;
       clock = new-clock-valid time (both-right _ _ (both-right _ _ v));
       keys = new-keys-valid;
-      first = first-none-valid 0;
+      noted = omega arith;
+      changes = no-changes-valid;
       channels = free-valid;
     })
 
@@ -126,7 +127,8 @@ onu-synced-valid o s v =
       tick = r .tick;
       clock = clock-from-valid (localOf (o .clock .time)) s;
       keys = r .keys;
-      first = r .first;
+      noted = r .noted;
+      changes = r .changes;
       channels = r .channels;
     })
 

@@ -6,21 +6,23 @@ use native.Mathlib.Omega.{arith}
 use lib.Dec.{leb, eqb}
 use borrow.Author.Tests.{leb-true, eqb-true, eqb-false, le-leb, eq-eqb, ne-eqb, not-false}
 use Rattle.octets.specs.Choice.{both}
-use Rattle.octets.proofs.Choice.{both-left, both-right, both-true, pick-true, pick-false, not-of-true, both-false-right, both-false-then, then-both-false}
+use Rattle.octets.proofs.Choice.{both-left, both-right, both-true, pick-true, pick-false, not-of-true, both-false-right, both-false-then, then-both-false, either-false}
 use Rattle.refusal.specs.declared.Refusal.the-variants.{OutOfRange, UnknownLlid, ClockNotSet, NoKey, EpamDiffers, ClearEnvelope, BadLength}
 use Rattle.refusal.specs.declared.Verdict.the-variants.{Accepted}
 use Rattle.clock.specs.Ticks.{epamOf}
 use Rattle.ends.specs.Flags.{isUp}
 use Rattle.envelope.specs.Channels.{downstream, upstream}
 use Rattle.ends.specs.Occupancy.{taken}
+use Rattle.ends.specs.Travels.{travelOf, waits}
 use Rattle.ends.specs.Identities.{has}
-use Rattle.protocol.specs.Headers.{validHeader, choiceVerdict, choiceAged}
-use Rattle.protocol.specs.OnuTraffic.{onuSendChoice, onuSendVerdict, onuReceiveChoice, onuReceiveVerdict}
+use Rattle.protocol.specs.Headers.{validHeader, choiceVerdict, choiceEnciphered}
+use Rattle.protocol.specs.OnuTraffic.{onuSendChoice, busyUp, onuSendVerdict, onuReceiveChoice, onuReceiveVerdict}
 use Rattle.ends.specs.declared.OnuKeys.{OnuKeys}
 use Rattle.ends.specs.declared.Onu.{Onu}
 use Rattle.protocol.specs.declared.Header.{Header}
 use Rattle.protocol.specs.declared.KeyChoice.the-variants.{Clear, Current, Next, Barred}
 use Rattle.refusal.proofs.Order.{refuse-accepted, refuse-passed}
+use Rattle.protocol.proofs.Headers.{Goes, goes}
 
 ---- which key a send goes under
 
@@ -28,8 +30,7 @@ pub record OnuSends (o : Onu) (misfit : Bool) (llid channel : ℕ) : Type 0 wher
   pub fits : misfit ≡ false
   pub upstream : upstream channel ≡ true
   pub has : has (o .identity) llid ≡ true
-  pub free : taken (o .channels) channel (o .tick) ≡ false
-  pub young : choiceAged (onuSendChoice (o .keys)) (o .first) (o .tick) ≡ false
+  pub goes : Goes (isUp (o .clock .synced)) (busyUp o channel) (onuSendChoice (o .keys)) (o .first) (travelOf o)
 
 pub onu-send-accepted : (o : Onu) (misfit : Bool) (llid channel : ℕ) → onuSendVerdict o misfit llid channel ≡ Accepted → OnuSends o misfit llid channel
 unfolding onuSendVerdict
@@ -37,14 +38,18 @@ onu-send-accepted o misfit llid channel e =
     let a = refuse-accepted _ _ _ e in
     let b = refuse-accepted _ _ _ (a .1) in
     let c = refuse-accepted _ _ _ (b .1) in
-    let d = refuse-accepted _ _ _ (c .1) in
     record {
       fits = a .0;
       upstream = not-false _ (b .0);
       has = not-false _ (c .0);
-      free = d .0;
-      young = refuse-accepted _ _ _ (d .1) .0;
+      goes = goes _ _ _ _ _ (c .1);
     }
+
+-- its channel is free, and an enciphered one has waited
+pub onu-free : (o : Onu) (channel : ℕ) → busyUp o channel ≡ false
+    → (taken (o .channels) channel (o .tick) ≡ false) × (choiceEnciphered (onuSendChoice (o .keys)) ≡ true → waits o ≡ false)
+unfolding busyUp
+onu-free o channel e = let f = either-false _ _ e in (f .0, both-false-then _ _ (f .1))
 
 ---- which key a receipt goes under
 

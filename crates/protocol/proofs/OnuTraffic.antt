@@ -13,7 +13,8 @@ use Rattle.refusal.specs.declared.Verdict.the-variants.{Refused}
 use Rattle.refusal.specs.Order.{refuseIf}
 use Rattle.envelope.specs.Channels.{downstream, upstream}
 use Rattle.ends.specs.Identities.{has}
-use Rattle.ends.specs.Records.{withOnuKeys, withOnuFirst, withOnuChannels}
+use Rattle.ends.specs.Travels.{travelOf, travelSpent}
+use Rattle.ends.specs.Records.{withOnuKeys, withOnuFirst, withTravel, withOnuChannels}
 use Rattle.ends.specs.Validity.{validOnuKeys, validOnu}
 use Rattle.protocol.specs.Headers.{validHeader, noPassage, noSending}
 use Rattle.protocol.specs.OnuTraffic.{onuSendChoice, onuSendVerdict, onuNoted, onuAfterSend, sendingOnu, onuReceiveChoice, onuReceiveVerdict, onuMoved, onuAfterReceipt, receivingOnu}
@@ -23,7 +24,7 @@ use Rattle.protocol.specs.declared.KeyChoice.{KeyChoice}
 use Rattle.protocol.specs.declared.KeyChoice.the-variants.{Clear, Current, Next, Barred}
 use Rattle.refusal.proofs.Order.{refuse-accepted}
 use Rattle.protocol.proofs.Replies.{Untouched}
-use Rattle.ends.proofs.Keys.{first-send-valid, first-none-valid}
+use Rattle.ends.proofs.Keys.{first-send-flag}
 use Rattle.envelope.proofs.Channels.{upstream-between}
 use Rattle.ends.proofs.Occupancy.{occupied-valid}
 use Rattle.ends.proofs.Validity.{onu-in-range, onu-valid}
@@ -31,12 +32,12 @@ use Rattle.protocol.proofs.OnuCalls.{onu-untouched, onu-keeps}
 
 ---- validity
 
-noted-valid : (choice : KeyChoice) (o : Onu) → validOnu o ≡ true → validOnu (onuNoted choice o) ≡ true
-unfolding onuNoted withOnuFirst
-noted-valid Clear o v = v
-noted-valid (Next n) o v = v
-noted-valid (Barred r) o v = v
-noted-valid (Current n) o v =
+noted-valid : (choice : KeyChoice) (eqs : ℕ) (o : Onu) → validOnu o ≡ true → validOnu (onuNoted choice eqs o) ≡ true
+unfolding onuNoted withOnuFirst withTravel travelSpent
+noted-valid Clear eqs o v = v
+noted-valid (Next n) eqs o v = v
+noted-valid (Barred r) eqs o v = v
+noted-valid (Current n) eqs o v =
     let r = onu-in-range o v in
     onu-valid _
     (record {
@@ -46,7 +47,8 @@ noted-valid (Current n) o v =
       tick = r .tick;
       clock = r .clock;
       keys = r .keys;
-      first = first-send-valid (o .first) (o .tick) (r .first);
+      noted = first-send-flag (o .first) (travelOf o) (r .noted);
+      changes = r .changes;
       channels = r .channels;
     })
 
@@ -54,7 +56,7 @@ pub onu-sent-valid : (o : Onu) (channel eqs : ℕ) → eqs ≤ maxEqs → validO
 unfolding onuAfterSend withOnuChannels
 onu-sent-valid o channel eqs h v =
     let r = onu-in-range o v in
-    let q = onu-in-range (onuNoted (onuSendChoice (o .keys)) o) (noted-valid (onuSendChoice (o .keys)) o v) in
+    let q = onu-in-range (onuNoted (onuSendChoice (o .keys)) eqs o) (noted-valid (onuSendChoice (o .keys)) eqs o v) in
     onu-valid (onuAfterSend o channel eqs)
     (record {
       identity = q .identity;
@@ -63,7 +65,8 @@ onu-sent-valid o channel eqs h v =
       tick = q .tick;
       clock = q .clock;
       keys = q .keys;
-      first = q .first;
+      noted = q .noted;
+      changes = q .changes;
       channels = occupied-valid (o .channels) channel (o .tick) eqs (r .tick) h (r .channels);
     })
 
@@ -85,7 +88,8 @@ onu-moved-valid o v =
       tick = r .tick;
       clock = r .clock;
       keys = both-true refl refl;
-      first = first-none-valid (o .tick);
+      noted = omega arith;
+      changes = r .changes;
       channels = r .channels;
     })
 

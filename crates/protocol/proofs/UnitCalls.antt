@@ -12,18 +12,18 @@ use Rattle.octets.specs.Lists.{same}
 use Rattle.octets.proofs.Choice.{both-left, both-right, either-false, pick-false, either-left, either-right, either-cases}
 use Rattle.refusal.specs.declared.Refusal.the-variants.{NothingOutstanding}
 use Rattle.refusal.specs.declared.Verdict.the-variants.{Accepted, Refused}
-use Rattle.clock.specs.Ticks.{ticksPerSecond}
+use Rattle.clock.specs.Ticks.{ticksPerSecond, maxRoundTrip}
 use Rattle.ends.specs.Limits.{maxKeyNumber}
 use Rattle.refusal.specs.Order.{refuseIf}
 use Rattle.ends.specs.Flags.{isUp}
 use Rattle.protocol.specs.Replies.{Silence, silent}
 use Rattle.ends.specs.Keys.{keyIn}
 use Rattle.protocol.specs.Messages.{clockKind, keyKind}
-use Rattle.ends.specs.Records.{withKeys, withConfirmation, withClock, withTimer}
+use Rattle.ends.specs.Records.{withKeys, withConfirmation, withClock, newUnitClock, withTimer}
 use Rattle.ends.specs.Validity.{validUnitClock, validUnit, validShared}
 use Rattle.ends.specs.Occupancy.{validChannels}
 use Rattle.protocol.specs.Lift.{Outcome, outcome}
-use Rattle.protocol.specs.UnitCalls.{unitAdvanced, clockCaptured, captureUnit, clockSendVerdict, clockAfterSend, clockSendUnit, offerVerdict, keysOffered, unitOffered, offerUnit, retryVerdict, retryUnit, outstanding, acknowledgeVerdict, clockAcknowledgedUnit, keyAcknowledgedUnit, acknowledgeUnit}
+use Rattle.protocol.specs.UnitCalls.{unitAdvanced, clockCaptured, captureUnit, measureUnit, clockSendVerdict, clockAfterSend, clockSendUnit, offerVerdict, keysOffered, unitOffered, offerUnit, retryVerdict, retryUnit, outstanding, acknowledgeVerdict, clockAcknowledgedUnit, keyAcknowledgedUnit, acknowledgeUnit}
 use Rattle.ends.specs.declared.UnitClock.{UnitClock}
 use Rattle.ends.specs.declared.UnitRecord.{UnitRecord}
 use Rattle.ends.specs.declared.Shared.{Shared}
@@ -110,6 +110,18 @@ capture-keeps =
             sent = r .sent;
             acknowledged = r .acknowledged;
           })
+          v;
+      channels = λ s u v. stay s v;
+    }
+
+pub measure-keeps : (trip : ℕ) → trip ≤ maxRoundTrip → Keeps (measureUnit trip)
+unfolding measureUnit outcome withClock
+measure-keeps trip h =
+    record {
+      identity = λ s u. refl;
+      unit = λ s u v a.
+          clock-replaced (s .tick) u (newUnitClock trip)
+          (record { trip = h; captured = omega arith; since = either-left _ refl; sent = omega arith; acknowledged = omega arith })
           v;
       channels = λ s u v. stay s v;
     }

@@ -1,17 +1,15 @@
 -- Headers, and what an envelope goes under (01, Keys; The line). Assumes nothing.
-use mathlib.Core.Bool.{Bool, false}
+use mathlib.Core.Bool.{Bool, true, false, not}
 use mathlib.Core.List.{List}
 use Prim.Native.Nat.{ℕ, _%_}
 use lib.Dec.{leb, ltb, eqb}
 use Rattle.octets.specs.Choice.{both, pick}
-use Rattle.refusal.specs.declared.Refusal.the-variants.{ChannelTaken, KeyTooOld}
+use Rattle.refusal.specs.declared.Refusal.the-variants.{ClockNotSet, ChannelTaken, KeyTooOld}
 use Rattle.refusal.specs.declared.Verdict.{Verdict}
 use Rattle.refusal.specs.declared.Verdict.the-variants.{Accepted, Refused}
 use Rattle.clock.specs.Ticks.{epamTurn, epamOf}
 use Rattle.refusal.specs.Order.{refuseIf}
 use Rattle.ends.specs.Keys.{noKey, keyIn, aged}
-use Rattle.ends.specs.Occupancy.{taken}
-use Rattle.ends.specs.declared.Channels.{Channels}
 use Rattle.ends.specs.declared.Slots.{Slots}
 use Rattle.ends.specs.declared.FirstSend.{FirstSend}
 use Rattle.protocol.specs.declared.Header.{Header}
@@ -39,15 +37,23 @@ choiceVerdict (Barred r) = Refused r
 
 -- only the key in use can be too old: one that comes into use has had no send
 unfoldable pub choiceAged : KeyChoice → FirstSend → ℕ → Bool
-choiceAged Clear f tick = false
-choiceAged (Current n) f tick = aged f tick
-choiceAged (Next n) f tick = false
-choiceAged (Barred r) f tick = false
+choiceAged Clear f now = false
+choiceAged (Current n) f now = aged f now
+choiceAged (Next n) f now = false
+choiceAged (Barred r) f now = false
 
--- a send at either end, under the key of its choice, whose first send is noted: 12, then 13
-abbrev pub channelThenKey : Channels → ℕ → KeyChoice → FirstSend → ℕ → Verdict
-channelThenKey channels channel choice first tick =
-    refuseIf (taken channels channel tick) ChannelTaken (refuseIf (choiceAged choice first tick) KeyTooOld Accepted)
+unfoldable pub choiceEnciphered : KeyChoice → Bool
+choiceEnciphered Clear = false
+choiceEnciphered (Current n) = true
+choiceEnciphered (Next n) = true
+choiceEnciphered (Barred r) = false
+
+-- a send at either end, under the key of its choice, whose first send is noted: 5 for an enciphered one where the clock is not set (02, C-16),
+-- then 12, then 13, the key's age being by the end's own count
+abbrev pub clockChannelKey : Bool → Bool → KeyChoice → FirstSend → ℕ → Verdict
+clockChannelKey set busy choice first now =
+    refuseIf (both (not set) (choiceEnciphered choice)) ClockNotSet
+    (refuseIf busy ChannelTaken (refuseIf (choiceAged choice first now) KeyTooOld Accepted))
 
 -- the header of an envelope numbered n, at the sender's clock (01, Keys: EPAM, of LocalTime if unsynced)
 unfoldable pub envelopeHeader : ℕ → ℕ → ℕ → ℕ → Header

@@ -22,7 +22,7 @@ use Rattle.ends.specs.Records.{freshUnit, newOlt}
 use Rattle.ends.specs.Table.{registered, tableLlids, isRegistered, unitNamed, withOneMore}
 use Rattle.ends.specs.Validity.{validOlt}
 use Rattle.protocol.specs.Lift.{lift}
-use Rattle.protocol.specs.UnitCalls.{unitAdvanced, captureUnit, clockSendVerdict, clockSendUnit, offerVerdict, offerUnit, retryVerdict, retryUnit, acknowledgeVerdict, acknowledgeUnit}
+use Rattle.protocol.specs.UnitCalls.{unitAdvanced, captureUnit, measureUnit, clockSendVerdict, clockSendUnit, offerVerdict, offerUnit, retryVerdict, retryUnit, acknowledgeVerdict, acknowledgeUnit}
 use Rattle.ends.specs.declared.Identity.{Identity}
 use Rattle.ends.specs.declared.Shared.{Shared}
 use Rattle.ends.specs.declared.Olt.{Olt}
@@ -98,6 +98,18 @@ captureOrder o llid =
 
 unfoldable pub captureOf : Olt → ℕ → OltAnswer
 captureOf o llid = oltAnswer (lift o silent Accepted llid captureUnit)
+
+---- the round trip measured again: 1, 2 (02, C-16)
+
+unfoldable pub measureOrder : Olt → ℕ → ℕ → Verdict
+measureOrder o llid trip =
+    onValid (validOlt o)
+    (refuseIf (not (leb trip maxRoundTrip)) OutOfRange  -- 1
+    (refuseIf (not (isRegistered o llid)) UnknownLlid Accepted))  -- 2
+
+unfoldable pub measureOf : Olt → ℕ → ℕ → OltAnswer
+measureOf o llid trip =
+    oltAnswer (lift o silent (refuseIf (not (leb trip maxRoundTrip)) OutOfRange Accepted) llid (measureUnit trip))
 
 ---- clock send: 2, 8, 16
 

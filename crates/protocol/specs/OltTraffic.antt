@@ -19,7 +19,7 @@ use Rattle.protocol.specs.declared.Header.{Header}
 use Rattle.protocol.specs.declared.Passage.{Passage}
 use Rattle.protocol.specs.declared.Sending.{Sending}
 
----- send: 14, 1, 2, 12, 13
+---- send: 14, 1, 2, 5, 12, 13
 
 unfoldable pub sendOrder : Olt → Bool → ℕ → ℕ → Verdict
 sendOrder o misfit llid channel =
@@ -27,7 +27,7 @@ sendOrder o misfit llid channel =
     (refuseIf misfit BadLength  -- 14
     (refuseIf (not (downstream channel)) OutOfRange  -- 1
     (refuseIf (not (isRegistered o llid)) UnknownLlid  -- 2
-    (unitSendVerdict (o .shared) (unitNamed o llid) channel))))  -- 12, 13
+    (unitSendVerdict (o .shared) (unitNamed o llid) channel))))  -- 5, 12, 13
 
 unfoldable pub sendingOlt : Olt → Bool → ℕ → ℕ → ℕ → Reply Olt Sending
 sendingOlt o misfit llid channel eqs =

@@ -1,24 +1,25 @@
 -- The calls of the ONU but send and receive (01, Clock; Keys; 'When the reader says no'). Each gives number, end and what is handed
 -- over together. Assumes nothing.
 use mathlib.Core.Bool.{Bool, not}
-use Prim.Native.Nat.{ℕ, _+_}
+use Prim.Native.Nat.{ℕ, _+_, _-_, _%_}
 use lib.Dec.{leb, ltb, eqb}
 use Rattle.octets.specs.Choice.{both, either, pick}
 use Rattle.octets.specs.Lists.{same}
 use Rattle.refusal.specs.Number.{verdictNumber}
-use Rattle.refusal.specs.declared.Refusal.the-variants.{OutOfRange, UnknownLlid, RepeatedLlid, ClockNotSet, NothingOutstanding}
+use Rattle.refusal.specs.declared.Refusal.the-variants.{OutOfRange, UnknownLlid, RepeatedLlid, ClockNotSet, NothingOutstanding, AtEnd}
 use Rattle.refusal.specs.declared.Verdict.{Verdict}
 use Rattle.refusal.specs.declared.Verdict.the-variants.{Accepted}
 use Rattle.clock.specs.Ticks.{clockTurn, localTurn, advanced, localAdvanced, localOf}
 use Rattle.clock.specs.Stamping.{raisedTo}
 use Rattle.clock.specs.declared.Stamps.{Stamps}
-use Rattle.ends.specs.Limits.{maxKeyNumber}
+use Rattle.ends.specs.Limits.{maxKeyNumber, maxTimeChange}
 use Rattle.refusal.specs.Order.{refuseIf}
 use Rattle.ends.specs.Flags.{isUp}
 use Rattle.protocol.specs.Replies.{onValid, Silence, silent, Reply, reply, advanceVerdict}
 use Rattle.ends.specs.Keys.{keyIn, withKey}
+use Rattle.ends.specs.Travels.{wordTurn, validChanges, travelChanged}
 use Rattle.ends.specs.Identities.{noIdentity, distinct, llidsOf, has, validMac, validIdentity}
-use Rattle.ends.specs.Records.{newOnu, withOnuClock, withOnuKeys}
+use Rattle.ends.specs.Records.{unsyncedClock, newOnu, withOnuClock, withOnuKeys, withTravel}
 use Rattle.ends.specs.Validity.{validOnu}
 use Rattle.protocol.specs.Messages.{noAcknowledgement, ofClock, ofKey}
 use Rattle.ends.specs.declared.Identity.{Identity}
@@ -66,6 +67,7 @@ onuAdvanced o n =
       clock = onuClockAdvanced (o .clock) n;
       keys = o .keys;
       first = o .first;
+      travel = o .travel;
       channels = o .channels;
     }
 
@@ -74,6 +76,36 @@ advancingOnu o n = onuReply o silent (advanceVerdict (o .tick) n) (onuAdvanced o
 
 unfoldable pub advanceOnuOf : Onu → ℕ → OnuAnswer
 advanceOnuOf o n = onuAnswer (advancingOnu o n)
+
+---- a new LocalTime: 1, 17 (02, C-16)
+
+-- how far one LocalTime is ahead of another, modulo their turn
+unfoldable pub timeAhead : ℕ → ℕ → ℕ
+timeAhead new old = (new + (localTurn - old % localTurn)) % localTurn
+
+-- at most 1,000,000 either way
+unfoldable pub nearTime : ℕ → ℕ → Bool
+nearTime new old = either (leb (timeAhead new old) maxTimeChange) (leb (timeAhead old new) maxTimeChange)
+
+-- the sum of the changes, modulo 2^64, after the signed one from an old LocalTime to a new one
+unfoldable pub changesAfter : ℕ → ℕ → ℕ → ℕ
+changesAfter changes new old =
+    pick (leb (timeAhead new old) maxTimeChange) ((changes + timeAhead new old) % wordTurn) ((changes + (wordTurn - timeAhead old new)) % wordTurn)
+
+abbrev pub onuChanges : Onu → ℕ → ℕ
+onuChanges o time = changesAfter (o .travel .changes) time (o .clock .time)
+
+unfoldable pub newTimeVerdict : Onu → ℕ → Verdict
+newTimeVerdict o time =
+    refuseIf (not (both (ltb time localTurn) (nearTime time (o .clock .time)))) OutOfRange
+    (refuseIf (not (validChanges (onuChanges o time))) AtEnd Accepted)
+
+-- unsynced, Tx and Rx as before the first clock message
+unfoldable pub onuRetimed : Onu → ℕ → Onu
+onuRetimed o time = withOnuClock (withTravel o (travelChanged (o .travel) (onuChanges o time))) (unsyncedClock time)
+
+unfoldable pub newTimeOf : Onu → ℕ → OnuAnswer
+newTimeOf o time = onuAnswer (onuReply o silent (newTimeVerdict o time) (onuRetimed o time) silent)
 
 ---- clock message: 1
 

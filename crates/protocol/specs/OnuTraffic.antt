@@ -3,7 +3,7 @@
 use mathlib.Core.Bool.{Bool, not}
 use Prim.Native.Nat.{ℕ, _+_, _%_}
 use lib.Dec.{leb, eqb}
-use Rattle.octets.specs.Choice.{both, pick}
+use Rattle.octets.specs.Choice.{both, either, pick}
 use Rattle.refusal.specs.declared.Refusal.the-variants.{OutOfRange, UnknownLlid, ClockNotSet, NoKey, EpamDiffers, ClearEnvelope, BadLength}
 use Rattle.refusal.specs.declared.Verdict.{Verdict}
 use Rattle.clock.specs.Ticks.{epamOf}
@@ -11,11 +11,12 @@ use Rattle.refusal.specs.Order.{refuseIf}
 use Rattle.ends.specs.Flags.{isUp}
 use Rattle.protocol.specs.Replies.{Reply}
 use Rattle.ends.specs.Keys.{onlyKey, notNoted, firstSend}
+use Rattle.ends.specs.Travels.{travelOf, travelSpent, waits}
 use Rattle.envelope.specs.Channels.{downstream, upstream}
-use Rattle.ends.specs.Occupancy.{occupied}
+use Rattle.ends.specs.Occupancy.{taken, occupied}
 use Rattle.ends.specs.Identities.{has}
-use Rattle.ends.specs.Records.{withOnuKeys, withOnuFirst, withOnuChannels}
-use Rattle.protocol.specs.Headers.{validHeader, choiceVerdict, channelThenKey, passageOf, sendingOf, noPassage, noSending}
+use Rattle.ends.specs.Records.{withOnuKeys, withOnuFirst, withTravel, withOnuChannels}
+use Rattle.protocol.specs.Headers.{validHeader, choiceVerdict, choiceEnciphered, clockChannelKey, passageOf, sendingOf, noPassage, noSending}
 use Rattle.protocol.specs.OnuCalls.{onuReply}
 use Rattle.ends.specs.declared.OnuKeys.{OnuKeys}
 use Rattle.ends.specs.declared.Onu.{Onu}
@@ -25,30 +26,36 @@ use Rattle.protocol.specs.declared.KeyChoice.the-variants.{Clear, Curren
 use Rattle.protocol.specs.declared.Passage.{Passage}
 use Rattle.protocol.specs.declared.Sending.{Sending}
 
----- send: 14, 1, 2, 12, 13
+---- send: 14, 1, 2, 5, 12, 13
 
 -- key a, clear while a = 0
 unfoldable pub onuSendChoice : OnuKeys → KeyChoice
 onuSendChoice k = pick (eqb (k .active) 0) Clear (Current (k .active))
+
+-- the channel is taken, or an enciphered send waits, on either channel, for travel to pass those made before a change (02, C-16)
+unfoldable pub busyUp : Onu → ℕ → Bool
+busyUp o channel =
+    either (taken (o .channels) channel (o .tick)) (both (choiceEnciphered (onuSendChoice (o .keys))) (waits o))
 
 unfoldable pub onuSendVerdict : Onu → Bool → ℕ → ℕ → Verdict
 onuSendVerdict o misfit llid channel =
     refuseIf misfit BadLength
     (refuseIf (not (upstream channel)) OutOfRange
     (refuseIf (not (has (o .identity) llid)) UnknownLlid
-    (channelThenKey (o .channels) channel (onuSendChoice (o .keys)) (o .first) (o .tick))))
+    (clockChannelKey (isUp (o .clock .synced)) (busyUp o channel) (onuSendChoice (o .keys)) (o .first) (travelOf o))))
 
--- a send under a key may be its first
-unfoldable pub onuNoted : KeyChoice → Onu → Onu
-onuNoted Clear o = o
-onuNoted (Current n) o = withOnuFirst o (firstSend (o .first) (o .tick))
-onuNoted (Next n) o = o
-onuNoted (Barred r) o = o
+-- a send under a key may be its first, and keeps later ones waiting after a change of LocalTime
+unfoldable pub onuNoted : KeyChoice → ℕ → Onu → Onu
+onuNoted Clear eqs o = o
+onuNoted (Current n) eqs o =
+    withTravel (withOnuFirst o (firstSend (o .first) (travelOf o))) (travelSpent (o .travel) (travelOf o) eqs)
+onuNoted (Next n) eqs o = o
+onuNoted (Barred r) eqs o = o
 
 unfoldable pub onuAfterSend : Onu → ℕ → ℕ → Onu
-onuAfterSend o channel eqs = withOnuChannels (onuNoted (onuSendChoice (o .keys)) o) (occupied (o .channels) channel (o .tick) eqs)
+onuAfterSend o channel eqs = withOnuChannels (onuNoted (onuSendChoice (o .keys)) eqs o) (occupied (o .channels) channel (o .tick) eqs)
 
--- sealed with the unit's own MAC and its Tx clock, in whose place `time` is LocalTime while the unit is unsynced
+-- sealed with the unit's own MAC and its Tx clock
 unfoldable pub sendingOnu : Onu → Bool → ℕ → ℕ → ℕ → Reply Onu Sending
 sendingOnu o misfit llid channel eqs =
     onuReply o noSending (onuSendVerdict o misfit llid channel) (onuAfterSend o channel eqs)

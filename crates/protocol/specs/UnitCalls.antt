@@ -18,7 +18,7 @@ use Rattle.protocol.specs.Replies.{Silence, silent}
 use Rattle.ends.specs.Timers.{timerAdvanced}
 use Rattle.ends.specs.Keys.{keyIn, withKey}
 use Rattle.protocol.specs.Messages.{clockKind, keyKind}
-use Rattle.ends.specs.Records.{withKeys, withConfirmation, withClock, withTimer}
+use Rattle.ends.specs.Records.{withKeys, withConfirmation, withClock, newUnitClock, withTimer}
 use Rattle.protocol.specs.Lift.{Outcome, outcome}
 use Rattle.ends.specs.declared.UnitKeys.{UnitKeys}
 use Rattle.ends.specs.declared.UnitClock.{UnitClock}
@@ -38,6 +38,11 @@ clockCaptured c tick = record { trip = c .trip; captured = 1; tick = tick; sent 
 
 unfoldable pub captureUnit : Shared → UnitRecord → Outcome Silence
 captureUnit s u = outcome s Accepted (withClock u (clockCaptured (u .clock) (s .tick))) silent
+
+---- the round trip measured again (02, C-16): capture, sent and acknowledged are forgotten
+
+unfoldable pub measureUnit : ℕ → Shared → UnitRecord → Outcome Silence
+measureUnit trip s u = outcome s Accepted (withClock u (newUnitClock trip)) silent
 
 ---- clock send: 8, 16
 

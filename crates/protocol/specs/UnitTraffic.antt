@@ -10,10 +10,10 @@ use Rattle.refusal.specs.Order.{refuseIf}
 use Rattle.ends.specs.Flags.{isUp}
 use Rattle.ends.specs.Timers.{timerFallen}
 use Rattle.ends.specs.Keys.{onlyKey, notedAt, firstSend}
-use Rattle.ends.specs.Occupancy.{occupied}
+use Rattle.ends.specs.Occupancy.{taken, occupied}
 use Rattle.ends.specs.Records.{withKeys, withConfirmation, withSlots, withFirst}
 use Rattle.protocol.specs.Lift.{Outcome, outcome}
-use Rattle.protocol.specs.Headers.{choiceVerdict, channelThenKey, passageOf, sendingOf}
+use Rattle.protocol.specs.Headers.{choiceVerdict, clockChannelKey, passageOf, sendingOf}
 use Rattle.ends.specs.declared.UnitKeys.{UnitKeys}
 use Rattle.ends.specs.declared.UnitRecord.{UnitRecord}
 use Rattle.ends.specs.declared.Shared.{Shared}
@@ -23,7 +23,7 @@ use Rattle.protocol.specs.declared.KeyChoice.the-variants.{Clear, Curren
 use Rattle.protocol.specs.declared.Passage.{Passage}
 use Rattle.protocol.specs.declared.Sending.{Sending}
 
----- send: 12, 13
+---- send: 5, 12, 13
 
 -- the next accepted send switches
 unfoldable pub switches : UnitRecord → Bool
@@ -35,7 +35,8 @@ unfoldable pub unitSendChoice : UnitRecord → KeyChoice
 unitSendChoice u = pick (switches u) (Next (u .keys .offered)) (pick (eqb (u .keys .active) 0) Clear (Current (u .keys .active)))
 
 unfoldable pub unitSendVerdict : Shared → UnitRecord → ℕ → Verdict
-unitSendVerdict s u channel = channelThenKey (s .channels) channel (unitSendChoice u) (u .keys .first) (s .tick)
+unitSendVerdict s u channel =
+    clockChannelKey (isUp (u .clock .acknowledged)) (taken (s .channels) channel (s .tick)) (unitSendChoice u) (u .keys .first) (s .tick)
 
 -- A becomes O, the flag falls, and this is the key's first send
 unfoldable pub keysSwitched : UnitKeys → ℕ → UnitKeys

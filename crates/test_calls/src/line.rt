@@ -1,5 +1,5 @@
 // An OLT and one unit, 150 ticks apart downwards and 100 upwards: both are set up, set the clock, bring key 1 into use and send both ways,
-// clear and sealed. The OLT's clock passes 2^48 on the way. Then a group of that unit does the same downwards.
+// clear and sealed. The OLT's clock passes 2^48 on the way. Then a group of that unit does the same downwards, and the unit's path changes.
 use crate::olt_calls;
 use crate::onu_calls;
 use crate::values;
@@ -37,20 +37,29 @@ fn start() -> Line {
     ends_of(olt, onu)
 }
 
-fn down(l: Line, llid: u16, channel: u8) -> Line {
+// The envelope arrives so many ticks later.
+fn down_after(l: Line, llid: u16, channel: u8, ticks: u64) -> Line {
     let mut octets = values::lent();
     let sent = olt_calls::send(l.olt, llid, channel, &mut octets);
-    let there = advance(ends_of(sent.head, l.onu), 150);
+    let there = advance(ends_of(sent.head, l.onu), ticks);
     let onu = onu_calls::receive(there.onu, sent.header, &octets);
     ends_of(there.olt, onu)
 }
 
-fn up(l: Line, llid: u16, channel: u8) -> Line {
+fn up_after(l: Line, llid: u16, channel: u8, ticks: u64) -> Line {
     let mut octets = values::lent();
     let sent = onu_calls::send(l.onu, llid, channel, &mut octets);
-    let there = advance(ends_of(l.olt, sent.subscriber), 100);
+    let there = advance(ends_of(l.olt, sent.subscriber), ticks);
     let olt = olt_calls::receive(there.olt, sent.header, &octets);
     ends_of(olt, there.onu)
+}
+
+fn down(l: Line, llid: u16, channel: u8) -> Line {
+    down_after(l, llid, channel, 150)
+}
+
+fn up(l: Line, llid: u16, channel: u8) -> Line {
+    up_after(l, llid, channel, 100)
 }
 
 // The unit takes the clock message, and the OLT its acknowledgement.
@@ -145,15 +154,59 @@ fn up_refused(l: Line) {
 }
 
 // Clear, sealed, and upwards, where the group's LLID is refused at both ends.
-fn view(l: Line) {
+fn view(l: Line) -> Line {
     let clear = down(join_group(l), 7, 0x00);
     let sealed = down(advance(give_group_key(clear), 1000), 7, 0x01);
     up_refused(sealed);
+    sealed
+}
+
+// A send of the unit whose envelope does not arrive.
+fn up_lost(l: Line, llid: u16, channel: u8) -> Line {
+    let mut octets = values::lent();
+    let sent = onu_calls::send(l.onu, llid, channel, &mut octets);
+    ends_of(l.olt, sent.subscriber)
+}
+
+// The group's LLID, and a round trip that is too long; then 10 ticks down and 20 up, so that LocalTime goes back by 80.
+fn move_path(l: Line) -> Line {
+    let grouped = olt_calls::measure(l.olt, 7, 30);
+    let long = olt_calls::measure(grouped, 5, 1_000_001);
+    let olt = olt_calls::measure(long, 5, 30);
+    let clock = std::num::wrapping_add_u64(olt.olt.shared.clock, 20);
+    let far = onu_calls::new_time(l.onu, 0x1_0000_0000);
+    let onu = onu_calls::new_time(far, clock % 0x1_0000_0000);
+    ends_of(olt, onu)
+}
+
+// No clock at either end.
+fn unset(l: Line) -> Line {
+    let mut octets = values::lent();
+    olt_calls::send(l.olt, 5, 0x00, &mut octets);
+    up_lost(l, 5, 0x80)
+}
+
+// Captured and sent at once. The unit has a clock again, which has not passed the end of its last envelope when the message is there, and has when
+// its next goes.
+fn set_clock_again(l: Line) -> Line {
+    let captured = olt_calls::capture(l.olt, 5);
+    let sent = olt_calls::clock_send(captured, 5);
+    let there = advance(ends_of(sent.head, l.onu), 10);
+    let set = onu_calls::clock_message(there.onu, sent.message);
+    let waiting = up_lost(ends_of(there.olt, set.subscriber), 6, 0x81);
+    let back = advance(waiting, 20);
+    let olt = olt_calls::acknowledge(back.olt, 5, set.answer);
+    advance(ends_of(olt, back.onu), 54)
+}
+
+fn move_and_go_on(l: Line) {
+    let moved = unset(move_path(up_lost(l, 5, 0x80)));
+    down_after(up_after(set_clock_again(moved), 6, 0x81, 20), 5, 0x00, 10);
 }
 
 pub(crate) fn play() {
     let done = switch(give_key(set_clock(clear())));
     olt_refusals(done.olt);
     onu_refusals(done.onu);
-    view(done);
+    move_and_go_on(view(done));
 }

@@ -8,6 +8,7 @@ use jazmotip::at_olt::jazmotip_olt_advance;
 use jazmotip::at_olt::jazmotip_olt_capture;
 use jazmotip::at_olt::jazmotip_olt_clock_send;
 use jazmotip::at_olt::jazmotip_olt_fresh;
+use jazmotip::at_olt::jazmotip_olt_measure;
 use jazmotip::at_olt::jazmotip_olt_offer;
 use jazmotip::at_olt::jazmotip_olt_receive;
 use jazmotip::at_olt::jazmotip_olt_register;
@@ -58,6 +59,12 @@ pub(crate) fn advance(olt: HeadEnd, n: u64) -> HeadEnd {
 pub(crate) fn capture(olt: HeadEnd, llid: u16) -> HeadEnd {
     let answer = jazmotip_olt_capture(olt, llid);
     show::row(b"olt_capture", answer.number);
+    answer.head
+}
+
+pub(crate) fn measure(olt: HeadEnd, llid: u16, trip: u64) -> HeadEnd {
+    let answer = jazmotip_olt_measure(olt, llid, trip);
+    show::row(b"olt_measure", answer.number);
     answer.head
 }
 

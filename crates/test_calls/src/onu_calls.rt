@@ -8,6 +8,7 @@ use jazmotip::at_onu::jazmotip_onu_clock_message;
 use jazmotip::at_onu::jazmotip_onu_fresh;
 use jazmotip::at_onu::jazmotip_onu_join;
 use jazmotip::at_onu::jazmotip_onu_key_message;
+use jazmotip::at_onu::jazmotip_onu_new_time;
 use jazmotip::at_onu::jazmotip_onu_receive;
 use jazmotip::at_onu::jazmotip_onu_send;
 use multicast::SubscriberAcknowledged;
@@ -42,6 +43,17 @@ pub(crate) fn advance(onu: Subscriber, n: u64) -> Subscriber {
     let answer = advanced(onu, n);
     show::begin(b"onu_advance", answer.number);
     show::decimal(answer.subscriber.onu.tick);
+    show::stamps(
+        answer.subscriber.onu.clock.rx,
+        answer.subscriber.onu.clock.time,
+    );
+    show::end();
+    answer.subscriber
+}
+
+pub(crate) fn new_time(onu: Subscriber, time: u64) -> Subscriber {
+    let answer = jazmotip_onu_new_time(onu, time);
+    show::begin(b"onu_new_time", answer.number);
     show::stamps(
         answer.subscriber.onu.clock.rx,
         answer.subscriber.onu.clock.time,

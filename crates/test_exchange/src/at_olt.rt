@@ -174,7 +174,7 @@ fn unit_field(unit: UnitRecord, k: usize, n: Numbers) -> UnitRecord {
         23 => u.keys.timer.count = value,
         24 => u.keys.timer.flag = low,
         25 => u.keys.first.noted = low,
-        26 => u.keys.first.tick = value,
+        26 => u.keys.first.at = value,
         27 => u.confirmation.acknowledged = low,
         28 => u.clock.trip = value,
         29 => u.clock.captured = low,
@@ -216,7 +216,7 @@ fn group_field(group: GroupRecord, k: usize, n: Numbers) -> GroupRecord {
         39 => g.keys.timer.count = value,
         40 => g.keys.timer.flag = low,
         41 => g.keys.first.noted = low,
-        42 => g.keys.first.tick = value,
+        42 => g.keys.first.at = value,
         43 => g.keys.active = number,
         44 => g.keys.offered = number,
         45 => members.count = low,
@@ -277,6 +277,7 @@ fn answer(h: HeadEnd, aim: Aim, k: usize, n: Numbers, under_way: Answer) -> Head
         12 => timer_flag(h),
         34 => register_group(h, n),
         35 => viewers(n),
+        48 => at_head::measure(h, llid, n.b),
         _ => with_field(h, aim, k, n),
     }
 }
@@ -363,16 +364,17 @@ fn passed(before: OltPassed, k: usize, n: Numbers, aim: Aim, carried: Envelope) 
 // `register_group` takes LLID, interval, how many members, and three LLIDs that name them; each one after is four higher than the one
 // before. `viewers` starts from two units and a group of both, LLID 9, at A and O. `receive` gives a header with the payload that is
 // spoken of, `take` an envelope that is under way; `acknowledge` gives any acknowledgement, `arrive` the one under way. `timer` makes the
-// flag of the timer the row's number. From `mac` on the words set fields, those of a group from `groups` on: `marked` is the mark that the
-// offer is acknowledged, `sent` and `clocked` that the clock is sent and acknowledged.
+// flag of the timer the row's number. `measure` takes LLID and round trip. From `mac` to `identity` and from `groups` to `group_mark` words
+// set fields:
+// `marked` is the mark that the offer is acknowledged, `sent` and `clocked` that the clock is sent and acknowledged.
 pub(crate) fn command(p: Play, s: &[u8], at: usize, to: usize, n: Numbers) -> Play {
     let k = script::word(
         s,
         at,
         to,
-        b"send receive take fresh register advance capture acknowledge arrive one keyed full timer clock_send offer retry mac tick clock channel0 channel1 units interval count flag noted first marked trip captured captured_at sent clocked identity register_group viewers groups group_llid group_interval group_count group_flag group_noted group_first group_active group_offered members member group_mark",
+        b"send receive take fresh register advance capture acknowledge arrive one keyed full timer clock_send offer retry mac tick clock channel0 channel1 units interval count flag noted first marked trip captured captured_at sent clocked identity register_group viewers groups group_llid group_interval group_count group_flag group_noted group_first group_active group_offered members member group_mark measure",
     );
-    script::mark(k > 47, b'?');
+    script::mark(k > 48, b'?');
     let asked = answer(p.head, p.aim, k, n, p.acknowledgement);
     let timed = clock_sent(asked, k, script::u16_of(n.a), p.stamps);
     let keyed = key_sent(timed, k, n, p.message);

@@ -80,6 +80,7 @@ fn with_joined_field(s: Subscriber, place: usize, k: usize, value: u64) -> Subsc
 fn unit_field(o: Onu, k: usize, n: Numbers) -> Onu {
     let value = n.a;
     let low = script::u8_of(value);
+    let travel = values::travelled(value);
     let identity = values::identity(n);
     let mut onu = o;
     match k {
@@ -87,12 +88,15 @@ fn unit_field(o: Onu, k: usize, n: Numbers) -> Onu {
         11 => onu.channels.zero = value,
         12 => onu.channels.one = value,
         13 => onu.first.noted = low,
-        14 => onu.first.tick = value,
+        14 => onu.first.at = travel,
         15 => onu.clock.synced = low,
         16 => onu.clock.time = value,
         17 => onu.clock.rx = value,
         18 => onu.oltmac = value,
         19 => onu.identity = identity,
+        26 => onu.travel.changes = value,
+        27 => onu.travel.spent = travel,
+        28 => onu.travel.bar = travel,
         _ => {}
     }
     onu
@@ -114,6 +118,7 @@ fn answer(s: Subscriber, place: usize, k: usize, n: Numbers) -> SubscriberAnswer
         4 => at_subscriber::advance(s, n.a),
         5 => keyed(script::u32_of(n.a), script::u8_of(n.b), n.c),
         20 => at_subscriber::join(s, script::u16_of(n.a)),
+        29 => at_subscriber::new_time(s, n.a),
         _ => with_field(s, place, k, n),
     }
 }
@@ -200,14 +205,15 @@ fn passed(before: OnuPassed, k: usize, n: Numbers, aim: Aim, carried: Envelope) 
     }
 }
 
+// `changes`, `spent` and `bar` set the fields of travel, `first` and these last two by travel from zero.
 pub(crate) fn command(p: Play, s: &[u8], at: usize, to: usize, n: Numbers) -> Play {
     let k = script::word(
         s,
         at,
         to,
-        b"send receive take fresh advance keyed clock_message clock_arrives key_message key_arrives tick channel0 channel1 noted first synced time rx olt_mac identity join groups joined_llid joined_active joined_held joined_kept",
+        b"send receive take fresh advance keyed clock_message clock_arrives key_message key_arrives tick channel0 channel1 noted first synced time rx olt_mac identity join groups joined_llid joined_active joined_held joined_kept changes spent bar new_time",
     );
-    script::mark(k > 25, b'?');
+    script::mark(k > 29, b'?');
     let asked = answer(play::unit(p), p.aim.group, k, n);
     let taken = acknowledged(asked, k, n, p.stamps, p.message, p.acknowledgement);
     let subscriber = taken.subscriber;

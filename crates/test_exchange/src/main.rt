@@ -1,7 +1,7 @@
 // Plays the script on standard input: exchanges between an OLT and two units, of clocks and keys and of envelopes, their own and of groups,
-// with losses, retries and switches; every refusal of the calls of both ends; and what the readings of 01 and of 02, C-14, tell apart. A
-// line is a remark (#), a title, or a row: its label, what is played, and after the colon what is shown of it. What it must print is made
-// by tools/test_exchange.py.
+// with losses, retries, switches and new paths; every refusal of the calls of both ends; and what the readings of 01 and of 02, C-14 and
+// C-16, tell apart. A line is a remark (#), a title, or a row: its label, what is played, and after the colon what is shown of it. What it
+// must print is made by tools/test_exchange.py.
 mod at_olt;
 mod at_onu;
 mod named;
@@ -11,6 +11,8 @@ mod show;
 mod values;
 
 ghost use Prim.Native.Nat.{_≤_};
+ghost use lib.ListN.{length};
+ghost use mathlib.Core.Path.{_≡_};
 use play::Play;
 
 // Before the colon, a word with the numbers after it; after it, what is shown. Numbers go with the word before them.
@@ -57,8 +59,15 @@ fn play_all(s: &[u8]) {
     }
 }
 
+// For the script, which is above the 65,536 octets of `io::large_buffer`.
+fn room() -> [u8; 131072]
+    ensures { λ r. ⌜ 131072 ≡ length r ⌝ }
+{
+    [0; 131072]
+}
+
 fn main() {
-    let mut text = io::large_buffer();
+    let mut text = room();
     let n = io::read_full(0, &mut text);
     play_all(&text[..n]);
 }

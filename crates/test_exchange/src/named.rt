@@ -37,8 +37,11 @@ fn at_onu(s: Subscriber, kind: u8, k: usize) -> u64 {
         o.keys.held as u64,
         o.clock.time,
         kind as u64,
+        o.travel.changes,
+        o.travel.spent,
+        o.travel.bar,
     ];
-    values[std::num::wrapping_sub_usize(k, 5) % 9]
+    values[std::num::wrapping_sub_usize(k, 5) % 12]
 }
 
 fn value(p: Play, u: UnitRecord, k: usize) -> u64 {
@@ -48,15 +51,15 @@ fn value(p: Play, u: UnitRecord, k: usize) -> u64 {
     at_onu(play::unit(p), p.acknowledgement.kind, k)
 }
 
-// The first ten are the OLT's, the last nine a unit's.
+// The first ten are the OLT's, the last twelve a unit's.
 pub(crate) fn show(p: Play, u: UnitRecord, s: &[u8], at: usize, to: usize) {
     let k = script::word(
         s,
         at,
         to,
-        b"clock units count flag acknowledged MAC tick Rx Tx groups LLIDs held LocalTime kind",
+        b"clock units count flag acknowledged MAC tick Rx Tx groups LLIDs held LocalTime kind changes spent bar",
     );
-    script::mark(k > 13, b'?');
+    script::mark(k > 16, b'?');
     script::put(b',');
     script::put(b' ');
     script::write(s, at, to);

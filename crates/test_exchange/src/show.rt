@@ -4,6 +4,7 @@ use crate::play;
 use crate::play::Envelope;
 use crate::play::Play;
 use crate::script;
+use crate::values;
 use clock::Stamps;
 use ends::Channels;
 use ends::Onu;
@@ -106,7 +107,7 @@ fn record(u: UnitRecord, free: Channels) {
             u.confirmation.acknowledged as u64,
             u.keys.timer.flag as u64,
             wide(u.keys.first.noted),
-            u.keys.first.tick,
+            u.keys.first.at,
             free.zero,
             free.one,
         ],
@@ -120,7 +121,7 @@ fn unit(o: Onu) {
             o.keys.active as u64,
             o.keys.held as u64,
             o.first.noted as u64,
-            o.first.tick,
+            values::first_travel(o.first),
             o.channels.zero,
             o.channels.one,
             0,
@@ -197,7 +198,7 @@ fn group(g: GroupRecord, free: Channels) {
             g.keys.offered as u64,
             g.keys.timer.flag as u64,
             wide(g.keys.first.noted),
-            g.keys.first.tick,
+            g.keys.first.at,
             free.zero,
             free.one,
             0,

@@ -1,8 +1,10 @@
 // Names, keys, payloads and headers.
 use crate::script;
 use crate::script::Numbers;
+use ends::FirstSend;
 use ends::Identity;
 use ends::Slots;
+use ends::limits::MAX_CHANGES;
 use groups::Answer;
 use groups::Roster;
 use protocol::Header;
@@ -26,6 +28,19 @@ pub(crate) fn identity(n: Numbers) -> Identity {
         llids: [script::u16_of(n.b), script::u16_of(n.c), 7, 8],
         count: script::u8_of(n.d),
     }
+}
+
+// A unit counts travel from 2^61 below zero.
+pub(crate) fn travelled(travel: u64) -> u64 {
+    std::num::wrapping_add_u64(travel, MAX_CHANGES)
+}
+
+// The same from zero, of a first send that is noted.
+pub(crate) fn first_travel(first: FirstSend) -> u64 {
+    if first.noted == 0 {
+        return first.at;
+    }
+    std::num::wrapping_sub_u64(first.at, MAX_CHANGES)
 }
 
 // A key by its first octet; 0 is the key of zeros.

@@ -25,12 +25,12 @@ use Rattle.sealing.specs.Payload.{sealed}
 use Rattle.sealing.specs.Seal.{carried, countCarried, runsCarried, sealingAfter, sealing}
 use Rattle.ends.specs.Identities.{validMac, validIdentity}
 use Rattle.protocol.specs.Replies.{reply}
-use Rattle.protocol.specs.Headers.{noPassage}
+use Rattle.protocol.specs.Headers.{choiceEnciphered, noPassage}
 use Rattle.ends.specs.declared.Identity.{Identity}
 use Rattle.protocol.specs.declared.Passage.{Passage}
 use Rattle.envelope.specs.Channels.{channelFits, downstream, upstream}
 use Rattle.traffic.specs.declared.carrying.Work.{Work}
-use Rattle.traffic.specs.Passages.{misfit, choiceEnciphered, passed, passedCount, passedRuns, passedWork, outputAfter, carriedAfter}
+use Rattle.traffic.specs.Passages.{misfit, passed, passedCount, passedRuns, passedWork, outputAfter, carriedAfter}
 
 -- a payload whose length is not refused has at most the most EQs
 pub few-eqs : (p out : List ℕ) → misfit p out ≡ false → eqsOf p ≤ maxEqs

@@ -20,7 +20,7 @@ use Rattle.protocol.specs.Replies.{onValid, Reply}
 use Rattle.ends.specs.Table.{unitAt, withUnit}
 use Rattle.ends.specs.Validity.{validOlt, validOnu}
 use Rattle.protocol.specs.Lift.{Outcome, outcome}
-use Rattle.protocol.specs.Headers.{passageOf, noPassage}
+use Rattle.protocol.specs.Headers.{choiceEnciphered, passageOf, noPassage}
 use Rattle.protocol.specs.UnitTraffic.{receiveUnit}
 use Rattle.protocol.specs.OltTraffic.{receiveOrder, receivingOlt}
 use Rattle.protocol.specs.OnuCalls.{onuReply}
@@ -46,7 +46,7 @@ use Rattle.olt.specs.Lookup.{locatedOf}
 use Rattle.olt.specs.declared.Located.{Located}
 use Rattle.olt.proofs.Lookup.{lift-decided, reaches}
 use Rattle.traffic.specs.declared.carrying.Work.{Work}
-use Rattle.traffic.specs.Passages.{misfit, choiceEnciphered, passageNonce, passed, passedCount, passedRuns, passedWork, outputAfter, carriedAfter}
+use Rattle.traffic.specs.Passages.{misfit, passageNonce, passed, passedCount, passedRuns, passedWork, outputAfter, carriedAfter}
 use Rattle.traffic.specs.Receipts.{oltReceived, oltReceiveOf, onuReceived, onuNotReceived, onuReceiveOf}
 use Rattle.traffic.specs.declared.OltReceived.{OltReceived}
 use Rattle.traffic.specs.declared.OnuReceived.{OnuReceived}

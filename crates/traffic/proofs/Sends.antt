@@ -19,7 +19,7 @@ use Rattle.protocol.specs.Replies.{Reply}
 use Rattle.ends.specs.Table.{unitAt, withUnit}
 use Rattle.ends.specs.Validity.{validOlt}
 use Rattle.protocol.specs.Lift.{Outcome}
-use Rattle.protocol.specs.Headers.{passageOf, sendingOf, noSending}
+use Rattle.protocol.specs.Headers.{choiceEnciphered, passageOf, sendingOf, noSending}
 use Rattle.protocol.specs.UnitTraffic.{sendUnit}
 use Rattle.protocol.specs.OltTraffic.{sendOrder, sendingOlt}
 use Rattle.protocol.specs.OnuCalls.{onuReply}
@@ -41,7 +41,7 @@ use Rattle.olt.specs.Lookup.{locatedOf}
 use Rattle.olt.specs.declared.Located.{Located}
 use Rattle.olt.proofs.Lookup.{lift-decided, reaches}
 use Rattle.traffic.specs.declared.carrying.Work.{Work}
-use Rattle.traffic.specs.Passages.{misfit, choiceEnciphered, passageNonce, passed, passedCount, passedRuns, passedWork, outputAfter, carriedAfter}
+use Rattle.traffic.specs.Passages.{misfit, passageNonce, passed, passedCount, passedRuns, passedWork, outputAfter, carriedAfter}
 use Rattle.traffic.specs.Sends.{oltSent, oltSendOf, onuSent, onuSendOf}
 use Rattle.traffic.specs.declared.OltSent.{OltSent}
 use Rattle.traffic.specs.declared.OnuSent.{OnuSent}

@@ -1,5 +1,5 @@
 -- What an end's decision makes of a payload (01, Counter block and mask; Keys). Assumes nothing.
-use mathlib.Core.Bool.{Bool, true, false, not}
+use mathlib.Core.Bool.{Bool, not}
 use mathlib.Core.List.{List}
 use Prim.Native.Nat.{ℕ}
 use lib.ListN.{length}
@@ -11,20 +11,13 @@ use Rattle.envelope.specs.Acceptance.{lengthsFit, sealVerdict}
 use Rattle.envelope.specs.declared.Nonce.{Nonce}
 use Rattle.sealing.specs.KeyExpansion.{keyExpansion}
 use Rattle.sealing.specs.Seal.{carried, countCarried, runsCarried}
-use Rattle.protocol.specs.declared.KeyChoice.{KeyChoice}
-use Rattle.protocol.specs.declared.KeyChoice.the-variants.{Clear, Current, Next, Barred}
+use Rattle.protocol.specs.Headers.{choiceEnciphered}
 use Rattle.protocol.specs.declared.Passage.{Passage}
 use Rattle.traffic.specs.declared.carrying.Work.{Work}
 
 -- 14: the lengths of payload and output
 unfoldable pub misfit : List ℕ → List ℕ → Bool
 misfit p out = not (lengthsFit (length p) (length out))
-
-unfoldable pub choiceEnciphered : KeyChoice → Bool
-choiceEnciphered Clear = false
-choiceEnciphered (Current n) = true
-choiceEnciphered (Next n) = true
-choiceEnciphered (Barred r) = false
 
 abbrev pub passageNonce : ℕ → Passage → Nonce
 passageNonce channel q = record { channel = channel; mac = q .mac; clock = q .clock }

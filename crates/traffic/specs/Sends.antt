@@ -1,10 +1,11 @@
--- Send at both ends: number, end, header, count and output together (01, Keys; 'When the reader says no': 14, 1, 2, 12, 13).
+-- Send at both ends: number, end, header, count and output together (01, Keys; 'When the reader says no': 14, 1, 2, 5, 12, 13).
 -- p is the payload, out the output as it was lent. Assumes nothing.
 use mathlib.Core.List.{List}
 use Prim.Native.Nat.{ℕ}
 use Rattle.octets.specs.Output.{WithOutput}
-use Rattle.refusal.specs.Number.{numberOf, verdictNumber}
+use Rattle.refusal.specs.Number.{verdictNumber}
 use Rattle.refusal.specs.declared.Refusal.{Refusal}
+use Rattle.refusal.specs.declared.Verdict.the-variants.{Refused}
 use Rattle.envelope.specs.ControlMask.{eqsOf}
 use Rattle.protocol.specs.Replies.{Reply}
 use Rattle.protocol.specs.Headers.{noSending}
@@ -52,6 +53,9 @@ onuSent r channel p out =
 -- what an ONU's send decides, but for its octets
 unfoldable pub onuSending : Reply Onu Sending → OnuSending
 onuSending r = record { verdict = r .verdict; onu = r .end; sending = r .handed }
+
+unfoldable pub onuNotSending : Onu → Refusal → OnuSending
+onuNotSending o r = record { verdict = Refused r; onu = o; sending = noSending }
 
 unfoldable pub onuSendOf : Onu → ℕ → ℕ → List ℕ → List ℕ → WithOutput OnuSent
 onuSendOf o llid channel p out = onuSent (sendingOnu o (misfit p out) llid channel (eqsOf p)) channel p out

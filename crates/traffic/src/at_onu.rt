@@ -2,15 +2,16 @@
 ghost use mathlib.Core.Path.{_≡_};
 ghost use mathlib.Core.Bool.{true, false};
 ghost use Prim.Native.Nat.{ℕ, _≤_, _<_};
-ghost use Rattle.clock.specs.Ticks.{maxTick};
 ghost use Rattle.octets.specs.Eqs.{maxEqs};
 ghost use Rattle.ends.specs.Limits.{maxKeyNumber};
-ghost use Rattle.protocol.specs.OnuTraffic.{onuMoved, onuReceiveChoice, onuReceiveVerdict, onuAfterReceipt, receivingOnu, onuSendChoice, onuSendVerdict, onuAfterSend, sendingOnu};
-ghost use Rattle.protocol.specs.Replies.{onValid};
+ghost use Rattle.ends.specs.Travels.{travelOf};
+ghost use Rattle.protocol.specs.OnuTraffic.{onuMoved, onuReceiveChoice, onuReceiveVerdict, onuAfterReceipt, receivingOnu, onuSendChoice, busyUp, onuSendVerdict, onuAfterSend, sendingOnu};
 ghost use Rattle.ends.specs.Validity.{validOnu, validOnuKeys};
 ghost use Rattle.protocol.specs.declared.KeyChoice.the-variants.{Next};
 ghost use Rattle.traffic.specs.Receipts.{onuReceiving, onuNotReceiving};
-ghost use Rattle.traffic.specs.Sends.{onuSending};
+ghost use Rattle.traffic.specs.Sends.{onuSending, onuNotSending};
+use crate::travelling::spent;
+use crate::travelling::travel;
 use clock::epam_of;
 use ends::FirstSend;
 use ends::Onu;
@@ -52,34 +53,51 @@ fn send_choice(keys: OnuKeys) -> KeyChoice
     KeyChoice::Current(keys.active)
 }
 
-// 1 for a lent end that is not valid, then what the send refuses.
-fn send_verdict(onu: Onu, misfit: bool, llid: u16, channel: u8, choice: KeyChoice) -> Verdict
+// The channel is taken, or an enciphered send waits for travel to pass those made before a change of LocalTime (02, C-16).
+fn busy(onu: Onu, channel: u8, choice: KeyChoice, now: u64) -> bool
     requires { ⌜ choice ≡ onuSendChoice (onu .keys) ⌝ }
-    ensures { λ r. ⌜ r ≡ onValid (validOnu onu) (onuSendVerdict onu misfit llid channel) ⌝ }
+    requires { ⌜ now ≡ travelOf onu ⌝ }
+    ensures { λ r. ⌜ r ≡ busyUp onu channel ⌝ }
 {
-    let valid = valid_onu(onu);
+    let taken = passing::taken(onu.channels, channel, onu.tick);
+    let sealed = passing::is_enciphered(choice);
+    taken | (sealed & (now < onu.travel.bar))
+}
+
+// What a send at a valid end refuses.
+fn send_verdict(
+    onu: Onu,
+    misfit: bool,
+    llid: u16,
+    channel: u8,
+    choice: KeyChoice,
+    now: u64,
+) -> Verdict
+    requires { ⌜ choice ≡ onuSendChoice (onu .keys) ⌝ }
+    requires { ⌜ now ≡ travelOf onu ⌝ }
+    ensures { λ r. ⌜ r ≡ onuSendVerdict onu misfit llid channel ⌝ }
+{
     let right = upstream(channel);
     let known = has(onu.identity, llid);
-    let rest = passing::channel_then_key(onu.channels, channel, choice, onu.first, onu.tick);
+    let set = onu.clock.synced == 1;
+    let held = busy(onu, channel, choice, now);
+    let rest = passing::clock_channel_key(set, held, choice, onu.first, now);
     refuse_if(
-        !valid,
-        Refusal::OutOfRange,
+        misfit,
+        Refusal::BadLength,
         refuse_if(
-            misfit,
-            Refusal::BadLength,
-            refuse_if(
-                !right,
-                Refusal::OutOfRange,
-                refuse_if(!known, Refusal::UnknownLlid, rest),
-            ),
+            !right,
+            Refusal::OutOfRange,
+            refuse_if(!known, Refusal::UnknownLlid, rest),
         ),
     )
 }
 
 // The end that a send leaves, where it is accepted.
-fn after_send(choice: KeyChoice, onu: Onu, channel: u8, eqs: u64) -> Onu
+fn after_send(choice: KeyChoice, onu: Onu, channel: u8, eqs: u64, now: u64) -> Onu
     requires { ⌜ choice ≡ onuSendChoice (onu .keys) ⌝ }
-    requires { ⌜ onu .tick ≤ maxTick ⌝ }
+    requires { ⌜ now ≡ travelOf onu ⌝ }
+    requires { ⌜ validOnu onu ≡ true ⌝ }
     requires { ⌜ eqs ≤ maxEqs ⌝ }
     ensures { λ r. ⌜ r ≡ onuAfterSend onu channel eqs ⌝ }
 {
@@ -89,7 +107,8 @@ fn after_send(choice: KeyChoice, onu: Onu, channel: u8, eqs: u64) -> Onu
     match choice {
         KeyChoice::Clear => r,
         KeyChoice::Current(_) => {
-            r.first = passing::first_send(onu.first, onu.tick);
+            r.first = passing::first_send(onu.first, now);
+            r.travel = spent(onu.travel, now, eqs);
             r
         }
         KeyChoice::Next(_) => r,
@@ -97,16 +116,31 @@ fn after_send(choice: KeyChoice, onu: Onu, channel: u8, eqs: u64) -> Onu
     }
 }
 
-// A send, but for its octets: the key is chosen once, and the verdict, the end and the header follow from that choice.
+fn not_sent(onu: Onu, refusal: Refusal) -> OnuSending
+    ensures { λ r. ⌜ r ≡ onuNotSending onu refusal ⌝ }
+{
+    let sending = passing::no_sending();
+    OnuSending {
+        verdict: Verdict::Refused(refusal),
+        onu,
+        sending,
+    }
+}
+
+// A send, but for its octets: 1 for a lent end that is not valid; then the key is chosen and travel counted once, and all else follows from these.
 pub(crate) fn send(onu: Onu, misfit: bool, llid: u16, channel: u8, eqs: u64) -> OnuSending
     requires { ⌜ (misfit ≡ false → eqs ≤ maxEqs) ⌝ }
     ensures { λ r. ⌜ r ≡ onuSending (sendingOnu onu misfit llid channel eqs) ⌝ }
 {
+    if !valid_onu(onu) {
+        return not_sent(onu, Refusal::OutOfRange);
+    }
     let choice = send_choice(onu.keys);
-    let verdict = send_verdict(onu, misfit, llid, channel, choice);
+    let now = travel(onu);
+    let verdict = send_verdict(onu, misfit, llid, channel, choice, now);
     match verdict {
         Verdict::Accepted => {
-            let next = after_send(choice, onu, channel, eqs);
+            let next = after_send(choice, onu, channel, eqs, now);
             let mac = onu.identity.mac;
             let time = onu.clock.time;
             let sending = passing::sending_of(choice, onu.keys.slots, mac, time, channel, llid);
@@ -116,14 +150,7 @@ pub(crate) fn send(onu: Onu, misfit: bool, llid: u16, channel: u8, eqs: u64) -> 
                 sending,
             }
         }
-        Verdict::Refused(refusal) => {
-            let sending = passing::no_sending();
-            OnuSending {
-                verdict: Verdict::Refused(refusal),
-                onu,
-                sending,
-            }
-        }
+        Verdict::Refused(refusal) => not_sent(onu, refusal),
     }
 }
 
@@ -192,7 +219,7 @@ fn moved(onu: Onu) -> Onu
         held: 0,
         slots,
     };
-    let first = FirstSend { noted: 0, tick: 0 };
+    let first = FirstSend { noted: 0, at: 0 };
     let mut r = onu;
     r.keys = keys;
     r.first = first;

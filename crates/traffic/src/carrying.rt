@@ -5,17 +5,17 @@ ghost use lib.ListN.{length};
 ghost use Rattle.refusal.specs.declared.Verdict.the-variants.{Accepted};
 ghost use Rattle.envelope.specs.Acceptance.{sealVerdict, lengthsFit};
 ghost use Rattle.octets.specs.Output.{withOutput};
-ghost use Rattle.traffic.specs.Passages.{choiceEnciphered, passageNonce, passed, passedWork, carriedAfter, carriedFitting};
+ghost use Rattle.traffic.specs.Passages.{passageNonce, passed, passedWork, carriedAfter, carriedFitting};
 use envelope::Nonce;
 use envelope::lengths_fit;
 use envelope::seal_count;
 use envelope::seal_runs;
 use envelope::seal_verdict;
-use protocol::KeyChoice;
 use protocol::Passage;
 use refusal::Verdict;
 use refusal::and_then;
 use sealing::counter_mode::seal;
+use unit::passing::is_enciphered;
 
 // What a payload took: the octets enciphered, and the runs of the cipher (02, C-17).
 pub struct Work {
@@ -28,17 +28,6 @@ pub(crate) fn misfit(n: usize, m: usize) -> bool
     ensures { λ r. ⌜ r ≡ not (lengthsFit n m) ⌝ }
 {
     !lengths_fit(n, m)
-}
-
-fn is_enciphered(choice: KeyChoice) -> bool
-    ensures { λ r. ⌜ r ≡ choiceEnciphered choice ⌝ }
-{
-    match choice {
-        KeyChoice::Clear => false,
-        KeyChoice::Current(_) => true,
-        KeyChoice::Next(_) => true,
-        KeyChoice::Barred(_) => false,
-    }
 }
 
 // Seals or opens the payload, and gives what that took. An empty one needs no key.

@@ -3,6 +3,7 @@
 mod at_olt;
 mod at_onu;
 pub mod carrying;
+mod travelling;
 
 ghost use mathlib.Core.Path.{_≡_};
 ghost use Rattle.octets.specs.Output.{withOutput};

@@ -1,5 +1,6 @@
 -- An advance of all ends keeps what holds of the OLT and of each unit, registered or not. Assumes nothing.
 use mathlib.Core.Path.{_≡_, refl, sym, _∙_, ap}
+use mathlib.Core.Logic.{inl, inr, ⊎-elim}
 use mathlib.Core.Bool.{Bool, true, false}
 use mathlib.Core.List.{List}
 use Prim.Native.Nat.{ℕ, _+_, _-_, _*_, _/_, _%_, _<_, _≤_}
@@ -38,8 +39,8 @@ use Rattle.ends.proofs.Validity.{olt-in-range}
 use Rattle.protocol.proofs.OltCalls.{advance-olt-refused}
 use Rattle.protocol.proofs.OnuCalls.{onu-accepted, onu-accepts, advance-onu-refused}
 use Rattle.protocol.proofs.OltAdvance.{olt-advanced-valid, advancing-accepted, advancing-accepts}
-use Rattle.protocol.proofs.OnuAdvance.{onu-advanced-valid}
-use Rattle.unicast.specs.Setting.{Site, Setting}
+use Rattle.protocol.proofs.OnuAdvance.{onu-advanced-valid, travel-advanced}
+use Rattle.unicast.specs.Setting.{Delays, Setting}
 use Rattle.unicast.specs.History.{Answered, Entry, Keys, Lane, due}
 use Rattle.unicast.specs.Events.{advance}
 use Rattle.unicast.specs.Run.{State, laneAt, onuAt, advancing, step}
@@ -100,7 +101,7 @@ synced-advanced c n = by-synced (isUp (c .synced)) where
   by-synced true = refl
   by-synced false = refl
 
-clocks-advanced : (first now n : ℕ) (s : Site) (captured : ℕ) (c : UnitClock) (o : OnuClock) → Clocks first now s captured c o
+clocks-advanced : (first now n : ℕ) (s : Delays) (captured : ℕ) (c : UnitClock) (o : OnuClock) → Clocks first now s captured c o
     → Clocks first (now + n) s captured c (onuClockAdvanced o n)
 unfolding onuClockAdvanced pick movedBy
 clocks-advanced first now n s captured c o k = by-synced (isUp (o .synced)) refl where
@@ -136,8 +137,8 @@ answers-advanced : (now n : ℕ) (k : OnuKeys) (o : OnuClock) (answered : List A
     → Answers (now + n) k (onuClockAdvanced o n) answered
 answers-advanced now n k o answered a =
     record {
-      keyed = λ h. synced-advanced o n ∙ a .keyed h;
-      each = λ x m. let p = a .each x m in (synced-advanced o n ∙ p .0, p .1);
+      each = λ x m. let p = a .each x m in (λ e. synced-advanced o n ∙ p .0 e, p .1);
+      set = λ e. a .set (sym (synced-advanced o n) ∙ e);
     }
 
 ---- the OLT, and a unit
@@ -158,8 +159,13 @@ advance-keeps w sh now n l u o j =
       numbers = j .numbers;
       stored = j .stored;
       timing = timing-advanced (l .entry) (l .keys) now n (u .keys .timer) (j .timing);
-      clocks = clocks-advanced (w .first) now n (l .site) (l .captured) (u .clock) (o .clock) (j .clocks);
+      clocks = clocks-advanced (w .first) now n (l .path) (l .captured) (u .clock) (o .clock) (j .clocks);
       answers = answers-advanced now n (o .keys) (o .clock) (l .transit .answered) (j .answers);
+      underWay =
+          record {
+            sealed = λ e m p. synced-advanced (o .clock) n ∙ j .underWay .sealed e m p;
+            present = j .underWay .present;
+          };
       towards = j .towards;
       from = j .from;
       spending = record { downs = s .downs; ups = s .ups; spaced = s .spaced };
@@ -198,6 +204,13 @@ common-advance-keeps w now n l o h c =
       mac = c .mac;
       llids = c .llids;
       oltmac = c .oltmac;
+      travel = omega (arith, c .travel, travel-advanced o n);
+      first =
+          record {
+            begun = λ one.
+                ⊎-elim (λ was. inl (omega (arith, was, travel-advanced o n))) (λ below. inr below) (c .first .begun one);
+            ended = c .first .ended;
+          };
     }
 
 -- as long as the tick is in range a valid ONU advances

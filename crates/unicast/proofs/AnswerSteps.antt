@@ -49,11 +49,12 @@ lane-unmarked a l e =
 ---- what is handed over
 
 module _ (w : Setting) (sh : Shared) (now : ℕ) (l : Lane) (u : UnitRecord) (o : Onu) where
-  -- one that the unit handed over: the unit is synced, and holds the key that it names
+  -- one that the unit handed over: the unit is synced, or holds the key that it names
   handed-over : (a : Acknowledgement) (x : Answered) → Joined w sh now l u o → List·Memᴰ x (l .transit .answered) → x .acknowledgement ≡ a
-      → (o .clock .synced ≡ 1) × (a .kind ≡ keyKind → a .number ≤ reachOf (o .keys))
+      → (a .kind ≡ clockKind → o .clock .synced ≡ 1) × (a .kind ≡ keyKind → a .number ≤ reachOf (o .keys))
   handed-over a x j m e =
-      subst (λ (b : Acknowledgement). (o .clock .synced ≡ 1) × (b .kind ≡ keyKind → b .number ≤ reachOf (o .keys))) e (j .answers .each x m)
+      subst (λ (b : Acknowledgement). (b .kind ≡ clockKind → o .clock .synced ≡ 1) × (b .kind ≡ keyKind → b .number ≤ reachOf (o .keys))) e
+      (j .answers .each x m)
 
   -- the offer is held, and is marked
   marked-keeps : Joined w sh now l u o → u .keys .offered ≤ reachOf (o .keys)
@@ -93,7 +94,8 @@ module _ (w : Setting) (sh : Shared) (now : ℕ) (l : Lane) (u : UnitRecord) (o 
             };
         clocks = j .clocks;
         answers = j .answers;
-        towards = towards-moved (w .first) l after (o .keys .active) (u .keys .active) (u .keys .offered) (l .transit .towards) knows (j .towards);
+        underWay = j .underWay;
+        towards = towards-moved (w .first) (l .path) l after (o .keys .active) (u .keys .active) (u .keys .offered) (l .transit .towards) knows (j .towards);
         from = from-moved l after (u .keys .offered) (u .confirmation .confirmed) (o .keys .active) (l .transit .from) knows (j .from);
         spending = record { downs = j .spending .downs; ups = j .spending .ups; spaced = j .spending .spaced };
         passing =
@@ -132,6 +134,7 @@ module _ (w : Setting) (sh : Shared) (now : ℕ) (l : Lane) (u : UnitRecord) (o 
               acknowledged = λ e. synced;
             };
         answers = j .answers;
+        underWay = j .underWay;
         towards = j .towards;
         from = j .from;
         spending = record { downs = j .spending .downs; ups = j .spending .ups; spaced = j .spending .spaced };
@@ -142,7 +145,7 @@ module _ (w : Setting) (sh : Shared) (now : ℕ) (l : Lane) (u : UnitRecord) (o 
       → List·Memᴰ x (l .transit .answered) → x .acknowledgement ≡ a → acknowledgeUnit a sh u .verdict ≡ Accepted
       → Joined w sh now (laneAcknowledged a l) (acknowledgeUnit a sh u .unit) o
   clock-answer-keeps a x at j kind m e accepted =
-      rw (clock-kind a sh u kind, lane-unmarked a l kind) (clock-marked-keeps j (handed-over a x j m e .0))
+      rw (clock-kind a sh u kind, lane-unmarked a l kind) (clock-marked-keeps j (handed-over a x j m e .0 kind))
 
   -- an acknowledgement that the OLT accepts is of either kind
   pub answer-keeps : (a : Acknowledgement) (x : Answered) → AtTick w now sh → Joined w sh now l u o → List·Memᴰ x (l .transit .answered)

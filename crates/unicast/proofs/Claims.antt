@@ -24,7 +24,7 @@ use Rattle.unicast.specs.Setting.{Site, Setting}
 use Rattle.unicast.specs.History.{Way, downward, upward, Envelope, Lane}
 use Rattle.unicast.specs.Run.{State, laneAt, onuAt, sentAt, noEnvelope}
 use Rattle.unicast.specs.Claim.{senderMac, senderClock, nonceFor, indexTurn, BlocksApart, LastKeyHeld, Claim}
-use Rattle.unicast.proofs.Invariant.{Joined, Common, Invariant}
+use Rattle.unicast.proofs.Invariant.{countUp, Joined, Common, Invariant}
 use Rattle.unicast.proofs.Alive.{Alive, sent-alive, arrived-alive}
 use Rattle.unicast.proofs.Past.{sent-most}
 use Rattle.unicast.proofs.OverheardSteps.{overheard-refused}
@@ -48,17 +48,17 @@ sender-mac-below : (w : Setting) (s : Site) (x : Way) → w .mac < 2 ^ 48 → s 
 sender-mac-below w s downward a b = a
 sender-mac-below w s upward a b = b
 
-sender-clock-below : (w : Setting) (s : Site) (x : Way) (tick : ℕ) → senderClock w s x tick < 2 ^ 48
-sender-clock-below w s downward tick = mod-lt (w .first + tick) (omega arith)
-sender-clock-below w s upward tick = mod-lt (w .first + tick + s .up) (omega arith)
+sender-clock-below : (w : Setting) (up : ℕ) (x : Way) (tick : ℕ) → senderClock w up x tick < 2 ^ 48
+sender-clock-below w up downward tick = mod-lt (w .first + tick) (omega arith)
+sender-clock-below w up upward tick = mod-lt (w .first + tick + up) (omega arith)
 
 -- of two sends of a unit or to it under one key, the later has another channel index or clock
 later-differs : (w : Setting) (sh : Shared) (now : ℕ) (l : Lane) (u : UnitRecord) (o : Onu) → Joined w sh now l u o → (i j : ℕ) → i < j
     → j < length (l .past .sent) → 1 ≤ getD (l .past .sent) i noEnvelope .number
     → getD (l .past .sent) i noEnvelope .number ≡ getD (l .past .sent) j noEnvelope .number
     → getD (l .past .sent) i noEnvelope .channel ≡ getD (l .past .sent) j noEnvelope .channel
-    → senderClock w (l .site) (getD (l .past .sent) i noEnvelope .way) (getD (l .past .sent) i noEnvelope .left)
-    ≡ senderClock w (l .site) (getD (l .past .sent) j noEnvelope .way) (getD (l .past .sent) j noEnvelope .left)
+    → senderClock w (getD (l .past .sent) i noEnvelope .up) (getD (l .past .sent) i noEnvelope .way) (getD (l .past .sent) i noEnvelope .left)
+    ≡ senderClock w (getD (l .past .sent) j noEnvelope .up) (getD (l .past .sent) j noEnvelope .way) (getD (l .past .sent) j noEnvelope .left)
     → ⊥
 later-differs w sh now l u o jn i j before below sealed number channel clock =
     by (getD (l .past .sent) i noEnvelope .way) (getD (l .past .sent) j noEnvelope .way) refl refl clock where
@@ -74,13 +74,13 @@ later-differs w sh now l u o jn i j before below sealed number channel clock =
       at-j : List·Memᴰ second (l .past .sent)
       at-j = mem-at (l .past .sent) j noEnvelope below
 
-      by : (x y : Way) → first .way ≡ x → second .way ≡ y → senderClock w (l .site) x (first .left) ≡ senderClock w (l .site) y (second .left) → ⊥
+      by : (x y : Way) → first .way ≡ x → second .way ≡ y → senderClock w (first .up) x (first .left) ≡ senderClock w (second .up) y (second .left) → ⊥
       by downward downward p q e =
-          let t = jn .spending .spaced .apart i j before below (p ∙ sym q) sealed number channel in
+          let t = jn .spending .spaced .down i j before below p q sealed number channel in
           clocks-differ (w .first) (first .left) (first .left) (second .left) (omega arith) (t .0) (t .1) e
       by upward upward p q e =
-          let t = jn .spending .spaced .apart i j before below (p ∙ sym q) sealed number channel in
-          clocks-differ (w .first + l .site .up) (first .left) (first .left) (second .left) (omega arith) (t .0) (t .1)
+          let t = jn .spending .spaced .up i j before below p q sealed number channel in
+          clocks-differ (w .first) (countUp first) (countUp first) (countUp second) (omega arith) (t .0) (t .1)
           (ap (λ (x : ℕ). x % clockTurn) (omega arith) ∙ e ∙ ap (λ (x : ℕ). x % clockTurn) (omega arith))
       by downward upward p q e =
           let low = downstream-below (first .channel) (jn .spending .downs first at-i p .0) in
@@ -107,12 +107,12 @@ one-send w sh now l u o jn olt onu i j a b hi hj sealed number ha hb e = (by (lt
 
   fields : (first .channel ≡ second .channel)
       × (senderMac w (l .site) (first .way) ≡ senderMac w (l .site) (second .way))
-      × (senderClock w (l .site) (first .way) (first .left) ≡ senderClock w (l .site) (second .way) (second .left))
+      × (senderClock w (first .up) (first .way) (first .left) ≡ senderClock w (second .up) (second .way) (second .left))
       × (a ≡ b)
   fields =
       counter-block-injective (nonceFor w (l .site) first) (nonceFor w (l .site) second) a b
       (sender-mac-below w (l .site) (first .way) olt onu) (sender-mac-below w (l .site) (second .way) olt onu)
-      (sender-clock-below w (l .site) (first .way) (first .left)) (sender-clock-below w (l .site) (second .way) (second .left)) ha hb e
+      (sender-clock-below w (first .up) (first .way) (first .left)) (sender-clock-below w (second .up) (second .way) (second .left)) ha hb e
 
   by : (x y : Bool) → ltb i j ≡ x → ltb j i ≡ y → i ≡ j
   by true y p q =

@@ -26,11 +26,12 @@ ways-apart e = let z : _≡_ {A = ℕ} 0 1 = cc in absurd (omega arith)
 ---- what is carried
 
 -- the envelope of an accepted send that handed over s, under that number
-abbrev pub envelopeOf : Way → ℕ → ℕ → ℕ → List ℕ → Sending → ℕ → Envelope
-envelopeOf way now llid channel p s number =
+abbrev pub envelopeOf : Way → ℕ → ℕ → ℕ → ℕ → List ℕ → Sending → ℕ → Envelope
+envelopeOf way now up llid channel p s number =
     record {
       way = way;
       left = now;
+      up = up;
       llid = llid;
       channel = channel;
       payload = p;

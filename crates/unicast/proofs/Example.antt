@@ -24,16 +24,17 @@ use Rattle.unicast.specs.History.{Way, downward, upward, keyOf}
 use Rattle.unicast.specs.Run.{State, laneAt, start, sentAt}
 use Rattle.unicast.specs.Premises.{Fresh, Meets}
 use Rattle.unicast.specs.Claim.{isSealed, nonceFor, ArrivedNumbered, overheardFor, Claim}
-use Rattle.unicast.specs.Example.{example, short, strangers, firstUnit, refusedCalls, refusedEnvelopes, overheard, firstKeyC, lastSends, fullTable, lastTick, toFirstKey, toSecondKey, events}
+use Rattle.unicast.specs.Example.{example, short, strangers, firstUnit, refusedCalls, refusedEnvelopes, overheard, changedPathB, firstKeyC, lastSends, fullTable, lastTick, toFirstKey, toSecondKey, events}
 use Rattle.unicast.specs.Course.{after, played, arrivalNumber, callNumber, refusals, Course}
 use Rattle.unicast.specs.Demand.{arrivalAt, nonce, HandedClear, Handed, Passed, Delivered, Apart, Counted, Agreed, Overheard, Shown, Demand}
 use Rattle.unicast.proofs.Opened.{opened}
 use Rattle.unicast.proofs.Tested.{tested, fresh-true, meets, meets-true, meets-start}
 use Rattle.unicast.proofs.Theorem.{line-holds}
+use Rattle.unicast.proofs.Unchanged.{unchanged}
 
 -- what the list computes with
 unfoldable pub listed : Unit {0}
-unfolding opened short strangers firstUnit refusedCalls refusedEnvelopes overheard firstKeyC lastSends fullTable lastTick
+unfolding opened short strangers firstUnit refusedCalls refusedEnvelopes overheard changedPathB firstKeyC lastSends fullTable lastTick
 listed = tt
 
 ---- the premises
@@ -243,6 +244,11 @@ shown first second whole =
       upB1 = delivered whole 1 1 refl refl refl refl refl refl refl refl;
       downB2 = delivered whole 1 2 refl refl refl refl refl refl refl refl;
       upB2 = delivered whole 1 3 refl refl refl refl refl refl refl refl;
+      lostB2 = handed whole 1 4 refl refl refl refl refl refl refl refl refl refl;
+      againB2 = delivered whole 1 4 refl refl refl refl refl refl refl refl;
+      otherB2 = delivered whole 1 5 refl refl refl refl refl refl refl refl;
+      downB3 = delivered whole 1 6 refl refl refl refl refl refl refl refl;
+      upB3 = delivered whole 1 7 refl refl refl refl refl refl refl refl;
       clearC = passed whole 2 0 refl refl refl refl;
       downC1 = delivered whole 2 1 refl refl refl refl refl refl refl refl;
       upC1 = delivered whole 2 2 refl refl refl refl refl refl refl refl;
@@ -250,6 +256,7 @@ shown first second whole =
       apartDown = apart whole 0 2 0 3 refl refl refl refl (λ one. omega (arith, one .1));
       apartUp = apart whole 0 7 0 9 refl refl refl refl (λ one. omega (arith, one .1));
       apartWays = apart whole 0 6 0 7 refl refl refl refl (λ one. omega (arith, one .1));
+      apartPaths = apart whole 1 4 1 5 refl refl refl refl (λ one. omega (arith, one .1));
       countedUp = counted whole 0 7 refl refl;
       apartUnits = apart whole 0 6 2 3 refl refl refl refl (λ one. omega (arith, one .0));
       agreedA1 =
@@ -258,8 +265,8 @@ shown first second whole =
           agreed second 0 2 refl refl refl refl refl (numbered second 0 4 2 downward refl refl refl) (numbered second 0 5 2 upward refl refl refl);
       agreedB1 =
           agreed second 1 1 refl refl refl refl refl (numbered second 1 0 1 downward refl refl refl) (numbered second 1 1 1 upward refl refl refl);
-      agreedB2 =
-          agreed whole 1 2 refl refl refl refl refl (numbered whole 1 2 2 downward refl refl refl) (numbered whole 1 3 2 upward refl refl refl);
+      agreedB3 =
+          agreed whole 1 3 refl refl refl refl refl (numbered whole 1 6 3 downward refl refl refl) (numbered whole 1 7 3 upward refl refl refl);
       agreedC1 =
           agreed whole 2 1 refl refl refl refl refl (numbered whole 2 1 1 downward refl refl refl) (numbered whole 2 2 1 upward refl refl refl);
       overheardDown = overheard-as second 1 0 6 refl refl refl refl;
@@ -280,6 +287,7 @@ pub demand : Demand
 demand =
     record {
       holds = line-holds;
+      unchanged = unchanged;
       fresh = example-fresh;
       meets = example-meets;
       course = course;

@@ -1,10 +1,13 @@
 -- Laws of a registered unit of which only a part changes. Assumes nothing.
 use mathlib.Core.Path.{_≡_, refl, sym, subst}
-use mathlib.Core.List.{List, [], _∷_, _++_, List·Memᴰ·append-cases, List·Memᴰ·eq-of-singleton}
+use mathlib.Core.Bool.{true}
+use mathlib.Core.List.{List, [], _∷_, _++_, List·Memᴰ, List·Memᴰ·head, List·Memᴰ·tail, List·Memᴰ·append-cases, List·Memᴰ·eq-of-singleton}
 use mathlib.Core.Logic.{⊎-elim}
 use Prim.Native.Nat.{ℕ, suc, _≤_}
 use native.Mathlib.Omega.{arith}
-use Rattle.protocol.specs.Messages.{keyKind}
+use borrow.Author.Tests.{eqb-true, eq-eqb}
+use Rattle.octets.proofs.Choice.{either-left, either-right, either-cases, true-false}
+use Rattle.protocol.specs.Messages.{clockKind, keyKind, ofClock}
 use Rattle.protocol.specs.declared.Acknowledgement.{Acknowledgement}
 use Rattle.ends.specs.declared.Onu.{Onu}
 use Rattle.ends.specs.declared.OnuClock.{OnuClock}
@@ -12,32 +15,69 @@ use Rattle.ends.specs.declared.OnuKeys.{OnuKeys}
 use Rattle.ends.specs.declared.Shared.{Shared}
 use Rattle.ends.specs.declared.UnitRecord.{UnitRecord}
 use Rattle.unicast.specs.Setting.{Setting}
-use Rattle.unicast.specs.History.{Thing, Answered, Transit, Lane, laneWith, leaving, laneLeaving, laneTaken, laneAnswered}
-use Rattle.unicast.proofs.Invariant.{reachOf, Answers, Towards, From, Joined, Common}
-use Rattle.unicast.proofs.Queues.{Knows, towards-moved, towards-dropped, from-moved}
+use Rattle.unicast.specs.History.{Envelope, Thing, envelope, Answered, Transit, Lane, laneWith, leaving, laneLeaving, laneTaken, laneAnswered, clockAnswered}
+use Rattle.unicast.proofs.Invariant.{reachOf, Answers, UnderWay, Towards, From, Joined, Common}
+use Rattle.unicast.proofs.Queues.{Knows, dropped-among, sealed-more, towards-moved, towards-dropped, from-moved}
 use Rattle.unicast.proofs.Past.{passing-moved, sent-most}
 
+---- clock acknowledgements
+
+clock-more : (xs : List Answered) (x : Answered) → clockAnswered xs ≡ true → clockAnswered (xs ++ (x ∷ [])) ≡ true
+unfolding clockAnswered
+clock-more [] x e = true-false (sym e)
+clock-more (y ∷ ys) x e = ⊎-elim (λ h. either-left _ h) (λ h. either-right _ (clock-more ys x h)) (either-cases _ _ e)
+
+clock-last : (xs : List Answered) (x : Answered) → x .acknowledgement .kind ≡ clockKind → clockAnswered (xs ++ (x ∷ [])) ≡ true
+unfolding clockAnswered
+clock-last [] x e = either-left _ (eq-eqb (x .acknowledgement .kind) clockKind e)
+clock-last (y ∷ ys) x e = either-right _ (clock-last ys x e)
+
+-- what each clock acknowledgement tells holds where there is one
+pub clock-some : {P : Type 0} (xs : List Answered) → ((x : Answered) → List·Memᴰ x xs → x .acknowledgement .kind ≡ clockKind → P)
+    → clockAnswered xs ≡ true → P
+unfolding clockAnswered
+clock-some [] tells e = true-false (sym e)
+clock-some (y ∷ ys) tells e =
+    ⊎-elim (λ h. tells y (List·Memᴰ·head refl) (eqb-true (y .acknowledgement .kind) clockKind h))
+    (λ h. clock-some ys (λ x m. tells x (List·Memᴰ·tail m)) h) (either-cases _ _ e)
+
+-- the unit takes a clock message, and answers
+pub answers-clock : (now : ℕ) (k : OnuKeys) (c d : OnuClock) (answered : List Answered) → d .synced ≡ 1 → Answers now k c answered
+    → Answers now k d (answered ++ (record { acknowledgement = ofClock; tick = now } ∷ []))
+answers-clock now k c d answered synced a =
+    record {
+      each = λ y m.
+          ⊎-elim (λ before. (λ e. synced, a .each y before .1))
+          (λ last.
+          subst (λ (z : Answered). (z .acknowledgement .kind ≡ clockKind → d .synced ≡ 1)
+          × (z .acknowledgement .kind ≡ keyKind → z .acknowledgement .number ≤ reachOf k))
+          (sym (List·Memᴰ·eq-of-singleton last)) (λ e. synced, λ e. absurd (omega arith)))
+          (List·Memᴰ·append-cases answered m);
+      set = λ e. clock-last answered _ refl;
+    }
+
 -- an answer more, of a synced unit, for a key that it holds
-pub answers-more : (now : ℕ) (k : OnuKeys) (c : OnuClock) (answered : List Answered) (x : Answered) → c .synced ≡ 1
+pub answers-more : (now : ℕ) (k : OnuKeys) (c : OnuClock) (answered : List Answered) (x : Answered) → (x .acknowledgement .kind ≡ clockKind → c .synced ≡ 1)
     → (x .acknowledgement .kind ≡ keyKind → x .acknowledgement .number ≤ reachOf k) → Answers now k c answered → Answers now k c (answered ++ (x ∷ []))
 answers-more now k c answered x synced held a =
     record {
-      keyed = a .keyed;
       each = λ y m.
           ⊎-elim (λ before. a .each y before)
           (λ last.
-          subst (λ (z : Answered). (c .synced ≡ 1) × (z .acknowledgement .kind ≡ keyKind → z .acknowledgement .number ≤ reachOf k))
+          subst (λ (z : Answered). (z .acknowledgement .kind ≡ clockKind → c .synced ≡ 1)
+          × (z .acknowledgement .kind ≡ keyKind → z .acknowledgement .number ≤ reachOf k))
           (sym (List·Memᴰ·eq-of-singleton last)) (synced, held))
           (List·Memᴰ·append-cases answered m);
+      set = λ e. clock-more answered x (a .set e);
     }
 
 module _ (w : Setting) (sh : Shared) (now : ℕ) (l : Lane) (u : UnitRecord) (o : Onu) where
   -- only what is under way changes
   pub transit-replaced : (t : Transit) → Joined w sh now l u o → Answers now (o .keys) (o .clock) (t .answered)
-      → Towards (w .first) l (o .keys .active) (u .keys .active) (u .keys .offered) (t .towards)
+      → UnderWay (l .path) (o .clock .synced) t → Towards (w .first) (l .path) l (o .keys .active) (u .keys .active) (u .keys .offered) (t .towards)
       → From l (u .confirmation .confirmed) (o .keys .active) (t .from) → Joined w sh now (laneWith l (l .keys) t (l .past)) u o
   unfolding laneWith
-  transit-replaced t j answers towards from =
+  transit-replaced t j answers under towards from =
       let after = laneWith l (l .keys) t (l .past) in
       let knows : Knows l after (u .keys .offered) = record { site = refl; sent = λ e m. m; keys = λ n p q. refl } in
       record {
@@ -49,8 +89,9 @@ module _ (w : Setting) (sh : Shared) (now : ℕ) (l : Lane) (u : UnitRecord) (o 
         timing = j .timing;
         clocks = j .clocks;
         answers = answers;
+        underWay = under;
         towards =
-            towards-moved (w .first) l after (o .keys .active) (u .keys .active) (u .keys .offered) (t .towards) knows towards;
+            towards-moved (w .first) (l .path) l after (o .keys .active) (u .keys .active) (u .keys .offered) (t .towards) knows towards;
         from = from-moved l after (u .keys .offered) (u .confirmation .confirmed) (o .keys .active) (t .from) knows from;
         spending = record { downs = j .spending .downs; ups = j .spending .ups; spaced = j .spending .spaced };
         passing =
@@ -59,35 +100,49 @@ module _ (w : Setting) (sh : Shared) (now : ℕ) (l : Lane) (u : UnitRecord) (o 
       }
 
   -- a thing leaves for the unit
-  pub leaving-keeps : (x : Thing) → Joined w sh now l u o
-      → Towards (w .first) l (o .keys .active) (u .keys .active) (u .keys .offered) (l .transit .towards ++ (x ∷ []))
+  pub leaving-keeps : (x : Thing) → ((e : Envelope) → x ≡ envelope e → ⊥) → Joined w sh now l u o
+      → Towards (w .first) (l .path) l (o .keys .active) (u .keys .active) (u .keys .offered) (l .transit .towards ++ (x ∷ []))
       → Joined w sh now (laneLeaving x l) u o
   unfolding laneLeaving leaving
-  leaving-keeps x j q = transit-replaced (leaving (l .transit) x) j (j .answers) q (j .from)
+  leaving-keeps x n j q =
+      transit-replaced (leaving (l .transit) x) j (j .answers)
+      (record {
+        sealed = sealed-more (o .clock .synced) (l .transit .towards) x (j .underWay .sealed) (λ e same. absurd (n e same));
+        present = j .underWay .present;
+      }) q (j .from)
 
   -- the first of what is under way to the unit are taken from it, or lost
   pub taken-keeps : (k : ℕ) → Joined w sh now l u o → Joined w sh now (laneTaken k l) u o
   unfolding laneTaken
   taken-keeps k j =
       transit-replaced _ j (j .answers)
-      (towards-dropped (w .first) l (o .keys .active) (u .keys .active) (u .keys .offered) (l .transit .towards) (suc k) (j .towards)) (j .from)
+      (record {
+        sealed = λ e m. j .underWay .sealed e (dropped-among (envelope e) (l .transit .towards) (suc k) m);
+        present = j .underWay .present;
+      })
+      (towards-dropped (w .first) (l .path) l (o .keys .active) (u .keys .active) (u .keys .offered) (l .transit .towards) (suc k) (j .towards)) (j .from)
 
   -- the unit answers, for a key that it holds
-  pub answered-keeps : (a : Acknowledgement) → Joined w sh now l u o → o .clock .synced ≡ 1 → (a .kind ≡ keyKind → a .number ≤ reachOf (o .keys))
+  pub answered-keeps : (a : Acknowledgement) → Joined w sh now l u o → (a .kind ≡ clockKind → o .clock .synced ≡ 1)
+      → (a .kind ≡ keyKind → a .number ≤ reachOf (o .keys))
       → Joined w sh now (laneAnswered a now l) u o
   unfolding laneAnswered
   answered-keeps a j synced held =
       transit-replaced _ j
-      (answers-more now (o .keys) (o .clock) (l .transit .answered) (record { acknowledgement = a; tick = now }) synced held (j .answers)) (j .towards)
+      (answers-more now (o .keys) (o .clock) (l .transit .answered) (record { acknowledgement = a; tick = now }) synced held (j .answers))
+      (record { sealed = j .underWay .sealed; present = j .underWay .present }) (j .towards)
       (j .from)
 
--- nothing of the lane but its site matters
-pub common-moved : (w : Setting) (now : ℕ) (l l' : Lane) (o : Onu) → l .site ≡ l' .site → Common w now l o → Common w now l' o
-common-moved w now l l' o e c =
+-- nothing of the lane but its site and its path matters
+pub common-moved : (w : Setting) (now : ℕ) (l l' : Lane) (o : Onu) → l .site ≡ l' .site → l .path ≡ l' .path
+    → Common w now l o → Common w now l' o
+common-moved w now l l' o e p c =
     record {
       valid = c .valid;
       tick = c .tick;
       mac = rw e at (c .mac);
       llids = rw e at (c .llids);
       oltmac = rw e at (c .oltmac);
+      travel = rw (e, p) at (c .travel);
+      first = c .first;
     }

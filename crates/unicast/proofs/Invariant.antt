@@ -3,6 +3,7 @@
 use mathlib.Core.Path.{_≡_}
 use mathlib.Core.Bool.{Bool, true, false}
 use mathlib.Core.List.{List, [], _∷_, List·Memᴰ}
+use mathlib.Core.Logic.{_⊎_}
 use Prim.Native.Nat.{ℕ, _+_, _-_, _%_, _<_, _≤_}
 use lib.ListN.{length, getD}
 use Rattle.clock.specs.Ticks.{clockTurn, localTurn, ticksPerSecond, keyLife}
@@ -12,7 +13,9 @@ use Rattle.clock.specs.declared.Stamps.{Stamps}
 use Rattle.envelope.specs.Acceptance.{lengthsFit}
 use Rattle.ends.specs.Identities.{has}
 use Rattle.ends.specs.Keys.{keyIn}
-use Rattle.protocol.specs.Messages.{keyKind}
+use Rattle.ends.specs.Limits.{maxChanges}
+use Rattle.ends.specs.Travels.{travelOf}
+use Rattle.protocol.specs.Messages.{clockKind, keyKind}
 use Rattle.envelope.specs.Channels.{downstream, upstream}
 use Rattle.ends.specs.Occupancy.{freeFrom}
 use Rattle.ends.specs.Table.{unitAt}
@@ -28,10 +31,11 @@ use Rattle.ends.specs.declared.OnuKeys.{OnuKeys}
 use Rattle.ends.specs.declared.Shared.{Shared}
 use Rattle.ends.specs.declared.Slots.{Slots}
 use Rattle.ends.specs.declared.Timer.{Timer}
+use Rattle.ends.specs.declared.Travel.{Travel}
 use Rattle.ends.specs.declared.UnitRecord.{UnitRecord}
 use Rattle.ends.specs.declared.UnitClock.{UnitClock}
-use Rattle.unicast.specs.Setting.{Site, Setting}
-use Rattle.unicast.specs.History.{Way, downward, upward, Envelope, Thing, clockMessage, keyMessage, envelope, Answered, Arrival, Entry, Keys, Lane, keyOf, due}
+use Rattle.unicast.specs.Setting.{Delays, Setting}
+use Rattle.unicast.specs.History.{Way, downward, upward, Envelope, Thing, clockMessage, keyMessage, envelope, Answered, Arrival, Entry, Keys, Transit, Lane, keyOf, due, clockAnswered}
 use Rattle.unicast.specs.Run.{State, laneAt, onuAt, noEnvelope}
 use Rattle.unicast.specs.Claim.{SentRight, ArrivedRight}
 
@@ -76,24 +80,29 @@ pub record Timing (r : Entry) (k : Keys) (now : ℕ) (t : Timer) : Type 0 where
   pub flag : t .flag ≡ flagOf (due r k now)
 
 -- first is the OLT's first clock
-pub record Clocks (first now : ℕ) (s : Site) (captured : ℕ) (c : UnitClock) (o : OnuClock) : Type 0 where
-  pub trip : c .trip ≡ s .up + s .down
+pub record Clocks (first now : ℕ) (p : Delays) (captured : ℕ) (c : UnitClock) (o : OnuClock) : Type 0 where
+  pub trip : c .trip ≡ p .up + p .down
   pub capture : c .captured ≡ 1 → (c .tick ≡ captured) × (captured ≤ now)
   pub flag : o .synced ≤ 1
-  pub unsynced : o .synced ≡ 0 → o .time ≡ (first + now + s .up) % localTurn
-  pub synced : o .synced ≡ 1 → Aligned (first + now) (s .up) (s .down) (record { rx = o .rx; tx = o .time })
+  pub unsynced : o .synced ≡ 0 → o .time ≡ (first + now + p .up) % localTurn
+  pub synced : o .synced ≡ 1 → Aligned (first + now) (p .up) (p .down) (record { rx = o .rx; tx = o .time })
   pub acknowledged : c .acknowledged ≡ 1 → o .synced ≡ 1
 
--- a unit that holds a key, or has answered, is synced; it holds what it answered for
+-- a unit is synced exactly if it has answered a clock message of its present path; it holds the keys that it answered for
 pub record Answers (now : ℕ) (k : OnuKeys) (o : OnuClock) (answered : List Answered) : Type 0 where
-  pub keyed : 1 ≤ reachOf k → o .synced ≡ 1
   pub each : (x : Answered) → List·Memᴰ x answered
-      → (o .synced ≡ 1) × (x .acknowledgement .kind ≡ keyKind → x .acknowledgement .number ≤ reachOf k)
+      → (x .acknowledgement .kind ≡ clockKind → o .synced ≡ 1) × (x .acknowledgement .kind ≡ keyKind → x .acknowledgement .number ≤ reachOf k)
+  pub set : o .synced ≡ 1 → clockAnswered answered ≡ true
 
 ---- what is under way
 
-pub record ClockRight (first : ℕ) (s : Site) (m : Stamps) (c t : ℕ) : Type 0 where
-  pub stamps : m ≡ capturedAt ((first + c) % clockTurn) (s .up + s .down)
+-- a sealed envelope is on its way to a synced unit, and what a unit sent left by its present path
+pub record UnderWay (p : Delays) (synced : ℕ) (t : Transit) : Type 0 where
+  pub sealed : (e : Envelope) → List·Memᴰ (envelope e) (t .towards) → 1 ≤ e .number → synced ≡ 1
+  pub present : (e : Envelope) → List·Memᴰ e (t .from) → e .up ≡ p .up
+
+pub record ClockRight (first : ℕ) (p : Delays) (m : Stamps) (c t : ℕ) : Type 0 where
+  pub stamps : m ≡ capturedAt ((first + c) % clockTurn) (p .up + p .down)
   pub before : c ≤ t
   pub young : t ≤ c + ticksPerSecond
 
@@ -112,12 +121,12 @@ pub record Under (i : Identity) (past : List Envelope) (way : Way) (lo hi : ℕ)
   pub named : has i (e .llid) ≡ true
 
 -- towards a unit: numbers never fall, envelopes in [lo, hi], keys above lo and at most top
-abbrev pub Towards : ℕ → Lane → ℕ → ℕ → ℕ → List Thing → Type 0
-Towards first l lo hi top [] = Prim.Unit {0}
-Towards first l lo hi top (clockMessage m c t ∷ xs) = ClockRight first (l .site) m c t × Towards first l lo hi top xs
-Towards first l lo hi top (keyMessage m t ∷ xs) = KeyRight (l .keys) (l .site .identity) lo top m × Towards first l lo hi top xs
-Towards first l lo hi top (envelope e ∷ xs) =
-    Under (l .site .identity) (l .past .sent) downward lo hi e × Towards first l (e .number) hi top xs
+abbrev pub Towards : ℕ → Delays → Lane → ℕ → ℕ → ℕ → List Thing → Type 0
+Towards first p l lo hi top [] = Prim.Unit {0}
+Towards first p l lo hi top (clockMessage m c t ∷ xs) = ClockRight first p m c t × Towards first p l lo hi top xs
+Towards first p l lo hi top (keyMessage m t ∷ xs) = KeyRight (l .keys) (l .site .identity) lo top m × Towards first p l lo hi top xs
+Towards first p l lo hi top (envelope e ∷ xs) =
+    Under (l .site .identity) (l .past .sent) downward lo hi e × Towards first p l (e .number) hi top xs
 
 -- from a unit: numbers never fall
 abbrev pub From : Lane → ℕ → ℕ → List Envelope → Type 0
@@ -126,26 +135,51 @@ From l lo hi (e ∷ es) = Under (l .site .identity) (l .past .sent) upward lo hi
 
 ---- counter blocks
 
--- a send of that way: its channel was free, and under the key in use it was not before the first send
-pub record Spent (channels : Channels) (first : FirstSend) (current : ℕ) (e : Envelope) : Type 0 where
+-- a first send is not later than now, by the end's own count: ticks at the OLT, travel at a unit
+abbrev pub Begun : FirstSend → ℕ → Type 0
+Begun f now = f .noted ≡ 1 → f .at ≤ now
+
+-- of a unit: a change of LocalTime may bring travel back before it, and then it lies below the bar; it ended below what is spent
+pub record BegunUp (f : FirstSend) (now : ℕ) (t : Travel) : Type 0 where
+  pub begun : f .noted ≡ 1 → (f .at ≤ now) ⊎ (f .at < t .bar)
+  pub ended : f .noted ≡ 1 → f .at < t .spent
+
+-- how far a send's clock is from the OLT's first: ticks, and at a unit its delay up. Both ends count the same but for a constant
+abbrev pub countDown : Envelope → ℕ
+countDown e = e .left
+
+abbrev pub countUp : Envelope → ℕ
+countUp e = e .left + e .up
+
+-- a send of that way at that count, which with base is its sender's own count with ahead: its channel was free, and under the key in
+-- use it was not before the first send
+pub record Spent (channels : Channels) (first : FirstSend) (current ahead base count : ℕ) (e : Envelope) : Type 0 where
   pub most : e .number ≤ current
   pub passed : e .left < freeFrom channels (e .channel)
-  pub noted : 1 ≤ e .number → e .number ≡ current → (first .noted ≡ 1) × (first .tick ≤ e .left)
+  pub noted : 1 ≤ e .number → e .number ≡ current → (first .noted ≡ 1) × (first .at + ahead ≤ count + base)
 
--- two sends of one way under one number on one channel index: the later one is later, and within a key's life
+-- a sealed send of a unit ended below what is spent, and one of before the last change of LocalTime below the bar
+pub record Guarded (ahead up : ℕ) (t : Travel) (e : Envelope) : Type 0 where
+  pub spent : 1 ≤ e .number → countUp e + maxChanges < t .spent + ahead
+  pub barred : 1 ≤ e .number → (e .up ≡ up) ⊎ (countUp e + maxChanges < t .bar + ahead)
+
+-- two sends of that way under one number on one channel index: the later one has the higher count, within a key's life
+abbrev pub Apart : (Envelope → ℕ) → Way → Envelope → Envelope → Type 0
+Apart count way x y =
+    x .way ≡ way → y .way ≡ way → 1 ≤ x .number → x .number ≡ y .number → x .channel ≡ y .channel
+    → (count x < count y) × (count y < count x + keyLife)
+
 pub record Spaced (sent : List Envelope) : Type 0 where
-  pub apart : (i j : ℕ) → i < j → j < length sent
-      → getD sent i noEnvelope .way ≡ getD sent j noEnvelope .way
-      → 1 ≤ getD sent i noEnvelope .number → getD sent i noEnvelope .number ≡ getD sent j noEnvelope .number
-      → getD sent i noEnvelope .channel ≡ getD sent j noEnvelope .channel
-      → (getD sent i noEnvelope .left < getD sent j noEnvelope .left)
-      × (getD sent j noEnvelope .left < getD sent i noEnvelope .left + keyLife)
+  pub down : (i j : ℕ) → i < j → j < length sent → Apart countDown downward (getD sent i noEnvelope) (getD sent j noEnvelope)
+  pub up : (i j : ℕ) → i < j → j < length sent → Apart countUp upward (getD sent i noEnvelope) (getD sent j noEnvelope)
 
 pub record Spending (l : Lane) (down : Channels) (u : UnitRecord) (o : Onu) : Type 0 where
   pub downs : (e : Envelope) → List·Memᴰ e (l .past .sent) → e .way ≡ downward
-      → (downstream (e .channel) ≡ true) × Spent down (u .keys .first) (u .keys .active) e
+      → (downstream (e .channel) ≡ true) × Spent down (u .keys .first) (u .keys .active) 0 0 (countDown e) e
   pub ups : (e : Envelope) → List·Memᴰ e (l .past .sent) → e .way ≡ upward
-      → (upstream (e .channel) ≡ true) × Spent (o .channels) (o .first) (o .keys .active) e
+      → (upstream (e .channel) ≡ true)
+      × Spent (o .channels) (o .first) (o .keys .active) (l .site .up) maxChanges (countUp e) e
+      × Guarded (l .site .up) (l .path .up) (o .travel) e
   pub spaced : Spaced (l .past .sent)
 
 ---- what has been
@@ -184,20 +218,23 @@ pub record Joined (w : Setting) (sh : Shared) (now : ℕ) (l : Lane) (u : UnitRe
   pub numbers : Numbers (l .keys) (u .keys .active) (u .keys .offered) (u .confirmation .confirmed) (u .confirmation .acknowledged) (o .keys)
   pub stored : Stored (l .keys) (u .confirmation .confirmed) (u .keys .offered) (u .keys .slots) (o .keys)
   pub timing : Timing (l .entry) (l .keys) now (u .keys .timer)
-  pub clocks : Clocks (w .first) now (l .site) (l .captured) (u .clock) (o .clock)
+  pub clocks : Clocks (w .first) now (l .path) (l .captured) (u .clock) (o .clock)
   pub answers : Answers now (o .keys) (o .clock) (l .transit .answered)
-  pub towards : Towards (w .first) l (o .keys .active) (u .keys .active) (u .keys .offered) (l .transit .towards)
+  pub underWay : UnderWay (l .path) (o .clock .synced) (l .transit)
+  pub towards : Towards (w .first) (l .path) l (o .keys .active) (u .keys .active) (u .keys .offered) (l .transit .towards)
   pub from : From l (u .confirmation .confirmed) (o .keys .active) (l .transit .from)
   pub spending : Spending l (sh .channels) u o
   pub passing : Passing w l (u .confirmation .confirmed) (o .keys .active)
 
--- a unit at the OLT's tick
+-- a unit at the OLT's tick; its travel follows its delay up, and is counted from the least that changes of LocalTime may add up to
 pub record Common (w : Setting) (now : ℕ) (l : Lane) (o : Onu) : Type 0 where
   pub valid : validOnu o ≡ true
   pub tick : o .tick ≡ now
   pub mac : o .identity .mac ≡ l .site .identity .mac
   pub llids : (x : ℕ) → has (o .identity) x ≡ has (l .site .identity) x
   pub oltmac : o .oltmac ≡ l .site .oltmac
+  pub travel : travelOf o + l .site .up ≡ now + l .path .up + maxChanges
+  pub first : BegunUp (o .first) (travelOf o) (o .travel)
 
 -- by whether it is registered
 abbrev pub Standing : Bool → Setting → Olt → ℕ → Lane → Onu → Type 0

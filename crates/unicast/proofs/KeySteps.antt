@@ -34,7 +34,7 @@ use Rattle.protocol.proofs.KeyMessages.{TakesKey, key-message-met, key-message-
 use Rattle.unicast.specs.Setting.{Setting}
 use Rattle.unicast.specs.History.{Thing, keyMessage, Keys, Lane, keyOf, due, laneWith, leaving, laneLeaving, laneOffered, laneTaken, laneAnswered}
 use Rattle.unicast.proofs.Invariant.{reachOf, Joined, Common, AtTick}
-use Rattle.unicast.proofs.Queues.{Knows, towards-carried, towards-key, towards-taken, from-moved}
+use Rattle.unicast.proofs.Queues.{Knows, sealed-more, towards-carried, towards-key, towards-taken, from-moved}
 use Rattle.unicast.proofs.Past.{passing-moved, sent-most}
 use Rattle.unicast.proofs.Frames.{leaving-keeps, taken-keeps, answered-keeps}
 
@@ -120,10 +120,17 @@ module _ (w : Setting) (sh : Shared) (now : ℕ) (l : Lane) (u : UnitRecord) (o 
             };
         clocks = j .clocks;
         answers = j .answers;
+        underWay =
+            record {
+              sealed = sealed-more (o .clock .synced) (l .transit .towards) _ (j .underWay .sealed)
+                  (λ e q. let z : _≡_ {A = ℕ} 0 1 = cc in absurd (omega arith));
+              present = j .underWay .present;
+            };
         towards =
-            towards-key (w .first) after (o .keys .active) (u .keys .active) (u .keys .active + 1) (l .transit .towards) _ now (n .mid)
+            towards-key (w .first) (l .path) after (o .keys .active) (u .keys .active) (u .keys .active + 1) (l .transit .towards) _ now (n .mid)
             (record { above = omega arith; most = omega arith; key = stored (u .keys .active + 1) (omega arith) (omega arith) (omega arith); named = named })
-            (towards-carried (w .first) l after (o .keys .active) (o .keys .active) (u .keys .active) (u .keys .active) (u .keys .offered) (u .keys .active + 1)
+            (towards-carried (w .first) (l .path) l after (o .keys .active) (o .keys .active) (u .keys .active) (u .keys .active) (u .keys .offered)
+            (u .keys .active + 1)
             (l .transit .towards) knows (omega arith) (omega arith) (omega arith) (j .towards));
         from = from-moved l after (u .keys .offered) (u .confirmation .confirmed) (o .keys .active) (l .transit .from) knows (j .from);
         spending = record { downs = j .spending .downs; ups = j .spending .ups; spaced = j .spending .spaced };
@@ -140,8 +147,9 @@ module _ (w : Setting) (sh : Shared) (now : ℕ) (l : Lane) (u : UnitRecord) (o 
   retry-keeps llid at j named accepted =
       let n = j .numbers in
       let more : u .keys .active < u .keys .offered = omega (arith, retry-accepted u accepted) in
-      leaving-keeps w sh now l u o (keyMessage (keyMessageOf llid (u .keys)) now) j
-      (towards-key (w .first) l (o .keys .active) (u .keys .active) (u .keys .offered) (l .transit .towards) (keyMessageOf llid (u .keys)) now (n .mid)
+      leaving-keeps w sh now l u o (keyMessage (keyMessageOf llid (u .keys)) now) (λ e q. let z : _≡_ {A = ℕ} 0 1 = cc in omega arith) j
+      (towards-key (w .first) (l .path) l (o .keys .active) (u .keys .active) (u .keys .offered) (l .transit .towards)
+      (keyMessageOf llid (u .keys)) now (n .mid)
       (record { above = more; most = omega arith; key = j .stored .olt (u .keys .offered) (omega arith) (omega arith) (omega arith); named = named })
       (j .towards))
 
@@ -181,9 +189,10 @@ module _ (w : Setting) (sh : Shared) (now : ℕ) (l : Lane) (u : UnitRecord) (o 
         clocks = j .clocks;
         answers =
             record {
-              keyed = λ h. synced;
-              each = λ x m. (synced, λ e. omega (arith, j .answers .each x m .1 e));
+              each = λ x m. (λ e. synced, λ e. omega (arith, j .answers .each x m .1 e));
+              set = j .answers .set;
             };
+        underWay = j .underWay;
         towards = j .towards;
         from = j .from;
         spending = record { downs = j .spending .downs; ups = j .spending .ups; spaced = j .spending .spaced };
@@ -202,7 +211,8 @@ module _ (w : Setting) (sh : Shared) (now : ℕ) (l : Lane) (u : UnitRecord) (o 
     next-key j h e =
         let n = j .numbers in
         let taken =
-        towards-taken (w .first) l (o .keys .active) (u .keys .active) (u .keys .offered) (l .transit .towards) k x (keyMessage m t) h e (j .towards) in
+        towards-taken (w .first) (l .path) l (o .keys .active) (u .keys .active) (u .keys .offered) (l .transit .towards) k x (keyMessage m t) h e
+        (j .towards) in
         let r = taken .0 in
         record { number = omega (arith, r .above, r .most); offered = r .most; key = r .key; named = r .named }
 
@@ -243,6 +253,6 @@ module _ (w : Setting) (sh : Shared) (now : ℕ) (l : Lane) (u : UnitRecord) (o 
           subst (λ (r : Reply Onu Acknowledgement). Joined w sh now (laneAnswered (r .handed) now (laneTaken k l)) u (r .end))
           (sym (key-message-taken o m (met .0) (met .1)))
           (answered-keeps w sh now (laneTaken k l) u (withOnuKeys o ks) (ofKey (m .number)) (taken-keeps w sh now l u (withOnuKeys o ks) k (after .0))
-          (met .1 .synced) (λ kind. after .1)),
+          (λ kind. met .1 .synced) (λ kind. after .1)),
       λ refused. (key-message-refused o m refused .0, taken-keeps w sh now l u o k j),
     )

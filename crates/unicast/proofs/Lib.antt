@@ -25,8 +25,10 @@ pub mod OltSteps
 pub mod OfferSteps
 pub mod ArrivalSteps
 pub mod OnuSteps
+pub mod ChangeSteps
 pub mod Claims
 pub mod Theorem
+pub mod Unchanged
 pub mod Opened
 pub mod Tested
 pub mod Example

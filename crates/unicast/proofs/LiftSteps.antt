@@ -50,12 +50,13 @@ pub record Replaces (w : Setting) (s : State) (p : ℕ) (c : Channels) (x : Unit
   pub rises : (k : ℕ) → freeFrom (s .olt .shared .channels) k ≤ freeFrom c k
   pub paired : length lanes ≡ length (s .history .lanes)
   pub site : (u : ℕ) → laneOf lanes u .site ≡ laneAt s u .site
+  pub path : (u : ℕ) → laneOf lanes u .path ≡ laneAt s u .path
   pub entry : (u : ℕ) → laneOf lanes u .entry ≡ laneAt s u .entry
   pub own : (u : ℕ) → Held s p u → Joined w (withChannels (s .olt .shared) c) (s .history .now) (laneOf lanes u) x (onuAt s u)
   pub others : (u : ℕ) → (Held s p u → ⊥) → laneOf lanes u ≡ laneAt s u
   pub keys : KeysApart lanes
 
-standing-own : (b : Bool) (w : Setting) (t : Olt) (p : ℕ) (c : Channels) (x : UnitRecord) (now : ℕ) (l : Lane) (o : Onu) → b ≡ true → l .entry .place ≡ p
+pub standing-own : (b : Bool) (w : Setting) (t : Olt) (p : ℕ) (c : Channels) (x : UnitRecord) (now : ℕ) (l : Lane) (o : Onu) → b ≡ true → l .entry .place ≡ p
     → p < t .count → p < length (t .units) → Joined w (withChannels (t .shared) c) now l x o → Standing b w (withUnit t p c x) now l o
 unfolding withUnit
 standing-own false w t p c x now l o e f h k j = true-false (sym e)
@@ -63,7 +64,7 @@ standing-own true w t p c x now l o e f h k j =
     let same : unitAt (withUnit t p c x) (l .entry .place) ≡ x = ap (unitAt (withUnit t p c x)) f ∙ with-unit t p c x k in
     (omega (arith, f, h), rw same j)
 
-standing-others : (b : Bool) (w : Setting) (t : Olt) (p : ℕ) (c : Channels) (x : UnitRecord) (now : ℕ) (l : Lane) (o : Onu)
+pub standing-others : (b : Bool) (w : Setting) (t : Olt) (p : ℕ) (c : Channels) (x : UnitRecord) (now : ℕ) (l : Lane) (o : Onu)
     → (b ≡ true → l .entry .place ≡ p → ⊥) → ((k : ℕ) → freeFrom (t .shared .channels) k ≤ freeFrom c k) → Standing b w t now l o
     → Standing b w (withUnit t p c x) now l o
 unfolding withUnit
@@ -94,7 +95,7 @@ module _ (w : Setting) (s : State) (p : ℕ) (c : Channels) (x : UnitRecord) (la
     by-place e true f =
         let place = eqb-true _ _ f in
         record {
-          common = common-moved w (s .history .now) (laneAt s u) (laneOf lanes u) (onuAt s u) (sym (r .site u)) (old .common);
+          common = common-moved w (s .history .now) (laneAt s u) (laneOf lanes u) (onuAt s u) (sym (r .site u)) (sym (r .path u)) (old .common);
           standing =
               standing-own (laneOf lanes u .entry .registered) w (s .olt) p c x (s .history .now) (laneOf lanes u) (onuAt s u)
               (ap (λ (y : Entry). y .registered) (r .entry u) ∙ e) (ap (λ (y : Entry). y .place) (r .entry u) ∙ place) (r .used) (r .place)
@@ -127,9 +128,9 @@ module _ (w : Setting) (s : State) (p : ℕ) (c : Channels) (x : UnitRecord) (la
 -- what a call on the unit in place p makes of the lanes, of which that unit's is told
 pub told-for : (w : Setting) (s : State) (p u : ℕ) (c : Channels) (x : UnitRecord) (l : Lane) → Invariant w s → Held s p u
     → validOlt (withUnit (s .olt) p c x) ≡ true → ((k : ℕ) → freeFrom (s .olt .shared .channels) k ≤ freeFrom c k)
-    → l .site ≡ laneAt s u .site → l .entry ≡ laneAt s u .entry → l .keys .offers ≡ laneAt s u .keys .offers
+    → l .site ≡ laneAt s u .site → l .path ≡ laneAt s u .path → l .entry ≡ laneAt s u .entry → l .keys .offers ≡ laneAt s u .keys .offers
     → Joined w (withChannels (s .olt .shared) c) (s .history .now) l x (onuAt s u) → Replaces w s p c x (set (s .history .lanes) u l)
-told-for w s p u c x l i h valid rises site entry offers j =
+told-for w s p u c x l i h valid rises site path entry offers j =
     let ls = s .history .lanes in
     let used = joined-at w s p u i h .0 in
     record {
@@ -139,6 +140,7 @@ told-for w s p u c x l i h valid rises site entry offers j =
       rises = rises;
       paired = length-set ls u l;
       site = set-keeps (λ (y : Lane). y .site) ls u l (h .known) site;
+      path = set-keeps (λ (y : Lane). y .path) ls u l (h .known) path;
       entry = set-keeps (λ (y : Lane). y .entry) ls u l (h .known) entry;
       own = λ v k.
           let same = held-once w s p v u i k h in
@@ -187,6 +189,7 @@ pub record Tells {H : Type 0} (w : Setting) (s : State) (nothing : H) (ahead : V
   pub rises : (u : UnitRecord) → call (s .olt .shared) u .verdict ≡ Accepted → (k : ℕ)
       → freeFrom (s .olt .shared .channels) k ≤ freeFrom (call (s .olt .shared) u .channels) k
   pub site : (l : Lane) → f l .site ≡ l .site
+  pub path : (l : Lane) → f l .path ≡ l .path
   pub entry : (l : Lane) → f l .entry ≡ l .entry
   pub own : (l : Lifted (s .olt) nothing ahead llid call) (u : ℕ) → Held s (l .at) u → has (laneAt s u .site .identity) llid ≡ true
       → Joined w (s .olt .shared) (s .history .now) (laneAt s u) (unitAt (s .olt) (l .at)) (onuAt s u)
@@ -217,6 +220,7 @@ module _ {H : Type 0} (w : Setting) (s : State) (nothing : H) (ahead : Verdict) 
         rises = t .rises (unitAt (s .olt) (l .at)) (l .accepts);
         paired = length-map (s .history .lanes) (named llid f);
         site = named-stays (λ (y : Lane). y .site) llid f (s .history .lanes) (t .site);
+        path = named-stays (λ (y : Lane). y .path) llid f (s .history .lanes) (t .path);
         entry = named-stays (λ (y : Lane). y .entry) llid f (s .history .lanes) (t .entry);
         own = λ u h.
             let e = found-has w s (l .at) u llid i h (l .found) in

@@ -98,6 +98,7 @@ offer-right w s llid key i fits =
       valid = offer-valid (s .olt) llid key (i .valid);
       rises = λ u a k. omega arith;
       site = λ l. refl;
+      path = λ l. refl;
       entry = λ l. refl;
       own = λ l u h e j.
           rw (l .handed)

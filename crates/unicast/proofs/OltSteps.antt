@@ -54,6 +54,7 @@ capture-right w s llid i fits =
       valid = capture-valid (s .olt) llid (i .valid);
       rises = λ u a k. omega arith;
       site = λ l. refl;
+      path = λ l. refl;
       entry = λ l. refl;
       own = λ l u h e j.
           capture-keeps w (s .olt .shared) (s .history .now) (laneAt s u) (unitAt (s .olt) (l .at)) (onuAt s u) (i .shared) j;
@@ -72,6 +73,7 @@ clock-send-right w s llid i fits =
       valid = clock-send-valid (s .olt) llid (i .valid);
       rises = λ u a k. omega arith;
       site = λ l. refl;
+      path = λ l. refl;
       entry = λ l. refl;
       own = λ l u h e j.
           rw (l .handed)
@@ -88,6 +90,7 @@ retry-right w s llid i fits =
       valid = retry-valid (s .olt) llid (i .valid);
       rises = λ u a k. omega arith;
       site = λ l. refl;
+      path = λ l. refl;
       entry = λ l. refl;
       own = λ l u h e j.
           rw (l .handed)
@@ -108,6 +111,7 @@ answer-right w s u k llid i d =
       valid = acknowledge-valid (s .olt) llid a (i .valid);
       rises = λ x y n. rw (acknowledged-channels a (s .olt .shared) x) (omega arith);
       site = λ l. refl;
+      path = λ l. refl;
       entry = λ l. refl;
       own = λ l v h e j.
           let place = at-once _ _ (sym found ∙ l .found) in
@@ -129,18 +133,19 @@ send-down-right w s llid channel p out i fits =
     let now = s .history .now in
     let call = sendUnit llid channel (eqsOf p) in
     let f : Lane → Lane =
-    λ l. laneSentDown now (envelopeDown now (s .olt) llid channel p out (numberDown l now)) l in
+    λ l. laneSentDown now (envelopeDown now (l .path) (s .olt) llid channel p out (numberDown l now)) l in
     call-right w s noSending (sendAhead (misfit p out) channel) llid call f i
     (record {
       valid = sending-valid (s .olt) (misfit p out) llid channel (eqsOf p) (few-eqs p out) (i .valid);
       rises = λ u a k. send-channels llid channel (eqsOf p) sh u a k;
       site = λ l. refl;
+      path = λ l. refl;
       entry = λ l. refl;
       own = λ l u h e j.
           let x = unitAt (s .olt) (l .at) in
           let met = refuse-accepted _ _ _ (l .passed) in
           subst (λ (y : Envelope). Joined w (withChannels sh (call sh x .channels)) now (laneSentDown now y (laneAt s u)) (call sh x .unit) (onuAt s u))
-          (sym (envelope-down-is (s .olt) now llid channel p out (numberDown (laneAt s u) now) (call sh x .handed) (l .verdict) (l .handed)))
+          (sym (envelope-down-is (s .olt) now (laneAt s u .path) llid channel p out (numberDown (laneAt s u) now) (call sh x .handed) (l .verdict) (l .handed)))
           (send-down-keeps w sh now (laneAt s u) x (onuAt s u) llid channel (eqsOf p) p out (i .shared) j
           (unit-at-valid (s .olt) llid (l .at) (i .valid) (find-at (s .olt) llid (l .at) (l .found)))
           e (not-false _ (refuse-accepted _ _ _ (met .1) .0)) (met .0) (l .accepts));

@@ -17,8 +17,11 @@ use Rattle.protocol.specs.Messages.{noAcknowledgement, ofKey}
 use Rattle.protocol.specs.OnuCalls.{onuAcknowledged, clockMessageAt, keyMessageVerdict, keysTaken, keyMessageTo, keyMessageAt}
 use Rattle.ends.specs.Records.{newOnu, withOnuKeys}
 use Rattle.ends.specs.Table.{unitAt}
+use Rattle.ends.specs.Travels.{travelOf}
+use Rattle.ends.specs.Validity.{validOlt}
 use Rattle.protocol.specs.declared.Header.{Header}
 use Rattle.protocol.specs.declared.KeyMessage.{KeyMessage}
+use Rattle.ends.specs.declared.Olt.{Olt}
 use Rattle.ends.specs.declared.Onu.{Onu}
 use Rattle.protocol.specs.declared.OnuAcknowledged.{OnuAcknowledged}
 use Rattle.protocol.proofs.OnuCalls.{onu-keeps, clock-message-refused, key-message-refused}
@@ -34,7 +37,7 @@ use Rattle.unicast.specs.History.{Thing, clockMessage, keyMessage, envel
 use Rattle.unicast.specs.Events.{sendUp, arriveDown, overhear, strayClock, strayKey, strayDown}
 use Rattle.unicast.specs.Run.{State, noSite, freshLane, laneAt, onuAt, accepted, noted, withLanes, atOnu, sendingUp, messageArriving, receiptDown, envelopeArriving, thingArriving, noEnvelope, thingAt, unitAfter, step}
 use Rattle.unicast.specs.Premises.{FittingBuffer, DueDown, Fits}
-use Rattle.unicast.proofs.Invariant.{Joined, Common, Standing, LaneRight, Invariant}
+use Rattle.unicast.proofs.Invariant.{Joined, Common, Standing, LaneRight, AtTick, Invariant}
 use Rattle.unicast.proofs.Alive.{Alive, registered-alive, towards-alive}
 use Rattle.unicast.proofs.ClockSteps.{clock-arrives, common-clock-keeps}
 use Rattle.unicast.proofs.KeySteps.{key-arrives}
@@ -45,14 +48,25 @@ use Rattle.unicast.proofs.OverheardSteps.{overheard-refused}
 
 ---- one unit replaced
 
--- a unit and its lane are replaced, past the end nothing; registration and offers stay
-module _ (w : Setting) (s : State) (u : ℕ) (o : Onu) (m : Lane) (v : Invariant w s)
-    (right : u < length (s .history .lanes) → LaneRight w (s .olt) (s .history .now) m o) (entry : m .entry ≡ laneAt s u .entry)
+-- an OLT that is right, and of which the lanes of other units are
+pub record OltRight (w : Setting) (s : State) (u : ℕ) (t : Olt) : Type 0 where
+  pub valid : validOlt t ≡ true
+  pub places : length (t .units) ≡ 16
+  pub count : t .count ≡ s .history .registrations
+  pub shared : AtTick w (s .history .now) (t .shared)
+  pub others : (x : ℕ) → x < length (s .history .lanes) → (x ≡ u → ⊥) → LaneRight w t (s .history .now) (laneAt s x) (onuAt s x)
+
+same-olt : (w : Setting) (s : State) (u : ℕ) → Invariant w s → OltRight w s u (s .olt)
+same-olt w s u v = record { valid = v .valid; places = v .places; count = v .count; shared = v .shared; others = λ x h n. v .lane x h }
+
+-- a unit and its lane are replaced, past the end nothing, and the OLT; registration and offers stay
+module _ (w : Setting) (s : State) (u : ℕ) (t : Olt) (o : Onu) (m : Lane) (v : Invariant w s) (r : OltRight w s u t)
+    (right : u < length (s .history .lanes) → LaneRight w t (s .history .now) m o) (entry : m .entry ≡ laneAt s u .entry)
     (offers : m .keys .offers ≡ laneAt s u .keys .offers) where
   abbrev after : State
   after =
       record {
-        olt = s .olt;
+        olt = t;
         onus = set (s .onus) u o;
         history = record { now = s .history .now; registrations = s .history .registrations; lanes = set (s .history .lanes) u m };
       }
@@ -64,9 +78,9 @@ module _ (w : Setting) (s : State) (u : ℕ) (o : Onu) (m : Lane) (v : Invariant
       ∙ ap (λ (l : List B). getD l x (f (freshLane noSite))) (map-set-same f (s .history .lanes) u m (freshLane noSite) e)
       ∙ List·getD-map f (s .history .lanes) x (freshLane noSite)
 
-  lane-right : (x : ℕ) → x < length (s .history .lanes) → LaneRight w (s .olt) (s .history .now) (laneAt after x) (onuAt after x)
+  lane-right : (x : ℕ) → x < length (s .history .lanes) → LaneRight w t (s .history .now) (laneAt after x) (onuAt after x)
   lane-right x h = by-lane (eqb x u) refl where
-    by-lane : (t : Bool) → eqb x u ≡ t → LaneRight w (s .olt) (s .history .now) (laneAt after x) (onuAt after x)
+    by-lane : (b : Bool) → eqb x u ≡ b → LaneRight w t (s .history .now) (laneAt after x) (onuAt after x)
     by-lane true e =
         let z : x ≡ u = eqb-true x u e in
         let known : u < length (s .history .lanes) = rw z at h in
@@ -80,7 +94,7 @@ module _ (w : Setting) (s : State) (u : ℕ) (o : Onu) (m : Lane) (v : Invariant
         rw (
           getD-set-other (s .history .lanes) u x m (freshLane noSite) n,
           getD-set-other (s .onus) u x o (newOnu noIdentity 0 0) n,
-        ) (v .lane x h)
+        ) (r .others x h n)
 
   pub replaced-right : Invariant w after
   replaced-right =
@@ -88,10 +102,10 @@ module _ (w : Setting) (s : State) (u : ℕ) (o : Onu) (m : Lane) (v : Invariant
       let entries = field-stays (λ (l : Lane). l .entry) entry in
       let keys = field-stays (λ (l : Lane). l .keys .offers) offers in
       record {
-        valid = v .valid;
-        places = v .places;
-        count = v .count;
-        shared = v .shared;
+        valid = r .valid;
+        places = r .places;
+        count = r .count;
+        shared = r .shared;
         paired = length-set (s .onus) u o ∙ v .paired ∙ sym places;
         lane = λ x h. lane-right x (rw places at h);
         apart = λ x y h k b c e.
@@ -103,7 +117,7 @@ pub at-onu-right : (w : Setting) (s : State) (u : ℕ) (o : Onu) (f : Lane → L
     → (u < length (s .history .lanes) → LaneRight w (s .olt) (s .history .now) (f (laneAt s u)) o)
     → f (laneAt s u) .entry ≡ laneAt s u .entry → f (laneAt s u) .keys .offers ≡ laneAt s u .keys .offers → Invariant w (atOnu s u o f)
 unfolding atOnu withLanes
-at-onu-right w s u o f v right entry offers = replaced-right w s u o (f (laneAt s u)) v right entry offers
+at-onu-right w s u o f v right entry offers = replaced-right w s u (s .olt) o (f (laneAt s u)) v (same-olt w s u v) right entry offers
 
 -- what the lane is told by an accepted call
 noted-right : (w : Setting) (s : State) (u : ℕ) (o : Onu) (number : ℕ) (f g : Lane → Lane) → (number ≡ 0 → Invariant w (atOnu s u o (λ l. f (g l))))
@@ -155,7 +169,7 @@ send-up-right w s u llid channel p out v f =
     (λ z.
     let r = registered-alive w s u v (f z) in
     alive-right w s u v (x .answer .onu) _ r refl refl
-    (send-common w (s .history .now) (laneAt s u) _ (onuAt s u) llid channel p out refl (r .common))
+    (send-common w (s .history .now) (laneAt s u) _ (onuAt s u) llid channel p out refl refl (r .common))
     (send-up-keeps w (s .olt .shared) (s .history .now) (laneAt s u) (unitAt (s .olt) (laneAt s u .entry .place)) (onuAt s u) llid channel p out (r .common)
     (r .joined) z))
     (λ n.
@@ -164,7 +178,7 @@ send-up-right w s u llid channel p out v f =
 ---- what arrives
 
 key-common : (w : Setting) (now : ℕ) (l : Lane) (o : Onu) (m : KeyMessage) → Common w now l o → Common w now l (keyMessageAt o m .onu)
-unfolding keyMessageAt keyMessageTo onuAcknowledged withOnuKeys
+unfolding keyMessageAt keyMessageTo onuAcknowledged withOnuKeys travelOf
 key-common w now l o m c =
     onu-keeps (λ (p : Onu). Common w now l p) o noAcknowledgement (keyMessageVerdict o m) (withOnuKeys o (keysTaken (o .keys) m)) (ofKey (m .number)) c
     (λ v a.
@@ -174,6 +188,8 @@ key-common w now l o m c =
       mac = c .mac;
       llids = c .llids;
       oltmac = c .oltmac;
+      travel = c .travel;
+      first = c .first;
     })
 
 module _ (w : Setting) (s : State) (u k : ℕ) (out : List ℕ) (v : Invariant w s) (d : DueDown s u k out) where
@@ -194,12 +210,13 @@ module _ (w : Setting) (s : State) (u k : ℕ) (out : List ℕ) (v : Invariant w
       noted-right w s u (r .onu) (r .number) (laneAnswered (r .acknowledgement) (s .history .now)) (laneTaken k)
       (λ z.
       alive-right w s u v (r .onu) (λ l. laneAnswered (r .acknowledgement) (s .history .now) (laneTaken k l)) place refl refl
-      (common-moved w (s .history .now) (laneAt s u) _ (r .onu) refl c) (taken z))
+      (common-moved w (s .history .now) (laneAt s u) _ (r .onu) refl refl c) (taken z))
       (λ n.
       let same = refused n in
-      alive-right w s u v (r .onu) (laneTaken k) place refl refl (common-moved w (s .history .now) (laneAt s u) _ (r .onu) refl c) (rw (same .0) (same .1)))
+      alive-right w s u v (r .onu) (laneTaken k) place refl refl (common-moved w (s .history .now) (laneAt s u) _ (r .onu) refl refl c)
+      (rw (same .0) (same .1)))
 
-  thing-right : (x : Thing) → thingAt s u k ≡ x → leftAt x + laneAt s u .site .down ≡ s .history .now → FittingBuffer x out
+  thing-right : (x : Thing) → thingAt s u k ≡ x → leftAt x + laneAt s u .path .down ≡ s .history .now → FittingBuffer x out
       → Invariant w (thingArriving s u k out x)
   unfolding thingArriving envelopeArriving receiptDown laneArrivedDown laneTaken laneWith
   thing-right (clockMessage m c t) e due b =
@@ -217,7 +234,7 @@ module _ (w : Setting) (s : State) (u k : ℕ) (out : List ℕ) (v : Invariant w
   thing-right (envelope x) e due b =
       let r = place in
       alive-right w s u v _ (λ l. laneArrivedDown (receiptDown s u x out) (laneTaken k l)) r refl refl
-      (receive-common w (s .history .now) (laneAt s u) _ (onuAt s u) (x .header) (x .octets) out refl (r .common))
+      (receive-common w (s .history .now) (laneAt s u) _ (onuAt s u) (x .header) (x .octets) out refl refl (r .common))
       (arrive-down w (s .olt .shared) (s .history .now) (laneAt s u) (unitAt (s .olt) (laneAt s u .entry .place)) (onuAt s u) (r .common) (r .joined)
       k (envelope noEnvelope) x out (d .some) e due b)
 

@@ -42,7 +42,7 @@ module _ (w : Setting) (l l' : Lane) (top : ℕ) (k : Knows l l' top) where
   sent-carried e h r =
       record {
         passage = passage-carried e (e .channel) (e .passage) h (r .passage);
-        header = rw (k .site) at (r .header);
+        header = r .header;
         octets =
             r .octets
             ∙ carried-same (isSealed e) _ _ _ _ (λ t. k .keys (e .number) (leb-true 1 (e .number) t) h)

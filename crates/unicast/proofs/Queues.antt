@@ -1,14 +1,15 @@
 -- Laws of what is under way: a queue holds under wider bounds and for a lane that knows more, with one thing more at its end, and
 -- from any of its things on. Assumes nothing.
-use mathlib.Core.Path.{_≡_, refl, _∙_, subst}
-use mathlib.Core.List.{List, [], _∷_, _++_, List·Memᴰ}
+use mathlib.Core.Path.{_≡_, refl, sym, _∙_, ap, subst}
+use mathlib.Core.List.{List, [], _∷_, _++_, List·Memᴰ, List·Memᴰ·tail, List·Memᴰ·append-cases, List·Memᴰ·eq-of-singleton}
+use mathlib.Core.Logic.{⊎-elim}
 use Prim.Native.Nat.{ℕ, zero, suc, _<_, _≤_}
 use native.Mathlib.Nat.{le-of-suc-le-suc, not-suc-le-zero}
 use native.Mathlib.Omega.{arith}
 use lib.ListN.{length, getD, drop}
 use Rattle.protocol.specs.declared.KeyMessage.{KeyMessage}
 use Rattle.clock.specs.declared.Stamps.{Stamps}
-use Rattle.unicast.specs.Setting.{Site}
+use Rattle.unicast.specs.Setting.{Delays}
 use Rattle.unicast.specs.History.{Way, downward, upward, Envelope, Thing, clockMessage, keyMessage, envelope, Lane, keyOf}
 use Rattle.unicast.proofs.Invariant.{ClockRight, KeyRight, Under, Towards, From}
 
@@ -41,84 +42,103 @@ key-carried l l' lo lo' top top' m k h g r =
       named = rw (k .site) at (r .named);
     }
 
+---- sealed envelopes
+
+-- the number of an envelope under way
+pub envelope-number : (x y : Envelope) → envelope x ≡ envelope y → x .number ≡ y .number
+envelope-number x y e = let same : x ≡ y = cc in ap (λ (z : Envelope). z .number) same
+
+pub dropped-among : {A : Type 0} (x : A) (xs : List A) (k : ℕ) → List·Memᴰ x (drop k xs) → List·Memᴰ x xs
+dropped-among x [] zero m = m
+dropped-among x [] (suc k) m = m
+dropped-among x (y ∷ xs) zero m = m
+dropped-among x (y ∷ xs) (suc k) m = List·Memᴰ·tail (dropped-among x xs k m)
+
+-- one thing more
+pub sealed-more : (synced : ℕ) (xs : List Thing) (x : Thing) → ((e : Envelope) → List·Memᴰ (envelope e) xs → 1 ≤ e .number → synced ≡ 1)
+    → ((e : Envelope) → x ≡ envelope e → 1 ≤ e .number → synced ≡ 1) → (e : Envelope) → List·Memᴰ (envelope e) (xs ++ (x ∷ [])) → 1 ≤ e .number
+    → synced ≡ 1
+sealed-more synced xs x old new e m =
+    ⊎-elim (λ before. old e before) (λ last. new e (sym (List·Memᴰ·eq-of-singleton last))) (List·Memᴰ·append-cases xs m)
+
 ---- towards a unit
 
 -- under wider bounds, for a lane that knows more
-pub towards-carried : (first : ℕ) (l l' : Lane) (lo lo' hi hi' top top' : ℕ) (xs : List Thing) → Knows l l' top
-    → lo' ≤ lo → hi ≤ hi' → top ≤ top' → Towards first l lo hi top xs → Towards first l' lo' hi' top' xs
-towards-carried first l l' lo lo' hi hi' top top' [] k h g f q = tt
-towards-carried first l l' lo lo' hi hi' top top' (clockMessage m c t ∷ xs) k h g f q =
-    (subst (λ (s : Site). ClockRight first s m c t) (k .site) (q .0), towards-carried first l l' lo lo' hi hi' top top' xs k h g f (q .1))
-towards-carried first l l' lo lo' hi hi' top top' (keyMessage m t ∷ xs) k h g f q =
-    (key-carried l l' lo lo' top top' m k h f (q .0), towards-carried first l l' lo lo' hi hi' top top' xs k h g f (q .1))
-towards-carried first l l' lo lo' hi hi' top top' (envelope e ∷ xs) k h g f q = (
+pub towards-carried : (first : ℕ) (p : Delays) (l l' : Lane) (lo lo' hi hi' top top' : ℕ) (xs : List Thing) → Knows l l' top
+    → lo' ≤ lo → hi ≤ hi' → top ≤ top' → Towards first p l lo hi top xs → Towards first p l' lo' hi' top' xs
+towards-carried first p l l' lo lo' hi hi' top top' [] k h g f q = tt
+towards-carried first p l l' lo lo' hi hi' top top' (clockMessage m c t ∷ xs) k h g f q =
+    (q .0, towards-carried first p l l' lo lo' hi hi' top top' xs k h g f (q .1))
+towards-carried first p l l' lo lo' hi hi' top top' (keyMessage m t ∷ xs) k h g f q =
+    (key-carried l l' lo lo' top top' m k h f (q .0), towards-carried first p l l' lo lo' hi hi' top top' xs k h g f (q .1))
+towards-carried first p l l' lo lo' hi hi' top top' (envelope e ∷ xs) k h g f q = (
   under-carried l l' top lo lo' hi hi' downward e k h g (q .0),
-  towards-carried first l l' (e .number) (e .number) hi hi' top top' xs k (omega arith) g f (q .1),
+  towards-carried first p l l' (e .number) (e .number) hi hi' top top' xs k (omega arith) g f (q .1),
 )
 
-pub towards-weakened : (first : ℕ) (l : Lane) (lo lo' hi hi' top top' : ℕ) (xs : List Thing)
-    → lo' ≤ lo → hi ≤ hi' → top ≤ top' → Towards first l lo hi top xs → Towards first l lo' hi' top' xs
-towards-weakened first l lo lo' hi hi' top top' xs h g f q =
-    towards-carried first l l lo lo' hi hi' top top' xs (record { site = refl; sent = λ e m. m; keys = λ n p r. refl }) h g f q
+pub towards-weakened : (first : ℕ) (p : Delays) (l : Lane) (lo lo' hi hi' top top' : ℕ) (xs : List Thing)
+    → lo' ≤ lo → hi ≤ hi' → top ≤ top' → Towards first p l lo hi top xs → Towards first p l lo' hi' top' xs
+towards-weakened first p l lo lo' hi hi' top top' xs h g f q =
+    towards-carried first p l l lo lo' hi hi' top top' xs (record { site = refl; sent = λ e m. m; keys = λ n p r. refl }) h g f q
 
-pub towards-moved : (first : ℕ) (l l' : Lane) (lo hi top : ℕ) (xs : List Thing) → Knows l l' top
-    → Towards first l lo hi top xs → Towards first l' lo hi top xs
-towards-moved first l l' lo hi top xs k q =
-    towards-carried first l l' lo lo hi hi top top xs k (omega arith) (omega arith) (omega arith) q
+pub towards-moved : (first : ℕ) (p : Delays) (l l' : Lane) (lo hi top : ℕ) (xs : List Thing) → Knows l l' top
+    → Towards first p l lo hi top xs → Towards first p l' lo hi top xs
+towards-moved first p l l' lo hi top xs k q =
+    towards-carried first p l l' lo lo hi hi top top xs k (omega arith) (omega arith) (omega arith) q
 
 -- more at the end: right above every number that the queue can have
-towards-append : (first : ℕ) (l : Lane) (lo hi top : ℕ) (xs ys : List Thing) → lo ≤ hi → Towards first l lo hi top xs
-    → ((low : ℕ) → low ≤ hi → Towards first l low hi top ys) → Towards first l lo hi top (xs ++ ys)
-towards-append first l lo hi top [] ys h q r = r lo h
-towards-append first l lo hi top (clockMessage m c t ∷ xs) ys h q r = (q .0, towards-append first l lo hi top xs ys h (q .1) r)
-towards-append first l lo hi top (keyMessage m t ∷ xs) ys h q r = (q .0, towards-append first l lo hi top xs ys h (q .1) r)
-towards-append first l lo hi top (envelope e ∷ xs) ys h q r =
-    (q .0, towards-append first l (e .number) hi top xs ys (q .0 .most) (q .1) r)
+towards-append : (first : ℕ) (p : Delays) (l : Lane) (lo hi top : ℕ) (xs ys : List Thing) → lo ≤ hi → Towards first p l lo hi top xs
+    → ((low : ℕ) → low ≤ hi → Towards first p l low hi top ys) → Towards first p l lo hi top (xs ++ ys)
+towards-append first p l lo hi top [] ys h q r = r lo h
+towards-append first p l lo hi top (clockMessage m c t ∷ xs) ys h q r = (q .0, towards-append first p l lo hi top xs ys h (q .1) r)
+towards-append first p l lo hi top (keyMessage m t ∷ xs) ys h q r = (q .0, towards-append first p l lo hi top xs ys h (q .1) r)
+towards-append first p l lo hi top (envelope e ∷ xs) ys h q r =
+    (q .0, towards-append first p l (e .number) hi top xs ys (q .0 .most) (q .1) r)
 
-pub towards-clock : (first : ℕ) (l : Lane) (lo hi top : ℕ) (xs : List Thing) (m : Stamps) (c t : ℕ) → lo ≤ hi
-    → ClockRight first (l .site) m c t → Towards first l lo hi top xs → Towards first l lo hi top (xs ++ (clockMessage m c t ∷ []))
-towards-clock first l lo hi top xs m c t h r q = towards-append first l lo hi top xs (clockMessage m c t ∷ []) h q (λ low g. (r, tt))
+pub towards-clock : (first : ℕ) (p : Delays) (l : Lane) (lo hi top : ℕ) (xs : List Thing) (m : Stamps) (c t : ℕ) → lo ≤ hi
+    → ClockRight first p m c t → Towards first p l lo hi top xs → Towards first p l lo hi top (xs ++ (clockMessage m c t ∷ []))
+towards-clock first p l lo hi top xs m c t h r q = towards-append first p l lo hi top xs (clockMessage m c t ∷ []) h q (λ low g. (r, tt))
 
 -- a key above hi
-pub towards-key : (first : ℕ) (l : Lane) (lo hi top : ℕ) (xs : List Thing) (m : KeyMessage) (t : ℕ) → lo ≤ hi
-    → KeyRight (l .keys) (l .site .identity) hi top m → Towards first l lo hi top xs → Towards first l lo hi top (xs ++ (keyMessage m t ∷ []))
-towards-key first l lo hi top xs m t h r q =
-    towards-append first l lo hi top xs (keyMessage m t ∷ []) h q
+pub towards-key : (first : ℕ) (p : Delays) (l : Lane) (lo hi top : ℕ) (xs : List Thing) (m : KeyMessage) (t : ℕ) → lo ≤ hi
+    → KeyRight (l .keys) (l .site .identity) hi top m → Towards first p l lo hi top xs → Towards first p l lo hi top (xs ++ (keyMessage m t ∷ []))
+towards-key first p l lo hi top xs m t h r q =
+    towards-append first p l lo hi top xs (keyMessage m t ∷ []) h q
     (λ low g. (record { above = omega (arith, r .above); most = r .most; key = r .key; named = r .named }, tt))
 
 -- an envelope numbered hi
-pub towards-envelope : (first : ℕ) (l : Lane) (lo hi top : ℕ) (xs : List Thing) (e : Envelope) → lo ≤ hi
-    → Under (l .site .identity) (l .past .sent) downward hi hi e → Towards first l lo hi top xs
-    → Towards first l lo hi top (xs ++ (envelope e ∷ []))
-towards-envelope first l lo hi top xs e h u q =
-    towards-append first l lo hi top xs (envelope e ∷ []) h q
+pub towards-envelope : (first : ℕ) (p : Delays) (l : Lane) (lo hi top : ℕ) (xs : List Thing) (e : Envelope) → lo ≤ hi
+    → Under (l .site .identity) (l .past .sent) downward hi hi e → Towards first p l lo hi top xs
+    → Towards first p l lo hi top (xs ++ (envelope e ∷ []))
+towards-envelope first p l lo hi top xs e h u q =
+    towards-append first p l lo hi top xs (envelope e ∷ []) h q
     (λ low g. (record { above = omega (arith, u .above); most = u .most; sent = u .sent; thatWay = u .thatWay; named = u .named }, tt))
 
 -- the kth and what follows it: at a message it is right, and the rest; at an envelope it lies within the bounds, and the rest
 -- lies above it
-pub towards-taken : (first : ℕ) (l : Lane) (lo hi top : ℕ) (xs : List Thing) (k : ℕ) (d x : Thing) → k < length xs → getD xs k d ≡ x
-    → Towards first l lo hi top xs → Towards first l lo hi top (x ∷ drop (suc k) xs)
-towards-taken first l lo hi top [] k d x h e q = absurd (not-suc-le-zero h)
-towards-taken first l lo hi top (y ∷ xs) zero d x h e q = subst (λ (z : Thing). Towards first l lo hi top (z ∷ xs)) e q
-towards-taken first l lo hi top (clockMessage m c t ∷ xs) (suc k) d x h e q =
-    towards-taken first l lo hi top xs k d x (le-of-suc-le-suc h) e (q .1)
-towards-taken first l lo hi top (keyMessage m t ∷ xs) (suc k) d x h e q =
-    towards-taken first l lo hi top xs k d x (le-of-suc-le-suc h) e (q .1)
-towards-taken first l lo hi top (envelope y ∷ xs) (suc k) d x h e q =
-    towards-weakened first l (y .number) lo hi hi top top (x ∷ drop (suc k) xs) (q .0 .above) (omega arith) (omega arith)
-    (towards-taken first l (y .number) hi top xs k d x (le-of-suc-le-suc h) e (q .1))
+pub towards-taken : (first : ℕ) (p : Delays) (l : Lane) (lo hi top : ℕ) (xs : List Thing) (k : ℕ) (d x : Thing) → k < length xs → getD xs k d ≡ x
+    → Towards first p l lo hi top xs → Towards first p l lo hi top (x ∷ drop (suc k) xs)
+towards-taken first p l lo hi top [] k d x h e q = absurd (not-suc-le-zero h)
+towards-taken first p l lo hi top (y ∷ xs) zero d x h e q = subst (λ (z : Thing). Towards first p l lo hi top (z ∷ xs)) e q
+towards-taken first p l lo hi top (clockMessage m c t ∷ xs) (suc k) d x h e q =
+    towards-taken first p l lo hi top xs k d x (le-of-suc-le-suc h) e (q .1)
+towards-taken first p l lo hi top (keyMessage m t ∷ xs) (suc k) d x h e q =
+    towards-taken first p l lo hi top xs k d x (le-of-suc-le-suc h) e (q .1)
+towards-taken first p l lo hi top (envelope y ∷ xs) (suc k) d x h e q =
+    towards-weakened first p l (y .number) lo hi hi top top (x ∷ drop (suc k) xs) (q .0 .above) (omega arith) (omega arith)
+    (towards-taken first p l (y .number) hi top xs k d x (le-of-suc-le-suc h) e (q .1))
 
 -- the first k lost
-pub towards-dropped : (first : ℕ) (l : Lane) (lo hi top : ℕ) (xs : List Thing) (k : ℕ) → Towards first l lo hi top xs
-    → Towards first l lo hi top (drop k xs)
-towards-dropped first l lo hi top [] zero q = tt
-towards-dropped first l lo hi top [] (suc k) q = tt
-towards-dropped first l lo hi top (x ∷ xs) zero q = q
-towards-dropped first l lo hi top (clockMessage m c t ∷ xs) (suc k) q = towards-dropped first l lo hi top xs k (q .1)
-towards-dropped first l lo hi top (keyMessage m t ∷ xs) (suc k) q = towards-dropped first l lo hi top xs k (q .1)
-towards-dropped first l lo hi top (envelope e ∷ xs) (suc k) q =
-    towards-weakened first l (e .number) lo hi hi top top (drop k xs) (q .0 .above) (omega arith) (omega arith)
-    (towards-dropped first l (e .number) hi top xs k (q .1))
+pub towards-dropped : (first : ℕ) (p : Delays) (l : Lane) (lo hi top : ℕ) (xs : List Thing) (k : ℕ) → Towards first p l lo hi top xs
+    → Towards first p l lo hi top (drop k xs)
+towards-dropped first p l lo hi top [] zero q = tt
+towards-dropped first p l lo hi top [] (suc k) q = tt
+towards-dropped first p l lo hi top (x ∷ xs) zero q = q
+towards-dropped first p l lo hi top (clockMessage m c t ∷ xs) (suc k) q = towards-dropped first p l lo hi top xs k (q .1)
+towards-dropped first p l lo hi top (keyMessage m t ∷ xs) (suc k) q = towards-dropped first p l lo hi top xs k (q .1)
+towards-dropped first p l lo hi top (envelope e ∷ xs) (suc k) q =
+    towards-weakened first p l (e .number) lo hi hi top top (drop k xs) (q .0 .above) (omega arith) (omega arith)
+    (towards-dropped first p l (e .number) hi top xs k (q .1))
 
 ---- from a unit
 

@@ -7,7 +7,7 @@ use native.Mathlib.Omega.{arith}
 use lib.Dec.{eqb, leb}
 use borrow.Author.Tests.{le-leb, eqb-true, eqb-false}
 use Rattle.refusal.specs.declared.Verdict.the-variants.{Accepted}
-use Rattle.protocol.specs.Headers.{choiceNumber, choiceVerdict, envelopeHeader}
+use Rattle.protocol.specs.Headers.{choiceEnciphered, choiceNumber, choiceVerdict, envelopeHeader}
 use Rattle.ends.specs.Keys.{keyIn, onlyKey, notNoted}
 use Rattle.protocol.specs.OnuTraffic.{onuReceiveChoice, onuMoved, onuAfterReceipt}
 use Rattle.ends.specs.Records.{withKeys, withConfirmation, withSlots, withOnuKeys, withOnuFirst}
@@ -24,7 +24,6 @@ use Rattle.protocol.proofs.Headers.{header-clear, header-sealed}
 use Rattle.ends.proofs.Keys.{only-kept}
 use Rattle.protocol.proofs.OnuChoices.{onu-receive-clear, onu-receive-current, onu-receive-next}
 use Rattle.protocol.proofs.UnitChoices.{receive-clear, receive-current, receive-next}
-use Rattle.traffic.specs.Passages.{choiceEnciphered}
 use Rattle.unicast.proofs.Invariant.{reachOf}
 
 ---- at a unit

@@ -1,18 +1,21 @@
 -- An envelope that arrives at its unit is accepted and opened, and keeps the invariant of its lane. Assumes nothing.
 use mathlib.Core.Path.{_≡_, refl, sym, _∙_, ap, subst}
 use mathlib.Core.Bool.{Bool, true, false}
-use mathlib.Core.List.{List}
+use mathlib.Core.List.{List, List·Memᴰ}
 use Prim.Native.Nat.{ℕ, suc, _+_, _<_, _≤_}
 use native.Mathlib.Omega.{arith}
 use lib.Dec.{eqb}
 use lib.ListN.{length, getD, drop}
 use borrow.Author.Tests.{eqb-true, eqb-false}
+use Rattle.octets.proofs.Members.{mem-at}
 use Rattle.refusal.specs.declared.Verdict.the-variants.{Accepted}
 use Rattle.clock.specs.Ticks.{epamOf}
 use Rattle.clock.specs.Aligned.{Aligned}
 use Rattle.clock.specs.declared.Stamps.{Stamps}
 use Rattle.protocol.specs.Headers.{validHeader, envelopeHeader, keyFor, passageOf, noPassage}
 use Rattle.ends.specs.Identities.{has}
+use Rattle.ends.specs.Limits.{maxChanges}
+use Rattle.ends.specs.Travels.{travelOf}
 use Rattle.protocol.specs.OnuTraffic.{onuReceiveChoice, onuMoved, onuAfterReceipt, receivingOnu}
 use Rattle.ends.specs.Records.{withOnuKeys, withOnuFirst}
 use Rattle.ends.specs.declared.FirstSend.{FirstSend}
@@ -31,8 +34,8 @@ use Rattle.traffic.specs.Receipts.{onuReceived, onuReceiveOf}
 use Rattle.unicast.specs.Setting.{Setting, clockDown}
 use Rattle.unicast.specs.History.{downward, Envelope, Thing, envelope, Arrival, Lane, laneWith, arriving, laneTaken, laneArrivedDown}
 use Rattle.unicast.specs.Claim.{PassageRight, SentRight, ArrivedRight}
-use Rattle.unicast.proofs.Invariant.{Under, Towards, Joined, Common}
-use Rattle.unicast.proofs.Queues.{Knows, towards-carried, towards-taken, from-carried}
+use Rattle.unicast.proofs.Invariant.{countUp, Under, Towards, Joined, Common}
+use Rattle.unicast.proofs.Queues.{Knows, dropped-among, towards-carried, towards-taken, from-carried}
 use Rattle.unicast.proofs.Frames.{common-moved}
 use Rattle.unicast.proofs.Envelopes.{ways-apart, arrivalOf, opens-right, octets-fit}
 use Rattle.unicast.proofs.SendChoices.{timing-stayed}
@@ -45,7 +48,7 @@ module _ (w : Setting) (sh : Shared) (now : ℕ) (l : Lane) (u : UnitRecord) (o 
   -- the unit's keys and first send after an arrival
   arrived-down-joined : (choice : KeyChoice) (k : ℕ) (r : Arrival) (t : TakenDown o choice (r .envelope .number))
       → Under (l .site .identity) (l .past .sent) downward (o .keys .active) (u .keys .active) (r .envelope)
-      → Towards (w .first) l (r .envelope .number) (u .keys .active) (u .keys .offered) (drop (suc k) (l .transit .towards))
+      → Towards (w .first) (l .path) l (r .envelope .number) (u .keys .active) (u .keys .offered) (drop (suc k) (l .transit .towards))
       → ArrivedRight w l r → Joined w sh now (laneArrivedDown r (laneTaken k l)) u (withOnuFirst (withOnuKeys o (t .keys)) (t .first))
   unfolding laneArrivedDown laneTaken laneWith arriving withOnuFirst withOnuKeys
   arrived-down-joined choice k r t e rest right =
@@ -82,11 +85,17 @@ module _ (w : Setting) (sh : Shared) (now : ℕ) (l : Lane) (u : UnitRecord) (o 
         clocks = j .clocks;
         answers =
             record {
-              keyed = λ p. j .answers .keyed (omega (arith, p, t .reach));
               each = λ x i. let was = j .answers .each x i in (was .0, λ q. let held = was .1 q in omega (arith, held, t .reach));
+              set = j .answers .set;
+            };
+        underWay =
+            record {
+              sealed = λ x m. j .underWay .sealed x (dropped-among (envelope x) (l .transit .towards) (suc k) m);
+              present = j .underWay .present;
             };
         towards =
-            towards-carried (w .first) l m (r .envelope .number) (t .keys .active) (u .keys .active) (u .keys .active) (u .keys .offered) (u .keys .offered)
+            towards-carried (w .first) (l .path) l m (r .envelope .number) (t .keys .active) (u .keys .active) (u .keys .active) (u .keys .offered)
+            (u .keys .offered)
             (drop (suc k) (l .transit .towards)) (knows (u .keys .offered)) (omega (arith, t .active)) (omega arith) (omega arith) rest;
         from =
             from-carried l m 0 (u .confirmation .confirmed) (u .confirmation .confirmed) (o .keys .active) (t .keys .active) (l .transit .from) (knows 0)
@@ -103,9 +112,10 @@ module _ (w : Setting) (sh : Shared) (now : ℕ) (l : Lane) (u : UnitRecord) (o 
                       passed = s .passed;
                       noted = λ p f.
                           let same : r .envelope .number ≡ o .keys .active = omega (arith, f, s .most, e .above, t .active) in
-                          subst (λ (y : FirstSend). (y .noted ≡ 1) × (y .tick ≤ x .left)) (sym (t .stays same))
+                          subst (λ (y : FirstSend). (y .noted ≡ 1) × (y .at + l .site .up ≤ countUp x + maxChanges)) (sym (t .stays same))
                           (s .noted p (f ∙ t .active ∙ same));
                     },
+                    record { spent = was .2 .spent; barred = was .2 .barred },
                   );
               spaced = j .spending .spaced;
             };
@@ -134,11 +144,11 @@ arrivalDown o e out =
 
 module _ (w : Setting) (sh : Shared) (now : ℕ) (l : Lane) (u : UnitRecord) (o : Onu) (c : Common w now l o) (j : Joined w sh now l u o) (k : ℕ) (d : Thing)
     (e : Envelope) (out : List ℕ) (some : k < length (l .transit .towards)) (is : getD (l .transit .towards) k d ≡ envelope e)
-    (due : e .left + l .site .down ≡ now) (buffer : length out ≡ length (e .octets)) where
+    (due : e .left + l .path .down ≡ now) (buffer : length out ≡ length (e .octets)) where
   queue-down : Under (l .site .identity) (l .past .sent) downward (o .keys .active) (u .keys .active) e
-      × Towards (w .first) l (e .number) (u .keys .active) (u .keys .offered) (drop (suc k) (l .transit .towards))
+      × Towards (w .first) (l .path) l (e .number) (u .keys .active) (u .keys .offered) (drop (suc k) (l .transit .towards))
   queue-down =
-      towards-taken (w .first) l (o .keys .active) (u .keys .active) (u .keys .offered) (l .transit .towards) k d (envelope e) some is (j .towards)
+      towards-taken (w .first) (l .path) l (o .keys .active) (u .keys .active) (u .keys .offered) (l .transit .towards) k d (envelope e) some is (j .towards)
 
   right-down : SentRight w l e
   right-down = j .passing .sent e (queue-down .0 .sent)
@@ -153,10 +163,10 @@ module _ (w : Setting) (sh : Shared) (now : ℕ) (l : Lane) (u : UnitRecord) (o 
       (omega (arith, queue-down .0 .most, n .high)) (n .flag)
 
   synced-down : 1 ≤ e .number → o .clock .synced ≡ 1
-  synced-down h = let n = j .numbers in j .answers .keyed (omega (arith, h, queue-down .0 .most, n .high))
+  synced-down h = j .underWay .sealed e (subst (λ (x : Thing). List·Memᴰ x (l .transit .towards)) is (mem-at (l .transit .towards) k d some)) h
 
   rx-down : o .clock .synced ≡ 1 → o .clock .rx ≡ clockDown (w .first) (e .left)
-  rx-down h = rx-at (w .first) now (e .left) (l .site .up) (l .site .down) _ (j .clocks .synced h) due
+  rx-down h = rx-at (w .first) now (e .left) (l .path .up) (l .path .down) _ (j .clocks .synced h) due
 
   opens-down : PassageRight w l e (e .header .channel) (passageOf (onuReceiveChoice (o .keys) (e .header)) (o .keys .slots) (o .oltmac) (o .clock .rx))
   unfolding passageOf envelopeHeader
@@ -218,17 +228,25 @@ module _ (w : Setting) (sh : Shared) (now : ℕ) (l : Lane) (u : UnitRecord) (o 
 ---- the unit itself
 
 received-common : (w : Setting) (now : ℕ) (m : Lane) (o : Onu) (choice : KeyChoice) → Common w now m o → Common w now m (onuAfterReceipt choice o)
-unfolding onuAfterReceipt onuMoved withOnuFirst withOnuKeys
+unfolding onuAfterReceipt onuMoved withOnuFirst withOnuKeys travelOf
 received-common w now m o Clear c = c
 received-common w now m o (Current n) c = c
 received-common w now m o (Barred r) c = c
 received-common w now m o (Next n) c =
-    record { valid = onu-moved-valid o (c .valid); tick = c .tick; mac = c .mac; llids = c .llids; oltmac = c .oltmac }
+    record {
+      valid = onu-moved-valid o (c .valid);
+      tick = c .tick;
+      mac = c .mac;
+      llids = c .llids;
+      oltmac = c .oltmac;
+      travel = c .travel;
+      first = record { begun = λ one. absurd (omega arith); ended = λ one. absurd (omega arith) };
+    }
 
 -- it stays valid, at its tick, and who it is
-pub receive-common : (w : Setting) (now : ℕ) (l m : Lane) (o : Onu) (h : Header) (p out : List ℕ) → l .site ≡ m .site → Common w now l o
+pub receive-common : (w : Setting) (now : ℕ) (l m : Lane) (o : Onu) (h : Header) (p out : List ℕ) → l .site ≡ m .site → l .path ≡ m .path → Common w now l o
     → Common w now m (onuReceiveOf o h p out .answer .onu)
 unfolding onuReceiveOf onuReceived receivingOnu
-receive-common w now l m o h p out s c =
-    let kept = common-moved w now l m o s c in
+receive-common w now l m o h p out s q c =
+    let kept = common-moved w now l m o s q c in
     onu-keeps (Common w now m) o noPassage _ _ _ kept (λ v a. received-common w now m o (onuReceiveChoice (o .keys) h) kept)

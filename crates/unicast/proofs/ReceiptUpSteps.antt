@@ -1,10 +1,11 @@
 -- An envelope that arrives at the OLT is accepted and opened, and keeps the invariant of its lane. Assumes nothing.
 use mathlib.Core.Path.{_≡_, refl, sym, _∙_, ap, subst}
 use mathlib.Core.Bool.{true, false}
-use mathlib.Core.List.{List}
+use mathlib.Core.List.{List, List·Memᴰ}
 use Prim.Native.Nat.{ℕ, suc, _+_, _%_, _<_}
 use native.Mathlib.Omega.{arith}
 use lib.ListN.{length, getD, drop}
+use Rattle.octets.proofs.Members.{mem-at}
 use Rattle.refusal.specs.declared.Verdict.the-variants.{Accepted}
 use Rattle.clock.specs.Ticks.{clockTurn}
 use Rattle.protocol.specs.Headers.{validHeader, envelopeHeader, keyFor, passageOf}
@@ -29,7 +30,7 @@ use Rattle.unicast.specs.History.{upward, Envelope, Arrival, Lane, laneW
 use Rattle.unicast.specs.Run.{State, receiptUp}
 use Rattle.unicast.specs.Claim.{PassageRight, SentRight, ArrivedRight}
 use Rattle.unicast.proofs.Invariant.{Under, From, Joined, AtTick}
-use Rattle.unicast.proofs.Queues.{Knows, towards-moved, from-moved, from-taken}
+use Rattle.unicast.proofs.Queues.{Knows, dropped-among, towards-moved, from-moved, from-taken}
 use Rattle.unicast.proofs.Envelopes.{ways-apart, arrivalOf, opens-right, octets-fit}
 use Rattle.unicast.proofs.Past.{passing-arrived}
 use Rattle.unicast.proofs.ReceiptChoices.{confirmedAt, TakenUp, taken-up}
@@ -73,8 +74,13 @@ module _ (w : Setting) (sh : Shared) (now : ℕ) (l : Lane) (u : UnitRecord) (o 
         timing = j .timing;
         clocks = j .clocks;
         answers = j .answers;
+        underWay =
+            record {
+              sealed = j .underWay .sealed;
+              present = λ x i. j .underWay .present x (dropped-among x (l .transit .from) (suc k) i);
+            };
         towards =
-            towards-moved (w .first) l m (o .keys .active) (u .keys .active) (u .keys .offered) (l .transit .towards) (knows (u .keys .offered))
+            towards-moved (w .first) (l .path) l m (o .keys .active) (u .keys .active) (u .keys .offered) (l .transit .towards) (knows (u .keys .offered))
             (j .towards);
         from = from-moved l m 0 (r .envelope .number) (o .keys .active) (drop (suc k) (l .transit .from)) (knows 0) rest;
         spending = record { downs = j .spending .downs; ups = j .spending .ups; spaced = j .spending .spaced };
@@ -86,7 +92,7 @@ module _ (w : Setting) (sh : Shared) (now : ℕ) (l : Lane) (u : UnitRecord) (o 
 ---- its receipt
 
 module _ (w : Setting) (sh : Shared) (now : ℕ) (l : Lane) (u : UnitRecord) (o : Onu) (at : AtTick w now sh) (j : Joined w sh now l u o) (k : ℕ)
-    (d e : Envelope) (some : k < length (l .transit .from)) (is : getD (l .transit .from) k d ≡ e) (due : e .left + l .site .up ≡ now) where
+    (d e : Envelope) (some : k < length (l .transit .from)) (is : getD (l .transit .from) k d ≡ e) (due : e .left + l .path .up ≡ now) where
   queue-up : Under (l .site .identity) (l .past .sent) upward (u .confirmation .confirmed) (o .keys .active) e
       × From l (e .number) (o .keys .active) (drop (suc k) (l .transit .from))
   queue-up = from-taken l (u .confirmation .confirmed) (o .keys .active) (l .transit .from) k d e some is (j .from)
@@ -95,9 +101,10 @@ module _ (w : Setting) (sh : Shared) (now : ℕ) (l : Lane) (u : UnitRecord) (o 
   right-up = j .passing .sent e (queue-up .0 .sent)
 
   -- the sender's clock when it left is the OLT's when it arrives
-  clock-up : clockUp (w .first) (l .site .up) (e .left) ≡ sh .clock
+  clock-up : clockUp (w .first) (e .up) (e .left) ≡ sh .clock
   clock-up =
-      let same : w .first + e .left + l .site .up ≡ w .first + now = omega (arith, due) in
+      let present = j .underWay .present e (subst (λ (x : Envelope). List·Memᴰ x (l .transit .from)) is (mem-at (l .transit .from) k d some)) in
+      let same : w .first + e .left + e .up ≡ w .first + now = omega (arith, due, present) in
       ap (λ (x : ℕ). x % clockTurn) same ∙ sym (at .clock)
 
   header-up : e .header ≡ envelopeHeader (e .number) (e .channel) (e .llid) (sh .clock)

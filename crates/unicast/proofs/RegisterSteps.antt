@@ -31,7 +31,7 @@ use Rattle.ends.proofs.Table.{among-found, more-unit, more-other, more-places}
 use Rattle.protocol.proofs.OltCalls.{register-refused}
 use Rattle.protocol.proofs.Registration.{Registers, register-accepted, registered-valid}
 use Rattle.unicast.specs.Setting.{Setting}
-use Rattle.unicast.specs.History.{Entry, Keys, Lane, due, laneRegistered}
+use Rattle.unicast.specs.History.{envelope, Entry, Keys, Lane, due, laneRegistered}
 use Rattle.unicast.specs.Events.{register}
 use Rattle.unicast.specs.Run.{State, laneAt, onuAt, noSite, freshLane, noted, entering, step}
 use Rattle.unicast.specs.Premises.{Agrees, Fits}
@@ -57,7 +57,7 @@ timing-fresh r k now e f some =
 -- the ends agree on MACs and LLIDs, LocalTime is right and the delays add up
 pub register-keeps : (w : Setting) (sh : Shared) (now place : ℕ) (i : Identity) (trip interval : ℕ) (l : Lane) (o : Onu) → Idle now l o
     → i .mac ≡ l .site .identity .mac → ((x : ℕ) → has i x ≡ has (l .site .identity) x) → l .site .oltmac ≡ w .mac
-    → l .site .time ≡ (w .first + l .site .up) % localTurn → trip ≡ l .site .up + l .site .down
+    → l .site .time ≡ (w .first + l .path .up) % localTurn → trip ≡ l .path .up + l .path .down
     → validIdentity i ≡ true → validInterval interval ≡ true → Joined w sh now (laneRegistered place now interval l) (freshUnit i trip interval) o
 unfolding laneRegistered freshUnit kept validInterval
 register-keeps w sh now place i trip interval l o d mac llids oltmac time delays v n =
@@ -99,8 +99,13 @@ register-keeps w sh now place i trip interval l o d mac llids oltmac time delays
           };
       answers =
           record {
-            keyed = λ h. absurd (omega (arith, d .active, d .held));
             each = λ x m. none-in (l .transit .answered) x (d .answered) m;
+            set = λ e. absurd (omega (arith, e, d .unsynced));
+          };
+      underWay =
+          record {
+            sealed = λ e m. none-in (l .transit .towards) (envelope e) (d .towards) m;
+            present = λ e m. none-in (l .transit .from) e (d .from) m;
           };
       towards = rw (d .towards) tt;
       from = rw (d .from) tt;
@@ -108,7 +113,11 @@ register-keeps w sh now place i trip interval l o d mac llids oltmac time delays
           record {
             downs = λ e m. none-in (l .past .sent) e (d .sent) m;
             ups = λ e m. none-in (l .past .sent) e (d .sent) m;
-            spaced = record { apart = λ a b h k. absurd (omega (arith, k, ap length (d .sent))) };
+            spaced =
+                record {
+                  down = λ a b h k. absurd (omega (arith, k, ap length (d .sent)));
+                  up = λ a b h k. absurd (omega (arith, k, ap length (d .sent)));
+                };
           };
       passing =
           record {
@@ -189,7 +198,7 @@ module _ (w : Setting) (s : State) (u : ℕ) (i : Identity) (trip interval : ℕ
       let unit : unitAt (after .olt) (s .history .registrations) ≡ freshUnit i trip interval =
       rw (← v .count) (more-unit (s .olt) (freshUnit i trip interval) room) in
       record {
-        common = common-moved w (s .history .now) (laneAt s u) entered (onuAt s u) refl (old .common);
+        common = common-moved w (s .history .now) (laneAt s u) entered (onuAt s u) refl refl (old .common);
         standing = (
           omega (arith, v .count),
           rw unit

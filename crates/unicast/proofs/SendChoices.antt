@@ -2,17 +2,20 @@
 -- and timer. Assumes nothing.
 use mathlib.Core.Path.{_≡_, refl, sym, _∙_, ap, ap₂, subst}
 use mathlib.Core.Bool.{Bool, true, false}
+use mathlib.Core.Logic.{inl, ⊎-elim}
 use Prim.Native.Nat.{ℕ, _+_, _-_, _/_, _<_, _≤_}
+use native.Mathlib.Nat.{le-max-left, le-max-right}
 use native.Mathlib.Omega.{arith}
 use lib.Dec.{eqb, leb, ltb}
 use lib.ListN.{length}
-use borrow.Author.Tests.{ltb-true, ltb-false, eqb-true, eqb-false, le-leb, le-ltb, eq-eqb, ne-eqb}
+use borrow.Author.Tests.{leb-true, ltb-true, ltb-false, eqb-true, eqb-false, le-leb, le-ltb, eq-eqb, ne-eqb}
 use Rattle.octets.specs.Choice.{both, pick}
-use Rattle.octets.proofs.Choice.{both-left, both-right}
-use Rattle.protocol.specs.Headers.{choiceNumber, choiceAged}
-use Rattle.ends.specs.Keys.{firstSend, validFirst}
+use Rattle.octets.proofs.Choice.{both-left, both-right, either-cases, pick-holds}
+use Rattle.protocol.specs.Headers.{choiceEnciphered, choiceNumber, choiceAged}
+use Rattle.ends.specs.Keys.{notedAt, firstSend, validFirst}
+use Rattle.ends.specs.Travels.{travelOf, travelSpent, waits}
 use Rattle.protocol.specs.OnuTraffic.{onuSendChoice, onuNoted}
-use Rattle.ends.specs.Records.{withFirst, withOnuFirst}
+use Rattle.ends.specs.Records.{withFirst, withOnuFirst, withTravel}
 use Rattle.ends.specs.Flags.{isUp}
 use Rattle.ends.specs.Timers.{timerFallen}
 use Rattle.protocol.specs.UnitTraffic.{switches, unitSendChoice, keysSwitched, keysAfterSend}
@@ -23,12 +26,12 @@ use Rattle.protocol.specs.declared.KeyChoice.the-variants.{Clear, Current, Next
 use Rattle.ends.specs.declared.Onu.{Onu}
 use Rattle.ends.specs.declared.Shared.{Shared}
 use Rattle.ends.specs.declared.Timer.{Timer}
+use Rattle.ends.specs.declared.Travel.{Travel}
 use Rattle.ends.specs.declared.UnitRecord.{UnitRecord}
 use Rattle.ends.specs.declared.UnitKeys.{UnitKeys}
-use Rattle.traffic.specs.Passages.{choiceEnciphered}
 use Rattle.unicast.specs.Setting.{Setting}
 use Rattle.unicast.specs.History.{Entry, Keys, Lane, due, switching, numberDown}
-use Rattle.unicast.proofs.Invariant.{flagOf, reachOf, Timing, Joined}
+use Rattle.unicast.proofs.Invariant.{flagOf, reachOf, Begun, BegunUp, Timing, Joined}
 use Rattle.unicast.proofs.Spending.{Renewed, renewed-current, renewed-next, renewed-clear}
 
 ---- at the OLT
@@ -108,7 +111,7 @@ module _ (w : Setting) (sh : Shared) (now : ℕ) (l : Lane) (u : UnitRecord) (o 
       rw (flag, ahead, mark)
       (rotated (due (l .entry) (l .keys) now) (ltb (l .keys .switches) (length (l .keys .offers))) (l .keys .acknowledged))
 
-  chosen-by : validFirst (u .keys .first) now ≡ true → (s z : Bool) → switching l now ≡ s → eqb (u .keys .active) 0 ≡ z
+  chosen-by : Begun (u .keys .first) now → (s z : Bool) → switching l now ≡ s → eqb (u .keys .active) 0 ≡ z
       → Chosen (l .entry) now (reachOf (o .keys)) (u .keys)
       (keysAfterSend (pick s (Next (u .keys .offered)) (pick z Clear (Current (u .keys .active)))) (u .keys) now)
       (pick s (Next (u .keys .offered)) (pick z Clear (Current (u .keys .active))))
@@ -161,48 +164,88 @@ module _ (w : Setting) (sh : Shared) (now : ℕ) (l : Lane) (u : UnitRecord) (o 
         renewed = λ a. rw (n .counted) (renewed-current (u .keys .first) (l .keys .switches) now v a);
       }
 
-  pub chosen-down : (tick : ℕ) → tick ≡ now → validFirst (u .keys .first) tick ≡ true
+  pub chosen-down : (tick : ℕ) → tick ≡ now → Begun (u .keys .first) tick
       → Chosen (l .entry) now (reachOf (o .keys)) (u .keys) (keysAfterSend (unitSendChoice u) (u .keys) tick) (unitSendChoice u) (numberDown l now)
       (pick (switching l now) now (l .keys .switched))
   unfolding unitSendChoice numberDown
-  chosen-down tick e v = rw (e, switches-listed) (chosen-by (rw e at v) (switching l now) (eqb (u .keys .active) 0) refl refl)
+  chosen-down tick e v = rw (e, switches-listed) (chosen-by (λ one. rw e at (v one)) (switching l now) (eqb (u .keys .active) 0) refl refl)
 
 -- the first send of a valid unit is not later than the tick
-pub unit-first : (tick : ℕ) (u : UnitRecord) → validUnit tick u ≡ true → validFirst (u .keys .first) tick ≡ true
-unfolding validUnit validKeys
-unit-first tick u v = both-right _ _ (both-left _ _ (both-right _ _ v))
+pub unit-first : (tick : ℕ) (u : UnitRecord) → validUnit tick u ≡ true → Begun (u .keys .first) tick
+unfolding validUnit validKeys validFirst
+unit-first tick u v one =
+    let valid = both-right _ _ (both-left _ _ (both-right _ _ v)) in
+    ⊎-elim (λ z. absurd (omega (arith, eqb-true (u .keys .first .noted) 0 z))) (λ z. leb-true (u .keys .first .at) tick z)
+    (either-cases _ _ (both-right _ _ valid))
 
 ---- at a unit
 
--- what a send of that choice makes of the unit
-pub record ChosenUp (o : Onu) (choice : KeyChoice) (number : ℕ) : Type 0 where
+-- what a send of that choice and of so many EQs makes of the unit
+pub record ChosenUp (o : Onu) (choice : KeyChoice) (eqs number : ℕ) : Type 0 where
   pub chosen : choiceNumber choice ≡ number
   pub enciphered : choiceEnciphered choice ≡ leb 1 number
   pub first : FirstSend
-  pub noted : onuNoted choice o ≡ withOnuFirst o first
-  pub renewed : choiceAged choice (o .first) (o .tick) ≡ false → Renewed (o .first) first (o .keys .active) number (o .tick)
+  pub travel : Travel
+  pub noted : onuNoted choice eqs o ≡ withTravel (withOnuFirst o first) travel
+  pub changes : travel .changes ≡ o .travel .changes
+  pub bar : travel .bar ≡ o .travel .bar
+  pub spent : o .travel .spent ≤ travel .spent
+  pub ended : 1 ≤ number → travelOf o < travel .spent
+  pub begun : BegunUp first (travelOf o) travel
+  pub renewed : choiceAged choice (o .first) (travelOf o) ≡ false → (choiceEnciphered choice ≡ true → waits o ≡ false)
+      → Renewed (o .first) first (o .keys .active) number (travelOf o)
 
-chosen-up-by : (o : Onu) → validFirst (o .first) (o .tick) ≡ true → (z : Bool) → eqb (o .keys .active) 0 ≡ z
-    → ChosenUp o (pick z Clear (Current (o .keys .active))) (o .keys .active)
-unfolding pick choiceNumber choiceEnciphered choiceAged onuNoted withOnuFirst
-chosen-up-by o v true e =
+-- once travel has passed the bar, the first send lies behind
+begun-passed : (f : FirstSend) (now : ℕ) (t : Travel) → BegunUp f now t → t .bar ≤ now → Begun f now
+begun-passed f now t b h one = ⊎-elim (λ was. was) (λ below. omega (arith, below, h)) (b .begun one)
+
+pub waited : (o : Onu) → waits o ≡ false → o .travel .bar ≤ travelOf o
+unfolding waits
+waited o e = ltb-false (travelOf o) (o .travel .bar) e
+
+first-begun : (f : FirstSend) (now eqs : ℕ) (t : Travel) → BegunUp f now t → BegunUp (firstSend f now) now (travelSpent t now eqs)
+unfolding firstSend travelSpent
+first-begun f now eqs t b =
+    pick-holds (λ (x : FirstSend). BegunUp x now (travelSpent t now eqs)) (isUp (f .noted)) f (notedAt now)
+    (λ p.
+    record { begun = b .begun; ended = λ one. let was = b .ended one in omega (arith, was, le-max-left (t .spent) (now + eqs + 1)) })
+    (λ p. record { begun = λ one. inl (omega arith); ended = λ one. omega (arith, le-max-right (t .spent) (now + eqs + 1)) })
+
+chosen-up-by : (o : Onu) (eqs : ℕ) → BegunUp (o .first) (travelOf o) (o .travel) → (z : Bool) → eqb (o .keys .active) 0 ≡ z
+    → ChosenUp o (pick z Clear (Current (o .keys .active))) eqs (o .keys .active)
+unfolding pick choiceNumber choiceEnciphered choiceAged onuNoted withOnuFirst withTravel travelSpent
+chosen-up-by o eqs b true e =
     let none : o .keys .active ≡ 0 = eqb-true _ _ e in
     record {
       chosen = sym none;
       enciphered = sym (ap (leb 1) none);
       first = o .first;
+      travel = o .travel;
       noted = refl;
-      renewed = λ a. subst (λ (x : ℕ). Renewed (o .first) (o .first) x x (o .tick)) (sym none) (renewed-clear (o .first) (o .tick));
+      changes = refl;
+      bar = refl;
+      spent = omega arith;
+      ended = λ some. absurd (omega (arith, some, none));
+      begun = b;
+      renewed = λ a w. subst (λ (x : ℕ). Renewed (o .first) (o .first) x x (travelOf o)) (sym none) (renewed-clear (o .first) (travelOf o));
     }
-chosen-up-by o v false e =
+chosen-up-by o eqs b false e =
     record {
       chosen = refl;
       enciphered = sym (le-leb 1 (o .keys .active) (omega (arith, eqb-false (o .keys .active) 0 e)));
-      first = firstSend (o .first) (o .tick);
+      first = firstSend (o .first) (travelOf o);
+      travel = travelSpent (o .travel) (travelOf o) eqs;
       noted = refl;
-      renewed = λ a. renewed-current (o .first) (o .keys .active) (o .tick) v a;
+      changes = refl;
+      bar = refl;
+      spent = le-max-left (o .travel .spent) (travelOf o + eqs + 1);
+      ended = λ some. omega (arith, le-max-right (o .travel .spent) (travelOf o + eqs + 1));
+      begun = first-begun (o .first) (travelOf o) eqs (o .travel) b;
+      renewed = λ a w.
+          renewed-current (o .first) (o .keys .active) (travelOf o)
+          (begun-passed (o .first) (travelOf o) (o .travel) b (waited o (w refl))) a;
     }
 
-pub chosen-up : (o : Onu) → validFirst (o .first) (o .tick) ≡ true → ChosenUp o (onuSendChoice (o .keys)) (o .keys .active)
+pub chosen-up : (o : Onu) (eqs : ℕ) → BegunUp (o .first) (travelOf o) (o .travel) → ChosenUp o (onuSendChoice (o .keys)) eqs (o .keys .active)
 unfolding onuSendChoice
-chosen-up o v = chosen-up-by o v (eqb (o .keys .active) 0) refl
+chosen-up o eqs b = chosen-up-by o eqs b (eqb (o .keys .active) 0) refl

@@ -5,15 +5,18 @@ use mathlib.Core.List.{List, [], _∷_, List·Memᴰ·head, Memᴰ·append-left,
 use Prim.Native.Nat.{ℕ, _<_, _≤_}
 use native.Mathlib.Omega.{arith}
 use lib.ListN.{length}
+use borrow.Author.Tests.{eqb-true, le-leb}
 use Rattle.octets.specs.Choice.{pick}
 use Rattle.octets.proofs.Members.{each-more}
 use Rattle.refusal.specs.declared.Verdict.the-variants.{Accepted}
 use Rattle.envelope.specs.ControlMask.{eqsOf}
 use Rattle.envelope.specs.Acceptance.{lengthsFit}
 use Rattle.protocol.specs.Headers.{keyFor, passageOf, sendingOf}
+use Rattle.ends.specs.Flags.{isUp}
 use Rattle.ends.specs.Identities.{has}
+use Rattle.ends.specs.Limits.{maxChanges}
 use Rattle.envelope.specs.Channels.{downstream, upstream}
-use Rattle.ends.specs.Occupancy.{freeFrom, occupied}
+use Rattle.ends.specs.Occupancy.{freeFrom, taken, occupied}
 use Rattle.protocol.specs.OltTraffic.{sendingOlt}
 use Rattle.ends.specs.Records.{withKeys, withChannels}
 use Rattle.protocol.specs.UnitTraffic.{unitSendChoice, unitSendVerdict, keysAfterSend, sendUnit}
@@ -26,27 +29,33 @@ use Rattle.protocol.specs.declared.Sending.{Sending}
 use Rattle.ends.specs.declared.Shared.{Shared}
 use Rattle.ends.specs.declared.UnitRecord.{UnitRecord}
 use Rattle.ends.specs.declared.UnitKeys.{UnitKeys}
-use Rattle.protocol.proofs.Headers.{key-for}
+use Rattle.protocol.proofs.Headers.{Goes, goes, key-for}
 use Rattle.ends.proofs.Occupancy.{free-own, taken-false, free-later}
-use Rattle.refusal.proofs.Order.{refuse-accepted}
 use Rattle.traffic.specs.Passages.{misfit, outputAfter}
 use Rattle.traffic.specs.Sends.{oltSent, oltSendOf}
-use Rattle.unicast.specs.Setting.{Setting}
-use Rattle.unicast.specs.History.{downward, upward, Envelope, Lane, switching, numberDown, laneWith, leaving, sending, laneSentDown}
+use Rattle.unicast.specs.Setting.{Delays, Setting}
+use Rattle.unicast.specs.History.{downward, upward, Envelope, envelope, Lane, switching, numberDown, laneWith, leaving, sending, laneSentDown}
 use Rattle.unicast.specs.Run.{envelopeDown}
 use Rattle.unicast.specs.Claim.{PassageRight, SentRight}
-use Rattle.unicast.proofs.Invariant.{reachOf, Spent, Joined, AtTick}
-use Rattle.unicast.proofs.Queues.{Knows, towards-carried, towards-envelope, from-carried}
+use Rattle.unicast.proofs.Invariant.{reachOf, countDown, countUp, Spent, Guarded, Joined, AtTick}
+use Rattle.unicast.proofs.Queues.{Knows, sealed-more, envelope-number, towards-carried, towards-envelope, from-carried}
 use Rattle.unicast.proofs.Past.{sent-carried, passing-sent}
 use Rattle.unicast.proofs.Envelopes.{ways-apart, envelopeOf, passed-right, count-right, runs-right, fits-alone}
 use Rattle.unicast.proofs.Spending.{Renewed, spent-kept, spent-new, apart-new, spaced-more}
 use Rattle.unicast.proofs.SendChoices.{Chosen, chosen-down, unit-first}
 
+-- what an accepted send has met
+unit-goes : (sh : Shared) (u : UnitRecord) (channel : ℕ) → unitSendVerdict sh u channel ≡ Accepted
+    → Goes (isUp (u .clock .acknowledged)) (taken (sh .channels) channel (sh .tick)) (unitSendChoice u) (u .keys .first) (sh .tick)
+unfolding unitSendVerdict
+unit-goes sh u channel a =
+    goes (isUp (u .clock .acknowledged)) (taken (sh .channels) channel (sh .tick)) (unitSendChoice u) (u .keys .first) (sh .tick) a
+
 ---- the lane of the unit
 
 module _ (w : Setting) (sh : Shared) (now : ℕ) (l : Lane) (u : UnitRecord) (o : Onu) (j : Joined w sh now l u o) where
   -- an envelope that left for the unit, and keys and channels after it
-  sent-down-joined : (k : UnitKeys) (choice : KeyChoice) (c : Channels) (e : Envelope)
+  sent-down-joined : (k : UnitKeys) (choice : KeyChoice) (c : Channels) (e : Envelope) → (1 ≤ e .number → o .clock .synced ≡ 1)
       → Chosen (l .entry) now (reachOf (o .keys)) (u .keys) k choice (e .number) (pick (switching l now) now (l .keys .switched))
       → Renewed (u .keys .first) (k .first) (u .keys .active) (e .number) now
       → e .way ≡ downward → e .left ≡ now → downstream (e .channel) ≡ true → has (l .site .identity) (e .llid) ≡ true
@@ -54,7 +63,7 @@ module _ (w : Setting) (sh : Shared) (now : ℕ) (l : Lane) (u : UnitRecord) (o 
       → freeFrom (sh .channels) (e .channel) ≤ now → ((i : ℕ) → freeFrom (sh .channels) i ≤ freeFrom c i) → now < freeFrom c (e .channel)
       → Joined w (withChannels sh c) now (laneSentDown now e l) (withKeys u k) o
   unfolding laneSentDown laneWith leaving sending withKeys withChannels
-  sent-down-joined k choice c e h r way left down named fits right free rises after =
+  sent-down-joined k choice c e synced h r way left down named fits right free rises after =
       let n = j .numbers in
       let m = laneSentDown now e l in
       let knows : (top : ℕ) → Knows l m top =
@@ -82,8 +91,14 @@ module _ (w : Setting) (sh : Shared) (now : ℕ) (l : Lane) (u : UnitRecord) (o 
         timing = h .timing (m .keys) refl;
         clocks = j .clocks;
         answers = j .answers;
+        underWay =
+            record {
+              sealed = sealed-more (o .clock .synced) (l .transit .towards) (envelope e) (j .underWay .sealed)
+                  (λ y q p. synced (omega (arith, p, envelope-number e y q)));
+              present = j .underWay .present;
+            };
         towards =
-            towards-envelope (w .first) m (o .keys .active) (k .active) (k .offered) (l .transit .towards) e low
+            towards-envelope (w .first) (l .path) m (o .keys .active) (k .active) (k .offered) (l .transit .towards) e low
             (record {
               above = omega (arith, h .active);
               most = omega (arith, h .active);
@@ -91,7 +106,7 @@ module _ (w : Setting) (sh : Shared) (now : ℕ) (l : Lane) (u : UnitRecord) (o 
               thatWay = way;
               named = named;
             })
-            (towards-carried (w .first) l m (o .keys .active) (o .keys .active) (u .keys .active) (k .active) (u .keys .offered) (k .offered)
+            (towards-carried (w .first) (l .path) l m (o .keys .active) (o .keys .active) (u .keys .active) (k .active) (u .keys .offered) (k .offered)
             (l .transit .towards) (knows (u .keys .offered))
             (omega arith) (omega (arith, h .low, h .active)) (omega (arith, h .offered)) (j .towards));
         from =
@@ -100,23 +115,34 @@ module _ (w : Setting) (sh : Shared) (now : ℕ) (l : Lane) (u : UnitRecord) (o 
         spending =
             record {
               downs =
-                  each-more (λ (x : Envelope). x .way ≡ downward → (downstream (x .channel) ≡ true) × Spent c (k .first) (k .active) x) (l .past .sent) e
+                  each-more (λ (x : Envelope). x .way ≡ downward → (downstream (x .channel) ≡ true)
+                  × Spent c (k .first) (k .active) 0 0 (countDown x) x) (l .past .sent) e
                   (λ x i q.
                   let was = j .spending .downs x i q in (
                     was .0,
                     rw (h .active)
-                        (spent-kept (sh .channels) c (u .keys .first) (k .first) (u .keys .active) (e .number) now x r (rises (x .channel)) (was .1)),
+                        (spent-kept (sh .channels) c (u .keys .first) (k .first) (u .keys .active) (e .number) now 0 0 (countDown x) x r
+                        (rises (x .channel)) (was .1)),
                   ))
-                  (λ q.
-                  (down, rw (h .active) (spent-new c (u .keys .first) (k .first) (u .keys .active) (e .number) now e r refl left after)));
+                  (λ q. (
+                    down,
+                    rw (h .active)
+                        (spent-new c (u .keys .first) (k .first) (u .keys .active) (e .number) now 0 0 (countDown e) e r refl
+                        (omega (arith, left)) (omega (arith, left, after))),
+                  ));
               ups =
-                  each-more (λ (x : Envelope). x .way ≡ upward → (upstream (x .channel) ≡ true) × Spent (o .channels) (o .first) (o .keys .active) x)
+                  each-more (λ (x : Envelope). x .way ≡ upward → (upstream (x .channel) ≡ true)
+                  × Spent (o .channels) (o .first) (o .keys .active) (l .site .up) maxChanges (countUp x) x
+                  × Guarded (l .site .up) (l .path .up) (o .travel) x)
                   (l .past .sent) e (j .spending .ups) (λ q. ways-apart (sym way ∙ q));
               spaced =
                   spaced-more (l .past .sent) e
                   (λ x i.
-                  apart-new (sh .channels) (u .keys .first) (k .first) (u .keys .active) now x e r left free
-                  (λ q. j .spending .downs x i (q ∙ way) .1))
+                  apart-new countDown downward (sh .channels) (u .keys .first) (k .first) (u .keys .active) now 0 0 x e r (omega (arith, left))
+                  (λ q. j .spending .downs x i q .1)
+                  (λ q p n g. let before : x .left < freeFrom (sh .channels) (e .channel) = rw g at (j .spending .downs x i q .1 .passed) in
+                  omega (arith, before, free, left)))
+                  (λ x i p q. ways-apart (sym way ∙ q))
                   (j .spending .spaced);
             };
         passing =
@@ -126,13 +152,13 @@ module _ (w : Setting) (sh : Shared) (now : ℕ) (l : Lane) (u : UnitRecord) (o 
 
 module _ (w : Setting) (sh : Shared) (now : ℕ) (l : Lane) (u : UnitRecord) (o : Onu) (llid channel eqs : ℕ) (p out : List ℕ) where
   sent-down-right : AtTick w now sh → Joined w sh now l u o → validUnit (sh .tick) u ≡ true
-      → SentRight w l (envelopeOf downward now llid channel p (sendUnit llid channel eqs sh u .handed) (numberDown l now))
+      → SentRight w l (envelopeOf downward now (l .path .up) llid channel p (sendUnit llid channel eqs sh u .handed) (numberDown l now))
   unfolding sendUnit sendingOf passageOf
   sent-down-right t j v =
       let h = chosen-down w sh now l u o j (sh .tick) (t .tick) (unit-first (sh .tick) u v) in
       let n = j .numbers in
       let q = sendUnit llid channel eqs sh u .handed .passage in
-      let e = envelopeOf downward now llid channel p (sendUnit llid channel eqs sh u .handed) (numberDown l now) in
+      let e = envelopeOf downward now (l .path .up) llid channel p (sendUnit llid channel eqs sh u .handed) (numberDown l now) in
       let under : PassageRight w l e channel q =
       record {
         enciphered = h .enciphered;
@@ -154,29 +180,29 @@ module _ (w : Setting) (sh : Shared) (now : ℕ) (l : Lane) (u : UnitRecord) (o 
   pub send-down-keeps : AtTick w now sh → Joined w sh now l u o → validUnit (sh .tick) u ≡ true → has (l .site .identity) llid ≡ true
       → downstream channel ≡ true → misfit p out ≡ false → sendUnit llid channel eqs sh u .verdict ≡ Accepted
       → Joined w (withChannels sh (sendUnit llid channel eqs sh u .channels)) now
-      (laneSentDown now (envelopeOf downward now llid channel p (sendUnit llid channel eqs sh u .handed) (numberDown l now)) l)
+      (laneSentDown now (envelopeOf downward now (l .path .up) llid channel p (sendUnit llid channel eqs sh u .handed) (numberDown l now)) l)
       (sendUnit llid channel eqs sh u .unit) o
-  unfolding sendUnit unitSendVerdict
+  unfolding sendUnit
   send-down-keeps t j v named down fit a =
-      let first = refuse-accepted _ _ _ a in
-      let second = refuse-accepted _ _ _ (first .1) in
+      let met = unit-goes sh u channel a in
       let h = chosen-down w sh now l u o j (sh .tick) (t .tick) (unit-first (sh .tick) u v) in
-      let free : freeFrom (sh .channels) channel ≤ sh .tick = taken-false (sh .channels) channel (sh .tick) (first .0) in
+      let free : freeFrom (sh .channels) channel ≤ sh .tick = taken-false (sh .channels) channel (sh .tick) (met .free) in
       sent-down-joined w sh now l u o j (keysAfterSend (unitSendChoice u) (u .keys) (sh .tick)) (unitSendChoice u)
       (occupied (sh .channels) channel (sh .tick) eqs)
-      (envelopeOf downward now llid channel p (sendUnit llid channel eqs sh u .handed) (numberDown l now))
-      h (h .renewed (rw (t .tick) at (second .0))) refl refl down named (fits-alone p out fit) (sent-down-right t j v)
+      (envelopeOf downward now (l .path .up) llid channel p (sendUnit llid channel eqs sh u .handed) (numberDown l now))
+      (λ some. j .clocks .acknowledged (eqb-true _ _ (met .clock (h .enciphered ∙ le-leb 1 (numberDown l now) some))))
+      h (h .renewed (rw (t .tick) at (met .young))) refl refl down named (fits-alone p out fit) (sent-down-right t j v)
       (omega (arith, free, t .tick))
-      (λ i. free-later (sh .channels) channel i (sh .tick) eqs (first .0))
+      (λ i. free-later (sh .channels) channel i (sh .tick) eqs (met .free))
       (omega (arith, free-own (sh .channels) channel (sh .tick) eqs, t .tick))
 
 ---- the envelope of an accepted send
 
-pub envelope-down-is : (o : Olt) (now llid channel : ℕ) (p out : List ℕ) (number : ℕ) (s : Sending)
+pub envelope-down-is : (o : Olt) (now : ℕ) (path : Delays) (llid channel : ℕ) (p out : List ℕ) (number : ℕ) (s : Sending)
     → sendingOlt o (misfit p out) llid channel (eqsOf p) .verdict ≡ Accepted → sendingOlt o (misfit p out) llid channel (eqsOf p) .handed ≡ s
-    → envelopeDown now o llid channel p out number ≡ envelopeOf downward now llid channel p s number
+    → envelopeDown now path o llid channel p out number ≡ envelopeOf downward now (path .up) llid channel p s number
 unfolding envelopeDown oltSendOf oltSent outputAfter
-envelope-down-is o now llid channel p out number s a h = rw (a, h)
+envelope-down-is o now path llid channel p out number s a h = rw (a, h)
 
 ---- other lanes
 
@@ -194,6 +220,7 @@ channels-keep w sh now l u o c rises j =
       timing = j .timing;
       clocks = j .clocks;
       answers = j .answers;
+      underWay = j .underWay;
       towards = j .towards;
       from = j .from;
       spending =
@@ -211,8 +238,8 @@ channels-keep w sh now l u o c rises j =
 -- the channels after an accepted send
 pub send-channels : (llid channel eqs : ℕ) (sh : Shared) (u : UnitRecord) → sendUnit llid channel eqs sh u .verdict ≡ Accepted
     → (i : ℕ) → freeFrom (sh .channels) i ≤ freeFrom (sendUnit llid channel eqs sh u .channels) i
-unfolding sendUnit unitSendVerdict
-send-channels llid channel eqs sh u a i = free-later (sh .channels) channel i (sh .tick) eqs (refuse-accepted _ _ _ a .0)
+unfolding sendUnit
+send-channels llid channel eqs sh u a i = free-later (sh .channels) channel i (sh .tick) eqs (unit-goes sh u channel a .free)
 
 -- the OLT's part is at its tick still
 pub channels-at-tick : (w : Setting) (now : ℕ) (sh : Shared) (c : Channels) → AtTick w now sh → AtTick w now (withChannels sh c)

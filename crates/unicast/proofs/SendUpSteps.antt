@@ -1,28 +1,32 @@
 -- A send of a unit keeps the invariant of its lane. Assumes nothing.
 use mathlib.Core.Path.{_≡_, refl, sym, _∙_, ap, subst}
 use mathlib.Core.Bool.{Bool, true, false}
-use mathlib.Core.List.{List, [], _∷_, List·Memᴰ·head, Memᴰ·append-left, Memᴰ·append-right}
-use Prim.Native.Nat.{ℕ, _<_, _≤_}
+use mathlib.Core.Logic.{inl, ⊎-elim}
+use mathlib.Core.List.{List, [], _∷_, List·Memᴰ, List·Memᴰ·head, Memᴰ·append-left, Memᴰ·append-right}
+use Prim.Native.Nat.{ℕ, _+_, _<_, _≤_}
 use native.Mathlib.Omega.{arith}
 use lib.Dec.{eqb, leb}
 use lib.ListN.{length}
-use borrow.Author.Tests.{eqb-true, eqb-false}
+use borrow.Author.Tests.{eqb-true, eqb-false, le-leb}
 use Rattle.octets.proofs.Members.{each-more}
 use Rattle.refusal.specs.declared.Verdict.the-variants.{Accepted}
 use Rattle.clock.specs.Ticks.{epamOf}
 use Rattle.envelope.specs.ControlMask.{eqsOf}
 use Rattle.envelope.specs.Acceptance.{lengthsFit}
-use Rattle.protocol.specs.Headers.{envelopeHeader, keyFor, passageOf, sendingOf, noSending}
+use Rattle.protocol.specs.Headers.{choiceEnciphered, envelopeHeader, keyFor, passageOf, sendingOf, noSending}
 use Rattle.ends.specs.Identities.{has}
+use Rattle.ends.specs.Limits.{maxChanges}
 use Rattle.envelope.specs.Channels.{downstream, upstream}
 use Rattle.ends.specs.Occupancy.{freeFrom, occupied}
 use Rattle.protocol.specs.OnuTraffic.{onuSendChoice, onuSendVerdict, onuAfterSend, sendingOnu}
-use Rattle.ends.specs.Records.{withOnuFirst, withOnuChannels}
+use Rattle.ends.specs.Records.{withOnuFirst, withTravel, withOnuChannels}
+use Rattle.ends.specs.Travels.{travelOf}
 use Rattle.ends.specs.Validity.{validOnu}
 use Rattle.ends.specs.declared.Channels.{Channels}
 use Rattle.ends.specs.declared.FirstSend.{FirstSend}
 use Rattle.ends.specs.declared.Onu.{Onu}
 use Rattle.ends.specs.declared.OnuClock.{OnuClock}
+use Rattle.ends.specs.declared.Travel.{Travel}
 use Rattle.protocol.specs.declared.Sending.{Sending}
 use Rattle.ends.specs.declared.Shared.{Shared}
 use Rattle.ends.specs.declared.UnitRecord.{UnitRecord}
@@ -30,30 +34,29 @@ use Rattle.ends.specs.declared.UnitClock.{UnitClock}
 use Rattle.protocol.proofs.Headers.{key-for, header-epam}
 use Rattle.ends.proofs.Occupancy.{free-own, taken-false, free-later}
 use Rattle.protocol.proofs.OnuCalls.{onu-accepted, onu-accepts, onu-keeps}
-use Rattle.protocol.proofs.OnuChoices.{onu-send-accepted}
+use Rattle.protocol.proofs.OnuChoices.{onu-send-accepted, onu-free}
 use Rattle.protocol.proofs.OnuTraffic.{onu-sent-valid}
 use Rattle.refusal.proofs.Order.{refuse-accepted}
 use Rattle.refusal.proofs.Numbers.{number-accepted}
-use Rattle.ends.proofs.Validity.{onu-in-range}
 use Rattle.traffic.specs.Passages.{misfit, outputAfter}
 use Rattle.traffic.specs.Sends.{onuSent, onuSendOf}
 use Rattle.traffic.proofs.Passages.{few-eqs}
-use Rattle.unicast.specs.Setting.{Site, Setting, clockUp}
+use Rattle.unicast.specs.Setting.{Delays, Setting, clockUp}
 use Rattle.unicast.specs.History.{downward, upward, Envelope, Lane, laneWith, sending, laneSentUp}
 use Rattle.unicast.specs.Run.{envelopeUp}
 use Rattle.unicast.specs.Claim.{PassageRight, SentRight}
-use Rattle.unicast.proofs.Invariant.{Clocks, Spent, Joined, Common}
+use Rattle.unicast.proofs.Invariant.{Clocks, countDown, countUp, Spent, Guarded, Joined, Common}
 use Rattle.unicast.proofs.Queues.{Knows, towards-moved, from-moved, from-envelope}
 use Rattle.unicast.proofs.Past.{sent-carried, passing-sent}
 use Rattle.unicast.proofs.Frames.{common-moved}
 use Rattle.unicast.proofs.Envelopes.{ways-apart, envelopeOf, passed-right, count-right, runs-right, fits-alone}
 use Rattle.unicast.proofs.Spending.{Renewed, spent-kept, spent-new, apart-new, spaced-more}
-use Rattle.unicast.proofs.SendChoices.{chosen-up}
+use Rattle.unicast.proofs.SendChoices.{chosen-up, waited}
 
 ---- its header
 
 -- EPAM of a unit's clock, synced or not: LocalTime has the clock's low six bits
-pub epam-up : (first now captured : ℕ) (s : Site) (c : UnitClock) (o : OnuClock) → Clocks first now s captured c o
+pub epam-up : (first now captured : ℕ) (s : Delays) (c : UnitClock) (o : OnuClock) → Clocks first now s captured c o
     → epamOf (o .time) ≡ epamOf (clockUp first (s .up) now)
 epam-up first now captured s c o k = by-synced (eqb (o .synced) 1) refl where
   by-synced : (t : Bool) → eqb (o .synced) 1 ≡ t → epamOf (o .time) ≡ epamOf (clockUp first (s .up) now)
@@ -67,18 +70,28 @@ epam-up first now captured s c o k = by-synced (eqb (o .synced) 1) refl where
 
 module _ (w : Setting) (sh : Shared) (now : ℕ) (l : Lane) (u : UnitRecord) (o : Onu) (j : Joined w sh now l u o) where
   -- an envelope that left the unit, and first send and channels after it
-  sent-up-joined : (f : FirstSend) (c : Channels) (e : Envelope) → e .number ≡ o .keys .active
-      → Renewed (o .first) f (o .keys .active) (e .number) now
+  sent-up-joined : (travel : ℕ) (f : FirstSend) (t : Travel) (c : Channels) (e : Envelope) → e .number ≡ o .keys .active
+      → travel + l .site .up ≡ now + l .path .up + maxChanges → Renewed (o .first) f (o .keys .active) (e .number) travel
+      → (1 ≤ e .number → o .travel .bar ≤ travel) → t .bar ≡ o .travel .bar → o .travel .spent ≤ t .spent → (1 ≤ e .number → travel < t .spent)
+      → e .up ≡ l .path .up
       → e .way ≡ upward → e .left ≡ now → upstream (e .channel) ≡ true → has (l .site .identity) (e .llid) ≡ true
       → lengthsFit (length (e .payload)) (length (e .payload)) ≡ true → SentRight w l e
       → freeFrom (o .channels) (e .channel) ≤ now → ((i : ℕ) → freeFrom (o .channels) i ≤ freeFrom c i) → now < freeFrom c (e .channel)
-      → Joined w sh now (laneSentUp e l) u (withOnuChannels (withOnuFirst o f) c)
-  unfolding laneSentUp laneWith sending withOnuChannels withOnuFirst
-  sent-up-joined f c e number r way left up named fits right free rises after =
+      → Joined w sh now (laneSentUp e l) u (withOnuChannels (withTravel (withOnuFirst o f) t) c)
+  unfolding laneSentUp laneWith sending withOnuChannels withTravel withOnuFirst
+  sent-up-joined travel f t c e number travelled r waited bar spent ended present way left up named fits right free rises after =
       let n = j .numbers in
       let m = laneSentUp e l in
       let knows : (top : ℕ) → Knows l m top =
       λ top. record { site = refl; sent = λ x i. Memᴰ·append-left (e ∷ []) i; keys = λ x p q. refl } in
+      -- sent by the present path it left earlier, and before the last change it counted less than the bar
+      let later : (x : Envelope) → List·Memᴰ x (l .past .sent) → x .way ≡ upward → 1 ≤ x .number → x .number ≡ e .number → x .channel ≡ e .channel
+      → countUp x < countUp e =
+      λ x i q p n g.
+      let was = j .spending .ups x i q in
+      let before : x .left < freeFrom (o .channels) (e .channel) = rw g at (was .1 .passed) in
+      ⊎-elim (λ same. omega (arith, same, before, free, left, present))
+      (λ below. let high = waited (omega (arith, p, n)) in omega (arith, below, high, travelled, left, present)) (was .2 .barred p) in
       record {
         mac = j .mac;
         llids = j .llids;
@@ -88,8 +101,13 @@ module _ (w : Setting) (sh : Shared) (now : ℕ) (l : Lane) (u : UnitRecord) (o 
         timing = j .timing;
         clocks = j .clocks;
         answers = j .answers;
+        underWay =
+            record {
+              sealed = j .underWay .sealed;
+              present = each-more (λ (x : Envelope). x .up ≡ l .path .up) (l .transit .from) e (j .underWay .present) present;
+            };
         towards =
-            towards-moved (w .first) l m (o .keys .active) (u .keys .active) (u .keys .offered) (l .transit .towards) (knows (u .keys .offered))
+            towards-moved (w .first) (l .path) l m (o .keys .active) (u .keys .active) (u .keys .offered) (l .transit .towards) (knows (u .keys .offered))
             (j .towards);
         from =
             from-envelope m (u .confirmation .confirmed) (o .keys .active) (l .transit .from) e (n .low)
@@ -104,20 +122,37 @@ module _ (w : Setting) (sh : Shared) (now : ℕ) (l : Lane) (u : UnitRecord) (o 
         spending =
             record {
               downs =
-                  each-more (λ (x : Envelope). x .way ≡ downward → (downstream (x .channel) ≡ true) × Spent (sh .channels) (u .keys .first) (u .keys .active) x)
+                  each-more (λ (x : Envelope). x .way ≡ downward → (downstream (x .channel) ≡ true)
+                  × Spent (sh .channels) (u .keys .first) (u .keys .active) 0 0 (countDown x) x)
                   (l .past .sent) e (j .spending .downs) (λ q. ways-apart (sym q ∙ way));
               ups =
-                  each-more (λ (x : Envelope). x .way ≡ upward → (upstream (x .channel) ≡ true) × Spent c f (o .keys .active) x) (l .past .sent) e
+                  each-more
+                  (λ (x : Envelope). x .way ≡ upward → (upstream (x .channel) ≡ true)
+                  × Spent c f (o .keys .active) (l .site .up) maxChanges (countUp x) x × Guarded (l .site .up) (l .path .up) t x) (l .past .sent) e
                   (λ x i q.
                   let was = j .spending .ups x i q in (
                     was .0,
-                    rw (← number) (spent-kept (o .channels) c (o .first) f (o .keys .active) (e .number) now x r (rises (x .channel)) (was .1)),
+                    rw (← number)
+                        (spent-kept (o .channels) c (o .first) f (o .keys .active) (e .number) travel (l .site .up) maxChanges (countUp x) x r
+                        (rises (x .channel)) (was .1)),
+                    record {
+                      spent = λ p. let below = was .2 .spent p in omega (arith, below, spent);
+                      barred = λ p. rw bar (was .2 .barred p);
+                    },
                   ))
-                  (λ q. (up, rw (← number) (spent-new c (o .first) f (o .keys .active) (e .number) now e r refl left after)));
+                  (λ q. (
+                    up,
+                    rw (← number)
+                        (spent-new c (o .first) f (o .keys .active) (e .number) travel (l .site .up) maxChanges (countUp e) e r refl
+                        (omega (arith, travelled, left, present)) (omega (arith, left, after))),
+                    record { spent = λ p. let below = ended p in omega (arith, below, travelled, left, present); barred = λ p. inl present },
+                  ));
               spaced =
-                  spaced-more (l .past .sent) e
+                  spaced-more (l .past .sent) e (λ x i p q. ways-apart (sym q ∙ way))
                   (λ x i.
-                  apart-new (o .channels) (o .first) f (o .keys .active) now x e r left free (λ q. j .spending .ups x i (q ∙ way) .1))
+                  apart-new countUp upward (o .channels) (o .first) f (o .keys .active) travel (l .site .up) maxChanges x e r
+                  (omega (arith, travelled, left, present)) (λ q. j .spending .ups x i q .1)
+                  (λ q p n g. later x i q p n g))
                   (j .spending .spaced);
             };
         passing =
@@ -131,12 +166,12 @@ module _ (w : Setting) (sh : Shared) (now : ℕ) (l : Lane) (u : UnitRecord) (o 
   handedUp = sendingOf (onuSendChoice (o .keys)) (o .keys .slots) (o .identity .mac) (o .clock .time) channel llid
 
   abbrev sentUp : Envelope
-  sentUp = envelopeOf upward now llid channel p handedUp (l .keys .number)
+  sentUp = envelopeOf upward now (l .path .up) llid channel p handedUp (l .keys .number)
 
-  sent-up-right : Common w now l o → Joined w sh now l u o → SentRight w l sentUp
+  sent-up-right : Common w now l o → Joined w sh now l u o → (1 ≤ l .keys .number → o .clock .synced ≡ 1) → SentRight w l sentUp
   unfolding sendingOf passageOf
-  sent-up-right c j =
-      let h = chosen-up o (onu-in-range o (c .valid) .first) in
+  sent-up-right c j synced =
+      let h = chosen-up o (eqsOf p) (c .first) in
       let n = j .numbers in
       let under : PassageRight w l sentUp channel (handedUp .passage) =
       record {
@@ -145,14 +180,14 @@ module _ (w : Setting) (sh : Shared) (now : ℕ) (l : Lane) (u : UnitRecord) (o 
             ap (λ (x : ℕ). keyFor x (o .keys .slots)) (h .chosen ∙ n .last)
             ∙ key-for (l .keys .number) (o .keys .slots) some
             ∙ j .stored .onu (l .keys .number) some (omega (arith, n .last)) (omega (arith, n .last));
-        nonce = λ some. let a = j .clocks .synced (j .answers .keyed (omega (arith, n .last))) in rw (c .mac, a .tx);
+        nonce = λ some. let a = j .clocks .synced (synced some) in rw (c .mac, a .tx);
       } in
       record {
         passage = under;
         header =
             ap (λ (x : ℕ). envelopeHeader x channel llid (o .clock .time)) (h .chosen ∙ n .last)
-            ∙ header-epam (l .keys .number) channel llid (o .clock .time) (clockUp (w .first) (l .site .up) now)
-            (epam-up (w .first) now (l .captured) (l .site) (u .clock) (o .clock) (j .clocks));
+            ∙ header-epam (l .keys .number) channel llid (o .clock .time) (clockUp (w .first) (l .path .up) now)
+            (epam-up (w .first) now (l .captured) (l .path) (u .clock) (o .clock) (j .clocks));
         octets = passed-right w l sentUp channel (handedUp .passage) under p;
         count = count-right w l sentUp channel (handedUp .passage) under p;
         runs = runs-right w l sentUp channel (handedUp .passage) under p;
@@ -160,7 +195,7 @@ module _ (w : Setting) (sh : Shared) (now : ℕ) (l : Lane) (u : UnitRecord) (o 
 
   -- the lane of the unit that sends
   pub send-up-keeps : Common w now l o → Joined w sh now l u o → onuSendOf o llid channel p out .answer .number ≡ 0
-      → Joined w sh now (laneSentUp (envelopeUp now o llid channel p out (l .keys .number)) l) u (onuSendOf o llid channel p out .answer .onu)
+      → Joined w sh now (laneSentUp (envelopeUp now (l .path) o llid channel p out (l .keys .number)) l) u (onuSendOf o llid channel p out .answer .onu)
   unfolding envelopeUp onuSendOf onuSent sendingOnu onuAfterSend outputAfter
   send-up-keeps c j a =
       let eqs = eqsOf p in
@@ -168,38 +203,50 @@ module _ (w : Setting) (sh : Shared) (now : ℕ) (l : Lane) (u : UnitRecord) (o 
       let next = onuAfterSend o channel eqs in
       let accepts : verdict ≡ Accepted = onu-accepted o noSending verdict next handedUp (number-accepted _ a) .1 in
       let met = onu-send-accepted o (misfit p out) llid channel accepts in
-      let h = chosen-up o (onu-in-range o (c .valid) .first) in
+      let free = onu-free o channel (met .goes .free) in
+      let h = chosen-up o eqs (c .first) in
       let n = j .numbers in
       let after = occupied (o .channels) channel (o .tick) eqs in
-      let free : freeFrom (o .channels) channel ≤ o .tick = taken-false (o .channels) channel (o .tick) (met .free) in
-      let renewed : Renewed (o .first) (h .first) (o .keys .active) (l .keys .number) now =
-      subst (λ (x : ℕ). Renewed (o .first) (h .first) (o .keys .active) x now) (n .last)
-      (subst (λ (x : ℕ). Renewed (o .first) (h .first) (o .keys .active) (o .keys .active) x) (c .tick) (h .renewed (met .young))) in
+      let sealed : 1 ≤ l .keys .number → choiceEnciphered (onuSendChoice (o .keys)) ≡ true =
+      λ some. h .enciphered ∙ le-leb 1 (o .keys .active) (omega (arith, some, n .last)) in
+      let renewed : Renewed (o .first) (h .first) (o .keys .active) (l .keys .number) (travelOf o) =
+      subst (λ (x : ℕ). Renewed (o .first) (h .first) (o .keys .active) x (travelOf o)) (n .last) (h .renewed (met .goes .young) (free .1)) in
       rw (onu-accepts o noSending verdict next handedUp (c .valid) accepts)
       (subst (λ (x : Onu). Joined w sh now (laneSentUp sentUp l) u (withOnuChannels x after)) (sym (h .noted))
-      (sent-up-joined w sh now l u o j (h .first) after sentUp (sym (n .last)) renewed refl refl
-      (met .upstream) (sym (c .llids llid) ∙ met .has) (fits-alone p out (met .fits)) (sent-up-right c j) (omega (arith, free, c .tick))
-      (λ i. free-later (o .channels) channel i (o .tick) eqs (met .free))
+      (sent-up-joined w sh now l u o j (travelOf o) (h .first) (h .travel) after sentUp (sym (n .last)) (c .travel) renewed
+      (λ some. waited o (free .1 (sealed some))) (h .bar) (h .spent) (λ some. h .ended (omega (arith, some, n .last))) refl refl refl
+      (met .upstream) (sym (c .llids llid) ∙ met .has) (fits-alone p out (met .fits))
+      (sent-up-right c j (λ some. eqb-true _ _ (met .goes .clock (sealed some))))
+      (omega (arith, taken-false (o .channels) channel (o .tick) (free .0), c .tick))
+      (λ i. free-later (o .channels) channel i (o .tick) eqs (free .0))
       (omega (arith, free-own (o .channels) channel (o .tick) eqs, c .tick))))
 
 ---- the unit itself
 
 sent-common : (w : Setting) (now : ℕ) (m : Lane) (o : Onu) (channel eqs : ℕ) → Common w now m o → validOnu (onuAfterSend o channel eqs) ≡ true
     → Common w now m (onuAfterSend o channel eqs)
-unfolding onuAfterSend withOnuChannels withOnuFirst
+unfolding onuAfterSend withOnuChannels withTravel withOnuFirst travelOf
 sent-common w now m o channel eqs k v =
-    let h = chosen-up o (onu-in-range o (k .valid) .first) in
-    let is : onuAfterSend o channel eqs ≡ withOnuChannels (withOnuFirst o (h .first)) (occupied (o .channels) channel (o .tick) eqs) =
+    let h = chosen-up o eqs (k .first) in
+    let is : onuAfterSend o channel eqs ≡ withOnuChannels (withTravel (withOnuFirst o (h .first)) (h .travel)) (occupied (o .channels) channel (o .tick) eqs) =
     ap (λ (x : Onu). withOnuChannels x (occupied (o .channels) channel (o .tick) eqs)) (h .noted) in
     subst (Common w now m) (sym is)
-    (record { valid = subst (λ (x : Onu). validOnu x ≡ true) is v; tick = k .tick; mac = k .mac; llids = k .llids; oltmac = k .oltmac })
+    (record {
+      valid = subst (λ (x : Onu). validOnu x ≡ true) is v;
+      tick = k .tick;
+      mac = k .mac;
+      llids = k .llids;
+      oltmac = k .oltmac;
+      travel = rw (h .changes) (k .travel);
+      first = rw (h .changes) (h .begun);
+    })
 
 -- it stays valid, at its tick, and who it is
-pub send-common : (w : Setting) (now : ℕ) (l m : Lane) (o : Onu) (llid channel : ℕ) (p out : List ℕ) → l .site ≡ m .site → Common w now l o
+pub send-common : (w : Setting) (now : ℕ) (l m : Lane) (o : Onu) (llid channel : ℕ) (p out : List ℕ) → l .site ≡ m .site → l .path ≡ m .path → Common w now l o
     → Common w now m (onuSendOf o llid channel p out .answer .onu)
 unfolding onuSendOf onuSent sendingOnu onuSendVerdict
-send-common w now l m o llid channel p out s c =
-    let kept = common-moved w now l m o s c in
+send-common w now l m o llid channel p out s q c =
+    let kept = common-moved w now l m o s q c in
     onu-keeps (Common w now m) o noSending _ _ _ kept
     (λ v a. sent kept (onu-sent-valid o channel (eqsOf p) (few-eqs p out (refuse-accepted _ _ _ a .0)) v)) where
       sent : Common w now m o → validOnu (onuAfterSend o channel (eqsOf p)) ≡ true → Common w now m (onuAfterSend o channel (eqsOf p))

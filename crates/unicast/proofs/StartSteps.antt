@@ -13,6 +13,7 @@ use Rattle.clock.specs.Ticks.{clockTurn, localTurn}
 use Rattle.protocol.specs.Replies.{Silence, silent, Reply}
 use Rattle.ends.specs.Identities.{kept, noIdentity, validIdentity}
 use Rattle.ends.specs.Records.{newOlt, newOnu}
+use Rattle.ends.specs.Travels.{shiftOf, travelOf}
 use Rattle.protocol.specs.OltCalls.{oltAnswer, freshOltOf}
 use Rattle.protocol.specs.OnuCalls.{onuAnswer, freshOnuVerdict, freshOnuOf}
 use Rattle.ends.specs.declared.Identity.{Identity}
@@ -77,7 +78,7 @@ onu-made i oltmac time e =
     }
 
 pub fresh-common : (w : Setting) (s : Site) → freshOnuOf (s .identity) (s .oltmac) (s .time) .number ≡ 0 → Common w 0 (freshLane s) (freshOnu s)
-unfolding freshLane freshOnu newOnu kept
+unfolding freshLane freshOnu newOnu kept travelOf shiftOf
 fresh-common w s e =
     let m = onu-made (s .identity) (s .oltmac) (s .time) e in
     rw (m .made)
@@ -87,6 +88,8 @@ fresh-common w s e =
       mac = refl;
       llids = λ x. kept-has (s .identity) x (identity-valid (s .identity) (m .identity) .1);
       oltmac = refl;
+      travel = omega arith;
+      first = record { begun = λ one. absurd (omega arith); ended = λ one. absurd (omega arith) };
     })
 
 pub fresh-idle : (s : Site) → freshOnuOf (s .identity) (s .oltmac) (s .time) .number ≡ 0 → Idle 0 (freshLane s) (freshOnu s)
@@ -118,7 +121,7 @@ fresh-lane-right w t s e = record { common = fresh-common w s e; standing = fres
 ---- the whole
 
 -- every lane is fresh
-lane-fresh : (P : Lane → Type 0) (sites : List Site) (u : ℕ) → ((s : Site) → P (freshLane s)) → P (getD (map freshLane sites) u (freshLane noSite))
+pub lane-fresh : (P : Lane → Type 0) (sites : List Site) (u : ℕ) → ((s : Site) → P (freshLane s)) → P (getD (map freshLane sites) u (freshLane noSite))
 lane-fresh P [] u p = p noSite
 lane-fresh P (s ∷ sites) zero p = p s
 lane-fresh P (s ∷ sites) (suc u) p = lane-fresh P sites u p

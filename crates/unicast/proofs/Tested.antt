@@ -15,16 +15,16 @@ use Rattle.octets.proofs.Lists.{same-refl}
 use Rattle.octets.proofs.Tests.{all-at}
 use Rattle.clock.specs.Ticks.{localTurn}
 use Rattle.ends.specs.Identities.{among, has, llidsOf}
-use Rattle.protocol.specs.OltCalls.{freshOltOf, registerOf, offerOf, acknowledgeOf}
-use Rattle.protocol.specs.OnuCalls.{freshOnuOf, clockMessageAt, keyMessageAt}
+use Rattle.protocol.specs.OltCalls.{freshOltOf, registerOf, measureOf, offerOf, acknowledgeOf}
+use Rattle.protocol.specs.OnuCalls.{freshOnuOf, newTimeOf, clockMessageAt, keyMessageAt}
 use Rattle.ends.specs.declared.Identity.{Identity}
 use Rattle.traffic.specs.Sends.{onuSendOf}
 use Rattle.traffic.specs.Receipts.{oltReceiveOf, onuReceiveOf}
-use Rattle.unicast.specs.Setting.{Site, Setting}
+use Rattle.unicast.specs.Setting.{Delays, Site, Setting}
 use Rattle.unicast.specs.History.{Thing, clockMessage, keyMessage, envelope, leftAt, Lane}
-use Rattle.unicast.specs.Events.{Event, advance, register, capture, clockSend, offer, retry, sendDown, sendUp, arriveDown, arriveUp, arriveAnswer, overhear, strayClock, strayKey, strayAnswer, strayDown, strayUp}
+use Rattle.unicast.specs.Events.{Event, advance, register, capture, clockSend, offer, retry, sendDown, sendUp, arriveDown, arriveUp, arriveAnswer, overhear, changePath, measure, newTime, strayClock, strayKey, strayAnswer, strayDown, strayUp}
 use Rattle.unicast.specs.Run.{State, step, laneAt, onuAt, thingAt, envelopeAt, answerAt, noSite, freshLane}
-use Rattle.unicast.specs.Premises.{Fresh, Agrees, NewKey, FittingBuffer, DueDown, DueUp, DueAnswer, Overhears, Fits, Meets}
+use Rattle.unicast.specs.Premises.{Fresh, Agrees, NewKey, FittingBuffer, DueDown, DueUp, DueAnswer, Changes, Overhears, Fits, Meets}
 
 ---- what binds accepted calls only
 
@@ -65,8 +65,8 @@ agrees w s u i trip =
     (both (eqb (i .mac) (laneAt s u .site .identity .mac))
     (both (alike (llidsOf i) (llidsOf (laneAt s u .site .identity)))
     (both (eqb (laneAt s u .site .oltmac) (w .mac))
-    (both (eqb (laneAt s u .site .time) ((w .first + laneAt s u .site .up) % localTurn))
-    (eqb trip (laneAt s u .site .up + laneAt s u .site .down))))))
+    (both (eqb (laneAt s u .site .time) ((w .first + laneAt s u .path .up) % localTurn))
+    (eqb trip (laneAt s u .path .up + laneAt s u .path .down))))))
 
 pub agrees-true : (w : Setting) (s : State) (u : ℕ) (i : Identity) (trip : ℕ) → agrees w s u i trip ≡ true → Agrees w s u i trip
 unfolding agrees has
@@ -125,7 +125,7 @@ fitting-true (envelope x) out e = eqb-true _ _ e
 unfoldable pub dueDown : State → ℕ → ℕ → List ℕ → Bool
 dueDown s u k out =
     both (ltb k (length (laneAt s u .transit .towards)))
-    (both (eqb (leftAt (thingAt s u k) + laneAt s u .site .down) (s .history .now)) (fitting (thingAt s u k) out))
+    (both (eqb (leftAt (thingAt s u k) + laneAt s u .path .down) (s .history .now)) (fitting (thingAt s u k) out))
 
 pub due-down-true : (s : State) (u k : ℕ) (out : List ℕ) → dueDown s u k out ≡ true → DueDown s u k out
 unfolding dueDown
@@ -136,7 +136,7 @@ due-down-true s u k out e =
 unfoldable pub dueUp : State → ℕ → ℕ → List ℕ → Bool
 dueUp s u k out =
     both (ltb k (length (laneAt s u .transit .from)))
-    (both (eqb (envelopeAt s u k .left + laneAt s u .site .up) (s .history .now)) (eqb (length out) (length (envelopeAt s u k .octets))))
+    (both (eqb (envelopeAt s u k .left + laneAt s u .path .up) (s .history .now)) (eqb (length out) (length (envelopeAt s u k .octets))))
 
 pub due-up-true : (s : State) (u k : ℕ) (out : List ℕ) → dueUp s u k out ≡ true → DueUp s u k out
 unfolding dueUp
@@ -147,7 +147,7 @@ due-up-true s u k out e =
 unfoldable pub dueAnswer : State → ℕ → ℕ → ℕ → Bool
 dueAnswer s u k llid =
     both (ltb k (length (laneAt s u .transit .answered)))
-    (both (leb (answerAt s u k .tick + laneAt s u .site .up) (s .history .now)) (has (laneAt s u .site .identity) llid))
+    (both (leb (answerAt s u k .tick + laneAt s u .path .up) (s .history .now)) (has (laneAt s u .site .identity) llid))
 
 pub due-answer-true : (s : State) (u k llid : ℕ) → dueAnswer s u k llid ≡ true → DueAnswer s u k llid
 unfolding dueAnswer
@@ -164,6 +164,27 @@ unfolding overhears
 overhears-true s u v k e =
     let a = both-right _ _ e in
     record { registered = both-left _ _ e; apart = eqb-false u v (not-true _ (both-left _ _ a)); some = ltb-true _ _ (both-right _ _ a) }
+
+unfoldable pub changes : Setting → State → ℕ → ℕ → ℕ → Delays → Bool
+changes w s u llid time p =
+    both (laneAt s u .entry .registered)
+    (both (has (laneAt s u .site .identity) llid)
+    (both (eqb (measureOf (s .olt) llid (p .up + p .down) .number) 0)
+    (both (eqb (newTimeOf (onuAt s u) time .number) 0) (eqb time ((w .first + s .history .now + p .up) % localTurn)))))
+
+changes-true : (w : Setting) (s : State) (u llid time : ℕ) (p : Delays) → changes w s u llid time p ≡ true → Changes w s u llid time p
+unfolding changes
+changes-true w s u llid time p e =
+    let a = both-right _ _ e in
+    let b = both-right _ _ a in
+    let c = both-right _ _ b in
+    record {
+      registered = both-left _ _ e;
+      named = both-left _ _ a;
+      measured = eqb-true _ _ (both-left _ _ b);
+      retimed = eqb-true _ _ (both-left _ _ c);
+      follows = eqb-true _ _ (both-right _ _ c);
+    }
 
 unfoldable pub freshSite : Site → Bool
 freshSite s = eqb (freshOnuOf (s .identity) (s .oltmac) (s .time) .number) 0
@@ -195,6 +216,9 @@ fits w s (arriveDown u k out) = dueDown s u k out
 fits w s (arriveUp u k out) = dueUp s u k out
 fits w s (arriveAnswer u k llid) = dueAnswer s u k llid
 fits w s (overhear u v k out) = overhears s u v k
+fits w s (changePath u llid time p) = changes w s u llid time p
+fits w s (measure llid trip) = not (eqb (measureOf (s .olt) llid trip .number) 0)
+fits w s (newTime u time) = not (eqb (newTimeOf (onuAt s u) time .number) 0)
 fits w s (strayClock u m) = not (eqb (clockMessageAt (onuAt s u) m .number) 0)
 fits w s (strayKey u m) = not (eqb (keyMessageAt (onuAt s u) m .number) 0)
 fits w s (strayAnswer llid a) = not (eqb (acknowledgeOf (s .olt) llid a .number) 0)
@@ -215,6 +239,9 @@ fits-true w s (arriveDown u k out) h = due-down-true s u k out h
 fits-true w s (arriveUp u k out) h = due-up-true s u k out h
 fits-true w s (arriveAnswer u k llid) h = due-answer-true s u k llid h
 fits-true w s (overhear u v k out) h = overhears-true s u v k h
+fits-true w s (changePath u llid time p) h = changes-true w s u llid time p h
+fits-true w s (measure llid trip) h = not-accepted _ h
+fits-true w s (newTime u time) h = not-accepted _ h
 fits-true w s (strayClock u m) h = not-accepted _ h
 fits-true w s (strayKey u m) h = not-accepted _ h
 fits-true w s (strayAnswer llid a) h = not-accepted _ h
@@ -237,5 +264,5 @@ meets-start w s (e ∷ es) rest m = (m .0, meets-start w (step s e) es rest (m .
 
 -- to compute the test
 unfoldable pub tested : Unit {0}
-unfolding ifAccepted alike agrees other unused fitting dueDown dueUp dueAnswer overhears freshSite fresh fits meets
+unfolding ifAccepted alike agrees other unused fitting dueDown dueUp dueAnswer overhears changes freshSite fresh fits meets
 tested = tt

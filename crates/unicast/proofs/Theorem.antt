@@ -1,7 +1,7 @@
 -- Whatever the list, the invariant holds after it, and with it the claim. Assumes nothing.
 use mathlib.Core.List.{List, [], _∷_}
 use Rattle.unicast.specs.Setting.{Setting}
-use Rattle.unicast.specs.Events.{Event, advance, register, capture, clockSend, offer, retry, sendDown, sendUp, arriveDown, arriveUp, arriveAnswer, overhear, strayClock, strayKey, strayAnswer, strayDown, strayUp}
+use Rattle.unicast.specs.Events.{Event, advance, register, capture, clockSend, offer, retry, sendDown, sendUp, arriveDown, arriveUp, arriveAnswer, overhear, changePath, measure, newTime, strayClock, strayKey, strayAnswer, strayDown, strayUp}
 use Rattle.unicast.specs.Run.{State, start, step, run}
 use Rattle.unicast.specs.Premises.{Fresh, Fits, Meets}
 use Rattle.unicast.specs.Claim.{Claim}
@@ -11,6 +11,7 @@ use Rattle.unicast.proofs.AdvanceSteps.{advance-right}
 use Rattle.unicast.proofs.RegisterSteps.{register-right}
 use Rattle.unicast.proofs.OltSteps.{capture-right, clock-send-right, retry-right, send-down-right, answer-right, stray-answer-right, stray-up-right}
 use Rattle.unicast.proofs.OnuSteps.{send-up-right, arrive-down-right, overhear-right, stray-clock-right, stray-key-right, stray-down-right}
+use Rattle.unicast.proofs.ChangeSteps.{change-path-right, measure-right, new-time-right}
 use Rattle.unicast.proofs.Claims.{claim-holds}
 use Rattle.unicast.proofs.OfferSteps.{offer-right}
 use Rattle.unicast.proofs.ArrivalSteps.{arrive-up-right}
@@ -28,6 +29,9 @@ step-right w s (arriveDown u k out) v f = arrive-down-right w s u k out v f
 step-right w s (arriveUp u k out) v f = arrive-up-right w s u k out v f
 step-right w s (arriveAnswer u k llid) v f = answer-right w s u k llid v f
 step-right w s (overhear u other k out) v f = overhear-right w s u other k out v f
+step-right w s (changePath u llid time p) v f = change-path-right w s u llid time p v f
+step-right w s (measure llid trip) v f = measure-right w s llid trip v f
+step-right w s (newTime u time) v f = new-time-right w s u time v f
 step-right w s (strayClock u m) v f = stray-clock-right w s u m v f
 step-right w s (strayKey u m) v f = stray-key-right w s u m v f
 step-right w s (strayAnswer llid a) v f = stray-answer-right w s llid a v f

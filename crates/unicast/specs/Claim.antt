@@ -12,14 +12,14 @@ use Rattle.envelope.specs.CounterBlock.{counterBlock}
 use Rattle.envelope.specs.declared.Nonce.{Nonce}
 use Rattle.sealing.specs.KeyExpansion.{keyExpansion}
 use Rattle.sealing.specs.Seal.{carried, countCarried, runsCarried}
-use Rattle.protocol.specs.Headers.{envelopeHeader}
+use Rattle.protocol.specs.Headers.{choiceEnciphered, envelopeHeader}
 use Rattle.ends.specs.Identities.{has}
 use Rattle.ends.specs.Keys.{keyIn}
 use Rattle.ends.specs.Table.{unitAt}
 use Rattle.ends.specs.declared.Onu.{Onu}
 use Rattle.protocol.specs.declared.Passage.{Passage}
 use Rattle.ends.specs.declared.UnitRecord.{UnitRecord}
-use Rattle.traffic.specs.Passages.{misfit, choiceEnciphered, passageNonce}
+use Rattle.traffic.specs.Passages.{misfit, passageNonce}
 use Rattle.traffic.specs.Receipts.{onuNotReceived}
 use Rattle.unicast.specs.Setting.{Site, Setting, clockDown, clockUp}
 use Rattle.unicast.specs.History.{Way, downward, upward, Envelope, Arrival, Lane, keyOf}
@@ -31,14 +31,15 @@ abbrev pub senderMac : Setting → Site → Way → ℕ
 senderMac w s downward = w .mac
 senderMac w s upward = s .identity .mac
 
-abbrev pub senderClock : Setting → Site → Way → ℕ → ℕ
-senderClock w s downward tick = clockDown (w .first) tick
-senderClock w s upward tick = clockUp (w .first) (s .up) tick
+-- of a send at that tick, when the unit's delay up was that
+abbrev pub senderClock : Setting → ℕ → Way → ℕ → ℕ
+senderClock w up downward tick = clockDown (w .first) tick
+senderClock w up upward tick = clockUp (w .first) up tick
 
 -- what tells an envelope's counter blocks from another's
 abbrev pub nonceFor : Setting → Site → Envelope → Nonce
 nonceFor w s e =
-    record { channel = e .channel; mac = senderMac w s (e .way); clock = senderClock w s (e .way) (e .left) }
+    record { channel = e .channel; mac = senderMac w s (e .way); clock = senderClock w (e .up) (e .way) (e .left) }
 
 -- number 0 is clear; n ≥ 1 is sealed with key n
 abbrev pub isSealed : Envelope → Bool
@@ -54,7 +55,7 @@ pub record PassageRight (w : Setting) (l : Lane) (e : Envelope) (channel : ℕ) 
 -- give for them
 pub record SentRight (w : Setting) (l : Lane) (e : Envelope) : Type 0 where
   pub passage : PassageRight w l e (e .channel) (e .passage)
-  pub header : e .header ≡ envelopeHeader (e .number) (e .channel) (e .llid) (senderClock w (l .site) (e .way) (e .left))
+  pub header : e .header ≡ envelopeHeader (e .number) (e .channel) (e .llid) (senderClock w (e .up) (e .way) (e .left))
   pub octets : e .octets ≡ carried (isSealed e) (keyExpansion (keyOf (l .keys) (e .number))) (nonceFor w (l .site) e) (e .payload)
   pub count : e .count ≡ countCarried (isSealed e) (e .payload)
   -- 02, C-17

@@ -1,7 +1,7 @@
 -- Demand 3 of 01 as one statement, and what it says of the list of Example. Assumes nothing.
 use mathlib.Core.Path.{_≡_}
 use mathlib.Core.Bool.{true, false}
-use mathlib.Core.List.{List, []}
+use mathlib.Core.List.{List, List·Memᴰ, [], _∷_}
 use Prim.Native.Nat.{ℕ, _+_, _-_, _<_}
 use lib.ListN.{length, getD}
 use Rattle.clock.specs.Ticks.{clockTurn, localTurn, maxRoundTrip}
@@ -9,16 +9,16 @@ use Rattle.envelope.specs.CounterBlock.{counterBlock}
 use Rattle.envelope.specs.declared.Nonce.{Nonce}
 use Rattle.sealing.specs.KeyExpansion.{keyExpansion}
 use Rattle.sealing.specs.Seal.{carried}
-use Rattle.protocol.specs.Headers.{envelopeHeader, noPassage}
+use Rattle.protocol.specs.Headers.{choiceEnciphered, envelopeHeader, noPassage}
 use Rattle.ends.specs.Identities.{has}
 use Rattle.ends.specs.Keys.{keyIn}
 use Rattle.ends.specs.Limits.{maxInterval}
 use Rattle.ends.specs.Table.{unitAt}
 use Rattle.ends.specs.declared.Identity.{Identity}
-use Rattle.traffic.specs.Passages.{choiceEnciphered, passageNonce}
+use Rattle.traffic.specs.Passages.{passageNonce}
 use Rattle.unicast.specs.Setting.{Setting}
-use Rattle.unicast.specs.History.{Arrival, keyOf}
-use Rattle.unicast.specs.Events.{Event}
+use Rattle.unicast.specs.History.{Arrival, Envelope, Lane, keyOf}
+use Rattle.unicast.specs.Events.{Event, advance, register, capture, clockSend, offer, retry, sendDown, sendUp, arriveDown, arriveUp, arriveAnswer, overhear, changePath, measure, newTime, strayClock, strayKey, strayAnswer, strayDown, strayUp}
 use Rattle.unicast.specs.Run.{State, start, run, laneAt, onuAt, sentAt, overhearing, noEnvelope}
 use Rattle.unicast.specs.Premises.{Fresh, Meets}
 use Rattle.unicast.specs.Claim.{nonceFor, indexTurn, Claim}
@@ -28,6 +28,42 @@ use Rattle.unicast.specs.Course.{after, played, Course}
 -- the theorem
 abbrev pub Theorem : Type 0
 Theorem = (w : Setting) (es : List Event) → Fresh w → Meets w (start w) es → Claim w (run (start w) es)
+
+---- lists without path changes run as before there were any (02, C-16)
+
+-- the unit's delays are those that it started with, and every envelope that was sent went by them
+abbrev pub AsStarted : Lane → Type 0
+AsStarted l =
+    (l .path ≡ record { up = l .site .up; down = l .site .down }) × ((e : Envelope) → List·Memᴰ e (l .past .sent) → e .up ≡ l .site .up)
+
+abbrev pub NoChange : Event → Type 0
+NoChange (advance n) = Unit {0}
+NoChange (register u i trip interval) = Unit {0}
+NoChange (capture llid) = Unit {0}
+NoChange (clockSend llid) = Unit {0}
+NoChange (offer llid key) = Unit {0}
+NoChange (retry llid) = Unit {0}
+NoChange (sendDown llid channel p out) = Unit {0}
+NoChange (sendUp u llid channel p out) = Unit {0}
+NoChange (arriveDown u k out) = Unit {0}
+NoChange (arriveUp u k out) = Unit {0}
+NoChange (arriveAnswer u k llid) = Unit {0}
+NoChange (overhear u other k out) = Unit {0}
+NoChange (changePath u llid time p) = ⊥
+NoChange (measure llid trip) = Unit {0}
+NoChange (newTime u time) = Unit {0}
+NoChange (strayClock u m) = Unit {0}
+NoChange (strayKey u m) = Unit {0}
+NoChange (strayAnswer llid a) = Unit {0}
+NoChange (strayDown u h p out) = Unit {0}
+NoChange (strayUp h p out) = Unit {0}
+
+abbrev pub NoChanges : List Event → Type 0
+NoChanges [] = Unit {0}
+NoChanges (e ∷ es) = NoChange e × NoChanges es
+
+abbrev pub Unchanged : Type 0
+Unchanged = (w : Setting) (es : List Event) → NoChanges es → (u : ℕ) → AsStarted (laneAt (run (start w) es) u)
 
 ---- of an envelope of the example
 
@@ -138,23 +174,31 @@ pub record Shown : Type 0 where
   pub upB1 : Delivered 1 1 (keyFrom 48) (nonce 0x80 (identityB .mac) 8) (payloadFrom 8) encipheredOctets
   pub downB2 : Delivered 1 2 (keyFrom 64) (nonce 0x00 oltMac 1058) (payloadFrom 10) encipheredOctets
   pub upB2 : Delivered 1 3 (keyFrom 64) (nonce 0x81 (identityB .mac) 1076) (payloadFrom 11) encipheredOctets
+  -- its path changes: one up is lost, and the next is on either channel once the clock has passed its end
+  pub lostB2 : Handed 1 4 2 9 (keyFrom 64) (nonce 0x80 (identityB .mac) 1083) (payloadFrom 18) encipheredOctets
+  pub againB2 : Delivered 1 4 (keyFrom 64) (nonce 0x80 (identityB .mac) 1087) (payloadFrom 19) encipheredOctets
+  pub otherB2 : Delivered 1 5 (keyFrom 64) (nonce 0x81 (identityB .mac) 1087) (payloadFrom 20) encipheredOctets
+  pub downB3 : Delivered 1 6 (keyFrom 96) (nonce 0x00 oltMac 2087) (payloadFrom 21) encipheredOctets
+  pub upB3 : Delivered 1 7 (keyFrom 96) (nonce 0x80 (identityB .mac) 2090) (payloadFrom 22) encipheredOctets
   -- the third, on the last tick of its interval and the next
   pub clearC : Passed 2 0 (payloadFrom 12)
   pub downC1 : Delivered 2 1 (keyFrom 80) (nonce 0x01 oltMac (maxInterval - localTurn + 15)) (payloadFrom 13) encipheredOctets
   pub upC1 : Delivered 2 2 (keyFrom 80) (nonce 0x80 (identityC .mac) (maxInterval - localTurn + 15 + maxRoundTrip)) (payloadFrom 14) encipheredOctets
   pub againC1 : Delivered 2 3 (keyFrom 80) (nonce 0x00 oltMac (clockTurn - 10)) (payloadFrom 15) encipheredOctets
   -- two down under key 1 on one channel, of which the first was lost; two up under key 2 on one channel, 2^48 - 1 ticks apart; one
-  -- each way under key 2; and one to each of two units, whose counter blocks are the same
+  -- each way under key 2; two up on one channel, before and after a change of path; and one to each of two units, whose counter
+  -- blocks are the same
   pub apartDown : Apart 0 2 0 3
   pub apartUp : Apart 0 7 0 9
   pub apartWays : Apart 0 6 0 7
+  pub apartPaths : Apart 1 4 1 5
   pub apartUnits : Apart 0 6 2 3
   pub countedUp : Counted 0 7
-  -- key 1 and key 2
+  -- keys 1, 2 and 3
   pub agreedA1 : Agreed (after toFirstKey) 0 0 1 (keyFrom 16) identityA
   pub agreedA2 : Agreed (after toSecondKey) 0 0 2 (keyFrom 32) identityA
   pub agreedB1 : Agreed (after toSecondKey) 1 1 1 (keyFrom 48) identityB
-  pub agreedB2 : Agreed played 1 1 2 (keyFrom 64) identityB
+  pub agreedB3 : Agreed played 1 1 3 (keyFrom 96) identityB
   pub agreedC1 : Agreed played 2 2 1 (keyFrom 80) identityC
   -- sent down, sent up, with a buffer that does not fit, and by a unit that has no clock yet
   pub overheardDown : Overheard (after toSecondKey) 1 0 6 blank 2
@@ -166,6 +210,7 @@ pub record Shown : Type 0 where
 
 pub record Demand : Type 0 where
   pub holds : Theorem
+  pub unchanged : Unchanged
   pub fresh : Fresh example
   pub meets : Meets example (start example) events
   pub course : Course

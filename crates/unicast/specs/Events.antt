@@ -7,6 +7,7 @@ use Rattle.protocol.specs.declared.Acknowledgement.{Acknowledgement}
 use Rattle.protocol.specs.declared.Header.{Header}
 use Rattle.ends.specs.declared.Identity.{Identity}
 use Rattle.protocol.specs.declared.KeyMessage.{KeyMessage}
+use Rattle.unicast.specs.Setting.{Delays}
 
 pub data Event : Type 0 where
   -- by n ticks, at all ends
@@ -28,6 +29,11 @@ pub data Event : Type 0 where
   arriveAnswer : (unit k llid : ℕ) → Event
   -- a unit overhears the kth envelope that was sent to or by another
   overhear : (unit other k : ℕ) (out : List ℕ) → Event
+  -- the unit's path changes: the OLT measures its round trip anew, naming it by that LLID, and the unit is given its new LocalTime
+  changePath : (unit llid time : ℕ) → Delays → Event
+  -- either call alone
+  measure : (llid trip : ℕ) → Event
+  newTime : (unit time : ℕ) → Event
   -- any other receipt
   strayClock : (unit : ℕ) → Stamps → Event
   strayKey : (unit : ℕ) → KeyMessage → Event

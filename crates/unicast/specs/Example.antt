@@ -1,6 +1,7 @@
 -- A list of events that meets the premises (01, The line): clear, sealed and empty envelopes, losses, a retry, repeated and late
 -- acknowledgements, overheard envelopes, two switches for each of two units and one for a third, whose interval and delay are the
--- longest; and refused calls of every kind, with every number of 01's table that an end gives. It fills the OLT's table of units,
+-- longest; a change of the second unit's path in the middle of a key exchange; and refused calls of every kind, with every number of
+-- 01's table that an end gives. It fills the OLT's table of units,
 -- and its last tick is the last that an end counts to. Assumes nothing.
 use mathlib.Core.List.{List, [], _∷_, _++_}
 use Prim.Native.Nat.{ℕ, _+_, _-_, _%_}
@@ -13,8 +14,8 @@ use Rattle.protocol.specs.Messages.{ofClock, ofKey}
 use Rattle.protocol.specs.declared.Header.{Header}
 use Rattle.ends.specs.declared.Identity.{Identity}
 use Rattle.protocol.specs.declared.KeyMessage.{KeyMessage}
-use Rattle.unicast.specs.Setting.{Site, Setting, clockDown}
-use Rattle.unicast.specs.Events.{Event, advance, register, capture, clockSend, offer, retry, sendDown, sendUp, arriveDown, arriveUp, arriveAnswer, overhear, strayClock, strayKey, strayAnswer, strayDown, strayUp}
+use Rattle.unicast.specs.Setting.{Delays, Site, Setting, clockDown, clockUp}
+use Rattle.unicast.specs.Events.{Event, advance, register, capture, clockSend, offer, retry, sendDown, sendUp, arriveDown, arriveUp, arriveAnswer, overhear, changePath, measure, newTime, strayClock, strayKey, strayAnswer, strayDown, strayUp}
 
 ---- the setting
 
@@ -287,7 +288,53 @@ secondKeyB =
     ∷ arriveUp 1 0 blank
     ∷ []
 
--- tick 2^32 + 1216: the third unit's clock is set, and key 1 offered
+-- the tick of the change
+abbrev pub changeTick : ℕ
+changeTick = localTurn + 1216
+
+-- the second unit's path becomes shorter by 7 ticks up, more than an envelope takes, and 8 down
+abbrev pub pathB : Delays
+pathB = record { up = 0; down = 3 }
+
+-- key 3 is offered and an envelope sent up, and both are lost with the path. Either call alone is refused, 2 and 1. Nothing is sent
+-- sealed, 5, until the clock is set anew; the key message that is sent before finds the unit unsynced, 5; then the unit waits until
+-- its clock has passed the end of the lost envelope, 12, and sends on both channels; and the switch to key 3
+unfoldable pub changedPathB : List Event
+changedPathB =
+    offer 9 (keyFrom 96)
+    ∷ sendUp 1 9 0x80 (payloadFrom 18) blank
+    ∷ changePath 1 9 (clockUp firstClock 0 changeTick % localTurn) pathB
+    ∷ measure 4 3
+    ∷ measure 9 (maxRoundTrip + 1)
+    ∷ newTime 1 localTurn
+    ∷ sendUp 1 9 0x80 (payloadFrom 19) blank
+    ∷ sendDown 9 0x00 (payloadFrom 19) blank
+    ∷ retry 9
+    ∷ capture 9
+    ∷ clockSend 9
+    ∷ advance 3
+    ∷ arriveDown 1 0 []
+    ∷ arriveDown 1 0 []
+    ∷ arriveAnswer 1 2 9
+    ∷ retry 9
+    ∷ sendUp 1 9 0x80 (payloadFrom 19) blank
+    ∷ advance 3
+    ∷ arriveDown 1 0 []
+    ∷ arriveAnswer 1 3 9
+    ∷ advance 5
+    ∷ sendUp 1 9 0x80 (payloadFrom 19) blank
+    ∷ sendUp 1 9 0x81 (payloadFrom 20) blank
+    ∷ arriveUp 1 0 blank
+    ∷ arriveUp 1 0 blank
+    ∷ advance 1000
+    ∷ sendDown 9 0x00 (payloadFrom 21) blank
+    ∷ advance 3
+    ∷ arriveDown 1 0 blank
+    ∷ sendUp 1 9 0x80 (payloadFrom 22) blank
+    ∷ arriveUp 1 0 blank
+    ∷ []
+
+-- tick 2^32 + 2230: the third unit's clock is set, and key 1 offered
 unfoldable pub firstKeyC : List Event
 firstKeyC =
     capture 7
@@ -300,7 +347,7 @@ firstKeyC =
     ∷ advance maxRoundTrip
     ∷ arriveAnswer 2 1 7
     -- the interval's last tick: still in clear
-    ∷ advance (155 + maxInterval - 1 - (localTurn + 1216 + maxRoundTrip + maxRoundTrip))
+    ∷ advance (155 + maxInterval - 1 - (localTurn + 2230 + maxRoundTrip + maxRoundTrip))
     ∷ sendDown 7 0x00 (payloadFrom 12) blank
     ∷ arriveDown 2 0 blank
     -- it is over: the switch
@@ -348,4 +395,4 @@ abbrev pub toSecondKey : List Event
 toSecondKey = toFirstKey ++ (refusedCalls ++ (refusedEnvelopes ++ (secondUnit ++ secondKeyA)))
 
 abbrev pub events : List Event
-events = toSecondKey ++ (overheard ++ (secondKeyB ++ (firstKeyC ++ (lastSends ++ (fullTable ++ lastTick)))))
+events = toSecondKey ++ (overheard ++ (secondKeyB ++ (changedPathB ++ (firstKeyC ++ (lastSends ++ (fullTable ++ lastTick))))))

@@ -5,24 +5,26 @@ use mathlib.Core.List.{List, [], _∷_, _++_}
 use Prim.Native.Nat.{ℕ, suc, _+_, _-_, _/_}
 use lib.Dec.{eqb, ltb}
 use lib.ListN.{length, getD, drop}
-use Rattle.octets.specs.Choice.{both, pick}
+use Rattle.octets.specs.Choice.{both, either, pick}
 use Rattle.clock.specs.declared.Stamps.{Stamps}
-use Rattle.protocol.specs.Messages.{keyKind}
+use Rattle.protocol.specs.Messages.{clockKind, keyKind}
 use Rattle.protocol.specs.declared.Acknowledgement.{Acknowledgement}
 use Rattle.protocol.specs.declared.Header.{Header}
 use Rattle.protocol.specs.declared.KeyMessage.{KeyMessage}
 use Rattle.protocol.specs.declared.Passage.{Passage}
-use Rattle.unicast.specs.Setting.{Site}
+use Rattle.unicast.specs.Setting.{Delays, Site}
 
 -- which way an envelope goes
 pub data Way : Type 0 where
   downward : Way
   upward : Way
 
--- an envelope that an accepted send handed over: what it was sent with, what was handed over, what it was sealed with, its number
+-- an envelope that an accepted send handed over: its tick, the unit's delay up at that tick, what it was sent with, what was handed
+-- over, what it was sealed with, its number
 pub record Envelope : Type 0 where
   pub way : Way
   pub left : ℕ
+  pub up : ℕ
   pub llid : ℕ
   pub channel : ℕ
   pub payload : List ℕ
@@ -87,9 +89,10 @@ pub record Past : Type 0 where
   pub sent : List Envelope
   pub arrived : List Arrival
 
--- one unit's line; captured is the tick of the last accepted capture
+-- one unit's line; path is its present one, captured the tick of the last accepted capture
 pub record Lane : Type 0 where
   pub site : Site
+  pub path : Delays
   pub entry : Entry
   pub captured : ℕ
   pub keys : Keys
@@ -122,12 +125,13 @@ numberDown l now = pick (switching l now) (l .keys .switches + 1) (l .keys .swit
 ---- what an accepted call or an arrival adds to a lane, at the tick now
 
 unfoldable pub laneWith : Lane → Keys → Transit → Past → Lane
-laneWith l k t p = record { site = l .site; entry = l .entry; captured = l .captured; keys = k; transit = t; past = p }
+laneWith l k t p = record { site = l .site; path = l .path; entry = l .entry; captured = l .captured; keys = k; transit = t; past = p }
 
 unfoldable pub laneRegistered : ℕ → ℕ → ℕ → Lane → Lane
 laneRegistered place now interval l =
     record {
       site = l .site;
+      path = l .path;
       entry = record { registered = true; place = place; since = now; interval = interval };
       captured = l .captured;
       keys =
@@ -144,7 +148,7 @@ laneRegistered place now interval l =
 
 unfoldable pub laneCaptured : ℕ → Lane → Lane
 laneCaptured now l =
-    record { site = l .site; entry = l .entry; captured = now; keys = l .keys; transit = l .transit; past = l .past }
+    record { site = l .site; path = l .path; entry = l .entry; captured = now; keys = l .keys; transit = l .transit; past = l .past }
 
 -- a message or an envelope leaves for the unit
 unfoldable pub leaving : Transit → Thing → Transit
@@ -242,3 +246,37 @@ laneArrivedUp k r l =
     laneWith l (l .keys)
     (record { towards = l .transit .towards; from = drop (suc k) (l .transit .from); answered = l .transit .answered })
     (arriving (l .past) r)
+
+---- the path changes (02, C-16)
+
+-- the acknowledgement of a key may leave again over the new path; that of a clock message is gone for good
+unfoldable pub leavesAgain : Answered → Bool
+leavesAgain x = eqb (x .acknowledgement .kind) keyKind
+
+-- what may leave again does so from now on
+unfoldable pub keyAnswers : ℕ → List Answered → List Answered
+keyAnswers now [] = []
+keyAnswers now (x ∷ xs) =
+    pick (leavesAgain x) (record { acknowledgement = x .acknowledgement; tick = now } ∷ keyAnswers now xs) (keyAnswers now xs)
+
+-- a clock message has been answered
+unfoldable pub clockAnswered : List Answered → Bool
+clockAnswered [] = false
+clockAnswered (x ∷ xs) = either (eqb (x .acknowledgement .kind) clockKind) (clockAnswered xs)
+
+-- since its path last changed the unit has taken a clock message
+abbrev pub isSynced : Lane → Bool
+isSynced l = clockAnswered (l .transit .answered)
+
+-- what is under way is lost, both ways
+unfoldable pub laneMoved : Delays → ℕ → Lane → Lane
+laneMoved p now l =
+    record {
+      site = l .site;
+      path = p;
+      entry = l .entry;
+      captured = l .captured;
+      keys = l .keys;
+      transit = record { towards = []; from = []; answered = keyAnswers now (l .transit .answered) };
+      past = l .past;
+    }

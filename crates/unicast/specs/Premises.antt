@@ -7,14 +7,14 @@ use Prim.Native.Nat.{ℕ, _+_, _%_, _<_, _≤_}
 use lib.ListN.{length, getD}
 use Rattle.clock.specs.Ticks.{localTurn}
 use Rattle.ends.specs.Identities.{has}
-use Rattle.protocol.specs.OltCalls.{freshOltOf, registerOf, offerOf, acknowledgeOf}
-use Rattle.protocol.specs.OnuCalls.{freshOnuOf, clockMessageAt, keyMessageAt}
+use Rattle.protocol.specs.OltCalls.{freshOltOf, registerOf, measureOf, offerOf, acknowledgeOf}
+use Rattle.protocol.specs.OnuCalls.{freshOnuOf, newTimeOf, clockMessageAt, keyMessageAt}
 use Rattle.ends.specs.declared.Identity.{Identity}
 use Rattle.traffic.specs.Sends.{onuSendOf}
 use Rattle.traffic.specs.Receipts.{oltReceiveOf, onuReceiveOf}
-use Rattle.unicast.specs.Setting.{Site, Setting}
+use Rattle.unicast.specs.Setting.{Delays, Site, Setting}
 use Rattle.unicast.specs.History.{Thing, clockMessage, keyMessage, envelope, leftAt}
-use Rattle.unicast.specs.Events.{Event, advance, register, capture, clockSend, offer, retry, sendDown, sendUp, arriveDown, arriveUp, arriveAnswer, overhear, strayClock, strayKey, strayAnswer, strayDown, strayUp}
+use Rattle.unicast.specs.Events.{Event, advance, register, capture, clockSend, offer, retry, sendDown, sendUp, arriveDown, arriveUp, arriveAnswer, overhear, changePath, measure, newTime, strayClock, strayKey, strayAnswer, strayDown, strayUp}
 use Rattle.unicast.specs.Run.{State, step, laneAt, onuAt, thingAt, envelopeAt, answerAt}
 
 -- "from fresh ends": the OLT and every unit were made
@@ -30,8 +30,8 @@ pub record Agrees (w : Setting) (s : State) (u : ℕ) (i : Identity) (trip : ℕ
   pub mac : i .mac ≡ laneAt s u .site .identity .mac
   pub llids : (x : ℕ) → has i x ≡ has (laneAt s u .site .identity) x
   pub oltmac : laneAt s u .site .oltmac ≡ w .mac
-  pub time : laneAt s u .site .time ≡ (w .first + laneAt s u .site .up) % localTurn
-  pub delays : trip ≡ laneAt s u .site .up + laneAt s u .site .down
+  pub time : laneAt s u .site .time ≡ (w .first + laneAt s u .path .up) % localTurn
+  pub delays : trip ≡ laneAt s u .path .up + laneAt s u .path .down
 
 -- all keys different: no accepted offer to any unit gave this key before
 pub record NewKey (s : State) (key : List ℕ) : Type 0 where
@@ -47,19 +47,28 @@ FittingBuffer (envelope e) out = length out ≡ length (e .octets)
 -- is no longer under way
 pub record DueDown (s : State) (u k : ℕ) (out : List ℕ) : Type 0 where
   pub some : k < length (laneAt s u .transit .towards)
-  pub now : leftAt (thingAt s u k) + laneAt s u .site .down ≡ s .history .now
+  pub now : leftAt (thingAt s u k) + laneAt s u .path .down ≡ s .history .now
   pub buffer : FittingBuffer (thingAt s u k) out
 
 pub record DueUp (s : State) (u k : ℕ) (out : List ℕ) : Type 0 where
   pub some : k < length (laneAt s u .transit .from)
-  pub now : envelopeAt s u k .left + laneAt s u .site .up ≡ s .history .now
+  pub now : envelopeAt s u k .left + laneAt s u .path .up ≡ s .history .now
   pub buffer : length out ≡ length (envelopeAt s u k .octets)
 
 -- an acknowledgement may leave later or again: it was handed over at least its delay ago
 pub record DueAnswer (s : State) (u k llid : ℕ) : Type 0 where
   pub some : k < length (laneAt s u .transit .answered)
-  pub left : answerAt s u k .tick + laneAt s u .site .up ≤ s .history .now
+  pub left : answerAt s u k .tick + laneAt s u .path .up ≤ s .history .now
   pub named : has (laneAt s u .site .identity) llid ≡ true
+
+-- a path change (02, C-16): both calls are accepted at one tick, with nothing of that unit between them. The OLT names the unit by an
+-- LLID of its own and measures the sum of the new delays; LocalTime is the low half of the OLT's clock plus the new delay up
+pub record Changes (w : Setting) (s : State) (u llid time : ℕ) (p : Delays) : Type 0 where
+  pub registered : laneAt s u .entry .registered ≡ true
+  pub named : has (laneAt s u .site .identity) llid ≡ true
+  pub measured : measureOf (s .olt) llid (p .up + p .down) .number ≡ 0
+  pub retimed : newTimeOf (onuAt s u) time .number ≡ 0
+  pub follows : time ≡ (w .first + s .history .now + p .up) % localTurn
 
 -- another registered unit
 pub record Overhears (s : State) (u other k : ℕ) : Type 0 where
@@ -81,7 +90,10 @@ Fits w s (arriveDown u k out) = DueDown s u k out
 Fits w s (arriveUp u k out) = DueUp s u k out
 Fits w s (arriveAnswer u k llid) = DueAnswer s u k llid
 Fits w s (overhear u other k out) = Overhears s u other k
--- any other receipt is in the list only if refused
+Fits w s (changePath u llid time p) = Changes w s u llid time p
+-- one call of the pair alone, and any other receipt, is in the list only if refused
+Fits w s (measure llid trip) = measureOf (s .olt) llid trip .number ≡ 0 → ⊥
+Fits w s (newTime u time) = newTimeOf (onuAt s u) time .number ≡ 0 → ⊥
 Fits w s (strayClock u m) = clockMessageAt (onuAt s u) m .number ≡ 0 → ⊥
 Fits w s (strayKey u m) = keyMessageAt (onuAt s u) m .number ≡ 0 → ⊥
 Fits w s (strayAnswer llid a) = acknowledgeOf (s .olt) llid a .number ≡ 0 → ⊥

@@ -11,8 +11,8 @@ use Rattle.envelope.specs.ControlMask.{eqsOf}
 use Rattle.protocol.specs.Headers.{noSending}
 use Rattle.ends.specs.Identities.{has, noIdentity}
 use Rattle.ends.specs.Records.{newOnu}
-use Rattle.protocol.specs.OltCalls.{freshOltOf, registerOf, advanceOltOf, captureOf, clockSendOf, offerOf, retryOf, acknowledgeOf}
-use Rattle.protocol.specs.OnuCalls.{freshOnuOf, advanceOnuOf, clockMessageAt, keyMessageAt}
+use Rattle.protocol.specs.OltCalls.{freshOltOf, registerOf, advanceOltOf, captureOf, measureOf, clockSendOf, offerOf, retryOf, acknowledgeOf}
+use Rattle.protocol.specs.OnuCalls.{freshOnuOf, advanceOnuOf, newTimeOf, clockMessageAt, keyMessageAt}
 use Rattle.protocol.specs.OltTraffic.{sendingOlt, receivingOlt}
 use Rattle.protocol.specs.OnuTraffic.{sendingOnu, receivingOnu}
 use Rattle.protocol.specs.declared.Acknowledgement.{Acknowledgement}
@@ -25,9 +25,9 @@ use Rattle.traffic.specs.Passages.{misfit}
 use Rattle.traffic.specs.Sends.{oltSendOf, onuSendOf}
 use Rattle.traffic.specs.Receipts.{oltReceiveOf, onuReceiveOf}
 use Rattle.traffic.specs.declared.OnuReceived.{OnuReceived}
-use Rattle.unicast.specs.Setting.{Site, Setting}
-use Rattle.unicast.specs.History.{downward, upward, Envelope, Thing, clockMessage, keyMessage, envelope, Answered, Arrival, Lane, History, numberDown, laneRegistered, laneCaptured, laneLeaving, laneOffered, laneAcknowledged, laneSentDown, laneSentUp, laneTaken, laneAnswered, laneArrivedDown, laneArrivedUp}
-use Rattle.unicast.specs.Events.{Event, advance, register, capture, clockSend, offer, retry, sendDown, sendUp, arriveDown, arriveUp, arriveAnswer, overhear, strayClock, strayKey, strayAnswer, strayDown, strayUp}
+use Rattle.unicast.specs.Setting.{Delays, Site, Setting}
+use Rattle.unicast.specs.History.{downward, upward, Envelope, Thing, clockMessage, keyMessage, envelope, Answered, Arrival, Lane, History, numberDown, laneRegistered, laneCaptured, laneLeaving, laneOffered, laneAcknowledged, laneSentDown, laneSentUp, laneTaken, laneAnswered, laneArrivedDown, laneArrivedUp, laneMoved}
+use Rattle.unicast.specs.Events.{Event, advance, register, capture, clockSend, offer, retry, sendDown, sendUp, arriveDown, arriveUp, arriveAnswer, overhear, changePath, measure, newTime, strayClock, strayKey, strayAnswer, strayDown, strayUp}
 
 -- the ends and the history
 pub record State : Type 0 where
@@ -41,6 +41,7 @@ unfoldable pub freshLane : Site → Lane
 freshLane s =
     record {
       site = s;
+      path = record { up = s .up; down = s .down };
       entry = record { registered = false; place = 0; since = 0; interval = 0 };
       captured = 0;
       keys = record { offers = []; acknowledged = false; switches = 0; switched = 0; number = 0 };
@@ -148,12 +149,13 @@ offering s llid key r =
 unfoldable pub retrying : State → ℕ → KeySent → State
 retrying s llid r = atOlt s (r .olt) (r .number) llid (λ l. laneLeaving (keyMessage (r .message) (s .history .now)) l)
 
--- the envelope of the OLT's send at the tick now, under that number
-unfoldable pub envelopeDown : ℕ → Olt → ℕ → ℕ → List ℕ → List ℕ → ℕ → Envelope
-envelopeDown now o llid channel p out number =
+-- the envelope of the OLT's send at the tick now, by that path, under that number
+unfoldable pub envelopeDown : ℕ → Delays → Olt → ℕ → ℕ → List ℕ → List ℕ → ℕ → Envelope
+envelopeDown now path o llid channel p out number =
     record {
       way = downward;
       left = now;
+      up = path .up;
       llid = llid;
       channel = channel;
       payload = p;
@@ -169,14 +171,15 @@ unfoldable pub sendingDown : State → ℕ → ℕ → List ℕ → List ℕ →
 sendingDown s llid channel p out =
     atOlt s (oltSendOf (s .olt) llid channel p out .answer .olt) (oltSendOf (s .olt) llid channel p out .answer .number) llid
     (λ l.
-    laneSentDown (s .history .now) (envelopeDown (s .history .now) (s .olt) llid channel p out (numberDown l (s .history .now))) l)
+    laneSentDown (s .history .now) (envelopeDown (s .history .now) (l .path) (s .olt) llid channel p out (numberDown l (s .history .now))) l)
 
 -- the envelope of a unit's send
-unfoldable pub envelopeUp : ℕ → Onu → ℕ → ℕ → List ℕ → List ℕ → ℕ → Envelope
-envelopeUp now o llid channel p out number =
+unfoldable pub envelopeUp : ℕ → Delays → Onu → ℕ → ℕ → List ℕ → List ℕ → ℕ → Envelope
+envelopeUp now path o llid channel p out number =
     record {
       way = upward;
       left = now;
+      up = path .up;
       llid = llid;
       channel = channel;
       payload = p;
@@ -192,7 +195,7 @@ unfoldable pub sendingUp : State → ℕ → ℕ → ℕ → List ℕ → List �
 sendingUp s u llid channel p out =
     atOnu s u (onuSendOf (onuAt s u) llid channel p out .answer .onu)
     (noted (onuSendOf (onuAt s u) llid channel p out .answer .number)
-    (λ l. laneSentUp (envelopeUp (s .history .now) (onuAt s u) llid channel p out (l .keys .number)) l))
+    (λ l. laneSentUp (envelopeUp (s .history .now) (l .path) (onuAt s u) llid channel p out (l .keys .number)) l))
 
 -- the unit's answer to a message that arrived
 unfoldable pub messageArriving : State → ℕ → ℕ → OnuAcknowledged → State
@@ -227,6 +230,7 @@ noEnvelope =
     record {
       way = downward;
       left = 0;
+      up = 0;
       llid = 0;
       channel = 0;
       payload = [];
@@ -273,7 +277,16 @@ unfoldable pub answering : State → ℕ → Acknowledgement → State
 answering s llid a =
     atOlt s (acknowledgeOf (s .olt) llid a .olt) (acknowledgeOf (s .olt) llid a .number) llid (laneAcknowledged a)
 
--- a receipt that is told to no lane: it leaves what the end answers with
+-- both ends are told of the new path, before anything goes over it
+unfoldable pub changing : State → ℕ → ℕ → ℕ → Delays → State
+changing s u llid time p =
+    record {
+      olt = measureOf (s .olt) llid (p .up + p .down) .olt;
+      onus = set (s .onus) u (newTimeOf (onuAt s u) time .onu);
+      history = withLanes (s .history) (set (s .history .lanes) u (laneMoved p (s .history .now) (laneAt s u)));
+    }
+
+-- a call that is told to no lane: it leaves what the end answers with
 unfoldable pub unitAfter : State → ℕ → Onu → State
 unitAfter s u o = record { olt = s .olt; onus = set (s .onus) u o; history = s .history }
 
@@ -295,6 +308,9 @@ step s (arriveDown u k out) = thingArriving s u k out (thingAt s u k)
 step s (arriveUp u k out) = arrivingUp s u k (envelopeAt s u k) out
 step s (arriveAnswer u k llid) = answering s llid (answerAt s u k .acknowledgement)
 step s (overhear u other k out) = unitAfter s u (overhearing s u other k out .answer .onu)
+step s (changePath u llid time p) = changing s u llid time p
+step s (measure llid trip) = oltAfter s (measureOf (s .olt) llid trip .olt)
+step s (newTime u time) = unitAfter s u (newTimeOf (onuAt s u) time .onu)
 step s (strayClock u m) = unitAfter s u (clockMessageAt (onuAt s u) m .onu)
 step s (strayKey u m) = unitAfter s u (keyMessageAt (onuAt s u) m .onu)
 step s (strayAnswer llid a) = oltAfter s (acknowledgeOf (s .olt) llid a .olt)

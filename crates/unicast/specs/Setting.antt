@@ -1,11 +1,16 @@
--- What a list of calls starts from: the OLT's MAC and first clock, and each fresh unit with its delays (01, The line).
+-- What a list of calls starts from: the OLT's MAC and first clock, and each fresh unit with its first delays (01, The line; 02, C-16).
 -- Assumes nothing.
 use mathlib.Core.List.{List}
 use Prim.Native.Nat.{ℕ, _+_, _%_}
 use Rattle.clock.specs.Ticks.{clockTurn}
 use Rattle.ends.specs.declared.Identity.{Identity}
 
--- a fresh unit: what it is given, and its delays in ticks, up and down
+-- a unit's delays in ticks, constant between changes of its path (02, C-16)
+pub record Delays : Type 0 where
+  pub up : ℕ
+  pub down : ℕ
+
+-- a fresh unit: what it is given, and its first delays
 pub record Site : Type 0 where
   pub identity : Identity
   pub oltmac : ℕ
@@ -22,6 +27,6 @@ pub record Setting : Type 0 where
 abbrev pub clockDown : ℕ → ℕ → ℕ
 clockDown first tick = (first + tick) % clockTurn
 
--- the clock of a unit's sends at a tick, its delay up included
+-- the clock of a unit's sends at a tick, its delay up at that tick included
 abbrev pub clockUp : ℕ → ℕ → ℕ → ℕ
 clockUp first up tick = (first + tick + up) % clockTurn

@@ -5,7 +5,7 @@ ghost use Rattle.protocol.specs.Lift.{outcome};
 ghost use Rattle.ends.specs.Limits.{maxKeyNumber};
 ghost use Rattle.protocol.specs.Messages.{noKeyMessage, noStamps};
 ghost use Rattle.protocol.specs.Replies.{silent};
-ghost use Rattle.protocol.specs.UnitCalls.{acknowledgeUnit, captureUnit, clockMessageOf, clockSendUnit, clockSendVerdict, keyMessageOf, keysOffered, offerUnit, offerVerdict, outstanding, retryUnit, unitOffered};
+ghost use Rattle.protocol.specs.UnitCalls.{acknowledgeUnit, captureUnit, clockMessageOf, clockSendUnit, clockSendVerdict, keyMessageOf, keysOffered, measureUnit, offerUnit, offerVerdict, outstanding, retryUnit, unitOffered};
 ghost use Rattle.unit.specs.Reached.{reached};
 use crate::UnitAnswer;
 use crate::UnitClockSent;
@@ -43,6 +43,33 @@ pub fn capture(way: Verdict, shared: Shared, unit: UnitRecord) -> UnitAnswer
             let mut next = unit;
             next.clock.captured = 1;
             next.clock.tick = shared.tick;
+            UnitAnswer {
+                verdict: Verdict::Accepted,
+                unit: next,
+            }
+        }
+    }
+}
+
+// The round trip measured again: what was captured, sent and acknowledged over the path before is forgotten (02, C-16).
+pub fn measure(way: Verdict, shared: Shared, unit: UnitRecord, trip: u64) -> UnitAnswer
+    ensures { λ r. ⌜ outcome shared (r .verdict) (r .unit) silent ≡ reached way silent shared unit (measureUnit trip shared unit) ⌝ }
+{
+    match way {
+        Verdict::Refused(refusal) => UnitAnswer {
+            verdict: Verdict::Refused(refusal),
+            unit,
+        },
+        Verdict::Accepted => {
+            let clock = UnitClock {
+                trip,
+                captured: 0,
+                tick: 0,
+                sent: 0,
+                acknowledged: 0,
+            };
+            let mut next = unit;
+            next.clock = clock;
             UnitAnswer {
                 verdict: Verdict::Accepted,
                 unit: next,

@@ -3,7 +3,7 @@ ghost use mathlib.Core.Path.{_≡_};
 ghost use Prim.Native.Nat.{_≤_};
 ghost use Rattle.octets.specs.Eqs.{maxEqs};
 ghost use Rattle.clock.specs.Ticks.{maxTick};
-ghost use Rattle.protocol.specs.Headers.{channelThenKey, choiceAged, choiceNumber, choiceVerdict, envelopeHeader, keyFor, noPassage, noSending, passageOf, sendingOf, validHeader};
+ghost use Rattle.protocol.specs.Headers.{choiceAged, choiceEnciphered, choiceNumber, choiceVerdict, clockChannelKey, envelopeHeader, keyFor, noPassage, noSending, passageOf, sendingOf, validHeader};
 ghost use Rattle.ends.specs.Keys.{aged, firstSend};
 ghost use Rattle.ends.specs.Occupancy.{occupied, taken};
 use crate::ticks::since;
@@ -33,7 +33,7 @@ pub fn valid_header(header: Header) -> bool
     (header.encenabled <= 1) & ((header.enckey <= header.encenabled) & (header.epam < EPAM_TURN))
 }
 
-fn taken(channels: Channels, channel: u8, tick: u64) -> bool
+pub fn taken(channels: Channels, channel: u8, tick: u64) -> bool
     ensures { λ r. ⌜ r ≡ taken channels channel tick ⌝ }
 {
     if on_zero(channel) {
@@ -59,17 +59,17 @@ pub fn occupied(channels: Channels, channel: u8, tick: u64, eqs: u64) -> Channel
     }
 }
 
-fn aged(first: FirstSend, tick: u64) -> bool
-    ensures { λ r. ⌜ r ≡ aged first tick ⌝ }
+fn aged(first: FirstSend, now: u64) -> bool
+    ensures { λ r. ⌜ r ≡ aged first now ⌝ }
 {
-    (first.noted == 1) & (KEY_LIFE <= since(first.tick, tick))
+    (first.noted == 1) & (KEY_LIFE <= since(first.at, now))
 }
 
 // A key that comes into use has had no send: only the key in use can be too old.
-fn choice_aged(choice: KeyChoice, first: FirstSend, tick: u64) -> bool
-    ensures { λ r. ⌜ r ≡ choiceAged choice first tick ⌝ }
+fn choice_aged(choice: KeyChoice, first: FirstSend, now: u64) -> bool
+    ensures { λ r. ⌜ r ≡ choiceAged choice first now ⌝ }
 {
-    let old = aged(first, tick);
+    let old = aged(first, now);
     match choice {
         KeyChoice::Clear => false,
         KeyChoice::Current(_) => old,
@@ -78,32 +78,47 @@ fn choice_aged(choice: KeyChoice, first: FirstSend, tick: u64) -> bool
     }
 }
 
-// A send at either end: 12 for the channel, then 13 for the key.
-pub fn channel_then_key(
-    channels: Channels,
-    channel: u8,
+pub fn is_enciphered(choice: KeyChoice) -> bool
+    ensures { λ r. ⌜ r ≡ choiceEnciphered choice ⌝ }
+{
+    match choice {
+        KeyChoice::Clear => false,
+        KeyChoice::Current(_) => true,
+        KeyChoice::Next(_) => true,
+        KeyChoice::Barred(_) => false,
+    }
+}
+
+// A send at either end: 5 for an enciphered one where the clock is not set, then 12 for the channel, then 13 for the key.
+pub fn clock_channel_key(
+    set: bool,
+    busy: bool,
     choice: KeyChoice,
     first: FirstSend,
-    tick: u64,
+    now: u64,
 ) -> Verdict
-    ensures { λ r. ⌜ r ≡ channelThenKey channels channel choice first tick ⌝ }
+    ensures { λ r. ⌜ r ≡ clockChannelKey set busy choice first now ⌝ }
 {
-    let busy = taken(channels, channel, tick);
-    let old = choice_aged(choice, first, tick);
+    let unset = !set & is_enciphered(choice);
+    let old = choice_aged(choice, first, now);
     refuse_if(
-        busy,
-        Refusal::ChannelTaken,
-        refuse_if(old, Refusal::KeyTooOld, Verdict::Accepted),
+        unset,
+        Refusal::ClockNotSet,
+        refuse_if(
+            busy,
+            Refusal::ChannelTaken,
+            refuse_if(old, Refusal::KeyTooOld, Verdict::Accepted),
+        ),
     )
 }
 
-pub fn first_send(first: FirstSend, tick: u64) -> FirstSend
-    ensures { λ r. ⌜ r ≡ firstSend first tick ⌝ }
+pub fn first_send(first: FirstSend, now: u64) -> FirstSend
+    ensures { λ r. ⌜ r ≡ firstSend first now ⌝ }
 {
     if first.noted == 1 {
         return first;
     }
-    FirstSend { noted: 1, tick }
+    FirstSend { noted: 1, at: now }
 }
 
 pub fn choice_verdict(choice: KeyChoice) -> Verdict

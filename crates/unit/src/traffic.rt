@@ -51,7 +51,7 @@ fn keys_switched(keys: UnitKeys, tick: u64) -> UnitKeys
     r.timer.flag = 0;
     r.active = keys.offered;
     r.first.noted = 1;
-    r.first.tick = tick;
+    r.first.at = tick;
     r
 }
 
@@ -71,7 +71,7 @@ fn keys_sent(choice: KeyChoice, keys: UnitKeys, tick: u64) -> UnitKeys
     }
 }
 
-// 12, 13. A valid end's tick and a payload that fits are what the way to the unit has judged.
+// 5, 12, 13. A valid end's tick and a payload that fits are what the way to the unit has judged.
 pub fn send(
     way: Verdict,
     shared: Shared,
@@ -86,9 +86,11 @@ pub fn send(
     let tick = shared.tick;
     let keys = unit.keys;
     let choice = send_choice(unit);
+    let set = unit.clock.acknowledged == 1;
+    let busy = passing::taken(channels, channel, tick);
     let verdict = and_then(
         way,
-        passing::channel_then_key(channels, channel, choice, keys.first, tick),
+        passing::clock_channel_key(set, busy, choice, keys.first, tick),
     );
     match verdict {
         Verdict::Refused(refusal) => UnitSent {

@@ -35,6 +35,11 @@ pub fn olt_capture(olt: Olt, llid: u16) -> OltAnswer {
     unsafe { raw::jazmotip_olt_capture(olt, llid) }
 }
 
+/// Order of refusals: 1, 2, for a group's LLID too.
+pub fn olt_measure(olt: Olt, llid: u16, trip: u64) -> OltAnswer {
+    unsafe { raw::jazmotip_olt_measure(olt, llid, trip) }
+}
+
 /// Order of refusals: 2, for a group's LLID too, 8, 16.
 pub fn olt_clock_send(olt: Olt, llid: u16) -> ClockSent {
     unsafe { raw::jazmotip_olt_clock_send(olt, llid) }
@@ -55,7 +60,7 @@ pub fn olt_acknowledge(olt: Olt, llid: u16, acknowledgement: Acknowledgement) ->
     unsafe { raw::jazmotip_olt_acknowledge(olt, llid, acknowledgement) }
 }
 
-/// Order of refusals: 14, 1, 2, 12, 13.
+/// Order of refusals: 14, 1, 2, 5 (sealed ones to a unit only), 12, 13.
 pub fn olt_send(olt: Olt, llid: u16, channel: u8, payload: &[u8], output: &mut [u8]) -> OltSent {
     unsafe { raw::jazmotip_olt_send(olt, llid, channel, payload.as_ptr(), payload.len(), output.as_mut_ptr(), output.len()) }
 }
@@ -79,6 +84,11 @@ pub fn onu_advance(onu: &mut Onu, n: u64) -> u8 {
     unsafe { raw::jazmotip_onu_advance(onu, n) }
 }
 
+/// Order of refusals: 1, 17.
+pub fn onu_new_time(onu: Onu, time: u64) -> OnuAnswer {
+    unsafe { raw::jazmotip_onu_new_time(onu, time) }
+}
+
 /// Order of refusals: 1.
 pub fn onu_clock_message(onu: Onu, message: Stamps) -> OnuAcknowledged {
     unsafe { raw::jazmotip_onu_clock_message(onu, message) }
@@ -89,7 +99,7 @@ pub fn onu_key_message(onu: Onu, message: KeyMessage) -> OnuAcknowledged {
     unsafe { raw::jazmotip_onu_key_message(onu, message) }
 }
 
-/// Order of refusals: 14, 1, 2, 20, 12, 13.
+/// Order of refusals: 14, 1, 2, 20, 5 (sealed ones only), 12, 13.
 pub fn onu_send(onu: Onu, llid: u16, channel: u8, payload: &[u8], output: &mut [u8]) -> OnuSent {
     unsafe { raw::jazmotip_onu_send(onu, llid, channel, payload.as_ptr(), payload.len(), output.as_mut_ptr(), output.len()) }
 }

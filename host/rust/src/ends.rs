@@ -74,6 +74,14 @@ impl Olt {
         Refusal::verdict(answer.number)
     }
 
+    /// Gives a unit a new round trip, where its path changed, at the tick of [`Onu::new_time`]: enciphered sends to it are refused
+    /// until a new clock message is acknowledged.
+    pub fn measure(&mut self, llid: u16, trip: u64) -> Result<(), Refusal> {
+        let answer = calls::olt_measure(*self, llid, trip);
+        *self = answer.olt;
+        Refusal::verdict(answer.number)
+    }
+
     /// Hands over the clock message of the capture, any number of times within a second.
     pub fn clock_send(&mut self, llid: u16) -> Result<Stamps, Refusal> {
         let answer = calls::olt_clock_send(*self, llid);
@@ -136,6 +144,19 @@ impl Onu {
     /// Moves ticks and clocks on by `n`.
     pub fn advance(&mut self, n: u64) -> Result<(), Refusal> {
         Refusal::verdict(calls::onu_advance(self, n))
+    }
+
+    /// Gives the unit its new LocalTime, where its path changed, at the tick of [`Olt::measure`]: it is unsynced until the next clock
+    /// message, and seals again once its Tx clock has travelled past the end of each envelope that it sealed before.
+    pub fn new_time(&mut self, time: u64) -> Result<(), Refusal> {
+        let answer = calls::onu_new_time(*self, time);
+        *self = answer.onu;
+        Refusal::verdict(answer.number)
+    }
+
+    /// The travel of the Tx clock: ticks and changes of LocalTime, from 2^61 below zero, as `first` and `travel` count it.
+    pub fn tx_travel(&self) -> u64 {
+        self.tick.wrapping_add_signed(self.travel.changes).wrapping_add_signed(crate::MAX_CHANGES)
     }
 
     /// Sets the clocks by a clock message and hands over the acknowledgement.

@@ -68,6 +68,10 @@ pub const JOINED: usize = 4;
 pub const SECOND: u64 = 390_625_000;
 /// Ticks of a round trip, at most.
 pub const MAX_TRIP: u64 = 1_000_000;
+/// Ticks by which a unit's LocalTime changes, at most, either way.
+pub const MAX_TIME_CHANGE: u64 = 1_000_000;
+/// Ticks that the changes of a unit's LocalTime add up to, at most, either way.
+pub const MAX_CHANGES: i64 = 1 << 61;
 /// Ticks of a key timer's interval, at most; at least 1.
 pub const MAX_INTERVAL: u64 = 1 << 47;
 /// Ticks that an end counts, at most.

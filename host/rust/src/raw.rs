@@ -14,6 +14,7 @@ extern "C" {
     pub fn jazmotip_olt_register_group(olt: Olt, llid: u16, interval: u64, roster: Roster) -> OltAnswer;
     pub fn jazmotip_olt_advance(olt: *mut Olt, n: u64) -> u8;
     pub fn jazmotip_olt_capture(olt: Olt, llid: u16) -> OltAnswer;
+    pub fn jazmotip_olt_measure(olt: Olt, llid: u16, trip: u64) -> OltAnswer;
     pub fn jazmotip_olt_clock_send(olt: Olt, llid: u16) -> ClockSent;
     pub fn jazmotip_olt_offer(olt: Olt, llid: u16, key: *const u8) -> KeySent;
     pub fn jazmotip_olt_retry(olt: Olt, llid: u16) -> KeySent;
@@ -39,6 +40,7 @@ extern "C" {
     pub fn jazmotip_onu_fresh(identity: Identity, oltmac: u64, time: u64) -> OnuAnswer;
     pub fn jazmotip_onu_join(onu: Onu, llid: u16) -> OnuAnswer;
     pub fn jazmotip_onu_advance(onu: *mut Onu, n: u64) -> u8;
+    pub fn jazmotip_onu_new_time(onu: Onu, time: u64) -> OnuAnswer;
     pub fn jazmotip_onu_clock_message(onu: Onu, message: Stamps) -> OnuAcknowledged;
     pub fn jazmotip_onu_key_message(onu: Onu, message: KeyMessage) -> OnuAcknowledged;
     pub fn jazmotip_onu_send(

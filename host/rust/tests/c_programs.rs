@@ -1,5 +1,5 @@
 //! The C programs of `host/c`, compiled against the header and the archive, and run. The header itself checks the layout of every
-//! struct. `exchange` and `group` must print what their `.stdout` has; what `capture` and `xgpon` must print is the tests' own.
+//! struct. `exchange`, `group` and `path` must print what their `.stdout` has; what `capture` and `xgpon` must print is the tests' own.
 
 use crate::captures::answers;
 use crate::captures::blocks::{random_block, settings};
@@ -59,6 +59,11 @@ fn exchange_plays_to_the_second_switch() {
 #[test]
 fn group_brings_a_viewer_back() {
     prints_its_file("group");
+}
+
+#[test]
+fn path_changes_and_goes_on() {
+    prints_its_file("path");
 }
 
 /// NULL with length 0: an empty payload is sealed, empty settings and an empty block are refused, and nothing is read or written.

@@ -9,7 +9,7 @@ use crate::tally::Tally;
 use jazmotip::{Group, Identity, Unit};
 
 /// Values at and about the bounds of the papers.
-const BOUNDS: [u64; 21] = [
+const BOUNDS: [u64; 25] = [
     0,
     1,
     2,
@@ -27,6 +27,10 @@ const BOUNDS: [u64; 21] = [
     (1 << 47) + 1,
     (1 << 48) - 1,
     1 << 48,
+    1 << 61,
+    (1 << 61) + 1,
+    -(1_i64 << 61) as u64,
+    (-(1_i64 << 61) - 1) as u64,
     1 << 62,
     (1 << 62) + 1,
     (1 << 62) + 4_194_304,
@@ -54,7 +58,7 @@ fn set_olt_field(olt: &mut jazmotip::Olt, place: usize, field: usize, value: u64
         17 => unit.keys.slots.even[0] = value as u8,
         18 => unit.keys.slots.odd[0] = value as u8,
         19 => unit.keys.first.noted = value as u8,
-        20 => unit.keys.first.tick = value,
+        20 => unit.keys.first.at = value,
         21 => unit.confirmation.confirmed = value as u32,
         22 => unit.confirmation.acknowledged = value as u8,
         23 => unit.clock.trip = value,
@@ -83,7 +87,7 @@ fn set_group_field(group: &mut Group, field: usize, value: u64) -> Option<()> {
         23 => group.keys.slots.even[0] = value as u8,
         24 => group.keys.slots.odd[0] = value as u8,
         25 => group.keys.first.noted = value as u8,
-        26 => group.keys.first.tick = value,
+        26 => group.keys.first.at = value,
         _ => return None,
     }
     Some(())
@@ -105,7 +109,7 @@ fn set_onu_field(onu: &mut jazmotip::Onu, place: usize, field: usize, value: u64
         13 => onu.keys.slots.even[0] = value as u8,
         14 => onu.keys.slots.odd[0] = value as u8,
         15 => onu.first.noted = value as u8,
-        16 => onu.first.tick = value,
+        16 => onu.first.at = value,
         17 => onu.channels.zero = value,
         18 => onu.channels.one = value,
         19 => onu.joinedcount = value as u8,
@@ -115,13 +119,16 @@ fn set_onu_field(onu: &mut jazmotip::Onu, place: usize, field: usize, value: u64
         23 => joined.keys.held = value as u8,
         24 => joined.keys.slots.even[0] = value as u8,
         25 => joined.keys.slots.odd[0] = value as u8,
+        26 => onu.travel.changes = value as i64,
+        27 => onu.travel.spent = value,
+        28 => onu.travel.bar = value,
         _ => return None,
     }
     Some(())
 }
 
 const OLT_FIELDS: u64 = 56;
-const ONU_FIELDS: u64 = 26;
+const ONU_FIELDS: u64 = 29;
 
 /// A value that may be bad: a bound, one beside the tick, or any.
 fn value(random: &mut Random, tick: u64) -> u64 {
@@ -281,7 +288,7 @@ fn causes_of_1_in_groups() {
         ("an interval of 0", |olt| olt.groups[0].keys.timer.interval = 0),
         ("a count that is the interval", |olt| olt.groups[0].keys.timer.count = 1000),
         ("a timer's flag above 1", |olt| olt.groups[0].keys.timer.flag = 2),
-        ("a first send after the tick", |olt| olt.groups[0].keys.first.tick = 6001),
+        ("a first send after the tick", |olt| olt.groups[0].keys.first.at = 6001),
         ("O = A + 2", |olt| olt.groups[0].keys.offered = 3),
         ("O = A - 1", |olt| olt.groups[0].keys.offered = 0),
     ];

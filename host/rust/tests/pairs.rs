@@ -121,6 +121,13 @@ impl Pair<Olt> {
         expected
     }
 
+    pub fn measure(&mut self, tally: &mut Tally, llid: u16, trip: u64) -> Reply<()> {
+        let answer = calls::olt_measure(self.record, llid, trip);
+        let expected = self.judge(|olt| olt.measure(llid, trip));
+        self.settle(tally, "olt_measure", answer.number, answer.olt, &expected);
+        expected
+    }
+
     pub fn clock_send(&mut self, tally: &mut Tally, llid: u16) -> Reply<Stamps> {
         let answer = calls::olt_clock_send(self.record, llid);
         let expected = self.judge(|olt| olt.clock_send(llid));
@@ -164,6 +171,13 @@ impl Pair<Onu> {
         let answer = calls::onu_join(self.record, llid);
         let expected = self.judge(|onu| onu.join(llid));
         self.settle(tally, "onu_join", answer.number, answer.onu, &expected);
+        expected
+    }
+
+    pub fn new_time(&mut self, tally: &mut Tally, time: u64) -> Reply<()> {
+        let answer = calls::onu_new_time(self.record, time);
+        let expected = self.judge(|onu| onu.new_time(time));
+        self.settle(tally, "onu_new_time", answer.number, answer.onu, &expected);
         expected
     }
 

@@ -1,6 +1,6 @@
 //! The bench values of document 01 that the calls of both ends show (P2 to P11), and the boundaries beside them.
 
-use jazmotip::{calls, Identity, Olt, Onu, Refusal, Stamps, Work, CLOCK_TURN, MAX_EQS, MAX_TICK, SECOND};
+use jazmotip::{calls, Identity, Olt, Onu, Refusal, Stamps, Work, CLOCK_TURN, MAX_EQS, MAX_TICK, MAX_TIME_CHANGE, SECOND};
 
 const MAC: u64 = 0x020000000001;
 
@@ -75,7 +75,7 @@ fn p8_and_p9_the_channel() {
 #[test]
 fn p10_and_p11_the_age_of_a_key() {
     let (mut head, mut unit) = ends_under_key_1();
-    assert_eq!(head.units[0].keys.first.tick, 100);
+    assert_eq!(head.units[0].keys.first.at, 100);
     unit.send(5, 0x80, &[], &mut []).expect("sent");
     head.advance((1 << 48) - 1).expect("advanced");
     unit.advance((1 << 48) - 1).expect("advanced");
@@ -110,6 +110,43 @@ fn the_age_of_a_capture() {
     head.advance(1).expect("advanced");
     assert_eq!(head.clock_send(5), Err(Refusal::CaptureTooOld));
     assert_eq!(head.clock_send(5), Err(Refusal::CaptureTooOld));
+}
+
+/// Both ends get a path whose delay up is 40 ticks more, and then the first again, which takes LocalTime back: the unit waits for
+/// the end of what it sealed in between.
+#[test]
+fn a_path_there_and_back() {
+    let (mut head, mut unit) = ends_under_key_1();
+    let (payload, mut output) = ([0; 450], [0; 450]);
+    let time = unit.clock.time;
+    assert_eq!(head.measure(5, 1_000_001), Err(Refusal::OutOfRange));
+    assert_eq!(head.measure(7, 80), Err(Refusal::UnknownLlid));
+    assert_eq!(unit.new_time(time + MAX_TIME_CHANGE + 1), Err(Refusal::OutOfRange));
+    for (trip, ahead) in [(40, 40), (0, 0)] {
+        head.measure(6, trip).expect("measured");
+        unit.new_time(time + ahead).expect("timed");
+        assert_eq!(unit.tx_travel(), 100 + ahead + (1 << 61));
+        assert_eq!(head.clock_send(5), Err(Refusal::NothingOutstanding));
+        assert_eq!(head.send(5, 0x01, &[], &mut []), Err(Refusal::ClockNotSet));
+        assert_eq!(unit.send(5, 0x80, &[], &mut []), Err(Refusal::ClockNotSet));
+        head.capture(5).expect("captured");
+        let message = head.clock_send(5).expect("sent");
+        let set = unit.clock_message(message).expect("set");
+        assert_eq!(unit.clock.time, time + ahead);
+        head.acknowledge(5, set).expect("acknowledged");
+        if ahead == 40 {
+            unit.send(5, 0x80, &payload, &mut output).expect("nothing was sealed before");
+            unit.send(6, 0x81, &[], &mut []).expect("the other channel is free");
+        }
+    }
+    assert_eq!((unit.travel.changes, unit.travel.bar), (0, 191 + (1 << 61)));
+    unit.advance(90).expect("advanced");
+    for channel in [0x80, 0x81] {
+        assert_eq!(unit.send(5, channel, &[], &mut []), Err(Refusal::ChannelTaken));
+    }
+    unit.advance(1).expect("advanced");
+    unit.send(5, 0x80, &payload, &mut output).expect("sent");
+    unit.send(5, 0x81, &[], &mut []).expect("what is sealed since the change holds nothing back");
 }
 
 /// The largest envelope at both ends: sealed at the OLT, opened at the unit, and its channel taken for all its ticks.

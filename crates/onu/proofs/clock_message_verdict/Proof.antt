@@ -7,4 +7,4 @@ use Rattle.onu.proofs.clock_message_verdict.Tie as tie
 
 pub clock-message-verdict-spec : {M : Type 1} → statement M
 clock-message-verdict-spec =
-    tie.close (tie.spec (λ c κs. search needs) (λ c κs. search needs) (λ c κs. search needs) (λ c. unfold clockMessageVerdict both in cc))
+    tie.close (tie.spec (λ c κs. search needs) (λ c κs. search needs) (λ c. unfold clockMessageVerdict both in cc))

@@ -9,4 +9,4 @@ pub key-message-verdict-spec : {M : Type 1} → statement M
 key-message-verdict-spec =
     tie.close
     (tie.spec (λ c κs. search needs) (λ c κs. search needs) (λ c κs. search needs) (λ c κs. search needs) (λ c κs. search needs) (λ c κs. search needs)
-    (λ c κs. search needs) (λ c κs. search needs) (λ c. unfold keyMessageVerdict either in cc))
+    (λ c κs. search needs) (λ c. unfold keyMessageVerdict either in cc))

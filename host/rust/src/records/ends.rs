@@ -20,12 +20,12 @@ pub struct Slots {
     pub odd: [u8; 16],
 }
 
-/// The first send under the key in use.
+/// The first send under the key in use, by the end's own count: ticks at the OLT, at a unit [`travel`](Onu::tx_travel).
 #[repr(C)]
 #[derive(Clone, Copy, Debug, Default, PartialEq, Eq)]
 pub struct FirstSend {
     pub noted: u8,
-    pub tick: u64,
+    pub at: u64,
 }
 
 /// The tick from which each channel is free.
@@ -159,6 +159,18 @@ pub struct OnuClock {
     pub rx: u64,
 }
 
+/// The [`travel`](Onu::tx_travel) of a unit's Tx clock.
+#[repr(C)]
+#[derive(Clone, Copy, Debug, Default, PartialEq, Eq)]
+pub struct Travel {
+    /// The sum of the signed changes of LocalTime.
+    pub changes: i64,
+    /// One past the last end of an enciphered send, which is its travel plus its EQs; 0 before the first.
+    pub spent: u64,
+    /// What `spent` was at the last change: enciphered sends wait until travel has come to it.
+    pub bar: u64,
+}
+
 /// A group that a unit joined. The message of key n tells that key n - 1 is in use: a is then n - 1, held or not, and older keys
 /// are forgotten.
 #[repr(C)]
@@ -181,6 +193,7 @@ pub struct Onu {
     pub clock: OnuClock,
     pub keys: OnuKeys,
     pub first: FirstSend,
+    pub travel: Travel,
     pub channels: Channels,
     /// Groups joined.
     pub joinedcount: u8,

@@ -17,7 +17,7 @@ macro_rules! layout {
 
 layout!(Timer, 24, interval: 0, count: 8, flag: 16);
 layout!(Slots, 32, even: 0, odd: 16);
-layout!(FirstSend, 16, noted: 0, tick: 8);
+layout!(FirstSend, 16, noted: 0, at: 8);
 layout!(Channels, 16, zero: 0, one: 8);
 layout!(Identity, 24, mac: 0, llids: 8, count: 16);
 layout!(UnitKeys, 80, timer: 0, active: 24, offered: 28, slots: 32, first: 64);
@@ -30,9 +30,11 @@ layout!(Group, 104, keys: 0, members: 80, llid: 98);
 layout!(Olt, 4024, shared: 0, count: 40, units: 48, groupcount: 2352, groups: 2360);
 layout!(OnuKeys, 40, active: 0, held: 4, slots: 5);
 layout!(OnuClock, 24, synced: 0, time: 8, rx: 16);
+layout!(Travel, 24, changes: 0, spent: 8, bar: 16);
 layout!(Joined, 44, keys: 0, kept: 40, llid: 42);
 layout!(
-    Onu, 320, identity: 0, oltmac: 24, tick: 32, clock: 40, keys: 64, first: 104, channels: 120, joinedcount: 136, joined: 140
+    Onu, 344, identity: 0, oltmac: 24, tick: 32, clock: 40, keys: 64, first: 104, travel: 120, channels: 144, joinedcount: 160,
+    joined: 164
 );
 layout!(Stamps, 16, rx: 0, tx: 8);
 layout!(KeyMessage, 24, llid: 0, number: 4, key: 8);
@@ -44,10 +46,10 @@ layout!(ClockSent, 4048, number: 0, olt: 8, message: 4032);
 layout!(KeySent, 4056, number: 0, olt: 8, message: 4032);
 layout!(OltSent, 4056, number: 0, olt: 8, header: 4032, count: 4040, runs: 4048);
 layout!(OltReceived, 4048, number: 0, olt: 8, count: 4032, runs: 4040);
-layout!(OnuAnswer, 328, number: 0, onu: 8);
-layout!(OnuAcknowledged, 336, number: 0, onu: 8, acknowledgement: 328);
-layout!(OnuSent, 352, number: 0, onu: 8, header: 328, count: 336, runs: 344);
-layout!(OnuReceived, 344, number: 0, onu: 8, count: 328, runs: 336);
+layout!(OnuAnswer, 352, number: 0, onu: 8);
+layout!(OnuAcknowledged, 360, number: 0, onu: 8, acknowledgement: 352);
+layout!(OnuSent, 376, number: 0, onu: 8, header: 352, count: 360, runs: 368);
+layout!(OnuReceived, 368, number: 0, onu: 8, count: 352, runs: 360);
 layout!(Nonce, 24, channel: 0, mac: 8, clock: 16);
 layout!(RoundKeys, 176, octets: 0);
 layout!(PayloadAnswer, 24, number: 0, count: 8, runs: 16);

@@ -147,8 +147,12 @@ impl World<'_> {
             own,
             "a group's envelope counts for the unit's own numbers"
         );
-        let claimed = joined && (number == 0 || station.taken.contains(&(header.llid, number)));
-        if must_open && claimed {
+        let synced = station.end.sound().clocks.is_some();
+        let claimed = joined && (number == 0 || synced && station.taken.contains(&(header.llid, number)));
+        if must_open && joined && number >= 1 && !synced {
+            assert_eq!(opened, Err(5), "a member that is unsynced refuses what is enciphered");
+            self.tally.event("unsynced member refused");
+        } else if must_open && claimed {
             assert_eq!(opened, Ok(payload), "a group's envelope that arrives at a member opens to its payload");
             let back = number >= 2 && !station.taken.contains(&(header.llid, number - 1));
             self.tally.event(match (number, back) {
@@ -179,7 +183,8 @@ impl World<'_> {
         };
         let refused = |known: bool| ahead.unwrap_or(if known { 20 } else { 2 });
         let end = &mut self.stations[i].end;
-        match random.below(5) {
+        match random.below(6) {
+            5 => assert_eq!(self.olt.measure(tally, llid, 7), Err(2)),
             0 => assert_eq!(self.olt.capture(tally, llid), Err(2)),
             1 => assert_eq!(self.olt.clock_send(tally, llid), Err(2)),
             2 => {

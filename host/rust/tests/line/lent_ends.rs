@@ -34,7 +34,9 @@ impl World<'_> {
             let number = random.pick(&[record.units[0].keys.offered, record.groups[0].keys.offered]);
             let n = random.pick(&ADVANCES);
             let key = random.key();
-            let _ = match random.below(10) {
+            let trip = random.pick(&[0, 1_000_000, 1_000_001]);
+            let _ = match random.below(11) {
+                10 => end.measure(tally, llid, trip),
                 9 => end.register_group(tally, STRANGERS - 1, 1, Roster::new(&[unit])),
                 0 => end.register(tally, Identity::new(1, &[STRANGERS - 1]), 0, 1),
                 1 => end.advance(tally, n),
@@ -66,7 +68,10 @@ impl World<'_> {
             let key = random.pick(&[end.record.keys.slots.even, end.record.keys.slots.odd, [9; 16]]);
             let n = random.pick(&ADVANCES);
             let message = Stamps { rx: random.clock(), tx: random.clock() };
-            let _ = match random.below(6) {
+            let step = random.pick(&[0, 1, 1_000_000, 1_000_001, (1 << 32) - 1_000_000, (1 << 32) - 1]);
+            let time = (end.record.clock.time.wrapping_add(step)) % (1 << 32);
+            let _ = match random.below(7) {
+                6 => end.new_time(tally, time),
                 5 => end.join(tally, STRANGERS - 1),
                 0 => end.advance(tally, n),
                 1 => end.clock_message(tally, message).map(|_| ()),

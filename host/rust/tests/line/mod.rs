@@ -1,14 +1,15 @@
 //! Random lists of calls on an OLT and three ONUs, over a line that loses things.
 //!
 //! A list of `Kind::Line` keeps to what 01 says of the line: messages and envelopes arrive in order, a way's delay after they left,
-//! or never, and whatever else is received is refused. There every envelope that arrives must open to its payload, and no two
-//! sealed envelopes, of units and groups together, may share a key, a channel index, a MAC and a clock. Of a group's envelopes those
-//! must open that are clear, or under a key whose message the member accepted since it joined. In a list of `Kind::Wild` anything arrives at any time,
-//! damaged or not.
+//! or never, and whatever else is received is refused. Both ends are told of a path change at one tick (02, C-16). There every
+//! envelope that arrives must open to its payload, and no two sealed envelopes, of units and groups together, may share a key, a
+//! channel index, a MAC and a clock. Of a group's envelopes those must open that are clear, or under a key whose message the member
+//! accepted since it joined, once it is synced. In a list of `Kind::Wild` anything arrives at any time, damaged or not.
 
 mod groups;
 mod lent_ends;
 mod messages;
+mod paths;
 mod strays;
 mod time;
 mod traffic;
@@ -35,6 +36,9 @@ impl World<'_> {
         if self.random.once_in(self.calm) {
             self.leap(i);
         }
+        if self.random.once_in(self.settled) {
+            self.change_path(i);
+        }
         match self.random.below(100) {
             0..=29 => self.pass_time(i),
             30..=34 => self.arrive_down(i),
@@ -45,7 +49,8 @@ impl World<'_> {
             58..=63 => self.offer(i),
             64..=74 => self.olt_send(i),
             75..=84 => self.onu_send(i),
-            85..=86 => self.register(i),
+            85 => self.register(i),
+            86 => self.change_wrongly(i),
             87..=90 => self.receive_damaged(i),
             91..=92 => self.overhear(),
             93..=95 => self.stray(i),
@@ -85,6 +90,7 @@ fn lists(kind: Kind, count: u64, steps: u64, tally: &mut Tally) -> bool {
                     let g = world.any_group();
                     world.lift(i);
                     world.lift_group(g);
+                    world.shift_travel(i);
                 }
             }
             world.late = step >= steps / 10 * 9;
@@ -98,7 +104,7 @@ fn lists(kind: Kind, count: u64, steps: u64, tally: &mut Tally) -> bool {
 }
 
 /// What the lists of one test must reach, so that an engine that stops early, or lists that do, are noticed.
-const LEAST: [(&str, u64); 26] = [
+const LEAST: [(&str, u64); 31] = [
     ("OLT sends clear", 3000),
     ("OLT sends under key 1", 1500),
     ("OLT sends under key 2", 1000),
@@ -125,9 +131,14 @@ const LEAST: [(&str, u64); 26] = [
     ("group sends at the last tick of a key", 15),
     ("member missed a key", 300),
     ("a group's key numbers near their end", 50),
+    ("path changed", 1000),
+    ("path changed to a shorter", 1000),
+    ("sum of changes near its end", 200),
+    ("unit waits for its Tx clock", 100),
+    ("unit seals after a change", 500),
 ];
 
-const LEAST_ARRIVED: [(&str, u64); 8] = [
+const LEAST_ARRIVED: [(&str, u64); 9] = [
     ("arrived down clear", 1500),
     ("arrived down sealed", 3000),
     ("arrived up clear", 1500),
@@ -136,6 +147,7 @@ const LEAST_ARRIVED: [(&str, u64); 8] = [
     ("arrived at a member sealed", 1500),
     ("member came back", 300),
     ("overheard by a joined unit", 300),
+    ("unsynced member refused", 100),
 ];
 
 /// Each number of the ends: 15 is the capture reader's alone, 18 and 19 too.
@@ -157,7 +169,7 @@ fn check_reach(tally: &Tally, least: impl IntoIterator<Item = (&'static str, u64
         assert!(times >= LEAST_REFUSED, "refused {number}: {times} times, wanted {LEAST_REFUSED}");
     }
     let calls: BTreeSet<&str> = tally.numbers.keys().map(|(call, _)| *call).collect();
-    assert_eq!(calls.len(), 18, "calls made: {calls:?}");
+    assert_eq!(calls.len(), 20, "calls made: {calls:?}");
 }
 
 #[test]

@@ -145,7 +145,8 @@ impl World<'_> {
         let llid = STRANGERS - 1;
         let (tally, random) = (&mut *self.tally, &mut *self.random);
         let header = Header { channel: 0x80, llid, encenabled: 0, enckey: 0, epam: 0 };
-        match random.below(7) {
+        match random.below(8) {
+            7 => assert_eq!(self.olt.measure(tally, llid, 7), Err(2)),
             0 => assert_eq!(self.olt.capture(tally, llid), Err(2)),
             1 => assert_eq!(self.olt.clock_send(tally, llid), Err(2)),
             2 => assert_eq!(self.olt.offer(tally, llid, &[0; 16]), Err(2)),

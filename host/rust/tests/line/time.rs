@@ -61,15 +61,16 @@ impl World<'_> {
                 self.clock_send(i);
             }
             10..=16 => {
-                let at_olt = self.unit(i).and_then(|unit| unit.first_send);
-                let at_onu = self.stations[i].end.sound().first_send;
-                let Some(first) = (if self.random.once_in(2) { at_olt } else { at_onu }) else { return };
+                let at_olt = self.unit(i).and_then(|unit| unit.first_send).map(|first| i128::from(tick - first));
+                let onu = self.stations[i].end.sound();
+                let at_onu = onu.first_send.map(|first| onu.travel() - first);
+                let Some(age) = (if self.random.once_in(2) { at_olt } else { at_onu }) else { return };
                 // a key that ages unconfirmed is never replaced: that is rare, so that lists go on
                 let confirmed = self.unit(i).is_none_or(|unit| unit.confirmed == unit.active);
                 if !confirmed && !self.random.once_in(8) {
                     return;
                 }
-                self.advance((first + KEY_LIFE - 1 + beside).saturating_sub(tick));
+                self.advance((i128::from(KEY_LIFE - 1 + beside) - age).max(0) as u64);
                 self.olt_send(i);
                 self.onu_send(i);
             }

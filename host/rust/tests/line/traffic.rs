@@ -85,10 +85,18 @@ impl World<'_> {
         let (payload, output, channel) = self.drawn(0x80);
         // 01: units are registered before their traffic; what others send is refused at the OLT
         let llid = self.stations[i].llid(self.random);
-        let first = self.stations[i].end.sound().first_send;
-        let Ok(envelope) = self.stations[i].end.send(self.tally, self.random, llid, channel, &payload, output) else { return };
-        if first.is_some_and(|first| self.tick() - first == KEY_LIFE - 1) {
+        let before = self.stations[i].end.sound().clone();
+        let travel = before.travel();
+        let sent = self.stations[i].end.send(self.tally, self.random, llid, channel, &payload, output);
+        if sent == Err(12) && !before.channels.is_taken(channel, self.tick()) {
+            self.tally.event("unit waits for its Tx clock");
+        }
+        let Ok(envelope) = sent else { return };
+        if before.first_send.is_some_and(|first| travel - first == i128::from(KEY_LIFE - 1)) {
             self.tally.event("unit sends at the last tick of a key");
+        }
+        if envelope.header.encenabled == 1 && before.waits_for.is_some() {
+            self.tally.event("unit seals after a change");
         }
         let number = self.stations[i].end.sound().active;
         if self.stations[i].registered || self.kind == Kind::Wild {

@@ -118,6 +118,8 @@ pub struct World<'a> {
     loss: u64,
     /// A leap comes once in so many steps.
     pub calm: u64,
+    /// A path changes once in so many steps.
+    pub settled: u64,
     /// Whether the list nears its end, and may come to the last tick.
     pub late: bool,
     /// Channel index, key, MAC and clock of every sealed envelope.
@@ -134,8 +136,9 @@ impl<'a> World<'a> {
         let mut free: Vec<u16> = (0..=20).chain([0xFFFF, 0xFFFE]).collect();
         let stations = (0..3).map(|_| Station::new(kind, random, tally, &mut free, mac, clock)).collect();
         let (loss, calm) = (random.pick(&[0, 10, 4]), random.pick(&[20, 200, 1000]));
+        let settled = random.pick(&[100, 600, 3000]);
         let (sealed, past, groupings) = (HashSet::new(), VecDeque::new(), groupings(random, &mut free));
-        let mut world = World { kind, random, tally, olt, stations, loss, calm, late: false, sealed, past, groupings };
+        let mut world = World { kind, random, tally, olt, stations, loss, calm, settled, late: false, sealed, past, groupings };
         if world.random.once_in(4) {
             let strangers = world.random.within(12, 15);
             (0..strangers).for_each(|_| world.register_stranger());

@@ -1,4 +1,4 @@
-//! The OLT (01, Clock; Keys; When the reader says no; 02, C-14). Every call checks in the order of its list, then changes.
+//! The OLT (01, Clock; Keys; When the reader says no; 02, C-14 and C-16). Every call checks in the order of its list, then changes.
 
 use super::groups::Group;
 use super::*;
@@ -46,6 +46,11 @@ impl Unit {
     /// Whether the next accepted send switches.
     pub fn switches(&self) -> bool {
         self.flag && self.offered == self.active + 1 && self.offer_acknowledged
+    }
+
+    /// Whether the next accepted send is enciphered.
+    fn enciphers(&self) -> bool {
+        self.switches() || self.active >= 1
     }
 
     /// The number and key that a send at that tick is under, none while clear; 13.
@@ -161,6 +166,17 @@ impl Olt {
         Ok(())
     }
 
+    /// 02, C-16: the path change "drops the capture and every earlier clock acknowledgement".
+    pub fn measure(&mut self, llid: u16, round_trip: u64) -> Reply<()> {
+        refuse_if(round_trip > 1_000_000, 1)?;
+        let unit = self.unit_mut(llid)?;
+        unit.round_trip = round_trip;
+        unit.capture = None;
+        unit.clock_sent = false;
+        unit.clock_acknowledged = false;
+        Ok(())
+    }
+
     pub fn clock_send(&mut self, llid: u16) -> Reply<Stamps> {
         let tick = self.tick;
         let unit = self.unit_mut(llid)?;
@@ -216,7 +232,9 @@ impl Olt {
         refuse_if(channel != 0x00 && channel != 0x01, 1)?;
         let (tick, clock, mac) = (self.tick, self.clock, self.mac);
         let taken = self.channels.is_taken(channel, tick);
+        let unset = self.unit(llid).is_ok_and(|unit| unit.enciphers() && !unit.clock_acknowledged);
         let under = match (self.place(llid), self.group_mut(llid)) {
+            (Ok(_), _) if unset => return Err(5),
             (Ok(_), _) | (_, Some(_)) if taken => return Err(12),
             (Ok(place), _) => self.units[place].sends_under(tick)?,
             (_, Some(group)) => group.sends_under(tick)?,

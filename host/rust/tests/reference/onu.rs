@@ -1,4 +1,4 @@
-//! The ONU (01, Clock; Keys; When the reader says no; 02, C-14). Every call checks in the order of its list, then changes.
+//! The ONU (01, Clock; Keys; When the reader says no; 02, C-14 and C-16). Every call checks in the order of its list, then changes.
 
 use super::groups::Joined;
 use super::*;
@@ -17,7 +17,13 @@ pub struct Onu {
     pub active: u64,
     /// The keys of a and a + 1.
     pub keys: BTreeMap<u64, Key>,
-    pub first_send: Option<u64>,
+    /// The travel of the Tx clock at the first send under key a.
+    pub first_send: Option<i128>,
+    /// The sum of the signed changes of LocalTime.
+    pub changes: i64,
+    /// By travel: the last end of an enciphered send, and what that was at the last change.
+    pub last_end: Option<i128>,
+    pub waits_for: Option<i128>,
     pub channels: Channels,
     pub joined: Vec<Joined>,
 }
@@ -35,6 +41,9 @@ impl Onu {
             active: 0,
             keys: BTreeMap::new(),
             first_send: None,
+            changes: 0,
+            last_end: None,
+            waits_for: None,
             channels: Channels { free_from: [0, 0] },
             joined: Vec::new(),
         })
@@ -67,6 +76,24 @@ impl Onu {
             clocks.rx = (clocks.rx + n) % CLOCK;
             clocks.tx = (clocks.tx + n) % CLOCK;
         }
+        Ok(())
+    }
+
+    /// "the travel of its Tx clock is ticks plus these signed changes"
+    pub fn travel(&self) -> i128 {
+        i128::from(self.tick) + i128::from(self.changes)
+    }
+
+    /// "its new LocalTime, at most 1,000,000 either way from the old, else 1", and 17 for the sum of the changes.
+    pub fn new_time(&mut self, time: u64) -> Reply<()> {
+        let time = u32::try_from(time).map_err(|_| 1)?;
+        let change = i64::from(time.wrapping_sub(self.local_time) as i32);
+        refuse_if(change.abs() > 1_000_000, 1)?;
+        refuse_if((self.changes + change).abs() > 1 << 61, 17)?;
+        self.changes += change;
+        self.local_time = time;
+        self.clocks = None;
+        self.waits_for = self.last_end;
         Ok(())
     }
 
@@ -107,16 +134,21 @@ impl Onu {
         refuse_if(channel != 0x80 && channel != 0x81, 1)?;
         refuse_if(!self.is_own(llid) && self.group(llid).is_none(), 2)?;
         refuse_if(self.group(llid).is_some(), 20)?;
-        refuse_if(self.channels.is_taken(channel, self.tick), 12)?;
+        let (travel, enciphers) = (self.travel(), self.active >= 1);
+        refuse_if(enciphers && self.clocks.is_none(), 5)?;
+        // "12 until its Tx clock has passed the end of each one made before" the change
+        let waits = enciphers && self.waits_for.is_some_and(|end| travel <= end);
+        refuse_if(waits || self.channels.is_taken(channel, self.tick), 12)?;
         let clock = self.sender_clock();
         let epam = (clock % 64) as u8;
-        let envelope = if self.active == 0 {
+        let envelope = if !enciphers {
             let header = Header { channel, llid, encenabled: 0, enckey: 0, epam };
             Envelope { header, octets: payload.to_vec(), count: 0, runs: 0, sealed_under: None }
         } else {
-            let first = self.first_send.unwrap_or(self.tick);
-            refuse_if(self.tick - first >= KEY_LIFE, 13)?;
+            let first = self.first_send.unwrap_or(travel);
+            refuse_if(travel - first >= i128::from(KEY_LIFE), 13)?;
             self.first_send = Some(first);
+            self.last_end = self.last_end.max(Some(travel + payload.len() as i128 / 9));
             let key = self.keys[&self.active];
             let Passed { octets, count, runs } = payload::pass(&key, channel, self.identity.mac, clock, payload);
             let header = Header { channel, llid, encenabled: 1, enckey: (self.active % 2) as u8, epam };

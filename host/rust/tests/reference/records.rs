@@ -59,14 +59,29 @@ impl Channels {
 }
 
 fn first_record(first: Option<u64>) -> jazmotip::FirstSend {
-    jazmotip::FirstSend { noted: u8::from(first.is_some()), tick: first.unwrap_or(0) }
+    jazmotip::FirstSend { noted: u8::from(first.is_some()), at: first.unwrap_or(0) }
 }
 
 fn first_lent(record: &jazmotip::FirstSend, now: u64) -> Option<Option<u64>> {
     match flag(record.noted)? {
         false => Some(None),
-        true => within(record.tick, 0, now).map(Some),
+        true => within(record.at, 0, now).map(Some),
     }
+}
+
+/// A unit's record counts travel from 2^61 below zero.
+const LEAST_TRAVEL: i128 = -(1 << 61);
+
+impl Onu {
+    fn travel_record(&self) -> jazmotip::Travel {
+        let past = |end: Option<i128>| end.map_or(0, |end| (end + 1 - LEAST_TRAVEL) as u64);
+        jazmotip::Travel { changes: self.changes, spent: past(self.last_end), bar: past(self.waits_for) }
+    }
+}
+
+/// An end, from what is past it; 0 for none.
+fn end_lent(past: u64) -> Option<i128> {
+    (past > 0).then(|| i128::from(past) - 1 + LEAST_TRAVEL)
 }
 
 /// Keys by number, from their places by index.
@@ -265,7 +280,8 @@ impl End for Onu {
                 held: u8::from(self.keys.contains_key(&(self.active + 1))),
                 slots: keys_record(&self.keys),
             },
-            first: first_record(self.first_send),
+            first: first_record(self.first_send.map(|travel| (travel - LEAST_TRAVEL) as u64)),
+            travel: self.travel_record(),
             channels: self.channels.record(),
             joinedcount: self.joined.len() as u8,
             joined,
@@ -294,7 +310,10 @@ impl End for Onu {
             clocks,
             active,
             keys: keys_lent(&record.keys.slots, active..=reach),
-            first_send: first_lent(&record.first, tick)?,
+            first_send: first_lent(&record.first, u64::MAX)?.map(|at| i128::from(at) + LEAST_TRAVEL),
+            changes: (record.travel.changes.unsigned_abs() <= 1 << 61).then_some(record.travel.changes)?,
+            last_end: end_lent(record.travel.spent),
+            waits_for: end_lent(record.travel.bar),
             channels: Channels::lent(&record.channels)?,
             joined,
         })

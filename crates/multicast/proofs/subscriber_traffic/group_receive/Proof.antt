@@ -5,9 +5,9 @@ use Prim.Native.Nat.{_<_}
 use borrow.Author.Needs.{needs}
 use borrow.Author.Tests.{not-true, not-false}
 use Rattle.octets.specs.Choice.{pick}
-use Rattle.protocol.specs.Headers.{noPassage}
+use Rattle.protocol.specs.Headers.{choiceEnciphered, noPassage}
 use Rattle.sealing.specs.Seal.{countCarried, runsCarried}
-use Rattle.traffic.specs.Passages.{misfit, choiceEnciphered, passedCount, passedRuns, outputAfter}
+use Rattle.traffic.specs.Passages.{misfit, passedCount, passedRuns, outputAfter}
 use Rattle.groups.specs.Limits.{maxJoined}
 use Rattle.groups.specs.Subscriber.{pastJoined, joinedAt, validSubscriber}
 use Rattle.groups.specs.JoinedCalls.{joinedReceived, reachedJoined, receiveJoined}

@@ -7,23 +7,24 @@ use Rattle.traffic.proofs.at_onu.send_verdict.Tie as tie
 returns : tie.Need-returns
 unfolding onuSendVerdict
 returns c =
-    let last = c .before .before .before .before in
-    let named = last .before in
-    let valid = named .before .before in
+    let last = c .before .before .before in
+    let held = last .before in
+    let named = held .before .before in
+    let start = named .before .before in
     rw (
-      c .refuse-if4 .ensures,
-      c .before .refuse-if3 .ensures,
-      c .before .before .refuse-if2 .ensures,
-      c .before .before .before .refuse-if .ensures,
-      last .channel-then-key .ensures,
-      valid .before .pre,
+      c .refuse-if3 .ensures,
+      c .before .refuse-if2 .ensures,
+      c .before .before .refuse-if .ensures,
+      last .clock-channel-key .ensures,
+      held .busy .ensures,
+      start .pre .0,
+      start .pre .1,
       named .has .ensures,
       named .before .upstream .ensures,
-      valid .valid-onu .ensures,
     )
 
 pub send-verdict-spec : {M : Type 1} → statement M
 send-verdict-spec =
     tie.close
     (tie.spec (λ c κs. search needs) (λ c κs. search needs) (λ c κs. search needs) (λ c κs. search needs) (λ c κs. search needs) (λ c κs. search needs)
-    (λ c κs. search needs) (λ c κs. search needs) returns)
+    (λ c κs. search needs) returns)

@@ -12,7 +12,7 @@ returns : tie.Need-returns
 unfolding aged both
 returns c =
     let a = c .before .before .args in
-    rw (c .since .ensures, least-since (a .first .tick) keyLife (a .tick) (omega arith))
+    rw (c .since .ensures, least-since (a .first .at) keyLife (a .now) (omega arith))
 
 pub aged-spec : {M : Type 1} → statement M
 aged-spec = tie.close (tie.spec (λ c κs. search needs) returns)

@@ -12,10 +12,10 @@ use Rattle.unit.proofs.traffic.send.Statement.{statement}
 use Rattle.unit.proofs.traffic.send.Tie as tie
 
 -- the verdict is the definition's
-judged : (c : tie.After-and-then) → let a = c .before .before .before .before .before .args in
+judged : (c : tie.After-and-then) → let a = c .before .before .before .before .before .before .before .args in
     c .and-then .result ≡ andThen (a .way) (unitSendVerdict (a .shared) (a .unit) (a .channel))
 unfolding unitSendVerdict
-judged c = rw (c .and-then .ensures, c .before .channel-then-key .ensures, c .before .before .send-choice .ensures)
+judged c = rw (c .and-then .ensures, c .before .clock-channel-key .ensures, c .before .before .taken .ensures, c .before .before .before .before .send-choice .ensures)
 
 returns : tie.Need-returns
 unfolding sentOutcome sendUnit outcome
@@ -33,12 +33,12 @@ returns-2 c = λ h.
       c .sending-of .ensures,
       c .before .occupied .ensures (fits .0) (fits .1),
       c .before .before .keys-sent .ensures,
-      told .before .before .before .before .send-choice .ensures,
+      told .before .before .before .before .before .before .send-choice .ensures,
     )
     (sym (reached-accepted _ _ _ _ _ e))
 
 pub send-spec : {M : Type 1} → statement M
 send-spec =
     tie.close
-    (tie.spec (λ c κs. search needs) (λ c κs. search needs) (λ c κs. search needs) (λ c. search needs) (λ c κs. search needs) (λ c. search needs)
-    (λ c κs. search needs) (λ c κs. search needs) (λ c κs. search needs) returns returns-2)
+    (tie.spec (λ c κs. search needs) (λ c κs. search needs) (λ c κs. search needs) (λ c κs. search needs) (λ c. search needs) (λ c κs. search needs)
+    (λ c. search needs) (λ c κs. search needs) (λ c κs. search needs) (λ c κs. search needs) returns returns-2)

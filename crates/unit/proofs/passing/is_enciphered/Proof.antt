@@ -1,8 +1,8 @@
--- `traffic::carrying::is_enciphered` meets its contract: by the choice. Assumes nothing.
-use Rattle.traffic.specs.Passages.{choiceEnciphered}
+-- `unit::passing::is_enciphered` meets its contract: by the choice. Assumes nothing.
+use Rattle.protocol.specs.Headers.{choiceEnciphered}
 use borrow.Author.Needs.{needs}
-use Rattle.traffic.proofs.carrying.is_enciphered.Statement.{statement}
-use Rattle.traffic.proofs.carrying.is_enciphered.Tie as tie
+use Rattle.unit.proofs.passing.is_enciphered.Statement.{statement}
+use Rattle.unit.proofs.passing.is_enciphered.Tie as tie
 
 pub is-enciphered-spec : {M : Type 1} → statement M
 is-enciphered-spec =

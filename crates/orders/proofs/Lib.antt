@@ -1,0 +1,11 @@
+pub mod Decisions
+pub mod Named
+pub mod Made
+pub mod Frames
+pub mod Others
+pub mod Theorem
+pub mod Advances
+pub mod NamedMembers
+pub mod Locality
+pub mod Opened
+pub mod Example

@@ -35,7 +35,7 @@ use Rattle.multicast.specs.declared.HeadReceived.{HeadReceived}
 use Rattle.unicast.specs.Setting.{Setting}
 use Rattle.line.specs.History.{GroupLane}
 use Rattle.line.specs.Events.{arriveGroupAnswer, strayAnswer, strayUp}
-use Rattle.line.specs.Run.{State, groupLaneAt, noGroupLane, groupAnswerAt, atHead, headAfter, step}
+use Rattle.line.specs.Run.{State, alone, groupLaneAt, noGroupLane, groupAnswerAt, atHead, headAfter, step}
 use Rattle.line.specs.Premises.{Fits}
 use Rattle.line.proofs.Invariant.{Recorded, Invariant}
 use Rattle.line.proofs.AloneHead.{answered-olt, receive-olt}
@@ -87,10 +87,12 @@ module _ (w : Setting) (s : State) (g : ℕ) (i : Invariant w s) (known : g < le
       }
 
   marked-replaced : Replaced w s g (s .head .olt .shared .channels) (groupMarked r member) (groupLaneAt s g)
+  unfolding alone
   marked-replaced =
       record {
         known = known;
         rises = λ k. omega arith;
+        frees = i .units .shared .free;
         channels = channels-right w s i;
         valid = acknowledged-valid (s .head .olt .shared .tick) (s .head .olt .count) r member (group-valid w s g i known);
         grown = itself (groupLaneAt s g) (r .keys .offered);

@@ -34,7 +34,8 @@ use Rattle.line.specs.Demand.{arrivalAt, HandedClear, Handed, Opens, Pas
 use Rattle.line.proofs.Opened.{opened}
 use Rattle.line.proofs.Tested.{tested, meets, meets-true, meets-start, dueOfGroup, due-of-group-true, overhearsGroup, overhears-group-true}
 use Rattle.line.proofs.Theorem.{line-holds}
-use Rattle.line.proofs.Unchanged.{unchanged}
+use Rattle.line.proofs.Progress.{progress}
+use Rattle.line.proofs.Unchanged.{unchanged, one-spread}
 use Rattle.line.proofs.Without.{without-groups}
 
 ---- the premises
@@ -321,6 +322,8 @@ demand =
       theorem = line-holds;
       asBefore = without-groups;
       unchanged = unchanged;
+      progress = progress;
+      spread = one-spread;
       fresh = example-fresh;
       meets = example-meets;
       course = course;

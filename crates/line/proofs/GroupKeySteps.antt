@@ -135,11 +135,12 @@ module _ (w : Setting) (s : State) (g : ℕ) (i : Invariant w s) (known : g < le
         (i .follows u g h known))
 
     pub offer-replaced : Replaced w s g (s .head .olt .shared .channels) (calls.groupOffered record-of key) after
-    unfolding groupLeaving groupOffered groupWith calls.groupOffered withMembers withGroupKeys keysOffered
+    unfolding groupLeaving groupOffered groupWith calls.groupOffered withMembers withGroupKeys keysOffered alone
     offer-replaced =
         record {
           known = known;
           rises = λ k. omega arith;
+          frees = i .units .shared .free;
           channels = channels-right w s i;
           valid = offered-valid (s .head .olt .shared .tick) (s .head .olt .count) record-of key (group-valid w s g i known);
           grown = offer-grown;
@@ -181,12 +182,13 @@ module _ (w : Setting) (s : State) (g : ℕ) (i : Invariant w s) (known : g < le
         (i .follows u g h known))
 
     pub retry-replaced : Replaced w s g (s .head .olt .shared .channels) record-of again
-    unfolding groupLeaving groupWith
+    unfolding groupLeaving groupWith alone
     retry-replaced =
         let r = i .group g known in
         record {
           known = known;
           rises = λ k. omega arith;
+          frees = i .units .shared .free;
           channels = channels-right w s i;
           valid = group-valid w s g i known;
           grown = record { llid = refl; sent = λ e q. q; keys = λ n p q. refl };

@@ -3,7 +3,7 @@ use mathlib.Core.Path.{_≡_, refl, sym, _∙_, ap, subst}
 use mathlib.Core.Bool.{true, false}
 use mathlib.Core.List.{List, [], _∷_, List·Memᴰ, List·Memᴰ·head, Memᴰ·append-left, Memᴰ·append-right}
 use mathlib.Core.Logic.{⊎-elim}
-use Prim.Native.Nat.{ℕ, _<_}
+use Prim.Native.Nat.{ℕ, _+_, _<_}
 use native.Mathlib.Omega.{arith}
 use lib.ListN.{length, getD}
 use borrow.Author.Tests.{leb-true, eqb-true, not-false}
@@ -43,7 +43,9 @@ use Rattle.unicast.specs.History.{downward, Envelope, envelope}
 use Rattle.unicast.specs.Run.{laneAt}
 use Rattle.unicast.specs.Claim.{PassageRight, SentRight}
 use Rattle.unicast.proofs.Envelopes.{ways-apart, envelopeOf, passed-right, count-right, runs-right, fits-alone}
+use Rattle.unicast.specs.Progress.{longest}
 use Rattle.unicast.proofs.Invariant.{Begun, countDown, AtTick}
+use Rattle.unicast.proofs.Pace.{occupied-free}
 use Rattle.unicast.proofs.Past.{sent-carried}
 use Rattle.unicast.proofs.Spending.{Renewed, spent-kept, spent-new, apart-new, spaced-more}
 use Rattle.line.specs.History.{GroupLane, noPath, isMember, groupNumber, groupSwitching, groupWith, groupSent}
@@ -228,6 +230,9 @@ module _ (w : Setting) (s : State) (g : ℕ) (i : Invariant w s) (known : g < le
       record {
         known = known;
         rises = λ n. free-later (sh .channels) channel n (sh .tick) (eqsOf p) free;
+        frees = λ n.
+            occupied-free (sh .channels) channel n (sh .tick) (eqsOf p) (now s + longest) (omega (arith, few-eqs p out fit, i .units .shared .tick))
+            (i .units .shared .free n);
         channels = occupied-valid (sh .channels) channel (sh .tick) (eqsOf p) (o .tick) (few-eqs p out fit) (o .channels);
         valid = sent-valid (sh .tick) (s .head .olt .count) (groupSendChoice (r .keys)) r (group-valid w s g i known);
         grown = grown (r .keys .offered);

@@ -18,6 +18,7 @@ use Rattle.groups.specs.declared.GroupRecord.{GroupRecord}
 use Rattle.unicast.specs.Setting.{Setting}
 use Rattle.unicast.specs.History.{Lane}
 use Rattle.unicast.specs.Run.{laneAt}
+use Rattle.unicast.specs.Progress.{longest}
 use Rattle.unicast.proofs.OccupiedSteps.{occupied-right}
 use Rattle.line.specs.History.{GroupLane, isMember}
 use Rattle.line.specs.Run.{State, alone, subscriberAt, joinedBy, noGroupLane, groupLaneAt, now, lanes, atHead}
@@ -38,6 +39,7 @@ pub data MoreKeys (s : State) (old new : List (List ℕ)) : Type 0 where
 pub record Replaced (w : Setting) (s : State) (g : ℕ) (c : Channels) (r : GroupRecord) (l : GroupLane) : Type 0 where
   pub known : g < length (s .history .groups)
   pub rises : (k : ℕ) → freeFrom (s .head .olt .shared .channels) k ≤ freeFrom c k
+  pub frees : (k : ℕ) → freeFrom c k ≤ now s + longest
   pub channels : validChannels c ≡ true
   pub valid : validGroup (s .head .olt .shared .tick) (s .head .olt .count) r ≡ true
   pub grown : Grown (groupLaneAt s g) l (groupAt (s .head) g .keys .offered)
@@ -163,7 +165,7 @@ module _ (w : Setting) (s : State) (g : ℕ) (c : Channels) (r : GroupRecord) (l
   replaced-right =
       let places = length-set (s .history .groups) g l in
       record {
-        units = occupied-right w (alone s) c (i .units) (p .rises) (p .channels);
+        units = occupied-right w (alone s) c (i .units) (p .rises) (p .frees) (p .channels);
         valid =
             with-group-valid (s .head) g c r (group-stands w s i g (p .known) .used)
             (p .recorded .llid ∙ p .grown .llid ∙ sym (i .group g (p .known) .llid)) (p .valid) (i .valid);

@@ -40,6 +40,8 @@ pub mod ChangeSteps
 pub mod StartSteps
 pub mod Claims
 pub mod Theorem
+pub mod OwnEvents
+pub mod Progress
 pub mod Without
 pub mod Unchanged
 pub mod Opened

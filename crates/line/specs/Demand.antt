@@ -25,7 +25,8 @@ use Rattle.line.specs.Events.{Event, arriveGroup}
 use Rattle.line.specs.Run.{State, alone, start, step, runs, subscriberAt, groupLaneAt, groupSentAt, groupThingAt, groupReceipt, receiving}
 use Rattle.line.specs.Premises.{Meets}
 use Rattle.line.specs.Claim.{Claim, Sender, unit, group, sentBy, sentByAt, keysOf, nonceBy}
-use Rattle.line.specs.Without.{AsBefore, Unchanged}
+use Rattle.line.specs.Progress.{Progress}
+use Rattle.line.specs.Without.{AsBefore, Unchanged, OneSpread}
 use Rattle.line.specs.Example.{example, groupLlid, toFirstKey, toReturn, toUnsynced, toSynced, events}
 use Rattle.line.specs.Course.{after, played, Course}
 
@@ -176,6 +177,9 @@ pub record Demand : Type 0 where
   pub asBefore : (w : Setting) (es : List units.Event) → Fresh w → premises.Meets w (run.start w) es → AsBefore w es
   -- and lists without path changes as before there were any
   pub unchanged : Unchanged
+  -- the line never freezes
+  pub progress : Progress
+  pub spread : OneSpread
   pub fresh : Fresh example
   pub meets : Meets example (start example) events
   pub course : Course

@@ -15,6 +15,7 @@
 --             since; a sealed one is refused 5 by a unit that is not synced; a key that the unit acknowledged brings it back, once it is
 --             synced; what arrives of a group leaves the units' own lines
 --   Without   lists without groups and joins run as before, and lists without path changes
+--   Progress  the line never freezes: a unit's continuation goes on here as without groups, and leaves their lines as they were
 --   Example   a list with a group that meets the premises: one of two members misses a key and comes back, and its path changes
 --   Course    how it runs: which calls were refused, what was sent and what arrived
 --   Demand    the theorem as one statement, and what it says of the example
@@ -24,6 +25,7 @@ pub mod Run
 pub mod Premises
 pub mod Claim
 pub mod Without
+pub mod Progress
 pub mod Example
 pub mod Course
 pub mod Demand

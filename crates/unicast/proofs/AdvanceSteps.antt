@@ -45,6 +45,7 @@ use Rattle.unicast.specs.History.{Answered, Entry, Keys, Lane, due}
 use Rattle.unicast.specs.Events.{advance}
 use Rattle.unicast.specs.Run.{State, laneAt, onuAt, advancing, step}
 use Rattle.unicast.proofs.Invariant.{flagOf, Timing, Clocks, Answers, Idle, Joined, Common, Standing, LaneRight, AtTick, Invariant}
+use Rattle.unicast.proofs.Pace.{order-later, asked-later}
 
 ---- the timer
 
@@ -145,7 +146,7 @@ answers-advanced now n k o answered a =
 
 pub at-tick-advanced : (w : Setting) (now n : ℕ) (sh : Shared) → AtTick w now sh → AtTick w (now + n) (sharedAdvanced sh n)
 unfolding sharedAdvanced
-at-tick-advanced w now n sh t = record { mac = t .mac; tick = ap (λ (x : ℕ). x + n) (t .tick); clock = omega (arith, t .clock) }
+at-tick-advanced w now n sh t = record { mac = t .mac; tick = ap (λ (x : ℕ). x + n) (t .tick); clock = omega (arith, t .clock); free = λ k. let was = t .free k in omega (arith, was) }
 
 pub advance-keeps : (w : Setting) (sh : Shared) (now n : ℕ) (l : Lane) (u : UnitRecord) (o : Onu) → Joined w sh now l u o
     → Joined w (sharedAdvanced sh n) (now + n) l (unitAdvanced n u) (onuAdvanced o n)
@@ -156,6 +157,15 @@ advance-keeps w sh now n l u o j =
       mac = j .mac;
       llids = j .llids;
       oltmac = j .oltmac;
+      firsts = j .firsts;
+      freed = j .freed;
+      heard = j .heard;
+      told = j .told;
+      gone = λ e m. let was = j .gone e m in omega (arith, was);
+      near = j .near;
+      ups = j .ups;
+      asked = asked-later now n (u .clock .sent) (l .transit) (j .asked);
+      order = order-later now n (l .transit) (j .order);
       numbers = j .numbers;
       stored = j .stored;
       timing = timing-advanced (l .entry) (l .keys) now n (u .keys .timer) (j .timing);
@@ -190,6 +200,10 @@ idle-advance-keeps now n l o i =
       answered = i .answered;
       sent = i .sent;
       arrived = i .arrived;
+      noted = i .noted;
+      spent = i .spent;
+      bar = i .bar;
+      channels = i .channels;
     }
 
 ---- the calls

@@ -41,7 +41,7 @@ unfolding laneAcknowledged laneWith markedLane
 lane-marked a l e f = ap (markedLane l) (pick-true true (l .keys .acknowledged) (both-true (eq-eqb (a .kind) keyKind e) (eq-eqb _ _ f)))
 
 -- one of the clock leaves the mark
-lane-unmarked : (a : Acknowledgement) (l : Lane) → a .kind ≡ clockKind → laneAcknowledged a l ≡ l
+pub lane-unmarked : (a : Acknowledgement) (l : Lane) → a .kind ≡ clockKind → laneAcknowledged a l ≡ l
 unfolding laneAcknowledged laneWith markedLane
 lane-unmarked a l e =
     ap (markedLane l) (pick-false true (l .keys .acknowledged) (both-false-left _ (ne-eqb (a .kind) keyKind (λ f. omega arith))))
@@ -68,6 +68,15 @@ module _ (w : Setting) (sh : Shared) (now : ℕ) (l : Lane) (u : UnitRecord) (o 
         mac = j .mac;
         llids = j .llids;
         oltmac = j .oltmac;
+        firsts = j .firsts;
+        freed = j .freed;
+        heard = j .heard;
+        told = j .told;
+        gone = j .gone;
+        near = j .near;
+        ups = j .ups;
+        asked = j .asked;
+        order = j .order;
         numbers =
             record {
               counted = n .counted;
@@ -121,6 +130,15 @@ module _ (w : Setting) (sh : Shared) (now : ℕ) (l : Lane) (u : UnitRecord) (o 
         mac = j .mac;
         llids = j .llids;
         oltmac = j .oltmac;
+        firsts = j .firsts;
+        freed = j .freed;
+        heard = j .heard;
+        told = j .told;
+        gone = j .gone;
+        near = j .near;
+        ups = j .ups;
+        asked = j .asked;
+        order = j .order;
         numbers = j .numbers;
         stored = j .stored;
         timing = j .timing;

@@ -53,7 +53,7 @@ arrived-right w s u k out e i fit l h j =
     rw end at (receiving-valid (s .olt) (misfit (e .octets) out) (e .header) (i .valid)) in
     rw (end, receipt)
     (replaced-right w s (l .at) (call sh x .channels) (call sh x .unit) (set (s .history .lanes) u lane) i
-    (told-for w s (l .at) u (call sh x .channels) (call sh x .unit) lane i h valid (λ n. omega arith) refl refl refl refl j))
+    (told-for w s (l .at) u (call sh x .channels) (call sh x .unit) lane i h valid (λ n. omega arith) (i .shared .free) refl refl refl refl j))
 
 pub arrive-up-right : (w : Setting) (s : State) (u k : ℕ) (out : List ℕ) → Invariant w s → Fits w s (arriveUp u k out)
     → Invariant w (step s (arriveUp u k out))

@@ -80,13 +80,26 @@ key-answers now k (y ∷ ys) held x m = by-kind (leavesAgain y) refl m (key-answ
       (kind, held y (List·Memᴰ·head refl) kind))
       rest (List·Memᴰ·cases-cons i)
 
+-- and may leave again from now on
+key-ticks : (now : ℕ) (xs : List Answered) (x : Answered) → List·Memᴰ x (keyAnswers now xs) → x .tick ≤ now
+unfolding keyAnswers pick
+key-ticks now [] x m = absurd (List·Memᴰ·not-nil m)
+key-ticks now (y ∷ ys) x m = by-kind (leavesAgain y) m (key-ticks now ys x) where
+  kept : Answered
+  kept = record { acknowledgement = y .acknowledgement; tick = now }
+
+  by-kind : (t : Bool) → List·Memᴰ x (pick t (kept ∷ keyAnswers now ys) (keyAnswers now ys)) → (List·Memᴰ x (keyAnswers now ys) → x .tick ≤ now)
+      → x .tick ≤ now
+  by-kind false i rest = rest i
+  by-kind true i rest = ⊎-elim (λ same. omega (arith, ap (λ (z : Answered). z .tick) same)) rest (List·Memᴰ·cases-cons i)
+
 ---- the unit and its lane
 
 module _ (w : Setting) (sh : Shared) (now : ℕ) (l : Lane) (u : UnitRecord) (o : Onu) (p : Delays) (time : ℕ)
     (follows : time ≡ (w .first + now + p .up) % localTurn) where
-  moved-joined : Joined w sh now l u o → Joined w sh now (laneMoved p now l) (withClock u (newUnitClock (p .up + p .down))) (onuRetimed o time)
+  moved-joined : p .up + p .down ≤ maxRoundTrip → Joined w sh now l u o → Joined w sh now (laneMoved p now l) (withClock u (newUnitClock (p .up + p .down))) (onuRetimed o time)
   unfolding laneMoved withClock onuRetimed withOnuClock withTravel travelChanged
-  moved-joined j =
+  moved-joined near j =
       let n = j .numbers in
       let after = laneMoved p now l in
       let knows : Knows l after (u .keys .offered) = record { site = refl; sent = λ e m. m; keys = λ m q t. refl } in
@@ -94,6 +107,21 @@ module _ (w : Setting) (sh : Shared) (now : ℕ) (l : Lane) (u : UnitRecord) (o 
         mac = j .mac;
         llids = j .llids;
         oltmac = j .oltmac;
+        firsts = j .firsts;
+        freed = record { free = j .freed .free; spent = j .freed .spent; bar = omega arith };
+        heard = j .heard;
+        told = j .told;
+        gone = j .gone;
+        near = near;
+        ups = j .ups;
+        asked =
+            record {
+              under = λ x m. absurd (List·Memᴰ·not-nil m);
+              answered = λ x m.
+                  let key = key-answers now (o .keys) (l .transit .answered) (λ y i. j .answers .each y i .1) x m in
+                  (λ e. absurd (omega (arith, e, key .0)), key-ticks now (l .transit .answered) x m);
+            };
+        order = record { towards = omega arith; from = omega arith };
         numbers = j .numbers;
         stored = j .stored;
         timing = j .timing;
@@ -160,7 +188,7 @@ beside w s u x v r valid =
       valid = valid;
       places = with-beside (s .olt) place (s .olt .shared .channels) x .places ∙ v .places;
       count = v .count;
-      shared = channels-at-tick w (s .history .now) (s .olt .shared) (s .olt .shared .channels) (v .shared);
+      shared = channels-at-tick w (s .history .now) (s .olt .shared) (s .olt .shared .channels) (v .shared .free) (v .shared);
       others = λ y h n.
           let old = v .lane y h in
           record {
@@ -231,7 +259,7 @@ moved-right w s u llid time p v r d t =
           standing-own (l .entry .registered) w (s .olt) place (sh .channels) (withClock unit (newUnitClock (p .up + p .down))) now (laneMoved p now l)
           (onuRetimed (onuAt s u) time) (r .registered) refl (r .used)
           (omega (arith, r .used, olt-in-range (s .olt) (v .valid) .count, v .places))
-          (moved-joined w sh now l unit (onuAt s u) p time (d .follows) (r .joined));
+          (moved-joined w sh now l unit (onuAt s u) p time (d .follows) (t .trip) (r .joined));
     }
 
 pub change-path-right : (w : Setting) (s : State) (u llid time : ℕ) (p : Delays) → Invariant w s → Fits w s (changePath u llid time p)

@@ -19,7 +19,8 @@ use Rattle.clock.proofs.Ticks.{rewound-at, advanced-below, advanced-mod}
 use Rattle.clock.proofs.Aligned.{raise-aligns}
 use Rattle.ends.specs.Flags.{isUp}
 use Rattle.protocol.specs.Lift.{outcome}
-use Rattle.protocol.specs.Messages.{noAcknowledgement, ofClock}
+use Rattle.octets.proofs.Members.{each-more, mem-at}
+use Rattle.protocol.specs.Messages.{clockKind, noAcknowledgement, ofClock}
 use Rattle.ends.specs.Records.{withClock, withOnuClock}
 use Rattle.ends.specs.Travels.{travelOf}
 use Rattle.ends.specs.Validity.{validOnu}
@@ -36,7 +37,7 @@ use Rattle.protocol.proofs.UnitCalls.{ClockSends, clock-send-accepted}
 use Rattle.protocol.proofs.OnuCalls.{onu-accepts, onu-keeps, onu-synced-valid}
 use Rattle.unicast.specs.Setting.{Delays, Setting}
 use Rattle.unicast.specs.History.{Thing, clockMessage, Answered, Lane, laneWith, laneCaptured, laneLeaving, laneTaken, laneAnswered}
-use Rattle.unicast.proofs.Invariant.{Clocks, Answers, ClockRight, Joined, Common, AtTick}
+use Rattle.unicast.proofs.Invariant.{Clocks, Answers, ClockRight, Asked, Joined, Common, AtTick}
 use Rattle.unicast.proofs.Queues.{Knows, towards-moved, towards-clock, towards-taken, from-moved}
 use Rattle.unicast.proofs.Past.{passing-moved, sent-most}
 use Rattle.unicast.proofs.Frames.{answers-clock, leaving-keeps, taken-keeps}
@@ -50,9 +51,10 @@ withAnswered l xs = laneWith l (l .keys) (record { towards = l .transit .towards
 -- only clocks, the capture and the acknowledgements are replaced, and a synced unit stays synced
 clocks-replaced : (w : Setting) (sh : Shared) (now : ℕ) (l : Lane) (u : UnitRecord) (o : Onu) (captured : ℕ) (c : UnitClock) (d : OnuClock)
     (xs : List Answered) → Joined w sh now l u o → Clocks (w .first) now (l .path) captured c d → (o .clock .synced ≡ 1 → d .synced ≡ 1)
-    → Answers now (o .keys) d xs → Joined w sh now (laneCaptured captured (withAnswered l xs)) (withClock u c) (withOnuClock o d)
+    → Answers now (o .keys) d xs → Asked now (c .sent) (record { towards = l .transit .towards; from = l .transit .from; answered = xs })
+    → Joined w sh now (laneCaptured captured (withAnswered l xs)) (withClock u c) (withOnuClock o d)
 unfolding laneCaptured laneWith withClock withOnuClock
-clocks-replaced w sh now l u o captured c d xs j k synced answers =
+clocks-replaced w sh now l u o captured c d xs j k synced answers asked =
     let after = laneCaptured captured (withAnswered l xs) in
     let knows : Knows l after (u .keys .offered) = record { site = refl; sent = λ e m. m; keys = λ n p q. refl } in
     let s = j .spending in
@@ -60,6 +62,15 @@ clocks-replaced w sh now l u o captured c d xs j k synced answers =
       mac = j .mac;
       llids = j .llids;
       oltmac = j .oltmac;
+      firsts = j .firsts;
+      freed = j .freed;
+      heard = j .heard;
+      told = j .told;
+      gone = j .gone;
+      near = j .near;
+      ups = j .ups;
+      asked = asked;
+      order = record { towards = j .order .towards; from = j .order .from };
       numbers = j .numbers;
       stored = j .stored;
       timing = j .timing;
@@ -91,7 +102,7 @@ capture-keeps w sh now l u o t j =
       synced = k .synced;
       acknowledged = k .acknowledged;
     })
-    (λ e. e) (j .answers)
+    (λ e. e) (j .answers) (record { under = j .asked .under; answered = j .asked .answered })
 
 ---- clock send
 
@@ -124,9 +135,9 @@ clock-send-keeps w sh now l u o t j a =
       synced = k .synced;
       acknowledged = k .acknowledged;
     })
-    (λ e. e) (j .answers) in
+    (λ e. e) (j .answers) (record { under = λ x i m c left e. refl; answered = λ x i. (λ e. refl, j .asked .answered x i .1) }) in
     leaving-keeps w sh now l (withClock u (clockAfterSend (u .clock))) o (clockMessage (clockMessageOf sh (u .clock)) (l .captured) now)
-    (λ e q. let z : _≡_ {A = ℕ} 0 1 = cc in omega arith) sent
+    (λ e q. let z : _≡_ {A = ℕ} 0 1 = cc in omega arith) (λ m c left e. refl) refl sent
     (towards-clock (w .first) (l .path) l (o .keys .active) (u .keys .active) (u .keys .offered) (l .transit .towards)
     (clockMessageOf sh (u .clock)) (l .captured) now
     (j .numbers .mid) right (j .towards))
@@ -212,6 +223,12 @@ clock-taken w sh now l u o k x m c t j h e d =
     clocks-replaced w sh now (laneTaken k l) u o (l .captured) (u .clock) (clockFrom raised) _ taken
     (clocks-taken (w .first) now (l .path) (l .captured) (u .clock) (o .clock) raised (j .clocks) aligned) (λ z. refl)
     (answers-clock now (o .keys) (o .clock) (clockFrom raised) (l .transit .answered) refl (j .answers))
+    (record {
+      under = taken .asked .under;
+      answered =
+          each-more (λ (y : Answered). (y .acknowledgement .kind ≡ clockKind → u .clock .sent ≡ 1) × (y .tick ≤ now)) (l .transit .answered) _
+          (j .asked .answered) (λ kind. j .asked .under (getD (l .transit .towards) k x) (mem-at (l .transit .towards) k x h) m c t e, omega arith);
+    })
 
 -- a message that arrives: in fact it is never refused
 pub clock-arrives : (w : Setting) (sh : Shared) (now : ℕ) (l : Lane) (u : UnitRecord) (o : Onu) (k : ℕ) (x : Thing) (m : Stamps) (c t : ℕ)

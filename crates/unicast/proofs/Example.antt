@@ -30,7 +30,8 @@ use Rattle.unicast.specs.Demand.{arrivalAt, nonce, HandedClear, Handed, 
 use Rattle.unicast.proofs.Opened.{opened}
 use Rattle.unicast.proofs.Tested.{tested, fresh-true, meets, meets-true, meets-start}
 use Rattle.unicast.proofs.Theorem.{line-holds}
-use Rattle.unicast.proofs.Unchanged.{unchanged}
+use Rattle.unicast.proofs.Unchanged.{unchanged, one-spread}
+use Rattle.unicast.proofs.Progress.{progress, spread-most}
 
 -- what the list computes with
 unfoldable pub listed : Unit {0}
@@ -39,7 +40,7 @@ listed = tt
 
 ---- the premises
 
-example-fresh : Fresh example
+pub example-fresh : Fresh example
 unfolding listed tested
 example-fresh = fresh-true example refl
 
@@ -288,6 +289,9 @@ demand =
     record {
       holds = line-holds;
       unchanged = unchanged;
+      progress = progress;
+      spread = one-spread;
+      most = spread-most;
       fresh = example-fresh;
       meets = example-meets;
       course = course;

@@ -7,6 +7,8 @@ use Prim.Native.Nat.{ℕ, suc, _≤_}
 use native.Mathlib.Omega.{arith}
 use borrow.Author.Tests.{eqb-true, eq-eqb}
 use Rattle.octets.proofs.Choice.{either-left, either-right, either-cases, true-false}
+use Rattle.octets.proofs.Members.{each-more}
+use Rattle.clock.specs.declared.Stamps.{Stamps}
 use Rattle.protocol.specs.Messages.{clockKind, keyKind, ofClock}
 use Rattle.protocol.specs.declared.Acknowledgement.{Acknowledgement}
 use Rattle.ends.specs.declared.Onu.{Onu}
@@ -15,19 +17,20 @@ use Rattle.ends.specs.declared.OnuKeys.{OnuKeys}
 use Rattle.ends.specs.declared.Shared.{Shared}
 use Rattle.ends.specs.declared.UnitRecord.{UnitRecord}
 use Rattle.unicast.specs.Setting.{Setting}
-use Rattle.unicast.specs.History.{Envelope, Thing, envelope, Answered, Transit, Lane, laneWith, leaving, laneLeaving, laneTaken, laneAnswered, clockAnswered}
-use Rattle.unicast.proofs.Invariant.{reachOf, Answers, UnderWay, Towards, From, Joined, Common}
+use Rattle.unicast.specs.History.{Envelope, Thing, clockMessage, envelope, leftAt, Answered, Transit, Lane, laneWith, leaving, laneLeaving, laneTaken, laneAnswered, clockAnswered}
+use Rattle.unicast.proofs.Invariant.{reachOf, Answers, UnderWay, Towards, From, Asked, InOrder, Joined, Common}
+use Rattle.unicast.proofs.Pace.{rising-dropped, order-leaving, asked-leaving}
 use Rattle.unicast.proofs.Queues.{Knows, dropped-among, sealed-more, towards-moved, towards-dropped, from-moved}
 use Rattle.unicast.proofs.Past.{passing-moved, sent-most}
 
 ---- clock acknowledgements
 
-clock-more : (xs : List Answered) (x : Answered) → clockAnswered xs ≡ true → clockAnswered (xs ++ (x ∷ [])) ≡ true
+pub clock-more : (xs : List Answered) (x : Answered) → clockAnswered xs ≡ true → clockAnswered (xs ++ (x ∷ [])) ≡ true
 unfolding clockAnswered
 clock-more [] x e = true-false (sym e)
 clock-more (y ∷ ys) x e = ⊎-elim (λ h. either-left _ h) (λ h. either-right _ (clock-more ys x h)) (either-cases _ _ e)
 
-clock-last : (xs : List Answered) (x : Answered) → x .acknowledgement .kind ≡ clockKind → clockAnswered (xs ++ (x ∷ [])) ≡ true
+pub clock-last : (xs : List Answered) (x : Answered) → x .acknowledgement .kind ≡ clockKind → clockAnswered (xs ++ (x ∷ [])) ≡ true
 unfolding clockAnswered
 clock-last [] x e = either-left _ (eq-eqb (x .acknowledgement .kind) clockKind e)
 clock-last (y ∷ ys) x e = either-right _ (clock-last ys x e)
@@ -75,15 +78,25 @@ module _ (w : Setting) (sh : Shared) (now : ℕ) (l : Lane) (u : UnitRecord) (o 
   -- only what is under way changes
   pub transit-replaced : (t : Transit) → Joined w sh now l u o → Answers now (o .keys) (o .clock) (t .answered)
       → UnderWay (l .path) (o .clock .synced) t → Towards (w .first) (l .path) l (o .keys .active) (u .keys .active) (u .keys .offered) (t .towards)
-      → From l (u .confirmation .confirmed) (o .keys .active) (t .from) → Joined w sh now (laneWith l (l .keys) t (l .past)) u o
+      → From l (u .confirmation .confirmed) (o .keys .active) (t .from) → Asked now (u .clock .sent) t → InOrder now t
+      → Joined w sh now (laneWith l (l .keys) t (l .past)) u o
   unfolding laneWith
-  transit-replaced t j answers under towards from =
+  transit-replaced t j answers under towards from asked order =
       let after = laneWith l (l .keys) t (l .past) in
       let knows : Knows l after (u .keys .offered) = record { site = refl; sent = λ e m. m; keys = λ n p q. refl } in
       record {
         mac = j .mac;
         llids = j .llids;
         oltmac = j .oltmac;
+        firsts = j .firsts;
+        freed = j .freed;
+        heard = j .heard;
+        told = j .told;
+        gone = j .gone;
+        near = j .near;
+        ups = j .ups;
+        asked = asked;
+        order = order;
         numbers = j .numbers;
         stored = j .stored;
         timing = j .timing;
@@ -100,16 +113,17 @@ module _ (w : Setting) (sh : Shared) (now : ℕ) (l : Lane) (u : UnitRecord) (o 
       }
 
   -- a thing leaves for the unit
-  pub leaving-keeps : (x : Thing) → ((e : Envelope) → x ≡ envelope e → ⊥) → Joined w sh now l u o
+  pub leaving-keeps : (x : Thing) → ((e : Envelope) → x ≡ envelope e → ⊥) → ((m : Stamps) (c left : ℕ) → x ≡ clockMessage m c left → u .clock .sent ≡ 1)
+      → leftAt x ≡ now → Joined w sh now l u o
       → Towards (w .first) (l .path) l (o .keys .active) (u .keys .active) (u .keys .offered) (l .transit .towards ++ (x ∷ []))
       → Joined w sh now (laneLeaving x l) u o
   unfolding laneLeaving leaving
-  leaving-keeps x n j q =
+  leaving-keeps x n sent left j q =
       transit-replaced (leaving (l .transit) x) j (j .answers)
       (record {
         sealed = sealed-more (o .clock .synced) (l .transit .towards) x (j .underWay .sealed) (λ e same. absurd (n e same));
         present = j .underWay .present;
-      }) q (j .from)
+      }) q (j .from) (asked-leaving now (u .clock .sent) (l .transit) x sent (j .asked)) (order-leaving now (l .transit) x left (j .order))
 
   -- the first of what is under way to the unit are taken from it, or lost
   pub taken-keeps : (k : ℕ) → Joined w sh now l u o → Joined w sh now (laneTaken k l) u o
@@ -121,6 +135,8 @@ module _ (w : Setting) (sh : Shared) (now : ℕ) (l : Lane) (u : UnitRecord) (o 
         present = j .underWay .present;
       })
       (towards-dropped (w .first) (l .path) l (o .keys .active) (u .keys .active) (u .keys .offered) (l .transit .towards) (suc k) (j .towards)) (j .from)
+      (record { under = λ x m. j .asked .under x (dropped-among x (l .transit .towards) (suc k) m); answered = j .asked .answered })
+      (record { towards = rising-dropped leftAt 0 now (l .transit .towards) (suc k) (j .order .towards); from = j .order .from })
 
   -- the unit answers, for a key that it holds
   pub answered-keeps : (a : Acknowledgement) → Joined w sh now l u o → (a .kind ≡ clockKind → o .clock .synced ≡ 1)
@@ -132,6 +148,14 @@ module _ (w : Setting) (sh : Shared) (now : ℕ) (l : Lane) (u : UnitRecord) (o 
       (answers-more now (o .keys) (o .clock) (l .transit .answered) (record { acknowledgement = a; tick = now }) synced held (j .answers))
       (record { sealed = j .underWay .sealed; present = j .underWay .present }) (j .towards)
       (j .from)
+      (record {
+        under = j .asked .under;
+        answered =
+            each-more (λ (x : Answered). (x .acknowledgement .kind ≡ clockKind → u .clock .sent ≡ 1) × (x .tick ≤ now)) (l .transit .answered)
+            (record { acknowledgement = a; tick = now }) (j .asked .answered)
+            (λ kind. clock-some (l .transit .answered) (λ x m. j .asked .answered x m .0) (j .answers .set (synced kind)), omega arith);
+      })
+      (record { towards = j .order .towards; from = j .order .from })
 
 -- nothing of the lane but its site and its path matters
 pub common-moved : (w : Setting) (now : ℕ) (l l' : Lane) (o : Onu) → l .site ≡ l' .site → l .path ≡ l' .path

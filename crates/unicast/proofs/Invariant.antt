@@ -2,11 +2,11 @@
 -- fields that it speaks of, so that a call that leaves these leaves the record. Assumes nothing.
 use mathlib.Core.Path.{_≡_}
 use mathlib.Core.Bool.{Bool, true, false}
-use mathlib.Core.List.{List, [], _∷_, List·Memᴰ}
+use mathlib.Core.List.{List, [], _∷_, map, List·Memᴰ}
 use mathlib.Core.Logic.{_⊎_}
 use Prim.Native.Nat.{ℕ, _+_, _-_, _%_, _<_, _≤_}
 use lib.ListN.{length, getD}
-use Rattle.clock.specs.Ticks.{clockTurn, localTurn, ticksPerSecond, keyLife}
+use Rattle.clock.specs.Ticks.{clockTurn, localTurn, ticksPerSecond, keyLife, maxRoundTrip}
 use Rattle.clock.specs.Stamping.{capturedAt}
 use Rattle.clock.specs.Aligned.{Aligned}
 use Rattle.clock.specs.declared.Stamps.{Stamps}
@@ -35,9 +35,10 @@ use Rattle.ends.specs.declared.Travel.{Travel}
 use Rattle.ends.specs.declared.UnitRecord.{UnitRecord}
 use Rattle.ends.specs.declared.UnitClock.{UnitClock}
 use Rattle.unicast.specs.Setting.{Delays, Setting}
-use Rattle.unicast.specs.History.{Way, downward, upward, Envelope, Thing, clockMessage, keyMessage, envelope, Answered, Arrival, Entry, Keys, Transit, Lane, keyOf, due, clockAnswered}
+use Rattle.unicast.specs.History.{Way, downward, upward, Envelope, Thing, clockMessage, keyMessage, envelope, leftAt, Answered, Arrival, Entry, Keys, Transit, Lane, keyOf, due, clockAnswered}
 use Rattle.unicast.specs.Run.{State, laneAt, onuAt, noEnvelope}
 use Rattle.unicast.specs.Claim.{SentRight, ArrivedRight}
+use Rattle.unicast.specs.Progress.{highest, longest}
 
 -- a test as a flag
 abbrev pub flagOf : Bool → ℕ
@@ -192,6 +193,45 @@ pub record Passing (w : Setting) (l : Lane) (confirmed active : ℕ) : Type 0 wh
   pub down : (r : Arrival) → List·Memᴰ r (l .past .arrived) → r .envelope .way ≡ downward → r .envelope .number ≤ active
   pub up : (r : Arrival) → List·Memᴰ r (l .past .arrived) → r .envelope .way ≡ upward → r .envelope .number ≤ confirmed
 
+---- what lets the line go on
+
+-- an envelope of that number was sent up
+pub record SentUnder (sent : List Envelope) (number : ℕ) : Type 0 where
+  pub envelope : Envelope
+  pub among : List·Memᴰ envelope sent
+  pub thatWay : envelope .way ≡ upward
+  pub numbered : envelope .number ≡ number
+
+-- first sends are not before the last switch: the OLT's by its ticks, a unit's under the number of the switch by its travel, of which its
+-- envelopes' delays up are no less than least
+pub record FirstSends (switches switched ahead : ℕ) (sent : List Envelope) (down up : FirstSend) (active : ℕ) : Type 0 where
+  pub olt : down .noted ≡ 1 → switched ≤ down .at
+  pub onu : (least : ℕ) → ((e : Envelope) → List·Memᴰ e sent → e .way ≡ upward → least ≤ e .up) → up .noted ≡ 1 → active ≡ switches
+      → switched + least + maxChanges ≤ up .at + ahead
+  pub some : up .noted ≡ 1 → SentUnder sent active
+
+-- a unit's channels are free once its last envelope has ended, and its guard is passed once the last by the longest way up has
+pub record Freed (ahead : ℕ) (sent : List Envelope) (c : Channels) (t : Travel) : Type 0 where
+  pub free : (last k : ℕ) → ((e : Envelope) → List·Memᴰ e sent → e .way ≡ upward → e .left ≤ last) → freeFrom c k ≤ last + longest
+  pub spent : (last most : ℕ) → ((e : Envelope) → List·Memᴰ e sent → e .way ≡ upward → (e .left ≤ last) × (e .up ≤ most)) → 1 ≤ t .spent
+      → t .spent + ahead ≤ last + most + longest + maxChanges
+  pub bar : t .bar ≤ t .spent
+
+-- a clock message that is under way or answered was sent by the present path, and no answer is later than now
+pub record Asked (now sent : ℕ) (t : Transit) : Type 0 where
+  pub under : (x : Thing) → List·Memᴰ x (t .towards) → (m : Stamps) (c left : ℕ) → x ≡ clockMessage m c left → sent ≡ 1
+  pub answered : (x : Answered) → List·Memᴰ x (t .answered) → (x .acknowledgement .kind ≡ clockKind → sent ≡ 1) × (x .tick ≤ now)
+
+-- ticks that never fall, from lo to hi
+abbrev pub Rising : ℕ → ℕ → List ℕ → Type 0
+Rising lo hi [] = lo ≤ hi
+Rising lo hi (t ∷ ts) = (lo ≤ t) × Rising t hi ts
+
+-- what is under way left in order
+pub record InOrder (now : ℕ) (t : Transit) : Type 0 where
+  pub towards : Rising 0 now (map leftAt (t .towards))
+  pub from : Rising 0 now (map (λ (e : Envelope). e .left) (t .from))
+
 ---- a lane
 
 -- a unit that is not registered: nothing has happened to it but advances
@@ -209,6 +249,10 @@ pub record Idle (now : ℕ) (l : Lane) (o : Onu) : Type 0 where
   pub answered : l .transit .answered ≡ []
   pub sent : l .past .sent ≡ []
   pub arrived : l .past .arrived ≡ []
+  pub noted : o .first .noted ≡ 0
+  pub spent : o .travel .spent ≡ 0
+  pub bar : o .travel .bar ≡ 0
+  pub channels : (k : ℕ) → freeFrom (o .channels) k ≡ 0
 
 -- a registered unit, with the OLT's record of it
 pub record Joined (w : Setting) (sh : Shared) (now : ℕ) (l : Lane) (u : UnitRecord) (o : Onu) : Type 0 where
@@ -225,6 +269,15 @@ pub record Joined (w : Setting) (sh : Shared) (now : ℕ) (l : Lane) (u : UnitRe
   pub from : From l (u .confirmation .confirmed) (o .keys .active) (l .transit .from)
   pub spending : Spending l (sh .channels) u o
   pub passing : Passing w l (u .confirmation .confirmed) (o .keys .active)
+  pub firsts : FirstSends (l .keys .switches) (l .keys .switched) (l .site .up) (l .past .sent) (u .keys .first) (o .first) (o .keys .active)
+  pub freed : Freed (l .site .up) (l .past .sent) (o .channels) (o .travel)
+  pub heard : u .confirmation .confirmed ≡ highest upward (l .past .arrived)
+  pub told : l .keys .number ≡ highest downward (l .past .arrived)
+  pub gone : (e : Envelope) → List·Memᴰ e (l .past .sent) → e .left ≤ now
+  pub near : l .path .up + l .path .down ≤ maxRoundTrip
+  pub ups : (e : Envelope) → List·Memᴰ e (l .past .sent) → e .up ≤ maxRoundTrip
+  pub asked : Asked now (u .clock .sent) (l .transit)
+  pub order : InOrder now (l .transit)
 
 -- a unit at the OLT's tick; its travel follows its delay up, and is counted from the least that changes of LocalTime may add up to
 pub record Common (w : Setting) (now : ℕ) (l : Lane) (o : Onu) : Type 0 where
@@ -250,6 +303,7 @@ pub record AtTick (w : Setting) (now : ℕ) (sh : Shared) : Type 0 where
   pub mac : sh .mac ≡ w .mac
   pub tick : sh .tick ≡ now
   pub clock : sh .clock ≡ (w .first + now) % clockTurn
+  pub free : (k : ℕ) → freeFrom (sh .channels) k ≤ now + longest
 
 ---- the whole
 

@@ -34,6 +34,7 @@ use Rattle.protocol.proofs.KeyMessages.{TakesKey, key-message-met, key-message-
 use Rattle.unicast.specs.Setting.{Setting}
 use Rattle.unicast.specs.History.{Thing, keyMessage, Keys, Lane, keyOf, due, laneWith, leaving, laneLeaving, laneOffered, laneTaken, laneAnswered}
 use Rattle.unicast.proofs.Invariant.{reachOf, Joined, Common, AtTick}
+use Rattle.unicast.proofs.Pace.{order-leaving, asked-leaving}
 use Rattle.unicast.proofs.Queues.{Knows, sealed-more, towards-carried, towards-key, towards-taken, from-moved}
 use Rattle.unicast.proofs.Past.{passing-moved, sent-most}
 use Rattle.unicast.proofs.Frames.{leaving-keeps, taken-keeps, answered-keeps}
@@ -90,6 +91,16 @@ module _ (w : Setting) (sh : Shared) (now : ℕ) (l : Lane) (u : UnitRecord) (o 
         mac = j .mac;
         llids = j .llids;
         oltmac = j .oltmac;
+        firsts = j .firsts;
+        freed = j .freed;
+        heard = j .heard;
+        told = j .told;
+        gone = j .gone;
+        near = j .near;
+        ups = j .ups;
+        asked =
+            asked-leaving now (u .clock .sent) (l .transit) _ (λ m c left q. let z : _≡_ {A = ℕ} 0 1 = cc in absurd (omega arith)) (j .asked);
+        order = order-leaving now (l .transit) _ refl (j .order);
         numbers =
             record {
               counted = n .counted;
@@ -147,7 +158,8 @@ module _ (w : Setting) (sh : Shared) (now : ℕ) (l : Lane) (u : UnitRecord) (o 
   retry-keeps llid at j named accepted =
       let n = j .numbers in
       let more : u .keys .active < u .keys .offered = omega (arith, retry-accepted u accepted) in
-      leaving-keeps w sh now l u o (keyMessage (keyMessageOf llid (u .keys)) now) (λ e q. let z : _≡_ {A = ℕ} 0 1 = cc in omega arith) j
+      leaving-keeps w sh now l u o (keyMessage (keyMessageOf llid (u .keys)) now) (λ e q. let z : _≡_ {A = ℕ} 0 1 = cc in omega arith)
+      (λ m c left q. let z : _≡_ {A = ℕ} 0 1 = cc in absurd (omega arith)) refl j
       (towards-key (w .first) (l .path) l (o .keys .active) (u .keys .active) (u .keys .offered) (l .transit .towards)
       (keyMessageOf llid (u .keys)) now (n .mid)
       (record { above = more; most = omega arith; key = j .stored .olt (u .keys .offered) (omega arith) (omega arith) (omega arith); named = named })
@@ -165,6 +177,15 @@ module _ (w : Setting) (sh : Shared) (now : ℕ) (l : Lane) (u : UnitRecord) (o 
         mac = j .mac;
         llids = j .llids;
         oltmac = j .oltmac;
+        firsts = j .firsts;
+        freed = j .freed;
+        heard = j .heard;
+        told = j .told;
+        gone = j .gone;
+        near = j .near;
+        ups = j .ups;
+        asked = j .asked;
+        order = j .order;
         numbers =
             record {
               counted = n .counted;

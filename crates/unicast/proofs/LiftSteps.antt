@@ -3,7 +3,7 @@
 use mathlib.Core.Path.{_≡_, refl, sym, _∙_, ap, subst}
 use mathlib.Core.Bool.{Bool, true, false}
 use mathlib.Core.List.{List, map}
-use Prim.Native.Nat.{ℕ, _<_, _≤_}
+use Prim.Native.Nat.{ℕ, _+_, _<_, _≤_}
 use native.Mathlib.Omega.{arith}
 use lib.Dec.{eqb}
 use lib.ListN.{length, set, length-map, length-set}
@@ -35,6 +35,7 @@ use Rattle.protocol.proofs.Lift.{Lifted, Ends, accepted, refused, lift-ends}
 use Rattle.unicast.specs.Setting.{Setting}
 use Rattle.unicast.specs.History.{Entry, Lane}
 use Rattle.unicast.specs.Run.{State, laneAt, onuAt, noSite, freshLane, noted, named, withLanes, atOlt}
+use Rattle.unicast.specs.Progress.{longest}
 use Rattle.unicast.proofs.Invariant.{Joined, Standing, LaneRight, Invariant}
 use Rattle.unicast.proofs.Frames.{common-moved}
 use Rattle.unicast.proofs.SendDownSteps.{channels-keep, channels-at-tick}
@@ -48,6 +49,7 @@ pub record Replaces (w : Setting) (s : State) (p : ℕ) (c : Channels) (x : Unit
   pub used : p < s .olt .count
   pub place : p < length (s .olt .units)
   pub rises : (k : ℕ) → freeFrom (s .olt .shared .channels) k ≤ freeFrom c k
+  pub frees : (k : ℕ) → freeFrom c k ≤ s .history .now + longest
   pub paired : length lanes ≡ length (s .history .lanes)
   pub site : (u : ℕ) → laneOf lanes u .site ≡ laneAt s u .site
   pub path : (u : ℕ) → laneOf lanes u .path ≡ laneAt s u .path
@@ -115,7 +117,7 @@ module _ (w : Setting) (s : State) (p : ℕ) (c : Channels) (x : UnitRecord) (la
         valid = r .valid;
         places = with-beside (s .olt) p c x .places ∙ i .places;
         count = i .count;
-        shared = channels-at-tick w (s .history .now) (s .olt .shared) c (i .shared);
+        shared = channels-at-tick w (s .history .now) (s .olt .shared) c (r .frees) (i .shared);
         paired = i .paired ∙ sym (r .paired);
         lane = λ u h. replaced-lane u (rw (r .paired) at h);
         apart = λ u v g h a b e.
@@ -128,9 +130,10 @@ module _ (w : Setting) (s : State) (p : ℕ) (c : Channels) (x : UnitRecord) (la
 -- what a call on the unit in place p makes of the lanes, of which that unit's is told
 pub told-for : (w : Setting) (s : State) (p u : ℕ) (c : Channels) (x : UnitRecord) (l : Lane) → Invariant w s → Held s p u
     → validOlt (withUnit (s .olt) p c x) ≡ true → ((k : ℕ) → freeFrom (s .olt .shared .channels) k ≤ freeFrom c k)
+    → ((k : ℕ) → freeFrom c k ≤ s .history .now + longest)
     → l .site ≡ laneAt s u .site → l .path ≡ laneAt s u .path → l .entry ≡ laneAt s u .entry → l .keys .offers ≡ laneAt s u .keys .offers
     → Joined w (withChannels (s .olt .shared) c) (s .history .now) l x (onuAt s u) → Replaces w s p c x (set (s .history .lanes) u l)
-told-for w s p u c x l i h valid rises site path entry offers j =
+told-for w s p u c x l i h valid rises frees site path entry offers j =
     let ls = s .history .lanes in
     let used = joined-at w s p u i h .0 in
     record {
@@ -138,6 +141,7 @@ told-for w s p u c x l i h valid rises site path entry offers j =
       used = used;
       place = omega (arith, used, olt-in-range (s .olt) (i .valid) .count, i .places);
       rises = rises;
+      frees = frees;
       paired = length-set ls u l;
       site = set-keeps (λ (y : Lane). y .site) ls u l (h .known) site;
       path = set-keeps (λ (y : Lane). y .path) ls u l (h .known) path;
@@ -152,7 +156,7 @@ told-for w s p u c x l i h valid rises site path entry offers j =
 ---- a call lifted from a unit
 
 -- the lane named, and any other
-named-own : (llid : ℕ) (f : Lane → Lane) (l : Lane) → l .entry .registered ≡ true → has (l .site .identity) llid ≡ true → named llid f l ≡ f l
+pub named-own : (llid : ℕ) (f : Lane → Lane) (l : Lane) → l .entry .registered ≡ true → has (l .site .identity) llid ≡ true → named llid f l ≡ f l
 unfolding named
 named-own llid f l e h = pick-true (f l) l (both-true e h)
 
@@ -171,7 +175,7 @@ pub named-at : (llid : ℕ) (f : Lane → Lane) (ls : List Lane) (u : ℕ) → l
 named-at llid f ls u = map-always (named llid f) ls u (freshLane noSite) (named-fresh llid f)
 
 -- what f keeps of each lane, the call keeps
-named-stays : {A : Type 0} (g : Lane → A) (llid : ℕ) (f : Lane → Lane) (ls : List Lane) → ((l : Lane) → g (f l) ≡ g l) → (u : ℕ)
+pub named-stays : {A : Type 0} (g : Lane → A) (llid : ℕ) (f : Lane → Lane) (ls : List Lane) → ((l : Lane) → g (f l) ≡ g l) → (u : ℕ)
     → g (laneOf (map (named llid f) ls) u) ≡ g (laneOf ls u)
 named-stays g llid f ls e u = ap g (named-at llid f ls u) ∙ named-keeps g llid f (laneOf ls u) (e (laneOf ls u))
 
@@ -188,6 +192,8 @@ pub record Tells {H : Type 0} (w : Setting) (s : State) (nothing : H) (ahead : V
   pub valid : validOlt (lift (s .olt) nothing ahead llid call .end) ≡ true
   pub rises : (u : UnitRecord) → call (s .olt .shared) u .verdict ≡ Accepted → (k : ℕ)
       → freeFrom (s .olt .shared .channels) k ≤ freeFrom (call (s .olt .shared) u .channels) k
+  pub frees : (l : Lifted (s .olt) nothing ahead llid call) (k : ℕ)
+      → freeFrom (call (s .olt .shared) (unitAt (s .olt) (l .at)) .channels) k ≤ s .history .now + longest
   pub site : (l : Lane) → f l .site ≡ l .site
   pub path : (l : Lane) → f l .path ≡ l .path
   pub entry : (l : Lane) → f l .entry ≡ l .entry
@@ -218,6 +224,7 @@ module _ {H : Type 0} (w : Setting) (s : State) (nothing : H) (ahead : Verdict) 
         used = r .used;
         place = r .place;
         rises = t .rises (unitAt (s .olt) (l .at)) (l .accepts);
+        frees = t .frees l;
         paired = length-map (s .history .lanes) (named llid f);
         site = named-stays (λ (y : Lane). y .site) llid f (s .history .lanes) (t .site);
         path = named-stays (λ (y : Lane). y .path) llid f (s .history .lanes) (t .path);

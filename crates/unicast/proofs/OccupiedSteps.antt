@@ -1,7 +1,7 @@
 -- Channels that are kept for longer, by what else the OLT sends, keep the invariant. Assumes nothing.
 use mathlib.Core.Path.{_≡_, refl}
 use mathlib.Core.Bool.{Bool, true, false}
-use Prim.Native.Nat.{ℕ, _≤_}
+use Prim.Native.Nat.{ℕ, _+_, _≤_}
 use Rattle.ends.specs.Occupancy.{freeFrom, validChannels}
 use Rattle.ends.specs.Records.{withChannels}
 use Rattle.ends.specs.Table.{unitAt}
@@ -13,6 +13,7 @@ use Rattle.ends.proofs.Validity.{shared-in-range, shared-valid, olt-in-range, o
 use Rattle.unicast.specs.Setting.{Setting}
 use Rattle.unicast.specs.History.{Lane}
 use Rattle.unicast.specs.Run.{State, laneAt, onuAt}
+use Rattle.unicast.specs.Progress.{longest}
 use Rattle.unicast.proofs.Invariant.{Standing, Invariant}
 use Rattle.unicast.proofs.SendDownSteps.{channels-keep, channels-at-tick}
 
@@ -39,13 +40,13 @@ standing-channels false w o c now l x rises s = s
 standing-channels true w o c now l x rises s = (s .0, channels-keep w (o .shared) now l (unitAt o (l .entry .place)) x c rises (s .1))
 
 pub occupied-right : (w : Setting) (s : State) (c : Channels) → Invariant w s → ((k : ℕ) → freeFrom (s .olt .shared .channels) k ≤ freeFrom c k)
-    → validChannels c ≡ true → Invariant w (record { olt = withOltChannels (s .olt) c; onus = s .onus; history = s .history })
-occupied-right w s c i rises v =
+    → ((k : ℕ) → freeFrom c k ≤ s .history .now + longest) → validChannels c ≡ true → Invariant w (record { olt = withOltChannels (s .olt) c; onus = s .onus; history = s .history })
+occupied-right w s c i rises frees v =
     record {
       valid = channels-valid (s .olt) c v (i .valid);
       places = i .places;
       count = i .count;
-      shared = channels-at-tick w (s .history .now) (s .olt .shared) c (i .shared);
+      shared = channels-at-tick w (s .history .now) (s .olt .shared) c frees (i .shared);
       paired = i .paired;
       lane = λ u h.
           let l = i .lane u h in

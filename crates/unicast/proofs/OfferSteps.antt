@@ -97,6 +97,7 @@ offer-right w s llid key i fits =
     (record {
       valid = offer-valid (s .olt) llid key (i .valid);
       rises = λ u a k. omega arith;
+      frees = λ l. i .shared .free;
       site = λ l. refl;
       path = λ l. refl;
       entry = λ l. refl;

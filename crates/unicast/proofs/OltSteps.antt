@@ -1,7 +1,7 @@
 -- The calls on the OLT keep the invariant: captures, clock messages, retries, acknowledgements, sends, and refused receipts. Assumes nothing.
 use mathlib.Core.Path.{_≡_, refl, sym, _∙_, ap, subst}
 use mathlib.Core.List.{List, List·Memᴰ}
-use Prim.Native.Nat.{ℕ}
+use Prim.Native.Nat.{ℕ, _+_}
 use native.Mathlib.Omega.{arith}
 use lib.ListN.{length}
 use borrow.Author.Tests.{not-false}
@@ -40,8 +40,9 @@ use Rattle.unicast.proofs.Invariant.{Joined, Invariant}
 use Rattle.unicast.proofs.ClockSteps.{capture-keeps, clock-send-keeps}
 use Rattle.unicast.proofs.KeySteps.{retry-keeps}
 use Rattle.unicast.proofs.AnswerSteps.{answer-keeps}
-use Rattle.unicast.proofs.SendDownSteps.{send-down-keeps, send-channels, envelope-down-is}
+use Rattle.unicast.proofs.SendDownSteps.{send-down-keeps, send-channels, send-frees, envelope-down-is}
 use Rattle.unicast.proofs.Places.{held-once, held-found, busy-held, at-once}
+use Rattle.unicast.specs.Progress.{longest}
 use Rattle.unicast.proofs.LiftSteps.{keys-named, call-right}
 
 ---- captures
@@ -53,6 +54,7 @@ capture-right w s llid i fits =
     (record {
       valid = capture-valid (s .olt) llid (i .valid);
       rises = λ u a k. omega arith;
+      frees = λ l. i .shared .free;
       site = λ l. refl;
       path = λ l. refl;
       entry = λ l. refl;
@@ -72,6 +74,7 @@ clock-send-right w s llid i fits =
     (record {
       valid = clock-send-valid (s .olt) llid (i .valid);
       rises = λ u a k. omega arith;
+      frees = λ l. i .shared .free;
       site = λ l. refl;
       path = λ l. refl;
       entry = λ l. refl;
@@ -89,6 +92,7 @@ retry-right w s llid i fits =
     (record {
       valid = retry-valid (s .olt) llid (i .valid);
       rises = λ u a k. omega arith;
+      frees = λ l. i .shared .free;
       site = λ l. refl;
       path = λ l. refl;
       entry = λ l. refl;
@@ -110,6 +114,7 @@ answer-right w s u k llid i d =
     (record {
       valid = acknowledge-valid (s .olt) llid a (i .valid);
       rises = λ x y n. rw (acknowledged-channels a (s .olt .shared) x) (omega arith);
+      frees = λ l. rw (acknowledged-channels a (s .olt .shared) (unitAt (s .olt) (l .at))) (i .shared .free);
       site = λ l. refl;
       path = λ l. refl;
       entry = λ l. refl;
@@ -138,6 +143,9 @@ send-down-right w s llid channel p out i fits =
     (record {
       valid = sending-valid (s .olt) (misfit p out) llid channel (eqsOf p) (few-eqs p out) (i .valid);
       rises = λ u a k. send-channels llid channel (eqsOf p) sh u a k;
+      frees = λ l k.
+          send-frees llid channel (eqsOf p) sh (unitAt (s .olt) (l .at)) k (now + longest)
+          (omega (arith, few-eqs p out (refuse-accepted _ _ _ (l .passed) .0), i .shared .tick)) (i .shared .free k);
       site = λ l. refl;
       path = λ l. refl;
       entry = λ l. refl;

@@ -41,6 +41,7 @@ pub record TakenDown (o : Onu) (choice : KeyChoice) (n : ℕ) : Type 0 where
   pub reach : reachOf keys ≡ reachOf (o .keys)
   pub slots : (m : ℕ) → n ≤ m → m ≤ reachOf (o .keys) → keyIn (keys .slots) m ≡ keyIn (o .keys .slots) m
   pub stays : n ≡ o .keys .active → first ≡ o .first
+  pub unsent : (n ≡ o .keys .active → ⊥) → first .noted ≡ 0
 
 -- number 0, or that in use
 taken-clear : (o : Onu) (n : ℕ) → n ≡ 0 → n ≡ o .keys .active → o .keys .held ≤ 1 → TakenDown o Clear n
@@ -58,6 +59,7 @@ taken-clear o n z e f =
       reach = refl;
       slots = λ m p q. refl;
       stays = λ q. refl;
+      unsent = λ q. absurd (q e);
     }
 
 taken-current : (o : Onu) (n : ℕ) → 1 ≤ n → n ≡ o .keys .active → o .keys .held ≤ 1 → TakenDown o (Current n) n
@@ -75,6 +77,7 @@ taken-current o n h e f =
       reach = refl;
       slots = λ m p q. refl;
       stays = λ q. refl;
+      unsent = λ q. absurd (q e);
     }
 
 -- the key that was held comes into use
@@ -95,6 +98,7 @@ taken-next o n e f =
           let same : m ≡ o .keys .active + 1 = omega arith in
           rw same (only-kept (o .keys .slots) (o .keys .active + 1));
       stays = λ q. absurd (omega arith);
+      unsent = λ q. refl;
     }
 
 pub taken-down : (o : Onu) (h : Header) (n channel llid clock : ℕ) → h ≡ envelopeHeader n channel llid clock → o .keys .active ≤ n → n ≤ reachOf (o .keys)

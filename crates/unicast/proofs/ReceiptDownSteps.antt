@@ -32,9 +32,11 @@ use Rattle.protocol.proofs.OnuChoices.{OnuReceives, onu-receive-accepts}
 use Rattle.traffic.specs.Passages.{misfit, outputAfter}
 use Rattle.traffic.specs.Receipts.{onuReceived, onuReceiveOf}
 use Rattle.unicast.specs.Setting.{Setting, clockDown}
-use Rattle.unicast.specs.History.{downward, Envelope, Thing, envelope, Arrival, Lane, laneWith, arriving, laneTaken, laneArrivedDown}
+use Rattle.unicast.specs.History.{downward, upward, Envelope, Thing, envelope, leftAt, Arrival, Lane, laneWith, arriving, laneTaken, laneArrivedDown}
 use Rattle.unicast.specs.Claim.{PassageRight, SentRight, ArrivedRight}
-use Rattle.unicast.proofs.Invariant.{countUp, Under, Towards, Joined, Common}
+use Rattle.unicast.proofs.Invariant.{countUp, SentUnder, Under, Towards, Joined, Common}
+use Rattle.unicast.specs.Progress.{goes}
+use Rattle.unicast.proofs.Pace.{rising-dropped, highest-other, highest-own}
 use Rattle.unicast.proofs.Queues.{Knows, dropped-among, towards-carried, towards-taken, from-carried}
 use Rattle.unicast.proofs.Frames.{common-moved}
 use Rattle.unicast.proofs.Envelopes.{ways-apart, arrivalOf, opens-right, octets-fit}
@@ -43,6 +45,27 @@ use Rattle.unicast.proofs.Past.{passing-arrived}
 use Rattle.unicast.proofs.ReceiptChoices.{TakenDown, taken-down}
 
 ---- its lane
+
+-- of a unit whose number stays the first send does, and one that moves on has none
+first-taken : (n old new switches : ℕ) (f g : FirstSend) (low ahead : ℕ) → new ≡ n → (n ≡ old → g ≡ f) → ((n ≡ old → ⊥) → g .noted ≡ 0)
+    → (f .noted ≡ 1 → old ≡ switches → low ≤ f .at + ahead) → g .noted ≡ 1 → new ≡ switches → low ≤ g .at + ahead
+first-taken n old new switches f g low ahead active stays unsent was one same = by-number (eqb n old) refl where
+  by-number : (t : Bool) → eqb n old ≡ t → low ≤ g .at + ahead
+  by-number true e =
+      let is : n ≡ old = eqb-true n old e in
+      let first : g ≡ f = stays is in
+      rw first (was (sym (ap (λ (x : FirstSend). x .noted) first) ∙ one) (omega (arith, is, active, same)))
+  by-number false e = absurd (omega (arith, one, unsent (eqb-false n old e)))
+
+first-sent : (n old new : ℕ) (f g : FirstSend) (sent : List Envelope) → new ≡ n → (n ≡ old → g ≡ f) → ((n ≡ old → ⊥) → g .noted ≡ 0)
+    → (f .noted ≡ 1 → SentUnder sent old) → g .noted ≡ 1 → SentUnder sent new
+first-sent n old new f g sent active stays unsent was one = by-number (eqb n old) refl where
+  by-number : (t : Bool) → eqb n old ≡ t → SentUnder sent new
+  by-number true e =
+      let is : n ≡ old = eqb-true n old e in
+      let b = was (sym (ap (λ (x : FirstSend). x .noted) (stays is)) ∙ one) in
+      record { envelope = b .envelope; among = b .among; thatWay = b .thatWay; numbered = b .numbered ∙ sym (active ∙ is) }
+  by-number false e = absurd (omega (arith, one, unsent (eqb-false n old e)))
 
 module _ (w : Setting) (sh : Shared) (now : ℕ) (l : Lane) (u : UnitRecord) (o : Onu) (j : Joined w sh now l u o) where
   -- the unit's keys and first send after an arrival
@@ -60,6 +83,25 @@ module _ (w : Setting) (sh : Shared) (now : ℕ) (l : Lane) (u : UnitRecord) (o 
         mac = j .mac;
         llids = j .llids;
         oltmac = j .oltmac;
+        firsts = record {
+          olt = j .firsts .olt;
+          onu = λ least each one same. first-taken (r .envelope .number) (o .keys .active) (t .keys .active) (l .keys .switches) (o .first) (t .first)
+              (l .keys .switched + least + maxChanges) (l .site .up) (t .active) (t .stays) (t .unsent) (j .firsts .onu least each) one same;
+          some = first-sent (r .envelope .number) (o .keys .active) (t .keys .active) (o .first) (t .first) (l .past .sent) (t .active) (t .stays)
+              (t .unsent) (j .firsts .some);
+        };
+        freed = j .freed;
+        heard = j .heard ∙ sym (highest-other upward (l .past .arrived) r (ap (goes upward) (e .thatWay)));
+        told = sym (highest-own downward (l .past .arrived) r (ap (goes downward) (e .thatWay)) (omega (arith, e .above, j .told, n .last)));
+        gone = j .gone;
+        near = j .near;
+        ups = j .ups;
+        asked =
+            record {
+              under = λ x i. j .asked .under x (dropped-among x (l .transit .towards) (suc k) i);
+              answered = j .asked .answered;
+            };
+        order = record { towards = rising-dropped leftAt 0 now (l .transit .towards) (suc k) (j .order .towards); from = j .order .from };
         numbers =
             record {
               counted = n .counted;

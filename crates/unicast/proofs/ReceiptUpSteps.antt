@@ -26,10 +26,12 @@ use Rattle.protocol.proofs.UnitChoices.{Receives}
 use Rattle.traffic.specs.Passages.{misfit, outputAfter}
 use Rattle.traffic.specs.Receipts.{oltReceived, oltReceiveOf}
 use Rattle.unicast.specs.Setting.{Setting, clockUp}
-use Rattle.unicast.specs.History.{upward, Envelope, Arrival, Lane, laneWith, arriving, laneArrivedUp}
+use Rattle.unicast.specs.History.{downward, upward, Envelope, Arrival, Lane, laneWith, arriving, laneArrivedUp}
 use Rattle.unicast.specs.Run.{State, receiptUp}
 use Rattle.unicast.specs.Claim.{PassageRight, SentRight, ArrivedRight}
 use Rattle.unicast.proofs.Invariant.{Under, From, Joined, AtTick}
+use Rattle.unicast.specs.Progress.{goes}
+use Rattle.unicast.proofs.Pace.{rising-dropped, highest-other, highest-own}
 use Rattle.unicast.proofs.Queues.{Knows, dropped-among, towards-moved, from-moved, from-taken}
 use Rattle.unicast.proofs.Envelopes.{ways-apart, arrivalOf, opens-right, octets-fit}
 use Rattle.unicast.proofs.Past.{passing-arrived}
@@ -52,6 +54,19 @@ module _ (w : Setting) (sh : Shared) (now : ℕ) (l : Lane) (u : UnitRecord) (o 
         mac = j .mac;
         llids = j .llids;
         oltmac = j .oltmac;
+        firsts = j .firsts;
+        freed = j .freed;
+        heard = sym (highest-own upward (l .past .arrived) r (ap (goes upward) (e .thatWay)) (omega (arith, e .above, j .heard)));
+        told = j .told ∙ sym (highest-other downward (l .past .arrived) r (ap (goes downward) (e .thatWay)));
+        gone = j .gone;
+        near = j .near;
+        ups = j .ups;
+        asked = record { under = j .asked .under; answered = j .asked .answered };
+        order =
+            record {
+              towards = j .order .towards;
+              from = rising-dropped (λ (x : Envelope). x .left) 0 now (l .transit .from) (suc k) (j .order .from);
+            };
         numbers =
             record {
               counted = n .counted;

@@ -11,7 +11,7 @@ use borrow.Author.Tests.{leb-true, le-ltb, eqb-true, eqb-false}
 use Rattle.octets.specs.Choice.{pick}
 use Rattle.octets.proofs.Choice.{both-left, true-false}
 use Rattle.octets.proofs.Members.{none-in}
-use Rattle.clock.specs.Ticks.{localTurn}
+use Rattle.clock.specs.Ticks.{localTurn, maxRoundTrip}
 use Rattle.ends.specs.Identities.{llidsOf, has, kept, validIdentity}
 use Rattle.ends.specs.Records.{freshUnit}
 use Rattle.ends.specs.Timers.{freshTimer, validInterval}
@@ -31,6 +31,7 @@ use Rattle.ends.proofs.Table.{among-found, more-unit, more-other, more-places}
 use Rattle.protocol.proofs.OltCalls.{register-refused}
 use Rattle.protocol.proofs.Registration.{Registers, register-accepted, registered-valid}
 use Rattle.unicast.specs.Setting.{Setting}
+use Rattle.unicast.specs.Progress.{highest}
 use Rattle.unicast.specs.History.{envelope, Entry, Keys, Lane, due, laneRegistered}
 use Rattle.unicast.specs.Events.{register}
 use Rattle.unicast.specs.Run.{State, laneAt, onuAt, noSite, freshLane, noted, entering, step}
@@ -57,10 +58,10 @@ timing-fresh r k now e f some =
 -- the ends agree on MACs and LLIDs, LocalTime is right and the delays add up
 pub register-keeps : (w : Setting) (sh : Shared) (now place : ℕ) (i : Identity) (trip interval : ℕ) (l : Lane) (o : Onu) → Idle now l o
     → i .mac ≡ l .site .identity .mac → ((x : ℕ) → has i x ≡ has (l .site .identity) x) → l .site .oltmac ≡ w .mac
-    → l .site .time ≡ (w .first + l .path .up) % localTurn → trip ≡ l .path .up + l .path .down
+    → l .site .time ≡ (w .first + l .path .up) % localTurn → trip ≡ l .path .up + l .path .down → trip ≤ maxRoundTrip
     → validIdentity i ≡ true → validInterval interval ≡ true → Joined w sh now (laneRegistered place now interval l) (freshUnit i trip interval) o
-unfolding laneRegistered freshUnit kept validInterval
-register-keeps w sh now place i trip interval l o d mac llids oltmac time delays v n =
+unfolding laneRegistered freshUnit kept validInterval highest
+register-keeps w sh now place i trip interval l o d mac llids oltmac time delays near v n =
     let lane = laneRegistered place now interval l in
     let most = identity-valid i v .1 in
     let some : 1 ≤ interval = leb-true _ _ (both-left _ _ n) in
@@ -68,6 +69,24 @@ register-keeps w sh now place i trip interval l o d mac llids oltmac time delays
       mac = mac;
       llids = λ x. kept-has i x most ∙ llids x;
       oltmac = oltmac;
+      firsts = record { olt = λ one. absurd (omega arith); onu = λ least each one. absurd (omega (arith, one, d .noted)); some = λ one. absurd (omega (arith, one, d .noted)) };
+      freed =
+          record {
+            free = λ last k each. omega (arith, d .channels k);
+            spent = λ last most each one. absurd (omega (arith, one, d .spent));
+            bar = omega (arith, d .bar);
+          };
+      heard = rw (d .arrived);
+      told = rw (d .arrived) (d .number);
+      gone = λ e m. none-in (l .past .sent) e (d .sent) m;
+      near = omega (arith, delays, near);
+      ups = λ e m. none-in (l .past .sent) e (d .sent) m;
+      asked =
+          record {
+            under = λ x m. none-in (l .transit .towards) x (d .towards) m;
+            answered = λ x m. none-in (l .transit .answered) x (d .answered) m;
+          };
+      order = record { towards = rw (d .towards) (omega arith); from = rw (d .from) (omega arith) };
       numbers =
           record {
             counted = sym (d .switches);
@@ -203,7 +222,7 @@ module _ (w : Setting) (s : State) (u : ℕ) (i : Identity) (trip interval : ℕ
           omega (arith, v .count),
           rw unit
               (register-keeps w (s .olt .shared) (s .history .now) (s .history .registrations) i trip interval (laneAt s u) (onuAt s u) idle (a .mac) (a .llids)
-              (a .oltmac) (a .time) (a .delays) (r .identity) (r .interval)),
+              (a .oltmac) (a .time) (a .delays) (r .trip) (r .identity) (r .interval)),
         );
       }
 
@@ -258,7 +277,7 @@ module _ (w : Setting) (s : State) (u : ℕ) (i : Identity) (trip interval : ℕ
         valid = registered-valid (s .olt) i trip interval r (v .valid);
         places = more-places (s .olt) (freshUnit i trip interval) ∙ v .places;
         count = ap (λ (x : ℕ). x + 1) (v .count);
-        shared = record { mac = v .shared .mac; tick = v .shared .tick; clock = v .shared .clock };
+        shared = record { mac = v .shared .mac; tick = v .shared .tick; clock = v .shared .clock; free = v .shared .free };
         paired = v .paired ∙ sym (length-set (s .history .lanes) u entered);
         lane = lane-right;
         apart = λ x y h k. apart-right x y (rw (length-set (s .history .lanes) u entered) at h) (rw (length-set (s .history .lanes) u entered) at k);

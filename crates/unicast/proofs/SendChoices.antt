@@ -2,13 +2,13 @@
 -- and timer. Assumes nothing.
 use mathlib.Core.Path.{_≡_, refl, sym, _∙_, ap, ap₂, subst}
 use mathlib.Core.Bool.{Bool, true, false}
-use mathlib.Core.Logic.{inl, ⊎-elim}
-use Prim.Native.Nat.{ℕ, _+_, _-_, _/_, _<_, _≤_}
-use native.Mathlib.Nat.{le-max-left, le-max-right}
+use mathlib.Core.Logic.{_⊎_, inl, inr, ⊎-elim}
+use Prim.Native.Nat.{ℕ, _+_, _-_, _/_, _<_, _≤_, max}
+use native.Mathlib.Nat.{le-max-left, le-max-right, max-eq-left, max-eq-right}
 use native.Mathlib.Omega.{arith}
 use lib.Dec.{eqb, leb, ltb}
 use lib.ListN.{length}
-use borrow.Author.Tests.{leb-true, ltb-true, ltb-false, eqb-true, eqb-false, le-leb, le-ltb, eq-eqb, ne-eqb}
+use borrow.Author.Tests.{leb-true, leb-false, ltb-true, ltb-false, eqb-true, eqb-false, le-leb, le-ltb, eq-eqb, ne-eqb}
 use Rattle.octets.specs.Choice.{both, pick}
 use Rattle.octets.proofs.Choice.{both-left, both-right, either-cases, pick-holds}
 use Rattle.protocol.specs.Headers.{choiceEnciphered, choiceNumber, choiceAged}
@@ -84,8 +84,14 @@ timing-switched r k m now t e h =
       flag = sym (ap flagOf none);
     }
 
+-- a first send after a tick, whether it is made now or not
+first-after : (f : FirstSend) (tick now : ℕ) → (f .noted ≡ 1 → tick ≤ f .at) → tick ≤ now → firstSend f now .noted ≡ 1 → tick ≤ firstSend f now .at
+unfolding firstSend
+first-after f tick now old h =
+    pick-holds (λ (x : FirstSend). x .noted ≡ 1 → tick ≤ x .at) (isUp (f .noted)) f (notedAt now) (λ e. old) (λ e one. h)
+
 -- what a send of that choice makes of the unit's keys
-pub record Chosen (r : Entry) (now reach : ℕ) (old new : UnitKeys) (choice : KeyChoice) (number switched : ℕ) : Type 0 where
+pub record Chosen (r : Entry) (now reach : ℕ) (old new : UnitKeys) (choice : KeyChoice) (number switched before : ℕ) : Type 0 where
   pub chosen : choiceNumber choice ≡ number
   pub enciphered : choiceEnciphered choice ≡ leb 1 number
   pub active : new .active ≡ number
@@ -95,6 +101,9 @@ pub record Chosen (r : Entry) (now reach : ℕ) (old new : UnitKeys) (choice : K
   pub high : number ≤ reach
   pub timing : (k : Keys) → k .switched ≡ switched → Timing r k now (new .timer)
   pub renewed : choiceAged choice (old .first) now ≡ false → Renewed (old .first) (new .first) (old .active) number now
+  -- a first send is not before the last switch, and without a switch that is the one before
+  pub begun : new .first .noted ≡ 1 → switched ≤ new .first .at
+  pub settled : number ≡ old .active → switched ≡ before
 
 module _ (w : Setting) (sh : Shared) (now : ℕ) (l : Lane) (u : UnitRecord) (o : Onu) (j : Joined w sh now l u o) where
   -- the record and the list agree on when a send is a switch
@@ -115,7 +124,7 @@ module _ (w : Setting) (sh : Shared) (now : ℕ) (l : Lane) (u : UnitRecord) (o 
       → Chosen (l .entry) now (reachOf (o .keys)) (u .keys)
       (keysAfterSend (pick s (Next (u .keys .offered)) (pick z Clear (Current (u .keys .active)))) (u .keys) now)
       (pick s (Next (u .keys .offered)) (pick z Clear (Current (u .keys .active))))
-      (pick s (l .keys .switches + 1) (l .keys .switches)) (pick s now (l .keys .switched))
+      (pick s (l .keys .switches + 1) (l .keys .switches)) (pick s now (l .keys .switched)) (l .keys .switched)
   unfolding pick keysAfterSend keysSwitched withFirst choiceNumber choiceEnciphered choiceAged switching
   chosen-by v true z e f =
       let n = j .numbers in
@@ -133,6 +142,8 @@ module _ (w : Setting) (sh : Shared) (now : ℕ) (l : Lane) (u : UnitRecord) (o 
         high = omega (arith, held, is);
         timing = λ k q. timing-switched (l .entry) (l .keys) k now (u .keys .timer) q (j .timing);
         renewed = λ a. renewed-next (u .keys .first) (u .keys .active) (l .keys .switches + 1) now (omega (arith, n .counted));
+        begun = λ one. omega arith;
+        settled = λ same. absurd (omega (arith, same, n .counted));
       }
   chosen-by v false true e f =
       let n = j .numbers in
@@ -148,6 +159,8 @@ module _ (w : Setting) (sh : Shared) (now : ℕ) (l : Lane) (u : UnitRecord) (o 
         high = omega (arith, none);
         timing = λ k q. timing-stayed (l .entry) (l .keys) k now (u .keys .timer) q (j .timing);
         renewed = λ a. rw (zeros, none) (renewed-clear (u .keys .first) now);
+        begun = j .firsts .olt;
+        settled = λ same. refl;
       }
   chosen-by v false false e f =
       let n = j .numbers in
@@ -162,11 +175,13 @@ module _ (w : Setting) (sh : Shared) (now : ℕ) (l : Lane) (u : UnitRecord) (o 
         high = omega (arith, n .counted, n .high);
         timing = λ k q. timing-stayed (l .entry) (l .keys) k now (u .keys .timer) q (j .timing);
         renewed = λ a. rw (n .counted) (renewed-current (u .keys .first) (l .keys .switches) now v a);
+        begun = first-after (u .keys .first) (l .keys .switched) now (j .firsts .olt) (j .timing .switched);
+        settled = λ same. refl;
       }
 
   pub chosen-down : (tick : ℕ) → tick ≡ now → Begun (u .keys .first) tick
       → Chosen (l .entry) now (reachOf (o .keys)) (u .keys) (keysAfterSend (unitSendChoice u) (u .keys) tick) (unitSendChoice u) (numberDown l now)
-      (pick (switching l now) now (l .keys .switched))
+      (pick (switching l now) now (l .keys .switched)) (l .keys .switched)
   unfolding unitSendChoice numberDown
   chosen-down tick e v = rw (e, switches-listed) (chosen-by (λ one. rw e at (v one)) (switching l now) (eqb (u .keys .active) 0) refl refl)
 
@@ -192,6 +207,8 @@ pub record ChosenUp (o : Onu) (choice : KeyChoice) (eqs number : ℕ) : Type 0 w
   pub spent : o .travel .spent ≤ travel .spent
   pub ended : 1 ≤ number → travelOf o < travel .spent
   pub begun : BegunUp first (travelOf o) travel
+  pub since : (first ≡ o .first) ⊎ (first .at ≡ travelOf o)
+  pub spends : (travel .spent ≡ o .travel .spent) ⊎ (travel .spent ≡ travelOf o + eqs + 1)
   pub renewed : choiceAged choice (o .first) (travelOf o) ≡ false → (choiceEnciphered choice ≡ true → waits o ≡ false)
       → Renewed (o .first) first (o .keys .active) number (travelOf o)
 
@@ -211,6 +228,16 @@ first-begun f now eqs t b =
     record { begun = b .begun; ended = λ one. let was = b .ended one in omega (arith, was, le-max-left (t .spent) (now + eqs + 1)) })
     (λ p. record { begun = λ one. inl (omega arith); ended = λ one. omega (arith, le-max-right (t .spent) (now + eqs + 1)) })
 
+first-since : (f : FirstSend) (now : ℕ) → (firstSend f now ≡ f) ⊎ (firstSend f now .at ≡ now)
+unfolding firstSend
+first-since f now = pick-holds (λ (x : FirstSend). (x ≡ f) ⊎ (x .at ≡ now)) (isUp (f .noted)) f (notedAt now) (λ e. inl refl) (λ e. inr refl)
+
+pub max-either : (a b : ℕ) → (max a b ≡ a) ⊎ (max a b ≡ b)
+max-either a b = by-order (leb a b) refl where
+  by-order : (t : Bool) → leb a b ≡ t → (max a b ≡ a) ⊎ (max a b ≡ b)
+  by-order true e = inr (max-eq-right (leb-true a b e))
+  by-order false e = inl (max-eq-left (omega (arith, leb-false a b e)))
+
 chosen-up-by : (o : Onu) (eqs : ℕ) → BegunUp (o .first) (travelOf o) (o .travel) → (z : Bool) → eqb (o .keys .active) 0 ≡ z
     → ChosenUp o (pick z Clear (Current (o .keys .active))) eqs (o .keys .active)
 unfolding pick choiceNumber choiceEnciphered choiceAged onuNoted withOnuFirst withTravel travelSpent
@@ -227,6 +254,8 @@ chosen-up-by o eqs b true e =
       spent = omega arith;
       ended = λ some. absurd (omega (arith, some, none));
       begun = b;
+      since = inl refl;
+      spends = inl refl;
       renewed = λ a w. subst (λ (x : ℕ). Renewed (o .first) (o .first) x x (travelOf o)) (sym none) (renewed-clear (o .first) (travelOf o));
     }
 chosen-up-by o eqs b false e =
@@ -241,6 +270,8 @@ chosen-up-by o eqs b false e =
       spent = le-max-left (o .travel .spent) (travelOf o + eqs + 1);
       ended = λ some. omega (arith, le-max-right (o .travel .spent) (travelOf o + eqs + 1));
       begun = first-begun (o .first) (travelOf o) eqs (o .travel) b;
+      since = first-since (o .first) (travelOf o);
+      spends = max-either (o .travel .spent) (travelOf o + eqs + 1);
       renewed = λ a w.
           renewed-current (o .first) (o .keys .active) (travelOf o)
           (begun-passed (o .first) (travelOf o) (o .travel) b (waited o (w refl))) a;

@@ -2,13 +2,14 @@
 use mathlib.Core.Path.{_≡_, refl, sym, _∙_, ap}
 use mathlib.Core.Bool.{true, false}
 use mathlib.Core.List.{List, [], _∷_, List·Memᴰ·head, Memᴰ·append-left, Memᴰ·append-right}
-use Prim.Native.Nat.{ℕ, _<_, _≤_}
+use Prim.Native.Nat.{ℕ, _+_, _<_, _≤_}
 use native.Mathlib.Omega.{arith}
 use lib.ListN.{length}
 use borrow.Author.Tests.{eqb-true, le-leb}
 use Rattle.octets.specs.Choice.{pick}
 use Rattle.octets.proofs.Members.{each-more}
 use Rattle.refusal.specs.declared.Verdict.the-variants.{Accepted}
+use Rattle.clock.specs.Ticks.{maxRoundTrip}
 use Rattle.envelope.specs.ControlMask.{eqsOf}
 use Rattle.envelope.specs.Acceptance.{lengthsFit}
 use Rattle.protocol.specs.Headers.{keyFor, passageOf, sendingOf}
@@ -42,6 +43,8 @@ use Rattle.unicast.proofs.Queues.{Knows, sealed-more, envelope-number, 
 use Rattle.unicast.proofs.Past.{sent-carried, passing-sent}
 use Rattle.unicast.proofs.Envelopes.{ways-apart, envelopeOf, passed-right, count-right, runs-right, fits-alone}
 use Rattle.unicast.proofs.Spending.{Renewed, spent-kept, spent-new, apart-new, spaced-more}
+use Rattle.unicast.specs.Progress.{longest}
+use Rattle.unicast.proofs.Pace.{order-leaving, asked-leaving, occupied-free}
 use Rattle.unicast.proofs.SendChoices.{Chosen, chosen-down, unit-first}
 
 -- what an accepted send has met
@@ -56,14 +59,14 @@ unit-goes sh u channel a =
 module _ (w : Setting) (sh : Shared) (now : ℕ) (l : Lane) (u : UnitRecord) (o : Onu) (j : Joined w sh now l u o) where
   -- an envelope that left for the unit, and keys and channels after it
   sent-down-joined : (k : UnitKeys) (choice : KeyChoice) (c : Channels) (e : Envelope) → (1 ≤ e .number → o .clock .synced ≡ 1)
-      → Chosen (l .entry) now (reachOf (o .keys)) (u .keys) k choice (e .number) (pick (switching l now) now (l .keys .switched))
+      → Chosen (l .entry) now (reachOf (o .keys)) (u .keys) k choice (e .number) (pick (switching l now) now (l .keys .switched)) (l .keys .switched)
       → Renewed (u .keys .first) (k .first) (u .keys .active) (e .number) now
-      → e .way ≡ downward → e .left ≡ now → downstream (e .channel) ≡ true → has (l .site .identity) (e .llid) ≡ true
+      → e .up ≡ l .path .up → e .way ≡ downward → e .left ≡ now → downstream (e .channel) ≡ true → has (l .site .identity) (e .llid) ≡ true
       → lengthsFit (length (e .payload)) (length (e .payload)) ≡ true → SentRight w l e
       → freeFrom (sh .channels) (e .channel) ≤ now → ((i : ℕ) → freeFrom (sh .channels) i ≤ freeFrom c i) → now < freeFrom c (e .channel)
       → Joined w (withChannels sh c) now (laneSentDown now e l) (withKeys u k) o
   unfolding laneSentDown laneWith leaving sending withKeys withChannels
-  sent-down-joined k choice c e synced h r way left down named fits right free rises after =
+  sent-down-joined k choice c e synced h r present way left down named fits right free rises after =
       let n = j .numbers in
       let m = laneSentDown now e l in
       let knows : (top : ℕ) → Knows l m top =
@@ -73,6 +76,35 @@ module _ (w : Setting) (sh : Shared) (now : ℕ) (l : Lane) (u : UnitRecord) (o 
         mac = j .mac;
         llids = j .llids;
         oltmac = j .oltmac;
+        firsts =
+            record {
+              olt = h .begun;
+              onu = λ least each one same.
+                  let stayed : e .number ≡ u .keys .active = omega (arith, same, n .mid, h .low) in
+                  let was = j .firsts .onu least (λ x i. each x (Memᴰ·append-left (e ∷ []) i)) one (omega (arith, same, stayed, n .counted)) in
+                  rw (h .settled stayed) was;
+              some = λ one.
+                  let was = j .firsts .some one in
+                  record {
+                    envelope = was .envelope;
+                    among = Memᴰ·append-left (e ∷ []) (was .among);
+                    thatWay = was .thatWay;
+                    numbered = was .numbered;
+                  };
+            };
+        freed =
+            record {
+              free = λ last i each. j .freed .free last i (λ x m. each x (Memᴰ·append-left (e ∷ []) m));
+              spent = λ last most each. j .freed .spent last most (λ x m. each x (Memᴰ·append-left (e ∷ []) m));
+              bar = j .freed .bar;
+            };
+        heard = j .heard;
+        told = j .told;
+        gone = each-more (λ (x : Envelope). x .left ≤ now) (l .past .sent) e (j .gone) (omega (arith, left));
+        near = j .near;
+        ups = each-more (λ (x : Envelope). x .up ≤ maxRoundTrip) (l .past .sent) e (j .ups) (omega (arith, present, j .near));
+        asked = asked-leaving now (u .clock .sent) (l .transit) (envelope e) (λ m c left q. let z : _≡_ {A = ℕ} 0 1 = cc in absurd (omega arith)) (j .asked);
+        order = order-leaving now (l .transit) (envelope e) left (j .order);
         numbers =
             record {
               counted = h .active;
@@ -191,7 +223,7 @@ module _ (w : Setting) (sh : Shared) (now : ℕ) (l : Lane) (u : UnitRecord) (o 
       (occupied (sh .channels) channel (sh .tick) eqs)
       (envelopeOf downward now (l .path .up) llid channel p (sendUnit llid channel eqs sh u .handed) (numberDown l now))
       (λ some. j .clocks .acknowledged (eqb-true _ _ (met .clock (h .enciphered ∙ le-leb 1 (numberDown l now) some))))
-      h (h .renewed (rw (t .tick) at (met .young))) refl refl down named (fits-alone p out fit) (sent-down-right t j v)
+      h (h .renewed (rw (t .tick) at (met .young))) refl refl refl down named (fits-alone p out fit) (sent-down-right t j v)
       (omega (arith, free, t .tick))
       (λ i. free-later (sh .channels) channel i (sh .tick) eqs (met .free))
       (omega (arith, free-own (sh .channels) channel (sh .tick) eqs, t .tick))
@@ -215,6 +247,15 @@ channels-keep w sh now l u o c rises j =
       mac = j .mac;
       llids = j .llids;
       oltmac = j .oltmac;
+      firsts = j .firsts;
+      freed = j .freed;
+      heard = j .heard;
+      told = j .told;
+      gone = j .gone;
+      near = j .near;
+      ups = j .ups;
+      asked = j .asked;
+      order = j .order;
       numbers = j .numbers;
       stored = j .stored;
       timing = j .timing;
@@ -241,7 +282,14 @@ pub send-channels : (llid channel eqs : ℕ) (sh : Shared) (u : UnitRecord) → 
 unfolding sendUnit
 send-channels llid channel eqs sh u a i = free-later (sh .channels) channel i (sh .tick) eqs (unit-goes sh u channel a .free)
 
+-- and no later than it ends
+pub send-frees : (llid channel eqs : ℕ) (sh : Shared) (u : UnitRecord) (k bound : ℕ) → sh .tick + eqs + 1 ≤ bound → freeFrom (sh .channels) k ≤ bound
+    → freeFrom (sendUnit llid channel eqs sh u .channels) k ≤ bound
+unfolding sendUnit
+send-frees llid channel eqs sh u k bound new old = occupied-free (sh .channels) channel k (sh .tick) eqs bound new old
+
 -- the OLT's part is at its tick still
-pub channels-at-tick : (w : Setting) (now : ℕ) (sh : Shared) (c : Channels) → AtTick w now sh → AtTick w now (withChannels sh c)
+pub channels-at-tick : (w : Setting) (now : ℕ) (sh : Shared) (c : Channels) → ((k : ℕ) → freeFrom c k ≤ now + longest)
+    → AtTick w now sh → AtTick w now (withChannels sh c)
 unfolding withChannels
-channels-at-tick w now sh c t = record { mac = t .mac; tick = t .tick; clock = t .clock }
+channels-at-tick w now sh c free t = record { mac = t .mac; tick = t .tick; clock = t .clock; free = free }

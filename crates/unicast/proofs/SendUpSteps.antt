@@ -1,7 +1,7 @@
 -- A send of a unit keeps the invariant of its lane. Assumes nothing.
 use mathlib.Core.Path.{_≡_, refl, sym, _∙_, ap, subst}
 use mathlib.Core.Bool.{Bool, true, false}
-use mathlib.Core.Logic.{inl, ⊎-elim}
+use mathlib.Core.Logic.{_⊎_, inl, inr, ⊎-elim}
 use mathlib.Core.List.{List, [], _∷_, List·Memᴰ, List·Memᴰ·head, Memᴰ·append-left, Memᴰ·append-right}
 use Prim.Native.Nat.{ℕ, _+_, _<_, _≤_}
 use native.Mathlib.Omega.{arith}
@@ -10,11 +10,12 @@ use lib.ListN.{length}
 use borrow.Author.Tests.{eqb-true, eqb-false, le-leb}
 use Rattle.octets.proofs.Members.{each-more}
 use Rattle.refusal.specs.declared.Verdict.the-variants.{Accepted}
-use Rattle.clock.specs.Ticks.{epamOf}
+use Rattle.clock.specs.Ticks.{epamOf, maxRoundTrip}
 use Rattle.envelope.specs.ControlMask.{eqsOf}
 use Rattle.envelope.specs.Acceptance.{lengthsFit}
 use Rattle.protocol.specs.Headers.{choiceEnciphered, envelopeHeader, keyFor, passageOf, sendingOf, noSending}
 use Rattle.ends.specs.Identities.{has}
+use Rattle.octets.specs.Eqs.{maxEqs}
 use Rattle.ends.specs.Limits.{maxChanges}
 use Rattle.envelope.specs.Channels.{downstream, upstream}
 use Rattle.ends.specs.Occupancy.{freeFrom, occupied}
@@ -46,6 +47,8 @@ use Rattle.unicast.specs.History.{downward, upward, Envelope, Lane, lane
 use Rattle.unicast.specs.Run.{envelopeUp}
 use Rattle.unicast.specs.Claim.{PassageRight, SentRight}
 use Rattle.unicast.proofs.Invariant.{Clocks, countDown, countUp, Spent, Guarded, Joined, Common}
+use Rattle.unicast.specs.Progress.{longest}
+use Rattle.unicast.proofs.Pace.{rising-more, occupied-free}
 use Rattle.unicast.proofs.Queues.{Knows, towards-moved, from-moved, from-envelope}
 use Rattle.unicast.proofs.Past.{sent-carried, passing-sent}
 use Rattle.unicast.proofs.Frames.{common-moved}
@@ -77,9 +80,11 @@ module _ (w : Setting) (sh : Shared) (now : ℕ) (l : Lane) (u : UnitRecord) (o 
       → e .way ≡ upward → e .left ≡ now → upstream (e .channel) ≡ true → has (l .site .identity) (e .llid) ≡ true
       → lengthsFit (length (e .payload)) (length (e .payload)) ≡ true → SentRight w l e
       → freeFrom (o .channels) (e .channel) ≤ now → ((i : ℕ) → freeFrom (o .channels) i ≤ freeFrom c i) → now < freeFrom c (e .channel)
+      → (f ≡ o .first) ⊎ (f .at ≡ travel) → (t .spent ≡ o .travel .spent) ⊎ (t .spent ≤ travel + longest)
+      → ((i bound : ℕ) → now + longest ≤ bound → freeFrom (o .channels) i ≤ bound → freeFrom c i ≤ bound)
       → Joined w sh now (laneSentUp e l) u (withOnuChannels (withTravel (withOnuFirst o f) t) c)
   unfolding laneSentUp laneWith sending withOnuChannels withTravel withOnuFirst
-  sent-up-joined travel f t c e number travelled r waited bar spent ended present way left up named fits right free rises after =
+  sent-up-joined travel f t c e number travelled r waited bar spent ended present way left up named fits right free rises after since spends frees =
       let n = j .numbers in
       let m = laneSentUp e l in
       let knows : (top : ℕ) → Knows l m top =
@@ -96,6 +101,50 @@ module _ (w : Setting) (sh : Shared) (now : ℕ) (l : Lane) (u : UnitRecord) (o 
         mac = j .mac;
         llids = j .llids;
         oltmac = j .oltmac;
+        firsts =
+            record {
+              olt = j .firsts .olt;
+              onu = λ least each one same.
+                  let mine = each e (Memᴰ·append-right (l .past .sent) (List·Memᴰ·head refl)) way in
+                  ⊎-elim
+                  (λ stays.
+                  rw stays
+                  (j .firsts .onu least (λ x i. each x (Memᴰ·append-left (e ∷ []) i)) (sym (ap (λ (y : FirstSend). y .noted) stays) ∙ one) same))
+                  (λ new. omega (arith, new, mine, present, travelled, j .timing .switched)) since;
+              some = λ one.
+                  record {
+                    envelope = e;
+                    among = Memᴰ·append-right (l .past .sent) (List·Memᴰ·head refl);
+                    thatWay = way;
+                    numbered = number;
+                  };
+            };
+        freed =
+            record {
+              free = λ last i each.
+                  frees i (last + longest)
+                  (let mine = each e (Memᴰ·append-right (l .past .sent) (List·Memᴰ·head refl)) way in omega (arith, mine, left))
+                  (j .freed .free last i (λ x m. each x (Memᴰ·append-left (e ∷ []) m)));
+              spent = λ last most each one.
+                  let mine = each e (Memᴰ·append-right (l .past .sent) (List·Memᴰ·head refl)) way in
+                  ⊎-elim
+                  (λ stays.
+                  let was = j .freed .spent last most (λ x m. each x (Memᴰ·append-left (e ∷ []) m)) (omega (arith, one, stays)) in
+                  omega (arith, was, stays))
+                  (λ new. omega (arith, new, mine .0, mine .1, left, present, travelled)) spends;
+              bar = omega (arith, j .freed .bar, bar, spent);
+            };
+        heard = j .heard;
+        told = j .told;
+        gone = each-more (λ (x : Envelope). x .left ≤ now) (l .past .sent) e (j .gone) (omega (arith, left));
+        near = j .near;
+        ups = each-more (λ (x : Envelope). x .up ≤ maxRoundTrip) (l .past .sent) e (j .ups) (omega (arith, present, j .near));
+        asked = record { under = j .asked .under; answered = j .asked .answered };
+        order =
+            record {
+              towards = j .order .towards;
+              from = rising-more (λ (x : Envelope). x .left) 0 now (l .transit .from) e left (j .order .from);
+            };
         numbers = j .numbers;
         stored = j .stored;
         timing = j .timing;
@@ -207,6 +256,7 @@ module _ (w : Setting) (sh : Shared) (now : ℕ) (l : Lane) (u : UnitRecord) (o 
       let h = chosen-up o eqs (c .first) in
       let n = j .numbers in
       let after = occupied (o .channels) channel (o .tick) eqs in
+      let few : eqs ≤ maxEqs = few-eqs p out (met .fits) in
       let sealed : 1 ≤ l .keys .number → choiceEnciphered (onuSendChoice (o .keys)) ≡ true =
       λ some. h .enciphered ∙ le-leb 1 (o .keys .active) (omega (arith, some, n .last)) in
       let renewed : Renewed (o .first) (h .first) (o .keys .active) (l .keys .number) (travelOf o) =
@@ -219,7 +269,9 @@ module _ (w : Setting) (sh : Shared) (now : ℕ) (l : Lane) (u : UnitRecord) (o 
       (sent-up-right c j (λ some. eqb-true _ _ (met .goes .clock (sealed some))))
       (omega (arith, taken-false (o .channels) channel (o .tick) (free .0), c .tick))
       (λ i. free-later (o .channels) channel i (o .tick) eqs (free .0))
-      (omega (arith, free-own (o .channels) channel (o .tick) eqs, c .tick))))
+      (omega (arith, free-own (o .channels) channel (o .tick) eqs, c .tick)) (h .since)
+      (⊎-elim (λ stays. inl stays) (λ new. inr (omega (arith, new, few))) (h .spends))
+      (λ i bound most was. occupied-free (o .channels) channel i (o .tick) eqs bound (omega (arith, most, few, c .tick)) was)))
 
 ---- the unit itself
 

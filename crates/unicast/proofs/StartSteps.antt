@@ -1,17 +1,20 @@
 -- From fresh ends the invariant holds: nothing has happened. Assumes nothing.
 use mathlib.Core.Path.{_≡_, refl, sym, _∙_, ap}
-use mathlib.Core.Bool.{true, false}
+use mathlib.Core.Bool.{Bool, true, false}
 use mathlib.Core.List.{List, [], _∷_, map}
 use Prim.Native.Nat.{ℕ, zero, suc, _<_}
 use native.Mathlib.Nat.{le-of-suc-le-suc, not-suc-le-zero}
 use native.Mathlib.Omega.{arith}
 use lib.ListN.{length, getD, length-map}
 use borrow.Author.Tests.{ltb-true, not-false}
+use Rattle.octets.specs.Choice.{pick}
 use Rattle.octets.proofs.Choice.{both-left, both-right, true-false}
 use Rattle.refusal.specs.declared.Verdict.the-variants.{Accepted}
 use Rattle.clock.specs.Ticks.{clockTurn, localTurn}
 use Rattle.protocol.specs.Replies.{Silence, silent, Reply}
 use Rattle.ends.specs.Identities.{kept, noIdentity, validIdentity}
+use Rattle.envelope.specs.Channels.{onZero}
+use Rattle.ends.specs.Occupancy.{freeFrom, freeChannels}
 use Rattle.ends.specs.Records.{newOlt, newOnu}
 use Rattle.ends.specs.Travels.{shiftOf, travelOf}
 use Rattle.protocol.specs.OltCalls.{oltAnswer, freshOltOf}
@@ -51,11 +54,19 @@ pub fresh-count : (mac clock : ℕ) → freshOltOf mac clock .number ≡ 0 → f
 unfolding newOlt
 fresh-count mac clock e = ap (λ (o : Olt). o .count) (olt-made mac clock e .made)
 
+-- fresh channels are free
+none-taken : (k : ℕ) → freeFrom freeChannels k ≡ 0
+unfolding freeFrom pick
+none-taken k = by-channel (onZero k) where
+  by-channel : (b : Bool) → _≡_ {A = ℕ} (pick b 0 0) 0
+  by-channel true = refl
+  by-channel false = refl
+
 pub fresh-at-tick : (w : Setting) → freshOltOf (w .mac) (w .first) .number ≡ 0 → AtTick w 0 (freshOltOf (w .mac) (w .first) .olt .shared)
 unfolding newOlt
 fresh-at-tick w e =
     let m = olt-made (w .mac) (w .first) e in
-    rw (m .made) (record { mac = refl; tick = refl; clock = omega (arith, m .below) })
+    rw (m .made) (record { mac = refl; tick = refl; clock = omega (arith, m .below); free = λ k. omega (arith, none-taken k) })
 
 ---- a unit
 
@@ -111,6 +122,10 @@ fresh-idle s e =
       answered = refl;
       sent = refl;
       arrived = refl;
+      noted = refl;
+      spent = refl;
+      bar = refl;
+      channels = none-taken;
     })
 
 fresh-lane-right : (w : Setting) (t : Olt) (s : Site) → freshOnuOf (s .identity) (s .oltmac) (s .time) .number ≡ 0

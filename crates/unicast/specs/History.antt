@@ -1,5 +1,5 @@
 -- What has come to pass on each unit's line, from the calls and their answers alone: no field of an end's record is read here
--- (01, The line). Assumes nothing.
+-- (01, The line; D62). Assumes nothing.
 use mathlib.Core.Bool.{Bool, true, false}
 use mathlib.Core.List.{List, [], _∷_, _++_}
 use Prim.Native.Nat.{ℕ, suc, _+_, _-_, _/_}
@@ -264,7 +264,7 @@ unfoldable pub clockAnswered : List Answered → Bool
 clockAnswered [] = false
 clockAnswered (x ∷ xs) = either (eqb (x .acknowledgement .kind) clockKind) (clockAnswered xs)
 
--- since its path last changed the unit has taken a clock message
+-- since its path last changed the unit has taken a clock message (D48)
 abbrev pub isSynced : Lane → Bool
 isSynced l = clockAnswered (l .transit .answered)
 

@@ -22,8 +22,11 @@
 --             numbered n has arrived each way, both ends hold key n as A, C and a, the OLT in the record that has the unit's LLIDs;
 --             (4) what another registered unit overhears is refused, 14 for its buffer, else 2 downstream and 1 upstream, and leaves
 --             unit and buffer as they were
+--   Progress  the line never freezes: from wherever a list leads, a continuation, computed from the history, after which both ends hold the
+--             unit's next key and an envelope under it has arrived each way; also the recipe that a host follows
 --   Example   a list that meets the premises, with refused calls of every kind
 --   Course    how it runs: which calls were refused, what was sent and what arrived
+--   Stuck     what is truly stuck, so that the exception of Progress is needed, and what only looks so
 --   Demand    the theorem as one statement, and what it says of the example
 pub mod Setting
 pub mod History
@@ -31,6 +34,8 @@ pub mod Events
 pub mod Run
 pub mod Premises
 pub mod Claim
+pub mod Progress
 pub mod Example
 pub mod Course
+pub mod Stuck
 pub mod Demand

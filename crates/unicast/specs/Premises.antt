@@ -1,4 +1,4 @@
--- What a list must keep to (01, The line), in the paper's order. A call of an end is bound only where it is accepted; an arrival,
+-- What a list must keep to (01, The line), in the paper's order. A call of an end is bound only where it is accepted (D54); an arrival,
 -- an overheard receipt and any other receipt by what makes it one. Assumes nothing.
 use mathlib.Core.Path.{_≡_}
 use mathlib.Core.Bool.{true}
@@ -17,13 +17,13 @@ use Rattle.unicast.specs.History.{Thing, clockMessage, keyMessage, envel
 use Rattle.unicast.specs.Events.{Event, advance, register, capture, clockSend, offer, retry, sendDown, sendUp, arriveDown, arriveUp, arriveAnswer, overhear, changePath, measure, newTime, strayClock, strayKey, strayAnswer, strayDown, strayUp}
 use Rattle.unicast.specs.Run.{State, step, laneAt, onuAt, thingAt, envelopeAt, answerAt}
 
--- "from fresh ends": the OLT and every unit were made
+-- "from fresh ends": the OLT and every unit were made (D52)
 pub record Fresh (w : Setting) : Type 0 where
   pub olt : freshOltOf (w .mac) (w .first) .number ≡ 0
   pub onus : (u : ℕ) (s : Site) → u < length (w .sites)
       → freshOnuOf (getD (w .sites) u s .identity) (getD (w .sites) u s .oltmac) (getD (w .sites) u s .time) .number ≡ 0
 
--- an accepted registration: the ends agree on MACs and LLIDs, LocalTime is the low half of the OLT's clock plus the delay up, and
+-- an accepted registration: the ends agree on MACs and LLIDs (D53), LocalTime is the low half of the OLT's clock plus the delay up, and
 -- the delays add up to the round trip. That it is the unit's first follows: a second one's LLIDs are in the table, and refused 3
 pub record Agrees (w : Setting) (s : State) (u : ℕ) (i : Identity) (trip : ℕ) : Type 0 where
   pub known : u < length (s .history .lanes)
@@ -37,13 +37,13 @@ pub record Agrees (w : Setting) (s : State) (u : ℕ) (i : Identity) (trip : ℕ
 pub record NewKey (s : State) (key : List ℕ) : Type 0 where
   pub unused : (u n : ℕ) → n < length (laneAt s u .keys .offers) → getD (laneAt s u .keys .offers) n [] ≡ key → ⊥
 
--- an envelope comes with a fitting buffer
+-- an envelope comes with a fitting buffer (D57)
 abbrev pub FittingBuffer : Thing → List ℕ → Type 0
 FittingBuffer (clockMessage m c t) out = Unit {0}
 FittingBuffer (keyMessage m t) out = Unit {0}
 FittingBuffer (envelope e) out = length out ≡ length (e .octets)
 
--- the kth of what is under way to the unit: it arrives its way's delay after it left, and in order, since what left before it
+-- the kth of what is under way to the unit: it arrives its way's delay after it left, and in order (D56), since what left before it
 -- is no longer under way
 pub record DueDown (s : State) (u k : ℕ) (out : List ℕ) : Type 0 where
   pub some : k < length (laneAt s u .transit .towards)
@@ -55,13 +55,13 @@ pub record DueUp (s : State) (u k : ℕ) (out : List ℕ) : Type 0 where
   pub now : envelopeAt s u k .left + laneAt s u .path .up ≡ s .history .now
   pub buffer : length out ≡ length (envelopeAt s u k .octets)
 
--- an acknowledgement may leave later or again: it was handed over at least its delay ago
+-- an acknowledgement may leave later or again: it was handed over at least its delay ago (D58)
 pub record DueAnswer (s : State) (u k llid : ℕ) : Type 0 where
   pub some : k < length (laneAt s u .transit .answered)
   pub left : answerAt s u k .tick + laneAt s u .path .up ≤ s .history .now
   pub named : has (laneAt s u .site .identity) llid ≡ true
 
--- a path change (02, C-16): both calls are accepted at one tick, with nothing of that unit between them. The OLT names the unit by an
+-- a path change (02, C-16; D47): both calls are accepted at one tick, with nothing of that unit between them. The OLT names the unit by an
 -- LLID of its own and measures the sum of the new delays; LocalTime is the low half of the OLT's clock plus the new delay up
 pub record Changes (w : Setting) (s : State) (u llid time : ℕ) (p : Delays) : Type 0 where
   pub registered : laneAt s u .entry .registered ≡ true
@@ -70,7 +70,7 @@ pub record Changes (w : Setting) (s : State) (u llid time : ℕ) (p : Delays) : 
   pub retimed : newTimeOf (onuAt s u) time .number ≡ 0
   pub follows : time ≡ (w .first + s .history .now + p .up) % localTurn
 
--- another registered unit
+-- another registered unit (D60)
 pub record Overhears (s : State) (u other k : ℕ) : Type 0 where
   pub registered : laneAt s u .entry .registered ≡ true
   pub apart : u ≡ other → ⊥
@@ -84,14 +84,14 @@ Fits w s (clockSend llid) = Unit {0}
 Fits w s (offer llid key) = offerOf (s .olt) llid key .number ≡ 0 → NewKey s key
 Fits w s (retry llid) = Unit {0}
 Fits w s (sendDown llid channel p out) = Unit {0}
--- units are registered before their traffic
+-- units are registered before their traffic (D55)
 Fits w s (sendUp u llid channel p out) = onuSendOf (onuAt s u) llid channel p out .answer .number ≡ 0 → laneAt s u .entry .registered ≡ true
 Fits w s (arriveDown u k out) = DueDown s u k out
 Fits w s (arriveUp u k out) = DueUp s u k out
 Fits w s (arriveAnswer u k llid) = DueAnswer s u k llid
 Fits w s (overhear u other k out) = Overhears s u other k
 Fits w s (changePath u llid time p) = Changes w s u llid time p
--- one call of the pair alone, and any other receipt, is in the list only if refused
+-- one call of the pair alone, and any other receipt, is in the list only if refused (D59)
 Fits w s (measure llid trip) = measureOf (s .olt) llid trip .number ≡ 0 → ⊥
 Fits w s (newTime u time) = newTimeOf (onuAt s u) time .number ≡ 0 → ⊥
 Fits w s (strayClock u m) = clockMessageAt (onuAt s u) m .number ≡ 0 → ⊥

@@ -19,7 +19,7 @@ unfoldable pub rowsFrom : List ℕ → List ℕ → ℕ → ℕ → List ℕ
 rowsFrom s b i zero = []
 rowsFrom s b i (suc m) = rowAt s b i ++ rowsFrom s b (suc i) m
 
--- what a listing has room for, behind its heading: a row of a block's record has numbers of at most four digits
+-- what a listing has room for, behind its heading: a row of a block's record has numbers of at most four digits (D84)
 abbrev pub lineOctets : ℕ
 lineOctets = 40
 
@@ -31,7 +31,7 @@ abbrev pub headingText : List ℕ
 headingText =
     110 ∷ 111 ∷ 32 ∷ 108 ∷ 108 ∷ 105 ∷ 100 ∷ 32 ∷ 99 ∷ 104 ∷ 32 ∷ 107 ∷ 101 ∷ 121 ∷ 32 ∷ 101 ∷ 113 ∷ 115 ∷ 32 ∷ 114 ∷ 101 ∷ 115 ∷ 117 ∷ 108 ∷ 116 ∷ 10 ∷ []
 
--- a refused call prints its number, an accepted one a row for each record
+-- a refused call prints its number, an accepted one a row for each record (D82)
 unfoldable pub bodyAfter : List ℕ → List ℕ → Verdict → List ℕ
 bodyAfter s b Accepted = rowsFrom s b 0 (recordsIn b)
 bodyAfter s b (Refused r) = refusedRow r

@@ -58,7 +58,7 @@ pub record AsIfExact (sent : ℕ → ℕ) (s b out : List ℕ) : Type 0 where
 abbrev pub ClockFollows : (ℕ → ℕ) → List ℕ → List ℕ → Type 0
 ClockFollows sent s b = (i : ℕ) → i < recordsIn b → own (llidOf s) (headerOf b i) ≡ true → Follows sent s b i
 
--- the promise, of a call that is accepted
+-- the promise, of a call that is accepted (D87)
 abbrev pub ReadsAsExact : List ℕ → List ℕ → List ℕ → Type 0
 ReadsAsExact s b out = (sent : ℕ → ℕ) → openVerdict s b (length out) ≡ Accepted → ClockFollows sent s b → AsIfExact sent s b out
 

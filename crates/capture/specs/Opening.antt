@@ -27,7 +27,7 @@ use Rattle.records.specs.Block.{directoryOctets, recordsIn, recordOf}
 use Rattle.capture.specs.Directory.{verdictOn, directoryOf}
 use Rattle.records.specs.Verdict.{clearedFlags, verdictOf}
 
--- what the counter blocks of a record with the header h are made of, at the clock t
+-- what the counter blocks of a record with the header h are made of, at the clock t: one MAC for both directions (D76)
 abbrev pub recordNonce : List ℕ → Header → ℕ → Nonce
 recordNonce s h t = record { channel = h .channel; mac = macOf s; clock = t }
 
@@ -41,7 +41,7 @@ writtenAs s r (Sealed i t) = take headerOctets (cleared r) ++ sealed (keyExpansi
 writtenAs s r Clear = r
 writtenAs s r (RecordVerdict.Refused c) = r
 
--- what a record adds to a sum over payloads, as the verdict has it: clear and refused ones add nothing
+-- what a record adds to a sum over payloads, as the verdict has it: clear and refused ones add nothing (D80)
 unfoldable pub addedAs : (List ℕ → ℕ) → List ℕ → RecordVerdict → ℕ
 addedAs f r (Sealed i t) = f (payloadOf r)
 addedAs f r Clear = 0

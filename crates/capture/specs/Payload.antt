@@ -27,7 +27,7 @@ recordAsked (Bad r) k = Refused r
 unfoldable pub payloadVerdict : List ℕ → ℕ → Verdict
 payloadVerdict b k = recordAsked (directoryOf b) k
 
--- the payload of record i, by the pair of that record
+-- the payload of record i, by the pair of that record, whatever the verdict on it (D79)
 unfoldable pub boundsOf : List ℕ → ℕ → Bounds
 boundsOf b i = Within (offsetOf b i + headerOctets) (lengthOf b i - headerOctets)
 

@@ -37,7 +37,7 @@ driftBy near s b i = pick near (driftAt s b i) noDrift
 abbrev pub verdictBy : Bool → List ℕ → List ℕ → ℕ → RecordVerdict
 verdictBy near s b i = pick near (nearVerdict s b i) (verdictOf s (recordOf b i))
 
--- the smallest and the largest correction of a call, each as the octet of a signed number; 0 where no header was accepted
+-- the smallest and the largest correction of a call, each as the octet of a signed number; 0 where no header was accepted (D88)
 abbrev pub smallestBy : Bool → List ℕ → List ℕ → ℕ
 smallestBy near s b = signedOctet (driftBy near s b (recordsIn b) .smallest)
 

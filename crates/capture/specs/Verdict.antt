@@ -46,6 +46,6 @@ abbrev pub verdictsAfter : Directory → List ℕ → List ℕ → List ℕ → 
 verdictsAfter (Good n) s b out = withOutput (Good n) (numbersOver s b n out)
 verdictsAfter (Bad r) s b out = withOutput (Bad r) out
 
--- the verdicts on all records, into an output of 256 octets
+-- the verdicts on all records, into an output of 256 octets (D78)
 unfoldable pub verdictsOf : List ℕ → List ℕ → List ℕ → WithOutput Directory
 verdictsOf s b out = verdictsAfter (callDirectory (eqb (length out) mostRecords) s b) s b out

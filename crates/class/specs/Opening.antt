@@ -27,7 +27,7 @@ use Rattle.rights.specs.Settings.{setOf, ownRights}
 use Rattle.rights.specs.Rights.{mayOpen}
 use Rattle.class.specs.Reading.{setAt, driftFor, toldOf, callFor}
 
--- a hidden record is zeros but for its EQs; its header has 16 octets, the last four of them the EQs
+-- a hidden record is zeros but for its EQs (D96); its header has 16 octets, the last four of them the EQs
 unfoldable pub hiddenRecord : ℕ → List ℕ
 hiddenRecord eqs = replicate 12 0 ++ (octetsOf 4 eqs ++ replicate (eqOctets * eqs) 0)
 

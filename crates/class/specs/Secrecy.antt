@@ -36,7 +36,7 @@ pub record SameAnswer (near : Bool) (c : Caller) (s q b t p d out : List ℕ) : 
   pub opening : openingFor near c s q b out ≡ openingFor near c t p d out
   pub listing : listingFor near c s q b ≡ listingFor near c t p d
 
--- where both inputs are valid
+-- where both inputs are valid (D97)
 abbrev pub Secret : Bool → Caller → List ℕ → List ℕ → List ℕ → List ℕ → Type 0
 Secret near c s q b out =
     (t p d : List ℕ) (m n : ℕ) → callFor true c s q b ≡ Good m → callFor true c t p d ≡ Good n → Alike c s q b t p d

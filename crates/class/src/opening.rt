@@ -51,7 +51,7 @@ use rights::verdict::class_verdict;
 use sealing::aes128::RoundKeys;
 use sealing::key_expansion::expand_key;
 
-// The octets of an expanded key, and of all that a class can have: two for each of 16 sets.
+// The octets of an expanded key, and of all that a class can have: two for each of 16 sets (D99).
 const EXPANDED_OCTETS: usize = 176;
 
 const KEYS_OCTETS: usize = 5632;

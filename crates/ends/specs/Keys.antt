@@ -17,7 +17,7 @@ noKey = replicate 16 0
 abbrev pub noSlots : Slots
 noSlots = record { even = noKey; odd = noKey }
 
--- the key kept under number n
+-- the key kept under number n, whose index is n mod 2 (D18)
 unfoldable pub keyIn : Slots → ℕ → List ℕ
 keyIn s n = pick (eqb (n % 2) 0) (s .even) (s .odd)
 

@@ -34,6 +34,6 @@ maxTimeChange = 1000000
 abbrev pub maxChanges : ℕ
 maxChanges = 2 ^ 61
 
--- the latest tick from which a channel can be free: that of a longest payload at the last tick
+-- the latest tick from which a channel can be free: that of a longest payload at the last tick (D4)
 abbrev pub maxFree : ℕ
 maxFree = maxTick + (maxEqs + 1)

@@ -1,5 +1,5 @@
 -- Marks by which a number is looked for in a growing list without a search: the LLIDs of a table are told apart so. No clause of 01
--- speaks of them: 01 wants no LLID twice. Assumes nothing.
+-- speaks of them: 01 wants no LLID twice (D118). Assumes nothing.
 use mathlib.Core.Path.{_≡_}
 use mathlib.Core.Bool.{Bool, false}
 use mathlib.Core.List.{List}

@@ -17,7 +17,7 @@ freeFrom c channel = pick (onZero channel) (c .zero) (c .one)
 unfoldable pub taken : Channels → ℕ → ℕ → Bool
 taken c channel tick = ltb tick (freeFrom c channel)
 
--- a header at a tick keeps its channel for that tick and as many more as it has EQs
+-- a header at a tick keeps its channel for that tick and as many more as it has EQs (D35)
 unfoldable pub occupied : Channels → ℕ → ℕ → ℕ → Channels
 occupied c channel tick eqs =
     record { zero = pick (onZero channel) (tick + eqs + 1) (c .zero); one = pick (onZero channel) (c .one) (tick + eqs + 1) }

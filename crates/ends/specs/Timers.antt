@@ -18,7 +18,7 @@ timerAdvanced t n =
       flag = pick (leb (t .interval) (t .count + n)) 1 (t .flag);
     }
 
--- the flag falls; the count goes on
+-- the flag falls; the count goes on (D23)
 unfoldable pub timerFallen : Timer → Timer
 timerFallen t = record { interval = t .interval; count = t .count; flag = 0 }
 

@@ -1,5 +1,5 @@
 -- The travel of a unit's Tx clock: its ticks plus the signed changes of its LocalTime (02, C-16). The sum of the changes is kept modulo 2^64,
--- and travel is counted from 2^61 below zero, the least that the sum may be. Assumes nothing.
+-- and travel is counted from 2^61 below zero, the least that the sum may be (D45). Assumes nothing.
 use mathlib.Core.Bool.{Bool}
 use Prim.Native.Nat.{ℕ, _+_, _*_, _%_, _^_, max}
 use lib.Dec.{leb, ltb}

@@ -1,6 +1,6 @@
 -- When a lent end is valid (01, 'When the reader says no': Ahead of each list comes 1). Beside each line stands the cause of that
--- sentence that it excludes, and there is no other. The types hold the ranges that are not tested here: an LLID is a u16, all codes
--- allowed; A, C, O and a are u32, so key numbers or 0; a key is sixteen u8. A place that is not in use is no field of the end.
+-- sentence that it excludes, and there is no other (D2). The types hold the ranges that are not tested here: an LLID is a u16, all codes
+-- allowed (D17); A, C, O and a are u32, so key numbers or 0; a key is sixteen u8. A place that is not in use is no field of the end (D6).
 -- Assumes nothing.
 use mathlib.Core.Bool.{Bool}
 use mathlib.Core.List.{List}
@@ -29,6 +29,7 @@ use Rattle.ends.specs.declared.OnuKeys.{OnuKeys}
 use Rattle.ends.specs.declared.OnuClock.{OnuClock}
 use Rattle.ends.specs.declared.Onu.{Onu}
 
+-- C ≤ A ≤ O ≤ C + 1 (D3)
 unfoldable pub validNumbers : ℕ → ℕ → ℕ → Bool
 validNumbers confirmed active offered =
     both (leb confirmed active)  -- C above A
@@ -67,7 +68,7 @@ validOlt o =
     both (leb (o .count) maxUnits)  -- number of units outside its range
     (both (validShared (o .shared))
     (both (all (validUnit (o .shared .tick)) (registered o))
-    (distinct (tableLlids (registered o)))))  -- an LLID twice
+    (distinct (tableLlids (registered o)))))  -- an LLID twice; a MAC may stand twice (D16)
 
 -- whether an OLT is valid and, if so, where the unit stands that has the LLID
 unfoldable pub judged : Bool → Found → Judged
@@ -83,13 +84,13 @@ judgedOf o llid = judged (validOlt o) (find o llid)
 unfoldable pub validOnuKeys : OnuKeys → Bool
 validOnuKeys k =
     both (leb (k .held) 1)  -- flag outside its range
-    (either (eqb (k .held) 0) (ltb (k .active) maxKeyNumber))  -- number a + 1 of a held key outside the key numbers
+    (either (eqb (k .held) 0) (ltb (k .active) maxKeyNumber))  -- number a + 1 of a held key outside the key numbers (D5)
 
--- Tx and LocalTime share the field `time`: it is Tx, of 48 bits, once synced, and LocalTime, of 32, before
+-- Tx and LocalTime share the field `time`: it is Tx, of 48 bits, once synced, and LocalTime, of 32, before (D10)
 unfoldable pub validOnuClock : OnuClock → Bool
 validOnuClock c =
     both (leb (c .synced) 1)  -- flag outside its range
-    (both (ltb (c .rx) clockTurn)  -- Rx outside its range
+    (both (ltb (c .rx) clockTurn)  -- Rx outside its range, synced or not (D7)
     (pick (isUp (c .synced)) (ltb (c .time) clockTurn) (ltb (c .time) localTurn)))  -- Tx or LocalTime outside its range
 
 unfoldable pub validOnu : Onu → Bool

@@ -19,6 +19,6 @@ lengthsFit n m = both (eqb (n % eqOctets) 0) (both (leb n (eqOctets * maxEqs)) (
 unfoldable pub nonceFits : Nonce → Bool
 nonceFits n = both (channelFits (n .channel)) (both (ltb (n .mac) sixOctets) (ltb (n .clock) sixOctets))
 
--- 14, then 1
+-- 14, then 1, also where the envelope is clear (D63)
 unfoldable pub sealVerdict : ℕ → ℕ → Nonce → Verdict
 sealVerdict n m nonce = refuseIf (not (lengthsFit n m)) BadLength (refuseIf (not (nonceFits nonce)) OutOfRange Accepted)

@@ -12,7 +12,7 @@ upstreamBit = 128
 abbrev pub maxChannel : ℕ
 maxChannel = 1
 
--- the channel indices of the OLT's sends: 00 and 01 hex
+-- the channel indices of the OLT's sends: 00 and 01 hex (D32)
 unfoldable pub downstream : ℕ → Bool
 downstream channel = leb channel maxChannel
 

@@ -31,7 +31,7 @@ controlOctet p e = getD p (eqOctets * e) 0
 abbrev pub dataOctet : List ℕ → ℕ → ℕ → ℕ
 dataOctet p e j = getD p (eqOctets * e + 1 + j) 0
 
--- data octet x at place j under the control octet c and the cipher octet k: a control character, where bit j is set, passes
+-- data octet x at place j under the control octet c and the cipher octet k: a control character, where bit j is set, passes (D64)
 unfoldable pub masked : ℕ → ℕ → ℕ → ℕ → ℕ
 masked c j k x = pick (eqb (bitOf c j) 1) x (bitXor x k)
 
@@ -50,7 +50,7 @@ countEnciphered p = sum 0 (eqsOf p) (λ e. 8 - ones (controlOctet p e))
 abbrev pub toEncipher : ℕ → ℕ
 toEncipher c = sum 0 8 (λ j. 1 - bitOf c j)
 
--- block k has at least one octet to encipher, in EQ 2k or, where there is one, in EQ 2k + 1
+-- block k has at least one octet to encipher, in EQ 2k or, where there is one, in EQ 2k + 1 (D66)
 unfoldable pub needsRun : List ℕ → ℕ → Bool
 needsRun p k = ltb 0 (sum (2 * k) (min 2 (eqsOf p - 2 * k)) (λ e. toEncipher (controlOctet p e)))
 

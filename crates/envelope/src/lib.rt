@@ -1,5 +1,5 @@
 // What sealing takes and answers that needs no cipher (01, Counter block and mask, When the reader says no: 14, 1): the counter
-// block, the count, and the verdict on a call. The control mask is defined here, and made where the cipher is.
+// block, the count, and the verdict on a call. The control mask is defined here, and made where the cipher is (D109).
 ghost use mathlib.Core.Path.{_≡_};
 ghost use Rattle.envelope.specs.Acceptance.{lengthsFit, nonceFits, sealVerdict};
 ghost use Rattle.envelope.specs.Answer.{sealNumber, sealCount, sealRuns};

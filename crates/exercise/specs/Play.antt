@@ -29,7 +29,7 @@ use Rattle.exercise.specs.declared.Play.{Play}
 use Rattle.exercise.specs.declared.Figures.{Figures}
 use Rattle.exercise.specs.Script.{intervalOf, stepsIn, stepAt, clockMessage, offer, retry, clockAnswer, keyAnswer, envelopeDown, envelopeUp, advance}
 
----- the ends at the start
+---- the ends at the start (D101)
 
 abbrev pub oltMac : ℕ
 oltMac = 0x020000000001
@@ -115,7 +115,7 @@ sentUp p r lost =
     pick (arrives (r .number) lost) (withOlt (withOnu p (r .onu)) (oltReceiveOf (p .olt) (r .header) [] [] .answer .olt))
     (withOnu p (r .onu))
 
--- by both ends; it can't be lost
+-- by both ends; it can't be lost (D102)
 unfoldable pub advanced : Play → ℕ → Play
 advanced p n = withOnu (withOlt p (advanceOltOf (p .olt) n .olt)) (advanceOnuOf (p .onu) n .onu)
 

@@ -86,7 +86,7 @@ pastGroup =
 abbrev pub groupAt : HeadEnd → ℕ → GroupRecord
 groupAt h i = getD (h .groups .table) i pastGroup
 
--- the places in use: those of the units and those of the groups
+-- the places in use: those of the units and those of the groups (D38)
 abbrev pub placesTaken : HeadEnd → ℕ
 placesTaken h = h .olt .count + h .groups .count
 

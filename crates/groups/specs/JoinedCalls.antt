@@ -54,7 +54,7 @@ holds j n = either (both (isUp (j .keys .held)) (eqb n (j .keys .active + 1))) (
 unfoldable pub heldAgain : Joined → KeyMessage → Bool
 heldAgain j m = both (holds j (m .number)) (same (m .key) (keyIn (j .keys .slots) (m .number)))
 
--- any number above those that are held, up to the last
+-- any number above those that are held, up to the last (D42)
 unfoldable pub newNumber : Joined → KeyMessage → Bool
 newNumber j m = both (leb (m .number) maxKeyNumber) (ltb (highestHeld j) (m .number))
 
@@ -84,7 +84,7 @@ joinedAfterMessage j m = pick (newNumber j m) (joinedTaken j m) j
 abbrev pub noAnswer : Answer
 noAnswer = record { kind = 0; named = 0; unit = 0; number = 0 }
 
--- an acknowledgement for a group names the unit, by its first LLID
+-- an acknowledgement for a group names the unit, by its first LLID (D40)
 unfoldable pub groupAnswer : Identity → ℕ → Answer
 groupAnswer i number = record { kind = keyKind; named = 1; unit = getD (i .llids) 0 0; number = number }
 

@@ -13,7 +13,7 @@ use Rattle.groups.specs.Limits.{maxMembers}
 use Rattle.groups.specs.declared.Members.{Members}
 use Rattle.groups.specs.declared.Roster.{Roster}
 
--- the places of the members among the units
+-- the places of the members among the units (D39)
 unfoldable pub placesOf : Members → List ℕ
 placesOf m = tabulate 0 (m .count) (λ j. getD (m .places) j 0)
 

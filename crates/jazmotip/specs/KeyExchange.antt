@@ -11,7 +11,7 @@ use Rattle.xgpon.specs.declared.values.KeyExchange.{KeyExchange}
 use Rattle.jazmotip.specs.declared.key_exchange.ReadInput.{ReadInput}
 use Rattle.jazmotip.specs.declared.key_exchange.ReadInput.the-variants.{Known, Unknown}
 
--- the inputs in the order of their kinds, from 1
+-- the inputs in the order of their kinds, from 1 (D106)
 abbrev pub inputs : ℕ → List ReadInput
 inputs index =
     Unknown

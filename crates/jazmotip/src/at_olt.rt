@@ -48,7 +48,7 @@ pub extern "C" fn jazmotip_olt_register_group(
     at_head::register_group(olt, llid, interval, roster)
 }
 
-// The advance by value, with what the walk of the one in place needs of its contract.
+// The advance by value, with what the walk of the one in place needs of its contract (D116).
 fn advanced(olt: HeadEnd, n: u64) -> HeadAnswer
     ensures { λ r. ⌜ r ≡ headAdvanceOf olt n ⌝ }
 {

@@ -126,6 +126,7 @@ pub(crate) fn answer_in_numbers(answer: OpenAnswer) -> BlockAnswer
     }
 }
 
+// A part of the caller's block crosses as its offset and length (D124).
 fn part_in_numbers(bounds: Bounds) -> BlockPart
     ensures { λ r. ⌜ r ≡ blockPart bounds ⌝ }
 {

@@ -39,7 +39,7 @@ fn numbered(answer: SealAnswer) -> PayloadAnswer
     }
 }
 
-// EncEnabled is above 1: the lengths come first.
+// EncEnabled is above 1: the lengths come first (D125).
 fn deny_flag(n: usize, m: usize) -> SealAnswer
     ensures { λ r. ⌜ r ≡ flagDenied n m ⌝ }
 {

@@ -100,7 +100,7 @@ rosterMembers o r = freshMembers (map (λ llid. placeFound (find o llid)) (roste
 unfoldable pub validGroupRegistration : ℕ → Members → Bool
 validGroupRegistration interval m = both (leb 1 (m .count)) (validInterval interval)
 
--- 21 is for a ninth member, one that is not registered, and one that is named twice
+-- 21 is for a ninth member, one that is not registered, and one that is named twice (D41)
 unfoldable pub groupVerdict : HeadEnd → ℕ → ℕ → Members → Verdict
 groupVerdict h llid interval m =
     refuseIf (not (validGroupRegistration interval m)) OutOfRange

@@ -1,4 +1,4 @@
--- Whom a call means: one that names a group's LLID is made on the group, any other on the OLT or the unit (02, C-14). No group has an LLID
+-- Whom a call means: one that names a group's LLID is made on the group, any other on the OLT or the unit (02, C-14; D37). No group has an LLID
 -- of a unit in a valid head end, nor a subscriber one twice, so the two never clash. Assumes nothing.
 use Prim.Native.Nat.{ℕ}
 use Rattle.refusal.specs.declared.Verdict.{Verdict}

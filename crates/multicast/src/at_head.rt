@@ -1,4 +1,4 @@
-// The calls of a head end but send and receive (02, C-14).
+// The calls of a head end but send and receive (02, C-14). A call on a unit is the unit's, put back in a copy of the OLT (D120).
 ghost use mathlib.Core.Path.{_≡_};
 ghost use Prim.Native.Nat.{_<_};
 ghost use Rattle.ends.specs.Limits.{maxUnits};

@@ -67,6 +67,7 @@ pub fn octets48(n: u64) -> [u8; 6]
     ]
 }
 
+// 0 where there is no octet: so do all that read at a place (D115).
 pub fn octet_at(s: &[u8], at: usize) -> u8
     ensures { λ r. ⌜ r ≡ getD (now (s .entry)) at 0 ⌝ }
 {

@@ -30,7 +30,7 @@ fn located_after(way: Verdict, found: Found) -> Located
     }
 }
 
-// The end is judged and the unit found in one pass.
+// The end is judged and the unit found in one pass; the record comes by value (D119).
 pub fn locate(olt: Olt, ahead: Verdict, llid: u16) -> Located
     ensures { λ r. ⌜ r ≡ locatedOf olt ahead llid ⌝ }
     ensures order { λ r. ⌜ r .verdict ≡ locateOrder olt ahead llid ⌝ }

@@ -103,7 +103,7 @@ pub fn fresh(identity: Identity, oltmac: u64, time: u64) -> OnuAnswer
     }
 }
 
-// 1 for a lent end that is not valid, then what the call refuses.
+// 1 for a lent end that is not valid, then what the call refuses (D121).
 pub(crate) fn on_valid(o: Onu, rest: Verdict) -> Verdict
     ensures { λ r. ⌜ r ≡ onValid (validOnu o) rest ⌝ }
 {

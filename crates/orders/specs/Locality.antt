@@ -32,7 +32,7 @@ UnitLocal =
     → has (unitAt (h .olt) i .identity) (llidOf c) ≡ true
     → (answerOf h c ≡ answerOf k c) × SameUnit (after h c) (after k c) i j
 
----- a group: its own record but for its members' places; and of each member its LLIDs and clock acknowledgement
+---- a group: its own record but for its members' places; and of each member its LLIDs and clock acknowledgement (D51)
 
 pub record GroupPart : Type 0 where
   pub keys : UnitKeys

@@ -35,6 +35,7 @@ unfoldable pub unitParty : Found → Party
 unitParty (At i) = unit i
 unitParty Nowhere = nobody
 
+-- by the LLID alone (D49)
 unfoldable pub partyOf : HeadEnd → Call → Party
 partyOf h c = byLlid (findGroup h (llidOf c)) (unitParty (find (h .olt) (llidOf c))) group
 
@@ -65,7 +66,7 @@ takingOf (acknowledge llid answer) = nothing
 takingOf (send llid channel payload output) = channelFor channel (eqsOf payload)
 takingOf (receive header payload output) = nothing
 
--- two sends on one channel
+-- two sends on one channel, which name one channel index (D50)
 unfoldable pub oneChannel : Taking → Taking → Bool
 oneChannel nothing t = false
 oneChannel (channelFor channel eqs) nothing = false

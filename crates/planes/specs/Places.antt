@@ -7,7 +7,7 @@ use Rattle.octets.specs.Eqs.{eqOctets}
 abbrev pub placeInEqs : ℕ → ℕ → ℕ
 placeInEqs c e = eqOctets * e + c
 
--- and here in the planes: all control octets, then data octet 0 of every EQ, then data octet 1, up to 7
+-- and here in the planes: all control octets, then data octet 0 of every EQ, then data octet 1, up to 7 (D89)
 abbrev pub placeInPlanes : ℕ → ℕ → ℕ → ℕ
 placeInPlanes n c e = n * c + e
 

@@ -15,7 +15,7 @@ use refusal::Refusal;
 use refusal::Verdict;
 use refusal::refuse_if;
 
-// The EQs of a block, which stays in the cache while its planes are moved.
+// The EQs of a block, which stays in the cache while its planes are moved (D90).
 const BLOCK_EQS: usize = 512;
 
 // Octets c, c + 1 and c + 2 of the EQs from `from` up to `to`, whose planes begin at `at`. Three planes at a time: nine can all fall on

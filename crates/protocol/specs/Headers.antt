@@ -18,7 +18,7 @@ use Rattle.protocol.specs.declared.KeyChoice.the-variants.{Clear, Curren
 use Rattle.protocol.specs.declared.Passage.{Passage}
 use Rattle.protocol.specs.declared.Sending.{Sending}
 
--- the values of a header but its channel index and LLID: EncKey 1 only with EncEnabled 1
+-- the values of a header but its channel index and LLID: EncKey 1 only with EncEnabled 1 (D26)
 unfoldable pub validHeader : Header → Bool
 validHeader h = both (leb (h .encenabled) 1) (both (leb (h .enckey) (h .encenabled)) (ltb (h .epam) epamTurn))
 
@@ -35,7 +35,7 @@ choiceVerdict (Current n) = Accepted
 choiceVerdict (Next n) = Accepted
 choiceVerdict (Barred r) = Refused r
 
--- only the key in use can be too old: one that comes into use has had no send
+-- only the key in use can be too old: one that comes into use has had no send (D24)
 unfoldable pub choiceAged : KeyChoice → FirstSend → ℕ → Bool
 choiceAged Clear f now = false
 choiceAged (Current n) f now = aged f now
@@ -49,13 +49,13 @@ choiceEnciphered (Next n) = true
 choiceEnciphered (Barred r) = false
 
 -- a send at either end, under the key of its choice, whose first send is noted: 5 for an enciphered one where the clock is not set (02, C-16),
--- then 12, then 13, the key's age being by the end's own count
+-- then 12, then 13, the key's age being by the end's own count (D46)
 abbrev pub clockChannelKey : Bool → Bool → KeyChoice → FirstSend → ℕ → Verdict
 clockChannelKey set busy choice first now =
     refuseIf (both (not set) (choiceEnciphered choice)) ClockNotSet
     (refuseIf busy ChannelTaken (refuseIf (choiceAged choice first now) KeyTooOld Accepted))
 
--- the header of an envelope numbered n, at the sender's clock (01, Keys: EPAM, of LocalTime if unsynced)
+-- the header of an envelope numbered n, at the sender's clock (01, Keys: EPAM, of LocalTime if unsynced), an ESH or an ECH (D33)
 unfoldable pub envelopeHeader : ℕ → ℕ → ℕ → ℕ → Header
 envelopeHeader n channel llid clock =
     record { channel = channel; llid = llid; encenabled = pick (eqb n 0) 0 1; enckey = n % 2; epam = epamOf clock }

@@ -38,6 +38,6 @@ unfoldable pub after : {H : Type 0} → Verdict → Olt → H → Reply Olt H �
 after Accepted o nothing r = r
 after (Refused x) o nothing r = reply (Refused x) o nothing o nothing
 
--- 1 for a lent end that is not valid, then what the call refuses ahead of 2, then 2, then what the unit decides
+-- 1 for a lent end that is not valid, then what the call refuses ahead of 2, then 2, then what the unit decides (D112)
 unfoldable pub lift : {H : Type 0} → Olt → H → Verdict → ℕ → (Shared → UnitRecord → Outcome H) → Reply Olt H
 lift o nothing ahead llid call = after (onValid (validOlt o) ahead) o nothing (atUnit o nothing call (find o llid))

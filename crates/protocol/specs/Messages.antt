@@ -1,5 +1,5 @@
 -- What crosses between the ends beside envelopes (01, Clock; Keys). A clock message is the two stamps of crate clock. Where a
--- call hands over nothing, zeros stand in the message's place. Assumes nothing.
+-- call hands over nothing, zeros stand in the message's place (D8). Assumes nothing.
 use Prim.Native.Nat.{ℕ}
 use Rattle.clock.specs.declared.Stamps.{Stamps}
 use Rattle.ends.specs.Keys.{noKey}

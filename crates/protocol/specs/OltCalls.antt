@@ -52,6 +52,7 @@ freshOltOf mac clock =
 unfoldable pub validRegistration : Identity → ℕ → ℕ → Bool
 validRegistration i trip interval = both (validIdentity i) (both (leb trip maxRoundTrip) (validInterval interval))
 
+-- five LLIDs with a repeat are 1, a repeat at a full table is 3 (D15)
 unfoldable pub registerVerdict : Olt → Identity → ℕ → ℕ → Verdict
 registerVerdict o i trip interval =
     refuseIf (not (validRegistration i trip interval)) OutOfRange

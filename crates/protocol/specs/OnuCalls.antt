@@ -87,7 +87,7 @@ timeAhead new old = (new + (localTurn - old % localTurn)) % localTurn
 unfoldable pub nearTime : ℕ → ℕ → Bool
 nearTime new old = either (leb (timeAhead new old) maxTimeChange) (leb (timeAhead old new) maxTimeChange)
 
--- the sum of the changes, modulo 2^64, after the signed one from an old LocalTime to a new one
+-- the sum of the changes, modulo 2^64, after the signed one from an old LocalTime to a new one (D44)
 unfoldable pub changesAfter : ℕ → ℕ → ℕ → ℕ
 changesAfter changes new old =
     pick (leb (timeAhead new old) maxTimeChange) ((changes + timeAhead new old) % wordTurn) ((changes + (wordTurn - timeAhead old new)) % wordTurn)
@@ -109,6 +109,7 @@ newTimeOf o time = onuAnswer (onuReply o silent (newTimeVerdict o time) (onuReti
 
 ---- clock message: 1
 
+-- both stamps are of 48 bits: nothing more is asked of them (D13)
 unfoldable pub clockMessageVerdict : Stamps → Verdict
 clockMessageVerdict s = refuseIf (not (both (ltb (s .rx) clockTurn) (ltb (s .tx) clockTurn))) OutOfRange Accepted
 
@@ -139,6 +140,7 @@ heldKey k m = both (isUp (k .held)) (both (eqb (m .number) (k .active + 1)) (sam
 unfoldable pub activeKey : OnuKeys → KeyMessage → Bool
 activeKey k m = both (leb 1 (k .active)) (both (eqb (m .number) (k .active)) (same (m .key) (keyIn (k .slots) (k .active))))
 
+-- a new key, or again the one that is held or in use; the LLID of a repeat is not compared (D20)
 unfoldable pub keyMessageVerdict : Onu → KeyMessage → Verdict
 keyMessageVerdict o m =
     refuseIf (not (has (o .identity) (m .llid))) UnknownLlid

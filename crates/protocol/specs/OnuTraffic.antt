@@ -63,7 +63,7 @@ sendingOnu o misfit llid channel eqs =
 
 ---- receive: 14, 1, 2, 10, 5, 11, 9
 
--- clear while a = 0; index a mod 2 with a ≥ 1: key a; the other index: key a + 1 if held
+-- clear while a = 0; index a mod 2 with a ≥ 1: key a; the other index: key a + 1 if held (D31)
 unfoldable pub onuReceiveChoice : OnuKeys → Header → KeyChoice
 onuReceiveChoice k h =
     pick (eqb (h .encenabled) 0) (pick (eqb (k .active) 0) Clear (Barred ClearEnvelope))

@@ -8,7 +8,7 @@ use Rattle.refusal.specs.declared.Verdict.the-variants.{Accepted, Refused}
 use Rattle.refusal.specs.Order.{refuseIf}
 use Rattle.clock.specs.Ticks.{maxTick}
 
--- ahead of each list comes 1, for an end that is not valid
+-- ahead of each list, and of 14, comes 1, for an end that is not valid (D1)
 abbrev pub onValid : Bool → Verdict → Verdict
 onValid valid v = refuseIf (not valid) OutOfRange v
 
@@ -27,6 +27,6 @@ unfoldable pub reply : {E H : Type 0} → Verdict → E → H → E → H → Re
 reply Accepted lent nothing next handed = record { verdict = Accepted; end = next; handed = handed }
 reply (Refused r) lent nothing next handed = record { verdict = Refused r; end = lent; handed = nothing }
 
--- an advance of either end (01, Clock)
+-- an advance of either end (01, Clock): by 0 too, and up to 2^62 itself (D9)
 unfoldable pub advanceVerdict : ℕ → ℕ → Verdict
 advanceVerdict tick n = refuseIf (ltb maxTick (tick + n)) AtEnd Accepted

@@ -39,13 +39,14 @@ clockCaptured c tick = record { trip = c .trip; captured = 1; tick = tick; sent 
 unfoldable pub captureUnit : Shared → UnitRecord → Outcome Silence
 captureUnit s u = outcome s Accepted (withClock u (clockCaptured (u .clock) (s .tick))) silent
 
----- the round trip measured again (02, C-16): capture, sent and acknowledged are forgotten
+---- the round trip measured again (02, C-16): capture, sent and acknowledged are forgotten (D43)
 
 unfoldable pub measureUnit : ℕ → Shared → UnitRecord → Outcome Silence
 measureUnit trip s u = outcome s Accepted (withClock u (newUnitClock trip)) silent
 
 ---- clock send: 8, 16
 
+-- any number of times, up to a second after the capture (D11)
 unfoldable pub clockSendVerdict : UnitClock → ℕ → Verdict
 clockSendVerdict c tick =
     refuseIf (not (isUp (c .captured))) NothingOutstanding
@@ -54,7 +55,7 @@ clockSendVerdict c tick =
 unfoldable pub clockAfterSend : UnitClock → UnitClock
 clockAfterSend c = record { trip = c .trip; captured = c .captured; tick = c .tick; sent = 1; acknowledged = c .acknowledged }
 
--- the stamps of the capture's tick, from the clock of this one
+-- the stamps of the capture's tick, from the clock of this one (D12)
 unfoldable pub clockMessageOf : Shared → UnitClock → Stamps
 clockMessageOf s c = capturedAt (rewound (s .clock) (s .tick - c .tick)) (c .trip)
 
@@ -64,6 +65,7 @@ clockSendUnit s u =
 
 ---- offer: 5, 6, 7, 17
 
+-- the key is compared with key A alone, and only where A ≥ 1 (D19)
 unfoldable pub offerVerdict : UnitRecord → List ℕ → Verdict
 offerVerdict u key =
     refuseIf (not (isUp (u .clock .acknowledged))) ClockNotSet
@@ -107,7 +109,7 @@ outstanding a u =
 unfoldable pub acknowledgeVerdict : Acknowledgement → UnitRecord → Verdict
 acknowledgeVerdict a u = refuseIf (not (outstanding a u)) NothingOutstanding Accepted
 
--- a clock acknowledgement needs a clock message sent
+-- a clock acknowledgement needs a clock message sent (D14)
 unfoldable pub clockAcknowledgedUnit : Shared → UnitRecord → Outcome Silence
 clockAcknowledgedUnit s u =
     outcome s (refuseIf (not (isUp (u .clock .sent))) NothingOutstanding Accepted)
@@ -121,14 +123,14 @@ clockAcknowledgedUnit s u =
     }))
     silent
 
--- a key acknowledgement names number O, which is 1 or more
+-- a key acknowledgement names number O, which is 1 or more, and is accepted again and again (D22)
 unfoldable pub keyAcknowledgedUnit : ℕ → Shared → UnitRecord → Outcome Silence
 keyAcknowledgedUnit number s u =
     outcome s (refuseIf (not (both (leb 1 number) (eqb number (u .keys .offered)))) NothingOutstanding Accepted)
     (withConfirmation u (record { confirmed = u .confirmation .confirmed; acknowledged = 1 }))
     silent
 
--- by its kind; one of neither kind fits nothing
+-- by its kind; one of neither kind fits nothing (D21)
 unfoldable pub acknowledgeUnit : Acknowledgement → Shared → UnitRecord → Outcome Silence
 acknowledgeUnit a s u =
     pick (eqb (a .kind) clockKind) (clockAcknowledgedUnit s u)

@@ -43,6 +43,7 @@ unfoldable pub keysSwitched : UnitKeys → ℕ → UnitKeys
 keysSwitched k tick =
     record { timer = timerFallen (k .timer); active = k .offered; offered = k .offered; slots = k .slots; first = notedAt tick }
 
+-- a clear send is no first send (D36)
 unfoldable pub keysAfterSend : KeyChoice → UnitKeys → ℕ → UnitKeys
 keysAfterSend Clear k tick = k
 keysAfterSend (Current n) k tick = withFirst k (firstSend (k .first) tick)
@@ -60,7 +61,7 @@ sendUnit llid channel eqs s u =
 
 ---- receive: 10, 11, 9
 
--- clear while C = 0; index C mod 2 with C ≥ 1: key C; else index A mod 2 with A = C + 1: key A
+-- clear while C = 0 (D29); index C mod 2 with C ≥ 1: key C; else index A mod 2 with A = C + 1: key A; never key O (D30)
 unfoldable pub unitReceiveChoice : UnitRecord → Header → KeyChoice
 unitReceiveChoice u h =
     pick (eqb (h .encenabled) 0) (pick (eqb (u .confirmation .confirmed) 0) Clear (Barred ClearEnvelope))
@@ -70,11 +71,12 @@ unitReceiveChoice u h =
     (Next (u .keys .active))
     (Barred NoKey)))
 
+-- EPAM of clear envelopes is checked too (D28)
 unfoldable pub unitReceiveVerdict : Shared → UnitRecord → Header → Verdict
 unitReceiveVerdict s u h =
     refuseIf (not (eqb (h .epam) (epamOf (s .clock)))) EpamDiffers (choiceVerdict (unitReceiveChoice u h))
 
--- C becomes A, and the key before A is forgotten
+-- C becomes A, and the key before A is forgotten (D25)
 unfoldable pub unitConfirmed : UnitRecord → UnitRecord
 unitConfirmed u =
     withConfirmation (withKeys u (withSlots (u .keys) (onlyKey (u .keys .slots) (u .keys .active))))

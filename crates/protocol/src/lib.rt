@@ -1,5 +1,5 @@
 // What crosses between the ends, what an envelope goes under, and what the calls of both ends answer (01, Clock; Keys). The definition of every
-// call stands in specs/.
+// call stands in specs/ (D110).
 pub mod ticks;
 
 use clock::Stamps;
@@ -37,7 +37,7 @@ pub struct Header {
     pub epam: u8,
 }
 
-// Under which key an envelope goes.
+// Under which key an envelope goes (D111).
 pub enum KeyChoice {
     // none
     Clear,

@@ -1,4 +1,4 @@
-// The reader program: settings, then a capture block on standard input, raw octets; the listing on standard output.
+// The reader program: settings, then a capture block on standard input, raw octets; the listing on standard output (D83).
 
 use capture::listing::LISTING_OCTETS;
 use records::block::MOST_OCTETS;

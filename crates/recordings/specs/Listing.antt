@@ -66,7 +66,7 @@ firstBlock s = part s headOctets (firstLength s)
 abbrev pub secondBlock : List ℕ → List ℕ
 secondBlock s = drop (headOctets + firstLength s) s
 
--- input that ends before its first block does, or before its head, is of a bad length: 14
+-- input that ends before its first block does, or before its head, is of a bad length: 14 (D93)
 unfoldable pub bodyOf : List ℕ → List ℕ
 bodyOf s =
     pick (leb (headOctets + firstLength s) (length s))

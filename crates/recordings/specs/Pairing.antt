@@ -10,7 +10,7 @@ use Rattle.records.specs.Record.{recordHeader}
 use Rattle.records.specs.Block.{recordsIn, recordOf}
 use Rattle.octets.specs.Each.{each}
 
--- channel index, LLID and clock agree; kind, flags and EPAM play no part
+-- channel index, LLID and clock agree; kind, flags and EPAM play no part (D92)
 unfoldable pub keysAgree : Header → Header → Bool
 keysAgree g h = both (eqb (g .channel) (h .channel)) (both (eqb (g .llid) (h .llid)) (eqb (g .clock) (h .clock)))
 

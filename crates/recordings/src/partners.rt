@@ -54,7 +54,7 @@ pub(crate) fn is_distinct(block: &[u8]) -> bool
     true
 }
 
-// The partners of all records of two blocks: each record of the first is held against those of the second once.
+// The partners of all records of two blocks: each record of the first is held against those of the second once (D94).
 pub(crate) fn match_up(a: &[u8], b: &[u8]) -> Partners
     requires { ⌜ Comparable (now a) (now b) ⌝ }
     ensures { λ r. ⌜ Matched (now (a .entry)) (now (b .entry)) r ⌝ }

@@ -8,7 +8,7 @@ use Rattle.octets.specs.Lists.{part}
 use Rattle.records.specs.declared.header.Header.{Header}
 use Rattle.records.specs.Record.{recordHeader, recordOctets}
 
--- the most octets of a block
+-- the most octets of a block; one longer is 15 (D70)
 abbrev pub mostOctets : ℕ
 mostOctets = 65536
 
@@ -47,7 +47,7 @@ dueOf b (suc i) = endOf b i
 unfoldable pub recordOf : List ℕ → ℕ → List ℕ
 recordOf b i = part b (offsetOf b i) (lengthOf b i)
 
--- the header that starts at `from`, and the record there, as long as its EQs say
+-- the header that starts at `from`, and the record there, as long as its EQs say (D75)
 unfoldable pub headerFrom : List ℕ → ℕ → Header
 headerFrom b from = recordHeader (drop from b)
 

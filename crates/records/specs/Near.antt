@@ -1,5 +1,5 @@
 -- A receive clock that is known only nearly (02, C-18). A correction is kept as its step, which is 31 more: steps run from 0 to 62,
--- and step 31 corrects nothing. Clocks are counted modulo 2^48, so a sum of corrections is kept modulo 2^48 too. Assumes nothing.
+-- and step 31 corrects nothing. Clocks are counted modulo 2^48, so a sum of corrections is kept modulo 2^48 too (D85). Assumes nothing.
 use mathlib.Core.Path.{_≡_}
 use mathlib.Core.Bool.{Bool, true, false}
 use Prim.Native.Nat.{ℕ, _+_, _-_, _*_, _/_, _%_, _≤_, _<_}
@@ -73,7 +73,7 @@ own llid h = both (headerFits h) (eqb (h .llid) llid)
 unfoldable pub farVerdict : ℕ → Header → RecordVerdict
 farVerdict llid h = pick (headerFits h) (pick (eqb (h .llid) llid) (Refused EpamDiffers) (Refused UnknownLlid)) (Refused OutOfRange)
 
--- 1, 2, 10 for a clock that is too far, else the verdict at the clock taken; only a header past all three moves the corrections
+-- 1, 2, 10 for a clock that is too far, else the verdict at the clock taken; only a header past all three moves the corrections (D86)
 unfoldable pub heardAt : ℕ → ℕ → Drift → Header → Correction → Heard
 heardAt presence llid drift h TooFar = record { verdict = farVerdict llid h; drift = drift }
 heardAt presence llid drift h (Step d) =

@@ -39,11 +39,11 @@ flagsFit flags = both (eqb (clearedFlags flags) 0) (either (encEnabled flags) (e
 abbrev pub kinds : ℕ
 kinds = 2
 
--- kind, channel index and flags are of their values
+-- kind, channel index and flags are of their values; EPAM above 63 is no cause for 1 here (D27)
 unfoldable pub headerFits : Header → Bool
 headerFits h = both (ltb (h .kind) kinds) (both (channelFits (h .channel)) (flagsFit (h .flags)))
 
--- what is left to judge once EPAM agrees: 9 for an enciphered record without its key, t being the clock to open at
+-- what is left to judge once EPAM agrees: 9 for an enciphered record without its key (D77), t being the clock to open at
 unfoldable pub keyVerdict : ℕ → ℕ → ℕ → RecordVerdict
 keyVerdict presence t flags =
     pick (encEnabled flags) (pick (keyPresent presence (encKey flags)) (Sealed (encKey flags) t) (Refused NoKey)) Clear

@@ -19,7 +19,7 @@ mostUsers = 16
 abbrev pub setOf : List ℕ → ℕ → List ℕ
 setOf sets j = part sets (settingsOctets * j) settingsOctets
 
--- the first set of this LLID among the m from set j on; where there is none, the place behind them
+-- the first set of this LLID among the m from set j on; where there is none, the place behind them (D95)
 unfoldable pub setFrom : List ℕ → ℕ → ℕ → ℕ → ℕ
 setFrom sets llid j zero = j
 setFrom sets llid j (suc m) = pick (eqb (llidOf (setOf sets j)) llid) j (setFrom sets llid (suc j) m)
@@ -27,7 +27,7 @@ setFrom sets llid j (suc m) = pick (eqb (llidOf (setOf sets j)) llid) j (setFrom
 abbrev pub setFor : Caller → List ℕ → ℕ → ℕ
 setFor c sets llid = setFrom sets llid 0 (c .sets)
 
--- the octets of the user who asks, one for each set; users are numbered from 1
+-- the octets of the user who asks, one for each set; users are numbered from 1 (D98)
 unfoldable pub ownRights : Caller → List ℕ → List ℕ
 ownRights c rights = part rights (c .sets * (c .user - 1)) (c .sets)
 

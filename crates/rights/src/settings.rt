@@ -9,7 +9,7 @@ use octets::part_of;
 use records::settings::SETTINGS_OCTETS;
 use records::settings::llid;
 
-// How many sets and users there are, and the number of the user who asks, from 1.
+// How many sets and users there are, and the number of the user who asks, from 1 (D100).
 #[repr(C)]
 pub struct Caller {
     pub sets: u8,

@@ -38,7 +38,7 @@ digitCount n = digitsWithin mostDigits n
 unfoldable pub decimalOf : ℕ → List ℕ
 decimalOf n = digits 10 (digitCount n) n
 
--- EncKey, or - for a clear record
+-- EncKey, or - for a clear record, of refused ones too (D81)
 unfoldable pub keyGlyph : Header → ℕ
 keyGlyph h = pick (encEnabled (h .flags)) (48 + encKey (h .flags)) 45
 

@@ -1,4 +1,4 @@
--- Rows of one state or of two in four words, and what the code does to them. Steps of the code that the papers do not name: that they make up the
+-- Rows of one state or of two in four words, and what the code does to them (D69). Steps of the code that the papers do not name: that they make up the
 -- cipher (FIPS 197, 5.1) is proved. Assumes nothing.
 use mathlib.Core.Path.{_≡_}
 use mathlib.Core.List.{List, _∷_, _++_}

@@ -14,7 +14,7 @@ use Rattle.envelope.specs.declared.SealAnswer.{SealAnswer}
 use Rattle.envelope.specs.declared.SealAnswer.the-variants.{Done, Denied}
 use Rattle.sealing.specs.Payload.{sealed}
 
--- the payload as it leaves: a clear envelope's passes unchanged
+-- the payload as it leaves: a clear envelope's passes unchanged (D65)
 unfoldable pub carried : Bool → List ℕ → Nonce → List ℕ → List ℕ
 carried enciphered w n p = pick enciphered (sealed w n p) p
 

@@ -1,4 +1,4 @@
-// Sealing and opening of an envelope's payload, AES-128 in counter mode under the control mask: one act (01, Counter block and mask).
+// Sealing and opening of an envelope's payload, AES-128 in counter mode under the control mask: one act (01, Counter block and mask), done in place (D67).
 ghost use mathlib.Core.Path.{_≡_};
 ghost use mathlib.Core.Bool.{true};
 ghost use Prim.Native.Nat.{_+_, _*_, _%_, _≤_, _<_};

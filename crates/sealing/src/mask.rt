@@ -29,7 +29,7 @@ pub(crate) fn eight_at(p: &[u8], at: usize) -> u64
     both(four_at(p, at), four_at(p, at + 4))
 }
 
-// 255 for each data octet, 0 for each control character: bit j of the control octet comes to octet j by shift and mask.
+// 255 for each data octet, 0 for each control character: bit j of the control octet comes to octet j by shift and mask (D68).
 fn data_octets(control: u8) -> u64
     ensures { λ r. ⌜ Eight (λ j. 255 * (1 - bitOf control j)) r ⌝ }
 {

@@ -12,7 +12,7 @@ use Rattle.planes.specs.Calls.{writing}
 use Rattle.capture.specs.Directory.{verdictOn, directoryOf}
 use Rattle.store.specs.Blocks.{rearrangedBlock, restoredBlock}
 
--- 14 for an output of another length, then 15, 18 and 19 for the directory
+-- 14 for an output of another length, then 15, 18 and 19 for the directory; no settings are asked for (D91)
 unfoldable pub storeVerdict : List ℕ → ℕ → Verdict
 storeVerdict b outputOctets = refuseIf (not (eqb outputOctets (length b))) BadLength (verdictOn (directoryOf b))
 

@@ -15,7 +15,7 @@ use Rattle.protocol.specs.Headers.{choiceEnciphered}
 use Rattle.protocol.specs.declared.Passage.{Passage}
 use Rattle.traffic.specs.declared.carrying.Work.{Work}
 
--- 14: the lengths of payload and output
+-- 14: the lengths of payload and output, ahead of what the header says (D34)
 unfoldable pub misfit : List ℕ → List ℕ → Bool
 misfit p out = not (lengthsFit (length p) (length out))
 

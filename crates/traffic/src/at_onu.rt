@@ -30,7 +30,7 @@ use refusal::Verdict;
 use refusal::refuse_if;
 use unit::passing;
 
-// What a send decides: its verdict, the end that it leaves, and what its payload goes under.
+// What a send decides: its verdict, the end that it leaves, and what its payload goes under (D114).
 pub(crate) struct OnuSending {
     pub verdict: Verdict,
     pub onu: Onu,

@@ -1,5 +1,5 @@
 -- A call on one unit as the code answers it. `way` is the verdict on the way to the unit: 1 for the end, what the call refuses ahead of
--- 2, and 2. Refused there or by the unit, the unit and the channels stay, and nothing is handed over (01, 'When the reader says no').
+-- 2, and 2. Refused there or by the unit, the unit and the channels stay, and nothing is handed over (01, 'When the reader says no'; D113).
 -- Assumes nothing.
 use Rattle.refusal.specs.Order.{andThen}
 use Rattle.refusal.specs.declared.Verdict.{Verdict}

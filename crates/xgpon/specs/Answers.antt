@@ -40,7 +40,7 @@ stays x = accepted x silent noTimer noTimer
 abbrev pub refused : KeyExchange → Refusal → Answer
 refused x r = record { number = numberOf r; exchange = x; message = silent; starts = noTimer; stops = noTimer }
 
--- a report of the awaited index gets the answer, one of another index 25
+-- a report of the awaited index gets the answer, one of another index 25 (D104)
 abbrev pub answerIf : Bool → Answer → Answer → Answer
 answerIf true answer otherwise = answer
 answerIf false answer otherwise = otherwise

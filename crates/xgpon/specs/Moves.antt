@@ -1,5 +1,5 @@
 -- The moves of the OLT, state by state (003, 15.5.3.2). A row gives the next state, the message, the timers that start and those that stop,
--- and cites the letter of the text, or the figure (15-4), that it is from. What a letter says of timers it leaves to the figure, which sets
+-- and cites the letter of the text, or the figure (15-4), that it is from (D103). What a letter says of timers it leaves to the figure, which sets
 -- them, and to their definitions: TK1 limits the time in KL1, KL2 and KL3, TK2 that in KL1, TK3 that in KL3. Where nothing gives a move,
 -- nothing changes, and a report of another index than the awaited one is 25 (02, C-21). Assumes nothing.
 use Rattle.refusal.specs.declared.Refusal.the-variants.{OutOfRange}

@@ -44,7 +44,7 @@ abbrev pub otherThanFirst : Bool → ℕ
 otherThanFirst true = secondIndex
 otherThanFirst false = firstIndex
 
--- the index of the key that is asked for while the one at `active` is in use: the first where there is none, else the other of the two
+-- the index of the key that is asked for while the one at `active` is in use: the first where there is none, else the other of the two (D105)
 abbrev pub indexAfter : ℕ → ℕ
 indexAfter active = otherThanFirst (eqb active firstIndex)
 

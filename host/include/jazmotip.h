@@ -7,8 +7,8 @@
  * System V calling convention.
  *
  * What holds of every call
- *   - It ends, and asks nothing of the values handed to it: whatever is malformed, untimely, unknown or too long is refused by a
- *     number from the table below, and 0 is acceptance. It is proved, not tested, that each answer is the one its definition gives;
+ *   - It ends, and asks nothing of the values handed to it: whatever is malformed, untimely, unknown or too long is refused with a
+ *     code from the table below, and 0 is acceptance. It is proved, not tested, that each answer is the one its definition gives;
  *     docs/PROMISES.md names the definitions.
  *   - A refusal changes nothing. The end comes back exactly as it was lent, a lent output keeps every octet, count,
  *     runs and expansions are 0, and what would have been handed over (message, header, acknowledgement) is zeros.
@@ -16,7 +16,7 @@
  *
  * What the caller owes, as for any C function
  *   - A pointer with a length points to that many octets that may be read, and written for an output; octets need no alignment.
- *     With length 0 nothing is read or written through it, and it may be any pointer, NULL too.
+ *     With length 0 nothing is read or written through it, and it may be any pointer, NULL too (docs/DECISIONS.md, D126).
  *   - A pointer without a length, to a key, a text or an end that is advanced, is not NULL. The end is aligned as its type is, to
  *     8 octets.
  *   - An output overlaps nothing else that is lent in the same call; to seal or open a payload where it lies there are calls of
@@ -36,6 +36,13 @@
  *         olt = a.olt;                        // right for acceptance and refusal alike
  *         if (a.number != JAZMOTIP_ACCEPTED) { ... }
  *
+ * When a unit does not come on, after whatever was lost
+ *   - This brings a registered unit to its next key, and it is proved that it does (docs/PROGRESS.md): let what is under way arrive;
+ *     let 4,194,304 ticks pass; jazmotip_olt_capture, jazmotip_olt_clock_send and the acknowledgement, where the unit is unsynced;
+ *     jazmotip_olt_offer, or jazmotip_olt_retry where an offer is outstanding, and the acknowledgement; let the rest of the timer's
+ *     interval pass; send down; send up. Leave out what is done already. Only a switch whose envelopes all got lost for 2^48 ticks
+ *     (eight days) can't be made good: register the unit with an OLT that is made anew.
+ *
  * Units: one tick is one EQT, 2.56 ns. One EQ is nine octets: a control octet, then eight data octets.
  */
 #ifndef JAZMOTIP_H
@@ -48,8 +55,9 @@
 extern "C" {
 #endif
 
-/* ---------------------------------------------------------------------------------------------------------------- Numbers
- * What a call answers with. Where several causes hold, the first in the call's own order is given; each call lists its order. */
+/* ------------------------------------------------------------------------------------------------------------------ Codes
+ * What a call answers with: the field number of its answer, or its result. Where several causes hold, the first in the call's own
+ * order is given; each call lists its order. */
 enum {
     JAZMOTIP_ACCEPTED = 0,
     JAZMOTIP_OUT_OF_RANGE = 1,        /* a value outside its range, or an end that breaks the rules below */
@@ -374,7 +382,7 @@ jazmotip_olt_answer jazmotip_olt_register(jazmotip_olt olt, jazmotip_identity id
  * 4. */
 jazmotip_olt_answer jazmotip_olt_register_group(jazmotip_olt olt, uint16_t llid, uint64_t interval, jazmotip_roster roster);
 
-/* Moves ticks, clock and timers on by n, in place, and gives the number. Order: 17. */
+/* Moves ticks, clock and timers on by n, in place, and gives the code. Order: 17. */
 uint8_t jazmotip_olt_advance(jazmotip_olt *olt, uint64_t n);
 
 /* Captures the clock for a unit; it stays until the next capture. Order: 2, for a group's LLID too. */
@@ -398,8 +406,9 @@ jazmotip_key_sent jazmotip_olt_offer(jazmotip_olt olt, uint16_t llid, const uint
 jazmotip_key_sent jazmotip_olt_retry(jazmotip_olt olt, uint16_t llid);
 
 /* Takes in a unit's acknowledgement, under an LLID of its own or, for a group's key, under the group's: then it names the unit, and
- * marks that member. 8 is also for one to a group that names no unit or no member, and for a unit's own that names one. The number
- * of one to a clock message is ignored; a kind other than 1 and 2 fits nothing, 8; a group's LLID with kind 1 is 2. Order: 2, 8. */
+ * marks that member. 8 is also for one to a group that names no unit or no member, and for a unit's own that names one. The key's
+ * number in one to a clock message is ignored; a kind other than 1 and 2 fits nothing, 8; a group's LLID with kind 1 is 2. Order: 2,
+ * 8. */
 jazmotip_olt_answer jazmotip_olt_acknowledge(jazmotip_olt olt, uint16_t llid, jazmotip_acknowledgement acknowledgement);
 
 /* Seals a payload for a unit or a group into output, of the same length, and hands over its header. With the timer's flag up and the
@@ -422,7 +431,7 @@ jazmotip_onu_answer jazmotip_onu_fresh(jazmotip_identity identity, uint64_t oltm
 /* Joins a group by its LLID, any that the unit does not hold. What is promised to a member counts from here. Order: 3, 4. */
 jazmotip_onu_answer jazmotip_onu_join(jazmotip_onu onu, uint16_t llid);
 
-/* Moves ticks and clocks on by n, in place, and gives the number. Order: 17. */
+/* Moves ticks and clocks on by n, in place, and gives the code. Order: 17. */
 uint8_t jazmotip_onu_advance(jazmotip_onu *onu, uint64_t n);
 
 /* Gives a unit its new LocalTime, where its path changed: the low 32 bits of the OLT's clock plus the new delay up, at most
@@ -435,8 +444,8 @@ jazmotip_onu_answer jazmotip_onu_new_time(jazmotip_onu onu, uint64_t time);
 /* Sets the clocks by a clock message and hands over the acknowledgement. Order: 1. */
 jazmotip_onu_acknowledged jazmotip_onu_clock_message(jazmotip_onu onu, jazmotip_stamps message);
 
-/* Takes a key message, its own or of a group that it joined, and hands over the acknowledgement. Of a group any number above those that
- * it holds is taken, or the same message again. Order: 2, 5, 8. */
+/* Takes a key message, its own or of a group that it joined, and hands over the acknowledgement. Of a group any key number above those
+ * that it holds is taken, or the same message again. Order: 2, 5, 8. */
 jazmotip_onu_acknowledged jazmotip_onu_key_message(jazmotip_onu onu, jazmotip_key_message message);
 
 /* Seals a payload for the head end into output, of the same length, and hands over its header. Index 0x80 or 0x81. The channel is
@@ -494,7 +503,7 @@ uint64_t jazmotip_count(const uint8_t *payload, size_t payload_length);
 
 /* --------------------------------------------------------------------------------------------------------- Capture blocks
  * Settings are 41 octets: presence (bit 0 key 0, bit 1 key 1), key 0 (16), key 1 (16), the sender's MAC (6), LLID (2). Records and
- * pairs count from 1. In every answer, pair is the first broken pair where the number is 18 or 19, else 0; pairs are judged in
+ * pairs count from 1. In every answer, pair is the first broken pair where the code is 18 or 19, else 0; pairs are judged in
  * order, 18 before 19 at each, so every pair before it is good and a block of those records alone is whole. */
 
 typedef struct jazmotip_block_directory {
@@ -534,7 +543,7 @@ jazmotip_block_directory jazmotip_capture_directory(const uint8_t *block, size_t
 jazmotip_block_verdict jazmotip_capture_verdict(const uint8_t *settings, size_t settings_length, const uint8_t *block,
                                                 size_t block_length, size_t k);
 
-/* The verdicts on all records in one pass: output[k - 1] is the number that jazmotip_capture_verdict gives for record k. The output
+/* The verdicts on all records in one pass: output[k - 1] is the code that jazmotip_capture_verdict gives for record k. The output
  * has JAZMOTIP_RECORDS octets, and those behind the records stay. Order: 14 for the output, 14 and 1 for the settings, 15, then 18
  * and 19. */
 jazmotip_block_directory jazmotip_capture_verdicts(const uint8_t *settings, size_t settings_length, const uint8_t *block,

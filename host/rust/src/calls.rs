@@ -1,4 +1,4 @@
-//! The calls of the C header, one function each: values and slices in, the answer's record out, refusals by number.
+//! The calls of the C header, one function each: values and slices in, the answer's record out, with the refusal code in its `number`.
 //!
 //! For a host that wants the records as they cross. [`Olt`], [`Onu`], [`RoundKeys`], [`capture`](crate::capture) and
 //! [`xgpon`](crate::xgpon) say the same with `Result`.
@@ -152,7 +152,7 @@ pub fn capture_verdict(settings: &[u8], block: &[u8], k: usize) -> BlockVerdict 
     unsafe { raw::jazmotip_capture_verdict(settings.as_ptr(), settings.len(), block.as_ptr(), block.len(), k) }
 }
 
-/// The number of the verdict on record `k` at octet `k - 1` of an output of 256. Order of refusals: 14 for the output, 14 and 1 for
+/// The code of the verdict on record `k` at octet `k - 1` of an output of 256. Order of refusals: 14 for the output, 14 and 1 for
 /// the settings, 15, then 18 and 19.
 pub fn capture_verdicts(settings: &[u8], block: &[u8], output: &mut [u8]) -> BlockDirectory {
     unsafe {

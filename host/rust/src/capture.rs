@@ -41,7 +41,7 @@ fn opening(verdict: BlockVerdict) -> Result<Option<Opening>, Refusal> {
         .map(|()| (verdict.encenabled == 1).then_some(Opening { enckey: verdict.enckey, clock: verdict.clock }))
 }
 
-/// The numbers of the verdicts on all records, 0 for acceptance, that on record `k` at `k - 1`; `numbers` past them stay.
+/// The codes of the verdicts on all records, 0 for acceptance, that on record `k` at `k - 1`; `numbers` past them stay.
 pub fn verdicts<'a>(settings: &[u8], block: &[u8], numbers: &'a mut [u8; RECORDS]) -> Result<&'a [u8], Refusal> {
     let directory = calls::capture_verdicts(settings, block, numbers);
     Refusal::block_verdict(directory.number, directory.pair).map(|()| &numbers[..directory.records])

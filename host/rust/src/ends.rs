@@ -166,8 +166,8 @@ impl Onu {
         Refusal::verdict(answer.number).map(|()| answer.acknowledgement)
     }
 
-    /// Takes a key message, its own or of a group that it joined, and hands over the acknowledgement. Of a group any number above
-    /// those that it holds is taken.
+    /// Takes a key message, its own or of a group that it joined, and hands over the acknowledgement. Of a group any key number
+    /// above those that it holds is taken.
     pub fn key_message(&mut self, message: KeyMessage) -> Result<Acknowledgement, Refusal> {
         let answer = calls::onu_key_message(*self, message);
         *self = answer.onu;

@@ -27,7 +27,7 @@
 //! # }
 //! ```
 //!
-//! Whatever is malformed, untimely, unknown or too long is refused by a number, and a refusal changes nothing. Messages,
+//! Whatever is malformed, untimely, unknown or too long is refused with a code, and a refusal changes nothing. Messages,
 //! acknowledgements and envelopes are plain values; carrying them over the line is the host's work, and so is telling every end how
 //! many ticks have passed. An end is `Copy` so that it can cross to C and be kept over a restart: never send twice from one copy,
 //! since that uses a counter block twice.

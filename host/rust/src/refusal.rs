@@ -1,4 +1,4 @@
-//! The numbered refusals.
+//! The refusals and their codes.
 
 use core::fmt;
 
@@ -36,7 +36,7 @@ pub enum Refusal {
 }
 
 impl Refusal {
-    /// The refusals that name no pair, in the order of their numbers.
+    /// The refusals that name no pair, in the order of their codes.
     const WITHOUT_PAIR: [Refusal; 24] = [
         Refusal::OutOfRange,
         Refusal::UnknownLlid,
@@ -64,7 +64,7 @@ impl Refusal {
         Refusal::BadScript,
     ];
 
-    /// The number that the engine returns for it, 1 to 26.
+    /// The code that the engine returns for it, 1 to 26.
     pub fn number(self) -> u8 {
         match self {
             Refusal::OutOfRange => 1,
@@ -104,7 +104,7 @@ impl Refusal {
         }
     }
 
-    /// The engine's number as a result: 0 is acceptance.
+    /// The engine's code as a result: 0 is acceptance.
     pub(crate) fn verdict(number: u8) -> Result<(), Refusal> {
         Refusal::block_verdict(number, 0)
     }

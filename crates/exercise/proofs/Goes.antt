@@ -28,9 +28,9 @@ use Rattle.traffic.specs.Sends.{oltSent, onuSent, oltSendOf, onuSendOf}
 use Rattle.traffic.specs.Receipts.{oltReceiveOf, onuReceiveOf}
 use Rattle.unicast.specs.Setting.{Setting}
 use Rattle.unicast.specs.Events.{Event, advance, capture, clockSend, offer, retry, sendDown, sendUp, arriveDown, arriveUp, arriveAnswer}
-use Rattle.unicast.specs.History.{Lane, Envelope, Thing, clockMessage, keyMessage, envelope, laneCaptured, laneLeaving, laneOffered, laneTaken, laneAnswered, laneAcknowledged, laneSentDown, laneSentUp, laneArrivedDown, laneArrivedUp, laneWith, leaving, numberDown}
+use Rattle.unicast.specs.History.{Lane, Envelope, InFlight, clockMessage, keyMessage, envelope, laneCaptured, laneLeaving, laneOffered, laneTaken, laneAnswered, laneAcknowledged, laneSentDown, laneSentUp, laneArrivedDown, laneArrivedUp, laneWith, leaving, numberDown}
 use Rattle.unicast.specs.Premises.{NewKey, DueDown, DueAnswer, Meets}
-use Rattle.unicast.specs.Run.{State, step, run, accepted, noted, named, withLanes, atOlt, atOnu, atOltFor, laneAt, thingAt, envelopeAt, clockSending, offering, retrying, sendingDown, sendingUp, envelopeDown, envelopeUp, messageArriving, thingArriving, envelopeArriving, receiptDown, receiptUp, arrivingUp, answering, advancing, freshLane, noEnvelope}
+use Rattle.unicast.specs.Run.{State, step, run, accepted, noted, named, withLanes, atOlt, atOnu, atOltFor, laneAt, inFlightAt, envelopeAt, clockSending, offering, retrying, sendingDown, sendingUp, envelopeDown, envelopeUp, messageArriving, inFlightArriving, envelopeArriving, receiptDown, receiptUp, arrivingUp, answering, advancing, freshLane, noEnvelope}
 use Rattle.exercise.specs.declared.Play.{Play}
 use Rattle.exercise.specs.Play.{unitLlid, keyOfStep, channelDown, channelUp, withOlt, withOnu, withClockAnswer, withKeyAnswer, arrives, clockAnswered, clockSent, clockStepped, keyAnswered, keySent, answered, sentDown, sentUp, advanced}
 use Rattle.exercise.specs.Listed.{setting}
@@ -72,26 +72,26 @@ unfolding keyMessageAt keyMessageTo onuReply
 silent-key o m e = silent _ o _ _ e
 
 -- the last of what is under way to the unit
-last-thing : (p : Play) (n r : ℕ) (l : Lane) (x : Thing) → thingAt (at p n r (laneLeaving x l)) 0 (length (l .transit .towards)) ≡ x
+last-in-flight : (p : Play) (n r : ℕ) (l : Lane) (x : InFlight) → inFlightAt (at p n r (laneLeaving x l)) 0 (length (l .transit .towards)) ≡ x
 unfolding laneLeaving laneWith leaving
-last-thing p n r l x = getD-at (l .transit .towards) x [] (envelope noEnvelope) (length (l .transit .towards)) refl
+last-in-flight p n r l x = getD-at (l .transit .towards) x [] (envelope noEnvelope) (length (l .transit .towards)) refl
 
 due-clock : (p : Play) (n r : ℕ) (l : Lane) (m : Stamps) (c : ℕ) → l .path ≡ noDelay
     → DueDown (at p n r (laneLeaving (clockMessage m c n) l)) 0 (length (l .transit .towards)) []
 unfolding laneLeaving laneWith leaving
 due-clock p n r l m c e =
-    let x = last-thing p n r l (clockMessage m c n) in
+    let x = last-in-flight p n r l (clockMessage m c n) in
     record { some = last-some (l .transit .towards) (clockMessage m c n); now = rw (x, e) (omega arith); buffer = rw x tt }
 
 due-key : (p : Play) (n r : ℕ) (l : Lane) (m : KeyMessage) → l .path ≡ noDelay
     → DueDown (at p n r (laneLeaving (keyMessage m n) l)) 0 (length (l .transit .towards)) []
 unfolding laneLeaving laneWith leaving
 due-key p n r l m e =
-    let x = last-thing p n r l (keyMessage m n) in
+    let x = last-in-flight p n r l (keyMessage m n) in
     record { some = last-some (l .transit .towards) (keyMessage m n); now = rw (x, e) (omega arith); buffer = rw x tt }
 
 -- what left and what arrived change nothing that is kept
-left-kept : (l : Lane) (x : Thing) (n k : ℕ) (a b : Acknowledgement) → Kept l n k a b → Kept (laneLeaving x l) n k a b
+left-kept : (l : Lane) (x : InFlight) (n k : ℕ) (a b : Acknowledgement) → Kept l n k a b → Kept (laneLeaving x l) n k a b
 unfolding laneLeaving laneWith leaving
 left-kept l x n k a b h = kept-on l _ n n k k a b refl refl refl refl refl (omega arith) (omega arith) h
 
@@ -107,7 +107,7 @@ answer-kept P number f l x y = pick-holds P (eqb number 0) (f l) l x y
 
 clock-arrives : (p : Play) (n r k : ℕ) (l : Lane) (m : Stamps) (c : ℕ) → Kept l n k (p .clock) (p .key)
     → Goes p n r (laneLeaving (clockMessage m c n) l) (clockAnswered p (clockMessageAt (p .onu) m)) k
-unfolding laneLeaving laneWith leaving step run clockAnswered withClockAnswer withOnu thingArriving messageArriving atOnu withLanes
+unfolding laneLeaving laneWith leaving step run clockAnswered withClockAnswer withOnu inFlightArriving messageArriving atOnu withLanes
 clock-arrives p n r k l m c x =
     let j = length (l .transit .towards) in
     let a = clockMessageAt (p .onu) m in
@@ -117,7 +117,7 @@ clock-arrives p n r k l m c x =
       now = n;
       lane = noted (a .number) (laneAnswered (a .acknowledgement) n) (laneTaken j (laneLeaving (clockMessage m c n) l));
       meets = (due-clock p n r l m c (x .path), tt);
-      runs = rw (last-thing p n r l (clockMessage m c n)) refl;
+      runs = rw (last-in-flight p n r l (clockMessage m c n)) refl;
       kept =
           answer-kept (λ (z : Lane). Kept z n k (a .acknowledgement) (p .key)) (a .number) _ _
           (λ _. clock-given _ n k (p .clock) (p .key) (a .acknowledgement) t)
@@ -126,7 +126,7 @@ clock-arrives p n r k l m c x =
 
 key-arrives : (p : Play) (n r k : ℕ) (l : Lane) (m : KeyMessage) → Kept l n k (p .clock) (p .key)
     → Goes p n r (laneLeaving (keyMessage m n) l) (keyAnswered p (keyMessageAt (p .onu) m)) k
-unfolding laneLeaving laneWith leaving step run keyAnswered withKeyAnswer withOnu thingArriving messageArriving atOnu withLanes
+unfolding laneLeaving laneWith leaving step run keyAnswered withKeyAnswer withOnu inFlightArriving messageArriving atOnu withLanes
 key-arrives p n r k l m x =
     let j = length (l .transit .towards) in
     let a = keyMessageAt (p .onu) m in
@@ -136,7 +136,7 @@ key-arrives p n r k l m x =
       now = n;
       lane = noted (a .number) (laneAnswered (a .acknowledgement) n) (laneTaken j (laneLeaving (keyMessage m n) l));
       meets = (due-key p n r l m (x .path), tt);
-      runs = rw (last-thing p n r l (keyMessage m n)) refl;
+      runs = rw (last-in-flight p n r l (keyMessage m n)) refl;
       kept =
           answer-kept (λ (z : Lane). Kept z n k (p .clock) (a .acknowledgement)) (a .number) _ _
           (λ _. key-given _ n k (p .clock) (p .key) (a .acknowledgement) t)
@@ -419,14 +419,14 @@ module _ (p : Play) (n r k : ℕ) (l : Lane) (x : Kept l n k (p .clock) (p .key)
         kept = sent-down-kept (down l) l n k _ _ x;
       }
 
-  last-down : thingAt (at p n r (laneSentDown n (down l) l)) 0 (length (l .transit .towards)) ≡ envelope (down l)
+  last-down : inFlightAt (at p n r (laneSentDown n (down l) l)) 0 (length (l .transit .towards)) ≡ envelope (down l)
   unfolding laneSentDown laneWith leaving
   last-down = getD-at (l .transit .towards) (envelope (down l)) [] (envelope noEnvelope) (length (l .transit .towards)) refl
 
   down-arrives : Goes (withOlt p (oltSendOf (p .olt) unitLlid channelDown [] [] .answer .olt)) n r (laneSentDown n (down l) l)
       (withOnu (withOlt p (oltSendOf (p .olt) unitLlid channelDown [] [] .answer .olt))
       (onuReceiveOf (p .onu) (oltSendOf (p .olt) unitLlid channelDown [] [] .answer .header) [] [] .answer .onu)) k
-  unfolding step run withOlt withOnu thingArriving envelopeArriving atOnu withLanes laneSentDown laneWith leaving laneTaken laneArrivedDown down envelopeDown
+  unfolding step run withOlt withOnu inFlightArriving envelopeArriving atOnu withLanes laneSentDown laneWith leaving laneTaken laneArrivedDown down envelopeDown
   down-arrives =
       let j = length (l .transit .towards) in
       record {

@@ -1,4 +1,4 @@
-// The reader of a class (02, C-19): a capture block opened and listed for the user who asks, in the usual way and in the near one, and
+// The reader of a class (02, C-19): a capture block opened and listed for the user who asks, in the usual direction and in the near one, and
 // the loading of a key.
 ghost use mathlib.Core.Path.{_≡_};
 ghost use mathlib.Core.Bool.{true, false};

@@ -1,4 +1,4 @@
-// The capture reader with a receive clock that is known only nearly (02, C-18): the calls of `blocks` in the near way.
+// The capture reader with a receive clock that is known only nearly (02, C-18): the calls of `blocks` in the near direction.
 ghost use mathlib.Core.Path.{_≡_};
 ghost use mathlib.Core.Bool.{true};
 ghost use Prim.Native.Nat.{_≤_};

@@ -29,7 +29,7 @@ use Rattle.unicast.specs.Events as events
 use Rattle.unicast.specs.Run as run
 use Rattle.unicast.specs.Run.{atOnu}
 use Rattle.line.specs.Events.{sendUp}
-use Rattle.line.specs.Run.{State, alone, subscriberAt, atUnitAlone, envelopeUp, sendingUp, answerAlone, messageArriving, receiptDown, thingArriving, step}
+use Rattle.line.specs.Run.{State, alone, subscriberAt, atUnitAlone, envelopeUp, sendingUp, answerAlone, messageArriving, receiptDown, inFlightArriving, step}
 use Rattle.line.proofs.Alone.{onu-alone, at-unit-alone}
 
 ---- what the unit answers stands in the subscriber
@@ -100,22 +100,22 @@ module _ (s : State) (u : ℕ) (v : validMemberships (subscriberAt s u) ≡ true
   message-alone k r a e = rw (own-alone s u _ _, e)
 
   pub clock-alone : (k : ℕ) (out : List ℕ) (m : Stamps) (c t : ℕ)
-      → alone (thingArriving s u k out (clockMessage m c t)) ≡ run.thingArriving (alone s) u k out (clockMessage m c t)
-  unfolding thingArriving run.thingArriving
+      → alone (inFlightArriving s u k out (clockMessage m c t)) ≡ run.inFlightArriving (alone s) u k out (clockMessage m c t)
+  unfolding inFlightArriving run.inFlightArriving
   clock-alone k out m c t =
       rw (onu-alone s u)
       (message-alone k (subscriberClockMessageOf (subscriberAt s u) m) (clockMessageAt (subscriberAt s u .onu) m) (clock-message-onu (subscriberAt s u) v m))
 
   pub key-alone : (k : ℕ) (out : List ℕ) (m : KeyMessage) (t : ℕ) → findJoined (subscriberAt s u) (m .llid) ≡ Nowhere
-      → alone (thingArriving s u k out (keyMessage m t)) ≡ run.thingArriving (alone s) u k out (keyMessage m t)
-  unfolding thingArriving run.thingArriving
+      → alone (inFlightArriving s u k out (keyMessage m t)) ≡ run.inFlightArriving (alone s) u k out (keyMessage m t)
+  unfolding inFlightArriving run.inFlightArriving
   key-alone k out m t none =
       rw (onu-alone s u)
       (message-alone k (subscriberKeyMessageOf (subscriberAt s u) m) (keyMessageAt (subscriberAt s u .onu) m)
       (key-message-onu (subscriberAt s u) v m none))
 
   pub envelope-alone : (k : ℕ) (out : List ℕ) (e : Envelope) → findJoined (subscriberAt s u) (e .header .llid) ≡ Nowhere
-      → alone (thingArriving s u k out (envelope e)) ≡ run.thingArriving (alone s) u k out (envelope e)
-  unfolding thingArriving run.thingArriving run.envelopeArriving receiptDown run.receiptDown withOnu
+      → alone (inFlightArriving s u k out (envelope e)) ≡ run.inFlightArriving (alone s) u k out (envelope e)
+  unfolding inFlightArriving run.inFlightArriving run.envelopeArriving receiptDown run.receiptDown withOnu
   envelope-alone k out e none =
       rw (own-alone s u _ _, receive-onu (subscriberAt s u) v (e .header) (e .octets) out none, onu-alone s u)

@@ -16,11 +16,11 @@ use Rattle.groups.specs.Head.{groupAt}
 use Rattle.groups.specs.Subscriber.{hasJoined}
 use Rattle.groups.specs.declared.Subscriber.{Subscriber}
 use Rattle.unicast.specs.Setting.{Setting}
-use Rattle.unicast.specs.History.{Thing, Lane}
+use Rattle.unicast.specs.History.{InFlight, Lane}
 use Rattle.unicast.specs.Run.{laneAt}
 use Rattle.unicast.proofs.Alive.{Alive, registered-alive}
 use Rattle.line.specs.History.{GroupLane, Membership, isMember, isJoined, groupWith, groupTaken}
-use Rattle.line.specs.Run.{State, alone, subscriberAt, joinedBy, groupLaneAt, noGroupLane, groupThingAt, lanes}
+use Rattle.line.specs.Run.{State, alone, subscriberAt, joinedBy, groupLaneAt, noGroupLane, groupInFlightAt, lanes}
 use Rattle.line.specs.Premises.{DueOfGroup}
 use Rattle.line.proofs.Alone.{onu-alone}
 use Rattle.line.proofs.AnswerSteps.{known-line}
@@ -51,7 +51,7 @@ unfolding isJoined
 joined-listed gs l x ms llid j = ap (λ (ls : List ℕ). among llid ls) (j .llids)
 
 module _ (w : Setting) (s : State) (u g k : ℕ) (out : List ℕ) (i : Invariant w s) (d : DueOfGroup s u g k out) where
-  abbrev queue : List Thing
+  abbrev queue : List InFlight
   queue = getD (groupLaneAt s g .towards) u []
 
   pub known : g < length (s .history .groups)
@@ -86,8 +86,8 @@ module _ (w : Setting) (s : State) (u g k : ℕ) (out : List ℕ) (i : Invariant
 
   -- it, and what follows it
   pub taken : Under (groupLaneAt s g) (joinedFor (subscriberAt s u) (groupLaneAt s g .llid) .keys .active) (groupAt (s .head) g .keys .active)
-      (groupAt (s .head) g .keys .offered) (groupThingAt s u g k ∷ drop (suc k) queue)
-  taken = under-taken (groupLaneAt s g) _ _ _ queue k _ (groupThingAt s u g k) (d .some) refl (follows .queue)
+      (groupAt (s .head) g .keys .offered) (groupInFlightAt s u g k ∷ drop (suc k) queue)
+  taken = under-taken (groupLaneAt s g) _ _ _ queue k _ (groupInFlightAt s u g k) (d .some) refl (follows .queue)
 
 -- the queue after it
 pub taken-own : (s : State) (u g k : ℕ) → u < length (groupLaneAt s g .towards)

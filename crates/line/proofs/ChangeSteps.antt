@@ -28,7 +28,7 @@ use Rattle.multicast.specs.SubscriberCalls.{subscriberNewTimeOf}
 use Rattle.multicast.specs.declared.HeadAnswer.{HeadAnswer}
 use Rattle.multicast.specs.declared.SubscriberAnswer.{SubscriberAnswer}
 use Rattle.unicast.specs.Setting.{Delays, Setting}
-use Rattle.unicast.specs.History.{Thing, Entry, Lane, laneMoved}
+use Rattle.unicast.specs.History.{InFlight, Entry, Lane, laneMoved}
 use Rattle.unicast.specs.Events as events
 use Rattle.unicast.specs.Run as run
 use Rattle.unicast.specs.Run.{laneAt, freshLane, noSite, withLanes, changing}
@@ -97,7 +97,7 @@ recorded-moved w u c now g r q =
     }
 
 -- nothing is under way
-emptied : (g : GroupLane) (active offered : ℕ) (member : Bool) (ms : List Membership) (j : Joined) (xs : List Thing)
+emptied : (g : GroupLane) (active offered : ℕ) (member : Bool) (ms : List Membership) (j : Joined) (xs : List InFlight)
     → Follows g active offered member ms j xs → Follows g active offered member ms j []
 emptied g active offered member ms j xs f =
     record { low = f .low; kept = f .kept; held = f .held; took = f .took; queue = tt; stranger = λ e. refl }
@@ -145,7 +145,7 @@ module _ (w : Setting) (s : State) (u : ℕ) (i : Invariant w s) where
       }
 
   -- the unit's queue is empty, those of others stay
-  queue-at : (v g : ℕ) → v < length (lanes s) → g < length (s .history .groups) → (P : List Thing → Type 0) → P [] → P (getD (groupLaneAt s g .towards) v [])
+  queue-at : (v g : ℕ) → v < length (lanes s) → g < length (s .history .groups) → (P : List InFlight → Type 0) → P [] → P (getD (groupLaneAt s g .towards) v [])
       → P (getD (set (groupLaneAt s g .towards) u []) v [])
   queue-at v g h k P none old = by-test (eqb v u) refl where
     by-test : (t : Bool) → eqb v u ≡ t → P (getD (set (groupLaneAt s g .towards) u []) v [])
@@ -155,12 +155,12 @@ module _ (w : Setting) (s : State) (u : ℕ) (i : Invariant w s) where
         (subst P (sym (getD-set-same (groupLaneAt s g .towards) u [] [] (omega (arith, h, z, i .queues g k)))) none)
     by-test false e = subst P (sym (getD-set-other (groupLaneAt s g .towards) u v [] [] (eqb-false v u e))) old
 
-  abbrev Pair : ℕ → ℕ → GroupLane → List Thing → Type 0
+  abbrev Pair : ℕ → ℕ → GroupLane → List InFlight → Type 0
   Pair v g l xs =
       Follows l (groupAt (s .head) g .keys .active) (groupAt (s .head) g .keys .offered) (isMember l (laneAt (alone s) v)) (joinedBy s v)
       (joinedFor (subscriberAt s v) (l .llid)) xs
 
-  pair-moved : (v g : ℕ) (l : GroupLane) (xs : List Thing) → Pair v g l xs → Pair v g (groupMoved u (now s) l) xs
+  pair-moved : (v g : ℕ) (l : GroupLane) (xs : List InFlight) → Pair v g l xs → Pair v g (groupMoved u (now s) l) xs
   unfolding groupMoved
   pair-moved v g l xs f =
       follows-moved l (groupMoved u (now s) l) _ _ _ _ _ _ (joinedBy s v) _ xs (grown u (now s) l _) (omega arith) (omega arith)

@@ -21,7 +21,7 @@ use Rattle.unicast.proofs.Alive.{sent-alive}
 use Rattle.unicast.proofs.Claims as units
 use Rattle.unicast.proofs.Claims.{olt-mac-below, offer-below}
 use Rattle.line.specs.History.{GroupAnswered, GroupArrival, GroupLane, hasTaken}
-use Rattle.line.specs.Run.{State, alone, joinedBy, groupLaneAt, noGroupLane, groupSentAt, groupThingAt, groupReceipt}
+use Rattle.line.specs.Run.{State, alone, joinedBy, groupLaneAt, noGroupLane, groupSentAt, groupInFlightAt, groupReceipt}
 use Rattle.line.specs.Claim.{groupNonce, GroupPassageRight, GroupSentRight, GroupOpened, GroupArrivedRight, unit, group, BlocksApart, Claim}
 use Rattle.line.specs.Premises.{DueOfGroup}
 use Rattle.line.proofs.AnswerSteps.{known-line}
@@ -32,15 +32,15 @@ use Rattle.line.proofs.OverheardSteps.{unit-overheard, group-overheard}
 
 ---- what was sent, and what arrived
 
-nonce-is : (w : Setting) (s : Site) (e : Envelope) → e .way ≡ downward → nonceFor w s e ≡ groupNonce w e
+nonce-is : (w : Setting) (s : Site) (e : Envelope) → e .direction ≡ downward → nonceFor w s e ≡ groupNonce w e
 nonce-is w s e d = rw d
 
-passage-claim : (w : Setting) (g : GroupLane) (e : Envelope) (channel : ℕ) (q : Passage) → e .way ≡ downward → PassageRight w (laneOf g) e channel q
+passage-claim : (w : Setting) (g : GroupLane) (e : Envelope) (channel : ℕ) (q : Passage) → e .direction ≡ downward → PassageRight w (laneOf g) e channel q
     → GroupPassageRight w g e channel q
 passage-claim w g e channel q d r =
     record { enciphered = r .enciphered; key = r .key; nonce = λ h. r .nonce h ∙ nonce-is w noSite e d }
 
-sent-claim : (w : Setting) (g : GroupLane) (e : Envelope) → e .way ≡ downward → SentRight w (laneOf g) e → GroupSentRight w g e
+sent-claim : (w : Setting) (g : GroupLane) (e : Envelope) → e .direction ≡ downward → SentRight w (laneOf g) e → GroupSentRight w g e
 sent-claim w g e d r =
     record {
       passage = passage-claim w g e (e .channel) (e .passage) d (r .passage);
@@ -50,7 +50,7 @@ sent-claim w g e d r =
       runs = r .runs;
     }
 
-opened-claim : (w : Setting) (g : GroupLane) (r : GroupArrival) → r .envelope .way ≡ downward → ArrivedRight w (laneOf g) (arrivalIn r) → GroupOpened w g r
+opened-claim : (w : Setting) (g : GroupLane) (r : GroupArrival) → r .envelope .direction ≡ downward → ArrivedRight w (laneOf g) (arrivalIn r) → GroupOpened w g r
 opened-claim w g r d a =
     record {
       accepted = a .accepted;
@@ -79,17 +79,17 @@ module _ (w : Setting) (s : State) (i : Invariant w s) where
   answered-known g a m = known-by (λ (y : GroupLane). y .answered) g a refl m
 
   group-sent : (g : ℕ) (e : Envelope) → List·Memᴰ e (groupLaneAt s g .sent) → GroupSentRight w (groupLaneAt s g) e
-  group-sent g e m = let q = i .group g (sent-known g e m) .sends e m in sent-claim w (groupLaneAt s g) e (q .way) (q .right)
+  group-sent g e m = let q = i .group g (sent-known g e m) .sends e m in sent-claim w (groupLaneAt s g) e (q .direction) (q .right)
 
   group-arrived : (g : ℕ) (r : GroupArrival) → List·Memᴰ r (groupLaneAt s g .arrived) → GroupArrivedRight w (groupLaneAt s g) r
   group-arrived g r m =
       let j = i .group g (arrived-known g r m) in
       let a = j .arrived r m in
-      let way = j .sends (r .envelope) (a .sent) .way in
+      let direction = j .sends (r .envelope) (a .sent) .direction in
       record {
         sent = a .sent;
-        clear = λ p q. opened-claim w (groupLaneAt s g) r way (a .clear p q);
-        sealed = λ p t q. opened-claim w (groupLaneAt s g) r way (a .sealed p t q);
+        clear = λ p q. opened-claim w (groupLaneAt s g) r direction (a .clear p q);
+        sealed = λ p t q. opened-claim w (groupLaneAt s g) r direction (a .sealed p t q);
         unsynced = a .unsynced;
       }
 
@@ -115,8 +115,8 @@ module _ (w : Setting) (s : State) (i : Invariant w s) where
       let y = groupSentAt s g b in
       let here = at-sent g b below in
       let j = i .group g (sent-known g y here) in
-      let first = j .sends x (at-sent g a (omega (arith, before, below))) .way in
-      let t = j .spaced .down a b before below first (j .sends y here .way) sealed number channel in
+      let first = j .sends x (at-sent g a (omega (arith, before, below))) .direction in
+      let t = j .spaced .down a b before below first (j .sends y here .direction) sealed number channel in
       clocks-differ (w .first) (x .left) (x .left) (y .left) (omega arith) (t .0) (t .1) clock
 
   one-send : (g m n a b : ℕ) → m < length (groupLaneAt s g .sent) → n < length (groupLaneAt s g .sent) → 1 ≤ groupSentAt s g m .number
@@ -176,7 +176,7 @@ module _ (w : Setting) (s : State) (i : Invariant w s) where
   blocks-apart (group g) (group h) m n a b hm hn pm pn key ha hb e = group-blocks g h m n a b hm hn pm pn key ha hb e
 
   -- an envelope under a key that the unit acknowledged
-  back : (u g k : ℕ) (out : List ℕ) (e : Envelope) (a : GroupAnswered) → DueOfGroup s u g k out → groupThingAt s u g k ≡ envelope e
+  back : (u g k : ℕ) (out : List ℕ) (e : Envelope) (a : GroupAnswered) → DueOfGroup s u g k out → groupInFlightAt s u g k ≡ envelope e
       → List·Memᴰ a (groupLaneAt s g .answered) → a .unit ≡ u → a .answer .number ≡ e .number → isSynced (laneAt (alone s) u) ≡ true
       → 1 ≤ e .number → GroupOpened w (groupLaneAt s g) (groupReceipt s u e out)
   unfolding groupReceipt
@@ -184,7 +184,7 @@ module _ (w : Setting) (s : State) (i : Invariant w s) where
       let q = send w s u g k out i d e is in
       let took : hasTaken (joinedBy s u) (e .llid) (e .number) ≡ true =
       rw (who, number, ← q .llid) at (i .answered g a (answered-known g a m) m) in
-      opened-claim w (groupLaneAt s g) (groupReceipt s u e out) (q .way) (arrived-right w s u g k out i d e is .sealed took synced sealed)
+      opened-claim w (groupLaneAt s g) (groupReceipt s u e out) (q .direction) (arrived-right w s u g k out i d e is .sealed took synced sealed)
 
   pub claim-holds : Claim w s
   claim-holds =

@@ -21,7 +21,7 @@ use Rattle.protocol.specs.declared.KeyChoice.the-variants.{Clear, Current, Next
 use Rattle.groups.specs.JoinedCalls.{holds, joinedChoice, joinedMoved, joinedAfterReceipt}
 use Rattle.groups.specs.declared.Joined.{Joined}
 use Rattle.groups.proofs.JoinedCalls.{next-held}
-use Rattle.unicast.specs.History.{Thing}
+use Rattle.unicast.specs.History.{InFlight}
 use Rattle.line.specs.History.{GroupLane, Membership}
 use Rattle.line.proofs.Invariant.{Under, Follows}
 use Rattle.line.proofs.Queues.{under-lower}
@@ -79,7 +79,7 @@ chosen-sealed j h n some e index held = ⊎-elim next current (either-cases _ _ 
 
 ---- what a receipt leaves
 
-module _ (l : GroupLane) (active offered : ℕ) (member : Bool) (ms : List Membership) (j : Joined) (xs rest : List Thing) (n : ℕ)
+module _ (l : GroupLane) (active offered : ℕ) (member : Bool) (ms : List Membership) (j : Joined) (xs rest : List InFlight) (n : ℕ)
     (f : Follows l active offered member ms j xs) (low : j .keys .active ≤ n) (most : n ≤ active)
     (after : Under l n active offered rest) (is : member ≡ true) where
   same-follows : Follows l active offered member ms j rest

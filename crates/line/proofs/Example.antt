@@ -17,7 +17,7 @@ use Rattle.sealing.specs.KeyExpansion.{keyExpansion}
 use Rattle.sealing.specs.Seal.{carried, countCarried}
 use Rattle.traffic.specs.Passages.{misfit}
 use Rattle.multicast.specs.declared.SubscriberReceived.{SubscriberReceived}
-use Rattle.unicast.specs.History.{Envelope, Thing, clockMessage, keyMessage, envelope, downward, upward, keyOf, isSynced}
+use Rattle.unicast.specs.History.{Envelope, InFlight, clockMessage, keyMessage, envelope, downward, upward, keyOf, isSynced}
 use Rattle.unicast.specs.Run.{laneAt, noEnvelope}
 use Rattle.unicast.specs.Premises.{Fresh}
 use Rattle.unicast.specs.Claim.{isSealed, overheardFor}
@@ -25,7 +25,7 @@ use Rattle.unicast.specs.Example.{blank}
 use Rattle.unicast.proofs.Example.{nonce-is, header-is, carried-is, numbered, agreed}
 use Rattle.unicast.proofs.Tested.{fresh-true}
 use Rattle.line.specs.History.{GroupArrival, GroupLane, isJoined}
-use Rattle.line.specs.Run.{State, alone, start, joinedBy, groupLaneAt, groupSentAt, groupThingAt, groupAnswerAt, groupReceipt}
+use Rattle.line.specs.Run.{State, alone, start, joinedBy, groupLaneAt, groupSentAt, groupInFlightAt, groupAnswerAt, groupReceipt}
 use Rattle.line.specs.Premises.{Meets}
 use Rattle.line.specs.Claim.{groupNonce, GroupOpened, Sender, unit, group, sentBy, sentByAt, notReceived, Claim}
 use Rattle.line.specs.Example.{example, groupLlid, toFirstKey, toReturn, toUnsynced, toSynced, events}
@@ -192,17 +192,17 @@ module _ (c : Claim example played) where
       }
 
 -- what is under way, where it is an envelope
-unfoldable pub isEnvelope : Thing → Bool
+unfoldable pub isEnvelope : InFlight → Bool
 isEnvelope (clockMessage m c t) = false
 isEnvelope (keyMessage m t) = false
 isEnvelope (envelope e) = true
 
-unfoldable pub envelopeIn : Thing → Envelope
+unfoldable pub envelopeIn : InFlight → Envelope
 envelopeIn (clockMessage m c t) = noEnvelope
 envelopeIn (keyMessage m t) = noEnvelope
 envelopeIn (envelope e) = e
 
-envelope-in : (x : Thing) → isEnvelope x ≡ true → x ≡ envelope (envelopeIn x)
+envelope-in : (x : InFlight) → isEnvelope x ≡ true → x ≡ envelope (envelopeIn x)
 unfolding isEnvelope envelopeIn
 envelope-in (clockMessage m c t) h = true-false (sym h)
 envelope-in (keyMessage m t) h = true-false (sym h)
@@ -212,20 +212,20 @@ envelope-in (envelope e) h = refl
 module _ {s : State} (c : Claim example s) where
   -- its jth acknowledgement of the group's keys was that of the key of the envelope that is due
   back-as : (u k j : ℕ) {out key : List ℕ} {n : Nonce} {payload : List ℕ} {count : ℕ} → dueOfGroup s u 0 k out ≡ true
-      → isEnvelope (groupThingAt s u 0 k) ≡ true → ltb j (length (groupLaneAt s 0 .answered)) ≡ true → groupAnswerAt s 0 j .unit ≡ u
-      → eqb (groupAnswerAt s 0 j .answer .number) (envelopeIn (groupThingAt s u 0 k) .number) ≡ true
-      → isSynced (laneAt (alone s) u) ≡ true → isSealed (envelopeIn (groupThingAt s u 0 k)) ≡ true
-      → keyOf (groupLaneAt s 0 .keys) (envelopeIn (groupThingAt s u 0 k) .number) ≡ key
-      → eqb (groupNonce example (envelopeIn (groupThingAt s u 0 k)) .channel) (n .channel) ≡ true
-      → eqb (groupNonce example (envelopeIn (groupThingAt s u 0 k)) .mac) (n .mac) ≡ true
-      → eqb (groupNonce example (envelopeIn (groupThingAt s u 0 k)) .clock) (n .clock) ≡ true
-      → envelopeIn (groupThingAt s u 0 k) .payload ≡ payload → envelopeIn (groupThingAt s u 0 k) .count ≡ count
+      → isEnvelope (groupInFlightAt s u 0 k) ≡ true → ltb j (length (groupLaneAt s 0 .answered)) ≡ true → groupAnswerAt s 0 j .unit ≡ u
+      → eqb (groupAnswerAt s 0 j .answer .number) (envelopeIn (groupInFlightAt s u 0 k) .number) ≡ true
+      → isSynced (laneAt (alone s) u) ≡ true → isSealed (envelopeIn (groupInFlightAt s u 0 k)) ≡ true
+      → keyOf (groupLaneAt s 0 .keys) (envelopeIn (groupInFlightAt s u 0 k) .number) ≡ key
+      → eqb (groupNonce example (envelopeIn (groupInFlightAt s u 0 k)) .channel) (n .channel) ≡ true
+      → eqb (groupNonce example (envelopeIn (groupInFlightAt s u 0 k)) .mac) (n .mac) ≡ true
+      → eqb (groupNonce example (envelopeIn (groupInFlightAt s u 0 k)) .clock) (n .clock) ≡ true
+      → envelopeIn (groupInFlightAt s u 0 k) .payload ≡ payload → envelopeIn (groupInFlightAt s u 0 k) .count ≡ count
       → Back s u k out key n payload count
   unfolding groupReceipt
   back-as u k j {out} due some answered who number synced sealed hkey hchannel hmac hclock hpayload hcount =
-      let e = envelopeIn (groupThingAt s u 0 k) in
+      let e = envelopeIn (groupInFlightAt s u 0 k) in
       let d = due-of-group-true s u 0 k out due in
-      let comes = envelope-in (groupThingAt s u 0 k) some in
+      let comes = envelope-in (groupInFlightAt s u 0 k) some in
       let a = mem-at (groupLaneAt s 0 .answered) j _ (ltb-true _ _ answered) in
       let o = c .back u 0 k out e (groupAnswerAt s 0 j) d comes a who (eqb-true _ _ number) synced (leb-true _ _ sealed) in
       record {
@@ -235,15 +235,15 @@ module _ {s : State} (c : Claim example s) where
         untouched = c .untouched u 0 k out d;
       }
 
-  unsynced-as : (u k : ℕ) {out : List ℕ} {number : ℕ} → dueOfGroup s u 0 k out ≡ true → isEnvelope (groupThingAt s u 0 k) ≡ true
-      → isJoined (joinedBy s u) (envelopeIn (groupThingAt s u 0 k) .llid) ≡ true → isSynced (laneAt (alone s) u) ≡ false
-      → isSealed (envelopeIn (groupThingAt s u 0 k)) ≡ true → numberOf ClockNotSet ≡ number → Unsynced s u k out number
+  unsynced-as : (u k : ℕ) {out : List ℕ} {number : ℕ} → dueOfGroup s u 0 k out ≡ true → isEnvelope (groupInFlightAt s u 0 k) ≡ true
+      → isJoined (joinedBy s u) (envelopeIn (groupInFlightAt s u 0 k) .llid) ≡ true → isSynced (laneAt (alone s) u) ≡ false
+      → isSealed (envelopeIn (groupInFlightAt s u 0 k)) ≡ true → numberOf ClockNotSet ≡ number → Unsynced s u k out number
   unfolding notReceived
   unsynced-as u k {out} due some member unsynced sealed hnumber =
-      let comes = envelope-in (groupThingAt s u 0 k) some in
+      let comes = envelope-in (groupInFlightAt s u 0 k) some in
       let e = c .unsynced u 0 k out _ (due-of-group-true s u 0 k out due) comes member unsynced (leb-true _ _ sealed) in
       record {
-        arriving = envelopeIn (groupThingAt s u 0 k);
+        arriving = envelopeIn (groupInFlightAt s u 0 k);
         due = comes;
         refused = ap (λ (r : WithOutput SubscriberReceived). r .answer .number) e ∙ hnumber;
         count = ap (λ (r : WithOutput SubscriberReceived). r .answer .count) e;
@@ -253,7 +253,7 @@ module _ {s : State} (c : Claim example s) where
       }
 
   overheard-as : (u k : ℕ) {out : List ℕ} {number : ℕ} → overhearsGroup s u 0 k ≡ true → isJoined (joinedBy s u) (groupSentAt s 0 k .llid) ≡ false
-      → numberOf (overheardFor (misfit (groupSentAt s 0 k .octets) out) (groupSentAt s 0 k .way)) ≡ number → Overheard s u k out number
+      → numberOf (overheardFor (misfit (groupSentAt s 0 k .octets) out) (groupSentAt s 0 k .direction)) ≡ number → Overheard s u k out number
   unfolding notReceived
   overheard-as u k {out} hears stranger hnumber =
       let e = c .overheardOfGroup u 0 k out (overhears-group-true s u 0 k hears) .refused stranger in

@@ -16,7 +16,7 @@ use Rattle.groups.specs.declared.Joined.{Joined}
 use Rattle.groups.specs.declared.Memberships.{Memberships}
 use Rattle.groups.specs.declared.Subscriber.{Subscriber}
 use Rattle.unicast.specs.Setting.{Setting}
-use Rattle.unicast.specs.History.{Envelope, Thing, Lane}
+use Rattle.unicast.specs.History.{Envelope, InFlight, Lane}
 use Rattle.unicast.proofs.Past.{sent-carried, arrived-carried}
 use Rattle.line.specs.History.{GroupArrival, GroupLane, Membership, isMember}
 use Rattle.line.proofs.Invariant.{laneOf, arrivalIn, GroupSend, GroupArrived, Recorded, joinedFor, KeyHeld, Follows}
@@ -31,7 +31,7 @@ held-moved g g' offered offered' j n k h r =
 
 -- the line knows more, and the unit may have become a member
 pub follows-moved : (g g' : GroupLane) (active active' offered offered' : ℕ) (member member' : Bool) (ms : List Membership) (j : Joined)
-    (xs : List Thing) → Grown g g' offered → active ≤ active' → offered ≤ offered' → (member' ≡ false → member ≡ false)
+    (xs : List InFlight) → Grown g g' offered → active ≤ active' → offered ≤ offered' → (member' ≡ false → member ≡ false)
     → Follows g active offered member ms j xs → Follows g' active' offered' member' ms j xs
 follows-moved g g' active active' offered offered' member member' ms j xs k a b c f =
     record {
@@ -66,7 +66,7 @@ pub send-moved : (w : Setting) (c c' : Channels) (first : FirstSend) (active : �
 send-moved w c c' first active g g' e top n h rises s =
     let p = s .spent in
     record {
-      way = s .way;
+      direction = s .direction;
       llid = s .llid ∙ sym (n .llid);
       down = s .down;
       fits = s .fits;

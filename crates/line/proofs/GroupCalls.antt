@@ -26,7 +26,7 @@ use Rattle.groups.specs.declared.HeadEnd.{HeadEnd}
 use Rattle.groups.specs.declared.Joined.{Joined}
 use Rattle.multicast.specs.Naming.{putGroup, groupLift}
 use Rattle.unicast.specs.Setting.{Setting}
-use Rattle.unicast.specs.History.{Thing, Lane}
+use Rattle.unicast.specs.History.{InFlight, Lane}
 use Rattle.unicast.specs.Run.{atOlt, withLanes}
 use Rattle.line.specs.History.{GroupLane, Membership, noLane, isMember, leavingFor}
 use Rattle.line.specs.Run.{State, alone, noGroupLane, notedFor, atHead}
@@ -86,11 +86,11 @@ module _ (w : Setting) (s : State) (llid g : ℕ) (i : Invariant w s) (found : f
 
 ---- what leaves for the members
 
-pub leaving-length : (g : GroupLane) (ls : List Lane) (x : Thing) → length (leavingFor g ls x) ≡ length ls
+pub leaving-length : (g : GroupLane) (ls : List Lane) (x : InFlight) → length (leavingFor g ls x) ≡ length ls
 unfolding leavingFor
 leaving-length g ls x = tabulate-length 0 (length ls) _
 
-pub leaving-at : (g : GroupLane) (ls : List Lane) (x : Thing) (u : ℕ) → u < length ls
+pub leaving-at : (g : GroupLane) (ls : List Lane) (x : InFlight) (u : ℕ) → u < length ls
     → getD (leavingFor g ls x) u [] ≡ pick (isMember g (getD ls u noLane)) (getD (g .towards) u [] ++ (x ∷ [])) (getD (g .towards) u [])
 unfolding leavingFor
 leaving-at g ls x u h =
@@ -99,7 +99,7 @@ leaving-at g ls x u h =
 
 -- each queue has one thing more, or stays
 pub leaving-follows : (g g' : GroupLane) (active active' offered offered' : ℕ) (member : Bool) (ms : List Membership) (j : Joined)
-    (xs : List Thing) (x : Thing) → Grown g g' offered → active ≤ active' → offered ≤ offered'
+    (xs : List InFlight) (x : InFlight) → Grown g g' offered → active ≤ active' → offered ≤ offered'
     → (Under g' (j .keys .active) active' offered' xs → j .keys .active ≤ active' → Under g' (j .keys .active) active' offered' (xs ++ (x ∷ [])))
     → Follows g active offered member ms j xs → Follows g' active' offered' member ms j (pick member (xs ++ (x ∷ [])) xs)
 leaving-follows g g' active active' offered offered' member ms j xs x k a b more f =
@@ -110,6 +110,6 @@ leaving-follows g g' active active' offered offered' member ms j xs x k a b more
       kept = λ e. held-moved g g' offered offered' j _ k b (f .kept e);
       held = λ e. held-moved g g' offered offered' j _ k b (f .held e);
       took = λ n t. f .took n (rw (k .llid) at t);
-      queue = pick-holds (λ (ys : List Thing). Under g' (j .keys .active) active' offered' ys) member (xs ++ (x ∷ [])) xs (λ e. more old low) (λ e. old);
+      queue = pick-holds (λ (ys : List InFlight). Under g' (j .keys .active) active' offered' ys) member (xs ++ (x ∷ [])) xs (λ e. more old low) (λ e. old);
       stranger = λ e. pick-false _ _ e ∙ f .stranger e;
     }

@@ -51,7 +51,7 @@ use Rattle.multicast.specs.SubscriberCalls.{putJoined, joinedLift}
 use Rattle.multicast.specs.SubscriberTraffic.{subscriberReceived, groupReceiveOf, subscriberReceiveOf}
 use Rattle.multicast.specs.declared.SubscriberReceived.{SubscriberReceived}
 use Rattle.unicast.specs.Setting.{Setting, clockDown}
-use Rattle.unicast.specs.History.{Envelope, Thing, envelope, leftAt, keyOf, isSynced}
+use Rattle.unicast.specs.History.{Envelope, InFlight, envelope, leftAt, keyOf, isSynced}
 use Rattle.unicast.specs.Run.{laneAt}
 use Rattle.unicast.specs.Premises.{FittingBuffer}
 use Rattle.unicast.specs.Claim.{PassageRight, ArrivedRight}
@@ -60,7 +60,7 @@ use Rattle.unicast.proofs.Envelopes.{arrivalOf, opens-right, octets-fit}
 use Rattle.unicast.proofs.OnuSteps.{receive-refused}
 use Rattle.unicast.proofs.ReceiptDownSteps.{rx-at}
 use Rattle.line.specs.History.{GroupLane, isMember, isJoined, hasTaken, groupWith, groupTaken, groupArrived}
-use Rattle.line.specs.Run.{State, alone, subscriberAt, joinedBy, groupLaneAt, groupThingAt, now, atUnit, receiving, groupPassage, groupReceipt, groupThingArriving}
+use Rattle.line.specs.Run.{State, alone, subscriberAt, joinedBy, groupLaneAt, groupInFlightAt, now, atUnit, receiving, groupPassage, groupReceipt, groupInFlightArriving}
 use Rattle.line.specs.Premises.{DueOfGroup}
 use Rattle.line.specs.Claim.{notReceived, RefusedFor}
 use Rattle.line.proofs.Alone.{onu-alone}
@@ -85,7 +85,7 @@ unfolding onuReceiveOf onuReceived receivingOnu
 onu-received-has o h p out z = onu-receive-accepted o (misfit p out) h (onu-accepted o noPassage _ _ _ (number-accepted _ z) .1) .has
 
 module _ (w : Setting) (s : State) (u g k : ℕ) (out : List ℕ) (i : Invariant w s) (d : DueOfGroup s u g k out) (e : Envelope)
-    (is : groupThingAt s u g k ≡ envelope e) where
+    (is : groupInFlightAt s u g k ≡ envelope e) where
   abbrev x : Subscriber
   x = subscriberAt s u
 
@@ -102,7 +102,7 @@ module _ (w : Setting) (s : State) (u g k : ℕ) (out : List ℕ) (i : Invariant
   send = i .group g (known w s u g k out i d) .sends e (under .0 .sent)
 
   header : e .header ≡ envelopeHeader (e .number) (e .channel) (e .llid) (clockDown (w .first) (e .left))
-  header = rw (send .way) at (send .right .header)
+  header = rw (send .direction) at (send .right .header)
 
   header-llid : e .header .llid ≡ lane .llid
   unfolding envelopeHeader
@@ -113,7 +113,7 @@ module _ (w : Setting) (s : State) (u g k : ℕ) (out : List ℕ) (i : Invariant
   index = ap (λ (h : Header). h .enckey) header
 
   fits : misfit (e .octets) out ≡ false
-  fits = octets-fit w (laneOf lane) e out (send .right) (send .fits) (subst (λ (y : Thing). FittingBuffer y out) is (d .buffer))
+  fits = octets-fit w (laneOf lane) e out (send .right) (send .fits) (subst (λ (y : InFlight). FittingBuffer y out) is (d .buffer))
 
   valid-onu : validOnu (x .onu) ≡ true
   valid-onu = ap validOnu (sym (onu-alone s u)) ∙ alive w s u g k out i d .common .valid
@@ -123,7 +123,7 @@ module _ (w : Setting) (s : State) (u g k : ℕ) (out : List ℕ) (i : Invariant
   unfolding alone
   rx up =
       let a = alive w s u g k out i d in
-      let due : e .left + laneAt (alone s) u .path .down ≡ now s = ap (λ (y : Thing). leftAt y + laneAt (alone s) u .path .down) (sym is) ∙ d .at in
+      let due : e .left + laneAt (alone s) u .path .down ≡ now s = ap (λ (y : InFlight). leftAt y + laneAt (alone s) u .path .down) (sym is) ∙ d .at in
       let o = onu-alone s u in
       ap (λ (y : Onu). y .clock .rx) (sym o)
       ∙ rx-at (w .first) (now s) (e .left) (laneAt (alone s) u .path .up) (laneAt (alone s) u .path .down) _
@@ -226,7 +226,7 @@ module _ (w : Setting) (s : State) (u g k : ℕ) (out : List ℕ) (i : Invariant
             key = λ h. ap (λ (n : ℕ). keyFor n (y .keys .slots)) (c .chosen) ∙ key-for (e .number) (y .keys .slots) h ∙ key h;
             nonce = λ h.
                 let channel : e .header .channel ≡ e .channel = ap (λ (z : Header). z .channel) header in
-                rw (channel, olt-mac, rx (synced h), send .way);
+                rw (channel, olt-mac, rx (synced h), send .direction);
           }
 
       arrival-is : arrivalIn (groupReceipt s u e out) ≡ arrivalOf e q
@@ -430,8 +430,8 @@ module _ (w : Setting) (s : State) (u g k : ℕ) (out : List ℕ) (i : Invariant
     by-found Nowhere none = rw (own-leaves none) same-leaves
     by-found (At j) found = joined-leaves j found
 
-  pub envelope-right : Invariant w (groupThingArriving s u g k out (envelope e))
-  unfolding groupThingArriving
+  pub envelope-right : Invariant w (groupInFlightArriving s u g k out (envelope e))
+  unfolding groupInFlightArriving
   envelope-right = leaves-right (receiving s u e out .answer .subscriber) leaves
 
   pub envelope-onu : receiving s u e out .answer .subscriber .onu ≡ x .onu

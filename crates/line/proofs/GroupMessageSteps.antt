@@ -31,10 +31,10 @@ use Rattle.multicast.specs.Naming.{byLlid}
 use Rattle.multicast.specs.SubscriberCalls.{subscriberAcknowledged, subscriberKeyMessageOf}
 use Rattle.multicast.specs.declared.SubscriberAcknowledged.{SubscriberAcknowledged}
 use Rattle.unicast.specs.Setting.{Setting}
-use Rattle.unicast.specs.History.{Thing, keyMessage}
+use Rattle.unicast.specs.History.{InFlight, keyMessage}
 use Rattle.unicast.specs.Run.{laneAt}
 use Rattle.line.specs.History.{GroupAnswered, GroupLane, Membership, isMember, isJoined, hasTaken, taking, groupWith, groupTaken, groupAnswered}
-use Rattle.line.specs.Run.{State, alone, subscriberAt, joinedBy, groupLaneAt, groupThingAt, now, atUnit, groupMessageArriving}
+use Rattle.line.specs.Run.{State, alone, subscriberAt, joinedBy, groupLaneAt, groupInFlightAt, now, atUnit, groupMessageArriving}
 use Rattle.line.specs.Premises.{DueOfGroup}
 use Rattle.line.proofs.AloneUnit.{key-message-onu}
 use Rattle.line.proofs.Arriving.{joined-listed, known, unit-known, follows, member, strange, taken, taken-own, taken-others, taken-length}
@@ -54,7 +54,7 @@ use Rattle.line.proofs.Taken.{taking-llids, taking-other, taking-stays,
 ---- nothing is taken
 
 -- the unit and what it has taken stay
-pub dropped-follows : (l : GroupLane) (active offered : ℕ) (is : Bool) (ms : List Membership) (j : Joined) (xs rest : List Thing) (x : Thing)
+pub dropped-follows : (l : GroupLane) (active offered : ℕ) (is : Bool) (ms : List Membership) (j : Joined) (xs rest : List InFlight) (x : InFlight)
     → is ≡ true → Under l (j .keys .active) active offered (x ∷ rest) → Follows l active offered is ms j xs
     → Follows l active offered is ms j rest
 dropped-follows l active offered is ms j xs rest x e q f =
@@ -99,7 +99,7 @@ module _ (w : Setting) (s : State) (u g k : ℕ) (out : List ℕ) (i : Invariant
   left-follows =
       rw (taken-own s u g k in-queue, member-same lane left (laneAt (alone s) u) refl)
       (follows-moved lane left _ _ _ _ _ _ (joinedBy s u) _ _ (taken-grown _) (omega arith) (omega arith) (λ e. e)
-      (dropped-follows lane _ _ _ (joinedBy s u) _ _ _ (groupThingAt s u g k) (member w s u g k out i d) (taken w s u g k out i d)
+      (dropped-follows lane _ _ _ (joinedBy s u) _ _ _ (groupInFlightAt s u g k) (member w s u g k out i d) (taken w s u g k out i d)
       (follows w s u g k out i d)))
 
   left-moved : Moved w s u g x (joinedBy s u) left
@@ -150,7 +150,7 @@ module _ (w : Setting) (s : State) (u g k : ℕ) (out : List ℕ) (i : Invariant
         untaken = λ llid n m. other llid m (apart llid n) ∙ old .untaken llid n m;
       }
 
-  module _ (j : ℕ) (m : KeyMessage) (t : ℕ) (answer : Answer) (found : findJoined x (lane .llid) ≡ At j) (is : groupThingAt s u g k ≡ keyMessage m t)
+  module _ (j : ℕ) (m : KeyMessage) (t : ℕ) (answer : Answer) (found : findJoined x (lane .llid) ≡ At j) (is : groupInFlightAt s u g k ≡ keyMessage m t)
       (fits : either (newNumber (joinedAt x j) m) (heldAgain (joinedAt x j) m) ≡ true)
       (same : answer .number ≡ m .number) where
     abbrev after : GroupLane
@@ -235,7 +235,7 @@ module _ (w : Setting) (s : State) (u g k : ℕ) (out : List ℕ) (i : Invariant
   unfolding groupMessageArriving pick
   message-left m r n same = rw (same, ne-eqb (r .number) 0 n) left-right
 
-  joined-right : (m : KeyMessage) (t : ℕ) → groupThingAt s u g k ≡ keyMessage m t → (j : ℕ) → m .llid ≡ lane .llid → findJoined x (lane .llid) ≡ At j
+  joined-right : (m : KeyMessage) (t : ℕ) → groupInFlightAt s u g k ≡ keyMessage m t → (j : ℕ) → m .llid ≡ lane .llid → findJoined x (lane .llid) ≡ At j
       → Invariant w (groupMessageArriving s u g k m (subscriberKeyMessageOf x m))
   unfolding groupMessageArriving subscriberKeyMessageOf byLlid subscriberAcknowledged messageJoined joinedMessageVerdict groupAnswer pick
   joined-right m t is j llid found = by-end (lift-ends x noAnswer (messageJoined m) j) where
@@ -257,7 +257,7 @@ module _ (w : Setting) (s : State) (u g k : ℕ) (out : List ℕ) (i : Invariant
         (taken-moved j m t answer found is (not-false _ (refuse-accepted _ _ _ (a .1) .0)) refl)))
 
   -- the unit's own part stays
-  pub message-onu : (m : KeyMessage) (t : ℕ) → groupThingAt s u g k ≡ keyMessage m t → subscriberKeyMessageOf x m .subscriber .onu ≡ x .onu
+  pub message-onu : (m : KeyMessage) (t : ℕ) → groupInFlightAt s u g k ≡ keyMessage m t → subscriberKeyMessageOf x m .subscriber .onu ≡ x .onu
   message-onu m t is = by-found (findJoined x (lane .llid)) refl where
     llid : m .llid ≡ lane .llid
     llid = (rw is at (taken w s u g k out i d)) .0 .llid
@@ -266,7 +266,7 @@ module _ (w : Setting) (s : State) (u g k : ℕ) (out : List ℕ) (i : Invariant
     by-found Nowhere none = ap (λ (y : Subscriber). y .onu) (own-refused m llid none .1)
     by-found (At j) found = joined-onu x m j (ap (findJoined x) llid ∙ found)
 
-  pub message-right : (m : KeyMessage) (t : ℕ) → groupThingAt s u g k ≡ keyMessage m t
+  pub message-right : (m : KeyMessage) (t : ℕ) → groupInFlightAt s u g k ≡ keyMessage m t
       → Invariant w (groupMessageArriving s u g k m (subscriberKeyMessageOf x m))
   message-right m t is = by-found (findJoined x (lane .llid)) refl where
     llid : m .llid ≡ lane .llid

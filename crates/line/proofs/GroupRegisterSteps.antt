@@ -32,7 +32,7 @@ use Rattle.groups.specs.declared.Members.{Members}
 use Rattle.groups.specs.declared.Roster.{Roster}
 use Rattle.multicast.specs.HeadCalls.{headAnswer, rosterMembers, validGroupRegistration, groupVerdict, registerGroupOf}
 use Rattle.unicast.specs.Setting.{Setting}
-use Rattle.unicast.specs.History.{Thing, due}
+use Rattle.unicast.specs.History.{InFlight, due}
 use Rattle.unicast.specs.Run.{laneAt}
 use Rattle.unicast.proofs.Invariant.{flagOf, Timing}
 use Rattle.line.specs.History.{GroupAnswered, GroupLane, isMember, hasTaken}
@@ -194,7 +194,7 @@ module _ (w : Setting) (s : State) (llid interval : ℕ) (r : Roster) (i : Invar
   unfolding newGroupLane
   new-follows u h =
       let empty = i .joins u h .stranger llid (none-before u) in
-      let queue : getD {A = List Thing} (replicate (length (lanes s)) []) u [] ≡ [] = getD-replicate (length (lanes s)) u [] [] h in
+      let queue : getD {A = List InFlight} (replicate (length (lanes s)) []) u [] ≡ [] = getD-replicate (length (lanes s)) u [] [] h in
       record {
         low = omega (arith, empty .active);
         kept = λ e. absurd (omega (arith, e, empty .kept));

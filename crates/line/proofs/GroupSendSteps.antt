@@ -155,7 +155,7 @@ module _ (w : Setting) (s : State) (g : ℕ) (i : Invariant w s) (known : g < le
       (λ x q.
       let was = j .sends x q in
       record {
-        way = was .way;
+        direction = was .direction;
         llid = was .llid;
         down = was .down;
         fits = was .fits;
@@ -166,7 +166,7 @@ module _ (w : Setting) (s : State) (g : ℕ) (i : Invariant w s) (known : g < le
         right = sent-carried w (laneOf l) (laneOf after) (x .number) (knows l after (x .number) (grown (x .number))) x (omega arith) (was .right);
       })
       (record {
-        way = refl;
+        direction = refl;
         llid = named;
         down = down;
         fits = fits-alone p out fit;

@@ -26,7 +26,7 @@ use Rattle.groups.specs.declared.Joined.{Joined}
 use Rattle.groups.specs.declared.Subscriber.{Subscriber}
 use Rattle.multicast.specs.Naming.{byLlid}
 use Rattle.unicast.specs.Setting.{Setting}
-use Rattle.unicast.specs.History.{downward, Envelope, Thing, clockMessage, keyMessage, envelope, Arrival, Lane, keyOf}
+use Rattle.unicast.specs.History.{downward, Envelope, InFlight, clockMessage, keyMessage, envelope, Arrival, Lane, keyOf}
 use Rattle.unicast.specs.Run.{noSite, laneAt}
 use Rattle.unicast.specs.Claim.{SentRight, ArrivedRight}
 use Rattle.unicast.proofs.Invariant.{Timing, Spent, countDown, Spaced}
@@ -51,7 +51,7 @@ laneOf g =
 
 -- an envelope that was sent to it, with the channels, the first send under the key in use and its number as they stand
 pub record GroupSend (w : Setting) (channels : Channels) (first : FirstSend) (active : ℕ) (g : GroupLane) (e : Envelope) : Type 0 where
-  pub way : e .way ≡ downward
+  pub direction : e .direction ≡ downward
   pub llid : e .llid ≡ g .llid
   pub down : downstream (e .channel) ≡ true
   pub fits : lengthsFit (length (e .payload)) (length (e .payload)) ≡ true
@@ -96,7 +96,7 @@ pub record EnvelopeUnder (g : GroupLane) (lo hi : ℕ) (e : Envelope) : Type 0 w
   pub sent : List·Memᴰ e (g .sent)
 
 -- levels never fall: they lie in [lo, hi], and no key is above top
-abbrev pub Under : GroupLane → ℕ → ℕ → ℕ → List Thing → Type 0
+abbrev pub Under : GroupLane → ℕ → ℕ → ℕ → List InFlight → Type 0
 Under g lo hi top [] = Prim.Unit {0}
 Under g lo hi top (clockMessage m c t ∷ xs) = ⊥
 Under g lo hi top (keyMessage m t ∷ xs) = KeyUnder g lo hi top m × Under g (m .number - 1) hi top xs
@@ -115,7 +115,7 @@ pub record KeyHeld (g : GroupLane) (offered : ℕ) (j : Joined) (n : ℕ) : Type
   pub key : keyIn (j .keys .slots) n ≡ keyOf (g .keys) n
 
 -- a unit and a group of which A and O are those at the OLT; what the unit took it has, or had before a
-pub record Follows (g : GroupLane) (active offered : ℕ) (member : Bool) (ms : List Membership) (j : Joined) (xs : List Thing) : Type 0 where
+pub record Follows (g : GroupLane) (active offered : ℕ) (member : Bool) (ms : List Membership) (j : Joined) (xs : List InFlight) : Type 0 where
   pub low : j .keys .active ≤ active
   pub kept : j .kept ≡ 1 → KeyHeld g offered j (j .keys .active)
   pub held : j .keys .held ≡ 1 → KeyHeld g offered j (j .keys .active + 1)

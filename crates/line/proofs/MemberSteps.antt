@@ -13,7 +13,7 @@ use Rattle.ends.specs.declared.Onu.{Onu}
 use Rattle.groups.specs.Head.{groupAt}
 use Rattle.groups.specs.declared.Subscriber.{Subscriber}
 use Rattle.unicast.specs.Setting.{Setting}
-use Rattle.unicast.specs.History.{Thing, Lane}
+use Rattle.unicast.specs.History.{InFlight, Lane}
 use Rattle.unicast.specs.Run.{laneAt}
 use Rattle.unicast.proofs.Invariant as units
 use Rattle.line.specs.History.{GroupAnswered, GroupArrival, GroupLane, Membership, isMember, hasTaken}
@@ -173,7 +173,7 @@ module _ (w : Setting) (s : State) (u g : ℕ) (x : Subscriber) (ms : List Membe
   other-unit v h n =
       let z = subscriberAt s v in
       let r = groupAt (s .head) g .keys in
-      subst (λ (xs : List Thing).
+      subst (λ (xs : List InFlight).
       Follows l (r .active) (r .offered) (isMember l (laneAt (alone s) v)) (joinedBy s v) (joinedFor z (l .llid)) xs)
       (sym (p .others v n))
       (subst (λ (y : ℕ).

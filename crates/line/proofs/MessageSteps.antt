@@ -17,7 +17,7 @@ use Rattle.protocol.specs.declared.KeyMessage.{KeyMessage}
 use Rattle.groups.specs.Subscriber.{validJoined}
 use Rattle.groups.specs.JoinedCalls.{highestHeld, holds, heldAgain, newNumber, joinedTaken, joinedAfterMessage}
 use Rattle.groups.specs.declared.Joined.{Joined}
-use Rattle.unicast.specs.History.{Thing}
+use Rattle.unicast.specs.History.{InFlight}
 use Rattle.line.specs.History.{GroupLane, Membership, taking}
 use Rattle.line.proofs.Invariant.{KeyUnder, Under, KeyHeld, Follows}
 use Rattle.line.proofs.Queues.{under-lower}
@@ -26,7 +26,7 @@ use Rattle.line.proofs.Taken.{taking-cases}
 ---- which keys are held
 
 -- the key of a number that is held is the one that was offered
-pub held-key : (l : GroupLane) (active offered : ℕ) (member : Bool) (ms : List Membership) (j : Joined) (xs : List Thing) (n : ℕ)
+pub held-key : (l : GroupLane) (active offered : ℕ) (member : Bool) (ms : List Membership) (j : Joined) (xs : List InFlight) (n : ℕ)
     → Follows l active offered member ms j xs → holds j n ≡ true → KeyHeld l offered j n
 unfolding holds
 held-key l active offered member ms j xs n f e =
@@ -59,7 +59,7 @@ held-low j n e =
 
 ---- a key that is taken
 
-module _ (l : GroupLane) (active offered : ℕ) (member : Bool) (ms : List Membership) (j : Joined) (xs rest : List Thing) (m : KeyMessage)
+module _ (l : GroupLane) (active offered : ℕ) (member : Bool) (ms : List Membership) (j : Joined) (xs rest : List InFlight) (m : KeyMessage)
     (f : Follows l active offered member ms j xs) (valid : validJoined j ≡ true) (r : KeyUnder l (j .keys .active) active offered m)
     (after : Under l (m .number - 1) active offered rest) (is : member ≡ true) where
   -- key n - 1 stays if it was held

@@ -28,17 +28,17 @@ use Rattle.multicast.specs.SubscriberTraffic.{groupSendVerdict, subscriberSendO
 use Rattle.multicast.specs.declared.SubscriberAcknowledged.{SubscriberAcknowledged}
 use Rattle.multicast.specs.declared.SubscriberSent.{SubscriberSent}
 use Rattle.unicast.specs.Setting.{Setting}
-use Rattle.unicast.specs.History.{Thing, clockMessage, keyMessage, envelope, Entry, Lane, laneWith, laneSentUp, laneTaken, laneAnswered, laneArrivedDown}
+use Rattle.unicast.specs.History.{InFlight, clockMessage, keyMessage, envelope, Entry, Lane, laneWith, laneSentUp, laneTaken, laneAnswered, laneArrivedDown}
 use Rattle.unicast.specs.Events as events
 use Rattle.unicast.specs.Run as run
-use Rattle.unicast.specs.Run.{laneAt, onuAt, atOnu, accepted, noted, freshLane, noSite, withLanes, thingAt}
+use Rattle.unicast.specs.Run.{laneAt, onuAt, atOnu, accepted, noted, freshLane, noSite, withLanes, inFlightAt}
 use Rattle.unicast.specs.Premises.{DueDown}
 use Rattle.unicast.proofs.Invariant as units
 use Rattle.unicast.proofs.Alive.{Alive, towards-alive}
 use Rattle.unicast.proofs.Queues.{towards-taken}
 use Rattle.unicast.proofs.Theorem.{step-right}
 use Rattle.line.specs.Events.{sendUp, arriveDown}
-use Rattle.line.specs.Run.{State, alone, subscriberAt, noSubscriber, atUnit, atUnitAlone, sendingUp, messageArriving, receiptDown, thingArriving, step}
+use Rattle.line.specs.Run.{State, alone, subscriberAt, noSubscriber, atUnit, atUnitAlone, sendingUp, messageArriving, receiptDown, inFlightArriving, step}
 use Rattle.line.specs.Premises.{Fits}
 use Rattle.line.proofs.Invariant.{Invariant}
 use Rattle.line.proofs.Alone.{onu-alone}
@@ -156,15 +156,15 @@ module _ (w : Setting) (s : State) (u k : ℕ) (out : List ℕ) (i : Invariant w
       own-not-joined (subscriberAt s u) llid (memberships-right w s i u)
       (ap (λ (o : Onu). has (o .identity) llid) (sym (onu-alone s u)) ∙ own-alive .common .llids llid ∙ h)
 
-  thing-right : (x : Thing) → thingAt (alone s) u k ≡ x → units.Invariant w (run.thingArriving (alone s) u k out x) → Invariant w (thingArriving s u k out x)
-  unfolding thingArriving withOnu laneArrivedDown laneTaken laneWith envelopeHeader
-  thing-right (clockMessage m c t) e right =
+  in-flight-right : (x : InFlight) → inFlightAt (alone s) u k ≡ x → units.Invariant w (run.inFlightArriving (alone s) u k out x) → Invariant w (inFlightArriving s u k out x)
+  unfolding inFlightArriving withOnu laneArrivedDown laneTaken laneWith envelopeHeader
+  in-flight-right (clockMessage m c t) e right =
       let x = subscriberAt s u in
       let v = memberships-right w s i u in
       message-right w s u k (subscriberClockMessageOf x m) i
       (rw (clock-message-onu x v m) (with-onu-kept x _ (clock-message-kept (x .onu) m)))
       (rw (clock-alone s u v k out m c t) right)
-  thing-right (keyMessage m t) e right =
+  in-flight-right (keyMessage m t) e right =
       let x = subscriberAt s u in
       let v = memberships-right w s i u in
       let j = own-alive .joined in
@@ -174,7 +174,7 @@ module _ (w : Setting) (s : State) (u k : ℕ) (out : List ℕ) (i : Invariant w
       message-right w s u k (subscriberKeyMessageOf x m) i
       (rw (key-message-onu x v m none) (with-onu-kept x _ (key-message-kept (x .onu) m)))
       (rw (key-alone s u v k out m t none) right)
-  thing-right (envelope y) e right =
+  in-flight-right (envelope y) e right =
       let x = subscriberAt s u in
       let v = memberships-right w s i u in
       let j = own-alive .joined in
@@ -191,4 +191,4 @@ pub arrive-down-right : (w : Setting) (s : State) (u k : ℕ) (out : List ℕ) �
     → Invariant w (step s (arriveDown u k out))
 unfolding step run.step
 arrive-down-right w s u k out i d =
-    thing-right w s u k out i d (thingAt (alone s) u k) refl (step-right w (alone s) (events.arriveDown u k out) (i .units) d)
+    in-flight-right w s u k out i d (inFlightAt (alone s) u k) refl (step-right w (alone s) (events.arriveDown u k out) (i .units) d)

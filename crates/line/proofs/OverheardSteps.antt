@@ -40,7 +40,7 @@ use Rattle.multicast.specs.Naming.{byLlid}
 use Rattle.multicast.specs.SubscriberTraffic.{subscriberReceived, groupReceiveOf, subscriberReceiveOf}
 use Rattle.multicast.specs.declared.SubscriberReceived.{SubscriberReceived}
 use Rattle.unicast.specs.Setting.{Setting}
-use Rattle.unicast.specs.History.{Way, downward, Envelope}
+use Rattle.unicast.specs.History.{Direction, downward, Envelope}
 use Rattle.unicast.specs.Run.{laneAt, sentAt, noEnvelope}
 use Rattle.unicast.specs.Claim.{overheardFor}
 use Rattle.unicast.specs.Premises.{Overhears}
@@ -87,7 +87,7 @@ unit-known w s u a = a .known
 module _ (w : Setting) (s : State) (u : ℕ) (e : Envelope) (out : List ℕ) (i : Invariant w s) (r : laneAt (alone s) u .entry .registered ≡ true)
     (llid : e .header .llid ≡ e .llid)
     (own : onuReceiveOf (subscriberAt s u .onu) (e .header) (e .octets) out
-    ≡ withOutput (onuNotReceived (subscriberAt s u .onu) (overheardFor (misfit (e .octets) out) (e .way))) out)
+    ≡ withOutput (onuNotReceived (subscriberAt s u .onu) (overheardFor (misfit (e .octets) out) (e .direction))) out)
     (stranger : Stranger (s .history .groups) (laneAt (alone s) u) (e .llid)) where
   abbrev x : Subscriber
   x = subscriberAt s u
@@ -127,7 +127,7 @@ unit-overheard w s i u v k out h =
 
 ---- of a group
 
-refused-for : (t : Bool) (y : Way) → y ≡ downward → refuseIf t BadLength (Refused UnknownLlid) ≡ Refused (overheardFor t y)
+refused-for : (t : Bool) (y : Direction) → y ≡ downward → refuseIf t BadLength (Refused UnknownLlid) ≡ Refused (overheardFor t y)
 unfolding refuseIf
 refused-for true y e = refl
 refused-for false y e = rw e
@@ -144,10 +144,10 @@ group-overheard w s i u g k out h =
     let llid : e .header .llid ≡ e .llid = ap (λ (y : Header). y .llid) (send .right .header) in
     let strange : has (x .onu .identity) (e .header .llid) ≡ false =
     ap (has (x .onu .identity)) (llid ∙ send .llid) ∙ no-own w s u g i known (h .registered) in
-    let verdict : onuReceiveVerdict (x .onu) (misfit (e .octets) out) (e .header) ≡ Refused (overheardFor (misfit (e .octets) out) (e .way)) =
+    let verdict : onuReceiveVerdict (x .onu) (misfit (e .octets) out) (e .header) ≡ Refused (overheardFor (misfit (e .octets) out) (e .direction)) =
     overheard-down (x .onu) (misfit (e .octets) out) (e .header) (ap (λ (y : Header). downstream (y .channel)) (send .right .header) ∙ send .down)
     (ap validHeader (send .right .header) ∙ header-valid (e .number) (e .channel) (e .llid) _) strange
-    ∙ refused-for (misfit (e .octets) out) (e .way) (send .way) in
+    ∙ refused-for (misfit (e .octets) out) (e .direction) (send .direction) in
     let valid : validOnu (x .onu) ≡ true = ap validOnu (sym (onu-alone s u)) ∙ a .common .valid in
     overheard-right w s u e out i (h .registered) llid
     (sym (onu-receive-refused (x .onu) (e .header) (e .octets) out _ (refuse-passed _ OutOfRange _ (not-of-true valid) ∙ verdict)))

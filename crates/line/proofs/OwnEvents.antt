@@ -17,16 +17,16 @@ use Rattle.groups.specs.Subscriber.{findJoined}
 use Rattle.multicast.specs.declared.HeadKeySent.{HeadKeySent}
 use Rattle.multicast.specs.declared.SubscriberSent.{SubscriberSent}
 use Rattle.unicast.specs.Setting.{Site, Setting}
-use Rattle.unicast.specs.History.{Thing, clockMessage, keyMessage, envelope, Entry}
+use Rattle.unicast.specs.History.{InFlight, clockMessage, keyMessage, envelope, Entry}
 use Rattle.unicast.specs.Events as units
 use Rattle.unicast.specs.Run as run
-use Rattle.unicast.specs.Run.{laneAt, thingAt}
+use Rattle.unicast.specs.Run.{laneAt, inFlightAt}
 use Rattle.unicast.specs.Premises as premises
 use Rattle.unicast.proofs.Alive.{registered-alive, towards-alive}
 use Rattle.unicast.proofs.Queues.{towards-taken}
 use Rattle.unicast.proofs.Owned.{Owned, Owns, whose, whose-stays}
 use Rattle.line.specs.History.{GroupLane}
-use Rattle.line.specs.Run.{State, alone, subscriberAt, noGroupLane, atHead, atUnit, atUnitAlone, advancing, clockSendingTo, offeringTo, retryingTo, sendingDown, sendingUp, messageArriving, thingArriving, arrivingUp, answering, step, runs}
+use Rattle.line.specs.Run.{State, alone, subscriberAt, noGroupLane, atHead, atUnit, atUnitAlone, advancing, clockSendingTo, offeringTo, retryingTo, sendingDown, sendingUp, messageArriving, inFlightArriving, arrivingUp, answering, step, runs}
 use Rattle.line.specs.Premises.{Fits, Meets}
 use Rattle.line.specs.Without.{plain}
 use Rattle.line.proofs.Invariant.{Invariant}
@@ -73,16 +73,16 @@ module _ (w : Setting) (s : State) (i : Invariant w s) (u llid : ℕ) (key : Lis
         groups = new;
       }
 
-  thing-alone : (k : ℕ) (out : List ℕ) → premises.DueDown (alone s) u k out → (x : Thing) → thingAt (alone s) u k ≡ x
-      → alone (thingArriving s u k out x) ≡ run.thingArriving (alone s) u k out x
+  in-flight-alone : (k : ℕ) (out : List ℕ) → premises.DueDown (alone s) u k out → (x : InFlight) → inFlightAt (alone s) u k ≡ x
+      → alone (inFlightArriving s u k out x) ≡ run.inFlightArriving (alone s) u k out x
   unfolding envelopeHeader
-  thing-alone k out d (clockMessage m c t) e = clock-alone s u (memberships-right w s i u) k out m c t
-  thing-alone k out d (keyMessage m t) e =
+  in-flight-alone k out d (clockMessage m c t) e = clock-alone s u (memberships-right w s i u) k out m c t
+  in-flight-alone k out d (keyMessage m t) e =
       let j = towards-alive w (alone s) u (i .units) k (d .some) .joined in
       let r = towards-taken (w .first) (laneAt (alone s) u .path) (laneAt (alone s) u) _ _ _ (laneAt (alone s) u .transit .towards) k _ (keyMessage m t)
       (d .some) e (j .towards) .0 in
       key-alone s u (memberships-right w s i u) k out m t (not-joined (m .llid) (r .named))
-  thing-alone k out d (envelope y) e =
+  in-flight-alone k out d (envelope y) e =
       let j = towards-alive w (alone s) u (i .units) k (d .some) .joined in
       let r = towards-taken (w .first) (laneAt (alone s) u .path) (laneAt (alone s) u) _ _ _ (laneAt (alone s) u .transit .towards) k _ (envelope y)
       (d .some) e (j .towards) .0 in
@@ -125,7 +125,7 @@ module _ (w : Setting) (s : State) (i : Invariant w s) (u llid : ℕ) (key : Lis
   arrive-down-alone : (k : ℕ) (out : List ℕ) → premises.DueDown (alone s) u k out
       → alone (step s (plain (units.arriveDown u k out))) ≡ run.step (alone s) (units.arriveDown u k out)
   unfolding plain step run.step
-  arrive-down-alone k out d = thing-alone k out d (thingAt (alone s) u k) refl
+  arrive-down-alone k out d = in-flight-alone k out d (inFlightAt (alone s) u k) refl
 
   pub own-same : (e : units.Event) → Owned u llid key e → premises.Fits w (alone s) e → alone (step s (plain e)) ≡ run.step (alone s) e
   unfolding plain
@@ -157,11 +157,11 @@ module _ (w : Setting) (s : State) (i : Invariant w s) (u llid : ℕ) (key : Lis
   own-same (units.strayDown v h p out) o f = absurd o
   own-same (units.strayUp h p out) o f = absurd o
 
-  thing-groups : (v k : ℕ) (out : List ℕ) (x : Thing) → thingArriving s v k out x .history .groups ≡ s .history .groups
-  unfolding thingArriving messageArriving atUnitAlone atUnit
-  thing-groups v k out (clockMessage m c t) = refl
-  thing-groups v k out (keyMessage m t) = refl
-  thing-groups v k out (envelope e) = refl
+  in-flight-groups : (v k : ℕ) (out : List ℕ) (x : InFlight) → inFlightArriving s v k out x .history .groups ≡ s .history .groups
+  unfolding inFlightArriving messageArriving atUnitAlone atUnit
+  in-flight-groups v k out (clockMessage m c t) = refl
+  in-flight-groups v k out (keyMessage m t) = refl
+  in-flight-groups v k out (envelope e) = refl
 
   pub own-groups : (e : units.Event) → Owned u llid key e → step s (plain e) .history .groups ≡ s .history .groups
   unfolding plain step advancing clockSendingTo offeringTo retryingTo sendingDown sendingUp arrivingUp answering atHead atUnitAlone atUnit
@@ -172,7 +172,7 @@ module _ (w : Setting) (s : State) (i : Invariant w s) (u llid : ℕ) (key : Lis
   own-groups (units.retry x) o = noted-none w s i _ x _ (rw o none)
   own-groups (units.sendDown x channel p out) o = noted-none w s i _ x _ (rw o none)
   own-groups (units.sendUp v x channel p out) o = refl
-  own-groups (units.arriveDown v k out) o = thing-groups v k out (thingAt (alone s) v k)
+  own-groups (units.arriveDown v k out) o = in-flight-groups v k out (inFlightAt (alone s) v k)
   own-groups (units.arriveUp v k out) o = refl
   own-groups (units.arriveAnswer v k x) o = refl
   own-groups (units.register v x trip interval) o = absurd o

@@ -11,7 +11,7 @@ use Rattle.unicast.specs.Run as run
 use Rattle.unicast.specs.Run.{laneAt, onuAt}
 use Rattle.unicast.specs.Claim.{Holds, ArrivedNumbered}
 use Rattle.unicast.specs.Progress as without
-use Rattle.unicast.specs.Progress.{confirmedBy, limitOf, inFlight, recipe, maxEvents}
+use Rattle.unicast.specs.Progress.{confirmedBy, limitOf, awaitedCount, recipe, maxEvents}
 use Rattle.unicast.proofs.Progress.{brings}
 use Rattle.unicast.proofs.Owned.{owns-recipe}
 use Rattle.line.specs.Run.{State, alone, now, start, runs}
@@ -51,5 +51,5 @@ progress w es u llid key f m able new =
     (own-list w s (recipe u llid key (alone s)) u llid key i (able .registered) (able .named) (new .groups) (owns-recipe u llid key (alone s)) (b .meets))
     (subst
     (λ (t : ℕ).
-    without.Brings w (alone s) u (confirmedBy (laneAt (alone s) u) + 1) (limitOf (laneAt (alone s) u)) (maxEvents + 2 * inFlight (laneAt (alone s) u) t)
+    without.Brings w (alone s) u (confirmedBy (laneAt (alone s) u) + 1) (limitOf (laneAt (alone s) u)) (maxEvents + 2 * awaitedCount (laneAt (alone s) u) t)
     (recipe u llid key (alone s))) (now-alone s) b)

@@ -21,7 +21,7 @@ use Rattle.unicast.proofs.Tested.{ifAccepted, if-accepted, not-accepted, agrees
 use Rattle.unicast.proofs.Tested as units
 use Rattle.line.specs.History.{GroupLane, isMember}
 use Rattle.line.specs.Events.{Event, advance, register, registerGroup, capture, clockSend, offer, retry, sendDown, join, sendUp, arriveDown, arriveGroup, arriveUp, arriveAnswer, arriveGroupAnswer, overhear, overhearGroup, changePath, measure, newTime, strayClock, strayKey, strayAnswer, strayDown, strayUp}
-use Rattle.line.specs.Run.{State, alone, subscriberAt, groupLaneAt, noGroupLane, groupThingAt, groupAnswerAt, now, step}
+use Rattle.line.specs.Run.{State, alone, subscriberAt, groupLaneAt, noGroupLane, groupInFlightAt, groupAnswerAt, now, step}
 use Rattle.line.specs.Premises.{NewKey, DueOfGroup, DueGroupAnswer, Changes, OverhearsGroup, Fits, Meets}
 
 ---- each premise of groups
@@ -43,7 +43,7 @@ new-true s key e =
 unfoldable pub dueOfGroup : State → ℕ → ℕ → ℕ → List ℕ → Bool
 dueOfGroup s u g k out =
     both (ltb k (length (getD (groupLaneAt s g .towards) u [])))
-    (both (eqb (leftAt (groupThingAt s u g k) + laneAt (alone s) u .path .down) (now s)) (fitting (groupThingAt s u g k) out))
+    (both (eqb (leftAt (groupInFlightAt s u g k) + laneAt (alone s) u .path .down) (now s)) (fitting (groupInFlightAt s u g k) out))
 
 pub due-of-group-true : (s : State) (u g k : ℕ) (out : List ℕ) → dueOfGroup s u g k out ≡ true → DueOfGroup s u g k out
 unfolding dueOfGroup

@@ -3,28 +3,28 @@
 use mathlib.Core.Path.{refl}
 use mathlib.Core.List.{List, [], _∷_}
 use Prim.Native.Nat.{ℕ}
-use Rattle.unicast.specs.History.{Thing, clockMessage, keyMessage, envelope, sending, laneWith, laneRegistered, laneCaptured, laneLeaving, laneOffered, laneAcknowledged, laneSentDown, laneSentUp, laneTaken, laneAnswered, arriving, laneArrivedDown, laneArrivedUp}
+use Rattle.unicast.specs.History.{InFlight, clockMessage, keyMessage, envelope, sending, laneWith, laneRegistered, laneCaptured, laneLeaving, laneOffered, laneAcknowledged, laneSentDown, laneSentUp, laneTaken, laneAnswered, arriving, laneArrivedDown, laneArrivedUp}
 use Rattle.unicast.specs.Run as run
-use Rattle.unicast.specs.Run.{laneAt, withLanes, atOlt, atOnu, atOltFor, entering, clockSending, offering, retrying, thingAt}
+use Rattle.unicast.specs.Run.{laneAt, withLanes, atOlt, atOnu, atOltFor, entering, clockSending, offering, retrying, inFlightAt}
 use Rattle.unicast.specs.Demand.{AsStarted}
 use Rattle.unicast.proofs.StartSteps.{lane-fresh}
 use Rattle.unicast.proofs.Unchanged.{fresh-as, more-as, each-mapped, each-set, noted-as, named-as, spread-one}
 use Rattle.line.specs.Events.{Event, advance, register, registerGroup, capture, clockSend, offer, retry, sendDown, join, sendUp, arriveDown, arriveGroup, arriveUp, arriveAnswer, arriveGroupAnswer, overhear, overhearGroup, changePath, measure, newTime, strayClock, strayKey, strayAnswer, strayDown, strayUp}
-use Rattle.line.specs.Run.{State, alone, lanes, start, atHead, atUnit, atUnitAlone, advancing, registering, registeringGroup, clockSendingTo, offeringTo, retryingTo, envelopeDown, sendingDown, joiningAt, envelopeUp, sendingUp, messageArriving, thingArriving, groupMessageArriving, groupThingArriving, groupThingAt, arrivingUp, answering, subscriberAfter, headAfter, step, runs}
+use Rattle.line.specs.Run.{State, alone, lanes, start, atHead, atUnit, atUnitAlone, advancing, registering, registeringGroup, clockSendingTo, offeringTo, retryingTo, envelopeDown, sendingDown, joiningAt, envelopeUp, sendingUp, messageArriving, inFlightArriving, groupMessageArriving, groupInFlightArriving, groupInFlightAt, arrivingUp, answering, subscriberAfter, headAfter, step, runs}
 use Rattle.line.specs.Without.{NoChange, NoChanges, Unchanged, OneSpread}
 
 module _ (s : State) (e : (u : ℕ) → AsStarted (laneAt (alone s) u)) where
-  thing-as : (u k : ℕ) (out : List ℕ) (x : Thing) (v : ℕ) → AsStarted (laneAt (alone (thingArriving s u k out x)) v)
-  unfolding alone thingArriving messageArriving atUnitAlone atUnit atOnu withLanes laneAnswered laneArrivedDown laneTaken laneWith arriving
-  thing-as u k out (clockMessage m c t) v = each-set (lanes s) u _ (noted-as _ _ _ (e u) (e u)) e v
-  thing-as u k out (keyMessage m t) v = each-set (lanes s) u _ (noted-as _ _ _ (e u) (e u)) e v
-  thing-as u k out (envelope x) v = each-set (lanes s) u _ (e u) e v
+  in-flight-as : (u k : ℕ) (out : List ℕ) (x : InFlight) (v : ℕ) → AsStarted (laneAt (alone (inFlightArriving s u k out x)) v)
+  unfolding alone inFlightArriving messageArriving atUnitAlone atUnit atOnu withLanes laneAnswered laneArrivedDown laneTaken laneWith arriving
+  in-flight-as u k out (clockMessage m c t) v = each-set (lanes s) u _ (noted-as _ _ _ (e u) (e u)) e v
+  in-flight-as u k out (keyMessage m t) v = each-set (lanes s) u _ (noted-as _ _ _ (e u) (e u)) e v
+  in-flight-as u k out (envelope x) v = each-set (lanes s) u _ (e u) e v
 
-  group-thing-as : (u g k : ℕ) (out : List ℕ) (x : Thing) (v : ℕ) → AsStarted (laneAt (alone (groupThingArriving s u g k out x)) v)
-  unfolding alone groupThingArriving groupMessageArriving atUnit
-  group-thing-as u g k out (clockMessage m c t) v = e v
-  group-thing-as u g k out (keyMessage m t) v = e v
-  group-thing-as u g k out (envelope x) v = e v
+  group-in-flight-as : (u g k : ℕ) (out : List ℕ) (x : InFlight) (v : ℕ) → AsStarted (laneAt (alone (groupInFlightArriving s u g k out x)) v)
+  unfolding alone groupInFlightArriving groupMessageArriving atUnit
+  group-in-flight-as u g k out (clockMessage m c t) v = e v
+  group-in-flight-as u g k out (keyMessage m t) v = e v
+  group-in-flight-as u g k out (envelope x) v = e v
 
   step-as : (x : Event) → NoChange x → (v : ℕ) → AsStarted (laneAt (alone (step s x)) v)
   unfolding alone step advancing registering registeringGroup entering atHead atUnitAlone atUnit atOlt atOnu atOltFor withLanes clockSendingTo clockSending
@@ -43,8 +43,8 @@ module _ (s : State) (e : (u : ℕ) → AsStarted (laneAt (alone s) u)) where
   step-as (join u llid) c v = e v
   step-as (sendUp u llid channel q out) c v =
       each-set (lanes s) u _ (noted-as _ _ _ (e u .0, more-as (laneAt (alone s) u) _ (e u) refl) (e u)) e v
-  step-as (arriveDown u k out) c v = thing-as u k out (thingAt (alone s) u k) v
-  step-as (arriveGroup u g k out) c v = group-thing-as u g k out (groupThingAt s u g k) v
+  step-as (arriveDown u k out) c v = in-flight-as u k out (inFlightAt (alone s) u k) v
+  step-as (arriveGroup u g k out) c v = group-in-flight-as u g k out (groupInFlightAt s u g k) v
   step-as (arriveUp u k out) c v = each-set (lanes s) u _ (e u) e v
   step-as (arriveAnswer u k llid) c v = each-mapped _ (lanes s) (λ l p. noted-as _ _ l (named-as _ _ l p p) p) e v
   step-as (arriveGroupAnswer g k) c v = e v

@@ -54,17 +54,17 @@ use Rattle.multicast.specs.declared.SubscriberAnswer.{SubscriberAnswer}
 use Rattle.multicast.specs.declared.SubscriberReceived.{SubscriberReceived}
 use Rattle.multicast.specs.declared.SubscriberSent.{SubscriberSent}
 use Rattle.unicast.specs.Setting.{Setting}
-use Rattle.unicast.specs.History.{Thing, clockMessage, keyMessage, envelope, Lane}
+use Rattle.unicast.specs.History.{InFlight, clockMessage, keyMessage, envelope, Lane}
 use Rattle.unicast.specs.Events as units
 use Rattle.unicast.specs.Run as run
-use Rattle.unicast.specs.Run.{thingAt}
+use Rattle.unicast.specs.Run.{inFlightAt}
 use Rattle.unicast.specs.Premises as premises
 use Rattle.unicast.proofs.OnuSteps.{receive-refused}
 use Rattle.unicast.proofs.OverheardSteps.{overheard-refused}
 use Rattle.line.specs.History.{GroupLane, Membership, isJoined, groupMoved}
 use Rattle.line.specs.Events.{register}
 use Rattle.line.specs.Run as line
-use Rattle.line.specs.Run.{State, alone, noSubscriber, subscriberAt, joinedBy, noGroupLane, groupLaneAt, now, lanes, notedFor, atHead, atUnit, atUnitAlone, advancing, changingPath, clockSendingTo, offeringTo, retryingTo, sendingDown, sendingUp, messageArriving, thingArriving, arrivingUp, answering, subscriberAfter, headAfter, start, step, runs}
+use Rattle.line.specs.Run.{State, alone, noSubscriber, subscriberAt, joinedBy, noGroupLane, groupLaneAt, now, lanes, notedFor, atHead, atUnit, atUnitAlone, advancing, changingPath, clockSendingTo, offeringTo, retryingTo, sendingDown, sendingUp, messageArriving, inFlightArriving, arrivingUp, answering, subscriberAfter, headAfter, start, step, runs}
 use Rattle.line.specs.Premises.{Fits, Meets}
 use Rattle.line.specs.Without.{plain, AsBefore}
 use Rattle.line.proofs.Invariant.{Invariant}
@@ -249,11 +249,11 @@ module _ (w : Setting) (s : State) (i : Invariant w s) (p : Plain s) where
   unfolding atUnitAlone atUnit
   own-plain u x f = record { groups = p .groups; joined = p .joined }
 
-  thing-plain : (u k : ℕ) (out : List ℕ) (x : Thing) → Plain (thingArriving s u k out x)
-  unfolding thingArriving messageArriving
-  thing-plain u k out (clockMessage m c t) = own-plain u _ _
-  thing-plain u k out (keyMessage m t) = own-plain u _ _
-  thing-plain u k out (envelope e) = own-plain u _ _
+  in-flight-plain : (u k : ℕ) (out : List ℕ) (x : InFlight) → Plain (inFlightArriving s u k out x)
+  unfolding inFlightArriving messageArriving
+  in-flight-plain u k out (clockMessage m c t) = own-plain u _ _
+  in-flight-plain u k out (keyMessage m t) = own-plain u _ _
+  in-flight-plain u k out (envelope e) = own-plain u _ _
 
   plain-stays : (e : units.Event) → Plain (step s (plain e))
   unfolding plain step advancing line.registering changingPath clockSendingTo offeringTo retryingTo sendingDown sendingUp arrivingUp answering subscriberAfter
@@ -266,7 +266,7 @@ module _ (w : Setting) (s : State) (i : Invariant w s) (p : Plain s) where
   plain-stays (units.retry llid) = record { groups = noted-empty _ llid _ (s .history .groups) (p .groups); joined = p .joined }
   plain-stays (units.sendDown llid channel q out) = record { groups = noted-empty _ llid _ (s .history .groups) (p .groups); joined = p .joined }
   plain-stays (units.sendUp u llid channel q out) = own-plain u _ _
-  plain-stays (units.arriveDown u k out) = thing-plain u k out (thingAt (alone s) u k)
+  plain-stays (units.arriveDown u k out) = in-flight-plain u k out (inFlightAt (alone s) u k)
   plain-stays (units.arriveUp u k out) = record { groups = p .groups; joined = p .joined }
   plain-stays (units.arriveAnswer u k llid) = record { groups = p .groups; joined = p .joined }
   plain-stays (units.overhear u v k out) = record { groups = p .groups; joined = p .joined }
@@ -311,10 +311,10 @@ module _ (w : Setting) (s : State) (i : Invariant w s) (p : Plain s) where
   unfolding step line.registering atHead alone withOlt run.step run.entering
   register-alone u x trip interval = rw (register-plain (s .head) x trip interval (i .valid) no-count)
 
-  thing-alone : (u k : ℕ) (out : List ℕ) (x : Thing) → alone (thingArriving s u k out x) ≡ run.thingArriving (alone s) u k out x
-  thing-alone u k out (clockMessage m c t) = clock-alone s u (valid u) k out m c t
-  thing-alone u k out (keyMessage m t) = key-alone s u (valid u) k out m t (no-joined w s u (m .llid) i p)
-  thing-alone u k out (envelope e) = envelope-alone s u (valid u) k out e (no-joined w s u (e .header .llid) i p)
+  in-flight-alone : (u k : ℕ) (out : List ℕ) (x : InFlight) → alone (inFlightArriving s u k out x) ≡ run.inFlightArriving (alone s) u k out x
+  in-flight-alone u k out (clockMessage m c t) = clock-alone s u (valid u) k out m c t
+  in-flight-alone u k out (keyMessage m t) = key-alone s u (valid u) k out m t (no-joined w s u (m .llid) i p)
+  in-flight-alone u k out (envelope e) = envelope-alone s u (valid u) k out e (no-joined w s u (e .header .llid) i p)
 
   plain-alone : (e : units.Event) → premises.Fits w (alone s) e → alone (step s (plain e)) ≡ run.step (alone s) e
   unfolding plain step run.step
@@ -326,7 +326,7 @@ module _ (w : Setting) (s : State) (i : Invariant w s) (p : Plain s) where
   plain-alone (units.retry llid) f = retry-alone s (i .valid) llid (none llid)
   plain-alone (units.sendDown llid channel q out) f = send-down-alone s (i .valid) llid (none llid) channel q out
   plain-alone (units.sendUp u llid channel q out) f = send-up-alone s u (valid u) llid channel q out (no-joined w s u llid i p)
-  plain-alone (units.arriveDown u k out) f = thing-alone u k out (thingAt (alone s) u k)
+  plain-alone (units.arriveDown u k out) f = in-flight-alone u k out (inFlightAt (alone s) u k)
   plain-alone (units.arriveUp u k out) f = arrive-up-alone s (i .valid) u k out (none (run.envelopeAt (alone s) u k .header .llid))
   plain-alone (units.arriveAnswer u k llid) f = answer-alone s (i .valid) llid (none llid) u k
   plain-alone (units.overhear u v k out) f =

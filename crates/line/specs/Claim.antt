@@ -25,7 +25,7 @@ use Rattle.unicast.specs.Premises.{Overhears}
 use Rattle.unicast.specs.Claim as units
 use Rattle.line.specs.History.{GroupArrival, GroupLane, GroupAnswered, isJoined, hasTaken}
 use Rattle.line.specs.Events.{arriveGroup}
-use Rattle.line.specs.Run.{State, alone, subscriberAt, joinedBy, groupLaneAt, groupSentAt, groupThingAt, receiving, groupReceipt, step}
+use Rattle.line.specs.Run.{State, alone, subscriberAt, joinedBy, groupLaneAt, groupSentAt, groupInFlightAt, receiving, groupReceipt, step}
 use Rattle.line.specs.Premises.{DueOfGroup, OverhearsGroup}
 
 -- what tells the counter blocks of a group's envelope from another's: the OLT's MAC and clock
@@ -109,7 +109,7 @@ RefusedFor r s u e out = receiving s u e out ≡ withOutput (notReceived (subscr
 
 -- by a unit that has not joined the LLID: refused, 14 for its buffer, else 2 downstream and 1 upstream
 abbrev pub RefusedThere : State → ℕ → Envelope → List ℕ → Type 0
-RefusedThere s u e out = RefusedFor (overheardFor (misfit (e .octets) out) (e .way)) s u e out
+RefusedThere s u e out = RefusedFor (overheardFor (misfit (e .octets) out) (e .direction)) s u e out
 
 -- by one that has joined it, and for which it is not meant: the unit is left as it was
 abbrev pub LeftThere : State → ℕ → Envelope → List ℕ → Type 0
@@ -130,13 +130,13 @@ pub record Claim (w : Setting) (s : State) : Type 0 where
   pub groupSent : (g : ℕ) (e : Envelope) → List·Memᴰ e (groupLaneAt s g .sent) → GroupSentRight w (groupLaneAt s g) e
   pub groupArrived : (g : ℕ) (r : GroupArrival) → List·Memᴰ r (groupLaneAt s g .arrived) → GroupArrivedRight w (groupLaneAt s g) r
   -- a sealed envelope of a group that arrives at a unit which has joined it and is not synced is refused 5 (02, C-16)
-  pub unsynced : (u g k : ℕ) (out : List ℕ) (e : Envelope) → DueOfGroup s u g k out → groupThingAt s u g k ≡ envelope e
+  pub unsynced : (u g k : ℕ) (out : List ℕ) (e : Envelope) → DueOfGroup s u g k out → groupInFlightAt s u g k ≡ envelope e
       → isJoined (joinedBy s u) (e .llid) ≡ true → isSynced (laneAt (alone s) u) ≡ false → 1 ≤ e .number → RefusedFor ClockNotSet s u e out
   -- a unit whose acknowledgement of key n went out has accepted that key's message since it joined: so the next acknowledged key brings a
   -- member back, once it is synced, whatever it missed
   pub answered : (g : ℕ) (a : GroupAnswered) → List·Memᴰ a (groupLaneAt s g .answered)
       → hasTaken (joinedBy s (a .unit)) (groupLaneAt s g .llid) (a .answer .number) ≡ true
-  pub back : (u g k : ℕ) (out : List ℕ) (e : Envelope) (a : GroupAnswered) → DueOfGroup s u g k out → groupThingAt s u g k ≡ envelope e
+  pub back : (u g k : ℕ) (out : List ℕ) (e : Envelope) (a : GroupAnswered) → DueOfGroup s u g k out → groupInFlightAt s u g k ≡ envelope e
       → List·Memᴰ a (groupLaneAt s g .answered) → a .unit ≡ u → a .answer .number ≡ e .number → isSynced (laneAt (alone s) u) ≡ true
       → 1 ≤ e .number → GroupOpened w (groupLaneAt s g) (groupReceipt s u e out)
   -- what arrives of a group leaves the OLT, the units and their own lines: their numbers too

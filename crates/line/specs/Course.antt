@@ -8,11 +8,11 @@ use Rattle.multicast.specs.HeadTraffic.{headSendOf, headReceiveOf}
 use Rattle.multicast.specs.SubscriberCalls.{joinOf, subscriberNewTimeOf, subscriberClockMessageOf, subscriberKeyMessageOf, ownAnswer}
 use Rattle.multicast.specs.SubscriberTraffic.{subscriberSendOf, subscriberReceiveOf}
 use Rattle.groups.specs.declared.Subscriber.{Subscriber}
-use Rattle.unicast.specs.History.{Envelope, Thing, clockMessage, keyMessage, envelope, Arrival}
-use Rattle.unicast.specs.Run.{accepted, laneAt, thingAt, envelopeAt, sentAt, answerAt}
+use Rattle.unicast.specs.History.{Envelope, InFlight, clockMessage, keyMessage, envelope, Arrival}
+use Rattle.unicast.specs.Run.{accepted, laneAt, inFlightAt, envelopeAt, sentAt, answerAt}
 use Rattle.line.specs.History.{GroupAnswered, GroupArrival}
 use Rattle.line.specs.Events.{Event, advance, register, registerGroup, capture, clockSend, offer, retry, sendDown, join, sendUp, arriveDown, arriveGroup, arriveUp, arriveAnswer, arriveGroupAnswer, overhear, overhearGroup, changePath, measure, newTime, strayClock, strayKey, strayAnswer, strayDown, strayUp}
-use Rattle.line.specs.Run.{State, alone, start, step, runs, subscriberAt, joinedBy, groupLaneAt, groupThingAt, groupAnswerAt, groupSentAt, receiving, now}
+use Rattle.line.specs.Run.{State, alone, start, step, runs, subscriberAt, joinedBy, groupLaneAt, groupInFlightAt, groupAnswerAt, groupSentAt, receiving, now}
 use Rattle.line.specs.Example.{example, groupLlid, events}
 
 -- where the example stands after events
@@ -25,7 +25,7 @@ played = after events
 ---- the calls that were refused
 
 -- the number that the unit's call on what arrived returned
-unfoldable pub arrivalNumber : Subscriber → List ℕ → Thing → ℕ
+unfoldable pub arrivalNumber : Subscriber → List ℕ → InFlight → ℕ
 arrivalNumber x out (clockMessage m c t) = subscriberClockMessageOf x m .number
 arrivalNumber x out (keyMessage m t) = subscriberKeyMessageOf x m .number
 arrivalNumber x out (envelope e) = subscriberReceiveOf x (e .header) (e .octets) out .answer .number
@@ -42,8 +42,8 @@ callNumber s (retry llid) = headRetryOf (s .head) llid .number
 callNumber s (sendDown llid channel p out) = headSendOf (s .head) llid channel p out .answer .number
 callNumber s (join u llid) = joinOf (subscriberAt s u) llid .number
 callNumber s (sendUp u llid channel p out) = subscriberSendOf (subscriberAt s u) llid channel p out .answer .number
-callNumber s (arriveDown u k out) = arrivalNumber (subscriberAt s u) out (thingAt (alone s) u k)
-callNumber s (arriveGroup u g k out) = arrivalNumber (subscriberAt s u) out (groupThingAt s u g k)
+callNumber s (arriveDown u k out) = arrivalNumber (subscriberAt s u) out (inFlightAt (alone s) u k)
+callNumber s (arriveGroup u g k out) = arrivalNumber (subscriberAt s u) out (groupInFlightAt s u g k)
 callNumber s (arriveUp u k out) =
     headReceiveOf (s .head) (envelopeAt (alone s) u k .header) (envelopeAt (alone s) u k .octets) out .answer .number
 callNumber s (arriveAnswer u k llid) = headAcknowledgeOf (s .head) llid (ownAnswer (answerAt (alone s) u k .acknowledgement)) .number

@@ -22,7 +22,7 @@ use Rattle.unicast.specs.Demand.{nonce, Agreed}
 use Rattle.unicast.specs.Example.{firstClock, oltMac, identityA, keyFrom, payloadFrom, encipheredOctets, blank}
 use Rattle.line.specs.History.{GroupArrival}
 use Rattle.line.specs.Events.{Event, arriveGroup}
-use Rattle.line.specs.Run.{State, alone, start, step, runs, subscriberAt, groupLaneAt, groupSentAt, groupThingAt, groupReceipt, receiving}
+use Rattle.line.specs.Run.{State, alone, start, step, runs, subscriberAt, groupLaneAt, groupSentAt, groupInFlightAt, groupReceipt, receiving}
 use Rattle.line.specs.Premises.{Meets}
 use Rattle.line.specs.Claim.{Claim, Sender, unit, group, sentBy, sentByAt, keysOf, nonceBy}
 use Rattle.line.specs.Progress.{Progress}
@@ -106,7 +106,7 @@ pub record NotOpened (k u number : ℕ) : Type 0 where
 -- the kth of what is under way of the group to unit u is an envelope, and the unit, whatever it missed, opens it
 pub record Back (s : State) (u k : ℕ) (out x : List ℕ) (n : Nonce) (p : List ℕ) (count : ℕ) : Type 0 where
   pub arriving : Envelope
-  pub due : groupThingAt s u 0 k ≡ envelope arriving
+  pub due : groupInFlightAt s u 0 k ≡ envelope arriving
   pub opens : Opens (groupReceipt s u arriving out) x n p count
   -- and its arrival leaves the OLT, the units and their own lines
   pub untouched : alone (step s (arriveGroup u 0 k out)) ≡ alone s
@@ -115,7 +115,7 @@ pub record Back (s : State) (u k : ℕ) (out x : List ℕ) (n : Nonce) (p : List
 -- were
 pub record Unsynced (s : State) (u k : ℕ) (out : List ℕ) (number : ℕ) : Type 0 where
   pub arriving : Envelope
-  pub due : groupThingAt s u 0 k ≡ envelope arriving
+  pub due : groupInFlightAt s u 0 k ≡ envelope arriving
   pub refused : receiving s u arriving out .answer .number ≡ number
   pub count : receiving s u arriving out .answer .count ≡ 0
   pub runs : receiving s u arriving out .answer .runs ≡ 0

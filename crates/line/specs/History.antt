@@ -12,7 +12,7 @@ use Rattle.protocol.specs.declared.Passage.{Passage}
 use Rattle.groups.specs.declared.Answer.{Answer}
 use Rattle.unicast.specs.Setting.{Delays}
 use Rattle.unicast.specs.History as units
-use Rattle.unicast.specs.History.{Envelope, Thing, envelope, Entry, Keys, Lane, due}
+use Rattle.unicast.specs.History.{Envelope, InFlight, envelope, Entry, Keys, Lane, due}
 use Rattle.unicast.specs.Run.{freshLane, noSite}
 
 -- an acknowledgement of a group's key that an accepted call of that unit handed over, and when
@@ -44,7 +44,7 @@ pub record GroupLane : Type 0 where
   -- the LLIDs by which its registration named the members
   pub roster : List ℕ
   pub keys : Keys
-  pub towards : List (List Thing)
+  pub towards : List (List InFlight)
   pub answered : List GroupAnswered
   pub sent : List Envelope
   pub arrived : List GroupArrival
@@ -83,7 +83,7 @@ groupNumber g now = pick (groupSwitching g now) (g .keys .switches + 1) (g .keys
 
 ---- what an accepted call or an arrival adds to a group's line
 
-unfoldable pub groupWith : GroupLane → Keys → List (List Thing) → List Envelope → GroupLane
+unfoldable pub groupWith : GroupLane → Keys → List (List InFlight) → List Envelope → GroupLane
 groupWith g k towards sent =
     record {
       llid = g .llid;
@@ -97,7 +97,7 @@ groupWith g k towards sent =
     }
 
 -- x leaves for each member among the units
-unfoldable pub leavingFor : GroupLane → List Lane → Thing → List (List Thing)
+unfoldable pub leavingFor : GroupLane → List Lane → InFlight → List (List InFlight)
 leavingFor g ls x =
     tabulate 0 (length ls) (λ u. pick (isMember g (getD ls u noLane)) (getD (g .towards) u [] ++ (x ∷ [])) (getD (g .towards) u []))
 
@@ -114,7 +114,7 @@ groupOffered key g =
     })
     (g .towards) (g .sent)
 
-unfoldable pub groupLeaving : List Lane → Thing → GroupLane → GroupLane
+unfoldable pub groupLeaving : List Lane → InFlight → GroupLane → GroupLane
 groupLeaving ls x g = groupWith g (g .keys) (leavingFor g ls x) (g .sent)
 
 -- an envelope that the OLT sent to the group; where it is a switch, that is counted

@@ -18,7 +18,7 @@ use Rattle.unicast.specs.Premises.{Agrees, FittingBuffer, DueDown, DueUp, DueAn
 use Rattle.unicast.specs.Premises as units
 use Rattle.line.specs.History.{isMember}
 use Rattle.line.specs.Events.{Event, advance, register, registerGroup, capture, clockSend, offer, retry, sendDown, join, sendUp, arriveDown, arriveGroup, arriveUp, arriveAnswer, arriveGroupAnswer, overhear, overhearGroup, changePath, measure, newTime, strayClock, strayKey, strayAnswer, strayDown, strayUp}
-use Rattle.line.specs.Run.{State, alone, subscriberAt, groupLaneAt, groupThingAt, groupAnswerAt, now, step}
+use Rattle.line.specs.Run.{State, alone, subscriberAt, groupLaneAt, groupInFlightAt, groupAnswerAt, now, step}
 
 -- all keys different: no accepted offer to any unit or group gave this key before
 pub record NewKey (s : State) (key : List ℕ) : Type 0 where
@@ -28,8 +28,8 @@ pub record NewKey (s : State) (key : List ℕ) : Type 0 where
 -- the kth of what is under way of the group to the unit: it arrives its way's delay after it left
 pub record DueOfGroup (s : State) (u g k : ℕ) (out : List ℕ) : Type 0 where
   pub some : k < length (getD (groupLaneAt s g .towards) u [])
-  pub at : leftAt (groupThingAt s u g k) + laneAt (alone s) u .path .down ≡ now s
-  pub buffer : FittingBuffer (groupThingAt s u g k) out
+  pub at : leftAt (groupInFlightAt s u g k) + laneAt (alone s) u .path .down ≡ now s
+  pub buffer : FittingBuffer (groupInFlightAt s u g k) out
 
 -- an acknowledgement may leave later or again: it was handed over at least its delay ago
 pub record DueGroupAnswer (s : State) (g k : ℕ) : Type 0 where

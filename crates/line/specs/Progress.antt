@@ -11,7 +11,7 @@ use Rattle.unicast.specs.Events as units
 use Rattle.unicast.specs.Run.{laneAt, onuAt}
 use Rattle.unicast.specs.Premises.{Fresh}
 use Rattle.unicast.specs.Claim.{Holds, ArrivedNumbered}
-use Rattle.unicast.specs.Progress.{confirmedBy, limitOf, inFlight, recipe, Moving, maxEvents, LosesNothing}
+use Rattle.unicast.specs.Progress.{confirmedBy, limitOf, awaitedCount, recipe, Moving, maxEvents, LosesNothing}
 use Rattle.line.specs.Events.{Event}
 use Rattle.line.specs.Run.{State, alone, now, start, runs}
 use Rattle.line.specs.Premises.{NewKey, Meets}
@@ -36,4 +36,4 @@ Progress =
     (w : Setting) (es : List Event) (u llid : ℕ) (key : List ℕ) → Fresh w → Meets w (start w) es → Moving (alone (runs (start w) es)) u llid key
     → NewKey (runs (start w) es) key
     → Brings w (runs (start w) es) u (confirmedBy (laneAt (alone (runs (start w) es)) u) + 1) (limitOf (laneAt (alone (runs (start w) es)) u))
-    (maxEvents + 2 * inFlight (laneAt (alone (runs (start w) es)) u) (now (runs (start w) es))) (recipe u llid key (alone (runs (start w) es)))
+    (maxEvents + 2 * awaitedCount (laneAt (alone (runs (start w) es)) u) (now (runs (start w) es))) (recipe u llid key (alone (runs (start w) es)))

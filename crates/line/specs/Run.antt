@@ -39,9 +39,9 @@ use Rattle.multicast.specs.declared.SubscriberAcknowledged.{SubscriberAcknowled
 use Rattle.multicast.specs.declared.SubscriberReceived.{SubscriberReceived}
 use Rattle.unicast.specs.Setting.{Delays, Site, Setting}
 use Rattle.unicast.specs.History as units
-use Rattle.unicast.specs.History.{downward, upward, Envelope, Thing, clockMessage, keyMessage, envelope, Arrival, Lane, isSynced, numberDown, laneCaptured, laneSentDown, laneSentUp, laneTaken, laneAnswered, laneArrivedDown, laneArrivedUp, laneAcknowledged}
+use Rattle.unicast.specs.History.{downward, upward, Envelope, InFlight, clockMessage, keyMessage, envelope, Arrival, Lane, isSynced, numberDown, laneCaptured, laneSentDown, laneSentUp, laneTaken, laneAnswered, laneArrivedDown, laneArrivedUp, laneAcknowledged}
 use Rattle.unicast.specs.Run as run
-use Rattle.unicast.specs.Run.{accepted, noted, atOlt, atOnu, atOltFor, entering, clockSending, offering, retrying, changing, laneAt, thingAt, envelopeAt, sentAt, answerAt, noEnvelope}
+use Rattle.unicast.specs.Run.{accepted, noted, atOlt, atOnu, atOltFor, entering, clockSending, offering, retrying, changing, laneAt, inFlightAt, envelopeAt, sentAt, answerAt, noEnvelope}
 use Rattle.line.specs.History.{GroupAnswered, GroupArrival, GroupLane, Membership, History, noPath, groupNumber, groupOffered, groupLeaving, groupSent, groupTaken, groupAnswered, groupArrived, groupMoved, isJoined, hasTaken, joining, taking}
 use Rattle.line.specs.Events.{Event, advance, register, registerGroup, capture, clockSend, offer, retry, sendDown, join, sendUp, arriveDown, arriveGroup, arriveUp, arriveAnswer, arriveGroupAnswer, overhear, overhearGroup, changePath, measure, newTime, strayClock, strayKey, strayAnswer, strayDown, strayUp}
 
@@ -197,7 +197,7 @@ headPassage h llid channel p out =
 unfoldable pub envelopeDown : ℕ → Delays → HeadEnd → ℕ → ℕ → List ℕ → List ℕ → ℕ → Envelope
 envelopeDown tick path h llid channel p out number =
     record {
-      way = downward;
+      direction = downward;
       left = tick;
       up = path .up;
       llid = llid;
@@ -231,7 +231,7 @@ joiningAt s u llid =
 unfoldable pub envelopeUp : ℕ → Delays → Subscriber → ℕ → ℕ → List ℕ → List ℕ → ℕ → Envelope
 envelopeUp tick path x llid channel p out number =
     record {
-      way = upward;
+      direction = upward;
       left = tick;
       up = path .up;
       llid = llid;
@@ -275,16 +275,16 @@ receiptDown s u e out =
       passage = receivingOnu (subscriberAt s u .onu) (misfit (e .octets) out) (e .header) .handed;
     }
 
-unfoldable pub thingArriving : State → ℕ → ℕ → List ℕ → Thing → State
-thingArriving s u k out (clockMessage m c t) = messageArriving s u k (subscriberClockMessageOf (subscriberAt s u) m)
-thingArriving s u k out (keyMessage m t) = messageArriving s u k (subscriberKeyMessageOf (subscriberAt s u) m)
-thingArriving s u k out (envelope e) =
+unfoldable pub inFlightArriving : State → ℕ → ℕ → List ℕ → InFlight → State
+inFlightArriving s u k out (clockMessage m c t) = messageArriving s u k (subscriberClockMessageOf (subscriberAt s u) m)
+inFlightArriving s u k out (keyMessage m t) = messageArriving s u k (subscriberKeyMessageOf (subscriberAt s u) m)
+inFlightArriving s u k out (envelope e) =
     atUnitAlone s u (receiving s u e out .answer .subscriber) (λ l. laneArrivedDown (receiptDown s u e out) (laneTaken k l))
 
 ---- of groups
 
-abbrev pub groupThingAt : State → ℕ → ℕ → ℕ → Thing
-groupThingAt s u g k = getD (getD (groupLaneAt s g .towards) u []) k (envelope noEnvelope)
+abbrev pub groupInFlightAt : State → ℕ → ℕ → ℕ → InFlight
+groupInFlightAt s u g k = getD (getD (groupLaneAt s g .towards) u []) k (envelope noEnvelope)
 
 -- the unit's answer to a group's key message that arrived
 unfoldable pub groupMessageArriving : State → ℕ → ℕ → ℕ → KeyMessage → SubscriberAcknowledged → State
@@ -317,10 +317,10 @@ groupReceipt s u e out =
     }
 
 -- no clock message is a group's
-unfoldable pub groupThingArriving : State → ℕ → ℕ → ℕ → List ℕ → Thing → State
-groupThingArriving s u g k out (clockMessage m c t) = s
-groupThingArriving s u g k out (keyMessage m t) = groupMessageArriving s u g k m (subscriberKeyMessageOf (subscriberAt s u) m)
-groupThingArriving s u g k out (envelope e) =
+unfoldable pub groupInFlightArriving : State → ℕ → ℕ → ℕ → List ℕ → InFlight → State
+groupInFlightArriving s u g k out (clockMessage m c t) = s
+groupInFlightArriving s u g k out (keyMessage m t) = groupMessageArriving s u g k m (subscriberKeyMessageOf (subscriberAt s u) m)
+groupInFlightArriving s u g k out (envelope e) =
     atUnit s u (receiving s u e out .answer .subscriber) (s .history .units) (s .history .joined)
     (set (s .history .groups) g (groupArrived (groupReceipt s u e out) (groupTaken u k (groupLaneAt s g))))
 
@@ -397,8 +397,8 @@ step s (retry llid) = retryingTo s llid (headRetryOf (s .head) llid)
 step s (sendDown llid channel p out) = sendingDown s llid channel p out
 step s (join u llid) = joiningAt s u llid
 step s (sendUp u llid channel p out) = sendingUp s u llid channel p out
-step s (arriveDown u k out) = thingArriving s u k out (thingAt (alone s) u k)
-step s (arriveGroup u g k out) = groupThingArriving s u g k out (groupThingAt s u g k)
+step s (arriveDown u k out) = inFlightArriving s u k out (inFlightAt (alone s) u k)
+step s (arriveGroup u g k out) = groupInFlightArriving s u g k out (groupInFlightAt s u g k)
 step s (arriveUp u k out) = arrivingUp s u k (envelopeAt (alone s) u k) out
 step s (arriveAnswer u k llid) = answering s llid (answerAt (alone s) u k .acknowledgement)
 step s (arriveGroupAnswer g k) = headAfter s (headAcknowledgeOf (s .head) (groupLaneAt s g .llid) (groupAnswerAt s g k .answer) .head)

@@ -45,9 +45,9 @@ use Rattle.traffic.specs.Receipts.{onuReceiveOf}
 use Rattle.protocol.specs.Lift.{lift}
 use Rattle.traffic.specs.Sends.{oltSent, oltSendOf, onuSent, onuSendOf}
 use Rattle.unicast.specs.Setting.{Setting}
-use Rattle.unicast.specs.History.{Envelope, Thing, clockMessage, keyMessage, envelope, leftAt, Lane, keyOf, numberDown, laneTaken, laneAnswered, laneArrivedDown, laneArrivedUp, laneSentDown, laneSentUp}
+use Rattle.unicast.specs.History.{Envelope, InFlight, clockMessage, keyMessage, envelope, leftAt, Lane, keyOf, numberDown, laneTaken, laneAnswered, laneArrivedDown, laneArrivedUp, laneSentDown, laneSentUp}
 use Rattle.unicast.specs.Events.{arriveDown, arriveUp, sendDown, sendUp}
-use Rattle.unicast.specs.Run.{State, laneAt, onuAt, freshLane, noSite, noted, withLanes, atOlt, atOnu, atOltFor, envelopeDown, sendingDown, envelopeUp, sendingUp, messageArriving, receiptDown, envelopeArriving, thingArriving, noEnvelope, thingAt, envelopeAt, receiptUp, arrivingUp, step}
+use Rattle.unicast.specs.Run.{State, laneAt, onuAt, freshLane, noSite, noted, withLanes, atOlt, atOnu, atOltFor, envelopeDown, sendingDown, envelopeUp, sendingUp, messageArriving, receiptDown, envelopeArriving, inFlightArriving, noEnvelope, inFlightAt, envelopeAt, receiptUp, arrivingUp, step}
 use Rattle.unicast.specs.Premises.{FittingBuffer, DueDown}
 use Rattle.unicast.proofs.Invariant.{ClockRight, Joined, Common}
 use Rattle.unicast.proofs.Queues.{towards-taken}
@@ -90,46 +90,46 @@ module _ (w : Setting) (u llid : ℕ) (s : State) (h : Here w u llid s) where
   unfolding messageArriving noted pick
   message-lane k r e = at-onu (r .onu) _ ∙ rw e
 
-  due-down : (k : ℕ) (x : Thing) (out : List ℕ) → k < length (lane .transit .towards) → thingAt s u k ≡ x → leftAt x + lane .path .down ≡ now
+  due-down : (k : ℕ) (x : InFlight) (out : List ℕ) → k < length (lane .transit .towards) → inFlightAt s u k ≡ x → leftAt x + lane .path .down ≡ now
       → FittingBuffer x out → DueDown s u k out
   due-down k x out some is due fits = record { some = some; now = rw is due; buffer = rw is fits }
 
   ---- whatever arrives, taken or refused
 
   -- what is left of the lane
-  unfoldable pub thingLane : ℕ → List ℕ → Thing → Lane
-  thingLane k out (clockMessage m c t) =
+  unfoldable pub inFlightLane : ℕ → List ℕ → InFlight → Lane
+  inFlightLane k out (clockMessage m c t) =
       noted (clockMessageAt (onuAt s u) m .number) (laneAnswered (clockMessageAt (onuAt s u) m .acknowledgement) now) (laneTaken k lane)
-  thingLane k out (keyMessage m t) =
+  inFlightLane k out (keyMessage m t) =
       noted (keyMessageAt (onuAt s u) m .number) (laneAnswered (keyMessageAt (onuAt s u) m .acknowledgement) now) (laneTaken k lane)
-  thingLane k out (envelope e) = laneArrivedDown (receiptDown s u e out) (laneTaken k lane)
+  inFlightLane k out (envelope e) = laneArrivedDown (receiptDown s u e out) (laneTaken k lane)
 
-  thing-lane : (k : ℕ) (out : List ℕ) (x : Thing) → laneAt (thingArriving s u k out x) u ≡ thingLane k out x
-  unfolding thingArriving messageArriving envelopeArriving thingLane
-  thing-lane k out (clockMessage m c t) =
+  in-flight-lane : (k : ℕ) (out : List ℕ) (x : InFlight) → laneAt (inFlightArriving s u k out x) u ≡ inFlightLane k out x
+  unfolding inFlightArriving messageArriving envelopeArriving inFlightLane
+  in-flight-lane k out (clockMessage m c t) =
       let r = clockMessageAt (onuAt s u) m in
       at-onu (r .onu) (λ l. noted (r .number) (laneAnswered (r .acknowledgement) now) (laneTaken k l))
-  thing-lane k out (keyMessage m t) =
+  in-flight-lane k out (keyMessage m t) =
       let r = keyMessageAt (onuAt s u) m in
       at-onu (r .onu) (λ l. noted (r .number) (laneAnswered (r .acknowledgement) now) (laneTaken k l))
-  thing-lane k out (envelope e) =
+  in-flight-lane k out (envelope e) =
       at-onu (onuReceiveOf (onuAt s u) (e .header) (e .octets) out .answer .onu) (λ l. laneArrivedDown (receiptDown s u e out) (laneTaken k l))
 
-  thing-tick : (k : ℕ) (out : List ℕ) (x : Thing) → thingArriving s u k out x .history .now ≡ now
-  unfolding thingArriving messageArriving envelopeArriving atOnu withLanes
-  thing-tick k out (clockMessage m c t) = refl
-  thing-tick k out (keyMessage m t) = refl
-  thing-tick k out (envelope e) = refl
+  in-flight-tick : (k : ℕ) (out : List ℕ) (x : InFlight) → inFlightArriving s u k out x .history .now ≡ now
+  unfolding inFlightArriving messageArriving envelopeArriving atOnu withLanes
+  in-flight-tick k out (clockMessage m c t) = refl
+  in-flight-tick k out (keyMessage m t) = refl
+  in-flight-tick k out (envelope e) = refl
 
-  pub thing-goes : (k : ℕ) (out : List ℕ) → DueDown s u k out → Step w u s (arriveDown u k out) (thingLane k out (thingAt s u k)) now
+  pub in-flight-goes : (k : ℕ) (out : List ℕ) → DueDown s u k out → Step w u s (arriveDown u k out) (inFlightLane k out (inFlightAt s u k)) now
   unfolding step
-  thing-goes k out due = record { fits = due; lane = thing-lane k out (thingAt s u k); tick = thing-tick k out (thingAt s u k) }
+  in-flight-goes k out due = record { fits = due; lane = in-flight-lane k out (inFlightAt s u k); tick = in-flight-tick k out (inFlightAt s u k) }
 
   ---- a clock message arrives
 
-  pub clock-arrival-goes : (k : ℕ) (m : Stamps) (c t : ℕ) → k < length (lane .transit .towards) → thingAt s u k ≡ clockMessage m c t
+  pub clock-arrival-goes : (k : ℕ) (m : Stamps) (c t : ℕ) → k < length (lane .transit .towards) → inFlightAt s u k ≡ clockMessage m c t
       → t + lane .path .down ≡ now → Step w u s (arriveDown u k []) (laneAnswered ofClock now (laneTaken k lane)) now
-  unfolding step thingArriving messageArriving atOnu withLanes
+  unfolding step inFlightArriving messageArriving atOnu withLanes
   clock-arrival-goes k m c t some is due =
       let o = onuAt s u in
       let x = unit w u llid s h in
@@ -140,15 +140,15 @@ module _ (w : Setting) (u llid : ℕ) (s : State) (h : Here w u llid s) where
       record {
         fits = due-down k (clockMessage m c t) [] some is due tt;
         lane =
-            ap (λ (y : Thing). laneAt (thingArriving s u k [] y) u) is
+            ap (λ (y : InFlight). laneAt (inFlightArriving s u k [] y) u) is
             ∙ message-lane k (clockMessageAt o m) (ap (λ (r : OnuAcknowledged). r .number) taken)
             ∙ ap (λ (r : OnuAcknowledged). laneAnswered (r .acknowledgement) now (laneTaken k lane)) taken;
-        tick = ap (λ (y : Thing). thingArriving s u k [] y .history .now) is;
+        tick = ap (λ (y : InFlight). inFlightArriving s u k [] y .history .now) is;
       }
 
   ---- a key message arrives
 
-  takes-key : (k : ℕ) (m : KeyMessage) (t : ℕ) → k < length (lane .transit .towards) → thingAt s u k ≡ keyMessage m t → onuAt s u .clock .synced ≡ 1
+  takes-key : (k : ℕ) (m : KeyMessage) (t : ℕ) → k < length (lane .transit .towards) → inFlightAt s u k ≡ keyMessage m t → onuAt s u .clock .synced ≡ 1
       → onuAt s u .keys .active < maxKeyNumber → TakesKey (onuAt s u) m
   unfolding newKey heldKey
   takes-key k m t some is synced below =
@@ -172,34 +172,34 @@ module _ (w : Setting) (u llid : ℕ) (s : State) (h : Here w u llid s) where
             let stored = joined .stored .onu (onuAt s u .keys .active + 1) (omega arith) (omega arith) (omega (arith, one)) in
             either-right _ (either-left _ (both-true (eq-eqb _ _ one) (both-true number (rw (stored, key, is) (same-refl _)))))
 
-  pub key-arrival-goes : (k : ℕ) (m : KeyMessage) (t : ℕ) → k < length (lane .transit .towards) → thingAt s u k ≡ keyMessage m t
+  pub key-arrival-goes : (k : ℕ) (m : KeyMessage) (t : ℕ) → k < length (lane .transit .towards) → inFlightAt s u k ≡ keyMessage m t
       → t + lane .path .down ≡ now → onuAt s u .clock .synced ≡ 1 → onuAt s u .keys .active < maxKeyNumber
       → Step w u s (arriveDown u k []) (laneAnswered (ofKey (m .number)) now (laneTaken k lane)) now
-  unfolding step thingArriving messageArriving atOnu withLanes keyMessageAt onuAcknowledged
+  unfolding step inFlightArriving messageArriving atOnu withLanes keyMessageAt onuAcknowledged
   key-arrival-goes k m t some is due synced below =
       let o = onuAt s u in
       let taken = ap onuAcknowledged (key-message-taken o m (common .valid) (takes-key k m t some is synced below)) in
       record {
         fits = due-down k (keyMessage m t) [] some is due tt;
         lane =
-            ap (λ (y : Thing). laneAt (thingArriving s u k [] y) u) is
+            ap (λ (y : InFlight). laneAt (inFlightArriving s u k [] y) u) is
             ∙ message-lane k (keyMessageAt o m) (ap (λ (r : OnuAcknowledged). r .number) taken)
             ∙ ap (λ (r : OnuAcknowledged). laneAnswered (r .acknowledgement) now (laneTaken k lane)) taken;
-        tick = ap (λ (y : Thing). thingArriving s u k [] y .history .now) is;
+        tick = ap (λ (y : InFlight). inFlightArriving s u k [] y .history .now) is;
       }
 
   ---- an envelope arrives
 
-  pub envelope-arrival-goes : (k : ℕ) (e : Envelope) (out : List ℕ) → k < length (lane .transit .towards) → thingAt s u k ≡ envelope e
+  pub envelope-arrival-goes : (k : ℕ) (e : Envelope) (out : List ℕ) → k < length (lane .transit .towards) → inFlightAt s u k ≡ envelope e
       → e .left + lane .path .down ≡ now → length out ≡ length (e .octets)
       → Step w u s (arriveDown u k out) (laneArrivedDown (receiptDown s u e out) (laneTaken k lane)) now
-  unfolding step thingArriving envelopeArriving atOnu withLanes
+  unfolding step inFlightArriving envelopeArriving atOnu withLanes
   envelope-arrival-goes k e out some is due fits =
       record {
         fits = due-down k (envelope e) out some is due fits;
-        lane = ap (λ (y : Thing). laneAt (thingArriving s u k out y) u) is ∙
+        lane = ap (λ (y : InFlight). laneAt (inFlightArriving s u k out y) u) is ∙
             at-onu (onuReceiveOf (onuAt s u) (e .header) (e .octets) out .answer .onu) (λ l. laneArrivedDown (receiptDown s u e out) (laneTaken k l));
-        tick = ap (λ (y : Thing). thingArriving s u k out y .history .now) is;
+        tick = ap (λ (y : InFlight). inFlightArriving s u k out y .history .now) is;
       }
 
   pub up-arrival-goes : (k : ℕ) (e : Envelope) (out : List ℕ) → k < length (lane .transit .from) → envelopeAt s u k ≡ e

@@ -39,9 +39,9 @@ use Rattle.protocol.proofs.UnitCalls.{acknowledged-channels}
 use Rattle.traffic.specs.Passages.{misfit}
 use Rattle.traffic.specs.Receipts.{oltReceived, oltReceiveOf}
 use Rattle.unicast.specs.Setting.{Setting}
-use Rattle.unicast.specs.History.{Thing, clockMessage, keyMessage, envelope}
+use Rattle.unicast.specs.History.{InFlight, clockMessage, keyMessage, envelope}
 use Rattle.unicast.specs.Events.{Event, advance, register, capture, clockSend, offer, retry, sendDown, sendUp, arriveDown, arriveUp, arriveAnswer, overhear, changePath, measure, newTime, strayClock, strayKey, strayAnswer, strayDown, strayUp}
-use Rattle.unicast.specs.Run.{State, step, run, withLanes, atOlt, atOltFor, atOnu, advancing, clockSending, offering, retrying, answering, messageArriving, envelopeArriving, thingArriving, thingAt, envelopeAt, answerAt, arrivingUp}
+use Rattle.unicast.specs.Run.{State, step, run, withLanes, atOlt, atOltFor, atOnu, advancing, clockSending, offering, retrying, answering, messageArriving, envelopeArriving, inFlightArriving, inFlightAt, envelopeAt, answerAt, arrivingUp}
 use Rattle.unicast.specs.Premises.{Meets}
 use Rattle.unicast.proofs.Invariant.{Invariant}
 use Rattle.unicast.proofs.AdvanceSteps.{advanced-unit}
@@ -143,11 +143,11 @@ pub record Stays (s t : State) (i : ℕ) : Type 0 where
   pub steady : Steady (s .olt) (t .olt) i
   pub registrations : t .history .registrations ≡ s .history .registrations
 
-thing-stays : (s : State) (u k : ℕ) (out : List ℕ) (x : Thing) (i : ℕ) → Stays s (thingArriving s u k out x) i
-unfolding thingArriving messageArriving envelopeArriving atOnu withLanes
-thing-stays s u k out (clockMessage m c t) i = record { steady = record { channels = refl; acknowledged = λ a. a }; registrations = refl }
-thing-stays s u k out (keyMessage m t) i = record { steady = record { channels = refl; acknowledged = λ a. a }; registrations = refl }
-thing-stays s u k out (envelope e) i = record { steady = record { channels = refl; acknowledged = λ a. a }; registrations = refl }
+in-flight-stays : (s : State) (u k : ℕ) (out : List ℕ) (x : InFlight) (i : ℕ) → Stays s (inFlightArriving s u k out x) i
+unfolding inFlightArriving messageArriving envelopeArriving atOnu withLanes
+in-flight-stays s u k out (clockMessage m c t) i = record { steady = record { channels = refl; acknowledged = λ a. a }; registrations = refl }
+in-flight-stays s u k out (keyMessage m t) i = record { steady = record { channels = refl; acknowledged = λ a. a }; registrations = refl }
+in-flight-stays s u k out (envelope e) i = record { steady = record { channels = refl; acknowledged = λ a. a }; registrations = refl }
 
 advance-stays : (w : Setting) (s : State) (n i : ℕ) → Invariant w s → i < s .olt .count → Stays s (step s (advance n)) i
 unfolding step advancing advanceOltOf oltAnswer
@@ -190,7 +190,7 @@ calm-stays w s (offer llid key) i v h c =
     record { steady = lift-steady (s .olt) noKeyMessage Accepted llid (offerUnit llid key) i (λ u. refl) (λ u a. a); registrations = refl }
 calm-stays w s (retry llid) i v h c =
     record { steady = lift-steady (s .olt) noKeyMessage Accepted llid (retryUnit llid) i (λ u. refl) (λ u a. a); registrations = refl }
-calm-stays w s (arriveDown u k out) i v h c = thing-stays s u k out (thingAt s u k) i
+calm-stays w s (arriveDown u k out) i v h c = in-flight-stays s u k out (inFlightAt s u k) i
 calm-stays w s (arriveUp u k out) i v h c =
     let e = envelopeAt s u k in
     record {

@@ -21,7 +21,7 @@ use Rattle.ends.specs.declared.UnitRecord.{UnitRecord}
 use Rattle.envelope.proofs.Channels.{downstream-below, upstream-between}
 use Rattle.ends.proofs.Validity.{shared-in-range, olt-in-range, onu-in-range}
 use Rattle.unicast.specs.Setting.{Site, Setting}
-use Rattle.unicast.specs.History.{Way, downward, upward, Envelope, Lane}
+use Rattle.unicast.specs.History.{Direction, downward, upward, Envelope, Lane}
 use Rattle.unicast.specs.Run.{State, laneAt, onuAt, sentAt, noEnvelope}
 use Rattle.unicast.specs.Claim.{senderMac, senderClock, nonceFor, indexTurn, BlocksApart, LastKeyHeld, Claim}
 use Rattle.unicast.proofs.Invariant.{countUp, Joined, Common, Invariant}
@@ -44,11 +44,11 @@ pub onu-mac-below : (w : Setting) (now : ℕ) (l : Lane) (o : Onu) → Common w 
 unfolding validIdentity
 onu-mac-below w now l o c = rw (c .mac) at (mac-below (o .identity .mac) (both-left _ _ (onu-in-range o (c .valid) .identity)))
 
-sender-mac-below : (w : Setting) (s : Site) (x : Way) → w .mac < 2 ^ 48 → s .identity .mac < 2 ^ 48 → senderMac w s x < 2 ^ 48
+sender-mac-below : (w : Setting) (s : Site) (x : Direction) → w .mac < 2 ^ 48 → s .identity .mac < 2 ^ 48 → senderMac w s x < 2 ^ 48
 sender-mac-below w s downward a b = a
 sender-mac-below w s upward a b = b
 
-sender-clock-below : (w : Setting) (up : ℕ) (x : Way) (tick : ℕ) → senderClock w up x tick < 2 ^ 48
+sender-clock-below : (w : Setting) (up : ℕ) (x : Direction) (tick : ℕ) → senderClock w up x tick < 2 ^ 48
 sender-clock-below w up downward tick = mod-lt (w .first + tick) (omega arith)
 sender-clock-below w up upward tick = mod-lt (w .first + tick + up) (omega arith)
 
@@ -57,11 +57,11 @@ later-differs : (w : Setting) (sh : Shared) (now : ℕ) (l : Lane) (u : UnitReco
     → j < length (l .past .sent) → 1 ≤ getD (l .past .sent) i noEnvelope .number
     → getD (l .past .sent) i noEnvelope .number ≡ getD (l .past .sent) j noEnvelope .number
     → getD (l .past .sent) i noEnvelope .channel ≡ getD (l .past .sent) j noEnvelope .channel
-    → senderClock w (getD (l .past .sent) i noEnvelope .up) (getD (l .past .sent) i noEnvelope .way) (getD (l .past .sent) i noEnvelope .left)
-    ≡ senderClock w (getD (l .past .sent) j noEnvelope .up) (getD (l .past .sent) j noEnvelope .way) (getD (l .past .sent) j noEnvelope .left)
+    → senderClock w (getD (l .past .sent) i noEnvelope .up) (getD (l .past .sent) i noEnvelope .direction) (getD (l .past .sent) i noEnvelope .left)
+    ≡ senderClock w (getD (l .past .sent) j noEnvelope .up) (getD (l .past .sent) j noEnvelope .direction) (getD (l .past .sent) j noEnvelope .left)
     → ⊥
 later-differs w sh now l u o jn i j before below sealed number channel clock =
-    by (getD (l .past .sent) i noEnvelope .way) (getD (l .past .sent) j noEnvelope .way) refl refl clock where
+    by (getD (l .past .sent) i noEnvelope .direction) (getD (l .past .sent) j noEnvelope .direction) refl refl clock where
       first : Envelope
       first = getD (l .past .sent) i noEnvelope
 
@@ -74,7 +74,7 @@ later-differs w sh now l u o jn i j before below sealed number channel clock =
       at-j : List·Memᴰ second (l .past .sent)
       at-j = mem-at (l .past .sent) j noEnvelope below
 
-      by : (x y : Way) → first .way ≡ x → second .way ≡ y → senderClock w (first .up) x (first .left) ≡ senderClock w (second .up) y (second .left) → ⊥
+      by : (x y : Direction) → first .direction ≡ x → second .direction ≡ y → senderClock w (first .up) x (first .left) ≡ senderClock w (second .up) y (second .left) → ⊥
       by downward downward p q e =
           let t = jn .spending .spaced .down i j before below p q sealed number channel in
           clocks-differ (w .first) (first .left) (first .left) (second .left) (omega arith) (t .0) (t .1) e
@@ -106,13 +106,13 @@ one-send w sh now l u o jn olt onu i j a b hi hj sealed number ha hb e = (by (lt
   second = getD (l .past .sent) j noEnvelope
 
   fields : (first .channel ≡ second .channel)
-      × (senderMac w (l .site) (first .way) ≡ senderMac w (l .site) (second .way))
-      × (senderClock w (first .up) (first .way) (first .left) ≡ senderClock w (second .up) (second .way) (second .left))
+      × (senderMac w (l .site) (first .direction) ≡ senderMac w (l .site) (second .direction))
+      × (senderClock w (first .up) (first .direction) (first .left) ≡ senderClock w (second .up) (second .direction) (second .left))
       × (a ≡ b)
   fields =
       counter-block-injective (nonceFor w (l .site) first) (nonceFor w (l .site) second) a b
-      (sender-mac-below w (l .site) (first .way) olt onu) (sender-mac-below w (l .site) (second .way) olt onu)
-      (sender-clock-below w (first .up) (first .way) (first .left)) (sender-clock-below w (second .up) (second .way) (second .left)) ha hb e
+      (sender-mac-below w (l .site) (first .direction) olt onu) (sender-mac-below w (l .site) (second .direction) olt onu)
+      (sender-clock-below w (first .up) (first .direction) (first .left)) (sender-clock-below w (second .up) (second .direction) (second .left)) ha hb e
 
   by : (x y : Bool) → ltb i j ≡ x → ltb j i ≡ y → i ≡ j
   by true y p q =

@@ -36,7 +36,7 @@ use Rattle.refusal.proofs.Order.{refuse-passed}
 use Rattle.protocol.proofs.UnitCalls.{ClockSends, clock-send-accepted}
 use Rattle.protocol.proofs.OnuCalls.{onu-accepts, onu-keeps, onu-synced-valid}
 use Rattle.unicast.specs.Setting.{Delays, Setting}
-use Rattle.unicast.specs.History.{Thing, clockMessage, Answered, Lane, laneWith, laneCaptured, laneLeaving, laneTaken, laneAnswered}
+use Rattle.unicast.specs.History.{InFlight, clockMessage, Answered, Lane, laneWith, laneCaptured, laneLeaving, laneTaken, laneAnswered}
 use Rattle.unicast.proofs.Invariant.{Clocks, Answers, ClockRight, Asked, Joined, Common, AtTick}
 use Rattle.unicast.proofs.Queues.{Knows, towards-moved, towards-clock, towards-taken, from-moved}
 use Rattle.unicast.proofs.Past.{passing-moved, sent-most}
@@ -203,7 +203,7 @@ clocks-taken first now s captured c o x k a =
     }
 
 -- what is under way is right
-clock-under-way : (w : Setting) (sh : Shared) (now : ℕ) (l : Lane) (u : UnitRecord) (o : Onu) (k : ℕ) (x : Thing) (m : Stamps) (c t : ℕ)
+clock-under-way : (w : Setting) (sh : Shared) (now : ℕ) (l : Lane) (u : UnitRecord) (o : Onu) (k : ℕ) (x : InFlight) (m : Stamps) (c t : ℕ)
     → Joined w sh now l u o → k < length (l .transit .towards) → getD (l .transit .towards) k x ≡ clockMessage m c t
     → ClockRight (w .first) (l .path) m c t
 clock-under-way w sh now l u o k x m c t j h e =
@@ -211,7 +211,7 @@ clock-under-way w sh now l u o k x m c t j h e =
     (j .towards) .0
 
 -- the kth of what is under way is a clock message: the unit is synced, and answers
-pub clock-taken : (w : Setting) (sh : Shared) (now : ℕ) (l : Lane) (u : UnitRecord) (o : Onu) (k : ℕ) (x : Thing) (m : Stamps) (c t : ℕ)
+pub clock-taken : (w : Setting) (sh : Shared) (now : ℕ) (l : Lane) (u : UnitRecord) (o : Onu) (k : ℕ) (x : InFlight) (m : Stamps) (c t : ℕ)
     → Joined w sh now l u o → k < length (l .transit .towards) → getD (l .transit .towards) k x ≡ clockMessage m c t
     → t + l .path .down ≡ now → Joined w sh now (laneAnswered ofClock now (laneTaken k l)) u (onuSynced o m)
 unfolding onuSynced clockFrom laneCaptured laneTaken laneAnswered laneWith withClock withOnuClock
@@ -231,7 +231,7 @@ clock-taken w sh now l u o k x m c t j h e d =
     })
 
 -- a message that arrives: in fact it is never refused
-pub clock-arrives : (w : Setting) (sh : Shared) (now : ℕ) (l : Lane) (u : UnitRecord) (o : Onu) (k : ℕ) (x : Thing) (m : Stamps) (c t : ℕ)
+pub clock-arrives : (w : Setting) (sh : Shared) (now : ℕ) (l : Lane) (u : UnitRecord) (o : Onu) (k : ℕ) (x : InFlight) (m : Stamps) (c t : ℕ)
     → Common w now l o → Joined w sh now l u o → k < length (l .transit .towards) → getD (l .transit .towards) k x ≡ clockMessage m c t
     → t + l .path .down ≡ now
     → (clockMessageAt o m .number ≡ 0

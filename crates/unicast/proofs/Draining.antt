@@ -15,16 +15,16 @@ use Rattle.clock.specs.Ticks.{maxTick}
 use Rattle.protocol.specs.OnuCalls.{clockMessageAt, keyMessageAt}
 use Rattle.protocol.specs.declared.OnuAcknowledged.{OnuAcknowledged}
 use Rattle.unicast.specs.Setting.{Delays, Setting}
-use Rattle.unicast.specs.History.{Way, upward, Envelope, Thing, clockMessage, keyMessage, envelope, leftAt, Arrival, Lane, laneWith, arriving, laneTaken, laneAnswered, laneArrivedDown, laneArrivedUp, isSynced}
+use Rattle.unicast.specs.History.{Direction, upward, Envelope, InFlight, clockMessage, keyMessage, envelope, leftAt, Arrival, Lane, laneWith, arriving, laneTaken, laneAnswered, laneArrivedDown, laneArrivedUp, isSynced}
 use Rattle.unicast.specs.Events.{Event, advance, arriveDown, arriveUp}
-use Rattle.unicast.specs.Run.{State, laneAt, onuAt, noted, accepted, receiptDown, receiptUp, noEnvelope, thingAt, envelopeAt, step, run}
+use Rattle.unicast.specs.Run.{State, laneAt, onuAt, noted, accepted, receiptDown, receiptUp, noEnvelope, inFlightAt, envelopeAt, step, run}
 use Rattle.unicast.specs.Premises.{FittingBuffer, DueDown, Meets}
-use Rattle.unicast.specs.Progress.{goes, highest, confirmedBy, tripOf, inFlight, LosesNothing, dueDown, dueUp, overdue, awaited, bufferFor, nextDown, nextUp, nextBy, next, drained}
+use Rattle.unicast.specs.Progress.{goes, highest, confirmedBy, tripOf, awaitedCount, LosesNothing, dueDown, dueUp, overdue, awaited, bufferFor, nextDown, nextUp, nextBy, next, drained}
 use Rattle.unicast.proofs.Queues.{dropped-among}
 use Rattle.unicast.proofs.Frames.{clock-more}
 use Rattle.unicast.proofs.Going.{Here, here-after, alive, advance-goes}
 use Rattle.unicast.proofs.Whole.{late-same, same-keeps, down-fewer, up-fewer, whole-append}
-use Rattle.unicast.proofs.Arriving.{thingLane, thing-goes, up-arrival-goes}
+use Rattle.unicast.proofs.Arriving.{inFlightLane, in-flight-goes, up-arrival-goes}
 use Rattle.unicast.proofs.Rounds.{run-append, meets-append}
 use Rattle.unicast.proofs.Calm.{Calms}
 use Rattle.unicast.proofs.Journey.{calms-append}
@@ -41,7 +41,7 @@ pub record Drained (l m : Lane) : Type 0 where
   pub sent : m .past .sent ≡ l .past .sent
   pub grows : confirmedBy l ≤ confirmedBy m
   pub synced : isSynced l ≡ true → isSynced m ≡ true
-  pub towards : (x : Thing) → List·Memᴰ x (m .transit .towards) → List·Memᴰ x (l .transit .towards)
+  pub towards : (x : InFlight) → List·Memᴰ x (m .transit .towards) → List·Memᴰ x (l .transit .towards)
   pub from : (e : Envelope) → List·Memᴰ e (m .transit .from) → List·Memᴰ e (l .transit .from)
 
 pub drained-same : (l m : Lane) → m ≡ l → Drained l m
@@ -80,14 +80,14 @@ unfolding pick
 picked true n a b h = max-le (le-max-left n b) (omega (arith, h, le-max-right n b))
 picked false n a b h = h
 
-highest-grows : (way : Way) (rs : List Arrival) (r : Arrival) → highest way rs ≤ highest way (rs ++ (r ∷ []))
+highest-grows : (direction : Direction) (rs : List Arrival) (r : Arrival) → highest direction rs ≤ highest direction (rs ++ (r ∷ []))
 unfolding highest
-highest-grows way [] r = omega arith
-highest-grows way (y ∷ ys) r = by-way (goes way (y .envelope .way)) (highest-grows way ys r) where
-  by-way : (t : Bool) → highest way ys ≤ highest way (ys ++ (r ∷ []))
-      → pick t (max (y .envelope .number) (highest way ys)) (highest way ys)
-      ≤ pick t (max (y .envelope .number) (highest way (ys ++ (r ∷ [])))) (highest way (ys ++ (r ∷ [])))
-  by-way t h = picked t (y .envelope .number) (highest way ys) (highest way (ys ++ (r ∷ []))) h
+highest-grows direction [] r = omega arith
+highest-grows direction (y ∷ ys) r = by-direction (goes direction (y .envelope .direction)) (highest-grows direction ys r) where
+  by-direction : (t : Bool) → highest direction ys ≤ highest direction (ys ++ (r ∷ []))
+      → pick t (max (y .envelope .number) (highest direction ys)) (highest direction ys)
+      ≤ pick t (max (y .envelope .number) (highest direction (ys ++ (r ∷ [])))) (highest direction (ys ++ (r ∷ [])))
+  by-direction t h = picked t (y .envelope .number) (highest direction ys) (highest direction (ys ++ (r ∷ []))) h
 
 taken-drained : (k : ℕ) (l : Lane) → Drained l (laneTaken k l)
 unfolding laneTaken laneWith
@@ -158,12 +158,12 @@ up-drained k r l =
       from = λ x i. dropped-among x (l .transit .from) (suc k) i;
     }
 
-thing-drained : (w : Setting) (u llid : ℕ) (s : State) (h : Here w u llid s) (k : ℕ) (out : List ℕ) (x : Thing)
-    → Drained (laneAt s u) (thingLane w u llid s h k out x)
-unfolding thingLane
-thing-drained w u llid s h k out (clockMessage m c t) = answered-drained _ (clockMessageAt (onuAt s u) m) (s .history .now) k (laneAt s u)
-thing-drained w u llid s h k out (keyMessage m t) = answered-drained _ (keyMessageAt (onuAt s u) m) (s .history .now) k (laneAt s u)
-thing-drained w u llid s h k out (envelope e) = arrived-drained k (receiptDown s u e out) (laneAt s u)
+in-flight-drained : (w : Setting) (u llid : ℕ) (s : State) (h : Here w u llid s) (k : ℕ) (out : List ℕ) (x : InFlight)
+    → Drained (laneAt s u) (inFlightLane w u llid s h k out x)
+unfolding inFlightLane
+in-flight-drained w u llid s h k out (clockMessage m c t) = answered-drained _ (clockMessageAt (onuAt s u) m) (s .history .now) k (laneAt s u)
+in-flight-drained w u llid s h k out (keyMessage m t) = answered-drained _ (keyMessageAt (onuAt s u) m) (s .history .now) k (laneAt s u)
+in-flight-drained w u llid s h k out (envelope e) = arrived-drained k (receiptDown s u e out) (laneAt s u)
 
 -- what it leaves under way
 record Takes (k : ℕ) (l m : Lane) : Type 0 where
@@ -176,12 +176,12 @@ noted-takes number r now k l =
     pick-holds (λ (m : Lane). Takes k l m) (accepted number) (laneAnswered (r .acknowledgement) now (laneTaken k l)) (laneTaken k l)
     (λ e. record { towards = refl; from = refl }) (λ e. record { towards = refl; from = refl })
 
-thing-takes : (w : Setting) (u llid : ℕ) (s : State) (h : Here w u llid s) (k : ℕ) (out : List ℕ) (x : Thing)
-    → Takes k (laneAt s u) (thingLane w u llid s h k out x)
-unfolding thingLane laneArrivedDown laneTaken laneWith
-thing-takes w u llid s h k out (clockMessage m c t) = noted-takes _ (clockMessageAt (onuAt s u) m) (s .history .now) k (laneAt s u)
-thing-takes w u llid s h k out (keyMessage m t) = noted-takes _ (keyMessageAt (onuAt s u) m) (s .history .now) k (laneAt s u)
-thing-takes w u llid s h k out (envelope e) = record { towards = refl; from = refl }
+in-flight-takes : (w : Setting) (u llid : ℕ) (s : State) (h : Here w u llid s) (k : ℕ) (out : List ℕ) (x : InFlight)
+    → Takes k (laneAt s u) (inFlightLane w u llid s h k out x)
+unfolding inFlightLane laneArrivedDown laneTaken laneWith
+in-flight-takes w u llid s h k out (clockMessage m c t) = noted-takes _ (clockMessageAt (onuAt s u) m) (s .history .now) k (laneAt s u)
+in-flight-takes w u llid s h k out (keyMessage m t) = noted-takes _ (keyMessageAt (onuAt s u) m) (s .history .now) k (laneAt s u)
+in-flight-takes w u llid s h k out (envelope e) = record { towards = refl; from = refl }
 
 up-towards : (k : ℕ) (r : Arrival) (l : Lane) → (laneArrivedUp k r l .transit .from ≡ drop (suc k) (l .transit .from))
     × (laneArrivedUp k r l .transit .towards ≡ l .transit .towards)
@@ -213,7 +213,7 @@ first-awaited now (x ∷ xs) t rest e = by-late (ltb x now) refl e (first-awaite
       let same = cons-first x t xs rest e in
       record { some = omega arith; is = λ d. same; early = omega (arith, same, ltb-false x now f) }
 
-fits-buffer : (x : Thing) → FittingBuffer x (bufferFor x)
+fits-buffer : (x : InFlight) → FittingBuffer x (bufferFor x)
 fits-buffer (clockMessage m c t) = tt
 fits-buffer (keyMessage m t) = tt
 fits-buffer (envelope e) = refl
@@ -225,7 +225,7 @@ one-less a b c e f = omega (arith, e, f)
 
 -- what is under way left by then
 pub record LeftBy (l : Lane) (tick : ℕ) : Type 0 where
-  pub towards : (x : Thing) → List·Memᴰ x (l .transit .towards) → leftAt x ≤ tick
+  pub towards : (x : InFlight) → List·Memᴰ x (l .transit .towards) → leftAt x ≤ tick
   pub from : (e : Envelope) → List·Memᴰ e (l .transit .from) → e .left ≤ tick
 
 left-kept : (l m : Lane) (tick : ℕ) → Drained l m → LeftBy l tick → LeftBy m tick
@@ -272,17 +272,17 @@ module _ (w : Setting) (u llid : ℕ) (s : State) (h : Here w u llid s) (tick : 
   -- the arrivals, and that one less is awaited after them, if there was one
   record Fewer (from : State) (es : List Event) : Type 0 where
     drains : Drains w u llid from es (tick + tripOf l)
-    fewer : inFlight (laneAt (run from es) u) (run from es .history .now) ≤ inFlight (laneAt from u) (from .history .now) - 1
+    fewer : awaitedCount (laneAt (run from es) u) (run from es .history .now) ≤ awaitedCount (laneAt from u) (from .history .now) - 1
 
   down-drains : (t k : ℕ) (ts : List ℕ) → First (s .history .now) (dueDown l) k t → overdue (s .history .now) (dueDown l) ≡ k
       → awaited (s .history .now) (dueDown l) ≡ t ∷ ts → ((v : ℕ) (vs : List ℕ) → awaited (s .history .now) (dueUp l) ≡ v ∷ vs → t ≤ v)
-      → Fewer s (advance (t - s .history .now) ∷ arriveDown u k (bufferFor (thingAt s u k)) ∷ [])
+      → Fewer s (advance (t - s .history .now) ∷ arriveDown u k (bufferFor (inFlightAt s u k)) ∷ [])
   unfolding run
   down-drains t k ts f late first others =
-      let some : k < length (l .transit .towards) = omega (arith, f .some, length-map (l .transit .towards) (λ (x : Thing). leftAt x + l .path .down)) in
-      let x = thingAt s u k in
+      let some : k < length (l .transit .towards) = omega (arith, f .some, length-map (l .transit .towards) (λ (x : InFlight). leftAt x + l .path .down)) in
+      let x = inFlightAt s u k in
       let is : leftAt x + l .path .down ≡ t =
-      sym (List·getD-map (λ (y : Thing). leftAt y + l .path .down) (l .transit .towards) k (envelope noEnvelope)) ∙ f .is _ in
+      sym (List·getD-map (λ (y : InFlight). leftAt y + l .path .down) (l .transit .towards) k (envelope noEnvelope)) ∙ f .is _ in
       let early = left .towards x (mem-at (l .transit .towards) k (envelope noEnvelope) some) in
       let n = t - s .history .now in
       let t1 = advance-goes w u llid s h n (omega (arith, f .early, is, early, bound)) in
@@ -294,10 +294,10 @@ module _ (w : Setting) (u llid : ℕ) (s : State) (h : Here w u llid s) (tick : 
         now = rw (t1 .lane) (omega (arith, is, t1 .tick, f .early));
         buffer = rw (t1 .lane) (fits-buffer x);
       } in
-      let t2 = thing-goes w u llid s1 h1 k (bufferFor x) due in
-      let d1 = thing-drained w u llid s1 h1 k (bufferFor x) (thingAt s1 u k) in
-      let d : Drained l (thingLane w u llid s1 h1 k (bufferFor x) (thingAt s1 u k)) =
-      subst (λ (y : Lane). Drained y (thingLane w u llid s1 h1 k (bufferFor x) (thingAt s1 u k))) (t1 .lane) d1 in
+      let t2 = in-flight-goes w u llid s1 h1 k (bufferFor x) due in
+      let d1 = in-flight-drained w u llid s1 h1 k (bufferFor x) (inFlightAt s1 u k) in
+      let d : Drained l (inFlightLane w u llid s1 h1 k (bufferFor x) (inFlightAt s1 u k)) =
+      subst (λ (y : Lane). Drained y (inFlightLane w u llid s1 h1 k (bufferFor x) (inFlightAt s1 u k))) (t1 .lane) d1 in
       let h2 = here-after w u llid s1 (arriveDown u k (bufferFor x)) _ (s1 .history .now) h1 t2 (d1 .site) (d1 .entry) in
       let there = s .history .now + n in
       let at : there ≡ t = omega (arith, f .early) in
@@ -306,17 +306,17 @@ module _ (w : Setting) (u llid : ℕ) (s : State) (h : Here w u llid s) (tick : 
       let up1 : overdue there (dueUp l) ≡ overdue (s .history .now) (dueUp l) =
       late-same (s .history .now) there (dueUp l) (omega arith) (λ v vs e. omega (arith, at, others v vs e)) in
       let keep2 : k ≡ overdue (s1 .history .now) (dueDown (laneAt s1 u)) = rw (t1 .lane, t1 .tick) (sym (down1 ∙ late)) in
-      let takes : Takes k l (thingLane w u llid s1 h1 k (bufferFor x) (thingAt s1 u k)) =
-      subst (λ (y : Lane). Takes k y (thingLane w u llid s1 h1 k (bufferFor x) (thingAt s1 u k))) (t1 .lane)
-      (thing-takes w u llid s1 h1 k (bufferFor x) (thingAt s1 u k)) in
-      let fewer : inFlight (thingLane w u llid s1 h1 k (bufferFor x) (thingAt s1 u k)) there + 1 ≡ inFlight l (s .history .now) =
-      down-fewer l (thingLane w u llid s1 h1 k (bufferFor x) (thingAt s1 u k)) (s .history .now) there k (s .history .now) (envelope noEnvelope)
+      let takes : Takes k l (inFlightLane w u llid s1 h1 k (bufferFor x) (inFlightAt s1 u k)) =
+      subst (λ (y : Lane). Takes k y (inFlightLane w u llid s1 h1 k (bufferFor x) (inFlightAt s1 u k))) (t1 .lane)
+      (in-flight-takes w u llid s1 h1 k (bufferFor x) (inFlightAt s1 u k)) in
+      let fewer : awaitedCount (inFlightLane w u llid s1 h1 k (bufferFor x) (inFlightAt s1 u k)) there + 1 ≡ awaitedCount l (s .history .now) =
+      down-fewer l (inFlightLane w u llid s1 h1 k (bufferFor x) (inFlightAt s1 u k)) (s .history .now) there k (s .history .now) (envelope noEnvelope)
       (d .path) (takes .towards) (takes .from)
       (alive w u llid s h .joined .order .towards) some late up1 (omega (arith, at, is)) in
       let s2 = step s1 (arriveDown u k (bufferFor x)) in
-      let m = thingLane w u llid s1 h1 k (bufferFor x) (thingAt s1 u k) in
-      let after : inFlight (laneAt s2 u) (s2 .history .now) ≡ inFlight m there =
-      ap (λ (y : Lane). inFlight y (s2 .history .now)) (t2 .lane) ∙ ap (λ (y : ℕ). inFlight m y) (t2 .tick ∙ t1 .tick) in
+      let m = inFlightLane w u llid s1 h1 k (bufferFor x) (inFlightAt s1 u k) in
+      let after : awaitedCount (laneAt s2 u) (s2 .history .now) ≡ awaitedCount m there =
+      ap (λ (y : Lane). awaitedCount y (s2 .history .now)) (t2 .lane) ∙ ap (λ (y : ℕ). awaitedCount m y) (t2 .tick ∙ t1 .tick) in
       record {
         drains =
             record {
@@ -362,12 +362,12 @@ module _ (w : Setting) (u llid : ℕ) (s : State) (h : Here w u llid s) (tick : 
       let kept = up-towards k (receiptUp s1 x (x .octets)) (laneAt s1 u) in
       let from : m .transit .from ≡ drop (suc k) (l .transit .from) = kept .0 ∙ ap (λ (y : Lane). drop (suc k) (y .transit .from)) (t1 .lane) in
       let towards : m .transit .towards ≡ l .transit .towards = kept .1 ∙ ap (λ (y : Lane). y .transit .towards) (t1 .lane) in
-      let fewer : inFlight m there + 1 ≡ inFlight l (s .history .now) =
+      let fewer : awaitedCount m there + 1 ≡ awaitedCount l (s .history .now) =
       up-fewer l m (s .history .now) there k (s .history .now) noEnvelope (d .path) from towards (alive w u llid s h .joined .order .from) some late down1
       (omega (arith, at, is)) in
       let s2 = step s1 (arriveUp u k (x .octets)) in
-      let after : inFlight (laneAt s2 u) (s2 .history .now) ≡ inFlight m there =
-      ap (λ (y : Lane). inFlight y (s2 .history .now)) (t2 .lane) ∙ ap (λ (y : ℕ). inFlight m y) (t2 .tick ∙ t1 .tick) in
+      let after : awaitedCount (laneAt s2 u) (s2 .history .now) ≡ awaitedCount m there =
+      ap (λ (y : Lane). awaitedCount y (s2 .history .now)) (t2 .lane) ∙ ap (λ (y : ℕ). awaitedCount m y) (t2 .tick ∙ t1 .tick) in
       record {
         drains =
             record {
@@ -383,7 +383,7 @@ module _ (w : Setting) (u llid : ℕ) (s : State) (h : Here w u llid s) (tick : 
       }
 
   -- none is awaited, that way or the other
-  none-flies : awaited (s .history .now) (dueDown l) ≡ [] → awaited (s .history .now) (dueUp l) ≡ [] → inFlight l (s .history .now) ≡ 0
+  none-flies : awaited (s .history .now) (dueDown l) ≡ [] → awaited (s .history .now) (dueUp l) ≡ [] → awaitedCount l (s .history .now) ≡ 0
   none-flies e f = omega (arith, ap length e, ap length f)
 
   next-drains : s .history .now ≤ tick + tripOf l → Fewer s (next s u)
@@ -407,7 +407,7 @@ module _ (w : Setting) (u llid : ℕ) (s : State) (h : Here w u llid s) (tick : 
 
 pub record Drainage (w : Setting) (u llid n : ℕ) (s : State) (es : List Event) (most : ℕ) : Type 0 where
   pub drains : Drains w u llid s es most
-  pub fewer : inFlight (laneAt (run s es) u) (run s es .history .now) ≤ inFlight (laneAt s u) (s .history .now) - n
+  pub fewer : awaitedCount (laneAt (run s es) u) (run s es .history .now) ≤ awaitedCount (laneAt s u) (s .history .now) - n
 
 pub drained-drains : (w : Setting) (u llid : ℕ) (n : ℕ) (s : State) → Here w u llid s → (tick : ℕ) → LeftBy (laneAt s u) tick
     → tick + tripOf (laneAt s u) ≤ maxTick → s .history .now ≤ tick + tripOf (laneAt s u)

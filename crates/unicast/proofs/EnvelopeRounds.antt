@@ -25,11 +25,11 @@ use Rattle.protocol.specs.OnuTraffic.{onuSendChoice}
 use Rattle.protocol.specs.UnitTraffic.{switches, unitSendChoice}
 use Rattle.protocol.specs.declared.KeyChoice.the-variants.{Clear, Current, Next}
 use Rattle.unicast.specs.Setting.{Setting}
-use Rattle.unicast.specs.History.{downward, upward, Envelope, Thing, envelope, leftAt, Arrival, Lane, switching, numberDown, laneWith, leaving, sending, arriving, laneSentDown, laneSentUp, laneTaken, laneArrivedDown, laneArrivedUp}
+use Rattle.unicast.specs.History.{downward, upward, Envelope, InFlight, envelope, leftAt, Arrival, Lane, switching, numberDown, laneWith, leaving, sending, arriving, laneSentDown, laneSentUp, laneTaken, laneArrivedDown, laneArrivedUp}
 use Rattle.unicast.specs.Events.{Event, advance, sendDown, sendUp, arriveDown, arriveUp}
 use Rattle.unicast.specs.Run.{State, laneAt, onuAt, envelopeDown, envelopeUp, receiptDown, receiptUp, step, run}
 use Rattle.unicast.specs.Claim.{SentRight, isSealed}
-use Rattle.unicast.specs.Progress.{longest, dueDown, dueUp, overdue, inFlight, downRound, upRound}
+use Rattle.unicast.specs.Progress.{longest, dueDown, dueUp, overdue, awaitedCount, downRound, upRound}
 use Rattle.unicast.proofs.SendChoices.{switches-listed}
 use Rattle.unicast.proofs.Going.{Here, here-after, alive, unit, advance-goes}
 use Rattle.unicast.proofs.Arriving.{envelope-arrival-goes, up-arrival-goes, send-down-goes, send-up-goes}
@@ -80,7 +80,7 @@ pub record Moved (n : ℕ) (l m : Lane) : Type 0 where
   pub answered : m .transit .answered ≡ l .transit .answered
   pub past : m .past .sent ≡ l .past .sent ++ (sent ∷ [])
   pub arrived : m .past .arrived ≡ l .past .arrived ++ (arrival ∷ [])
-  pub way : sent .way ≡ downward
+  pub direction : sent .direction ≡ downward
   pub is : arrival .envelope ≡ sent
   pub numbered : sent .number ≡ n
 
@@ -96,7 +96,7 @@ pub record UpDone (w : Setting) (u llid : ℕ) (s : State) (es : List Event) (no
   pub arrival : Arrival
   pub keys : lane .keys ≡ laneAt s u .keys
   pub arrived : lane .past .arrived ≡ laneAt s u .past .arrived ++ (arrival ∷ [])
-  pub way : sent .way ≡ upward
+  pub direction : sent .direction ≡ upward
   pub is : arrival .envelope ≡ sent
   pub numbered : sent .number ≡ laneAt s u .keys .number
 
@@ -145,7 +145,7 @@ module _ (w : Setting) (u llid : ℕ) (s : State) (h : Here w u llid s) (quiet :
       let k = length (l .transit .towards) in
       let t3 = envelope-arrival-goes w u llid s2 h2 k e [] (last-some _ (l .transit .towards) (envelope e) queue)
       (last-is _ (l .transit .towards) (envelope e) _ queue) (omega (arith, tick2, ap (λ (y : Lane). y .path .down) lane2)) (empty w _ e right refl) in
-      let f : Thing → ℕ = λ y. leftAt y + l .path .down in
+      let f : InFlight → ℕ = λ y. leftAt y + l .path .down in
       let g : Envelope → ℕ = λ y. y .left + l .path .up in
       let ts = l .transit .towards in
       let there = now + l .path .down in
@@ -154,7 +154,7 @@ module _ (w : Setting) (u llid : ℕ) (s : State) (h : Here w u llid s) (quiet :
       let down1 : overdue there (dueDown l1) ≡ length ts =
       down-overdue l1 ts (envelope e) there queue1 (late-later f now there ts (omega arith) (quiet .down)) (omega arith) in
       let up1 : overdue there (dueUp l1) ≡ length (l .transit .from) = late-later g now there (l .transit .from) (omega arith) (quiet .up) in
-      let keep2 : inFlight (laneAt s1 u) (s1 .history .now + l .path .down) ≡ inFlight (laneAt s1 u) (s1 .history .now) =
+      let keep2 : awaitedCount (laneAt s1 u) (s1 .history .now + l .path .down) ≡ awaitedCount (laneAt s1 u) (s1 .history .now) =
       rw (t1 .lane, t1 .tick) (same-keeps l1 now there (down1 ∙ sym down0) (up1 ∙ sym (quiet .up))) in
       let keep3 : k ≡ overdue (s2 .history .now) (dueDown (laneAt s2 u)) = rw (lane2, tick2) (sym down1) in
       let r = receiptDown s2 u e [] in
@@ -181,7 +181,7 @@ module _ (w : Setting) (u llid : ℕ) (s : State) (h : Here w u llid s) (quiet :
               answered = refl;
               past = refl;
               arrived = refl;
-              way = refl;
+              direction = refl;
               is = refl;
               numbered = number;
             };
@@ -191,7 +191,7 @@ module _ (w : Setting) (u llid : ℕ) (s : State) (h : Here w u llid s) (quiet :
 
   -- an envelope of the unit's number left and arrived, its channel free, its guard passed and its key not too old
   pub up-round : onuAt s u .clock .synced ≡ 1 → (last most : ℕ)
-      → ((e : Envelope) → List·Memᴰ e (l .past .sent) → e .way ≡ upward → (e .left ≤ last) × (e .up ≤ most))
+      → ((e : Envelope) → List·Memᴰ e (l .past .sent) → e .direction ≡ upward → (e .left ≤ last) × (e .up ≤ most))
       → last + longest ≤ now → last + most + longest ≤ now + l .path .up
       → (onuAt s u .first .noted ≡ 1 → travelOf (onuAt s u) < onuAt s u .first .at + keyLife) → now + l .path .up ≤ maxTick
       → UpDone w u llid s (upRound u llid s) (now + l .path .up)
@@ -220,7 +220,7 @@ module _ (w : Setting) (u llid : ℕ) (s : State) (h : Here w u llid s) (quiet :
       let k = length (l .transit .from) in
       let t3 = up-arrival-goes w u llid s2 h2 k e [] (last-some _ (l .transit .from) e queue)
       (last-is _ (l .transit .from) e _ queue) (omega (arith, tick2, ap (λ (y : Lane). y .path .up) lane2)) (empty w _ e right refl) in
-      let f : Thing → ℕ = λ y. leftAt y + l .path .down in
+      let f : InFlight → ℕ = λ y. leftAt y + l .path .down in
       let g : Envelope → ℕ = λ y. y .left + l .path .up in
       let ts = l .transit .from in
       let there = now + l .path .up in
@@ -228,7 +228,7 @@ module _ (w : Setting) (u llid : ℕ) (s : State) (h : Here w u llid s) (quiet :
       let up0 : overdue now (dueUp l1) ≡ length ts = up-overdue l1 ts e now queue1 (quiet .up) (omega arith) in
       let up1 : overdue there (dueUp l1) ≡ length ts = up-overdue l1 ts e there queue1 (late-later g now there ts (omega arith) (quiet .up)) (omega arith) in
       let down1 : overdue there (dueDown l1) ≡ length (l .transit .towards) = late-later f now there (l .transit .towards) (omega arith) (quiet .down) in
-      let keep2 : inFlight (laneAt s1 u) (s1 .history .now + l .path .up) ≡ inFlight (laneAt s1 u) (s1 .history .now) =
+      let keep2 : awaitedCount (laneAt s1 u) (s1 .history .now + l .path .up) ≡ awaitedCount (laneAt s1 u) (s1 .history .now) =
       rw (t1 .lane, t1 .tick) (same-keeps l1 now there (down1 ∙ sym (quiet .down)) (up1 ∙ sym up0)) in
       let keep3 : k ≡ overdue (s2 .history .now) (dueUp (laneAt s2 u)) = rw (lane2, tick2) (sym up1) in
       let r = receiptUp s2 e [] in
@@ -247,7 +247,7 @@ module _ (w : Setting) (u llid : ℕ) (s : State) (h : Here w u llid s) (quiet :
         arrival = r;
         keys = refl;
         arrived = refl;
-        way = refl;
+        direction = refl;
         is = refl;
         numbered = refl;
       }

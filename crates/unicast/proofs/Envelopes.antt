@@ -16,7 +16,7 @@ use Rattle.protocol.specs.declared.Passage.{Passage}
 use Rattle.protocol.specs.declared.Sending.{Sending}
 use Rattle.traffic.specs.Passages.{misfit, passed, passedCount, passedRuns}
 use Rattle.unicast.specs.Setting.{Setting}
-use Rattle.unicast.specs.History.{Way, downward, upward, Envelope, Lane, keyOf, Arrival}
+use Rattle.unicast.specs.History.{Direction, downward, upward, Envelope, Lane, keyOf, Arrival}
 use Rattle.unicast.specs.Claim.{nonceFor, isSealed, PassageRight, SentRight, ArrivedRight}
 
 -- an envelope goes one way
@@ -26,10 +26,10 @@ ways-apart e = let z : _≡_ {A = ℕ} 0 1 = cc in absurd (omega arith)
 ---- what is carried
 
 -- the envelope of an accepted send that handed over s, under that number
-abbrev pub envelopeOf : Way → ℕ → ℕ → ℕ → ℕ → List ℕ → Sending → ℕ → Envelope
-envelopeOf way now up llid channel p s number =
+abbrev pub envelopeOf : Direction → ℕ → ℕ → ℕ → ℕ → List ℕ → Sending → ℕ → Envelope
+envelopeOf direction now up llid channel p s number =
     record {
-      way = way;
+      direction = direction;
       left = now;
       up = up;
       llid = llid;

@@ -20,7 +20,7 @@ use Rattle.traffic.specs.Passages.{misfit}
 use Rattle.traffic.specs.Receipts.{onuNotReceived}
 use Rattle.traffic.specs.declared.OnuReceived.{OnuReceived}
 use Rattle.unicast.specs.Setting.{Setting}
-use Rattle.unicast.specs.History.{Way, downward, upward, keyOf}
+use Rattle.unicast.specs.History.{Direction, downward, upward, keyOf}
 use Rattle.unicast.specs.Run.{State, laneAt, start, sentAt}
 use Rattle.unicast.specs.Premises.{Fresh, Meets}
 use Rattle.unicast.specs.Claim.{isSealed, nonceFor, ArrivedNumbered, overheardFor, Claim}
@@ -183,9 +183,9 @@ module _ (c : Claim example played) where
 
 -- of a state that it comes to
 module _ {w : Setting} {s : State} (c : Claim w s) where
-  pub numbered : (u k n : ℕ) (way : Way) → ltb k (length (laneAt s u .past .arrived)) ≡ true → arrivalAt s u k .envelope .way ≡ way
-      → arrivalAt s u k .envelope .number ≡ n → ArrivedNumbered (laneAt s u) way n
-  numbered u k n way some thatWay number =
+  pub numbered : (u k n : ℕ) (direction : Direction) → ltb k (length (laneAt s u .past .arrived)) ≡ true → arrivalAt s u k .envelope .direction ≡ direction
+      → arrivalAt s u k .envelope .number ≡ n → ArrivedNumbered (laneAt s u) direction n
+  numbered u k n direction some thatWay number =
       record {
         arrival = arrivalAt s u k;
         among = mem-at (laneAt s u .past .arrived) k _ (ltb-true _ _ some);
@@ -211,7 +211,7 @@ module _ {w : Setting} {s : State} (c : Claim w s) where
 
   overheard-as : (u v k : ℕ) {out : List ℕ} {number : ℕ} → laneAt s u .entry .registered ≡ true → eqb u v ≡ false
       → ltb k (length (laneAt s v .past .sent)) ≡ true
-      → numberOf (overheardFor (misfit (sentAt s v k .octets) out) (sentAt s v k .way)) ≡ number
+      → numberOf (overheardFor (misfit (sentAt s v k .octets) out) (sentAt s v k .direction)) ≡ number
       → Overheard s u v k out number
   unfolding onuNotReceived
   overheard-as u v k {out} registered other some hnumber =

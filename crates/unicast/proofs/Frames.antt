@@ -17,7 +17,7 @@ use Rattle.ends.specs.declared.OnuKeys.{OnuKeys}
 use Rattle.ends.specs.declared.Shared.{Shared}
 use Rattle.ends.specs.declared.UnitRecord.{UnitRecord}
 use Rattle.unicast.specs.Setting.{Setting}
-use Rattle.unicast.specs.History.{Envelope, Thing, clockMessage, envelope, leftAt, Answered, Transit, Lane, laneWith, leaving, laneLeaving, laneTaken, laneAnswered, clockAnswered}
+use Rattle.unicast.specs.History.{Envelope, InFlight, clockMessage, envelope, leftAt, Answered, Transit, Lane, laneWith, leaving, laneLeaving, laneTaken, laneAnswered, clockAnswered}
 use Rattle.unicast.proofs.Invariant.{reachOf, Answers, UnderWay, Towards, From, Asked, InOrder, Joined, Common}
 use Rattle.unicast.proofs.Pace.{rising-dropped, order-leaving, asked-leaving}
 use Rattle.unicast.proofs.Queues.{Knows, dropped-among, sealed-more, towards-moved, towards-dropped, from-moved}
@@ -113,7 +113,7 @@ module _ (w : Setting) (sh : Shared) (now : ℕ) (l : Lane) (u : UnitRecord) (o 
       }
 
   -- a thing leaves for the unit
-  pub leaving-keeps : (x : Thing) → ((e : Envelope) → x ≡ envelope e → ⊥) → ((m : Stamps) (c left : ℕ) → x ≡ clockMessage m c left → u .clock .sent ≡ 1)
+  pub leaving-keeps : (x : InFlight) → ((e : Envelope) → x ≡ envelope e → ⊥) → ((m : Stamps) (c left : ℕ) → x ≡ clockMessage m c left → u .clock .sent ≡ 1)
       → leftAt x ≡ now → Joined w sh now l u o
       → Towards (w .first) (l .path) l (o .keys .active) (u .keys .active) (u .keys .offered) (l .transit .towards ++ (x ∷ []))
       → Joined w sh now (laneLeaving x l) u o

@@ -35,7 +35,7 @@ use Rattle.ends.specs.declared.Travel.{Travel}
 use Rattle.ends.specs.declared.UnitRecord.{UnitRecord}
 use Rattle.ends.specs.declared.UnitClock.{UnitClock}
 use Rattle.unicast.specs.Setting.{Delays, Setting}
-use Rattle.unicast.specs.History.{Way, downward, upward, Envelope, Thing, clockMessage, keyMessage, envelope, leftAt, Answered, Arrival, Entry, Keys, Transit, Lane, keyOf, due, clockAnswered}
+use Rattle.unicast.specs.History.{Direction, downward, upward, Envelope, InFlight, clockMessage, keyMessage, envelope, leftAt, Answered, Arrival, Entry, Keys, Transit, Lane, keyOf, due, clockAnswered}
 use Rattle.unicast.specs.Run.{State, laneAt, onuAt, noEnvelope}
 use Rattle.unicast.specs.Claim.{SentRight, ArrivedRight}
 use Rattle.unicast.specs.Progress.{highest, longest}
@@ -114,15 +114,15 @@ pub record KeyRight (k : Keys) (i : Identity) (lo top : ℕ) (m : KeyMessage) : 
   pub named : has i (m .llid) ≡ true
 
 -- an envelope under way was sent that way, and its number lies between lo and hi
-pub record Under (i : Identity) (past : List Envelope) (way : Way) (lo hi : ℕ) (e : Envelope) : Type 0 where
+pub record Under (i : Identity) (past : List Envelope) (direction : Direction) (lo hi : ℕ) (e : Envelope) : Type 0 where
   pub above : lo ≤ e .number
   pub most : e .number ≤ hi
   pub sent : List·Memᴰ e past
-  pub thatWay : e .way ≡ way
+  pub thatWay : e .direction ≡ direction
   pub named : has i (e .llid) ≡ true
 
 -- towards a unit: numbers never fall, envelopes in [lo, hi], keys above lo and at most top
-abbrev pub Towards : ℕ → Delays → Lane → ℕ → ℕ → ℕ → List Thing → Type 0
+abbrev pub Towards : ℕ → Delays → Lane → ℕ → ℕ → ℕ → List InFlight → Type 0
 Towards first p l lo hi top [] = Prim.Unit {0}
 Towards first p l lo hi top (clockMessage m c t ∷ xs) = ClockRight first p m c t × Towards first p l lo hi top xs
 Towards first p l lo hi top (keyMessage m t ∷ xs) = KeyRight (l .keys) (l .site .identity) lo top m × Towards first p l lo hi top xs
@@ -165,9 +165,9 @@ pub record Guarded (ahead up : ℕ) (t : Travel) (e : Envelope) : Type 0 where
   pub barred : 1 ≤ e .number → (e .up ≡ up) ⊎ (countUp e + maxChanges < t .bar + ahead)
 
 -- two sends of that way under one number on one channel index: the later one has the higher count, within a key's life
-abbrev pub Apart : (Envelope → ℕ) → Way → Envelope → Envelope → Type 0
-Apart count way x y =
-    x .way ≡ way → y .way ≡ way → 1 ≤ x .number → x .number ≡ y .number → x .channel ≡ y .channel
+abbrev pub Apart : (Envelope → ℕ) → Direction → Envelope → Envelope → Type 0
+Apart count direction x y =
+    x .direction ≡ direction → y .direction ≡ direction → 1 ≤ x .number → x .number ≡ y .number → x .channel ≡ y .channel
     → (count x < count y) × (count y < count x + keyLife)
 
 pub record Spaced (sent : List Envelope) : Type 0 where
@@ -175,9 +175,9 @@ pub record Spaced (sent : List Envelope) : Type 0 where
   pub up : (i j : ℕ) → i < j → j < length sent → Apart countUp upward (getD sent i noEnvelope) (getD sent j noEnvelope)
 
 pub record Spending (l : Lane) (down : Channels) (u : UnitRecord) (o : Onu) : Type 0 where
-  pub downs : (e : Envelope) → List·Memᴰ e (l .past .sent) → e .way ≡ downward
+  pub downs : (e : Envelope) → List·Memᴰ e (l .past .sent) → e .direction ≡ downward
       → (downstream (e .channel) ≡ true) × Spent down (u .keys .first) (u .keys .active) 0 0 (countDown e) e
-  pub ups : (e : Envelope) → List·Memᴰ e (l .past .sent) → e .way ≡ upward
+  pub ups : (e : Envelope) → List·Memᴰ e (l .past .sent) → e .direction ≡ upward
       → (upstream (e .channel) ≡ true)
       × Spent (o .channels) (o .first) (o .keys .active) (l .site .up) maxChanges (countUp e) e
       × Guarded (l .site .up) (l .path .up) (o .travel) e
@@ -190,8 +190,8 @@ pub record Passing (w : Setting) (l : Lane) (confirmed active : ℕ) : Type 0 wh
   pub named : (e : Envelope) → List·Memᴰ e (l .past .sent) → has (l .site .identity) (e .llid) ≡ true
   pub fits : (e : Envelope) → List·Memᴰ e (l .past .sent) → lengthsFit (length (e .payload)) (length (e .payload)) ≡ true
   pub arrived : (r : Arrival) → List·Memᴰ r (l .past .arrived) → ArrivedRight w l r
-  pub down : (r : Arrival) → List·Memᴰ r (l .past .arrived) → r .envelope .way ≡ downward → r .envelope .number ≤ active
-  pub up : (r : Arrival) → List·Memᴰ r (l .past .arrived) → r .envelope .way ≡ upward → r .envelope .number ≤ confirmed
+  pub down : (r : Arrival) → List·Memᴰ r (l .past .arrived) → r .envelope .direction ≡ downward → r .envelope .number ≤ active
+  pub up : (r : Arrival) → List·Memᴰ r (l .past .arrived) → r .envelope .direction ≡ upward → r .envelope .number ≤ confirmed
 
 ---- what lets the line go on
 
@@ -199,27 +199,27 @@ pub record Passing (w : Setting) (l : Lane) (confirmed active : ℕ) : Type 0 wh
 pub record SentUnder (sent : List Envelope) (number : ℕ) : Type 0 where
   pub envelope : Envelope
   pub among : List·Memᴰ envelope sent
-  pub thatWay : envelope .way ≡ upward
+  pub thatWay : envelope .direction ≡ upward
   pub numbered : envelope .number ≡ number
 
 -- first sends are not before the last switch: the OLT's by its ticks, a unit's under the number of the switch by its travel, of which its
 -- envelopes' delays up are no less than least
 pub record FirstSends (switches switched ahead : ℕ) (sent : List Envelope) (down up : FirstSend) (active : ℕ) : Type 0 where
   pub olt : down .noted ≡ 1 → switched ≤ down .at
-  pub onu : (least : ℕ) → ((e : Envelope) → List·Memᴰ e sent → e .way ≡ upward → least ≤ e .up) → up .noted ≡ 1 → active ≡ switches
+  pub onu : (least : ℕ) → ((e : Envelope) → List·Memᴰ e sent → e .direction ≡ upward → least ≤ e .up) → up .noted ≡ 1 → active ≡ switches
       → switched + least + maxChanges ≤ up .at + ahead
   pub some : up .noted ≡ 1 → SentUnder sent active
 
 -- a unit's channels are free once its last envelope has ended, and its guard is passed once the last by the longest way up has
 pub record Freed (ahead : ℕ) (sent : List Envelope) (c : Channels) (t : Travel) : Type 0 where
-  pub free : (last k : ℕ) → ((e : Envelope) → List·Memᴰ e sent → e .way ≡ upward → e .left ≤ last) → freeFrom c k ≤ last + longest
-  pub spent : (last most : ℕ) → ((e : Envelope) → List·Memᴰ e sent → e .way ≡ upward → (e .left ≤ last) × (e .up ≤ most)) → 1 ≤ t .spent
+  pub free : (last k : ℕ) → ((e : Envelope) → List·Memᴰ e sent → e .direction ≡ upward → e .left ≤ last) → freeFrom c k ≤ last + longest
+  pub spent : (last most : ℕ) → ((e : Envelope) → List·Memᴰ e sent → e .direction ≡ upward → (e .left ≤ last) × (e .up ≤ most)) → 1 ≤ t .spent
       → t .spent + ahead ≤ last + most + longest + maxChanges
   pub bar : t .bar ≤ t .spent
 
 -- a clock message that is under way or answered was sent by the present path, and no answer is later than now
 pub record Asked (now sent : ℕ) (t : Transit) : Type 0 where
-  pub under : (x : Thing) → List·Memᴰ x (t .towards) → (m : Stamps) (c left : ℕ) → x ≡ clockMessage m c left → sent ≡ 1
+  pub under : (x : InFlight) → List·Memᴰ x (t .towards) → (m : Stamps) (c left : ℕ) → x ≡ clockMessage m c left → sent ≡ 1
   pub answered : (x : Answered) → List·Memᴰ x (t .answered) → (x .acknowledgement .kind ≡ clockKind → sent ≡ 1) × (x .tick ≤ now)
 
 -- ticks that never fall, from lo to hi

@@ -13,12 +13,12 @@ use Rattle.octets.proofs.Choice.{both-true, both-false-left, pick-true, pick-fa
 use Rattle.clock.specs.Ticks.{maxTick, keyLife}
 use Rattle.ends.specs.Limits.{maxKeyNumber}
 use Rattle.unicast.specs.Setting.{Setting}
-use Rattle.unicast.specs.History.{Way, downward, upward, Arrival, Entry, Lane, due, switching, numberDown, isSynced}
+use Rattle.unicast.specs.History.{Direction, downward, upward, Arrival, Entry, Lane, due, switching, numberDown, isSynced}
 use Rattle.unicast.specs.Events.{Event, advance, capture, clockSend, offer, retry, arriveAnswer}
 use Rattle.unicast.specs.Run.{State, laneAt, step, run}
 use Rattle.unicast.specs.Premises.{NewKey}
 use Rattle.unicast.specs.Claim.{ArrivedNumbered}
-use Rattle.unicast.specs.Progress.{goes, highest, tripOf, inFlight, andThen, clockPlace, answeredRound, clockRound, keyRound, interval, keyed, rounds}
+use Rattle.unicast.specs.Progress.{goes, highest, tripOf, awaitedCount, andThen, clockPlace, answeredRound, clockRound, keyRound, interval, keyed, rounds}
 use Rattle.unicast.proofs.SendChoices.{max-either}
 use Rattle.unicast.proofs.Going.{Here, here-after, alive, unit, advance-goes}
 use Rattle.unicast.proofs.Calm.{Calms, Steady, calm-run}
@@ -64,39 +64,39 @@ andThen-calm f g s a b = calms-append (f s) (g (run s (f s))) a b
 
 ---- the highest number that arrived a way, if any did
 
-record Reached (way : Way) (rs : List Arrival) (n : ℕ) : Type 0 where
+record Reached (direction : Direction) (rs : List Arrival) (n : ℕ) : Type 0 where
   arrival : Arrival
   among : List·Memᴰ arrival rs
-  thatWay : arrival .envelope .way ≡ way
+  thatWay : arrival .envelope .direction ≡ direction
   numbered : arrival .envelope .number ≡ n
 
-goes-is : (a b : Way) → goes a b ≡ true → b ≡ a
+goes-is : (a b : Direction) → goes a b ≡ true → b ≡ a
 goes-is downward downward e = refl
 goes-is downward upward e = true-false (sym e)
 goes-is upward downward e = true-false (sym e)
 goes-is upward upward e = refl
 
-reached-more : (way : Way) (r : Arrival) (rs : List Arrival) (n : ℕ) → Reached way rs n → Reached way (r ∷ rs) n
-reached-more way r rs n m = record { arrival = m .arrival; among = List·Memᴰ·tail (m .among); thatWay = m .thatWay; numbered = m .numbered }
+reached-more : (direction : Direction) (r : Arrival) (rs : List Arrival) (n : ℕ) → Reached direction rs n → Reached direction (r ∷ rs) n
+reached-more direction r rs n m = record { arrival = m .arrival; among = List·Memᴰ·tail (m .among); thatWay = m .thatWay; numbered = m .numbered }
 
-highest-reached : (way : Way) (rs : List Arrival) → 1 ≤ highest way rs → Reached way rs (highest way rs)
+highest-reached : (direction : Direction) (rs : List Arrival) → 1 ≤ highest direction rs → Reached direction rs (highest direction rs)
 unfolding highest pick
-highest-reached way [] h = absurd (omega (arith, h))
-highest-reached way (r ∷ rs) h = by-way (goes way (r .envelope .way)) refl h (highest-reached way rs) where
-  by-way : (t : Bool) → goes way (r .envelope .way) ≡ t → 1 ≤ pick t (max (r .envelope .number) (highest way rs)) (highest way rs)
-      → (1 ≤ highest way rs → Reached way rs (highest way rs))
-      → Reached way (r ∷ rs) (pick t (max (r .envelope .number) (highest way rs)) (highest way rs))
-  by-way false e some rest = reached-more way r rs _ (rest some)
-  by-way true e some rest =
+highest-reached direction [] h = absurd (omega (arith, h))
+highest-reached direction (r ∷ rs) h = by-direction (goes direction (r .envelope .direction)) refl h (highest-reached direction rs) where
+  by-direction : (t : Bool) → goes direction (r .envelope .direction) ≡ t → 1 ≤ pick t (max (r .envelope .number) (highest direction rs)) (highest direction rs)
+      → (1 ≤ highest direction rs → Reached direction rs (highest direction rs))
+      → Reached direction (r ∷ rs) (pick t (max (r .envelope .number) (highest direction rs)) (highest direction rs))
+  by-direction false e some rest = reached-more direction r rs _ (rest some)
+  by-direction true e some rest =
       ⊎-elim
       (λ own.
-      record { arrival = r; among = List·Memᴰ·head refl; thatWay = goes-is way (r .envelope .way) e; numbered = sym own })
-      (λ old. rw old (reached-more way r rs _ (rest (omega (arith, some, old)))))
-      (max-either (r .envelope .number) (highest way rs))
+      record { arrival = r; among = List·Memᴰ·head refl; thatWay = goes-is direction (r .envelope .direction) e; numbered = sym own })
+      (λ old. rw old (reached-more direction r rs _ (rest (omega (arith, some, old)))))
+      (max-either (r .envelope .number) (highest direction rs))
 
-pub arrived-highest : (l : Lane) (way : Way) (n : ℕ) → highest way (l .past .arrived) ≡ n → 1 ≤ n → ArrivedNumbered l way n
-arrived-highest l way n e some =
-    let r = highest-reached way (l .past .arrived) (omega (arith, e, some)) in
+pub arrived-highest : (l : Lane) (direction : Direction) (n : ℕ) → highest direction (l .past .arrived) ≡ n → 1 ≤ n → ArrivedNumbered l direction n
+arrived-highest l direction n e some =
+    let r = highest-reached direction (l .past .arrived) (omega (arith, e, some)) in
     record { arrival = r .arrival; among = r .among; thatWay = r .thatWay; numbered = r .numbered ∙ e }
 
 ---- the key's round and the interval, or nothing
@@ -179,7 +179,7 @@ module _ (w : Setting) (u llid c : ℕ) (key : List ℕ) (s : State) (h : Here w
       let more : ltb (k .lane .keys .switches) (length (k .lane .keys .offers)) ≡ true =
       lt-ltb (k .lane .keys .switches) (length (k .lane .keys .offers)) (omega (arith, o .switches, o .offers, switches)) in
       let calm : Quiet (k .lane) (s1 .history .now) = subst (λ (n : ℕ). Quiet (k .lane) n) (sym (k .goes .tick)) (k .goes .quiet) in
-      let keeps : inFlight (laneAt s1 u) (s1 .history .now + rest) ≡ inFlight (laneAt s1 u) (s1 .history .now) =
+      let keeps : awaitedCount (laneAt s1 u) (s1 .history .now + rest) ≡ awaitedCount (laneAt s1 u) (s1 .history .now) =
       quiet-keeps (laneAt s1 u) (s1 .history .now) (s1 .history .now + rest) (omega arith)
       (subst (λ (y : Lane). Quiet y (s1 .history .now)) (sym lane1) calm) in
       let still : Quiet (k .lane) (s1 .history .now + rest) = quiet-later (k .lane) (s1 .history .now) (s1 .history .now + rest) (omega arith) calm in

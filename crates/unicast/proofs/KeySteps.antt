@@ -32,7 +32,7 @@ use Rattle.refusal.proofs.Numbers.{number-accepted}
 use Rattle.protocol.proofs.UnitCalls.{offer-accepted, retry-accepted}
 use Rattle.protocol.proofs.KeyMessages.{TakesKey, key-message-met, key-message-taken, withHeld, taken-new, taken-other}
 use Rattle.unicast.specs.Setting.{Setting}
-use Rattle.unicast.specs.History.{Thing, keyMessage, Keys, Lane, keyOf, due, laneWith, leaving, laneLeaving, laneOffered, laneTaken, laneAnswered}
+use Rattle.unicast.specs.History.{InFlight, keyMessage, Keys, Lane, keyOf, due, laneWith, leaving, laneLeaving, laneOffered, laneTaken, laneAnswered}
 use Rattle.unicast.proofs.Invariant.{reachOf, Joined, Common, AtTick}
 use Rattle.unicast.proofs.Pace.{order-leaving, asked-leaving}
 use Rattle.unicast.proofs.Queues.{Knows, sealed-more, towards-carried, towards-key, towards-taken, from-moved}
@@ -220,7 +220,7 @@ module _ (w : Setting) (sh : Shared) (now : ℕ) (l : Lane) (u : UnitRecord) (o 
         passing = j .passing;
       }
 
-  module _ (k : ℕ) (x : Thing) (m : KeyMessage) (t : ℕ) where
+  module _ (k : ℕ) (x : InFlight) (m : KeyMessage) (t : ℕ) where
     -- what stands in the queue is the message of key a + 1
     pub record NextKey : Type 0 where
       pub number : m .number ≡ o .keys .active + 1

@@ -57,7 +57,7 @@ module _ (w : Setting) (u llid c : ℕ) (s : State) (h : Here w u llid s) (synce
     (set : unit w u llid s h .clock .acknowledged ≡ 1) (free : freeFrom (s .olt .shared .channels) 0x00 ≤ s .history .now)
     (next : numberDown (laneAt s u) (s .history .now) ≡ c + 1)
     (young : (switching (laneAt s u) (s .history .now) ≡ true) ⊎ (s .history .now < laneAt s u .keys .switched + keyLife))
-    (last most : ℕ) (each : (e : Envelope) → List·Memᴰ e (laneAt s u .past .sent) → e .way ≡ upward → (e .left ≤ last) × (e .up ≤ most))
+    (last most : ℕ) (each : (e : Envelope) → List·Memᴰ e (laneAt s u .past .sent) → e .direction ≡ upward → (e .left ≤ last) × (e .up ≤ most))
     (channel : last + longest ≤ s .history .now) (guard : last + most + longest ≤ s .history .now + laneAt s u .path .up)
     (bound : s .history .now + tripOf (laneAt s u) ≤ maxTick) (quiet : Quiet (laneAt s u) (s .history .now)) where
   abbrev l : Lane
@@ -92,7 +92,7 @@ module _ (w : Setting) (u llid c : ℕ) (s : State) (h : Here w u llid s) (synce
             record {
               arrival = d .arrival;
               among = rw all (Memᴰ·append-right (l .past .arrived) (List·Memᴰ·head refl));
-              thatWay = rw (d .is) (d .way);
+              thatWay = rw (d .is) (d .direction);
               numbered = rw (d .is) (d .numbered ∙ number);
             };
         soon = omega (arith, d .goes .tick);
@@ -109,9 +109,9 @@ module _ (w : Setting) (u llid c : ℕ) (s : State) (h : Here w u llid s) (synce
       let lane1 : laneAt s1 u ≡ d .lane = d .goes .lane in
       let j1 = alive w u llid s1 h1 .joined in
       let sent1 : laneAt s1 u .past .sent ≡ l .past .sent ++ (m .sent ∷ []) = ap (λ (y : Lane). y .past .sent) lane1 ∙ m .past in
-      let before : (e : Envelope) → List·Memᴰ e (laneAt s1 u .past .sent) → e .way ≡ upward → List·Memᴰ e (l .past .sent) =
+      let before : (e : Envelope) → List·Memᴰ e (laneAt s1 u .past .sent) → e .direction ≡ upward → List·Memᴰ e (l .past .sent) =
       λ e i q.
-      ⊎-elim (λ old. old) (λ new. ways-apart (sym (m .way) ∙ ap (λ (y : Envelope). y .way) (sym (List·Memᴰ·eq-of-singleton new)) ∙ q))
+      ⊎-elim (λ old. old) (λ new. ways-apart (sym (m .direction) ∙ ap (λ (y : Envelope). y .direction) (sym (List·Memᴰ·eq-of-singleton new)) ∙ q))
       (List·Memᴰ·append-cases (l .past .sent) (rw sent1 at i)) in
       let path1 : laneAt s1 u .path ≡ l .path = ap (λ (y : Lane). y .path) lane1 ∙ m .path in
       let number1 : laneAt s1 u .keys .number ≡ c + 1 = ap (λ (y : Lane). y .keys .number) lane1 ∙ m .number in
@@ -141,14 +141,14 @@ module _ (w : Setting) (u llid c : ℕ) (s : State) (h : Here w u llid s) (synce
             record {
               arrival = m .arrival;
               among = rw all (Memᴰ·append-left (d1 .arrival ∷ []) (Memᴰ·append-right (l .past .arrived) (List·Memᴰ·head refl)));
-              thatWay = rw (m .is) (m .way);
+              thatWay = rw (m .is) (m .direction);
               numbered = rw (m .is) (m .numbered);
             };
         up =
             record {
               arrival = d1 .arrival;
               among = rw all (Memᴰ·append-right (l .past .arrived ++ (m .arrival ∷ [])) (List·Memᴰ·head refl));
-              thatWay = rw (d1 .is) (d1 .way);
+              thatWay = rw (d1 .is) (d1 .direction);
               numbered = rw (d1 .is) (d1 .numbered ∙ number1);
             };
         soon = omega (arith, d1 .goes .tick, tick1, up1);

@@ -2,9 +2,9 @@
 use mathlib.Core.Path.{_≡_, refl, _∙_}
 use mathlib.Core.List.{List, [], _∷_}
 use Prim.Native.Nat.{ℕ}
-use Rattle.unicast.specs.History.{Thing, clockMessage, keyMessage, envelope, Lane, laneWith, laneCaptured, laneLeaving, laneAcknowledged, laneTaken, laneAnswered, laneArrivedDown, laneArrivedUp}
+use Rattle.unicast.specs.History.{InFlight, clockMessage, keyMessage, envelope, Lane, laneWith, laneCaptured, laneLeaving, laneAcknowledged, laneTaken, laneAnswered, laneArrivedDown, laneArrivedUp}
 use Rattle.unicast.specs.Events.{Event, advance, register, capture, clockSend, offer, retry, sendDown, sendUp, arriveDown, arriveUp, arriveAnswer, overhear, changePath, measure, newTime, strayClock, strayKey, strayAnswer, strayDown, strayUp}
-use Rattle.unicast.specs.Run.{State, laneAt, accepted, withLanes, atOnu, atOltFor, advancing, clockSending, answering, messageArriving, envelopeArriving, thingArriving, thingAt, arrivingUp, step, run}
+use Rattle.unicast.specs.Run.{State, laneAt, accepted, withLanes, atOnu, atOltFor, advancing, clockSending, answering, messageArriving, envelopeArriving, inFlightArriving, inFlightAt, arrivingUp, step, run}
 use Rattle.unicast.specs.Premises.{NewKey}
 use Rattle.unicast.proofs.Owned.{at-olt-keeps, set-stays, noted-keeps}
 
@@ -41,18 +41,18 @@ SameOffers s t = (v : ℕ) → laneAt t v .keys .offers ≡ laneAt s v .keys .of
 abbrev offersOf : Lane → List (List ℕ)
 offersOf l = l .keys .offers
 
-thing-offers : (s : State) (u k : ℕ) (out : List ℕ) (x : Thing) → SameOffers s (thingArriving s u k out x)
-unfolding thingArriving messageArriving envelopeArriving atOnu withLanes laneAnswered laneTaken laneArrivedDown laneWith
-thing-offers s u k out (clockMessage m c t) = set-stays offersOf s u _ (noted-keeps offersOf _ _ (laneTaken k (laneAt s u)) refl)
-thing-offers s u k out (keyMessage m t) = set-stays offersOf s u _ (noted-keeps offersOf _ _ (laneTaken k (laneAt s u)) refl)
-thing-offers s u k out (envelope e) = set-stays offersOf s u _ refl
+in-flight-offers : (s : State) (u k : ℕ) (out : List ℕ) (x : InFlight) → SameOffers s (inFlightArriving s u k out x)
+unfolding inFlightArriving messageArriving envelopeArriving atOnu withLanes laneAnswered laneTaken laneArrivedDown laneWith
+in-flight-offers s u k out (clockMessage m c t) = set-stays offersOf s u _ (noted-keeps offersOf _ _ (laneTaken k (laneAt s u)) refl)
+in-flight-offers s u k out (keyMessage m t) = set-stays offersOf s u _ (noted-keeps offersOf _ _ (laneTaken k (laneAt s u)) refl)
+in-flight-offers s u k out (envelope e) = set-stays offersOf s u _ refl
 
 offers-step : (s : State) (e : Event) → Unoffering e → SameOffers s (step s e)
 unfolding step advancing clockSending answering arrivingUp atOltFor withLanes laneCaptured laneLeaving laneAcknowledged laneArrivedUp laneWith
 offers-step s (advance n) c v = refl
 offers-step s (capture llid) c v = at-olt-keeps offersOf s _ _ llid _ (λ l. refl) v
 offers-step s (clockSend llid) c v = at-olt-keeps offersOf s _ _ llid _ (λ l. refl) v
-offers-step s (arriveDown u k out) c v = thing-offers s u k out (thingAt s u k) v
+offers-step s (arriveDown u k out) c v = in-flight-offers s u k out (inFlightAt s u k) v
 offers-step s (arriveUp u k out) c v = set-stays offersOf s u _ refl v
 offers-step s (arriveAnswer u k llid) c v = at-olt-keeps offersOf s _ _ llid _ (λ l. refl) v
 offers-step s (register u x trip interval) c v = absurd c

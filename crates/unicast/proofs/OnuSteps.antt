@@ -33,9 +33,9 @@ use Rattle.traffic.specs.Receipts.{onuReceived, onuNotReceived, onuReceiveOf}
 use Rattle.traffic.specs.Sends.{onuSent, onuSendOf}
 use Rattle.traffic.specs.declared.OnuReceived.{OnuReceived}
 use Rattle.unicast.specs.Setting.{Setting}
-use Rattle.unicast.specs.History.{Thing, clockMessage, keyMessage, envelope, Entry, Lane, leftAt, laneWith, laneSentUp, laneTaken, laneAnswered, laneArrivedDown}
+use Rattle.unicast.specs.History.{InFlight, clockMessage, keyMessage, envelope, Entry, Lane, leftAt, laneWith, laneSentUp, laneTaken, laneAnswered, laneArrivedDown}
 use Rattle.unicast.specs.Events.{sendUp, arriveDown, overhear, strayClock, strayKey, strayDown}
-use Rattle.unicast.specs.Run.{State, noSite, freshLane, laneAt, onuAt, accepted, noted, withLanes, atOnu, sendingUp, messageArriving, receiptDown, envelopeArriving, thingArriving, noEnvelope, thingAt, unitAfter, step}
+use Rattle.unicast.specs.Run.{State, noSite, freshLane, laneAt, onuAt, accepted, noted, withLanes, atOnu, sendingUp, messageArriving, receiptDown, envelopeArriving, inFlightArriving, noEnvelope, inFlightAt, unitAfter, step}
 use Rattle.unicast.specs.Premises.{FittingBuffer, DueDown, Fits}
 use Rattle.unicast.proofs.Invariant.{Joined, Common, Standing, LaneRight, AtTick, Invariant}
 use Rattle.unicast.proofs.Alive.{Alive, registered-alive, towards-alive}
@@ -216,22 +216,22 @@ module _ (w : Setting) (s : State) (u k : ℕ) (out : List ℕ) (v : Invariant w
       alive-right w s u v (r .onu) (laneTaken k) place refl refl (common-moved w (s .history .now) (laneAt s u) _ (r .onu) refl refl c)
       (rw (same .0) (same .1)))
 
-  thing-right : (x : Thing) → thingAt s u k ≡ x → leftAt x + laneAt s u .path .down ≡ s .history .now → FittingBuffer x out
-      → Invariant w (thingArriving s u k out x)
-  unfolding thingArriving envelopeArriving receiptDown laneArrivedDown laneTaken laneWith
-  thing-right (clockMessage m c t) e due b =
+  in-flight-right : (x : InFlight) → inFlightAt s u k ≡ x → leftAt x + laneAt s u .path .down ≡ s .history .now → FittingBuffer x out
+      → Invariant w (inFlightArriving s u k out x)
+  unfolding inFlightArriving envelopeArriving receiptDown laneArrivedDown laneTaken laneWith
+  in-flight-right (clockMessage m c t) e due b =
       let r = place in
       let arrives =
       clock-arrives w (s .olt .shared) (s .history .now) (laneAt s u) (unitAt (s .olt) (laneAt s u .entry .place)) (onuAt s u) k (envelope noEnvelope)
       m c t (r .common) (r .joined) (d .some) e due in
       message-right (clockMessageAt (onuAt s u) m) (common-clock-keeps w (s .history .now) (laneAt s u) (onuAt s u) m (r .common)) (arrives .0) (arrives .1)
-  thing-right (keyMessage m t) e due b =
+  in-flight-right (keyMessage m t) e due b =
       let r = place in
       let arrives =
       key-arrives w (s .olt .shared) (s .history .now) (laneAt s u) (unitAt (s .olt) (laneAt s u .entry .place)) (onuAt s u) k (envelope noEnvelope)
       m t (r .common) (r .joined) (d .some) e in
       message-right (keyMessageAt (onuAt s u) m) (key-common w (s .history .now) (laneAt s u) (onuAt s u) m (r .common)) (arrives .0) (arrives .1)
-  thing-right (envelope x) e due b =
+  in-flight-right (envelope x) e due b =
       let r = place in
       alive-right w s u v _ (λ l. laneArrivedDown (receiptDown s u x out) (laneTaken k l)) r refl refl
       (receive-common w (s .history .now) (laneAt s u) _ (onuAt s u) (x .header) (x .octets) out refl refl (r .common))
@@ -241,7 +241,7 @@ module _ (w : Setting) (s : State) (u k : ℕ) (out : List ℕ) (v : Invariant w
 pub arrive-down-right : (w : Setting) (s : State) (u k : ℕ) (out : List ℕ) → Invariant w s → Fits w s (arriveDown u k out)
     → Invariant w (step s (arriveDown u k out))
 unfolding step
-arrive-down-right w s u k out v d = thing-right w s u k out v d (thingAt s u k) refl (d .now) (d .buffer)
+arrive-down-right w s u k out v d = in-flight-right w s u k out v d (inFlightAt s u k) refl (d .now) (d .buffer)
 
 ---- what is overheard
 

@@ -34,8 +34,8 @@ pub record Ready (w : Setting) (u llid : ℕ) (key : List ℕ) (c tick last most
   pub new : NewKey s key
   pub reach : s .history .now + laneAt s u .path .up ≤ tick
   pub free : freeFrom (s .olt .shared .channels) 0x00 ≤ tick
-  pub each : (e : Envelope) → List·Memᴰ e (laneAt s u .past .sent) → e .way ≡ upward → (e .left ≤ last) × (e .up ≤ most)
-  pub lows : (e : Envelope) → List·Memᴰ e (laneAt s u .past .sent) → e .way ≡ upward → least ≤ e .up
+  pub each : (e : Envelope) → List·Memᴰ e (laneAt s u .past .sent) → e .direction ≡ upward → (e .left ≤ last) × (e .up ≤ most)
+  pub lows : (e : Envelope) → List·Memᴰ e (laneAt s u .past .sent) → e .direction ≡ upward → least ≤ e .up
   pub channel : last + longest ≤ tick
   pub guard : last + most + longest ≤ tick + laneAt s u .path .up
   pub recent : (laneAt s u .keys .switches ≡ c)
@@ -73,8 +73,8 @@ moved-up w u llid c s most stay move = by-number (ltb c (laneAt s u .keys .numbe
 
 -- what is asked of the unit's envelopes at that tick
 pub record Free (l : Lane) (now last most least : ℕ) : Type 0 where
-  pub each : (e : Envelope) → List·Memᴰ e (l .past .sent) → e .way ≡ upward → (e .left ≤ last) × (e .up ≤ most)
-  pub lows : (e : Envelope) → List·Memᴰ e (l .past .sent) → e .way ≡ upward → least ≤ e .up
+  pub each : (e : Envelope) → List·Memᴰ e (l .past .sent) → e .direction ≡ upward → (e .left ≤ last) × (e .up ≤ most)
+  pub lows : (e : Envelope) → List·Memᴰ e (l .past .sent) → e .direction ≡ upward → least ≤ e .up
   pub channel : last + longest ≤ now
   pub guard : last + most + longest ≤ now + l .path .up
 

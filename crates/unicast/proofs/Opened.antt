@@ -31,7 +31,7 @@ use Rattle.traffic.specs.Receipts.{oltReceived, oltReceiveOf, onuReceived, onuR
 use Rattle.traffic.specs.Sends.{oltSent, oltSendOf, onuSent, onuSendOf}
 use Rattle.unicast.specs.Example.{keyFrom, eqFrom, payloadFrom, blank, firstKeyA, secondUnit, secondKeyA, secondKeyB}
 use Rattle.unicast.specs.History.{due, switching, numberDown, laneWith, laneRegistered, laneCaptured, leaving, laneLeaving, laneOffered, laneAcknowledged, sending, laneSentDown, laneSentUp, laneTaken, laneAnswered, arriving, laneArrivedDown, laneArrivedUp, leavesAgain, keyAnswers, clockAnswered, laneMoved}
-use Rattle.unicast.specs.Run.{freshLane, freshOnu, start, noted, named, withLanes, atOlt, atOnu, atOltFor, advancing, entering, clockSending, offering, retrying, envelopeDown, sendingDown, envelopeUp, sendingUp, messageArriving, receiptDown, envelopeArriving, thingArriving, noEnvelope, receiptUp, arrivingUp, answering, changing, unitAfter, oltAfter, step, run}
+use Rattle.unicast.specs.Run.{freshLane, freshOnu, start, noted, named, withLanes, atOlt, atOnu, atOltFor, advancing, entering, clockSending, offering, retrying, envelopeDown, sendingDown, envelopeUp, sendingUp, messageArriving, receiptDown, envelopeArriving, inFlightArriving, noEnvelope, receiptUp, arrivingUp, answering, changing, unitAfter, oltAfter, step, run}
 
 unfoldable pub opened : Unit {0}
 unfolding
@@ -70,6 +70,6 @@ unfolding
     due switching numberDown laneWith laneRegistered laneCaptured leaving laneLeaving laneOffered laneAcknowledged sending laneSentDown laneSentUp
     laneTaken laneAnswered arriving laneArrivedDown laneArrivedUp leavesAgain keyAnswers clockAnswered laneMoved
     freshLane freshOnu start noted named withLanes atOlt atOnu atOltFor advancing entering clockSending offering retrying envelopeDown sendingDown
-    envelopeUp sendingUp messageArriving receiptDown envelopeArriving thingArriving noEnvelope receiptUp arrivingUp answering changing unitAfter oltAfter step
+    envelopeUp sendingUp messageArriving receiptDown envelopeArriving inFlightArriving noEnvelope receiptUp arrivingUp answering changing unitAfter oltAfter step
     run
 opened = tt

@@ -25,7 +25,7 @@ use Rattle.traffic.specs.Passages.{misfit}
 use Rattle.traffic.specs.Receipts.{onuNotReceived}
 use Rattle.traffic.proofs.Receipts.{onu-receive-refused}
 use Rattle.unicast.specs.Setting.{Setting}
-use Rattle.unicast.specs.History.{Way, downward, upward, Envelope, Lane}
+use Rattle.unicast.specs.History.{Direction, downward, upward, Envelope, Lane}
 use Rattle.unicast.specs.Run.{State, laneAt, onuAt, noEnvelope, sentAt, overhearing}
 use Rattle.unicast.specs.Premises.{Overhears}
 use Rattle.unicast.specs.Claim.{SentRight, overheardFor}
@@ -35,30 +35,30 @@ use Rattle.unicast.proofs.Alive.{registered-alive, sent-alive, llid-apa
 -- what another lane sent, either way, where the unit does not have its LLID
 overheard-verdict : (w : Setting) (sh : Shared) (now : ℕ) (l : Lane) (u : UnitRecord) (other o : Onu) (e : Envelope) (out : List ℕ)
     → Joined w sh now l u other → List·Memᴰ e (l .past .sent) → has (o .identity) (e .llid) ≡ false
-    → onuReceiveVerdict o (misfit (e .octets) out) (e .header) ≡ Refused (overheardFor (misfit (e .octets) out) (e .way))
+    → onuReceiveVerdict o (misfit (e .octets) out) (e .header) ≡ Refused (overheardFor (misfit (e .octets) out) (e .direction))
 unfolding envelopeHeader refuseIf
-overheard-verdict w sh now l u other o e out j m strange = by-way (e .way) refl ∙ by-buffer (misfit (e .octets) out) (e .way) where
+overheard-verdict w sh now l u other o e out j m strange = by-direction (e .direction) refl ∙ by-buffer (misfit (e .octets) out) (e .direction) where
   right : SentRight w l e
   right = j .passing .sent e m
 
-  by-way : (x : Way) → e .way ≡ x
-      → onuReceiveVerdict o (misfit (e .octets) out) (e .header) ≡ refuseIf (misfit (e .octets) out) BadLength (Refused (overheardFor false (e .way)))
-  by-way downward q =
+  by-direction : (x : Direction) → e .direction ≡ x
+      → onuReceiveVerdict o (misfit (e .octets) out) (e .header) ≡ refuseIf (misfit (e .octets) out) BadLength (Refused (overheardFor false (e .direction)))
+  by-direction downward q =
       rw q
       (overheard-down o _ (e .header) (ap (λ (h : Header). downstream (h .channel)) (right .header) ∙ j .spending .downs e m q .0)
       (ap validHeader (right .header) ∙ header-valid (e .number) (e .channel) (e .llid) _)
       (ap (λ (h : Header). has (o .identity) (h .llid)) (right .header) ∙ strange))
-  by-way upward q =
+  by-direction upward q =
       rw q (overheard-up o _ (e .header) (ap (λ (h : Header). upstream (h .channel)) (right .header) ∙ j .spending .ups e m q .0))
 
-  by-buffer : (t : Bool) (x : Way) → refuseIf t BadLength (Refused (overheardFor false x)) ≡ Refused (overheardFor t x)
+  by-buffer : (t : Bool) (x : Direction) → refuseIf t BadLength (Refused (overheardFor false x)) ≡ Refused (overheardFor t x)
   by-buffer true x = refl
   by-buffer false x = refl
 
 -- no LLID of another registered unit is the unit's
 pub overheard-refused : (w : Setting) (s : State) → Invariant w s → (u other k : ℕ) (out : List ℕ) → Overhears s u other k
     → overhearing s u other k out
-    ≡ withOutput (onuNotReceived (onuAt s u) (overheardFor (misfit (sentAt s other k .octets) out) (sentAt s other k .way))) out
+    ≡ withOutput (onuNotReceived (onuAt s u) (overheardFor (misfit (sentAt s other k .octets) out) (sentAt s other k .direction))) out
 overheard-refused w s v u other k out h =
     let r = registered-alive w s u v (h .registered) in
     let e = sentAt s other k in

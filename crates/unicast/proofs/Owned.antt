@@ -11,10 +11,10 @@ use Rattle.octets.proofs.Choice.{pick-holds}
 use Rattle.octets.proofs.Maps.{map-fixed}
 use Rattle.ends.specs.declared.Olt.{Olt}
 use Rattle.unicast.specs.Setting.{Site}
-use Rattle.unicast.specs.History.{Thing, clockMessage, keyMessage, envelope, Entry, Lane, laneWith, laneCaptured, laneLeaving, laneOffered, laneAcknowledged, laneSentDown, laneSentUp, laneTaken, laneAnswered, laneArrivedDown, laneArrivedUp, isSynced}
+use Rattle.unicast.specs.History.{InFlight, clockMessage, keyMessage, envelope, Entry, Lane, laneWith, laneCaptured, laneLeaving, laneOffered, laneAcknowledged, laneSentDown, laneSentUp, laneTaken, laneAnswered, laneArrivedDown, laneArrivedUp, isSynced}
 use Rattle.unicast.specs.Events.{Event, advance, register, capture, clockSend, offer, retry, sendDown, sendUp, arriveDown, arriveUp, arriveAnswer, overhear, changePath, measure, newTime, strayClock, strayKey, strayAnswer, strayDown, strayUp}
-use Rattle.unicast.specs.Run.{State, laneAt, noSite, freshLane, accepted, noted, named, withLanes, atOlt, atOnu, atOltFor, advancing, clockSending, offering, retrying, sendingDown, sendingUp, answering, messageArriving, envelopeArriving, thingArriving, thingAt, arrivingUp, step, run}
-use Rattle.unicast.specs.Progress.{confirmedBy, inFlight, dueDown, dueUp, awaited, nextDown, nextUp, nextBy, next, drained, andThen, waited, answeredRound, clockRound, keyRound, interval, downRound, upRound, keyed, moved, rounds, onwards, recipe}
+use Rattle.unicast.specs.Run.{State, laneAt, noSite, freshLane, accepted, noted, named, withLanes, atOlt, atOnu, atOltFor, advancing, clockSending, offering, retrying, sendingDown, sendingUp, answering, messageArriving, envelopeArriving, inFlightArriving, inFlightAt, arrivingUp, step, run}
+use Rattle.unicast.specs.Progress.{confirmedBy, awaitedCount, dueDown, dueUp, awaited, nextDown, nextUp, nextBy, next, drained, andThen, waited, answeredRound, clockRound, keyRound, interval, downRound, upRound, keyed, moved, rounds, onwards, recipe}
 use Rattle.unicast.proofs.LiftSteps.{named-stays}
 
 abbrev pub Owned : ℕ → ℕ → List ℕ → Event → Type 0
@@ -109,7 +109,7 @@ owns-drained u llid key (suc n) s = owns-append u llid key (next s u) _ (owns-ne
 pub owns-recipe : (u llid : ℕ) (key : List ℕ) (s : State) → Owns u llid key (recipe u llid key s)
 unfolding recipe onwards
 owns-recipe u llid key s =
-    owns-then u llid key (λ t. drained (inFlight (laneAt s u) (s .history .now)) t u) _ s (owns-drained u llid key (inFlight (laneAt s u) (s .history .now)) s)
+    owns-then u llid key (λ t. drained (awaitedCount (laneAt s u) (s .history .now)) t u) _ s (owns-drained u llid key (awaitedCount (laneAt s u) (s .history .now)) s)
     (λ t.
     pick-holds (λ (es : List Event). Owns u llid key es) (ltb (confirmedBy (laneAt s u)) (confirmedBy (laneAt t u))) []
     (rounds u llid key (confirmedBy (laneAt s u)) _ t) (λ e. tt) (λ e. owns-rounds u llid key (confirmedBy (laneAt s u)) _ t))
@@ -149,11 +149,11 @@ unfoldable steps : Unit {0}
 unfolding step advancing clockSending offering retrying sendingDown sendingUp answering arrivingUp atOnu atOltFor withLanes
 steps = tt
 
-thing-whose : (s : State) (u k : ℕ) (out : List ℕ) (x : Thing) (v : ℕ) → whose (laneAt (thingArriving s u k out x) v) ≡ whose (laneAt s v)
-unfolding thingArriving messageArriving envelopeArriving atOnu withLanes lanes
-thing-whose s u k out (clockMessage m c t) v = set-stays whose s u _ (noted-keeps whose _ _ (laneTaken k (laneAt s u)) refl) v
-thing-whose s u k out (keyMessage m t) v = set-stays whose s u _ (noted-keeps whose _ _ (laneTaken k (laneAt s u)) refl) v
-thing-whose s u k out (envelope e) v = set-stays whose s u _ refl v
+in-flight-whose : (s : State) (u k : ℕ) (out : List ℕ) (x : InFlight) (v : ℕ) → whose (laneAt (inFlightArriving s u k out x) v) ≡ whose (laneAt s v)
+unfolding inFlightArriving messageArriving envelopeArriving atOnu withLanes lanes
+in-flight-whose s u k out (clockMessage m c t) v = set-stays whose s u _ (noted-keeps whose _ _ (laneTaken k (laneAt s u)) refl) v
+in-flight-whose s u k out (keyMessage m t) v = set-stays whose s u _ (noted-keeps whose _ _ (laneTaken k (laneAt s u)) refl) v
+in-flight-whose s u k out (envelope e) v = set-stays whose s u _ refl v
 
 pub whose-stays : (u llid : ℕ) (key : List ℕ) (s : State) (e : Event) → Owned u llid key e → (v : ℕ) → whose (laneAt (step s e) v) ≡ whose (laneAt s v)
 unfolding steps lanes
@@ -164,7 +164,7 @@ whose-stays u llid key s (offer x other) o v = at-olt-keeps whose s _ _ x _ (λ 
 whose-stays u llid key s (retry x) o v = at-olt-keeps whose s _ _ x _ (λ l. refl) v
 whose-stays u llid key s (sendDown x channel p out) o v = at-olt-keeps whose s _ _ x _ (λ l. refl) v
 whose-stays u llid key s (sendUp y x channel p out) o v = set-stays whose s y _ (noted-keeps whose _ _ (laneAt s y) refl) v
-whose-stays u llid key s (arriveDown y k out) o v = thing-whose s y k out (thingAt s y k) v
+whose-stays u llid key s (arriveDown y k out) o v = in-flight-whose s y k out (inFlightAt s y k) v
 whose-stays u llid key s (arriveUp y k out) o v = set-stays whose s y _ refl v
 whose-stays u llid key s (arriveAnswer y k x) o v = at-olt-keeps whose s _ _ x _ (λ l. refl) v
 whose-stays u llid key s (register y x trip interval) o v = absurd o

@@ -12,7 +12,7 @@ use Rattle.clock.specs.declared.Stamps.{Stamps}
 use Rattle.envelope.specs.Channels.{onZero}
 use Rattle.ends.specs.Occupancy.{freeFrom, occupied}
 use Rattle.ends.specs.declared.Channels.{Channels}
-use Rattle.unicast.specs.History.{Way, Envelope, Thing, clockMessage, leftAt, Arrival, Transit, leaving}
+use Rattle.unicast.specs.History.{Direction, Envelope, InFlight, clockMessage, leftAt, Arrival, Transit, leaving}
 use Rattle.unicast.specs.Progress.{goes, highest}
 use Rattle.unicast.proofs.Invariant.{Asked, Rising, InOrder}
 
@@ -45,7 +45,7 @@ order-later now n t o =
       from = rising-later 0 now (now + n) (map (λ (e : Envelope). e .left) (t .from)) (omega arith) (o .from);
     }
 
-pub order-leaving : (now : ℕ) (t : Transit) (x : Thing) → leftAt x ≡ now → InOrder now t → InOrder now (leaving t x)
+pub order-leaving : (now : ℕ) (t : Transit) (x : InFlight) → leftAt x ≡ now → InOrder now t → InOrder now (leaving t x)
 unfolding leaving
 order-leaving now t x e o = record { towards = rising-more leftAt 0 now (t .towards) x e (o .towards); from = o .from }
 
@@ -53,12 +53,12 @@ pub asked-later : (now n sent : ℕ) (t : Transit) → Asked now sent t → Aske
 asked-later now n sent t a =
     record { under = a .under; answered = λ x m. let was = a .answered x m in (was .0, omega (arith, was .1)) }
 
-pub asked-leaving : (now sent : ℕ) (t : Transit) (x : Thing) → ((m : Stamps) (c left : ℕ) → x ≡ clockMessage m c left → sent ≡ 1)
+pub asked-leaving : (now sent : ℕ) (t : Transit) (x : InFlight) → ((m : Stamps) (c left : ℕ) → x ≡ clockMessage m c left → sent ≡ 1)
     → Asked now sent t → Asked now sent (leaving t x)
 unfolding leaving
 asked-leaving now sent t x new a =
     record {
-      under = each-more (λ (y : Thing). (m : Stamps) (c left : ℕ) → y ≡ clockMessage m c left → sent ≡ 1) (t .towards) x (a .under) new;
+      under = each-more (λ (y : InFlight). (m : Stamps) (c left : ℕ) → y ≡ clockMessage m c left → sent ≡ 1) (t .towards) x (a .under) new;
       answered = a .answered;
     }
 
@@ -77,11 +77,11 @@ occupied-free c channel k tick eqs bound new old = by-channel (onZero k) (onZero
 
 ---- the highest number that arrived up
 
-pub highest-other : (way : Way) (rs : List Arrival) (r : Arrival) → goes way (r .envelope .way) ≡ false
-    → highest way (rs ++ (r ∷ [])) ≡ highest way rs
+pub highest-other : (direction : Direction) (rs : List Arrival) (r : Arrival) → goes direction (r .envelope .direction) ≡ false
+    → highest direction (rs ++ (r ∷ [])) ≡ highest direction rs
 unfolding highest pick
-highest-other way [] r e = rw e
-highest-other way (y ∷ ys) r e = rw (highest-other way ys r e)
+highest-other direction [] r e = rw e
+highest-other direction (y ∷ ys) r e = rw (highest-other direction ys r e)
 
 higher : (t : Bool) (n most high : ℕ) → pick t (max n high) high ≤ most → high ≤ most
 unfolding pick
@@ -93,11 +93,11 @@ unfolding pick
 at-most true n most high h = max-eq-right (omega (arith, h, le-max-left n high))
 at-most false n most high h = refl
 
-pub highest-own : (way : Way) (rs : List Arrival) (r : Arrival) → goes way (r .envelope .way) ≡ true → highest way rs ≤ r .envelope .number
-    → highest way (rs ++ (r ∷ [])) ≡ r .envelope .number
+pub highest-own : (direction : Direction) (rs : List Arrival) (r : Arrival) → goes direction (r .envelope .direction) ≡ true → highest direction rs ≤ r .envelope .number
+    → highest direction (rs ++ (r ∷ [])) ≡ r .envelope .number
 unfolding highest pick
-highest-own way [] r e h = rw e (max-zero (r .envelope .number))
-highest-own way (y ∷ ys) r e h =
-    let t = goes way (y .envelope .way) in
-    let high = highest way ys in
-    rw (highest-own way ys r e (higher t (y .envelope .number) (r .envelope .number) high h)) (at-most t (y .envelope .number) (r .envelope .number) high h)
+highest-own direction [] r e h = rw e (max-zero (r .envelope .number))
+highest-own direction (y ∷ ys) r e h =
+    let t = goes direction (y .envelope .direction) in
+    let high = highest direction ys in
+    rw (highest-own direction ys r e (higher t (y .envelope .number) (r .envelope .number) high h)) (at-most t (y .envelope .number) (r .envelope .number) high h)

@@ -18,7 +18,7 @@ use Rattle.ends.specs.declared.Onu.{Onu}
 use Rattle.protocol.specs.declared.Passage.{Passage}
 use Rattle.ends.specs.declared.UnitRecord.{UnitRecord}
 use Rattle.unicast.specs.Setting.{Site, Setting}
-use Rattle.unicast.specs.History.{Way, downward, upward, Envelope, Arrival, Past, Lane, keyOf}
+use Rattle.unicast.specs.History.{Direction, downward, upward, Envelope, Arrival, Past, Lane, keyOf}
 use Rattle.unicast.specs.Claim.{nonceFor, isSealed, PassageRight, SentRight, ArrivedRight}
 use Rattle.unicast.proofs.Invariant.{Spending, Passing}
 use Rattle.unicast.proofs.Queues.{Knows}
@@ -82,10 +82,10 @@ module _ (w : Setting) (l l' : Lane) (top : ℕ) (k : Knows l l' top) where
 -- no send is numbered above A
 pub sent-most : (l : Lane) (down : Channels) (u : UnitRecord) (o : Onu) → Spending l down u o → o .keys .active ≤ u .keys .active → (e : Envelope)
     → List·Memᴰ e (l .past .sent) → e .number ≤ u .keys .active
-sent-most l down u o s h e m = by-way (e .way) refl where
-  by-way : (x : Way) → e .way ≡ x → e .number ≤ u .keys .active
-  by-way downward f = s .downs e m f .1 .most
-  by-way upward f = omega (arith, s .ups e m f .1 .most)
+sent-most l down u o s h e m = by-direction (e .direction) refl where
+  by-direction : (x : Direction) → e .direction ≡ x → e .number ≤ u .keys .active
+  by-direction downward f = s .downs e m f .1 .most
+  by-direction upward f = omega (arith, s .ups e m f .1 .most)
 
 ---- one more
 
@@ -113,7 +113,7 @@ passing-sent w l m e confirmed active k t a right named fits p =
 -- one arrival more
 pub passing-arrived : (w : Setting) (l m : Lane) (r : Arrival) (confirmed confirmed' active active' : ℕ) → ((top : ℕ) → Knows l m top)
     → m .past .sent ≡ l .past .sent → m .past .arrived ≡ l .past .arrived ++ (r ∷ []) → confirmed ≤ confirmed' → active ≤ active'
-    → ArrivedRight w l r → (r .envelope .way ≡ downward → r .envelope .number ≤ active') → (r .envelope .way ≡ upward → r .envelope .number ≤ confirmed')
+    → ArrivedRight w l r → (r .envelope .direction ≡ downward → r .envelope .number ≤ active') → (r .envelope .direction ≡ upward → r .envelope .number ≤ confirmed')
     → Passing w l confirmed active → Passing w m confirmed' active'
 passing-arrived w l m r confirmed confirmed' active active' k s t c a right down up p =
     record {
@@ -123,10 +123,10 @@ passing-arrived w l m r confirmed confirmed' active active' k s t c a right down
       arrived = λ x h.
           each-more (ArrivedRight w m) (l .past .arrived) r (λ y g. carry y (p .arrived y g)) (carry r right) x (rw t at h);
       down = λ x h.
-          each-more (λ (y : Arrival). y .envelope .way ≡ downward → y .envelope .number ≤ active') (l .past .arrived) r
+          each-more (λ (y : Arrival). y .envelope .direction ≡ downward → y .envelope .number ≤ active') (l .past .arrived) r
           (λ y g q. let was = p .down y g q in omega (arith, was)) down x (rw t at h);
       up = λ x h.
-          each-more (λ (y : Arrival). y .envelope .way ≡ upward → y .envelope .number ≤ confirmed') (l .past .arrived) r
+          each-more (λ (y : Arrival). y .envelope .direction ≡ upward → y .envelope .number ≤ confirmed') (l .past .arrived) r
           (λ y g q. let was = p .up y g q in omega (arith, was)) up x (rw t at h);
     } where
       carry : (y : Arrival) → ArrivedRight w l y → ArrivedRight w m y

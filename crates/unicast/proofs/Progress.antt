@@ -21,7 +21,7 @@ use Rattle.unicast.specs.History.{downward, upward, Envelope, leftAt, En
 use Rattle.unicast.specs.Events.{Event, capture, clockSend}
 use Rattle.unicast.specs.Run.{State, start, run, laneAt}
 use Rattle.unicast.specs.Progress as spec
-use Rattle.unicast.specs.Progress.{confirmedBy, tripOf, mostUp, leastUp, spread, longest, waitOf, clockRoundOf, limitOf, inFlight, nextDown, nextUp, nextBy, next, drained, andThen, waited, answeredRound, clockRound, keyRound, interval, downRound, upRound, keyed, moved, rounds, onwards, recipe, Moving, maxEvents, Brings}
+use Rattle.unicast.specs.Progress.{confirmedBy, tripOf, mostUp, leastUp, spread, longest, waitOf, clockRoundOf, limitOf, awaitedCount, nextDown, nextUp, nextBy, next, drained, andThen, waited, answeredRound, clockRound, keyRound, interval, downRound, upRound, keyed, moved, rounds, onwards, recipe, Moving, maxEvents, Brings}
 use Rattle.unicast.proofs.Invariant.{Rising, Invariant}
 use Rattle.unicast.proofs.StartSteps.{start-right}
 use Rattle.unicast.proofs.Theorem.{run-right}
@@ -214,10 +214,10 @@ module _ (w : Setting) (s : State) (u llid : ℕ) (key : List ℕ) (v : Invarian
         from = λ e i. rising-each (λ (y : Envelope). y .left) 0 now (l .transit .from) e (o .from) i;
       }
 
-  drainage : Drainage w u llid (inFlight l now) s (drained (inFlight l now) s u) (now + tripOf l)
-  drainage = drained-drains w u llid (inFlight l now) s here now left (omega (arith, m .inRange)) (omega arith)
+  drainage : Drainage w u llid (awaitedCount l now) s (drained (awaitedCount l now) s u) (now + tripOf l)
+  drainage = drained-drains w u llid (awaitedCount l now) s here now left (omega (arith, m .inRange)) (omega arith)
 
-  drains : Drains w u llid s (drained (inFlight l now) s u) (now + tripOf l)
+  drains : Drains w u llid s (drained (awaitedCount l now) s u) (now + tripOf l)
   drains = drainage .drains
 
   abbrev tick : ℕ
@@ -227,7 +227,7 @@ module _ (w : Setting) (s : State) (u llid : ℕ) (key : List ℕ) (v : Invarian
   end = now + limitOf l
 
   -- the state once nothing is under way is t
-  from-drained : (t : State) → t ≡ run s (drained (inFlight l now) s u) → Arrived w u llid (c + 1) t (onwards u llid key c tick t) end
+  from-drained : (t : State) → t ≡ run s (drained (awaitedCount l now) s u) → Arrived w u llid (c + 1) t (onwards u llid key c tick t) end
   unfolding onwards pick run
   from-drained t is = by-confirmed (ltb c (confirmedBy (laneAt t u))) refl where
     here1 : Here w u llid t
@@ -268,7 +268,7 @@ module _ (w : Setting) (s : State) (u llid : ℕ) (key : List ℕ) (v : Invarian
         let j = alive w u llid s here .joined in
         let up : laneAt t u .path .up ≡ l .path .up = ap (λ (p : Delays). p .up) (d .path) in
         let trip : tripOf (laneAt t u) ≡ tripOf l = ap (λ (p : Delays). p .up + p .down) (d .path) in
-        let steady = calm-run w s (drained (inFlight l now) s u) (l .entry .place) v (drains .meets) (alive w u llid s here .used) (drains .calm) in
+        let steady = calm-run w s (drained (awaitedCount l now) s u) (l .entry .place) v (drains .meets) (alive w u llid s here .used) (drains .calm) in
         let channels : t .olt .shared .channels ≡ s .olt .shared .channels = rw is (steady .channels) in
         let wide = most-path (l .path .up) (l .past .sent) in
         let narrow = least-path (l .path .up) (l .past .sent) in
@@ -277,7 +277,7 @@ module _ (w : Setting) (s : State) (u llid : ℕ) (key : List ℕ) (v : Invarian
           here = here1;
           confirmed = omega (arith, few, d .grows);
           below = m .below;
-          new = rw is (new-after s (drained (inFlight l now) s u) key (drains .quiet) (m .new));
+          new = rw is (new-after s (drained (awaitedCount l now) s u) key (drains .quiet) (m .new));
           reach = omega (arith, soon, up, trip-most);
           free = rw channels (let was = v .shared .free 0x00 in omega (arith, was));
           each = λ e i q.
@@ -309,19 +309,19 @@ module _ (w : Setting) (s : State) (u llid : ℕ) (key : List ℕ) (v : Invarian
   arrives : Arrived w u llid (c + 1) s (recipe u llid key s) end
   unfolding recipe andThen
   arrives =
-      arrived-append w u llid (c + 1) s (drained (inFlight l now) s u) (onwards u llid key c tick (run s (drained (inFlight l now) s u))) end
+      arrived-append w u llid (c + 1) s (drained (awaitedCount l now) s u) (onwards u llid key c tick (run s (drained (awaitedCount l now) s u))) end
       (drains .meets) (drains .whole)
-      (from-drained (run s (drained (inFlight l now) s u)) refl)
+      (from-drained (run s (drained (awaitedCount l now) s u)) refl)
 
-  recipe-short : length (recipe u llid key s) ≤ maxEvents + 2 * inFlight l now
+  recipe-short : length (recipe u llid key s) ≤ maxEvents + 2 * awaitedCount l now
   unfolding recipe andThen
   recipe-short =
-      let first = drained-short (inFlight l now) s u in
-      let t = run s (drained (inFlight l now) s u) in
+      let first = drained-short (awaitedCount l now) s u in
+      let t = run s (drained (awaitedCount l now) s u) in
       let rest = onwards-short u llid key c tick t in
-      omega (arith, first, rest, length-append (drained (inFlight l now) s u) (onwards u llid key c tick t))
+      omega (arith, first, rest, length-append (drained (awaitedCount l now) s u) (onwards u llid key c tick t))
 
-  pub brings : Brings w s u (c + 1) (limitOf l) (maxEvents + 2 * inFlight l now) (recipe u llid key s)
+  pub brings : Brings w s u (c + 1) (limitOf l) (maxEvents + 2 * awaitedCount l now) (recipe u llid key s)
   brings =
       let a = arrives in
       record {

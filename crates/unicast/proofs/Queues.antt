@@ -10,7 +10,7 @@ use lib.ListN.{length, getD, drop}
 use Rattle.protocol.specs.declared.KeyMessage.{KeyMessage}
 use Rattle.clock.specs.declared.Stamps.{Stamps}
 use Rattle.unicast.specs.Setting.{Delays}
-use Rattle.unicast.specs.History.{Way, downward, upward, Envelope, Thing, clockMessage, keyMessage, envelope, Lane, keyOf}
+use Rattle.unicast.specs.History.{Direction, downward, upward, Envelope, InFlight, clockMessage, keyMessage, envelope, Lane, keyOf}
 use Rattle.unicast.proofs.Invariant.{ClockRight, KeyRight, Under, Towards, From}
 
 -- a lane of the same site that knows the sends and the keys up to top of another
@@ -21,9 +21,9 @@ pub record Knows (l l' : Lane) (top : ℕ) : Type 0 where
 
 ---- one thing
 
-under-carried : (l l' : Lane) (top lo lo' hi hi' : ℕ) (way : Way) (e : Envelope) → Knows l l' top → lo' ≤ lo → hi ≤ hi'
-    → Under (l .site .identity) (l .past .sent) way lo hi e → Under (l' .site .identity) (l' .past .sent) way lo' hi' e
-under-carried l l' top lo lo' hi hi' way e k h g u =
+under-carried : (l l' : Lane) (top lo lo' hi hi' : ℕ) (direction : Direction) (e : Envelope) → Knows l l' top → lo' ≤ lo → hi ≤ hi'
+    → Under (l .site .identity) (l .past .sent) direction lo hi e → Under (l' .site .identity) (l' .past .sent) direction lo' hi' e
+under-carried l l' top lo lo' hi hi' direction e k h g u =
     record {
       above = omega (arith, u .above);
       most = omega (arith, u .most);
@@ -55,7 +55,7 @@ dropped-among x (y ∷ xs) zero m = m
 dropped-among x (y ∷ xs) (suc k) m = List·Memᴰ·tail (dropped-among x xs k m)
 
 -- one thing more
-pub sealed-more : (synced : ℕ) (xs : List Thing) (x : Thing) → ((e : Envelope) → List·Memᴰ (envelope e) xs → 1 ≤ e .number → synced ≡ 1)
+pub sealed-more : (synced : ℕ) (xs : List InFlight) (x : InFlight) → ((e : Envelope) → List·Memᴰ (envelope e) xs → 1 ≤ e .number → synced ≡ 1)
     → ((e : Envelope) → x ≡ envelope e → 1 ≤ e .number → synced ≡ 1) → (e : Envelope) → List·Memᴰ (envelope e) (xs ++ (x ∷ [])) → 1 ≤ e .number
     → synced ≡ 1
 sealed-more synced xs x old new e m =
@@ -64,7 +64,7 @@ sealed-more synced xs x old new e m =
 ---- towards a unit
 
 -- under wider bounds, for a lane that knows more
-pub towards-carried : (first : ℕ) (p : Delays) (l l' : Lane) (lo lo' hi hi' top top' : ℕ) (xs : List Thing) → Knows l l' top
+pub towards-carried : (first : ℕ) (p : Delays) (l l' : Lane) (lo lo' hi hi' top top' : ℕ) (xs : List InFlight) → Knows l l' top
     → lo' ≤ lo → hi ≤ hi' → top ≤ top' → Towards first p l lo hi top xs → Towards first p l' lo' hi' top' xs
 towards-carried first p l l' lo lo' hi hi' top top' [] k h g f q = tt
 towards-carried first p l l' lo lo' hi hi' top top' (clockMessage m c t ∷ xs) k h g f q =
@@ -76,18 +76,18 @@ towards-carried first p l l' lo lo' hi hi' top top' (envelope e ∷ xs) k h g f 
   towards-carried first p l l' (e .number) (e .number) hi hi' top top' xs k (omega arith) g f (q .1),
 )
 
-pub towards-weakened : (first : ℕ) (p : Delays) (l : Lane) (lo lo' hi hi' top top' : ℕ) (xs : List Thing)
+pub towards-weakened : (first : ℕ) (p : Delays) (l : Lane) (lo lo' hi hi' top top' : ℕ) (xs : List InFlight)
     → lo' ≤ lo → hi ≤ hi' → top ≤ top' → Towards first p l lo hi top xs → Towards first p l lo' hi' top' xs
 towards-weakened first p l lo lo' hi hi' top top' xs h g f q =
     towards-carried first p l l lo lo' hi hi' top top' xs (record { site = refl; sent = λ e m. m; keys = λ n p r. refl }) h g f q
 
-pub towards-moved : (first : ℕ) (p : Delays) (l l' : Lane) (lo hi top : ℕ) (xs : List Thing) → Knows l l' top
+pub towards-moved : (first : ℕ) (p : Delays) (l l' : Lane) (lo hi top : ℕ) (xs : List InFlight) → Knows l l' top
     → Towards first p l lo hi top xs → Towards first p l' lo hi top xs
 towards-moved first p l l' lo hi top xs k q =
     towards-carried first p l l' lo lo hi hi top top xs k (omega arith) (omega arith) (omega arith) q
 
 -- more at the end: right above every number that the queue can have
-towards-append : (first : ℕ) (p : Delays) (l : Lane) (lo hi top : ℕ) (xs ys : List Thing) → lo ≤ hi → Towards first p l lo hi top xs
+towards-append : (first : ℕ) (p : Delays) (l : Lane) (lo hi top : ℕ) (xs ys : List InFlight) → lo ≤ hi → Towards first p l lo hi top xs
     → ((low : ℕ) → low ≤ hi → Towards first p l low hi top ys) → Towards first p l lo hi top (xs ++ ys)
 towards-append first p l lo hi top [] ys h q r = r lo h
 towards-append first p l lo hi top (clockMessage m c t ∷ xs) ys h q r = (q .0, towards-append first p l lo hi top xs ys h (q .1) r)
@@ -95,19 +95,19 @@ towards-append first p l lo hi top (keyMessage m t ∷ xs) ys h q r = (q .0, tow
 towards-append first p l lo hi top (envelope e ∷ xs) ys h q r =
     (q .0, towards-append first p l (e .number) hi top xs ys (q .0 .most) (q .1) r)
 
-pub towards-clock : (first : ℕ) (p : Delays) (l : Lane) (lo hi top : ℕ) (xs : List Thing) (m : Stamps) (c t : ℕ) → lo ≤ hi
+pub towards-clock : (first : ℕ) (p : Delays) (l : Lane) (lo hi top : ℕ) (xs : List InFlight) (m : Stamps) (c t : ℕ) → lo ≤ hi
     → ClockRight first p m c t → Towards first p l lo hi top xs → Towards first p l lo hi top (xs ++ (clockMessage m c t ∷ []))
 towards-clock first p l lo hi top xs m c t h r q = towards-append first p l lo hi top xs (clockMessage m c t ∷ []) h q (λ low g. (r, tt))
 
 -- a key above hi
-pub towards-key : (first : ℕ) (p : Delays) (l : Lane) (lo hi top : ℕ) (xs : List Thing) (m : KeyMessage) (t : ℕ) → lo ≤ hi
+pub towards-key : (first : ℕ) (p : Delays) (l : Lane) (lo hi top : ℕ) (xs : List InFlight) (m : KeyMessage) (t : ℕ) → lo ≤ hi
     → KeyRight (l .keys) (l .site .identity) hi top m → Towards first p l lo hi top xs → Towards first p l lo hi top (xs ++ (keyMessage m t ∷ []))
 towards-key first p l lo hi top xs m t h r q =
     towards-append first p l lo hi top xs (keyMessage m t ∷ []) h q
     (λ low g. (record { above = omega (arith, r .above); most = r .most; key = r .key; named = r .named }, tt))
 
 -- an envelope numbered hi
-pub towards-envelope : (first : ℕ) (p : Delays) (l : Lane) (lo hi top : ℕ) (xs : List Thing) (e : Envelope) → lo ≤ hi
+pub towards-envelope : (first : ℕ) (p : Delays) (l : Lane) (lo hi top : ℕ) (xs : List InFlight) (e : Envelope) → lo ≤ hi
     → Under (l .site .identity) (l .past .sent) downward hi hi e → Towards first p l lo hi top xs
     → Towards first p l lo hi top (xs ++ (envelope e ∷ []))
 towards-envelope first p l lo hi top xs e h u q =
@@ -116,10 +116,10 @@ towards-envelope first p l lo hi top xs e h u q =
 
 -- the kth and what follows it: at a message it is right, and the rest; at an envelope it lies within the bounds, and the rest
 -- lies above it
-pub towards-taken : (first : ℕ) (p : Delays) (l : Lane) (lo hi top : ℕ) (xs : List Thing) (k : ℕ) (d x : Thing) → k < length xs → getD xs k d ≡ x
+pub towards-taken : (first : ℕ) (p : Delays) (l : Lane) (lo hi top : ℕ) (xs : List InFlight) (k : ℕ) (d x : InFlight) → k < length xs → getD xs k d ≡ x
     → Towards first p l lo hi top xs → Towards first p l lo hi top (x ∷ drop (suc k) xs)
 towards-taken first p l lo hi top [] k d x h e q = absurd (not-suc-le-zero h)
-towards-taken first p l lo hi top (y ∷ xs) zero d x h e q = subst (λ (z : Thing). Towards first p l lo hi top (z ∷ xs)) e q
+towards-taken first p l lo hi top (y ∷ xs) zero d x h e q = subst (λ (z : InFlight). Towards first p l lo hi top (z ∷ xs)) e q
 towards-taken first p l lo hi top (clockMessage m c t ∷ xs) (suc k) d x h e q =
     towards-taken first p l lo hi top xs k d x (le-of-suc-le-suc h) e (q .1)
 towards-taken first p l lo hi top (keyMessage m t ∷ xs) (suc k) d x h e q =
@@ -129,7 +129,7 @@ towards-taken first p l lo hi top (envelope y ∷ xs) (suc k) d x h e q =
     (towards-taken first p l (y .number) hi top xs k d x (le-of-suc-le-suc h) e (q .1))
 
 -- the first k lost
-pub towards-dropped : (first : ℕ) (p : Delays) (l : Lane) (lo hi top : ℕ) (xs : List Thing) (k : ℕ) → Towards first p l lo hi top xs
+pub towards-dropped : (first : ℕ) (p : Delays) (l : Lane) (lo hi top : ℕ) (xs : List InFlight) (k : ℕ) → Towards first p l lo hi top xs
     → Towards first p l lo hi top (drop k xs)
 towards-dropped first p l lo hi top [] zero q = tt
 towards-dropped first p l lo hi top [] (suc k) q = tt

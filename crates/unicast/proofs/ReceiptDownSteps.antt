@@ -32,7 +32,7 @@ use Rattle.protocol.proofs.OnuChoices.{OnuReceives, onu-receive-accepts}
 use Rattle.traffic.specs.Passages.{misfit, outputAfter}
 use Rattle.traffic.specs.Receipts.{onuReceived, onuReceiveOf}
 use Rattle.unicast.specs.Setting.{Setting, clockDown}
-use Rattle.unicast.specs.History.{downward, upward, Envelope, Thing, envelope, leftAt, Arrival, Lane, laneWith, arriving, laneTaken, laneArrivedDown}
+use Rattle.unicast.specs.History.{downward, upward, Envelope, InFlight, envelope, leftAt, Arrival, Lane, laneWith, arriving, laneTaken, laneArrivedDown}
 use Rattle.unicast.specs.Claim.{PassageRight, SentRight, ArrivedRight}
 use Rattle.unicast.proofs.Invariant.{countUp, SentUnder, Under, Towards, Joined, Common}
 use Rattle.unicast.specs.Progress.{goes}
@@ -184,7 +184,7 @@ arrivalDown o e out =
       passage = receivingOnu o (misfit (e .octets) out) (e .header) .handed;
     }
 
-module _ (w : Setting) (sh : Shared) (now : ℕ) (l : Lane) (u : UnitRecord) (o : Onu) (c : Common w now l o) (j : Joined w sh now l u o) (k : ℕ) (d : Thing)
+module _ (w : Setting) (sh : Shared) (now : ℕ) (l : Lane) (u : UnitRecord) (o : Onu) (c : Common w now l o) (j : Joined w sh now l u o) (k : ℕ) (d : InFlight)
     (e : Envelope) (out : List ℕ) (some : k < length (l .transit .towards)) (is : getD (l .transit .towards) k d ≡ envelope e)
     (due : e .left + l .path .down ≡ now) (buffer : length out ≡ length (e .octets)) where
   queue-down : Under (l .site .identity) (l .past .sent) downward (o .keys .active) (u .keys .active) e
@@ -205,7 +205,7 @@ module _ (w : Setting) (sh : Shared) (now : ℕ) (l : Lane) (u : UnitRecord) (o 
       (omega (arith, queue-down .0 .most, n .high)) (n .flag)
 
   synced-down : 1 ≤ e .number → o .clock .synced ≡ 1
-  synced-down h = j .underWay .sealed e (subst (λ (x : Thing). List·Memᴰ x (l .transit .towards)) is (mem-at (l .transit .towards) k d some)) h
+  synced-down h = j .underWay .sealed e (subst (λ (x : InFlight). List·Memᴰ x (l .transit .towards)) is (mem-at (l .transit .towards) k d some)) h
 
   rx-down : o .clock .synced ≡ 1 → o .clock .rx ≡ clockDown (w .first) (e .left)
   rx-down h = rx-at (w .first) now (e .left) (l .path .up) (l .path .down) _ (j .clocks .synced h) due

@@ -8,11 +8,11 @@ use lib.Seq.{getD-at}
 use Rattle.clock.specs.Ticks.{maxTick}
 use Rattle.protocol.specs.declared.Acknowledgement.{Acknowledgement}
 use Rattle.unicast.specs.Setting.{Setting}
-use Rattle.unicast.specs.History.{Envelope, Thing, leftAt, Answered, Lane, laneWith, laneTaken, laneAnswered, laneAcknowledged}
+use Rattle.unicast.specs.History.{Envelope, InFlight, leftAt, Answered, Lane, laneWith, laneTaken, laneAnswered, laneAcknowledged}
 use Rattle.unicast.specs.Events.{Event, advance, arriveDown, arriveAnswer}
-use Rattle.unicast.specs.Run.{State, laneAt, step, run, thingAt, answerAt}
+use Rattle.unicast.specs.Run.{State, laneAt, step, run, inFlightAt, answerAt}
 use Rattle.unicast.specs.Premises.{Meets, DueAnswer}
-use Rattle.unicast.specs.Progress.{tripOf, dueDown, dueUp, overdue, inFlight, Keeps, LosesNothing}
+use Rattle.unicast.specs.Progress.{tripOf, dueDown, dueUp, overdue, awaitedCount, Keeps, LosesNothing}
 use Rattle.unicast.proofs.Whole.{late-later, late-none, drop-all, Quiet, quiet-later, quiet-keeps, down-overdue, same-keeps, whole-append}
 use Rattle.unicast.proofs.Going.{Here, Step, here-after, advance-goes}
 
@@ -68,9 +68,9 @@ last-is xs ys x d e = rw e (getD-at ys x [] d (length ys) refl)
 pub last-some : {A : Type 0} (xs ys : List A) (x : A) → xs ≡ ys ++ (x ∷ []) → length ys < length xs
 last-some xs ys x e = omega (arith, ap length e, length-append ys (x ∷ []))
 
-module _ (w : Setting) (u llid : ℕ) (s : State) (l : Lane) (a : Acknowledgement) (ts : List Thing) (x : Thing) (Q : State → Type 0)
+module _ (w : Setting) (u llid : ℕ) (s : State) (l : Lane) (a : Acknowledgement) (ts : List InFlight) (x : InFlight) (Q : State → Type 0)
     (h : Here w u llid s) (is : laneAt s u ≡ l) (queue : l .transit .towards ≡ ts ++ (x ∷ [])) (most : s .history .now + tripOf l ≤ maxTick)
-    (left : leftAt x ≡ s .history .now) (late : overdue (s .history .now) (map (λ (y : Thing). leftAt y + l .path .down) ts) ≡ length ts)
+    (left : leftAt x ≡ s .history .now) (late : overdue (s .history .now) (map (λ (y : InFlight). leftAt y + l .path .down) ts) ≡ length ts)
     (up : overdue (s .history .now) (dueUp l) ≡ length (l .transit .from)) where
   abbrev arrival : ℕ
   arrival = s .history .now + l .path .down
@@ -83,7 +83,7 @@ module _ (w : Setting) (u llid : ℕ) (s : State) (l : Lane) (a : Acknowledgemen
 
   pub answered-round :
       ((t : State) → Here w u llid t → laneAt t u ≡ l → t .history .now ≡ arrival → length ts < length (laneAt t u .transit .towards)
-      → thingAt t u (length ts) ≡ x → Step w u t (arriveDown u (length ts) []) answered arrival)
+      → inFlightAt t u (length ts) ≡ x → Step w u t (arriveDown u (length ts) []) answered arrival)
       → ((t : State) → Here w u llid t → laneAt t u ≡ answered → DueAnswer t u place llid → answerAt t u place .acknowledgement ≡ a
       → Step w u t (arriveAnswer u place llid) (laneAcknowledged a answered) (t .history .now) × Q (step t (arriveAnswer u place llid)))
       → Goes w u llid s (advance (l .path .down) ∷ arriveDown u (length ts) [] ∷ advance (l .path .up) ∷ arriveAnswer u place llid ∷ [])
@@ -115,19 +115,19 @@ module _ (w : Setting) (u llid : ℕ) (s : State) (l : Lane) (a : Acknowledgemen
         named = h3 .named;
       } in
       let now = s .history .now in
-      let f : Thing → ℕ = λ y. leftAt y + l .path .down in
+      let f : InFlight → ℕ = λ y. leftAt y + l .path .down in
       let g : Envelope → ℕ = λ e. e .left + l .path .up in
       let down0 : overdue now (dueDown l) ≡ length ts = down-overdue l ts x now queue late (omega (arith, left)) in
       let down1 : overdue arrival (dueDown l) ≡ length ts =
       down-overdue l ts x arrival queue (late-later f now arrival ts (omega arith) late) (omega (arith, left)) in
       let up1 : overdue arrival (dueUp l) ≡ length (l .transit .from) = late-later g now arrival (l .transit .from) (omega arith) up in
-      let keep1 : inFlight (laneAt s u) arrival ≡ inFlight (laneAt s u) now =
+      let keep1 : awaitedCount (laneAt s u) arrival ≡ awaitedCount (laneAt s u) now =
       rw is (same-keeps l now arrival (down1 ∙ sym down0) (up1 ∙ sym up)) in
       let keep2 : length ts ≡ overdue (s1 .history .now) (dueDown (laneAt s1 u)) = rw (lane1, t1 .tick) (sym down1) in
       let quiet2 : Quiet answered arrival =
       record { down = late-none f arrival (drop (suc (length ts)) (l .transit .towards)) (ap (drop (suc (length ts))) queue ∙ drop-all ts x); up = up1 } in
       let later : arrival ≤ arrival + l .path .up = omega arith in
-      let keep3 : inFlight (laneAt s2 u) (s2 .history .now + l .path .up) ≡ inFlight (laneAt s2 u) (s2 .history .now) =
+      let keep3 : awaitedCount (laneAt s2 u) (s2 .history .now + l .path .up) ≡ awaitedCount (laneAt s2 u) (s2 .history .now) =
       rw (t2 .lane, t2 .tick) (quiet-keeps answered arrival (arrival + l .path .up) later quiet2) in
       let quiet3 = quiet-later answered arrival (now + tripOf l) (omega arith) quiet2 in
       let t4 = answers s3 h3 lane3 due (ap (λ (y : Answered). y .acknowledgement) own) in

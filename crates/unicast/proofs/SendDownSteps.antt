@@ -61,12 +61,12 @@ module _ (w : Setting) (sh : Shared) (now : ℕ) (l : Lane) (u : UnitRecord) (o 
   sent-down-joined : (k : UnitKeys) (choice : KeyChoice) (c : Channels) (e : Envelope) → (1 ≤ e .number → o .clock .synced ≡ 1)
       → Chosen (l .entry) now (reachOf (o .keys)) (u .keys) k choice (e .number) (pick (switching l now) now (l .keys .switched)) (l .keys .switched)
       → Renewed (u .keys .first) (k .first) (u .keys .active) (e .number) now
-      → e .up ≡ l .path .up → e .way ≡ downward → e .left ≡ now → downstream (e .channel) ≡ true → has (l .site .identity) (e .llid) ≡ true
+      → e .up ≡ l .path .up → e .direction ≡ downward → e .left ≡ now → downstream (e .channel) ≡ true → has (l .site .identity) (e .llid) ≡ true
       → lengthsFit (length (e .payload)) (length (e .payload)) ≡ true → SentRight w l e
       → freeFrom (sh .channels) (e .channel) ≤ now → ((i : ℕ) → freeFrom (sh .channels) i ≤ freeFrom c i) → now < freeFrom c (e .channel)
       → Joined w (withChannels sh c) now (laneSentDown now e l) (withKeys u k) o
   unfolding laneSentDown laneWith leaving sending withKeys withChannels
-  sent-down-joined k choice c e synced h r present way left down named fits right free rises after =
+  sent-down-joined k choice c e synced h r present direction left down named fits right free rises after =
       let n = j .numbers in
       let m = laneSentDown now e l in
       let knows : (top : ℕ) → Knows l m top =
@@ -135,7 +135,7 @@ module _ (w : Setting) (sh : Shared) (now : ℕ) (l : Lane) (u : UnitRecord) (o 
               above = omega (arith, h .active);
               most = omega (arith, h .active);
               sent = Memᴰ·append-right (l .past .sent) (List·Memᴰ·head refl);
-              thatWay = way;
+              thatWay = direction;
               named = named;
             })
             (towards-carried (w .first) (l .path) l m (o .keys .active) (o .keys .active) (u .keys .active) (k .active) (u .keys .offered) (k .offered)
@@ -147,7 +147,7 @@ module _ (w : Setting) (sh : Shared) (now : ℕ) (l : Lane) (u : UnitRecord) (o 
         spending =
             record {
               downs =
-                  each-more (λ (x : Envelope). x .way ≡ downward → (downstream (x .channel) ≡ true)
+                  each-more (λ (x : Envelope). x .direction ≡ downward → (downstream (x .channel) ≡ true)
                   × Spent c (k .first) (k .active) 0 0 (countDown x) x) (l .past .sent) e
                   (λ x i q.
                   let was = j .spending .downs x i q in (
@@ -163,10 +163,10 @@ module _ (w : Setting) (sh : Shared) (now : ℕ) (l : Lane) (u : UnitRecord) (o 
                         (omega (arith, left)) (omega (arith, left, after))),
                   ));
               ups =
-                  each-more (λ (x : Envelope). x .way ≡ upward → (upstream (x .channel) ≡ true)
+                  each-more (λ (x : Envelope). x .direction ≡ upward → (upstream (x .channel) ≡ true)
                   × Spent (o .channels) (o .first) (o .keys .active) (l .site .up) maxChanges (countUp x) x
                   × Guarded (l .site .up) (l .path .up) (o .travel) x)
-                  (l .past .sent) e (j .spending .ups) (λ q. ways-apart (sym way ∙ q));
+                  (l .past .sent) e (j .spending .ups) (λ q. ways-apart (sym direction ∙ q));
               spaced =
                   spaced-more (l .past .sent) e
                   (λ x i.
@@ -174,7 +174,7 @@ module _ (w : Setting) (sh : Shared) (now : ℕ) (l : Lane) (u : UnitRecord) (o 
                   (λ q. j .spending .downs x i q .1)
                   (λ q p n g. let before : x .left < freeFrom (sh .channels) (e .channel) = rw g at (j .spending .downs x i q .1 .passed) in
                   omega (arith, before, free, left)))
-                  (λ x i p q. ways-apart (sym way ∙ q))
+                  (λ x i p q. ways-apart (sym direction ∙ q))
                   (j .spending .spaced);
             };
         passing =

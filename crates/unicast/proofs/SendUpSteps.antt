@@ -77,20 +77,20 @@ module _ (w : Setting) (sh : Shared) (now : ℕ) (l : Lane) (u : UnitRecord) (o 
       → travel + l .site .up ≡ now + l .path .up + maxChanges → Renewed (o .first) f (o .keys .active) (e .number) travel
       → (1 ≤ e .number → o .travel .bar ≤ travel) → t .bar ≡ o .travel .bar → o .travel .spent ≤ t .spent → (1 ≤ e .number → travel < t .spent)
       → e .up ≡ l .path .up
-      → e .way ≡ upward → e .left ≡ now → upstream (e .channel) ≡ true → has (l .site .identity) (e .llid) ≡ true
+      → e .direction ≡ upward → e .left ≡ now → upstream (e .channel) ≡ true → has (l .site .identity) (e .llid) ≡ true
       → lengthsFit (length (e .payload)) (length (e .payload)) ≡ true → SentRight w l e
       → freeFrom (o .channels) (e .channel) ≤ now → ((i : ℕ) → freeFrom (o .channels) i ≤ freeFrom c i) → now < freeFrom c (e .channel)
       → (f ≡ o .first) ⊎ (f .at ≡ travel) → (t .spent ≡ o .travel .spent) ⊎ (t .spent ≤ travel + longest)
       → ((i bound : ℕ) → now + longest ≤ bound → freeFrom (o .channels) i ≤ bound → freeFrom c i ≤ bound)
       → Joined w sh now (laneSentUp e l) u (withOnuChannels (withTravel (withOnuFirst o f) t) c)
   unfolding laneSentUp laneWith sending withOnuChannels withTravel withOnuFirst
-  sent-up-joined travel f t c e number travelled r waited bar spent ended present way left up named fits right free rises after since spends frees =
+  sent-up-joined travel f t c e number travelled r waited bar spent ended present direction left up named fits right free rises after since spends frees =
       let n = j .numbers in
       let m = laneSentUp e l in
       let knows : (top : ℕ) → Knows l m top =
       λ top. record { site = refl; sent = λ x i. Memᴰ·append-left (e ∷ []) i; keys = λ x p q. refl } in
       -- sent by the present path it left earlier, and before the last change it counted less than the bar
-      let later : (x : Envelope) → List·Memᴰ x (l .past .sent) → x .way ≡ upward → 1 ≤ x .number → x .number ≡ e .number → x .channel ≡ e .channel
+      let later : (x : Envelope) → List·Memᴰ x (l .past .sent) → x .direction ≡ upward → 1 ≤ x .number → x .number ≡ e .number → x .channel ≡ e .channel
       → countUp x < countUp e =
       λ x i q p n g.
       let was = j .spending .ups x i q in
@@ -105,7 +105,7 @@ module _ (w : Setting) (sh : Shared) (now : ℕ) (l : Lane) (u : UnitRecord) (o 
             record {
               olt = j .firsts .olt;
               onu = λ least each one same.
-                  let mine = each e (Memᴰ·append-right (l .past .sent) (List·Memᴰ·head refl)) way in
+                  let mine = each e (Memᴰ·append-right (l .past .sent) (List·Memᴰ·head refl)) direction in
                   ⊎-elim
                   (λ stays.
                   rw stays
@@ -115,7 +115,7 @@ module _ (w : Setting) (sh : Shared) (now : ℕ) (l : Lane) (u : UnitRecord) (o 
                   record {
                     envelope = e;
                     among = Memᴰ·append-right (l .past .sent) (List·Memᴰ·head refl);
-                    thatWay = way;
+                    thatWay = direction;
                     numbered = number;
                   };
             };
@@ -123,10 +123,10 @@ module _ (w : Setting) (sh : Shared) (now : ℕ) (l : Lane) (u : UnitRecord) (o 
             record {
               free = λ last i each.
                   frees i (last + longest)
-                  (let mine = each e (Memᴰ·append-right (l .past .sent) (List·Memᴰ·head refl)) way in omega (arith, mine, left))
+                  (let mine = each e (Memᴰ·append-right (l .past .sent) (List·Memᴰ·head refl)) direction in omega (arith, mine, left))
                   (j .freed .free last i (λ x m. each x (Memᴰ·append-left (e ∷ []) m)));
               spent = λ last most each one.
-                  let mine = each e (Memᴰ·append-right (l .past .sent) (List·Memᴰ·head refl)) way in
+                  let mine = each e (Memᴰ·append-right (l .past .sent) (List·Memᴰ·head refl)) direction in
                   ⊎-elim
                   (λ stays.
                   let was = j .freed .spent last most (λ x m. each x (Memᴰ·append-left (e ∷ []) m)) (omega (arith, one, stays)) in
@@ -164,19 +164,19 @@ module _ (w : Setting) (sh : Shared) (now : ℕ) (l : Lane) (u : UnitRecord) (o 
               above = omega (arith, number);
               most = omega (arith, number);
               sent = Memᴰ·append-right (l .past .sent) (List·Memᴰ·head refl);
-              thatWay = way;
+              thatWay = direction;
               named = named;
             })
             (from-moved l m 0 (u .confirmation .confirmed) (o .keys .active) (l .transit .from) (knows 0) (j .from));
         spending =
             record {
               downs =
-                  each-more (λ (x : Envelope). x .way ≡ downward → (downstream (x .channel) ≡ true)
+                  each-more (λ (x : Envelope). x .direction ≡ downward → (downstream (x .channel) ≡ true)
                   × Spent (sh .channels) (u .keys .first) (u .keys .active) 0 0 (countDown x) x)
-                  (l .past .sent) e (j .spending .downs) (λ q. ways-apart (sym q ∙ way));
+                  (l .past .sent) e (j .spending .downs) (λ q. ways-apart (sym q ∙ direction));
               ups =
                   each-more
-                  (λ (x : Envelope). x .way ≡ upward → (upstream (x .channel) ≡ true)
+                  (λ (x : Envelope). x .direction ≡ upward → (upstream (x .channel) ≡ true)
                   × Spent c f (o .keys .active) (l .site .up) maxChanges (countUp x) x × Guarded (l .site .up) (l .path .up) t x) (l .past .sent) e
                   (λ x i q.
                   let was = j .spending .ups x i q in (
@@ -197,7 +197,7 @@ module _ (w : Setting) (sh : Shared) (now : ℕ) (l : Lane) (u : UnitRecord) (o 
                     record { spent = λ p. let below = ended p in omega (arith, below, travelled, left, present); barred = λ p. inl present },
                   ));
               spaced =
-                  spaced-more (l .past .sent) e (λ x i p q. ways-apart (sym q ∙ way))
+                  spaced-more (l .past .sent) e (λ x i p q. ways-apart (sym q ∙ direction))
                   (λ x i.
                   apart-new countUp upward (o .channels) (o .first) f (o .keys .active) travel (l .site .up) maxChanges x e r
                   (omega (arith, travelled, left, present)) (λ q. j .spending .ups x i q .1)

@@ -17,7 +17,7 @@ use Rattle.ends.specs.Flags.{isUp}
 use Rattle.ends.specs.declared.Channels.{Channels}
 use Rattle.ends.specs.declared.FirstSend.{FirstSend}
 use Rattle.ends.proofs.Keys.{aged-false, first-stays, first-noted}
-use Rattle.unicast.specs.History.{Way, downward, upward, Envelope}
+use Rattle.unicast.specs.History.{Direction, downward, upward, Envelope}
 use Rattle.unicast.specs.Run.{noEnvelope}
 use Rattle.unicast.proofs.Invariant.{Begun, Spent, countDown, countUp, Apart, Spaced}
 
@@ -75,26 +75,26 @@ spent-new d first next current number now ahead base count e r n t h =
 ---- sends under one number on one channel index
 
 -- it counts more, and the key is not too old
-pub apart-new : (count : Envelope → ℕ) (way : Way) (c : Channels) (first next : FirstSend) (current now ahead base : ℕ) (x e : Envelope)
+pub apart-new : (count : Envelope → ℕ) (direction : Direction) (c : Channels) (first next : FirstSend) (current now ahead base : ℕ) (x e : Envelope)
     → Renewed first next current (e .number) now → now + ahead ≡ count e + base
-    → (x .way ≡ way → Spent c first current ahead base (count x) x)
-    → (x .way ≡ way → 1 ≤ x .number → x .number ≡ e .number → x .channel ≡ e .channel → count x < count e) → Apart count way x e
-apart-new count way c first next current now ahead base x e r t spent rises way' way'' p n i =
-    let s = spent way' in
+    → (x .direction ≡ direction → Spent c first current ahead base (count x) x)
+    → (x .direction ≡ direction → 1 ≤ x .number → x .number ≡ e .number → x .channel ≡ e .channel → count x < count e) → Apart count direction x e
+apart-new count direction c first next current now ahead base x e r t spent rises direction' direction'' p n i =
+    let s = spent direction' in
     let same : e .number ≡ current = omega (arith, s .most, r .most) in
     let was = s .noted p (n ∙ same) in
     let young = r .old (omega arith) same (was .0) .1 in
-    (rises way' p n i, omega (arith, young, was .1, t))
+    (rises direction' p n i, omega (arith, young, was .1, t))
 
-apart-more : (count : Envelope → ℕ) (way : Way) (sent : List Envelope) (e : Envelope) → ((x : Envelope) → List·Memᴰ x sent → Apart count way x e)
-    → ((i j : ℕ) → i < j → j < length sent → Apart count way (getD sent i noEnvelope) (getD sent j noEnvelope)) → (i j : ℕ) → i < j
-    → j < length (sent ++ (e ∷ [])) → Apart count way (getD (sent ++ (e ∷ [])) i noEnvelope) (getD (sent ++ (e ∷ [])) j noEnvelope)
-apart-more count way sent e new s i j h g = by-place (ltb j (length sent)) refl where
+apart-more : (count : Envelope → ℕ) (direction : Direction) (sent : List Envelope) (e : Envelope) → ((x : Envelope) → List·Memᴰ x sent → Apart count direction x e)
+    → ((i j : ℕ) → i < j → j < length sent → Apart count direction (getD sent i noEnvelope) (getD sent j noEnvelope)) → (i j : ℕ) → i < j
+    → j < length (sent ++ (e ∷ [])) → Apart count direction (getD (sent ++ (e ∷ [])) i noEnvelope) (getD (sent ++ (e ∷ [])) j noEnvelope)
+apart-more count direction sent e new s i j h g = by-place (ltb j (length sent)) refl where
   within : j < length sent + 1
   within = rw (length-append sent (e ∷ [])) at g
 
   by-place : (t : Bool) → ltb j (length sent) ≡ t
-      → Apart count way (getD (sent ++ (e ∷ [])) i noEnvelope) (getD (sent ++ (e ∷ [])) j noEnvelope)
+      → Apart count direction (getD (sent ++ (e ∷ [])) i noEnvelope) (getD (sent ++ (e ∷ [])) j noEnvelope)
   by-place true q =
       let l = ltb-true j (length sent) q in
       rw (List·getD-append sent (e ∷ []) noEnvelope j l, List·getD-append sent (e ∷ []) noEnvelope i (omega arith)) (s i j h l)

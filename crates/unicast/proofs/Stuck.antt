@@ -8,7 +8,7 @@ use Rattle.unicast.specs.Run.{start, laneAt}
 use Rattle.unicast.specs.Example.{example, keyFrom}
 use Rattle.unicast.specs.Course.{after}
 use Rattle.unicast.specs.Premises.{Meets}
-use Rattle.unicast.specs.Progress.{highest, overdue, confirmedBy, mostUp, leastUp, spread, limitOf, inFlight, recipe, Moving, maxEvents, Brings}
+use Rattle.unicast.specs.Progress.{highest, overdue, confirmedBy, mostUp, leastUp, spread, limitOf, awaitedCount, recipe, Moving, maxEvents, Brings}
 use Rattle.unicast.specs.Stuck.{oneUnit, toSwitch, lostSwitch, lostAnswer, unanswered, bothArrived, cutShort, Answer, Cases}
 use Rattle.unicast.proofs.Tested.{tested, new-key, meets-true}
 use Rattle.unicast.proofs.Progress.{progress}
@@ -54,7 +54,7 @@ cut-offered : length (laneAt (after cutShort) 0 .keys .offers) ≡ 1
 unfolding listed cutShort
 cut-offered = refl
 
-cut-under-way : inFlight (laneAt (after cutShort) 0) (after cutShort .history .now) ≡ 1
+cut-under-way : awaitedCount (laneAt (after cutShort) 0) (after cutShort .history .now) ≡ 1
 unfolding listed cutShort overdue
 cut-under-way = refl
 
@@ -74,6 +74,6 @@ cases =
           subst
           (λ (n : ℕ).
           Brings example (after cutShort) 0 n (limitOf (laneAt (after cutShort) 0))
-          (maxEvents + 2 * inFlight (laneAt (after cutShort) 0) (after cutShort .history .now))
+          (maxEvents + 2 * awaitedCount (laneAt (after cutShort) 0) (after cutShort .history .now))
           (recipe 0 5 (keyFrom 32) (after cutShort))) cut-next (progress example cutShort 0 5 (keyFrom 32) example-fresh cut-meets cut-moving);
     }

@@ -21,9 +21,9 @@ use Rattle.ends.specs.declared.Identity.{Identity}
 use Rattle.traffic.specs.Sends.{onuSendOf}
 use Rattle.traffic.specs.Receipts.{oltReceiveOf, onuReceiveOf}
 use Rattle.unicast.specs.Setting.{Delays, Site, Setting}
-use Rattle.unicast.specs.History.{Thing, clockMessage, keyMessage, envelope, leftAt, Lane}
+use Rattle.unicast.specs.History.{InFlight, clockMessage, keyMessage, envelope, leftAt, Lane}
 use Rattle.unicast.specs.Events.{Event, advance, register, capture, clockSend, offer, retry, sendDown, sendUp, arriveDown, arriveUp, arriveAnswer, overhear, changePath, measure, newTime, strayClock, strayKey, strayAnswer, strayDown, strayUp}
-use Rattle.unicast.specs.Run.{State, step, laneAt, onuAt, thingAt, envelopeAt, answerAt, noSite, freshLane}
+use Rattle.unicast.specs.Run.{State, step, laneAt, onuAt, inFlightAt, envelopeAt, answerAt, noSite, freshLane}
 use Rattle.unicast.specs.Premises.{Fresh, Agrees, NewKey, FittingBuffer, DueDown, DueUp, DueAnswer, Changes, Overhears, Fits, Meets}
 
 ---- what binds accepted calls only
@@ -111,12 +111,12 @@ pub new-key : (s : State) (key : List ℕ) → unused laneOffers key (s .history
 unfolding freshLane
 new-key s key e = record { unused = unused-at laneOffers (freshLane noSite) refl key (s .history .lanes) e }
 
-unfoldable pub fitting : Thing → List ℕ → Bool
+unfoldable pub fitting : InFlight → List ℕ → Bool
 fitting (clockMessage m c t) out = true
 fitting (keyMessage m t) out = true
 fitting (envelope e) out = eqb (length out) (length (e .octets))
 
-pub fitting-true : (x : Thing) (out : List ℕ) → fitting x out ≡ true → FittingBuffer x out
+pub fitting-true : (x : InFlight) (out : List ℕ) → fitting x out ≡ true → FittingBuffer x out
 unfolding fitting
 fitting-true (clockMessage m c t) out e = tt
 fitting-true (keyMessage m t) out e = tt
@@ -125,7 +125,7 @@ fitting-true (envelope x) out e = eqb-true _ _ e
 unfoldable pub dueDown : State → ℕ → ℕ → List ℕ → Bool
 dueDown s u k out =
     both (ltb k (length (laneAt s u .transit .towards)))
-    (both (eqb (leftAt (thingAt s u k) + laneAt s u .path .down) (s .history .now)) (fitting (thingAt s u k) out))
+    (both (eqb (leftAt (inFlightAt s u k) + laneAt s u .path .down) (s .history .now)) (fitting (inFlightAt s u k) out))
 
 pub due-down-true : (s : State) (u k : ℕ) (out : List ℕ) → dueDown s u k out ≡ true → DueDown s u k out
 unfolding dueDown

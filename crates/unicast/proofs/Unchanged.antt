@@ -11,9 +11,9 @@ use Rattle.octets.specs.Choice.{both, pick}
 use Rattle.octets.proofs.Choice.{pick-same, pick-holds}
 use Rattle.ends.specs.Identities.{has}
 use Rattle.unicast.specs.Setting.{Delays, Site, Setting}
-use Rattle.unicast.specs.History.{Envelope, Thing, clockMessage, keyMessage, envelope, Lane, sending, laneWith, laneRegistered, laneCaptured, laneLeaving, laneOffered, laneAcknowledged, laneSentDown, laneSentUp, laneTaken, laneAnswered, arriving, laneArrivedDown, laneArrivedUp}
+use Rattle.unicast.specs.History.{Envelope, InFlight, clockMessage, keyMessage, envelope, Lane, sending, laneWith, laneRegistered, laneCaptured, laneLeaving, laneOffered, laneAcknowledged, laneSentDown, laneSentUp, laneTaken, laneAnswered, arriving, laneArrivedDown, laneArrivedUp}
 use Rattle.unicast.specs.Events.{Event, advance, register, capture, clockSend, offer, retry, sendDown, sendUp, arriveDown, arriveUp, arriveAnswer, overhear, changePath, measure, newTime, strayClock, strayKey, strayAnswer, strayDown, strayUp}
-use Rattle.unicast.specs.Run.{State, noSite, freshLane, start, laneAt, accepted, noted, named, withLanes, atOlt, atOnu, atOltFor, advancing, entering, clockSending, offering, retrying, envelopeDown, sendingDown, envelopeUp, sendingUp, messageArriving, envelopeArriving, thingArriving, thingAt, arrivingUp, answering, unitAfter, oltAfter, step, run}
+use Rattle.unicast.specs.Run.{State, noSite, freshLane, start, laneAt, accepted, noted, named, withLanes, atOlt, atOnu, atOltFor, advancing, entering, clockSending, offering, retrying, envelopeDown, sendingDown, envelopeUp, sendingUp, messageArriving, envelopeArriving, inFlightArriving, inFlightAt, arrivingUp, answering, unitAfter, oltAfter, step, run}
 use Rattle.unicast.specs.Progress.{mostUp, leastUp, spread}
 use Rattle.unicast.specs.Demand.{AsStarted, NoChange, NoChanges, OneSpread}
 use Rattle.unicast.proofs.StartSteps.{lane-fresh}
@@ -60,11 +60,11 @@ named-as llid f l p q = pick-holds AsStarted (both (l .entry .registered) (has (
 ---- events
 
 module _ (s : State) (e : (u : ℕ) → AsStarted (laneAt s u)) where
-  thing-as : (u k : ℕ) (out : List ℕ) (x : Thing) (v : ℕ) → AsStarted (laneAt (thingArriving s u k out x) v)
-  unfolding thingArriving messageArriving envelopeArriving atOnu withLanes laneAnswered laneArrivedDown laneTaken laneWith arriving
-  thing-as u k out (clockMessage m c t) v = each-set (s .history .lanes) u _ (noted-as _ _ _ (e u) (e u)) e v
-  thing-as u k out (keyMessage m t) v = each-set (s .history .lanes) u _ (noted-as _ _ _ (e u) (e u)) e v
-  thing-as u k out (envelope x) v = each-set (s .history .lanes) u _ (e u) e v
+  in-flight-as : (u k : ℕ) (out : List ℕ) (x : InFlight) (v : ℕ) → AsStarted (laneAt (inFlightArriving s u k out x) v)
+  unfolding inFlightArriving messageArriving envelopeArriving atOnu withLanes laneAnswered laneArrivedDown laneTaken laneWith arriving
+  in-flight-as u k out (clockMessage m c t) v = each-set (s .history .lanes) u _ (noted-as _ _ _ (e u) (e u)) e v
+  in-flight-as u k out (keyMessage m t) v = each-set (s .history .lanes) u _ (noted-as _ _ _ (e u) (e u)) e v
+  in-flight-as u k out (envelope x) v = each-set (s .history .lanes) u _ (e u) e v
 
   step-as : (x : Event) → NoChange x → (v : ℕ) → AsStarted (laneAt (step s x) v)
   unfolding step advancing entering atOlt atOnu atOltFor withLanes clockSending offering retrying sendingDown sendingUp arrivingUp answering unitAfter oltAfter
@@ -80,7 +80,7 @@ module _ (s : State) (e : (u : ℕ) → AsStarted (laneAt s u)) where
       each-mapped _ (s .history .lanes) (λ l p. noted-as _ _ l (named-as _ _ l (p .0, more-as l _ p refl) p) p) e v
   step-as (sendUp u llid channel q out) c v =
       each-set (s .history .lanes) u _ (noted-as _ _ _ (e u .0, more-as (laneAt s u) _ (e u) refl) (e u)) e v
-  step-as (arriveDown u k out) c v = thing-as u k out (thingAt s u k) v
+  step-as (arriveDown u k out) c v = in-flight-as u k out (inFlightAt s u k) v
   step-as (arriveUp u k out) c v = each-set (s .history .lanes) u _ (e u) e v
   step-as (arriveAnswer u k llid) c v = each-mapped _ (s .history .lanes) (λ l p. noted-as _ _ l (named-as _ _ l p p) p) e v
   step-as (overhear u other k out) c v = e v

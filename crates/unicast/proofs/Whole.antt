@@ -8,10 +8,10 @@ use lib.Dec.{ltb}
 use lib.ListN.{length, getD, drop, length-map}
 use borrow.Author.Tests.{ltb-true, ltb-false, le-ltb}
 use Rattle.octets.specs.Choice.{pick}
-use Rattle.unicast.specs.History.{Envelope, Thing, leftAt, Lane}
+use Rattle.unicast.specs.History.{Envelope, InFlight, leftAt, Lane}
 use Rattle.unicast.specs.Events.{Event}
 use Rattle.unicast.specs.Run.{State, step, run}
-use Rattle.unicast.specs.Progress.{dueDown, dueUp, overdue, awaited, inFlight, LosesNothing}
+use Rattle.unicast.specs.Progress.{dueDown, dueUp, overdue, awaited, awaitedCount, LosesNothing}
 use Rattle.unicast.proofs.Invariant.{Rising}
 
 ---- ticks
@@ -103,27 +103,27 @@ pub record Quiet (l : Lane) (now : ℕ) : Type 0 where
 pub quiet-later : (l : Lane) (now later : ℕ) → now ≤ later → Quiet l now → Quiet l later
 quiet-later l now later h q =
     record {
-      down = late-later (λ (x : Thing). leftAt x + l .path .down) now later (l .transit .towards) h (q .down);
+      down = late-later (λ (x : InFlight). leftAt x + l .path .down) now later (l .transit .towards) h (q .down);
       up = late-later (λ (e : Envelope). e .left + l .path .up) now later (l .transit .from) h (q .up);
     }
 
-quiet-none : (l : Lane) (now : ℕ) → Quiet l now → inFlight l now ≡ 0
+quiet-none : (l : Lane) (now : ℕ) → Quiet l now → awaitedCount l now ≡ 0
 quiet-none l now q =
     omega (
       arith,
-      count (λ (x : Thing). leftAt x + l .path .down) now (l .transit .towards),
+      count (λ (x : InFlight). leftAt x + l .path .down) now (l .transit .towards),
       count (λ (e : Envelope). e .left + l .path .up) now (l .transit .from),
       q .down,
       q .up,
     )
 
-pub quiet-keeps : (l : Lane) (now later : ℕ) → now ≤ later → Quiet l now → inFlight l later ≡ inFlight l now
+pub quiet-keeps : (l : Lane) (now later : ℕ) → now ≤ later → Quiet l now → awaitedCount l later ≡ awaitedCount l now
 quiet-keeps l now later h q = quiet-none l later (quiet-later l now later h q) ∙ sym (quiet-none l now q)
 
 -- one thing is awaited, the last of what is under way to the unit or from it
-pub down-overdue : (l : Lane) (ts : List Thing) (x : Thing) (now : ℕ) → l .transit .towards ≡ ts ++ (x ∷ [])
-    → overdue now (map (λ (y : Thing). leftAt y + l .path .down) ts) ≡ length ts → now ≤ leftAt x + l .path .down → overdue now (dueDown l) ≡ length ts
-down-overdue l ts x now e q h = rw e (late-last (λ (y : Thing). leftAt y + l .path .down) now ts x q h)
+pub down-overdue : (l : Lane) (ts : List InFlight) (x : InFlight) (now : ℕ) → l .transit .towards ≡ ts ++ (x ∷ [])
+    → overdue now (map (λ (y : InFlight). leftAt y + l .path .down) ts) ≡ length ts → now ≤ leftAt x + l .path .down → overdue now (dueDown l) ≡ length ts
+down-overdue l ts x now e q h = rw e (late-last (λ (y : InFlight). leftAt y + l .path .down) now ts x q h)
 
 pub up-overdue : (l : Lane) (es : List Envelope) (x : Envelope) (now : ℕ) → l .transit .from ≡ es ++ (x ∷ [])
     → overdue now (map (λ (y : Envelope). y .left + l .path .up) es) ≡ length es → now ≤ x .left + l .path .up → overdue now (dueUp l) ≡ length es
@@ -131,31 +131,31 @@ up-overdue l es x now e q h = rw e (late-last (λ (y : Envelope). y .left + l .p
 
 -- what is overdue stays the same, and so does what is awaited
 pub same-keeps : (l : Lane) (now later : ℕ) → overdue later (dueDown l) ≡ overdue now (dueDown l) → overdue later (dueUp l) ≡ overdue now (dueUp l)
-    → inFlight l later ≡ inFlight l now
+    → awaitedCount l later ≡ awaitedCount l now
 same-keeps l now later d u =
     omega (
       arith,
-      count (λ (x : Thing). leftAt x + l .path .down) now (l .transit .towards),
+      count (λ (x : InFlight). leftAt x + l .path .down) now (l .transit .towards),
       count (λ (e : Envelope). e .left + l .path .up) now (l .transit .from),
-      count (λ (x : Thing). leftAt x + l .path .down) later (l .transit .towards),
+      count (λ (x : InFlight). leftAt x + l .path .down) later (l .transit .towards),
       count (λ (e : Envelope). e .left + l .path .up) later (l .transit .from),
       d,
       u,
     )
 
-pub quiet-of : (l : Lane) (now : ℕ) → inFlight l now ≡ 0 → Quiet l now
+pub quiet-of : (l : Lane) (now : ℕ) → awaitedCount l now ≡ 0 → Quiet l now
 quiet-of l now e =
-    let d = count (λ (x : Thing). leftAt x + l .path .down) now (l .transit .towards) in
+    let d = count (λ (x : InFlight). leftAt x + l .path .down) now (l .transit .towards) in
     let u = count (λ (x : Envelope). x .left + l .path .up) now (l .transit .from) in
     record { down = omega (arith, d, e); up = omega (arith, u, e) }
 
 -- the kth of what is under way to the unit is taken: it was the first that was awaited
-pub down-fewer : (l m : Lane) (now later k hi : ℕ) (d : Thing) → m .path ≡ l .path → m .transit .towards ≡ drop (suc k) (l .transit .towards)
+pub down-fewer : (l m : Lane) (now later k hi : ℕ) (d : InFlight) → m .path ≡ l .path → m .transit .towards ≡ drop (suc k) (l .transit .towards)
     → m .transit .from ≡ l .transit .from → Rising 0 hi (map leftAt (l .transit .towards)) → k < length (l .transit .towards)
     → overdue now (dueDown l) ≡ k → overdue later (dueUp l) ≡ overdue now (dueUp l) → later ≤ leftAt (getD (l .transit .towards) k d) + l .path .down
-    → inFlight m later + 1 ≡ inFlight l now
+    → awaitedCount m later + 1 ≡ awaitedCount l now
 down-fewer l m now later k hi d path towards from rising some late up due =
-    let f : Thing → ℕ = λ x. leftAt x + l .path .down in
+    let f : InFlight → ℕ = λ x. leftAt x + l .path .down in
     let g : Envelope → ℕ = λ e. e .left + l .path .up in
     let none = late-after leftAt (l .path .down) 0 hi later (l .transit .towards) k d rising some due in
     let a = count f now (l .transit .towards) in
@@ -168,9 +168,9 @@ down-fewer l m now later k hi d path towards from rising some late up due =
 pub up-fewer : (l m : Lane) (now later k hi : ℕ) (d : Envelope) → m .path ≡ l .path → m .transit .from ≡ drop (suc k) (l .transit .from)
     → m .transit .towards ≡ l .transit .towards → Rising 0 hi (map (λ (e : Envelope). e .left) (l .transit .from)) → k < length (l .transit .from)
     → overdue now (dueUp l) ≡ k → overdue later (dueDown l) ≡ overdue now (dueDown l) → later ≤ getD (l .transit .from) k d .left + l .path .up
-    → inFlight m later + 1 ≡ inFlight l now
+    → awaitedCount m later + 1 ≡ awaitedCount l now
 up-fewer l m now later k hi d path from towards rising some late down due =
-    let f : Thing → ℕ = λ x. leftAt x + l .path .down in
+    let f : InFlight → ℕ = λ x. leftAt x + l .path .down in
     let g : Envelope → ℕ = λ e. e .left + l .path .up in
     let none = late-after (λ (e : Envelope). e .left) (l .path .up) 0 hi later (l .transit .from) k d rising some due in
     let a = count g now (l .transit .from) in

@@ -22,24 +22,24 @@ use Rattle.ends.specs.declared.UnitRecord.{UnitRecord}
 use Rattle.traffic.specs.Passages.{misfit, passageNonce}
 use Rattle.traffic.specs.Receipts.{onuNotReceived}
 use Rattle.unicast.specs.Setting.{Site, Setting, clockDown, clockUp}
-use Rattle.unicast.specs.History.{Way, downward, upward, Envelope, Arrival, Lane, keyOf}
+use Rattle.unicast.specs.History.{Direction, downward, upward, Envelope, Arrival, Lane, keyOf}
 use Rattle.unicast.specs.Run.{State, laneAt, onuAt, sentAt, overhearing}
 use Rattle.unicast.specs.Premises.{Overhears}
 
 -- the sender's MAC and clock
-abbrev pub senderMac : Setting → Site → Way → ℕ
+abbrev pub senderMac : Setting → Site → Direction → ℕ
 senderMac w s downward = w .mac
 senderMac w s upward = s .identity .mac
 
 -- of a send at that tick, when the unit's delay up was that
-abbrev pub senderClock : Setting → ℕ → Way → ℕ → ℕ
+abbrev pub senderClock : Setting → ℕ → Direction → ℕ → ℕ
 senderClock w up downward tick = clockDown (w .first) tick
 senderClock w up upward tick = clockUp (w .first) up tick
 
 -- what tells an envelope's counter blocks from another's
 abbrev pub nonceFor : Setting → Site → Envelope → Nonce
 nonceFor w s e =
-    record { channel = e .channel; mac = senderMac w s (e .way); clock = senderClock w (e .up) (e .way) (e .left) }
+    record { channel = e .channel; mac = senderMac w s (e .direction); clock = senderClock w (e .up) (e .direction) (e .left) }
 
 -- number 0 is clear; n ≥ 1 is sealed with key n
 abbrev pub isSealed : Envelope → Bool
@@ -55,7 +55,7 @@ pub record PassageRight (w : Setting) (l : Lane) (e : Envelope) (channel : ℕ) 
 -- give for them
 pub record SentRight (w : Setting) (l : Lane) (e : Envelope) : Type 0 where
   pub passage : PassageRight w l e (e .channel) (e .passage)
-  pub header : e .header ≡ envelopeHeader (e .number) (e .channel) (e .llid) (senderClock w (e .up) (e .way) (e .left))
+  pub header : e .header ≡ envelopeHeader (e .number) (e .channel) (e .llid) (senderClock w (e .up) (e .direction) (e .left))
   pub octets : e .octets ≡ carried (isSealed e) (keyExpansion (keyOf (l .keys) (e .number))) (nonceFor w (l .site) e) (e .payload)
   pub count : e .count ≡ countCarried (isSealed e) (e .payload)
   -- 02, C-17
@@ -95,10 +95,10 @@ pub record Holds (l : Lane) (n : ℕ) (u : UnitRecord) (o : Onu) : Type 0 where
   pub onuKey : keyIn (o .keys .slots) n ≡ keyOf (l .keys) n
 
 -- an envelope numbered n has arrived that way
-pub record ArrivedNumbered (l : Lane) (way : Way) (n : ℕ) : Type 0 where
+pub record ArrivedNumbered (l : Lane) (direction : Direction) (n : ℕ) : Type 0 where
   pub arrival : Arrival
   pub among : List·Memᴰ arrival (l .past .arrived)
-  pub thatWay : arrival .envelope .way ≡ way
+  pub thatWay : arrival .envelope .direction ≡ direction
   pub numbered : arrival .envelope .number ≡ n
 
 -- (3) where the switches are n and an envelope numbered n has arrived each way, both ends hold key n
@@ -110,8 +110,8 @@ LastKeyHeld s =
 
 -- (4) what an overheard envelope is refused for: a buffer that does not fit, else downstream an LLID of another unit, upstream its
 -- direction
-abbrev pub overheardFor : Bool → Way → Refusal
-overheardFor true way = BadLength
+abbrev pub overheardFor : Bool → Direction → Refusal
+overheardFor true direction = BadLength
 overheardFor false downward = UnknownLlid
 overheardFor false upward = OutOfRange
 
@@ -123,4 +123,4 @@ pub record Claim (w : Setting) (s : State) : Type 0 where
   -- (4) what another registered unit overhears is refused, with count 0, and leaves that unit and its buffer as they were
   pub overheard : (u v k : ℕ) (out : List ℕ) → Overhears s u v k
       → overhearing s u v k out
-      ≡ withOutput (onuNotReceived (onuAt s u) (overheardFor (misfit (sentAt s v k .octets) out) (sentAt s v k .way))) out
+      ≡ withOutput (onuNotReceived (onuAt s u) (overheardFor (misfit (sentAt s v k .octets) out) (sentAt s v k .direction))) out

@@ -10,9 +10,9 @@ use Rattle.protocol.specs.OnuCalls.{newTimeOf, clockMessageAt, keyMessageAt}
 use Rattle.ends.specs.declared.Onu.{Onu}
 use Rattle.traffic.specs.Sends.{oltSendOf, onuSendOf}
 use Rattle.traffic.specs.Receipts.{oltReceiveOf, onuReceiveOf}
-use Rattle.unicast.specs.History.{Envelope, Thing, clockMessage, keyMessage, envelope, Arrival}
+use Rattle.unicast.specs.History.{Envelope, InFlight, clockMessage, keyMessage, envelope, Arrival}
 use Rattle.unicast.specs.Events.{Event, advance, register, capture, clockSend, offer, retry, sendDown, sendUp, arriveDown, arriveUp, arriveAnswer, overhear, changePath, measure, newTime, strayClock, strayKey, strayAnswer, strayDown, strayUp}
-use Rattle.unicast.specs.Run.{State, start, step, run, accepted, laneAt, onuAt, thingAt, envelopeAt, sentAt, overhearing, answerAt}
+use Rattle.unicast.specs.Run.{State, start, step, run, accepted, laneAt, onuAt, inFlightAt, envelopeAt, sentAt, overhearing, answerAt}
 use Rattle.unicast.specs.Claim.{nonceFor}
 use Rattle.unicast.specs.Example.{example, events}
 
@@ -26,7 +26,7 @@ played = after events
 ---- the calls that were refused
 
 -- the number that the unit's call on what arrived returned
-unfoldable pub arrivalNumber : Onu → List ℕ → Thing → ℕ
+unfoldable pub arrivalNumber : Onu → List ℕ → InFlight → ℕ
 arrivalNumber o out (clockMessage m c t) = clockMessageAt o m .number
 arrivalNumber o out (keyMessage m t) = keyMessageAt o m .number
 arrivalNumber o out (envelope e) = onuReceiveOf o (e .header) (e .octets) out .answer .number
@@ -41,7 +41,7 @@ callNumber s (offer llid key) = offerOf (s .olt) llid key .number
 callNumber s (retry llid) = retryOf (s .olt) llid .number
 callNumber s (sendDown llid channel p out) = oltSendOf (s .olt) llid channel p out .answer .number
 callNumber s (sendUp u llid channel p out) = onuSendOf (onuAt s u) llid channel p out .answer .number
-callNumber s (arriveDown u k out) = arrivalNumber (onuAt s u) out (thingAt s u k)
+callNumber s (arriveDown u k out) = arrivalNumber (onuAt s u) out (inFlightAt s u k)
 callNumber s (arriveUp u k out) = oltReceiveOf (s .olt) (envelopeAt s u k .header) (envelopeAt s u k .octets) out .answer .number
 callNumber s (arriveAnswer u k llid) = acknowledgeOf (s .olt) llid (answerAt s u k .acknowledgement) .number
 callNumber s (overhear u v k out) = overhearing s u v k out .answer .number

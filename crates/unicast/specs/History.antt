@@ -15,14 +15,14 @@ use Rattle.protocol.specs.declared.Passage.{Passage}
 use Rattle.unicast.specs.Setting.{Delays, Site}
 
 -- which way an envelope goes
-pub data Way : Type 0 where
-  downward : Way
-  upward : Way
+pub data Direction : Type 0 where
+  downward : Direction
+  upward : Direction
 
 -- an envelope that an accepted send handed over: its tick, the unit's delay up at that tick, what it was sent with, what was handed
 -- over, what it was sealed with, its number
 pub record Envelope : Type 0 where
-  pub way : Way
+  pub direction : Direction
   pub left : ℕ
   pub up : ℕ
   pub llid : ℕ
@@ -36,12 +36,12 @@ pub record Envelope : Type 0 where
   pub number : ℕ
 
 -- what is under way to a unit, with the tick at which it left; a clock message also with the tick of its capture
-pub data Thing : Type 0 where
-  clockMessage : Stamps → ℕ → ℕ → Thing
-  keyMessage : KeyMessage → ℕ → Thing
-  envelope : Envelope → Thing
+pub data InFlight : Type 0 where
+  clockMessage : Stamps → ℕ → ℕ → InFlight
+  keyMessage : KeyMessage → ℕ → InFlight
+  envelope : Envelope → InFlight
 
-abbrev pub leftAt : Thing → ℕ
+abbrev pub leftAt : InFlight → ℕ
 leftAt (clockMessage m c t) = t
 leftAt (keyMessage m t) = t
 leftAt (envelope e) = e .left
@@ -80,7 +80,7 @@ pub record Keys : Type 0 where
 
 -- what has left and may still arrive, in order, and the unit's acknowledgements
 pub record Transit : Type 0 where
-  pub towards : List Thing
+  pub towards : List InFlight
   pub from : List Envelope
   pub answered : List Answered
 
@@ -151,10 +151,10 @@ laneCaptured now l =
     record { site = l .site; path = l .path; entry = l .entry; captured = now; keys = l .keys; transit = l .transit; past = l .past }
 
 -- a message or an envelope leaves for the unit
-unfoldable pub leaving : Transit → Thing → Transit
+unfoldable pub leaving : Transit → InFlight → Transit
 leaving t x = record { towards = t .towards ++ (x ∷ []); from = t .from; answered = t .answered }
 
-unfoldable pub laneLeaving : Thing → Lane → Lane
+unfoldable pub laneLeaving : InFlight → Lane → Lane
 laneLeaving x l = laneWith l (l .keys) (leaving (l .transit) x) (l .past)
 
 unfoldable pub laneOffered : List ℕ → Lane → Lane

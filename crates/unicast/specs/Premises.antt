@@ -13,9 +13,9 @@ use Rattle.ends.specs.declared.Identity.{Identity}
 use Rattle.traffic.specs.Sends.{onuSendOf}
 use Rattle.traffic.specs.Receipts.{oltReceiveOf, onuReceiveOf}
 use Rattle.unicast.specs.Setting.{Delays, Site, Setting}
-use Rattle.unicast.specs.History.{Thing, clockMessage, keyMessage, envelope, leftAt}
+use Rattle.unicast.specs.History.{InFlight, clockMessage, keyMessage, envelope, leftAt}
 use Rattle.unicast.specs.Events.{Event, advance, register, capture, clockSend, offer, retry, sendDown, sendUp, arriveDown, arriveUp, arriveAnswer, overhear, changePath, measure, newTime, strayClock, strayKey, strayAnswer, strayDown, strayUp}
-use Rattle.unicast.specs.Run.{State, step, laneAt, onuAt, thingAt, envelopeAt, answerAt}
+use Rattle.unicast.specs.Run.{State, step, laneAt, onuAt, inFlightAt, envelopeAt, answerAt}
 
 -- "from fresh ends": the OLT and every unit were made (D52)
 pub record Fresh (w : Setting) : Type 0 where
@@ -38,7 +38,7 @@ pub record NewKey (s : State) (key : List ℕ) : Type 0 where
   pub unused : (u n : ℕ) → n < length (laneAt s u .keys .offers) → getD (laneAt s u .keys .offers) n [] ≡ key → ⊥
 
 -- an envelope comes with a fitting buffer (D57)
-abbrev pub FittingBuffer : Thing → List ℕ → Type 0
+abbrev pub FittingBuffer : InFlight → List ℕ → Type 0
 FittingBuffer (clockMessage m c t) out = Unit {0}
 FittingBuffer (keyMessage m t) out = Unit {0}
 FittingBuffer (envelope e) out = length out ≡ length (e .octets)
@@ -47,8 +47,8 @@ FittingBuffer (envelope e) out = length out ≡ length (e .octets)
 -- is no longer under way
 pub record DueDown (s : State) (u k : ℕ) (out : List ℕ) : Type 0 where
   pub some : k < length (laneAt s u .transit .towards)
-  pub now : leftAt (thingAt s u k) + laneAt s u .path .down ≡ s .history .now
-  pub buffer : FittingBuffer (thingAt s u k) out
+  pub now : leftAt (inFlightAt s u k) + laneAt s u .path .down ≡ s .history .now
+  pub buffer : FittingBuffer (inFlightAt s u k) out
 
 pub record DueUp (s : State) (u k : ℕ) (out : List ℕ) : Type 0 where
   pub some : k < length (laneAt s u .transit .from)

@@ -15,24 +15,24 @@ use Rattle.ends.specs.Identities.{has}
 use Rattle.ends.specs.Limits.{maxKeyNumber}
 use Rattle.ends.specs.Table.{unitAt}
 use Rattle.unicast.specs.Setting.{Setting}
-use Rattle.unicast.specs.History.{Way, downward, upward, Envelope, Thing, clockMessage, keyMessage, envelope, leftAt, Answered, Arrival, Lane, isSynced}
+use Rattle.unicast.specs.History.{Direction, downward, upward, Envelope, InFlight, clockMessage, keyMessage, envelope, leftAt, Answered, Arrival, Lane, isSynced}
 use Rattle.unicast.specs.Events.{Event, advance, register, capture, clockSend, offer, retry, sendDown, sendUp, arriveDown, arriveUp, arriveAnswer, overhear, changePath, measure, newTime, strayClock, strayKey, strayAnswer, strayDown, strayUp}
-use Rattle.unicast.specs.Run.{State, start, step, run, laneAt, onuAt, thingAt, envelopeAt}
+use Rattle.unicast.specs.Run.{State, start, step, run, laneAt, onuAt, inFlightAt, envelopeAt}
 use Rattle.unicast.specs.Premises.{Fresh, NewKey, Meets}
 use Rattle.unicast.specs.Claim.{Holds, ArrivedNumbered}
 
 ---- where a unit stands
 
-abbrev pub goes : Way → Way → Bool
+abbrev pub goes : Direction → Direction → Bool
 goes downward downward = true
 goes downward upward = false
 goes upward downward = false
 goes upward upward = true
 
 -- the highest number of the envelopes that arrived that way, at first 0
-unfoldable pub highest : Way → List Arrival → ℕ
-highest way [] = 0
-highest way (r ∷ rs) = pick (goes way (r .envelope .way)) (max (r .envelope .number) (highest way rs)) (highest way rs)
+unfoldable pub highest : Direction → List Arrival → ℕ
+highest direction [] = 0
+highest direction (r ∷ rs) = pick (goes direction (r .envelope .direction)) (max (r .envelope .number) (highest direction rs)) (highest direction rs)
 
 abbrev pub confirmedBy : Lane → ℕ
 confirmedBy l = highest upward (l .past .arrived)
@@ -76,7 +76,7 @@ limitOf l = waitOf l + l .entry .interval + 3 * tripOf l
 
 -- the ticks at which what is under way to and from the unit is due
 abbrev pub dueDown : Lane → List ℕ
-dueDown l = map (λ (x : Thing). leftAt x + l .path .down) (l .transit .towards)
+dueDown l = map (λ (x : InFlight). leftAt x + l .path .down) (l .transit .towards)
 
 abbrev pub dueUp : Lane → List ℕ
 dueUp l = map (λ (e : Envelope). e .left + l .path .up) (l .transit .from)
@@ -90,11 +90,11 @@ overdue now (t ∷ ts) = pick (ltb t now) (suc (overdue now ts)) 0
 abbrev pub awaited : ℕ → List ℕ → List ℕ
 awaited now ts = drop (overdue now ts) ts
 
-abbrev pub inFlight : Lane → ℕ → ℕ
-inFlight l now = length (awaited now (dueDown l)) + length (awaited now (dueUp l))
+abbrev pub awaitedCount : Lane → ℕ → ℕ
+awaitedCount l now = length (awaited now (dueDown l)) + length (awaited now (dueUp l))
 
 -- a buffer that fits
-abbrev pub bufferFor : Thing → List ℕ
+abbrev pub bufferFor : InFlight → List ℕ
 bufferFor (clockMessage m c t) = []
 bufferFor (keyMessage m t) = []
 bufferFor (envelope e) = e .octets
@@ -102,7 +102,7 @@ bufferFor (envelope e) = e .octets
 unfoldable pub nextDown : State → ℕ → ℕ → List Event
 nextDown s u tick =
     let k = overdue (s .history .now) (dueDown (laneAt s u)) in
-    advance (tick - s .history .now) ∷ arriveDown u k (bufferFor (thingAt s u k)) ∷ []
+    advance (tick - s .history .now) ∷ arriveDown u k (bufferFor (inFlightAt s u k)) ∷ []
 
 unfoldable pub nextUp : State → ℕ → ℕ → List Event
 nextUp s u tick =
@@ -192,7 +192,7 @@ onwards u llid key c tick s = pick (ltb c (confirmedBy (laneAt s u))) [] (rounds
 unfoldable pub recipe : ℕ → ℕ → List ℕ → State → List Event
 recipe u llid key s =
     let l = laneAt s u in
-    andThen (λ t. drained (inFlight l (s .history .now)) t u) (onwards u llid key (confirmedBy l) (s .history .now + waitOf l)) s
+    andThen (λ t. drained (awaitedCount l (s .history .now)) t u) (onwards u llid key (confirmedBy l) (s .history .now + waitOf l)) s
 
 ---- the claim
 
@@ -213,7 +213,7 @@ pub record Moving (s : State) (u llid : ℕ) (key : List ℕ) : Type 0 where
 -- nothing that is under way on the unit's line is lost by an event: an advance passes no tick at which something is due, and what arrives
 -- overtakes nothing
 abbrev pub Keeps : State → ℕ → Event → Type 0
-Keeps s u (advance n) = inFlight (laneAt s u) (s .history .now + n) ≡ inFlight (laneAt s u) (s .history .now)
+Keeps s u (advance n) = awaitedCount (laneAt s u) (s .history .now + n) ≡ awaitedCount (laneAt s u) (s .history .now)
 Keeps s u (arriveDown v k out) = v ≡ u → k ≡ overdue (s .history .now) (dueDown (laneAt s u))
 Keeps s u (arriveUp v k out) = v ≡ u → k ≡ overdue (s .history .now) (dueUp (laneAt s u))
 Keeps s u (register v i trip n) = Unit {0}
@@ -260,4 +260,4 @@ abbrev pub Progress : Type 0
 Progress =
     (w : Setting) (es : List Event) (u llid : ℕ) (key : List ℕ) → Fresh w → Meets w (start w) es → Moving (run (start w) es) u llid key
     → Brings w (run (start w) es) u (confirmedBy (laneAt (run (start w) es) u) + 1) (limitOf (laneAt (run (start w) es) u))
-    (maxEvents + 2 * inFlight (laneAt (run (start w) es) u) (run (start w) es .history .now)) (recipe u llid key (run (start w) es))
+    (maxEvents + 2 * awaitedCount (laneAt (run (start w) es) u) (run (start w) es .history .now)) (recipe u llid key (run (start w) es))

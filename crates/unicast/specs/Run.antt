@@ -26,7 +26,7 @@ use Rattle.traffic.specs.Sends.{oltSendOf, onuSendOf}
 use Rattle.traffic.specs.Receipts.{oltReceiveOf, onuReceiveOf}
 use Rattle.traffic.specs.declared.OnuReceived.{OnuReceived}
 use Rattle.unicast.specs.Setting.{Delays, Site, Setting}
-use Rattle.unicast.specs.History.{downward, upward, Envelope, Thing, clockMessage, keyMessage, envelope, Answered, Arrival, Lane, History, numberDown, laneRegistered, laneCaptured, laneLeaving, laneOffered, laneAcknowledged, laneSentDown, laneSentUp, laneTaken, laneAnswered, laneArrivedDown, laneArrivedUp, laneMoved}
+use Rattle.unicast.specs.History.{downward, upward, Envelope, InFlight, clockMessage, keyMessage, envelope, Answered, Arrival, Lane, History, numberDown, laneRegistered, laneCaptured, laneLeaving, laneOffered, laneAcknowledged, laneSentDown, laneSentUp, laneTaken, laneAnswered, laneArrivedDown, laneArrivedUp, laneMoved}
 use Rattle.unicast.specs.Events.{Event, advance, register, capture, clockSend, offer, retry, sendDown, sendUp, arriveDown, arriveUp, arriveAnswer, overhear, changePath, measure, newTime, strayClock, strayKey, strayAnswer, strayDown, strayUp}
 
 -- the ends and the history
@@ -153,7 +153,7 @@ retrying s llid r = atOlt s (r .olt) (r .number) llid (λ l. laneLeaving (keyMes
 unfoldable pub envelopeDown : ℕ → Delays → Olt → ℕ → ℕ → List ℕ → List ℕ → ℕ → Envelope
 envelopeDown now path o llid channel p out number =
     record {
-      way = downward;
+      direction = downward;
       left = now;
       up = path .up;
       llid = llid;
@@ -177,7 +177,7 @@ sendingDown s llid channel p out =
 unfoldable pub envelopeUp : ℕ → Delays → Onu → ℕ → ℕ → List ℕ → List ℕ → ℕ → Envelope
 envelopeUp now path o llid channel p out number =
     record {
-      way = upward;
+      direction = upward;
       left = now;
       up = path .up;
       llid = llid;
@@ -219,16 +219,16 @@ envelopeArriving s u k e out =
     atOnu s u (onuReceiveOf (onuAt s u) (e .header) (e .octets) out .answer .onu)
     (λ l. laneArrivedDown (receiptDown s u e out) (laneTaken k l))
 
-unfoldable pub thingArriving : State → ℕ → ℕ → List ℕ → Thing → State
-thingArriving s u k out (clockMessage m c t) = messageArriving s u k (clockMessageAt (onuAt s u) m)
-thingArriving s u k out (keyMessage m t) = messageArriving s u k (keyMessageAt (onuAt s u) m)
-thingArriving s u k out (envelope e) = envelopeArriving s u k e out
+unfoldable pub inFlightArriving : State → ℕ → ℕ → List ℕ → InFlight → State
+inFlightArriving s u k out (clockMessage m c t) = messageArriving s u k (clockMessageAt (onuAt s u) m)
+inFlightArriving s u k out (keyMessage m t) = messageArriving s u k (keyMessageAt (onuAt s u) m)
+inFlightArriving s u k out (envelope e) = envelopeArriving s u k e out
 
 -- an envelope that never was: of zeros
 unfoldable pub noEnvelope : Envelope
 noEnvelope =
     record {
-      way = downward;
+      direction = downward;
       left = 0;
       up = 0;
       llid = 0;
@@ -242,8 +242,8 @@ noEnvelope =
       number = 0;
     }
 
-abbrev pub thingAt : State → ℕ → ℕ → Thing
-thingAt s u k = getD (laneAt s u .transit .towards) k (envelope noEnvelope)
+abbrev pub inFlightAt : State → ℕ → ℕ → InFlight
+inFlightAt s u k = getD (laneAt s u .transit .towards) k (envelope noEnvelope)
 
 abbrev pub envelopeAt : State → ℕ → ℕ → Envelope
 envelopeAt s u k = getD (laneAt s u .transit .from) k noEnvelope
@@ -304,7 +304,7 @@ step s (offer llid key) = offering s llid key (offerOf (s .olt) llid key)
 step s (retry llid) = retrying s llid (retryOf (s .olt) llid)
 step s (sendDown llid channel p out) = sendingDown s llid channel p out
 step s (sendUp u llid channel p out) = sendingUp s u llid channel p out
-step s (arriveDown u k out) = thingArriving s u k out (thingAt s u k)
+step s (arriveDown u k out) = inFlightArriving s u k out (inFlightAt s u k)
 step s (arriveUp u k out) = arrivingUp s u k (envelopeAt s u k) out
 step s (arriveAnswer u k llid) = answering s llid (answerAt s u k .acknowledgement)
 step s (overhear u other k out) = unitAfter s u (overhearing s u other k out .answer .onu)

@@ -11,7 +11,7 @@ use Rattle.unicast.specs.Setting.{Setting}
 use Rattle.unicast.specs.Events.{Event, advance, register, capture, clockSend, offer, sendDown, sendUp, arriveDown, arriveUp, arriveAnswer}
 use Rattle.unicast.specs.Run.{State, start, run, laneAt, onuAt}
 use Rattle.unicast.specs.Premises.{Meets}
-use Rattle.unicast.specs.Progress.{limitOf, inFlight, recipe, maxEvents, Brings}
+use Rattle.unicast.specs.Progress.{limitOf, awaitedCount, recipe, maxEvents, Brings}
 use Rattle.unicast.specs.Example.{example, oltMac, firstClock, identityOf, siteOf, keyFrom, events}
 use Rattle.unicast.specs.Course.{after}
 
@@ -79,7 +79,7 @@ pub record Cases : Type 0 where
   pub old : Answer bothArrived 13 0 8 13
   -- in the middle of a key exchange: key 1 is offered, and its message under way
   pub offered : length (laneAt (after cutShort) 0 .keys .offers) ≡ 1
-  pub underWay : inFlight (laneAt (after cutShort) 0) (after cutShort .history .now) ≡ 1
+  pub underWay : awaitedCount (laneAt (after cutShort) 0) (after cutShort .history .now) ≡ 1
   pub cut : Brings example (after cutShort) 0 1 (limitOf (laneAt (after cutShort) 0))
-      (maxEvents + 2 * inFlight (laneAt (after cutShort) 0) (after cutShort .history .now))
+      (maxEvents + 2 * awaitedCount (laneAt (after cutShort) 0) (after cutShort .history .now))
       (recipe 0 5 (keyFrom 32) (after cutShort))

@@ -163,7 +163,8 @@ module _ (s r x : List ℕ) (h : 16 ≤ length r) (l : length x ≡ 6) where
       let back : withField (take 16 (set f 4 flags) ++ ys) (clockField (take 16 (set r 4 flags) ++ ys)) ≡ take 16 (set r 4 flags) ++ ys =
       put-back (take 16 (set f 4 flags) ++ ys) (take 16 (set r 4 flags) ++ ys)
       (stored-front f ys flags long ∙ rw (field-front r x h l) (sym (stored-front r ys flags h)))
-      (stored-from f ys flags long 12 (omega arith) (omega arith) ∙ rw (field-rest r x h l) (sym (stored-from r ys flags h 12 (omega arith) (omega arith)))) in
+      (stored-from f ys flags long 12 (omega arith) (omega arith) ∙ rw (field-rest r x h l)
+      (sym (stored-from r ys flags h 12 (omega arith) (omega arith)))) in
       rw (field-header r x h l, field-payload r x h l, ← stored-field r ys flags h) back
 
   added-same : (g : List ℕ → ℕ) (v : RecordVerdict) → addedAs g (withField r x) v ≡ addedAs g r v

@@ -72,7 +72,8 @@ seal-done w n p out o a j e =
 -- what the call leaves of a part of the output, and the count that it answers
 pub part-sealed : (w : List ℕ) (n : Nonce) (b out : List ℕ) (at k : ℕ) → at + k ≤ length b → length out ≡ length b → k % 9 ≡ 0 → k ≤ 65536
     → nonceFits n ≡ true → (a : SealAnswer) (t : List ℕ) → withOutput a t ≡ sealing true w n (part b at k) (part out at k)
-    → (sealCount a ≡ countEnciphered (part b at k)) × (sealRuns a ≡ runs (part b at k)) × (putMid at k out t ≡ replaced out at (sealed w n (part b at k)))
+    → (sealCount a ≡ countEnciphered (part b at k)) × (sealRuns a ≡ runs (part b at k))
+    × (putMid at k out t ≡ replaced out at (sealed w n (part b at k)))
 part-sealed w n b out at k inside same whole most fits a t e =
     let p = part b at k in
     let lp = part-length b at k inside in
@@ -105,7 +106,8 @@ pub clear-record : (s r : List ℕ) → verdictOf s r ≡ Clear → (openedRecor
 unfolding openedRecord recordAdds writtenAs addedAs
 clear-record s r e = (rw e, λ g. rw e)
 
-pub refused-record : (s r : List ℕ) (c : Refusal) → verdictOf s r ≡ RecordVerdict.Refused c → (openedRecord s r ≡ r) × ((g : List ℕ → ℕ) → recordAdds g s r ≡ 0)
+pub refused-record : (s r : List ℕ) (c : Refusal) → verdictOf s r ≡ RecordVerdict.Refused c
+    → (openedRecord s r ≡ r) × ((g : List ℕ → ℕ) → recordAdds g s r ≡ 0)
 unfolding openedRecord recordAdds writtenAs addedAs
 refused-record s r c e = (rw e, λ g. rw e)
 
@@ -153,7 +155,8 @@ key-expanded s keys (suc zero) x p h = x .second p
 key-expanded s keys (suc (suc j)) x p h = absurd (omega arith)
 
 -- the counter blocks of an openable record are of their range
-pub nonce-fits : (h : Header) (m t : ℕ) → headerFits h ≡ true → m < 2 ^ 48 → t < 2 ^ 48 → nonceFits (record { channel = h .channel; mac = m; clock = t }) ≡ true
+pub nonce-fits : (h : Header) (m t : ℕ) → headerFits h ≡ true → m < 2 ^ 48 → t < 2 ^ 48
+    → nonceFits (record { channel = h .channel; mac = m; clock = t }) ≡ true
 unfolding nonceFits headerFits
 nonce-fits h m t f p q = both-true (both-left _ _ (both-right _ _ f)) (both-true (lt-ltb _ _ p) (lt-ltb _ _ q))
 

@@ -99,7 +99,8 @@ unfolding dueOf
 due-next b i = rw add-one
 
 -- behind a pair that fits, the next record is due at its end
-pub next-due : (b : List ℕ) (i due l : ℕ) → pairOf b i ≡ Fits → due ≡ dueOf b i → l ≡ lengthOf b i → (due + l ≡ dueOf b (i + 1)) × (due + l ≤ length b)
+pub next-due : (b : List ℕ) (i due l : ℕ) → pairOf b i ≡ Fits → due ≡ dueOf b i → l ≡ lengthOf b i
+    → (due + l ≡ dueOf b (i + 1)) × (due + l ≤ length b)
 unfolding endOf
 next-due b i due l f p q =
     let w = pair-fits b i f in

@@ -68,7 +68,8 @@ pub record Turn (near : Bool) (s b : List ℕ) (i : ℕ) (h : Header) (v : Recor
   pub opens : (j t : ℕ) → v ≡ Sealed j t → Opens s h j t
 
 module _ (s b : List ℕ) (i : ℕ) (h : Header) (eh : h ≡ headerOf b i) (v : RecordVerdict) (old d : Drift) where
-  heard-turn : (r : Heard) → r ≡ heard (presenceOf s) (llidOf s) old h → old ≡ driftAt s b i → d ≡ r .drift → v ≡ r .verdict → Turn true s b i h v d
+  heard-turn : (r : Heard) → r ≡ heard (presenceOf s) (llidOf s) old h → old ≡ driftAt s b i → d ≡ r .drift → v ≡ r .verdict
+      → Turn true s b i h v d
   unfolding nearVerdict driftAt pick heard
   heard-turn r e eo ed ev =
       record {
@@ -83,13 +84,15 @@ module _ (s b : List ℕ) (i : ℕ) (h : Header) (eh : h ≡ headerOf b i) (v : 
   usual-turn c ev ed = record { verdict = ev ∙ rw eh; drift = ed; opens = λ j t q. opens-by s h (h .clock) j t (sym ev ∙ q) c }
 
   -- by the way that was taken
-  pub near-turn : (near : Bool) → near ≡ true → old ≡ driftBy near s b i → (r : Heard) → r ≡ heard (presenceOf s) (llidOf s) old h → d ≡ r .drift
+  pub near-turn : (near : Bool) → near ≡ true → old ≡ driftBy near s b i → (r : Heard) → r ≡ heard (presenceOf s) (llidOf s) old h
+      → d ≡ r .drift
       → v ≡ r .verdict → Turn near s b i h v d
   unfolding pick
   near-turn true t eo r e ed ev = heard-turn r e eo ed ev
   near-turn false t eo r e ed ev = true-false (sym t)
 
-  pub own-turn : (near : Bool) → near ≡ false → old ≡ driftBy near s b i → h .clock < sixOctets → v ≡ verdictFor s h → d ≡ old → Turn near s b i h v d
+  pub own-turn : (near : Bool) → near ≡ false → old ≡ driftBy near s b i → h .clock < sixOctets → v ≡ verdictFor s h → d ≡ old
+      → Turn near s b i h v d
   unfolding pick
   own-turn true t eo c ev ed = true-false t
   own-turn false t eo c ev ed = usual-turn c ev (ed ∙ eo)

@@ -159,7 +159,8 @@ bounded b k from n e =
     let q = bounded-by b k from n (payloadVerdict b k) refl e in
     record { inside = q .0; octets = q .1 }
 
-refused-part-by : (b : List ℕ) (i : ℕ) (l : List ℕ) (r : Refusal) (v : Verdict) → boundsAfter v (boundsOf b i) ≡ Bounds.Refused r → unlessRefused v l ≡ []
+refused-part-by : (b : List ℕ) (i : ℕ) (l : List ℕ) (r : Refusal) (v : Verdict) → boundsAfter v (boundsOf b i) ≡ Bounds.Refused r
+    → unlessRefused v l ≡ []
 unfolding boundsOf
 refused-part-by b i l r Accepted e = let z : _≡_ {A = ℕ} 0 1 = cc in absurd (omega arith)
 refused-part-by b i l r (Refused s) e = refl

@@ -55,7 +55,8 @@ module _ (r ys : List ℕ) (f : ℕ) (h : 16 ≤ length r) where
   kept-octet : (p : ℕ) → p < 16 → (p ≡ 4 → ⊥) → getD (take 16 (set r 4 f) ++ ys) p 0 ≡ getD r p 0
   kept-octet p l n = header-octet p l ∙ getD-set-other r 4 p f 0 n
 
-  kept-number : (k at : ℕ) → at + k ≤ 16 → ((j : ℕ) → j < k → at + j ≡ 4 → ⊥) → numberAt k (take 16 (set r 4 f) ++ ys) at ≡ numberAt k r at
+  kept-number : (k at : ℕ) → at + k ≤ 16 → ((j : ℕ) → j < k → at + j ≡ 4 → ⊥)
+      → numberAt k (take 16 (set r 4 f) ++ ys) at ≡ numberAt k r at
   kept-number k at l n = number-same k (take 16 (set r 4 f) ++ ys) r at at (λ j g. kept-octet (at + j) (omega arith) (n j g))
 
   flags-only : recordHeader (take 16 (set r 4 f) ++ ys) ≡ withFlags (recordHeader r) f
@@ -188,7 +189,8 @@ module _ (s b : List ℕ) (n : ℕ) (r : Records b n) where
       (λ j l h. rw (there j (omega arith)) (record-again s (recordOf b j) (header-there b n r j (omega arith)) .1 g))
       ∙ no-sum 0 n)
 
-pub accepts-again : (s b : List ℕ) (m n : ℕ) → settingsVerdict s ≡ Accepted → m ≡ length b → directoryOf b ≡ Good n → openVerdict s b m ≡ Accepted
+pub accepts-again : (s b : List ℕ) (m n : ℕ) → settingsVerdict s ≡ Accepted → m ≡ length b → directoryOf b ≡ Good n
+    → openVerdict s b m ≡ Accepted
 unfolding openVerdict andThen
 accepts-again s b m n t e d = refuse-passed _ BadLength _ (not-of-true (eq-eqb _ _ e)) ∙ rw (t, d)
 

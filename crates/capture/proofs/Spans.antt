@@ -37,7 +37,8 @@ lies-fits nonce size room to l =
     both-true (both-true (le-leb _ _ (l .inside)) (both-true (eq-eqb _ _ (l .same)) (le-leb _ _ (l .most)))) (l .fits)
 
 -- an answer by its parts
-pub opening-is : {r : Work} {m n : ℕ} {o p : List ℕ} → r .count ≡ m → r .runs ≡ n → o ≡ p → withOutput r o ≡ withOutput (record { count = m; runs = n }) p
+pub opening-is : {r : Work} {m n : ℕ} {o p : List ℕ} → r .count ≡ m → r .runs ≡ n → o ≡ p
+    → withOutput r o ≡ withOutput (record { count = m; runs = n }) p
 opening-is e f g = rw (← e, ← f, ← g)
 
 module _ (w : List ℕ) (nonce : Nonce) (flags : ℕ) (b out : List ℕ) (from eqs : ℕ) where

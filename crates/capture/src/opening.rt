@@ -93,7 +93,9 @@ fn open_part(
     requires { ⌜ Span (now block) (now output) from to ⌝ }
     requires { ⌜ nonceFits nonce ≡ true ⌝ }
     ensures { λ r. ⌜ Took (part (now (block .entry)) (from + headerOctets) (to - (from + headerOctets))) r ⌝ }
-    ensures { λ _. ⌜ now (output .exit) ≡ replaced (set (now (output .entry)) (from + flagsAt) flags) (from + headerOctets) (sealed (keys .octets) nonce (part (now (block .entry)) (from + headerOctets) (to - (from + headerOctets)))) ⌝ }
+    ensures { λ _. ⌜ now (output .exit)
+        ≡ replaced (set (now (output .entry)) (from + flagsAt) flags) (from + headerOctets)
+        (sealed (keys .octets) nonce (part (now (block .entry)) (from + headerOctets) (to - (from + headerOctets)))) ⌝ }
 {
     output[from + FLAGS] = flags;
     let start = from + HEADER_OCTETS;

@@ -77,7 +77,8 @@ pub fn pair(bounds: Bounds) -> u16
 // The payload of record k as a part of the block, empty where it is refused.
 pub fn part(block: &[u8], k: usize) -> &[u8]
     ensures { λ r. ⌜ now r ≡ payloadPart (now (block .entry)) k ⌝ }
-    ensures { λ r. ⌜ PartOf (block .entry) r (boundsOffset (payloadBounds (now (block .entry)) k)) (boundsLength (payloadBounds (now (block .entry)) k)) ⌝ }
+    ensures { λ r. ⌜ PartOf (block .entry) r (boundsOffset (payloadBounds (now (block .entry)) k))
+        (boundsLength (payloadBounds (now (block .entry)) k)) ⌝ }
 {
     match locate(block, k) {
         Bounds::Within(from, octets) => {

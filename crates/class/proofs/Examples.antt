@@ -101,7 +101,8 @@ same-records (suc zero) h e = true-false (sym e ∙ ap maySee hidden-second ∙ 
 same-records (suc (suc i)) h e = absurd (omega arith)
 
 first-told : toldOf true example firstSets firstRights firstBlock 0 ≡ Told Clear
-unfolding toldOf driftFor judgedFor toldTo judged heard heardAt nearest recordVerdict inOrder keyVerdict headerFits channelFits downstream upstream flagsFit encEnabled lowCleared bitOf recordOf offsetOf lengthOf recordHeader ownRights setFrom llidOf presenceOf maySee mayOpen both either pick
+unfolding toldOf driftFor judgedFor toldTo judged heard heardAt nearest recordVerdict inOrder keyVerdict headerFits channelFits downstream upstream flagsFit
+    encEnabled lowCleared bitOf recordOf offsetOf lengthOf recordHeader ownRights setFrom llidOf presenceOf maySee mayOpen both either pick
 first-told = refl
 
 second-hidden : toldOf true example firstSets firstRights firstBlock 1 ≡ Hidden

@@ -47,7 +47,8 @@ module _ (c : Caller) (s q keys : List ℕ) (k : ℕ) where
       record {
         size = size;
         kept = λ m b. ap (λ (t : List ℕ). expandedAt t m) whole ∙ before m b;
-        there = λ x. ap (λ (t : List ℕ). expandedAt t k) whole ∙ rw (drop-at (take (176 * k) keys) (w ++ back) (176 * k) front) (take-at w back 176 l ∙ f);
+        there = λ x. ap (λ (t : List ℕ). expandedAt t k) whole ∙ rw (drop-at (take (176 * k) keys) (w ++ back) (176 * k) front)
+            (take-at w back 176 l ∙ f);
         told = sym (pick-true _ _ e);
       } where
         before : (m : ℕ) → m < k → expandedAt (replaced keys (176 * k) w) m ≡ expandedAt keys m
@@ -62,12 +63,17 @@ abbrev pub Counts : Caller → List ℕ → List ℕ → ℕ → ℕ
 Counts c s q k = pick (isExpanded c s q k) 1 0
 
 pub counts-few : (c : Caller) (s q : List ℕ) (k : ℕ) → sum 0 k (Counts c s q) ≤ k
-counts-few c s q k = omega (arith, sum-below 0 k 1 (Counts c s q) (λ m. pick-holds (λ n. n ≤ 1) (isExpanded c s q m) 1 0 (λ e. omega arith) (λ e. omega arith)))
+counts-few c s q k = omega (
+  arith,
+  sum-below 0 k 1 (Counts c s q) (λ m. pick-holds (λ n. n ≤ 1) (isExpanded c s q m) 1 0 (λ e. omega arith)
+      (λ e. omega arith)),
+)
 
 pub none-expanded : (c : Caller) (s q keys : List ℕ) → Expanded c s q keys 0
 none-expanded c s q keys = record { there = λ k h e. absurd (omega arith) }
 
-pub one-expanded : (c : Caller) (s q keys next : List ℕ) (k r : ℕ) → Expanded c s q keys k → ExpandedNext c s q keys next k r → Expanded c s q next (k + 1)
+pub one-expanded : (c : Caller) (s q keys next : List ℕ) (k r : ℕ) → Expanded c s q keys k → ExpandedNext c s q keys next k r
+    → Expanded c s q next (k + 1)
 one-expanded c s q keys next k r x n =
     record {
       there = λ m h e.

@@ -40,7 +40,8 @@ use Rattle.class.proofs.Turns.{see-none}
 use Rattle.class.proofs.Calls.{found, call-suits}
 
 -- the set of an LLID goes by the LLIDs alone
-set-same : (s t : List ℕ) (l j m : ℕ) → ((k : ℕ) → j ≤ k → k < j + m → llidOf (setOf s k) ≡ llidOf (setOf t k)) → setFrom s l j m ≡ setFrom t l j m
+set-same : (s t : List ℕ) (l j m : ℕ) → ((k : ℕ) → j ≤ k → k < j + m → llidOf (setOf s k) ≡ llidOf (setOf t k))
+    → setFrom s l j m ≡ setFrom t l j m
 unfolding setFrom
 set-same s t l j zero h = refl
 set-same s t l j (suc m) h =

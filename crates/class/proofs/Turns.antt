@@ -46,7 +46,8 @@ use Rattle.class.proofs.Placing.{hidden-length}
 
 -- ---- what is told is what may be seen, and what is opened is what may be opened
 told-by : (t : Bool) (v : ClassVerdict) (d e : Drift) (w : RecordVerdict)
-    → pick {A = ClassHeard} t (record { verdict = v; drift = d }) (record { verdict = Hidden; drift = e }) .verdict ≡ Told w → (t ≡ true) × (v ≡ Told w)
+    → pick {A = ClassHeard} t (record { verdict = v; drift = d }) (record { verdict = Hidden; drift = e }) .verdict ≡ Told w
+    → (t ≡ true) × (v ≡ Told w)
 unfolding pick
 told-by true v d e w f = (refl, f)
 told-by false v d e w f = let z : _≡_ {A = ℕ} 0 1 = cc in absurd (omega arith)
@@ -70,7 +71,8 @@ module _ (near : Bool) (q : ℕ) (s : List ℕ) (drift : Drift) (h : Header) whe
   unfolding judgedFor
   told-seen w e = told-by (maySee q) _ _ drift w e .0
 
-  pub told-sealed : (i t : ℕ) → judgedFor near q s drift h .verdict ≡ Told (Sealed i t) → (mayOpen q ≡ true) × (judged near s drift h .verdict ≡ Sealed i t)
+  pub told-sealed : (i t : ℕ) → judgedFor near q s drift h .verdict ≡ Told (Sealed i t)
+      → (mayOpen q ≡ true) × (judged near s drift h .verdict ≡ Sealed i t)
   unfolding judgedFor toldTo
   told-sealed i t e = opened-by-right (mayOpen q) _ i t (told-by (maySee q) _ _ drift (Sealed i t) e .1)
 
@@ -79,7 +81,8 @@ pub see-none : maySee 0 ≡ false
 unfolding maySee mayOpen bitOf either
 see-none = refl
 
-judged-opens : (near : Bool) (s : List ℕ) (drift : Drift) (h : Header) → h .clock < sixOctets → (i t : ℕ) → judged near s drift h .verdict ≡ Sealed i t
+judged-opens : (near : Bool) (s : List ℕ) (drift : Drift) (h : Header) → h .clock < sixOctets → (i t : ℕ)
+    → judged near s drift h .verdict ≡ Sealed i t
     → Opens s h i t
 unfolding judged heard verdictFor
 judged-opens true s drift h c i t e = opens-at s drift h (nearest (expected drift h) (h .epam)) i t e

@@ -86,7 +86,8 @@ fn put_rows(
     requires { ⌜ directoryOf (now block) ≡ Good n ⌝ }
     requires { ⌜ at + bodyOctets ≤ length (now text) ⌝ }
     ensures { λ r. ⌜ (at ≤ r) × (r ≤ at + bodyOctets) ⌝ }
-    ensures { λ r. ⌜ take r (now (text .exit)) ≡ take at (now (text .entry)) ++ joined (rowFor near caller (now (sets .entry)) (now (rights .entry)) (now (block .entry))) 0 n ⌝ }
+    ensures { λ r. ⌜ take r (now (text .exit)) ≡ take at (now (text .entry))
+        ++ joined (rowFor near caller (now (sets .entry)) (now (rights .entry)) (now (block .entry))) 0 n ⌝ }
     ensures { λ r. ⌜ drop r (now (text .exit)) ≡ drop r (now (text .entry)) ⌝ }
 {
     let mut end = at;
@@ -118,7 +119,8 @@ fn put_body(
 ) -> usize
     requires { ⌜ at + bodyOctets ≤ length (now text) ⌝ }
     ensures { λ r. ⌜ (at ≤ r) × (r ≤ at + bodyOctets) ⌝ }
-    ensures { λ r. ⌜ take r (now (text .exit)) ≡ take at (now (text .entry)) ++ bodyFor near caller (now (sets .entry)) (now (rights .entry)) (now (block .entry)) ⌝ }
+    ensures { λ r. ⌜ take r (now (text .exit)) ≡ take at (now (text .entry))
+        ++ bodyFor near caller (now (sets .entry)) (now (rights .entry)) (now (block .entry)) ⌝ }
     ensures { λ r. ⌜ drop r (now (text .exit)) ≡ drop r (now (text .entry)) ⌝ }
 {
     match call_for(true, caller, sets, rights, block) {

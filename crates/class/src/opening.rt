@@ -180,7 +180,9 @@ fn write_for(
     requires { ⌜ Ready (now block) (now output) from ⌝ }
     requires { ⌜ SettledFor caller (now sets) (now keys) (now block) from h verdict ⌝ }
     ensures { λ r. ⌜ TookFor (recordFrom (now (block .entry)) from) verdict r ⌝ }
-    ensures { λ _. ⌜ now (output .exit) ≡ placedAt (now (block .entry)) (now (output .entry)) from (writtenFor (setOf (now (sets .entry)) (setFor caller (now (sets .entry)) (h .llid))) (recordFrom (now (block .entry)) from) verdict) ⌝ }
+    ensures { λ _. ⌜ now (output .exit)
+        ≡ placedAt (now (block .entry)) (now (output .entry)) from
+        (writtenFor (setOf (now (sets .entry)) (setFor caller (now (sets .entry)) (h .llid))) (recordFrom (now (block .entry)) from) verdict) ⌝ }
 {
     match verdict {
         ClassVerdict::Hidden => {
@@ -208,7 +210,8 @@ fn open_records(
 ) -> Read
     requires { ⌜ Copied caller (now sets) (now rights) (now keys) (now block) (now output) n ⌝ }
     ensures { λ r. ⌜ TookAllFor near caller (now (sets .entry)) (now (rights .entry)) (now (block .entry)) r ⌝ }
-    ensures { λ _. ⌜ now (output .exit) ≡ rebuilt (recordFor near caller (now (sets .entry)) (now (rights .entry)) (now (block .entry))) (now (block .entry)) ⌝ }
+    ensures { λ _. ⌜ now (output .exit)
+        ≡ rebuilt (recordFor near caller (now (sets .entry)) (now (rights .entry)) (now (block .entry))) (now (block .entry)) ⌝ }
 {
     let mut count: u64 = 0;
     let mut runs: u64 = 0;
@@ -244,7 +247,8 @@ pub fn open_for(
     block: &[u8],
     output: &mut [u8],
 ) -> NearAnswer
-    ensures { λ r. ⌜ withOutput r (now (output .exit)) ≡ openingFor near caller (now (sets .entry)) (now (rights .entry)) (now (block .entry)) (now (output .entry)) ⌝ }
+    ensures { λ r. ⌜ withOutput r (now (output .exit))
+        ≡ openingFor near caller (now (sets .entry)) (now (rights .entry)) (now (block .entry)) (now (output .entry)) ⌝ }
     ensures { λ _. ⌜ Secret near caller (now (sets .entry)) (now (rights .entry)) (now (block .entry)) (now (output .entry)) ⌝ }
     ensures { λ _. ⌜ Reader near caller (now (sets .entry)) (now (rights .entry)) (now (block .entry)) (now (output .entry)) ⌝ }
     ensures { λ _. ⌜ Example ⌝ }

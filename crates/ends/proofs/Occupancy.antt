@@ -37,7 +37,8 @@ unfolding taken
 taken-false c channel tick e = ltb-false tick (freeFrom c channel) e
 
 -- a send on a free channel makes no channel free earlier
-pub free-later : (c : Channels) (channel other tick eqs : ℕ) → taken c channel tick ≡ false → freeFrom c other ≤ freeFrom (occupied c channel tick eqs) other
+pub free-later : (c : Channels) (channel other tick eqs : ℕ) → taken c channel tick ≡ false
+    → freeFrom c other ≤ freeFrom (occupied c channel tick eqs) other
 unfolding freeFrom occupied pick
 free-later c channel other tick eqs e = by-channel (onZero other) (onZero channel) (taken-false c channel tick e) where
   by-channel : (t u : Bool) → pick u (c .zero) (c .one) ≤ tick

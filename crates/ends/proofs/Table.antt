@@ -70,14 +70,16 @@ find-at o llid i e =
     }
 
 -- the LLIDs of a unit are among the table's
-table-among : (us : List UnitRecord) (llid i : ℕ) → i < length us → has (getD us i pastUnit .identity) llid ≡ true → among llid (tableLlids us) ≡ true
+table-among : (us : List UnitRecord) (llid i : ℕ) → i < length us → has (getD us i pastUnit .identity) llid ≡ true
+    → among llid (tableLlids us) ≡ true
 unfolding tableLlids has
 table-among [] llid i h e = absurd (not-suc-le-zero h)
 table-among (u ∷ us) llid zero h e = among-append llid (llidsOf (u .identity)) (tableLlids us) ∙ either-left _ e
 table-among (u ∷ us) llid (suc i) h e =
     among-append llid (llidsOf (u .identity)) (tableLlids us) ∙ either-right _ (table-among us llid i (le-of-suc-le-suc h) e)
 
-from-own : (k : ℕ) (us : List UnitRecord) (llid i : ℕ) → distinct (tableLlids us) ≡ true → i < length us → has (getD us i pastUnit .identity) llid ≡ true
+from-own : (k : ℕ) (us : List UnitRecord) (llid i : ℕ) → distinct (tableLlids us) ≡ true → i < length us
+    → has (getD us i pastUnit .identity) llid ≡ true
     → findFrom k us llid ≡ At (k + i)
 unfolding findFrom tableLlids has
 from-own k [] llid i d h e = absurd (not-suc-le-zero h)

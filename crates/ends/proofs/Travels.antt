@@ -33,7 +33,8 @@ unfolding shiftOf
 shift-back changes n h = omega arith
 
 -- a change back that goes past the least
-pub shift-past : (changes n : ℕ) → shiftOf changes < n → n ≤ wordTurn → shiftOf ((changes + (wordTurn - n)) % wordTurn) + n ≡ shiftOf changes + wordTurn
+pub shift-past : (changes n : ℕ) → shiftOf changes < n → n ≤ wordTurn
+    → shiftOf ((changes + (wordTurn - n)) % wordTurn) + n ≡ shiftOf changes + wordTurn
 unfolding shiftOf
 shift-past changes n h l = omega arith
 

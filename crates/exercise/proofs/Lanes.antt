@@ -141,7 +141,8 @@ pub key-offered : (l : Lane) (n k : ℕ) (a b : Acknowledgement) → Kept l n k 
 unfolding laneOffered laneWith
 key-offered l n k a b x =
     record { place = x .place; path = x .path; registered = x .registered; offered = each; clocks = x .clocks; keys = x .keys } where
-      each : (i : ℕ) → i < length (l .keys .offers ++ (keyOfStep (suc k) ∷ [])) → OfStep (getD (l .keys .offers ++ (keyOfStep (suc k) ∷ [])) i []) (suc k)
+      each : (i : ℕ) → i < length (l .keys .offers ++ (keyOfStep (suc k) ∷ []))
+          → OfStep (getD (l .keys .offers ++ (keyOfStep (suc k) ∷ [])) i []) (suc k)
       each i h = by-test (ltb i (length (l .keys .offers))) refl where
         by-test : (t : Bool) → ltb i (length (l .keys .offers)) ≡ t → OfStep (getD (l .keys .offers ++ (keyOfStep (suc k) ∷ [])) i []) (suc k)
         by-test true e =

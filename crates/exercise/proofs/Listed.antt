@@ -108,7 +108,8 @@ onu-made = refl
 
 fresh : Fresh setting
 fresh = record { olt = olt-made; onus = made } where
-  made : (u : ℕ) (s : Site) → u < 1 → freshOnuOf (getD (site ∷ []) u s .identity) (getD (site ∷ []) u s .oltmac) (getD (site ∷ []) u s .time) .number ≡ 0
+  made : (u : ℕ) (s : Site) → u < 1 → freshOnuOf (getD (site ∷ []) u s .identity) (getD (site ∷ []) u s .oltmac)
+      (getD (site ∷ []) u s .time) .number ≡ 0
   made zero s h = onu-made
   made (suc u) s h = absurd (omega (arith, h))
 

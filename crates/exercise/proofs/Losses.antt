@@ -70,7 +70,8 @@ none-from s i zero e k h g = absurd (omega (arith, h, g))
 none-from s i (suc m) e k h g =
     ⊎-elim (λ (x : (matters s (suc i) ≡ true) × (First (suc i) ≡ None)). first-none (suc i) (x .1))
     (λ (x : (matters s (suc i) ≡ false) × (firstFrom s (suc i) m ≡ None)).
-    from-here (λ (j : ℕ). j < i + suc m → matters s (suc j) ≡ false) i (λ _. x .0) (λ j q z. none-from s (suc i) m (x .1) j q (omega (arith, z))) k h g)
+    from-here (λ (j : ℕ). j < i + suc m → matters s (suc j) ≡ false) i (λ _. x .0) (λ j q z. none-from s (suc i) m (x .1) j q (omega (arith, z)))
+    k h g)
     (first-split s i m None e)
 
 -- and conversely

@@ -36,7 +36,8 @@ unfolding all
 all-tabulated p i zero f h = refl
 all-tabulated p i (suc n) f h = both-true (h i) (all-tabulated p (suc i) n f h)
 
-all-retabulated : (p : ℕ → Bool) (i n : ℕ) (f g : ℕ → ℕ) → ((j : ℕ) → p (f j) ≡ true → p (g j) ≡ true) → all p (tabulate i n f) ≡ true
+all-retabulated : (p : ℕ → Bool) (i n : ℕ) (f g : ℕ → ℕ) → ((j : ℕ) → p (f j) ≡ true → p (g j) ≡ true)
+    → all p (tabulate i n f) ≡ true
     → all p (tabulate i n g) ≡ true
 unfolding all
 all-retabulated p i zero f g h e = refl

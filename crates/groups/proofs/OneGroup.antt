@@ -68,7 +68,8 @@ if-accepted (Refused r) a b c h = refl
 
 module _ {H : Type 0} (way : Verdict) (nothing : H) (s : Shared) (g : GroupRecord) (u : UnitRecord) (c : Outcome H) (d : GroupOutcome H) where
   -- from the unit's answer to the group's
-  pub group-reached : c .verdict ≡ d .verdict → c .channels ≡ d .channels → c .handed ≡ d .handed → (x : Outcome H) → x ≡ reached way nothing s u c
+  pub group-reached : c .verdict ≡ d .verdict → c .channels ≡ d .channels → c .handed ≡ d .handed → (x : Outcome H)
+      → x ≡ reached way nothing s u c
       → (r : GroupRecord) → r ≡ ifAccepted (x .verdict) (d .group) g
       → record { verdict = x .verdict; group = r; channels = x .channels; handed = x .handed } ≡ reachedGroup way nothing s g d
   unfolding reached reachedGroup

@@ -54,7 +54,8 @@ pub place-absent : (i x : ℕ) (l : List ℕ) → placeFrom i l x ≡ Nowhere �
 unfolding placeFrom among pick
 place-absent i x [] e = refl
 place-absent i x (y ∷ ys) e = by-head (eqb y x) refl (place-absent (suc i) x ys) e where
-  by-head : (t : Bool) → eqb y x ≡ t → (placeFrom (suc i) ys x ≡ Nowhere → among x ys ≡ false) → pick t (At i) (placeFrom (suc i) ys x) ≡ Nowhere
+  by-head : (t : Bool) → eqb y x ≡ t → (placeFrom (suc i) ys x ≡ Nowhere → among x ys ≡ false)
+      → pick t (At i) (placeFrom (suc i) ys x) ≡ Nowhere
       → either (eqb y x) (among x ys) ≡ false
   by-head true h more f = let z : _≡_ {A = ℕ} 0 1 = cc in absurd (omega arith)
   by-head false h more f = either-none h (more f)
@@ -121,7 +122,8 @@ llids-more l i d h e a =
     rw (add-one, take-suc l i d h, llids-append (take i l) (getD l i d ∷ [])) (distinct-more (groupLlids (take i l)) (getD l i d .llid) e a)
 
 -- one whose LLID is one of theirs
-pub llids-again : (n : ℕ) (l : List GroupRecord) (i : ℕ) (d : GroupRecord) → i < n → i < length l → among (getD l i d .llid) (groupLlids (take i l)) ≡ true
+pub llids-again : (n : ℕ) (l : List GroupRecord) (i : ℕ) (d : GroupRecord) → i < n → i < length l
+    → among (getD l i d .llid) (groupLlids (take i l)) ≡ true
     → distinct (groupLlids (take n l)) ≡ false
 unfolding groupLlids
 llids-again n l i d h k a =

@@ -84,7 +84,8 @@ pub fn offer(
     llid: u16,
     key: [u8; 16],
 ) -> GroupKeySent
-    ensures { λ r. ⌜ groupOutcome shared (r .verdict) (r .group) (r .message) ≡ reachedGroup way noKeyMessage shared group (offerGroup llid key set shared group) ⌝ }
+    ensures { λ r. ⌜ groupOutcome shared (r .verdict) (r .group) (r .message)
+        ≡ reachedGroup way noKeyMessage shared group (offerGroup llid key set shared group) ⌝ }
 {
     let unit = as_unit(group, set);
     let done = calls::offer(way, shared, unit, llid, key);
@@ -107,7 +108,8 @@ pub fn offer(
 
 // The offer's number and key again.
 pub fn retry(way: Verdict, shared: Shared, group: GroupRecord, llid: u16) -> GroupKeySent
-    ensures { λ r. ⌜ groupOutcome shared (r .verdict) (r .group) (r .message) ≡ reachedGroup way noKeyMessage shared group (retryGroup llid shared group) ⌝ }
+    ensures { λ r. ⌜ groupOutcome shared (r .verdict) (r .group) (r .message)
+        ≡ reachedGroup way noKeyMessage shared group (retryGroup llid shared group) ⌝ }
 {
     let unit = as_unit(group, true);
     let done = calls::retry(way, shared, unit, llid);
@@ -168,7 +170,8 @@ pub fn acknowledge(
     member: Found,
     answer: Answer,
 ) -> GroupAnswer
-    ensures { λ r. ⌜ groupOutcome shared (r .verdict) (r .group) silent ≡ reachedGroup way silent shared group (acknowledgeGroup answer member shared group) ⌝ }
+    ensures { λ r. ⌜ groupOutcome shared (r .verdict) (r .group) silent
+        ≡ reachedGroup way silent shared group (acknowledgeGroup answer member shared group) ⌝ }
 {
     let verdict = and_then(way, acknowledge_verdict(answer, member, group));
     let next = marked(group, member);

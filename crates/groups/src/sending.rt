@@ -42,7 +42,8 @@ pub fn send(
     channel: u8,
     eqs: u64,
 ) -> GroupSent
-    ensures { λ r. ⌜ ((way ≡ Accepted → (shared .tick ≤ maxTick) × (eqs ≤ maxEqs)) → groupSentOutcome r ≡ reachedGroup way noSending shared group (sendGroup llid channel eqs shared group)) ⌝ }
+    ensures { λ r. ⌜ ((way ≡ Accepted → (shared .tick ≤ maxTick) × (eqs ≤ maxEqs)) → groupSentOutcome r
+        ≡ reachedGroup way noSending shared group (sendGroup llid channel eqs shared group)) ⌝ }
 {
     let unit = as_unit(group, true);
     let done = traffic::send(way, shared, unit, llid, channel, eqs);

@@ -39,7 +39,8 @@ fn advanced(onu: Subscriber, n: u64) -> SubscriberAnswer
 // The whole end is stored, also where it is refused and so the same.
 #[no_mangle]
 pub extern "C" fn jazmotip_onu_advance(onu: &mut Subscriber, n: u64) -> u8
-    ensures { λ r. ⌜ (r ≡ subscriberAdvanceOf (now (onu .entry)) n .number) × (now (onu .exit) ≡ subscriberAdvanceOf (now (onu .entry)) n .subscriber) ⌝ }
+    ensures { λ r. ⌜ (r ≡ subscriberAdvanceOf (now (onu .entry)) n .number)
+        × (now (onu .exit) ≡ subscriberAdvanceOf (now (onu .entry)) n .subscriber) ⌝ }
 {
     let answer = advanced(*onu, n);
     *onu = answer.subscriber;

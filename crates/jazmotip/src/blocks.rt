@@ -172,7 +172,8 @@ pub extern "C" fn jazmotip_capture_verdicts(
     block: &[u8],
     output: &mut [u8],
 ) -> BlockDirectory
-    ensures { λ r. ⌜ withOutput r (now (output .exit)) ≡ judgedInNumbers (verdictsOf (now (settings .entry)) (now (block .entry)) (now (output .entry))) ⌝ }
+    ensures { λ r. ⌜ withOutput r (now (output .exit))
+        ≡ judgedInNumbers (verdictsOf (now (settings .entry)) (now (block .entry)) (now (output .entry))) ⌝ }
 {
     directory_in_numbers(verdicts(settings, block, output))
 }

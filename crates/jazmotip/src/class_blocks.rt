@@ -32,7 +32,8 @@ pub extern "C" fn jazmotip_class_open(
     block: &[u8],
     output: &mut [u8],
 ) -> BlockAnswer
-    ensures { λ r. ⌜ withOutput r (now (output .exit)) ≡ openedFor (openingFor false caller (now (sets .entry)) (now (rights .entry)) (now (block .entry)) (now (output .entry))) ⌝ }
+    ensures { λ r. ⌜ withOutput r (now (output .exit))
+        ≡ openedFor (openingFor false caller (now (sets .entry)) (now (rights .entry)) (now (block .entry)) (now (output .entry))) ⌝ }
     ensures { λ _. ⌜ Secret false caller (now (sets .entry)) (now (rights .entry)) (now (block .entry)) (now (output .entry)) ⌝ }
     ensures { λ _. ⌜ Reader false caller (now (sets .entry)) (now (rights .entry)) (now (block .entry)) (now (output .entry)) ⌝ }
     ensures { λ _. ⌜ Example ⌝ }
@@ -50,7 +51,8 @@ pub extern "C" fn jazmotip_class_open_near(
     block: &[u8],
     output: &mut [u8],
 ) -> BlockNearAnswer
-    ensures { λ r. ⌜ withOutput r (now (output .exit)) ≡ nearlyOpened (openingFor true caller (now (sets .entry)) (now (rights .entry)) (now (block .entry)) (now (output .entry))) ⌝ }
+    ensures { λ r. ⌜ withOutput r (now (output .exit))
+        ≡ nearlyOpened (openingFor true caller (now (sets .entry)) (now (rights .entry)) (now (block .entry)) (now (output .entry))) ⌝ }
     ensures { λ _. ⌜ Secret true caller (now (sets .entry)) (now (rights .entry)) (now (block .entry)) (now (output .entry)) ⌝ }
     ensures { λ _. ⌜ Reader true caller (now (sets .entry)) (now (rights .entry)) (now (block .entry)) (now (output .entry)) ⌝ }
     ensures { λ _. ⌜ Example ⌝ }
@@ -105,7 +107,8 @@ pub extern "C" fn jazmotip_class_load(
     index: u8,
     key: &[u8; 16],
 ) -> u8
-    ensures { λ r. ⌜ withOutput r (now (sets .exit)) ≡ keyLoaded (loading caller (now (sets .entry)) (now (rights .entry)) llid index (now (key .entry))) ⌝ }
+    ensures { λ r. ⌜ withOutput r (now (sets .exit))
+        ≡ keyLoaded (loading caller (now (sets .entry)) (now (rights .entry)) llid index (now (key .entry))) ⌝ }
     ensures { λ _. ⌜ LoadsOne caller (now (sets .entry)) (now (rights .entry)) llid index (now (key .entry)) ⌝ }
 {
     let verdict = load(caller, sets, rights, llid, index, key);

@@ -52,7 +52,8 @@ pub extern "C" fn jazmotip_capture_verdicts_near(
     block: &[u8],
     output: &mut [u8],
 ) -> BlockNearVerdicts
-    ensures { λ r. ⌜ withOutput r (now (output .exit)) ≡ nearlyJudged (judgingBy true (now (settings .entry)) (now (block .entry)) (now (output .entry))) ⌝ }
+    ensures { λ r. ⌜ withOutput r (now (output .exit))
+        ≡ nearlyJudged (judgingBy true (now (settings .entry)) (now (block .entry)) (now (output .entry))) ⌝ }
 {
     let near = verdicts_near(settings, block, output);
     let directory = near.directory;
@@ -70,7 +71,8 @@ pub extern "C" fn jazmotip_capture_open_near(
     block: &[u8],
     output: &mut [u8],
 ) -> BlockNearAnswer
-    ensures { λ r. ⌜ withOutput r (now (output .exit)) ≡ nearlyOpened (openingBy true (now (settings .entry)) (now (block .entry)) (now (output .entry))) ⌝ }
+    ensures { λ r. ⌜ withOutput r (now (output .exit))
+        ≡ nearlyOpened (openingBy true (now (settings .entry)) (now (block .entry)) (now (output .entry))) ⌝ }
     ensures { λ _. ⌜ ReadsAsExact (now (settings .entry)) (now (block .entry)) (now (output .entry)) ⌝ }
     ensures { λ _. ⌜ NotEmpty ⌝ }
 {

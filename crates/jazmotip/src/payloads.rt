@@ -64,7 +64,8 @@ pub extern "C" fn jazmotip_seal(
     input: &[u8],
     output: &mut [u8],
 ) -> PayloadAnswer
-    ensures { λ r. ⌜ withOutput r (now (output .exit)) ≡ inNumbers (sealingBy encenabled (keyExpansion (now (key .entry))) nonce (now (input .entry)) (now (output .entry))) ⌝ }
+    ensures { λ r. ⌜ withOutput r (now (output .exit))
+        ≡ inNumbers (sealingBy encenabled (keyExpansion (now (key .entry))) nonce (now (input .entry)) (now (output .entry))) ⌝ }
 {
     if 1 < encenabled {
         return numbered(deny_flag(input.len(), output.len()));
@@ -82,7 +83,8 @@ pub extern "C" fn jazmotip_seal_expanded(
     input: &[u8],
     output: &mut [u8],
 ) -> PayloadAnswer
-    ensures { λ r. ⌜ withOutput r (now (output .exit)) ≡ inNumbers (sealingBy encenabled (keys .octets) nonce (now (input .entry)) (now (output .entry))) ⌝ }
+    ensures { λ r. ⌜ withOutput r (now (output .exit))
+        ≡ inNumbers (sealingBy encenabled (keys .octets) nonce (now (input .entry)) (now (output .entry))) ⌝ }
 {
     if 1 < encenabled {
         return numbered(deny_flag(input.len(), output.len()));
@@ -99,7 +101,8 @@ pub extern "C" fn jazmotip_seal_in_place(
     nonce: Nonce,
     payload: &mut [u8],
 ) -> PayloadAnswer
-    ensures { λ r. ⌜ withOutput r (now (payload .exit)) ≡ inNumbers (inPlaceBy encenabled (keyExpansion (now (key .entry))) nonce (now (payload .entry))) ⌝ }
+    ensures { λ r. ⌜ withOutput r (now (payload .exit))
+        ≡ inNumbers (inPlaceBy encenabled (keyExpansion (now (key .entry))) nonce (now (payload .entry))) ⌝ }
 {
     if 1 < encenabled {
         return numbered(deny_flag(payload.len(), payload.len()));

@@ -122,7 +122,8 @@ module _ (w : Setting) (s : State) (n : ℕ) (i : Invariant w s) where
 
   ---- and move where it does
 
-  group-moved : (g : ℕ) → g < length (s .history .groups) → getD (groupsAdvanced (s .head .groups) n .table) g pastGroup ≡ groupAdvanced n (groupAt (s .head) g)
+  group-moved : (g : ℕ) → g < length (s .history .groups) → getD (groupsAdvanced (s .head .groups) n .table) g pastGroup
+      ≡ groupAdvanced n (groupAt (s .head) g)
   unfolding groupsAdvanced
   group-moved g h =
       let r = group-stands w s i g h in

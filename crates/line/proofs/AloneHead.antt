@@ -96,7 +96,8 @@ module _ (h : HeadEnd) (v : validGroups h ≡ true) where
     acknowledge-olt a = rw none (answered-olt (acknowledgeOf (h .olt) llid a))
 
     pub send-olt : (channel : ℕ) (p out : List ℕ)
-        → headSendOf h llid channel p out ≡ withOutput (sentIn (oltSendOf (h .olt) llid channel p out .answer)) (oltSendOf (h .olt) llid channel p out .output)
+        → headSendOf h llid channel p out ≡ withOutput (sentIn (oltSendOf (h .olt) llid channel p out .answer))
+        (oltSendOf (h .olt) llid channel p out .output)
     unfolding headSendOf byLlid
     send-olt channel p out = rw none (sent-olt (oltSendOf (h .olt) llid channel p out) out)
 

@@ -105,7 +105,8 @@ module _ (w : Setting) (s : State) (g : ℕ) (i : Invariant w s) (known : g < le
       }
 
 -- the head end replaced, and nothing noted
-head-replaced : (w : Setting) (s : State) (g : ℕ) (h : HeadEnd) → Invariant w (atHead s h (s .history .units) (set (s .history .groups) g (groupLaneAt s g)))
+head-replaced : (w : Setting) (s : State) (g : ℕ) (h : HeadEnd) → Invariant w
+    (atHead s h (s .history .units) (set (s .history .groups) g (groupLaneAt s g)))
     → Invariant w (headAfter s h)
 unfolding atHead headAfter
 head-replaced w s g h i = rw (set-getD (s .history .groups) g noGroupLane) at i
@@ -114,7 +115,8 @@ pub same-head : (w : Setting) (s : State) → Invariant w s → Invariant w (hea
 unfolding headAfter
 same-head w s i = i
 
-group-answer-right : (w : Setting) (s : State) (g llid : ℕ) (a : Answer) → Invariant w s → findGroup (s .head) llid ≡ At g → g < length (s .history .groups)
+group-answer-right : (w : Setting) (s : State) (g llid : ℕ) (a : Answer) → Invariant w s → findGroup (s .head) llid ≡ At g
+    → g < length (s .history .groups)
     → Invariant w (headAfter s (headAcknowledgeOf (s .head) llid a .head))
 unfolding headAcknowledgeOf byLlid headAnswer acknowledgeGroup groupOutcome
 group-answer-right w s g llid a i found known =
@@ -177,7 +179,8 @@ answer-refused h llid a v n = by-found (findGroup h llid) refl where
   by-found Nowhere e = own-answer-refused h llid a v e n
   by-found (At g) e = group-answer-refused h llid a g e n
 
-pub receive-refused : (h : HeadEnd) (header : Header) (p out : List ℕ) → validGroups h ≡ true → (headReceiveOf h header p out .answer .number ≡ 0 → ⊥)
+pub receive-refused : (h : HeadEnd) (header : Header) (p out : List ℕ) → validGroups h ≡ true
+    → (headReceiveOf h header p out .answer .number ≡ 0 → ⊥)
     → headReceiveOf h header p out .answer .head ≡ h
 receive-refused h header p out v n = by-found (findGroup h (header .llid)) refl where
   by-found : (f : Found) → findGroup h (header .llid) ≡ f → headReceiveOf h header p out .answer .head ≡ h

@@ -37,7 +37,8 @@ up-llid w s u k out i due =
     ap (λ (h : Header). has (laneAt (alone s) u .site .identity) (h .llid)) (j .passing .sent (envelopeAt (alone s) u k) (under .sent) .header)
     ∙ under .named
 
-told-beside : (w : Setting) (s : State) (u : ℕ) (o : Olt) (f : Lane → Lane) → Invariant w s → OltKept (s .head .olt) o → ((l : Lane) → f l .site ≡ l .site)
+told-beside : (w : Setting) (s : State) (u : ℕ) (o : Olt) (f : Lane → Lane) → Invariant w s → OltKept (s .head .olt) o
+    → ((l : Lane) → f l .site ≡ l .site)
     → ((l : Lane) → f l .entry ≡ l .entry) → Beside s (atHead s (withOlt (s .head) o) (atOltFor (alone s) u o f .history) (s .history .groups))
 unfolding atHead alone withOlt atOltFor withLanes
 told-beside w s u o f i k site entry =
@@ -56,7 +57,8 @@ told-beside w s u o f i k site entry =
       lines = refl;
     }
 
-pub arrive-up-right : (w : Setting) (s : State) (u k : ℕ) (out : List ℕ) → Invariant w s → DueUp (alone s) u k out → Invariant w (step s (arriveUp u k out))
+pub arrive-up-right : (w : Setting) (s : State) (u k : ℕ) (out : List ℕ) → Invariant w s → DueUp (alone s) u k out
+    → Invariant w (step s (arriveUp u k out))
 unfolding step arrivingUp atHead alone withOlt atOltFor laneArrivedUp laneWith withLanes
 arrive-up-right w s u k out i due =
     let a = from-alive w (alone s) u (i .units) k (due .some) in

@@ -55,10 +55,12 @@ use Rattle.line.proofs.Queues.{Grown}
 ---- what is under way of groups to a unit is lost
 
 -- what holds of each element's image holds of what is mapped
-each-mapped : {A B : Type 0} (P : B → Type 0) (f : A → B) (l : List A) → ((x : A) → List·Memᴰ x l → P (f x)) → (y : B) → List·Memᴰ y (map f l) → P y
+each-mapped : {A B : Type 0} (P : B → Type 0) (f : A → B) (l : List A) → ((x : A) → List·Memᴰ x l → P (f x)) → (y : B)
+    → List·Memᴰ y (map f l) → P y
 each-mapped P f [] h y m = absurd (List·Memᴰ·not-nil m)
 each-mapped P f (x ∷ l) h y m =
-    ⊎-elim (λ e. subst P (sym e) (h x (List·Memᴰ·head refl))) (λ t. each-mapped P f l (λ z q. h z (List·Memᴰ·tail q)) y t) (List·Memᴰ·cases-cons m)
+    ⊎-elim (λ e. subst P (sym e) (h x (List·Memᴰ·head refl))) (λ t. each-mapped P f l (λ z q. h z (List·Memᴰ·tail q)) y t)
+    (List·Memᴰ·cases-cons m)
 
 -- an acknowledgement that may leave again is that of the same unit and key
 again-same : (P : ℕ → ℕ → Type 0) (u now : ℕ) (a : GroupAnswered) → P (a .unit) (a .answer .number)
@@ -145,7 +147,8 @@ module _ (w : Setting) (s : State) (u : ℕ) (i : Invariant w s) where
       }
 
   -- the unit's queue is empty, those of others stay
-  queue-at : (v g : ℕ) → v < length (lanes s) → g < length (s .history .groups) → (P : List InFlight → Type 0) → P [] → P (getD (groupLaneAt s g .towards) v [])
+  queue-at : (v g : ℕ) → v < length (lanes s) → g < length (s .history .groups) → (P : List InFlight → Type 0) → P []
+      → P (getD (groupLaneAt s g .towards) v [])
       → P (getD (set (groupLaneAt s g .towards) u []) v [])
   queue-at v g h k P none old = by-test (eqb v u) refl where
     by-test : (t : Bool) → eqb v u ≡ t → P (getD (set (groupLaneAt s g .towards) u []) v [])
@@ -295,7 +298,8 @@ change-path-right w s u llid time p i d = lost-right w (told w s u llid time p i
 
 ---- either call alone, which is refused
 
-pub head-refused : (h : HeadEnd) (llid trip : ℕ) → validGroups h ≡ true → (headMeasureOf h llid trip .number ≡ 0 → ⊥) → headMeasureOf h llid trip .head ≡ h
+pub head-refused : (h : HeadEnd) (llid trip : ℕ) → validGroups h ≡ true → (headMeasureOf h llid trip .number ≡ 0 → ⊥)
+    → headMeasureOf h llid trip .head ≡ h
 unfolding headMeasureOf withOlt
 head-refused h llid trip v n =
     let is = answered-olt h v (measureOf (h .olt) llid trip) in

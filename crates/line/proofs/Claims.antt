@@ -35,7 +35,8 @@ use Rattle.line.proofs.OverheardSteps.{unit-overheard, group-overheard}
 nonce-is : (w : Setting) (s : Site) (e : Envelope) → e .direction ≡ downward → nonceFor w s e ≡ groupNonce w e
 nonce-is w s e d = rw d
 
-passage-claim : (w : Setting) (g : GroupLane) (e : Envelope) (channel : ℕ) (q : Passage) → e .direction ≡ downward → PassageRight w (laneOf g) e channel q
+passage-claim : (w : Setting) (g : GroupLane) (e : Envelope) (channel : ℕ) (q : Passage) → e .direction ≡ downward
+    → PassageRight w (laneOf g) e channel q
     → GroupPassageRight w g e channel q
 passage-claim w g e channel q d r =
     record { enciphered = r .enciphered; key = r .key; nonce = λ h. r .nonce h ∙ nonce-is w noSite e d }
@@ -50,7 +51,8 @@ sent-claim w g e d r =
       runs = r .runs;
     }
 
-opened-claim : (w : Setting) (g : GroupLane) (r : GroupArrival) → r .envelope .direction ≡ downward → ArrivedRight w (laneOf g) (arrivalIn r) → GroupOpened w g r
+opened-claim : (w : Setting) (g : GroupLane) (r : GroupArrival) → r .envelope .direction ≡ downward → ArrivedRight w (laneOf g) (arrivalIn r)
+    → GroupOpened w g r
 opened-claim w g r d a =
     record {
       accepted = a .accepted;

@@ -55,7 +55,8 @@ chosen-clear j h n z e a =
     let is : joinedChoice j h ≡ Clear = pick-true _ _ (eq-eqb (h .encenabled) 0 e) ∙ pick-true _ _ (eq-eqb (j .keys .active) 0 a) in
     subst (λ (c : KeyChoice). ChosenAt c n) (sym is) (record { accepts = refl; chosen = sym z; enciphered = sym (ap (leb 1) z) })
 
-pub chosen-sealed : (j : Joined) (h : Header) (n : ℕ) → 1 ≤ n → h .encenabled ≡ 1 → h .enckey ≡ n % 2 → holds j n ≡ true → ChosenAt (joinedChoice j h) n
+pub chosen-sealed : (j : Joined) (h : Header) (n : ℕ) → 1 ≤ n → h .encenabled ≡ 1 → h .enckey ≡ n % 2 → holds j n ≡ true
+    → ChosenAt (joinedChoice j h) n
 unfolding joinedChoice choiceVerdict choiceNumber choiceEnciphered holds
 chosen-sealed j h n some e index held = ⊎-elim next current (either-cases _ _ held) where
   sealed : eqb (h .encenabled) 0 ≡ false

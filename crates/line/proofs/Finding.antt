@@ -99,7 +99,8 @@ place-before k (y ∷ l) ys x i e = by-head (eqb y x) (place-before (suc k) l ys
   by-head true more f = f
   by-head false more f = more f
 
-pub place-last : (k : ℕ) (l : List ℕ) (y x : ℕ) → placeFrom k l x ≡ Nowhere → placeFrom k (l ++ (y ∷ [])) x ≡ pick (eqb y x) (At (k + length l)) Nowhere
+pub place-last : (k : ℕ) (l : List ℕ) (y x : ℕ) → placeFrom k l x ≡ Nowhere
+    → placeFrom k (l ++ (y ∷ [])) x ≡ pick (eqb y x) (At (k + length l)) Nowhere
 unfolding placeFrom pick
 place-last k [] y x e = ap (λ (n : ℕ). pick (eqb y x) (At n) Nowhere) (omega arith)
 place-last k (z ∷ l) y x e = by-head (eqb z x) (place-last (suc k) l y x) e where

@@ -51,7 +51,8 @@ joined-for-same x y llid e = ap (λ (m : Memberships). joinedFor (record { onu =
 ---- members
 
 -- once a member, always a member
-pub member-stays : (g g' : GroupLane) (l l' : Lane) → g' .roster ≡ g .roster → l' .site ≡ l .site → (l .entry .registered ≡ true → l' .entry .registered ≡ true)
+pub member-stays : (g g' : GroupLane) (l l' : Lane) → g' .roster ≡ g .roster → l' .site ≡ l .site
+    → (l .entry .registered ≡ true → l' .entry .registered ≡ true)
     → isMember g' l' ≡ false → isMember g l ≡ false
 unfolding isMember both
 member-stays g g' l l' e f r h = by-registered (l .entry .registered) refl where
@@ -61,7 +62,8 @@ member-stays g g' l l' e f r h = by-registered (l .entry .registered) refl where
 
 ---- at the OLT
 
-pub send-moved : (w : Setting) (c c' : Channels) (first : FirstSend) (active : ℕ) (g g' : GroupLane) (e : Envelope) (top : ℕ) → Grown g g' top → active ≤ top
+pub send-moved : (w : Setting) (c c' : Channels) (first : FirstSend) (active : ℕ) (g g' : GroupLane) (e : Envelope) (top : ℕ) → Grown g g' top
+    → active ≤ top
     → ((i : ℕ) → freeFrom c i ≤ freeFrom c' i) → GroupSend w c first active g e → GroupSend w c' first active g' e
 send-moved w c c' first active g g' e top n h rises s =
     let p = s .spent in

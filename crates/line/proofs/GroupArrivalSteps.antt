@@ -12,7 +12,8 @@ use Rattle.line.proofs.GroupMessageSteps.{message-right, message-onu}
 use Rattle.line.proofs.Invariant.{Invariant}
 use Rattle.line.proofs.MemberSteps.{alone-stays}
 
-in-flight-right : (w : Setting) (s : State) (u g k : ℕ) (out : List ℕ) (i : Invariant w s) (d : DueOfGroup s u g k out) (x : InFlight) → groupInFlightAt s u g k ≡ x
+in-flight-right : (w : Setting) (s : State) (u g k : ℕ) (out : List ℕ) (i : Invariant w s) (d : DueOfGroup s u g k out) (x : InFlight)
+    → groupInFlightAt s u g k ≡ x
     → Invariant w (groupInFlightArriving s u g k out x)
 unfolding groupInFlightArriving
 in-flight-right w s u g k out i d (clockMessage m c t) e = i
@@ -25,7 +26,8 @@ unfolding step
 arrive-group-right w s u g k out i d = in-flight-right w s u g k out i d (groupInFlightAt s u g k) refl
 
 -- what arrives of a group leaves the OLT, the units and their own lines
-in-flight-untouched : (w : Setting) (s : State) (u g k : ℕ) (out : List ℕ) (i : Invariant w s) (d : DueOfGroup s u g k out) (x : InFlight) → groupInFlightAt s u g k ≡ x
+in-flight-untouched : (w : Setting) (s : State) (u g k : ℕ) (out : List ℕ) (i : Invariant w s) (d : DueOfGroup s u g k out) (x : InFlight)
+    → groupInFlightAt s u g k ≡ x
     → alone (groupInFlightArriving s u g k out x) ≡ alone s
 unfolding groupInFlightArriving groupMessageArriving
 in-flight-untouched w s u g k out i d (clockMessage m c t) e = refl

@@ -110,6 +110,7 @@ leaving-follows g g' active active' offered offered' member ms j xs x k a b more
       kept = λ e. held-moved g g' offered offered' j _ k b (f .kept e);
       held = λ e. held-moved g g' offered offered' j _ k b (f .held e);
       took = λ n t. f .took n (rw (k .llid) at t);
-      queue = pick-holds (λ (ys : List InFlight). Under g' (j .keys .active) active' offered' ys) member (xs ++ (x ∷ [])) xs (λ e. more old low) (λ e. old);
+      queue = pick-holds (λ (ys : List InFlight). Under g' (j .keys .active) active' offered' ys) member (xs ++ (x ∷ [])) xs (λ e. more old low)
+          (λ e. old);
       stranger = λ e. pick-false _ _ e ∙ f .stranger e;
     }

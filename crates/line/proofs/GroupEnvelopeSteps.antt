@@ -246,7 +246,8 @@ module _ (w : Setting) (s : State) (u g k : ℕ) (out : List ℕ) (i : Invariant
     opens-clear z =
         let clear : e .header .encenabled ≡ 0 =
         ap (λ (h : Header). h .encenabled) header ∙ header-clear (e .number) (e .channel) (e .llid) (clockDown (w .first) (e .left)) z in
-        opened (chosen-clear y (e .header) (e .number) z clear (omega (arith, low, z))) (λ h. absurd (omega (arith, h, z))) (λ h. absurd (omega (arith, h, z)))
+        opened (chosen-clear y (e .header) (e .number) z clear (omega (arith, low, z))) (λ h. absurd (omega (arith, h, z)))
+        (λ h. absurd (omega (arith, h, z)))
 
     -- a key that was taken is held, for a is no higher than the envelope's number
     opens-sealed : hasTaken (joinedBy s u) (lane .llid) (e .number) ≡ true → x .onu .clock .synced ≡ 1 → 1 ≤ e .number
@@ -311,7 +312,8 @@ module _ (w : Setting) (s : State) (u g k : ℕ) (out : List ℕ) (i : Invariant
         }
 
   -- at a unit that joined the group and is not synced
-  pub unsynced-refused : isJoined (joinedBy s u) (e .llid) ≡ true → isSynced (laneAt (alone s) u) ≡ false → 1 ≤ e .number → RefusedFor ClockNotSet s u e out
+  pub unsynced-refused : isJoined (joinedBy s u) (e .llid) ≡ true → isSynced (laneAt (alone s) u) ≡ false → 1 ≤ e .number
+      → RefusedFor ClockNotSet s u e out
   unsynced-refused t down some = by-found (findJoined x (lane .llid)) refl where
     by-found : (f : Found) → findJoined x (lane .llid) ≡ f → RefusedFor ClockNotSet s u e out
     by-found Nowhere none = true-false (sym t ∙ joins ∙ joined-nowhere x (lane .llid) none)

@@ -197,7 +197,8 @@ module _ (w : Setting) (s : State) (u g k : ℕ) (out : List ℕ) (i : Invariant
           queues = taken-length s u g k ∙ i .queues g here;
           others = taken-others s u g k;
           arrived = λ a q.
-              arrived-moved w lane after a (a .envelope .number) (record { llid = refl; sent = λ e p. p; keys = λ n b c. refl }) (omega arith) (r .arrived a q);
+              arrived-moved w lane after a (a .envelope .number) (record { llid = refl; sent = λ e p. p; keys = λ n b c. refl }) (omega arith)
+              (r .arrived a q);
           joins =
               joins-with j now-joined now-taken found named (message-valid (joinedAt x j) (found-valid x (lane .llid) j (memberships-right w s i u) found) m)
               (taking-llids (lane .llid) (m .number) (joinedBy s u)) (λ llid n e. taking-other (lane .llid) (m .number) llid n (joinedBy s u) e);
@@ -226,16 +227,19 @@ module _ (w : Setting) (s : State) (u g k : ℕ) (out : List ℕ) (i : Invariant
   own-refused m e none =
       let is = key-message-onu x (memberships-right w s i u) m (ap (findJoined x) e ∙ none) in
       let refuses : keyMessageAt (x .onu) m .number ≡ 0 → ⊥ =
-      λ z. true-false (sym (ap (has (x .onu .identity)) (sym e) ∙ key-message-met (x .onu) m (number-accepted _ z) .1 .has) ∙ strange w s u g k out i d) in (
+      λ z. true-false (sym (ap (has (x .onu .identity)) (sym e) ∙ key-message-met (x .onu) m (number-accepted _ z) .1 .has)
+      ∙ strange w s u g k out i d) in (
         λ z. refuses (sym (ap (λ (r : SubscriberAcknowledged). r .number) is) ∙ z),
         ap (λ (r : SubscriberAcknowledged). r .subscriber) is ∙ ap (withOnu x) (key-message-refused (x .onu) m refuses .0),
       )
 
-  message-left : (m : KeyMessage) (r : SubscriberAcknowledged) → (r .number ≡ 0 → ⊥) → r .subscriber ≡ x → Invariant w (groupMessageArriving s u g k m r)
+  message-left : (m : KeyMessage) (r : SubscriberAcknowledged) → (r .number ≡ 0 → ⊥) → r .subscriber ≡ x
+      → Invariant w (groupMessageArriving s u g k m r)
   unfolding groupMessageArriving pick
   message-left m r n same = rw (same, ne-eqb (r .number) 0 n) left-right
 
-  joined-right : (m : KeyMessage) (t : ℕ) → groupInFlightAt s u g k ≡ keyMessage m t → (j : ℕ) → m .llid ≡ lane .llid → findJoined x (lane .llid) ≡ At j
+  joined-right : (m : KeyMessage) (t : ℕ) → groupInFlightAt s u g k ≡ keyMessage m t → (j : ℕ) → m .llid ≡ lane .llid
+      → findJoined x (lane .llid) ≡ At j
       → Invariant w (groupMessageArriving s u g k m (subscriberKeyMessageOf x m))
   unfolding groupMessageArriving subscriberKeyMessageOf byLlid subscriberAcknowledged messageJoined joinedMessageVerdict groupAnswer pick
   joined-right m t is j llid found = by-end (lift-ends x noAnswer (messageJoined m) j) where

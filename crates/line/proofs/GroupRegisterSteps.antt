@@ -117,7 +117,8 @@ new-queues : (s : State) (llid interval : ℕ) (r : Roster) → length (newGroup
 unfolding newGroupLane
 new-queues s llid interval r = length-replicate (length (lanes s)) []
 
-none-answered : {P : Type 0} (s : State) (llid interval : ℕ) (r : Roster) (x : GroupAnswered) → List·Memᴰ x (newGroupLane s llid interval r .answered) → P
+none-answered : {P : Type 0} (s : State) (llid interval : ℕ) (r : Roster) (x : GroupAnswered) → List·Memᴰ x (newGroupLane s llid interval r .answered)
+    → P
 unfolding newGroupLane
 none-answered s llid interval r x m = none-in [] x refl m
 
@@ -269,7 +270,8 @@ module _ (w : Setting) (s : State) (llid interval : ℕ) (r : Roster) (i : Invar
 
 ---- the call
 
-refused : (h : HeadEnd) (llid interval : ℕ) (r : Roster) → (registerGroupOf h llid interval r .number ≡ 0 → ⊥) → registerGroupOf h llid interval r .head ≡ h
+refused : (h : HeadEnd) (llid interval : ℕ) (r : Roster) → (registerGroupOf h llid interval r .number ≡ 0 → ⊥)
+    → registerGroupOf h llid interval r .head ≡ h
 unfolding registerGroupOf headAnswer
 refused h llid interval r n = number-refused h silent _ (λ x e. reply-untouched _ h silent _ silent x e) n .end
 
@@ -285,7 +287,8 @@ accepted-step : (s : State) (llid interval : ℕ) (r : Roster) → Accepts (s .h
 unfolding step registeringGroup pick
 accepted-step s llid interval r a = rw (a .is)
 
-pub register-group-right : (w : Setting) (s : State) (llid interval : ℕ) (r : Roster) → Invariant w s → Invariant w (step s (registerGroup llid interval r))
+pub register-group-right : (w : Setting) (s : State) (llid interval : ℕ) (r : Roster) → Invariant w s
+    → Invariant w (step s (registerGroup llid interval r))
 register-group-right w s llid interval r i = by-number (eqb (registerGroupOf (s .head) llid interval r .number) 0) refl where
   by-number : (t : Bool) → eqb (registerGroupOf (s .head) llid interval r .number) 0 ≡ t → Invariant w (step s (registerGroup llid interval r))
   by-number true e =

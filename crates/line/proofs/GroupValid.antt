@@ -30,7 +30,8 @@ use Rattle.groups.specs.declared.GroupRecord.{GroupRecord}
 use Rattle.groups.specs.declared.Members.{Members}
 use Rattle.line.proofs.Places.{set-holds}
 
-all-tabulate : (p : ℕ → Bool) (i n : ℕ) (f : ℕ → ℕ) → ((k : ℕ) → i ≤ k → k < i + n → p (f k) ≡ true) → all p (tabulate i n f) ≡ true
+all-tabulate : (p : ℕ → Bool) (i n : ℕ) (f : ℕ → ℕ) → ((k : ℕ) → i ≤ k → k < i + n → p (f k) ≡ true)
+    → all p (tabulate i n f) ≡ true
 unfolding all
 all-tabulate p i zero f h = refl
 all-tabulate p i (suc n) f h =
@@ -75,7 +76,8 @@ marked-valid units j m v =
 
 ---- the calls
 
-pub offered-valid : (tick units : ℕ) (g : GroupRecord) (key : List ℕ) → validGroup tick units g ≡ true → validGroup tick units (groupOffered g key) ≡ true
+pub offered-valid : (tick units : ℕ) (g : GroupRecord) (key : List ℕ) → validGroup tick units g ≡ true
+    → validGroup tick units (groupOffered g key) ≡ true
 unfolding validGroup groupOffered withMembers withGroupKeys keysOffered validKeys validGroupNumbers
 offered-valid tick units g key v =
     let a = both-right _ _ v in

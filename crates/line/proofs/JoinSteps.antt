@@ -121,7 +121,8 @@ module _ (x : Subscriber) (llid : ℕ) (room : x .memberships .count < length (x
   more-llids =
       let n = x .memberships .count in
       let l = x .memberships .table in
-      let grown : take (n + 1) (set l n (freshJoined llid)) ≡ take n l ++ (freshJoined llid ∷ []) = rw (add-one, take-suc-set l n (freshJoined llid) room) in
+      let grown : take (n + 1) (set l n (freshJoined llid)) ≡ take n l ++ (freshJoined llid ∷ []) =
+      rw (add-one, take-suc-set l n (freshJoined llid) room) in
       ap joinedLlids grown ∙ map-append (λ (y : Joined). y .llid) (take n l) (freshJoined llid ∷ [])
 
   counted : length (joinedLlids (joinedGroups x)) ≡ x .memberships .count
@@ -145,7 +146,8 @@ module _ (x : Subscriber) (llid : ℕ) (room : x .memberships .count < length (x
     had : (f : Found) → placeFrom 0 (joinedLlids (joinedGroups x)) y ≡ f → byLlid f (freshJoined y) (joinedAt x) ≡ joinedFor x y
     had f e = ap (λ (z : Found). byLlid z (freshJoined y) (joinedAt x)) (sym e)
 
-    has-now : (f : Found) → placeFrom 0 (joinedLlids (joinedGroups x) ++ (llid ∷ [])) y ≡ f → joinedFor more y ≡ byLlid f (freshJoined y) (joinedAt more)
+    has-now : (f : Found) → placeFrom 0 (joinedLlids (joinedGroups x) ++ (llid ∷ [])) y ≡ f
+        → joinedFor more y ≡ byLlid f (freshJoined y) (joinedAt more)
     has-now f e = ap (λ (z : Found). byLlid z (freshJoined y) (joinedAt more)) (ap (λ (l : List ℕ). placeFrom 0 l y) more-llids ∙ e)
 
     by-llid : placeFrom 0 (joinedLlids (joinedGroups x)) y ≡ Nowhere → (t : Bool) → eqb llid y ≡ t → joinedFor more y ≡ joinedFor x y
@@ -172,7 +174,8 @@ joining-taken llid y n [] = by-test (eqb llid y) where
   by-test false = refl
 joining-taken llid y n (m ∷ ms) = ap (either (both (eqb (m .llid) y) (among n (m .took)))) (joining-taken llid y n ms)
 
-joining-llids : (llid : ℕ) (ms : List Membership) → map (λ (m : Membership). m .llid) (joining llid ms) ≡ map (λ (m : Membership). m .llid) ms ++ (llid ∷ [])
+joining-llids : (llid : ℕ) (ms : List Membership) → map (λ (m : Membership). m .llid) (joining llid ms) ≡ map (λ (m : Membership). m .llid) ms
+    ++ (llid ∷ [])
 unfolding joining
 joining-llids llid ms = map-append (λ (m : Membership). m .llid) ms _
 

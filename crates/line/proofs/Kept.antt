@@ -48,7 +48,8 @@ pub record OltKept (o p : Olt) : Type 0 where
 
 lift-kept : {H : Type 0} (o : Olt) (nothing : H) (ahead : Verdict) (llid : ℕ) (call : Shared → UnitRecord → Outcome H)
     → ((s : Shared) (u : UnitRecord) → call s u .unit .identity ≡ u .identity)
-    → ((u : UnitRecord) → call (o .shared) u .verdict ≡ Accepted → (k : ℕ) → freeFrom (o .shared .channels) k ≤ freeFrom (call (o .shared) u .channels) k)
+    → ((u : UnitRecord) → call (o .shared) u .verdict ≡ Accepted → (k : ℕ) → freeFrom (o .shared .channels) k
+    ≤ freeFrom (call (o .shared) u .channels) k)
     → OltKept o (lift o nothing ahead llid call .end)
 lift-kept o nothing ahead llid call identity rises =
     record {

@@ -97,7 +97,8 @@ module _ (w : Setting) (s : State) (i : Invariant w s) where
       let known : g < length (s .history .groups) = omega (arith, r .used, i .count) in
       (known, sym (i .group g known .llid) ∙ r .is)
 
-  pub line-once : (g h : ℕ) → g < length (s .history .groups) → h < length (s .history .groups) → groupLaneAt s g .llid ≡ groupLaneAt s h .llid → g ≡ h
+  pub line-once : (g h : ℕ) → g < length (s .history .groups) → h < length (s .history .groups) → groupLaneAt s g .llid ≡ groupLaneAt s h .llid
+      → g ≡ h
   line-once g h p q e =
       let z : At g ≡ At h = sym (group-finds g p) ∙ ap (findGroup (s .head)) e ∙ group-finds h q in
       cc

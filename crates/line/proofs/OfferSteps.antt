@@ -46,7 +46,8 @@ noted-offer key number llid f l e = by-test (eqb number 0) (both (l .entry .regi
   by-test true false p = inl refl
   by-test true true p = inr (eqb-true number 0 p, e)
 
-named-offer : (key : List ℕ) (s : run.State) (o : Olt) (number llid : ℕ) (f : Lane → Lane) → ((l : Lane) → f l .keys .offers ≡ l .keys .offers ++ (key ∷ []))
+named-offer : (key : List ℕ) (s : run.State) (o : Olt) (number llid : ℕ) (f : Lane → Lane)
+    → ((l : Lane) → f l .keys .offers ≡ l .keys .offers ++ (key ∷ []))
     → (u : ℕ) → More key number (laneAt s u .keys .offers) (laneAt (atOlt s o number llid f) u .keys .offers)
 unfolding atOlt withLanes
 named-offer key s o number llid f e u =
@@ -54,7 +55,8 @@ named-offer key s o number llid f e u =
     (noted-offer key number llid f (laneAt s u) (e (laneAt s u)))
 
 -- a key of the list with one more is the new one, or an old one
-pub key-of-more : (P : Type 0) (old : List (List ℕ)) (key x : List ℕ) (m : ℕ) → m < length (old ++ (key ∷ [])) → getD (old ++ (key ∷ [])) m [] ≡ x
+pub key-of-more : (P : Type 0) (old : List (List ℕ)) (key x : List ℕ) (m : ℕ) → m < length (old ++ (key ∷ []))
+    → getD (old ++ (key ∷ [])) m [] ≡ x
     → (m < length old → getD old m [] ≡ x → P) → (m ≡ length old → key ≡ x → P) → P
 key-of-more P old key x m h e before last = by-place (ltb m (length old)) refl where
   by-place : (t : Bool) → ltb m (length old) ≡ t → P
@@ -77,7 +79,8 @@ mixed-offered w s key number new i fits more u g m n p q e = by-more (more u) wh
       key-of-more ⊥ (laneAt (alone s) u .keys .offers) key (getD (groupLaneAt s g .keys .offers) n []) m (rw (one .1) at p) (rw (one .1) at e)
       (λ l f. i .mixed u g m n l q f) (λ l f. fits (one .0) .groups g n q (sym f))
 
-pub unit-offer-right : (w : Setting) (s : State) (llid : ℕ) (key : List ℕ) → Invariant w s → findGroup (s .head) llid ≡ Nowhere → Fits w s (offer llid key)
+pub unit-offer-right : (w : Setting) (s : State) (llid : ℕ) (key : List ℕ) → Invariant w s → findGroup (s .head) llid ≡ Nowhere
+    → Fits w s (offer llid key)
     → Invariant w (step s (offer llid key))
 unfolding step offeringTo keySentAlone offering atHead alone withOlt laneLeaving laneOffered laneWith
 unit-offer-right w s llid key i none fits =

@@ -46,14 +46,16 @@ unfolding noted named freshLane both pick
 noted-fresh number llid f = pick-same (accepted number) (freshLane noSite)
 
 -- a call that names a unit
-pub named-field : {A : Type 0} (q : Lane → A) (s : run.State) (o : Olt) (number llid : ℕ) (f : Lane → Lane) → ((l : Lane) → q (f l) ≡ q l) → (u : ℕ)
+pub named-field : {A : Type 0} (q : Lane → A) (s : run.State) (o : Olt) (number llid : ℕ) (f : Lane → Lane) → ((l : Lane) → q (f l) ≡ q l)
+    → (u : ℕ)
     → q (laneAt (atOlt s o number llid f) u) ≡ q (laneAt s u)
 unfolding atOlt withLanes
 named-field q s o number llid f e u =
     ap q (map-always (noted number (named llid f)) (s .history .lanes) u (freshLane noSite) (noted-fresh number llid f))
     ∙ noted-field q number llid f (laneAt s u) (e (laneAt s u))
 
-named-length : (s : run.State) (o : Olt) (number llid : ℕ) (f : Lane → Lane) → length (atOlt s o number llid f .history .lanes) ≡ length (s .history .lanes)
+named-length : (s : run.State) (o : Olt) (number llid : ℕ) (f : Lane → Lane)
+    → length (atOlt s o number llid f .history .lanes) ≡ length (s .history .lanes)
 unfolding atOlt withLanes
 named-length s o number llid f = length-map (s .history .lanes) (noted number (named llid f))
 
@@ -68,7 +70,8 @@ pub record LaneKept (f : Lane → Lane) : Type 0 where
   pub site : (l : Lane) → f l .site ≡ l .site
   pub entry : (l : Lane) → f l .entry ≡ l .entry
 
-pub named-beside : (w : Setting) (s : State) (o : Olt) (number llid : ℕ) (f : Lane → Lane) (gs : List GroupLane) → Invariant w s → OltKept (s .head .olt) o
+pub named-beside : (w : Setting) (s : State) (o : Olt) (number llid : ℕ) (f : Lane → Lane) (gs : List GroupLane) → Invariant w s
+    → OltKept (s .head .olt) o
     → LaneKept f → gs ≡ s .history .groups → Beside s (atHead s (withOlt (s .head) o) (atOlt (alone s) o number llid f .history) gs)
 unfolding atHead alone withOlt
 named-beside w s o number llid f gs i k f-keeps same =
@@ -86,7 +89,8 @@ named-beside w s o number llid f gs i k f-keeps same =
     }
 
 -- it offers no key
-pub named-right : (w : Setting) (s : State) (o : Olt) (number llid : ℕ) (f : Lane → Lane) (gs : List GroupLane) → Invariant w s → OltKept (s .head .olt) o
+pub named-right : (w : Setting) (s : State) (o : Olt) (number llid : ℕ) (f : Lane → Lane) (gs : List GroupLane) → Invariant w s
+    → OltKept (s .head .olt) o
     → LaneKept f → ((l : Lane) → f l .keys .offers ≡ l .keys .offers) → gs ≡ s .history .groups → (e : events.Event)
     → atOlt (alone s) o number llid f ≡ run.step (alone s) e → premises.Fits w (alone s) e
     → Invariant w (atHead s (withOlt (s .head) o) (atOlt (alone s) o number llid f .history) gs)
@@ -146,7 +150,8 @@ module _ (w : Setting) (s : State) (llid : ℕ) (i : Invariant w s) (none : find
       (events.arriveAnswer u k llid) refl due)
 
 -- an acknowledgement of a unit names one of its LLIDs
-pub answer-right : (w : Setting) (s : State) (u k llid : ℕ) → Invariant w s → Fits w s (arriveAnswer u k llid) → Invariant w (step s (arriveAnswer u k llid))
+pub answer-right : (w : Setting) (s : State) (u k llid : ℕ) → Invariant w s → Fits w s (arriveAnswer u k llid)
+    → Invariant w (step s (arriveAnswer u k llid))
 answer-right w s u k llid i due =
     let a = answered-alive w (alone s) u (i .units) k (due .some) in
     unit-answer-right w s llid i (unit-no-group w s i u llid (a .registered) (due .named)) u k due

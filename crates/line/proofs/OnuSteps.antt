@@ -65,12 +65,14 @@ own-beside w s u x f i k site entry =
       paired = length-set ls u l;
       site = set-field (λ (y : Lane). y .site) ls u l (freshLane noSite) site;
       entry = λ v e. ap (λ (y : Entry). y .registered) (set-field (λ (y : Lane). y .entry) ls u l (freshLane noSite) entry v) ∙ e;
-      unit = set-holds (λ (v : ℕ) (y : Subscriber). UnitKept (subscriberAt s v) y) (s .subscribers) u x noSubscriber (λ v. unit-itself (subscriberAt s v)) k;
+      unit = set-holds (λ (v : ℕ) (y : Subscriber). UnitKept (subscriberAt s v) y) (s .subscribers) u x noSubscriber (λ v. unit-itself (subscriberAt s v))
+          k;
       joined = refl;
       lines = refl;
     }
 
-offers-stay : (s : State) (u : ℕ) (x : Subscriber) (f : Lane → Lane) → f (laneAt (alone s) u) .keys .offers ≡ laneAt (alone s) u .keys .offers → (v : ℕ)
+offers-stay : (s : State) (u : ℕ) (x : Subscriber) (f : Lane → Lane) → f (laneAt (alone s) u) .keys .offers ≡ laneAt (alone s) u .keys .offers
+    → (v : ℕ)
     → laneAt (alone (atUnitAlone s u x f)) v .keys .offers ≡ laneAt (alone s) v .keys .offers
 unfolding atUnitAlone atUnit alone atOnu withLanes
 offers-stay s u x f e = set-field (λ (y : Lane). y .keys .offers) (s .history .units .lanes) u (f (laneAt (alone s) u)) (freshLane noSite) e
@@ -156,7 +158,8 @@ module _ (w : Setting) (s : State) (u k : ℕ) (out : List ℕ) (i : Invariant w
       own-not-joined (subscriberAt s u) llid (memberships-right w s i u)
       (ap (λ (o : Onu). has (o .identity) llid) (sym (onu-alone s u)) ∙ own-alive .common .llids llid ∙ h)
 
-  in-flight-right : (x : InFlight) → inFlightAt (alone s) u k ≡ x → units.Invariant w (run.inFlightArriving (alone s) u k out x) → Invariant w (inFlightArriving s u k out x)
+  in-flight-right : (x : InFlight) → inFlightAt (alone s) u k ≡ x → units.Invariant w (run.inFlightArriving (alone s) u k out x)
+      → Invariant w (inFlightArriving s u k out x)
   unfolding inFlightArriving withOnu laneArrivedDown laneTaken laneWith envelopeHeader
   in-flight-right (clockMessage m c t) e right =
       let x = subscriberAt s u in

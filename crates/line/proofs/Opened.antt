@@ -44,7 +44,8 @@ unfolding
     answerAgain groupMoved isJoined hasTaken joining taking
     alone freshSubscriber start noSubscriber noGroupLane notedFor atHead atUnit atUnitAlone advancing registering newGroupLane registeringGroup
     clockSentAlone keySentAlone clockSendingTo offeringTo retryingTo headPassage envelopeDown sendingDown joiningAt envelopeUp sendingUp answerAlone
-    messageArriving receiptDown inFlightArriving groupMessageArriving groupPassage groupReceipt groupInFlightArriving receiptUp arrivingUp answering changingPath
+    messageArriving receiptDown inFlightArriving groupMessageArriving groupPassage groupReceipt groupInFlightArriving receiptUp arrivingUp answering
+    changingPath
     subscriberAfter headAfter step runs
     registrations joins clocks firstKey overheard missedKey backAgain joinedStranger pathChange syncedAgain overTheNewPath
 opened = tt

@@ -151,7 +151,8 @@ group-overheard w s i u g k out h =
     let valid : validOnu (x .onu) ≡ true = ap validOnu (sym (onu-alone s u)) ∙ a .common .valid in
     overheard-right w s u e out i (h .registered) llid
     (sym (onu-receive-refused (x .onu) (e .header) (e .octets) out _ (refuse-passed _ OutOfRange _ (not-of-true valid) ∙ verdict)))
-    (λ n q z. subst (λ (y : ℕ). isMember (groupLaneAt s y) (laneAt (alone s) u) ≡ false) (sym (line-once w s i n g q known (z ∙ send .llid))) (h .stranger))
+    (λ n q z. subst (λ (y : ℕ). isMember (groupLaneAt s y) (laneAt (alone s) u) ≡ false) (sym (line-once w s i n g q known (z ∙ send .llid)))
+    (h .stranger))
 
 ---- the events
 

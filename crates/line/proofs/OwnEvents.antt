@@ -87,7 +87,8 @@ module _ (w : Setting) (s : State) (i : Invariant w s) (u llid : ℕ) (key : Lis
       let r = towards-taken (w .first) (laneAt (alone s) u .path) (laneAt (alone s) u) _ _ _ (laneAt (alone s) u .transit .towards) k _ (envelope y)
       (d .some) e (j .towards) .0 in
       envelope-alone s u (memberships-right w s i u) k out y
-      (not-joined (y .header .llid) (ap (λ (h : Header). has (laneAt (alone s) u .site .identity) (h .llid)) (j .passing .sent y (r .sent) .header) ∙ r .named))
+      (not-joined (y .header .llid) (ap (λ (h : Header). has (laneAt (alone s) u .site .identity) (h .llid)) (j .passing .sent y (r .sent) .header)
+      ∙ r .named))
 
   pub own-fits : (e : units.Event) → Owned u llid key e → NewToGroups (s .history .groups) key → premises.Fits w (alone s) e → Fits w s (plain e)
   unfolding plain
@@ -143,8 +144,8 @@ module _ (w : Setting) (s : State) (i : Invariant w s) (u llid : ℕ) (key : Lis
       (arrive-down-alone k out (subst (λ (y : ℕ). premises.DueDown (alone s) y k out) o f))
   own-same (units.arriveUp v k out) o f =
       arrive-up-alone s (i .valid) v k out
-      (unit-no-group w s i v (run.envelopeAt (alone s) v k .header .llid) (subst (λ (y : ℕ). laneAt (alone s) y .entry .registered ≡ true) (sym o) registered)
-      (up-llid w s v k out i f))
+      (unit-no-group w s i v (run.envelopeAt (alone s) v k .header .llid)
+      (subst (λ (y : ℕ). laneAt (alone s) y .entry .registered ≡ true) (sym o) registered) (up-llid w s v k out i f))
   own-same (units.arriveAnswer v k x) o f = answer-alone s (i .valid) x (rw (o .1) none) v k
   own-same (units.register v x trip interval) o f = absurd o
   own-same (units.overhear v other k out) o f = absurd o
@@ -193,7 +194,8 @@ pub record Alike (w : Setting) (s : State) (es : List units.Event) : Type 0 wher
   pub same : alone (runs s (map plain es)) ≡ run.run (alone s) es
   pub groups : runs s (map plain es) .history .groups ≡ s .history .groups
 
-pub own-list : (w : Setting) (s : State) (es : List units.Event) (u llid : ℕ) (key : List ℕ) → Invariant w s → laneAt (alone s) u .entry .registered ≡ true
+pub own-list : (w : Setting) (s : State) (es : List units.Event) (u llid : ℕ) (key : List ℕ) → Invariant w s
+    → laneAt (alone s) u .entry .registered ≡ true
     → has (laneAt (alone s) u .site .identity) llid ≡ true → NewToGroups (s .history .groups) key → Owns u llid key es → premises.Meets w (alone s) es
     → Alike w s es
 unfolding runs run.run

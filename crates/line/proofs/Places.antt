@@ -12,7 +12,8 @@ map-set f (x ∷ l) zero a = refl
 map-set {A} {B} f (x ∷ l) (suc i) a = ap (λ (m : List B). f x ∷ m) (map-set f l i a)
 
 -- two maps that agree at each place
-pub map-each : {A B : Type 0} (f g : A → B) (l : List A) (d : A) → ((i : ℕ) → i < length l → f (getD l i d) ≡ g (getD l i d)) → map f l ≡ map g l
+pub map-each : {A B : Type 0} (f g : A → B) (l : List A) (d : A) → ((i : ℕ) → i < length l → f (getD l i d) ≡ g (getD l i d))
+    → map f l ≡ map g l
 map-each f g [] d h = refl
 map-each {A} {B} f g (x ∷ l) d h =
     ap₂ (λ (y : B) (m : List B). y ∷ m) (h 0 (omega arith)) (map-each f g l d (λ i k. h (suc i) (omega (arith, k))))
@@ -43,7 +44,8 @@ map-one {A} f (x ∷ l) (suc i) d h n =
     (map-one f l i d (omega (arith, h)) (λ k p e. n (suc k) (omega (arith, p)) (λ q. e (omega (arith, q)))))
 
 -- what an element put in place i has of the old one, every place has
-pub set-field : {A B : Type 0} (q : A → B) (l : List A) (i : ℕ) (y d : A) → q y ≡ q (getD l i d) → (k : ℕ) → q (getD (set l i y) k d) ≡ q (getD l k d)
+pub set-field : {A B : Type 0} (q : A → B) (l : List A) (i : ℕ) (y d : A) → q y ≡ q (getD l i d) → (k : ℕ)
+    → q (getD (set l i y) k d) ≡ q (getD l k d)
 set-field {A} {B} q l i y d e k =
     sym (List·getD-map q (set l i y) k d) ∙ ap (λ (m : List B). getD m k (q d)) (map-set-same q l i y d e) ∙ List·getD-map q l k d
 

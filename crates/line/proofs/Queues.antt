@@ -59,7 +59,8 @@ under-append g lo hi top (keyMessage m t ∷ xs) ys h q r =
 under-append g lo hi top (envelope e ∷ xs) ys h q r = (q .0, under-append g (e .number) hi top xs ys (q .0 .most) (q .1) r)
 
 -- key hi + 1
-pub under-key : (g : GroupLane) (lo hi top : ℕ) (xs : List InFlight) (m : KeyMessage) (t : ℕ) → lo ≤ hi → KeyUnder g hi hi top m → Under g lo hi top xs
+pub under-key : (g : GroupLane) (lo hi top : ℕ) (xs : List InFlight) (m : KeyMessage) (t : ℕ) → lo ≤ hi → KeyUnder g hi hi top m
+    → Under g lo hi top xs
     → Under g lo hi top (xs ++ (keyMessage m t ∷ []))
 under-key g lo hi top xs m t h r q =
     under-append g lo hi top xs (keyMessage m t ∷ []) h q
@@ -73,7 +74,8 @@ under-envelope g lo hi top xs e h r q =
     (λ low k. (record { above = omega (arith, r .above); most = r .most; sent = r .sent }, tt))
 
 -- the kth and what follows it
-pub under-taken : (g : GroupLane) (lo hi top : ℕ) (xs : List InFlight) (k : ℕ) (d x : InFlight) → k < length xs → getD xs k d ≡ x → Under g lo hi top xs
+pub under-taken : (g : GroupLane) (lo hi top : ℕ) (xs : List InFlight) (k : ℕ) (d x : InFlight) → k < length xs → getD xs k d ≡ x
+    → Under g lo hi top xs
     → Under g lo hi top (x ∷ drop (suc k) xs)
 under-taken g lo hi top [] k d x h e q = absurd (not-suc-le-zero h)
 under-taken g lo hi top (y ∷ xs) zero d x h e q = subst (λ (z : InFlight). Under g lo hi top (z ∷ xs)) e q

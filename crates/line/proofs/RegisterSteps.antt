@@ -77,7 +77,8 @@ accepts h i trip interval e =
       room = room;
     }
 
-refused : (h : HeadEnd) (i : Identity) (trip interval : ℕ) → (headRegisterOf h i trip interval .number ≡ 0 → ⊥) → headRegisterOf h i trip interval .head ≡ h
+refused : (h : HeadEnd) (i : Identity) (trip interval : ℕ) → (headRegisterOf h i trip interval .number ≡ 0 → ⊥)
+    → headRegisterOf h i trip interval .head ≡ h
 unfolding headRegisterOf headAnswer
 refused h i trip interval n = number-refused h silent _ (λ x e. reply-untouched _ h silent _ silent x e) n .end
 

@@ -59,7 +59,8 @@ alone-joins o l =
 fresh-joins : (w : Setting) (l : Lane) (u : ℕ) → Joins [] l (getD (map freshSubscriber (w .sites)) u noSubscriber) []
 unfolding freshSubscriber freshSubscriberOf noSubscriber subscribers.alone
 fresh-joins w l =
-    map-holds (λ (u : ℕ) (x : Subscriber). Joins [] l x []) freshSubscriber (w .sites) noSite noSubscriber (λ u h. alone-joins _ l) (λ u h. alone-joins _ l)
+    map-holds (λ (u : ℕ) (x : Subscriber). Joins [] l x []) freshSubscriber (w .sites) noSite noSubscriber (λ u h. alone-joins _ l)
+    (λ u h. alone-joins _ l)
 
 no-groups : (o : Olt) → o .count ≤ maxUnits → validGroups (record { olt = o; groups = noGroups }) ≡ true
 unfolding validGroups noGroups all apartLlids groupLlids distinct meets both

@@ -69,7 +69,8 @@ module _ (x : Subscriber) (v : validMemberships x ≡ true) where
       ap (λ (r : WithOutput SubscriberReceived). r .answer .subscriber) is
       ∙ ap (withOnu x) (receive-refused (x .onu) h p out (λ z. n (ap (λ (r : WithOutput SubscriberReceived). r .answer .number) is ∙ z)))
 
-  group-receive-refused : (h : Header) (p out : List ℕ) (j : ℕ) → findJoined x (h .llid) ≡ At j → (subscriberReceiveOf x h p out .answer .number ≡ 0 → ⊥)
+  group-receive-refused : (h : Header) (p out : List ℕ) (j : ℕ) → findJoined x (h .llid) ≡ At j
+      → (subscriberReceiveOf x h p out .answer .number ≡ 0 → ⊥)
       → subscriberReceiveOf x h p out .answer .subscriber ≡ x
   unfolding subscriberReceiveOf byLlid groupReceiveOf subscriberReceived
   group-receive-refused h p out j found n = by-end (lift-ends x noPassage (receiveJoined (misfit p out) h) j) where
@@ -86,7 +87,8 @@ module _ (x : Subscriber) (v : validMemberships x ≡ true) where
 
 ---- the events
 
-pub stray-clock-right : (w : Setting) (s : State) (u : ℕ) (m : Stamps) → Invariant w s → Fits w s (strayClock u m) → Invariant w (step s (strayClock u m))
+pub stray-clock-right : (w : Setting) (s : State) (u : ℕ) (m : Stamps) → Invariant w s → Fits w s (strayClock u m)
+    → Invariant w (step s (strayClock u m))
 unfolding step
 stray-clock-right w s u m i n = subscriber-stays w s u _ (clock-refused (subscriberAt s u) (memberships-right w s i u) m n) i
 

@@ -145,7 +145,8 @@ module _ (x : Subscriber) (llid i : ℕ) (j : Joined) (found : findJoined x llid
         ap (λ (z : Found). byLlid z (freshJoined y) (joinedAt (withJoined x i j))) (with-finds y ∙ e)
         ∙ sym (ap (λ (z : Found). byLlid z (freshJoined y) (joinedAt x)) e)
     by-found (At k) e =
-        let differs : k ≡ i → ⊥ = λ z. d (sym (joined-found x y k e .is) ∙ ap (λ (n : ℕ). joinedAt x n .llid) z ∙ joined-found x llid i found .is) in
+        let differs : k ≡ i → ⊥ = λ z. d (sym (joined-found x y k e .is) ∙ ap (λ (n : ℕ). joinedAt x n .llid) z
+        ∙ joined-found x llid i found .is) in
         ap (λ (z : Found). byLlid z (freshJoined y) (joinedAt (withJoined x i j))) (with-finds y ∙ e)
         ∙ getD-set-other (x .memberships .table) i k j pastJoined differs
         ∙ sym (ap (λ (z : Found). byLlid z (freshJoined y) (joinedAt x)) e)

@@ -59,7 +59,8 @@ module _ (s : State) (e : (u : ℕ) → AsStarted (laneAt (alone s) u)) where
   step-as (strayDown u h q out) c v = e v
   step-as (strayUp h q out) c v = e v
 
-run-as : (s : State) (es : List Event) → ((u : ℕ) → AsStarted (laneAt (alone s) u)) → NoChanges es → (u : ℕ) → AsStarted (laneAt (alone (runs s es)) u)
+run-as : (s : State) (es : List Event) → ((u : ℕ) → AsStarted (laneAt (alone s) u)) → NoChanges es → (u : ℕ)
+    → AsStarted (laneAt (alone (runs s es)) u)
 unfolding runs
 run-as s [] e c = e
 run-as s (x ∷ es) e c = run-as (step s x) es (step-as s e x (c .0)) (c .1)

@@ -238,7 +238,8 @@ module _ (w : Setting) (s : State) (i : Invariant w s) (p : Plain s) where
       λ z.
       f
       (ap (λ (o : Onu). onuReceiveOf o h q out .answer .number) (onu-alone s u)
-      ∙ sym (ap (λ (r : WithOutput SubscriberReceived). r .answer .number) (receive-onu (subscriberAt s u) (valid u) h q out (no-joined w s u (h .llid) i p)))
+      ∙ sym (ap (λ (r : WithOutput SubscriberReceived). r .answer .number)
+      (receive-onu (subscriberAt s u) (valid u) h q out (no-joined w s u (h .llid) i p)))
       ∙ z)
   plain-fits (units.strayUp h q out) f =
       λ z. f (sym (ap (λ (r : WithOutput HeadReceived). r .answer .number) (receive-olt (s .head) (i .valid) h q out (none (h .llid)))) ∙ z)
@@ -292,7 +293,8 @@ module _ (w : Setting) (s : State) (i : Invariant w s) (p : Plain s) where
   unfolding headAfter run.oltAfter alone
   head-same h o e f = rw (e, f)
 
-  olt-stays : (llid : ℕ) (a : Acknowledgement) → (acknowledgeOf (alone s .olt) llid a .number ≡ 0 → ⊥) → acknowledgeOf (alone s .olt) llid a .olt ≡ s .head .olt
+  olt-stays : (llid : ℕ) (a : Acknowledgement) → (acknowledgeOf (alone s .olt) llid a .number ≡ 0 → ⊥)
+      → acknowledgeOf (alone s .olt) llid a .olt ≡ s .head .olt
   unfolding alone
   olt-stays llid a n = acknowledge-refused (s .head .olt) llid a n
 

@@ -92,9 +92,12 @@ pub record Course : Type 0 where
   pub refused : refusals (start example) events ≡ refusedNumbers
   -- the group's envelopes, by number; where each arrived, and with which number the unit answered
   pub sent : map (λ (e : Envelope). e .number) (groupLaneAt played 0 .sent) ≡ 0 ∷ 1 ∷ 2 ∷ 2 ∷ 3 ∷ 3 ∷ 3 ∷ 4 ∷ []
-  pub arrivedAt : map (λ (r : GroupArrival). r .unit) (groupLaneAt played 0 .arrived) ≡ 1 ∷ 0 ∷ 1 ∷ 0 ∷ 1 ∷ 0 ∷ 1 ∷ 0 ∷ 1 ∷ 0 ∷ 1 ∷ 1 ∷ 0 ∷ []
-  pub arrived : map (λ (r : GroupArrival). r .envelope .number) (groupLaneAt played 0 .arrived) ≡ 0 ∷ 0 ∷ 1 ∷ 1 ∷ 2 ∷ 2 ∷ 3 ∷ 3 ∷ 3 ∷ 3 ∷ 3 ∷ 4 ∷ 4 ∷ []
-  pub answered : map (λ (r : GroupArrival). r .number) (groupLaneAt played 0 .arrived) ≡ 0 ∷ 0 ∷ 0 ∷ 0 ∷ 9 ∷ 0 ∷ 0 ∷ 0 ∷ 5 ∷ 0 ∷ 0 ∷ 0 ∷ 0 ∷ []
+  pub arrivedAt : map (λ (r : GroupArrival). r .unit) (groupLaneAt played 0 .arrived) ≡ 1 ∷ 0 ∷ 1 ∷ 0 ∷ 1 ∷ 0 ∷ 1 ∷ 0 ∷ 1 ∷ 0 ∷ 1
+      ∷ 1 ∷ 0 ∷ []
+  pub arrived : map (λ (r : GroupArrival). r .envelope .number) (groupLaneAt played 0 .arrived) ≡ 0 ∷ 0 ∷ 1 ∷ 1 ∷ 2 ∷ 2 ∷ 3 ∷ 3 ∷ 3
+      ∷ 3 ∷ 3 ∷ 4 ∷ 4 ∷ []
+  pub answered : map (λ (r : GroupArrival). r .number) (groupLaneAt played 0 .arrived) ≡ 0 ∷ 0 ∷ 0 ∷ 0 ∷ 9 ∷ 0 ∷ 0 ∷ 0 ∷ 5 ∷ 0 ∷ 0
+      ∷ 0 ∷ 0 ∷ []
   -- who acknowledged which key
   pub acknowledgedBy : map (λ (a : GroupAnswered). a .unit) (groupLaneAt played 0 .answered) ≡ 1 ∷ 1 ∷ 0 ∷ 0 ∷ 1 ∷ 0 ∷ 0 ∷ 1 ∷ []
   pub acknowledged : map (λ (a : GroupAnswered). a .answer .number) (groupLaneAt played 0 .answered) ≡ 1 ∷ 1 ∷ 1 ∷ 2 ∷ 3 ∷ 3 ∷ 4 ∷ 4 ∷ []

@@ -68,7 +68,8 @@ among-more x (w ∷ us) u =
     ∙ ap (λ (t : Bool). either t (among x (llidsOf (u .identity)))) (sym (among-append x (llidsOf (w .identity)) (tableLlids us)))
 
 -- a list that meets neither part does not meet the whole
-meets-neither : (xs l m n : List ℕ) → ((x : ℕ) → among x n ≡ either (among x l) (among x m)) → meets xs l ≡ false → meets xs m ≡ false → meets xs n ≡ false
+meets-neither : (xs l m n : List ℕ) → ((x : ℕ) → among x n ≡ either (among x l) (among x m)) → meets xs l ≡ false → meets xs m ≡ false
+    → meets xs n ≡ false
 unfolding meets
 meets-neither [] l m n h a b = refl
 meets-neither (x ∷ xs) l m n h a b =

@@ -93,7 +93,8 @@ with-olt-valid h o s v w =
 ---- one group replaced
 
 -- a group of a valid head end is valid
-pub group-at-valid : (h : HeadEnd) (llid i : ℕ) → validHead h ≡ true → Stands h llid i → validGroup (h .olt .shared .tick) (h .olt .count) (groupAt h i) ≡ true
+pub group-at-valid : (h : HeadEnd) (llid i : ℕ) → validHead h ≡ true → Stands h llid i
+    → validGroup (h .olt .shared .tick) (h .olt .count) (groupAt h i) ≡ true
 group-at-valid h llid i v s =
     rw (getD-take (h .groups .count) (h .groups .table) i pastGroup (s .used))
     at
@@ -114,7 +115,8 @@ channels-valid o c w v =
     })
 
 pub with-group-valid : (h : HeadEnd) (i : ℕ) (c : Channels) (g : GroupRecord) → i < h .groups .count → g .llid ≡ groupAt h i .llid
-    → validGroup (h .olt .shared .tick) (h .olt .count) g ≡ true → validChannels c ≡ true → validHead h ≡ true → validHead (withGroup h i c g) ≡ true
+    → validGroup (h .olt .shared .tick) (h .olt .count) g ≡ true → validChannels c ≡ true → validHead h ≡ true
+    → validHead (withGroup h i c g) ≡ true
 unfolding withGroup withOltChannels withChannels groupLlids
 with-group-valid h i c g k e v w u =
     let r = head-in-range h u in
@@ -136,7 +138,8 @@ with-group-valid h i c g k e v w u =
 -- an accepted call on a group leaves a valid group, of the same LLID, and valid channels
 pub record GroupKeeps {H : Type 0} (call : Olt → GroupRecord → GroupOutcome H) : Type 0 where
   pub llid : (o : Olt) (g : GroupRecord) → call o g .group .llid ≡ g .llid
-  pub group : (o : Olt) (g : GroupRecord) → validGroup (o .shared .tick) (o .count) g ≡ true → validGroup (o .shared .tick) (o .count) (call o g .group) ≡ true
+  pub group : (o : Olt) (g : GroupRecord) → validGroup (o .shared .tick) (o .count) g ≡ true
+      → validGroup (o .shared .tick) (o .count) (call o g .group) ≡ true
   pub channels : (o : Olt) (g : GroupRecord) → validOlt o ≡ true → validChannels (call o g .channels) ≡ true
 
 pub group-lift-valid : {H : Type 0} (h : HeadEnd) (nothing : H) (ahead : Verdict) (call : Olt → GroupRecord → GroupOutcome H) (llid i : ℕ)
@@ -170,7 +173,8 @@ module _ (h : HeadEnd) (v : validHead h ≡ true) where
       → validHead (oltSentIn h r out .answer .head) ≡ true
   unfolding oltSentIn
   sent-after r out s w =
-      pick-holds (λ (x : WithOutput HeadSent). validHead (x .answer .head) ≡ true) (validGroups h) _ _ (λ e. with-olt-valid h (r .answer .olt) s w v) (λ e. v)
+      pick-holds (λ (x : WithOutput HeadSent). validHead (x .answer .head) ≡ true) (validGroups h) _ _ (λ e. with-olt-valid h (r .answer .olt) s w v)
+      (λ e. v)
 
   received-after : (r : WithOutput OltReceived) (out : List ℕ) → SameTable (h .olt) (r .answer .olt) → validOlt (r .answer .olt) ≡ true
       → validHead (oltReceivedIn h r out .answer .head) ≡ true
@@ -202,7 +206,8 @@ module _ (h : HeadEnd) (v : validHead h ≡ true) where
 
 ---- calls on a unit or a group
 
-by-llid : {R : Type 0} (P : R → Type 0) (f : Found) (alone : R) (group : ℕ → R) → P alone → ((i : ℕ) → f ≡ At i → P (group i)) → P (byLlid f alone group)
+by-llid : {R : Type 0} (P : R → Type 0) (f : Found) (alone : R) (group : ℕ → R) → P alone → ((i : ℕ) → f ≡ At i → P (group i))
+    → P (byLlid f alone group)
 unfolding byLlid
 by-llid P Nowhere alone group p q = p
 by-llid P (At i) alone group p q = q i refl

@@ -167,7 +167,8 @@ module _ (h : HeadEnd) (none : h .groups .count ≡ 0) where
     by-valid false e = rw (e, lift-invalid (h .olt) noSending _ llid (sendUnit llid channel (eqsOf p)) (no-groups-invalid h none e))
 
   as-receive : (header : Header) (p out : List ℕ) → headReceiveOf h header p out ≡ receivedIn h (oltReceiveOf (h .olt) header p out)
-  unfolding headReceiveOf oltReceiveOf oltReceived receivingOlt oltReceivedIn pick withOlt outputAfter passedCount passedRuns choiceEnciphered countCarried runsCarried
+  unfolding headReceiveOf oltReceiveOf oltReceived receivingOlt oltReceivedIn pick withOlt outputAfter passedCount passedRuns choiceEnciphered countCarried
+      runsCarried
   as-receive header p out = sym (by-nowhere (findGroup h (header .llid)) _ _ (no-group h none (header .llid))) ∙ by-valid (validGroups h) refl where
     by-valid : (t : Bool) → validGroups h ≡ t → let r = oltReceiveOf (h .olt) header p out in
         oltReceivedIn h r out ≡ receivedIn h r

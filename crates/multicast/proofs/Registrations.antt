@@ -73,7 +73,8 @@ pick-same-first true a b c h = h refl
 pick-same-first false a b c h = refl
 
 -- only the places below the count are kept
-fresh-same : (xs ys : List ℕ) (n : ℕ) → ((j : ℕ) → j < n → j < maxMembers → getD xs j 0 ≡ getD ys j 0) → freshMembers xs n ≡ freshMembers ys n
+fresh-same : (xs ys : List ℕ) (n : ℕ) → ((j : ℕ) → j < n → j < maxMembers → getD xs j 0 ≡ getD ys j 0)
+    → freshMembers xs n ≡ freshMembers ys n
 unfolding freshMembers
 fresh-same xs ys n h =
     rw (tabulate-ext 0 maxMembers (λ j. pick (ltb j n) (getD xs j 0) 0) (λ j. pick (ltb j n) (getD ys j 0) 0)

@@ -59,7 +59,8 @@ use Rattle.multicast.proofs.SubscriberLift.{join-room, join-new}
 
 ---- by the group that a call names
 
-found-holds : {R : Type 0} (P : R → Type 0) (f : Found) (own : R) (group : ℕ → R) → (f ≡ Nowhere → P own) → ((i : ℕ) → f ≡ At i → P (group i))
+found-holds : {R : Type 0} (P : R → Type 0) (f : Found) (own : R) (group : ℕ → R) → (f ≡ Nowhere → P own)
+    → ((i : ℕ) → f ≡ At i → P (group i))
     → P (byLlid f own group)
 unfolding byLlid
 found-holds P Nowhere own group p q = p refl
@@ -233,7 +234,8 @@ module _ (s : Subscriber) (llid channel : ℕ) (p out : List ℕ) where
   send-identity : onuSendOf (s .onu) llid channel p out .answer .onu .identity ≡ s .onu .identity
   unfolding onuSendOf onuSent sendingOnu onuAfterSend withOnuChannels
   send-identity =
-      onu-keeps (λ (o : Onu). o .identity ≡ s .onu .identity) (s .onu) _ _ _ _ refl (λ _ _. noted-identity (onuSendChoice (s .onu .keys)) (eqsOf p) (s .onu))
+      onu-keeps (λ (o : Onu). o .identity ≡ s .onu .identity) (s .onu) _ _ _ _ refl
+      (λ _ _. noted-identity (onuSendChoice (s .onu .keys)) (eqsOf p) (s .onu))
 
   own-send-valid : validSubscriber s ≡ true → validSubscriber (ownSendOf s llid channel p out .answer .subscriber) ≡ true
   unfolding ownSendOf unitSendOf ownSent onuSendOf onuSent
@@ -285,7 +287,8 @@ module _ (s : Subscriber) (h : Header) (p out : List ℕ) where
   own-receive-groups : ownReceiveOf s h p out .answer .subscriber .memberships ≡ s .memberships
   unfolding ownReceiveOf unitReceiveOf ownReceived withOnu
   own-receive-groups =
-      pick-holds (λ (x : WithOutput SubscriberReceived). x .answer .subscriber .memberships ≡ s .memberships) (validMemberships s) _ _ (λ _. refl) (λ _. refl)
+      pick-holds (λ (x : WithOutput SubscriberReceived). x .answer .subscriber .memberships ≡ s .memberships) (validMemberships s) _ _ (λ _. refl)
+      (λ _. refl)
 
   pub valid-after-receive : validSubscriber s ≡ true → validSubscriber (subscriberReceiveOf s h p out .answer .subscriber) ≡ true
   unfolding subscriberReceiveOf groupReceiveOf subscriberReceived receiveJoined

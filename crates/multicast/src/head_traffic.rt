@@ -37,7 +37,8 @@ use traffic::carrying::carry_fitting;
 use unit::passing::valid_header;
 
 fn send_unit(head: HeadEnd, llid: u16, channel: u8, payload: &[u8], output: &mut [u8]) -> HeadSent
-    ensures { λ r. ⌜ withOutput r (now (output .exit)) ≡ oltSentIn head (oltSendOf (head .olt) llid channel (now (payload .entry)) (now (output .entry))) (now (output .entry)) ⌝ }
+    ensures { λ r. ⌜ withOutput r (now (output .exit))
+        ≡ oltSentIn head (oltSendOf (head .olt) llid channel (now (payload .entry)) (now (output .entry))) (now (output .entry)) ⌝ }
 {
     let valid = sound_groups(head);
     let ahead = send_ahead(payload.len(), output.len(), channel);
@@ -127,7 +128,8 @@ pub fn send(head: HeadEnd, llid: u16, channel: u8, payload: &[u8], output: &mut 
 
 // What a receipt refuses ahead of 2, then the rest.
 fn receive_ahead(n: usize, m: usize, header: Header, rest: Verdict) -> Verdict
-    ensures { λ r. ⌜ r ≡ refuseIf (not (lengthsFit n m)) BadLength (refuseIf (not (both (upstream (header .channel)) (validHeader header))) OutOfRange rest) ⌝ }
+    ensures { λ r. ⌜ r
+        ≡ refuseIf (not (lengthsFit n m)) BadLength (refuseIf (not (both (upstream (header .channel)) (validHeader header))) OutOfRange rest) ⌝ }
 {
     let right = upstream(header.channel) & valid_header(header);
     refuse_if(
@@ -138,7 +140,8 @@ fn receive_ahead(n: usize, m: usize, header: Header, rest: Verdict) -> Verdict
 }
 
 fn receive_unit(head: HeadEnd, header: Header, octets: &[u8], output: &mut [u8]) -> HeadReceived
-    ensures { λ r. ⌜ withOutput r (now (output .exit)) ≡ oltReceivedIn head (oltReceiveOf (head .olt) header (now (octets .entry)) (now (output .entry))) (now (output .entry)) ⌝ }
+    ensures { λ r. ⌜ withOutput r (now (output .exit))
+        ≡ oltReceivedIn head (oltReceiveOf (head .olt) header (now (octets .entry)) (now (output .entry))) (now (output .entry)) ⌝ }
 {
     let valid = sound_groups(head);
     let ahead = receive_ahead(octets.len(), output.len(), header, Verdict::Accepted);

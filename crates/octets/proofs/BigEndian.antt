@@ -31,7 +31,8 @@ pub octets-injective : (k m n : ℕ) → m < 256 ^ k → n < 256 ^ k → octetsO
 octets-injective k m n hm hn e = sym (mod-eq-of-lt hm) ∙ same-low k m n e ∙ mod-eq-of-lt hn
 
 -- the number at a place depends on its octets alone
-pub number-same : (k : ℕ) (s t : List ℕ) (a b : ℕ) → ((j : ℕ) → j < k → getD s (a + j) 0 ≡ getD t (b + j) 0) → numberAt k s a ≡ numberAt k t b
+pub number-same : (k : ℕ) (s t : List ℕ) (a b : ℕ) → ((j : ℕ) → j < k → getD s (a + j) 0 ≡ getD t (b + j) 0)
+    → numberAt k s a ≡ numberAt k t b
 number-same zero s t a b h = refl
 number-same (suc k) s t a b h =
     ap₂ (λ (x y : ℕ). x * 256 + y) (number-same k s t a b (λ j l. h j (omega arith))) (h k (omega arith))

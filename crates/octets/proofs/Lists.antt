@@ -123,11 +123,13 @@ part-at s a n i d h = rw (getD-take n (drop a s) i d h, getD-drop a s i d)
 pub part-length : {A : Type 0} (s : List A) (a n : ℕ) → a + n ≤ length s → length (take n (drop a s)) ≡ n
 part-length s a n h = simp (length-take, length-drop) (omega arith)
 
-pub written-length : {A : Type 0} (t : List A) (a e : ℕ) (s : List A) → a ≤ e → e ≤ length s → e ≤ length t → length (written t a e s) ≡ length s
+pub written-length : {A : Type 0} (t : List A) (a e : ℕ) (s : List A) → a ≤ e → e ≤ length s → e ≤ length t
+    → length (written t a e s) ≡ length s
 written-length t a e s h k l = simp (length-append, length-take, length-drop) (omega arith)
 
 -- what lies past the written places is as it was
-pub written-rest : {A : Type 0} (t : List A) (b a : ℕ) (s : List A) → b ≤ a → a ≤ length s → a ≤ length t → drop a (written t b a s) ≡ drop a s
+pub written-rest : {A : Type 0} (t : List A) (b a : ℕ) (s : List A) → b ≤ a → a ≤ length s → a ≤ length t
+    → drop a (written t b a s) ≡ drop a s
 written-rest t b a s h k l =
     let p = take (a - b) (drop b t) in
     let n : length (take b s ++ p) ≡ a = simp (length-append, length-take, length-drop) (omega arith) in

@@ -63,7 +63,8 @@ unfoldable pub flagged : UnitRecord → ℕ → UnitRecord
 flagged u x =
     withKeys u (withTimer (u .keys) (record { interval = u .keys .timer .interval; count = u .keys .timer .count; flag = x }))
 
-both-stored : (n : ℕ) (u : UnitRecord) (t : Timer) → t ≡ timerAdvanced (u .keys .timer) n → flagged (counted u (t .count)) (t .flag) ≡ unitAdvanced n u
+both-stored : (n : ℕ) (u : UnitRecord) (t : Timer) → t ≡ timerAdvanced (u .keys .timer) n
+    → flagged (counted u (t .count)) (t .flag) ≡ unitAdvanced n u
 unfolding counted flagged unitAdvanced withKeys withTimer timerAdvanced
 both-stored n u t e = rw e
 

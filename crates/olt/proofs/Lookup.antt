@@ -59,7 +59,8 @@ found-below o llid i v f =
 pub located-below : (o : Olt) (ahead : Verdict) (llid : ℕ) (l : Located) → l ≡ locatedOf o ahead llid → l .place < maxUnits
 unfolding locatedOf locatedAfter refuseIf
 located-below o ahead llid l e = rw e (by-case (validOlt o) ahead (find o llid) (found-below o llid)) where
-  by-case : (t : Bool) (v : Verdict) (f : Found) → ((i : ℕ) → t ≡ true → f ≡ At i → i < maxUnits) → locatedAfter (onValid t v) f .place < maxUnits
+  by-case : (t : Bool) (v : Verdict) (f : Found) → ((i : ℕ) → t ≡ true → f ≡ At i → i < maxUnits)
+      → locatedAfter (onValid t v) f .place < maxUnits
   by-case true Accepted (At i) k = k i refl refl
   by-case true Accepted Nowhere k = omega arith
   by-case true (Refused x) f k = omega arith
@@ -73,7 +74,8 @@ pub record Reaches (o : Olt) (ahead : Verdict) (llid i : ℕ) : Type 0 where
   pub passed : ahead ≡ Accepted
   pub found : find o llid ≡ At i
 
-pub reaches : (o : Olt) (ahead : Verdict) (llid : ℕ) (l : Located) → l ≡ locatedOf o ahead llid → l .verdict ≡ Accepted → Reaches o ahead llid (l .place)
+pub reaches : (o : Olt) (ahead : Verdict) (llid : ℕ) (l : Located) → l ≡ locatedOf o ahead llid → l .verdict ≡ Accepted
+    → Reaches o ahead llid (l .place)
 unfolding locatedOf locatedAfter refuseIf
 reaches o ahead llid l e a =
     let r = by-case (validOlt o) ahead (find o llid) (sym (ap (λ (x : Located). x .verdict) e) ∙ a) in

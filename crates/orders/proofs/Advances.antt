@@ -87,13 +87,15 @@ unit-answers : (s : Subscriber) (n : ℕ) → validMemberships s ≡ true → su
 unfolding subscriberAdvanceOf onuAnswered
 unit-answers s n v = pick-true _ _ v
 
-subscriber-accepted : (s : Subscriber) (n : ℕ) → subscriberAdvanceOf s n .number ≡ 0 → (validMemberships s ≡ true) × (advanceOnuOf (s .onu) n .number ≡ 0)
+subscriber-accepted : (s : Subscriber) (n : ℕ) → subscriberAdvanceOf s n .number ≡ 0
+    → (validMemberships s ≡ true) × (advanceOnuOf (s .onu) n .number ≡ 0)
 unfolding subscriberAdvanceOf onuAnswered ownAnswered pick
 subscriber-accepted s n e = by-valid (validMemberships s) e where
   r : OnuAnswer
   r = advanceOnuOf (s .onu) n
 
-  by-valid : (t : Bool) → pick t (ownAnswered s r) (record { number = numberOf OutOfRange; subscriber = s }) .number ≡ 0 → (t ≡ true) × (r .number ≡ 0)
+  by-valid : (t : Bool) → pick t (ownAnswered s r) (record { number = numberOf OutOfRange; subscriber = s }) .number ≡ 0
+      → (t ≡ true) × (r .number ≡ 0)
   by-valid true k = (refl, k)
   by-valid false k = absurd (omega arith)
 

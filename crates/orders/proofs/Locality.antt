@@ -67,7 +67,8 @@ module _ (c : Call) where
       ap (λ (m : Made). unitAt (m .head .olt) i) (unit-made h i v p)
       ∙ with-unit (h .olt) i (d .channels) (d .own) (omega (arith, length-take (h .olt .count) (h .olt .units)))
 
-  unit-used : (h : HeadEnd) (i : ℕ) → validHead h ≡ true → partyOf h c ≡ unit i → i < length (registered (h .olt)) → i < length (registered (after h c .olt))
+  unit-used : (h : HeadEnd) (i : ℕ) → validHead h ≡ true → partyOf h c ≡ unit i → i < length (registered (h .olt))
+      → i < length (registered (after h c .olt))
   unfolding withOlt withUnit
   unit-used h i v p used =
       subst (λ (m : Made). i < length (registered (m .head .olt))) (sym (unit-made h i v p)) (still-used (h .olt .count) (h .olt .units) i _ used)
@@ -113,7 +114,8 @@ unfolding byVerdict ifAccepted
 partly-verdict Accepted none e g x = refl
 partly-verdict (Refused r) none e g x = refl
 
-marked-part : (a : GroupPart) (ps qs : List ℕ) (member : Found) → groupPart (groupMarked (rebuilt a ps) member) ≡ groupPart (groupMarked (rebuilt a qs) member)
+marked-part : (a : GroupPart) (ps qs : List ℕ) (member : Found) → groupPart (groupMarked (rebuilt a ps) member)
+    ≡ groupPart (groupMarked (rebuilt a qs) member)
 unfolding groupMarked withMembers marked
 marked-part a ps qs Nowhere = refl
 marked-part a ps qs (At j) = refl
@@ -175,7 +177,8 @@ module _ (c : Call) where
   unfolding asked put
   group-made h i v e = made-decided h c v (group i) e
 
-  members-valid : (h : HeadEnd) (i : ℕ) → validHead h ≡ true → i < length (registeredGroups h) → validMembers (h .olt .count) (groupAt h i .members) ≡ true
+  members-valid : (h : HeadEnd) (i : ℕ) → validHead h ≡ true → i < length (registeredGroups h)
+      → validMembers (h .olt .count) (groupAt h i .members) ≡ true
   members-valid h i v used =
       let n = h .groups .count in
       let l = h .groups .table in
@@ -212,7 +215,8 @@ module _ (c : Call) where
       ap (λ (m : Made). groupAt (m .head) i) (group-made h i v p)
       ∙ getD-set-same l i (groupDecides c (seenBy h i) (groupAt h i) .own) pastGroup (omega (arith, length-take n l))
 
-  group-used : (h : HeadEnd) (i : ℕ) → validHead h ≡ true → partyOf h c ≡ group i → i < length (registeredGroups h) → i < length (registeredGroups (after h c))
+  group-used : (h : HeadEnd) (i : ℕ) → validHead h ≡ true → partyOf h c ≡ group i → i < length (registeredGroups h)
+      → i < length (registeredGroups (after h c))
   unfolding withGroup
   group-used h i v p used =
       subst (λ (m : Made). i < length (registeredGroups (m .head))) (sym (group-made h i v p)) (still-used (h .groups .count) (h .groups .table) i _ used)

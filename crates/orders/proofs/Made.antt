@@ -76,7 +76,8 @@ module _ {H : Type 0} (o : Olt) (nothing : H) (ahead : Verdict) (llid : ℕ) (ca
     by-ahead Accepted = by-verdict (x .verdict)
     by-ahead (Refused r) = rw (with-itself o i)
 
-  lift-nowhere : find o llid ≡ Nowhere → lift o nothing ahead llid call ≡ record { verdict = andThen ahead (Refused UnknownLlid); end = o; handed = nothing }
+  lift-nowhere : find o llid ≡ Nowhere → lift o nothing ahead llid call
+      ≡ record { verdict = andThen ahead (Refused UnknownLlid); end = o; handed = nothing }
   unfolding lift after atUnit refuseIf andThen reply
   lift-nowhere f = rw (valid, f) (by-ahead ahead) where
     by-ahead : (a : Verdict) → after (onValid true a) o nothing (reply (Refused UnknownLlid) o nothing o nothing)

@@ -43,7 +43,8 @@ put-units h nobody c own k = record { count = refl; identities = refl }
 abbrev llidIn : GroupRecord → ℕ
 llidIn g = g .llid
 
-put-groups : (h : HeadEnd) (p : Party) (c : Channels) (own : Own p) → Kept p own (ownOf h p) → (llid : ℕ) → findGroup (put h p c own) llid ≡ findGroup h llid
+put-groups : (h : HeadEnd) (p : Party) (c : Channels) (own : Own p) → Kept p own (ownOf h p) → (llid : ℕ)
+    → findGroup (put h p c own) llid ≡ findGroup h llid
 unfolding put withOlt withGroup findGroup groupLlids
 put-groups h (unit i) c own k llid = refl
 put-groups h (group i) c own k llid =
@@ -84,7 +85,8 @@ set-other o i c u (x ∷ ps) e =
     rw (with-other o i x c u (eqb-false x i (n .0)), set-other o i c u ps (n .1))
 
 -- a call names the same member of both
-pub names-same : (y : Call) (o p : Olt) (m n : Members) → ((a : Answer) → memberNamed o m a ≡ memberNamed p n a) → shape y .names o m ≡ shape y .names p n
+pub names-same : (y : Call) (o p : Olt) (m n : Members) → ((a : Answer) → memberNamed o m a ≡ memberNamed p n a)
+    → shape y .names o m ≡ shape y .names p n
 names-same (capture llid) o p m n f = refl
 names-same (measure llid trip) o p m n f = refl
 names-same (clockSend llid) o p m n f = refl

@@ -46,7 +46,8 @@ pub unmoved : (r out : List ℕ) (place : ℕ → ℕ → ℕ) (c c′ e e′ : 
 unmoved r out place c c′ e e′ h = record { size = refl; kept = λ k h. h; right = λ i x a b f g. absurd (omega arith) }
 
 -- fewer EQs
-pub fewer : {r out out′ : List ℕ} {place : ℕ → ℕ → ℕ} {c c′ e e′ : ℕ} (f : ℕ) → f ≤ e′ → Moved r out out′ place c c′ e e′ → Moved r out out′ place c c′ e f
+pub fewer : {r out out′ : List ℕ} {place : ℕ → ℕ → ℕ} {c c′ e e′ : ℕ} (f : ℕ) → f ≤ e′ → Moved r out out′ place c c′ e e′
+    → Moved r out out′ place c c′ e f
 fewer f h m = record { size = m .size; kept = m .kept; right = λ i x a b g k. m .right i x a b g (omega arith) }
 
 -- one turn: three octets of EQ e
@@ -60,7 +61,8 @@ module _ {r out out₀ out₁ out₂ out₃ : List ℕ} {place : ℕ → ℕ →
   octet i a b false true p q = let z : i ≡ c + 1 = eqb-true i (c + 1) q in rw z (w .kept (place (c + 1) e) (v .right))
   octet i a b false false p q = let z : i ≡ c + 2 = omega (arith, eqb-false i c p, eqb-false i (c + 1) q) in rw z (w .right)
 
-  any : (i x : ℕ) → c ≤ i → i < c + 3 → from ≤ x → x < e + 1 → (t : Bool) → ltb x e ≡ t → getD out₃ (place i x) 0 ≡ getD r (place i x) 0
+  any : (i x : ℕ) → c ≤ i → i < c + 3 → from ≤ x → x < e + 1 → (t : Bool) → ltb x e ≡ t
+      → getD out₃ (place i x) 0 ≡ getD r (place i x) 0
   any i x a b f g true t = later (place i x) (m .right i x a b f (ltb-true x e t))
   any i x a b f g false t = let z : x ≡ e = omega (arith, ltb-false x e t) in rw z (octet i a b (eqb i c) (eqb i (c + 1)) refl refl)
 
@@ -73,7 +75,8 @@ module _ {r out out₀ out₁ out₂ out₃ : List ℕ} {place : ℕ → ℕ →
       }
 
 -- octets c up to c′, then c′ up to c″, of the same EQs
-pub more-octets : {r a b d : List ℕ} {place : ℕ → ℕ → ℕ} {c c′ c″ e e′ : ℕ} → Moved r a b place c c′ e e′ → Moved r b d place c′ c″ e e′
+pub more-octets : {r a b d : List ℕ} {place : ℕ → ℕ → ℕ} {c c′ c″ e e′ : ℕ} → Moved r a b place c c′ e e′
+    → Moved r b d place c′ c″ e e′
     → Moved r a d place c c″ e e′
 more-octets {c′ = c′} m w =
     record {
@@ -84,7 +87,8 @@ more-octets {c′ = c′} m w =
     }
 
 -- EQs e up to e′, then e′ up to e″, the same octets
-pub more-eqs : {r a b d : List ℕ} {place : ℕ → ℕ → ℕ} {c c′ e e′ e″ : ℕ} → Moved r a b place c c′ e e′ → Moved r b d place c c′ e′ e″
+pub more-eqs : {r a b d : List ℕ} {place : ℕ → ℕ → ℕ} {c c′ e e′ e″ : ℕ} → Moved r a b place c c′ e e′
+    → Moved r b d place c c′ e′ e″
     → Moved r a d place c c′ e e″
 more-eqs {e′ = e′} m w =
     record {
@@ -95,7 +99,8 @@ more-eqs {e′ = e′} m w =
     }
 
 -- all octets of all EQs: the output is r
-pub all-moved : {r a b : List ℕ} {place : ℕ → ℕ → ℕ} {n : ℕ} (octet eq : ℕ → ℕ) → Moved r a b place 0 eqOctets 0 n → length a ≡ length r
+pub all-moved : {r a b : List ℕ} {place : ℕ → ℕ → ℕ} {n : ℕ} (octet eq : ℕ → ℕ) → Moved r a b place 0 eqOctets 0 n
+    → length a ≡ length r
     → ((k : ℕ) → k < length r → (octet k < eqOctets) × (eq k < n) × (k ≡ place (octet k) (eq k))) → b ≡ r
 all-moved {r} {b = b} octet eq m same everywhere =
     ext-getD 0 b r (m .size ∙ same)
@@ -145,7 +150,8 @@ module _ (p out now : List ℕ) (n c at from e : ℕ) (size : Sized p out n) (gr
       (write r _ (eqOctets * e + c + 2) _ _ (omega arith) (simp length-set (omega arith)) (read p r _ _ _ third (octet (c + 2) e (omega arith) more)))
 
 -- all EQs are moved
-pub all-rearranged : (p out out′ : List ℕ) (n : ℕ) → Sized p out n → Moved (rearranged p) out out′ (placeInPlanes n) 0 eqOctets 0 n → out′ ≡ rearranged p
+pub all-rearranged : (p out out′ : List ℕ) (n : ℕ) → Sized p out n → Moved (rearranged p) out out′ (placeInPlanes n) 0 eqOctets 0 n
+    → out′ ≡ rearranged p
 all-rearranged p out out′ n size m =
     all-moved (λ k. k / n) (λ k. k % n) m (omega (arith, rearranged-length p))
     (λ k h. let at = in-plane n k (omega (arith, rearranged-length p)) in (at .octet, at .eq, at .same))

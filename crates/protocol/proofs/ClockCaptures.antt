@@ -54,7 +54,8 @@ advanced-follows o i llid c p n f h =
       clock = omega (arith, h .later, h .clock);
     }
 
-advances-follow : (o : Olt) (i llid : ℕ) (c : UnitClock) (p : Olt) (ns : List ℕ) → find o llid ≡ At i → Follows o i c p → Follows o i c (afterAdvances p ns)
+advances-follow : (o : Olt) (i llid : ℕ) (c : UnitClock) (p : Olt) (ns : List ℕ) → find o llid ≡ At i → Follows o i c p
+    → Follows o i c (afterAdvances p ns)
 unfolding afterAdvances advanceOltOf advancingOlt oltAnswer
 advances-follow o i llid c p [] f h = h
 advances-follow o i llid c p (n ∷ ns) f h =

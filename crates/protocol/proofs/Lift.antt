@@ -93,7 +93,8 @@ module _ {H : Type 0} (o : Olt) (nothing : H) (ahead : Verdict) (llid : ℕ) (ca
     pub handed : lift o nothing ahead llid call .handed ≡ call (o .shared) (unitAt o at) .handed
 
   -- a call that the unit found accepts is accepted
-  pub lift-accepts : (i : ℕ) → validOlt o ≡ true → ahead ≡ Accepted → find o llid ≡ At i → call (o .shared) (unitAt o i) .verdict ≡ Accepted → Lifted
+  pub lift-accepts : (i : ℕ) → validOlt o ≡ true → ahead ≡ Accepted → find o llid ≡ At i → call (o .shared) (unitAt o i) .verdict ≡ Accepted
+      → Lifted
   unfolding putBack
   lift-accepts i e f n a =
       let whole = lift-unit i e f n ∙ reply-accepted (call (o .shared) (unitAt o i) .verdict) o nothing _ _ a in
@@ -116,7 +117,8 @@ module _ {H : Type 0} (o : Olt) (nothing : H) (ahead : Verdict) (llid : ℕ) (ca
   pub lift-ends : Ends
   unfolding putBack
   lift-ends = by-valid (validOlt o) refl where
-    by-verdict : (i : ℕ) → validOlt o ≡ true → ahead ≡ Accepted → find o llid ≡ At i → (v : Verdict) → call (o .shared) (unitAt o i) .verdict ≡ v → Ends
+    by-verdict : (i : ℕ) → validOlt o ≡ true → ahead ≡ Accepted → find o llid ≡ At i → (v : Verdict)
+        → call (o .shared) (unitAt o i) .verdict ≡ v → Ends
     by-verdict i e f n Accepted a = accepted (lift-accepts i e f n a)
     by-verdict i e f n (Refused r) a = refused r (lift-unit i e f n ∙ reply-refused (call (o .shared) (unitAt o i) .verdict) o nothing _ _ r a)
 
@@ -160,10 +162,12 @@ module _ {H : Type 0} (o : Olt) (nothing : H) (ahead : Verdict) (llid : ℕ) (ca
 -- an accepted call leaves a valid unit, of the same identity, and valid channels
 pub record Keeps {H : Type 0} (call : Shared → UnitRecord → Outcome H) : Type 0 where
   pub identity : (s : Shared) (u : UnitRecord) → call s u .unit .identity ≡ u .identity
-  pub unit : (s : Shared) (u : UnitRecord) → validUnit (s .tick) u ≡ true → call s u .verdict ≡ Accepted → validUnit (s .tick) (call s u .unit) ≡ true
+  pub unit : (s : Shared) (u : UnitRecord) → validUnit (s .tick) u ≡ true → call s u .verdict ≡ Accepted
+      → validUnit (s .tick) (call s u .unit) ≡ true
   pub channels : (s : Shared) (u : UnitRecord) → validShared s ≡ true → validChannels (call s u .channels) ≡ true
 
-pub with-valid : (o : Olt) (i : ℕ) (c : Channels) (u : UnitRecord) → i < o .count → u .identity ≡ unitAt o i .identity → validUnit (o .shared .tick) u ≡ true
+pub with-valid : (o : Olt) (i : ℕ) (c : Channels) (u : UnitRecord) → i < o .count → u .identity ≡ unitAt o i .identity
+    → validUnit (o .shared .tick) u ≡ true
     → validChannels c ≡ true → validOlt o ≡ true → validOlt (withUnit o i c u) ≡ true
 unfolding withUnit withChannels
 with-valid o i c u h e v w k =

@@ -96,7 +96,8 @@ module _ (changes new old : ℕ) (v : validChanges changes ≡ true) (w : validC
         (omega (arith, back, shift-past changes (timeAhead old new) (leb-false _ _ e) (omega arith), shift-in-range (changesAfter changes new old) w))
 
 -- with the delay that LocalTime follows, the sum makes the same: what travel gains is what the delay gains
-pub changes-follow : (clock before after changes new old : ℕ) → before ≤ maxRoundTrip → after ≤ maxRoundTrip → new % localTurn ≡ localOf (clock + after)
+pub changes-follow : (clock before after changes new old : ℕ) → before ≤ maxRoundTrip → after ≤ maxRoundTrip
+    → new % localTurn ≡ localOf (clock + after)
     → old % localTurn ≡ localOf (clock + before) → validChanges changes ≡ true → validChanges (changesAfter changes new old) ≡ true
     → shiftOf (changesAfter changes new old) + before ≡ shiftOf changes + after
 changes-follow clock before after changes new old b a e f v w = by-order (leb before after) refl where
@@ -114,7 +115,8 @@ changes-follow clock before after changes new old b a e f v w = by-order (leb be
       let l = leb-false before after h in
       omega (arith, l, behind, changes-back changes new old v w (omega (arith, ahead, l)) (omega (arith, behind, l)))
 
-pub travel-retimed : (o : Onu) (clock before after time : ℕ) → before ≤ maxRoundTrip → after ≤ maxRoundTrip → time % localTurn ≡ localOf (clock + after)
+pub travel-retimed : (o : Onu) (clock before after time : ℕ) → before ≤ maxRoundTrip → after ≤ maxRoundTrip
+    → time % localTurn ≡ localOf (clock + after)
     → o .clock .time % localTurn ≡ localOf (clock + before) → validOnu o ≡ true → newTimeVerdict o time ≡ Accepted
     → travelOf (onuRetimed o time) + before ≡ travelOf o + after
 unfolding travelOf onuRetimed withOnuClock withTravel travelChanged

@@ -130,7 +130,8 @@ pub fresh-refused : (mac clock : ℕ) → (freshOltOf mac clock .number ≡ 0 �
 unfolding freshOltOf oltAnswer
 fresh-refused mac clock n = number-refused (newOlt 0 0) silent _ (λ x e. reply-untouched _ (newOlt 0 0) silent _ silent x e) n .end
 
-pub register-refused : (o : Olt) (i : Identity) (trip interval : ℕ) → (registerOf o i trip interval .number ≡ 0 → ⊥) → registerOf o i trip interval .olt ≡ o
+pub register-refused : (o : Olt) (i : Identity) (trip interval : ℕ) → (registerOf o i trip interval .number ≡ 0 → ⊥)
+    → registerOf o i trip interval .olt ≡ o
 unfolding registerOf registering oltAnswer
 register-refused o i trip interval n = number-refused o silent _ (λ x e. reply-untouched _ o silent _ silent x e) n .end
 
@@ -160,7 +161,8 @@ offer-refused o llid key n =
     let u = number-refused o noKeyMessage _ (lift-untouched o noKeyMessage Accepted llid (offerUnit llid key)) n in
     (u .end, u .handed)
 
-pub retry-refused : (o : Olt) (llid : ℕ) → (retryOf o llid .number ≡ 0 → ⊥) → (retryOf o llid .olt ≡ o) × (retryOf o llid .message ≡ noKeyMessage)
+pub retry-refused : (o : Olt) (llid : ℕ) → (retryOf o llid .number ≡ 0 → ⊥)
+    → (retryOf o llid .olt ≡ o) × (retryOf o llid .message ≡ noKeyMessage)
 unfolding retryOf keySent
 retry-refused o llid n =
     let u = number-refused o noKeyMessage _ (lift-untouched o noKeyMessage Accepted llid (retryUnit llid)) n in
@@ -211,5 +213,6 @@ acknowledge-ordered o llid a r e = (
   ap (λ (x : OltAnswer). x .number) e
       ∙ ap verdictNumber
       (lift-verdict o silent Accepted llid (acknowledgeUnit a)
-      ∙ ap (λ (v : Verdict). onValid (validOlt o) (refuseIf (not (isRegistered o llid)) UnknownLlid v)) (acknowledge-verdict a (o .shared) (unitNamed o llid))),
+      ∙ ap (λ (v : Verdict). onValid (validOlt o) (refuseIf (not (isRegistered o llid)) UnknownLlid v))
+      (acknowledge-verdict a (o .shared) (unitNamed o llid))),
 )

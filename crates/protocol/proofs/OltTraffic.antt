@@ -54,7 +54,8 @@ abbrev pub receiveAhead : Bool → Header → Verdict
 receiveAhead misfit h = refuseIf misfit BadLength (refuseIf (not (both (upstream (h .channel)) (validHeader h))) OutOfRange Accepted)
 
 -- an envelope that names a registered unit, of the right direction and with a buffer that fits, is taken as its unit takes it
-pub receiving-accepts : (o : Olt) (h : Header) (i : ℕ) → validOlt o ≡ true → upstream (h .channel) ≡ true → validHeader h ≡ true → find o (h .llid) ≡ At i
+pub receiving-accepts : (o : Olt) (h : Header) (i : ℕ) → validOlt o ≡ true → upstream (h .channel) ≡ true → validHeader h ≡ true
+    → find o (h .llid) ≡ At i
     → Receives (o .shared) (unitAt o i) h → Lifted o noPassage (receiveAhead false h) (h .llid) (receiveUnit h)
 unfolding receiveUnit outcome
 receiving-accepts o h i v u w f r =

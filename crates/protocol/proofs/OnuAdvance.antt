@@ -81,7 +81,8 @@ advance-onu-valid o n v =
     onu-keeps (λ (p : Onu). validOnu p ≡ true) o silent _ _ silent v (λ w a. onu-advanced-valid o n (advance-accepted (o .tick) n a) w)
 
 -- whenever the sum is accepted, an advance by m and then one by n give the whole reply of an advance by m + n
-pub advancing-onu-sum : (o : Onu) (m n : ℕ) → advancingOnu o (m + n) .verdict ≡ Accepted → advancingOnu (advancingOnu o m .end) n ≡ advancingOnu o (m + n)
+pub advancing-onu-sum : (o : Onu) (m n : ℕ) → advancingOnu o (m + n) .verdict ≡ Accepted
+    → advancingOnu (advancingOnu o m .end) n ≡ advancingOnu o (m + n)
 unfolding advancingOnu onuAdvanced
 advancing-onu-sum o m n e =
     let a = onu-accepted o silent _ _ silent e in

@@ -120,7 +120,8 @@ receiving-onu-untouched o misfit h r e = onu-untouched o noPassage _ _ _ r e
 ---- overheard envelopes
 
 -- an envelope for another unit is refused 2 and an upstream one 1, after 14
-pub overheard-down : (o : Onu) (misfit : Bool) (h : Header) → downstream (h .channel) ≡ true → validHeader h ≡ true → has (o .identity) (h .llid) ≡ false
+pub overheard-down : (o : Onu) (misfit : Bool) (h : Header) → downstream (h .channel) ≡ true → validHeader h ≡ true
+    → has (o .identity) (h .llid) ≡ false
     → onuReceiveVerdict o misfit h ≡ refuseIf misfit BadLength (Refused UnknownLlid)
 unfolding onuReceiveVerdict refuseIf both
 overheard-down o misfit h d v n = rw (d, v, n)

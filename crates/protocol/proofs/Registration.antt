@@ -60,7 +60,8 @@ register-accepted o i trip interval e =
       room = leb-false _ _ (c .0);
     }
 
-pub fresh-unit-valid : (tick : ℕ) (i : Identity) (trip interval : ℕ) → validIdentity i ≡ true → trip ≤ maxRoundTrip → validInterval interval ≡ true
+pub fresh-unit-valid : (tick : ℕ) (i : Identity) (trip interval : ℕ) → validIdentity i ≡ true → trip ≤ maxRoundTrip
+    → validInterval interval ≡ true
     → validUnit tick (freshUnit i trip interval) ≡ true
 unfolding freshUnit either
 fresh-unit-valid tick i trip interval v t n =
@@ -78,7 +79,8 @@ fresh-unit-valid tick i trip interval v t n =
     })
 
 -- what the places in use have after a registration: the new unit too, if there was a place
-more-cases : (P : List UnitRecord → Type 0) (o : Olt) (u : UnitRecord) → P (registered o) → P (registered o ++ (u ∷ [])) → P (registered (withOneMore o u))
+more-cases : (P : List UnitRecord → Type 0) (o : Olt) (u : UnitRecord) → P (registered o) → P (registered o ++ (u ∷ []))
+    → P (registered (withOneMore o u))
 unfolding withOneMore
 more-cases P o u p q = by-room (ltb (o .count) (length (o .units))) refl where
   by-room : (t : Bool) → ltb (o .count) (length (o .units)) ≡ t → P (registered (withOneMore o u))

@@ -28,7 +28,8 @@ receive-current u h n e k p c =
     ∙ pick-true _ _ (both-true (le-leb 1 (u .confirmation .confirmed) (omega arith)) (eq-eqb _ _ (k ∙ ap (λ (x : ℕ). x % 2) c)))
     ∙ ap Current (sym c)
 
-pub receive-next : (u : UnitRecord) (h : Header) (n : ℕ) → h .encenabled ≡ 1 → h .enckey ≡ n % 2 → n ≡ u .keys .active → n ≡ u .confirmation .confirmed + 1
+pub receive-next : (u : UnitRecord) (h : Header) (n : ℕ) → h .encenabled ≡ 1 → h .enckey ≡ n % 2 → n ≡ u .keys .active
+    → n ≡ u .confirmation .confirmed + 1
     → unitReceiveChoice u h ≡ Next n
 unfolding unitReceiveChoice
 receive-next u h n e k a c =

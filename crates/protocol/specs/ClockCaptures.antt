@@ -17,5 +17,6 @@ afterAdvances o (n ∷ ns) = afterAdvances (advanceOltOf o n .olt) ns
 -- r answers the capture of a unit of o: after any advances, an accepted clock send by any of the unit's LLIDs hands over the stamps
 -- of o's clock
 pub record Captures (o : Olt) (llid : ℕ) (r : OltAnswer) : Type 0 where
-  pub stamps : r .number ≡ 0 → (ns : List ℕ) (other : ℕ) → find o other ≡ find o llid → clockSendOf (afterAdvances (r .olt) ns) other .number ≡ 0
+  pub stamps : r .number ≡ 0 → (ns : List ℕ) (other : ℕ) → find o other ≡ find o llid
+      → clockSendOf (afterAdvances (r .olt) ns) other .number ≡ 0
       → clockSendOf (afterAdvances (r .olt) ns) other .message ≡ capturedAt (o .shared .clock) (unitNamed o llid .clock .trip)

@@ -103,7 +103,8 @@ none-marked b a j zero f = refl
 none-marked b a j (suc m) f =
     rw (pick-false _ _ (f j (omega arith) (omega arith))) (none-marked b a (suc j) m (λ k l h. f k (omega arith) (omega arith)))
 
-none-counted : (llid : ℕ) (b a : List ℕ) (j m : ℕ) → ((k : ℕ) → j ≤ k → k < j + m → alone b a k ≡ false) → sum j m (aloneAt llid b a) ≡ 0
+none-counted : (llid : ℕ) (b a : List ℕ) (j m : ℕ) → ((k : ℕ) → j ≤ k → k < j + m → alone b a k ≡ false)
+    → sum j m (aloneAt llid b a) ≡ 0
 none-counted llid b a j zero f = refl
 none-counted llid b a j (suc m) f =
     rw (pick-false _ _ (both-false-left _ (f j (omega arith) (omega arith))), none-counted llid b a (suc j) m (λ k l h. f k (omega arith) (omega arith)))

@@ -33,7 +33,8 @@ pub alone-left : (b a : List ℕ) (j : ℕ) → alone b a j ≡ false → aloneM
 alone-left b a j e = rw (pick-false _ _ e, append-nil) at (pieces-more (aloneEntry b a) j)
 
 -- whether a record counts, by its partner and header
-pub counted : (llid : ℕ) (a b : List ℕ) (i v n : ℕ) (h : Header) → v ≡ partnerOf (recordOf a i) b → n ≡ recordsIn b → h ≡ recordHeader (recordOf a i)
+pub counted : (llid : ℕ) (a b : List ℕ) (i v n : ℕ) (h : Header) → v ≡ partnerOf (recordOf a i) b → n ≡ recordsIn b
+    → h ≡ recordHeader (recordOf a i)
     → aloneAt llid a b i ≡ pick (both (eqb v n) (eqb (h .llid) llid)) 1 0
 counted llid a b i v n h e q g = rw (alone-tested a b i v n e q, g)
 

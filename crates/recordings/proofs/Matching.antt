@@ -27,14 +27,16 @@ module _ (a b : List ℕ) (i : ℕ) where
   unpaired-by true j e d h n = absurd (n (sym (partner-is (recordOf a i) b j d h (paired-back _ _ e))))
   unpaired-by false j e d h n = e
 
-  met-on : (j v : ℕ) → distinct b ≡ true → j < recordsIn b → (j ≡ partnerOf (recordOf a i) b → ⊥) → Met (recordOf b j) a i v → Met (recordOf b j) a (i + 1) v
+  met-on : (j v : ℕ) → distinct b ≡ true → j < recordsIn b → (j ≡ partnerOf (recordOf a i) b → ⊥) → Met (recordOf b j) a i v
+      → Met (recordOf b j) a (i + 1) v
   met-on j v d h n m =
       let e = unpaired-by (paired (recordOf b j) (recordOf a i)) j refl d h n in
       ⊎-elim (λ x. inl (omega (arith, x .0), x .1)) (λ x. inr (x .0, below-more (λ k. paired (recordOf b j) (recordOf a k) ≡ false) i (x .1) e)) m
 
   -- a record of b that is no partner of record i of a
   pub met-past : (s : List ℕ) → distinct b ≡ true → recordsIn b ≤ partnerOf (recordOf a i) b
-      → ((j : ℕ) → j < recordsIn b → Met (recordOf b j) a i (getD s j 0)) → (j : ℕ) → j < recordsIn b → Met (recordOf b j) a (i + 1) (getD s j 0)
+      → ((j : ℕ) → j < recordsIn b → Met (recordOf b j) a i (getD s j 0)) → (j : ℕ) → j < recordsIn b
+      → Met (recordOf b j) a (i + 1) (getD s j 0)
   met-past s d l f j h = met-on j (getD s j 0) d h (λ q. omega arith) (f j h)
 
   met-by : (t : Bool) (s : List ℕ) (p j : ℕ) → eqb j p ≡ t → distinct b ≡ true → p ≡ partnerOf (recordOf a i) b → p < recordsIn b
@@ -49,7 +51,8 @@ module _ (a b : List ℕ) (i : ℕ) where
 
   -- one that is
   pub met-more : (s : List ℕ) (p : ℕ) → distinct b ≡ true → p ≡ partnerOf (recordOf a i) b → p < recordsIn b → recordsIn b ≤ length s
-      → ((j : ℕ) → j < recordsIn b → Met (recordOf b j) a i (getD s j 0)) → (j : ℕ) → j < recordsIn b → Met (recordOf b j) a (i + 1) (getD (set s p i) j 0)
+      → ((j : ℕ) → j < recordsIn b → Met (recordOf b j) a i (getD s j 0)) → (j : ℕ) → j < recordsIn b
+      → Met (recordOf b j) a (i + 1) (getD (set s p i) j 0)
   met-more s p d e l n f j h = met-by (eqb j p) s p j refl d e l n (f j h) h
 
 -- once all records of a are passed

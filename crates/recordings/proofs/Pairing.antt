@@ -118,10 +118,12 @@ one-by false true b i k f g d h l e = true-false (sym (paired-back _ _ e) ∙ ap
 one-by false false b i k f g d h l e = omega (arith, ltb-false i k f, ltb-false k i g)
 
 -- records of one block that pair are one
-pub only-one : (b : List ℕ) (i k : ℕ) → distinct b ≡ true → i < recordsIn b → k < recordsIn b → paired (recordOf b i) (recordOf b k) ≡ true → i ≡ k
+pub only-one : (b : List ℕ) (i k : ℕ) → distinct b ≡ true → i < recordsIn b → k < recordsIn b → paired (recordOf b i) (recordOf b k) ≡ true
+    → i ≡ k
 only-one b i k d h l e = one-by (ltb i k) (ltb k i) b i k refl refl d h l e
 
-partner-by : (t : Bool) (r b : List ℕ) (j : ℕ) → ltb j (partnerOf r b) ≡ t → distinct b ≡ true → j < recordsIn b → paired r (recordOf b j) ≡ true
+partner-by : (t : Bool) (r b : List ℕ) (j : ℕ) → ltb j (partnerOf r b) ≡ t → distinct b ≡ true → j < recordsIn b
+    → paired r (recordOf b j) ≡ true
     → partnerOf r b ≡ j
 partner-by true r b j f d h e = true-false (sym e ∙ first-least r b 0 (recordsIn b) j (omega arith) (ltb-true j (partnerOf r b) f))
 partner-by false r b j f d h e =

@@ -20,7 +20,8 @@ use Rattle.recordings.specs.Comparing.{outputOctets, aloneMark, markAt, 
 -- "first second llid ch clock result" and a line feed
 abbrev pub headingText : List ℕ
 headingText =
-    102 ∷ 105 ∷ 114 ∷ 115 ∷ 116 ∷ 32 ∷ 115 ∷ 101 ∷ 99 ∷ 111 ∷ 110 ∷ 100 ∷ 32 ∷ 108 ∷ 108 ∷ 105 ∷ 100 ∷ 32 ∷ 99 ∷ 104 ∷ 32 ∷ 99 ∷ 108 ∷ 111 ∷ 99 ∷ 107 ∷ 32 ∷ 114 ∷ 101 ∷ 115 ∷ 117 ∷ 108 ∷ 116 ∷ 10 ∷ []
+    102 ∷ 105 ∷ 114 ∷ 115 ∷ 116 ∷ 32 ∷ 115 ∷ 101 ∷ 99 ∷ 111 ∷ 110 ∷ 100 ∷ 32 ∷ 108 ∷ 108 ∷ 105 ∷ 100 ∷ 32 ∷ 99 ∷ 104
+    ∷ 32 ∷ 99 ∷ 108 ∷ 111 ∷ 99 ∷ 107 ∷ 32 ∷ 114 ∷ 101 ∷ 115 ∷ 117 ∷ 108 ∷ 116 ∷ 10 ∷ []
 
 -- the number, from 1, of a partner at place p of b, 0 where there is none
 unfoldable pub partnerNumber : List ℕ → ℕ → ℕ

@@ -54,7 +54,8 @@ pub(crate) fn mark_at(a: &[u8], i: u16, b: &[u8], p: u16) -> u8
 fn put_marks(a: &[u8], b: &[u8], table: &[u16; PLACES], output: &mut [u8])
     requires { ⌜ (recordsIn (now a) ≤ mostRecords) × (length (now output) ≡ outputOctets) ⌝ }
     requires { ⌜ Listed (now table) (now a) (now b) (recordsIn (now a)) ⌝ }
-    ensures { λ _. ⌜ now (output .exit) ≡ tabulate 0 (recordsIn (now (a .entry))) (markOf (now (a .entry)) (now (b .entry))) ++ drop (recordsIn (now (a .entry))) (now (output .entry)) ⌝ }
+    ensures { λ _. ⌜ now (output .exit) ≡ tabulate 0 (recordsIn (now (a .entry))) (markOf (now (a .entry)) (now (b .entry)))
+        ++ drop (recordsIn (now (a .entry))) (now (output .entry)) ⌝ }
 {
     let n = count(a);
     let mut i: u16 = 0;
@@ -69,7 +70,8 @@ fn put_alones(b: &[u8], a: &[u8], table: &[u16; PLACES], output: &mut [u8], at: 
     requires { ⌜ (recordsIn (now b) ≤ mostRecords) × (at ≤ mostRecords) × (length (now output) ≡ outputOctets) ⌝ }
     requires { ⌜ Listed (now table) (now b) (now a) (recordsIn (now b)) ⌝ }
     ensures { λ r. ⌜ r ≡ at + length (aloneMarks (now (b .entry)) (now (a .entry)) (recordsIn (now (b .entry)))) ⌝ }
-    ensures { λ r. ⌜ take r (now (output .exit)) ≡ take at (now (output .entry)) ++ aloneMarks (now (b .entry)) (now (a .entry)) (recordsIn (now (b .entry))) ⌝ }
+    ensures { λ r. ⌜ take r (now (output .exit)) ≡ take at (now (output .entry))
+        ++ aloneMarks (now (b .entry)) (now (a .entry)) (recordsIn (now (b .entry))) ⌝ }
     ensures { λ r. ⌜ (drop r (now (output .exit)) ≡ drop r (now (output .entry))) × (r ≤ at + recordsIn (now (b .entry))) ⌝ }
 {
     let n = count(a);

@@ -86,7 +86,8 @@ fn put_firsts(a: &[u8], b: &[u8], table: &[u16; PLACES], text: &mut [u8], at: us
     requires { ⌜ Listed (now table) (now a) (now b) (recordsIn (now a)) ⌝ }
     requires { ⌜ at + rowOctets * recordsIn (now a) ≤ length (now text) ⌝ }
     ensures { λ r. ⌜ (at ≤ r) × (r ≤ at + rowOctets * recordsIn (now (a .entry))) ⌝ }
-    ensures { λ r. ⌜ take r (now (text .exit)) ≡ take at (now (text .entry)) ++ pieces 0 (recordsIn (now (a .entry))) (firstRow (now (a .entry)) (now (b .entry))) ⌝ }
+    ensures { λ r. ⌜ take r (now (text .exit)) ≡ take at (now (text .entry))
+        ++ pieces 0 (recordsIn (now (a .entry))) (firstRow (now (a .entry)) (now (b .entry))) ⌝ }
     ensures { λ r. ⌜ drop r (now (text .exit)) ≡ drop r (now (text .entry)) ⌝ }
 {
     let n = count(a);
@@ -104,7 +105,8 @@ fn put_firsts(a: &[u8], b: &[u8], table: &[u16; PLACES], text: &mut [u8], at: us
 fn put_alone(b: &[u8], j: u16, a: &[u8], p: u16, text: &mut [u8], at: usize) -> usize
     requires { ⌜ (j < mostRecords) × (at + rowOctets ≤ length (now text)) ⌝ }
     ensures { λ r. ⌜ (at ≤ r) × (r ≤ at + rowOctets) ⌝ }
-    ensures { λ r. ⌜ take r (now (text .exit)) ≡ take at (now (text .entry)) ++ pick (eqb p (recordsIn (now (a .entry)))) (entryRow 0 (j + 1) (recordHeader (recordOf (now (b .entry)) j)) aloneMark) [] ⌝ }
+    ensures { λ r. ⌜ take r (now (text .exit)) ≡ take at (now (text .entry))
+        ++ pick (eqb p (recordsIn (now (a .entry)))) (entryRow 0 (j + 1) (recordHeader (recordOf (now (b .entry)) j)) aloneMark) [] ⌝ }
     ensures { λ r. ⌜ drop r (now (text .exit)) ≡ drop r (now (text .entry)) ⌝ }
 {
     if p == count(a) {
@@ -119,7 +121,8 @@ fn put_alones(b: &[u8], a: &[u8], table: &[u16; PLACES], text: &mut [u8], at: us
     requires { ⌜ Listed (now table) (now b) (now a) (recordsIn (now b)) ⌝ }
     requires { ⌜ at + rowOctets * recordsIn (now b) ≤ length (now text) ⌝ }
     ensures { λ r. ⌜ (at ≤ r) × (r ≤ at + rowOctets * recordsIn (now (b .entry))) ⌝ }
-    ensures { λ r. ⌜ take r (now (text .exit)) ≡ take at (now (text .entry)) ++ pieces 0 (recordsIn (now (b .entry))) (aloneRow (now (b .entry)) (now (a .entry))) ⌝ }
+    ensures { λ r. ⌜ take r (now (text .exit)) ≡ take at (now (text .entry))
+        ++ pieces 0 (recordsIn (now (b .entry))) (aloneRow (now (b .entry)) (now (a .entry))) ⌝ }
     ensures { λ r. ⌜ drop r (now (text .exit)) ≡ drop r (now (text .entry)) ⌝ }
 {
     let m = count(b);
@@ -154,7 +157,8 @@ fn put_rows(llid: u16, a: &[u8], b: &[u8], text: &mut [u8], at: usize) -> usize
 fn put_body(llid: u16, a: &[u8], b: &[u8], text: &mut [u8], at: usize) -> usize
     requires { ⌜ at + bodyOctets ≤ length (now text) ⌝ }
     ensures { λ r. ⌜ (at ≤ r) × (r ≤ at + bodyOctets) ⌝ }
-    ensures { λ r. ⌜ take r (now (text .exit)) ≡ take at (now (text .entry)) ++ bodyAfter (rulingOn outputOctets (now (a .entry)) (now (b .entry))) llid (now (a .entry)) (now (b .entry)) ⌝ }
+    ensures { λ r. ⌜ take r (now (text .exit)) ≡ take at (now (text .entry))
+        ++ bodyAfter (rulingOn outputOctets (now (a .entry)) (now (b .entry))) llid (now (a .entry)) (now (b .entry)) ⌝ }
     ensures { λ r. ⌜ drop r (now (text .exit)) ≡ drop r (now (text .entry)) ⌝ }
 {
     match rule(OUTPUT_OCTETS, a, b) {

@@ -77,7 +77,8 @@ taken-off c y = omega arith
 
 less-clock : (c a d x : ℕ) → x ≡ stepped ((c + a) % clockTurn) d → stepped a d ≡ (x + (clockTurn - c % clockTurn)) % clockTurn
 less-clock c a d x e =
-    sym (ap (λ (y : ℕ). (y + (clockTurn - c % clockTurn)) % clockTurn) (e ∙ put-on c a d (clockTurn - mostSlip)) ∙ taken-off c (a + d + (clockTurn - mostSlip)))
+    sym (ap (λ (y : ℕ). (y + (clockTurn - c % clockTurn)) % clockTurn) (e ∙ put-on c a d (clockTurn - mostSlip))
+    ∙ taken-off c (a + d + (clockTurn - mostSlip)))
 
 -- the sums are by how much the sender's clock is ahead
 pub record Holds (sent : ℕ → ℕ) (s b : List ℕ) (i : ℕ) : Type 0 where

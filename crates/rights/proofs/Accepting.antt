@@ -43,7 +43,8 @@ asked : (c : Caller) → userFits c ≡ true → (1 ≤ c .user) × (c .user ≤
 unfolding userFits
 asked c e = (leb-true _ _ (both-left _ _ e), leb-true _ _ (both-right _ _ e))
 
-pub valid : (suits fits : Bool) (c : Caller) (s q : List ℕ) → classVerdict suits fits c s q ≡ Accepted → (suits ≡ true) × (fits ≡ true) × Valid c s q
+pub valid : (suits fits : Bool) (c : Caller) (s q : List ℕ) → classVerdict suits fits c s q ≡ Accepted
+    → (suits ≡ true) × (fits ≡ true) × Valid c s q
 unfolding classVerdict
 valid suits fits c s q e =
     let a = refuse-accepted _ _ _ e in
@@ -73,7 +74,8 @@ own-few : (c : Caller) (q : List ℕ) → length (ownRights c q) ≤ c .sets
 unfolding ownRights
 own-few c q = simp length-take (omega arith)
 
-inside-by : (t : Bool) (P : ℕ → Bool) (c : Caller) (q : List ℕ) (j : ℕ) → P 0 ≡ false → leb (c .sets) j ≡ t → P (getD (ownRights c q) j 0) ≡ true → j < c .sets
+inside-by : (t : Bool) (P : ℕ → Bool) (c : Caller) (q : List ℕ) (j : ℕ) → P 0 ≡ false → leb (c .sets) j ≡ t
+    → P (getD (ownRights c q) j 0) ≡ true → j < c .sets
 inside-by true P c q j z d e =
     let none = List·getD-eq-default (ownRights c q) 0 {n = j} (omega (arith, own-few c q, leb-true (c .sets) j d)) in
     true-false (sym e ∙ ap P none ∙ z)

@@ -98,7 +98,9 @@ pub fn judge_in(
     drift: Drift,
     h: Header,
 ) -> ClassHeard
-    ensures { λ r. ⌜ r ≡ judgedFor near (rightsOn caller (now (sets .entry)) (now (rights .entry)) (h .llid)) (setOf (now (sets .entry)) (setFor caller (now (sets .entry)) (h .llid))) drift h ⌝ }
+    ensures { λ r. ⌜ r
+        ≡ judgedFor near (rightsOn caller (now (sets .entry)) (now (rights .entry)) (h .llid))
+        (setOf (now (sets .entry)) (setFor caller (now (sets .entry)) (h .llid))) drift h ⌝ }
 {
     let j = set_for(caller, sets, h.llid);
     let right = rights_at(caller, rights, j);

@@ -94,10 +94,14 @@ without-0 = masked-row 0xffffff00 0 refl
 -- row r of block 0, shifted, with column k cleared and twice, is row r of any two blocks
 module _ (w : List ℕ) (n : Nonce) (s : Rows) (first : state s 0 ≡ entered w n 0) where
   pub kept-row : (r k : ℕ) → r < 4 → ((c : ℕ) → c < 4 → eqb c k ≡ false → r + 4 * ((c + r) % 4) < 13)
-      → {x v y : ℕ} → Four (λ j. sbox (octetAt (rowOf s r) (4 * 0 + (r + j) % 4))) x → ((c : ℕ) → c < 4 → octetAt v c ≡ pick (eqb c k) 0 (octetAt x c))
+      → {x v y : ℕ} → Four (λ j. sbox (octetAt (rowOf s r) (4 * 0 + (r + j) % 4))) x
+      → ((c : ℕ) → c < 4 → octetAt v c ≡ pick (eqb c k) 0 (octetAt x c))
       → Both v v y → KeptRow w n r k y
   unfolding pick
-  kept-row r k h fixed {x} {v} {y} shifted cleared twice = record { octet = λ i z c i2 l. place z c i2 l ∙ cleared c l ∙ chosen i c l (eqb c k) refl } where
+  kept-row r k h fixed {x} {v} {y} shifted cleared twice = record {
+    octet = λ i z c i2 l. place z c i2 l ∙ cleared c l
+        ∙ chosen i c l (eqb c k) refl;
+  } where
     place : (z c : ℕ) → z < 2 → c < 4 → octetAt y (4 * z + c) ≡ octetAt v c
     place zero c b l = let here : 4 * 0 + c ≡ c = omega arith in ap (octetAt y) here ∙ twice .low c l
     place (suc zero) c b l = let here : 4 * 1 + c ≡ 4 + c = omega arith in ap (octetAt y) here ∙ twice .high c l
@@ -139,7 +143,8 @@ index-octets key i j k {l} {u} {x} low high both = record { octet = octet } wher
 
 ---- both together
 
-row-of-both : (w : List ℕ) (n : Nonce) (r k key i j : ℕ) {x v : ℕ} → r + k ≡ 3 → ((e : ℕ) → cell (entered w n e) r 3 ≡ octetAt e k ⊕ key) → KeptRow w n r k x
+row-of-both : (w : List ℕ) (n : Nonce) (r k key i j : ℕ) {x v : ℕ} → r + k ≡ 3 → ((e : ℕ) → cell (entered w n e) r 3 ≡ octetAt e k ⊕ key)
+    → KeptRow w n r k x
     → IndexOctets key i j k v → (z c : ℕ) → z < 2 → c < 4
     → octetAt (x ⊕ v) (4 * z + c) ≡ sbox (cell (entered w n (ofTwo z i j)) r ((c + r) % 4))
 unfolding pick
@@ -155,8 +160,10 @@ row-of-both w n r k key i j {x} {v} sum index kept own z c h l =
           ∙ sym (ap sbox (ap (λ (d : ℕ). cell (entered w n (ofTwo z i j)) r d) last ∙ index (ofTwo z i j)))
       chosen false e = xor-zero-r (sbox (cell (entered w n (ofTwo z i j)) r ((c + r) % 4)))
 
-pub first-round : (w : List ℕ) (k kept : Rows) (i j : ℕ) {b c d : ℕ} {x : Rows} → IndexOctets (getD w 13 0) i j 2 b → IndexOctets (getD w 14 0) i j 1 c
-    → IndexOctets (getD w 15 0) i j 0 d → Mixed record { a = kept .a; b = kept .b ⊕ b; c = kept .c ⊕ c; d = kept .d ⊕ d } k x → FirstRound w k kept i j x
+pub first-round : (w : List ℕ) (k kept : Rows) (i j : ℕ) {b c d : ℕ} {x : Rows} → IndexOctets (getD w 13 0) i j 2 b
+    → IndexOctets (getD w 14 0) i j 1 c
+    → IndexOctets (getD w 15 0) i j 0 d → Mixed record { a = kept .a; b = kept .b ⊕ b; c = kept .c ⊕ c; d = kept .d ⊕ d } k x
+    → FirstRound w k kept i j x
 unfolding pick
 first-round w k kept i j {b} {c} {d} {x} ib ic id m =
     record {

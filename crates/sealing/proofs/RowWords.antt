@@ -88,7 +88,8 @@ gathered-state s t h a b c d =
       row : (r : ℕ) {x : ℕ} → Four (λ j. getD s (r + 4 * j) 0) x → (j : ℕ) → j < 4 → octetAt x (4 * 0 + j) ≡ cell s r j
       row r {x} f j l = let place : 4 * 0 + j ≡ j = omega arith in ap (octetAt x) place ∙ f .octet j l
 
-pub two-rows : {s t : List ℕ} {k l u r : ℕ} → Four (λ j. getD s (k + 4 * j) 0) l → Four (λ j. getD t (k + 4 * j) 0) u → Both l u r → TwoRows s t k r
+pub two-rows : {s t : List ℕ} {k l u r : ℕ} → Four (λ j. getD s (k + 4 * j) 0) l → Four (λ j. getD t (k + 4 * j) 0) u → Both l u r
+    → TwoRows s t k r
 two-rows f g b = record { first = λ c l. b .low c l ∙ f .octet c l; second = λ c l. b .high c l ∙ g .octet c l }
 
 -- two states from their rows
@@ -109,7 +110,8 @@ module _ (s t : List ℕ) (r : Rows) (a : TwoRows s t 0 (r .a)) (b : TwoRows s t
 pub upper-state : (s t : Rows) → t .a ≡ s .a / 4294967296 → t .b ≡ s .b / 4294967296 → t .c ≡ s .c / 4294967296 → t .d ≡ s .d / 4294967296
     → state t 0 ≡ state s 1
 upper-state s t a b c d =
-    by-rows (λ r j. octetAt (rowOf t r) (4 * 0 + j)) (λ r j. octetAt (rowOf s r) (4 * 1 + j)) (row (s .a) a) (row (s .b) b) (row (s .c) c) (row (s .d) d) where
+    by-rows (λ r j. octetAt (rowOf t r) (4 * 0 + j)) (λ r j. octetAt (rowOf s r) (4 * 1 + j)) (row (s .a) a) (row (s .b) b) (row (s .c) c)
+    (row (s .d) d) where
       row : (x : ℕ) {y : ℕ} → y ≡ x / 4294967296 → (j : ℕ) → j < 4 → octetAt y (4 * 0 + j) ≡ octetAt x (4 * 1 + j)
       row x {y} e j l =
           let here : 4 * 0 + j ≡ j = omega arith in
@@ -187,7 +189,8 @@ module _ (s k : Rows) {x y z : ℕ} (ex : x ≡ eachOctet xTimes 8 (s .a ⊕ s .
       } where
         three : (j : ℕ) → j < 8
             → octetAt (x ⊕ y ⊕ z) j
-            ≡ xTimes (octetAt (s .a) j ⊕ octetAt (s .b) j) ⊕ xTimes (octetAt (s .b) j ⊕ octetAt (s .c) j) ⊕ xTimes (octetAt (s .c) j ⊕ octetAt (s .d) j)
+            ≡ xTimes (octetAt (s .a) j ⊕ octetAt (s .b) j) ⊕ xTimes (octetAt (s .b) j ⊕ octetAt (s .c) j) ⊕ xTimes
+            (octetAt (s .c) j ⊕ octetAt (s .d) j)
         three j l =
             octet-xor (x ⊕ y) z j
             ∙ ap₂ bitXor (octet-xor x y j ∙ ap₂ bitXor (octet-double (s .a) (s .b) ex j l) (octet-double (s .b) (s .c) ey j l))
@@ -240,7 +243,8 @@ rounded n fits k s t r sa sb sc sd m =
 ---- the nine rounds
 
 -- round n of one state, after those below it
-pub onward-one : (w : List ℕ) (n : ℕ) (s : Rows) {t u k : Rows} → 1 ≤ n → state t 0 ≡ rounds w (n - 1) (state s 0) → state k 0 ≡ roundKey w n → Rounded 1 k t u
+pub onward-one : (w : List ℕ) (n : ℕ) (s : Rows) {t u k : Rows} → 1 ≤ n → state t 0 ≡ rounds w (n - 1) (state s 0) → state k 0 ≡ roundKey w n
+    → Rounded 1 k t u
     → state u 0 ≡ rounds w (n + 1 - 1) (state s 0)
 unfolding rounds
 onward-one w n s {t} {u} {k} h before key g =
@@ -267,7 +271,8 @@ begun ks s = record { states = λ w keys z e i start. start }
 pub no-keys : (w : List ℕ) (ks : List Rows) → PairKeys w 0 ks
 no-keys w ks = record { key = λ m z h l. absurd (omega arith) }
 
-pub one-key-more : (w : List ℕ) (n : ℕ) (ks : List Rows) (r : Rows) → n < length ks → PairKeys w n ks → state r 0 ≡ roundKey w n → state r 1 ≡ roundKey w n
+pub one-key-more : (w : List ℕ) (n : ℕ) (ks : List Rows) (r : Rows) → n < length ks → PairKeys w n ks → state r 0 ≡ roundKey w n
+    → state r 1 ≡ roundKey w n
     → PairKeys w (n + 1) (set ks n r)
 one-key-more w n ks r h before first second = record { key = λ m z l i. here m z i l (ltb m n) refl } where
   new : (z : ℕ) → z < 2 → state r z ≡ roundKey w n
@@ -300,7 +305,8 @@ last-columns {k} {s} {i} {a} {b} {c} {d} {x} {y} fa fb ab fc fd cd =
     }
 
 -- the octets of a block, from its columns by two
-pub last-block : (k : List ℕ) (s : Rows) (b : Block) → LastColumns k s 0 (b .low) → LastColumns k s 2 (b .high) → blockOctets b ≡ lastRound k (state s 0)
+pub last-block : (k : List ℕ) (s : Rows) (b : Block) → LastColumns k s 0 (b .low) → LastColumns k s 2 (b .high)
+    → blockOctets b ≡ lastRound k (state s 0)
 unfolding lastRound
 last-block k s b l h =
     rw (

@@ -168,7 +168,8 @@ module _ (w : List ℕ) (n : Nonce) (p : List ℕ) (whole : length p % 9 ≡ 0) 
             (sym (take-append-drop (e - a) (drop a q)) ∙ ap (λ (l : List ℕ). take (e - a) (drop a q) ++ l) (rw past at (drop-drop (e - a) a q)))
 
   -- blocks that need no run, one after the other
-  stretch : (i d : ℕ) → i + d ≤ blocksOf (length p) → ((k : ℕ) → i ≤ k → k < i + d → needsRun p k ≡ false) → sealedBelow w n p i ≡ sealedBelow w n p (i + d)
+  stretch : (i d : ℕ) → i + d ≤ blocksOf (length p) → ((k : ℕ) → i ≤ k → k < i + d → needsRun p k ≡ false)
+      → sealedBelow w n p i ≡ sealedBelow w n p (i + d)
   stretch i zero h idle = rw add-zero
   stretch i (suc d) h idle =
       let next : i + suc d ≡ i + d + 1 = omega arith in

@@ -144,7 +144,13 @@ module _ (f : List ℕ → List ℕ) (keeps : (p : List ℕ) → length (f p) �
       let ys = f (drop headerOctets (part b o l)) in
       let place = s .place i h in
       let size : headerOctets ≤ l = omega (arith, s .size i h) in
-      let octets : headerOctets + length ys ≡ l = omega (arith, keeps (drop headerOctets (part b o l)), length-drop headerOctets (part b o l), s .octets i h) in
+      let octets : headerOctets + length ys ≡ l = omega (
+        arith,
+        keeps (drop headerOctets (part b o l)),
+        length-drop headerOctets (part b o l),
+        s .octets
+            i h,
+      ) in
       let front : take o out ≡ upTo f b i = rw (place, e) (take-at (upTo f b i) _ (dueOf b i) (up-to-length i (omega arith))) in
       let back : drop o out ≡ drop o b = rw (place, e) (drop-at (upTo f b i) _ (dueOf b i) (up-to-length i (omega arith))) in
       let head : take (o + headerOctets) out ≡ upTo f b i ++ take headerOctets (part b o l) =

@@ -96,7 +96,8 @@ whole r e =
     record { header = low; eqs = omega (arith, length-drop headerOctets r) }
 
 -- g undoes f
-module _ (f g : List ℕ → List ℕ) (keeps : (p : List ℕ) → length (f p) ≡ length p) (undo : (p : List ℕ) → length p % eqOctets ≡ 0 → g (f p) ≡ p) where
+module _ (f g : List ℕ → List ℕ) (keeps : (p : List ℕ) → length (f p) ≡ length p) (undo : (p : List ℕ) → length p % eqOctets ≡ 0 → g (f p)
+    ≡ p) where
   alike : (s r : List ℕ) → sized r ≡ true → OpensAlike f g s r
   alike s r e =
       let w = whole r e in

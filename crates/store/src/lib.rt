@@ -41,7 +41,8 @@ fn move_payload(back: bool, block: &[u8], output: &mut [u8], i: u16)
     requires { ⌜ Standing (now block) (recordsIn (now block)) ⌝ }
     requires { ⌜ i < recordsIn (now block) ⌝ }
     requires { ⌜ length (now output) ≡ length (now block) ⌝ }
-    ensures { λ _. ⌜ now (output .exit) ≡ replaced (now (output .entry)) (offsetOf (now (block .entry)) i + headerOctets) (moved back (payloadOf (recordOf (now (block .entry)) i))) ⌝ }
+    ensures { λ _. ⌜ now (output .exit)
+        ≡ replaced (now (output .entry)) (offsetOf (now (block .entry)) i + headerOctets) (moved back (payloadOf (recordOf (now (block .entry)) i))) ⌝ }
 {
     let payload = payload_at(block, i);
     let from = offset(block, i) as usize + HEADER_OCTETS;

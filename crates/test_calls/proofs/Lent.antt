@@ -112,7 +112,8 @@ module _ (E : End) where
           use1 W (‵ (fat fullShare laid b 0 (mach z))) (W .laws .raw-at fullShare laid b 0 (mach z)) $ done !)
 
       -- once the lifetime is over, the local holds some end
-      back : (α : ℕ) (γ : GName) (b : ℕ) → ent 𝓤 (sep 𝓤 (A .dead (α ∷ [])) (A .lent (α ∷ []) (Body (mem row) b 0 γ))) (H .⇛ (ex 𝓤 (Left b)))
+      back : (α : ℕ) (γ : GName) (b : ℕ) → ent 𝓤 (sep 𝓤 (A .dead (α ∷ [])) (A .lent (α ∷ []) (Body (mem row) b 0 γ)))
+          (H .⇛ (ex 𝓤 (Left b)))
       back α γ b =
           qed W (‵ (fdead (α ∷ [])) ∷ ‵ (flent (α ∷ []) (Body (mem row) b 0 γ)) ∷ []) ∵ updating ! $ lent-back ! tt $
           fpick ! (λ z. fsplit ! $ at-once ! $ show ! (Left b) z $ keep ! (0 ∷ []) $ by ! (from-mem z b))
@@ -123,7 +124,16 @@ module _ (E : End) where
           lent = MutRef (named 0) (α ∷ []) row .own (record { ptr = (b, 0); name = γ; now = h }) (vptr b 0 ∷ [])
 
           abbrev at-call : Known .Ghost
-          at-call = (((α ∷ [], tt), (fullShare, tt), tt, (record { ptr = (b, 0); name = γ; now = h }, (n, tt)), (vptr b 0 ∷ [], (vint w64 n ∷ [], tt))), tt)
+          at-call = (
+            (
+              (α ∷ [], tt),
+              (fullShare, tt),
+              tt,
+              (record { ptr = (b, 0); name = γ; now = h }, (n, tt)),
+              (vptr b 0 ∷ [], (vint w64 n ∷ [], tt)),
+            ),
+            tt,
+          )
 
           calls :
               ent 𝓤 (sep 𝓤 (A .lft (α ∷ []) fullShare) (sep 𝓤 (sem 𝓤 H A lent) (sem 𝓤 H A (u64 .own n (vint w64 n ∷ [])))))
@@ -132,7 +142,8 @@ module _ (E : End) where
               qed W (‵ (flft (α ∷ []) fullShare) ∷ ‵ lent ∷ ‵ (u64 .own n (vint w64 n ∷ [])) ∷ []) ∵ nothing ! $ move ! (3 ∷ 0 ∷ []) $
               join ! $ move ! (2 ∷ 0 ∷ []) $ join ! $ nothing ! $ move ! (2 ∷ 0 ∷ []) $ join ! $ join ! $ frame ! $ done !
 
-        module _ (Post : Val → SProp 𝓤) (exits : (r : ℕ) (z : State E) → r < 2 ^ 8 → Is row z (mach z ∷ []) → ent 𝓤 (emp 𝓤) (Post (held r z)))
+        module _ (Post : Val → SProp 𝓤) (exits : (r : ℕ) (z : State E) → r < 2 ^ 8 → Is row z (mach z ∷ [])
+            → ent 𝓤 (emp 𝓤) (Post (held r z)))
             (callee : Name) (C : Calls 𝓤 H) (Λ : Loops 𝓤 H) (fm : FmC 𝓤 H (W .laws) C) (known : Triple 𝓤 (C callee) Known) where
           pub walk :
               ent 𝓤 (onEntry 𝓤 H A (by-value E .signature) tt tt (h, (n, tt)) (mach h ∷ [], (vint w64 n ∷ [], tt)))
@@ -140,8 +151,10 @@ module _ (E : End) where
           walk =
               qed W (‵ ftrue ∷ ‵ (owns (row ∷ u64 ∷ []) (h, (n, tt)) (mach h ∷ [], (vint w64 n ∷ [], tt))) ∷ []) ∵ keep ! [] $
               enter ! C Λ (code callee) (mach h ∷ vint w64 n ∷ []) _ $
-              alloc1 ! (λ l₀. alloc1 ! (λ l₁. alloc1 ! (λ l₂. alloc1 ! (λ l₃. alloc1 ! (λ l₄. alloc1 ! (λ l₅. alloc1 ! (λ l₆. alloc0 ! $ params1 ! $
-              pass1 ! (init ! 10 refl (lawful (E .type) (E .laws) 𝓤 H A W .typed h _ was .0)) $ pass1 ! (init ! 8 refl (tt, record { fits = fits })) $ pass0 ! $
+              alloc1 ! (λ l₀. alloc1 !
+              (λ l₁. alloc1 ! (λ l₂. alloc1 ! (λ l₃. alloc1 ! (λ l₄. alloc1 ! (λ l₅. alloc1 ! (λ l₆. alloc0 ! $ params1 ! $
+              pass1 ! (init ! 10 refl (lawful (E .type) (E .laws) 𝓤 H A W .typed h _ was .0)) $ pass1 ! (init ! 8 refl (tt, record { fits = fits }))
+              $ pass0 ! $
               -- [room for _6; …; room for _5; …; room for _4; …; room for _3; …; _2; …; _1; …; room for _0; …]
               assigns ! (of-opd ! (load ! (from ! (stop !)) (look ! 10 refl))) (from ! (stop !))
               (init ! 6 refl (lawful (E .type) (E .laws) 𝓤 H A W .typed h _ was .0)) $
@@ -157,14 +170,17 @@ module _ (E : End) where
               (and-then ! (load ! (from ! (stop !)) (look ! 4 refl)) (and-then ! (load ! (from ! (stop !)) (look ! 9 refl)) (no-more !))) (λ v.
               use1 W (later
               (some (λ (r : ℕ). ((‵ (flft (α ∷ []) fullShare) ⊛ ‵ ftrue) ⊛ ‵ (u8 .own r (v ∷ []))) ⊛ raw
-              (ensured 𝓤 H A (in-place E) (in-place-clauses E 𝓤) (α ∷ [], tt) (record { ptr = (l₃, 0); name = γ; now = h }, (n, tt)) tt r)))) (id⊢ 𝓤 _) $
+              (ensured 𝓤 H A (in-place E) (in-place-clauses E 𝓤) (α ∷ [], tt) (record { ptr = (l₃, 0); name = γ; now = h }, (n, tt)) tt r))))
+              (id⊢ 𝓤 _) $
               await ! tt $ pick ! (λ r.
-              split ! $ move ! (1 ∷ []) $ drop ! $ split ! $ move ! (1 ∷ []) $ peeks ! u8 (Is u8) (shows 𝓤 H A u8) r (v ∷ []) (λ is. drop ! $ split ! $
+              split ! $ move ! (1 ∷ []) $ drop ! $ split ! $ move ! (1 ∷ []) $ peeks ! u8 (Is u8) (shows 𝓤 H A u8) r (v ∷ [])
+              (λ is. drop ! $ split ! $
               land ! (from ! (stop !)) (init ! 7 refl (uint-lawful 𝓤 H A W w8 .typed r _ is .0)) $
               rewrite ! 7 (λ (w : Val). ‵ (fat fullShare (tyInt w8) l₄ 0 w)) (ap only (uint-tells w8 r (v ∷ []) is)) refl $
               -- the lifetime is ended, and the local is whole again
               lft-end ! tt $ move ! (0 ∷ 2 ∷ []) $
-              use2 W (later (some (λ (z : State E). ‵ (fat fullShare laid l₃ 0 (mach z)) ⊛ ‵ (row .own z (mach z ∷ []))))) (back α γ l₃) $ await ! tt $
+              use2 W (later (some (λ (z : State E). ‵ (fat fullShare laid l₃ 0 (mach z)) ⊛ ‵ (row .own z (mach z ∷ []))))) (back α γ l₃)
+              $ await ! tt $
               pick ! (λ z. split ! $
               move ! (1 ∷ []) $ peeks ! row (Is row) (shows 𝓤 H A row) z (mach z ∷ []) (λ holds. drop ! $
               -- [_3; true; room for _6; …; _5; …; _4; …; of _3 …; _2; …; _1; …; room for _0; …]
@@ -174,6 +190,7 @@ module _ (E : End) where
               (from ! (stop !)) (init ! 13 refl (lawful (answer-type E) (answer-laws E) 𝓤 H A W .typed (E .answered r z) _ (made r z (is .1) holds) .0)) $
               returns ! (look ! 13 refl) $ forget ! 0 refl $ forget ! 2 refl $ forget ! 4 refl $ forget ! 6 refl $ forget ! 9 refl $ forget ! 11 refl $
               forget ! 13 refl $
-              move ! (13 ∷ 14 ∷ []) $ free1 ! $ move ! (11 ∷ 12 ∷ []) $ free1 ! $ move ! (9 ∷ 10 ∷ []) $ free1 ! $ move ! (0 ∷ 8 ∷ []) $ free1 ! $
+              move ! (13 ∷ 14 ∷ []) $ free1 ! $ move ! (11 ∷ 12 ∷ []) $ free1 ! $ move ! (9 ∷ 10 ∷ []) $ free1 ! $ move ! (0 ∷ 8 ∷ [])
+              $ free1 ! $
               move ! (5 ∷ 6 ∷ []) $ free1 ! $ move ! (3 ∷ 4 ∷ []) $ free1 ! $ move ! (1 ∷ 2 ∷ []) $ free1 ! $ free0 ! $
               keep ! [] $ by ! (exits r z (is .1) holds)))))))))))))))

@@ -55,7 +55,8 @@ use Rattle.traffic.proofs.Passages.{identity-mac, judged, down-fits, up
 ---- the OLT
 
 -- a refused receipt counts nothing
-reached-carried : (way : Verdict) (s : Shared) (u : UnitRecord) (c : Outcome Passage) (channel : ℕ) (p out : List ℕ) → let x = reached way noPassage s u c in
+reached-carried : (way : Verdict) (s : Shared) (u : UnitRecord) (c : Outcome Passage) (channel : ℕ) (p out : List ℕ)
+    → let x = reached way noPassage s u c in
     carriedAfter (x .verdict) channel (x .handed) p out ≡ withOutput (passedWork (x .handed) p) (outputAfter (x .verdict) (passed channel (x .handed) p) out)
 unfolding reached ifAccepted carriedAfter outputAfter passedCount passedRuns choiceEnciphered countCarried runsCarried pick
 reached-carried way s u c channel p out = by-verdict (andThen way (c .verdict)) where

@@ -50,7 +50,8 @@ use Rattle.traffic.proofs.Passages.{few-eqs, identity-mac, judged, down
 ---- the OLT
 
 -- a refused send counts nothing
-reached-carried : (way : Verdict) (s : Shared) (u : UnitRecord) (c : Outcome Sending) (channel : ℕ) (p out : List ℕ) → let x = reached way noSending s u c in
+reached-carried : (way : Verdict) (s : Shared) (u : UnitRecord) (c : Outcome Sending) (channel : ℕ) (p out : List ℕ)
+    → let x = reached way noSending s u c in
     carriedAfter (x .verdict) channel (x .handed .passage) p out
     ≡ withOutput (passedWork (x .handed .passage) p) (outputAfter (x .verdict) (passed channel (x .handed .passage) p) out)
 unfolding reached ifAccepted carriedAfter outputAfter passedCount passedRuns choiceEnciphered countCarried runsCarried pick

@@ -31,7 +31,8 @@ pub(crate) fn send_ahead(n: usize, m: usize, channel: u8) -> Verdict
 
 // What a receipt refuses ahead of 2.
 pub(crate) fn receive_ahead(n: usize, m: usize, header: Header) -> Verdict
-    ensures { λ r. ⌜ r ≡ refuseIf (not (lengthsFit n m)) BadLength (refuseIf (not (both (upstream (header .channel)) (validHeader header))) OutOfRange Accepted) ⌝ }
+    ensures { λ r. ⌜ r
+        ≡ refuseIf (not (lengthsFit n m)) BadLength (refuseIf (not (both (upstream (header .channel)) (validHeader header))) OutOfRange Accepted) ⌝ }
 {
     let misfit = carrying::misfit(n, m);
     let right = upstream(header.channel) & valid_header(header);

@@ -33,7 +33,8 @@ pub(crate) fn misfit(n: usize, m: usize) -> bool
 // Seals or opens the payload, and gives what that took. An empty one needs no key.
 pub(crate) fn carry(passage: Passage, channel: u8, payload: &[u8], output: &mut [u8]) -> Work
     requires { ⌜ sealVerdict (length (now payload)) (length (now output)) (passageNonce channel passage) ≡ Accepted ⌝ }
-    ensures { λ r. ⌜ withOutput r (now (output .exit)) ≡ withOutput (passedWork passage (now (payload .entry))) (passed channel passage (now (payload .entry))) ⌝ }
+    ensures { λ r. ⌜ withOutput r (now (output .exit))
+        ≡ withOutput (passedWork passage (now (payload .entry))) (passed channel passage (now (payload .entry))) ⌝ }
 {
     let choice = passage.choice;
     let enciphered = is_enciphered(choice) & (0 < payload.len());

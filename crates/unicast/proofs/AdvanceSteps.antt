@@ -146,7 +146,13 @@ answers-advanced now n k o answered a =
 
 pub at-tick-advanced : (w : Setting) (now n : ℕ) (sh : Shared) → AtTick w now sh → AtTick w (now + n) (sharedAdvanced sh n)
 unfolding sharedAdvanced
-at-tick-advanced w now n sh t = record { mac = t .mac; tick = ap (λ (x : ℕ). x + n) (t .tick); clock = omega (arith, t .clock); free = λ k. let was = t .free k in omega (arith, was) }
+at-tick-advanced w now n sh t = record {
+  mac = t .mac;
+  tick = ap (λ (x : ℕ). x + n) (t .tick);
+  clock = omega (arith, t .clock);
+  free = λ k. let was =
+      t .free k in omega (arith, was);
+}
 
 pub advance-keeps : (w : Setting) (sh : Shared) (now n : ℕ) (l : Lane) (u : UnitRecord) (o : Onu) → Joined w sh now l u o
     → Joined w (sharedAdvanced sh n) (now + n) l (unitAdvanced n u) (onuAdvanced o n)

@@ -86,11 +86,13 @@ module _ (w : Setting) (u llid : ℕ) (s : State) (h : Here w u llid s) where
   unfolding noted pick
   sent-lane o number f e = at-onu o (noted number f) ∙ rw e
 
-  message-lane : (k : ℕ) (r : OnuAcknowledged) → r .number ≡ 0 → laneAt (messageArriving s u k r) u ≡ laneAnswered (r .acknowledgement) now (laneTaken k lane)
+  message-lane : (k : ℕ) (r : OnuAcknowledged) → r .number ≡ 0 → laneAt (messageArriving s u k r) u ≡ laneAnswered (r .acknowledgement) now
+      (laneTaken k lane)
   unfolding messageArriving noted pick
   message-lane k r e = at-onu (r .onu) _ ∙ rw e
 
-  due-down : (k : ℕ) (x : InFlight) (out : List ℕ) → k < length (lane .transit .towards) → inFlightAt s u k ≡ x → leftAt x + lane .path .down ≡ now
+  due-down : (k : ℕ) (x : InFlight) (out : List ℕ) → k < length (lane .transit .towards) → inFlightAt s u k ≡ x
+      → leftAt x + lane .path .down ≡ now
       → FittingBuffer x out → DueDown s u k out
   due-down k x out some is due fits = record { some = some; now = rw is due; buffer = rw is fits }
 
@@ -148,7 +150,8 @@ module _ (w : Setting) (u llid : ℕ) (s : State) (h : Here w u llid s) where
 
   ---- a key message arrives
 
-  takes-key : (k : ℕ) (m : KeyMessage) (t : ℕ) → k < length (lane .transit .towards) → inFlightAt s u k ≡ keyMessage m t → onuAt s u .clock .synced ≡ 1
+  takes-key : (k : ℕ) (m : KeyMessage) (t : ℕ) → k < length (lane .transit .towards) → inFlightAt s u k ≡ keyMessage m t
+      → onuAt s u .clock .synced ≡ 1
       → onuAt s u .keys .active < maxKeyNumber → TakesKey (onuAt s u) m
   unfolding newKey heldKey
   takes-key k m t some is synced below =

@@ -86,7 +86,8 @@ lift-steady {H} o nothing ahead llid call i stay keeps = by-end (lift-ends o not
   by-end (accepted l) = by-place l (eqb i (l .at)) refl
   by-end (refused r e) = rw e (record { channels = refl; acknowledged = λ a. a })
 
-acknowledge-keeps : (a : Acknowledgement) (sh : Shared) (u : UnitRecord) → u .clock .acknowledged ≡ 1 → acknowledgeUnit a sh u .unit .clock .acknowledged ≡ 1
+acknowledge-keeps : (a : Acknowledgement) (sh : Shared) (u : UnitRecord) → u .clock .acknowledged ≡ 1
+    → acknowledgeUnit a sh u .unit .clock .acknowledged ≡ 1
 unfolding acknowledgeUnit clockAcknowledgedUnit keyAcknowledgedUnit outcome withClock withConfirmation pick
 acknowledge-keeps a sh u h = by-kind (eqb (a .kind) clockKind) (eqb (a .kind) keyKind) where
   by-kind : (t k : Bool)

@@ -97,7 +97,8 @@ key-ticks now (y ∷ ys) x m = by-kind (leavesAgain y) m (key-ticks now ys x) wh
 
 module _ (w : Setting) (sh : Shared) (now : ℕ) (l : Lane) (u : UnitRecord) (o : Onu) (p : Delays) (time : ℕ)
     (follows : time ≡ (w .first + now + p .up) % localTurn) where
-  moved-joined : p .up + p .down ≤ maxRoundTrip → Joined w sh now l u o → Joined w sh now (laneMoved p now l) (withClock u (newUnitClock (p .up + p .down))) (onuRetimed o time)
+  moved-joined : p .up + p .down ≤ maxRoundTrip → Joined w sh now l u o
+      → Joined w sh now (laneMoved p now l) (withClock u (newUnitClock (p .up + p .down))) (onuRetimed o time)
   unfolding laneMoved withClock onuRetimed withOnuClock withTravel travelChanged
   moved-joined near j =
       let n = j .numbers in
@@ -240,7 +241,8 @@ told w s u llid time p v r d = by-end (lift-ends (s .olt) silent ahead llid (mea
             (onu-accepts (onuAt s u) silent (newTimeVerdict (onuAt s u) time) (onuRetimed (onuAt s u) time) silent (r .common .valid) retimes);
       }
 
-moved-right : (w : Setting) (s : State) (u llid time : ℕ) (p : Delays) → Invariant w s → Alive w s u → Changes w s u llid time p → Told w s u llid time p
+moved-right : (w : Setting) (s : State) (u llid time : ℕ) (p : Delays) → Invariant w s → Alive w s u → Changes w s u llid time p
+    → Told w s u llid time p
     → LaneRight w
     (withUnit (s .olt) (laneAt s u .entry .place) (s .olt .shared .channels)
     (withClock (unitAt (s .olt) (laneAt s u .entry .place)) (newUnitClock (p .up + p .down))))

@@ -74,7 +74,8 @@ later-differs w sh now l u o jn i j before below sealed number channel clock =
       at-j : List·Memᴰ second (l .past .sent)
       at-j = mem-at (l .past .sent) j noEnvelope below
 
-      by : (x y : Direction) → first .direction ≡ x → second .direction ≡ y → senderClock w (first .up) x (first .left) ≡ senderClock w (second .up) y (second .left) → ⊥
+      by : (x y : Direction) → first .direction ≡ x → second .direction ≡ y
+          → senderClock w (first .up) x (first .left) ≡ senderClock w (second .up) y (second .left) → ⊥
       by downward downward p q e =
           let t = jn .spending .spaced .down i j before below p q sealed number channel in
           clocks-differ (w .first) (first .left) (first .left) (second .left) (omega arith) (t .0) (t .1) e
@@ -138,7 +139,8 @@ blocks-apart w s inv u v i j a b hi hj pi pj key ha hb e =
       q .0,
       subst
           (λ (z : ℕ). j < length (laneAt s z .past .sent) → sentAt s u i .number ≡ sentAt s z j .number
-          → counterBlock (nonceFor w (laneAt s u .site) (sentAt s u i)) a ≡ counterBlock (nonceFor w (laneAt s z .site) (sentAt s z j)) b → (i ≡ j) × (a ≡ b))
+          → counterBlock (nonceFor w (laneAt s u .site) (sentAt s u i)) a ≡ counterBlock (nonceFor w (laneAt s z .site) (sentAt s z j)) b
+          → (i ≡ j) × (a ≡ b))
           (q .0)
           (λ k n f. one-send w (s .olt .shared) (s .history .now) (laneAt s u) _ (onuAt s u) (x .joined) (olt-mac-below w s inv)
           (onu-mac-below w (s .history .now) (laneAt s u) (onuAt s u) (inv .lane u (x .known) .common)) i j a b hi k pi n ha hb f)

@@ -389,7 +389,8 @@ module _ (w : Setting) (u llid : ℕ) (s : State) (h : Here w u llid s) (tick : 
   next-drains : s .history .now ≤ tick + tripOf l → Fewer s (next s u)
   unfolding next nextBy nextDown nextUp run
   next-drains soon = by-queues (awaited (s .history .now) (dueDown l)) (awaited (s .history .now) (dueUp l)) refl refl where
-    by-queues : (ds us : List ℕ) → awaited (s .history .now) (dueDown l) ≡ ds → awaited (s .history .now) (dueUp l) ≡ us → Fewer s (nextBy s u ds us)
+    by-queues : (ds us : List ℕ) → awaited (s .history .now) (dueDown l) ≡ ds → awaited (s .history .now) (dueUp l) ≡ us
+        → Fewer s (nextBy s u ds us)
     by-queues [] [] e f =
         record { drains = drains-nil w u llid s (tick + tripOf l) h soon; fewer = omega (arith, none-flies e f) }
     by-queues (t ∷ ts) [] e f =

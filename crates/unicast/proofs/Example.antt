@@ -86,7 +86,8 @@ carried-is t k k' n n' p p' a b c d = rw (a, b, c, d) refl
 -- of the whole list
 module _ (c : Claim example played) where
   handed-clear : (u i : ℕ) {llid channel clock : ℕ} {payload : List ℕ} → ltb i (length (laneAt played u .past .sent)) ≡ true
-      → isSealed (sentAt played u i) ≡ false → eqb (sentAt played u i .number) 0 ≡ true → sentAt played u i .channel ≡ channel → sentAt played u i .llid ≡ llid
+      → isSealed (sentAt played u i) ≡ false → eqb (sentAt played u i .number) 0 ≡ true → sentAt played u i .channel ≡ channel
+      → sentAt played u i .llid ≡ llid
       → eqb (nonceFor example (laneAt played u .site) (sentAt played u i) .clock) clock ≡ true
       → ((x : List ℕ) (n : Nonce) → carried (isSealed (sentAt played u i)) (keyExpansion x) n (sentAt played u i .payload) ≡ payload)
       → eqb (countCarried (isSealed (sentAt played u i)) (sentAt played u i .payload)) 0 ≡ true → HandedClear u i llid channel clock payload
@@ -101,7 +102,8 @@ module _ (c : Claim example played) where
         count = r .count ∙ eqb-true _ _ hcount;
       }
 
-  handed : (u i : ℕ) {number llid : ℕ} {key : List ℕ} {n : Nonce} {payload : List ℕ} {count : ℕ} → ltb i (length (laneAt played u .past .sent)) ≡ true
+  handed : (u i : ℕ) {number llid : ℕ} {key : List ℕ} {n : Nonce} {payload : List ℕ} {count : ℕ}
+      → ltb i (length (laneAt played u .past .sent)) ≡ true
       → isSealed (sentAt played u i) ≡ true → sentAt played u i .number ≡ number → sentAt played u i .llid ≡ llid
       → keyOf (laneAt played u .keys) (sentAt played u i .number) ≡ key
       → eqb (nonceFor example (laneAt played u .site) (sentAt played u i) .channel) (n .channel) ≡ true
@@ -183,7 +185,8 @@ module _ (c : Claim example played) where
 
 -- of a state that it comes to
 module _ {w : Setting} {s : State} (c : Claim w s) where
-  pub numbered : (u k n : ℕ) (direction : Direction) → ltb k (length (laneAt s u .past .arrived)) ≡ true → arrivalAt s u k .envelope .direction ≡ direction
+  pub numbered : (u k n : ℕ) (direction : Direction) → ltb k (length (laneAt s u .past .arrived)) ≡ true
+      → arrivalAt s u k .envelope .direction ≡ direction
       → arrivalAt s u k .envelope .number ≡ n → ArrivedNumbered (laneAt s u) direction n
   numbered u k n direction some thatWay number =
       record {

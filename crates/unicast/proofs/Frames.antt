@@ -60,8 +60,10 @@ answers-clock now k c d answered synced a =
     }
 
 -- an answer more, of a synced unit, for a key that it holds
-pub answers-more : (now : ℕ) (k : OnuKeys) (c : OnuClock) (answered : List Answered) (x : Answered) → (x .acknowledgement .kind ≡ clockKind → c .synced ≡ 1)
-    → (x .acknowledgement .kind ≡ keyKind → x .acknowledgement .number ≤ reachOf k) → Answers now k c answered → Answers now k c (answered ++ (x ∷ []))
+pub answers-more : (now : ℕ) (k : OnuKeys) (c : OnuClock) (answered : List Answered) (x : Answered)
+    → (x .acknowledgement .kind ≡ clockKind → c .synced ≡ 1)
+    → (x .acknowledgement .kind ≡ keyKind → x .acknowledgement .number ≤ reachOf k) → Answers now k c answered
+    → Answers now k c (answered ++ (x ∷ []))
 answers-more now k c answered x synced held a =
     record {
       each = λ y m.
@@ -113,7 +115,8 @@ module _ (w : Setting) (sh : Shared) (now : ℕ) (l : Lane) (u : UnitRecord) (o 
       }
 
   -- a thing leaves for the unit
-  pub leaving-keeps : (x : InFlight) → ((e : Envelope) → x ≡ envelope e → ⊥) → ((m : Stamps) (c left : ℕ) → x ≡ clockMessage m c left → u .clock .sent ≡ 1)
+  pub leaving-keeps : (x : InFlight) → ((e : Envelope) → x ≡ envelope e → ⊥)
+      → ((m : Stamps) (c left : ℕ) → x ≡ clockMessage m c left → u .clock .sent ≡ 1)
       → leftAt x ≡ now → Joined w sh now l u o
       → Towards (w .first) (l .path) l (o .keys .active) (u .keys .active) (u .keys .offered) (l .transit .towards ++ (x ∷ []))
       → Joined w sh now (laneLeaving x l) u o

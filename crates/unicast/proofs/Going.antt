@@ -233,7 +233,8 @@ module _ (w : Setting) (u llid : ℕ) (s : State) (h : Here w u llid s) where
       let goes = answer-goes k due (ap (λ (c : Outcome Silence). c .verdict) same ∙ clock-accepts sent) in
       (goes .0, ap (λ (x : UnitRecord). x .clock .acknowledged) (goes .1 ∙ ap (λ (c : Outcome Silence). c .unit) same))
 
-  pub key-answer-goes : (k : ℕ) → DueAnswer s u k llid → answerAt s u k .acknowledgement .kind ≡ keyKind → 1 ≤ answerAt s u k .acknowledgement .number
+  pub key-answer-goes : (k : ℕ) → DueAnswer s u k llid → answerAt s u k .acknowledgement .kind ≡ keyKind
+      → 1 ≤ answerAt s u k .acknowledgement .number
       → answerAt s u k .acknowledgement .number ≡ unit .keys .offered
       → Step w u s (arriveAnswer u k llid) (laneAcknowledged (answerAt s u k .acknowledgement) (laneAt s u)) (s .history .now)
   key-answer-goes k due kind some last =

@@ -206,14 +206,16 @@ pub record SentUnder (sent : List Envelope) (number : ℕ) : Type 0 where
 -- envelopes' delays up are no less than least
 pub record FirstSends (switches switched ahead : ℕ) (sent : List Envelope) (down up : FirstSend) (active : ℕ) : Type 0 where
   pub olt : down .noted ≡ 1 → switched ≤ down .at
-  pub onu : (least : ℕ) → ((e : Envelope) → List·Memᴰ e sent → e .direction ≡ upward → least ≤ e .up) → up .noted ≡ 1 → active ≡ switches
+  pub onu : (least : ℕ) → ((e : Envelope) → List·Memᴰ e sent → e .direction ≡ upward → least ≤ e .up) → up .noted ≡ 1
+      → active ≡ switches
       → switched + least + maxChanges ≤ up .at + ahead
   pub some : up .noted ≡ 1 → SentUnder sent active
 
 -- a unit's channels are free once its last envelope has ended, and its guard is passed once the last by the longest way up has
 pub record Freed (ahead : ℕ) (sent : List Envelope) (c : Channels) (t : Travel) : Type 0 where
   pub free : (last k : ℕ) → ((e : Envelope) → List·Memᴰ e sent → e .direction ≡ upward → e .left ≤ last) → freeFrom c k ≤ last + longest
-  pub spent : (last most : ℕ) → ((e : Envelope) → List·Memᴰ e sent → e .direction ≡ upward → (e .left ≤ last) × (e .up ≤ most)) → 1 ≤ t .spent
+  pub spent : (last most : ℕ) → ((e : Envelope) → List·Memᴰ e sent → e .direction ≡ upward → (e .left ≤ last) × (e .up ≤ most))
+      → 1 ≤ t .spent
       → t .spent + ahead ≤ last + most + longest + maxChanges
   pub bar : t .bar ≤ t .spent
 

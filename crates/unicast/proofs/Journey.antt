@@ -83,7 +83,8 @@ highest-reached : (direction : Direction) (rs : List Arrival) → 1 ≤ highest 
 unfolding highest pick
 highest-reached direction [] h = absurd (omega (arith, h))
 highest-reached direction (r ∷ rs) h = by-direction (goes direction (r .envelope .direction)) refl h (highest-reached direction rs) where
-  by-direction : (t : Bool) → goes direction (r .envelope .direction) ≡ t → 1 ≤ pick t (max (r .envelope .number) (highest direction rs)) (highest direction rs)
+  by-direction : (t : Bool) → goes direction (r .envelope .direction) ≡ t
+      → 1 ≤ pick t (max (r .envelope .number) (highest direction rs)) (highest direction rs)
       → (1 ≤ highest direction rs → Reached direction rs (highest direction rs))
       → Reached direction (r ∷ rs) (pick t (max (r .envelope .number) (highest direction rs)) (highest direction rs))
   by-direction false e some rest = reached-more direction r rs _ (rest some)

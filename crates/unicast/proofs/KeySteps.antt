@@ -50,7 +50,8 @@ pub key-last : (offers : List (List ℕ)) (key : List ℕ) (n : ℕ) → n ≡ l
 key-last offers key n h = getD-at offers key [] [] (n + 1 - 1) (omega arith)
 
 -- with key a + 1 stored beside key a, both are what their numbers give
-pub next-stored : (s : Slots) (a : ℕ) (key : List ℕ) (f : ℕ → List ℕ) → key ≡ f (a + 1) → (1 ≤ a → keyIn s a ≡ f a) → (n : ℕ) → 1 ≤ n → a ≤ n → n ≤ a + 1
+pub next-stored : (s : Slots) (a : ℕ) (key : List ℕ) (f : ℕ → List ℕ) → key ≡ f (a + 1) → (1 ≤ a → keyIn s a ≡ f a) → (n : ℕ)
+    → 1 ≤ n → a ≤ n → n ≤ a + 1
     → keyIn (withKey s (a + 1) key) n ≡ f n
 next-stored s a key f new old n h g k = by-test (eqb n a) refl where
   by-test : (t : Bool) → eqb n a ≡ t → keyIn (withKey s (a + 1) key) n ≡ f n

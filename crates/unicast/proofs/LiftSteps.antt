@@ -58,7 +58,8 @@ pub record Replaces (w : Setting) (s : State) (p : ℕ) (c : Channels) (x : Unit
   pub others : (u : ℕ) → (Held s p u → ⊥) → laneOf lanes u ≡ laneAt s u
   pub keys : KeysApart lanes
 
-pub standing-own : (b : Bool) (w : Setting) (t : Olt) (p : ℕ) (c : Channels) (x : UnitRecord) (now : ℕ) (l : Lane) (o : Onu) → b ≡ true → l .entry .place ≡ p
+pub standing-own : (b : Bool) (w : Setting) (t : Olt) (p : ℕ) (c : Channels) (x : UnitRecord) (now : ℕ) (l : Lane) (o : Onu) → b ≡ true
+    → l .entry .place ≡ p
     → p < t .count → p < length (t .units) → Joined w (withChannels (t .shared) c) now l x o → Standing b w (withUnit t p c x) now l o
 unfolding withUnit
 standing-own false w t p c x now l o e f h k j = true-false (sym e)
@@ -156,7 +157,8 @@ told-for w s p u c x l i h valid rises frees site path entry offers j =
 ---- a call lifted from a unit
 
 -- the lane named, and any other
-pub named-own : (llid : ℕ) (f : Lane → Lane) (l : Lane) → l .entry .registered ≡ true → has (l .site .identity) llid ≡ true → named llid f l ≡ f l
+pub named-own : (llid : ℕ) (f : Lane → Lane) (l : Lane) → l .entry .registered ≡ true → has (l .site .identity) llid ≡ true
+    → named llid f l ≡ f l
 unfolding named
 named-own llid f l e h = pick-true (f l) l (both-true e h)
 

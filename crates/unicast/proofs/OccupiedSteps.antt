@@ -40,7 +40,8 @@ standing-channels false w o c now l x rises s = s
 standing-channels true w o c now l x rises s = (s .0, channels-keep w (o .shared) now l (unitAt o (l .entry .place)) x c rises (s .1))
 
 pub occupied-right : (w : Setting) (s : State) (c : Channels) → Invariant w s → ((k : ℕ) → freeFrom (s .olt .shared .channels) k ≤ freeFrom c k)
-    → ((k : ℕ) → freeFrom c k ≤ s .history .now + longest) → validChannels c ≡ true → Invariant w (record { olt = withOltChannels (s .olt) c; onus = s .onus; history = s .history })
+    → ((k : ℕ) → freeFrom c k ≤ s .history .now + longest) → validChannels c ≡ true
+    → Invariant w (record { olt = withOltChannels (s .olt) c; onus = s .onus; history = s .history })
 occupied-right w s c i rises frees v =
     record {
       valid = channels-valid (s .olt) c v (i .valid);

@@ -88,7 +88,8 @@ named-offered w s p llid key f i e more-by u =
           more (named-held w s p u llid i e h)
           (ap (λ (l : Lane). l .keys .offers) (named-at llid f (s .history .lanes) u ∙ pick-true (f (laneAt s u)) (laneAt s u) h) ∙ more-by (laneAt s u))
 
-pub offer-right : (w : Setting) (s : State) (llid : ℕ) (key : List ℕ) → Invariant w s → Fits w s (offer llid key) → Invariant w (step s (offer llid key))
+pub offer-right : (w : Setting) (s : State) (llid : ℕ) (key : List ℕ) → Invariant w s → Fits w s (offer llid key)
+    → Invariant w (step s (offer llid key))
 unfolding step offering offerOf keySent offerUnit outcome withChannels laneLeaving laneOffered laneWith
 offer-right w s llid key i fits =
     let f : Lane → Lane =

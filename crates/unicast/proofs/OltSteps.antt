@@ -104,7 +104,8 @@ retry-right w s llid i fits =
 
 ---- acknowledgements
 
-pub answer-right : (w : Setting) (s : State) (u k llid : ℕ) → Invariant w s → Fits w s (arriveAnswer u k llid) → Invariant w (step s (arriveAnswer u k llid))
+pub answer-right : (w : Setting) (s : State) (u k llid : ℕ) → Invariant w s → Fits w s (arriveAnswer u k llid)
+    → Invariant w (step s (arriveAnswer u k llid))
 unfolding step answering acknowledgeOf oltAnswer withChannels laneAcknowledged laneWith freshLane
 answer-right w s u k llid i d =
     let a = answerAt s u k .acknowledgement in

@@ -120,7 +120,8 @@ unfolding atOnu withLanes
 at-onu-right w s u o f v right entry offers = replaced-right w s u (s .olt) o (f (laneAt s u)) v (same-olt w s u v) right entry offers
 
 -- what the lane is told by an accepted call
-noted-right : (w : Setting) (s : State) (u : ℕ) (o : Onu) (number : ℕ) (f g : Lane → Lane) → (number ≡ 0 → Invariant w (atOnu s u o (λ l. f (g l))))
+noted-right : (w : Setting) (s : State) (u : ℕ) (o : Onu) (number : ℕ) (f g : Lane → Lane)
+    → (number ≡ 0 → Invariant w (atOnu s u o (λ l. f (g l))))
     → ((number ≡ 0 → ⊥) → Invariant w (atOnu s u o g)) → Invariant w (atOnu s u o (λ l. noted number f (g l)))
 unfolding atOnu noted
 noted-right w s u o number f g taken refused =

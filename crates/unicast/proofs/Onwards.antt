@@ -132,7 +132,8 @@ module _ (w : Setting) (u llid c last most least : ℕ) (key : List ℕ) (s : St
   end = s .history .now + laneAt s u .entry .interval + 2 * tripOf (laneAt s u)
 
   -- the state after the key's round is t
-  from-keyed : (d : KeyedDone w u llid c s (keyed u llid key c s)) (t : State) → t ≡ run s (keyed u llid key c s) → Arrived w u llid (c + 1) t (onward t) end
+  from-keyed : (d : KeyedDone w u llid c s (keyed u llid key c s)) (t : State) → t ≡ run s (keyed u llid key c s)
+      → Arrived w u llid (c + 1) t (onward t) end
   from-keyed d t is =
       let h1 : Here w u llid t = rw is (d .goes .here) in
       let lane : laneAt t u ≡ d .lane = rw is (d .goes .lane) in

@@ -70,6 +70,7 @@ unfolding
     due switching numberDown laneWith laneRegistered laneCaptured leaving laneLeaving laneOffered laneAcknowledged sending laneSentDown laneSentUp
     laneTaken laneAnswered arriving laneArrivedDown laneArrivedUp leavesAgain keyAnswers clockAnswered laneMoved
     freshLane freshOnu start noted named withLanes atOlt atOnu atOltFor advancing entering clockSending offering retrying envelopeDown sendingDown
-    envelopeUp sendingUp messageArriving receiptDown envelopeArriving inFlightArriving noEnvelope receiptUp arrivingUp answering changing unitAfter oltAfter step
+    envelopeUp sendingUp messageArriving receiptDown envelopeArriving inFlightArriving noEnvelope receiptUp arrivingUp answering changing unitAfter oltAfter
+    step
     run
 opened = tt

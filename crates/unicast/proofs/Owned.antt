@@ -88,8 +88,8 @@ owns-rounds u llid key c tick s =
     (λ e. owns-then u llid key (keyRound u llid key) (interval u) t (owns-key u llid key t) (owns-interval u llid key)))
     (λ t.
     owns-then u llid key (moved u llid c) (upRound u llid) t
-    (pick-holds (λ (es : List Event). Owns u llid key es) (ltb c (laneAt t u .keys .number)) [] (downRound u llid t) (λ e. tt) (λ e. (refl, (tt, (refl, tt)))))
-    (owns-up u llid key))))
+    (pick-holds (λ (es : List Event). Owns u llid key es) (ltb c (laneAt t u .keys .number)) [] (downRound u llid t) (λ e. tt)
+    (λ e. (refl, (tt, (refl, tt))))) (owns-up u llid key))))
 
 owns-next : (u llid : ℕ) (key : List ℕ) (s : State) → Owns u llid key (next s u)
 unfolding next nextBy nextDown nextUp
@@ -109,7 +109,8 @@ owns-drained u llid key (suc n) s = owns-append u llid key (next s u) _ (owns-ne
 pub owns-recipe : (u llid : ℕ) (key : List ℕ) (s : State) → Owns u llid key (recipe u llid key s)
 unfolding recipe onwards
 owns-recipe u llid key s =
-    owns-then u llid key (λ t. drained (awaitedCount (laneAt s u) (s .history .now)) t u) _ s (owns-drained u llid key (awaitedCount (laneAt s u) (s .history .now)) s)
+    owns-then u llid key (λ t. drained (awaitedCount (laneAt s u) (s .history .now)) t u) _ s
+    (owns-drained u llid key (awaitedCount (laneAt s u) (s .history .now)) s)
     (λ t.
     pick-holds (λ (es : List Event). Owns u llid key es) (ltb (confirmedBy (laneAt s u)) (confirmedBy (laneAt t u))) []
     (rounds u llid key (confirmedBy (laneAt s u)) _ t) (λ e. tt) (λ e. owns-rounds u llid key (confirmedBy (laneAt s u)) _ t))
@@ -155,7 +156,8 @@ in-flight-whose s u k out (clockMessage m c t) v = set-stays whose s u _ (noted-
 in-flight-whose s u k out (keyMessage m t) v = set-stays whose s u _ (noted-keeps whose _ _ (laneTaken k (laneAt s u)) refl) v
 in-flight-whose s u k out (envelope e) v = set-stays whose s u _ refl v
 
-pub whose-stays : (u llid : ℕ) (key : List ℕ) (s : State) (e : Event) → Owned u llid key e → (v : ℕ) → whose (laneAt (step s e) v) ≡ whose (laneAt s v)
+pub whose-stays : (u llid : ℕ) (key : List ℕ) (s : State) (e : Event) → Owned u llid key e → (v : ℕ)
+    → whose (laneAt (step s e) v) ≡ whose (laneAt s v)
 unfolding steps lanes
 whose-stays u llid key s (advance n) o v = refl
 whose-stays u llid key s (capture x) o v = at-olt-keeps whose s _ _ x _ (λ l. refl) v

@@ -27,7 +27,8 @@ rising-lower lo low hi [] h r = omega (arith, h, r)
 rising-lower lo low hi (t ∷ ts) h r = (omega (arith, h, r .0), r .1)
 
 -- one more, at the last tick
-pub rising-more : {A : Type 0} (f : A → ℕ) (lo hi : ℕ) (xs : List A) (x : A) → f x ≡ hi → Rising lo hi (map f xs) → Rising lo hi (map f (xs ++ (x ∷ [])))
+pub rising-more : {A : Type 0} (f : A → ℕ) (lo hi : ℕ) (xs : List A) (x : A) → f x ≡ hi → Rising lo hi (map f xs)
+    → Rising lo hi (map f (xs ++ (x ∷ [])))
 rising-more f lo hi [] x e r = (omega (arith, r, e), omega (arith, e))
 rising-more f lo hi (y ∷ ys) x e r = (r .0, rising-more f (f y) hi ys x e (r .1))
 
@@ -93,11 +94,13 @@ unfolding pick
 at-most true n most high h = max-eq-right (omega (arith, h, le-max-left n high))
 at-most false n most high h = refl
 
-pub highest-own : (direction : Direction) (rs : List Arrival) (r : Arrival) → goes direction (r .envelope .direction) ≡ true → highest direction rs ≤ r .envelope .number
+pub highest-own : (direction : Direction) (rs : List Arrival) (r : Arrival) → goes direction (r .envelope .direction) ≡ true
+    → highest direction rs ≤ r .envelope .number
     → highest direction (rs ++ (r ∷ [])) ≡ r .envelope .number
 unfolding highest pick
 highest-own direction [] r e h = rw e (max-zero (r .envelope .number))
 highest-own direction (y ∷ ys) r e h =
     let t = goes direction (y .envelope .direction) in
     let high = highest direction ys in
-    rw (highest-own direction ys r e (higher t (y .envelope .number) (r .envelope .number) high h)) (at-most t (y .envelope .number) (r .envelope .number) high h)
+    rw (highest-own direction ys r e (higher t (y .envelope .number) (r .envelope .number) high h))
+    (at-most t (y .envelope .number) (r .envelope .number) high h)

@@ -24,7 +24,8 @@ use Rattle.unicast.proofs.Invariant.{Spending, Passing}
 use Rattle.unicast.proofs.Queues.{Knows}
 
 -- a clear envelope carries its payload, whatever the key
-carried-same : (t : Bool) (k k' : List ℕ) (n : Nonce) (p : List ℕ) → (t ≡ true → k ≡ k') → carried t (keyExpansion k) n p ≡ carried t (keyExpansion k') n p
+carried-same : (t : Bool) (k k' : List ℕ) (n : Nonce) (p : List ℕ) → (t ≡ true → k ≡ k')
+    → carried t (keyExpansion k) n p ≡ carried t (keyExpansion k') n p
 unfolding carried pick
 carried-same true k k' n p h = ap (λ (x : List ℕ). carried true (keyExpansion x) n p) (h refl)
 carried-same false k k' n p h = refl
@@ -97,7 +98,8 @@ pub passing-sent : (w : Setting) (l m : Lane) (e : Envelope) (confirmed active :
 passing-sent w l m e confirmed active k t a right named fits p =
     record {
       sent = λ x h.
-          each-more (SentRight w m) (l .past .sent) e (λ y g. sent-carried w l m (y .number) (k (y .number)) y (omega arith) (p .sent y g)) right x (rw t at h);
+          each-more (SentRight w m) (l .past .sent) e (λ y g. sent-carried w l m (y .number) (k (y .number)) y (omega arith) (p .sent y g)) right x
+          (rw t at h);
       named = λ x h.
           rw (k 0 .site)
           at (each-more (λ (y : Envelope). has (l .site .identity) (y .llid) ≡ true) (l .past .sent) e (p .named) named x (rw t at h));
@@ -113,7 +115,8 @@ passing-sent w l m e confirmed active k t a right named fits p =
 -- one arrival more
 pub passing-arrived : (w : Setting) (l m : Lane) (r : Arrival) (confirmed confirmed' active active' : ℕ) → ((top : ℕ) → Knows l m top)
     → m .past .sent ≡ l .past .sent → m .past .arrived ≡ l .past .arrived ++ (r ∷ []) → confirmed ≤ confirmed' → active ≤ active'
-    → ArrivedRight w l r → (r .envelope .direction ≡ downward → r .envelope .number ≤ active') → (r .envelope .direction ≡ upward → r .envelope .number ≤ confirmed')
+    → ArrivedRight w l r → (r .envelope .direction ≡ downward → r .envelope .number ≤ active')
+    → (r .envelope .direction ≡ upward → r .envelope .number ≤ confirmed')
     → Passing w l confirmed active → Passing w m confirmed' active'
 passing-arrived w l m r confirmed confirmed' active active' k s t c a right down up p =
     record {

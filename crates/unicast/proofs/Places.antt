@@ -75,7 +75,8 @@ held-found w s p u llid i h e =
     (record { used = j .0; place = omega (arith, j .0, r .count, i .places); has = j .1 .llids llid ∙ e })
 
 -- and has the LLID that finds it
-pub found-has : (w : Setting) (s : State) (p u llid : ℕ) → Invariant w s → Held s p u → find (s .olt) llid ≡ At p → has (laneAt s u .site .identity) llid ≡ true
+pub found-has : (w : Setting) (s : State) (p u llid : ℕ) → Invariant w s → Held s p u → find (s .olt) llid ≡ At p
+    → has (laneAt s u .site .identity) llid ≡ true
 found-has w s p u llid i h e = sym (joined-at w s p u i h .1 .llids llid) ∙ find-at (s .olt) llid p e .has
 
 not-idle : (b : Bool) (w : Setting) (t : Olt) (now : ℕ) (l : Lane) (o : Onu) → (Idle now l o → ⊥) → Standing b w t now l o → b ≡ true

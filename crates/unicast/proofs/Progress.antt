@@ -93,7 +93,8 @@ key-short : (u llid : ℕ) (key : List ℕ) (s : State) → length (keyRound u l
 unfolding keyRound answeredRound
 key-short u llid key s = omega arith
 
-then-short : (f g : State → List Event) (s : State) (a b : ℕ) → length (f s) ≤ a → ((t : State) → length (g t) ≤ b) → length (andThen f g s) ≤ a + b
+then-short : (f g : State → List Event) (s : State) (a b : ℕ) → length (f s) ≤ a → ((t : State) → length (g t) ≤ b)
+    → length (andThen f g s) ≤ a + b
 unfolding andThen
 then-short f g s a b p q = let more = q (run s (f s)) in omega (arith, p, more, length-append (f s) (g (run s (f s))))
 
@@ -133,7 +134,8 @@ next-short s u = by-queues (spec.awaited (s .history .now) (spec.dueDown (laneAt
   by-queues [] [] = omega arith
   by-queues (t ∷ ts) [] = omega arith
   by-queues [] (v ∷ vs) = omega arith
-  by-queues (t ∷ ts) (v ∷ vs) = pick-holds (λ (es : List Event). length es ≤ 2) (leb t v) (nextDown s u t) (nextUp s u v) (λ e. omega arith) (λ e. omega arith)
+  by-queues (t ∷ ts) (v ∷ vs) = pick-holds (λ (es : List Event). length es ≤ 2) (leb t v) (nextDown s u t) (nextUp s u v) (λ e. omega arith)
+      (λ e. omega arith)
 
 drained-short : (n : ℕ) (s : State) (u : ℕ) → length (drained n s u) ≤ 2 * n
 unfolding drained

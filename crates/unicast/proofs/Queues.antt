@@ -56,7 +56,8 @@ dropped-among x (y ∷ xs) (suc k) m = List·Memᴰ·tail (dropped-among x xs k 
 
 -- one thing more
 pub sealed-more : (synced : ℕ) (xs : List InFlight) (x : InFlight) → ((e : Envelope) → List·Memᴰ (envelope e) xs → 1 ≤ e .number → synced ≡ 1)
-    → ((e : Envelope) → x ≡ envelope e → 1 ≤ e .number → synced ≡ 1) → (e : Envelope) → List·Memᴰ (envelope e) (xs ++ (x ∷ [])) → 1 ≤ e .number
+    → ((e : Envelope) → x ≡ envelope e → 1 ≤ e .number → synced ≡ 1) → (e : Envelope) → List·Memᴰ (envelope e) (xs ++ (x ∷ []))
+    → 1 ≤ e .number
     → synced ≡ 1
 sealed-more synced xs x old new e m =
     ⊎-elim (λ before. old e before) (λ last. new e (sym (List·Memᴰ·eq-of-singleton last))) (List·Memᴰ·append-cases xs m)
@@ -116,7 +117,8 @@ towards-envelope first p l lo hi top xs e h u q =
 
 -- the kth and what follows it: at a message it is right, and the rest; at an envelope it lies within the bounds, and the rest
 -- lies above it
-pub towards-taken : (first : ℕ) (p : Delays) (l : Lane) (lo hi top : ℕ) (xs : List InFlight) (k : ℕ) (d x : InFlight) → k < length xs → getD xs k d ≡ x
+pub towards-taken : (first : ℕ) (p : Delays) (l : Lane) (lo hi top : ℕ) (xs : List InFlight) (k : ℕ) (d x : InFlight) → k < length xs
+    → getD xs k d ≡ x
     → Towards first p l lo hi top xs → Towards first p l lo hi top (x ∷ drop (suc k) xs)
 towards-taken first p l lo hi top [] k d x h e q = absurd (not-suc-le-zero h)
 towards-taken first p l lo hi top (y ∷ xs) zero d x h e q = subst (λ (z : InFlight). Towards first p l lo hi top (z ∷ xs)) e q

@@ -101,7 +101,8 @@ taken-next o n e f =
       unsent = λ q. refl;
     }
 
-pub taken-down : (o : Onu) (h : Header) (n channel llid clock : ℕ) → h ≡ envelopeHeader n channel llid clock → o .keys .active ≤ n → n ≤ reachOf (o .keys)
+pub taken-down : (o : Onu) (h : Header) (n channel llid clock : ℕ) → h ≡ envelopeHeader n channel llid clock → o .keys .active ≤ n
+    → n ≤ reachOf (o .keys)
     → o .keys .held ≤ 1 → TakenDown o (onuReceiveChoice (o .keys) h) n
 unfolding envelopeHeader
 taken-down o h n channel llid clock e low high flag = by-number (eqb n 0) (eqb n (o .keys .active)) refl refl where

@@ -47,7 +47,8 @@ use Rattle.unicast.proofs.ReceiptChoices.{TakenDown, taken-down}
 ---- its lane
 
 -- of a unit whose number stays the first send does, and one that moves on has none
-first-taken : (n old new switches : ℕ) (f g : FirstSend) (low ahead : ℕ) → new ≡ n → (n ≡ old → g ≡ f) → ((n ≡ old → ⊥) → g .noted ≡ 0)
+first-taken : (n old new switches : ℕ) (f g : FirstSend) (low ahead : ℕ) → new ≡ n → (n ≡ old → g ≡ f)
+    → ((n ≡ old → ⊥) → g .noted ≡ 0)
     → (f .noted ≡ 1 → old ≡ switches → low ≤ f .at + ahead) → g .noted ≡ 1 → new ≡ switches → low ≤ g .at + ahead
 first-taken n old new switches f g low ahead active stays unsent was one same = by-number (eqb n old) refl where
   by-number : (t : Bool) → eqb n old ≡ t → low ≤ g .at + ahead
@@ -184,8 +185,8 @@ arrivalDown o e out =
       passage = receivingOnu o (misfit (e .octets) out) (e .header) .handed;
     }
 
-module _ (w : Setting) (sh : Shared) (now : ℕ) (l : Lane) (u : UnitRecord) (o : Onu) (c : Common w now l o) (j : Joined w sh now l u o) (k : ℕ) (d : InFlight)
-    (e : Envelope) (out : List ℕ) (some : k < length (l .transit .towards)) (is : getD (l .transit .towards) k d ≡ envelope e)
+module _ (w : Setting) (sh : Shared) (now : ℕ) (l : Lane) (u : UnitRecord) (o : Onu) (c : Common w now l o) (j : Joined w sh now l u o) (k : ℕ)
+    (d : InFlight) (e : Envelope) (out : List ℕ) (some : k < length (l .transit .towards)) (is : getD (l .transit .towards) k d ≡ envelope e)
     (due : e .left + l .path .down ≡ now) (buffer : length out ≡ length (e .octets)) where
   queue-down : Under (l .site .identity) (l .past .sent) downward (o .keys .active) (u .keys .active) e
       × Towards (w .first) (l .path) l (e .number) (u .keys .active) (u .keys .offered) (drop (suc k) (l .transit .towards))
@@ -286,7 +287,8 @@ received-common w now m o (Next n) c =
     }
 
 -- it stays valid, at its tick, and who it is
-pub receive-common : (w : Setting) (now : ℕ) (l m : Lane) (o : Onu) (h : Header) (p out : List ℕ) → l .site ≡ m .site → l .path ≡ m .path → Common w now l o
+pub receive-common : (w : Setting) (now : ℕ) (l m : Lane) (o : Onu) (h : Header) (p out : List ℕ) → l .site ≡ m .site → l .path ≡ m .path
+    → Common w now l o
     → Common w now m (onuReceiveOf o h p out .answer .onu)
 unfolding onuReceiveOf onuReceived receivingOnu
 receive-common w now l m o h p out s q c =

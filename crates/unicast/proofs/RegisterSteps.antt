@@ -69,7 +69,12 @@ register-keeps w sh now place i trip interval l o d mac llids oltmac time delays
       mac = mac;
       llids = λ x. kept-has i x most ∙ llids x;
       oltmac = oltmac;
-      firsts = record { olt = λ one. absurd (omega arith); onu = λ least each one. absurd (omega (arith, one, d .noted)); some = λ one. absurd (omega (arith, one, d .noted)) };
+      firsts = record {
+        olt = λ one. absurd (omega arith);
+        onu = λ least each one. absurd (omega (arith, one, d .noted));
+        some = λ one. absurd
+            (omega (arith, one, d .noted));
+      };
       freed =
           record {
             free = λ last k each. omega (arith, d .channels k);

@@ -85,7 +85,8 @@ timing-switched r k m now t e h =
     }
 
 -- a first send after a tick, whether it is made now or not
-first-after : (f : FirstSend) (tick now : ℕ) → (f .noted ≡ 1 → tick ≤ f .at) → tick ≤ now → firstSend f now .noted ≡ 1 → tick ≤ firstSend f now .at
+first-after : (f : FirstSend) (tick now : ℕ) → (f .noted ≡ 1 → tick ≤ f .at) → tick ≤ now → firstSend f now .noted ≡ 1
+    → tick ≤ firstSend f now .at
 unfolding firstSend
 first-after f tick now old h =
     pick-holds (λ (x : FirstSend). x .noted ≡ 1 → tick ≤ x .at) (isUp (f .noted)) f (notedAt now) (λ e. old) (λ e one. h)

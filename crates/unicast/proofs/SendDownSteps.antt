@@ -61,7 +61,8 @@ module _ (w : Setting) (sh : Shared) (now : ℕ) (l : Lane) (u : UnitRecord) (o 
   sent-down-joined : (k : UnitKeys) (choice : KeyChoice) (c : Channels) (e : Envelope) → (1 ≤ e .number → o .clock .synced ≡ 1)
       → Chosen (l .entry) now (reachOf (o .keys)) (u .keys) k choice (e .number) (pick (switching l now) now (l .keys .switched)) (l .keys .switched)
       → Renewed (u .keys .first) (k .first) (u .keys .active) (e .number) now
-      → e .up ≡ l .path .up → e .direction ≡ downward → e .left ≡ now → downstream (e .channel) ≡ true → has (l .site .identity) (e .llid) ≡ true
+      → e .up ≡ l .path .up → e .direction ≡ downward → e .left ≡ now → downstream (e .channel) ≡ true
+      → has (l .site .identity) (e .llid) ≡ true
       → lengthsFit (length (e .payload)) (length (e .payload)) ≡ true → SentRight w l e
       → freeFrom (sh .channels) (e .channel) ≤ now → ((i : ℕ) → freeFrom (sh .channels) i ≤ freeFrom c i) → now < freeFrom c (e .channel)
       → Joined w (withChannels sh c) now (laneSentDown now e l) (withKeys u k) o
@@ -103,7 +104,8 @@ module _ (w : Setting) (sh : Shared) (now : ℕ) (l : Lane) (u : UnitRecord) (o 
         gone = each-more (λ (x : Envelope). x .left ≤ now) (l .past .sent) e (j .gone) (omega (arith, left));
         near = j .near;
         ups = each-more (λ (x : Envelope). x .up ≤ maxRoundTrip) (l .past .sent) e (j .ups) (omega (arith, present, j .near));
-        asked = asked-leaving now (u .clock .sent) (l .transit) (envelope e) (λ m c left q. let z : _≡_ {A = ℕ} 0 1 = cc in absurd (omega arith)) (j .asked);
+        asked = asked-leaving now (u .clock .sent) (l .transit) (envelope e) (λ m c left q. let z : _≡_ {A = ℕ} 0 1 = cc in absurd (omega arith))
+            (j .asked);
         order = order-leaving now (l .transit) (envelope e) left (j .order);
         numbers =
             record {
@@ -283,7 +285,8 @@ unfolding sendUnit
 send-channels llid channel eqs sh u a i = free-later (sh .channels) channel i (sh .tick) eqs (unit-goes sh u channel a .free)
 
 -- and no later than it ends
-pub send-frees : (llid channel eqs : ℕ) (sh : Shared) (u : UnitRecord) (k bound : ℕ) → sh .tick + eqs + 1 ≤ bound → freeFrom (sh .channels) k ≤ bound
+pub send-frees : (llid channel eqs : ℕ) (sh : Shared) (u : UnitRecord) (k bound : ℕ) → sh .tick + eqs + 1 ≤ bound
+    → freeFrom (sh .channels) k ≤ bound
     → freeFrom (sendUnit llid channel eqs sh u .channels) k ≤ bound
 unfolding sendUnit
 send-frees llid channel eqs sh u k bound new old = occupied-free (sh .channels) channel k (sh .tick) eqs bound new old

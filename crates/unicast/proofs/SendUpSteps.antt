@@ -75,7 +75,8 @@ module _ (w : Setting) (sh : Shared) (now : ℕ) (l : Lane) (u : UnitRecord) (o 
   -- an envelope that left the unit, and first send and channels after it
   sent-up-joined : (travel : ℕ) (f : FirstSend) (t : Travel) (c : Channels) (e : Envelope) → e .number ≡ o .keys .active
       → travel + l .site .up ≡ now + l .path .up + maxChanges → Renewed (o .first) f (o .keys .active) (e .number) travel
-      → (1 ≤ e .number → o .travel .bar ≤ travel) → t .bar ≡ o .travel .bar → o .travel .spent ≤ t .spent → (1 ≤ e .number → travel < t .spent)
+      → (1 ≤ e .number → o .travel .bar ≤ travel) → t .bar ≡ o .travel .bar → o .travel .spent ≤ t .spent
+      → (1 ≤ e .number → travel < t .spent)
       → e .up ≡ l .path .up
       → e .direction ≡ upward → e .left ≡ now → upstream (e .channel) ≡ true → has (l .site .identity) (e .llid) ≡ true
       → lengthsFit (length (e .payload)) (length (e .payload)) ≡ true → SentRight w l e
@@ -90,7 +91,8 @@ module _ (w : Setting) (sh : Shared) (now : ℕ) (l : Lane) (u : UnitRecord) (o 
       let knows : (top : ℕ) → Knows l m top =
       λ top. record { site = refl; sent = λ x i. Memᴰ·append-left (e ∷ []) i; keys = λ x p q. refl } in
       -- sent by the present path it left earlier, and before the last change it counted less than the bar
-      let later : (x : Envelope) → List·Memᴰ x (l .past .sent) → x .direction ≡ upward → 1 ≤ x .number → x .number ≡ e .number → x .channel ≡ e .channel
+      let later : (x : Envelope) → List·Memᴰ x (l .past .sent) → x .direction ≡ upward → 1 ≤ x .number → x .number ≡ e .number
+      → x .channel ≡ e .channel
       → countUp x < countUp e =
       λ x i q p n g.
       let was = j .spending .ups x i q in
@@ -280,7 +282,8 @@ sent-common : (w : Setting) (now : ℕ) (m : Lane) (o : Onu) (channel eqs : ℕ)
 unfolding onuAfterSend withOnuChannels withTravel withOnuFirst travelOf
 sent-common w now m o channel eqs k v =
     let h = chosen-up o eqs (k .first) in
-    let is : onuAfterSend o channel eqs ≡ withOnuChannels (withTravel (withOnuFirst o (h .first)) (h .travel)) (occupied (o .channels) channel (o .tick) eqs) =
+    let is : onuAfterSend o channel eqs ≡ withOnuChannels (withTravel (withOnuFirst o (h .first)) (h .travel))
+    (occupied (o .channels) channel (o .tick) eqs) =
     ap (λ (x : Onu). withOnuChannels x (occupied (o .channels) channel (o .tick) eqs)) (h .noted) in
     subst (Common w now m) (sym is)
     (record {
@@ -294,7 +297,8 @@ sent-common w now m o channel eqs k v =
     })
 
 -- it stays valid, at its tick, and who it is
-pub send-common : (w : Setting) (now : ℕ) (l m : Lane) (o : Onu) (llid channel : ℕ) (p out : List ℕ) → l .site ≡ m .site → l .path ≡ m .path → Common w now l o
+pub send-common : (w : Setting) (now : ℕ) (l m : Lane) (o : Onu) (llid channel : ℕ) (p out : List ℕ) → l .site ≡ m .site → l .path ≡ m .path
+    → Common w now l o
     → Common w now m (onuSendOf o llid channel p out .answer .onu)
 unfolding onuSendOf onuSent sendingOnu onuSendVerdict
 send-common w now l m o llid channel p out s q c =

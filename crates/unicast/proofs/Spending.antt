@@ -78,7 +78,8 @@ spent-new d first next current number now ahead base count e r n t h =
 pub apart-new : (count : Envelope → ℕ) (direction : Direction) (c : Channels) (first next : FirstSend) (current now ahead base : ℕ) (x e : Envelope)
     → Renewed first next current (e .number) now → now + ahead ≡ count e + base
     → (x .direction ≡ direction → Spent c first current ahead base (count x) x)
-    → (x .direction ≡ direction → 1 ≤ x .number → x .number ≡ e .number → x .channel ≡ e .channel → count x < count e) → Apart count direction x e
+    → (x .direction ≡ direction → 1 ≤ x .number → x .number ≡ e .number → x .channel ≡ e .channel → count x < count e)
+    → Apart count direction x e
 apart-new count direction c first next current now ahead base x e r t spent rises direction' direction'' p n i =
     let s = spent direction' in
     let same : e .number ≡ current = omega (arith, s .most, r .most) in
@@ -86,7 +87,8 @@ apart-new count direction c first next current now ahead base x e r t spent rise
     let young = r .old (omega arith) same (was .0) .1 in
     (rises direction' p n i, omega (arith, young, was .1, t))
 
-apart-more : (count : Envelope → ℕ) (direction : Direction) (sent : List Envelope) (e : Envelope) → ((x : Envelope) → List·Memᴰ x sent → Apart count direction x e)
+apart-more : (count : Envelope → ℕ) (direction : Direction) (sent : List Envelope) (e : Envelope)
+    → ((x : Envelope) → List·Memᴰ x sent → Apart count direction x e)
     → ((i j : ℕ) → i < j → j < length sent → Apart count direction (getD sent i noEnvelope) (getD sent j noEnvelope)) → (i j : ℕ) → i < j
     → j < length (sent ++ (e ∷ [])) → Apart count direction (getD (sent ++ (e ∷ [])) i noEnvelope) (getD (sent ++ (e ∷ [])) j noEnvelope)
 apart-more count direction sent e new s i j h g = by-place (ltb j (length sent)) refl where

@@ -136,7 +136,8 @@ fresh-lane-right w t s e = record { common = fresh-common w s e; standing = fres
 ---- the whole
 
 -- every lane is fresh
-pub lane-fresh : (P : Lane → Type 0) (sites : List Site) (u : ℕ) → ((s : Site) → P (freshLane s)) → P (getD (map freshLane sites) u (freshLane noSite))
+pub lane-fresh : (P : Lane → Type 0) (sites : List Site) (u : ℕ) → ((s : Site) → P (freshLane s))
+    → P (getD (map freshLane sites) u (freshLane noSite))
 lane-fresh P [] u p = p noSite
 lane-fresh P (s ∷ sites) zero p = p s
 lane-fresh P (s ∷ sites) (suc u) p = lane-fresh P sites u p

@@ -97,7 +97,8 @@ unfolding other
 other-true key k h e = true-false (sym (same-refl k) ∙ ap (λ (x : List ℕ). same k x) e ∙ not-true _ h)
 
 -- past the list is one that has none
-pub unused-at : {A : Type 0} (offers : A → List (List ℕ)) (past : A) → offers past ≡ [] → (key : List ℕ) (xs : List A) → unused offers key xs ≡ true
+pub unused-at : {A : Type 0} (offers : A → List (List ℕ)) (past : A) → offers past ≡ [] → (key : List ℕ) (xs : List A)
+    → unused offers key xs ≡ true
     → (u n : ℕ) → n < length (offers (getD xs u past)) → getD (offers (getD xs u past)) n [] ≡ key → ⊥
 unfolding unused
 unused-at offers past none key [] e u n h = λ _. not-suc-le-zero (rw none at h)

@@ -34,7 +34,8 @@ more-as l e p by x m =
 
 ---- lists of lanes
 
-pub each-mapped : (g : Lane → Lane) (ls : List Lane) → ((l : Lane) → AsStarted l → AsStarted (g l)) → ((u : ℕ) → AsStarted (getD ls u (freshLane noSite)))
+pub each-mapped : (g : Lane → Lane) (ls : List Lane) → ((l : Lane) → AsStarted l → AsStarted (g l))
+    → ((u : ℕ) → AsStarted (getD ls u (freshLane noSite)))
     → (u : ℕ) → AsStarted (getD (map g ls) u (freshLane noSite))
 each-mapped g [] h e u = fresh
 each-mapped g (l ∷ ls) h e zero = h l (e zero)

@@ -42,7 +42,8 @@ module _ {A : Type 0} (f : A → ℕ) where
     by-late false b p q e rest = absurd (omega (arith, e))
 
   -- all but the last are overdue
-  pub late-last : (now : ℕ) (xs : List A) (x : A) → overdue now (map f xs) ≡ length xs → now ≤ f x → overdue now (map f (xs ++ (x ∷ []))) ≡ length xs
+  pub late-last : (now : ℕ) (xs : List A) (x : A) → overdue now (map f xs) ≡ length xs → now ≤ f x
+      → overdue now (map f (xs ++ (x ∷ []))) ≡ length xs
   unfolding overdue pick
   late-last now [] x e h = rw (le-ltb (f x) now h)
   late-last now (y ∷ ys) x e h = by-late (ltb (f y) now) e (λ r. late-last now ys x r h) where
@@ -122,7 +123,8 @@ quiet-keeps l now later h q = quiet-none l later (quiet-later l now later h q) �
 
 -- one thing is awaited, the last of what is under way to the unit or from it
 pub down-overdue : (l : Lane) (ts : List InFlight) (x : InFlight) (now : ℕ) → l .transit .towards ≡ ts ++ (x ∷ [])
-    → overdue now (map (λ (y : InFlight). leftAt y + l .path .down) ts) ≡ length ts → now ≤ leftAt x + l .path .down → overdue now (dueDown l) ≡ length ts
+    → overdue now (map (λ (y : InFlight). leftAt y + l .path .down) ts) ≡ length ts → now ≤ leftAt x + l .path .down
+    → overdue now (dueDown l) ≡ length ts
 down-overdue l ts x now e q h = rw e (late-last (λ (y : InFlight). leftAt y + l .path .down) now ts x q h)
 
 pub up-overdue : (l : Lane) (es : List Envelope) (x : Envelope) (now : ℕ) → l .transit .from ≡ es ++ (x ∷ [])
@@ -152,7 +154,8 @@ quiet-of l now e =
 -- the kth of what is under way to the unit is taken: it was the first that was awaited
 pub down-fewer : (l m : Lane) (now later k hi : ℕ) (d : InFlight) → m .path ≡ l .path → m .transit .towards ≡ drop (suc k) (l .transit .towards)
     → m .transit .from ≡ l .transit .from → Rising 0 hi (map leftAt (l .transit .towards)) → k < length (l .transit .towards)
-    → overdue now (dueDown l) ≡ k → overdue later (dueUp l) ≡ overdue now (dueUp l) → later ≤ leftAt (getD (l .transit .towards) k d) + l .path .down
+    → overdue now (dueDown l) ≡ k → overdue later (dueUp l) ≡ overdue now (dueUp l)
+    → later ≤ leftAt (getD (l .transit .towards) k d) + l .path .down
     → awaitedCount m later + 1 ≡ awaitedCount l now
 down-fewer l m now later k hi d path towards from rising some late up due =
     let f : InFlight → ℕ = λ x. leftAt x + l .path .down in

@@ -80,7 +80,8 @@ pub fn send(
     channel: u8,
     eqs: u64,
 ) -> UnitSent
-    ensures { λ r. ⌜ ((way ≡ Accepted → (shared .tick ≤ maxTick) × (eqs ≤ maxEqs)) → sentOutcome r ≡ reached way noSending shared unit (sendUnit llid channel eqs shared unit)) ⌝ }
+    ensures { λ r. ⌜ ((way ≡ Accepted → (shared .tick ≤ maxTick) × (eqs ≤ maxEqs)) → sentOutcome r
+        ≡ reached way noSending shared unit (sendUnit llid channel eqs shared unit)) ⌝ }
 {
     let channels = shared.channels;
     let tick = shared.tick;

@@ -14,7 +14,8 @@ use Rattle.envelope.proofs.count.Statement.{statement}
 use Rattle.envelope.proofs.count.Tie as tie
 
 abbrev Inv-loop : tie.InvT-loop
-Inv-loop payload eqs sum₀ e₀ sum e = (e ≤ eqs) × (eqs ≡ length payload / 9) × (sum ≡ Rattle.octets.specs.Lists.sum 0 e (λ i. 8 - ones (controlOctet payload i)))
+Inv-loop payload eqs sum₀ e₀ sum e = (e ≤ eqs) × (eqs ≡ length payload / 9)
+    × (sum ≡ Rattle.octets.specs.Lists.sum 0 e (λ i. 8 - ones (controlOctet payload i)))
 
 abbrev μ-loop : tie.MeasureT-loop
 μ-loop payload eqs sum₀ e₀ sum e = eqs - e

@@ -45,6 +45,6 @@ returns-2 c =
 pub first-spec : {M : Type 1} → statement M
 first-spec =
     tie.close
-    (tie.spec Inv-loop μ-loop (λ c κs. sizes _ (c .before .pre) .interval) (λ c κs. c .before .before .pre) (λ c. (search needs, from-start (firstFrom _ 0) _))
-    (λ c. search needs) (λ c κs. c .before .before .before .before .before .pre) (λ c κs. search needs) (λ c. search needs) returns (λ c. search needs)
-    (λ c. search needs) loop-again returns-2)
+    (tie.spec Inv-loop μ-loop (λ c κs. sizes _ (c .before .pre) .interval) (λ c κs. c .before .before .pre)
+    (λ c. (search needs, from-start (firstFrom _ 0) _)) (λ c. search needs) (λ c κs. c .before .before .before .before .before .pre)
+    (λ c κs. search needs) (λ c. search needs) returns (λ c. search needs) (λ c. search needs) loop-again returns-2)

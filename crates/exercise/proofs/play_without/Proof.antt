@@ -42,5 +42,6 @@ pub play-without-spec : {M : Type 1} → statement M
 play-without-spec =
     tie.close
     (tie.spec Inv-loop μ-loop (λ c κs. sizes _ (c .before .pre) .interval) (λ c κs. sizes _ (c .before .before .pre) .interval) (λ c κs. search needs)
-    (λ c. (search needs, played-start _ _ _ _)) step-at-requires (λ c. search needs) (λ c. search needs) step-requires (λ c. search needs) (λ c. search needs)
+    (λ c. (search needs, played-start _ _ _ _)) step-at-requires (λ c. search needs) (λ c. search needs) step-requires (λ c. search needs)
+    (λ c. search needs)
     loop-again (λ c κs. search needs) returns)

@@ -23,5 +23,5 @@ pub number32-spec : {M : Type 1} → statement M
 number32-spec =
     tie.close
     (tie.spec (λ c. sym (number-past 4 (now (c .before .before .args .s)) _ (c .if1 .taken)))
-    (λ c. search needs) (λ c. search needs) (λ c. search needs) (λ c κs. search needs) (λ c κs. search needs) (λ c κs. search needs) (λ c κs. search needs)
-    (λ c κs. search needs) returns-2)
+    (λ c. search needs) (λ c. search needs) (λ c. search needs) (λ c κs. search needs) (λ c κs. search needs) (λ c κs. search needs)
+    (λ c κs. search needs) (λ c κs. search needs) returns-2)

@@ -17,8 +17,11 @@ joined s = omega arith
 
 returns-2 : tie.Need-returns-2
 returns-2 c =
-    let a = c .before .before .before .before .before .args in
-    (rw (c .before .number16 .ensures, c .number32 .ensures, tail-part) (joined (drop (a .at) (now (a .s))) ∙ number-from 6 (a .at) (now (a .s))), search needs)
+    let a = c .before .before .before .before .before .args in (
+      rw (c .before .number16 .ensures, c .number32 .ensures, tail-part) (joined (drop (a .at) (now (a .s))) ∙ number-from 6 (a .at) (now (a .s))),
+      search
+          needs,
+    )
 
 pub number48-spec : {M : Type 1} → statement M
 number48-spec =

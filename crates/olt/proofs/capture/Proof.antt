@@ -33,7 +33,7 @@ returns c =
 pub capture-spec : {M : Type 1} → statement M
 capture-spec =
     tie.close
-    (tie.spec (λ c κs. search needs) (λ c. let h = below c in search needs) (λ c. let h = below c in search needs) (λ c κs. search needs) (λ c κs. search needs)
-    (λ c. let h = below (c .before .before .before .before .before) in search needs)
+    (tie.spec (λ c κs. search needs) (λ c. let h = below c in search needs) (λ c. let h = below c in search needs) (λ c κs. search needs)
+    (λ c κs. search needs) (λ c. let h = below (c .before .before .before .before .before) in search needs)
     (λ c. let h = below (c .before .before .before .before .before) in search needs)
     returns)

@@ -29,12 +29,13 @@ returns c =
     measure-ordered (a .olt) (a .llid) (a .trip) _
     (rw (numbered .verdict-number .ensures)
     (ap oltAnswer
-    (lift-decided (a .olt) silent _ (a .llid) (measureUnit (a .trip)) (at .locate .result) x (rw (ahead .ensures) at (at .locate .ensures .0)) (done .ensures))))
+    (lift-decided (a .olt) silent _ (a .llid) (measureUnit (a .trip)) (at .locate .result) x (rw (ahead .ensures) at (at .locate .ensures .0))
+    (done .ensures))))
 
 pub measure-spec : {M : Type 1} → statement M
 measure-spec =
     tie.close
-    (tie.spec (λ c κs. search needs) (λ c κs. search needs) (λ c. let h = below c in search needs) (λ c. let h = below c in search needs) (λ c κs. search needs)
-    (λ c κs. search needs) (λ c. let h = below (c .before .before .before .before .before) in search needs)
+    (tie.spec (λ c κs. search needs) (λ c κs. search needs) (λ c. let h = below c in search needs) (λ c. let h = below c in search needs)
+    (λ c κs. search needs) (λ c κs. search needs) (λ c. let h = below (c .before .before .before .before .before) in search needs)
     (λ c. let h = below (c .before .before .before .before .before) in search needs)
     returns)

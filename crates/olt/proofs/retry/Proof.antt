@@ -33,7 +33,7 @@ returns c =
 pub retry-spec : {M : Type 1} → statement M
 retry-spec =
     tie.close
-    (tie.spec (λ c κs. search needs) (λ c. let h = below c in search needs) (λ c. let h = below c in search needs) (λ c κs. search needs) (λ c κs. search needs)
-    (λ c. let h = below (c .before .before .before .before .before .before) in search needs)
+    (tie.spec (λ c κs. search needs) (λ c. let h = below c in search needs) (λ c. let h = below c in search needs) (λ c κs. search needs)
+    (λ c κs. search needs) (λ c. let h = below (c .before .before .before .before .before .before) in search needs)
     (λ c. let h = below (c .before .before .before .before .before .before) in search needs)
     returns)

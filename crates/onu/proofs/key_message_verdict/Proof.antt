@@ -8,5 +8,5 @@ use Rattle.onu.proofs.key_message_verdict.Tie as tie
 pub key-message-verdict-spec : {M : Type 1} → statement M
 key-message-verdict-spec =
     tie.close
-    (tie.spec (λ c κs. search needs) (λ c κs. search needs) (λ c κs. search needs) (λ c κs. search needs) (λ c κs. search needs) (λ c κs. search needs)
-    (λ c κs. search needs) (λ c. unfold keyMessageVerdict either in cc))
+    (tie.spec (λ c κs. search needs) (λ c κs. search needs) (λ c κs. search needs) (λ c κs. search needs) (λ c κs. search needs)
+    (λ c κs. search needs) (λ c κs. search needs) (λ c. unfold keyMessageVerdict either in cc))

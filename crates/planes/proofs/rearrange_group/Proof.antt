@@ -26,6 +26,7 @@ pub rearrange-group-spec : {M : Type 1} → statement M
 rearrange-group-spec =
     tie.close
     (tie.spec Inv-loop μ-loop (λ c. unmoved _ _ _ _ _ _ _ (omega arith)) (λ c. search needs) (λ c. search needs) (λ c. search needs) (λ c. search needs)
-    (λ c. search needs) (λ c. search needs) (λ c. search needs) (λ c. search needs) (λ c. search needs) (λ c. simp length-set (omega arith)) (λ c. search needs)
-    (λ c. search needs) (λ c. search needs) (λ c. search needs) (λ c. search needs) (λ c. simp length-set (omega arith)) (λ c. search needs) (λ c. search needs)
+    (λ c. search needs) (λ c. search needs) (λ c. search needs) (λ c. search needs) (λ c. search needs) (λ c. simp length-set (omega arith))
+    (λ c. search needs) (λ c. search needs) (λ c. search needs) (λ c. search needs) (λ c. search needs) (λ c. simp length-set (omega arith))
+    (λ c. search needs) (λ c. search needs)
     loop-again (λ c. search needs) (λ c. fewer _ (omega arith) (c .before .loop .inv)))

@@ -24,4 +24,5 @@ returns-2 c =
     (writing-accepted _ _ _ _ judged (moved .restore-blocks .ensures), planes-laws _)
 
 pub restore-spec : {M : Type 1} → statement M
-restore-spec = tie.close (tie.spec (λ c κs. search needs) (λ c. search needs) (λ c. search needs) restore-blocks-requires returns (λ c. search needs) returns-2)
+restore-spec = tie.close (tie.spec (λ c κs. search needs) (λ c. search needs) (λ c. search needs) restore-blocks-requires returns (λ c. search needs)
+    returns-2)

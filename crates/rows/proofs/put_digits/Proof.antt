@@ -36,5 +36,6 @@ returns c =
 pub put-digits-spec : {M : Type 1} → statement M
 put-digits-spec =
     tie.close
-    (tie.spec Inv-loop μ-loop (λ c. (refl, refl)) (λ c. omega arith) (λ c κs. (omega arith, omega arith)) (λ c κs. omega arith) (λ c. omega arith) loop-again
+    (tie.spec Inv-loop μ-loop (λ c. (refl, refl)) (λ c. omega arith) (λ c κs. (omega arith, omega arith)) (λ c κs. omega arith) (λ c. omega arith)
+    loop-again
     returns)

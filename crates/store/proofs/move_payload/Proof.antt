@@ -29,5 +29,6 @@ returns c =
 pub move-payload-spec : {M : Type 1} → statement M
 move-payload-spec =
     tie.close
-    (tie.spec (λ c κs. search needs) (λ c κs. search needs) (λ c. search needs) (λ c. search needs) (λ c. search needs) (λ c. search needs) (λ c. search needs)
+    (tie.spec (λ c κs. search needs) (λ c κs. search needs) (λ c. search needs) (λ c. search needs) (λ c. search needs) (λ c. search needs)
+    (λ c. search needs)
     part-move-octets-end move-octets-requires (λ c. search needs) returns)

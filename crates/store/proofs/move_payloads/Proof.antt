@@ -13,7 +13,8 @@ use Rattle.store.proofs.move_payloads.Statement.{statement}
 use Rattle.store.proofs.move_payloads.Tie as tie
 
 abbrev Inv-loop : tie.InvT-loop
-Inv-loop back block output₀ n i₀ output i = (i ≤ n) × (length output ≡ length block) × (output ≡ upTo (moved back) block i ++ drop (dueOf block i) block)
+Inv-loop back block output₀ n i₀ output i = (i ≤ n) × (length output ≡ length block)
+    × (output ≡ upTo (moved back) block i ++ drop (dueOf block i) block)
 
 abbrev μ-loop : tie.MeasureT-loop
 μ-loop back block output₀ n i₀ output i = n - i

@@ -12,4 +12,5 @@ slice-aggregate-show-case c =
 
 pub run-call-spec : {M : Type 1} → statement M
 run-call-spec =
-    tie.close (tie.spec (λ c κs. search needs) (λ c κs. search needs) (λ c. search needs) slice-aggregate-show-case (λ c κs. search needs) (λ c. search needs))
+    tie.close (tie.spec (λ c κs. search needs) (λ c κs. search needs) (λ c. search needs) slice-aggregate-show-case (λ c κs. search needs)
+    (λ c. search needs))

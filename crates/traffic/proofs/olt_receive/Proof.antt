@@ -60,7 +60,8 @@ returns c =
 pub olt-receive-spec : {M : Type 1} → statement M
 olt-receive-spec =
     tie.close
-    (tie.spec (λ c κs. search needs) (λ c κs. search needs) (λ c. let h = below c in search needs) (λ c. let h = below c in search needs) (λ c κs. search needs)
+    (tie.spec (λ c κs. search needs) (λ c κs. search needs) (λ c. let h = below c in search needs) (λ c. let h = below c in search needs)
+    (λ c κs. search needs)
     carry-accepted-requires (λ c κs. search needs)
     (λ c. let h = below (c .before .before .before .before .before .before .before .before .before .before) in search needs)
     (λ c. let h = below (c .before .before .before .before .before .before .before .before .before .before) in search needs)

@@ -61,7 +61,8 @@ returns c =
 pub olt-send-spec : {M : Type 1} → statement M
 olt-send-spec =
     tie.close
-    (tie.spec (λ c κs. search needs) (λ c κs. search needs) (λ c. let h = below c in search needs) (λ c. let h = below c in search needs) (λ c κs. search needs)
+    (tie.spec (λ c κs. search needs) (λ c κs. search needs) (λ c. let h = below c in search needs) (λ c. let h = below c in search needs)
+    (λ c κs. search needs)
     carry-accepted-requires (λ c κs. search needs)
     (λ c. let h = below (c .before .before .before .before .before .before .before .before .before .before .before .before .before .before) in search needs)
     (λ c. let h = below (c .before .before .before .before .before .before .before .before .before .before .before .before .before .before) in search needs)

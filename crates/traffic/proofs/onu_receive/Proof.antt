@@ -36,4 +36,5 @@ returns c =
     (onu-receive-done (a .onu) (a .header) (a .octets .now) (a .output .now) _ _ (rw d at (carried .carry-accepted .ensures)))
 
 pub onu-receive-spec : {M : Type 1} → statement M
-onu-receive-spec = tie.close (tie.spec (λ c κs. search needs) (λ c κs. search needs) carry-accepted-requires (λ c κs. search needs) (λ c. search needs) returns)
+onu-receive-spec = tie.close (tie.spec (λ c κs. search needs) (λ c κs. search needs) carry-accepted-requires (λ c κs. search needs) (λ c. search needs)
+    returns)

@@ -60,4 +60,5 @@ pair-of-spec =
     tie.close
     (tie.spec returns (λ c. search needs) (λ c κs. search needs) returns-2 (λ c. search needs) (λ c. search needs)
     (λ c. end-within _ _ _ (sym (c .before .ends-right .ensures) ∙ not-false _ (c .if2 .left)))
-    (λ c κs. search needs) (λ c. sym (pick-true _ _ (c .if3 .taken)) ∙ in-chain (c .before)) (λ c. sym (pick-false _ _ (c .if3 .left)) ∙ in-chain (c .before)))
+    (λ c κs. search needs) (λ c. sym (pick-true _ _ (c .if3 .taken)) ∙ in-chain (c .before))
+    (λ c. sym (pick-false _ _ (c .if3 .left)) ∙ in-chain (c .before)))

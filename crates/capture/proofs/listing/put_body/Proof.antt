@@ -18,7 +18,8 @@ use Rattle.capture.proofs.listing.put_body.Tie as tie
 
 -- what the call found, and what that tells
 found : (c : tie.After-n)
-    → let a = c .before .before .before .before .before .before .args in callDirectory (true) (now (a .settings)) (now (a .block)) ≡ Good (c .n .given .0 .0)
+    → let a = c .before .before .before .before .before .before .args in callDirectory (true) (now (a .settings)) (now (a .block))
+    ≡ Good (c .n .given .0 .0)
 found c = sym (c .before .before .call-directory .ensures) ∙ c .n .given .1
 
 put-line-requires : tie.Need-put-line-requires
@@ -56,5 +57,6 @@ returns-2 c =
 pub put-body-spec : {M : Type 1} → statement M
 put-body-spec =
     tie.close
-    (tie.spec (λ c κs. search needs) (λ c. search needs) (λ c κs. search needs) put-line-requires (λ c. search needs) put-rows-requires (λ c. search needs)
+    (tie.spec (λ c κs. search needs) (λ c. search needs) (λ c κs. search needs) put-line-requires (λ c. search needs) put-rows-requires
+    (λ c. search needs)
     returns (λ c. search needs) returns-2)

@@ -23,7 +23,8 @@ use Rattle.capture.proofs.listing.put_rows.Tie as tie
 
 abbrev Inv-loop : tie.InvT-loop
 Inv-loop near settings block text₀ at n end₀ from₀ drift₀ i₀ text end from drift i =
-    (i ≤ n) × (length text ≡ length text₀) × (at ≤ end) × (end ≤ at + lineOctets * i) × (from ≡ dueOf block i) × (drift ≡ driftBy near settings block i)
+    (i ≤ n) × (length text ≡ length text₀) × (at ≤ end) × (end ≤ at + lineOctets * i) × (from ≡ dueOf block i)
+    × (drift ≡ driftBy near settings block i)
     × (take end text ≡ take at text₀ ++ joined (rowBy near settings block) 0 i) × (drop end text ≡ drop end text₀)
 
 abbrev μ-loop : tie.MeasureT-loop
@@ -136,6 +137,6 @@ returns c =
 pub put-rows-spec : {M : Type 1} → statement M
 put-rows-spec =
     tie.close
-    (tie.spec Inv-loop μ-loop (λ c κs. search needs) (λ c κs. search needs) loop-holds (λ c κs. search needs) (λ c κs. search needs) (λ c κs. search needs)
-    (λ c. search needs) (λ c. search needs) put-row-requires (λ c κs. search needs) add-from add-i (λ c. omega (arith, tested c .loop-test .taken)) loop-again
-    (λ c. c .before .loop .inv .1) returns)
+    (tie.spec Inv-loop μ-loop (λ c κs. search needs) (λ c κs. search needs) loop-holds (λ c κs. search needs) (λ c κs. search needs)
+    (λ c κs. search needs) (λ c. search needs) (λ c. search needs) put-row-requires (λ c κs. search needs) add-from add-i
+    (λ c. omega (arith, tested c .loop-test .taken)) loop-again (λ c. c .before .loop .inv .1) returns)

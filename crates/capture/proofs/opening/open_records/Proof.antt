@@ -218,6 +218,7 @@ returns c =
 pub open-records-spec : {M : Type 1} → statement M
 open-records-spec =
     tie.close
-    (tie.spec Inv-loop μ-loop (λ c κs. search needs) (λ c κs. search needs) loop-holds (λ c κs. search needs) (λ c κs. search needs) (λ c κs. search needs)
+    (tie.spec Inv-loop μ-loop (λ c κs. search needs) (λ c κs. search needs) loop-holds (λ c κs. search needs) (λ c κs. search needs)
+    (λ c κs. search needs)
     open-as-requires add-count add-runs (λ c κs. search needs) add-from add-i
     (λ c. omega (arith, opened-at c .before .before .before .before .loop-test .taken)) loop-again same-length returns)

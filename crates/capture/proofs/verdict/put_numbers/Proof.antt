@@ -113,6 +113,6 @@ returns c =
 pub put-numbers-spec : {M : Type 1} → statement M
 put-numbers-spec =
     tie.close
-    (tie.spec Inv-loop μ-loop (λ c κs. search needs) (λ c κs. search needs) loop-holds (λ c κs. search needs) (λ c κs. search needs) (λ c κs. search needs)
-    (λ c κs. search needs) (λ c. search needs) slice-write-output (λ c κs. search needs) add-from (λ c. search needs) (λ c. omega arith) loop-again
-    (λ c. c .before .loop .inv .1) returns)
+    (tie.spec Inv-loop μ-loop (λ c κs. search needs) (λ c κs. search needs) loop-holds (λ c κs. search needs) (λ c κs. search needs)
+    (λ c κs. search needs) (λ c κs. search needs) (λ c. search needs) slice-write-output (λ c κs. search needs) add-from (λ c. search needs)
+    (λ c. omega arith) loop-again (λ c. c .before .loop .inv .1) returns)

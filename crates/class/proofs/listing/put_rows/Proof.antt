@@ -128,6 +128,6 @@ returns c =
 pub put-rows-spec : {M : Type 1} → statement M
 put-rows-spec =
     tie.close
-    (tie.spec Inv-loop μ-loop (λ c κs. search needs) (λ c κs. search needs) loop-holds (λ c κs. search needs) (λ c κs. search needs) (λ c. search needs)
-    (λ c. search needs) row-as-requires put-line-requires (λ c κs. search needs) add-from add-i (λ c. omega (arith, tested c .loop-test .taken)) loop-again
-    (λ c. c .before .loop .inv .1) returns)
+    (tie.spec Inv-loop μ-loop (λ c κs. search needs) (λ c κs. search needs) loop-holds (λ c κs. search needs) (λ c κs. search needs)
+    (λ c. search needs) (λ c. search needs) row-as-requires put-line-requires (λ c κs. search needs) add-from add-i
+    (λ c. omega (arith, tested c .loop-test .taken)) loop-again (λ c. c .before .loop .inv .1) returns)

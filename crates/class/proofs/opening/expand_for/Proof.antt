@@ -74,4 +74,5 @@ returns c =
 pub expand-for-spec : {M : Type 1} → statement M
 expand-for-spec =
     tie.close
-    (tie.spec Inv-loop μ-loop (λ c. search needs) loop-holds expand-at-requires add-count (λ c. search needs) (λ c. omega arith) loop-again same-length returns)
+    (tie.spec Inv-loop μ-loop (λ c. search needs) loop-holds expand-at-requires add-count (λ c. search needs) (λ c. omega arith) loop-again same-length
+    returns)

@@ -23,7 +23,8 @@ start c = c .before .before .before .before .before .before .before
 -- what the call found, and what that tells
 went-on : (c : tie.After-n)
     → let a = start c .args in
-    callFor (eqb (length (now (a .output))) (length (now (a .block)))) (a .caller) (now (a .sets)) (now (a .rights)) (now (a .block)) ≡ Good (c .n .given .0 .0)
+    callFor (eqb (length (now (a .output))) (length (now (a .block)))) (a .caller) (now (a .sets)) (now (a .rights)) (now (a .block))
+    ≡ Good (c .n .given .0 .0)
 went-on c = sym (c .before .before .call-for .ensures) ∙ c .n .given .1
 
 expand-for-requires : tie.Need-expand-for-requires

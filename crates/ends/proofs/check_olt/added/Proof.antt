@@ -102,7 +102,8 @@ returns-2 c =
 pub added-spec : {M : Type 1} → statement M
 added-spec =
     tie.close
-    (tie.spec Inv-loop μ-loop (λ c. omega arith) loop-holds (λ c. omega arith) (λ c. omega arith) (λ c. omega arith) (λ c κs. search needs) slice-read-mark
+    (tie.spec Inv-loop μ-loop (λ c. omega arith) loop-holds (λ c. omega arith) (λ c. omega arith) (λ c. omega arith) (λ c κs. search needs)
+    slice-read-mark
     stands-requires (λ c. c .before .before .before .before .before .before .loop .inv .1)
-    (λ c. c .before .before .before .before .before .before .loop .inv .2) returns (λ c. omega arith) (λ c. omega arith) (λ c κs. omega arith) slice-write-marks
-    (λ c. omega arith) (λ c. omega arith) loop-again (λ c. c .before .loop .inv .1) (λ c. c .before .loop .inv .2) returns-2)
+    (λ c. c .before .before .before .before .before .before .loop .inv .2) returns (λ c. omega arith) (λ c. omega arith) (λ c κs. omega arith)
+    slice-write-marks (λ c. omega arith) (λ c. omega arith) loop-again (λ c. c .before .loop .inv .1) (λ c. c .before .loop .inv .2) returns-2)

@@ -7,4 +7,5 @@ use Rattle.ends.proofs.keyslots.key_in.Tie as tie
 
 pub key-in-spec : {M : Type 1} → statement M
 key-in-spec =
-    tie.close (tie.spec (λ c. unfold keyIn pick in rw (eq-eqb _ _ (c .before .if1 .taken))) (λ c. unfold keyIn pick in rw (ne-eqb _ _ (c .before .if1 .left))))
+    tie.close (tie.spec (λ c. unfold keyIn pick in rw (eq-eqb _ _ (c .before .if1 .taken)))
+    (λ c. unfold keyIn pick in rw (ne-eqb _ _ (c .before .if1 .left))))

@@ -46,4 +46,5 @@ returns-2 c =
     sym (c .before .loop .inv .1 ∙ distinct-end (c .before .loop .j) (p .count) (λ k. getD (p .llids) k 0) (omega arith))
 
 pub distinct-llids-spec : {M : Type 1} → statement M
-distinct-llids-spec = tie.close (tie.spec Inv-loop μ-loop loop-holds (λ c κs. omega arith) returns (λ c. omega arith) (λ c. omega arith) loop-again returns-2)
+distinct-llids-spec = tie.close (tie.spec Inv-loop μ-loop loop-holds (λ c κs. omega arith) returns (λ c. omega arith) (λ c. omega arith) loop-again
+    returns-2)

@@ -34,5 +34,5 @@ loop-again c =
 pub steps-fit-spec : {M : Type 1} → statement M
 steps-fit-spec =
     tie.close
-    (tie.spec Inv-loop μ-loop (λ c. (search needs, from-start (stepsFit _ 0) _)) (λ c κs. search needs) (λ c κs. search needs) returns (λ c. search needs)
-    (λ c. search needs) loop-again (λ c. sym (c .before .loop .inv .1 ∙ fits-end _ _ _ (omega arith))))
+    (tie.spec Inv-loop μ-loop (λ c. (search needs, from-start (stepsFit _ 0) _)) (λ c κs. search needs) (λ c κs. search needs) returns
+    (λ c. search needs) (λ c. search needs) loop-again (λ c. sym (c .before .loop .inv .1 ∙ fits-end _ _ _ (omega arith))))

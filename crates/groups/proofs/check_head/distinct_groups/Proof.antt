@@ -44,5 +44,6 @@ returns-2 c =
 pub distinct-groups-spec : {M : Type 1} → statement M
 distinct-groups-spec =
     tie.close
-    (tie.spec Inv-loop μ-loop (λ c. (omega arith, llids-none (c .args .t1))) (λ c. search needs) (λ c. omega arith) (λ c. omega arith) (λ c κs. search needs)
+    (tie.spec Inv-loop μ-loop (λ c. (omega arith, llids-none (c .args .t1))) (λ c. search needs) (λ c. omega arith) (λ c. omega arith)
+    (λ c κs. search needs)
     returns (λ c. omega arith) (λ c. omega arith) loop-again returns-2)

@@ -8,5 +8,6 @@ use Rattle.groups.proofs.check_head.valid_group.Tie as tie
 
 pub valid-group-spec : {M : Type 1} → statement M
 valid-group-spec =
-    tie.close (tie.spec (λ c κs. search needs) (λ c κs. search needs) (λ c κs. search needs) (λ c. search needs) (λ c. search needs) (λ c. search needs)
+    tie.close (tie.spec (λ c κs. search needs) (λ c κs. search needs) (λ c κs. search needs) (λ c. search needs) (λ c. search needs)
+    (λ c. search needs)
     (λ c. unfold validGroup validKeys validGroupNumbers both in cc))

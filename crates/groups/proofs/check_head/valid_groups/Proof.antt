@@ -31,5 +31,6 @@ returns-3 c =
 pub valid-groups-spec : {M : Type 1} → statement M
 valid-groups-spec =
     tie.close
-    (tie.spec (λ c. search needs) (λ c. search needs) (λ c. search needs) (λ c. search needs) returns returns-2 (λ c κs. omega arith) (λ c κs. omega arith)
+    (tie.spec (λ c. search needs) (λ c. search needs) (λ c. search needs) (λ c. search needs) returns returns-2 (λ c κs. omega arith)
+    (λ c κs. omega arith)
     returns-3)

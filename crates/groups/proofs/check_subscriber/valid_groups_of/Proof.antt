@@ -57,5 +57,5 @@ returns-3 c =
 pub valid-groups-of-spec : {M : Type 1} → statement M
 valid-groups-of-spec =
     tie.close
-    (tie.spec Inv-loop μ-loop (λ c. refl) (λ c. omega arith) returns (λ c. omega arith) (λ c. omega arith) (λ c. omega arith) (λ c κs. search needs) returns-2
-    (λ c. omega arith) loop-again returns-3)
+    (tie.spec Inv-loop μ-loop (λ c. refl) (λ c. omega arith) returns (λ c. omega arith) (λ c. omega arith) (λ c. omega arith) (λ c κs. search needs)
+    returns-2 (λ c. omega arith) loop-again returns-3)

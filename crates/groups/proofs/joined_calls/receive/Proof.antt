@@ -61,4 +61,5 @@ receive-spec =
     tie.close
     (tie.spec (λ c κs. search needs) (λ c κs. search needs) returns
     (λ c κs. sym (c .before .valid-joined .ensures) ∙ not-false _ (c .if1 .left))
-    (λ c κs. search needs) (λ c. search needs) after-receipt-requires (λ c κs. search needs) (λ c. search needs) (λ c κs. search needs) returns-2 returns-3)
+    (λ c κs. search needs) (λ c. search needs) after-receipt-requires (λ c κs. search needs) (λ c. search needs) (λ c κs. search needs) returns-2
+    returns-3)

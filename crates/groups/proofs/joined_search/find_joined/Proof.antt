@@ -33,7 +33,8 @@ returns-2 c =
     let here = left .before .before .loop in
     let a = left .before .before .before .args in
     let len : length (a .t1) ≡ maxJoined = search needs in
-    sym (here .inv ∙ place-hit (here .i) (a .llid) _ _ _ (joined-step (a .count) (a .t1) (here .i) pastJoined (left .if1 .left) (omega arith)) (c .if2 .taken))
+    sym (here .inv ∙ place-hit (here .i) (a .llid) _ _ _ (joined-step (a .count) (a .t1) (here .i) pastJoined (left .if1 .left) (omega arith))
+    (c .if2 .taken))
 
 loop-again : tie.Need-loop-again Inv-loop μ-loop
 unfolding pastJoined
@@ -54,5 +55,6 @@ returns-3 c =
 pub find-joined-spec : {M : Type 1} → statement M
 find-joined-spec =
     tie.close
-    (tie.spec Inv-loop μ-loop (λ c. refl) (λ c. omega arith) returns (λ c. omega arith) (λ c. omega arith) returns-2 (λ c. omega arith) (λ c. omega arith)
+    (tie.spec Inv-loop μ-loop (λ c. refl) (λ c. omega arith) returns (λ c. omega arith) (λ c. omega arith) returns-2 (λ c. omega arith)
+    (λ c. omega arith)
     loop-again returns-3)

@@ -48,4 +48,5 @@ returns-2 c =
     sym (c .before .loop .inv .1 ∙ distinct-end (c .before .loop .j) (p .count) (λ k. getD (p .places) k 0) (omega arith))
 
 pub distinct-places-spec : {M : Type 1} → statement M
-distinct-places-spec = tie.close (tie.spec Inv-loop μ-loop loop-holds (λ c κs. omega arith) returns (λ c. omega arith) (λ c. omega arith) loop-again returns-2)
+distinct-places-spec = tie.close (tie.spec Inv-loop μ-loop loop-holds (λ c κs. omega arith) returns (λ c. omega arith) (λ c. omega arith) loop-again
+    returns-2)

@@ -7,5 +7,5 @@ use Rattle.groups.proofs.membership.fresh_members.Tie as tie
 pub fresh-members-spec : {M : Type 1} → statement M
 fresh-members-spec =
     tie.close
-    (tie.spec (λ c κs. search needs) (λ c κs. search needs) (λ c κs. search needs) (λ c κs. search needs) (λ c κs. search needs) (λ c κs. search needs)
-    (λ c κs. search needs) (λ c κs. search needs) (λ c. unfold freshMembers in cc))
+    (tie.spec (λ c κs. search needs) (λ c κs. search needs) (λ c κs. search needs) (λ c κs. search needs) (λ c κs. search needs)
+    (λ c κs. search needs) (λ c κs. search needs) (λ c κs. search needs) (λ c. unfold freshMembers in cc))

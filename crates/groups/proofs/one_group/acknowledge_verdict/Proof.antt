@@ -7,4 +7,5 @@ use Rattle.groups.proofs.one_group.acknowledge_verdict.Tie as tie
 
 pub acknowledge-verdict-spec : {M : Type 1} → statement M
 acknowledge-verdict-spec =
-    tie.close (tie.spec (λ c κs. search needs) (λ c κs. search needs) (λ c κs. search needs) (λ c. unfold groupAcknowledgeVerdict answersOffer both in cc))
+    tie.close (tie.spec (λ c κs. search needs) (λ c κs. search needs) (λ c κs. search needs)
+    (λ c. unfold groupAcknowledgeVerdict answersOffer both in cc))

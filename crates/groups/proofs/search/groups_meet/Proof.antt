@@ -59,5 +59,5 @@ returns-3 c =
 pub groups-meet-spec : {M : Type 1} → statement M
 groups-meet-spec =
     tie.close
-    (tie.spec Inv-loop μ-loop (λ c. (omega arith, refl)) (λ c. omega arith) returns (λ c. omega arith) (λ c. omega arith) (λ c κs. search needs) returns-2
-    (λ c. omega arith) (λ c. omega arith) loop-again returns-3)
+    (tie.spec Inv-loop μ-loop (λ c. (omega arith, refl)) (λ c. omega arith) returns (λ c. omega arith) (λ c. omega arith) (λ c κs. search needs)
+    returns-2 (λ c. omega arith) (λ c. omega arith) loop-again returns-3)

@@ -20,7 +20,8 @@ returns c = λ h.
     rw (c .wiped .ensures)
     (send-reached (a .way) (a .shared) (a .group) (a .llid) (a .channel) (a .eqs) (sentOutcome (sent .send .result))
     (sent .send .ensures h
-    ∙ ap (λ (u : UnitRecord). reached (a .way) noSending (a .shared) u (sendUnit (a .llid) (a .channel) (a .eqs) (a .shared) u)) (standing .as-unit .ensures)))
+    ∙ ap (λ (u : UnitRecord). reached (a .way) noSending (a .shared) u (sendUnit (a .llid) (a .channel) (a .eqs) (a .shared) u))
+    (standing .as-unit .ensures)))
 
 pub send-spec : {M : Type 1} → statement M
 send-spec = tie.close (tie.spec (λ c κs. search needs) (λ c κs. search needs) (λ c κs. search needs) returns)

@@ -11,7 +11,8 @@ use Rattle.jazmotip.proofs.blocks.jazmotip_capture_payload.Tie as tie
 returns : tie.Need-returns
 returns c =
     let a = c .before .before .before .args in
-    let e : c .part-in-numbers .result ≡ blockPart (payloadBounds (now (a .block)) (a .k)) = c .part-in-numbers .ensures ∙ rw (c .before .locate .ensures) in
+    let e : c .part-in-numbers .result ≡ blockPart (payloadBounds (now (a .block)) (a .k)) = c .part-in-numbers .ensures
+    ∙ rw (c .before .locate .ensures) in
     let n = part-named (now (a .block)) (a .k) in
     (e, (rw e (n .0), rw e (n .1)))
 

@@ -14,4 +14,5 @@ returns-3 c = rw (c .before .before .pair .ensures, c .before .before .before .n
 
 pub verdict-in-numbers-spec : {M : Type 1} → statement M
 verdict-in-numbers-spec =
-    tie.close (tie.spec (λ c κs. search needs) (λ c κs. search needs) (λ c. search needs) (λ c. search needs) (λ c. search needs) returns returns-2 returns-3)
+    tie.close (tie.spec (λ c κs. search needs) (λ c κs. search needs) (λ c. search needs) (λ c. search needs) (λ c. search needs) returns returns-2
+    returns-3)

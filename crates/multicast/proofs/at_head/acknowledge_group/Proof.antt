@@ -27,9 +27,11 @@ returns c =
     (lift-group (a .head) silent Accepted (λ o g. acknowledgeGroup (a .answer) (memberNamed o (g .members) (a .answer)) (o .shared) g) (a .i)
     (groupOutcome s (d .verdict) (d .group) silent)
     (done .acknowledge .ensures
-    ∙ ap₂ (λ (v : Verdict) (f : Found). reachedGroup v silent s g (acknowledgeGroup (a .answer) f s g)) (way .way-to .ensures) (named .member-named .ensures))))
+    ∙ ap₂ (λ (v : Verdict) (f : Found). reachedGroup v silent s g (acknowledgeGroup (a .answer) f s g)) (way .way-to .ensures)
+    (named .member-named .ensures))))
 
 pub acknowledge-group-spec : {M : Type 1} → statement M
 acknowledge-group-spec =
-    tie.close (tie.spec (λ c κs. search needs) (λ c. search needs) (λ c. search needs) (λ c κs. search needs) (λ c κs. search needs) (λ c κs. search needs)
+    tie.close (tie.spec (λ c κs. search needs) (λ c. search needs) (λ c. search needs) (λ c κs. search needs) (λ c κs. search needs)
+    (λ c κs. search needs)
     (λ c κs. search needs) returns)

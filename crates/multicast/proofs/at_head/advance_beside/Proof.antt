@@ -54,4 +54,5 @@ returns-3 c =
 pub advance-beside-spec : {M : Type 1} → statement M
 advance-beside-spec =
     tie.close
-    (tie.spec (λ c κs. search needs) (λ c κs. search needs) returns (λ c κs. search needs) returns-2 (λ c. search needs) table-advanced-requires returns-3)
+    (tie.spec (λ c κs. search needs) (λ c κs. search needs) returns (λ c κs. search needs) returns-2 (λ c. search needs) table-advanced-requires
+    returns-3)

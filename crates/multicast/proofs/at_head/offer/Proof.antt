@@ -34,4 +34,5 @@ returns-2 c =
     c .offer-group .ensures ∙ by-at _ _ _ _ (sym (found .before .before .group-named .ensures) ∙ found .found .given .1)
 
 pub offer-spec : {M : Type 1} → statement M
-offer-spec = tie.close (tie.spec (λ c κs. search needs) (λ c. search needs) (λ c κs. search needs) (λ c. search needs) offer-group-requires returns returns-2)
+offer-spec = tie.close (tie.spec (λ c κs. search needs) (λ c. search needs) (λ c κs. search needs) (λ c. search needs) offer-group-requires returns
+    returns-2)

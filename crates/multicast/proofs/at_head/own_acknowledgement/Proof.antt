@@ -8,4 +8,5 @@ use Rattle.multicast.proofs.at_head.own_acknowledgement.Tie as tie
 pub own-acknowledgement-spec : {M : Type 1} → statement M
 own-acknowledgement-spec =
     tie.close
-    (tie.spec (λ c. unfold ownAcknowledgement pick in rw (eq-eqb _ 0 (c .if1 .taken))) (λ c. unfold ownAcknowledgement pick in rw (ne-eqb _ 0 (c .if1 .left))))
+    (tie.spec (λ c. unfold ownAcknowledgement pick in rw (eq-eqb _ 0 (c .if1 .taken)))
+    (λ c. unfold ownAcknowledgement pick in rw (ne-eqb _ 0 (c .if1 .left))))

@@ -34,4 +34,5 @@ returns-2 c =
     c .retry-group .ensures ∙ by-at _ _ _ _ (sym (found .before .before .group-named .ensures) ∙ found .found .given .1)
 
 pub retry-spec : {M : Type 1} → statement M
-retry-spec = tie.close (tie.spec (λ c κs. search needs) (λ c. search needs) (λ c κs. search needs) (λ c. search needs) retry-group-requires returns returns-2)
+retry-spec = tie.close (tie.spec (λ c κs. search needs) (λ c. search needs) (λ c κs. search needs) (λ c. search needs) retry-group-requires returns
+    returns-2)

@@ -27,5 +27,6 @@ returns-2 c =
 pub join-spec : {M : Type 1} → statement M
 join-spec =
     tie.close
-    (tie.spec (λ c κs. search needs) (λ c. search needs) (λ c κs. search needs) with-one-more-requires (λ c. search needs) (λ c κs. search needs) returns
+    (tie.spec (λ c κs. search needs) (λ c. search needs) (λ c κs. search needs) with-one-more-requires (λ c. search needs) (λ c κs. search needs)
+    returns
     returns-2)

@@ -38,5 +38,6 @@ returns-2 c =
 
 pub send-spec : {M : Type 1} → statement M
 send-spec =
-    tie.close (tie.spec (λ c κs. search needs) (λ c. search needs) (λ c κs. search needs) (λ c. search needs) send-group-requires (λ c. search needs) returns
+    tie.close (tie.spec (λ c κs. search needs) (λ c. search needs) (λ c κs. search needs) (λ c. search needs) send-group-requires (λ c. search needs)
+    returns
     (λ c. search needs) returns-2)

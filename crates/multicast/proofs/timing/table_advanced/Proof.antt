@@ -48,4 +48,5 @@ pub table-advanced-spec : {M : Type 1} → statement M
 table-advanced-spec =
     tie.close
     (tie.spec Inv-loop μ-loop (λ c. (omega arith, refl)) (λ c. omega (arith, below c)) (λ c. below c) (λ c κs. search needs)
-    (λ c. omega (arith, below (c .before .before .before))) (λ c. below (c .before .before .before)) (λ c. omega arith) (λ c. omega arith) loop-again returns)
+    (λ c. omega (arith, below (c .before .before .before))) (λ c. below (c .before .before .before)) (λ c. omega arith) (λ c. omega arith) loop-again
+    returns)

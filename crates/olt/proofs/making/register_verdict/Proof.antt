@@ -8,5 +8,5 @@ use Rattle.olt.proofs.making.register_verdict.Tie as tie
 pub register-verdict-spec : {M : Type 1} → statement M
 register-verdict-spec =
     tie.close
-    (tie.spec (λ c κs. search needs) (λ c κs. search needs) (λ c κs. search needs) (λ c κs. search needs) (λ c κs. search needs) (λ c κs. search needs)
-    (λ c κs. search needs) (λ c κs. search needs) (λ c. unfold registerVerdict either in cc))
+    (tie.spec (λ c κs. search needs) (λ c κs. search needs) (λ c κs. search needs) (λ c κs. search needs) (λ c κs. search needs)
+    (λ c κs. search needs) (λ c κs. search needs) (λ c κs. search needs) (λ c. unfold registerVerdict either in cc))

@@ -8,5 +8,5 @@ use Rattle.onu.proofs.retiming.new_time_verdict.Tie as tie
 pub new-time-verdict-spec : {M : Type 1} → statement M
 new-time-verdict-spec =
     tie.close
-    (tie.spec (λ c κs. search needs) (λ c κs. search needs) (λ c κs. search needs) (λ c κs. search needs) (λ c κs. search needs) (λ c κs. search needs)
-    (λ c. unfold newTimeVerdict both in cc))
+    (tie.spec (λ c κs. search needs) (λ c κs. search needs) (λ c κs. search needs) (λ c κs. search needs) (λ c κs. search needs)
+    (λ c κs. search needs) (λ c. unfold newTimeVerdict both in cc))

@@ -61,5 +61,6 @@ returns c =
 pub count-alone-spec : {M : Type 1} → statement M
 count-alone-spec =
     tie.close
-    (tie.spec Inv-loop μ-loop (λ c κs. search needs) (λ c κs. search needs) (λ c. (omega arith, omega arith, refl)) (λ c. search needs) (λ c. search needs)
+    (tie.spec Inv-loop μ-loop (λ c κs. search needs) (λ c κs. search needs) (λ c. (omega arith, omega arith, refl)) (λ c. search needs)
+    (λ c. search needs)
     element-copy-out (λ c κs. search needs) (λ c. search needs) (λ c. search needs) (λ c. omega arith) loop-again returns)

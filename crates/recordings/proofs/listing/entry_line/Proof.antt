@@ -10,4 +10,5 @@ returns c =
     rw (read .before .partner-number .ensures, read .header-at .ensures .0, marked .mark-at .ensures) at (c .entry-row .ensures)
 
 pub entry-line-spec : {M : Type 1} → statement M
-entry-line-spec = tie.close (tie.spec (λ c κs. search needs) (λ c. search needs) (λ c κs. search needs) (λ c κs. search needs) (λ c κs. search needs) returns)
+entry-line-spec = tie.close (tie.spec (λ c κs. search needs) (λ c. search needs) (λ c κs. search needs) (λ c κs. search needs) (λ c κs. search needs)
+    returns)

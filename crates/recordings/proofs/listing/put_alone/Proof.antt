@@ -40,4 +40,5 @@ returns-2 c =
 pub put-alone-spec : {M : Type 1} → statement M
 put-alone-spec =
     tie.close
-    (tie.spec (λ c κs. search needs) (λ c. search needs) (λ c κs. search needs) (λ c κs. search needs) put-line-requires (λ c. search needs) returns returns-2)
+    (tie.spec (λ c κs. search needs) (λ c. search needs) (λ c κs. search needs) (λ c κs. search needs) put-line-requires (λ c. search needs) returns
+    returns-2)

@@ -27,7 +27,8 @@ two-blocks : (s a b : List ℕ) (llid n : ℕ) → n ≡ firstLength s → headO
     → b ≡ part s (headOctets + n) (length s) → bodyAfter (rulingOn outputOctets a b) llid a b ≡ bodyOf s
 unfolding bodyOf
 two-blocks s a b llid n e h l f g =
-    let rest : part s (headOctets + n) (length s) ≡ drop (headOctets + n) s = take-all (length s) (drop (headOctets + n) s) (simp length-drop (omega arith)) in
+    let rest : part s (headOctets + n) (length s) ≡ drop (headOctets + n) s = take-all (length s) (drop (headOctets + n) s)
+    (simp length-drop (omega arith)) in
     let second : b ≡ drop (headOctets + n) s = g ∙ rest in
     rw (f, second, l, e) (sym (pick-true _ _ (le-leb _ _ (rw e at h))))
 

@@ -41,6 +41,7 @@ loop-again c =
 pub first-from-spec : {M : Type 1} → statement M
 first-from-spec =
     tie.close
-    (tie.spec Inv-loop μ-loop (λ c κs. search needs) (λ c. refl) (λ c κs. search needs) (λ c κs. search needs) returns (λ c. search needs) (λ c. omega arith)
+    (tie.spec Inv-loop μ-loop (λ c κs. search needs) (λ c. refl) (λ c κs. search needs) (λ c κs. search needs) returns (λ c. search needs)
+    (λ c. omega arith)
     loop-again
     (λ c. sym (c .before .loop .inv ∙ first-end _ _ _ _ (c .loop-test .left))))

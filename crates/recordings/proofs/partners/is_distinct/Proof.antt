@@ -42,6 +42,7 @@ loop-again c =
 pub is-distinct-spec : {M : Type 1} → statement M
 is-distinct-spec =
     tie.close
-    (tie.spec Inv-loop μ-loop (λ c κs. search needs) loop-holds (λ c. search needs) (λ c κs. search needs) returns (λ c. search needs) (λ c. omega arith)
+    (tie.spec Inv-loop μ-loop (λ c κs. search needs) loop-holds (λ c. search needs) (λ c κs. search needs) returns (λ c. search needs)
+    (λ c. omega arith)
     loop-again
     (λ c. sym (c .before .loop .inv ∙ each-end _ _ _ (c .loop-test .left))))

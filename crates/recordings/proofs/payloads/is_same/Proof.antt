@@ -36,5 +36,5 @@ is-same-spec =
     tie.close
     (tie.spec (λ c κs. search needs)
     (λ c. sym (same-by-data _ _ (sym (c .before .is-same-data .ensures) ∙ not-true _ (c .if1 .taken))))
-    (λ c κs. search needs) (λ c κs. search needs) (λ c κs. search needs) (λ c κs. search needs) returns-2 (λ c κs. search needs) (λ c κs. search needs)
-    (λ c κs. search needs) returns-3)
+    (λ c κs. search needs) (λ c κs. search needs) (λ c κs. search needs) (λ c κs. search needs) returns-2 (λ c κs. search needs)
+    (λ c κs. search needs) (λ c κs. search needs) returns-3)

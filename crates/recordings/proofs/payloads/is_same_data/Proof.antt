@@ -29,7 +29,8 @@ unfolding sameData
 other-count g h r s x y f = rw (← x, ← y) (both-false-left _ (ne-eqb (g .eqs) (h .eqs) f))
 
 -- EQ counts that agree
-all-eqs : (g h : Header) (r s p q : List ℕ) → g ≡ recordHeader r → h ≡ recordHeader s → p ≡ payloadOf r → q ≡ payloadOf s → g .eqs ≡ h .eqs
+all-eqs : (g h : Header) (r s p q : List ℕ) → g ≡ recordHeader r → h ≡ recordHeader s → p ≡ payloadOf r → q ≡ payloadOf s
+    → g .eqs ≡ h .eqs
     → sameData r s ≡ each 0 (g .eqs - 0) (sameEq p q)
 unfolding sameData both
 all-eqs g h r s p q x y u v e =

@@ -53,6 +53,7 @@ loop-again c =
 pub are-headers-fit-spec : {M : Type 1} → statement M
 are-headers-fit-spec =
     tie.close
-    (tie.spec Inv-loop μ-loop (λ c κs. search needs) loop-holds (λ c κs. search needs) (λ c κs. search needs) returns (λ c. search needs) (λ c. omega arith)
+    (tie.spec Inv-loop μ-loop (λ c κs. search needs) loop-holds (λ c κs. search needs) (λ c κs. search needs) returns (λ c. search needs)
+    (λ c. omega arith)
     loop-again
     (λ c. sym (c .before .loop .inv ∙ each-end _ _ _ (c .loop-test .left))))

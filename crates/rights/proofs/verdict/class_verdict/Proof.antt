@@ -91,6 +91,7 @@ returns-5 c = (
 pub class-verdict-spec : {M : Type 1} → statement M
 class-verdict-spec =
     tie.close
-    (tie.spec (λ c κs. search needs) returns (λ c κs. search needs) returns-2 (λ c κs. search needs) (λ c κs. search needs) returns-3 (λ c κs. search needs)
+    (tie.spec (λ c κs. search needs) returns (λ c κs. search needs) returns-2 (λ c κs. search needs) (λ c κs. search needs) returns-3
+    (λ c κs. search needs)
     returns-4
     returns-5)

@@ -43,7 +43,8 @@ loop-again c =
     let called = c .before in
     let at-test = called .before .before .before in
     let a = at-test .before .before .before .args in
-    at-test .before .loop .inv ∙ each-step _ _ (First (a .caller) (now (a .sets))) (at-test .loop-test .taken) (eq-eqb _ _ (sym (found called) ∙ c .if1 .left))
+    at-test .before .loop .inv ∙ each-step _ _ (First (a .caller) (now (a .sets))) (at-test .loop-test .taken)
+    (eq-eqb _ _ (sym (found called) ∙ c .if1 .left))
 
 pub llids-differ-spec : {M : Type 1} → statement M
 llids-differ-spec =

@@ -6,4 +6,5 @@ use Rattle.sealing.proofs.aes128.encrypt_block.Tie as tie
 
 pub encrypt-block-spec : {M : Type 1} → statement M
 encrypt-block-spec =
-    tie.close (tie.spec (λ c κs. search needs) (λ c κs. search needs) (λ c κs. search needs) (λ c. c .block-octets .ensures ∙ c .before .encrypt-lone .ensures))
+    tie.close (tie.spec (λ c κs. search needs) (λ c κs. search needs) (λ c κs. search needs)
+    (λ c. c .block-octets .ensures ∙ c .before .encrypt-lone .ensures))

@@ -37,7 +37,8 @@ before-kept s t at h = rw (add-one, take-suc s at 0 h, drop-cons s at 0 h, appen
 
 abbrev Inv-loop : tie.InvT-loop
 Inv-loop payload₀ half at word j₀ payload j =
-    (j ≤ 8) × (at + 9 ≤ length payload₀) × (length payload ≡ length payload₀) × (payload ≡ paste payload₀ (at + 1) (dataOctets half payload₀ at) j)
+    (j ≤ 8) × (at + 9 ≤ length payload₀) × (length payload ≡ length payload₀)
+    × (payload ≡ paste payload₀ (at + 1) (dataOctets half payload₀ at) j)
     × Eight (dataOctet half payload₀ at) word
 
 abbrev μ-loop : tie.MeasureT-loop

@@ -19,7 +19,8 @@ use Rattle.sealing.proofs.counter_mode.seal_pairs.Tie as tie
 
 abbrev Inv-loop : tie.InvT-loop
 Inv-loop subs w payload₀ i j blocks keys kept runs₀ first₀ second₀ payload runs first second =
-    (blocks ≡ blocksOf (length payload₀)) × (length payload₀ % 9 ≡ 0) × (blocks ≤ maxBlocks) × (length payload ≡ length payload₀) × PairKeys w Nr keys
+    (blocks ≡ blocksOf (length payload₀)) × (length payload₀ % 9 ≡ 0) × (blocks ≤ maxBlocks) × (length payload ≡ length payload₀)
+    × PairKeys w Nr keys
     × (first ≤ blocks) × (first < blocks → needsRun payload₀ first ≡ true) × NextRun payload₀ blocks (first + 1) second
     × (runs ≡ runsBelow payload₀ first) × ((n : Nonce) → Kept w n kept → payload ≡ sealedBelow w n payload₀ first)
 
@@ -98,7 +99,8 @@ next-run-requires-2 c κs =
     (omega arith, omega arith)
 
 -- one pair more is sealed
-more : (c : tie.After-seal-pair Inv-loop μ-loop) → let at-loop = c .before .before .before in let a = at-loop .before .before .before .before .before .args in
+more : (c : tie.After-seal-pair Inv-loop μ-loop) → let at-loop = c .before .before .before in let a =
+    at-loop .before .before .before .before .before .args in
     (n : Nonce) → Kept (a .w .now) n (at-loop .before .kept-rows .result)
     → c .seal-pair .last .1 .1 .1 .1 .0 ≡ sealedBelow (a .w .now) n (a .payload .now) (at-loop .loop .second + 1)
 more c n share =

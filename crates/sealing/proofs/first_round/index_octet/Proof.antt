@@ -33,5 +33,6 @@ returns c =
 pub index-octet-spec : {M : Type 1} → statement M
 index-octet-spec =
     tie.close
-    (tie.spec (λ c κs. search needs) (λ c. omega (arith, below c)) (λ c. omega (arith, below c)) (λ c κs. search needs) (λ c. search needs) (λ c. search needs)
+    (tie.spec (λ c κs. search needs) (λ c. omega (arith, below c)) (λ c. omega (arith, below c)) (λ c κs. search needs) (λ c. search needs)
+    (λ c. search needs)
     returns)

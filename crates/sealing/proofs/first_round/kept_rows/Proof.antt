@@ -35,8 +35,8 @@ returns c =
 pub kept-rows-spec : {M : Type 1} → statement M
 kept-rows-spec =
     tie.close
-    (tie.spec (λ c κs. search needs) (λ c κs. search needs) (λ c κs. search needs) (λ c κs. search needs) (λ c κs. search needs) (λ c κs. search needs)
-    (λ c κs. search needs) (λ c κs. search needs)
+    (tie.spec (λ c κs. search needs) (λ c κs. search needs) (λ c κs. search needs) (λ c κs. search needs) (λ c κs. search needs)
+    (λ c κs. search needs) (λ c κs. search needs) (λ c κs. search needs)
     (λ c κs. omega (arith, and-le-r (c .before .before .before .shifted-row2 .result) 0xff00ffff))
     (λ c κs. omega (arith, and-le-r (c .before .before .before .shifted-row3 .result) 0xffff00ff))
     (λ c κs. omega (arith, and-le-r (c .before .before .before .shifted-row4 .result) 0xffffff00))

@@ -30,5 +30,5 @@ returns c =
 pub lone-rounds-spec : {M : Type 1} → statement M
 lone-rounds-spec =
     tie.close
-    (tie.spec Inv-loop μ-loop (λ c. unfold rounds in ((omega arith, omega arith), refl)) (λ c κs. search needs) (λ c κs. search needs) (λ c κs. search needs)
-    (λ c. search needs) (λ c. search needs) loop-again returns)
+    (tie.spec Inv-loop μ-loop (λ c. unfold rounds in ((omega arith, omega arith), refl)) (λ c κs. search needs) (λ c κs. search needs)
+    (λ c κs. search needs) (λ c. search needs) (λ c. search needs) loop-again returns)

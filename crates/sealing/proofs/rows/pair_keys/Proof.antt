@@ -33,5 +33,5 @@ returns c =
 pub pair-keys-spec : {M : Type 1} → statement M
 pair-keys-spec =
     tie.close
-    (tie.spec Inv-loop μ-loop (λ c. ((omega arith, refl), no-keys _ _)) (λ c κs. search needs) (λ c κs. search needs) (λ c. search needs) (λ c. search needs)
-    (λ c. search needs) (λ c. search needs) loop-again returns)
+    (tie.spec Inv-loop μ-loop (λ c. ((omega arith, refl), no-keys _ _)) (λ c κs. search needs) (λ c κs. search needs) (λ c. search needs)
+    (λ c. search needs) (λ c. search needs) (λ c. search needs) loop-again returns)

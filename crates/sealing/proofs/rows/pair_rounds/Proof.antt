@@ -27,5 +27,5 @@ returns c =
 pub pair-rounds-spec : {M : Type 1} → statement M
 pair-rounds-spec =
     tie.close
-    (tie.spec Inv-loop μ-loop (λ c. ((omega arith, omega arith), begun _ _)) (λ c. search needs) (λ c. search needs) (λ c κs. search needs) (λ c. search needs)
-    (λ c. search needs) loop-again returns)
+    (tie.spec Inv-loop μ-loop (λ c. ((omega arith, omega arith), begun _ _)) (λ c. search needs) (λ c. search needs) (λ c κs. search needs)
+    (λ c. search needs) (λ c. search needs) loop-again returns)

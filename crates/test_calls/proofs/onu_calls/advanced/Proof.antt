@@ -58,7 +58,8 @@ module _ {M : Type 1} (𝓤 : URA M) (H : Heap 𝓤) (A : Atoms 𝓤) (W : Given
         (held subscriber r z) (subscriber .answered r z) (tt, (tt, tt)) (tt, (tt, tt))) $
         nothing ! $ owned ! u64 (Is u64) (uint-makes 𝓤 H A W w64) n _ (refl, fits) $ fjoin ! $
         owned ! the-row (Is the-row) (makes the-type the-plain 𝓤 H A) h _ was $ fjoin ! $
-        owned ! answer.the-row (Is answer.the-row) (makes answer.the-type answer-laws.the-plain 𝓤 H A) (subscriber .answered r z) _ (made subscriber r z fits8 is) $
+        owned ! answer.the-row (Is answer.the-row) (makes answer.the-type answer-laws.the-plain 𝓤 H A) (subscriber .answered r z) _
+        (made subscriber r z fits8 is) $
         move ! (1 ∷ 0 ∷ []) $ join ! $ nothing ! $ join ! $ frame ! $ done !
 
   meets :
@@ -82,4 +83,5 @@ advanced-spec 𝓤 H 𝓜 𝓖 𝓡 =
     entered 𝓤 H (tripleOf 𝓤 H (𝓖 .A) caller.signature (caller.spec 𝓤 H (𝓖 .A) (𝓜 .mem) (𝓡 .run)))
     (tables 𝓤 H 𝓜 𝓡 code.env .C) (tables 𝓤 H 𝓜 𝓡 code.env .Λ) name code.function (code.unfolded 𝓤 H 𝓜 𝓡)
     (meets 𝓤 H (𝓖 .A) (givenOf 𝓤 H 𝓜 𝓖) (𝓜 .mem) (𝓡 .run) (tablesOf 𝓤 H 𝓜 (tables 𝓤 H 𝓜 𝓡 code.env))
-    (cited 𝓤 H (Known subscriber 𝓤 H (𝓖 .A)) 𝓜 𝓡 code.env callee.name callee.routine code.calls-jazmotip·at-onu·jazmotip-onu-advance (in-place.met 𝓤 H 𝓜 𝓖 𝓡)))
+    (cited 𝓤 H (Known subscriber 𝓤 H (𝓖 .A)) 𝓜 𝓡 code.env callee.name callee.routine code.calls-jazmotip·at-onu·jazmotip-onu-advance
+    (in-place.met 𝓤 H 𝓜 𝓖 𝓡)))

@@ -50,5 +50,6 @@ returns-4 c =
 pub after-send-spec : {M : Type 1} → statement M
 after-send-spec =
     tie.close
-    (tie.spec (λ c κs. search needs) (λ c. search needs) (λ c. search needs) (λ c κs. search needs) spent-requires (λ c. search needs) (λ c. search needs)
+    (tie.spec (λ c κs. search needs) (λ c. search needs) (λ c. search needs) (λ c κs. search needs) spent-requires (λ c. search needs)
+    (λ c. search needs)
     returns returns-2 returns-3 returns-4)

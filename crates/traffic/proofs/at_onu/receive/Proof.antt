@@ -60,4 +60,5 @@ receive-spec =
     tie.close
     (tie.spec (λ c κs. search needs) (λ c κs. search needs) returns
     (λ c κs. onu-in-range _ (sym (c .before .valid-onu .ensures) ∙ not-false _ (c .if1 .left)) .keys)
-    (λ c κs. search needs) (λ c. search needs) after-receive-requires (λ c κs. search needs) (λ c. search needs) (λ c κs. search needs) returns-2 returns-3)
+    (λ c κs. search needs) (λ c. search needs) after-receive-requires (λ c κs. search needs) (λ c. search needs) (λ c κs. search needs) returns-2
+    returns-3)

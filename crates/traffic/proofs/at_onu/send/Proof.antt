@@ -66,5 +66,6 @@ returns-3 c =
 pub send-spec : {M : Type 1} → statement M
 send-spec =
     tie.close
-    (tie.spec (λ c κs. search needs) (λ c κs. search needs) returns (λ c κs. search needs) (λ c κs. valid c) (λ c κs. search needs) (λ c. search needs)
+    (tie.spec (λ c κs. search needs) (λ c κs. search needs) returns (λ c κs. search needs) (λ c κs. valid c) (λ c κs. search needs)
+    (λ c. search needs)
     after-send-requires (λ c κs. search needs) (λ c. search needs) (λ c κs. search needs) returns-2 returns-3)

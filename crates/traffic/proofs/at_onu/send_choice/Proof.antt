@@ -7,4 +7,5 @@ use Rattle.traffic.proofs.at_onu.send_choice.Tie as tie
 
 pub send-choice-spec : {M : Type 1} → statement M
 send-choice-spec =
-    tie.close (tie.spec (λ c. unfold onuSendChoice pick in rw (eq-eqb _ _ (c .if1 .taken))) (λ c. unfold onuSendChoice pick in rw (ne-eqb _ _ (c .if1 .left))))
+    tie.close (tie.spec (λ c. unfold onuSendChoice pick in rw (eq-eqb _ _ (c .if1 .taken)))
+    (λ c. unfold onuSendChoice pick in rw (ne-eqb _ _ (c .if1 .left))))

@@ -8,5 +8,5 @@ use Rattle.unit.proofs.calls.offer_verdict.Tie as tie
 pub offer-verdict-spec : {M : Type 1} → statement M
 offer-verdict-spec =
     tie.close
-    (tie.spec (λ c κs. search needs) (λ c κs. search needs) (λ c κs. search needs) (λ c κs. search needs) (λ c κs. search needs) (λ c κs. search needs)
-    (λ c. unfold offerVerdict both either in cc))
+    (tie.spec (λ c κs. search needs) (λ c κs. search needs) (λ c κs. search needs) (λ c κs. search needs) (λ c κs. search needs)
+    (λ c κs. search needs) (λ c. unfold offerVerdict both either in cc))

@@ -6,4 +6,5 @@ use Rattle.unit.proofs.passing.clock_channel_key.Tie as tie
 
 pub clock-channel-key-spec : {M : Type 1} → statement M
 clock-channel-key-spec = tie.close
-    (tie.spec (λ c κs. search needs) (λ c κs. search needs) (λ c κs. search needs) (λ c κs. search needs) (λ c κs. search needs) (λ c. unfold both in cc))
+    (tie.spec (λ c κs. search needs) (λ c κs. search needs) (λ c κs. search needs) (λ c κs. search needs) (λ c κs. search needs)
+    (λ c. unfold both in cc))

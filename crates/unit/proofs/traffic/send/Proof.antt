@@ -15,7 +15,12 @@ use Rattle.unit.proofs.traffic.send.Tie as tie
 judged : (c : tie.After-and-then) → let a = c .before .before .before .before .before .before .before .args in
     c .and-then .result ≡ andThen (a .way) (unitSendVerdict (a .shared) (a .unit) (a .channel))
 unfolding unitSendVerdict
-judged c = rw (c .and-then .ensures, c .before .clock-channel-key .ensures, c .before .before .taken .ensures, c .before .before .before .before .send-choice .ensures)
+judged c = rw (
+  c .and-then .ensures,
+  c .before .clock-channel-key .ensures,
+  c .before .before .taken .ensures,
+  c .before .before .before .before .send-choice .ensures,
+)
 
 returns : tie.Need-returns
 unfolding sentOutcome sendUnit outcome

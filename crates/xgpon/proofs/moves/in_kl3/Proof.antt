@@ -39,7 +39,8 @@ pub in-kl3-spec : {M : Type 1} → statement M
 in-kl3-spec =
     tie.close
     (tie.spec (λ c. search needs) (λ c κs. search needs) (λ c κs. search needs) (λ c. search needs) (λ c κs. search needs) (λ c κs. search needs)
-    (λ c. search needs) (λ c κs. search needs) (λ c. search needs) (λ c κs. search needs) (λ c. search needs) (λ c κs. search needs) (λ c κs. search needs)
+    (λ c. search needs) (λ c κs. search needs) (λ c. search needs) (λ c κs. search needs) (λ c. search needs) (λ c κs. search needs)
+    (λ c κs. search needs)
     returns returns-2 (λ c. rw (c .accept .ensures, c .before .enum-told .given .1)) (λ c. rw (c .confirm-new .ensures, c .before .enum-told2 .given .1))
     (λ c. rw (c .confirm-new2 .ensures, c .before .enum-told3 .given .1))
     (λ c. rw (c .stay2 .ensures) (rest _ (c .before .before .args .input) (c .before .match .keys6))))

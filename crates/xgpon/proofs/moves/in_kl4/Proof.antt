@@ -42,7 +42,8 @@ pub in-kl4-spec : {M : Type 1} → statement M
 in-kl4-spec =
     tie.close
     (tie.spec (λ c. search needs) (λ c κs. search needs) (λ c κs. search needs) (λ c. search needs) (λ c κs. search needs) (λ c κs. search needs)
-    (λ c. search needs) (λ c κs. search needs) (λ c κs. search needs) (λ c. search needs) (λ c κs. search needs) (λ c κs. search needs) (λ c κs. search needs)
+    (λ c. search needs) (λ c κs. search needs) (λ c κs. search needs) (λ c. search needs) (λ c κs. search needs) (λ c κs. search needs)
+    (λ c κs. search needs)
     returns returns-2 returns-3
     (λ c. rw (c .accept .ensures, c .before .confirm .ensures, c .before .before .enum-told2 .given .1))
     (λ c. rw (c .stay3 .ensures) (rest _ (c .before .before .args .input) (c .before .match .keys5))))

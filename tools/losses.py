@@ -1,5 +1,5 @@
 #!/usr/bin/env python3
-"""What the program `test_losses` must print: for each script of its input, the refusal's number, or 0 and the first step whose loss
+"""What the program `test_losses` must print: for each script of its input, the refusal code, or 0 and the first step whose loss
 alone changes the final A, C or a, 0 if there is none (02, C-23).
 
 usage: tools/losses.py crates/test_losses     writes its stdin, a length of two octets ahead of each script, and its stdout

@@ -32,7 +32,7 @@ headingText =
     110 ∷ 111 ∷ 32 ∷ 108 ∷ 108 ∷ 105 ∷ 100 ∷ 32 ∷ 99 ∷ 104 ∷ 32 ∷ 107 ∷ 101 ∷ 121 ∷ 32 ∷ 101 ∷ 113 ∷ 115 ∷ 32 ∷ 114
     ∷ 101 ∷ 115 ∷ 117 ∷ 108 ∷ 116 ∷ 10 ∷ []
 
--- a refused call prints its number, an accepted one a row for each record (D82)
+-- a refused call prints its code, an accepted one a row for each record (D82)
 unfoldable pub bodyAfter : List ℕ → List ℕ → Verdict → List ℕ
 bodyAfter s b Accepted = rowsFrom s b 0 (recordsIn b)
 bodyAfter s b (Refused r) = refusedRow r

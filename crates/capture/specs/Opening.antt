@@ -90,7 +90,7 @@ openingAfter (Verdict.Refused r) s b out = record { answer = Denied r; output = 
 unfoldable pub opening : List ℕ → List ℕ → List ℕ → WithOutput OpenAnswer
 opening s b out = openingAfter (openVerdict s b (length out)) s b out
 
--- the paper's number of an answer, the pair that a refusal names, else 0, its count, runs and expansions
+-- the code of an answer, the pair that a refusal names, else 0, its count, runs and expansions
 abbrev pub openNumber : OpenAnswer → ℕ
 openNumber (Done count runs expanded) = 0
 openNumber (Denied r) = numberOf r

@@ -38,7 +38,7 @@ boundsAfter (Refused r) p = Bounds.Refused r
 unfoldable pub payloadBounds : List ℕ → ℕ → Bounds
 payloadBounds b k = boundsAfter (payloadVerdict b k) (boundsOf b (k - 1))
 
--- the paper's number of bounds, the pair that a refusal names, else 0, and where they are: a refused payload is at 0, for no octets
+-- the code of bounds, the pair that a refusal names, else 0, and where they are: a refused payload is at 0, for no octets
 abbrev pub boundsNumber : Bounds → ℕ
 boundsNumber (Within from n) = 0
 boundsNumber (Bounds.Refused r) = numberOf r

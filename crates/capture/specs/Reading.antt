@@ -78,7 +78,7 @@ openingBy near s b out = openingAs near (openVerdict s b (length out)) s b out
 unfoldable pub askedBy : Bool → List ℕ → List ℕ → ℕ → RecordVerdict
 askedBy near s b k = afterCall (settingsVerdict s) (afterCall (payloadVerdict b k) (verdictBy near s b (k - 1)))
 
--- the output out with the numbers of the verdicts on the first n records, that of record k at octet k - 1; the rest stays
+-- the output out with the codes of the verdicts on the first n records, that of record k at octet k - 1; the rest stays
 unfoldable pub numbersBy : Bool → List ℕ → List ℕ → ℕ → List ℕ → List ℕ
 numbersBy near s b n out = tabulate 0 n (λ i. recordNumber (askedBy near s b (i + 1))) ++ drop n out
 

@@ -38,7 +38,7 @@ afterSettings (Verdict.Refused r) d = Bad r
 unfoldable pub callDirectory : Bool → List ℕ → List ℕ → Directory
 callDirectory suits s b = pick suits (afterSettings (settingsVerdict s) (directoryOf b)) (Bad BadLength)
 
--- the output out with the numbers of the verdicts on the first n records, that of record k at octet k - 1; the rest stays
+-- the output out with the codes of the verdicts on the first n records, that of record k at octet k - 1; the rest stays
 unfoldable pub numbersOver : List ℕ → List ℕ → ℕ → List ℕ → List ℕ
 numbersOver s b n out = tabulate 0 n (λ i. recordNumber (verdictAsked s b (i + 1))) ++ drop n out
 

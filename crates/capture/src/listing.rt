@@ -88,7 +88,7 @@ fn put_rows(near: bool, settings: &[u8], block: &[u8], text: &mut [u8], at: usiz
     end
 }
 
-// The rows of a block, or the number of the call's refusal.
+// The rows of a block, or the code of the call's refusal.
 fn put_body(near: bool, settings: &[u8], block: &[u8], text: &mut [u8], at: usize) -> usize
     requires { ⌜ at + bodyOctets ≤ length (now text) ⌝ }
     ensures { λ r. ⌜ (at ≤ r) × (r ≤ at + bodyOctets) ⌝ }
@@ -111,7 +111,7 @@ fn list_by(near: bool, settings: &[u8], block: &[u8], text: &mut [u8; LISTING_OC
     put_body(near, settings, block, text, at)
 }
 
-// Lists a block: the heading, then the rows, or the number of the call's refusal. Gives the length of the text; the octets
+// Lists a block: the heading, then the rows, or the code of the call's refusal. Gives the length of the text; the octets
 // behind it stay.
 pub fn list(settings: &[u8], block: &[u8], text: &mut [u8; LISTING_OCTETS]) -> usize
     ensures { λ r. ⌜ (r ≤ length (now (text .exit))) × (r ≡ length (take r (now (text .exit)))) ⌝ }

@@ -289,7 +289,7 @@ pub fn open_near(settings: &[u8], block: &[u8], output: &mut [u8]) -> NearAnswer
     open_by(true, settings, block, output)
 }
 
-// 0, or the refusal's number.
+// 0, or the refusal code.
 pub fn number(answer: OpenAnswer) -> u8
     ensures { λ r. ⌜ r ≡ openNumber answer ⌝ }
 {

@@ -54,7 +54,7 @@ pub fn locate(block: &[u8], k: usize) -> Bounds
     }
 }
 
-// 0, or the refusal's number.
+// 0, or the refusal code.
 pub fn number(bounds: Bounds) -> u8
     ensures { λ r. ⌜ r ≡ boundsNumber bounds ⌝ }
 {

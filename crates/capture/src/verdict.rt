@@ -76,7 +76,7 @@ pub fn ask_near(settings: &[u8], block: &[u8], k: usize) -> RecordVerdict
     }
 }
 
-// Writes the numbers of the verdicts on the n records of a block, one after the other, and gives the corrections behind them.
+// Writes the codes of the verdicts on the n records of a block, one after the other, and gives the corrections behind them.
 fn put_numbers(near: bool, settings: &[u8], block: &[u8], output: &mut [u8], n: u16) -> Drift
     requires { ⌜ (settingsVerdict (now settings) ≡ Accepted) × (directoryOf (now block) ≡ Good n) ⌝ }
     requires { ⌜ length (now output) ≡ mostRecords ⌝ }
@@ -124,7 +124,7 @@ fn verdicts_by(near: bool, settings: &[u8], block: &[u8], output: &mut [u8]) -> 
     }
 }
 
-// The number of the verdict on record k at octet k - 1 of an output of 256 octets, for all records in one pass; the octets behind
+// The code of the verdict on record k at octet k - 1 of an output of 256 octets, for all records in one pass; the octets behind
 // them stay.
 pub fn verdicts(settings: &[u8], block: &[u8], output: &mut [u8]) -> Directory
     ensures { λ r. ⌜ withOutput r (now (output .exit)) ≡ verdictsOf (now (settings .entry)) (now (block .entry)) (now (output .entry)) ⌝ }

@@ -24,7 +24,7 @@ rowAs k h (Told v) = rowOf k h v
 abbrev pub rowFor : Bool → Caller → List ℕ → List ℕ → List ℕ → ℕ → List ℕ
 rowFor near c s q b i = rowAs (i + 1) (headerOf b i) (toldOf near c s q b i)
 
--- a refused call prints its number, an accepted one a row for each record
+-- a refused call prints its code, an accepted one a row for each record
 unfoldable pub bodyAfter : Directory → Bool → Caller → List ℕ → List ℕ → List ℕ → List ℕ
 bodyAfter (Good n) near c s q b = joined (rowFor near c s q b) 0 (recordsIn b)
 bodyAfter (Bad r) near c s q b = refusedRow r

@@ -107,7 +107,7 @@ fn put_rows(
     end
 }
 
-// The rows of a block, or the number of the call's refusal.
+// The rows of a block, or the code of the call's refusal.
 fn put_body(
     near: bool,
     caller: Caller,
@@ -129,7 +129,7 @@ fn put_body(
     }
 }
 
-// Lists a block for the user who asks: the heading, then the rows, or the number of the call's refusal. Gives the length of the text;
+// Lists a block for the user who asks: the heading, then the rows, or the code of the call's refusal. Gives the length of the text;
 // the octets behind it stay.
 pub fn list_for(
     near: bool,
@@ -147,7 +147,7 @@ pub fn list_for(
     put_body(near, caller, sets, rights, block, text, at)
 }
 
-// The rows of the block of an input, or the number of its refusal.
+// The rows of the block of an input, or the code of its refusal.
 fn put_input(input: &[u8], text: &mut [u8], at: usize) -> usize
     requires { ⌜ at + bodyOctets ≤ length (now text) ⌝ }
     ensures { λ r. ⌜ (at ≤ r) × (r ≤ at + bodyOctets) ⌝ }

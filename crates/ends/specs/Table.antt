@@ -45,7 +45,7 @@ foundBelow place f = pick (ltb place maxUnits) (At place) f
 abbrev pub firstPlace : ℕ → ℕ → Bool → ℕ
 firstPlace place i here = pick (ltb place maxUnits) place (pick here i maxUnits)
 
--- the paper's number for what is found
+-- the code for what is found
 abbrev pub foundNumber : Found → ℕ
 foundNumber (At i) = 0
 foundNumber Nowhere = numberOf UnknownLlid

@@ -4,7 +4,7 @@ use Rattle.refusal.specs.Number.{numberOf}
 use Rattle.envelope.specs.declared.SealAnswer.{SealAnswer}
 use Rattle.envelope.specs.declared.SealAnswer.the-variants.{Done, Denied}
 
--- the paper's number of an answer, its count, and its runs of the cipher
+-- the code of an answer, its count, and its runs of the cipher
 abbrev pub sealNumber : SealAnswer → ℕ
 sealNumber (Done count runs) = 0
 sealNumber (Denied r) = numberOf r

@@ -140,7 +140,7 @@ pub fn seal_verdict(n: usize, m: usize, nonce: Nonce) -> Verdict
     )
 }
 
-// 0, or the refusal's number.
+// 0, or the refusal code.
 pub fn seal_number(answer: SealAnswer) -> u8
     ensures { λ r. ⌜ r ≡ sealNumber answer ⌝ }
 {

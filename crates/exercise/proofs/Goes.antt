@@ -99,7 +99,7 @@ taken-kept : (l : Lane) (j n k : ℕ) (a b : Acknowledgement) → Kept l n k a b
 unfolding laneTaken laneWith
 taken-kept l j n k a b h = kept-on l _ n n k k a b refl refl refl refl refl (omega arith) (omega arith) h
 
--- an answer where the number is 0, none where it is not
+-- an answer where the code is 0, none where it is not
 answer-kept : (P : Lane → Type 0) (number : ℕ) (f : Lane → Lane) (l : Lane) → (eqb number 0 ≡ true → P (f l)) → (eqb number 0 ≡ false → P l)
     → P (noted number f l)
 unfolding noted

@@ -49,7 +49,7 @@ pub record Meant (s : List ℕ) : Type 0 where
   pub first : (k : ℕ) → firstLoss s ≡ First (suc k) → (k < stepsIn s) × (matters s (suc k) ≡ Bool.true)
   pub before : (k j : ℕ) → firstLoss s ≡ First (suc k) → j < k → figuresWithout s (suc j) ≡ figuresWithout s 0
 
--- the paper's number of an answer, and its step, 0 where there is none
+-- the code of an answer, and its step, 0 where there is none
 abbrev pub answerNumber : Answer → ℕ
 answerNumber (First k) = 0
 answerNumber None = 0

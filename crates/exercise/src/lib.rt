@@ -99,7 +99,7 @@ pub fn first_loss(script: &[u8]) -> Answer
     }
 }
 
-// 0, or the refusal's number.
+// 0, or the refusal code.
 pub fn number(answer: Answer) -> u8
     ensures { λ r. ⌜ r ≡ answerNumber answer ⌝ }
 {

@@ -20,7 +20,7 @@ use Rattle.groups.proofs.Subscriber as subscriber-end
 use Rattle.groups.proofs.Subscriber.Laws as subscriber-laws
 use Rattle.multicast.proofs.SubscriberAnswer as subscriber-answer
 
--- an end's struct, the struct of number and end that the advance by value answers with, and the definition that it equals
+-- an end's struct, the struct of code and end that the advance by value answers with, and the definition that it equals
 pub record End : Type 2 where
   pub type : Declared
   pub laws : Laws type

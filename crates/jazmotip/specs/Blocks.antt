@@ -1,4 +1,4 @@
--- What the calls on a capture block decide, in numbers (01, Capture block): a refusal's number, and the pair that it names, 0 where
+-- What the calls on a capture block decide, in numbers (01, Capture block): a refusal code, and the pair that it names, 0 where
 -- there is none (02, C-11). Assumes nothing.
 use Rattle.octets.specs.Output.{WithOutput, withOutput}
 use Rattle.refusal.specs.Number.{numberOf, pairNumber}

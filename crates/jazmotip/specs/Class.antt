@@ -11,6 +11,6 @@ use Rattle.jazmotip.specs.Blocks.{blockAnswer}
 abbrev pub openedFor : WithOutput NearAnswer → WithOutput BlockAnswer
 openedFor o = withOutput (blockAnswer (o .answer .opened)) (o .output)
 
--- a key loaded: 0, or the refusal's number, and the sets
+-- a key loaded: 0, or the refusal code, and the sets
 abbrev pub keyLoaded : WithOutput Verdict → WithOutput ℕ
 keyLoaded o = withOutput (verdictNumber (o .answer)) (o .output)

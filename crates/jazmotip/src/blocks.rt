@@ -164,7 +164,7 @@ pub extern "C" fn jazmotip_capture_verdict(settings: &[u8], block: &[u8], k: usi
     verdict_in_numbers(ask(settings, block, k))
 }
 
-// The number of the verdict on each record, that on record k, from 1, at octet k - 1 of an output of 256 octets; the octets behind
+// The code of the verdict on each record, that on record k, from 1, at octet k - 1 of an output of 256 octets; the octets behind
 // them stay.
 #[no_mangle]
 pub extern "C" fn jazmotip_capture_verdicts(

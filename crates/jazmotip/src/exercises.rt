@@ -1,4 +1,4 @@
-// Which lost message matters (02, C-23). What a script comes to is a number and a step here.
+// Which lost message matters (02, C-23). What a script comes to is a code and a step here.
 ghost use mathlib.Core.Path.{_≡_};
 ghost use Rattle.exercise.specs.Listed.{EveryPlayListed};
 ghost use Rattle.exercise.specs.Losses.{Meant, firstLoss};

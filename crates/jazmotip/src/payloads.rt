@@ -1,4 +1,4 @@
-// Sealing and opening of payloads (01, Counter block and mask). EncEnabled is a number here, and an answer a number and a count.
+// Sealing and opening of payloads (01, Counter block and mask). EncEnabled is a number here, and an answer a code and a count.
 ghost use mathlib.Core.Path.{_≡_};
 ghost use Rattle.octets.specs.Output.{withOutput};
 ghost use Rattle.envelope.specs.ControlMask.{countEnciphered};
@@ -21,7 +21,7 @@ use sealing::key_expansion::expand_key;
 
 #[repr(C)]
 pub struct PayloadAnswer {
-    // 0, or the refusal's number
+    // 0, or the refusal code
     pub number: u8,
     // the octets enciphered or deciphered, 0 where the call was refused
     pub count: u64,

@@ -1,4 +1,4 @@
-// Payloads and capture blocks for the store (02, C-12). What a call decides is a number here, and for a block the pair that it names.
+// Payloads and capture blocks for the store (02, C-12). What a call decides is a code here, and for a block the pair that it names.
 ghost use mathlib.Core.Path.{_≡_};
 ghost use lib.ListN.{length};
 ghost use Rattle.octets.specs.Output.{withOutput};

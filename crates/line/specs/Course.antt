@@ -30,7 +30,7 @@ arrivalNumber x out (clockMessage m c t) = subscriberClockMessageOf x m .number
 arrivalNumber x out (keyMessage m t) = subscriberKeyMessageOf x m .number
 arrivalNumber x out (envelope e) = subscriberReceiveOf x (e .header) (e .octets) out .answer .number
 
--- the number that an event's call returned
+-- the code that an event's call returned
 unfoldable pub callNumber : State → Event → ℕ
 callNumber s (advance n) = headAdvanceOf (s .head) n .number
 callNumber s (register u i trip interval) = headRegisterOf (s .head) i trip interval .number
@@ -60,7 +60,7 @@ callNumber s (strayAnswer llid a) = headAcknowledgeOf (s .head) llid a .number
 callNumber s (strayDown u h p out) = subscriberReceiveOf (subscriberAt s u) h p out .answer .number
 callNumber s (strayUp h p out) = headReceiveOf (s .head) h p out .answer .number
 
--- the numbers of the calls that were refused, in order
+-- the codes of the calls that were refused, in order
 unfoldable pub refusals : State → List Event → List ℕ
 refusals s [] = []
 refusals s (e ∷ es) = pick (accepted (callNumber s e)) [] (callNumber s e ∷ []) ++ refusals (step s e) es
@@ -74,7 +74,7 @@ sentNumbers u = map (λ (e : Envelope). e .number) (laneAt (alone played) u .pas
 abbrev pub arrivedNumbers : ℕ → List ℕ
 arrivedNumbers u = map (λ (r : Arrival). r .envelope .number) (laneAt (alone played) u .past .arrived)
 
--- the numbers of the refused calls, by the parts of the list
+-- the codes of the refused calls, by the parts of the list
 abbrev pub refusedNumbers : List ℕ
 refusedNumbers =
     -- registrations, joins, clocks

@@ -1,5 +1,5 @@
 // The program `losses` (02, C-23): a script on standard input, the timer interval in eight octets, then nine octets a step; one line
-// on standard output: the first step whose loss alone changes the final A, C or a, `none`, or `refused` and the number.
+// on standard output: the first step whose loss alone changes the final A, C or a, `none`, or `refused` and the code.
 use exercise::Answer;
 
 // One octet more than the longest script has: a longer one is refused, never cut.

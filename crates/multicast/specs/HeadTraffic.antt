@@ -1,4 +1,4 @@
--- Send and receive of a head end: number, end, header, count, runs and output together (02, C-14). p is the payload, out the output as it
+-- Send and receive of a head end: code, end, header, count, runs and output together (02, C-14). p is the payload, out the output as it
 -- was lent. Assumes nothing.
 use mathlib.Core.Bool.{not}
 use mathlib.Core.List.{List}

@@ -1,4 +1,4 @@
--- Send and receive of a subscriber: number, end, header, count, runs and output together (02, C-14). p is the payload, out the output as
+-- Send and receive of a subscriber: code, end, header, count, runs and output together (02, C-14). p is the payload, out the output as
 -- it was lent. Assumes nothing.
 use mathlib.Core.Bool.{Bool, not}
 use mathlib.Core.List.{List}

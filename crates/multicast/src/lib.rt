@@ -1,5 +1,5 @@
 // The calls of both ends with their groups (02, C-14). A call that names a group's LLID is made on the group, any other on the OLT or on the
-// unit as 01 has it. Each takes the end by value and gives back the number, the end and what is handed over; refused, the end and the
+// unit as 01 has it. Each takes the end by value and gives back the code, the end and what is handed over; refused, the end and the
 // output are those that were lent.
 
 mod answers;

@@ -74,7 +74,7 @@ answerOf h c = made h c .told
 abbrev pub after : HeadEnd → Call → HeadEnd
 after h c = made h c .head
 
--- the number that it returns
+-- the code that it returns
 unfoldable pub toldNumber : Told → ℕ
 toldNumber (answered number) = number
 toldNumber (clockSent number message) = number

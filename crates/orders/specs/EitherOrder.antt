@@ -7,7 +7,7 @@ use Rattle.groups.specs.declared.HeadEnd.{HeadEnd}
 use Rattle.orders.specs.Calls.{Call, after, answerOf}
 use Rattle.orders.specs.Parties.{excepted, partyOf, sameParty}
 
--- the whole record, places that are not in use too; number, count, what is handed over, and every octet of the output
+-- the whole record, places that are not in use too; code, count, what is handed over, and every octet of the output
 pub record Commute (h : HeadEnd) (x y : Call) : Type 0 where
   pub head : after (after h x) y ≡ after (after h y) x
   pub first : answerOf h x ≡ answerOf (after h y) x

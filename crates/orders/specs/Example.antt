@@ -91,7 +91,7 @@ offerTo llid = offer llid (replicate 16 1)
 abbrev pub numberAt : HeadEnd → Call → ℕ
 numberAt h c = toldNumber (answerOf h c)
 
--- two calls with these numbers that may change places
+-- two calls with these codes that may change places
 pub record MayChange (x y : Call) (numberX numberY : ℕ) : Type 0 where
   pub different : sameParty (partyOf example x) (partyOf example y) ≡ false
   pub allowed : excepted example x y ≡ false
@@ -99,7 +99,7 @@ pub record MayChange (x y : Call) (numberX numberY : ℕ) : Type 0 where
   pub second : numberAt example y ≡ numberY
   pub eitherOrder : Commute example x y
 
--- two that are accepted alone and may not: after the other, their numbers are these
+-- two that are accepted alone and may not: after the other, their codes are these
 pub record MayNot (x y : Call) (numberY numberX : ℕ) : Type 0 where
   pub different : sameParty (partyOf example x) (partyOf example y) ≡ false
   pub excepted : excepted example x y ≡ true

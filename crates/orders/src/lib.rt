@@ -6,7 +6,7 @@ ghost use Rattle.orders.specs.Example.{example, numberAt, toFirst, toSec
 use refusal::Refusal;
 use refusal::number;
 
-// The number with which the second of two sends on one channel is refused in the example. The laws stand in its contract.
+// The code with which the second of two sends on one channel is refused in the example. The laws stand in its contract.
 pub fn second_on_channel() -> u8
     ensures { λ r. ⌜ r ≡ numberAt (after example toFirst) toSecondSameChannel ⌝ }
     ensures demand { λ r. ⌜ Demand ⌝ }

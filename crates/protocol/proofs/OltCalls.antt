@@ -1,4 +1,4 @@
--- Laws of the OLT's calls: a valid OLT stays valid, its places stay as many, a refused call leaves it, and the number is that of the
+-- Laws of the OLT's calls: a valid OLT stays valid, its places stay as many, a refused call leaves it, and the code is that of the
 -- call's order. Assumes nothing.
 use mathlib.Core.Path.{_≡_, refl, _∙_, ap}
 use mathlib.Core.Bool.{Bool, true, false, not}
@@ -172,7 +172,7 @@ pub acknowledge-refused : (o : Olt) (llid : ℕ) (a : Acknowledgement) → (ackn
 unfolding acknowledgeOf oltAnswer
 acknowledge-refused o llid a n = number-refused o silent _ (lift-untouched o silent Accepted llid (acknowledgeUnit a)) n .end
 
----- the number is that of the first refusal in the call's order, for an answer r as the definition has it
+---- the code is that of the first refusal in the call's order, for an answer r as the definition has it
 
 pub capture-ordered : (o : Olt) (llid : ℕ) (r : OltAnswer) → r ≡ captureOf o llid
     → (r ≡ captureOf o llid) × (r .number ≡ verdictNumber (captureOrder o llid))

@@ -1,4 +1,4 @@
--- The calls of the OLT but send and receive (01, Clock; Keys; 'When the reader says no'). Each gives number, end and what is handed
+-- The calls of the OLT but send and receive (01, Clock; Keys; 'When the reader says no'). Each gives code, end and what is handed
 -- over together, and its `..Order` is the paper's list of its refusals as one chain, with 1 for the lent end ahead. Assumes nothing.
 use mathlib.Core.Bool.{Bool, not}
 use mathlib.Core.List.{List, _++_, map}

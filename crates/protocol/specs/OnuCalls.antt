@@ -1,4 +1,4 @@
--- The calls of the ONU but send and receive (01, Clock; Keys; 'When the reader says no'). Each gives number, end and what is handed
+-- The calls of the ONU but send and receive (01, Clock; Keys; 'When the reader says no'). Each gives code, end and what is handed
 -- over together. Assumes nothing.
 use mathlib.Core.Bool.{Bool, not}
 use Prim.Native.Nat.{ℕ, _+_, _-_, _%_}

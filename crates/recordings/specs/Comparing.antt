@@ -93,7 +93,7 @@ rulingOn size a b =
     ruled 0 (refuseIf (not (eqb size outputOctets)) BadLength Accepted)
     (ruled 1 (blockVerdict a) (ruled 2 (blockVerdict b) (ruled 1 (repeatVerdict a) (ruled 2 (repeatVerdict b) Taken))))
 
--- the number, the pair that a refusal names and its block, else 0; entries written and the total, 0 where the call is refused
+-- the code, the pair that a refusal names and its block, else 0; entries written and the total, 0 where the call is refused
 abbrev pub denied : Refusal → ℕ → Comparison
 denied r block = record { number = numberOf r; pair = pairNumber r; block = block; entries = 0; total = 0 }
 

@@ -46,7 +46,7 @@ bodyOctets = rowOctets * (outputOctets + 1)
 abbrev pub rowsOf : ℕ → List ℕ → List ℕ → List ℕ
 rowsOf llid a b = (pieces 0 (recordsIn a) (firstRow a b) ++ pieces 0 (recordsIn b) (aloneRow b a)) ++ totalRow (totalOf llid a b)
 
--- a refused call prints its number, pair and block
+-- a refused call prints its code, pair and block
 unfoldable pub bodyAfter : Ruling → ℕ → List ℕ → List ℕ → List ℕ
 bodyAfter Taken llid a b = rowsOf llid a b
 bodyAfter (Denied r block) llid a b = deniedRow r block

@@ -153,7 +153,7 @@ fn put_rows(llid: u16, a: &[u8], b: &[u8], text: &mut [u8], at: usize) -> usize
     put_line(text, end, total_row(total))
 }
 
-// The rows of two blocks, or the number of the call's refusal.
+// The rows of two blocks, or the code of the call's refusal.
 fn put_body(llid: u16, a: &[u8], b: &[u8], text: &mut [u8], at: usize) -> usize
     requires { ⌜ at + bodyOctets ≤ length (now text) ⌝ }
     ensures { λ r. ⌜ (at ≤ r) × (r ≤ at + bodyOctets) ⌝ }
@@ -167,7 +167,7 @@ fn put_body(llid: u16, a: &[u8], b: &[u8], text: &mut [u8], at: usize) -> usize
     }
 }
 
-// The rows of the two blocks of an input, or the number of its refusal.
+// The rows of the two blocks of an input, or the code of its refusal.
 fn put_input(input: &[u8], text: &mut [u8], at: usize) -> usize
     requires { ⌜ at + bodyOctets ≤ length (now text) ⌝ }
     ensures { λ r. ⌜ (at ≤ r) × (r ≤ at + bodyOctets) ⌝ }

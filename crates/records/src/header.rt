@@ -149,7 +149,7 @@ pub fn verdict_for(settings: &[u8], h: Header) -> RecordVerdict
     record_verdict(presence(settings), llid(settings), h.clock, h)
 }
 
-// The number of a verdict, 0 for acceptance.
+// The code of a verdict, 0 for acceptance.
 pub fn number(verdict: RecordVerdict) -> u8
     ensures { λ r. ⌜ r ≡ recordNumber verdict ⌝ }
 {

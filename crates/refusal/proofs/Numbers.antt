@@ -1,4 +1,4 @@
--- Laws of the refusals' numbers. Assumes nothing.
+-- Laws of the refusal codes. Assumes nothing.
 use mathlib.Core.Path.{_≡_, refl}
 use native.Mathlib.Omega.{arith}
 use Rattle.refusal.specs.declared.Refusal.{Refusal}
@@ -7,7 +7,7 @@ use Rattle.refusal.specs.declared.Verdict.{Verdict}
 use Rattle.refusal.specs.declared.Verdict.the-variants.{Accepted, Refused}
 use Rattle.refusal.specs.Number.{numberOf, verdictNumber}
 
--- only acceptance has number 0
+-- only acceptance has code 0
 pub number-accepted : (v : Verdict) → verdictNumber v ≡ 0 → v ≡ Accepted
 number-accepted Accepted e = refl
 number-accepted (Refused r) e = absurd (by-refusal r e) where

@@ -1,4 +1,4 @@
--- The number of each refusal (01, 'When the reader says no'; 02, C-11, C-14, C-15, C-19, C-21, C-23), and the pair that it names. Assumes nothing.
+-- The code of each refusal (01, 'When the reader says no'; 02, C-11, C-14, C-15, C-19, C-21, C-23), and the pair that it names. Assumes nothing.
 use Prim.Native.Nat.{ℕ}
 use Rattle.refusal.specs.declared.Refusal.{Refusal}
 use Rattle.refusal.specs.declared.Refusal.the-variants.{OutOfRange, UnknownLlid, RepeatedLlid, TableFull, ClockNotSet, OfferPending, SameKey, NothingOutstanding, NoKey, EpamDiffers, ClearEnvelope, ChannelTaken, KeyTooOld, BadLength, BadDirectory, CaptureTooOld, AtEnd, BrokenChain, UnsuitedLength, GroupLlid, BadMember, RepeatedRecord, UnknownUser, NoRight, OtherKeyIndex, BadScript}

@@ -1,4 +1,4 @@
-// The refusals of 01, 'When the reader says no', in the order of its table, then those of 02, and the number of each.
+// The refusals of 01, 'When the reader says no', in the order of its table, then those of 02, and the code of each.
 ghost use mathlib.Core.Path.{_≡_};
 ghost use Rattle.refusal.specs.Number.{numberOf, pairNumber, verdictNumber, verdictPair};
 ghost use Rattle.refusal.specs.Order.{andThen, refuseIf};
@@ -58,7 +58,7 @@ pub enum Refusal {
     BadScript,
 }
 
-// The number that a refusal returns.
+// The code that a refusal answers with.
 pub fn number(refusal: Refusal) -> u8
     ensures { λ r. ⌜ r ≡ numberOf refusal ⌝ }
 {
@@ -132,7 +132,7 @@ pub enum Verdict {
     Refused(Refusal),
 }
 
-// 0 for acceptance, else the refusal's number.
+// 0 for acceptance, else the refusal code.
 pub fn verdict_number(verdict: Verdict) -> u8
     ensures { λ r. ⌜ r ≡ verdictNumber verdict ⌝ }
 {

@@ -42,7 +42,7 @@ decimalOf n = digits 10 (digitCount n) n
 unfoldable pub keyGlyph : Header → ℕ
 keyGlyph h = pick (encEnabled (h .flags)) (48 + encKey (h .flags)) 45
 
--- "refused " and the number
+-- "refused " and the code
 unfoldable pub refusedText : Refusal → List ℕ
 refusedText r = 114 ∷ 101 ∷ 102 ∷ 117 ∷ 115 ∷ 101 ∷ 100 ∷ 32 ∷ decimalOf (numberOf r)
 

@@ -19,7 +19,7 @@ use Rattle.sealing.specs.Seal.{carried, countCarried, runsCarried, seali
 use Rattle.sealing.proofs.Payload.{sealed-length, sealed-twice, count-sealed, runs-sealed}
 
 module _ (w : List ℕ) (n : Nonce) (p out : List ℕ) where
-  -- refused: the number, and the output as it was
+  -- refused: the code, and the output as it was
   pub sealing-refused : (enciphered : Bool) (r : Refusal) → sealVerdict (length p) (length out) n ≡ Refused r
       → withOutput (Denied r) out ≡ sealing enciphered w n p out
   unfolding sealing sealingAfter

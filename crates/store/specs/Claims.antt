@@ -14,7 +14,7 @@ use Rattle.capture.specs.Opening.{openedRecord, recordAdds, opening}
 use Rattle.store.specs.Blocks.{withPayload, blockWith}
 use Rattle.store.specs.Calls.{storeVerdict}
 
--- the record r, whose payload was changed by f and then by g, opens as r does: its verdict, with the number, its octets, and what it adds to count and runs
+-- the record r, whose payload was changed by f and then by g, opens as r does: its verdict, with the code, its octets, and what it adds to count and runs
 pub record OpensAlike (f g : List ℕ → List ℕ) (s r : List ℕ) : Type 0 where
   pub number : verdictOf s (withPayload g (withPayload f r)) ≡ verdictOf s r
   pub octets : openedRecord s (withPayload g (withPayload f r)) ≡ openedRecord s r

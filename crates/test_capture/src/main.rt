@@ -42,7 +42,7 @@ fn print_listing(settings: &[u8], block: &[u8]) {
     io::write_all(1, &text[..n]);
 }
 
-// A number, and the broken pair where there is one.
+// A code, and the broken pair where there is one.
 fn print_number(number: u8, pair: u16) {
     io::print_decimal(1, wide(number));
     if pair != 0 {

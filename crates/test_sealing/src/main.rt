@@ -1,4 +1,4 @@
-// Seals payloads and prints, case by case, number, count and a sum over the output: against values that an independent
+// Seals payloads and prints, case by case, code, count and a sum over the output: against values that an independent
 // AES-128 in counter mode gave, with the mask of 01 applied (tools/test_sealing.py). In place, the runs of the cipher stand beside the count.
 use envelope::Nonce;
 use libc::STDOUT_FILENO;
@@ -58,7 +58,7 @@ fn print_number(n: u64) {
     io::write_all(STDOUT_FILENO, b" ");
 }
 
-// Seals `input` and prints number, count, sum and the first octets of the output.
+// Seals `input` and prints code, count, sum and the first octets of the output.
 fn print_sealed(enciphered: bool, key: [u8; 16], nonce: Nonce, input: &[u8], output: &mut [u8]) {
     let answer = counter_mode::seal(enciphered, key, nonce, input, output);
     print_number(envelope::seal_number(answer) as u64);
@@ -235,7 +235,7 @@ fn refusals() {
     refused(18, 18, 0, 0xffff_ffff_ffff, 0xffff_ffff_ffff);
 }
 
-// Seals a payload in its place and prints number, count, runs of the cipher and sum.
+// Seals a payload in its place and prints code, count, runs of the cipher and sum.
 fn print_sealed_in_place(enciphered: bool, nonce: Nonce, payload: &mut [u8]) {
     let answer = counter_mode::seal_in_place(enciphered, key(1), nonce, payload);
     print_number(envelope::seal_number(answer) as u64);

@@ -70,7 +70,7 @@ module _ (o : Olt) (h : Header) (p out : List ℕ) where
   abbrev pub receiveDecided : Located → Outcome Passage
   receiveDecided l = reached (l .verdict) noPassage (o .shared) (unitAt o (l .place)) (receiveUnit h (o .shared) (unitAt o (l .place)))
 
-  -- the number is that of the first refusal in order
+  -- the code is that of the first refusal in order
   pub olt-receive-ordered : (r : OltReceived) (octets : List ℕ) → withOutput r octets ≡ oltReceiveOf o h p out
       → (withOutput r octets ≡ oltReceiveOf o h p out) × (r .number ≡ verdictNumber (receiveOrder o (misfit p out) h))
   unfolding oltReceiveOf oltReceived

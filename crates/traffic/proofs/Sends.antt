@@ -66,7 +66,7 @@ module _ (o : Olt) (llid channel : ℕ) (p out : List ℕ) where
   abbrev pub sendDecided : Located → Outcome Sending
   sendDecided l = reached (l .verdict) noSending (o .shared) (unitAt o (l .place)) (sendUnit llid channel (eqsOf p) (o .shared) (unitAt o (l .place)))
 
-  -- the number is that of the first refusal in order
+  -- the code is that of the first refusal in order
   pub olt-send-ordered : (r : OltSent) (octets : List ℕ) → withOutput r octets ≡ oltSendOf o llid channel p out
       → (withOutput r octets ≡ oltSendOf o llid channel p out) × (r .number ≡ verdictNumber (sendOrder o (misfit p out) llid channel))
   unfolding oltSendOf oltSent

@@ -1,4 +1,4 @@
-// Send and receive at both ends, with their octets (01, Keys; D108). Each takes the end by value and gives back the number, the end, the
+// Send and receive at both ends, with their octets (01, Keys; D108). Each takes the end by value and gives back the code, the end, the
 // header, the octets enciphered and the runs of the cipher, and writes the output; refused, the end and the output are those that were lent.
 mod at_olt;
 mod at_onu;

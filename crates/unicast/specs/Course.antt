@@ -31,7 +31,7 @@ arrivalNumber o out (clockMessage m c t) = clockMessageAt o m .number
 arrivalNumber o out (keyMessage m t) = keyMessageAt o m .number
 arrivalNumber o out (envelope e) = onuReceiveOf o (e .header) (e .octets) out .answer .number
 
--- the number that an event's call returned; a change of path is two, both accepted
+-- the code that an event's call returned; a change of path is two, both accepted
 unfoldable pub callNumber : State → Event → ℕ
 callNumber s (advance n) = advanceOltOf (s .olt) n .number
 callNumber s (register u i trip interval) = registerOf (s .olt) i trip interval .number
@@ -54,7 +54,7 @@ callNumber s (strayAnswer llid a) = acknowledgeOf (s .olt) llid a .number
 callNumber s (strayDown u h p out) = onuReceiveOf (onuAt s u) h p out .answer .number
 callNumber s (strayUp h p out) = oltReceiveOf (s .olt) h p out .answer .number
 
--- the numbers of the calls that were refused, in order
+-- the codes of the calls that were refused, in order
 unfoldable pub refusals : State → List Event → List ℕ
 refusals s [] = []
 refusals s (e ∷ es) = pick (accepted (callNumber s e)) [] (callNumber s e ∷ []) ++ refusals (step s e) es
@@ -67,7 +67,7 @@ sentNumbers u = map (λ (e : Envelope). e .number) (laneAt played u .past .sent)
 abbrev pub arrivedNumbers : ℕ → List ℕ
 arrivedNumbers u = map (λ (r : Arrival). r .envelope .number) (laneAt played u .past .arrived)
 
--- the numbers of the refused calls, by the parts of the list
+-- the codes of the refused calls, by the parts of the list
 abbrev pub refusedNumbers : List ℕ
 refusedNumbers =
     -- strangers

@@ -146,7 +146,7 @@ pub record Agreed (s : State) (u place n : ℕ) (key : List ℕ) (i : Identity) 
   pub oltKey : keyIn (unitAt (s .olt) place .keys .slots) n ≡ key
   pub onuKey : keyIn (onuAt s u .keys .slots) n ≡ key
 
--- unit u refuses the kth envelope of unit v's line with that number; unit and buffer are as they were
+-- unit u refuses the kth envelope of unit v's line with that code; unit and buffer are as they were
 pub record Overheard (s : State) (u v k : ℕ) (out : List ℕ) (number : ℕ) : Type 0 where
   pub refused : overhearing s u v k out .answer .number ≡ number
   pub count : overhearing s u v k out .answer .count ≡ 0

@@ -1,6 +1,6 @@
 -- A list of events that meets the premises (01, The line): clear, sealed and empty envelopes, losses, a retry, repeated and late
 -- acknowledgements, overheard envelopes, two switches for each of two units and one for a third, whose interval and delay are the
--- longest; a change of the second unit's path in the middle of a key exchange; and refused calls of every kind, with every number of
+-- longest; a change of the second unit's path in the middle of a key exchange; and refused calls of every kind, with every code of
 -- 01's table that an end gives. It fills the OLT's table of units,
 -- and its last tick is the last that an end counts to. Assumes nothing.
 use mathlib.Core.List.{List, [], _∷_, _++_}

@@ -1,4 +1,4 @@
-// What a step answers (02, C-21): the number, the next state, the message to send, and the timers to start and to stop.
+// What a step answers (02, C-21): the code, the next state, the message to send, and the timers to start and to stop.
 ghost use mathlib.Core.Path.{_≡_};
 ghost use Rattle.xgpon.specs.Answers.{accepted, awaited, confirm, generate, refused, stays};
 use crate::timers::NO_TIMER;
@@ -22,7 +22,7 @@ pub struct KeyControl {
 
 #[repr(C)]
 pub struct Answer {
-    // 0, or the refusal's number
+    // 0, or the refusal code
     pub number: u8,
     pub exchange: KeyExchange,
     pub message: KeyControl,

@@ -11,7 +11,7 @@ use refusal::number;
 // The keys that are valid in a direction: the index of each, 0 where it is not.
 #[repr(C)]
 pub struct ValidKeys {
-    // 0, or the refusal's number
+    // 0, or the refusal code
     pub number: u8,
     pub oldkey: u8,
     pub newkey: u8,

@@ -1,4 +1,4 @@
--- `envelope::seal_number` meets its contract: a refusal's number is the one that `refusal::number` gives. Assumes nothing.
+-- `envelope::seal_number` meets its contract: a refusal's code is the one that `refusal::number` gives. Assumes nothing.
 use borrow.Author.Needs.{needs}
 use Rattle.envelope.proofs.seal_number.Statement.{statement}
 use Rattle.envelope.proofs.seal_number.Tie as tie

@@ -1,4 +1,4 @@
--- `exercise::number` meets its contract: a refusal's number is the one that `refusal::number` gives. Assumes nothing.
+-- `exercise::number` meets its contract: a refusal's code is the one that `refusal::number` gives. Assumes nothing.
 use borrow.Author.Needs.{needs}
 use Rattle.exercise.proofs.number.Statement.{statement}
 use Rattle.exercise.proofs.number.Tie as tie

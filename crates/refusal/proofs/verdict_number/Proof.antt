@@ -1,4 +1,4 @@
--- `refusal::verdict_number` meets its contract: a refusal's number is the one that `number` gives. Assumes nothing.
+-- `refusal::verdict_number` meets its contract: a refusal's code is the one that `number` gives. Assumes nothing.
 use borrow.Author.Needs.{needs}
 use Rattle.refusal.proofs.verdict_number.Statement.{statement}
 use Rattle.refusal.proofs.verdict_number.Tie as tie

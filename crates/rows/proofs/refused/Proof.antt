@@ -1,4 +1,4 @@
--- `rows::refused` meets its contract: the word, then the number. Assumes nothing.
+-- `rows::refused` meets its contract: the word, then the code. Assumes nothing.
 use Prim.Native.Nat.{_≤_}
 use native.Mathlib.Omega.{arith}
 use lib.ListN.{length}

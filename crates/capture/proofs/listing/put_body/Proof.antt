@@ -1,4 +1,4 @@
--- `capture::listing::put_body` meets its contract: the number of a refused call, the rows of an accepted one. Assumes nothing.
+-- `capture::listing::put_body` meets its contract: the code of a refused call, the rows of an accepted one. Assumes nothing.
 use mathlib.Core.Path.{_≡_, sym, ap, _∙_}
 use mathlib.Core.Bool.{true}
 use mathlib.Core.List.{List, _++_}

@@ -1,4 +1,4 @@
--- `capture::opening::number` meets its contract: a refusal's number is the one that `refusal::number` gives. Assumes nothing.
+-- `capture::opening::number` meets its contract: a refusal's code is the one that `refusal::number` gives. Assumes nothing.
 use borrow.Author.Needs.{needs}
 use Rattle.capture.proofs.opening.number.Statement.{statement}
 use Rattle.capture.proofs.opening.number.Tie as tie

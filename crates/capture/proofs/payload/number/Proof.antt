@@ -1,4 +1,4 @@
--- `capture::payload::number` meets its contract: a refusal's number is the one that `refusal::number` gives. Assumes nothing.
+-- `capture::payload::number` meets its contract: a refusal's code is the one that `refusal::number` gives. Assumes nothing.
 use borrow.Author.Needs.{needs}
 use Rattle.capture.proofs.payload.number.Statement.{statement}
 use Rattle.capture.proofs.payload.number.Tie as tie

@@ -1,5 +1,5 @@
 -- `capture::verdict::put_numbers` meets its contract: the loop's invariant: record i starts at `from`, the corrections are those before
--- it, and the numbers of the records before it fill the output from the front. Assumes nothing.
+-- it, and the codes of the records before it fill the output from the front. Assumes nothing.
 use mathlib.Core.Path.{_≡_, refl, sym, ap, _∙_}
 use mathlib.Core.List.{_++_}
 use mathlib.Core.Logic.{⊎-elim}

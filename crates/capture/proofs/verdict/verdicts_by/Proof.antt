@@ -1,4 +1,4 @@
--- `capture::verdict::verdicts_by` meets its contract: the numbers of an accepted call, a refused one changing nothing. Assumes nothing.
+-- `capture::verdict::verdicts_by` meets its contract: the codes of an accepted call, a refused one changing nothing. Assumes nothing.
 use mathlib.Core.Path.{_≡_, sym, _∙_}
 use lib.Dec.{eqb}
 use lib.ListN.{length}

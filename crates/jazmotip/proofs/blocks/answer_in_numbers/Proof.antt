@@ -1,4 +1,4 @@
--- `jazmotip::blocks::answer_in_numbers` meets its contract: number, expansions, pair, count and runs of the answer. Assumes nothing.
+-- `jazmotip::blocks::answer_in_numbers` meets its contract: code, expansions, pair, count and runs of the answer. Assumes nothing.
 use borrow.Author.Needs.{needs}
 use Rattle.jazmotip.proofs.blocks.answer_in_numbers.Statement.{statement}
 use Rattle.jazmotip.proofs.blocks.answer_in_numbers.Tie as tie

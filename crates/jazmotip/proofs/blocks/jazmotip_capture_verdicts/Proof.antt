@@ -1,4 +1,4 @@
--- `jazmotip::blocks::jazmotip_capture_verdicts` meets its contract: number, pair and count of what `verdicts` answers. Assumes nothing.
+-- `jazmotip::blocks::jazmotip_capture_verdicts` meets its contract: code, pair and count of what `verdicts` answers. Assumes nothing.
 use mathlib.Core.Path.{ap}
 use borrow.Author.Needs.{needs}
 use Rattle.jazmotip.specs.Blocks.{judgedInNumbers}

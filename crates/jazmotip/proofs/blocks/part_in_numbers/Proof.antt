@@ -1,4 +1,4 @@
--- `jazmotip::blocks::part_in_numbers` meets its contract: number, pair, offset and length are those of the bounds at each arm. Assumes nothing.
+-- `jazmotip::blocks::part_in_numbers` meets its contract: code, pair, offset and length are those of the bounds at each arm. Assumes nothing.
 use borrow.Author.Needs.{needs}
 use Rattle.jazmotip.proofs.blocks.part_in_numbers.Statement.{statement}
 use Rattle.jazmotip.proofs.blocks.part_in_numbers.Tie as tie

@@ -1,4 +1,4 @@
--- `jazmotip::class_blocks::jazmotip_class_load` meets its contract: the number of the verdict of `load`, with its promises. Assumes nothing.
+-- `jazmotip::class_blocks::jazmotip_class_load` meets its contract: the code of the verdict of `load`, with its promises. Assumes nothing.
 use mathlib.Core.Path.{ap}
 use borrow.Author.Needs.{needs}
 use Rattle.jazmotip.specs.Class.{keyLoaded}

@@ -1,4 +1,4 @@
--- `jazmotip::stored::jazmotip_rearrange` meets its contract: the number of the verdict of `rearrange`. Assumes nothing.
+-- `jazmotip::stored::jazmotip_rearrange` meets its contract: the code of the verdict of `rearrange`. Assumes nothing.
 use mathlib.Core.Path.{ap}
 use Rattle.jazmotip.specs.Stored.{payloadStored}
 use borrow.Author.Needs.{needs}

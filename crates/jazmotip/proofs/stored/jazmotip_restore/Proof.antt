@@ -1,4 +1,4 @@
--- `jazmotip::stored::jazmotip_restore` meets its contract: the number of the verdict of `restore`. Assumes nothing.
+-- `jazmotip::stored::jazmotip_restore` meets its contract: the code of the verdict of `restore`. Assumes nothing.
 use mathlib.Core.Path.{ap}
 use Rattle.jazmotip.specs.Stored.{payloadStored}
 use borrow.Author.Needs.{needs}

@@ -1,4 +1,4 @@
--- `multicast::answers::accepted` meets its contract: number 0. Assumes nothing.
+-- `multicast::answers::accepted` meets its contract: code 0. Assumes nothing.
 use mathlib.Core.Path.{refl}
 use Rattle.protocol.specs.Replies.{reply}
 use Rattle.multicast.specs.HeadCalls.{headAnswer}

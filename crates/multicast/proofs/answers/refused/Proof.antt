@@ -1,4 +1,4 @@
--- `multicast::answers::refused` meets its contract: the number is the refusal's. Assumes nothing.
+-- `multicast::answers::refused` meets its contract: the code is the refusal's. Assumes nothing.
 use borrow.Author.Needs.{needs}
 use Rattle.protocol.specs.Replies.{reply}
 use Rattle.multicast.specs.HeadCalls.{headAnswer}

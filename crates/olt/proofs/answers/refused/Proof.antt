@@ -1,4 +1,4 @@
--- `olt::answers::refused` meets its contract: the number is the refusal's. Assumes nothing.
+-- `olt::answers::refused` meets its contract: the code is the refusal's. Assumes nothing.
 use borrow.Author.Needs.{needs}
 use Rattle.protocol.specs.OltCalls.{oltAnswer}
 use Rattle.protocol.specs.Replies.{reply}

@@ -1,4 +1,4 @@
--- `recordings::compare::deny` meets its contract: the refusal's number and pair. Assumes nothing.
+-- `recordings::compare::deny` meets its contract: the refusal's code and pair. Assumes nothing.
 use borrow.Author.Needs.{needs}
 use Rattle.recordings.proofs.compare.deny.Statement.{statement}
 use Rattle.recordings.proofs.compare.deny.Tie as tie

@@ -1,4 +1,4 @@
--- `recordings::listing::put_body` meets its contract: the number of a refused call, the rows of an accepted one. Assumes nothing.
+-- `recordings::listing::put_body` meets its contract: the code of a refused call, the rows of an accepted one. Assumes nothing.
 use mathlib.Core.Path.{sym, ap, _∙_}
 use mathlib.Core.List.{List, _++_}
 use Prim.Native.Nat.{ℕ}

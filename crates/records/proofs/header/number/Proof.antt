@@ -1,4 +1,4 @@
--- `records::header::number` meets its contract: a refusal's number is the one that `refusal::number` gives. Assumes nothing.
+-- `records::header::number` meets its contract: a refusal's code is the one that `refusal::number` gives. Assumes nothing.
 use borrow.Author.Needs.{needs}
 use Rattle.records.proofs.header.number.Statement.{statement}
 use Rattle.records.proofs.header.number.Tie as tie

@@ -1,4 +1,4 @@
--- `xgpon::answers::refuse` meets its contract: the number is the refusal's. Assumes nothing.
+-- `xgpon::answers::refuse` meets its contract: the code is the refusal's. Assumes nothing.
 use borrow.Author.Needs.{needs}
 use Rattle.xgpon.proofs.answers.refuse.Statement.{statement}
 use Rattle.xgpon.proofs.answers.refuse.Tie as tie

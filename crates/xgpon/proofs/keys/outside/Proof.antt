@@ -1,4 +1,4 @@
--- `xgpon::keys::outside` meets its contract: the number is the refusal's. Assumes nothing.
+-- `xgpon::keys::outside` meets its contract: the code is the refusal's. Assumes nothing.
 use borrow.Author.Needs.{needs}
 use Rattle.xgpon.proofs.keys.outside.Statement.{statement}
 use Rattle.xgpon.proofs.keys.outside.Tie as tie

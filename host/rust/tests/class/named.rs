@@ -1,4 +1,4 @@
-//! The points that the papers leave open, one test each (R19-1 to R19-11), by the package's face.
+//! The points that the papers leave open, one test each, by the package's face.
 
 use super::drawn::set;
 use crate::captures::blocks::block;
@@ -33,7 +33,7 @@ fn open(class: Class<'_>, user: u8, records: &[Vec<u8>]) -> Result<jazmotip::cap
 }
 
 #[test]
-fn r19_1_opening_includes_seeing_and_loading_does_not() {
+fn opening_includes_seeing_and_loading_does_not() {
     let (sets, records) = (sets(&[1]), [record(5, 0, 1, 1, 0)]);
     let told = |right| lines(Class { sets: &sets, rights: &[right] }, 1, &records);
     assert_eq!(told(OPEN), "1 0005 00 - 0 open\n");
@@ -43,7 +43,7 @@ fn r19_1_opening_includes_seeing_and_loading_does_not() {
 }
 
 #[test]
-fn r19_2_seen_comes_before_9_and_is_said_of_clear_records_too() {
+fn seen_comes_before_9_and_is_said_of_clear_records_too() {
     let sets = sets(&[1]);
     let records =
         [record(5, 0, 1, 1, 1), record(5, 3, 1, 1, 1), record(5, 1, 1, 1, 1), record(5, 1, 2, 1, 1), record(5, 2, 1, 1, 1)];
@@ -59,7 +59,7 @@ fn r19_2_seen_comes_before_9_and_is_said_of_clear_records_too() {
 }
 
 #[test]
-fn r19_3_every_users_octets_and_every_sets_presence_are_judged() {
+fn every_users_octets_and_every_sets_presence_are_judged() {
     let mut sets = sets(&[1, 1]);
     assert_eq!(open(Class { sets: &sets, rights: &[3, 3, 3, 8] }, 1, &[]), Err(Refusal::OutOfRange));
     assert!(open(Class { sets: &sets, rights: &[3, 0, 3, 7] }, 1, &[]).is_ok());
@@ -68,7 +68,7 @@ fn r19_3_every_users_octets_and_every_sets_presence_are_judged() {
 }
 
 #[test]
-fn r19_4_a_key_is_loaded_by_bit_2_alone() {
+fn a_key_is_loaded_by_bit_2_alone() {
     let before = sets(&[0, 1]);
     let loaded = |rights: &[u8], llid, index| {
         let mut sets = before.clone();
@@ -94,7 +94,7 @@ fn r19_4_a_key_is_loaded_by_bit_2_alone() {
 }
 
 #[test]
-fn r19_5_counts_of_users() {
+fn counts_of_users() {
     let sets = sets(&[1]);
     let number = |users: u8, user| {
         let caller = Caller { sets: 1, users, user };
@@ -105,7 +105,7 @@ fn r19_5_counts_of_users() {
 }
 
 #[test]
-fn r19_6_the_order_of_a_call() {
+fn the_order_of_a_call() {
     let (good, bad_block) = (sets(&[1, 1]), [0, 1]);
     let number = |caller: (u8, u8, u8), sets: &[u8], rights: &[u8], output: usize| {
         let (sets_of, users, user) = caller;
@@ -126,7 +126,7 @@ fn r19_6_the_order_of_a_call() {
 }
 
 #[test]
-fn r19_7_a_hidden_record_keeps_its_eqs_and_its_place() {
+fn a_hidden_record_keeps_its_eqs_and_its_place() {
     let sets = sets(&[1]);
     let records = [record(6, 1, 1, 1, 2), record(5, 0, 1, 1, 1)];
     let block = block(&records);
@@ -139,7 +139,7 @@ fn r19_7_a_hidden_record_keeps_its_eqs_and_its_place() {
 }
 
 #[test]
-fn r19_8_expansions_are_of_present_keys_that_may_be_opened() {
+fn expansions_are_of_present_keys_that_may_be_opened() {
     let expansions = |presence: &[u8], rights: &[u8]| {
         let sets = sets(presence);
         open(Class { sets: &sets, rights }, 1, &[]).map(|opened| opened.expansions)
@@ -150,7 +150,7 @@ fn r19_8_expansions_are_of_present_keys_that_may_be_opened() {
 }
 
 #[test]
-fn r19_9_seen_records_move_the_sum_and_hidden_ones_do_not() {
+fn seen_records_move_the_sum_and_hidden_ones_do_not() {
     let sets = sets(&[1, 1]);
     // 20 ticks off, 40, and 40: read only by a sum that follows
     let records = [record(6, 0, 21, 1, 0), record(5, 0, 41, 1, 0), record(5, 0, 41, 1, 0)];
@@ -166,9 +166,9 @@ fn r19_9_seen_records_move_the_sum_and_hidden_ones_do_not() {
     assert_eq!(told(&[3, 4]), ("1 -\n2 0005 00 - 0 open\n3 0005 00 - 0 open\n".to_string(), corrected(-24, 0)));
 }
 
-/// R19-11 is of the program's input; R19-10, the claim in its strong form, is `who_may_not_see_learns_nothing`.
+/// What the program reads is tested with it; the claim in its strong form is `who_may_not_see_learns_nothing`.
 #[test]
-fn r19_11_a_class_with_no_block() {
+fn a_class_with_no_block() {
     let sets = sets(&[1]);
     let mut text = [0; LISTING_OCTETS];
     assert_eq!(Class { sets: &sets, rights: &[3] }.list(1, &[], &mut text), format!("{HEADING}refused 15\n"));

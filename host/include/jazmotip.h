@@ -36,6 +36,19 @@
  *         olt = a.olt;                        // right for acceptance and refusal alike
  *         if (a.number != JAZMOTIP_ACCEPTED) { ... }
  *
+ * How a line comes up (docs/GUIDE.md tells all of it, host/c/exchange.c plays it)
+ *   - Ends: jazmotip_olt_fresh; for each unit jazmotip_onu_fresh, with LocalTime, the low 32 bits of the OLT's clock plus the unit's
+ *     delay up; jazmotip_olt_register, with the round trip, delay up plus delay down. Delays are in ticks.
+ *   - Clock: jazmotip_olt_capture, jazmotip_olt_clock_send, jazmotip_onu_clock_message, which hands over an acknowledgement, and with
+ *     that jazmotip_olt_acknowledge. The unit is then synced.
+ *   - Keys, numbered from 1: jazmotip_olt_offer, jazmotip_onu_key_message, jazmotip_olt_acknowledge. Once the timer's interval has
+ *     passed, the next jazmotip_olt_send switches to the key, the unit follows at its jazmotip_onu_receive, and the unit's first
+ *     envelope under it confirms the key at jazmotip_olt_receive; then the next may be offered. Envelopes before key 1 are clear.
+ *   - Time: the host advances all ends by the same ticks, and hands each message and envelope to its receiver in the order in which
+ *     they left, at the tick at which it arrives, its delay after it left: the receiver's clock is then what the sender's was. At
+ *     another tick a sealed envelope is refused 10 or, a multiple of 64 ticks off, opened to noise. An acknowledgement may come later,
+ *     or again.
+ *
  * When a unit does not come on, after whatever was lost
  *   - This brings a registered unit to its next key, and it is proved that it does (docs/PROGRESS.md): let what is under way arrive;
  *     let 4,194,304 ticks pass; jazmotip_olt_capture, jazmotip_olt_clock_send and the acknowledgement, where the unit is unsynced;
@@ -374,7 +387,8 @@ typedef struct jazmotip_onu_received {
 /* A head end with no units and no groups. Refused (1: MAC or clock not below 2^48), the end is zeros. */
 jazmotip_olt_answer jazmotip_olt_fresh(uint64_t mac, uint64_t clock);
 
-/* Registers a unit: MAC and LLIDs, round trip, key timer. Order: 1, 3, 4. */
+/* Registers a unit: MAC and LLIDs; its round trip, delay up plus delay down, of at most JAZMOTIP_MAX_TRIP ticks; the interval of its
+ * key timer, of 1 to JAZMOTIP_MAX_INTERVAL ticks, which starts now. Order: 1, 3, 4. */
 jazmotip_olt_answer jazmotip_olt_register(jazmotip_olt olt, jazmotip_identity identity, uint64_t trip, uint64_t interval);
 
 /* Registers a group: its LLID, key timer and members, which stay. 1 is for the interval and for no member at all, 21 for more than
@@ -411,21 +425,24 @@ jazmotip_key_sent jazmotip_olt_retry(jazmotip_olt olt, uint16_t llid);
  * 8. */
 jazmotip_olt_answer jazmotip_olt_acknowledge(jazmotip_olt olt, uint16_t llid, jazmotip_acknowledgement acknowledgement);
 
-/* Seals a payload for a unit or a group into output, of the same length, and hands over its header. With the timer's flag up and the
- * offer acknowledged this is the envelope that switches keys; a group's switches acknowledged or not, and its old key is wiped. Index
- * 0x00 or 0x01. A header at tick t with p EQs keeps its channel until t + p; t + p + 1 is free. 5 is for an envelope to a unit that
- * would be enciphered, a switching one included, while the unit's clock is not acknowledged. Order: 14, 1, 2, 5, 12, 13. */
+/* Seals a payload for a unit or a group into output, of the same length, and hands over its header; before the first key the envelope
+ * is clear. With the timer's flag up and the offer acknowledged this is the envelope that switches keys; a group's switches
+ * acknowledged or not, and its old key is wiped. Index 0x00 or 0x01. A header at tick t with p EQs keeps its channel until t + p;
+ * t + p + 1 is free. 5 is for an envelope to a unit that would be enciphered, a switching one included, while the unit's clock is not
+ * acknowledged. Order: 14, 1, 2, 5, 12, 13. */
 jazmotip_olt_sent jazmotip_olt_send(jazmotip_olt olt, uint16_t llid, uint8_t channel, const uint8_t *payload, size_t payload_length,
                                     uint8_t *output, size_t output_length);
 
-/* Opens an envelope from a unit into output, of the same length. Order: 14, 1, 2, 20, 10, 11, 9. */
+/* Opens an envelope from a unit into output, of the same length, at the tick at which it arrives. The first under key A confirms that
+ * key, and the one before it is wiped. Order: 14, 1, 2, 20, 10, 11, 9. */
 jazmotip_olt_received jazmotip_olt_receive(jazmotip_olt olt, jazmotip_header header, const uint8_t *octets, size_t octets_length,
                                            uint8_t *output, size_t output_length);
 
 /* ------------------------------------------------------------------------------------------------------- Calls of the ONU
  * Ahead of each order below stands 1 for an end that breaks the rules above. */
 
-/* A unit that is not synced yet: its identity, the OLT's MAC and LocalTime, below 2^32. Refused (1, 3), the end is zeros. */
+/* A unit that is not synced yet: its identity, the OLT's MAC and LocalTime, the low 32 bits of the OLT's clock plus the unit's delay
+ * up. Order: 1 (identity, MAC, LocalTime not below 2^32), 3. Refused, the end is zeros. */
 jazmotip_onu_answer jazmotip_onu_fresh(jazmotip_identity identity, uint64_t oltmac, uint64_t time);
 
 /* Joins a group by its LLID, any that the unit does not hold. What is promised to a member counts from here. Order: 3, 4. */
@@ -454,9 +471,10 @@ jazmotip_onu_acknowledged jazmotip_onu_key_message(jazmotip_onu onu, jazmotip_ke
 jazmotip_onu_sent jazmotip_onu_send(jazmotip_onu onu, uint16_t llid, uint8_t channel, const uint8_t *payload, size_t payload_length,
                                     uint8_t *output, size_t output_length);
 
-/* Opens an envelope from the head end, for the unit or for a group that it joined, into output, of the same length. An envelope under
- * the next key makes that key the active one. Under a group's key that the unit missed nothing is promised: it is refused 9 or, where
- * an older key of the same index is held, opened to noise. Order: 14, 1, 2, 10 (not while unsynced), 5 (sealed ones only), 11, 9. */
+/* Opens an envelope from the head end, for the unit or for a group that it joined, into output, of the same length, at the tick at
+ * which it arrives. An envelope under the next key makes that key the active one. Under a group's key that the unit missed nothing is
+ * promised: it is refused 9 or, where an older key of the same index is held, opened to noise. Order: 14, 1, 2, 10 (not while
+ * unsynced), 5 (sealed ones only), 11, 9. */
 jazmotip_onu_received jazmotip_onu_receive(jazmotip_onu onu, jazmotip_header header, const uint8_t *octets, size_t octets_length,
                                            uint8_t *output, size_t output_length);
 

@@ -51,10 +51,12 @@
  *
  * When a unit does not come on, after whatever was lost
  *   - This brings a registered unit to its next key, and it is proved that it does (docs/PROGRESS.md): let what is under way arrive;
- *     let 4,194,304 ticks pass; jazmotip_olt_capture, jazmotip_olt_clock_send and the acknowledgement, where the unit is unsynced;
- *     jazmotip_olt_offer, or jazmotip_olt_retry where an offer is outstanding, and the acknowledgement; let the rest of the timer's
- *     interval pass; send down; send up. Leave out what is done already. Only a switch whose envelopes all got lost for 2^48 ticks
- *     (eight days) can't be made good: register the unit with an OLT that is made anew.
+ *     let 4,194,304 ticks pass, where its path has changed 1,000,000 more at most; jazmotip_olt_capture, jazmotip_olt_clock_send and
+ *     the acknowledgement, where the unit is unsynced; jazmotip_olt_offer, or jazmotip_olt_retry where an offer is outstanding, and
+ *     the acknowledgement; let the rest of the timer's interval pass; send down; send up. Leave out what is done already.
+ *   - Only a switch that is not confirmed for 2^48 ticks (eight days), because every envelope under the new key got lost on its way
+ *     down, or every one on its way up, can't be made good. Then the unit begins anew: as a fresh one under LLIDs that the OLT does
+ *     not have yet, or at a fresh OLT, whose units are then all fresh. One end made fresh by itself does not fit the other's keys.
  *
  * Units: one tick is one EQT, 2.56 ns. One EQ is nine octets: a control octet, then eight data octets.
  */

@@ -76,7 +76,7 @@ extern "C" {
 enum {
     JAZMOTIP_ACCEPTED = 0,
     JAZMOTIP_OUT_OF_RANGE = 1,        /* a value outside its range, or an end that breaks the rules below */
-    JAZMOTIP_UNKNOWN_LLID = 2,        /* LLID not registered */
+    JAZMOTIP_UNKNOWN_LLID = 2,        /* LLID not registered; at a unit, neither its own nor joined; in a record, not the settings' */
     JAZMOTIP_REPEATED_LLID = 3,       /* LLID already registered or joined, or twice in one call */
     JAZMOTIP_TABLE_FULL = 4,          /* seventeenth unit or group; at a unit the fifth group */
     JAZMOTIP_CLOCK_NOT_SET = 5,       /* clock not set, or not acknowledged; for a group's offer, that of any member */
@@ -447,7 +447,8 @@ jazmotip_olt_received jazmotip_olt_receive(jazmotip_olt olt, jazmotip_header hea
  * up. Order: 1 (identity, MAC, LocalTime not below 2^32), 3. Refused, the end is zeros. */
 jazmotip_onu_answer jazmotip_onu_fresh(jazmotip_identity identity, uint64_t oltmac, uint64_t time);
 
-/* Joins a group by its LLID, any that the unit does not hold. What is promised to a member counts from here. Order: 3, 4. */
+/* Joins a group by its LLID, any that is neither the unit's own nor joined already. What is promised to a member counts from here.
+ * Order: 3, 4. */
 jazmotip_onu_answer jazmotip_onu_join(jazmotip_onu onu, uint16_t llid);
 
 /* Moves ticks and clocks on by n, in place, and gives the code. Order: 17. */
@@ -516,15 +517,17 @@ jazmotip_payload_answer jazmotip_seal_in_place(uint8_t encenabled, const uint8_t
 jazmotip_payload_answer jazmotip_seal_expanded_in_place(uint8_t encenabled, jazmotip_round_keys keys, jazmotip_nonce nonce,
                                                         uint8_t *payload, size_t payload_length);
 
+/* The round keys of a key, for the two calls that take them expanded; any 16 octets are a key. */
 jazmotip_round_keys jazmotip_expand_key(const uint8_t key[16]);
 
 /* The octets that sealing a payload enciphers: over all whole EQs, eight minus the ones in the control octet. */
 uint64_t jazmotip_count(const uint8_t *payload, size_t payload_length);
 
 /* --------------------------------------------------------------------------------------------------------- Capture blocks
- * Settings are 41 octets: presence (bit 0 key 0, bit 1 key 1), key 0 (16), key 1 (16), the sender's MAC (6), LLID (2). Records and
- * pairs count from 1. In every answer, pair is the first broken pair where the code is 18 or 19, else 0; pairs are judged in
- * order, 18 before 19 at each, so every pair before it is good and a block of those records alone is whole. */
+ * Blocks and records are drawn in docs/GUIDE.md. Settings are 41 octets: presence (bit 0 key 0, bit 1 key 1), key 0 (16), key 1 (16),
+ * the sender's MAC (6), LLID (2), big-endian. All records are opened with that MAC, whichever their direction: one of another sender
+ * opens to noise. Records and pairs count from 1. In every answer, pair is the first broken pair where the code is 18 or 19, else 0;
+ * pairs are judged in order, 18 before 19 at each, so every pair before it is good and a block of those records alone is whole. */
 
 typedef struct jazmotip_block_directory {
     uint8_t number;
@@ -629,7 +632,7 @@ size_t jazmotip_capture_list_near(const uint8_t *settings, size_t settings_lengt
  * It is proved that, among accepted calls, nothing else of a hidden record or set than LLIDs and lengths, and nothing of other
  * users' rights, changes any octet or number of what a user gets. */
 
-/* A user's rights on a set, added up; any other bit is 1, whose octet ever it is. */
+/* A user's rights on a set, added up; any other bit is refused 1, in whichever user's octet it is. */
 enum {
     JAZMOTIP_MAY_SEE = 1,  /* the header */
     JAZMOTIP_MAY_OPEN = 2, /* the payload, and see the header */
@@ -671,9 +674,9 @@ uint8_t jazmotip_class_load(jazmotip_caller caller, uint8_t *sets, size_t sets_l
                             uint16_t llid, uint8_t index, const uint8_t key[JAZMOTIP_KEY_OCTETS]);
 
 /* --------------------------------------------------------------------------------------------------------------- The store
- * Octets of one kind side by side compress better. Rearranged, a payload is its planes: all control octets, then data octet 0 of
- * every EQ, then data octet 1, up to 7. Restoring is the inverse; the two undo each other for every number of EQs, 0 too, and what
- * was rearranged and restored opens as it did. */
+ * Octets of one kind side by side may compress better; README has figures. Rearranged, a payload is its planes: all control octets,
+ * then data octet 0 of every EQ, then data octet 1, up to 7. Restoring is the inverse; the two undo each other for every number of
+ * EQs, 0 too, and what was rearranged and restored opens as it did. */
 
 /* The planes of a payload, or the payload of its planes, into output, of the same length. 0 or 14. */
 uint8_t jazmotip_rearrange(const uint8_t *payload, size_t payload_length, uint8_t *output, size_t output_length);

@@ -1,8 +1,8 @@
 //! The functions of `libjazmotip.a`, declared as in `host/include/jazmotip.h`. [`calls`](crate::calls) wraps each of them.
 //!
 //! # Safety
-//! A pointer with a length points to that many octets that may be read, and written for an output; with length 0 it is any pointer
-//! but null. A key is 16 octets, a listing's text [`LISTING_OCTETS`](crate::LISTING_OCTETS). An output overlaps nothing else that
+//! A pointer with a length points to that many octets that may be read, and written for an output; with length 0 it is any pointer,
+//! null too. A key is 16 octets, a listing's text [`LISTING_OCTETS`](crate::LISTING_OCTETS). An output overlaps nothing else that
 //! is lent in the same call.
 
 use crate::records::xgpon::{Answer, InputRecord, KeyExchange, TimerStarts, ValidKeys};

@@ -1,5 +1,6 @@
 //! The capture reader with `Result`. Settings are 41 octets: presence (bit 0 key 0, bit 1 key 1), key 0 (16), key 1 (16), the
-//! sender's MAC (6), LLID (2). Records count from 1.
+//! sender's MAC (6), LLID (2), big-endian. All records are opened with that MAC, whichever their direction: one of another sender
+//! opens to noise. Records count from 1.
 
 pub mod near;
 

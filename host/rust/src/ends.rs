@@ -48,7 +48,8 @@ impl Olt {
         Refusal::verdict(answer.number).map(|()| answer.olt)
     }
 
-    /// Registers a unit: who it is, its round trip (up to 1,000,000 ticks) and the interval of its key timer.
+    /// Registers a unit: who it is, its round trip (delay up plus delay down, up to 1,000,000 ticks) and the interval of its key
+    /// timer.
     pub fn register(&mut self, identity: Identity, trip: u64, interval: u64) -> Result<(), Refusal> {
         let answer = calls::olt_register(*self, identity, trip, interval);
         *self = answer.olt;
@@ -119,7 +120,7 @@ impl Olt {
         Refusal::verdict(answer.number).map(|()| Sent { header: answer.header, count: answer.count, runs: answer.runs })
     }
 
-    /// Opens an envelope from a unit into `output`, of the same length; gives what that took.
+    /// Opens an envelope from a unit into `output`, of the same length, at the tick at which it arrives; gives what that took.
     pub fn receive(&mut self, header: Header, octets: &[u8], output: &mut [u8]) -> Result<Work, Refusal> {
         let answer = calls::olt_receive(*self, header, octets, output);
         *self = answer.olt;
@@ -128,7 +129,7 @@ impl Olt {
 }
 
 impl Onu {
-    /// A unit that is not synced yet: who it is, the OLT's MAC and LocalTime, below 2^32.
+    /// A unit that is not synced yet: who it is, the OLT's MAC and LocalTime, the low 32 bits of the OLT's clock plus the delay up.
     pub fn fresh(identity: Identity, oltmac: u64, time: u64) -> Result<Onu, Refusal> {
         let answer = calls::onu_fresh(identity, oltmac, time);
         Refusal::verdict(answer.number).map(|()| answer.onu)
@@ -146,8 +147,9 @@ impl Onu {
         Refusal::verdict(calls::onu_advance(self, n))
     }
 
-    /// Gives the unit its new LocalTime, where its path changed, at the tick of [`Olt::measure`]: it is unsynced until the next clock
-    /// message, and seals again once its Tx clock has travelled past the end of each envelope that it sealed before.
+    /// Gives the unit its new LocalTime, where its path changed, at the tick of [`Olt::measure`]: the low 32 bits of the OLT's
+    /// clock plus the new delay up. It is unsynced until the next clock message, and seals again once its Tx clock has travelled
+    /// past the end of each envelope that it sealed before.
     pub fn new_time(&mut self, time: u64) -> Result<(), Refusal> {
         let answer = calls::onu_new_time(*self, time);
         *self = answer.onu;
@@ -181,8 +183,8 @@ impl Onu {
         Refusal::verdict(answer.number).map(|()| Sent { header: answer.header, count: answer.count, runs: answer.runs })
     }
 
-    /// Opens an envelope from the head end, for the unit or for a group that it joined, into `output`, of the same length; gives
-    /// what that took. An envelope under the next key makes that key the active one.
+    /// Opens an envelope from the head end, for the unit or for a group that it joined, into `output`, of the same length, at the
+    /// tick at which it arrives; gives what that took. An envelope under the next key makes that key the active one.
     pub fn receive(&mut self, header: Header, octets: &[u8], output: &mut [u8]) -> Result<Work, Refusal> {
         let answer = calls::onu_receive(*self, header, octets, output);
         *self = answer.onu;

@@ -29,8 +29,10 @@
 //!
 //! Whatever is malformed, untimely, unknown or too long is refused with a code, and a refusal changes nothing. Messages,
 //! acknowledgements and envelopes are plain values; carrying them over the line is the host's work, and so is telling every end how
-//! many ticks have passed. An end is `Copy` so that it can cross to C and be kept over a restart: never send twice from one copy,
-//! since that uses a counter block twice.
+//! many ticks have passed. An envelope is handed to its receiver at the tick at which it arrives, its delay after the send: at
+//! another tick a sealed one is refused ([`EpamDiffers`](Refusal::EpamDiffers)) or, a multiple of 64 ticks off, opened to noise. An
+//! end is `Copy` so that it can cross to C and be kept over a restart: never send twice from one copy, since that uses a counter
+//! block twice.
 //!
 //! [`calls`] has every function of the C header with its record as it crosses; [`raw`] the declarations.
 

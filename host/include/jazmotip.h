@@ -406,8 +406,9 @@ jazmotip_olt_answer jazmotip_olt_capture(jazmotip_olt olt, uint16_t llid);
 
 /* Gives a unit a new round trip, where its path changed: capture, clock message and clock acknowledgement so far are forgotten, and
  * enciphered sends to it are refused 5 until a new clock message is acknowledged. Clear ones go on, and so do its groups'. Make this
- * call and jazmotip_onu_new_time at one tick, before anything goes over the new path. Nothing that was under way arrives after it, and
- * no acknowledgement of a clock message from before it, ever: that is for the host to keep. Order: 1, 2, for a group's LLID too. */
+ * call and jazmotip_onu_new_time at one tick, before anything goes over the new path; where one of the two is refused, keep the other
+ * end as it was before its call. Nothing that was under way arrives after it, and no acknowledgement of a clock message from before
+ * it, ever: that is for the host to keep. Order: 1, 2, for a group's LLID too. */
 jazmotip_olt_answer jazmotip_olt_measure(jazmotip_olt olt, uint16_t llid, uint64_t trip);
 
 /* Hands over the clock message of the capture, any number of times within a second. Order: 2, for a group's LLID too, 8, 16. */

@@ -34,7 +34,7 @@ def call_number(sets, users, user, octets, rights):
 
 
 def told(record, octets, own):
-    """What a user with these rights is told of a record: `-` where it is hidden, else `seen`, `open` or `refused` and a number."""
+    """What a user with these rights is told of a record: `-` where it is hidden, else `seen`, `open` or `refused` and a code."""
     for j, right in enumerate(own):
         given = octets[41 * j : 41 * j + 41]
         if given[39:41] == record[2:4] and right & 3:

@@ -1,7 +1,7 @@
 /*
  * exchange.c: an OLT and one unit from registration to the second key switch, over a line with delays that loses two messages.
  *
- * Prints each call with its number and what it hands over; `exchange.stdout` is what it must print. Clocks turn on the way: the
+ * Prints each call with its code and what it hands over; `exchange.stdout` is what it must print. Clocks turn on the way: the
  * OLT's starts 256 ticks below 2^48. Ends with status 0 if both ends hold key 2.
  */
 #include "jazmotip.h"

@@ -2,7 +2,7 @@
  * group.c: a video group of two viewers under group keys. The second misses the message of key 2, sees nothing while that key is in
  * use, and comes back with key 3.
  *
- * Prints each call with its number and what it hands over; `group.stdout` is what it must print. Ends with status 0 if both view at
+ * Prints each call with its code and what it hands over; `group.stdout` is what it must print. Ends with status 0 if both view at
  * the end.
  */
 #include "jazmotip.h"

@@ -1,7 +1,7 @@
 /*
  * nothing.c: NULL with length 0, as C programs pass it for nothing, to every call that takes octets.
  *
- * Prints each call with its number, and with what else it gives.
+ * Prints each call with its code, and with what else it gives.
  */
 #include "jazmotip.h"
 

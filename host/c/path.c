@@ -2,7 +2,7 @@
  * path.c: a protected line changes its path, to one whose delay up is 80 ticks shorter, just after the unit has sealed an envelope. Both
  * ends are told, and go on once the clock is set again.
  *
- * Prints each call with its number and what it hands over; `path.stdout` is what it must print. Ends with status 0 if an envelope of
+ * Prints each call with its code and what it hands over; `path.stdout` is what it must print. Ends with status 0 if an envelope of
  * each way arrives over the new path.
  */
 #include "jazmotip.h"

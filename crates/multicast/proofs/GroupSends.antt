@@ -18,18 +18,17 @@ use Rattle.refusal.proofs.Order.{refuse-accepted, then-accepted}
 use Rattle.clock.specs.Ticks.{maxTick}
 use Rattle.envelope.specs.Acceptance.{sealVerdict}
 use Rattle.envelope.specs.ControlMask.{eqsOf}
-use Rattle.sealing.specs.Seal.{countCarried, runsCarried}
 use Rattle.ends.specs.declared.Shared.{Shared}
 use Rattle.ends.proofs.Validity.{SharedInRange, olt-in-range, shared-in-range}
-use Rattle.protocol.specs.Headers.{choiceEnciphered, noSending, passageOf, sendingOf}
+use Rattle.protocol.specs.Headers.{noSending, passageOf, sendingOf}
 use Rattle.protocol.specs.Replies.{Reply, onValid}
 use Rattle.protocol.specs.declared.Sending.{Sending}
 use Rattle.unit.specs.Reached.{ifAccepted}
-use Rattle.traffic.specs.Passages.{passageNonce, passed, passedCount, passedRuns, passedWork, outputAfter, carriedAfter, carriedFitting}
+use Rattle.traffic.specs.Passages.{passageNonce, passed, passedWork, outputAfter, carriedAfter, carriedFitting}
 use Rattle.traffic.specs.declared.OltReceived.{OltReceived}
 use Rattle.traffic.specs.declared.OltSent.{OltSent}
 use Rattle.traffic.specs.declared.carrying.Work.{Work}
-use Rattle.traffic.proofs.Passages.{few-eqs, judged, down-fits}
+use Rattle.traffic.proofs.Passages.{few-eqs, judged, down-fits, chosen-carried}
 use Rattle.groups.specs.GroupCalls.{GroupOutcome, reachedGroup, sendGroup}
 use Rattle.groups.specs.Head.{groupAt, validGroups, validHead, withGroup, withOlt}
 use Rattle.groups.specs.declared.GroupRecord.{GroupRecord}
@@ -85,12 +84,9 @@ reached-carried : (way : Verdict) (s : Shared) (g : GroupRecord) (c : GroupOutco
     → let x = reachedGroup way noSending s g c in
     carriedAfter (x .verdict) channel (x .handed .passage) p out
     ≡ withOutput (passedWork (x .handed .passage) p) (outputAfter (x .verdict) (passed channel (x .handed .passage) p) out)
-unfolding reachedGroup ifAccepted carriedAfter outputAfter passedCount passedRuns choiceEnciphered countCarried runsCarried pick
-reached-carried way s g c channel p out = by-verdict (andThen way (c .verdict)) where
-  by-verdict : (v : Verdict) → let q = ifAccepted v (c .handed) noSending .passage in
-      carriedAfter v channel q p out ≡ withOutput (passedWork q p) (outputAfter v (passed channel q p) out)
-  by-verdict Accepted = refl
-  by-verdict (Refused r) = refl
+unfolding reachedGroup
+reached-carried way s g c channel p out =
+    chosen-carried (λ (x : Sending). x .passage) (andThen way (c .verdict)) noSending (c .handed) channel p out refl
 
 module _ (h : HeadEnd) (i llid channel : ℕ) (p out : List ℕ) where
   abbrev pub sendWay : Verdict

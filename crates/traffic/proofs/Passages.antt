@@ -29,6 +29,7 @@ use Rattle.protocol.specs.Headers.{choiceEnciphered, noPassage}
 use Rattle.ends.specs.declared.Identity.{Identity}
 use Rattle.protocol.specs.declared.Passage.{Passage}
 use Rattle.envelope.specs.Channels.{channelFits, downstream, upstream}
+use Rattle.unit.specs.Reached.{ifAccepted}
 use Rattle.traffic.specs.declared.carrying.Work.{Work}
 use Rattle.traffic.specs.Passages.{misfit, passed, passedCount, passedRuns, passedWork, outputAfter, carriedAfter}
 
@@ -66,6 +67,14 @@ sealing-carried enciphered w n p out a o e j =
     (e ∙ ap (λ (v : Verdict). sealingAfter v enciphered w n p out) j)
 
 -- a refused call hands over nothing, so that nothing is counted
+pub chosen-carried : {H : Type 0} (passage : H → Passage) (v : Verdict) (nothing handed : H) (channel : ℕ) (p out : List ℕ)
+    → passage nothing ≡ noPassage
+    → let q = passage (ifAccepted v handed nothing) in
+    carriedAfter v channel q p out ≡ withOutput (passedWork q p) (outputAfter v (passed channel q p) out)
+unfolding ifAccepted carriedAfter outputAfter passedCount passedRuns choiceEnciphered countCarried runsCarried pick
+chosen-carried passage Accepted nothing handed channel p out e = refl
+chosen-carried passage (Refused r) nothing handed channel p out e = rw e
+
 pub reply-carried : {E H : Type 0} (passage : H → Passage) (v : Verdict) (lent next : E) (nothing handed : H) (channel : ℕ) (p out : List ℕ)
     → passage nothing ≡ noPassage
     → let r = reply v lent nothing next handed in

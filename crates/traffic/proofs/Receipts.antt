@@ -40,7 +40,7 @@ use Rattle.ends.proofs.Validity.{olt-in-range, shared-in-range, unit-in-range, 
 use Rattle.protocol.proofs.Lift.{unit-at-valid}
 use Rattle.protocol.proofs.OltTraffic.{receiveAhead, receiving-valid, receive-order}
 use Rattle.protocol.proofs.OnuChoices.{OnuReceiveCase, onuClear, onuLate, onuCurrent, onuNext, onuUnknown, onu-receive-case, onu-receive-accepted}
-use Rattle.unit.specs.Reached.{ifAccepted, reached}
+use Rattle.unit.specs.Reached.{reached}
 use Rattle.unit.proofs.Reached.{reached-accepted}
 use Rattle.olt.specs.Lookup.{locatedOf}
 use Rattle.olt.specs.declared.Located.{Located}
@@ -50,7 +50,7 @@ use Rattle.traffic.specs.Passages.{misfit, passageNonce, passed, passedC
 use Rattle.traffic.specs.Receipts.{oltReceived, oltReceiveOf, onuReceived, onuNotReceived, onuReceiveOf}
 use Rattle.traffic.specs.declared.OltReceived.{OltReceived}
 use Rattle.traffic.specs.declared.OnuReceived.{OnuReceived}
-use Rattle.traffic.proofs.Passages.{identity-mac, judged, down-fits, up-fits, reply-carried}
+use Rattle.traffic.proofs.Passages.{identity-mac, judged, down-fits, up-fits, chosen-carried, reply-carried}
 
 ---- the OLT
 
@@ -58,12 +58,8 @@ use Rattle.traffic.proofs.Passages.{identity-mac, judged, down-fits, up
 reached-carried : (way : Verdict) (s : Shared) (u : UnitRecord) (c : Outcome Passage) (channel : ℕ) (p out : List ℕ)
     → let x = reached way noPassage s u c in
     carriedAfter (x .verdict) channel (x .handed) p out ≡ withOutput (passedWork (x .handed) p) (outputAfter (x .verdict) (passed channel (x .handed) p) out)
-unfolding reached ifAccepted carriedAfter outputAfter passedCount passedRuns choiceEnciphered countCarried runsCarried pick
-reached-carried way s u c channel p out = by-verdict (andThen way (c .verdict)) where
-  by-verdict : (v : Verdict) → let q = ifAccepted v (c .handed) noPassage in
-      carriedAfter v channel q p out ≡ withOutput (passedWork q p) (outputAfter v (passed channel q p) out)
-  by-verdict Accepted = refl
-  by-verdict (Refused r) = refl
+unfolding reached
+reached-carried way s u c channel p out = chosen-carried (λ (q : Passage). q) (andThen way (c .verdict)) noPassage (c .handed) channel p out refl
 
 module _ (o : Olt) (h : Header) (p out : List ℕ) where
   -- what a receipt decides on the unit found

@@ -5,21 +5,19 @@ use mathlib.Core.List.{List}
 use Prim.Native.Nat.{ℕ, _≤_}
 use lib.ListN.{length}
 use borrow.Author.Tests.{not-false}
-use Rattle.octets.specs.Choice.{pick}
 use Rattle.octets.specs.Eqs.{maxEqs}
 use Rattle.octets.specs.Output.{WithOutput, withOutput}
 use Rattle.refusal.specs.Number.{verdictNumber}
 use Rattle.refusal.specs.declared.Verdict.{Verdict}
-use Rattle.refusal.specs.declared.Verdict.the-variants.{Accepted, Refused}
+use Rattle.refusal.specs.declared.Verdict.the-variants.{Accepted}
 use Rattle.clock.specs.Ticks.{maxTick}
 use Rattle.envelope.specs.ControlMask.{eqsOf}
 use Rattle.envelope.specs.Acceptance.{sealVerdict}
-use Rattle.sealing.specs.Seal.{countCarried, runsCarried}
 use Rattle.protocol.specs.Replies.{Reply}
 use Rattle.ends.specs.Table.{unitAt, withUnit}
 use Rattle.ends.specs.Validity.{validOlt}
 use Rattle.protocol.specs.Lift.{Outcome}
-use Rattle.protocol.specs.Headers.{choiceEnciphered, passageOf, sendingOf, noSending}
+use Rattle.protocol.specs.Headers.{passageOf, sendingOf, noSending}
 use Rattle.protocol.specs.UnitTraffic.{sendUnit}
 use Rattle.protocol.specs.OltTraffic.{sendOrder, sendingOlt}
 use Rattle.protocol.specs.OnuCalls.{onuReply}
@@ -35,17 +33,17 @@ use Rattle.protocol.proofs.Replies.{reply-verdict, reply-accepted}
 use Rattle.ends.proofs.Validity.{olt-in-range, shared-in-range, onu-in-range, onu-clock-in-range}
 use Rattle.protocol.proofs.OltTraffic.{sendAhead, sending-valid, send-order}
 use Rattle.protocol.proofs.OnuChoices.{onu-send-accepted}
-use Rattle.unit.specs.Reached.{ifAccepted, reached}
+use Rattle.unit.specs.Reached.{reached}
 use Rattle.unit.proofs.Reached.{reached-accepted}
 use Rattle.olt.specs.Lookup.{locatedOf}
 use Rattle.olt.specs.declared.Located.{Located}
 use Rattle.olt.proofs.Lookup.{lift-decided, reaches}
 use Rattle.traffic.specs.declared.carrying.Work.{Work}
-use Rattle.traffic.specs.Passages.{misfit, passageNonce, passed, passedCount, passedRuns, passedWork, outputAfter, carriedAfter}
+use Rattle.traffic.specs.Passages.{misfit, passageNonce, passed, passedWork, outputAfter, carriedAfter}
 use Rattle.traffic.specs.Sends.{oltSent, oltSendOf, onuSent, onuSendOf}
 use Rattle.traffic.specs.declared.OltSent.{OltSent}
 use Rattle.traffic.specs.declared.OnuSent.{OnuSent}
-use Rattle.traffic.proofs.Passages.{few-eqs, identity-mac, judged, down-fits, up-fits, reply-carried}
+use Rattle.traffic.proofs.Passages.{few-eqs, identity-mac, judged, down-fits, up-fits, chosen-carried, reply-carried}
 
 ---- the OLT
 
@@ -54,12 +52,9 @@ reached-carried : (way : Verdict) (s : Shared) (u : UnitRecord) (c : Outcome Sen
     → let x = reached way noSending s u c in
     carriedAfter (x .verdict) channel (x .handed .passage) p out
     ≡ withOutput (passedWork (x .handed .passage) p) (outputAfter (x .verdict) (passed channel (x .handed .passage) p) out)
-unfolding reached ifAccepted carriedAfter outputAfter passedCount passedRuns choiceEnciphered countCarried runsCarried pick
-reached-carried way s u c channel p out = by-verdict (andThen way (c .verdict)) where
-  by-verdict : (v : Verdict) → let q = ifAccepted v (c .handed) noSending .passage in
-      carriedAfter v channel q p out ≡ withOutput (passedWork q p) (outputAfter v (passed channel q p) out)
-  by-verdict Accepted = refl
-  by-verdict (Refused r) = refl
+unfolding reached
+reached-carried way s u c channel p out =
+    chosen-carried (λ (x : Sending). x .passage) (andThen way (c .verdict)) noSending (c .handed) channel p out refl
 
 module _ (o : Olt) (llid channel : ℕ) (p out : List ℕ) where
   -- what a send decides on the unit found

@@ -1,6 +1,6 @@
 -- `multicast::at_head::measure` meets its contract: the unit is found in the OLT, decides, and is put back. Assumes nothing.
 use borrow.Author.Needs.{needs}
-use mathlib.Core.Bool.{Bool, not}
+use mathlib.Core.Bool.{not}
 use mathlib.Core.Path.{_≡_, refl, ap, _∙_}
 use Prim.Native.Nat.{ℕ, _<_}
 use lib.Dec.{leb}
@@ -20,7 +20,7 @@ use Rattle.olt.specs.Lookup.{locatedOf}
 use Rattle.olt.proofs.Lookup.{located-below}
 use Rattle.groups.specs.Head.{validGroups, withOlt}
 use Rattle.multicast.specs.HeadCalls.{headAnswer, headMeasureOf}
-use Rattle.multicast.proofs.HeadUnits.{answer-guarded, lift-guarded, located-sound}
+use Rattle.multicast.proofs.HeadUnits.{answer-guarded, lift-guarded, located-guarded}
 use Rattle.multicast.proofs.at_head.measure.Statement.{statement}
 use Rattle.multicast.proofs.at_head.measure.Tie as tie
 
@@ -35,10 +35,8 @@ here c =
     let guard = c .before .before in
     let range = guard .before in
     let a = range .before .before .args in
-    c .locate .ensures .0
-    ∙ ap (λ (v : Verdict). locatedOf (a .head .olt) v (a .llid))
-    (guard .refuse-if2 .ensures ∙ rw (range .refuse-if .ensures, range .before .sound-groups .ensures) refl)
-    ∙ located-sound (a .head) (ranged (a .trip)) (a .llid)
+    located-guarded (a .head) (ranged (a .trip)) (a .llid) _ _ _ (range .before .sound-groups .ensures)
+    (guard .refuse-if2 .ensures ∙ rw (range .refuse-if .ensures) refl) (c .locate .ensures .0)
 
 below : (c : tie.After-locate) → c .locate .result .place < maxUnits
 below c = located-below _ _ _ _ (here c)

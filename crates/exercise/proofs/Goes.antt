@@ -2,7 +2,7 @@
 use mathlib.Core.Path.{_≡_, refl, sym, ap, _∙_}
 use mathlib.Core.Bool.{Bool, true, false, not}
 use mathlib.Core.List.{List, [], _∷_, _++_}
-use mathlib.Core.Logic.{_⊎_, ⊎-elim}
+use mathlib.Core.Logic.{⊎-elim}
 use Prim.Native.Nat.{ℕ, zero, suc, _+_, _≤_, _<_}
 use native.Mathlib.Omega.{arith}
 use lib.Dec.{eqb}
@@ -26,11 +26,11 @@ use Rattle.sealing.proofs.Seal.{carried-length}
 use Rattle.traffic.specs.Passages.{passed, outputAfter}
 use Rattle.traffic.specs.Sends.{oltSent, onuSent, oltSendOf, onuSendOf}
 use Rattle.traffic.specs.Receipts.{oltReceiveOf, onuReceiveOf}
-use Rattle.unicast.specs.Setting.{Setting}
 use Rattle.unicast.specs.Events.{Event, advance, capture, clockSend, offer, retry, sendDown, sendUp, arriveDown, arriveUp, arriveAnswer}
 use Rattle.unicast.specs.History.{Lane, Envelope, InFlight, clockMessage, keyMessage, envelope, laneCaptured, laneLeaving, laneOffered, laneTaken, laneAnswered, laneAcknowledged, laneSentDown, laneSentUp, laneArrivedDown, laneArrivedUp, laneWith, leaving, numberDown}
 use Rattle.unicast.specs.Premises.{NewKey, DueDown, DueAnswer, Meets}
 use Rattle.unicast.specs.Run.{State, step, run, accepted, noted, named, withLanes, atOlt, atOnu, atOltFor, laneAt, inFlightAt, envelopeAt, clockSending, offering, retrying, sendingDown, sendingUp, envelopeDown, envelopeUp, messageArriving, inFlightArriving, envelopeArriving, receiptDown, receiptUp, arrivingUp, answering, advancing, freshLane, noEnvelope}
+use Rattle.unicast.proofs.Rounds.{run-append, meets-append}
 use Rattle.exercise.specs.declared.Play.{Play}
 use Rattle.exercise.specs.Play.{unitLlid, keyOfStep, channelDown, channelUp, withOlt, withOnu, withClockAnswer, withKeyAnswer, arrives, clockAnswered, clockSent, clockStepped, keyAnswered, keySent, answered, sentDown, sentUp, advanced}
 use Rattle.exercise.specs.Listed.{setting}
@@ -152,16 +152,6 @@ unfolding laneAcknowledged laneWith
 acknowledged-kept c l n k a b h = kept-on l _ n n k k a b refl refl refl refl refl (omega arith) (omega arith) h
 
 ---- events after others
-
-pub meets-append : (w : Setting) (s : State) (es fs : List Event) → Meets w s es → Meets w (run s es) fs → Meets w s (es ++ fs)
-unfolding run
-meets-append w s [] fs m o = o
-meets-append w s (e ∷ es) fs m o = (m .0, meets-append w (step s e) es fs (m .1) o)
-
-pub run-append : (s : State) (es fs : List Event) → run s (es ++ fs) ≡ run (run s es) fs
-unfolding run
-run-append s [] fs = refl
-run-append s (e ∷ es) fs = run-append (step s e) es fs
 
 pub then : {p q z : Play} {n r j k : ℕ} {l : Lane} (g : Goes p n r l q j) → Goes q (g .now) r (g .lane) z k → Goes p n r l z k
 then {p} {q} {z} {n} {r} {j} {k} {l} g h =

@@ -18,7 +18,7 @@ use Rattle.unicast.specs.Events.{Event, advance, capture, clockSend, off
 use Rattle.unicast.specs.Run.{State, laneAt, step, run}
 use Rattle.unicast.specs.Premises.{NewKey}
 use Rattle.unicast.specs.Claim.{ArrivedNumbered}
-use Rattle.unicast.specs.Progress.{goes, highest, tripOf, awaitedCount, andThen, clockPlace, answeredRound, clockRound, keyRound, interval, keyed, rounds}
+use Rattle.unicast.specs.Progress.{goes, highest, tripOf, awaitedCount, andThen, clockPlace, answeredRound, clockRound, keyRound, interval, keyed}
 use Rattle.unicast.proofs.SendChoices.{max-either}
 use Rattle.unicast.proofs.Going.{Here, here-after, alive, unit, advance-goes}
 use Rattle.unicast.proofs.Calm.{Calms, Steady, calm-run}

@@ -2,8 +2,8 @@
 use mathlib.Core.Path.{_≡_, refl, sym, _∙_, ap, subst}
 use mathlib.Core.Bool.{Bool, true, false}
 use mathlib.Core.List.{List, [], _∷_, map, List·Memᴰ, List·Memᴰ·head, List·Memᴰ·tail, List·Memᴰ·cases-cons, List·Memᴰ·not-nil}
-use mathlib.Core.Logic.{_⊎_, inl, inr, ⊎-elim}
-use Prim.Native.Nat.{ℕ, zero, suc, _+_, _-_, _*_, _<_, _≤_}
+use mathlib.Core.Logic.{inl, inr, ⊎-elim}
+use Prim.Native.Nat.{ℕ, zero, suc, _+_, _*_, _<_, _≤_}
 use native.Mathlib.Nat.{le-max-left, le-max-right, max-le}
 use native.Mathlib.Omega.{arith}
 use lib.Dec.{leb, ltb}
@@ -27,7 +27,7 @@ use Rattle.unicast.proofs.StartSteps.{start-right}
 use Rattle.unicast.proofs.Theorem.{run-right}
 use Rattle.unicast.proofs.Claims.{claim-holds}
 use Rattle.unicast.proofs.Alive.{registered-alive}
-use Rattle.unicast.proofs.Going.{Here, alive, unit, found}
+use Rattle.unicast.proofs.Going.{Here, alive, found}
 use Rattle.unicast.proofs.Calm.{calm-run}
 use Rattle.unicast.proofs.Journey.{arrived-highest}
 use Rattle.unicast.proofs.Moving.{Arrived, arrived-append}

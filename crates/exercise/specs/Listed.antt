@@ -1,19 +1,14 @@
 -- Every play is a list of events that meets the premises of demand 3 (02, C-23; 01, The line): so what a script shows is what the
 -- theorem of crate line speaks of. Assumes nothing.
 use mathlib.Core.Path.{_≡_}
-use mathlib.Core.Bool.{Bool, true, false}
-use mathlib.Core.List.{List, [], _∷_, _++_}
-use Prim.Native.Nat.{ℕ, zero, suc}
-use lib.Dec.{eqb}
-use lib.ListN.{length}
-use Rattle.octets.specs.Choice.{pick}
+use mathlib.Core.List.{List, [], _∷_}
+use Prim.Native.Nat.{ℕ}
 use Rattle.refusal.specs.declared.Verdict.the-variants.{Accepted}
-use Rattle.protocol.specs.declared.Acknowledgement.{Acknowledgement}
 use Rattle.unicast.specs.Setting.{Setting}
-use Rattle.unicast.specs.Events.{Event, register, capture, clockSend, sendDown, sendUp, arriveDown, arriveUp, arriveAnswer}
+use Rattle.unicast.specs.Events.{Event, register}
 use Rattle.unicast.specs.Premises.{Fresh, Meets}
-use Rattle.unicast.specs.Run.{State, start, run, onuAt}
-use Rattle.exercise.specs.Script.{intervalOf, stepsIn, scriptVerdict}
+use Rattle.unicast.specs.Run.{start, run, onuAt}
+use Rattle.exercise.specs.Script.{intervalOf, scriptVerdict}
 use Rattle.exercise.specs.Play.{oltMac, unitIdentity, played}
 
 -- one fresh unit, whose delays are 0

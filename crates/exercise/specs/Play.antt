@@ -1,16 +1,13 @@
 -- How a script is played (02, C-23): each step is made of the calls of both ends, whose definitions these are. Ends are fresh, one unit
 -- is registered, both delays are 0, and envelopes have no EQs and go on channel 0. Assumes nothing.
 use mathlib.Core.Bool.{Bool, not}
-use mathlib.Core.List.{List, [], _∷_, _++_}
-use Prim.Native.Nat.{ℕ, zero, suc, _-_}
+use mathlib.Core.List.{List, [], _∷_}
+use Prim.Native.Nat.{ℕ, zero, suc}
 use lib.Dec.{eqb}
 use lib.ListN.{replicate}
 use Rattle.octets.specs.Choice.{both, either, pick}
-use Rattle.octets.specs.Output.{WithOutput}
-use Rattle.clock.specs.declared.Stamps.{Stamps}
 use Rattle.protocol.specs.declared.Acknowledgement.{Acknowledgement}
 use Rattle.protocol.specs.declared.ClockSent.{ClockSent}
-use Rattle.protocol.specs.declared.Header.{Header}
 use Rattle.ends.specs.declared.Identity.{Identity}
 use Rattle.protocol.specs.declared.KeySent.{KeySent}
 use Rattle.ends.specs.declared.Olt.{Olt}

@@ -27,7 +27,7 @@ use Rattle.unicast.specs.History.{keyMessage, Entry, Keys, Transit, Lane
 use Rattle.unicast.specs.Events.{Event, advance, offer, retry, arriveDown, arriveAnswer}
 use Rattle.unicast.specs.Run.{State, laneAt, onuAt, step, run, answerAt}
 use Rattle.unicast.specs.Premises.{NewKey}
-use Rattle.unicast.specs.Progress.{tripOf, Keeps, answeredRound, keyRound, interval}
+use Rattle.unicast.specs.Progress.{tripOf, Keeps, answeredRound, keyRound}
 use Rattle.unicast.proofs.Frames.{clock-some, clock-more}
 use Rattle.unicast.proofs.Going.{Here, Step, here-after, alive, unit, offer-goes, retry-goes, key-answer-goes}
 use Rattle.unicast.proofs.Arriving.{key-arrival-goes}

@@ -4,7 +4,7 @@ use mathlib.Core.List.{List, [], _∷_}
 use Prim.Native.Nat.{ℕ}
 use Rattle.unicast.specs.History.{InFlight, clockMessage, keyMessage, envelope, Lane, laneWith, laneCaptured, laneLeaving, laneAcknowledged, laneTaken, laneAnswered, laneArrivedDown, laneArrivedUp}
 use Rattle.unicast.specs.Events.{Event, advance, register, capture, clockSend, offer, retry, sendDown, sendUp, arriveDown, arriveUp, arriveAnswer, overhear, changePath, measure, newTime, strayClock, strayKey, strayAnswer, strayDown, strayUp}
-use Rattle.unicast.specs.Run.{State, laneAt, accepted, withLanes, atOnu, atOltFor, advancing, clockSending, answering, messageArriving, envelopeArriving, inFlightArriving, inFlightAt, arrivingUp, step, run}
+use Rattle.unicast.specs.Run.{State, laneAt, withLanes, atOnu, atOltFor, advancing, clockSending, answering, messageArriving, envelopeArriving, inFlightArriving, inFlightAt, arrivingUp, step, run}
 use Rattle.unicast.specs.Premises.{NewKey}
 use Rattle.unicast.proofs.Owned.{at-olt-keeps, set-stays, noted-keeps}
 

@@ -1,5 +1,4 @@
 -- `jazmotip::exercises::jazmotip_first_loss` meets its contract: code and step of what `first_loss` answers. Assumes nothing.
-use mathlib.Core.Path.{_≡_}
 use borrow.Author.Needs.{needs}
 use Rattle.jazmotip.proofs.exercises.jazmotip_first_loss.Statement.{statement}
 use Rattle.jazmotip.proofs.exercises.jazmotip_first_loss.Tie as tie

@@ -13,8 +13,10 @@ use Rattle.ends.specs.Keys.{validFirst}
 use Rattle.ends.specs.Travels.{validChanges}
 use Rattle.ends.specs.Occupancy.{validChannels}
 use Rattle.ends.specs.Identities.{distinct, llidsOf, validMac, validIdentity}
-use Rattle.ends.specs.Table.{registered, tableLlids}
+use Rattle.ends.specs.Records.{withChannels}
+use Rattle.ends.specs.Table.{registered, tableLlids, withOltChannels}
 use Rattle.ends.specs.Validity.{judged, validNumbers, validKeys, validUnitClock, validUnit, validShared, validOlt, validOnuKeys, validOnuClock, validOnu}
+use Rattle.ends.specs.declared.Channels.{Channels}
 use Rattle.ends.specs.declared.UnitClock.{UnitClock}
 use Rattle.ends.specs.declared.UnitRecord.{UnitRecord}
 use Rattle.ends.specs.declared.Shared.{Shared}
@@ -140,6 +142,20 @@ olt-in-range o e =
 pub olt-valid : (o : Olt) → OltInRange o → validOlt o ≡ true
 unfolding validOlt
 olt-valid o r = both-true (le-leb _ _ (r .count)) (both-true (r .shared) (both-true (r .units) (r .distinct)))
+
+-- with other channels
+pub with-channels-valid : (o : Olt) (c : Channels) → validChannels c ≡ true → validOlt o ≡ true → validOlt (withOltChannels o c) ≡ true
+unfolding withOltChannels withChannels
+with-channels-valid o c v e =
+    let r = olt-in-range o e in
+    let s = shared-in-range (o .shared) (r .shared) in
+    olt-valid (withOltChannels o c)
+    (record {
+      count = r .count;
+      shared = shared-valid _ (record { mac = s .mac; tick = s .tick; clock = s .clock; channels = v });
+      units = r .units;
+      distinct = r .distinct;
+    })
 
 ---- the ONU's keys and clocks
 

@@ -78,6 +78,10 @@ unitFound o Nowhere = pastUnit
 abbrev pub unitNamed : Olt → ℕ → UnitRecord
 unitNamed o llid = unitFound o (find o llid)
 
+-- the channels replaced
+unfoldable pub withOltChannels : Olt → Channels → Olt
+withOltChannels o c = record { shared = withChannels (o .shared) c; count = o .count; units = o .units }
+
 -- one unit and the channels replaced
 unfoldable pub withUnit : Olt → ℕ → Channels → UnitRecord → Olt
 withUnit o i c u = record { shared = withChannels (o .shared) c; count = o .count; units = set (o .units) i u }

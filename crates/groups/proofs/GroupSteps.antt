@@ -91,6 +91,15 @@ module _ (units : ℕ) (m : Members) (v : validMembers units m ≡ true) where
 
 ---- the group
 
+pub marked-llid : (g : GroupRecord) (member : Found) → groupMarked g member .llid ≡ g .llid
+unfolding groupMarked withMembers
+marked-llid g Nowhere = refl
+marked-llid g (At j) = refl
+
+pub advanced-llid : (n : ℕ) (g : GroupRecord) → groupAdvanced n g .llid ≡ g .llid
+unfolding groupAdvanced withGroupKeys
+advanced-llid n g = refl
+
 pub fresh-group-valid : (tick units llid interval : ℕ) (m : Members) → validMembers units m ≡ true → validInterval interval ≡ true
     → validGroup tick units (freshGroup llid interval m) ≡ true
 unfolding freshGroup

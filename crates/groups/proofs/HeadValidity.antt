@@ -1,4 +1,4 @@
--- What validity says of a group and of a head end, as facts, and that the facts give it. Assumes nothing.
+-- What validity says of a group, of the groups and of a head end, as facts, and that the facts give it. Assumes nothing.
 use mathlib.Core.Path.{_≡_}
 use mathlib.Core.Bool.{true, false}
 use Prim.Native.Nat.{ℕ, _+_, _≤_}
@@ -44,30 +44,40 @@ unfolding validGroup validKeys validGroupNumbers
 group-valid tick units g r =
     both-true (r .members) (both-true (both-true (r .timer) (r .first)) (both-true (le-leb _ _ (r .low)) (le-leb _ _ (r .high))))
 
+---- the groups of a head end
+
+pub record GroupsInRange (h : HeadEnd) : Type 0 where
+  pub places : placesTaken h ≤ maxUnits
+  pub each : all (validGroup (h .olt .shared .tick) (h .olt .count)) (registeredGroups h) ≡ true
+  pub distinct : distinct (groupLlids (registeredGroups h)) ≡ true
+  pub apart : meets (groupLlids (registeredGroups h)) (tableLlids (registered (h .olt))) ≡ false
+
+pub groups-in-range : (h : HeadEnd) → validGroups h ≡ true → GroupsInRange h
+unfolding validGroups apartLlids
+groups-in-range h e =
+    let a = both-right _ _ e in
+    let b = both-right _ _ a in
+    record {
+      places = leb-true _ _ (both-left _ _ e);
+      each = both-left _ _ a;
+      distinct = both-left _ _ b;
+      apart = not-true _ (both-right _ _ b);
+    }
+
+pub groups-valid : (h : HeadEnd) → GroupsInRange h → validGroups h ≡ true
+unfolding validGroups apartLlids
+groups-valid h r = both-true (le-leb _ _ (r .places)) (both-true (r .each) (both-true (r .distinct) (not-of-false (r .apart))))
+
 ---- the head end
 
 pub record HeadInRange (h : HeadEnd) : Type 0 where
   pub olt : validOlt (h .olt) ≡ true
-  pub places : placesTaken h ≤ maxUnits
-  pub groups : all (validGroup (h .olt .shared .tick) (h .olt .count)) (registeredGroups h) ≡ true
-  pub distinct : distinct (groupLlids (registeredGroups h)) ≡ true
-  pub apart : meets (groupLlids (registeredGroups h)) (tableLlids (registered (h .olt))) ≡ false
+  pub groups : validGroups h ≡ true
 
 pub head-in-range : (h : HeadEnd) → validHead h ≡ true → HeadInRange h
-unfolding validHead validGroups apartLlids
-head-in-range h e =
-    let a = both-right _ _ e in
-    let b = both-right _ _ a in
-    let c = both-right _ _ b in
-    record {
-      olt = both-left _ _ e;
-      places = leb-true _ _ (both-left _ _ a);
-      groups = both-left _ _ b;
-      distinct = both-left _ _ c;
-      apart = not-true _ (both-right _ _ c);
-    }
+unfolding validHead
+head-in-range h e = record { olt = both-left _ _ e; groups = both-right _ _ e }
 
 pub head-valid : (h : HeadEnd) → HeadInRange h → validHead h ≡ true
-unfolding validHead validGroups apartLlids
-head-valid h r =
-    both-true (r .olt) (both-true (le-leb _ _ (r .places)) (both-true (r .groups) (both-true (r .distinct) (not-of-false (r .apart)))))
+unfolding validHead
+head-valid h r = both-true (r .olt) (r .groups)

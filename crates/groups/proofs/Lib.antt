@@ -1,5 +1,6 @@
 pub mod Found
 pub mod GroupSteps
+pub mod HeadGroups
 pub mod HeadValidity
 pub mod JoinedCalls
 pub mod JoinedGroups

@@ -2,15 +2,15 @@
 use mathlib.Core.Path.{_≡_, refl, sym, _∙_, ap}
 use mathlib.Core.Bool.{true, false}
 use mathlib.Core.List.{List, [], _∷_, _++_, map-append}
-use Prim.Native.Nat.{ℕ, _+_, _≤_, _<_}
+use Prim.Native.Nat.{ℕ, _+_, _-_, _≤_, _<_}
 use native.Mathlib.Numerals.{add-one}
 use native.Mathlib.Omega.{arith}
-use lib.ListN.{length, take, set, length-take, length-map}
-use lib.Seq.{set-getD, take-set-lt, take-suc-set, map-set-same}
+use lib.ListN.{length, take, set, length-take, length-map, List·getD-map}
+use lib.Seq.{set-getD, getD-take, take-set-lt, take-suc-set, map-set-same}
 use borrow.Author.Tests.{leb-true, le-leb, not-true}
 use Rattle.octets.specs.Choice.{both, either}
 use Rattle.octets.specs.Lists.{all}
-use Rattle.octets.proofs.Choice.{both-left, both-right, both-true, either-false, either-none, not-of-false}
+use Rattle.octets.proofs.Choice.{both-left, both-right, both-true, not-of-false}
 use Rattle.octets.proofs.Maps.{map-take}
 use Rattle.octets.proofs.Tests.{all-one, all-set, all-append}
 use Rattle.ends.specs.Identities.{among, distinct, meets, llidsOf}
@@ -24,20 +24,30 @@ use Rattle.groups.specs.declared.Joined.{Joined}
 use Rattle.groups.specs.declared.Subscriber.{Subscriber}
 use Rattle.groups.proofs.Places.{place-at}
 use Rattle.groups.proofs.JoinedGroups.{groups-none}
+use Rattle.groups.proofs.Walks.{meets-last}
 
 ---- the group that a call names
 
-pub record JoinedPlace (s : Subscriber) (i : ℕ) : Type 0 where
+-- a place in use, whose group has the LLID
+pub record JoinedPlace (s : Subscriber) (llid i : ℕ) : Type 0 where
   pub used : i < s .memberships .count
   pub placed : i < length (s .memberships .table)
+  pub has : joinedAt s i .llid ≡ llid
 
-pub found-place : (s : Subscriber) (llid i : ℕ) → findJoined s llid ≡ At i → JoinedPlace s i
-unfolding findJoined joinedLlids
+pub found-place : (s : Subscriber) (llid i : ℕ) → findJoined s llid ≡ At i → JoinedPlace s llid i
+unfolding findJoined joinedLlids pastJoined
 found-place s llid i e =
-    let below : i < length (take (s .memberships .count) (s .memberships .table)) =
-    omega (arith, place-at 0 (joinedLlids (joinedGroups s)) llid i e .below, length-map (joinedGroups s) (λ (j : Joined). j .llid)) in
-    let low = simp length-take at below in
-    record { used = omega arith; placed = omega arith }
+    let m = place-at 0 (joinedLlids (joinedGroups s)) llid i e in
+    let n : i - 0 ≡ i = omega arith in
+    let l : i < length (joinedGroups s) = omega (arith, m .below, length-map (joinedGroups s) (λ (j : Joined). j .llid)) in
+    let used : i < s .memberships .count = omega (arith, length-take (s .memberships .count) (s .memberships .table)) in
+    record {
+      used = used;
+      placed = omega (arith, length-take (s .memberships .count) (s .memberships .table));
+      has =
+          rw (getD-take (s .memberships .count) (s .memberships .table) i pastJoined used)
+          at (sym (List·getD-map (λ (j : Joined). j .llid) (joinedGroups s) i pastJoined) ∙ rw n at (m .has));
+    }
 
 ---- what validity says
 
@@ -118,12 +128,6 @@ with-joined-valid s i j h e v w =
       apart = ap (λ (x : List ℕ). meets x (llidsOf (s .onu .identity))) same ∙ r .apart;
     })
 
--- one number more
-meets-more : (xs : List ℕ) (x : ℕ) (ys : List ℕ) → meets xs ys ≡ false → among x ys ≡ false → meets (xs ++ (x ∷ [])) ys ≡ false
-unfolding meets
-meets-more [] x ys m a = either-none a refl
-meets-more (y ∷ xs) x ys m a = let r = either-false _ _ m in either-none (r .0) (meets-more xs x ys (r .1) a)
-
 -- one group more, whose LLID the unit does not hold
 pub one-more-valid : (s : Subscriber) (j : Joined) → s .memberships .count < maxJoined → s .memberships .count < length (s .memberships .table)
     → hasJoined s (j .llid) ≡ false → among (j .llid) (llidsOf (s .onu .identity)) ≡ false → validJoined j ≡ true → validMemberships s ≡ true
@@ -142,7 +146,7 @@ one-more-valid s j few h new other v w =
       each = rw grown (all-append validJoined (take n l) (j ∷ []) (r .each) (last-valid j v));
       distinct = ap distinct llids ∙ distinct-more (joinedLlids (take n l)) (j .llid) (r .distinct) new;
       apart = ap (λ (x : List ℕ). meets x (llidsOf (s .onu .identity))) llids
-          ∙ meets-more (joinedLlids (take n l)) (j .llid) (llidsOf (s .onu .identity)) (r .apart) other;
+          ∙ meets-last (joinedLlids (take n l)) (j .llid) (llidsOf (s .onu .identity)) (r .apart) other;
     }) where
       last-valid : (j : Joined) → validJoined j ≡ true → all validJoined (j ∷ []) ≡ true
       last-valid j v = both-true v refl

@@ -11,7 +11,7 @@ use lib.Seq.{take-suc, take-take}
 use borrow.Author.Tests.{eq-eqb, ne-eqb}
 use Rattle.octets.specs.Choice.{both, either, pick}
 use Rattle.octets.specs.Lists.{all}
-use Rattle.octets.proofs.Choice.{either-left, either-right, either-none}
+use Rattle.octets.proofs.Choice.{either-left, either-right, either-none, either-false}
 use Rattle.octets.proofs.Steps.{first-step}
 use Rattle.ends.specs.Identities.{among, distinct, meets}
 use Rattle.ends.proofs.Identities.{distinct-again, distinct-more}
@@ -19,6 +19,7 @@ use Rattle.ends.specs.declared.Found.the-variants.{At, Nowhere}
 use Rattle.groups.specs.Members.{placeFrom}
 use Rattle.groups.specs.Head.{groupFrom, groupLlids}
 use Rattle.groups.specs.declared.GroupRecord.{GroupRecord}
+use Rattle.groups.proofs.Places.{at-nowhere}
 
 ---- which place has a number
 
@@ -43,7 +44,7 @@ group-place i (g ∷ gs) llid = ap (pick (eqb (g .llid) llid) (At i)) (group-pla
 -- a number that has a place is in the list, and one that has none is not
 pub place-among : (i x : ℕ) (l : List ℕ) (j : ℕ) → placeFrom i l x ≡ At j → among x l ≡ true
 unfolding placeFrom among pick
-place-among i x [] j e = let z : _≡_ {A = ℕ} 0 1 = cc in absurd (omega arith)
+place-among i x [] j e = at-nowhere j (sym e)
 place-among i x (y ∷ ys) j e = by-head (eqb y x) refl (place-among (suc i) x ys j) e where
   by-head : (t : Bool) → eqb y x ≡ t → (placeFrom (suc i) ys x ≡ At j → among x ys ≡ true) → pick t (At i) (placeFrom (suc i) ys x) ≡ At j
       → either (eqb y x) (among x ys) ≡ true
@@ -57,7 +58,7 @@ place-absent i x (y ∷ ys) e = by-head (eqb y x) refl (place-absent (suc i) x y
   by-head : (t : Bool) → eqb y x ≡ t → (placeFrom (suc i) ys x ≡ Nowhere → among x ys ≡ false)
       → pick t (At i) (placeFrom (suc i) ys x) ≡ Nowhere
       → either (eqb y x) (among x ys) ≡ false
-  by-head true h more f = let z : _≡_ {A = ℕ} 0 1 = cc in absurd (omega arith)
+  by-head true h more f = at-nowhere i f
   by-head false h more f = either-none h (more f)
 
 pub group-found : (i : ℕ) (gs : List GroupRecord) (llid j : ℕ) → groupFrom i gs llid ≡ At j → among llid (groupLlids gs) ≡ true
@@ -93,6 +94,12 @@ meets-stop l y ys zs e h = rw (e, h)
 pub meets-none : (l zs : List ℕ) → l ≡ [] → meets l zs ≡ false
 unfolding meets
 meets-none l zs e = rw e
+
+-- one number more, which the other list does not have
+pub meets-last : (xs : List ℕ) (x : ℕ) (ys : List ℕ) → meets xs ys ≡ false → among x ys ≡ false → meets (xs ++ (x ∷ [])) ys ≡ false
+unfolding meets
+meets-last [] x ys m a = either-none a refl
+meets-last (y ∷ xs) x ys m a = let r = either-false _ _ m in either-none (r .0) (meets-last xs x ys (r .1) a)
 
 ---- along the first n groups
 

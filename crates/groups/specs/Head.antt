@@ -11,8 +11,8 @@ use Rattle.ends.specs.Limits.{maxUnits}
 use Rattle.ends.specs.Timers.{freshTimer}
 use Rattle.ends.specs.Keys.{noSlots, notNoted}
 use Rattle.ends.specs.Identities.{among, distinct, meets}
-use Rattle.ends.specs.Records.{newOlt, withChannels}
-use Rattle.ends.specs.Table.{registered, tableLlids}
+use Rattle.ends.specs.Records.{newOlt}
+use Rattle.ends.specs.Table.{registered, tableLlids, withOltChannels}
 use Rattle.ends.specs.Validity.{validKeys, validOlt}
 use Rattle.ends.specs.declared.Channels.{Channels}
 use Rattle.ends.specs.declared.UnitKeys.{UnitKeys}
@@ -94,9 +94,6 @@ placesTaken h = h .olt .count + h .groups .count
 
 unfoldable pub withOlt : HeadEnd → Olt → HeadEnd
 withOlt h o = record { olt = o; groups = h .groups }
-
-unfoldable pub withOltChannels : Olt → Channels → Olt
-withOltChannels o c = record { shared = withChannels (o .shared) c; count = o .count; units = o .units }
 
 -- one group and the channels replaced
 unfoldable pub withGroup : HeadEnd → ℕ → Channels → GroupRecord → HeadEnd

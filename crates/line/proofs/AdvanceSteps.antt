@@ -28,9 +28,12 @@ use Rattle.groups.specs.Head.{groupAt, pastGroup, withGroupKeys}
 use Rattle.groups.specs.Subscriber.{withOnu}
 use Rattle.groups.specs.declared.HeadEnd.{HeadEnd}
 use Rattle.groups.specs.declared.Subscriber.{Subscriber}
+use Rattle.groups.proofs.HeadValidity.{head-valid}
 use Rattle.multicast.specs.HeadCalls.{groupsAdvanced, headAdvanced}
 use Rattle.multicast.specs.SubscriberCalls.{subscriberAdvanceOf}
 use Rattle.multicast.specs.declared.SubscriberAnswer.{SubscriberAnswer}
+use Rattle.multicast.proofs.HeadGrowth.{advanced-groups-valid, advance-moves}
+use Rattle.multicast.proofs.SubscriberSteps.{advance-identity}
 use Rattle.unicast.specs.Setting.{Setting}
 use Rattle.unicast.specs.Events as events
 use Rattle.unicast.specs.Run as run
@@ -40,15 +43,13 @@ use Rattle.unicast.proofs.Theorem.{step-right}
 use Rattle.line.specs.Events.{advance}
 use Rattle.line.specs.Run.{State, alone, subscriberAt, noSubscriber, joinedBy, groupLaneAt, now, lanes, advancing, step}
 use Rattle.line.proofs.Invariant.{Recorded, Joins, Invariant}
-use Rattle.line.proofs.AloneHead.{advance-moves, advance-stays}
+use Rattle.line.proofs.AloneHead.{advance-stays}
 use Rattle.line.proofs.AloneUnit.{advance-onu}
 use Rattle.line.proofs.Beside.{UnitKept, with-onu-kept, unit-itself, memberships-kept, beside-right}
 use Rattle.line.proofs.Frames.{follows-moved, joined-for-same}
-use Rattle.line.proofs.Kept.{onu-advance-kept}
 use Rattle.line.proofs.Lines.{memberships-right, group-stands}
 use Rattle.line.proofs.Places.{map-square, map-holds}
 use Rattle.line.proofs.Queues.{itself}
-use Rattle.line.proofs.Valid.{advanced-groups-valid}
 
 olt-accepted : (o : Olt) (n : ℕ) → advanceOltOf o n .number ≡ 0 → advanceVerdict (o .shared .tick) n ≡ Accepted
 unfolding advanceOltOf oltAnswer
@@ -81,7 +82,7 @@ module _ (w : Setting) (s : State) (n : ℕ) (i : Invariant w s) where
   moved-kept : (u : ℕ) → UnitKept (subscriberAt s u) (moved n (subscriberAt s u))
   moved-kept u =
       subst (λ (r : SubscriberAnswer). UnitKept (subscriberAt s u) (r .subscriber)) (sym (advance-onu (subscriberAt s u) (memberships-right w s i u) n))
-      (with-onu-kept (subscriberAt s u) _ (onu-advance-kept (subscriberAt s u .onu) n))
+      (with-onu-kept (subscriberAt s u) _ (advance-identity (subscriberAt s u .onu) n))
 
   onus-moved : map (λ (x : Subscriber). x .onu) (map (moved n) (s .subscribers))
       ≡ map (λ (o : Onu). advanceOnuOf o n .onu) (map (λ (x : Subscriber). x .onu) (s .subscribers))
@@ -166,7 +167,7 @@ module _ (w : Setting) (s : State) (n : ℕ) (i : Invariant w s) where
   unfolding advancing alone run.step run.advancing headAdvanced groupAdvanced withGroupKeys withTimer pick advanceOltOf oltAnswer
   advanced-right e =
       let olt = advancing-accepts (s .head .olt) n (i .units .valid) (advance-accepted (s .head .olt .shared .tick) n e) in
-      rw (advance-moves (s .head) (i .valid) n (i .units .valid) e)
+      rw (advance-moves (s .head) n (head-valid (s .head) (record { olt = i .units .valid; groups = i .valid })) e)
       (record {
         units =
             rw onus-moved
@@ -195,7 +196,7 @@ moved-alone : (w : Setting) (s : State) (n : ℕ) (i : Invariant w s) → advanc
 unfolding advancing alone run.step run.advancing headAdvanced pick advanceOltOf oltAnswer
 moved-alone w s n i e =
     rw (
-      advance-moves (s .head) (i .valid) n (i .units .valid) e,
+      advance-moves (s .head) n (head-valid (s .head) (record { olt = i .units .valid; groups = i .valid })) e,
       onus-moved w s n i,
       advancing-accepts (s .head .olt) n (i .units .valid) (advance-accepted (s .head .olt .shared .tick) n e),
     )

@@ -10,7 +10,7 @@ use Rattle.octets.proofs.Choice.{both-true, not-of-true, pick-true}
 use Rattle.refusal.specs.Number.{numberOf}
 use Rattle.refusal.specs.declared.Refusal.{Refusal}
 use Rattle.refusal.specs.declared.Refusal.the-variants.{OutOfRange}
-use Rattle.refusal.specs.declared.Verdict.the-variants.{Accepted, Refused}
+use Rattle.refusal.specs.declared.Verdict.the-variants.{Refused}
 use Rattle.refusal.proofs.Order.{refuse-passed}
 use Rattle.ends.specs.Validity.{validOlt}
 use Rattle.ends.specs.declared.Found.the-variants.{Nowhere}
@@ -21,7 +21,7 @@ use Rattle.protocol.specs.declared.ClockSent.{ClockSent}
 use Rattle.protocol.specs.declared.KeySent.{KeySent}
 use Rattle.protocol.specs.declared.OltAnswer.{OltAnswer}
 use Rattle.protocol.specs.declared.Header.{Header}
-use Rattle.protocol.proofs.Replies.{reply-accepted, reply-refused}
+use Rattle.protocol.proofs.Replies.{reply-refused}
 use Rattle.traffic.specs.Sends.{oltSendOf}
 use Rattle.traffic.specs.Receipts.{oltReceiveOf}
 use Rattle.traffic.specs.declared.OltSent.{OltSent}
@@ -106,13 +106,7 @@ module _ (h : HeadEnd) (v : validGroups h ≡ true) where
   unfolding headReceiveOf byLlid
   receive-olt header p out none = rw none (received-olt (oltReceiveOf (h .olt) header p out) out)
 
-  -- an advance moves the groups with the OLT, and stays with it
-  pub advance-moves : (n : ℕ) → validOlt (h .olt) ≡ true → advanceVerdict (h .olt .shared .tick) n ≡ Accepted
-      → headAdvanceOf h n ≡ record { number = 0; head = headAdvanced h n }
-  unfolding headAdvanceOf validHead headAnswer
-  advance-moves n o e =
-      ap headAnswer (reply-accepted _ h silent (headAdvanced h n) silent (refuse-passed _ OutOfRange _ (not-of-true (both-true o v)) ∙ e))
-
+  -- an advance that the OLT refuses leaves the groups too
   pub advance-stays : (n : ℕ) (r : Refusal) → validOlt (h .olt) ≡ true → advanceVerdict (h .olt .shared .tick) n ≡ Refused r
       → headAdvanceOf h n ≡ record { number = numberOf r; head = h }
   unfolding headAdvanceOf validHead headAnswer

@@ -27,6 +27,7 @@ use Rattle.groups.specs.Head.{findGroup, groupAt, withMembers, withOlt, validGr
 use Rattle.groups.specs.declared.Answer.{Answer}
 use Rattle.groups.specs.declared.GroupRecord.{GroupRecord}
 use Rattle.groups.specs.declared.HeadEnd.{HeadEnd}
+use Rattle.groups.proofs.GroupSteps.{marked-llid, group-marked-valid}
 use Rattle.multicast.specs.Naming.{byLlid}
 use Rattle.multicast.specs.HeadCalls.{headAnswer, ownAcknowledgement, headAcknowledgeOf}
 use Rattle.multicast.specs.HeadTraffic.{headReceiveOf}
@@ -42,7 +43,6 @@ use Rattle.line.proofs.AloneHead.{answered-olt, receive-olt}
 use Rattle.line.proofs.GroupCalls.{Ends, accepted, refused, lift-ends}
 use Rattle.line.proofs.GroupKeySteps.{group-valid, channels-right}
 use Rattle.line.proofs.GroupSteps.{same, Replaced, replaced-right}
-use Rattle.line.proofs.GroupValid.{acknowledged-valid}
 use Rattle.line.proofs.Lines.{group-finds}
 use Rattle.line.proofs.Queues.{itself}
 
@@ -59,11 +59,6 @@ marked-keys : (r : GroupRecord) (member : Found) → groupMarked r member .keys 
 unfolding groupMarked withMembers
 marked-keys r Nowhere = refl
 marked-keys r (At j) = refl
-
-marked-llid : (r : GroupRecord) (member : Found) → groupMarked r member .llid ≡ r .llid
-unfolding groupMarked withMembers
-marked-llid r Nowhere = refl
-marked-llid r (At j) = refl
 
 module _ (w : Setting) (s : State) (g : ℕ) (i : Invariant w s) (known : g < length (s .history .groups)) (member : Found) where
   abbrev r : GroupRecord
@@ -94,7 +89,7 @@ module _ (w : Setting) (s : State) (g : ℕ) (i : Invariant w s) (known : g < le
         rises = λ k. omega arith;
         frees = i .units .shared .free;
         channels = channels-right w s i;
-        valid = acknowledged-valid (s .head .olt .shared .tick) (s .head .olt .count) r member (group-valid w s g i known);
+        valid = group-marked-valid (s .head .olt .shared .tick) (s .head .olt .count) r (group-valid w s g i known) member;
         grown = itself (groupLaneAt s g) (r .keys .offered);
         roster = refl;
         queues = i .queues g known;

@@ -15,6 +15,7 @@ use Rattle.ends.specs.declared.Onu.{Onu}
 use Rattle.groups.specs.Head.{groupAt}
 use Rattle.groups.specs.Subscriber.{hasJoined}
 use Rattle.groups.specs.declared.Subscriber.{Subscriber}
+use Rattle.groups.proofs.Places.{at-nowhere}
 use Rattle.unicast.specs.Setting.{Setting}
 use Rattle.unicast.specs.History.{InFlight, Lane}
 use Rattle.unicast.specs.Run.{laneAt}
@@ -25,7 +26,6 @@ use Rattle.line.specs.Premises.{DueOfGroup}
 use Rattle.line.proofs.Alone.{onu-alone}
 use Rattle.line.proofs.AnswerSteps.{known-line}
 use Rattle.line.proofs.Invariant.{Under, joinedFor, Follows, Joins, Invariant}
-use Rattle.line.proofs.Finding.{at-nowhere}
 use Rattle.line.proofs.Lines.{group-finds, unit-no-group}
 use Rattle.line.proofs.Queues.{under-taken}
 

@@ -27,6 +27,7 @@ use Rattle.multicast.specs.HeadCalls.{headMeasureOf}
 use Rattle.multicast.specs.SubscriberCalls.{subscriberNewTimeOf}
 use Rattle.multicast.specs.declared.HeadAnswer.{HeadAnswer}
 use Rattle.multicast.specs.declared.SubscriberAnswer.{SubscriberAnswer}
+use Rattle.multicast.proofs.SubscriberSteps.{new-time-identity}
 use Rattle.unicast.specs.Setting.{Delays, Setting}
 use Rattle.unicast.specs.History.{InFlight, Entry, Lane, laneMoved}
 use Rattle.unicast.specs.Events as events
@@ -46,7 +47,7 @@ use Rattle.line.proofs.AnswerSteps.{same-head}
 use Rattle.line.proofs.Beside.{Beside, UnitKept, head-kept, with-onu-kept, unit-itself, beside-right}
 use Rattle.line.proofs.Frames.{follows-moved, send-moved, arrived-moved}
 use Rattle.line.proofs.GroupSteps.{member-same}
-use Rattle.line.proofs.Kept.{measure-kept, new-time-kept}
+use Rattle.line.proofs.Kept.{measure-kept}
 use Rattle.line.proofs.Lines.{memberships-right}
 use Rattle.line.proofs.OverheardSteps.{subscriber-stays}
 use Rattle.line.proofs.Places.{map-set, set-field, set-holds}
@@ -276,7 +277,7 @@ module _ (w : Setting) (s : State) (u llid time : ℕ) (p : Delays) (i : Invaria
         entry = λ v e. ap (λ (y : Entry). y .registered) (set-field (λ (y : Lane). y .entry) ls u l (freshLane noSite) refl v) ∙ e;
         unit =
             set-holds (λ (v : ℕ) (y : Subscriber). UnitKept (subscriberAt s v) y) (s .subscribers) u _ noSubscriber
-            (λ v. unit-itself (subscriberAt s v)) (rw unit-is (with-onu-kept x _ (new-time-kept (x .onu) time)));
+            (λ v. unit-itself (subscriberAt s v)) (rw unit-is (with-onu-kept x _ (new-time-identity (x .onu) time)));
         joined = refl;
         lines = refl;
       }

@@ -45,7 +45,7 @@ use Rattle.groups.specs.Subscriber.{hasJoined, findJoined, joinedAt, withJoined
 use Rattle.groups.specs.declared.Joined.{Joined}
 use Rattle.groups.specs.declared.Subscriber.{Subscriber}
 use Rattle.groups.proofs.JoinedCalls.{receipt-valid, receipt-llid}
-use Rattle.groups.proofs.Subscribers.{found-valid}
+use Rattle.groups.proofs.Subscribers.{found-place, found-valid}
 use Rattle.multicast.specs.Naming.{byLlid}
 use Rattle.multicast.specs.SubscriberCalls.{putJoined, joinedLift}
 use Rattle.multicast.specs.SubscriberTraffic.{subscriberReceived, groupReceiveOf, subscriberReceiveOf}
@@ -67,7 +67,7 @@ use Rattle.line.proofs.Alone.{onu-alone}
 use Rattle.line.proofs.AloneUnit.{receive-onu}
 use Rattle.line.proofs.Arriving.{joined-listed, known, unit-known, follows, member, alive, strange, taken, taken-own, taken-others, taken-length}
 use Rattle.line.proofs.EnvelopeChoices.{ChosenAt, chosen-clear, chosen-sealed, receipt-follows}
-use Rattle.line.proofs.Finding.{joined-found, joined-nowhere}
+use Rattle.line.proofs.Finding.{joined-nowhere}
 use Rattle.line.proofs.Frames.{follows-moved, arrived-moved}
 use Rattle.line.proofs.GroupMessageSteps.{joins-with, left-follows, in-queue}
 use Rattle.line.proofs.GroupSteps.{member-same}
@@ -381,7 +381,7 @@ module _ (w : Setting) (s : State) (u g k : ℕ) (out : List ℕ) (i : Invariant
     moved = joinedAfterReceipt (joinedChoice (joinedAt x j) (e .header)) (joinedAt x j)
 
     named : moved .llid ≡ lane .llid
-    named = receipt-llid (joinedChoice (joinedAt x j) (e .header)) (joinedAt x j) ∙ joined-found x (lane .llid) j found .is
+    named = receipt-llid (joinedChoice (joinedAt x j) (e .header)) (joinedAt x j) ∙ found-place x (lane .llid) j found .has
 
     moved-leaves : Leaves (withJoined x j moved)
     unfolding groupArrived groupTaken groupWith withJoined

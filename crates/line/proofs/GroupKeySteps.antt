@@ -2,7 +2,7 @@
 use mathlib.Core.Path.{_≡_, refl, sym, _∙_, ap, subst}
 use mathlib.Core.Bool.{true}
 use mathlib.Core.List.{List, [], _∷_}
-use Prim.Native.Nat.{ℕ, _+_, _-_, _<_, _≤_}
+use Prim.Native.Nat.{ℕ, _+_, _<_, _≤_}
 use native.Mathlib.Omega.{arith}
 use lib.ListN.{length, getD, length-append}
 use borrow.Author.Tests.{ltb-false, eqb-false}
@@ -23,6 +23,8 @@ use Rattle.groups.specs.GroupCalls as calls
 use Rattle.groups.specs.GroupCalls.{groupOutcome, membersSet, groupOfferVerdict, offerGroup, retryGroup}
 use Rattle.groups.specs.Head.{findGroup, groupAt, pastGroup, withGroupKeys, withMembers, validGroup}
 use Rattle.groups.specs.declared.GroupRecord.{GroupRecord}
+use Rattle.groups.proofs.GroupSteps.{group-offered-valid}
+use Rattle.groups.proofs.HeadValidity.{groups-in-range}
 use Rattle.multicast.specs.Naming.{byLlid}
 use Rattle.multicast.specs.HeadCalls.{headKeySent, headOfferOf, headRetryOf}
 use Rattle.unicast.specs.Setting.{Setting}
@@ -38,8 +40,7 @@ use Rattle.line.proofs.Invariant.{Recorded, joinedFor, Follows, Invaria
 use Rattle.line.proofs.Frames.{send-moved, arrived-moved}
 use Rattle.line.proofs.GroupCalls.{Ends, accepted, refused, lift-ends, call-refused, call-accepted, leaving-length, leaving-at, leaving-follows}
 use Rattle.line.proofs.GroupSteps.{same, more, Replaced, member-same, replaced-right}
-use Rattle.line.proofs.GroupValid.{offered-valid}
-use Rattle.line.proofs.Lines.{groups-in-range, group-stands, found-line}
+use Rattle.line.proofs.Lines.{group-stands, found-line}
 use Rattle.line.proofs.Queues.{Grown, under-key}
 
 -- a group of a valid head end is valid
@@ -142,7 +143,7 @@ module _ (w : Setting) (s : State) (g : ℕ) (i : Invariant w s) (known : g < le
           rises = λ k. omega arith;
           frees = i .units .shared .free;
           channels = channels-right w s i;
-          valid = offered-valid (s .head .olt .shared .tick) (s .head .olt .count) record-of key (group-valid w s g i known);
+          valid = group-offered-valid (s .head .olt .shared .tick) (s .head .olt .count) record-of (group-valid w s g i known) key;
           grown = offer-grown;
           roster = refl;
           queues = leaving-length (groupOffered key line-of) (lanes s) (keyMessage m (now s));

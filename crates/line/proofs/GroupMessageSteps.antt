@@ -2,7 +2,7 @@
 use mathlib.Core.Path.{_≡_, refl, sym, _∙_, ap, subst}
 use mathlib.Core.Bool.{Bool, true}
 use mathlib.Core.List.{List, [], _∷_, map}
-use Prim.Native.Nat.{ℕ, _-_, _<_}
+use Prim.Native.Nat.{ℕ, _<_}
 use native.Mathlib.Omega.{arith}
 use lib.ListN.{length, getD, set, length-set}
 use lib.Seq.{set-getD, getD-set-same}
@@ -26,7 +26,7 @@ use Rattle.groups.specs.declared.Answer.{Answer}
 use Rattle.groups.specs.declared.Joined.{Joined}
 use Rattle.groups.specs.declared.Subscriber.{Subscriber}
 use Rattle.groups.proofs.JoinedCalls.{message-valid, message-llid}
-use Rattle.groups.proofs.Subscribers.{found-valid, with-joined-valid}
+use Rattle.groups.proofs.Subscribers.{found-place, found-valid, with-joined-valid}
 use Rattle.multicast.specs.Naming.{byLlid}
 use Rattle.multicast.specs.SubscriberCalls.{subscriberAcknowledged, subscriberKeyMessageOf}
 use Rattle.multicast.specs.declared.SubscriberAcknowledged.{SubscriberAcknowledged}
@@ -38,7 +38,7 @@ use Rattle.line.specs.Run.{State, alone, subscriberAt, joinedBy, groupLa
 use Rattle.line.specs.Premises.{DueOfGroup}
 use Rattle.line.proofs.AloneUnit.{key-message-onu}
 use Rattle.line.proofs.Arriving.{joined-listed, known, unit-known, follows, member, strange, taken, taken-own, taken-others, taken-length}
-use Rattle.line.proofs.Finding.{joined-found, joined-among}
+use Rattle.line.proofs.Finding.{joined-among}
 use Rattle.line.proofs.Frames.{follows-moved, arrived-moved}
 use Rattle.line.proofs.GroupKeySteps.{refused-number}
 use Rattle.line.proofs.GroupSteps.{member-same}
@@ -139,11 +139,11 @@ module _ (w : Setting) (s : State) (u g k : ℕ) (out : List ℕ) (i : Invariant
   unfolding withJoined
   joins-with j y ms found named valid llids other =
       let old = i .joins u (unit-known w s u g k out i d) in
-      let stands = joined-found x (lane .llid) j found in
+      let stands = found-place x (lane .llid) j found in
       let apart : (llid : ℕ) → Stranger (s .history .groups) (laneAt (alone s) u) llid → llid ≡ lane .llid → ⊥ =
       λ llid n e. true-false (sym (member w s u g k out i d) ∙ n g (known w s u g k out i d) (sym e)) in
       record {
-        valid = with-joined-valid x j y (stands .used) (named ∙ sym (stands .is)) valid (old .valid);
+        valid = with-joined-valid x j y (stands .used) (named ∙ sym (stands .has)) valid (old .valid);
         places = length-set (x .memberships .table) j y ∙ old .places;
         llids = llids ∙ old .llids ∙ sym (with-llids x (lane .llid) j y found named);
         stranger = λ llid n. rw (with-other x (lane .llid) j y found named llid (apart llid n)) (old .stranger llid n);
@@ -163,7 +163,7 @@ module _ (w : Setting) (s : State) (u g k : ℕ) (out : List ℕ) (i : Invariant
     now-taken = taking (lane .llid) (m .number) (joinedBy s u)
 
     named : now-joined .llid ≡ lane .llid
-    named = message-llid (joinedAt x j) m ∙ joined-found x (lane .llid) j found .is
+    named = message-llid (joinedAt x j) m ∙ found-place x (lane .llid) j found .has
 
     taken-follows : Follows after (groupAt (s .head) g .keys .active) (groupAt (s .head) g .keys .offered) (isMember after (laneAt (alone s) u)) now-taken
         (joinedFor (withJoined x j now-joined) (after .llid)) (getD (after .towards) u [])

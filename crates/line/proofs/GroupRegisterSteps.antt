@@ -11,25 +11,24 @@ use lib.ListN.{length, getD, set, replicate, length-set, length-append, length-r
 use lib.Seq.{getD-at, getD-set-same, getD-set-other}
 use borrow.Author.Tests.{eqb-true, eqb-false, ne-eqb, ltb-true, ltb-false, leb-true, leb-false, le-ltb, not-false}
 use Rattle.octets.specs.Choice.{pick}
-use Rattle.octets.proofs.Choice.{both-left, both-right, both-true, either-false, true-false}
+use Rattle.octets.proofs.Choice.{both-left, both-right, either-false, true-false}
 use Rattle.octets.proofs.Members.{none-in}
 use Rattle.refusal.proofs.Numbers.{number-accepted}
 use Rattle.refusal.proofs.Order.{refuse-accepted}
 use Rattle.ends.specs.Limits.{maxUnits}
 use Rattle.ends.specs.Table.{isRegistered}
 use Rattle.ends.specs.Timers.{validInterval, freshTimer}
-use Rattle.ends.specs.Validity.{validKeys}
 use Rattle.ends.specs.declared.Channels.{Channels}
-use Rattle.ends.proofs.Keys.{first-none-valid}
-use Rattle.ends.proofs.Timers.{timer-fresh-valid}
 use Rattle.protocol.specs.Replies.{silent}
 use Rattle.protocol.proofs.Replies.{reply-verdict, reply-accepted, reply-untouched, number-refused}
-use Rattle.groups.specs.Head.{findGroup, groupAt, pastGroup, freshGroup, isGroup, placesTaken, withOneGroupMore, validGroupNumbers, validGroup}
+use Rattle.groups.specs.Head.{findGroup, groupAt, pastGroup, freshGroup, isGroup, placesTaken, withOneGroupMore}
 use Rattle.groups.specs.Members.{validMembers}
 use Rattle.groups.specs.declared.GroupRecord.{GroupRecord}
 use Rattle.groups.specs.declared.HeadEnd.{HeadEnd}
 use Rattle.groups.specs.declared.Members.{Members}
 use Rattle.groups.specs.declared.Roster.{Roster}
+use Rattle.groups.proofs.GroupSteps.{fresh-group-valid}
+use Rattle.groups.proofs.HeadGroups.{more-groups-valid}
 use Rattle.multicast.specs.HeadCalls.{headAnswer, rosterMembers, validGroupRegistration, groupVerdict, registerGroupOf}
 use Rattle.unicast.specs.Setting.{Setting}
 use Rattle.unicast.specs.History.{InFlight, due}
@@ -41,7 +40,6 @@ use Rattle.line.specs.Run.{State, alone, subscriberAt, joinedBy, noGroup
 use Rattle.line.proofs.Invariant.{Recorded, joinedFor, Follows, Stranger, Joins, Invariant}
 use Rattle.line.proofs.Finding.{group-among}
 use Rattle.line.proofs.Lines.{group-finds}
-use Rattle.line.proofs.Valid.{group-more-valid}
 
 ---- what an accepted registration has met, and answers with
 
@@ -71,12 +69,6 @@ accepts h llid interval r e =
       group = llids .1;
       room = leb-false maxUnits (placesTaken h) (f .0);
     }
-
-fresh-valid : (tick units llid interval : ℕ) (m : Members) → validInterval interval ≡ true → validMembers units m ≡ true
-    → validGroup tick units (freshGroup llid interval m) ≡ true
-unfolding validGroup freshGroup validKeys validGroupNumbers
-fresh-valid tick units llid interval m i v =
-    both-true v (both-true (both-true (timer-fresh-valid interval i) (first-none-valid tick)) (both-true refl refl))
 
 fresh-timing : (w : Setting) (s : State) (llid interval : ℕ) (r : Roster) → validInterval interval ≡ true
     → Timing (newGroupLane s llid interval r .entry) (newGroupLane s llid interval r .keys) (now s) (freshTimer interval)
@@ -241,9 +233,9 @@ module _ (w : Setting) (s : State) (llid interval : ℕ) (r : Roster) (i : Invar
       record {
         units = i .units;
         valid =
-            group-more-valid (s .head) fresh (a .room) place (rw (fresh-llid llid interval (rosterMembers (s .head .olt) r)) (a .group))
+            more-groups-valid (s .head) fresh (a .room) place (rw (fresh-llid llid interval (rosterMembers (s .head .olt) r)) (a .group))
             (rw (fresh-llid llid interval (rosterMembers (s .head .olt) r)) (a .unit))
-            (fresh-valid (s .head .olt .shared .tick) (s .head .olt .count) llid interval (rosterMembers (s .head .olt) r) (a .interval) (a .members))
+            (fresh-group-valid (s .head .olt .shared .tick) (s .head .olt .count) llid interval (rosterMembers (s .head .olt) r) (a .members) (a .interval))
             (i .valid);
         places = length-set (s .head .groups .table) (s .head .groups .count) fresh ∙ i .places;
         count = omega (arith, i .count, longer);

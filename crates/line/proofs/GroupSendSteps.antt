@@ -36,6 +36,7 @@ use Rattle.groups.specs.GroupCalls.{groupSendChoice, groupKeysAfterSend, sendGr
 use Rattle.groups.specs.Head.{findGroup, groupAt, withGroupKeys, validGroup}
 use Rattle.groups.specs.declared.GroupRecord.{GroupRecord}
 use Rattle.groups.specs.declared.HeadEnd.{HeadEnd}
+use Rattle.groups.proofs.GroupSteps.{group-sent-valid}
 use Rattle.multicast.specs.Naming.{byLlid, groupLift}
 use Rattle.multicast.specs.HeadTraffic.{sendAhead, headSent, headSendOf}
 use Rattle.unicast.specs.Setting.{Setting}
@@ -57,7 +58,6 @@ use Rattle.line.proofs.GroupCalls.{Ends, accepted, refused, lift-ends, 
 use Rattle.line.proofs.GroupChoices.{Chosen, chosen-send}
 use Rattle.line.proofs.GroupKeySteps.{group-valid, refused-number}
 use Rattle.line.proofs.GroupSteps.{same, Replaced, member-same, replaced-right}
-use Rattle.line.proofs.GroupValid.{sent-valid}
 use Rattle.line.proofs.Lines.{found-line}
 use Rattle.line.proofs.Queues.{Grown, knows, under-envelope}
 
@@ -234,7 +234,7 @@ module _ (w : Setting) (s : State) (g : ℕ) (i : Invariant w s) (known : g < le
             occupied-free (sh .channels) channel n (sh .tick) (eqsOf p) (now s + longest) (omega (arith, few-eqs p out fit, i .units .shared .tick))
             (i .units .shared .free n);
         channels = occupied-valid (sh .channels) channel (sh .tick) (eqsOf p) (o .tick) (few-eqs p out fit) (o .channels);
-        valid = sent-valid (sh .tick) (s .head .olt .count) (groupSendChoice (r .keys)) r (group-valid w s g i known);
+        valid = group-sent-valid (sh .tick) (s .head .olt .count) r (group-valid w s g i known) (groupSendChoice (r .keys));
         grown = grown (r .keys .offered);
         roster = refl;
         queues = leaving-length l (lanes s) (envelope e);

@@ -12,9 +12,11 @@ use Rattle.octets.specs.Choice.{both}
 use Rattle.ends.specs.Identities.{llidsOf, meets}
 use Rattle.ends.specs.Occupancy.{freeFrom, validChannels}
 use Rattle.ends.specs.Records.{withChannels}
+use Rattle.ends.specs.Table.{withOltChannels}
 use Rattle.ends.specs.declared.Channels.{Channels}
-use Rattle.groups.specs.Head.{groupAt, pastGroup, withOltChannels, withGroup, validGroup}
+use Rattle.groups.specs.Head.{groupAt, pastGroup, withGroup, validGroup}
 use Rattle.groups.specs.declared.GroupRecord.{GroupRecord}
+use Rattle.groups.proofs.HeadGroups.{replaced-groups-valid}
 use Rattle.unicast.specs.Setting.{Setting}
 use Rattle.unicast.specs.History.{Lane}
 use Rattle.unicast.specs.Run.{laneAt}
@@ -29,7 +31,6 @@ use Rattle.line.proofs.Lines.{group-stands}
 use Rattle.line.proofs.OfferSteps.{key-of-more}
 use Rattle.line.proofs.Places.{set-field}
 use Rattle.line.proofs.Queues.{Grown}
-use Rattle.line.proofs.Valid.{with-group-valid}
 
 -- the keys of a group's accepted offers: as they were, or one more that is new
 pub data MoreKeys (s : State) (old new : List (List ℕ)) : Type 0 where
@@ -167,7 +168,7 @@ module _ (w : Setting) (s : State) (g : ℕ) (c : Channels) (r : GroupRecord) (l
       record {
         units = occupied-right w (alone s) c (i .units) (p .rises) (p .frees) (p .channels);
         valid =
-            with-group-valid (s .head) g c r (group-stands w s i g (p .known) .used)
+            replaced-groups-valid (s .head) g c r (group-stands w s i g (p .known) .used)
             (p .recorded .llid ∙ p .grown .llid ∙ sym (i .group g (p .known) .llid)) (p .valid) (i .valid);
         places = length-set (s .head .groups .table) g r ∙ i .places;
         count = i .count ∙ sym places;

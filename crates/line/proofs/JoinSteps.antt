@@ -26,6 +26,7 @@ use Rattle.groups.specs.Members.{placeFrom}
 use Rattle.groups.specs.Subscriber.{freshJoined, joinedLlids, joinedGroups, hasJoined, findJoined, joinedAt, pastJoined, withOneJoinedMore, validSubscriber}
 use Rattle.groups.specs.declared.Joined.{Joined}
 use Rattle.groups.specs.declared.Subscriber.{Subscriber}
+use Rattle.groups.proofs.Places.{place-at}
 use Rattle.groups.proofs.Subscribers.{one-more-valid, fresh-joined-valid}
 use Rattle.multicast.specs.Naming.{byLlid}
 use Rattle.multicast.specs.SubscriberCalls.{subscriberAnswer, joinVerdict, joinOf}
@@ -36,8 +37,8 @@ use Rattle.line.specs.History.{Membership, isMember, hasTaken, joining}
 use Rattle.line.specs.Events.{join}
 use Rattle.line.specs.Run.{State, alone, noSubscriber, subscriberAt, joinedBy, groupLaneAt, lanes, atUnit, joiningAt, step}
 use Rattle.line.proofs.Invariant.{joinedFor, Follows, Joins, Invariant}
-use Rattle.line.proofs.Finding.{place-stands, place-before, place-last, joined-none}
-use Rattle.line.proofs.Lines.{subscribers-paired}
+use Rattle.line.proofs.Finding.{place-before, place-last, joined-none}
+use Rattle.line.proofs.Lines.{by-unit, subscribers-paired}
 use Rattle.line.proofs.MemberSteps.{alone-stays}
 use Rattle.line.proofs.Places.{set-holds}
 
@@ -50,22 +51,6 @@ pub record Swapped (s : State) (u : ℕ) (x : Subscriber) (ms : List Membership)
   pub taken : (llid n : ℕ) → hasTaken ms llid n ≡ hasTaken (joinedBy s u) llid n
 
 module _ (w : Setting) (s : State) (u : ℕ) (x : Subscriber) (ms : List Membership) (i : Invariant w s) (p : Swapped s u x ms) where
-  by-unit : (P : Subscriber → List Membership → Type 0) (v : ℕ) → v < length (lanes s) → (v ≡ u → P x ms) → P (subscriberAt s v) (joinedBy s v)
-      → P (getD (set (s .subscribers) u x) v noSubscriber) (getD (set (s .history .joined) u ms) v [])
-  by-unit P v h own other = by-test (eqb v u) refl where
-    by-test : (t : Bool) → eqb v u ≡ t → P (getD (set (s .subscribers) u x) v noSubscriber) (getD (set (s .history .joined) u ms) v [])
-    by-test true e =
-        let z : v ≡ u = eqb-true v u e in
-        let below : u < length (lanes s) = omega (arith, h, z) in
-        rw (
-          z,
-          getD-set-same (s .subscribers) u x noSubscriber (omega (arith, below, subscribers-paired w s i)),
-          getD-set-same (s .history .joined) u ms [] (omega (arith, below, i .paired)),
-        ) (own z)
-    by-test false e =
-        let n = eqb-false v u e in
-        rw (getD-set-other (s .subscribers) u v x noSubscriber n, getD-set-other (s .history .joined) u v ms [] n) other
-
   own-follows : (v g : ℕ) → v ≡ u → v < length (lanes s) → g < length (s .history .groups)
       → Follows (groupLaneAt s g) (groupAt (s .head) g .keys .active) (groupAt (s .head) g .keys .offered)
       (isMember (groupLaneAt s g) (laneAt (alone s) v)) ms (joinedFor x (groupLaneAt s g .llid))
@@ -95,13 +80,14 @@ module _ (w : Setting) (s : State) (u : ℕ) (x : Subscriber) (ms : List Members
         paired = length-set (s .history .joined) u ms ∙ i .paired;
         queues = i .queues;
         group = i .group;
-        joins = λ v h. by-unit (Joins (s .history .groups) (laneAt (alone s) v)) v h (λ e. rw e (p .joins (omega (arith, h, e)))) (i .joins v h);
+        joins = λ v h.
+            by-unit w s i u v x ms (Joins (s .history .groups) (laneAt (alone s) v)) h (λ e. rw e (p .joins (omega (arith, h, e)))) (λ n. i .joins v h);
         follows = λ v g h k.
-            by-unit (λ (y : Subscriber) (js : List Membership).
+            by-unit w s i u v x ms (λ (y : Subscriber) (js : List Membership).
             Follows (groupLaneAt s g) (groupAt (s .head) g .keys .active) (groupAt (s .head) g .keys .offered)
             (isMember (groupLaneAt s g) (laneAt (alone s) v)) js (joinedFor y (groupLaneAt s g .llid))
             (getD (groupLaneAt s g .towards) v []))
-            v h (λ e. own-follows v g e h k) (i .follows v g h k);
+            h (λ e. own-follows v g e h k) (λ n. i .follows v g h k);
         answered = λ g a h m.
             set-holds (λ (v : ℕ) (js : List Membership).
             hasTaken (joinedBy s v) (groupLaneAt s g .llid) (a .answer .number) ≡ true → hasTaken js (groupLaneAt s g .llid) (a .answer .number) ≡ true)
@@ -161,9 +147,9 @@ module _ (x : Subscriber) (llid : ℕ) (room : x .memberships .count < length (x
     by-found : (f : Found) → placeFrom 0 (joinedLlids (joinedGroups x)) y ≡ f → joinedFor more y ≡ joinedFor x y
     by-found Nowhere e = by-llid e (eqb llid y) refl
     by-found (At k) e =
-        let s = place-stands 0 (joinedLlids (joinedGroups x)) y k e in
+        let s = place-at 0 (joinedLlids (joinedGroups x)) y k e in
         has-now (At k) (place-before 0 (joinedLlids (joinedGroups x)) (llid ∷ []) y k e)
-        ∙ more-at k (λ z. omega (arith, z, s .high, counted)) ∙ had (At k) e
+        ∙ more-at k (λ z. omega (arith, z, s .below, counted)) ∙ had (At k) e
 
 -- a group just joined: nothing was taken
 joining-taken : (llid y n : ℕ) (ms : List Membership) → hasTaken (joining llid ms) y n ≡ hasTaken ms y n

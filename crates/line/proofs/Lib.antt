@@ -9,7 +9,6 @@ pub mod Frames
 pub mod Kept
 pub mod Beside
 pub mod Lines
-pub mod Valid
 pub mod OltSteps
 pub mod OfferSteps
 pub mod ArrivalSteps
@@ -17,7 +16,6 @@ pub mod OnuSteps
 pub mod AdvanceSteps
 pub mod RegisterSteps
 pub mod GroupSteps
-pub mod GroupValid
 pub mod GroupCalls
 pub mod GroupKeySteps
 pub mod GroupChoices

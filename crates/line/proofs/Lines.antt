@@ -1,58 +1,44 @@
 -- Who has which LLID: a group's line is that of its place at the OLT, and no LLID is a group's and a unit's. Assumes nothing.
 use mathlib.Core.Path.{_≡_, refl, sym, _∙_, ap}
 use mathlib.Core.Bool.{Bool, true, false}
-use mathlib.Core.List.{map}
-use Prim.Native.Nat.{ℕ, _<_, _≤_}
+use mathlib.Core.List.{List, [], map}
+use Prim.Native.Nat.{ℕ, _<_}
 use native.Mathlib.Omega.{arith}
-use lib.Dec.{ltb}
-use lib.ListN.{length, set, length-map, List·getD-eq-default}
-use borrow.Author.Tests.{ltb-true, ltb-false, eq-eqb, ne-eqb, leb-true, not-true}
+use lib.Dec.{eqb, ltb}
+use lib.ListN.{length, getD, set, length-map, List·getD-eq-default}
+use lib.Seq.{getD-set-same, getD-set-other}
+use borrow.Author.Tests.{eqb-true, eqb-false, ltb-true, ltb-false, eq-eqb, ne-eqb}
 use Rattle.octets.specs.Choice.{both, pick}
-use Rattle.octets.specs.Lists.{all}
 use Rattle.octets.proofs.Choice.{both-left, both-right, pick-true, pick-false, pick-same, true-false}
-use Rattle.ends.specs.Identities.{distinct, meets, noIdentity, has, llidsOf}
-use Rattle.ends.specs.Limits.{maxUnits}
+use Rattle.ends.specs.Identities.{noIdentity, has}
 use Rattle.ends.specs.Records.{newOnu}
-use Rattle.ends.specs.Table.{registered, tableLlids, isRegistered}
+use Rattle.ends.specs.Table.{isRegistered}
 use Rattle.ends.specs.declared.Found.the-variants.{At, Nowhere}
+use Rattle.ends.specs.declared.Onu.{Onu}
 use Rattle.ends.proofs.Identities.{meets-apart}
 use Rattle.ends.proofs.Table.{registered-found}
-use Rattle.groups.specs.Head.{registeredGroups, groupLlids, isGroup, findGroup, placesTaken, validGroup, validGroups, apartLlids}
-use Rattle.groups.specs.Subscriber.{joinedLlids, joinedGroups, findJoined, hasJoined, validGroupsOf, validMemberships}
+use Rattle.groups.specs.Head.{isGroup, findGroup, validGroups}
+use Rattle.groups.specs.Subscriber.{findJoined, hasJoined, validMemberships}
 use Rattle.groups.specs.Subscriber as subscribers
 use Rattle.groups.specs.declared.HeadEnd.{HeadEnd}
 use Rattle.groups.specs.declared.Subscriber.{Subscriber}
-use Rattle.groups.proofs.Subscribers.{alone-valid}
+use Rattle.groups.proofs.Found.{Stands, group-at, group-own}
+use Rattle.groups.proofs.HeadValidity.{groups-in-range}
+use Rattle.groups.proofs.Places.{at-nowhere}
+use Rattle.groups.proofs.Subscribers.{alone-valid, memberships-valid}
 use Rattle.unicast.specs.Setting.{Setting}
 use Rattle.unicast.specs.History.{Lane}
 use Rattle.unicast.specs.Run.{laneAt, accepted, noted, named, freshLane, noSite}
-use Rattle.unicast.proofs.Alive.{registered-alive}
+use Rattle.unicast.proofs.Alive.{Alive, registered-alive}
 use Rattle.unicast.proofs.Places.{held-found}
-use Rattle.line.specs.History.{GroupLane}
-use Rattle.line.specs.Run.{State, alone, subscriberAt, noSubscriber, groupLaneAt, noGroupLane, notedFor, lanes}
+use Rattle.line.specs.History.{GroupLane, Membership}
+use Rattle.line.specs.Run.{State, alone, subscriberAt, joinedBy, noSubscriber, groupLaneAt, noGroupLane, notedFor, lanes}
+use Rattle.line.proofs.Alone.{onu-alone}
 use Rattle.line.proofs.Places.{map-stays, map-one}
-use Rattle.line.proofs.Finding.{GroupStands, group-found, group-own, group-none, joined-none, at-nowhere}
+use Rattle.line.proofs.Finding.{group-none, joined-none}
 use Rattle.line.proofs.Invariant.{Invariant}
 
 ---- what validity says
-
-pub record GroupsInRange (h : HeadEnd) : Type 0 where
-  pub places : placesTaken h ≤ maxUnits
-  pub each : all (validGroup (h .olt .shared .tick) (h .olt .count)) (registeredGroups h) ≡ true
-  pub distinct : distinct (groupLlids (registeredGroups h)) ≡ true
-  pub apart : meets (groupLlids (registeredGroups h)) (tableLlids (registered (h .olt))) ≡ false
-
-pub groups-in-range : (h : HeadEnd) → validGroups h ≡ true → GroupsInRange h
-unfolding validGroups apartLlids
-groups-in-range h v =
-    let a = both-right _ _ v in
-    let b = both-right _ _ a in
-    record {
-      places = leb-true _ _ (both-left _ _ v);
-      each = both-left _ _ a;
-      distinct = both-left _ _ b;
-      apart = not-true _ (both-right _ _ b);
-    }
 
 -- a unit's LLID is no group's
 pub registered-no-group : (h : HeadEnd) (llid : ℕ) → validGroups h ≡ true → isRegistered (h .olt) llid ≡ true → findGroup h llid ≡ Nowhere
@@ -62,15 +48,12 @@ registered-no-group h llid v r = group-none h llid (by-test (isGroup h llid) ref
   by-test true e = true-false (sym r ∙ meets-apart _ _ llid (groups-in-range h v .apart) e)
 
 -- an LLID of its own is none that the unit joined
-pub own-not-joined : (x : Subscriber) (llid : ℕ) → validMemberships x ≡ true → has (x .onu .identity) llid ≡ true → findJoined x llid ≡ Nowhere
-unfolding validMemberships validGroupsOf has
+own-not-joined : (x : Subscriber) (llid : ℕ) → validMemberships x ≡ true → has (x .onu .identity) llid ≡ true → findJoined x llid ≡ Nowhere
+unfolding has
 own-not-joined x llid v h = joined-none x llid (by-test (hasJoined x llid) refl) where
-  apart : meets (joinedLlids (joinedGroups x)) (llidsOf (x .onu .identity)) ≡ false
-  apart = not-true _ (both-right _ _ (both-right _ _ (both-right _ _ v)))
-
   by-test : (t : Bool) → hasJoined x llid ≡ t → hasJoined x llid ≡ false
   by-test false e = e
-  by-test true e = true-false (sym h ∙ meets-apart _ _ llid apart e)
+  by-test true e = true-false (sym h ∙ meets-apart _ _ llid (memberships-valid x v .apart) e)
 
 no-memberships : validMemberships noSubscriber ≡ true
 unfolding noSubscriber subscribers.alone
@@ -79,13 +62,13 @@ no-memberships = alone-valid (newOnu noIdentity 0 0)
 module _ (w : Setting) (s : State) (i : Invariant w s) where
   ---- the line of a group
 
-  pub group-stands : (g : ℕ) → g < length (s .history .groups) → GroupStands (s .head) (groupLaneAt s g .llid) g
+  pub group-stands : (g : ℕ) → g < length (s .history .groups) → Stands (s .head) (groupLaneAt s g .llid) g
   group-stands g h =
       let r = groups-in-range (s .head) (i .valid) in
       record {
         used = omega (arith, i .count);
         place = omega (arith, i .count, i .places, r .places);
-        is = i .group g h .llid;
+        has = i .group g h .llid;
       }
 
   pub group-finds : (g : ℕ) → g < length (s .history .groups) → findGroup (s .head) (groupLaneAt s g .llid) ≡ At g
@@ -93,9 +76,9 @@ module _ (w : Setting) (s : State) (i : Invariant w s) where
 
   pub found-line : (llid g : ℕ) → findGroup (s .head) llid ≡ At g → (g < length (s .history .groups)) × (groupLaneAt s g .llid ≡ llid)
   found-line llid g e =
-      let r = group-found (s .head) llid g e in
+      let r = group-at (s .head) llid g e in
       let known : g < length (s .history .groups) = omega (arith, r .used, i .count) in
-      (known, sym (i .group g known .llid) ∙ r .is)
+      (known, sym (i .group g known .llid) ∙ r .has)
 
   pub line-once : (g h : ℕ) → g < length (s .history .groups) → h < length (s .history .groups) → groupLaneAt s g .llid ≡ groupLaneAt s h .llid
       → g ≡ h
@@ -165,6 +148,24 @@ module _ (w : Setting) (s : State) (i : Invariant w s) where
   unfolding alone
   subscribers-paired = sym (length-map (s .subscribers) (λ (x : Subscriber). x .onu)) ∙ i .units .paired
 
+  -- by whether it is the unit that is replaced
+  pub by-unit : (u v : ℕ) (x : Subscriber) (ms : List Membership) (P : Subscriber → List Membership → Type 0) → v < length (lanes s)
+      → (v ≡ u → P x ms) → ((v ≡ u → ⊥) → P (subscriberAt s v) (joinedBy s v))
+      → P (getD (set (s .subscribers) u x) v noSubscriber) (getD (set (s .history .joined) u ms) v [])
+  by-unit u v x ms P h own other = by-test (eqb v u) refl where
+    by-test : (t : Bool) → eqb v u ≡ t → P (getD (set (s .subscribers) u x) v noSubscriber) (getD (set (s .history .joined) u ms) v [])
+    by-test true e =
+        let z : v ≡ u = eqb-true v u e in
+        let below : u < length (lanes s) = omega (arith, h, z) in
+        rw (
+          z,
+          getD-set-same (s .subscribers) u x noSubscriber (omega (arith, below, subscribers-paired)),
+          getD-set-same (s .history .joined) u ms [] (omega (arith, below, i .paired)),
+        ) (own z)
+    by-test false e =
+        let n = eqb-false v u e in
+        rw (getD-set-other (s .subscribers) u v x noSubscriber n, getD-set-other (s .history .joined) u v ms [] n) (other n)
+
   -- past the end stands a unit that joined nothing
   pub memberships-right : (u : ℕ) → validMemberships (subscriberAt s u) ≡ true
   memberships-right u = by-place (ltb u (length (lanes s))) refl where
@@ -173,3 +174,10 @@ module _ (w : Setting) (s : State) (i : Invariant w s) where
     by-place false p =
         ap validMemberships (List·getD-eq-default (s .subscribers) noSubscriber (omega (arith, ltb-false u (length (lanes s)) p, subscribers-paired)))
         ∙ no-memberships
+
+  -- none of a unit's own LLIDs is one that it joined
+  pub own-nowhere : (u llid : ℕ) → Alive w (alone s) u → has (laneAt (alone s) u .site .identity) llid ≡ true
+      → findJoined (subscriberAt s u) llid ≡ Nowhere
+  own-nowhere u llid a h =
+      own-not-joined (subscriberAt s u) llid (memberships-right u)
+      (ap (λ (o : Onu). has (o .identity) llid) (sym (onu-alone s u)) ∙ a .common .llids llid ∙ h)

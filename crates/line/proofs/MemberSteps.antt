@@ -21,7 +21,7 @@ use Rattle.line.specs.Run.{State, alone, noSubscriber, subscriberAt, joi
 use Rattle.line.proofs.Invariant.{GroupArrived, Recorded, joinedFor, Follows, Stranger, Joins, Invariant}
 use Rattle.line.proofs.Frames.{follows-moved, send-moved}
 use Rattle.line.proofs.GroupSteps.{member-same}
-use Rattle.line.proofs.Lines.{line-once, subscribers-paired}
+use Rattle.line.proofs.Lines.{by-unit, line-once}
 use Rattle.line.proofs.Places.{set-field, set-holds}
 use Rattle.line.proofs.Queues.{Grown}
 
@@ -109,21 +109,6 @@ module _ (w : Setting) (s : State) (u g : ℕ) (x : Subscriber) (ms : List Membe
 
   ---- units
 
-  by-unit : (P : Subscriber → List Membership → Type 0) (v : ℕ) → (v ≡ u → P x ms) → ((v ≡ u → ⊥) → P (subscriberAt s v) (joinedBy s v))
-      → P (getD (set (s .subscribers) u x) v noSubscriber) (getD (set (s .history .joined) u ms) v [])
-  by-unit P v own other = by-test (eqb v u) refl where
-    by-test : (t : Bool) → eqb v u ≡ t → P (getD (set (s .subscribers) u x) v noSubscriber) (getD (set (s .history .joined) u ms) v [])
-    by-test true e =
-        let z : v ≡ u = eqb-true v u e in
-        rw (
-          z,
-          getD-set-same (s .subscribers) u x noSubscriber (omega (arith, p .unit, subscribers-paired w s i)),
-          getD-set-same (s .history .joined) u ms [] (omega (arith, p .unit, i .paired)),
-        ) (own z)
-    by-test false e =
-        let n = eqb-false v u e in
-        rw (getD-set-other (s .subscribers) u v x noSubscriber n, getD-set-other (s .history .joined) u v ms [] n) (other n)
-
   joins-other : (v : ℕ) → v < length (lanes s) → Joins (set gs g l) (laneAt (alone s) v) (subscriberAt s v) (joinedBy s v)
   joins-other v h =
       let j = i .joins v h in
@@ -193,11 +178,11 @@ module _ (w : Setting) (s : State) (u g : ℕ) (x : Subscriber) (ms : List Membe
         → Pair v k (lineAt k) (getD (set (s .subscribers) u x) v noSubscriber) (getD (set (s .history .joined) u ms) v [])
     by-test true e =
         rw (eqb-true k g e, getD-set-same (s .history .groups) g l noGroupLane (p .known))
-        (by-unit (Pair v g l) v own (other-unit v hv))
+        (by-unit w s i u v x ms (Pair v g l) hv own (other-unit v hv))
     by-test false e =
         let n = eqb-false k g e in
         rw (getD-set-other (s .history .groups) g k l noGroupLane n)
-        (by-unit (Pair v k (groupLaneAt s k)) v (λ z. rw z (other-group k hk n)) (λ z. i .follows v k hv hk))
+        (by-unit w s i u v x ms (Pair v k (groupLaneAt s k)) hv (λ z. rw z (other-group k hk n)) (λ z. i .follows v k hv hk))
 
   ---- the whole
 
@@ -236,7 +221,7 @@ module _ (w : Setting) (s : State) (u g : ℕ) (x : Subscriber) (ms : List Membe
         queues = λ k h. by-group (λ y. length (y .towards) ≡ length (lanes s)) k (p .queues) (λ n. i .queues k (rw places at h));
         group = λ k h. recorded k (rw places at h);
         joins = λ v h.
-            by-unit (Joins (set gs g l) (laneAt (alone s) v)) v (λ e. rw e joins-own) (λ n. joins-other v h);
+            by-unit w s i u v x ms (Joins (set gs g l) (laneAt (alone s) v)) h (λ e. rw e joins-own) (λ n. joins-other v h);
         follows = λ v k h q. pairs v k h (rw places at q);
         answered = λ k a h m. answered k a (rw places at h) m;
         keys = λ k h m n a b e. i .keys k h m n (rw (keys-stay k) at a) (rw (keys-stay h) at b) (rw (keys-stay k, keys-stay h) at e);

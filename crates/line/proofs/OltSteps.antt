@@ -4,9 +4,7 @@ use mathlib.Core.List.{List}
 use Prim.Native.Nat.{ℕ}
 use lib.ListN.{length, length-map}
 use Rattle.octets.specs.Choice.{both, pick}
-use Rattle.octets.proofs.Choice.{pick-holds, pick-same}
-use Rattle.octets.proofs.Maps.{map-always}
-use Rattle.ends.specs.Identities.{has}
+use Rattle.octets.proofs.Choice.{pick-same}
 use Rattle.ends.specs.declared.Found.the-variants.{Nowhere}
 use Rattle.ends.specs.declared.Olt.{Olt}
 use Rattle.protocol.specs.OltCalls.{captureOf, clockSendOf, retryOf, acknowledgeOf}
@@ -19,9 +17,10 @@ use Rattle.unicast.specs.History as history
 use Rattle.unicast.specs.History.{Lane, laneWith, laneCaptured, laneLeaving, laneSentDown, laneAcknowledged}
 use Rattle.unicast.specs.Events as events
 use Rattle.unicast.specs.Run as run
-use Rattle.unicast.specs.Run.{laneAt, atOlt, noted, named, accepted, freshLane, noSite, withLanes, clockSending, retrying, answerAt}
+use Rattle.unicast.specs.Run.{atOlt, noted, named, accepted, freshLane, noSite, withLanes, clockSending, retrying, answerAt}
 use Rattle.unicast.specs.Premises as premises
 use Rattle.unicast.proofs.Alive.{answered-alive}
+use Rattle.unicast.proofs.Owned.{at-olt-keeps}
 use Rattle.unicast.proofs.Theorem.{step-right}
 use Rattle.line.specs.History.{GroupLane}
 use Rattle.line.specs.Events.{capture, clockSend, retry, sendDown, arriveAnswer}
@@ -35,24 +34,9 @@ use Rattle.line.proofs.Lines.{noted-none, unit-no-group}
 
 ---- what a lane keeps
 
-noted-field : {A : Type 0} (q : Lane → A) (number llid : ℕ) (f : Lane → Lane) (l : Lane) → q (f l) ≡ q l → q (noted number (named llid f) l) ≡ q l
-unfolding noted named
-noted-field q number llid f l e =
-    pick-holds (λ (x : Lane). q x ≡ q l) (accepted number) (named llid f l) l
-    (λ p. pick-holds (λ (x : Lane). q x ≡ q l) (both (l .entry .registered) (has (l .site .identity) llid)) (f l) l (λ r. e) (λ r. refl)) (λ p. refl)
-
 pub noted-fresh : (number llid : ℕ) (f : Lane → Lane) → noted number (named llid f) (freshLane noSite) ≡ freshLane noSite
 unfolding noted named freshLane both pick
 noted-fresh number llid f = pick-same (accepted number) (freshLane noSite)
-
--- a call that names a unit
-pub named-field : {A : Type 0} (q : Lane → A) (s : run.State) (o : Olt) (number llid : ℕ) (f : Lane → Lane) → ((l : Lane) → q (f l) ≡ q l)
-    → (u : ℕ)
-    → q (laneAt (atOlt s o number llid f) u) ≡ q (laneAt s u)
-unfolding atOlt withLanes
-named-field q s o number llid f e u =
-    ap q (map-always (noted number (named llid f)) (s .history .lanes) u (freshLane noSite) (noted-fresh number llid f))
-    ∙ noted-field q number llid f (laneAt s u) (e (laneAt s u))
 
 named-length : (s : run.State) (o : Olt) (number llid : ℕ) (f : Lane → Lane)
     → length (atOlt s o number llid f .history .lanes) ≡ length (s .history .lanes)
@@ -81,8 +65,8 @@ named-beside w s o number llid f gs i k f-keeps same =
       rises = k .rises;
       ticks = named-ticks (alone s) o number llid f;
       paired = named-length (alone s) o number llid f;
-      site = named-field (λ (l : Lane). l .site) (alone s) o number llid f (f-keeps .site);
-      entry = λ u e. ap (λ (x : history.Entry). x .registered) (named-field (λ (l : Lane). l .entry) (alone s) o number llid f (f-keeps .entry) u) ∙ e;
+      site = at-olt-keeps (λ (l : Lane). l .site) (alone s) o number llid f (f-keeps .site);
+      entry = λ u e. ap (λ (x : history.Entry). x .registered) (at-olt-keeps (λ (l : Lane). l .entry) (alone s) o number llid f (f-keeps .entry) u) ∙ e;
       unit = λ u. unit-itself _;
       joined = refl;
       lines = same;
@@ -99,7 +83,7 @@ named-right w s o number llid f gs i k f-keeps offers same e is fits =
     beside-right w s _ i (named-beside w s o number llid f gs i k f-keeps same)
     (rw is (step-right w (alone s) e (i .units) fits))
     (λ u g m n p q z.
-    let stay = named-field (λ (l : Lane). l .keys .offers) (alone s) o number llid f offers u in
+    let stay = at-olt-keeps (λ (l : Lane). l .keys .offers) (alone s) o number llid f offers u in
     i .mixed u g m n (rw stay at p) q (rw stay at z))
 
 ---- captures, clock messages

@@ -1,5 +1,5 @@
 -- The calls of a unit on its own line keep the invariant. Assumes nothing.
-use mathlib.Core.Path.{_≡_, refl, sym, _∙_, ap}
+use mathlib.Core.Path.{_≡_, refl, _∙_, ap}
 use mathlib.Core.Bool.{Bool, true}
 use mathlib.Core.List.{List}
 use Prim.Native.Nat.{ℕ}
@@ -8,12 +8,11 @@ use lib.ListN.{length-set}
 use lib.Seq.{set-getD}
 use borrow.Author.Tests.{ne-eqb}
 use Rattle.octets.specs.Output.{WithOutput}
-use Rattle.octets.proofs.Choice.{pick-false, pick-holds}
+use Rattle.octets.proofs.Choice.{pick-false}
 use Rattle.refusal.specs.Number.{verdictNumber}
 use Rattle.refusal.proofs.Order.{refuse-accepted, refused-accepts}
 use Rattle.refusal.proofs.Numbers.{number-accepted}
 use Rattle.ends.specs.Identities.{has}
-use Rattle.ends.specs.declared.Onu.{Onu}
 use Rattle.ends.specs.declared.Found.{Found}
 use Rattle.ends.specs.declared.Found.the-variants.{At, Nowhere}
 use Rattle.protocol.specs.Headers.{envelopeHeader}
@@ -27,14 +26,16 @@ use Rattle.multicast.specs.SubscriberCalls.{subscriberClockMessageOf, subscribe
 use Rattle.multicast.specs.SubscriberTraffic.{groupSendVerdict, subscriberSendOf}
 use Rattle.multicast.specs.declared.SubscriberAcknowledged.{SubscriberAcknowledged}
 use Rattle.multicast.specs.declared.SubscriberSent.{SubscriberSent}
+use Rattle.multicast.proofs.SubscriberSteps.{send-identity, clock-identity, key-identity, receive-identity}
 use Rattle.unicast.specs.Setting.{Setting}
 use Rattle.unicast.specs.History.{InFlight, clockMessage, keyMessage, envelope, Entry, Lane, laneWith, laneSentUp, laneTaken, laneAnswered, laneArrivedDown}
 use Rattle.unicast.specs.Events as events
 use Rattle.unicast.specs.Run as run
-use Rattle.unicast.specs.Run.{laneAt, onuAt, atOnu, accepted, noted, freshLane, noSite, withLanes, inFlightAt}
+use Rattle.unicast.specs.Run.{laneAt, onuAt, atOnu, noted, freshLane, noSite, withLanes, inFlightAt}
 use Rattle.unicast.specs.Premises.{DueDown}
 use Rattle.unicast.proofs.Invariant as units
 use Rattle.unicast.proofs.Alive.{Alive, towards-alive}
+use Rattle.unicast.proofs.Owned.{noted-keeps}
 use Rattle.unicast.proofs.Queues.{towards-taken}
 use Rattle.unicast.proofs.Theorem.{step-right}
 use Rattle.line.specs.Events.{sendUp, arriveDown}
@@ -43,9 +44,8 @@ use Rattle.line.specs.Premises.{Fits}
 use Rattle.line.proofs.Invariant.{Invariant}
 use Rattle.line.proofs.Alone.{onu-alone}
 use Rattle.line.proofs.AloneUnit.{clock-message-onu, key-message-onu, send-onu, receive-onu, send-up-alone, clock-alone, key-alone, envelope-alone}
-use Rattle.line.proofs.Kept.{clock-message-kept, key-message-kept, onu-send-kept, onu-receive-kept}
 use Rattle.line.proofs.Beside.{Beside, UnitKept, with-onu-kept, unit-itself, beside-right}
-use Rattle.line.proofs.Lines.{own-not-joined, memberships-right}
+use Rattle.line.proofs.Lines.{own-nowhere, memberships-right}
 use Rattle.line.proofs.Places.{set-field, set-holds}
 
 ---- a unit and its own line replaced
@@ -101,10 +101,6 @@ group-send-refused x channel m e =
     let b = refuse-accepted _ _ _ (a .1) in
     refused-accepts _ (refuse-accepted _ _ _ (b .1) .1)
 
-noted-keeps : {A : Type 0} (q : Lane → A) (number : ℕ) (f : Lane → Lane) (l : Lane) → q (f l) ≡ q l → q (noted number f l) ≡ q l
-unfolding noted
-noted-keeps q number f l e = pick-holds (λ (x : Lane). q x ≡ q l) (accepted number) (f l) l (λ p. e) (λ p. refl)
-
 joined-send-up : (s : State) (u llid channel : ℕ) (p out : List ℕ) (k : ℕ) → findJoined (subscriberAt s u) llid ≡ At k
     → step s (sendUp u llid channel p out) ≡ s
 unfolding step sendingUp subscriberSendOf byLlid noted
@@ -122,7 +118,7 @@ unit-send-up-right w s u llid channel p out i fits none =
     let is = send-onu x v llid channel p out none in
     let fit : onuSendOf (onuAt (alone s) u) llid channel p out .answer .number ≡ 0 → laneAt (alone s) u .entry .registered ≡ true =
     λ z. fits (ap (λ (r : WithOutput SubscriberSent). r .answer .number) is ∙ rw (onu-alone s u) at z) in
-    own-right w s u _ _ i (rw is (with-onu-kept x _ (onu-send-kept (x .onu) llid channel p out)))
+    own-right w s u _ _ i (rw is (with-onu-kept x _ (send-identity (x .onu) llid channel p out)))
     (noted-keeps (λ (l : Lane). l .site) _ _ (laneAt (alone s) u) refl) (noted-keeps (λ (l : Lane). l .entry) _ _ (laneAt (alone s) u) refl)
     (noted-keeps (λ (l : Lane). l .keys .offers) _ _ (laneAt (alone s) u) refl)
     (rw (send-up-alone s u v llid channel p out none) (step-right w (alone s) (events.sendUp u llid channel p out) (i .units) fit))
@@ -152,12 +148,6 @@ module _ (w : Setting) (s : State) (u k : ℕ) (out : List ℕ) (i : Invariant w
   own-alive : Alive w (alone s) u
   own-alive = towards-alive w (alone s) u (i .units) k (d .some)
 
-  -- none of its own LLIDs is one that it joined
-  own-nowhere : (llid : ℕ) → has (laneAt (alone s) u .site .identity) llid ≡ true → findJoined (subscriberAt s u) llid ≡ Nowhere
-  own-nowhere llid h =
-      own-not-joined (subscriberAt s u) llid (memberships-right w s i u)
-      (ap (λ (o : Onu). has (o .identity) llid) (sym (onu-alone s u)) ∙ own-alive .common .llids llid ∙ h)
-
   in-flight-right : (x : InFlight) → inFlightAt (alone s) u k ≡ x → units.Invariant w (run.inFlightArriving (alone s) u k out x)
       → Invariant w (inFlightArriving s u k out x)
   unfolding inFlightArriving withOnu laneArrivedDown laneTaken laneWith envelopeHeader
@@ -165,7 +155,7 @@ module _ (w : Setting) (s : State) (u k : ℕ) (out : List ℕ) (i : Invariant w
       let x = subscriberAt s u in
       let v = memberships-right w s i u in
       message-right w s u k (subscriberClockMessageOf x m) i
-      (rw (clock-message-onu x v m) (with-onu-kept x _ (clock-message-kept (x .onu) m)))
+      (rw (clock-message-onu x v m) (with-onu-kept x _ (clock-identity (x .onu) m)))
       (rw (clock-alone s u v k out m c t) right)
   in-flight-right (keyMessage m t) e right =
       let x = subscriberAt s u in
@@ -173,9 +163,9 @@ module _ (w : Setting) (s : State) (u k : ℕ) (out : List ℕ) (i : Invariant w
       let j = own-alive .joined in
       let r = towards-taken (w .first) (laneAt (alone s) u .path) (laneAt (alone s) u) _ _ _ (laneAt (alone s) u .transit .towards) k _ (keyMessage m t)
       (d .some) e (j .towards) .0 in
-      let none = own-nowhere (m .llid) (r .named) in
+      let none = own-nowhere w s i u (m .llid) own-alive (r .named) in
       message-right w s u k (subscriberKeyMessageOf x m) i
-      (rw (key-message-onu x v m none) (with-onu-kept x _ (key-message-kept (x .onu) m)))
+      (rw (key-message-onu x v m none) (with-onu-kept x _ (key-identity (x .onu) m)))
       (rw (key-alone s u v k out m t none) right)
   in-flight-right (envelope y) e right =
       let x = subscriberAt s u in
@@ -183,10 +173,10 @@ module _ (w : Setting) (s : State) (u k : ℕ) (out : List ℕ) (i : Invariant w
       let j = own-alive .joined in
       let r = towards-taken (w .first) (laneAt (alone s) u .path) (laneAt (alone s) u) _ _ _ (laneAt (alone s) u .transit .towards) k _ (envelope y)
       (d .some) e (j .towards) .0 in
-      let none = own-nowhere (y .header .llid)
+      let none = own-nowhere w s i u (y .header .llid) own-alive
       (ap (λ (h : Header). has (laneAt (alone s) u .site .identity) (h .llid)) (j .passing .sent y (r .sent) .header) ∙ r .named) in
       own-right w s u _ (λ l. laneArrivedDown (receiptDown s u y out) (laneTaken k l)) i
-      (rw (receive-onu x v (y .header) (y .octets) out none) (with-onu-kept x _ (onu-receive-kept (x .onu) (y .header) (y .octets) out)))
+      (rw (receive-onu x v (y .header) (y .octets) out none) (with-onu-kept x _ (receive-identity (x .onu) (y .header) (y .octets) out)))
       refl refl refl
       (rw (envelope-alone s u v k out y none) right)
 

@@ -1,8 +1,9 @@
 -- What a call computes with, groups included: every definition but those of the cipher's octets, module by module in the order of the imports.
 -- Assumes nothing.
 use Rattle.refusal.specs.Order.{andThen}
+use Rattle.ends.specs.Table.{withOltChannels}
 use Rattle.groups.specs.Members.{placesOf, marksOf, rosterLlids, placeFrom, memberAt, freshMembers, unmarked, marked, validMembers}
-use Rattle.groups.specs.Head.{withGroupKeys, withMembers, freshGroup, noGroup, groupLlids, groupFrom, findGroup, pastGroup, withOlt, withOltChannels, withGroup, withOneGroupMore, noGroups, validGroupNumbers, validGroup, apartLlids, validGroups, validHead}
+use Rattle.groups.specs.Head.{withGroupKeys, withMembers, freshGroup, noGroup, groupLlids, groupFrom, findGroup, pastGroup, withOlt, withGroup, withOneGroupMore, noGroups, validGroupNumbers, validGroup, apartLlids, validGroups, validHead}
 use Rattle.groups.specs.GroupCalls.{groupOutcome, groupAdvanced, membersSet, groupOfferVerdict, groupOffered, offerGroup, retryGroup, memberFound, memberNamed, answersOffer, someMember, groupAcknowledgeVerdict, groupMarked, acknowledgeGroup, groupSwitches, groupSendChoice, wipedAtSwitch, groupKeysAfterSend, sendGroup}
 use Rattle.groups.specs.Subscriber as joined
 use Rattle.groups.specs.Subscriber.{freshJoined, joinedLlids, findJoined, pastJoined, withOnu, withJoined, withOneJoinedMore, noMemberships, validJoined, validGroupsOf, validMemberships, validSubscriber}
@@ -22,8 +23,9 @@ unfoldable pub opened : Unit {0}
 unfolding
     units.opened
     andThen
+    withOltChannels
     placesOf marksOf rosterLlids placeFrom memberAt freshMembers unmarked marked validMembers
-    withGroupKeys withMembers freshGroup noGroup groupLlids groupFrom findGroup pastGroup withOlt withOltChannels withGroup withOneGroupMore noGroups
+    withGroupKeys withMembers freshGroup noGroup groupLlids groupFrom findGroup pastGroup withOlt withGroup withOneGroupMore noGroups
     validGroupNumbers validGroup apartLlids validGroups validHead
     groupOutcome groupAdvanced membersSet groupOfferVerdict groupOffered offerGroup retryGroup memberFound memberNamed answersOffer someMember
     groupAcknowledgeVerdict groupMarked acknowledgeGroup groupSwitches groupSendChoice wipedAtSwitch groupKeysAfterSend sendGroup

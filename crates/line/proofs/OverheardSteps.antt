@@ -35,6 +35,7 @@ use Rattle.groups.specs.Subscriber.{findJoined, joinedAt, withOnu}
 use Rattle.groups.specs.declared.Joined.{Joined}
 use Rattle.groups.specs.declared.Subscriber.{Subscriber}
 use Rattle.groups.proofs.JoinedCalls.{next-held}
+use Rattle.groups.proofs.Places.{at-nowhere}
 use Rattle.groups.proofs.Subscribers.{with-itself}
 use Rattle.multicast.specs.Naming.{byLlid}
 use Rattle.multicast.specs.SubscriberTraffic.{subscriberReceived, groupReceiveOf, subscriberReceiveOf}
@@ -55,7 +56,7 @@ use Rattle.line.proofs.Alone.{onu-alone}
 use Rattle.line.proofs.AloneUnit.{receive-onu}
 use Rattle.line.proofs.AnswerSteps.{known-line}
 use Rattle.line.proofs.Arriving.{no-own, joined-listed}
-use Rattle.line.proofs.Finding.{at-nowhere, joined-none}
+use Rattle.line.proofs.Finding.{joined-none}
 use Rattle.line.proofs.Invariant.{Empty, Stranger, Invariant}
 use Rattle.line.proofs.JoinedLift.{Ends, accepted, refused, lift-ends}
 use Rattle.line.proofs.Lines.{memberships-right, group-finds, line-once, unit-no-group}

@@ -35,7 +35,7 @@ use Rattle.line.proofs.AloneHead.{offer-olt, capture-alone, clock-send-
 use Rattle.line.proofs.AloneUnit.{send-onu, send-up-alone, clock-alone, key-alone, envelope-alone}
 use Rattle.line.proofs.AdvanceSteps.{advance-alone}
 use Rattle.line.proofs.ArrivalSteps.{up-llid}
-use Rattle.line.proofs.Lines.{own-not-joined, unit-no-group, noted-none, memberships-right}
+use Rattle.line.proofs.Lines.{own-nowhere, unit-no-group, noted-none, memberships-right}
 use Rattle.line.proofs.Theorem.{step-right}
 
 -- no group was offered the key
@@ -49,9 +49,7 @@ module _ (w : Setting) (s : State) (i : Invariant w s) (u llid : ℕ) (key : Lis
 
   -- none of its own LLIDs is one that it joined
   not-joined : (x : ℕ) → has (laneAt (alone s) u .site .identity) x ≡ true → findJoined (subscriberAt s u) x ≡ Nowhere
-  not-joined x h =
-      own-not-joined (subscriberAt s u) x (memberships-right w s i u)
-      (ap (λ (o : Onu). has (o .identity) x) (sym (onu-alone s u)) ∙ registered-alive w (alone s) u (i .units) registered .common .llids x ∙ h)
+  not-joined x h = own-nowhere w s i u x (registered-alive w (alone s) u (i .units) registered) h
 
   send-fits : (channel : ℕ) (p out : List ℕ) → premises.Fits w (alone s) (units.sendUp u llid channel p out)
       → Fits w s (plain (units.sendUp u llid channel p out))

@@ -27,6 +27,7 @@ use Rattle.protocol.specs.Replies.{silent}
 use Rattle.protocol.proofs.Replies.{reply-verdict, reply-accepted, reply-untouched, number-refused}
 use Rattle.groups.specs.Head.{groupLlids, registeredGroups, placesTaken, withOlt, validHead}
 use Rattle.groups.specs.declared.HeadEnd.{HeadEnd}
+use Rattle.groups.proofs.HeadGroups.{unit-more-groups-valid}
 use Rattle.multicast.specs.HeadCalls.{headAnswer, unitVerdict, headRegisterOf}
 use Rattle.multicast.specs.declared.HeadAnswer.{HeadAnswer}
 use Rattle.unicast.specs.Setting.{Setting}
@@ -42,7 +43,6 @@ use Rattle.line.specs.Premises.{Fits}
 use Rattle.line.proofs.Invariant.{Invariant}
 use Rattle.line.proofs.Beside.{unit-itself, beside-right}
 use Rattle.line.proofs.Places.{set-field, set-holds}
-use Rattle.line.proofs.Valid.{unit-more-valid}
 
 -- what an accepted registration has met, and answers with
 record Accepts (h : HeadEnd) (i : Identity) (trip interval : ℕ) : Type 0 where
@@ -105,7 +105,7 @@ accepted-right w s u i trip interval v fits a =
     (record {
       groups = refl;
       valid =
-          unit-more-valid (s .head) i trip interval (a .room)
+          unit-more-groups-valid (s .head) i trip interval (a .room)
           (omega (arith, a .room, v .units .places)) (a .few) (a .apart) (v .valid);
       rises = more-shared (s .head .olt) i trip interval;
       ticks = refl;

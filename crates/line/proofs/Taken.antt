@@ -19,10 +19,10 @@ use Rattle.groups.specs.Members.{placeFrom}
 use Rattle.groups.specs.Subscriber.{freshJoined, joinedLlids, joinedGroups, findJoined, joinedAt, pastJoined, withJoined}
 use Rattle.groups.specs.declared.Joined.{Joined}
 use Rattle.groups.specs.declared.Subscriber.{Subscriber}
+use Rattle.groups.proofs.Subscribers.{found-place}
 use Rattle.multicast.specs.Naming.{byLlid}
 use Rattle.line.specs.History.{Membership, isJoined, hasTaken, taking}
 use Rattle.line.proofs.Invariant.{joinedFor}
-use Rattle.line.proofs.Finding.{joined-found}
 
 ---- what was taken
 
@@ -124,7 +124,7 @@ module _ (x : Subscriber) (llid i : ℕ) (j : Joined) (found : findJoined x llid
       let n = x .memberships .count in
       let l = x .memberships .table in
       map-take (λ (y : Joined). y .llid) n (set l i j)
-      ∙ ap (take n) (map-set-same (λ (y : Joined). y .llid) l i j pastJoined (named ∙ sym (joined-found x llid i found .is)))
+      ∙ ap (take n) (map-set-same (λ (y : Joined). y .llid) l i j pastJoined (named ∙ sym (found-place x llid i found .has)))
       ∙ sym (map-take (λ (y : Joined). y .llid) n l)
 
   with-finds : (y : ℕ) → findJoined (withJoined x i j) y ≡ findJoined x y
@@ -135,7 +135,7 @@ module _ (x : Subscriber) (llid i : ℕ) (j : Joined) (found : findJoined x llid
   unfolding joinedFor byLlid withJoined
   with-own =
       ap (λ (f : Found). byLlid f (freshJoined llid) (joinedAt (withJoined x i j))) (with-finds llid ∙ found)
-      ∙ getD-set-same (x .memberships .table) i j pastJoined (joined-found x llid i found .place)
+      ∙ getD-set-same (x .memberships .table) i j pastJoined (found-place x llid i found .placed)
 
   pub with-other : (y : ℕ) → (y ≡ llid → ⊥) → joinedFor (withJoined x i j) y ≡ joinedFor x y
   unfolding joinedFor byLlid withJoined
@@ -145,8 +145,8 @@ module _ (x : Subscriber) (llid i : ℕ) (j : Joined) (found : findJoined x llid
         ap (λ (z : Found). byLlid z (freshJoined y) (joinedAt (withJoined x i j))) (with-finds y ∙ e)
         ∙ sym (ap (λ (z : Found). byLlid z (freshJoined y) (joinedAt x)) e)
     by-found (At k) e =
-        let differs : k ≡ i → ⊥ = λ z. d (sym (joined-found x y k e .is) ∙ ap (λ (n : ℕ). joinedAt x n .llid) z
-        ∙ joined-found x llid i found .is) in
+        let differs : k ≡ i → ⊥ = λ z. d (sym (found-place x y k e .has) ∙ ap (λ (n : ℕ). joinedAt x n .llid) z
+        ∙ found-place x llid i found .has) in
         ap (λ (z : Found). byLlid z (freshJoined y) (joinedAt (withJoined x i j))) (with-finds y ∙ e)
         ∙ getD-set-other (x .memberships .table) i k j pastJoined differs
         ∙ sym (ap (λ (z : Found). byLlid z (freshJoined y) (joinedAt x)) e)

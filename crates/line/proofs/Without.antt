@@ -1,28 +1,22 @@
 -- Lists without groups and joins run as without groups. Assumes nothing.
 use mathlib.Core.Path.{_≡_, refl, sym, _∙_, ap}
-use mathlib.Core.Bool.{Bool, true, false, not}
+use mathlib.Core.Bool.{Bool, true, false}
 use mathlib.Core.List.{List, [], _∷_, map}
 use Prim.Native.Nat.{ℕ, _+_, _<_}
-use native.Mathlib.Nat.{add-zero}
 use native.Mathlib.Omega.{arith}
 use lib.Dec.{ltb}
 use lib.Seq.{set-getD}
 use lib.ListN.{length, getD, List·getD-eq-default}
 use borrow.Author.Tests.{ltb-true, ltb-false}
-use Rattle.octets.specs.Choice.{both, either}
 use Rattle.octets.specs.Output.{WithOutput}
 use Rattle.refusal.specs.declared.Refusal.{Refusal}
-use Rattle.refusal.specs.declared.Verdict.{Verdict}
-use Rattle.refusal.specs.declared.Verdict.the-variants.{Accepted, Refused}
-use Rattle.ends.specs.Identities.{among, distinct, meets, noIdentity, llidsOf}
+use Rattle.ends.specs.Identities.{among, noIdentity}
 use Rattle.ends.specs.Records.{newOnu}
-use Rattle.ends.specs.Table.{registered, tableLlids}
-use Rattle.ends.specs.Validity.{validOlt}
 use Rattle.ends.specs.declared.Identity.{Identity}
 use Rattle.ends.specs.declared.Olt.{Olt}
 use Rattle.ends.specs.declared.Onu.{Onu}
 use Rattle.protocol.specs.Headers.{noPassage}
-use Rattle.protocol.specs.OltCalls.{oltAnswer, registerVerdict, registering, registerOf, measureOf, acknowledgeOf}
+use Rattle.protocol.specs.OltCalls.{measureOf, acknowledgeOf}
 use Rattle.protocol.specs.OltTraffic.{receivingOlt}
 use Rattle.protocol.specs.declared.Acknowledgement.{Acknowledgement}
 use Rattle.protocol.specs.declared.Header.{Header}
@@ -32,19 +26,18 @@ use Rattle.protocol.proofs.NewTimes.{new-time-refused}
 use Rattle.protocol.proofs.OnuCalls.{clock-message-refused, key-message-refused}
 use Rattle.protocol.proofs.Replies.{number-refused}
 use Rattle.protocol.specs.OnuCalls.{newTimeOf, clockMessageAt, keyMessageAt}
-use Rattle.protocol.specs.Replies.{reply, silent}
 use Rattle.traffic.specs.Passages.{misfit}
 use Rattle.traffic.specs.Receipts.{oltReceived, oltReceiveOf, onuNotReceived, onuReceiveOf}
 use Rattle.traffic.specs.declared.OnuReceived.{OnuReceived}
 use Rattle.traffic.specs.Sends.{onuSendOf}
 use Rattle.ends.specs.declared.Found.{Found}
 use Rattle.ends.specs.declared.Found.the-variants.{At, Nowhere}
-use Rattle.groups.specs.Head.{findGroup, groupLlids, withOlt, validHead, validGroups}
+use Rattle.groups.specs.Head.{findGroup, withOlt}
 use Rattle.groups.specs.Members.{placeFrom}
 use Rattle.groups.specs.Subscriber.{findJoined, joinedLlids, noMemberships, validMemberships}
 use Rattle.groups.specs.declared.HeadEnd.{HeadEnd}
 use Rattle.groups.specs.declared.Subscriber.{Subscriber}
-use Rattle.multicast.specs.HeadCalls.{headAnswer, unitVerdict, headRegisterOf, headMeasureOf}
+use Rattle.multicast.specs.HeadCalls.{headMeasureOf}
 use Rattle.multicast.specs.SubscriberCalls.{ownAnswer}
 use Rattle.multicast.specs.declared.HeadAnswer.{HeadAnswer}
 use Rattle.multicast.specs.declared.HeadKeySent.{HeadKeySent}
@@ -53,6 +46,7 @@ use Rattle.multicast.specs.declared.SubscriberAcknowledged.{SubscriberAcknowled
 use Rattle.multicast.specs.declared.SubscriberAnswer.{SubscriberAnswer}
 use Rattle.multicast.specs.declared.SubscriberReceived.{SubscriberReceived}
 use Rattle.multicast.specs.declared.SubscriberSent.{SubscriberSent}
+use Rattle.multicast.proofs.NoGroups as multicast
 use Rattle.unicast.specs.Setting.{Setting}
 use Rattle.unicast.specs.History.{InFlight, clockMessage, keyMessage, envelope, Lane}
 use Rattle.unicast.specs.Events as units
@@ -112,41 +106,7 @@ no-joined w s u llid i p = by-length (ltb u (length (lanes s))) refl where
       (List·getD-eq-default (s .subscribers) noSubscriber (omega (arith, ltb-false u (length (lanes s)) e, subscribers-paired w s i)))
       ∙ none-found llid
 
----- a registration
-
-either-nothing : (b : Bool) → either b false ≡ b
-unfolding either
-either-nothing true = refl
-either-nothing false = refl
-
-both-always : (b : Bool) → both b true ≡ b
-unfolding both
-both-always true = refl
-both-always false = refl
-
-plain-verdict : (h : HeadEnd) (i : Identity) (trip interval : ℕ) → h .groups .count ≡ 0
-    → unitVerdict h i trip interval ≡ registerVerdict (h .olt) i trip interval
-unfolding unitVerdict registerVerdict groupLlids meets
-plain-verdict h i trip interval e = rw (
-  e,
-  add-zero (h .olt .count),
-  either-nothing
-      (either (not (distinct (llidsOf i))) (meets (llidsOf i) (tableLlids (registered (h .olt))))),
-)
-
-same-reply : (h : HeadEnd) (v : Verdict) (o : Olt)
-    → headAnswer (reply v h silent (withOlt h o) silent)
-    ≡ record { number = oltAnswer (reply v (h .olt) silent o silent) .number; head = withOlt h (oltAnswer (reply v (h .olt) silent o silent) .olt) }
-unfolding headAnswer oltAnswer reply withOlt
-same-reply h Accepted o = refl
-same-reply h (Refused r) o = refl
-
-register-plain : (h : HeadEnd) (i : Identity) (trip interval : ℕ) → validGroups h ≡ true → h .groups .count ≡ 0
-    → headRegisterOf h i trip interval
-    ≡ record { number = registerOf (h .olt) i trip interval .number; head = withOlt h (registerOf (h .olt) i trip interval .olt) }
-unfolding headRegisterOf registerOf registering validHead
-register-plain h i trip interval v e =
-    rw (v, both-always (validOlt (h .olt)), plain-verdict h i trip interval e) (same-reply h _ _)
+---- what stays
 
 not-received : (o : Onu) (r : Refusal) → onuNotReceived o r .onu ≡ o
 unfolding onuNotReceived
@@ -181,7 +141,7 @@ module _ (w : Setting) (s : State) (i : Invariant w s) (p : Plain s) where
   unfolding plain alone
   plain-fits (units.advance n) f = tt
   plain-fits (units.register u x trip interval) f =
-      λ z. f (sym (ap (λ (r : HeadAnswer). r .number) (register-plain (s .head) x trip interval (i .valid) no-count)) ∙ z)
+      λ z. f (sym (ap (λ (r : HeadAnswer). r .number) (multicast.without-groups .asOlt (s .head) no-count .register x trip interval)) ∙ z)
   plain-fits (units.capture llid) f = tt
   plain-fits (units.clockSend llid) f = tt
   plain-fits (units.offer llid key) f =
@@ -311,7 +271,7 @@ module _ (w : Setting) (s : State) (i : Invariant w s) (p : Plain s) where
   register-alone : (u : ℕ) (x : Identity) (trip interval : ℕ)
       → alone (step s (register u x trip interval)) ≡ run.step (alone s) (units.register u x trip interval)
   unfolding step line.registering atHead alone withOlt run.step run.entering
-  register-alone u x trip interval = rw (register-plain (s .head) x trip interval (i .valid) no-count)
+  register-alone u x trip interval = rw (multicast.without-groups .asOlt (s .head) no-count .register x trip interval)
 
   in-flight-alone : (u k : ℕ) (out : List ℕ) (x : InFlight) → alone (inFlightArriving s u k out x) ≡ run.inFlightArriving (alone s) u k out x
   in-flight-alone u k out (clockMessage m c t) = clock-alone s u (valid u) k out m c t

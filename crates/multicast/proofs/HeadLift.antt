@@ -7,11 +7,12 @@ use Rattle.refusal.specs.declared.Verdict.{Verdict}
 use Rattle.refusal.specs.declared.Verdict.the-variants.{Accepted, Refused}
 use Rattle.refusal.specs.Order.{refuseIf, andThen}
 use Rattle.ends.specs.Records.{withChannels}
+use Rattle.ends.specs.Table.{withOltChannels}
 use Rattle.ends.specs.declared.Olt.{Olt}
 use Rattle.protocol.specs.Replies.{reply, onValid}
 use Rattle.unit.specs.Reached.{ifAccepted}
 use Rattle.groups.specs.GroupCalls.{GroupOutcome, reachedGroup}
-use Rattle.groups.specs.Head.{pastGroup, groupAt, withOltChannels, withGroup, validHead}
+use Rattle.groups.specs.Head.{pastGroup, groupAt, withGroup, validHead}
 use Rattle.groups.specs.declared.GroupRecord.{GroupRecord}
 use Rattle.groups.specs.declared.HeadEnd.{HeadEnd}
 use Rattle.multicast.specs.Naming.{putGroup, groupLift}

@@ -1,20 +1,18 @@
 -- A valid head end stays valid after each call. Assumes nothing.
-use mathlib.Core.Path.{_≡_, refl, sym, ap, _∙_}
+use mathlib.Core.Path.{_≡_, refl}
 use mathlib.Core.Bool.{true}
 use mathlib.Core.List.{List}
 use Prim.Native.Nat.{ℕ, _≤_, _<_}
 use native.Mathlib.Omega.{arith}
-use lib.ListN.{length-take, take, set}
-use lib.Seq.{getD-take, map-set-same, take-set-lt}
+use lib.ListN.{length-take}
+use lib.Seq.{getD-take}
 use Rattle.octets.proofs.Choice.{pick-holds}
-use Rattle.octets.proofs.Maps.{map-take}
-use Rattle.octets.proofs.Tests.{all-at, all-set}
+use Rattle.octets.proofs.Tests.{all-at}
 use Rattle.refusal.specs.declared.Verdict.{Verdict}
 use Rattle.refusal.specs.declared.Verdict.the-variants.{Accepted}
 use Rattle.refusal.proofs.Order.{refuse-accepted, then-accepted}
-use Rattle.ends.specs.Identities.{distinct, meets}
 use Rattle.ends.specs.Occupancy.{validChannels}
-use Rattle.ends.specs.Records.{withChannels, withClock, withKeys}
+use Rattle.ends.specs.Records.{withClock, withKeys}
 use Rattle.ends.specs.Table.{registered, tableLlids}
 use Rattle.ends.specs.Validity.{validOlt}
 use Rattle.ends.specs.declared.Channels.{Channels}
@@ -25,7 +23,7 @@ use Rattle.ends.specs.declared.Shared.{Shared}
 use Rattle.ends.specs.declared.UnitRecord.{UnitRecord}
 use Rattle.ends.proofs.Occupancy.{occupied-valid}
 use Rattle.ends.proofs.Table.{table-same}
-use Rattle.ends.proofs.Validity.{olt-in-range, olt-valid, shared-in-range, shared-valid}
+use Rattle.ends.proofs.Validity.{olt-in-range, shared-in-range, with-channels-valid}
 use Rattle.envelope.specs.ControlMask.{eqsOf}
 use Rattle.octets.specs.Eqs.{maxEqs}
 use Rattle.octets.specs.Output.{WithOutput}
@@ -52,14 +50,15 @@ use Rattle.traffic.specs.declared.OltSent.{OltSent}
 use Rattle.traffic.proofs.Passages.{few-eqs}
 use Rattle.traffic.proofs.Receipts.{olt-receive-valid}
 use Rattle.traffic.proofs.Sends.{olt-send-valid}
-use Rattle.groups.specs.GroupCalls.{GroupOutcome, acknowledgeGroup, groupMarked, groupOffered, groupOutcome, groupSendChoice, memberNamed, membersSet, offerGroup, retryGroup, sendGroup}
-use Rattle.groups.specs.Head.{findGroup, groupAt, groupLlids, pastGroup, registeredGroups, validGroup, validGroups, validHead, withGroup, withGroupKeys, withMembers, withOlt, withOltChannels}
+use Rattle.groups.specs.GroupCalls.{GroupOutcome, acknowledgeGroup, groupOffered, groupOutcome, groupSendChoice, memberNamed, membersSet, offerGroup, retryGroup, sendGroup}
+use Rattle.groups.specs.Head.{findGroup, groupAt, pastGroup, registeredGroups, validGroup, validGroups, validHead, withGroup, withGroupKeys, withMembers, withOlt}
 use Rattle.groups.specs.declared.Answer.{Answer}
 use Rattle.groups.specs.declared.GroupRecord.{GroupRecord}
 use Rattle.groups.specs.declared.HeadEnd.{HeadEnd}
 use Rattle.groups.proofs.Found.{Stands, group-at}
-use Rattle.groups.proofs.GroupSteps.{group-marked-valid, group-offered-valid, group-sent-valid}
-use Rattle.groups.proofs.HeadValidity.{head-in-range, head-valid}
+use Rattle.groups.proofs.GroupSteps.{group-marked-valid, group-offered-valid, group-sent-valid, marked-llid}
+use Rattle.groups.proofs.HeadGroups.{replaced-groups-valid}
+use Rattle.groups.proofs.HeadValidity.{groups-in-range, groups-valid, head-in-range, head-valid}
 use Rattle.multicast.specs.HeadCalls.{headAcknowledgeOf, headAnswer, headCaptureOf, headClockSendOf, headKeySent, headMeasureOf, headOfferOf, headRetryOf, oltAnswered, oltClockSent, oltKeySent, ownAcknowledgement}
 use Rattle.multicast.specs.HeadTraffic.{headReceiveOf, headSendOf, headSent, oltReceivedIn, oltSentIn}
 use Rattle.multicast.specs.Naming.{byLlid, groupLift, putGroup}
@@ -80,14 +79,18 @@ pub record SameTable (o p : Olt) : Type 0 where
 pub with-olt-valid : (h : HeadEnd) (o : Olt) → SameTable (h .olt) o → validOlt o ≡ true → validHead h ≡ true → validHead (withOlt h o) ≡ true
 unfolding withOlt
 with-olt-valid h o s v w =
-    let r = head-in-range h w in
+    let r = groups-in-range h (head-in-range h w .groups) in
     head-valid (withOlt h o)
     (record {
       olt = v;
-      places = rw (s .count) (r .places);
-      groups = rw (s .tick, s .count) (r .groups);
-      distinct = r .distinct;
-      apart = rw (s .llids) (r .apart);
+      groups =
+          groups-valid (withOlt h o)
+          (record {
+            places = rw (s .count) (r .places);
+            each = rw (s .tick, s .count) (r .each);
+            distinct = r .distinct;
+            apart = rw (s .llids) (r .apart);
+          });
     })
 
 ---- one group replaced
@@ -98,42 +101,17 @@ pub group-at-valid : (h : HeadEnd) (llid i : ℕ) → validHead h ≡ true → S
 group-at-valid h llid i v s =
     rw (getD-take (h .groups .count) (h .groups .table) i pastGroup (s .used))
     at
-    (all-at (validGroup (h .olt .shared .tick) (h .olt .count)) (registeredGroups h) i pastGroup (head-in-range h v .groups)
+    (all-at (validGroup (h .olt .shared .tick) (h .olt .count)) (registeredGroups h) i pastGroup (groups-in-range h (head-in-range h v .groups) .each)
     (omega (arith, length-take (h .groups .count) (h .groups .table), s .used, s .place)))
-
-channels-valid : (o : Olt) (c : Channels) → validChannels c ≡ true → validOlt o ≡ true → validOlt (withOltChannels o c) ≡ true
-unfolding withOltChannels withChannels
-channels-valid o c w v =
-    let r = olt-in-range o v in
-    let s = shared-in-range (o .shared) (r .shared) in
-    olt-valid (withOltChannels o c)
-    (record {
-      count = r .count;
-      shared = shared-valid _ (record { mac = s .mac; tick = s .tick; clock = s .clock; channels = w });
-      units = r .units;
-      distinct = r .distinct;
-    })
 
 pub with-group-valid : (h : HeadEnd) (i : ℕ) (c : Channels) (g : GroupRecord) → i < h .groups .count → g .llid ≡ groupAt h i .llid
     → validGroup (h .olt .shared .tick) (h .olt .count) g ≡ true → validChannels c ≡ true → validHead h ≡ true
     → validHead (withGroup h i c g) ≡ true
-unfolding withGroup withOltChannels withChannels groupLlids
+unfolding withGroup
 with-group-valid h i c g k e v w u =
     let r = head-in-range h u in
-    let llids : groupLlids (take (h .groups .count) (set (h .groups .table) i g)) ≡ groupLlids (registeredGroups h) =
-    map-take (λ (x : GroupRecord). x .llid) (h .groups .count) (set (h .groups .table) i g)
-    ∙ ap (take (h .groups .count)) (map-set-same (λ (x : GroupRecord). x .llid) (h .groups .table) i g pastGroup e)
-    ∙ sym (map-take (λ (x : GroupRecord). x .llid) (h .groups .count) (h .groups .table)) in
     head-valid (withGroup h i c g)
-    (record {
-      olt = channels-valid (h .olt) c w (r .olt);
-      places = r .places;
-      groups =
-          rw (take-set-lt (h .groups .count) (h .groups .table) i g k)
-          (all-set (validGroup (h .olt .shared .tick) (h .olt .count)) (registeredGroups h) i g (r .groups) v);
-      distinct = ap distinct llids ∙ r .distinct;
-      apart = ap (λ (l : List ℕ). meets l (tableLlids (registered (h .olt)))) llids ∙ r .apart;
-    })
+    (record { olt = with-channels-valid (h .olt) c w (r .olt); groups = replaced-groups-valid h i c g k e v (r .groups) })
 
 -- an accepted call on a group leaves a valid group, of the same LLID, and valid channels
 pub record GroupKeeps {H : Type 0} (call : Olt → GroupRecord → GroupOutcome H) : Type 0 where
@@ -215,11 +193,6 @@ by-llid P (At i) alone group p q = q i refl
 olt-channels : (o : Olt) → validOlt o ≡ true → validChannels (o .shared .channels) ≡ true
 olt-channels o v = shared-in-range (o .shared) (olt-in-range o v .shared) .channels
 
-marked-llid : (g : GroupRecord) (member : Found) → groupMarked g member .llid ≡ g .llid
-unfolding groupMarked withMembers
-marked-llid g Nowhere = refl
-marked-llid g (At j) = refl
-
 offer-group-keeps : (llid : ℕ) (key : List ℕ) → GroupKeeps (λ o g. offerGroup llid key (membersSet o (g .members)) (o .shared) g)
 unfolding offerGroup groupOutcome groupOffered withGroupKeys withMembers
 offer-group-keeps llid key =
@@ -253,7 +226,7 @@ send-group-keeps llid channel eqs few =
           occupied-valid (o .shared .channels) channel (o .shared .tick) eqs (s .tick) few (s .channels);
     }
 
-send-identity : (llid channel eqs : ℕ) (s : Shared) (u : UnitRecord) → sendUnit llid channel eqs s u .unit .identity ≡ u .identity
+pub send-identity : (llid channel eqs : ℕ) (s : Shared) (u : UnitRecord) → sendUnit llid channel eqs s u .unit .identity ≡ u .identity
 unfolding sendUnit withKeys
 send-identity llid channel eqs s u = refl
 

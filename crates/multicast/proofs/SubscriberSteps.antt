@@ -147,7 +147,7 @@ valid-after-join s llid l v =
 
 ---- advance, a new LocalTime, clock message
 
-advance-identity : (o : Onu) (n : ℕ) → advanceOnuOf o n .onu .identity ≡ o .identity
+pub advance-identity : (o : Onu) (n : ℕ) → advanceOnuOf o n .onu .identity ≡ o .identity
 unfolding advanceOnuOf advancingOnu onuAnswer onuAdvanced
 advance-identity o n = onu-keeps (λ (p : Onu). p .identity ≡ o .identity) o silent _ _ silent refl (λ _ _. refl)
 
@@ -161,7 +161,7 @@ pub advance-told : (s : Subscriber) (n : ℕ) (r : SubscriberAnswer) → r ≡ s
 unfolding subscriberAdvanceOf onuAnswered
 advance-told s n r e = (e, (rw e (answered-groups s _), λ none. e ∙ pick-true _ _ (none-valid s none)))
 
-new-time-identity : (o : Onu) (time : ℕ) → newTimeOf o time .onu .identity ≡ o .identity
+pub new-time-identity : (o : Onu) (time : ℕ) → newTimeOf o time .onu .identity ≡ o .identity
 unfolding newTimeOf onuAnswer onuRetimed withOnuClock withTravel
 new-time-identity o time = onu-keeps (λ (p : Onu). p .identity ≡ o .identity) o silent _ _ silent refl (λ _ _. refl)
 
@@ -175,7 +175,7 @@ pub new-time-told : (s : Subscriber) (time : ℕ) (r : SubscriberAnswer) → r �
 unfolding subscriberNewTimeOf onuAnswered
 new-time-told s time r e = (e, (rw e (answered-groups s _), λ none. e ∙ pick-true _ _ (none-valid s none)))
 
-clock-identity : (o : Onu) (m : Stamps) → clockMessageAt o m .onu .identity ≡ o .identity
+pub clock-identity : (o : Onu) (m : Stamps) → clockMessageAt o m .onu .identity ≡ o .identity
 unfolding clockMessageAt clockMessageTo onuAcknowledged onuSynced withOnuClock
 clock-identity o m = onu-keeps (λ (p : Onu). p .identity ≡ o .identity) o _ _ _ _ refl (λ _ _. refl)
 
@@ -192,7 +192,7 @@ clock-message-told s m r e = (e, (rw e (acknowledged-groups s _), λ none. e ∙
 
 ---- key message
 
-key-identity : (o : Onu) (m : KeyMessage) → keyMessageAt o m .onu .identity ≡ o .identity
+pub key-identity : (o : Onu) (m : KeyMessage) → keyMessageAt o m .onu .identity ≡ o .identity
 unfolding keyMessageAt keyMessageTo onuAcknowledged withOnuKeys
 key-identity o m = onu-keeps (λ (p : Onu). p .identity ≡ o .identity) o _ _ _ _ refl (λ _ _. refl)
 
@@ -230,18 +230,20 @@ noted-identity (Current n) eqs o = refl
 noted-identity (Next n) eqs o = refl
 noted-identity (Barred r) eqs o = refl
 
-module _ (s : Subscriber) (llid channel : ℕ) (p out : List ℕ) where
-  send-identity : onuSendOf (s .onu) llid channel p out .answer .onu .identity ≡ s .onu .identity
-  unfolding onuSendOf onuSent sendingOnu onuAfterSend withOnuChannels
-  send-identity =
-      onu-keeps (λ (o : Onu). o .identity ≡ s .onu .identity) (s .onu) _ _ _ _ refl
-      (λ _ _. noted-identity (onuSendChoice (s .onu .keys)) (eqsOf p) (s .onu))
+pub send-identity : (o : Onu) (llid channel : ℕ) (p out : List ℕ) → onuSendOf o llid channel p out .answer .onu .identity ≡ o .identity
+unfolding onuSendOf onuSent sendingOnu onuAfterSend withOnuChannels
+send-identity o llid channel p out =
+    onu-keeps (λ (x : Onu). x .identity ≡ o .identity) o _ _ _ _ refl (λ _ _. noted-identity (onuSendChoice (o .keys)) (eqsOf p) o)
 
+module _ (s : Subscriber) (llid channel : ℕ) (p out : List ℕ) where
   own-send-valid : validSubscriber s ≡ true → validSubscriber (ownSendOf s llid channel p out .answer .subscriber) ≡ true
   unfolding ownSendOf unitSendOf ownSent onuSendOf onuSent
   own-send-valid v =
       pick-holds (λ (x : WithOutput SubscriberSent). validSubscriber (x .answer .subscriber) ≡ true) (validMemberships s) _ _
-      (λ _. own-valid s _ v (sending-onu-valid (s .onu) (misfit p out) llid channel (eqsOf p) (few-eqs p out) (valid-unit s v)) send-identity) (λ _. v)
+      (λ _.
+      own-valid s _ v (sending-onu-valid (s .onu) (misfit p out) llid channel (eqsOf p) (few-eqs p out) (valid-unit s v))
+      (send-identity (s .onu) llid channel p out))
+      (λ _. v)
 
   pub valid-after-send : validSubscriber s ≡ true → validSubscriber (subscriberSendOf s llid channel p out .answer .subscriber) ≡ true
   unfolding subscriberSendOf
@@ -273,16 +275,16 @@ moved-identity (Current n) o = refl
 moved-identity (Next n) o = refl
 moved-identity (Barred r) o = refl
 
-module _ (s : Subscriber) (h : Header) (p out : List ℕ) where
-  receive-identity : onuReceiveOf (s .onu) h p out .answer .onu .identity ≡ s .onu .identity
-  unfolding onuReceiveOf onuReceived receivingOnu
-  receive-identity = onu-keeps (λ (o : Onu). o .identity ≡ s .onu .identity) (s .onu) _ _ _ _ refl (λ _ _. moved-identity _ (s .onu))
+pub receive-identity : (o : Onu) (h : Header) (p out : List ℕ) → onuReceiveOf o h p out .answer .onu .identity ≡ o .identity
+unfolding onuReceiveOf onuReceived receivingOnu
+receive-identity o h p out = onu-keeps (λ (x : Onu). x .identity ≡ o .identity) o _ _ _ _ refl (λ _ _. moved-identity _ o)
 
+module _ (s : Subscriber) (h : Header) (p out : List ℕ) where
   own-receive-valid : validSubscriber s ≡ true → validSubscriber (ownReceiveOf s h p out .answer .subscriber) ≡ true
   unfolding ownReceiveOf unitReceiveOf ownReceived onuReceiveOf onuReceived
   own-receive-valid v =
       pick-holds (λ (x : WithOutput SubscriberReceived). validSubscriber (x .answer .subscriber) ≡ true) (validMemberships s) _ _
-      (λ _. own-valid s _ v (receiving-onu-valid (s .onu) (misfit p out) h (valid-unit s v)) receive-identity) (λ _. v)
+      (λ _. own-valid s _ v (receiving-onu-valid (s .onu) (misfit p out) h (valid-unit s v)) (receive-identity (s .onu) h p out)) (λ _. v)
 
   own-receive-groups : ownReceiveOf s h p out .answer .subscriber .memberships ≡ s .memberships
   unfolding ownReceiveOf unitReceiveOf ownReceived withOnu

@@ -4,13 +4,13 @@ use mathlib.Core.Bool.{Bool, true, false}
 use Prim.Native.Nat.{ℕ, _+_, _≤_}
 use native.Mathlib.Omega.{arith}
 use borrow.Author.Tests.{not-false}
-use Rattle.octets.proofs.Choice.{not-of-true, pick-true}
+use Rattle.octets.proofs.Choice.{pick-true}
 use Rattle.octets.proofs.Maps.{drop-first, map-twice, take-first}
 use Rattle.octets.specs.Choice.{pick}
 use Rattle.refusal.specs.Number.{numberOf}
 use Rattle.refusal.specs.declared.Refusal.the-variants.{OutOfRange}
 use Rattle.refusal.proofs.Numbers.{number-accepted}
-use Rattle.refusal.proofs.Order.{refuse-accepted, refuse-passed}
+use Rattle.refusal.proofs.Order.{refuse-accepted}
 use Rattle.clock.specs.Ticks.{maxTick}
 use Rattle.ends.specs.Records.{withTimer}
 use Rattle.ends.specs.Validity.{validOnu}
@@ -24,7 +24,7 @@ use Rattle.protocol.specs.declared.OnuAnswer.{OnuAnswer}
 use Rattle.protocol.proofs.OltAdvance.{olt-sum}
 use Rattle.protocol.proofs.OnuAdvance.{advance-onu-sum}
 use Rattle.protocol.proofs.OnuCalls.{onu-accepted}
-use Rattle.protocol.proofs.Replies.{advance-accepted, advance-accepts, reply-accepted, reply-verdict}
+use Rattle.protocol.proofs.Replies.{advance-accepted, advance-accepts, reply-verdict}
 use Rattle.groups.specs.GroupCalls.{groupAdvanced}
 use Rattle.groups.specs.Head.{validHead, withGroupKeys}
 use Rattle.groups.specs.Subscriber.{validMemberships, withOnu}
@@ -62,10 +62,7 @@ head-sum m n h = ap₂ (λ (o : Olt) (g : Groups). record { olt = o; groups = g 
 
 head-accepts : (h : HeadEnd) (n : ℕ) → validHead h ≡ true → h .olt .shared .tick + n ≤ maxTick
     → headAdvanceOf h n ≡ record { number = 0; head = headAdvanced h n }
-unfolding headAdvanceOf headAnswer
-head-accepts h n v k =
-    ap headAnswer
-    (reply-accepted _ h silent (headAdvanced h n) silent (refuse-passed _ OutOfRange _ (not-of-true v) ∙ advance-accepts (h .olt .shared .tick) n k))
+head-accepts h n v k = growth.advance-moves h n v (advance-accepts (h .olt .shared .tick) n k)
 
 head-advances : (h : HeadEnd) (m n : ℕ) → headAdvanceOf h (m + n) .number ≡ 0 → headAdvanceOf (headAdvanceOf h m .head) n ≡ headAdvanceOf h (m + n)
 unfolding headAdvanceOf headAnswer headAdvanced oltAdvanced sharedAdvanced

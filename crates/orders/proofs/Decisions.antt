@@ -11,7 +11,7 @@ use Rattle.refusal.specs.declared.Verdict.the-variants.{Accepted, Refused}
 use Rattle.clock.specs.Ticks.{maxRoundTrip}
 use Rattle.envelope.specs.Channels.{upstream}
 use Rattle.envelope.specs.ControlMask.{eqsOf}
-use Rattle.ends.specs.Table.{unitAt, withUnit}
+use Rattle.ends.specs.Table.{unitAt, withOltChannels, withUnit}
 use Rattle.ends.specs.declared.Channels.{Channels}
 use Rattle.ends.specs.declared.Found.{Found}
 use Rattle.ends.specs.declared.Found.the-variants.{Nowhere}
@@ -31,7 +31,7 @@ use Rattle.clock.specs.declared.Stamps.{Stamps}
 use Rattle.traffic.specs.Passages.{misfit, outputAfter, passed, passedCount, passedRuns}
 use Rattle.unit.specs.Reached.{ifAccepted}
 use Rattle.groups.specs.GroupCalls.{GroupOutcome, acknowledgeGroup, groupOutcome, memberNamed, membersSet, offerGroup, retryGroup, sendGroup}
-use Rattle.groups.specs.Head.{groupAt, withGroup, withOlt, withOltChannels}
+use Rattle.groups.specs.Head.{groupAt, withGroup, withOlt}
 use Rattle.groups.specs.declared.GroupRecord.{GroupRecord}
 use Rattle.groups.specs.declared.HeadEnd.{HeadEnd}
 use Rattle.groups.specs.declared.Members.{Members}

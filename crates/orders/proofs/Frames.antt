@@ -16,8 +16,6 @@ use Rattle.envelope.specs.Channels.{downstream, maxChannel, onZero, upstreamBit
 use Rattle.ends.specs.Occupancy.{freeFrom, occupied, taken}
 use Rattle.ends.specs.Records.{withChannels, withClock, withKeys}
 use Rattle.ends.specs.declared.Channels.{Channels}
-use Rattle.ends.specs.declared.Found.{Found}
-use Rattle.ends.specs.declared.Found.the-variants.{At, Nowhere}
 use Rattle.ends.specs.declared.Shared.{Shared}
 use Rattle.ends.specs.declared.UnitRecord.{UnitRecord}
 use Rattle.protocol.specs.Lift.{Outcome, outcome}
@@ -31,6 +29,7 @@ use Rattle.protocol.proofs.UnitTraffic.{receive-keeps}
 use Rattle.unit.specs.Reached.{ifAccepted}
 use Rattle.groups.specs.GroupCalls.{acknowledgeGroup, groupMarked, groupOffered, groupOutcome, offerGroup, retryGroup, sendGroup}
 use Rattle.groups.specs.Head.{withGroupKeys, withMembers}
+use Rattle.groups.proofs.GroupSteps.{marked-llid}
 use Rattle.multicast.specs.HeadCalls.{ownAcknowledgement}
 use Rattle.orders.specs.Calls.{Call, capture, measure, clockSend, offer, retry, acknowledge, send, receive}
 use Rattle.orders.specs.Parties.{Party, Taking, channelFor, group, nobody, nothing, oneChannel, takingOf, unit}
@@ -179,10 +178,7 @@ asked-kept (measure llid trip) (group i) s own = refl
 asked-kept (clockSend llid) (group i) s own = refl
 asked-kept (offer llid key) (group i) s own = refl
 asked-kept (retry llid) (group i) s own = refl
-asked-kept (acknowledge llid answer) (group i) s own = by-member (s .member) where
-  by-member : (f : Found) → groupMarked own f .llid ≡ own .llid
-  by-member Nowhere = refl
-  by-member (At j) = refl
+asked-kept (acknowledge llid answer) (group i) s own = marked-llid own (s .member)
 asked-kept (send llid channel payload output) (group i) s own = refl
 asked-kept (receive header payload output) (group i) s own = refl
 asked-kept c nobody s own = tt

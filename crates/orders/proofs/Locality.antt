@@ -12,7 +12,7 @@ use Rattle.refusal.specs.declared.Verdict.{Verdict}
 use Rattle.refusal.specs.declared.Verdict.the-variants.{Accepted, Refused}
 use Rattle.ends.specs.Records.{withChannels}
 use Rattle.ends.specs.Identities.{has}
-use Rattle.ends.specs.Table.{registered, unitAt, withUnit}
+use Rattle.ends.specs.Table.{registered, unitAt, withOltChannels, withUnit}
 use Rattle.ends.specs.declared.Channels.{Channels}
 use Rattle.ends.specs.declared.Found.{Found}
 use Rattle.ends.specs.declared.Found.the-variants.{At, Nowhere}
@@ -22,7 +22,7 @@ use Rattle.ends.proofs.Table.{with-unit}
 use Rattle.ends.proofs.Validity.{olt-in-range}
 use Rattle.unit.specs.Reached.{ifAccepted}
 use Rattle.groups.specs.GroupCalls.{acknowledgeGroup, groupMarked, groupOffered, groupOutcome, memberNamed, offerGroup, retryGroup, sendGroup}
-use Rattle.groups.specs.Head.{groupAt, pastGroup, registeredGroups, validHead, withGroup, withGroupKeys, withMembers, withOlt, withOltChannels}
+use Rattle.groups.specs.Head.{groupAt, pastGroup, registeredGroups, validHead, withGroup, withGroupKeys, withMembers, withOlt}
 use Rattle.groups.specs.Members.{marked, placesOf, unmarked, validMembers}
 use Rattle.groups.specs.declared.Answer.{Answer}
 use Rattle.groups.specs.declared.GroupRecord.{GroupRecord}

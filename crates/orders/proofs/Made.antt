@@ -13,7 +13,7 @@ use Rattle.refusal.specs.declared.Verdict.{Verdict}
 use Rattle.refusal.specs.declared.Verdict.the-variants.{Accepted, Refused}
 use Rattle.envelope.specs.Channels.{upstream}
 use Rattle.ends.specs.Records.{withChannels}
-use Rattle.ends.specs.Table.{find, unitAt, withUnit}
+use Rattle.ends.specs.Table.{find, unitAt, withOltChannels, withUnit}
 use Rattle.ends.specs.Validity.{validOlt}
 use Rattle.ends.specs.declared.Found.{Found}
 use Rattle.ends.specs.declared.Found.the-variants.{At, Nowhere}
@@ -33,7 +33,7 @@ use Rattle.traffic.specs.Receipts.{oltReceived, oltReceiveOf}
 use Rattle.traffic.specs.Sends.{oltSendOf, oltSent}
 use Rattle.unit.specs.Reached.{ifAccepted}
 use Rattle.groups.specs.GroupCalls.{GroupOutcome, groupOutcome, membersSet}
-use Rattle.groups.specs.Head.{findGroup, groupAt, validGroups, validHead, withGroup, withOlt, withOltChannels}
+use Rattle.groups.specs.Head.{findGroup, groupAt, validGroups, validHead, withGroup, withOlt}
 use Rattle.groups.specs.declared.HeadEnd.{HeadEnd}
 use Rattle.groups.proofs.HeadValidity.{head-in-range}
 use Rattle.multicast.specs.HeadCalls.{headAcknowledgeOf, headAnswer, headCaptureOf, headClockSendOf, headKeySent, headMeasureOf, headOfferOf, headRetryOf, oltAnswered, oltClockSent, oltKeySent}
@@ -41,7 +41,7 @@ use Rattle.multicast.specs.HeadTraffic.{groupReceiveVerdict, headReceiveOf, hea
 use Rattle.multicast.specs.Naming.{byLlid, groupLift, putGroup}
 use Rattle.multicast.proofs.HeadLift.{with-group-itself}
 use Rattle.orders.specs.Calls.{Call, Made, made, capture, measure, clockSend, offer, retry, acknowledge, send, receive, received}
-use Rattle.orders.specs.Parties.{Party, group, llidOf, nobody, partyOf, unit, unitParty}
+use Rattle.orders.specs.Parties.{Party, group, llidOf, nobody, partyOf, unitParty}
 use Rattle.orders.proofs.Decisions.{asked, byVerdict, decided, madeBy, ownOf, put, seen, shape}
 use Rattle.orders.proofs.Named.{group-no-unit}
 

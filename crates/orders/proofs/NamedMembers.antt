@@ -3,7 +3,6 @@ use mathlib.Core.Path.{_≡_, refl, sym, ap, ap₂, _∙_}
 use mathlib.Core.Bool.{Bool, true, false}
 use mathlib.Core.List.{List, [], _∷_, map}
 use Prim.Native.Nat.{ℕ, suc, _<_}
-use native.Mathlib.Omega.{arith}
 use lib.Dec.{eqb, ltb}
 use lib.ListN.{length, List·getD-eq-default}
 use borrow.Author.Tests.{eq-eqb, ltb-false, ltb-true, ne-eqb}
@@ -22,6 +21,7 @@ use Rattle.groups.specs.GroupCalls.{memberFound, memberNamed, membersSet}
 use Rattle.groups.specs.Members.{memberAt, placeFrom, placesOf, validMembers}
 use Rattle.groups.specs.declared.Answer.{Answer}
 use Rattle.groups.specs.declared.Members.{Members}
+use Rattle.groups.proofs.Places.{at-nowhere}
 use Rattle.orders.specs.Locality.{MemberPart, memberPart}
 
 abbrev partsOf : Olt → List ℕ → List MemberPart
@@ -71,7 +71,7 @@ module _ (o : Olt) (llid : ℕ) (d : distinct (tableLlids (registered o)) ≡ tr
   nowhere-has q f used = by-has (has (unitAt o q .identity) llid) refl where
     by-has : (t : Bool) → has (unitAt o q .identity) llid ≡ t → t ≡ false
     by-has false h = refl
-    by-has true h = let z : At q ≡ Nowhere = sym (has-found q used h) ∙ f in let e : _≡_ {A = ℕ} 0 1 = cc in absurd (omega arith)
+    by-has true h = at-nowhere q (sym (has-found q used h) ∙ f)
 
   found-having : (i p : ℕ) (ps : List ℕ) → find o llid ≡ At p → all (λ place. ltb place (o .count)) ps ≡ true
       → placeFrom i ps p ≡ havingFrom i (partsOf o ps) llid

@@ -9,7 +9,7 @@ use Rattle.ends.specs.Identities.{among, distinct, has, kept, llidsOf, meets, v
 use Rattle.ends.specs.Keys.{firstSend, keyIn, validFirst, withKey}
 use Rattle.ends.specs.Occupancy.{freeFrom, occupied, taken, validChannels}
 use Rattle.ends.specs.Records.{freshUnit, newOlt, newOnu, noUnit, withChannels, withClock, withKeys, withOnuClock, withTravel}
-use Rattle.ends.specs.Table.{find, findFrom, pastUnit, tableLlids, withOneMore, withUnit}
+use Rattle.ends.specs.Table.{find, findFrom, pastUnit, tableLlids, withOltChannels, withOneMore, withUnit}
 use Rattle.ends.specs.Timers.{freshTimer, validInterval, validTimer}
 use Rattle.ends.specs.Travels.{shiftOf, travelChanged, travelOf, validChanges}
 use Rattle.ends.specs.Validity.{validKeys, validNumbers, validOlt, validOnu, validOnuClock, validOnuKeys, validShared, validUnit, validUnitClock}
@@ -25,7 +25,7 @@ use Rattle.sealing.specs.Seal.{carried, countCarried, runsCarried}
 use Rattle.traffic.specs.Passages.{misfit, outputAfter, passed, passedCount, passedRuns}
 use Rattle.traffic.specs.Sends.{oltSendOf, oltSent}
 use Rattle.groups.specs.GroupCalls.{groupOfferVerdict, groupOffered, groupOutcome, membersSet, offerGroup}
-use Rattle.groups.specs.Head.{apartLlids, findGroup, freshGroup, groupFrom, groupLlids, noGroup, noGroups, pastGroup, validGroup, validGroupNumbers, validGroups, validHead, withGroup, withGroupKeys, withMembers, withOlt, withOltChannels, withOneGroupMore}
+use Rattle.groups.specs.Head.{apartLlids, findGroup, freshGroup, groupFrom, groupLlids, noGroup, noGroups, pastGroup, validGroup, validGroupNumbers, validGroups, validHead, withGroup, withGroupKeys, withMembers, withOlt, withOneGroupMore}
 use Rattle.groups.specs.Members.{freshMembers, marksOf, placesOf, rosterLlids, unmarked, validMembers}
 use Rattle.groups.specs.Subscriber.{alone, freshJoined, joinedLlids, noMemberships, validGroupsOf, validJoined, validMemberships, validSubscriber, withOneJoinedMore, withOnu}
 use Rattle.multicast.specs.HeadCalls.{freshHeadOf, groupVerdict, headAcknowledgeOf, headAdvanceOf, headAnswer, headCaptureOf, headClockSendOf, headKeySent, headMeasureOf, headOfferOf, headRegisterOf, headRetryOf, oltAnswered, oltClockSent, oltKeySent, ownAcknowledgement, placeFound, registerGroupOf, rosterMembers, unitVerdict, validGroupRegistration}
@@ -47,7 +47,7 @@ unfolding
     firstSend keyIn validFirst withKey
     freeFrom occupied taken validChannels
     freshUnit newOlt newOnu noUnit withChannels withClock withKeys withOnuClock withTravel
-    find findFrom pastUnit tableLlids withOneMore withUnit
+    find findFrom pastUnit tableLlids withOltChannels withOneMore withUnit
     freshTimer validInterval validTimer
     shiftOf travelChanged travelOf validChanges
     validKeys validNumbers validOlt validOnu validOnuClock validOnuKeys validShared validUnit validUnitClock
@@ -65,7 +65,7 @@ unfolding
     oltSendOf oltSent
     groupOfferVerdict groupOffered groupOutcome membersSet offerGroup
     apartLlids findGroup freshGroup groupFrom groupLlids noGroup noGroups pastGroup validGroup validGroupNumbers validGroups validHead withGroup
-    withGroupKeys withMembers withOlt withOltChannels withOneGroupMore
+    withGroupKeys withMembers withOlt withOneGroupMore
     freshMembers marksOf placesOf rosterLlids unmarked validMembers
     alone freshJoined joinedLlids noMemberships validGroupsOf validJoined validMemberships validSubscriber withOneJoinedMore withOnu
     freshHeadOf groupVerdict headAcknowledgeOf headAdvanceOf headAnswer headCaptureOf headClockSendOf headKeySent headMeasureOf headOfferOf

@@ -12,7 +12,7 @@ use Rattle.octets.proofs.Maps.{map-take}
 use Rattle.ends.specs.Flags.{isUp}
 use Rattle.ends.specs.Identities.{among}
 use Rattle.ends.specs.Records.{withChannels}
-use Rattle.ends.specs.Table.{unitAt, withUnit}
+use Rattle.ends.specs.Table.{unitAt, withOltChannels, withUnit}
 use Rattle.ends.specs.declared.Channels.{Channels}
 use Rattle.ends.specs.declared.Found.{Found}
 use Rattle.ends.specs.declared.Olt.{Olt}
@@ -20,7 +20,7 @@ use Rattle.ends.specs.declared.Shared.{Shared}
 use Rattle.ends.specs.declared.UnitRecord.{UnitRecord}
 use Rattle.ends.proofs.Table.{SameUnits, find-same, with-other, with-same-units}
 use Rattle.groups.specs.GroupCalls.{memberNamed, membersSet}
-use Rattle.groups.specs.Head.{findGroup, groupAt, groupLlids, pastGroup, withGroup, withOlt, withOltChannels}
+use Rattle.groups.specs.Head.{findGroup, groupAt, groupLlids, pastGroup, withGroup, withOlt}
 use Rattle.groups.specs.Members.{placeFrom, placesOf}
 use Rattle.groups.specs.declared.Answer.{Answer}
 use Rattle.groups.specs.declared.GroupRecord.{GroupRecord}

@@ -53,7 +53,7 @@ onuInUse tick channels =
       channels = channels;
     }
 
--- the number of a send on channel 0 at a tick, at the OLT and at the ONU
+-- the code of a send on channel 0 at a tick, at the OLT and at the ONU
 abbrev pub oltSend : ℕ → Channels → ℕ
 oltSend tick channels = verdictNumber (unitSendVerdict (record { mac = 0; tick = tick; clock = 0; channels = channels }) unitInUse 0)
 

@@ -43,7 +43,7 @@ use Rattle.capture.proofs.Openings.{written-length, callable, opening-d
 use Rattle.capture.proofs.Reopening.{opened-is, accepts-again}
 use Rattle.capture.proofs.Readings.{listing-usual}
 
--- ---- a record with other octets in its clock field
+---- a record with other octets in its clock field
 module _ (r x : List ℕ) (h : 16 ≤ length r) (l : length x ≡ 6) where
   front-there : length (take 6 r) ≡ 6
   front-there = simp length-take (omega arith)
@@ -149,7 +149,7 @@ clock-number n =
     ∙ sym (top-6 n ∙ ap (λ (x : ℕ). n / 256 ^ 5 % 256 * 256 ^ 5 + x) (top-5 n ∙ ap (λ (x : ℕ). n / 256 ^ 4 % 256 * 256 ^ 4 + x)
     (top-4 n ∙ ap (λ (x : ℕ). n / 256 ^ 3 % 256 * 256 ^ 3 + x) (top-3 n ∙ ap (λ (x : ℕ). n / 256 ^ 2 % 256 * 256 ^ 2 + x) (top-2 n)))))
 
--- ---- what is written of a record, with the field put back
+---- what is written of a record, with the field put back
 module _ (s r x : List ℕ) (h : 16 ≤ length r) (l : length x ≡ 6) where
   written-back : (v : RecordVerdict) → withField (writtenAs s (withField r x) v) (clockField r) ≡ writtenAs s r v
   unfolding writtenAs payloadOf
@@ -177,7 +177,7 @@ row-clock : (k : ℕ) (h : Header) (t : ℕ) (v : RecordVerdict) → rowOf k (wi
 unfolding rowOf rowHead rowMiddle rowTail keyGlyph
 row-clock k h t v = refl
 
--- ---- the promise
+---- the promise
 module _ (sent : ℕ → ℕ) (s b : List ℕ) (r : Records b (recordsIn b)) (follows : ClockFollows sent s b) where
   abbrev field : ℕ → List ℕ
   field i = octetsOf 6 (sent i)

@@ -42,7 +42,7 @@ use Rattle.capture.proofs.Rebuilding.{same-octets, same-directory, same
 use Rattle.records.proofs.Verdicts.{Openable, openable, by-key, is-clear}
 use Rattle.capture.proofs.Openings.{opened-length, clear-record, refused-record, callable, opening-done}
 
--- ---- an opened record is clear
+---- an opened record is clear
 withFlags : Header → ℕ → Header
 withFlags h f =
     record { kind = h .kind; channel = h .channel; llid = h .llid; flags = f; epam = h .epam; clock = h .clock; eqs = h .eqs }
@@ -124,7 +124,7 @@ record-again : (s r : List ℕ) → 16 ≤ length r
     → (openedRecord s (openedRecord s r) ≡ openedRecord s r) × ((g : List ℕ → ℕ) → recordAdds g s (openedRecord s r) ≡ 0)
 record-again s r h = by-verdict s r (verdictOf s r) h refl
 
--- ---- the opened block has the same directory
+---- the opened block has the same directory
 same-eqs : (s r : List ℕ) (v : RecordVerdict) → 16 ≤ length r → verdictOf s r ≡ v → recordHeader (openedRecord s r) .eqs ≡ recordHeader r .eqs
 unfolding withFlags
 same-eqs s r Clear h e = ap (λ (t : List ℕ). recordHeader t .eqs) (clear-record s r e .0)

@@ -44,7 +44,7 @@ smallestBy near s b = signedOctet (driftBy near s b (recordsIn b) .smallest)
 abbrev pub largestBy : Bool → List ℕ → List ℕ → ℕ
 largestBy near s b = signedOctet (driftBy near s b (recordsIn b) .largest)
 
--- ---- opening
+---- opening
 
 -- record i as its verdict has it written: the clock field stays as recorded
 abbrev pub recordBy : Bool → List ℕ → List ℕ → ℕ → List ℕ
@@ -73,7 +73,7 @@ openingAs near (Verdict.Refused r) s b out = withOutput (record { opened = Denie
 unfoldable pub openingBy : Bool → List ℕ → List ℕ → List ℕ → WithOutput NearAnswer
 openingBy near s b out = openingAs near (openVerdict s b (length out)) s b out
 
--- ---- the verdict on the record with number k, from 1, and the verdicts on all
+---- the verdict on the record with number k, from 1, and the verdicts on all
 
 unfoldable pub askedBy : Bool → List ℕ → List ℕ → ℕ → RecordVerdict
 askedBy near s b k = afterCall (settingsVerdict s) (afterCall (payloadVerdict b k) (verdictBy near s b (k - 1)))
@@ -90,7 +90,7 @@ judgingAs near (Bad r) s b out = withOutput (record { directory = Bad r; smalles
 unfoldable pub judgingBy : Bool → List ℕ → List ℕ → List ℕ → WithOutput NearVerdicts
 judgingBy near s b out = judgingAs near (callDirectory (eqb (length out) mostRecords) s b) s b out
 
--- ---- the listing
+---- the listing
 
 abbrev pub rowBy : Bool → List ℕ → List ℕ → ℕ → List ℕ
 rowBy near s b i = rowOf (i + 1) (headerOf b i) (verdictBy near s b i)

@@ -44,7 +44,7 @@ use Rattle.class.specs.Listing.{rowAs, rowFor, bodyAfter, listingFor}
 use Rattle.class.specs.Claims.{alone, aloneRights, ReadsAlone}
 use Rattle.class.proofs.Readers.{told-all}
 
--- ---- what the call finds
+---- what the call finds
 whole : (s : List ℕ) → eqb (length s) 41 ≡ true → setOf s 0 ≡ s
 whole s e = take-all 41 s (omega (arith, eqb-true (length s) 41 e))
 
@@ -70,7 +70,7 @@ unfolding judged nearVerdict driftAt pick
 judged-turn true s b i drift e = (rw e, rw e)
 judged-turn false s b i drift e = (refl, e)
 
--- ---- record by record, on a block of the set's LLID alone
+---- record by record, on a block of the set's LLID alone
 three-opens : mayOpen 3 ≡ true
 unfolding mayOpen bitOf
 three-opens = refl
@@ -128,7 +128,7 @@ alone-expansions s e =
     let p = presenceOf s in
     rw (three-opens, whole s e, bit-counted (bitOf p 0) (bit-below p 0), bit-counted (bitOf p 1) (bit-below p 1)) (omega arith)
 
--- ---- the whole answer
+---- the whole answer
 alone-opened : (near : Bool) (s b out : List ℕ) (d : Directory) → ((i : ℕ) → i < recordsIn b → headerOf b i .llid ≡ llidOf s)
     → callDirectory (eqb (length out) (length b)) s b ≡ d → openingAfter d near alone s aloneRights b out ≡ openingBy near s b out
 unfolding openingAfter openingBy openingAs

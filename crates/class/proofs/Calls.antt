@@ -56,7 +56,7 @@ unfolding pick callFor
 call-suits true c s q b n e = e
 call-suits false c s q b n e = rw (unsuited c s q (found true c s q b n e .valid))
 
--- ---- the answer of a call that goes on, by its parts
+---- the answer of a call that goes on, by its parts
 module _ (near : Bool) (c : Caller) (s q b out : List ℕ) (n : ℕ) (e : callFor (eqb (length out) (length b)) c s q b ≡ Good n) where
   pub opening-good : (r : Read) (x low high : ℕ) (o : List ℕ) → TookAllFor near c s q b r → x ≡ expansionsFor c s q
       → low ≡ signedOctet (r .smallest)

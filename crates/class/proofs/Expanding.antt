@@ -58,7 +58,7 @@ module _ (c : Caller) (s q keys : List ℕ) (k : ℕ) where
             early x (w ++ drop (length w) (drop (176 * k) keys)) (176 * m) 176 (omega arith)
             ∙ sym (early x (drop (176 * k) keys) (176 * m) 176 (omega arith)) ∙ ap (λ (t : List ℕ). expandedAt t m) (take-append-drop (176 * k) keys)
 
--- ---- key by key
+---- key by key
 abbrev pub Counts : Caller → List ℕ → List ℕ → ℕ → ℕ
 Counts c s q k = pick (isExpanded c s q k) 1 0
 

@@ -31,7 +31,7 @@ use Rattle.class.proofs.Expanding.{counts-few}
 use Rattle.class.proofs.Calls.{found}
 use Rattle.class.proofs.Secrets.{open-sees}
 
--- ---- a user who may open
+---- a user who may open
 pub told-all : (near : Bool) (q : ℕ) (s : List ℕ) (drift : Drift) (h : Header) → mayOpen q ≡ true
     → judgedFor near q s drift h ≡ record { verdict = Told (judged near s drift h .verdict); drift = judged near s drift h .drift }
 unfolding judgedFor toldTo

@@ -37,7 +37,7 @@ seen-short k h few small = omega (arith, seen-few k h, decimal-below 3 k few, de
 pub hidden-short : (k : ℕ) → k < 10000 → length (hiddenRow k) ≤ lineOctets
 hidden-short k few = omega (arith, hidden-few k, decimal-below 3 k few)
 
--- ---- the parts of an input
+---- the parts of an input
 pub input-parts : (x : List ℕ) (a b u : ℕ) (s q d : List ℕ) → a ≡ getD x 0 0 → b ≡ getD x 1 0 → u ≡ getD x 2 0 → s ≡ part x 3 (41 * a)
     → q ≡ part x (3 + 41 * a) (a * b) → d ≡ part x (3 + 41 * a + a * b) (length x)
     → bodyFor false (record { sets = a; users = b; user = u }) s q d ≡ bodyFor false (inputCaller x) (inputSets x) (inputRights x) (inputBlock x)

@@ -111,6 +111,7 @@ unfoldable pub groupMarked : GroupRecord → Found → GroupRecord
 groupMarked g Nowhere = g
 groupMarked g (At j) = withMembers g (marked (g .members) j)
 
+-- marks the member that it names
 unfoldable pub acknowledgeGroup : Answer → Found → Shared → GroupRecord → GroupOutcome Silence
 acknowledgeGroup a member s g = groupOutcome s (groupAcknowledgeVerdict a member (g .keys)) (groupMarked g member) silent
 
@@ -135,6 +136,7 @@ wipedAtSwitch (Barred r) k = k
 unfoldable pub groupKeysAfterSend : KeyChoice → UnitKeys → ℕ → UnitKeys
 groupKeysAfterSend choice k tick = wipedAtSwitch choice (keysAfterSend choice k tick)
 
+-- as to a unit, but for 5: a group's send waits for no member's clock (D46)
 unfoldable pub sendGroup : ℕ → ℕ → ℕ → Shared → GroupRecord → GroupOutcome Sending
 sendGroup llid channel eqs s g =
     record {

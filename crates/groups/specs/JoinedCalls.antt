@@ -88,6 +88,7 @@ noAnswer = record { kind = 0; named = 0; unit = 0; number = 0 }
 unfoldable pub groupAnswer : Identity → ℕ → Answer
 groupAnswer i number = record { kind = keyKind; named = 1; unit = getD (i .llids) 0 0; number = number }
 
+-- takes the key, and names the unit and the key's number in its answer
 unfoldable pub messageJoined : KeyMessage → Onu → Joined → JoinedOutcome Answer
 messageJoined m o j =
     record {

@@ -24,7 +24,7 @@ played = after events
 
 ---- the calls that were refused
 
--- the number that the unit's call on what arrived returned
+-- the code that the unit's call on what arrived returned
 unfoldable pub arrivalNumber : Subscriber → List ℕ → InFlight → ℕ
 arrivalNumber x out (clockMessage m c t) = subscriberClockMessageOf x m .number
 arrivalNumber x out (keyMessage m t) = subscriberKeyMessageOf x m .number
@@ -90,7 +90,7 @@ refusedNumbers =
 
 pub record Course : Type 0 where
   pub refused : refusals (start example) events ≡ refusedNumbers
-  -- the group's envelopes, by number; where each arrived, and with which number the unit answered
+  -- the group's envelopes, by number; where each arrived, and with which code the unit answered
   pub sent : map (λ (e : Envelope). e .number) (groupLaneAt played 0 .sent) ≡ 0 ∷ 1 ∷ 2 ∷ 2 ∷ 3 ∷ 3 ∷ 3 ∷ 4 ∷ []
   pub arrivedAt : map (λ (r : GroupArrival). r .unit) (groupLaneAt played 0 .arrived) ≡ 1 ∷ 0 ∷ 1 ∷ 0 ∷ 1 ∷ 0 ∷ 1 ∷ 0 ∷ 1 ∷ 0 ∷ 1
       ∷ 1 ∷ 0 ∷ []

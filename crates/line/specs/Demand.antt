@@ -95,7 +95,7 @@ pub record Apart (x : Sender) (i : ℕ) (y : Sender) (j : ℕ) : Type 0 where
       → counterBlock (nonceBy example played x (sentByAt played x i)) a ≡ counterBlock (nonceBy example played y (sentByAt played y j)) b
       → ⊥
 
--- the kth arrival of the group's line was at unit u, and was refused with that number
+-- the kth arrival of the group's line was at unit u, and was refused with that code
 pub record NotOpened (k u number : ℕ) : Type 0 where
   pub some : k < length (groupLaneAt played 0 .arrived)
   pub there : arrivalAt k .unit ≡ u
@@ -111,7 +111,7 @@ pub record Back (s : State) (u k : ℕ) (out x : List ℕ) (n : Nonce) (p : List
   -- and its arrival leaves the OLT, the units and their own lines
   pub untouched : alone (step s (arriveGroup u 0 k out)) ≡ alone s
 
--- the kth of what is under way of the group to unit u is an envelope, and the unit refuses it with that number; unit and buffer are as they
+-- the kth of what is under way of the group to unit u is an envelope, and the unit refuses it with that code; unit and buffer are as they
 -- were
 pub record Unsynced (s : State) (u k : ℕ) (out : List ℕ) (number : ℕ) : Type 0 where
   pub arriving : Envelope
@@ -122,7 +122,7 @@ pub record Unsynced (s : State) (u k : ℕ) (out : List ℕ) (number : ℕ) : Ty
   pub unit : receiving s u arriving out .answer .subscriber ≡ subscriberAt s u
   pub buffer : receiving s u arriving out .output ≡ out
 
--- unit u refuses the kth envelope of the group with that number; unit and buffer are as they were
+-- unit u refuses the kth envelope of the group with that code; unit and buffer are as they were
 pub record Overheard (s : State) (u k : ℕ) (out : List ℕ) (number : ℕ) : Type 0 where
   pub refused : receiving s u (groupSentAt s 0 k) out .answer .number ≡ number
   pub count : receiving s u (groupSentAt s 0 k) out .answer .count ≡ 0

@@ -30,7 +30,7 @@ use Rattle.multicast.specs.Naming.{byLlid, groupLift}
 use Rattle.multicast.specs.declared.HeadSent.{HeadSent}
 use Rattle.multicast.specs.declared.HeadReceived.{HeadReceived}
 
----- send: 14, 1, 2, 12, 13
+---- send: 14, 1, 2, 5, 12, 13
 
 -- refused: the end as it was lent, a header of zeros, nothing counted
 abbrev pub headNotSent : HeadEnd → ℕ → HeadSent

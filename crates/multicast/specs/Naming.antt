@@ -12,7 +12,7 @@ use Rattle.groups.specs.GroupCalls.{GroupOutcome}
 use Rattle.groups.specs.declared.GroupRecord.{GroupRecord}
 use Rattle.groups.specs.declared.HeadEnd.{HeadEnd}
 
--- by the group that has the LLID
+-- by the group that has the LLID: `alone` where none has
 unfoldable pub byLlid : {R : Type 0} → Found → R → (ℕ → R) → R
 byLlid Nowhere alone group = alone
 byLlid (At i) alone group = group i

@@ -28,7 +28,7 @@ use Rattle.multicast.specs.SubscriberCalls.{joinedLift}
 use Rattle.multicast.specs.declared.SubscriberSent.{SubscriberSent}
 use Rattle.multicast.specs.declared.SubscriberReceived.{SubscriberReceived}
 
----- send: 14, 1, 2, 20, 12, 13
+---- send: 14, 1, 2, 20, 5, 12, 13
 
 -- refused: the end as it was lent, a header of zeros, nothing counted
 abbrev pub subscriberNotSent : Subscriber → ℕ → SubscriberSent

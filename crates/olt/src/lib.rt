@@ -1,5 +1,5 @@
 // The calls of the OLT but send and receive (01, Clock; Keys; 'When the reader says no'). Each takes the end by value and gives back
-// the number, the end and what is handed over; refused, the end is the one that was lent.
+// the code, the end and what is handed over; refused, the end is the one that was lent.
 mod answers;
 mod making;
 pub mod place;

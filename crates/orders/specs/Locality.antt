@@ -67,6 +67,7 @@ GroupLocal =
     → groupAt h i .llid ≡ llidOf c
     → (answerOf h c ≡ answerOf k c) × SameGroup (after h c) (after k c) i j
 
+-- for a unit and for a group
 pub record Locality : Type 0 where
   pub unit : UnitLocal
   pub group : GroupLocal

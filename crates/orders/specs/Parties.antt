@@ -80,6 +80,7 @@ memberOf h (unit i) nobody = false
 memberOf h (group i) q = false
 memberOf h nobody q = false
 
+-- two sends on one channel, and a call on a group beside one on a member of it
 unfoldable pub excepted : HeadEnd → Call → Call → Bool
 excepted h x y =
     either (oneChannel (takingOf x) (takingOf y))

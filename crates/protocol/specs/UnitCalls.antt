@@ -36,6 +36,7 @@ unitAdvanced n u = withKeys u (withTimer (u .keys) (timerAdvanced (u .keys .time
 unfoldable pub clockCaptured : UnitClock → ℕ → UnitClock
 clockCaptured c tick = record { trip = c .trip; captured = 1; tick = tick; sent = c .sent; acknowledged = c .acknowledged }
 
+-- never refused; the tick is kept, and stamps are worked out where they are sent (D12)
 unfoldable pub captureUnit : Shared → UnitRecord → Outcome Silence
 captureUnit s u = outcome s Accepted (withClock u (clockCaptured (u .clock) (s .tick))) silent
 
@@ -59,6 +60,7 @@ clockAfterSend c = record { trip = c .trip; captured = c .captured; tick = c .ti
 unfoldable pub clockMessageOf : Shared → UnitClock → Stamps
 clockMessageOf s c = capturedAt (rewound (s .clock) (s .tick - c .tick)) (c .trip)
 
+-- hands over the stamps of the capture
 unfoldable pub clockSendUnit : Shared → UnitRecord → Outcome Stamps
 clockSendUnit s u =
     outcome s (clockSendVerdict (u .clock) (s .tick)) (withClock u (clockAfterSend (u .clock))) (clockMessageOf s (u .clock))
@@ -86,6 +88,7 @@ unitOffered u key =
 unfoldable pub keyMessageOf : ℕ → UnitKeys → KeyMessage
 keyMessageOf llid k = record { llid = llid; number = k .offered; key = keyIn (k .slots) (k .offered) }
 
+-- hands over the next number and its key, of which no acknowledgement has come
 unfoldable pub offerUnit : ℕ → List ℕ → Shared → UnitRecord → Outcome KeyMessage
 offerUnit llid key s u = outcome s (offerVerdict u key) (unitOffered u key) (keyMessageOf llid (keysOffered (u .keys) key))
 

@@ -50,6 +50,7 @@ keysAfterSend (Current n) k tick = withFirst k (firstSend (k .first) tick)
 keysAfterSend (Next n) k tick = keysSwitched k tick
 keysAfterSend (Barred r) k tick = k
 
+-- sealed with the OLT's MAC and clock, under the key that is chosen; a switch is a choice
 unfoldable pub sendUnit : ℕ → ℕ → ℕ → Shared → UnitRecord → Outcome Sending
 sendUnit llid channel eqs s u =
     record {

@@ -82,6 +82,7 @@ heardAt presence llid drift h (Step d) =
       drift = pick (own llid h) (corrected drift (h .channel) d) drift;
     }
 
+-- the verdict on a header, read at the clock nearest to the expected one that its EPAM allows, and the sums after it
 unfoldable pub heard : ℕ → ℕ → Drift → Header → Heard
 heard presence llid drift h = heardAt presence llid drift h (nearest (expected drift h) (h .epam))
 

@@ -18,6 +18,7 @@ headerOctets = 16
 abbrev pub flagsAt : ℕ
 flagsAt = 4
 
+-- octet 0 kind, 1 channel index, 2 and 3 LLID, 4 flags, 5 EPAM, 6 to 11 clock, 12 to 15 EQs
 unfoldable pub recordHeader : List ℕ → Header
 recordHeader r =
     record {

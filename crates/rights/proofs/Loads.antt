@@ -49,7 +49,7 @@ raised-below p zero b h e = omega (arith, not-one (p / 2 ^ 0 % 2) (bit-below p 0
 raised-below p (suc zero) b h e = omega (arith, not-one (p / 2 ^ 1 % 2) (bit-below p 1) e)
 raised-below p (suc (suc i)) b h e = absurd (omega arith)
 
--- ---- a list with others in its places from `at` on
+---- a list with others in its places from `at` on
 module _ (s t : List ℕ) (at : ℕ) (room : at + length t ≤ length s) where
   put-length : length (replaced s at t) ≡ length s
   put-length = ap length (sym (paste-all s at t)) ∙ length-paste s at t (length t) room (omega arith)
@@ -78,7 +78,7 @@ module _ (s t : List ℕ) (at : ℕ) (room : at + length t ≤ length s) where
       ∙ sym (getD-take (length t) (t ++ back) x 0 h)
       ∙ ap (λ (l : List ℕ). getD l x 0) (take-at t back (length t) refl)
 
--- ---- a presence octet with the bit of key i
+---- a presence octet with the bit of key i
 raised-has : (p i : ℕ) → i < 2 → keyPresent p i ≡ false → keyPresent (p + 2 ^ i) i ≡ true
 unfolding keyPresent bitOf
 raised-has p zero h e = eq-eqb ((p + 2 ^ 0) / 2 ^ 0 % 2) 1 (omega (arith, not-one (p / 2 ^ 0 % 2) (bit-below p 0) e))
@@ -105,7 +105,7 @@ unfolding withKey
 with-by p i true h e = rw (pick-true p (p + 2 ^ i) e) (e, λ k b n. refl)
 with-by p i false h e = rw (pick-false p (p + 2 ^ i) e) (raised-has p i h e, λ k b n. raised-keeps p i k h b n e)
 
--- ---- the sets with a key put into set j
+---- the sets with a key put into set j
 module _ (s key : List ℕ) (j i p : ℕ) (place : 41 * j + 41 ≤ length s) (few : i < 2) (long : length key ≡ 16) where
   abbrev front : List ℕ
   front = set s (41 * j) p

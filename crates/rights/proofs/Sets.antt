@@ -25,7 +25,7 @@ use Rattle.rights.specs.Claims.{OneSetEach, Repeats}
 abbrev pub First : Caller → List ℕ → ℕ → Bool
 First c s j = eqb (setFor c s (llidOf (setOf s j))) j
 
--- ---- a loop over the sets
+---- a loop over the sets
 pub set-stop : (s : List ℕ) (l j n : ℕ) → j < n → eqb (llidOf (setOf s j)) l ≡ true → setFrom s l j (n - j) ≡ j
 unfolding setFrom
 set-stop s l j n h e = let m : n - j ≡ suc (n - suc j) = omega arith in rw m (pick-true _ _ e)
@@ -42,7 +42,7 @@ set-end s l j n h = let m : n - j ≡ 0 = omega arith in rw m
 pub product-below : (a b : ℕ) → a < 256 → b < 256 → a * b < 65536
 product-below a b p q = let m : a * b ≤ a * 256 = mul-le-mul-left a (le-of-lt q) in omega arith
 
--- ---- a loop over a list's elements
+---- a loop over a list's elements
 pub all-next : (p : ℕ → Bool) (l : List ℕ) (k : ℕ) → k < length l → p (getD l k 0) ≡ true → all p (drop k l) ≡ all p (drop (k + 1) l)
 unfolding all both
 all-next p l k h e = rw (drop-step l k 0 h, e)
@@ -55,7 +55,7 @@ pub all-done : (p : ℕ → Bool) (l : List ℕ) (k : ℕ) → length l ≤ k �
 unfolding all
 all-done p l k h = rw (drop-of-length-le l {i = k} h)
 
--- ---- the set that is found is that of the LLID
+---- the set that is found is that of the LLID
 found-by : (s : List ℕ) (l j m : ℕ) (v : Bool) → eqb (llidOf (setOf s j)) l ≡ v
     → (setFrom s l (suc j) m < suc j + m → llidOf (setOf s (setFrom s l (suc j) m)) ≡ l) → pick v j (setFrom s l (suc j) m) < j + suc m
     → llidOf (setOf s (pick v j (setFrom s l (suc j) m))) ≡ l

@@ -1,4 +1,4 @@
-// Plays every exported call of the library that firmware links, a line for each: its number and what it handed over. What it must print
+// Plays every exported call of the library that firmware links, a line for each: its code and what it handed over. What it must print
 // is made by tools/test_calls.py.
 mod block_calls;
 mod class_calls;

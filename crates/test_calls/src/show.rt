@@ -1,4 +1,4 @@
-// A line: the call, its number, and what it handed over.
+// A line: the call, its code, and what it handed over.
 use groups::Answer;
 use libc::STDOUT_FILENO;
 use protocol::Header;

@@ -1,5 +1,5 @@
 // Plays every state of the OLT's key exchange with every input, and exchanges outside their values too. A line has the exchange, the input,
-// and the answer: its number, the next state, the message, and the timers that start (+) and stop (-). What it must print is made by
+// and the answer: its code, the next state, the message, and the timers that start (+) and stop (-). What it must print is made by
 // tools/test_xgpon.py.
 mod show;
 

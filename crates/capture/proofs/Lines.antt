@@ -1,13 +1,10 @@
 -- Laws of the rows of a listing: one more at each turn. Assumes nothing.
 use mathlib.Core.Path.{_≡_, sym, ap, _∙_}
-use mathlib.Core.List.{List, [], _++_, append-assoc, append-nil}
+use mathlib.Core.List.{List, _++_, append-assoc}
 use Prim.Native.Nat.{ℕ, _+_, _-_, _≤_, _<_}
 use native.Mathlib.Omega.{arith}
-use lib.ListN.{length, take, drop, length-drop, drop-of-length-le}
-use lib.Seq.{drop-drop, take-length}
-use borrow.Rule.Slice.PartMut.{putMid}
-use Rattle.octets.specs.Lists.{copied}
-use Rattle.octets.proofs.Lists.{tail-part, copied-short}
+use lib.ListN.{length, drop}
+use lib.Seq.{drop-drop}
 use Rattle.rows.specs.Text.{rowOf}
 use Rattle.rows.proofs.Lines.{decimal-below, row-few}
 use Rattle.records.specs.declared.header.Header.{Header}
@@ -21,17 +18,6 @@ pub same-behind : (s t : List ℕ) (a b : ℕ) → a ≤ b → drop a s ≡ drop
 same-behind s t a b h e =
     let n : b ≡ a + (b - a) = omega arith in
     rw n (sym (drop-drop (b - a) a s) ∙ ap (drop (b - a)) e ∙ drop-drop (b - a) a t)
-
--- a piece that is copied behind the first `at` octets of a text with room for it
-pub appended : (text piece done : List ℕ) (at : ℕ) → at + length piece ≤ length text → done ≡ copied piece (take (length text - at) (drop at text))
-    → putMid at (length text - at) text done ≡ (take at text ++ piece) ++ drop (at + length piece) text
-appended text piece done at h e =
-    let room : length (drop at text) ≡ length text - at = length-drop at text in
-    let rest = drop (length piece) (drop at text) in
-    let copy : done ≡ piece ++ rest =
-    e ∙ rw (tail-part at text) (sym (copied-short piece (drop at text) (omega arith)) ∙ rw take-length) in
-    let none : drop (length text - at) (drop at text) ≡ [] = drop-of-length-le (drop at text) {i = length text - at} (omega arith) in
-    rw (copy, none, append-nil, drop-drop) (sym (append-assoc (take at text) piece _))
 
 -- a row whose numbers have at most four digits
 pub row-short : (k : ℕ) (h : Header) (v : RecordVerdict) → k < 10000 → h .eqs < 10000 → length (rowOf k h v) ≤ lineOctets

@@ -3,8 +3,6 @@ use mathlib.Core.Path.{_≡_, refl, sym, ap, _∙_}
 use mathlib.Core.Bool.{Bool, true, false, not}
 use mathlib.Core.List.{List, _++_, append-assoc}
 use Prim.Native.Nat.{ℕ, zero, suc, _+_, _-_, _*_, _/_, _%_, _^_, _≤_, _<_}
-use native.Mathlib.Nat.{zero-add}
-use native.Mathlib.Numerals.{add-one}
 use native.Mathlib.Omega.{arith}
 use lib.ListN.{length, take, drop, set, take-append-drop, length-append, length-take, length-drop, length-set}
 use lib.Seq.{drop-set-add, take-set-le, take-set-lt, drop-set-lt, take-add, take-take, drop-drop}
@@ -15,7 +13,7 @@ use borrow.Author.Tests.{eq-eqb, eqb-true, le-leb, lt-ltb, not-false}
 use Rattle.octets.specs.Choice.{pick}
 use Rattle.octets.specs.Lists.{part, replaced, sum}
 use Rattle.octets.specs.Eqs.{maxEqs}
-use Rattle.octets.proofs.Lists.{sum-below, sum-suc, part-length, part-below, drop-part}
+use Rattle.octets.proofs.Lists.{sum-below, part-length, drop-part}
 use Rattle.octets.proofs.Choice.{both-left, both-right, both-true, not-of-true, pick-first}
 use Rattle.octets.specs.Output.{WithOutput, withOutput}
 use Rattle.refusal.specs.declared.Refusal.{Refusal}
@@ -44,7 +42,7 @@ use Rattle.capture.specs.declared.opening.Keys.{Keys}
 use Rattle.capture.specs.declared.opening.OpenAnswer.{OpenAnswer}
 use Rattle.records.specs.Settings.{settingsOctets, presenceOf, keyPresent, keyOf, macOf, settingsVerdict}
 use Rattle.records.specs.Record.{recordHeader, recordOctets, payloadOf}
-use Rattle.records.specs.Block.{recordsIn, offsetOf, lengthOf, recordOf, headerFrom, recordFrom}
+use Rattle.records.specs.Block.{mostOctets, recordsIn, recordOf, headerFrom, recordFrom}
 use Rattle.capture.specs.Directory.{verdictOn, directoryOf}
 use Rattle.capture.specs.Opening.{writtenAs, addedAs, openedRecord, recordAdds, openedBlock, blockCount, blockRuns, expansions, openVerdict, openingAfter, opening}
 use Rattle.capture.specs.Reading.{verdictBy, addsBy}
@@ -53,7 +51,7 @@ use Rattle.capture.specs.Verdict.{afterSettings, callDirectory}
 use Rattle.capture.specs.Duties.{Expanded, written}
 use Rattle.records.proofs.Verdicts.{settings-octets}
 use Rattle.records.proofs.Headers.{header-taken}
-use Rattle.capture.proofs.Records.{good, At}
+use Rattle.capture.proofs.Records.{counted, record-below}
 
 -- a record's payload is accepted for opening
 seal-accepted : (n m : ℕ) (nonce : Nonce) → n % 9 ≡ 0 → n ≤ 65536 → m ≡ n → nonceFits nonce ≡ true → sealVerdict n m nonce ≡ Accepted
@@ -82,19 +80,24 @@ part-sealed w n b out at k inside same whole most fits a t e =
     let l : length (sealed w n p) ≡ k = sealed-length w n p ∙ lp in
     (ap sealCount (d .0), ap sealRuns (d .0), rw (d .1, l))
 
--- an output that is the block from `at` on, with one octet of the record there stored and its payload replaced
+-- an output that goes on as c from `at` on, with the payload of the record of `len` octets there replaced
+pub payload-in-place : (out c ys : List ℕ) (at len : ℕ) → 16 ≤ len → drop at out ≡ c → length ys + 16 ≡ len
+    → replaced out (at + 16) ys ≡ take at out ++ ((take 16 (take len c) ++ ys) ++ drop len c)
+payload-in-place out c ys at len h same l =
+    let head : take (at + 16) out ≡ take at out ++ take 16 (take len c) = take-add at 16 out ∙ rw (same, take-take 16 len c h) in
+    let end : at + 16 + length ys ≡ at + len = omega arith in
+    let rest : drop (length ys) (drop (at + 16) out) ≡ drop len c =
+    drop-drop (length ys) (at + 16) out ∙ rw end (sym (drop-drop len at out) ∙ rw same) in
+    rw (head, rest) (simp append-assoc)
+
+-- one that is the block from `at` on, with one octet of the record stored besides
 pub opened-in-place : (b out ys : List ℕ) (at len f : ℕ) → 16 ≤ len → drop at out ≡ drop at b → length ys + 16 ≡ len
     → replaced (set out (at + 4) f) (at + 16) ys ≡ take at out ++ ((take 16 (set (part b at len) 4 f) ++ ys) ++ drop (at + len) b)
 opened-in-place b out ys at len f h same l =
     let stored : drop at (set out (at + 4) f) ≡ set (drop at b) 4 f = drop-set-add at out 4 f ∙ rw same in
     let front : take at (set out (at + 4) f) ≡ take at out = take-set-le at out (at + 4) f (omega arith) in
-    let head : take (at + 16) (set out (at + 4) f) ≡ take at out ++ take 16 (set (part b at len) 4 f) =
-    take-add at 16 (set out (at + 4) f) ∙ rw (stored, front, ← take-set-lt len (drop at b) 4 f (omega arith), take-take 16 len (set (drop at b) 4 f) h) in
-    let end : at + 16 + length ys ≡ at + len = omega arith in
-    let rest : drop (length ys) (drop (at + 16) (set out (at + 4) f)) ≡ drop (at + len) b =
-    drop-drop (length ys) (at + 16) (set out (at + 4) f)
-    ∙ rw end (sym (drop-drop len at (set out (at + 4) f)) ∙ rw (stored, drop-set-lt len (drop at b) 4 f (omega arith)) (drop-drop len at b)) in
-    rw (head, rest) (simp append-assoc)
+    payload-in-place (set out (at + 4) f) (set (drop at b) 4 f) ys at len h stored l
+    ∙ rw (front, take-set-lt len (drop at b) 4 f (omega arith), drop-set-lt len (drop at b) 4 f (omega arith), drop-drop len at b)
 
 -- an output that is the block from `at` on holds the record there
 pub kept-in-place : (b out : List ℕ) (at len : ℕ) → drop at out ≡ drop at b → out ≡ take at out ++ (part b at len ++ drop (at + len) b)
@@ -160,15 +163,6 @@ pub nonce-fits : (h : Header) (m t : ℕ) → headerFits h ≡ true → m < 2 ^ 
 unfolding nonceFits headerFits
 nonce-fits h m t f p q = both-true (both-left _ _ (both-right _ _ f)) (both-true (lt-ltb _ _ p) (lt-ltb _ _ q))
 
--- what is counted and written at a place is by the verdict on the record there
-pub counted-at : (g : List ℕ → ℕ) (b : List ℕ) (i from : ℕ) (u v : RecordVerdict) → At b i from → u ≡ v
-    → addedAs g (recordFrom b from) u ≡ addedAs g (recordOf b i) v
-counted-at g b i from u v x e = rw (e, x .octets)
-
-pub written-at : (s b out : List ℕ) (from due i : ℕ) (u v : RecordVerdict) → u ≡ v → At b i from → from ≡ due
-    → written s b out from u ≡ take due out ++ (writtenAs s (recordOf b i) v ++ drop (due + recordOctets (headerFrom b due .eqs)) b)
-written-at s b out from due i u v e x ef = rw (e, x .octets, ef)
-
 -- opening keeps a record's length
 pub written-length : (s r : List ℕ) (v : RecordVerdict) → 16 ≤ length r → length (writtenAs s r v) ≡ length r
 unfolding writtenAs payloadOf
@@ -189,7 +183,7 @@ pub runs-below : (p : List ℕ) → runs p ≤ length p
 unfolding runs
 runs-below p = omega (arith, runs-at-most p (mostRuns p))
 
--- what a record adds is few, and so is the sum so far
+-- what a record adds is few
 module _ (g : List ℕ → ℕ) (few : (p : List ℕ) → g p ≤ length p) where
   pub added-below : (r : List ℕ) (v : RecordVerdict) → addedAs g r v ≤ length r
   unfolding addedAs payloadOf
@@ -197,25 +191,12 @@ module _ (g : List ℕ → ℕ) (few : (p : List ℕ) → g p ≤ length p) wher
   added-below r (RecordVerdict.Refused c) = omega arith
   added-below r (Sealed i t) = omega (arith, few (drop 16 r), length-drop 16 r)
 
-  one-below : (b : List ℕ) (v : ℕ → RecordVerdict) (i : ℕ) → length b ≤ 65536 → addedAs g (recordOf b i) (v i) ≤ 65536
-  unfolding recordOf
-  one-below b v i h = omega (arith, added-below (recordOf b i) (v i), part-below b (offsetOf b i) (lengthOf b i))
+  pub adds-few : (near : Bool) (s b : List ℕ) (i : ℕ) → length b ≤ mostOctets → addsBy near g s b i ≤ mostOctets
+  adds-few near s b i h = omega (arith, added-below (recordOf b i) (verdictBy near s b i), record-below b i h)
 
-  both-below : (b : List ℕ) (v : ℕ → RecordVerdict) (i : ℕ) → length b ≤ 65536
-      → sum 0 i (λ j. addedAs g (recordOf b j) (v j)) + addedAs g (recordOf b i) (v i) ≤ i * 65536 + 65536
-  both-below b v i h =
-      omega (arith, sum-below 0 i 65536 (λ j. addedAs g (recordOf b j) (v j)) (λ j. one-below b v j h), one-below b v i h)
-
-module _ (near : Bool) (s b : List ℕ) (i : ℕ) where
-  pub count-few : length b ≤ 65536
-      → sum 0 i (addsBy near countEnciphered s b) + addsBy near countEnciphered s b i ≤ i * 65536 + 65536
-  count-few = both-below countEnciphered enciphered-below b (verdictBy near s b) i
-
-  pub runs-few : length b ≤ 65536 → sum 0 i (addsBy near runs s b) + addsBy near runs s b i ≤ i * 65536 + 65536
-  runs-few = both-below runs runs-below b (verdictBy near s b) i
-
-  pub one-more : (g : List ℕ → ℕ) → sum 0 (i + 1) (addsBy near g s b) ≡ sum 0 i (addsBy near g s b) + addsBy near g s b i
-  one-more g = rw add-one (sum-suc 0 i (addsBy near g s b) ∙ rw zero-add)
+-- and so is the sum so far
+pub sum-few : (f : ℕ → ℕ) (i : ℕ) → ((j : ℕ) → f j ≤ mostOctets) → sum 0 i f + f i ≤ i * mostOctets + mostOctets
+sum-few f i h = omega (arith, sum-below 0 i mostOctets f h, h i)
 
 -- what acceptance of the call tells
 pub record Callable (s b : List ℕ) (m : ℕ) : Type 0 where
@@ -223,10 +204,6 @@ pub record Callable (s b : List ℕ) (m : ℕ) : Type 0 where
   pub accepted : settingsVerdict s ≡ Accepted
   pub settings : length s ≡ settingsOctets
   pub good : directoryOf b ≡ Good (recordsIn b)
-
-counted : (b : List ℕ) (d : Directory) → directoryOf b ≡ d → verdictOn d ≡ Accepted → directoryOf b ≡ Good (recordsIn b)
-counted b (Good n) q e = q ∙ ap Good (good b n q .count)
-counted b (Bad r) q e = cc
 
 pub callable : (s b : List ℕ) (m : ℕ) → openVerdict s b m ≡ Accepted → Callable s b m
 unfolding openVerdict

@@ -12,7 +12,7 @@ use Rattle.octets.specs.BigEndian.{sixOctets}
 use Rattle.octets.specs.Choice.{pick}
 use Rattle.octets.specs.Output.{withOutput}
 use Rattle.octets.proofs.Bits.{bit-below}
-use Rattle.octets.proofs.Choice.{pick-first, pick-same, true-false}
+use Rattle.octets.proofs.Choice.{pick-first, pick-same}
 use Rattle.refusal.specs.declared.Refusal.{Refusal}
 use Rattle.refusal.specs.declared.Refusal.the-variants.{OutOfRange, UnknownLlid}
 use Rattle.refusal.specs.declared.Verdict.{Verdict}
@@ -27,7 +27,7 @@ use Rattle.records.specs.declared.near.Heard.{Heard}
 use Rattle.records.specs.Settings.{presenceOf, llidOf}
 use Rattle.records.specs.Verdict.{headerFits, recordVerdict, verdictFor}
 use Rattle.records.specs.Block.{mostRecords, recordsIn, recordOf}
-use Rattle.records.specs.Near.{noDrift, nearest, expected, farVerdict, heardAt, heard, signedOctet}
+use Rattle.records.specs.Near.{noDrift, nearest, expected, farVerdict, heardAt, heard, judged, signedOctet}
 use Rattle.records.specs.Following.{headerOf, driftAt, nearVerdict}
 use Rattle.records.proofs.Verdicts.{openable}
 use Rattle.capture.specs.declared.directory.Directory.{Directory}
@@ -44,7 +44,7 @@ use Rattle.capture.proofs.Records.{Records, header-there}
 use Rattle.capture.proofs.Openings.{written-length}
 use Rattle.capture.proofs.Reopening.{opened-is}
 
----- a record that is to be opened can be
+-- ---- a record that is to be opened can be
 pub opens-by : (s : List ℕ) (h : Header) (t i u : ℕ) → recordVerdict (presenceOf s) (llidOf s) t h ≡ Sealed i u → t < sixOctets → Opens s h i u
 opens-by s h t i u e c =
     let o = openable (presenceOf s) (llidOf s) t h i u e in
@@ -61,41 +61,33 @@ opens-at s drift h TooFar i t e =
     absurd (omega arith)
 opens-at s drift h (Step d) i t e = opens-by s h _ i t e (omega arith)
 
----- record i, with the header h, in its turn: its verdict v, and the corrections d behind it
+pub judged-opens : (near : Bool) (s : List ℕ) (drift : Drift) (h : Header) → h .clock < sixOctets → (i t : ℕ)
+    → judged near s drift h .verdict ≡ Sealed i t → Opens s h i t
+unfolding judged heard verdictFor
+judged-opens true s drift h c i t e = opens-at s drift h (nearest (expected drift h) (h .epam)) i t e
+judged-opens false s drift h c i t e = opens-by s h (h .clock) i t e c
+
+-- ---- record i, with the header h, in its turn: its verdict v, and the corrections d behind it
 pub record Turn (near : Bool) (s b : List ℕ) (i : ℕ) (h : Header) (v : RecordVerdict) (d : Drift) : Type 0 where
   pub verdict : v ≡ verdictBy near s b i
   pub drift : d ≡ driftBy near s b (i + 1)
   pub opens : (j t : ℕ) → v ≡ Sealed j t → Opens s h j t
 
-module _ (s b : List ℕ) (i : ℕ) (h : Header) (eh : h ≡ headerOf b i) (v : RecordVerdict) (old d : Drift) where
-  heard-turn : (r : Heard) → r ≡ heard (presenceOf s) (llidOf s) old h → old ≡ driftAt s b i → d ≡ r .drift → v ≡ r .verdict
-      → Turn true s b i h v d
-  unfolding nearVerdict driftAt pick heard
-  heard-turn r e eo ed ev =
-      record {
-        verdict = ev ∙ rw (e, eo, eh);
-        drift = ed ∙ rw (e, eo, eh, add-one);
-        opens = λ j t q.
-            opens-at s old h (nearest (expected old h) (h .epam)) j t (sym (ap (λ (x : Heard). x .verdict) e) ∙ sym ev ∙ q);
-      }
-
-  usual-turn : h .clock < sixOctets → v ≡ verdictFor s h → d ≡ noDrift → Turn false s b i h v d
-  unfolding verdictFor pick
-  usual-turn c ev ed = record { verdict = ev ∙ rw eh; drift = ed; opens = λ j t q. opens-by s h (h .clock) j t (sym ev ∙ q) c }
-
-  -- by the way that was taken
-  pub near-turn : (near : Bool) → near ≡ true → old ≡ driftBy near s b i → (r : Heard) → r ≡ heard (presenceOf s) (llidOf s) old h
-      → d ≡ r .drift
-      → v ≡ r .verdict → Turn near s b i h v d
-  unfolding pick
-  near-turn true t eo r e ed ev = heard-turn r e eo ed ev
-  near-turn false t eo r e ed ev = true-false (sym t)
-
-  pub own-turn : (near : Bool) → near ≡ false → old ≡ driftBy near s b i → h .clock < sixOctets → v ≡ verdictFor s h → d ≡ old
-      → Turn near s b i h v d
-  unfolding pick
-  own-turn true t eo c ev ed = true-false t
-  own-turn false t eo c ev ed = usual-turn c ev (ed ∙ eo)
+pub turn : (near : Bool) (s b : List ℕ) (i : ℕ) (old : Drift) (h : Header) (r : Heard) → r ≡ judged near s old h → old ≡ driftBy near s b i
+    → h ≡ headerOf b i → h .clock < sixOctets → Turn near s b i h (r .verdict) (r .drift)
+unfolding judged nearVerdict driftAt pick
+turn true s b i old h r e eo eh c =
+    record {
+      verdict = rw (e, eo, eh);
+      drift = rw (e, eo, eh, add-one);
+      opens = λ j t q. judged-opens true s old h c j t (sym (ap (λ (x : Heard). x .verdict) e) ∙ q);
+    }
+turn false s b i old h r e eo eh c =
+    record {
+      verdict = rw (e, eh);
+      drift = ap (λ (x : Heard). x .drift) e ∙ eo;
+      opens = λ j t q. judged-opens false s old h c j t (sym (ap (λ (x : Heard). x .verdict) e) ∙ q);
+    }
 
 pub no-corrections : (near : Bool) (s b : List ℕ) → noDrift ≡ driftBy near s b 0
 unfolding driftAt
@@ -105,7 +97,7 @@ no-corrections near s b = sym (pick-same near noDrift)
 pub record-size : (near : Bool) (s b : List ℕ) (n : ℕ) → Records b n → (i : ℕ) → i < n → length (recordBy near s b i) ≡ length (recordOf b i)
 record-size near s b n r i h = written-length s (recordOf b i) (verdictBy near s b i) (header-there b n r i h)
 
----- the usual way
+-- ---- the usual way
 opening-usual-by : (v : Verdict) (s b out : List ℕ)
     → withOutput (openingAs false v s b out .answer .opened) (openingAs false v s b out .output) ≡ openingAfter v s b out
 unfolding openingAs openingAfter totalBy blockAdds recordAdds openedRecord pick
@@ -115,6 +107,10 @@ opening-usual-by (Verdict.Refused r) s b out = refl
 pub opening-usual : (s b out : List ℕ) → withOutput (openingBy false s b out .answer .opened) (openingBy false s b out .output) ≡ opening s b out
 unfolding openingBy opening
 opening-usual s b out = opening-usual-by (openVerdict s b (length out)) s b out
+
+pub asked-usual : (s b : List ℕ) (k : ℕ) → askedBy false s b k ≡ verdictAsked s b k
+unfolding askedBy verdictAsked pick
+asked-usual s b k = refl
 
 judging-usual-by : (d : Directory) (s b out : List ℕ)
     → withOutput (judgingAs false d s b out .answer .directory) (judgingAs false d s b out .output) ≡ verdictsAfter d s b out
@@ -140,7 +136,7 @@ pub listing-usual : (s b : List ℕ) → listingBy false s b ≡ listingOf s b
 unfolding listingBy listingOf
 listing-usual s b = rw (body-usual (openVerdict s b (length b)) s b)
 
----- what a call comes to
+-- ---- what a call comes to
 module _ (near : Bool) (s b out : List ℕ) where
   pub opening-bad : (r : Refusal) → openVerdict s b (length out) ≡ Verdict.Refused r
       → withOutput (record { opened = Denied r; smallest = 0; largest = 0 }) out ≡ openingBy near s b out

@@ -14,13 +14,14 @@ use Rattle.octets.specs.Lists.{part}
 use Rattle.octets.proofs.BigEndian.{number-same}
 use Rattle.octets.proofs.Choice.{pick-true}
 use Rattle.records.specs.Record.{sized, recordOctets}
-use Rattle.records.specs.Block.{recordsIn, offsetOf, lengthOf, endOf, dueOf, recordOf, headerFrom}
+use Rattle.records.specs.Block.{recordsIn, offsetOf, lengthOf, endOf, dueOf, recordOf, headerFrom, recordFrom}
 use Rattle.capture.specs.declared.directory.Pair.the-variants.{Fits}
 use Rattle.capture.specs.declared.directory.Directory.the-variants.{Good}
 use Rattle.capture.specs.Directory.{chained, pairOf, sizeFits, directoryOf}
 use Rattle.capture.specs.Rebuilt.{joined, rebuilt}
 use Rattle.capture.proofs.Pairs.{pair-fits, due-next}
-use Rattle.capture.proofs.Records.{Records, all-fit, placed, at-due, records-end}
+use Rattle.capture.proofs.Records.{Records, all-fit, placed, At, at-due, records-end}
+use Rattle.capture.proofs.Openings.{kept-in-place}
 
 joined-split : (f : ℕ → List ℕ) (j m k : ℕ) → joined f j (m + k) ≡ joined f j m ++ joined f (j + m) k
 unfolding joined
@@ -164,6 +165,23 @@ module _ (f : ℕ → List ℕ) (b : List ℕ) (n : ℕ) (r : Records b n) (size
 
   pub rebuilt-again : (g : ℕ → List ℕ) → rebuilt g (rebuilt f b) ≡ rebuilt g b
   rebuilt-again g = again-is g (rebuilt f b) (same-count ∙ sym (r .count)) same-directory
+
+-- ---- of its own records it is itself
+own-place : (b : List ℕ) (i from : ℕ) → At b i from
+    → b ≡ take from b ++ (recordOf b i ++ drop (from + recordOctets (headerFrom b from .eqs)) b)
+unfolding recordFrom
+own-place b i from x =
+    let len = recordOctets (headerFrom b from .eqs) in
+    kept-in-place b b from len refl ∙ ap (λ (t : List ℕ). take from b ++ (t ++ drop (from + len) b)) (x .octets)
+
+own-up-to : (b : List ℕ) (n : ℕ) → Records b n → (i : ℕ) → i ≤ n → b ≡ upTo (recordOf b) b i ++ drop (dueOf b i) b
+own-up-to b n r zero h = none-rebuilt (recordOf b) b n r (λ j l. refl)
+own-up-to b n r (suc i) h =
+    let own = own-place b i (dueOf b i) (at-due b n i (dueOf b i) r (omega arith) refl) in
+    rw (← add-one i) (one-rebuilt (recordOf b) b n r (λ j l. refl) b i (omega arith) (own-up-to b n r i (omega arith)) b own)
+
+pub rebuilt-self : (b : List ℕ) (n : ℕ) → Records b n → rebuilt (recordOf b) b ≡ b
+rebuilt-self b n r = sym (all-rebuilt (recordOf b) b n r (λ j l. refl) b (own-up-to b n r n (omega arith)))
 
 pub rebuilt-ext : (f g : ℕ → List ℕ) (b : List ℕ) → ((i : ℕ) → i < recordsIn b → f i ≡ g i) → rebuilt f b ≡ rebuilt g b
 unfolding rebuilt

@@ -1,26 +1,27 @@
 -- Laws of the records of a good directory: where they stand and how long they are. Assumes nothing.
 use mathlib.Core.Path.{_≡_, refl, sym, ap, ap₂, _∙_}
 use mathlib.Core.Bool.{Bool, true, false}
-use mathlib.Core.List.{List, []}
+use mathlib.Core.List.{List, [], _++_}
 use Prim.Native.Nat.{ℕ, zero, suc, _+_, _-_, _≤_, _<_}
 use native.Mathlib.Nat.{add-zero, zero-add, add-suc, suc-add}
 use native.Mathlib.Omega.{arith}
 use lib.Dec.{leb}
-use lib.ListN.{length, drop}
+use lib.ListN.{length, take, drop}
 use borrow.Author.Tests.{leb-true, leb-false, eqb-true}
 use Rattle.octets.specs.Choice.{both}
 use Rattle.octets.specs.Lists.{part}
 use Rattle.octets.proofs.Choice.{both-left, both-right, pick-first}
-use Rattle.octets.proofs.Lists.{part-length, drop-part}
+use Rattle.octets.proofs.Lists.{part-length, part-below, drop-part}
 use Rattle.refusal.specs.declared.Refusal.{Refusal}
 use Rattle.refusal.specs.declared.Refusal.the-variants.{OutOfRange, BadDirectory}
 use Rattle.refusal.specs.declared.Verdict.{Verdict}
 use Rattle.refusal.specs.declared.Verdict.the-variants.{Accepted, Refused}
 use Rattle.records.specs.declared.header.Header.{Header}
 use Rattle.records.specs.Record.{headerOctets, recordOctets, recordHeader, payloadOf, sized}
-use Rattle.records.specs.Block.{mostRecords, recordsIn, offsetOf, lengthOf, endOf, dueOf, recordOf, headerFrom, recordFrom}
+use Rattle.records.specs.Block.{mostOctets, mostRecords, recordsIn, offsetOf, lengthOf, endOf, dueOf, recordOf, headerFrom, recordFrom}
+use Rattle.records.specs.Following.{headerOf}
 use Rattle.records.proofs.Headers.{header-taken}
-use Rattle.capture.specs.Directory.{pairOf, sizeFits, withPair, pairsFrom, directoryOf}
+use Rattle.capture.specs.Directory.{pairOf, sizeFits, withPair, pairsFrom, verdictOn, directoryOf}
 use Rattle.capture.specs.Duties.{Placed}
 use Rattle.capture.specs.Payload.{recordAsked, payloadVerdict, boundsOf, boundsAfter, payloadBounds, boundsOffset, boundsLength, unlessRefused, payloadPart}
 use Rattle.capture.specs.declared.directory.Pair.{Pair}
@@ -73,6 +74,11 @@ good b n e =
     let p = good-pairs b 0 (recordsIn b) n (s .1) in
     record { count = p .0 ∙ zero-add (recordsIn b); right = s .0; sizes = size-fits b (s .0); fit = λ i h. p .1 i (omega arith) (omega (arith, p .0)) }
 
+-- an accepted directory counts its records
+pub counted : (b : List ℕ) (d : Directory) → directoryOf b ≡ d → verdictOn d ≡ Accepted → directoryOf b ≡ Good (recordsIn b)
+counted b (Good n) q e = q ∙ ap Good (good b n q .count)
+counted b (Bad r) q e = cc
+
 -- where record i stands, and what its length is
 pub placed : (b : List ℕ) (n i : ℕ) → Records b n → i < n → Placed b i
 unfolding sized recordOf endOf
@@ -112,6 +118,44 @@ at-due b n i from r h e =
       next = ap₂ (λ (x l : ℕ). x + l) start size ∙ sym (due-next b i);
       inside = omega (arith, start, size, p .inside);
     }
+
+-- what goes by the record that starts at `from` and by what was judged of it goes by record i
+module _ {J : Type 0} (b : List ℕ) (i from : ℕ) (x : At b i from) (u v : J) (e : u ≡ v) where
+  pub of-record : {A : Type 0} (f : List ℕ → J → A) → f (recordFrom b from) u ≡ f (recordOf b i) v
+  of-record f = rw (e, x .octets)
+
+  pub in-place : (f : List ℕ → J → List ℕ) (out : List ℕ) (due : ℕ) → from ≡ due
+      → take from out ++ (f (recordFrom b from) u ++ drop (from + recordOctets (headerFrom b from .eqs)) b)
+      ≡ take due out ++ (f (recordOf b i) v ++ drop (due + recordOctets (headerFrom b due .eqs)) b)
+  in-place f out due d = rw (e, x .octets, d)
+
+-- a turn of a loop over the n records of a block: record i starts at `from`, and h is the header that is read there
+pub record Reached (b : List ℕ) (n i from : ℕ) (h : Header) : Type 0 where
+  pub records : Records b n
+  pub few : i < mostRecords
+  pub here : At b i from
+  pub header : h ≡ headerOf b i
+  pub next : from + recordOctets (h .eqs) ≡ dueOf b (i + 1)
+  pub end : from + recordOctets (h .eqs) ≤ mostOctets
+
+pub reached : (b : List ℕ) (n i from : ℕ) (h : Header) → directoryOf b ≡ Good n → i < n → from ≡ dueOf b i → h ≡ headerFrom b from
+    → Reached b n i from h
+reached b n i from h g l d e =
+    let r = good b n g in
+    let x = at-due b n i from r l d in
+    let eqs = ap (λ (y : Header). y .eqs) e in
+    record {
+      records = r;
+      few = omega (arith, r .count, r .sizes .few);
+      here = x;
+      header = e ∙ x .header;
+      next = omega (arith, eqs, x .next);
+      end = omega (arith, eqs, x .inside, r .sizes .most);
+    }
+
+pub record-below : (b : List ℕ) (i : ℕ) → length b ≤ mostOctets → length (recordOf b i) ≤ mostOctets
+unfolding recordOf
+record-below b i h = omega (arith, part-below b (offsetOf b i) (lengthOf b i))
 
 -- an accepted number is that of a record
 pub record Asked (b : List ℕ) (k : ℕ) : Type 0 where

@@ -4,50 +4,28 @@ ghost use mathlib.Core.Bool.{true};
 ghost use mathlib.Core.List.{_++_};
 ghost use Prim.Native.Nat.{_+_, _≤_, _<_};
 ghost use lib.ListN.{length, take, drop};
-ghost use Rattle.rows.specs.Text.{textOf, rowOf};
+ghost use Rattle.rows.specs.Text.{rowOf};
 ghost use Rattle.capture.specs.Listing.{lineOctets, bodyOctets, listingOf};
 ghost use Rattle.capture.specs.Rebuilt.{joined};
 ghost use Rattle.capture.specs.Reading.{rowBy, bodyBy, listingBy};
 ghost use Rattle.capture.specs.declared.directory.Directory.the-variants.{Good};
 ghost use Rattle.capture.specs.Directory.{directoryOf};
 use crate::directory::Directory;
-use crate::reading::hear_for;
 use crate::verdict::call_directory;
+use octets::copy_at;
 use records::block::directory_octets;
 use records::block::header_from;
 use records::header::Header;
 use records::header::RecordVerdict;
 use records::header::record_octets;
-use records::header::verdict_for;
+use records::near::judge;
 use records::near::no_drift;
-use rows::Line;
+use rows::put_line;
 use rows::refused_row;
 use rows::row;
 
 // Room for the heading and 256 lines of 40 octets.
 pub const LISTING_OCTETS: usize = 10266;
-
-// Writes a piece behind the first `at` octets of the text, and gives its end.
-fn append(text: &mut [u8], at: usize, piece: &[u8]) -> usize
-    requires { ⌜ at + length (now piece) ≤ length (now text) ⌝ }
-    ensures { λ r. ⌜ r ≡ at + length (now (piece .entry)) ⌝ }
-    ensures { λ r. ⌜ take r (now (text .exit)) ≡ take at (now (text .entry)) ++ now (piece .entry) ⌝ }
-    ensures { λ r. ⌜ drop r (now (text .exit)) ≡ drop r (now (text .entry)) ⌝ }
-{
-    octets::copy(piece, &mut text[at..]);
-    at + piece.len()
-}
-
-fn put_line(text: &mut [u8], at: usize, line: Line) -> usize
-    requires { ⌜ (line .used ≤ lineOctets) × (at + lineOctets ≤ length (now text)) ⌝ }
-    ensures { λ r. ⌜ (at ≤ r) × (r ≤ at + lineOctets) ⌝ }
-    ensures { λ r. ⌜ take r (now (text .exit)) ≡ take at (now (text .entry)) ++ textOf line ⌝ }
-    ensures { λ r. ⌜ drop r (now (text .exit)) ≡ drop r (now (text .entry)) ⌝ }
-{
-    let octets = line.octets;
-    let used = line.used;
-    append(text, at, &octets[..used])
-}
 
 // The row of the record with number k, the header h and the verdict on it, numbers of at most four digits.
 fn put_row(text: &mut [u8], at: usize, k: u64, h: Header, verdict: RecordVerdict) -> usize
@@ -72,16 +50,11 @@ fn put_rows(near: bool, settings: &[u8], block: &[u8], text: &mut [u8], at: usiz
     let mut i = 0;
     while i < n {
         let h = header_from(block, from);
-        let verdict = if near {
-            let heard = hear_for(settings, drift, h);
-            let next = heard.drift;
-            drift = next;
-            let taken = heard.verdict;
-            taken
-        } else {
-            verdict_for(settings, h)
-        };
+        let heard = judge(near, settings, drift, h);
+        let verdict = heard.verdict;
         end = put_row(text, end, i as u64 + 1, h, verdict);
+        let next = heard.drift;
+        drift = next;
         from += record_octets(h.eqs);
         i += 1;
     }
@@ -107,8 +80,8 @@ fn list_by(near: bool, settings: &[u8], block: &[u8], text: &mut [u8; LISTING_OC
     ensures { λ r. ⌜ drop r (now (text .exit)) ≡ drop r (now (text .entry)) ⌝ }
 {
     let heading = *b"no llid ch key eqs result\n";
-    let at = append(text, 0, &heading);
-    put_body(near, settings, block, text, at)
+    copy_at(&heading, text, 0);
+    put_body(near, settings, block, text, heading.len())
 }
 
 // Lists a block: the heading, then the rows, or the code of the call's refusal. Gives the length of the text; the octets

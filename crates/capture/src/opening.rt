@@ -21,7 +21,6 @@ ghost use Rattle.capture.specs.Near.{ReadsAsExact, NotEmpty};
 ghost use Rattle.capture.specs.Claims.{OpenedIfAccepted};
 ghost use Rattle.capture.specs.Duties.{Took, TookAs, TookAll, Span, Expanded, Ready, Settled, written, Copied};
 use crate::directory::Directory;
-use crate::reading::hear_for;
 use crate::verdict::call_directory;
 use envelope::Nonce;
 use envelope::nonce_fits;
@@ -36,7 +35,7 @@ use records::header::Header;
 use records::header::RecordVerdict;
 use records::header::cleared;
 use records::header::record_octets;
-use records::header::verdict_for;
+use records::near::judge;
 use records::near::no_drift;
 use records::near::signed;
 use records::settings::key;
@@ -200,18 +199,13 @@ fn open_records(
     let mut i = 0;
     while i < n {
         let h = header_from(block, from);
-        let verdict = if near {
-            let heard = hear_for(settings, drift, h);
-            let next = heard.drift;
-            drift = next;
-            let taken = heard.verdict;
-            taken
-        } else {
-            verdict_for(settings, h)
-        };
+        let heard = judge(near, settings, drift, h);
+        let verdict = heard.verdict;
         let work = open_as(settings, keys, block, output, from, h, verdict);
         count += work.count;
         runs += work.runs;
+        let next = heard.drift;
+        drift = next;
         from += record_octets(h.eqs);
         i += 1;
     }

@@ -13,17 +13,15 @@ ghost use Rattle.capture.specs.Reading.{driftBy, askedBy, numbersBy, jud
 use crate::directory::Directory;
 use crate::directory::check;
 use crate::payload::payload_verdict;
-use crate::reading::hear_for;
-use crate::reading::near_verdict;
+use crate::reading::verdict_by;
 use records::block::MOST_RECORDS;
 use records::block::directory_octets;
-use records::block::header_at;
 use records::block::header_from;
 use records::header::RecordVerdict;
 use records::header::number;
 use records::header::record_octets;
-use records::header::verdict_for;
 use records::near::Drift;
+use records::near::judge;
 use records::near::no_drift;
 use records::near::signed;
 use records::settings::settings_verdict;
@@ -50,30 +48,31 @@ pub(crate) fn call_directory(suits: bool, settings: &[u8], block: &[u8]) -> Dire
     }
 }
 
-// The verdict on record k. The refusals of the call itself come first.
-pub fn ask(settings: &[u8], block: &[u8], k: usize) -> RecordVerdict
-    ensures { λ r. ⌜ r ≡ verdictAsked (now (settings .entry)) (now (block .entry)) k ⌝ }
+// The verdict on record k, in the near way or the usual one. The refusals of the call itself come first.
+fn ask_by(near: bool, settings: &[u8], block: &[u8], k: usize) -> RecordVerdict
+    ensures { λ r. ⌜ r ≡ askedBy near (now (settings .entry)) (now (block .entry)) k ⌝ }
 {
     if let Verdict::Refused(refusal) = settings_verdict(settings) {
         return RecordVerdict::Refused(refusal);
     }
     match payload_verdict(block, k) {
         Verdict::Refused(refusal) => RecordVerdict::Refused(refusal),
-        Verdict::Accepted => verdict_for(settings, header_at(block, (k - 1) as u16)),
+        Verdict::Accepted => verdict_by(near, settings, block, (k - 1) as u16),
     }
+}
+
+// The verdict on record k.
+pub fn ask(settings: &[u8], block: &[u8], k: usize) -> RecordVerdict
+    ensures { λ r. ⌜ r ≡ verdictAsked (now (settings .entry)) (now (block .entry)) k ⌝ }
+{
+    ask_by(false, settings, block, k)
 }
 
 // The same in the near way (02, C-18).
 pub fn ask_near(settings: &[u8], block: &[u8], k: usize) -> RecordVerdict
     ensures { λ r. ⌜ r ≡ askedBy true (now (settings .entry)) (now (block .entry)) k ⌝ }
 {
-    if let Verdict::Refused(refusal) = settings_verdict(settings) {
-        return RecordVerdict::Refused(refusal);
-    }
-    match payload_verdict(block, k) {
-        Verdict::Refused(refusal) => RecordVerdict::Refused(refusal),
-        Verdict::Accepted => near_verdict(settings, block, (k - 1) as u16),
-    }
+    ask_by(true, settings, block, k)
 }
 
 // Writes the codes of the verdicts on the n records of a block, one after the other, and gives the corrections behind them.
@@ -88,16 +87,11 @@ fn put_numbers(near: bool, settings: &[u8], block: &[u8], output: &mut [u8], n: 
     let mut i = 0;
     while i < n {
         let h = header_from(block, from);
-        let verdict = if near {
-            let heard = hear_for(settings, drift, h);
-            let next = heard.drift;
-            drift = next;
-            let taken = heard.verdict;
-            taken
-        } else {
-            verdict_for(settings, h)
-        };
+        let heard = judge(near, settings, drift, h);
+        let verdict = heard.verdict;
         output[i as usize] = number(verdict);
+        let next = heard.drift;
+        drift = next;
         from += record_octets(h.eqs);
         i += 1;
     }

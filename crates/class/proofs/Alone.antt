@@ -21,6 +21,7 @@ use Rattle.refusal.specs.Order.{refuseIf}
 use Rattle.envelope.specs.ControlMask.{countEnciphered, runs}
 use Rattle.records.specs.declared.near.Drift.{Drift}
 use Rattle.records.specs.Settings.{llidOf, presenceOf, keyPresent, presenceFits, settingsVerdict}
+use Rattle.records.specs.Near.{judged}
 use Rattle.records.specs.Block.{recordsIn}
 use Rattle.records.specs.Following.{headerOf, driftAt, nearVerdict}
 use Rattle.capture.specs.declared.directory.Directory.{Directory}
@@ -36,7 +37,6 @@ use Rattle.rights.specs.declared.judging.ClassVerdict.the-variants.{Told}
 use Rattle.rights.specs.declared.judging.ClassHeard.{ClassHeard}
 use Rattle.rights.specs.Settings.{setOf, setFrom, setFor, ownRights, rightsOn}
 use Rattle.rights.specs.Rights.{rightsFit, mayOpen}
-use Rattle.rights.specs.Judging.{judged}
 use Rattle.rights.specs.Verdict.{userFits, countsFit, presencesFit, llidsDiffer, classVerdict}
 use Rattle.class.specs.Reading.{setAt, heardFor, driftFor, toldOf, callFor}
 use Rattle.class.specs.Opening.{writtenFor, addedFor, recordFor, addsFor, totalFor, isExpanded, expansionsFor, openingAfter, openingFor}

@@ -17,14 +17,14 @@ use Rattle.records.specs.Settings.{llidOf, presenceOf, presenceFits}
 use Rattle.records.specs.Record.{recordHeader, sized}
 use Rattle.records.specs.Place.{endFits}
 use Rattle.records.specs.Verdict.{encEnabled, flagsFit, headerFits, keyVerdict, inOrder, recordVerdict}
-use Rattle.records.specs.Near.{nearest, heardAt, heard}
+use Rattle.records.specs.Near.{nearest, heardAt, heard, judged}
 use Rattle.records.specs.Block.{directoryOctets, recordsIn, offsetOf, lengthOf, endOf, dueOf, recordOf}
 use Rattle.records.specs.Following.{headerOf}
 use Rattle.capture.specs.declared.directory.Directory.the-variants.{Good}
 use Rattle.capture.specs.Directory.{chained, pairOf, sizeFits, withPair, pairsFrom, directoryOf}
 use Rattle.rights.specs.declared.judging.ClassVerdict.the-variants.{Hidden, Told}
 use Rattle.rights.specs.declared.judging.ClassHeard.{ClassHeard}
-use Rattle.rights.specs.Judging.{judged, toldTo, judgedFor}
+use Rattle.rights.specs.Judging.{toldTo, judgedFor}
 use Rattle.rights.specs.Settings.{setOf, setFrom, ownRights, rightsOn}
 use Rattle.rights.specs.Rights.{rightsFit, mayOpen, maySee}
 use Rattle.rights.specs.Verdict.{userFits, countsFit, presencesFit, llidsDiffer, classVerdict}

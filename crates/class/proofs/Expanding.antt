@@ -4,15 +4,14 @@ use mathlib.Core.Bool.{true, false}
 use mathlib.Core.Logic.{⊎-elim}
 use mathlib.Core.List.{List, _++_}
 use Prim.Native.Nat.{ℕ, _+_, _*_, _/_, _%_, _≤_, _<_}
-use native.Mathlib.Nat.{zero-add, eq-or-lt-of-le}
-use native.Mathlib.Numerals.{add-one}
+use native.Mathlib.Nat.{eq-or-lt-of-le}
 use native.Mathlib.Omega.{arith}
 use lib.ListN.{length, take, drop, replicate, length-append, length-drop, length-replicate, take-append-drop}
 use lib.Seq.{take-at, drop-at, drop-append-le, take-append-le, length-take-le}
 use Rattle.octets.specs.Choice.{pick}
 use Rattle.octets.specs.Lists.{sum, copied, copiedAt, replaced}
 use Rattle.octets.proofs.Choice.{pick-true, pick-false, pick-holds, true-false}
-use Rattle.octets.proofs.Lists.{sum-suc, sum-below, part-length, copied-whole, copied-inside}
+use Rattle.octets.proofs.Lists.{sum-below, part-length, copied-whole, copied-inside}
 use Rattle.sealing.specs.KeyExpansion.{keyExpansion}
 use Rattle.records.specs.Settings.{keyOf}
 use Rattle.rights.specs.declared.settings.Caller.{Caller}
@@ -79,6 +78,3 @@ one-expanded c s q keys next k r x n =
       there = λ m h e.
           ⊎-elim (λ z. rw z (n .there (rw z at e))) (λ b. n .kept m b ∙ x .there m b e) (eq-or-lt-of-le {n = m} {m = k} (omega arith));
     }
-
-pub one-counted : (c : Caller) (s q : List ℕ) (k : ℕ) → sum 0 (k + 1) (Counts c s q) ≡ sum 0 k (Counts c s q) + Counts c s q k
-one-counted c s q k = rw add-one (sum-suc 0 k (Counts c s q) ∙ rw zero-add)

@@ -9,6 +9,7 @@ use Rattle.records.specs.declared.near.Drift.{Drift}
 use Rattle.records.specs.declared.header.Header.{Header}
 use Rattle.records.specs.Settings.{llidOf}
 use Rattle.records.specs.Verdict.{verdictOf}
+use Rattle.records.specs.Near.{judged}
 use Rattle.records.specs.Block.{recordOf}
 use Rattle.records.specs.Following.{headerOf}
 use Rattle.capture.specs.Opening.{openedRecord, recordAdds}
@@ -19,7 +20,7 @@ use Rattle.rights.specs.declared.judging.ClassVerdict.the-variants.{Told}
 use Rattle.rights.specs.declared.judging.ClassHeard.{ClassHeard}
 use Rattle.rights.specs.Settings.{setFor, rightsOn}
 use Rattle.rights.specs.Rights.{mayOpen, maySee}
-use Rattle.rights.specs.Judging.{judged, toldTo, judgedFor}
+use Rattle.rights.specs.Judging.{toldTo, judgedFor}
 use Rattle.rights.proofs.Accepting.{inside}
 use Rattle.rights.proofs.Sets.{set-found}
 use Rattle.class.specs.Reading.{setAt, driftFor, toldOf}

@@ -3,7 +3,6 @@ use mathlib.Core.Path.{_≡_, refl, sym, ap, _∙_}
 use mathlib.Core.Bool.{Bool, true, false}
 use mathlib.Core.List.{List}
 use Prim.Native.Nat.{ℕ, _+_, _*_, _/_, _%_, _≤_, _<_}
-use native.Mathlib.Nat.{zero-add}
 use native.Mathlib.Numerals.{add-one}
 use native.Mathlib.Omega.{arith}
 use lib.Dec.{eqb}
@@ -11,11 +10,8 @@ use lib.ListN.{length, getD}
 use Rattle.octets.specs.BigEndian.{sixOctets}
 use Rattle.octets.specs.Bits.{bitOf}
 use Rattle.octets.specs.Choice.{either, pick}
-use Rattle.octets.specs.Lists.{sum}
 use Rattle.octets.proofs.Choice.{both-true}
-use Rattle.octets.proofs.Lists.{sum-below, sum-suc, part-below}
 use Rattle.refusal.specs.Number.{numberOf}
-use Rattle.envelope.specs.ControlMask.{countEnciphered, runs}
 use Rattle.sealing.specs.KeyExpansion.{keyExpansion}
 use Rattle.records.specs.declared.header.Header.{Header}
 use Rattle.records.specs.declared.header.RecordVerdict.{RecordVerdict}
@@ -23,28 +19,26 @@ use Rattle.records.specs.declared.header.RecordVerdict.the-variants.{Clear, Sea
 use Rattle.records.specs.declared.near.Drift.{Drift}
 use Rattle.records.specs.Settings.{presenceOf, keyPresent, keyOf}
 use Rattle.records.specs.Record.{recordOctets, recordHeader}
-use Rattle.records.specs.Verdict.{verdictFor}
-use Rattle.records.specs.Near.{nearest, expected, heard}
-use Rattle.records.specs.Block.{offsetOf, lengthOf, recordOf, headerFrom, recordFrom}
+use Rattle.records.specs.Near.{judged}
+use Rattle.records.specs.Block.{mostOctets, recordOf, headerFrom}
 use Rattle.records.specs.Following.{headerOf}
-use Rattle.capture.specs.Duties.{Opens}
-use Rattle.capture.proofs.Records.{Records, placed, At}
-use Rattle.capture.proofs.Openings.{enciphered-below, runs-below, added-below, written-length}
-use Rattle.capture.proofs.Readings.{opens-by, opens-at}
+use Rattle.capture.proofs.Records.{Records, placed, record-below}
+use Rattle.capture.proofs.Openings.{added-below, written-length}
+use Rattle.capture.proofs.Readings.{judged-opens}
 use Rattle.rights.specs.declared.settings.Caller.{Caller}
 use Rattle.rights.specs.declared.judging.ClassVerdict.{ClassVerdict}
 use Rattle.rights.specs.declared.judging.ClassVerdict.the-variants.{Hidden, Seen, Told}
 use Rattle.rights.specs.declared.judging.ClassHeard.{ClassHeard}
 use Rattle.rights.specs.Settings.{setOf, setFor, ownRights, rightsOn}
 use Rattle.rights.specs.Rights.{mayOpen, maySee}
-use Rattle.rights.specs.Judging.{judged, seenAs, toldTo, judgedFor}
+use Rattle.rights.specs.Judging.{seenAs, toldTo, judgedFor}
 use Rattle.rights.proofs.Accepting.{inside}
 use Rattle.class.specs.Reading.{driftFor, toldOf}
 use Rattle.class.specs.Opening.{writtenFor, addedFor, recordFor, addsFor, isExpanded}
-use Rattle.class.specs.Duties.{expandedAt, Expanded, SettledFor, placedAt}
+use Rattle.class.specs.Duties.{expandedAt, Expanded, SettledFor}
 use Rattle.class.proofs.Placing.{hidden-length}
 
----- what is told is what may be seen, and what is opened is what may be opened
+-- ---- what is told is what may be seen, and what is opened is what may be opened
 told-by : (t : Bool) (v : ClassVerdict) (d e : Drift) (w : RecordVerdict)
     → pick {A = ClassHeard} t (record { verdict = v; drift = d }) (record { verdict = Hidden; drift = e }) .verdict ≡ Told w
     → (t ≡ true) × (v ≡ Told w)
@@ -81,14 +75,7 @@ pub see-none : maySee 0 ≡ false
 unfolding maySee mayOpen bitOf either
 see-none = refl
 
-judged-opens : (near : Bool) (s : List ℕ) (drift : Drift) (h : Header) → h .clock < sixOctets → (i t : ℕ)
-    → judged near s drift h .verdict ≡ Sealed i t
-    → Opens s h i t
-unfolding judged heard verdictFor
-judged-opens true s drift h c i t e = opens-at s drift h (nearest (expected drift h) (h .epam)) i t e
-judged-opens false s drift h c i t e = opens-by s h (h .clock) i t e c
-
----- a record that is to be opened can be, with a key that is expanded
+-- ---- a record that is to be opened can be, with a key that is expanded
 expanded-key : (c : Caller) (s q keys : List ℕ) (j i : ℕ) → Expanded c s q keys (2 * c .sets) → j < c .sets → i < 2
     → mayOpen (getD (ownRights c q) j 0) ≡ true → keyPresent (presenceOf (setOf s j)) i ≡ true
     → expandedAt keys (2 * j + i) ≡ keyExpansion (keyOf (setOf s j) i)
@@ -122,7 +109,7 @@ settled near c s q keys b from drift h r e eh clock x few =
       set = λ w f. omega (arith, place w f);
     }
 
----- record i in its turn
+-- ---- record i in its turn
 pub turn : (near : Bool) (c : Caller) (s q b : List ℕ) (i : ℕ) (drift : Drift) (h : Header) (r : ClassHeard)
     → r ≡ judgedFor near (rightsOn c s q (h .llid)) (setOf s (setFor c s (h .llid))) drift h → drift ≡ driftFor near c s q b i → h ≡ headerOf b i
     → (r .verdict ≡ toldOf near c s q b i) × (r .drift ≡ driftFor near c s q b (i + 1))
@@ -149,31 +136,5 @@ module _ (g : List ℕ → ℕ) (few : (p : List ℕ) → g p ≤ length p) wher
   added-for-below x Seen = omega arith
   added-for-below x (Told v) = added-below g few x v
 
-  one-below : (b : List ℕ) (v : ℕ → ClassVerdict) (i : ℕ) → length b ≤ 65536 → addedFor g (recordOf b i) (v i) ≤ 65536
-  unfolding recordOf
-  one-below b v i h = omega (arith, added-for-below (recordOf b i) (v i), part-below b (offsetOf b i) (lengthOf b i))
-
-  both-below : (b : List ℕ) (v : ℕ → ClassVerdict) (i : ℕ) → length b ≤ 65536
-      → sum 0 i (λ j. addedFor g (recordOf b j) (v j)) + addedFor g (recordOf b i) (v i) ≤ i * 65536 + 65536
-  both-below b v i h =
-      omega (arith, sum-below 0 i 65536 (λ j. addedFor g (recordOf b j) (v j)) (λ j. one-below b v j h), one-below b v i h)
-
-module _ (near : Bool) (c : Caller) (s q b : List ℕ) (i : ℕ) where
-  pub count-few : length b ≤ 65536
-      → sum 0 i (addsFor near c s q b countEnciphered) + addsFor near c s q b countEnciphered i ≤ i * 65536 + 65536
-  count-few = both-below countEnciphered enciphered-below b (toldOf near c s q b) i
-
-  pub runs-few : length b ≤ 65536 → sum 0 i (addsFor near c s q b runs) + addsFor near c s q b runs i ≤ i * 65536 + 65536
-  runs-few = both-below runs runs-below b (toldOf near c s q b) i
-
-  pub one-more : (g : List ℕ → ℕ) → sum 0 (i + 1) (addsFor near c s q b g) ≡ sum 0 i (addsFor near c s q b g) + addsFor near c s q b g i
-  one-more g = rw add-one (sum-suc 0 i (addsFor near c s q b g) ∙ rw zero-add)
-
----- what is found by going from record to record is that of record i
-pub counted-at : (g : List ℕ → ℕ) (b : List ℕ) (i from : ℕ) (u v : ClassVerdict) → At b i from → u ≡ v
-    → addedFor g (recordFrom b from) u ≡ addedFor g (recordOf b i) v
-counted-at g b i from u v x e = rw (e, x .octets)
-
-pub placed-at : (t b out : List ℕ) (from due i : ℕ) (u v : ClassVerdict) → u ≡ v → At b i from → from ≡ due
-    → placedAt b out from (writtenFor t (recordFrom b from) u) ≡ placedAt b out due (writtenFor t (recordOf b i) v)
-placed-at t b out from due i u v e x ef = rw (e, x .octets, ef)
+  pub adds-few : (near : Bool) (c : Caller) (s q b : List ℕ) (i : ℕ) → length b ≤ mostOctets → addsFor near c s q b g i ≤ mostOctets
+  adds-few near c s q b i h = omega (arith, added-for-below (recordOf b i) (toldOf near c s q b i), record-below b i h)

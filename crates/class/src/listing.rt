@@ -27,6 +27,7 @@ use rights::judging::judge_in;
 use rights::settings::Caller;
 use rows::Line;
 use rows::hidden_row;
+use rows::put_line;
 use rows::refused_row;
 use rows::row;
 use rows::seen_row;
@@ -36,19 +37,6 @@ pub const LISTING_OCTETS: usize = 10266;
 
 // The counts of sets and users and the user's number, an octet each.
 const CALLER_OCTETS: usize = 3;
-
-// Writes a line behind the first `at` octets of the text, and gives its end.
-fn put_line(text: &mut [u8], at: usize, line: Line) -> usize
-    requires { ⌜ (line .used ≤ lineOctets) × (at + lineOctets ≤ length (now text)) ⌝ }
-    ensures { λ r. ⌜ (at ≤ r) × (r ≤ at + lineOctets) ⌝ }
-    ensures { λ r. ⌜ take r (now (text .exit)) ≡ take at (now (text .entry)) ++ textOf line ⌝ }
-    ensures { λ r. ⌜ drop r (now (text .exit)) ≡ drop r (now (text .entry)) ⌝ }
-{
-    let octets = line.octets;
-    let used = line.used;
-    copy_at(&octets[..used], text, at);
-    at + used
-}
 
 fn put_heading(text: &mut [u8]) -> usize
     requires { ⌜ length headingText ≤ length (now text) ⌝ }

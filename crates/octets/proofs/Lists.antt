@@ -64,6 +64,10 @@ pub sum-suc : (i n : ℕ) (f : ℕ → ℕ) → sum i (suc n) f ≡ sum i n f + 
 sum-suc i zero f = rw (add-zero, add-zero, zero-add)
 sum-suc i (suc n) f = rw (sum-suc (suc i) n f) (rw (add-suc, suc-add) (sym (add-assoc (f i) (sum (suc i) n f) (f (suc (i + n))))))
 
+-- one number more
+pub sum-more : (f : ℕ → ℕ) (n : ℕ) → sum 0 (n + 1) f ≡ sum 0 n f + f n
+sum-more f n = rw add-one (sum-suc 0 n f ∙ rw zero-add)
+
 pub sum-ext : (i n : ℕ) (f g : ℕ → ℕ) → ((k : ℕ) → i ≤ k → k < i + n → f k ≡ g k) → sum i n f ≡ sum i n g
 sum-ext i zero f g h = refl
 sum-ext i (suc n) f g h =

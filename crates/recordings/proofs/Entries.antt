@@ -3,16 +3,15 @@ use mathlib.Core.Path.{_≡_, sym, ap, ap₂, _∙_}
 use mathlib.Core.Bool.{true, false}
 use mathlib.Core.List.{List, [], _∷_, _++_, append-nil}
 use Prim.Native.Nat.{ℕ, _+_, _<_}
-use native.Mathlib.Nat.{zero-add}
 use native.Mathlib.Numerals.{add-one}
 use native.Mathlib.Omega.{arith}
 use lib.Dec.{eqb}
 use lib.ListN.{length, take, drop, set, length-append, take-append-drop}
 use lib.Seq.{drop-at, drop-drop, drop-set-lt, take-at, take-suc-set}
 use Rattle.octets.specs.Choice.{both, pick}
-use Rattle.octets.specs.Lists.{tabulate, sum}
+use Rattle.octets.specs.Lists.{tabulate}
 use Rattle.octets.proofs.Choice.{pick-true, pick-false}
-use Rattle.octets.proofs.Lists.{tabulate-length, sum-suc}
+use Rattle.octets.proofs.Lists.{tabulate-length}
 use Rattle.records.specs.declared.header.Header.{Header}
 use Rattle.records.specs.Record.{recordHeader}
 use Rattle.records.specs.Block.{recordsIn, recordOf}
@@ -37,9 +36,6 @@ pub counted : (llid : ℕ) (a b : List ℕ) (i v n : ℕ) (h : Header) → v ≡
     → h ≡ recordHeader (recordOf a i)
     → aloneAt llid a b i ≡ pick (both (eqb v n) (eqb (h .llid) llid)) 1 0
 counted llid a b i v n h e q g = rw (alone-tested a b i v n e q, g)
-
-pub count-more : (llid : ℕ) (a b : List ℕ) (i : ℕ) → sum 0 (i + 1) (aloneAt llid a b) ≡ sum 0 i (aloneAt llid a b) + aloneAt llid a b i
-count-more llid a b i = rw add-one (rw zero-add at (sum-suc 0 i (aloneAt llid a b)))
 
 -- one octet more behind the first e of a text
 pub put-one : (o p : List ℕ) (e x : ℕ) → e < length o → take e o ≡ p → take (e + 1) (set o e x) ≡ p ++ (x ∷ [])

@@ -4,7 +4,7 @@ ghost use mathlib.Core.List.{[], _++_};
 ghost use Prim.Native.Nat.{_+_, _*_, _≤_, _<_};
 ghost use lib.ListN.{length, take, drop};
 ghost use Rattle.records.specs.Block.{mostRecords, recordsIn, recordOf};
-ghost use Rattle.rows.specs.Text.{rowOctets, textOf, Holds};
+ghost use Rattle.rows.specs.Text.{rowOctets, Holds};
 ghost use Rattle.octets.specs.Choice.{pick};
 ghost use lib.Dec.{eqb};
 ghost use Rattle.records.specs.Record.{recordHeader};
@@ -21,6 +21,7 @@ use crate::partners::match_up;
 use crate::verdict::OUTPUT_OCTETS;
 use crate::verdict::Ruling;
 use crate::verdict::rule;
+use octets::copy_at;
 use octets::number16;
 use octets::number32;
 use octets::part_of;
@@ -31,34 +32,13 @@ use rows::Line;
 use rows::entries::denied_row;
 use rows::entries::entry_row;
 use rows::entries::total_row;
+use rows::put_line;
 
 // The octets ahead of the first block: LLID and length.
 const HEAD_OCTETS: usize = 6;
 
 // Room for the heading, 512 rows and the total.
 pub const LISTING_OCTETS: usize = 32353;
-
-// Writes a piece behind the first `at` octets of the text, and gives its end.
-fn append(text: &mut [u8], at: usize, piece: &[u8]) -> usize
-    requires { ⌜ at + length (now piece) ≤ length (now text) ⌝ }
-    ensures { λ r. ⌜ r ≡ at + length (now (piece .entry)) ⌝ }
-    ensures { λ r. ⌜ take r (now (text .exit)) ≡ take at (now (text .entry)) ++ now (piece .entry) ⌝ }
-    ensures { λ r. ⌜ drop r (now (text .exit)) ≡ drop r (now (text .entry)) ⌝ }
-{
-    octets::copy(piece, &mut text[at..]);
-    at + piece.len()
-}
-
-fn put_line(text: &mut [u8], at: usize, line: Line) -> usize
-    requires { ⌜ (line .used ≤ rowOctets) × (at + rowOctets ≤ length (now text)) ⌝ }
-    ensures { λ r. ⌜ (at ≤ r) × (r ≤ at + rowOctets) ⌝ }
-    ensures { λ r. ⌜ take r (now (text .exit)) ≡ take at (now (text .entry)) ++ textOf line ⌝ }
-    ensures { λ r. ⌜ drop r (now (text .exit)) ≡ drop r (now (text .entry)) ⌝ }
-{
-    let octets = line.octets;
-    let used = line.used;
-    append(text, at, &octets[..used])
-}
 
 // The number, from 1, of a partner at place p of b, 0 where there is none.
 fn partner_number(b: &[u8], p: u16) -> u16
@@ -193,6 +173,6 @@ pub fn list(input: &[u8], text: &mut [u8; LISTING_OCTETS]) -> usize
     ensures { λ r. ⌜ drop r (now (text .exit)) ≡ drop r (now (text .entry)) ⌝ }
 {
     let heading = *b"first second llid ch clock result\n";
-    let at = append(text, 0, &heading);
-    put_input(input, text, at)
+    copy_at(&heading, text, 0);
+    put_input(input, text, heading.len())
 }

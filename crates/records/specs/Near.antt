@@ -2,6 +2,7 @@
 -- and step 31 corrects nothing. Clocks are counted modulo 2^48, so a sum of corrections is kept modulo 2^48 too (D85). Assumes nothing.
 use mathlib.Core.Path.{_≡_}
 use mathlib.Core.Bool.{Bool, true, false}
+use mathlib.Core.List.{List}
 use Prim.Native.Nat.{ℕ, _+_, _-_, _*_, _/_, _%_, _≤_, _<_}
 use lib.Dec.{eqb, leb, ltb}
 use lib.ListN.{getD, set, replicate}
@@ -15,7 +16,8 @@ use Rattle.records.specs.declared.near.Correction.{Correction}
 use Rattle.records.specs.declared.near.Correction.the-variants.{Step, TooFar}
 use Rattle.records.specs.declared.near.Drift.{Drift}
 use Rattle.records.specs.declared.near.Heard.{Heard}
-use Rattle.records.specs.Verdict.{headerFits, recordVerdict}
+use Rattle.records.specs.Settings.{presenceOf, llidOf}
+use Rattle.records.specs.Verdict.{headerFits, recordVerdict, verdictFor}
 
 -- a clock is known within so many ticks
 abbrev pub mostSlip : ℕ
@@ -85,6 +87,12 @@ heardAt presence llid drift h (Step d) =
 -- the verdict on a header, read at the clock nearest to the expected one that its EPAM allows, and the sums after it
 unfoldable pub heard : ℕ → ℕ → Drift → Header → Heard
 heard presence llid drift h = heardAt presence llid drift h (nearest (expected drift h) (h .epam))
+
+-- document 01's verdict on a record under the settings s, and the corrections behind it, in the near way (02, C-18) or the usual one, which
+-- corrects nothing
+unfoldable pub judged : Bool → List ℕ → Drift → Header → Heard
+judged true s drift h = heard (presenceOf s) (llidOf s) drift h
+judged false s drift h = record { verdict = verdictFor s h; drift = drift }
 
 -- the octet of a signed number, for the correction of step d
 abbrev pub signedOctet : ℕ → ℕ

@@ -5,11 +5,14 @@ ghost use Prim.Native.Nat.{_<_};
 ghost use lib.Dec.{leb};
 ghost use Rattle.octets.specs.Choice.{both, pick};
 ghost use Rattle.records.specs.Following.{Promise};
-ghost use Rattle.records.specs.Near.{stepped, nearest, IsNearest, sumAt, noDrift, expected, corrected, own, farVerdict, heard, signedOctet};
+ghost use Rattle.records.specs.Near.{stepped, nearest, IsNearest, sumAt, noDrift, expected, corrected, own, farVerdict, heard, judged, signedOctet};
 use crate::header::Header;
 use crate::header::RecordVerdict;
 use crate::header::is_well_formed;
 use crate::header::record_verdict;
+use crate::header::verdict_for;
+use crate::settings::llid;
+use crate::settings::presence;
 use clock::CLOCK_TURN;
 use refusal::Refusal;
 
@@ -169,5 +172,17 @@ pub fn hear(presence: u8, llid: u16, drift: Drift, h: Header) -> Heard
             verdict: record_verdict(presence, llid, stepped(clock, step), h),
             drift: moved(llid, drift, h, step),
         },
+    }
+}
+
+// The verdict on a record by its header under the settings, and the corrections behind it, in the near way or the usual one.
+pub fn judge(near: bool, settings: &[u8], drift: Drift, h: Header) -> Heard
+    ensures { λ r. ⌜ r ≡ judged near (now (settings .entry)) drift h ⌝ }
+{
+    if near {
+        hear(presence(settings), llid(settings), drift, h)
+    } else {
+        let verdict = verdict_for(settings, h);
+        Heard { verdict, drift }
     }
 }

@@ -1,6 +1,6 @@
 -- The verdict on a record for a user (02, C-19: hidden, 1, 10, seen, 9). 2 falls away: nobody sees an LLID outside the settings.
 -- Assumes nothing.
-use mathlib.Core.Bool.{Bool, true, false}
+use mathlib.Core.Bool.{Bool}
 use mathlib.Core.List.{List}
 use Prim.Native.Nat.{ℕ}
 use lib.Dec.{eqb}
@@ -11,20 +11,11 @@ use Rattle.records.specs.declared.header.Header.{Header}
 use Rattle.records.specs.declared.header.RecordVerdict.{RecordVerdict}
 use Rattle.records.specs.declared.header.RecordVerdict.the-variants.{Clear, Sealed, Refused}
 use Rattle.records.specs.declared.near.Drift.{Drift}
-use Rattle.records.specs.declared.near.Heard.{Heard}
-use Rattle.records.specs.Settings.{presenceOf, llidOf}
-use Rattle.records.specs.Verdict.{verdictFor}
-use Rattle.records.specs.Near.{heard}
+use Rattle.records.specs.Near.{judged}
 use Rattle.rights.specs.declared.judging.ClassVerdict.{ClassVerdict}
 use Rattle.rights.specs.declared.judging.ClassVerdict.the-variants.{Hidden, Seen, Told}
 use Rattle.rights.specs.declared.judging.ClassHeard.{ClassHeard}
 use Rattle.rights.specs.Rights.{mayOpen, maySee}
-
--- document 01's verdict on a record under the set s, and the corrections behind it, in the near way (02, C-18) or the usual one, which
--- corrects nothing
-unfoldable pub judged : Bool → List ℕ → Drift → Header → Heard
-judged true s drift h = heard (presenceOf s) (llidOf s) drift h
-judged false s drift h = record { verdict = verdictFor s h; drift = drift }
 
 -- a record that may be seen but not opened: 1 and 10 are told, and 9 is not asked
 unfoldable pub seenAs : RecordVerdict → ClassVerdict

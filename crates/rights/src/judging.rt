@@ -1,7 +1,7 @@
 // The verdict on a record for a user: hidden, 1, 10, seen, 9.
 ghost use mathlib.Core.Path.{_≡_};
 ghost use Rattle.rights.specs.Settings.{setOf, setFor, rightsOn};
-ghost use Rattle.rights.specs.Judging.{judged, seenAs, toldTo, judgedFor};
+ghost use Rattle.rights.specs.Judging.{seenAs, toldTo, judgedFor};
 use crate::settings::Caller;
 use crate::settings::may_open;
 use crate::settings::may_see;
@@ -10,12 +10,8 @@ use crate::settings::set_at;
 use crate::settings::set_for;
 use records::header::Header;
 use records::header::RecordVerdict;
-use records::header::verdict_for;
 use records::near::Drift;
-use records::near::Heard;
-use records::near::hear;
-use records::settings::llid;
-use records::settings::presence;
+use records::near::judge;
 use refusal::Refusal;
 
 // What a user is told of a record.
@@ -32,18 +28,6 @@ pub enum ClassVerdict {
 pub struct ClassHeard {
     pub verdict: ClassVerdict,
     pub drift: Drift,
-}
-
-// Document 01's verdict on a record by its header under a set, and the corrections behind it, in the near way or the usual one.
-fn judge(near: bool, set: &[u8], drift: Drift, h: Header) -> Heard
-    ensures { λ r. ⌜ r ≡ judged near (now (set .entry)) drift h ⌝ }
-{
-    if near {
-        hear(presence(set), llid(set), drift, h)
-    } else {
-        let verdict = verdict_for(set, h);
-        Heard { verdict, drift }
-    }
 }
 
 // A record that may be seen but not opened: 1 and 10 are told, and 9 is not asked.

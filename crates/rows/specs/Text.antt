@@ -2,9 +2,11 @@
 use mathlib.Core.Path.{_≡_}
 use mathlib.Core.List.{List, [], _∷_, _++_}
 use Prim.Native.Nat.{ℕ, zero, suc, _+_, _/_, _%_, _^_, _≤_}
-use lib.Dec.{ltb, eqb}
+use lib.Dec.{leb, ltb, eqb}
 use lib.ListN.{length, take}
 use Rattle.octets.specs.Choice.{pick}
+use Rattle.octets.specs.Lists.{copiedAt}
+use Rattle.octets.specs.Output.{WithOutput, withOutput}
 use Rattle.refusal.specs.declared.Refusal.{Refusal}
 use Rattle.refusal.specs.Number.{numberOf, pairNumber}
 use Rattle.records.specs.declared.header.Header.{Header}
@@ -96,3 +98,8 @@ pub record Holds (l : Line) (text : List ℕ) : Type 0 where
   pub octets : textOf l ≡ text
   pub used : l .used ≡ length text
   pub inside : l .used ≤ rowOctets
+
+-- a text with a line behind its first `at` octets, as much of it as there is room for, and where that ends
+unfoldable pub withLine : List ℕ → ℕ → Line → WithOutput ℕ
+withLine text at l =
+    let end = at + length (textOf l) in withOutput (pick (leb end (length text)) end (length text)) (copiedAt (textOf l) at text)

@@ -3,11 +3,14 @@ ghost use mathlib.Core.Path.{_≡_};
 ghost use mathlib.Core.List.{[], _∷_};
 ghost use Prim.Native.Nat.{_+_, _/_, _%_, _^_, _≤_, _<_};
 ghost use lib.ListN.{length};
-ghost use Rattle.rows.specs.Text.{glyphOf, digits, digitCount, decimalOf, rowOctets, keyGlyph, refusedText, pairText, resultText, rowHead, rowMiddle, rowTail, rowOf, seenRow, hiddenRow, refusedRow, Holds};
+ghost use Rattle.octets.specs.Output.{withOutput};
+ghost use Rattle.rows.specs.Text.{glyphOf, digits, digitCount, decimalOf, rowOctets, keyGlyph, refusedText, pairText, resultText, rowHead, rowMiddle, rowTail, rowOf, seenRow, hiddenRow, refusedRow, Holds, withLine};
 ghost use Rattle.rows.specs.Duties.{Grown};
 
 pub mod entries;
 
+use octets::copy_at;
+use octets::part_of;
 use records::header::Header;
 use records::header::RecordVerdict;
 use records::header::enc_enabled;
@@ -219,4 +222,21 @@ pub fn refused_row(refusal: Refusal) -> Line
         used: 0,
     };
     push(pair(refused(line, refusal), refusal), b'\n')
+}
+
+// Writes a line behind the first `at` octets of a text, as much of it as there is room for, and gives where that ends.
+pub fn put_line(text: &mut [u8], at: usize, line: Line) -> usize
+    ensures { λ r. ⌜ withOutput r (now (text .exit)) ≡ withLine (now (text .entry)) at line ⌝ }
+{
+    let size = text.len();
+    let octets = line.octets;
+    let piece = part_of(&octets, 0, line.used);
+    copy_at(piece, text, at);
+    if size <= at {
+        return size;
+    }
+    if size - at <= piece.len() {
+        return size;
+    }
+    at + piece.len()
 }

@@ -12,9 +12,10 @@ use Rattle.refusal.specs.declared.Verdict.the-variants.{Accepted}
 use Rattle.planes.specs.Calls.{lengthVerdict}
 use Rattle.planes.proofs.Calls.{accepts}
 use Rattle.planes.proofs.Planes.{rearranged-length, restored-length}
-use Rattle.records.specs.Block.{mostOctets, offsetOf, endOf, recordOf}
+use Rattle.records.specs.Block.{mostOctets, offsetOf, recordOf}
 use Rattle.records.specs.Record.{headerOctets, payloadOf}
-use Rattle.store.specs.Duties.{Standing, moved}
+use Rattle.capture.proofs.Records.{Records, placed}
+use Rattle.store.specs.Duties.{moved}
 
 pub moved-length : (back : Bool) (p : List ℕ) → length (moved back p) ≡ length p
 unfolding moved
@@ -27,25 +28,23 @@ pub record PayloadIn (b : List ℕ) (i : ℕ) : Type 0 where
   pub few : length (payloadOf (recordOf b i)) ≤ mostOctets
   pub inside : offsetOf b i + headerOctets + length (payloadOf (recordOf b i)) ≤ length b
 
-pub payload-in : (b : List ℕ) (n i : ℕ) → Standing b n → i < n → PayloadIn b i
-unfolding payloadOf endOf
-payload-in b n i s h =
+pub payload-in : (b : List ℕ) (n i : ℕ) → Records b n → i < n → PayloadIn b i
+unfolding payloadOf
+payload-in b n i r h =
     let l = length-drop headerOctets (recordOf b i) in
-    let o = s .octets i h in
-    let z = s .size i h in
-    let e = s .inside i h in
-    record { whole = omega arith; few = omega (arith, s .most); inside = omega arith }
+    let p = placed b n i r h in
+    record { whole = omega (arith, p); few = omega (arith, p, r .sizes .most); inside = omega (arith, p) }
 
-module _ (b out p : List ℕ) (n i o : ℕ) (s : Standing b n) (h : i < n) (room : length out ≡ length b) (payload : p ≡ payloadOf (recordOf b i))
+module _ (b out p : List ℕ) (n i o : ℕ) (r : Records b n) (h : i < n) (room : length out ≡ length b) (payload : p ≡ payloadOf (recordOf b i))
     (offset : o ≡ offsetOf b i) where
   -- the place is in the output
   pub in-output : o + headerOctets + length p ≤ length out
-  in-output = rw payload (omega (arith, payload-in b n i s h))
+  in-output = rw payload (omega (arith, payload-in b n i r h))
 
   -- the call on the part accepts
   pub part-accepts : lengthVerdict (length p) (length (take (o + headerOctets + length p - (o + headerOctets)) (drop (o + headerOctets) out))) ≡ Accepted
   part-accepts =
-      let q = payload-in b n i s h in
+      let q = payload-in b n i r h in
       let l : length p ≡ length (payloadOf (recordOf b i)) = ap length payload in
       accepts _ _ (rw l (q .whole)) (omega (arith, q .few)) (simp (length-take, length-drop) (omega (arith, in-output)))
 

@@ -8,10 +8,12 @@ ghost use Rattle.refusal.specs.declared.Verdict.the-variants.{Accepted};
 ghost use Rattle.planes.specs.Calls.{lengthVerdict};
 ghost use Rattle.records.specs.Block.{recordsIn, offsetOf, recordOf};
 ghost use Rattle.records.specs.Record.{headerOctets, payloadOf};
+ghost use Rattle.capture.specs.declared.directory.Directory.the-variants.{Good};
+ghost use Rattle.capture.specs.Directory.{directoryOf};
 ghost use Rattle.store.specs.Blocks.{blockWith};
 ghost use Rattle.store.specs.Calls.{storeVerdict, rearrangingBlock, restoringBlock};
 ghost use Rattle.store.specs.Claims.{RearrangedIfAccepted, RestoredIfAccepted};
-ghost use Rattle.store.specs.Duties.{Standing, moved};
+ghost use Rattle.store.specs.Duties.{moved};
 use capture::directory::check;
 use capture::directory::verdict_on;
 use planes::rearrange;
@@ -38,7 +40,7 @@ fn move_octets(back: bool, payload: &[u8], output: &mut [u8])
 
 // The payload of record i, which has i others before it, into its place in the output.
 fn move_payload(back: bool, block: &[u8], output: &mut [u8], i: u16)
-    requires { ⌜ Standing (now block) (recordsIn (now block)) ⌝ }
+    requires { ⌜ directoryOf (now block) ≡ Good (recordsIn (now block)) ⌝ }
     requires { ⌜ i < recordsIn (now block) ⌝ }
     requires { ⌜ length (now output) ≡ length (now block) ⌝ }
     ensures { λ _. ⌜ now (output .exit)
@@ -52,7 +54,7 @@ fn move_payload(back: bool, block: &[u8], output: &mut [u8], i: u16)
 
 // All payloads, into an output that is a copy of the block.
 fn move_payloads(back: bool, block: &[u8], output: &mut [u8])
-    requires { ⌜ Standing (now block) (recordsIn (now block)) ⌝ }
+    requires { ⌜ directoryOf (now block) ≡ Good (recordsIn (now block)) ⌝ }
     requires { ⌜ now output ≡ now block ⌝ }
     ensures { λ _. ⌜ now (output .exit) ≡ blockWith (moved back) (now (block .entry)) ⌝ }
 {

@@ -6,15 +6,17 @@ use native.Mathlib.Omega.{arith}
 use lib.ListN.{length, drop}
 use borrow.Author.Needs.{needs}
 use Rattle.records.specs.Block.{recordsIn, dueOf}
+use Rattle.capture.proofs.Records.{good}
+use Rattle.capture.proofs.Rebuilding.{upTo, none-rebuilt}
 use Rattle.store.specs.Duties.{moved}
-use Rattle.store.proofs.Blocks.{upTo, none-done, one-done, all-done}
+use Rattle.store.proofs.Blocks.{changed, sizes, one-done, all-done}
 use Rattle.store.proofs.Moves.{moved-length}
 use Rattle.store.proofs.move_payloads.Statement.{statement}
 use Rattle.store.proofs.move_payloads.Tie as tie
 
 abbrev Inv-loop : tie.InvT-loop
 Inv-loop back block output₀ n i₀ output i = (i ≤ n) × (length output ≡ length block)
-    × (output ≡ upTo (moved back) block i ++ drop (dueOf block i) block)
+    × (output ≡ upTo (changed (moved back) block) block i ++ drop (dueOf block i) block)
 
 abbrev μ-loop : tie.MeasureT-loop
 μ-loop back block output₀ n i₀ output i = n - i
@@ -22,9 +24,11 @@ abbrev μ-loop : tie.MeasureT-loop
 loop-holds : tie.Need-loop-holds Inv-loop μ-loop
 loop-holds c =
     let start = c .before .before .before in
-    let back = start .args .back in
+    let f = moved (start .args .back) in
+    let b = start .args .block .now in
+    let r = good b _ (start .pre .0) in
     let copied = start .pre .1 in
-    (search needs, ap length copied, copied ∙ none-done (moved back) (moved-length back) (start .args .block .now) _ (start .pre .0))
+    (search needs, ap length copied, copied ∙ none-rebuilt (changed f b) b _ r (sizes f (moved-length (start .args .back)) b _ r))
 
 move-payload-requires : tie.Need-move-payload-requires Inv-loop μ-loop
 move-payload-requires c κs =
@@ -39,7 +43,7 @@ loop-again c =
     let start = at-loop .before .before .before .before in
     let back = start .args .back in
     let loop = at-loop .loop in
-    let done = one-done (moved back) (moved-length back) (start .args .block .now) _ (start .pre .0) in (
+    let done = one-done (moved back) (moved-length back) (start .args .block .now) _ (good _ _ (start .pre .0)) in (
       search needs,
       call .move-payload .kept .1 .1 .0 ∙ loop .inv .1,
       call .move-payload .ensures ∙ done (loop .output) (loop .i) (omega (arith, at-loop .before .count .ensures)) (loop .inv .2),
@@ -51,7 +55,7 @@ returns c =
     let start = at-loop .before .before .before .before in
     let back = start .args .back in
     let end : at-loop .loop .i ≡ recordsIn (start .args .block .now) = omega (arith, at-loop .before .count .ensures) in
-    all-done (moved back) (moved-length back) (start .args .block .now) _ (start .pre .0) _ (at-loop .loop .inv .2 ∙ rw end)
+    all-done (moved back) (moved-length back) (start .args .block .now) _ (good _ _ (start .pre .0)) _ (at-loop .loop .inv .2 ∙ rw end)
 
 pub move-payloads-spec : {M : Type 1} → statement M
 move-payloads-spec =

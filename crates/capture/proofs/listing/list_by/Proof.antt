@@ -6,6 +6,8 @@ use native.Mathlib.Omega.{arith}
 use lib.ListN.{length}
 use lib.Seq.{length-take-le}
 use denote.Ref.{now}
+use Rattle.rows.proofs.Texts.{put}
+use Rattle.capture.specs.Listing.{headingText}
 use Rattle.capture.specs.Reading.{bodyBy, listingBy}
 use Rattle.capture.proofs.Lines.{same-behind}
 use borrow.Author.Needs.{needs}
@@ -17,11 +19,11 @@ unfolding listingBy
 returns c =
     let a = c .before .before .before .before .before .before .before .before .before .args in
     let q = c .put-body .ensures in
-    let p = c .before .before .append .ensures in
+    let p = put (now (a .text)) _ headingText 0 (omega arith) (c .before .before .copy-at .ensures) in
     let rest = bodyBy (a .near) (now (a .settings)) (now (a .block)) in
-    let within : c .put-body .result ≤ length (c .put-body .last .1 .1 .1 .0) = omega (arith, q .0 .1, p .0) in (
+    let within : c .put-body .result ≤ length (c .put-body .last .1 .1 .1 .0) = omega (arith, q .0 .1) in (
       (within, sym (length-take-le _ _ within)),
-      (q .1 .0 ∙ ap (λ (t : List ℕ). t ++ rest) (p .1 .0), q .1 .1 ∙ same-behind _ _ _ _ (q .0 .0) (p .1 .1)),
+      (q .1 .0 ∙ ap (λ (t : List ℕ). t ++ rest) (p .front), q .1 .1 ∙ same-behind _ _ _ _ (q .0 .0) (p .rest)),
     )
 
 pub list-by-spec : {M : Type 1} → statement M

@@ -8,7 +8,9 @@ use lib.ListN.{length, take}
 use borrow.Author.Needs.{needs}
 use denote.Ref.{now}
 use Rattle.rows.proofs.Lines.{refused-row-few}
+use Rattle.rows.proofs.Texts.{line-put}
 use Rattle.capture.specs.declared.directory.Directory.the-variants.{Good}
+use Rattle.capture.specs.Listing.{lineOctets}
 use Rattle.capture.specs.Reading.{bodyAs}
 use Rattle.capture.specs.Verdict.{callDirectory}
 use Rattle.capture.proofs.Records.{good}
@@ -22,22 +24,21 @@ found : (c : tie.After-n)
     ≡ Good (c .n .given .0 .0)
 found c = sym (c .before .before .call-directory .ensures) ∙ c .n .given .1
 
-put-line-requires : tie.Need-put-line-requires
-put-line-requires c κs =
-    (omega (arith, c .refused-row .ensures .used, refused-row-few (c .before .before .before .refusal .given .0 .0)), omega arith)
-
 put-rows-requires : tie.Need-put-rows-requires
 put-rows-requires c κs = let x = c .before .before in (call-good _ _ _ _ (found x) .2, x .before .before .before .before .before .before .pre)
 
 returns : tie.Need-returns
 unfolding bodyAs
 returns c =
-    let row = c .before .before .before in
+    let at-line = c .before .before in
+    let row = at-line .before in
     let x = row .before .before .before in
-    let a = x .before .before .before .before .before .before .args in
+    let g = x .before .before .before .before .before .before in
+    let a = g .args in
     let s = now (a .settings) in
     let block = now (a .block) in
-    let q = c .before .before .put-line .ensures in
+    let few = refused-row-few (x .refusal .given .0 .0) in
+    let q = line-put _ _ _ _ lineOctets _ (at-line .put-line .ensures) (omega (arith, row .refused-row .ensures .used, few)) (omega (arith, g .pre)) in
     let judged = found-bad s block (length block) _ (listing-found s block ∙ sym (x .before .before .call-directory .ensures) ∙ x .refusal .given .1) in (
       (q .0 .0, omega (arith, q .0 .1)),
       (q .1 .0 ∙ rw judged (ap (λ (t : List ℕ). take (a .at) (now (a .text)) ++ t) (row .refused-row .ensures .octets)), q .1 .1),
@@ -57,6 +58,6 @@ returns-2 c =
 pub put-body-spec : {M : Type 1} → statement M
 put-body-spec =
     tie.close
-    (tie.spec (λ c κs. search needs) (λ c. search needs) (λ c κs. search needs) put-line-requires (λ c. search needs) put-rows-requires
+    (tie.spec (λ c κs. search needs) (λ c. search needs) (λ c κs. search needs) (λ c κs. search needs) (λ c. search needs) put-rows-requires
     (λ c. search needs)
     returns (λ c. search needs) returns-2)

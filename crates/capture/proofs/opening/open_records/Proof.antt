@@ -2,24 +2,23 @@
 -- it, the records before it are opened, the rest of the output is the block's, and the totals are theirs. Assumes nothing.
 use mathlib.Core.Path.{_≡_, refl, sym, ap, ap₂, _∙_}
 use mathlib.Core.List.{List, _++_}
-use mathlib.Core.Logic.{⊎-elim}
 use Prim.Native.Nat.{ℕ, _+_, _-_, _≤_}
 use native.Mathlib.Omega.{arith}
 use lib.ListN.{length, drop}
 use borrow.Author.Needs.{needs}
 use denote.Ref.{now}
 use Rattle.octets.specs.Lists.{sum}
+use Rattle.octets.proofs.Lists.{sum-more}
 use Rattle.envelope.specs.ControlMask.{countEnciphered}
 use Rattle.envelope.specs.ControlMask as Mask
-use Rattle.records.specs.declared.header.Header.{Header}
 use Rattle.records.specs.declared.near.Drift.{Drift}
 use Rattle.records.specs.Block.{recordsIn, dueOf, recordFrom}
-use Rattle.capture.specs.Opening.{addedAs}
+use Rattle.capture.specs.Opening.{writtenAs, addedAs}
 use Rattle.capture.specs.Reading.{driftBy, recordBy, addsBy, totalBy}
-use Rattle.capture.proofs.Records.{Records, good, At, at-due}
+use Rattle.capture.proofs.Records.{good, of-record, in-place, Reached, reached}
 use Rattle.capture.proofs.Rebuilding.{upTo, none-rebuilt, still-block, one-rebuilt, all-rebuilt}
-use Rattle.capture.proofs.Openings.{count-few, runs-few, one-more, counted-at, written-at}
-use Rattle.capture.proofs.Readings.{Turn, near-turn, own-turn, no-corrections, record-size}
+use Rattle.capture.proofs.Openings.{enciphered-below, runs-below, adds-few, sum-few}
+use Rattle.capture.proofs.Readings.{Turn, turn, no-corrections, record-size}
 use Rattle.capture.proofs.opening.open_records.Statement.{statement}
 use Rattle.capture.proofs.opening.open_records.Tie as tie
 
@@ -52,81 +51,74 @@ loop-holds c =
 abbrev start : tie.In-loop Inv-loop μ-loop → tie.Start Inv-loop μ-loop
 start c = c .before .before .before .before .before .before .before
 
-records : (c : tie.In-loop Inv-loop μ-loop) → Records (now (start c .args .block)) (start c .args .n)
-records c = good _ _ (start c .pre .good)
-
 -- record i starts at `from`
-here : (c : tie.In-loop Inv-loop μ-loop) → At (now (start c .args .block)) (c .before .loop .i) (c .before .loop .from)
-here c = at-due _ _ _ _ (records c) (c .loop-test .taken) (c .before .loop .inv .4)
+here : (c : tie.After-header-from Inv-loop μ-loop)
+    → let a = start (c .before) .args in
+    let loop = c .before .before .loop in Reached (now (a .block)) (a .n) (loop .i) (loop .from) (c .header-from .result)
+here c = reached _ _ _ _ _ (start (c .before) .pre .good) (c .before .loop-test .taken) (c .before .before .loop .inv .4) (c .header-from .ensures .0)
 
 -- its verdict, and the corrections behind it
-turn : (c : tie.Joined1 Inv-loop μ-loop)
+told : (c : tie.After-judge Inv-loop μ-loop)
     → let at-test = c .before .before in
     let a = start at-test .args in
-    Turn (a .near) (now (a .settings)) (now (a .block)) (at-test .before .loop .i) (c .before .header-from .result) (c .if1 .verdict) (c .if1 .drift)
-turn c =
+    let heard = c .judge .result in
+    Turn (a .near) (now (a .settings)) (now (a .block)) (at-test .before .loop .i) (c .before .header-from .result) (heard .verdict) (heard .drift)
+told c =
     let at-header = c .before in
-    let at-test = at-header .before in
-    let a = start at-test .args in
-    let h = at-header .header-from .ensures in
-    let eh = h .0 ∙ here at-test .header in
-    let v = at-test .before .loop .inv in
-    ⊎-elim
-    (λ w. near-turn (now (a .settings)) (now (a .block)) _ _ eh _ _ _ (a .near) (w .0 .taken) (v .5) _ (w .1 .ensures) (w .3) (w .4))
-    (λ w. own-turn (now (a .settings)) (now (a .block)) _ _ eh _ _ _ (a .near) (w .0 .left) (v .5) (h .1) (w .3 ∙ w .1 .ensures) (w .2))
-    (c .if1 .came)
+    turn _ _ _ _ _ _ _ (c .judge .ensures) (at-header .before .before .loop .inv .5) (here at-header .header) (at-header .header-from .ensures .1)
 
 open-as-requires : tie.Need-open-as-requires Inv-loop μ-loop
 open-as-requires c κs =
-    let joined = c .before in
-    let h = joined .before .header-from in
-    let at-test = joined .before .before in
+    let at-judge = c .before in
+    let at-header = at-judge .before in
+    let at-test = at-header .before in
     let g = start at-test in
-    let r = records at-test in
+    let x = here at-header in
     let s = now (g .args .settings) in
     let b = now (g .args .block) in
     let near = g .args .near in
     let v = at-test .before .loop .inv in (
       record {
         expanded = g .pre .expanded;
-        inside = here at-test .inside;
+        inside = x .here .inside;
         size = v .1;
-        most = r .sizes .most;
+        most = x .records .sizes .most;
         same = rw (v .4)
-            (still-block (recordBy near s b) b (g .args .n) r (record-size near s b (g .args .n) r) _ _ (at-test .loop-test .taken) (v .6));
+            (still-block (recordBy near s b) b (g .args .n) (x .records) (record-size near s b (g .args .n) (x .records)) _ _
+            (at-test .loop-test .taken) (v .6));
       },
       record {
-        header = h .ensures .0;
-        opens = turn joined .opens;
+        header = at-header .header-from .ensures .0;
+        opens = told at-judge .opens;
       },
     )
 
 -- what a record adds is its own
 counted : (c : tie.After-open-as Inv-loop μ-loop) (g : List ℕ → ℕ) {x : ℕ}
-    → let joined = c .before .before in
-    let at-test = joined .before .before in
+    → let at-judge = c .before .before in
+    let at-test = at-judge .before .before in
     let a = start at-test .args in
     let b = now (a .block) in
-    x ≡ addedAs g (recordFrom b (at-test .before .loop .from)) (joined .if1 .verdict)
+    x ≡ addedAs g (recordFrom b (at-test .before .loop .from)) (at-judge .judge .result .verdict)
     → x ≡ addsBy (a .near) g (now (a .settings)) b (at-test .before .loop .i)
 counted c g e =
-    let joined = c .before .before in
-    e ∙ counted-at g _ _ _ _ _ (here (joined .before .before)) (turn joined .verdict)
+    let at-judge = c .before .before in
+    e ∙ of-record _ _ _ (here (at-judge .before) .here) _ _ (told at-judge .verdict) (addedAs g)
 
 add-count : tie.Need-add-count Inv-loop μ-loop
 add-count c =
     let q = c .before .before .before in
-    let at-test = q .before .before .before .before in
-    let r = records at-test in
-    let a = start at-test .args in
-    let i = at-test .before .loop .i in
+    let at-header = q .before .before .before in
+    let loop = at-header .before .before .loop in
+    let x = here at-header in
+    let a = start (at-header .before) .args in
+    let adds = adds-few countEnciphered enciphered-below (a .near) (now (a .settings)) (now (a .block)) in
     record {
       fits = omega (
         arith,
-        at-test .before .loop .inv .2,
-        r .count,
-        r .sizes .few,
-        count-few (a .near) (now (a .settings)) (now (a .block)) i (r .sizes .most),
+        loop .inv .2,
+        x .few,
+        sum-few (addsBy (a .near) countEnciphered (now (a .settings)) (now (a .block))) (loop .i) (λ j. adds j (x .records .sizes .most)),
         counted q countEnciphered (q .open-as .ensures .0 .count),
       );
     }
@@ -134,61 +126,52 @@ add-count c =
 add-runs : tie.Need-add-runs Inv-loop μ-loop
 add-runs c =
     let q = c .before .before .before .before in
-    let at-test = q .before .before .before .before in
-    let r = records at-test in
-    let a = start at-test .args in
-    let i = at-test .before .loop .i in
+    let at-header = q .before .before .before in
+    let loop = at-header .before .before .loop in
+    let x = here at-header in
+    let a = start (at-header .before) .args in
+    let adds = adds-few Mask.runs runs-below (a .near) (now (a .settings)) (now (a .block)) in
     record {
       fits = omega (
         arith,
-        at-test .before .loop .inv .3,
-        r .count,
-        r .sizes .few,
-        runs-few (a .near) (now (a .settings)) (now (a .block)) i (r .sizes .most),
+        loop .inv .3,
+        x .few,
+        sum-few (addsBy (a .near) Mask.runs (now (a .settings)) (now (a .block))) (loop .i) (λ j. adds j (x .records .sizes .most)),
         counted q Mask.runs (q .open-as .ensures .0 .runs),
       );
     }
 
--- the call that opened the record, from where its length was asked for
+-- the call that opened the record, from where its length was asked for, and the turn's header
 abbrev opened-at : tie.After-record-octets Inv-loop μ-loop → tie.After-open-as Inv-loop μ-loop
-opened-at c = c .before .before .before .before .before
+opened-at c = c .before .before .before .before .before .before
 
-add-from : tie.Need-add-from Inv-loop μ-loop
-add-from c =
-    let at-header = opened-at c .before .before .before in
-    let at-test = at-header .before in
-    let eqs = ap (λ (h : Header). h .eqs) (at-header .header-from .ensures .0) in
-    record { fits = omega (arith, eqs, c .record-octets .ensures, here at-test .inside, records at-test .sizes .most) }
-
-add-i : tie.Need-add-i Inv-loop μ-loop
-add-i c =
-    let at-test = opened-at c .before .before .before .before in
-    record { fits = omega (arith, at-test .loop-test .taken, records at-test .count, records at-test .sizes .few) }
+abbrev headed : tie.After-record-octets Inv-loop μ-loop → tie.After-header-from Inv-loop μ-loop
+headed c = opened-at c .before .before .before
 
 loop-again : tie.Need-loop-again Inv-loop μ-loop
 loop-again c =
     let q = opened-at c in
-    let joined = q .before .before in
-    let h = joined .before .header-from in
-    let at-test = joined .before .before in
+    let at-judge = q .before .before in
+    let at-header = headed c in
+    let at-test = at-header .before in
     let g = start at-test in
     let near = g .args .near in
     let n = g .args .n in
-    let r = records at-test in
     let v = at-test .before .loop .inv in
     let s = now (g .args .settings) in
     let b = now (g .args .block) in
     let i = at-test .before .loop .i in
-    let x = here at-test in
+    let x = here at-header in
+    let r = x .records in
     let o =
     one-rebuilt (recordBy near s b) b n r (record-size near s b n r) (at-test .before .loop .output) i (at-test .loop-test .taken) (v .6) _
-    (q .open-as .ensures .1 ∙ written-at s b _ _ _ i _ _ (turn joined .verdict) x (v .4)) in (
+    (q .open-as .ensures .1 ∙ in-place b i _ (x .here) _ _ (told at-judge .verdict) (writtenAs s) _ _ (v .4)) in (
       omega (arith, at-test .loop-test .taken),
       q .open-as .kept .1 .1 .1 .0 ∙ v .1,
-      ap₂ (λ (x y : ℕ). x + y) (v .2) (counted q countEnciphered (q .open-as .ensures .0 .count)) ∙ sym (one-more near s b i countEnciphered),
-      ap₂ (λ (x y : ℕ). x + y) (v .3) (counted q Mask.runs (q .open-as .ensures .0 .runs)) ∙ sym (one-more near s b i Mask.runs),
-      omega (arith, ap (λ (h : Header). h .eqs) (h .ensures .0), c .record-octets .ensures, x .next),
-      turn joined .drift,
+      ap₂ (λ (x y : ℕ). x + y) (v .2) (counted q countEnciphered (q .open-as .ensures .0 .count)) ∙ sym (sum-more (addsBy near countEnciphered s b) i),
+      ap₂ (λ (x y : ℕ). x + y) (v .3) (counted q Mask.runs (q .open-as .ensures .0 .runs)) ∙ sym (sum-more (addsBy near Mask.runs s b) i),
+      omega (arith, c .record-octets .ensures, x .next),
+      told at-judge .drift,
       o,
     )
 
@@ -219,6 +202,7 @@ pub open-records-spec : {M : Type 1} → statement M
 open-records-spec =
     tie.close
     (tie.spec Inv-loop μ-loop (λ c κs. search needs) (λ c κs. search needs) loop-holds (λ c κs. search needs) (λ c κs. search needs)
-    (λ c κs. search needs)
-    open-as-requires add-count add-runs (λ c κs. search needs) add-from add-i
-    (λ c. omega (arith, opened-at c .before .before .before .before .loop-test .taken)) loop-again same-length returns)
+    open-as-requires add-count add-runs (λ c κs. search needs)
+    (λ c. record { fits = omega (arith, c .record-octets .ensures, here (headed c) .end) })
+    (λ c. record { fits = omega (arith, here (headed c) .few) })
+    (λ c. omega (arith, headed c .before .loop-test .taken)) loop-again same-length returns)

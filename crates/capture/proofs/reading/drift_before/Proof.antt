@@ -5,6 +5,7 @@ use native.Mathlib.Numerals.{add-one}
 use native.Mathlib.Omega.{arith}
 use borrow.Author.Needs.{needs}
 use Rattle.records.specs.declared.near.Heard.{Heard}
+use Rattle.records.specs.Near.{judged}
 use Rattle.records.specs.Following.{driftAt}
 use Rattle.capture.proofs.reading.drift_before.Statement.{statement}
 use Rattle.capture.proofs.reading.drift_before.Tie as tie
@@ -20,12 +21,12 @@ unfolding driftAt
 loop-holds c = (search needs, c .no-drift .ensures .0)
 
 loop-again : tie.Need-loop-again Inv-loop μ-loop
-unfolding driftAt
+unfolding driftAt judged
 loop-again c =
-    let at-hear = c .before in
-    let at-header = at-hear .before in
+    let at-judge = c .before in
+    let at-header = at-judge .before in
     let old = at-header .before .before .loop .inv in
-    (omega arith, ap (λ (x : Heard). x .drift) (at-hear .hear-for .ensures) ∙ rw (old .1, at-header .header-at .ensures .0, add-one))
+    (omega arith, ap (λ (x : Heard). x .drift) (at-judge .judge .ensures) ∙ rw (old .1, at-header .header-at .ensures .0, add-one))
 
 returns : tie.Need-returns Inv-loop μ-loop
 returns c =

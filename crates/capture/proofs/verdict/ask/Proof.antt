@@ -1,38 +1,9 @@
--- `capture::verdict::ask` meets its contract: each verdict on the way is a clause of `verdictAsked`. Assumes nothing.
-use mathlib.Core.Path.{sym, _∙_}
-use native.Mathlib.Omega.{arith}
+-- `capture::verdict::ask` meets its contract: it asks in the usual way. Assumes nothing.
+use mathlib.Core.Path.{_∙_}
 use borrow.Author.Needs.{needs}
-use denote.Ref.{now}
-use Rattle.capture.specs.Verdict.{verdictAsked}
-use Rattle.capture.proofs.Records.{Asked, asked-for, asked-few}
+use Rattle.capture.proofs.Readings.{asked-usual}
 use Rattle.capture.proofs.verdict.ask.Statement.{statement}
 use Rattle.capture.proofs.verdict.ask.Tie as tie
 
-is-asked : (c : tie.After-enum-told2) → let a = c .before .before .before .before .before .before .before .before .args in Asked (now (a .block)) (a .k)
-is-asked c = asked-for _ _ (sym (c .before .before .payload-verdict .ensures) ∙ c .enum-told2 .given .1)
-
-returns : tie.Need-returns
-unfolding verdictAsked
-returns c = rw (← c .before .before .before .settings-verdict .ensures, c .before .refusal .given .1)
-
-returns-2 : tie.Need-returns-2
-unfolding verdictAsked
-returns-2 c =
-    let at-payload = c .before .before .before in
-    let told = at-payload .before in
-    rw (← told .before .before .settings-verdict .ensures, told .enum-told .given .1, ← at-payload .payload-verdict .ensures, c .before .refusal2 .given .1)
-
-returns-3 : tie.Need-returns-3
-unfolding verdictAsked
-returns-3 c =
-    let told2 = c .before .before in
-    let at-payload = told2 .before .before in
-    let told = at-payload .before in
-    rw (← told .before .before .settings-verdict .ensures, told .enum-told .given .1, ← at-payload .payload-verdict .ensures, told2 .enum-told2 .given .1)
-    (c .verdict-for .ensures ∙ rw (c .before .header-at .ensures .0))
-
 pub ask-spec : {M : Type 1} → statement M
-ask-spec =
-    tie.close
-    (tie.spec (λ c κs. search needs) (λ c. search needs) returns (λ c. search needs) (λ c κs. search needs) (λ c. search needs) (λ c. search needs)
-    (λ c. is-asked c .first) (λ c. omega (arith, asked-few (is-asked c))) (λ c κs. search needs) (λ c κs. search needs) returns-2 returns-3)
+ask-spec = tie.close (tie.spec (λ c κs. search needs) (λ c. c .ask-by .ensures ∙ asked-usual _ _ _))

@@ -2,20 +2,18 @@
 -- it, and the codes of the records before it fill the output from the front. Assumes nothing.
 use mathlib.Core.Path.{_≡_, refl, sym, ap, _∙_}
 use mathlib.Core.List.{_++_}
-use mathlib.Core.Logic.{⊎-elim}
 use Prim.Native.Nat.{ℕ, _+_, _-_, _≤_, _<_}
 use native.Mathlib.Omega.{arith}
 use lib.ListN.{length, drop, length-set}
 use borrow.Author.Needs.{needs}
 use denote.Ref.{now}
 use Rattle.octets.specs.Lists.{tabulate}
-use Rattle.records.specs.declared.header.Header.{Header}
 use Rattle.records.specs.Verdict.{recordNumber}
 use Rattle.records.specs.Block.{dueOf}
 use Rattle.capture.specs.Reading.{driftBy, askedBy, numbersBy}
-use Rattle.capture.proofs.Records.{Records, good, At, at-due}
+use Rattle.capture.proofs.Records.{good, Reached, reached}
 use Rattle.capture.proofs.Numbers.{asked-own, fill-more}
-use Rattle.capture.proofs.Readings.{no-corrections, Turn, near-turn, own-turn}
+use Rattle.capture.proofs.Readings.{no-corrections, turn}
 use Rattle.capture.proofs.verdict.put_numbers.Statement.{statement}
 use Rattle.capture.proofs.verdict.put_numbers.Tie as tie
 
@@ -42,64 +40,43 @@ loop-holds c =
 abbrev start : tie.In-loop Inv-loop μ-loop → tie.Start Inv-loop μ-loop
 start c = c .before .before .before .before .before .before .before
 
-records : (c : tie.In-loop Inv-loop μ-loop) → Records (now (start c .args .block)) (start c .args .n)
-records c = good _ _ (start c .pre .0 .1)
-
 -- record i starts at `from`
-here : (c : tie.In-loop Inv-loop μ-loop) → At (now (start c .args .block)) (c .before .loop .i) (c .before .loop .from)
-here c = at-due _ _ _ _ (records c) (c .loop-test .taken) (c .before .loop .inv .2)
+here : (c : tie.After-header-from Inv-loop μ-loop)
+    → let a = start (c .before) .args in
+    let loop = c .before .before .loop in Reached (now (a .block)) (a .n) (loop .i) (loop .from) (c .header-from .result)
+here c = reached _ _ _ _ _ (start (c .before) .pre .0 .1) (c .before .loop-test .taken) (c .before .before .loop .inv .2) (c .header-from .ensures .0)
 
-room : (c : tie.In-loop Inv-loop μ-loop) → c .before .loop .i < length (now (start c .args .output))
-room c = omega (arith, c .loop-test .taken, records c .count, records c .sizes .few, start c .pre .1)
-
--- its verdict, and the corrections behind it
-turn : (c : tie.Joined1 Inv-loop μ-loop)
-    → let at-test = c .before .before in
-    let a = start at-test .args in
-    Turn (a .near) (now (a .settings)) (now (a .block)) (at-test .before .loop .i) (c .before .header-from .result) (c .if1 .verdict) (c .if1 .drift)
-turn c =
-    let at-header = c .before in
-    let at-test = at-header .before in
-    let a = start at-test .args in
-    let h = at-header .header-from .ensures in
-    let eh = h .0 ∙ here at-test .header in
-    let v = at-test .before .loop .inv in
-    ⊎-elim
-    (λ w. near-turn (now (a .settings)) (now (a .block)) _ _ eh _ _ _ (a .near) (w .0 .taken) (v .3) _ (w .1 .ensures) (w .3) (w .4))
-    (λ w. own-turn (now (a .settings)) (now (a .block)) _ _ eh _ _ _ (a .near) (w .0 .left) (v .3) (h .1) (w .3 ∙ w .1 .ensures) (w .2))
-    (c .if1 .came)
+room : (c : tie.After-header-from Inv-loop μ-loop) → c .before .before .loop .i < length (now (start (c .before) .args .output))
+room c = omega (arith, here c .few, start (c .before) .pre .1)
 
 slice-write-output : tie.Need-slice-write-output Inv-loop μ-loop
-slice-write-output c = let at-test = c .before .before .before in omega (arith, room at-test, at-test .before .loop .inv .1)
+slice-write-output c = let at-header = c .before .before in omega (arith, room at-header, at-header .before .before .loop .inv .1)
 
 add-from : tie.Need-add-from Inv-loop μ-loop
-add-from c =
-    let at-header = c .before .before .before in
-    let at-test = at-header .before in
-    let eqs = ap (λ (h : Header). h .eqs) (at-header .header-from .ensures .0) in
-    record { fits = omega (arith, eqs, c .record-octets .ensures, here at-test .inside, records at-test .sizes .most) }
+add-from c = record { fits = omega (arith, c .record-octets .ensures, here (c .before .before .before .before) .end) }
 
 loop-again : tie.Need-loop-again Inv-loop μ-loop
 loop-again c =
-    let at-number = c .before in
-    let joined = at-number .before in
-    let h = joined .before .header-from in
-    let at-test = joined .before .before in
+    let at-number = c .before .before in
+    let at-judge = at-number .before in
+    let at-header = at-judge .before in
+    let at-test = at-header .before in
     let g = start at-test in
     let near = g .args .near in
     let v = at-test .before .loop .inv in
     let i = at-test .before .loop .i in
     let s = now (g .args .settings) in
     let b = now (g .args .block) in
-    let x = here at-test in
+    let x = here at-header in
+    let told = turn near s b i _ _ _ (at-judge .judge .ensures) (v .3) (x .header) (at-header .header-from .ensures .1) in
     let own : at-number .number .result ≡ recordNumber (askedBy near s b (i + 1)) =
     at-number .number .ensures
-    ∙ ap recordNumber (turn joined .verdict ∙ sym (asked-own near s b (g .args .n) i (g .pre .0 .0) (g .pre .0 .1) (at-test .loop-test .taken))) in (
+    ∙ ap recordNumber (told .verdict ∙ sym (asked-own near s b (g .args .n) i (g .pre .0 .0) (g .pre .0 .1) (at-test .loop-test .taken))) in (
       omega arith,
       simp length-set (v .1),
-      omega (arith, ap (λ (h : Header). h .eqs) (h .ensures .0), c .record-octets .ensures, x .next),
-      turn joined .drift,
-      rw (v .4, own) (fill-more (λ (j : ℕ). recordNumber (askedBy near s b (j + 1))) (now (g .args .output)) i (room at-test)),
+      omega (arith, c .record-octets .ensures, x .next),
+      told .drift,
+      rw (v .4, own) (fill-more (λ (j : ℕ). recordNumber (askedBy near s b (j + 1))) (now (g .args .output)) i (room at-header)),
     )
 
 returns : tie.Need-returns Inv-loop μ-loop
@@ -114,5 +91,5 @@ pub put-numbers-spec : {M : Type 1} → statement M
 put-numbers-spec =
     tie.close
     (tie.spec Inv-loop μ-loop (λ c κs. search needs) (λ c κs. search needs) loop-holds (λ c κs. search needs) (λ c κs. search needs)
-    (λ c κs. search needs) (λ c κs. search needs) (λ c. search needs) slice-write-output (λ c κs. search needs) add-from (λ c. search needs)
+    (λ c κs. search needs) (λ c. search needs) slice-write-output (λ c κs. search needs) add-from (λ c. search needs)
     (λ c. omega arith) loop-again (λ c. c .before .loop .inv .1) returns)

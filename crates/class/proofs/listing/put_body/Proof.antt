@@ -8,7 +8,9 @@ use lib.ListN.{take}
 use denote.Ref.{now}
 use borrow.Author.Needs.{needs}
 use Rattle.rows.proofs.Lines.{refused-row-few}
+use Rattle.rows.proofs.Texts.{line-put}
 use Rattle.capture.specs.declared.directory.Directory.the-variants.{Good}
+use Rattle.capture.specs.Listing.{lineOctets}
 use Rattle.capture.proofs.Records.{good}
 use Rattle.class.specs.Reading.{callFor}
 use Rattle.class.specs.Listing.{bodyAfter}
@@ -24,21 +26,19 @@ went-on : (c : tie.After-n)
     → let a = start (c .before .before) .args in callFor true (a .caller) (now (a .sets)) (now (a .rights)) (now (a .block)) ≡ Good (c .n .given .0 .0)
 went-on c = sym (c .before .before .call-for .ensures) ∙ c .n .given .1
 
-put-line-requires : tie.Need-put-line-requires
-put-line-requires c κs =
-    let x = c .before .before .before in
-    (omega (arith, c .refused-row .ensures .used, refused-row-few (x .refusal .given .0 .0)), omega (arith, start (x .before .before) .pre))
-
 put-rows-requires : tie.Need-put-rows-requires
 put-rows-requires c κs = let x = c .before .before in (found _ _ _ _ _ _ (went-on x) .good, start (x .before .before) .pre)
 
 returns : tie.Need-returns
 unfolding bodyAfter
 returns c =
-    let row = c .before .before .before in
+    let at-line = c .before .before in
+    let row = at-line .before in
     let x = row .before .before .before in
-    let a = start (x .before .before) .args in
-    let q = c .before .before .put-line .ensures in (
+    let g = start (x .before .before) in
+    let a = g .args in
+    let few = refused-row-few (x .refusal .given .0 .0) in
+    let q = line-put _ _ _ _ lineOctets _ (at-line .put-line .ensures) (omega (arith, row .refused-row .ensures .used, few)) (omega (arith, g .pre)) in (
       (q .0 .0, omega (arith, q .0 .1)),
       (
         q .1 .0
@@ -59,6 +59,6 @@ returns-2 c =
 pub put-body-spec : {M : Type 1} → statement M
 put-body-spec =
     tie.close
-    (tie.spec (λ c κs. search needs) (λ c. search needs) (λ c κs. search needs) put-line-requires (λ c. search needs) put-rows-requires
+    (tie.spec (λ c κs. search needs) (λ c. search needs) (λ c κs. search needs) (λ c κs. search needs) (λ c. search needs) put-rows-requires
     (λ c. search needs)
     returns (λ c. search needs) returns-2)

@@ -10,23 +10,24 @@ use borrow.Author.Tests.{lt-ltb, le-ltb}
 use Rattle.octets.proofs.Choice.{pick-true, pick-false}
 use Rattle.refusal.specs.declared.Refusal.the-variants.{BadLength}
 use Rattle.rows.proofs.Lines.{refused-row-few}
+use Rattle.rows.proofs.Texts.{line-put}
+use Rattle.capture.specs.Listing.{lineOctets}
 use Rattle.rights.proofs.Sets.{product-below}
 use Rattle.class.specs.Input.{inputBody}
 use Rattle.class.proofs.Texts.{input-parts}
 use Rattle.class.proofs.listing.put_input.Statement.{statement}
 use Rattle.class.proofs.listing.put_input.Tie as tie
 
-put-line-requires : tie.Need-put-line-requires
-put-line-requires c κs =
-    (omega (arith, c .refused-row .ensures .used, refused-row-few BadLength), omega (arith, c .before .before .before .before .before .pre))
-
 returns : tie.Need-returns
 unfolding inputBody
 returns c =
-    let row = c .before .before .before in
+    let at-line = c .before .before in
+    let row = at-line .before in
     let at-then = row .before .before in
-    let a = at-then .before .before .before .args in
-    let q = c .before .before .put-line .ensures in
+    let g = at-then .before .before .before in
+    let a = g .args in
+    let few = refused-row-few BadLength in
+    let q = line-put _ _ _ _ lineOctets _ (at-line .put-line .ensures) (omega (arith, row .refused-row .ensures .used, few)) (omega (arith, g .pre)) in
     let short = pick-true {t = _} _ _ (lt-ltb (length (now (a .input))) 3 (at-then .if1 .taken)) in (
       (q .0 .0, omega (arith, q .0 .1)),
       (q .1 .0 ∙ ap (λ (t : List ℕ). take (a .at) (now (a .text)) ++ t) (row .refused-row .ensures .octets ∙ sym short), q .1 .1),
@@ -67,7 +68,7 @@ returns-2 c =
 pub put-input-spec : {M : Type 1} → statement M
 put-input-spec =
     tie.close
-    (tie.spec (λ c κs. search needs) put-line-requires (λ c. search needs) returns (λ c κs. search needs) (λ c κs. search needs) (λ c κs. search needs)
-    (λ c. search needs) (λ c. search needs) (λ c. search needs) (λ c. search needs) mul-size (λ c. search needs) (λ c κs. search needs)
+    (tie.spec (λ c κs. search needs) (λ c κs. search needs) (λ c. search needs) returns (λ c κs. search needs) (λ c κs. search needs)
+    (λ c κs. search needs) (λ c. search needs) (λ c. search needs) (λ c. search needs) (λ c. search needs) mul-size (λ c. search needs) (λ c κs. search needs)
     (λ c κs. search needs) add-part-of (λ c κs. search needs)
     (λ c κs. search needs) (λ c. search needs) returns-2)

@@ -10,9 +10,10 @@ use denote.Ref.{now}
 use Rattle.records.specs.declared.header.Header.{Header}
 use Rattle.records.specs.Block.{dueOf}
 use Rattle.rows.specs.Text.{textOf}
+use Rattle.rows.proofs.Texts.{line-put}
 use Rattle.capture.specs.Listing.{lineOctets}
 use Rattle.capture.specs.Rebuilt.{joined}
-use Rattle.capture.proofs.Records.{Records, good, placed, At, at-due}
+use Rattle.capture.proofs.Records.{good, Reached, reached}
 use Rattle.capture.proofs.Lines.{same-behind, one-row}
 use Rattle.rights.specs.declared.judging.ClassVerdict.{ClassVerdict}
 use Rattle.class.specs.Reading.{driftFor}
@@ -47,74 +48,46 @@ loop-holds c =
 abbrev start : tie.In-loop Inv-loop μ-loop → tie.Start Inv-loop μ-loop
 start c = c .before .before .before .before .before .before .before .before
 
-records : (c : tie.In-loop Inv-loop μ-loop) → Records (now (start c .args .block)) (start c .args .n)
-records c = good _ _ (start c .pre .0)
-
 -- record i starts at `from`
-here : (c : tie.In-loop Inv-loop μ-loop) → At (now (start c .args .block)) (c .before .loop .i) (c .before .loop .from)
-here c = at-due _ _ _ _ (records c) (c .loop-test .taken) (c .before .loop .inv .4)
+here : (c : tie.After-header-from Inv-loop μ-loop)
+    → let a = start (c .before) .args in
+    let loop = c .before .before .loop in Reached (now (a .block)) (a .n) (loop .i) (loop .from) (c .header-from .result)
+here c = reached _ _ _ _ _ (start (c .before) .pre .0) (c .before .loop-test .taken) (c .before .before .loop .inv .4) (c .header-from .ensures .0)
 
 row-as-requires : tie.Need-row-as-requires Inv-loop μ-loop
-row-as-requires c κs =
-    let at-header = c .before .before in
-    let at-test = at-header .before in
-    let r = records at-test in
-    let p = placed _ _ (at-test .before .loop .i) r (at-test .loop-test .taken) in
-    let eqs = ap (λ (h : Header). h .eqs) (at-header .header-from .ensures .0 ∙ here at-test .header) in
-    (omega (arith, r .count, r .sizes .few, at-test .loop-test .taken), omega (arith, eqs, p .size, p .inside, r .sizes .most))
+row-as-requires c κs = let x = here (c .before .before) in (omega (arith, x .few), omega (arith, x .end))
 
-put-line-requires : tie.Need-put-line-requires Inv-loop μ-loop
-put-line-requires c κs =
-    let at-test = c .before .before .before .before in
-    let r = records at-test in
-    let v = at-test .before .loop .inv in
-    (c .row-as .ensures .1, omega (arith, start at-test .pre .1, r .count, r .sizes .few, at-test .loop-test .taken, v .1, v .3))
-
--- the turn's header and its own test, from where the record's length was asked for
+-- the turn's header, from where the record's length was asked for
 abbrev headed : tie.After-record-octets Inv-loop μ-loop → tie.After-header-from Inv-loop μ-loop
 headed c = c .before .before .before .before .before .before .before .before
-
-abbrev tested : tie.After-record-octets Inv-loop μ-loop → tie.In-loop Inv-loop μ-loop
-tested c = headed c .before
-
-add-from : tie.Need-add-from Inv-loop μ-loop
-add-from c =
-    let at-test = tested c in
-    let at-header = headed c in
-    let eqs = ap (λ (h : Header). h .eqs) (at-header .header-from .ensures .0) in
-    record { fits = omega (arith, eqs, c .record-octets .ensures, here at-test .inside, records at-test .sizes .most) }
-
-add-i : tie.Need-add-i Inv-loop μ-loop
-add-i c =
-    let at-test = tested c in
-    record { fits = omega (arith, at-test .loop-test .taken, records at-test .count, records at-test .sizes .few) }
 
 loop-again : tie.Need-loop-again Inv-loop μ-loop
 loop-again c =
     let at-line = c .before .before .before .before in
-    let q = at-line .put-line in
     let at-row = at-line .before in
     let at-judge = at-row .before .before in
-    let h = at-judge .before .header-from in
-    let at-test = at-judge .before .before in
+    let at-header = at-judge .before in
+    let at-test = at-header .before in
     let v = at-test .before .loop .inv in
     let i = at-test .before .loop .i in
     let a = start at-test .args in
+    let x = here at-header in
+    let q =
+    line-put _ _ _ _ lineOctets _ (at-line .put-line .ensures) (at-row .row-as .ensures .1)
+    (omega (arith, start at-test .pre .1, x .few, v .1, v .3)) in
     let f = rowFor (a .near) (a .caller) (now (a .sets)) (now (a .rights)) (now (a .block)) in
-    let x = here at-test in
-    let header = h .ensures .0 ∙ x .header in
-    let told = turn (a .near) (a .caller) (now (a .sets)) (now (a .rights)) (now (a .block)) i _ _ _ (at-judge .judge-in .ensures) (v .5) header in
+    let told = turn (a .near) (a .caller) (now (a .sets)) (now (a .rights)) (now (a .block)) i _ _ _ (at-judge .judge-in .ensures) (v .5) (x .header) in
     let row : textOf (at-row .row-as .result) ≡ f i =
-    at-row .row-as .ensures .0 ∙ ap₂ (λ (h : Header) (w : ClassVerdict). rowAs (i + 1) h w) header (told .0) in
+    at-row .row-as .ensures .0 ∙ ap₂ (λ (h : Header) (w : ClassVerdict). rowAs (i + 1) h w) (x .header) (told .0) in
     let front = take (a .at) (now (a .text)) in (
       omega arith,
-      q .kept .0 ∙ v .1,
-      omega (arith, v .2, q .ensures .0 .0),
-      omega (arith, v .3, q .ensures .0 .1),
-      omega (arith, ap (λ (h : Header). h .eqs) (h .ensures .0), c .record-octets .ensures, x .next),
+      at-line .put-line .kept .0 ∙ v .1,
+      omega (arith, v .2, q .0 .0),
+      omega (arith, v .3, q .0 .1),
+      omega (arith, c .record-octets .ensures, x .next),
       told .1,
-      q .ensures .1 .0 ∙ rw (v .6) (ap (λ (t : List ℕ). (front ++ joined f 0 i) ++ t) row ∙ one-row f front i),
-      q .ensures .1 .1 ∙ same-behind _ (now (a .text)) _ _ (q .ensures .0 .0) (v .7),
+      q .1 .0 ∙ rw (v .6) (ap (λ (t : List ℕ). (front ++ joined f 0 i) ++ t) row ∙ one-row f front i),
+      q .1 .1 ∙ same-behind _ (now (a .text)) _ _ (q .0 .0) (v .7),
     )
 
 returns : tie.Need-returns Inv-loop μ-loop
@@ -129,5 +102,7 @@ pub put-rows-spec : {M : Type 1} → statement M
 put-rows-spec =
     tie.close
     (tie.spec Inv-loop μ-loop (λ c κs. search needs) (λ c κs. search needs) loop-holds (λ c κs. search needs) (λ c κs. search needs)
-    (λ c. search needs) (λ c. search needs) row-as-requires put-line-requires (λ c κs. search needs) add-from add-i
-    (λ c. omega (arith, tested c .loop-test .taken)) loop-again (λ c. c .before .loop .inv .1) returns)
+    (λ c. search needs) (λ c. search needs) row-as-requires (λ c κs. search needs) (λ c κs. search needs)
+    (λ c. record { fits = omega (arith, c .record-octets .ensures, here (headed c) .end) })
+    (λ c. record { fits = omega (arith, here (headed c) .few) })
+    (λ c. omega (arith, headed c .before .loop-test .taken)) loop-again (λ c. c .before .loop .inv .1) returns)

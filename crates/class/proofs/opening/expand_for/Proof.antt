@@ -7,9 +7,10 @@ use lib.ListN.{length}
 use borrow.Author.Needs.{needs}
 use denote.Ref.{now}
 use Rattle.octets.specs.Lists.{sum}
+use Rattle.octets.proofs.Lists.{sum-more}
 use Rattle.class.specs.Opening.{expansionsFor}
 use Rattle.class.specs.Duties.{keysOctets, Expanded}
-use Rattle.class.proofs.Expanding.{Counts, counts-few, one-counted, one-expanded, none-expanded}
+use Rattle.class.proofs.Expanding.{Counts, counts-few, one-expanded, none-expanded}
 use Rattle.class.proofs.opening.expand_for.Statement.{statement}
 use Rattle.class.proofs.opening.expand_for.Tie as tie
 
@@ -43,7 +44,7 @@ add-count c =
         at-loop .before .before .before .before .before .pre .0,
         at-loop .loop .inv .2,
         at-call .expand-at .ensures .told,
-        one-counted (a .caller) (now (a .sets)) (now (a .rights)) k,
+        sum-more (Counts (a .caller) (now (a .sets)) (now (a .rights))) k,
         counts-few (a .caller) (now (a .sets)) (now (a .rights)) (k + 1),
       );
     }
@@ -57,7 +58,7 @@ loop-again c =
     let x = at-call .expand-at .ensures in (
       omega arith,
       x .size ∙ v .1,
-      ap₂ (λ (m n : ℕ). m + n) (v .2) (x .told) ∙ sym (one-counted (a .caller) (now (a .sets)) (now (a .rights)) (at-loop .loop .k)),
+      ap₂ (λ (m n : ℕ). m + n) (v .2) (x .told) ∙ sym (sum-more (Counts (a .caller) (now (a .sets)) (now (a .rights))) (at-loop .loop .k)),
       one-expanded _ _ _ _ _ _ _ (v .3) x,
     )
 

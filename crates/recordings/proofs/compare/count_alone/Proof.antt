@@ -9,9 +9,10 @@ use borrow.Author.Needs.{needs}
 use Rattle.octets.specs.Choice.{both}
 use Rattle.octets.specs.Lists.{sum}
 use Rattle.octets.proofs.Choice.{pick-true, pick-false}
+use Rattle.octets.proofs.Lists.{sum-more}
 use Rattle.records.specs.Block.{recordsIn}
 use Rattle.recordings.specs.Comparing.{aloneAt, aloneOf}
-use Rattle.recordings.proofs.Entries.{counted, count-more}
+use Rattle.recordings.proofs.Entries.{counted}
 use Rattle.recordings.proofs.compare.count_alone.Statement.{statement}
 use Rattle.recordings.proofs.compare.count_alone.Tie as tie
 
@@ -39,7 +40,7 @@ loop-again c =
     let i = at-loop .loop .i in
     let partner = start .pre .1 i (omega (arith, n .count .ensures)) in
     let test = counted (a .llid) (now (a .a)) (now (a .b)) i _ _ _ partner (m .count2 .ensures) (read .header-at .ensures .0) in
-    let more = count-more (a .llid) (now (a .a)) (now (a .b)) i in
+    let more = sum-more (aloneAt (a .llid) (now (a .a)) (now (a .b))) i in
     ⊎-elim
     (λ w.
     let e = test ∙ pick-true 1 0 (w .0 .taken) in

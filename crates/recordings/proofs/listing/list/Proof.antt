@@ -7,8 +7,9 @@ use lib.ListN.{length}
 use lib.Seq.{length-take-le}
 use denote.Ref.{now}
 use borrow.Author.Needs.{needs}
+use Rattle.rows.proofs.Texts.{put}
 use Rattle.capture.proofs.Lines.{same-behind}
-use Rattle.recordings.specs.Listing.{bodyOf, listingOf}
+use Rattle.recordings.specs.Listing.{headingText, bodyOf, listingOf}
 use Rattle.recordings.proofs.listing.list.Statement.{statement}
 use Rattle.recordings.proofs.listing.list.Tie as tie
 
@@ -17,11 +18,11 @@ unfolding listingOf
 returns c =
     let start = c .before .before .before .before .before .before .before .before in
     let q = c .put-input .ensures in
-    let p = c .before .before .append .ensures in
+    let p = put (now (start .args .text)) _ headingText 0 (omega arith) (c .before .before .copy-at .ensures) in
     let rest = bodyOf (now (start .args .input)) in
-    let within : c .put-input .result ≤ length (c .put-input .last .1 .0) = omega (arith, q .0 .1, p .0) in (
+    let within : c .put-input .result ≤ length (c .put-input .last .1 .0) = omega (arith, q .0 .1) in (
       (within, sym (length-take-le _ _ within)),
-      (q .1 .0 ∙ ap (λ (t : List ℕ). t ++ rest) (p .1 .0), q .1 .1 ∙ same-behind _ _ _ _ (q .0 .0) (p .1 .1)),
+      (q .1 .0 ∙ ap (λ (t : List ℕ). t ++ rest) (p .front), q .1 .1 ∙ same-behind _ _ _ _ (q .0 .0) (p .rest)),
     )
 
 pub list-spec : {M : Type 1} → statement M

@@ -11,13 +11,10 @@ use borrow.Author.Needs.{needs}
 use borrow.Author.Tests.{eq-eqb, ne-eqb}
 use Rattle.octets.proofs.Choice.{pick-true, pick-false}
 use Rattle.records.specs.Block.{recordsIn}
+use Rattle.rows.specs.Text.{rowOctets}
+use Rattle.rows.proofs.Texts.{line-put}
 use Rattle.recordings.proofs.listing.put_alone.Statement.{statement}
 use Rattle.recordings.proofs.listing.put_alone.Tie as tie
-
-put-line-requires : tie.Need-put-line-requires
-put-line-requires c κs =
-    let start = c .before .before .before .before .before .before .before .before in
-    (c .entry-row .ensures .inside, start .pre .1)
 
 returns : tie.Need-returns
 returns c =
@@ -25,7 +22,7 @@ returns c =
     let made = put .before in
     let then = made .before .before .before in
     let start = then .before .before .before .before .before in
-    let q = put .put-line .ensures in
+    let q = line-put _ _ _ _ rowOctets _ (put .put-line .ensures) (made .entry-row .ensures .inside) (start .pre .1) in
     let e : eqb (start .args .p) (recordsIn (now (start .args .a))) ≡ true = rw (← then .before .count .ensures) (eq-eqb _ _ (then .if1 .taken)) in
     let row = rw (made .before .header-at .ensures .0) at (made .entry-row .ensures .octets) in
     (q .0, (q .1 .0 ∙ ap (λ (t : List ℕ). take (start .args .at) (now (start .args .text)) ++ t) (row ∙ sym (pick-true _ _ e)), q .1 .1))
@@ -40,5 +37,5 @@ returns-2 c =
 pub put-alone-spec : {M : Type 1} → statement M
 put-alone-spec =
     tie.close
-    (tie.spec (λ c κs. search needs) (λ c. search needs) (λ c κs. search needs) (λ c κs. search needs) put-line-requires (λ c. search needs) returns
-    returns-2)
+    (tie.spec (λ c κs. search needs) (λ c. search needs) (λ c κs. search needs) (λ c κs. search needs) (λ c κs. search needs) (λ c. search needs)
+    returns returns-2)

@@ -6,6 +6,8 @@ use native.Mathlib.Omega.{arith}
 use lib.ListN.{take}
 use denote.Ref.{now}
 use borrow.Author.Needs.{needs}
+use Rattle.rows.specs.Text.{rowOctets}
+use Rattle.rows.proofs.Texts.{line-put}
 use Rattle.recordings.specs.Listing.{bodyAfter}
 use Rattle.recordings.proofs.Comparing.{comparable}
 use Rattle.recordings.proofs.listing.put_body.Statement.{statement}
@@ -25,7 +27,7 @@ returns c =
     let refused = made .before .before .before in
     let ruled = refused .before .before in
     let start = ruled .before .before .before .before in
-    let q = put .put-line .ensures in
+    let q = line-put _ _ _ _ rowOctets _ (put .put-line .ensures) (made .denied-row .ensures .inside) (omega (arith, start .pre)) in
     let e = sym (ruled .rule .ensures) ∙ refused .refusal .given .1 in
     let row = ap (λ (t : List ℕ). take (start .args .at) (now (start .args .text)) ++ t) (made .denied-row .ensures .octets) in
     ((q .0 .0, omega (arith, q .0 .1)), (q .1 .0 ∙ rw e row, q .1 .1))

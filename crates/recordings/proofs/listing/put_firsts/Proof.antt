@@ -9,6 +9,7 @@ use denote.Ref.{now}
 use borrow.Author.Needs.{needs}
 use Rattle.records.specs.Block.{recordsIn, recordOf}
 use Rattle.rows.specs.Text.{rowOctets}
+use Rattle.rows.proofs.Texts.{line-put}
 use Rattle.capture.proofs.Lines.{same-behind}
 use Rattle.recordings.specs.Pieces.{pieces}
 use Rattle.recordings.specs.Listing.{rowWith, firstRow}
@@ -40,13 +41,6 @@ entry-line-requires c κs =
     let high = first-high (recordOf (now (start .args .a)) i) b 0 (recordsIn b) in
     (omega (arith, h, start .pre .0 .few), omega (arith, p, high, start .pre .0 .fewOther))
 
-put-line-requires : tie.Need-put-line-requires Inv-loop μ-loop
-put-line-requires c κs =
-    let at-loop = c .before .before .before .before in
-    let start = at-loop .before .before .before .before .before in
-    let v = at-loop .loop .inv in
-    (c .entry-line .ensures .inside, omega (arith, among (c .before .before .before), start .pre .1 .1, v .1, v .3))
-
 loop-again : tie.Need-loop-again Inv-loop μ-loop
 loop-again c =
     let put = c .before .before in
@@ -58,8 +52,10 @@ loop-again c =
     let text = now (start .args .text) in
     let v = at-loop .loop .inv in
     let i = at-loop .loop .i in
-    let q = put .put-line .ensures in
-    let row = made .entry-line .ensures .octets ∙ ap (rowWith a b i) (start .pre .1 .0 i (among (made .before .before .before))) in (
+    let h = among (made .before .before .before) in
+    let q =
+    line-put _ _ _ _ rowOctets _ (put .put-line .ensures) (made .entry-line .ensures .inside) (omega (arith, h, start .pre .1 .1, v .1, v .3)) in
+    let row = made .entry-line .ensures .octets ∙ ap (rowWith a b i) (start .pre .1 .0 i h) in (
       omega arith,
       put .put-line .kept .0 ∙ v .1,
       omega (arith, v .2, q .0 .0),
@@ -83,4 +79,4 @@ put-firsts-spec =
     (λ c. unfold pieces in (omega arith, refl, omega arith, omega arith, rw append-nil, refl))
     (λ c. search needs) (λ c. search needs)
     (λ c. omega (arith, among c, c .before .before .before .before .before .before .pre .0 .few))
-    entry-line-requires put-line-requires (λ c. search needs) (λ c. omega arith) loop-again (λ c. c .before .loop .inv .1) returns)
+    entry-line-requires (λ c κs. search needs) (λ c. search needs) (λ c. omega arith) loop-again (λ c. c .before .loop .inv .1) returns)

@@ -11,7 +11,9 @@ use borrow.Author.Tests.{lt-leb, le-leb}
 use Rattle.octets.specs.Lists.{part}
 use Rattle.octets.proofs.Choice.{pick-true, pick-false}
 use Rattle.refusal.specs.declared.Refusal.the-variants.{BadLength}
+use Rattle.rows.specs.Text.{rowOctets}
 use Rattle.rows.specs.Entries.{deniedRow}
+use Rattle.rows.proofs.Texts.{line-put}
 use Rattle.recordings.specs.Comparing.{outputOctets, rulingOn}
 use Rattle.recordings.specs.Listing.{headOctets, askedLlid, firstLength, bodyAfter, bodyOf}
 use Rattle.recordings.proofs.listing.put_input.Statement.{statement}
@@ -38,7 +40,7 @@ returns c =
     let made = put .before in
     let then = made .before .before in
     let start = then .before .before .before .before in
-    let q = put .put-line .ensures in
+    let q = line-put _ _ _ _ rowOctets _ (put .put-line .ensures) (made .denied-row .ensures .inside) (omega (arith, start .pre)) in
     let e = no-blocks (now (start .args .input)) _ (then .before .number32 .ensures) (then .if1 .taken) in
     let row = ap (λ (t : List ℕ). take (start .args .at) (now (start .args .text)) ++ t) (made .denied-row .ensures .octets ∙ sym e) in
     ((q .0 .0, omega (arith, q .0 .1)), (q .1 .0 ∙ row, q .1 .1))

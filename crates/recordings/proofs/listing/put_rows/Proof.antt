@@ -7,6 +7,8 @@ use lib.ListN.{take}
 use denote.Ref.{now}
 use borrow.Author.Needs.{needs}
 use Rattle.records.specs.Block.{recordsIn}
+use Rattle.rows.specs.Text.{rowOctets}
+use Rattle.rows.proofs.Texts.{line-put}
 use Rattle.capture.proofs.Lines.{same-behind}
 use Rattle.recordings.specs.Pieces.{pieces}
 use Rattle.recordings.specs.Listing.{firstRow, aloneRow}
@@ -30,17 +32,6 @@ put-alones-requires c κs =
       (matched .match-up .ensures .second, omega (arith, q .0 .1, firsts .put-firsts .kept .1 .1 .1 .0, start .pre .1, few .few, few .fewOther)),
     )
 
-put-line-requires : tie.Need-put-line-requires
-put-line-requires c κs =
-    let alones = c .before .before .before .before .before .before .before .before in
-    let firsts = alones .before .before .before .before .before in
-    let start = firsts .before .before .before .before .before .before .before .before .before in
-    let few = start .pre .0 in
-    let kept-firsts = firsts .put-firsts .kept .1 .1 .1 .0 in
-    let kept-alones = alones .put-alones .kept .1 .1 .1 .0 in
-    let end = alones .put-alones .ensures .0 .1 in
-    (c .total-row .ensures .inside, omega (arith, end, firsts .put-firsts .ensures .0 .1, kept-firsts, kept-alones, start .pre .1, few .few, few .fewOther))
-
 -- three pieces, one after the other
 joined : (x y z t p q r line : List ℕ) → x ≡ y ++ line → y ≡ z ++ q → z ≡ t ++ p → line ≡ r → x ≡ t ++ ((p ++ q) ++ r)
 joined x y z t p q r line e f g h = e ∙ rw (h, f, g) (simp append-assoc)
@@ -59,7 +50,11 @@ returns c =
     let front = take (start .args .at) (now (start .args .text)) in
     let one = firsts .put-firsts .ensures in
     let two = alones .put-alones .ensures in
-    let three = put .put-line .ensures in
+    let kept-firsts = firsts .put-firsts .kept .1 .1 .1 .0 in
+    let kept-alones = alones .put-alones .kept .1 .1 .1 .0 in
+    let three =
+    line-put _ _ _ _ rowOctets _ (put .put-line .ensures) (total .total-row .ensures .inside)
+    (omega (arith, one .0 .1, two .0 .1, kept-firsts, kept-alones, start .pre .1, few .few, few .fewOther)) in
     let line = rw (other .before .before .count-alone .ensures .0, other .count-alone2 .ensures .0) at (total .total-row .ensures .octets) in (
       (omega (arith, one .0 .0, two .0 .0, three .0 .0), omega (arith, one .0 .1, two .0 .1, three .0 .1, few .few, few .fewOther)),
       (
@@ -72,4 +67,4 @@ pub put-rows-spec : {M : Type 1} → statement M
 put-rows-spec =
     tie.close
     (tie.spec (λ c κs. search needs) put-firsts-requires put-alones-requires (λ c κs. search needs) (λ c κs. search needs) (λ c. search needs)
-    (λ c κs. search needs) put-line-requires (λ c. search needs) returns)
+    (λ c κs. search needs) (λ c κs. search needs) (λ c. search needs) returns)

@@ -1,27 +1,20 @@
 -- Laws of a record whose payload is changed and keeps its length. Assumes nothing.
-use mathlib.Core.Path.{_≡_, _∙_}
+use mathlib.Core.Path.{_≡_, sym, ap, _∙_}
 use mathlib.Core.List.{List, _++_}
-use Prim.Native.Nat.{ℕ, _+_, _≤_, _<_}
+use Prim.Native.Nat.{ℕ, _≤_}
 use native.Mathlib.Omega.{arith}
-use lib.ListN.{length, take, drop, getD, take-append-drop, length-append, length-take, length-drop, List·getD-append}
-use lib.Seq.{take-at, drop-at, getD-take, length-take-le}
-use Rattle.octets.specs.BigEndian.{numberAt}
-use Rattle.octets.proofs.BigEndian.{number-same}
+use lib.ListN.{length, take, drop, take-append-drop, length-append, length-take, length-drop}
+use lib.Seq.{take-at, drop-at, length-take-le}
 use Rattle.records.specs.Record.{headerOctets, recordHeader, payloadOf, sized}
+use Rattle.records.proofs.Headers.{header-taken}
 use Rattle.store.specs.Blocks.{withPayload}
 
-module _ (r ys : List ℕ) (h : headerOctets ≤ length r) where
-  same-octet : (k : ℕ) → k < headerOctets → getD (take headerOctets r ++ ys) k 0 ≡ getD r k 0
-  same-octet k l = List·getD-append (take headerOctets r) ys 0 k (simp length-take (omega arith)) ∙ getD-take headerOctets r k 0 l
-
-  same-number : (k at : ℕ) → at + k ≤ headerOctets → numberAt k (take headerOctets r ++ ys) at ≡ numberAt k r at
-  same-number k at l = number-same k (take headerOctets r ++ ys) r at at (λ j g. same-octet (at + j) (omega arith))
-
-  same-header : recordHeader (take headerOctets r ++ ys) ≡ recordHeader r
-  unfolding recordHeader
-  same-header =
-      rw (same-octet 0 (omega arith), same-octet 1 (omega arith), same-number 2 2 (omega arith), same-octet 4 (omega arith))
-      (rw (same-octet 5 (omega arith), same-number 6 6 (omega arith), same-number 4 12 (omega arith)))
+-- the header is of the first octets alone
+same-header : (r ys : List ℕ) → headerOctets ≤ length r → recordHeader (take headerOctets r ++ ys) ≡ recordHeader r
+same-header r ys h =
+    sym (header-taken headerOctets (take headerOctets r ++ ys) (omega arith))
+    ∙ ap recordHeader (take-at (take headerOctets r) ys headerOctets (length-take-le headerOctets r h))
+    ∙ header-taken headerOctets r (omega arith)
 
 module _ (f : List ℕ → List ℕ) (r : List ℕ) (h : headerOctets ≤ length r) where
   pub with-header : recordHeader (withPayload f r) ≡ recordHeader r

@@ -69,6 +69,5 @@ pub put-input-spec : {M : Type 1} → statement M
 put-input-spec =
     tie.close
     (tie.spec (λ c κs. search needs) (λ c κs. search needs) (λ c. search needs) returns (λ c κs. search needs) (λ c κs. search needs)
-    (λ c κs. search needs) (λ c. search needs) (λ c. search needs) (λ c. search needs) (λ c. search needs) mul-size (λ c. search needs) (λ c κs. search needs)
-    (λ c κs. search needs) add-part-of (λ c κs. search needs)
-    (λ c κs. search needs) (λ c. search needs) returns-2)
+    (λ c κs. search needs) (λ c. search needs) (λ c. search needs) (λ c. search needs) (λ c. search needs) mul-size (λ c. search needs)
+    (λ c κs. search needs) (λ c κs. search needs) add-part-of (λ c κs. search needs) (λ c κs. search needs) (λ c. search needs) returns-2)

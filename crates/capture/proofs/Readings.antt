@@ -44,7 +44,7 @@ use Rattle.capture.proofs.Records.{Records, header-there}
 use Rattle.capture.proofs.Openings.{written-length}
 use Rattle.capture.proofs.Reopening.{opened-is}
 
--- ---- a record that is to be opened can be
+---- a record that is to be opened can be
 pub opens-by : (s : List ℕ) (h : Header) (t i u : ℕ) → recordVerdict (presenceOf s) (llidOf s) t h ≡ Sealed i u → t < sixOctets → Opens s h i u
 opens-by s h t i u e c =
     let o = openable (presenceOf s) (llidOf s) t h i u e in
@@ -67,7 +67,7 @@ unfolding judged heard verdictFor
 judged-opens true s drift h c i t e = opens-at s drift h (nearest (expected drift h) (h .epam)) i t e
 judged-opens false s drift h c i t e = opens-by s h (h .clock) i t e c
 
--- ---- record i, with the header h, in its turn: its verdict v, and the corrections d behind it
+---- record i, with the header h, in its turn: its verdict v, and the corrections d behind it
 pub record Turn (near : Bool) (s b : List ℕ) (i : ℕ) (h : Header) (v : RecordVerdict) (d : Drift) : Type 0 where
   pub verdict : v ≡ verdictBy near s b i
   pub drift : d ≡ driftBy near s b (i + 1)
@@ -97,7 +97,7 @@ no-corrections near s b = sym (pick-same near noDrift)
 pub record-size : (near : Bool) (s b : List ℕ) (n : ℕ) → Records b n → (i : ℕ) → i < n → length (recordBy near s b i) ≡ length (recordOf b i)
 record-size near s b n r i h = written-length s (recordOf b i) (verdictBy near s b i) (header-there b n r i h)
 
--- ---- the usual way
+---- the usual way
 opening-usual-by : (v : Verdict) (s b out : List ℕ)
     → withOutput (openingAs false v s b out .answer .opened) (openingAs false v s b out .output) ≡ openingAfter v s b out
 unfolding openingAs openingAfter totalBy blockAdds recordAdds openedRecord pick
@@ -136,7 +136,7 @@ pub listing-usual : (s b : List ℕ) → listingBy false s b ≡ listingOf s b
 unfolding listingBy listingOf
 listing-usual s b = rw (body-usual (openVerdict s b (length b)) s b)
 
--- ---- what a call comes to
+---- what a call comes to
 module _ (near : Bool) (s b out : List ℕ) where
   pub opening-bad : (r : Refusal) → openVerdict s b (length out) ≡ Verdict.Refused r
       → withOutput (record { opened = Denied r; smallest = 0; largest = 0 }) out ≡ openingBy near s b out

@@ -166,7 +166,7 @@ module _ (f : ℕ → List ℕ) (b : List ℕ) (n : ℕ) (r : Records b n) (size
   pub rebuilt-again : (g : ℕ → List ℕ) → rebuilt g (rebuilt f b) ≡ rebuilt g b
   rebuilt-again g = again-is g (rebuilt f b) (same-count ∙ sym (r .count)) same-directory
 
--- ---- of its own records it is itself
+---- of its own records it is itself
 own-place : (b : List ℕ) (i from : ℕ) → At b i from
     → b ≡ take from b ++ (recordOf b i ++ drop (from + recordOctets (headerFrom b from .eqs)) b)
 unfolding recordFrom

@@ -38,7 +38,7 @@ use Rattle.class.specs.Opening.{writtenFor, addedFor, recordFor, addsFor
 use Rattle.class.specs.Duties.{expandedAt, Expanded, SettledFor}
 use Rattle.class.proofs.Placing.{hidden-length}
 
--- ---- what is told is what may be seen, and what is opened is what may be opened
+---- what is told is what may be seen, and what is opened is what may be opened
 told-by : (t : Bool) (v : ClassVerdict) (d e : Drift) (w : RecordVerdict)
     → pick {A = ClassHeard} t (record { verdict = v; drift = d }) (record { verdict = Hidden; drift = e }) .verdict ≡ Told w
     → (t ≡ true) × (v ≡ Told w)
@@ -75,7 +75,7 @@ pub see-none : maySee 0 ≡ false
 unfolding maySee mayOpen bitOf either
 see-none = refl
 
--- ---- a record that is to be opened can be, with a key that is expanded
+---- a record that is to be opened can be, with a key that is expanded
 expanded-key : (c : Caller) (s q keys : List ℕ) (j i : ℕ) → Expanded c s q keys (2 * c .sets) → j < c .sets → i < 2
     → mayOpen (getD (ownRights c q) j 0) ≡ true → keyPresent (presenceOf (setOf s j)) i ≡ true
     → expandedAt keys (2 * j + i) ≡ keyExpansion (keyOf (setOf s j) i)
@@ -109,7 +109,7 @@ settled near c s q keys b from drift h r e eh clock x few =
       set = λ w f. omega (arith, place w f);
     }
 
--- ---- record i in its turn
+---- record i in its turn
 pub turn : (near : Bool) (c : Caller) (s q b : List ℕ) (i : ℕ) (drift : Drift) (h : Header) (r : ClassHeard)
     → r ≡ judgedFor near (rightsOn c s q (h .llid)) (setOf s (setFor c s (h .llid))) drift h → drift ≡ driftFor near c s q b i → h ≡ headerOf b i
     → (r .verdict ≡ toldOf near c s q b i) × (r .drift ≡ driftFor near c s q b (i + 1))

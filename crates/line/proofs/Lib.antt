@@ -40,6 +40,7 @@ pub mod Claims
 pub mod Theorem
 pub mod OwnEvents
 pub mod Progress
+pub mod Ordered
 pub mod Without
 pub mod Unchanged
 pub mod Opened

@@ -26,6 +26,7 @@ pub mod Premises
 pub mod Claim
 pub mod Without
 pub mod Progress
+pub mod GroupProgress
 pub mod Example
 pub mod Course
 pub mod Demand

@@ -11,15 +11,17 @@ use lib.Seq.{getD-set-same, getD-set-other}
 use borrow.Author.Tests.{ltb-true, ltb-false}
 use Rattle.octets.proofs.Choice.{both-left}
 use Rattle.ends.specs.Identities.{among, has}
+use Rattle.ends.specs.Validity.{validOnu}
 use Rattle.ends.specs.declared.Onu.{Onu}
 use Rattle.groups.specs.Head.{groupAt}
 use Rattle.groups.specs.Subscriber.{hasJoined}
 use Rattle.groups.specs.declared.Subscriber.{Subscriber}
 use Rattle.groups.proofs.Places.{at-nowhere}
 use Rattle.unicast.specs.Setting.{Setting}
-use Rattle.unicast.specs.History.{InFlight, Lane}
+use Rattle.unicast.specs.History.{InFlight, Lane, isSynced}
 use Rattle.unicast.specs.Run.{laneAt}
 use Rattle.unicast.proofs.Alive.{Alive, registered-alive}
+use Rattle.unicast.proofs.Frames.{clock-some}
 use Rattle.line.specs.History.{GroupLane, Membership, isMember, isJoined, groupWith, groupTaken}
 use Rattle.line.specs.Run.{State, alone, subscriberAt, joinedBy, groupLaneAt, noGroupLane, groupInFlightAt, lanes}
 use Rattle.line.specs.Premises.{DueOfGroup}
@@ -80,6 +82,15 @@ module _ (w : Setting) (s : State) (u g k : ℕ) (out : List ℕ) (i : Invariant
   pub alive : Alive w (alone s) u
   unfolding isMember
   alive = registered-alive w (alone s) u (i .units) (both-left _ _ member)
+
+  pub valid-onu : validOnu (subscriberAt s u .onu) ≡ true
+  valid-onu = ap validOnu (sym (onu-alone s u)) ∙ alive .common .valid
+
+  -- the list tells whether the unit is synced
+  pub synced-up : isSynced (laneAt (alone s) u) ≡ true → subscriberAt s u .onu .clock .synced ≡ 1
+  synced-up t =
+      ap (λ (y : Onu). y .clock .synced) (sym (onu-alone s u))
+      ∙ clock-some (laneAt (alone s) u .transit .answered) (λ y m kind. alive .joined .answers .each y m .0 kind) t
 
   pub strange : has (subscriberAt s u .onu .identity) (groupLaneAt s g .llid) ≡ false
   strange = no-own w s u g i known (alive .registered)

@@ -28,7 +28,7 @@ use Rattle.line.specs.History.{GroupArrival, GroupLane, isJoined}
 use Rattle.line.specs.Run.{State, alone, start, joinedBy, groupLaneAt, groupSentAt, groupInFlightAt, groupAnswerAt, groupReceipt}
 use Rattle.line.specs.Premises.{Meets}
 use Rattle.line.specs.Claim.{groupNonce, GroupOpened, Sender, unit, group, sentBy, sentByAt, notReceived, Claim}
-use Rattle.line.specs.Example.{example, groupLlid, toFirstKey, toReturn, toUnsynced, toSynced, events}
+use Rattle.line.specs.Example.{example, groupLlid, toFirstKey, toMissed, toReturn, toUnsynced, toSynced, events}
 use Rattle.line.specs.Course.{after, played, arrivalNumber, callNumber, refusals, Course}
 use Rattle.line.specs.Demand.{arrivalAt, HandedClear, Handed, Opens, Passed, Delivered, NotOpened, Apart, Back, Unsynced, Overheard, Left, Shown, Demand}
 use Rattle.line.proofs.Opened.{opened}
@@ -313,8 +313,11 @@ unsynced-meets = meets-start example (start example) toUnsynced _ synced-meets
 return-meets : Meets example (start example) toReturn
 return-meets = meets-start example (start example) toReturn _ unsynced-meets
 
+missed-meets : Meets example (start example) toMissed
+missed-meets = meets-start example (start example) toMissed _ return-meets
+
 first-meets : Meets example (start example) toFirstKey
-first-meets = meets-start example (start example) toFirstKey _ return-meets
+first-meets = meets-start example (start example) toFirstKey _ missed-meets
 
 pub demand : Demand
 demand =

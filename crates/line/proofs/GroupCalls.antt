@@ -1,20 +1,21 @@
 -- What a call of the OLT on a group leaves: refused, all as it was; accepted, that group's record and line, and the channels. Assumes nothing.
 use mathlib.Core.Path.{_≡_, refl, _∙_, ap}
-use mathlib.Core.Bool.{Bool}
+use mathlib.Core.Bool.{Bool, true}
 use mathlib.Core.List.{List, [], _∷_, _++_}
 use Prim.Native.Nat.{ℕ, _<_, _≤_}
 use native.Mathlib.Omega.{arith}
 use lib.ListN.{length, getD, set}
 use borrow.Author.Tests.{ne-eqb}
 use Rattle.octets.specs.Choice.{pick}
-use Rattle.octets.proofs.Choice.{pick-false, pick-holds}
+use Rattle.octets.proofs.Choice.{not-of-true, pick-false, pick-holds}
 use Rattle.octets.proofs.Lists.{tabulate-length, tabulate-at}
 use Rattle.octets.proofs.Maps.{map-fixed}
 use Rattle.refusal.specs.Order.{andThen}
 use Rattle.refusal.specs.declared.Refusal.{Refusal}
+use Rattle.refusal.specs.declared.Refusal.the-variants.{OutOfRange}
 use Rattle.refusal.specs.declared.Verdict.{Verdict}
 use Rattle.refusal.specs.declared.Verdict.the-variants.{Accepted, Refused}
-use Rattle.refusal.proofs.Order.{refuse-accepted, then-accepted}
+use Rattle.refusal.proofs.Order.{refuse-accepted, refuse-passed, then-accepted}
 use Rattle.ends.specs.declared.Found.the-variants.{At}
 use Rattle.ends.specs.declared.Olt.{Olt}
 use Rattle.protocol.specs.Replies.{onValid}
@@ -60,6 +61,18 @@ module _ {H : Type 0} (h : HeadEnd) (nothing : H) (ahead : Verdict) (call : Olt 
         let a = then-accepted _ _ (refuse-accepted _ _ _ e .1) in
         accepted (record { passed = a .0; accepts = a .1; is = reply-accepted _ h nothing _ _ e })
     by-verdict (Refused r) e = refused r (reply-refused _ h nothing _ _ r e)
+
+  -- a valid head end accepts what the call accepts
+  pub lift-accepts : validHead h ≡ true → ahead ≡ Accepted → call (h .olt) (groupAt h g) .verdict ≡ Accepted → Lifted
+  unfolding groupLift putGroup andThen
+  lift-accepts valid passed accepts =
+      record {
+        passed = passed;
+        accepts = accepts;
+        is =
+            reply-accepted _ h nothing _ _
+            (refuse-passed _ OutOfRange _ (not-of-true valid) ∙ ap (λ (v : Verdict). andThen v (call (h .olt) (groupAt h g) .verdict)) passed ∙ accepts);
+      }
 
 ---- what is noted
 

@@ -51,7 +51,7 @@ pub record Chosen (r : Entry) (now : ℕ) (old new : UnitKeys) (choice : KeyChoi
 
 module _ (w : Setting) (c : Channels) (now : ℕ) (g : GroupLane) (r : GroupRecord) (j : Recorded w c now g r) where
   -- the record and the list agree on when a send is a switch
-  switches-listed : groupSwitches (r .keys) ≡ groupSwitching g now
+  pub switches-listed : groupSwitches (r .keys) ≡ groupSwitching g now
   unfolding groupSwitches groupSwitching
   switches-listed =
       let flag : isUp (r .keys .timer .flag) ≡ due (g .entry) (g .keys) now = ap isUp (j .timing .flag) ∙ flag-up (due (g .entry) (g .keys) now) in

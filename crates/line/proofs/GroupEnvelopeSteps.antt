@@ -65,7 +65,7 @@ use Rattle.line.specs.Premises.{DueOfGroup}
 use Rattle.line.specs.Claim.{notReceived, RefusedFor}
 use Rattle.line.proofs.Alone.{onu-alone}
 use Rattle.line.proofs.AloneUnit.{receive-onu}
-use Rattle.line.proofs.Arriving.{joined-listed, known, unit-known, follows, member, alive, strange, taken, taken-own, taken-others, taken-length}
+use Rattle.line.proofs.Arriving.{joined-listed, known, unit-known, follows, member, alive, valid-onu, synced-up, strange, taken, taken-own, taken-others, taken-length}
 use Rattle.line.proofs.EnvelopeChoices.{ChosenAt, chosen-clear, chosen-sealed, receipt-follows}
 use Rattle.line.proofs.Finding.{joined-nowhere}
 use Rattle.line.proofs.Frames.{follows-moved, arrived-moved}
@@ -115,9 +115,6 @@ module _ (w : Setting) (s : State) (u g k : ℕ) (out : List ℕ) (i : Invariant
   fits : misfit (e .octets) out ≡ false
   fits = octets-fit w (laneOf lane) e out (send .right) (send .fits) (subst (λ (y : InFlight). FittingBuffer y out) is (d .buffer))
 
-  valid-onu : validOnu (x .onu) ≡ true
-  valid-onu = ap validOnu (sym (onu-alone s u)) ∙ alive w s u g k out i d .common .valid
-
   -- the Rx clock of a synced unit is the OLT's when the envelope left
   rx : x .onu .clock .synced ≡ 1 → x .onu .clock .rx ≡ clockDown (w .first) (e .left)
   unfolding alone
@@ -128,13 +125,6 @@ module _ (w : Setting) (s : State) (u g k : ℕ) (out : List ℕ) (i : Invariant
       ap (λ (y : Onu). y .clock .rx) (sym o)
       ∙ rx-at (w .first) (now s) (e .left) (laneAt (alone s) u .path .up) (laneAt (alone s) u .path .down) _
       (a .joined .clocks .synced (ap (λ (y : Onu). y .clock .synced) o ∙ up)) due
-
-  -- the list tells whether the unit is synced
-  synced-up : isSynced (laneAt (alone s) u) ≡ true → x .onu .clock .synced ≡ 1
-  synced-up t =
-      let a = alive w s u g k out i d .joined .answers in
-      ap (λ (y : Onu). y .clock .synced) (sym (onu-alone s u))
-      ∙ clock-some (laneAt (alone s) u .transit .answered) (λ y m kind. a .each y m .0 kind) t
 
   synced-down : isSynced (laneAt (alone s) u) ≡ false → x .onu .clock .synced ≡ 1 → ⊥
   synced-down f up =
@@ -216,7 +206,7 @@ module _ (w : Setting) (s : State) (u g k : ℕ) (out : List ℕ) (i : Invariant
       unfolding joinedLift putJoined receiveJoined validSubscriber
       lifted =
           reply-accepted _ x noPassage _ _
-          (refuse-passed _ OutOfRange _ (not-of-true (both-true valid-onu (memberships-right w s i u))) ∙ accepts)
+          (refuse-passed _ OutOfRange _ (not-of-true (both-true (valid-onu w s u g k out i d) (memberships-right w s i u))) ∙ accepts)
 
       passage-right : PassageRight w (laneOf lane) e (e .header .channel) q
       unfolding passageOf envelopeHeader
@@ -276,7 +266,7 @@ module _ (w : Setting) (s : State) (u g k : ℕ) (out : List ℕ) (i : Invariant
         receiving-is
         ∙ ap (λ (r : Reply Subscriber Passage). subscriberReceived r (e .header .channel) (e .octets) out)
         (reply-refused _ x noPassage _ _ ClockNotSet
-        (refuse-passed _ OutOfRange _ (not-of-true (both-true valid-onu (memberships-right w s i u))) ∙ refuses down some))
+        (refuse-passed _ OutOfRange _ (not-of-true (both-true (valid-onu w s u g k out i d) (memberships-right w s i u))) ∙ refuses down some))
 
   ---- the event
 
@@ -307,7 +297,7 @@ module _ (w : Setting) (s : State) (u g k : ℕ) (out : List ℕ) (i : Invariant
           sent = under .0 .sent;
           clear = λ t z. opens-clear j found z;
           sealed = λ t up z.
-              opens-sealed j found (ap (λ (n : ℕ). hasTaken (joinedBy s u) n (e .number)) (sym (send .llid)) ∙ t) (synced-up up) z;
+              opens-sealed j found (ap (λ (n : ℕ). hasTaken (joinedBy s u) n (e .number)) (sym (send .llid)) ∙ t) (synced-up w s u g k out i d up) z;
           unsynced = λ t down z. ap (λ (r : WithOutput SubscriberReceived). r .answer .number) (not-opened j found (synced-down down) z);
         }
 

@@ -41,6 +41,8 @@ pub mod Theorem
 pub mod OwnEvents
 pub mod Progress
 pub mod Ordered
+pub mod GroupStays
+pub mod GroupTaking
 pub mod Without
 pub mod Unchanged
 pub mod Opened

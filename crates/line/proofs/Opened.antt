@@ -17,7 +17,7 @@ use Rattle.unicast.proofs.Opened as units
 use Rattle.line.specs.History as history
 use Rattle.line.specs.History.{isMember, groupSwitching, groupNumber, groupWith, leavingFor, groupLeaving, groupSent, groupTaken, groupAnswered, groupArrived, answerAgain, groupMoved, isJoined, hasTaken, joining, taking}
 use Rattle.line.specs.Run.{alone, freshSubscriber, start, noSubscriber, noGroupLane, notedFor, atHead, atUnit, atUnitAlone, advancing, registering, newGroupLane, registeringGroup, clockSentAlone, keySentAlone, clockSendingTo, offeringTo, retryingTo, headPassage, envelopeDown, sendingDown, joiningAt, envelopeUp, sendingUp, answerAlone, messageArriving, receiptDown, inFlightArriving, groupMessageArriving, groupPassage, groupReceipt, groupInFlightArriving, receiptUp, arrivingUp, answering, changingPath, subscriberAfter, headAfter, step, runs}
-use Rattle.line.specs.Example.{registrations, joins, clocks, firstKey, overheard, missedKey, backAgain, joinedStranger, pathChange, syncedAgain, overTheNewPath}
+use Rattle.line.specs.Example.{registrations, joins, clocks, firstKey, overheard, missedKey, nextKey, backAgain, joinedStranger, pathChange, syncedAgain, overTheNewPath}
 
 unfoldable pub opened : Unit {0}
 unfolding
@@ -49,5 +49,5 @@ unfolding
     messageArriving receiptDown inFlightArriving groupMessageArriving groupPassage groupReceipt groupInFlightArriving receiptUp arrivingUp answering
     changingPath
     subscriberAfter headAfter step runs
-    registrations joins clocks firstKey overheard missedKey backAgain joinedStranger pathChange syncedAgain overTheNewPath
+    registrations joins clocks firstKey overheard missedKey nextKey backAgain joinedStranger pathChange syncedAgain overTheNewPath
 opened = tt

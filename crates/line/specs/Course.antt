@@ -83,10 +83,10 @@ refusedNumbers =
     ++ ((5 ∷ [])
     -- firstKey, overheard
     ++ ((6 ∷ 8 ∷ 8 ∷ 8 ∷ 2 ∷ 12 ∷ []) ++ ((2 ∷ [])
-    -- missedKey, joinedStranger
-    ++ ((10 ∷ 20 ∷ 20 ∷ 9 ∷ []) ++ ((5 ∷ [])
+    -- missedKey, nextKey, joinedStranger
+    ++ ((10 ∷ 20 ∷ 20 ∷ []) ++ ((9 ∷ []) ++ ((5 ∷ [])
     -- pathChange, syncedAgain
-    ++ ((2 ∷ 1 ∷ 8 ∷ []) ++ (5 ∷ 5 ∷ []))))))))
+    ++ ((2 ∷ 1 ∷ 8 ∷ []) ++ (5 ∷ 5 ∷ [])))))))))
 
 pub record Course : Type 0 where
   pub refused : refusals (start example) events ≡ refusedNumbers

@@ -157,8 +157,12 @@ missedKey =
     -- tick 200: the switch, and the offer of key 3
     ∷ sendDown groupLlid 0x00 (payloadFrom 4) blank
     ∷ offer groupLlid (keyFrom 64)
-    ∷ advance 11
-    -- at the second member the message of key 2 is lost, and the envelope under it is refused, 9
+    ∷ []
+
+-- key 3 comes to both. At the second member the message of key 2 is lost, and the envelope under it is refused, 9
+unfoldable pub nextKey : List Event
+nextKey =
+    advance 11
     ∷ arriveGroup 1 0 1 blank
     ∷ arriveGroup 1 0 0 []
     ∷ advance 19
@@ -242,9 +246,13 @@ overTheNewPath = arriveGroup 1 0 0 blank ∷ advance 15 ∷ arriveGroup 0 0 3 bl
 abbrev pub toFirstKey : List Event
 toFirstKey = registrations ++ (joins ++ (clocks ++ firstKey))
 
+-- until the second member has missed key 2, and key 3 is offered
+abbrev pub toMissed : List Event
+toMissed = toFirstKey ++ (overheard ++ missedKey)
+
 -- until an envelope under key 3 is due at the member that missed key 2
 abbrev pub toReturn : List Event
-toReturn = toFirstKey ++ (overheard ++ missedKey)
+toReturn = toMissed ++ nextKey
 
 -- until a sealed envelope is due at the member whose path has changed
 abbrev pub toUnsynced : List Event

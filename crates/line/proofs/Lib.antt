@@ -43,6 +43,8 @@ pub mod Progress
 pub mod Ordered
 pub mod GroupStays
 pub mod GroupTaking
+pub mod GroupGoing
+pub mod GroupArrivals
 pub mod Without
 pub mod Unchanged
 pub mod Opened

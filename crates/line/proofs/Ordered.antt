@@ -67,6 +67,10 @@ rising-wider : (lo hi hi' : ℕ) (ts : List ℕ) → hi ≤ hi' → Rising lo hi
 rising-wider lo hi hi' [] h r = omega (arith, h, r)
 rising-wider lo hi hi' (t ∷ ts) h r = (r .0, rising-wider t hi hi' ts h (r .1))
 
+pub rising-most : (lo hi : ℕ) (ts : List ℕ) → Rising lo hi ts → lo ≤ hi
+rising-most lo hi [] r = r
+rising-most lo hi (t ∷ ts) r = omega (arith, r .0, rising-most t hi ts (r .1))
+
 ---- all that pass the test
 
 module _ (p : ℕ → Bool) (f : ℕ → ℕ) where

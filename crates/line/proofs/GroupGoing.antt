@@ -5,7 +5,7 @@ use mathlib.Core.List.{List, [], _∷_, _++_}
 use Prim.Native.Nat.{ℕ, _+_, _-_, _<_, _≤_}
 use native.Mathlib.Omega.{arith}
 use lib.Dec.{leb}
-use lib.ListN.{length, getD, set, length-set}
+use lib.ListN.{length, getD, set, length-set, length-append}
 use lib.Seq.{getD-set-same}
 use borrow.Author.Tests.{leb-true, le-ltb, lt-leb, ne-eqb}
 use Rattle.octets.specs.Choice.{both, pick}
@@ -25,6 +25,7 @@ use Rattle.ends.specs.Occupancy.{freeFrom, taken}
 use Rattle.ends.specs.declared.Found.the-variants.{At}
 use Rattle.protocol.specs.Headers.{choiceEnciphered, choiceAged, clockChannelKey, noSending}
 use Rattle.protocol.specs.Messages.{noKeyMessage}
+use Rattle.protocol.specs.declared.KeyMessage.{KeyMessage}
 use Rattle.protocol.specs.UnitCalls.{keysOffered, keyMessageOf, retryVerdict}
 use Rattle.traffic.specs.Passages.{misfit}
 use Rattle.groups.specs.GroupCalls.{groupOutcome, membersSet, groupOfferVerdict, offerGroup, retryGroup, groupSwitches, groupSendChoice, sendGroup}
@@ -103,6 +104,24 @@ leaves-of s t g x l from left towards roster' towards' llid entry roster arrived
           ∙ ap (λ (q : List (List InFlight)). getD q u [] ++ (x ∷ [])) towards';
     }
 
+-- the message of the group's next key has left for each member
+pub record KeyLeaves (g : ℕ) (m : KeyMessage) (s t : State) : Type 0 where
+  pub leaves : Leaves g (keyMessage m (now s)) s t
+  pub number : m .number ≡ groupLaneAt s g .keys .switches + 1
+  pub switches : groupLaneAt t g .keys .switches ≡ groupLaneAt s g .keys .switches
+  pub offers : length (groupLaneAt t g .keys .offers) ≡ groupLaneAt s g .keys .switches + 1
+  pub sent : groupLaneAt t g .sent ≡ groupLaneAt s g .sent
+
+-- an empty envelope under that key has
+pub record EnvelopeLeaves (g : ℕ) (e : Envelope) (s t : State) : Type 0 where
+  pub leaves : Leaves g (envelope e) s t
+  pub number : e .number ≡ groupLaneAt s g .keys .switches + 1
+  pub left : e .left ≡ now s
+  pub llid : e .llid ≡ groupLaneAt s g .llid
+  pub payload : e .payload ≡ []
+  pub switches : groupLaneAt t g .keys .switches ≡ groupLaneAt s g .keys .switches + 1
+  pub sent : groupLaneAt t g .sent ≡ groupLaneAt s g .sent ++ (e ∷ [])
+
 module _ (w : Setting) (s : State) (g : ℕ) (i : Invariant w s) (known : g < length (s .history .groups)) where
   abbrev l : GroupLane
   l = groupLaneAt s g
@@ -147,6 +166,29 @@ module _ (w : Setting) (s : State) (g : ℕ) (i : Invariant w s) (known : g < le
       rw (found, is)
       (subst (Left g _ s) (sym (call-accepted w s (l .llid) g i found _ _ 0 _ _ refl)) (left-at s g _ _ known))
 
+  pub offer-goes : (key : List ℕ) → membersSet (s .head .olt) (r .members) ≡ true → NewKey s key → length (l .keys .offers) ≤ l .keys .switches
+      → l .keys .switches < maxKeyNumber → KeyLeaves g (keyMessageOf (l .llid) (keysOffered (r .keys) key)) s (step s (offer (l .llid) key))
+  unfolding groupLeaving groupOffered groupWith keyMessageOf keysOffered
+  offer-goes key set new none below =
+      let j = i .group g known in
+      let left = offer-left key set new none below in
+      record {
+        leaves = leaves-of s _ g _ _ (groupOffered key l) left refl refl refl refl refl refl refl;
+        number = omega (arith, j .counted);
+        switches = ap (λ (y : GroupLane). y .keys .switches) (left .line);
+        offers =
+            omega (
+              arith,
+              ap (λ (y : GroupLane). length (y .keys .offers)) (left .line),
+              length-append (l .keys .offers) (key ∷ []),
+              none,
+              j .counted,
+              j .listed,
+              j .mid,
+            );
+        sent = ap (λ (y : GroupLane). y .sent) (left .line);
+      }
+
   retry-left : l .keys .switches < length (l .keys .offers)
       → Left g (groupLeaving (lanes s) (keyMessage (keyMessageOf (l .llid) (r .keys)) (now s)) l) s (step s (retry (l .llid)))
   unfolding step retryingTo retrying keySentAlone headRetryOf byLlid headKeySent retryGroup groupOutcome retryVerdict
@@ -157,6 +199,19 @@ module _ (w : Setting) (s : State) (g : ℕ) (i : Invariant w s) (known : g < le
       let is = lift-accepts (s .head) noKeyMessage Accepted (λ o x. retryGroup (l .llid) (o .shared) x) g valid refl accepts .is in
       rw (found, is)
       (subst (Left g _ s) (sym (call-accepted w s (l .llid) g i found _ _ 0 _ _ refl)) (left-at s g _ _ known))
+
+  pub retry-goes : l .keys .switches < length (l .keys .offers) → KeyLeaves g (keyMessageOf (l .llid) (r .keys)) s (step s (retry (l .llid)))
+  unfolding groupLeaving groupWith keyMessageOf
+  retry-goes more =
+      let j = i .group g known in
+      let left = retry-left more in
+      record {
+        leaves = leaves-of s _ g _ _ l left refl refl refl refl refl refl refl;
+        number = omega (arith, j .counted, j .listed, j .next, more);
+        switches = ap (λ (y : GroupLane). y .keys .switches) (left .line);
+        offers = omega (arith, ap (λ (y : GroupLane). length (y .keys .offers)) (left .line), j .counted, j .listed, j .next, more);
+        sent = ap (λ (y : GroupLane). y .sent) (left .line);
+      }
 
   ---- an envelope leaves that switches
 
@@ -185,3 +240,19 @@ module _ (w : Setting) (s : State) (g : ℕ) (i : Invariant w s) (known : g < le
       .is in
       rw (found, is)
       (subst (Left g _ s) (sym (call-accepted w s (l .llid) g i found _ _ 0 _ _ refl)) (left-at s g _ _ known))
+
+  pub send-goes : groupSwitching l (now s) ≡ true → freeFrom (s .head .olt .shared .channels) 0x00 ≤ now s
+      → EnvelopeLeaves g next s (step s (sendDown (l .llid) 0x00 [] []))
+  unfolding groupSent groupWith envelopeDown groupNumber
+  send-goes due free =
+      let left = send-left due free in
+      let number : next .number ≡ l .keys .switches + 1 = pick-true (l .keys .switches + 1) (l .keys .switches) due in
+      record {
+        leaves = leaves-of s _ g _ _ l left refl refl refl refl refl refl refl;
+        number = number;
+        left = refl;
+        llid = refl;
+        payload = refl;
+        switches = ap (λ (y : GroupLane). y .keys .switches) (left .line) ∙ number;
+        sent = ap (λ (y : GroupLane). y .sent) (left .line);
+      }

@@ -69,6 +69,11 @@ module _ (l : GroupLane) (active offered : ℕ) (member : Bool) (ms : List Membe
     by-held true false e h = either-left _ (new-by _ _ refl refl (λ a b. eqb-false _ _ h b))
     by-held false n e h = either-left _ (new-by _ _ refl refl (λ a b. true-false (sym a ∙ e)))
 
+-- a group's key message has its LLID
+pub message-llid : (w : Setting) (s : State) (u g k : ℕ) (out : List ℕ) (i : Invariant w s) (d : DueOfGroup s u g k out) (m : KeyMessage) (t : ℕ)
+    → groupInFlightAt s u g k ≡ keyMessage m t → m .llid ≡ groupLaneAt s g .llid
+message-llid w s u g k out i d m t is = (rw is at (taken w s u g k out i d)) .0 .llid
+
 module _ (w : Setting) (s : State) (u g k : ℕ) (out : List ℕ) (i : Invariant w s) (d : DueOfGroup s u g k out) (m : KeyMessage) (t : ℕ)
     (is : groupInFlightAt s u g k ≡ keyMessage m t) (joined : isJoined (joinedBy s u) (groupLaneAt s g .llid) ≡ true)
     (synced : isSynced (laneAt (alone s) u) ≡ true) (ahead : groupAt (s .head) g .keys .offered ≡ groupAt (s .head) g .keys .active + 1)
@@ -78,9 +83,6 @@ module _ (w : Setting) (s : State) (u g k : ℕ) (out : List ℕ) (i : Invariant
 
   abbrev lane : GroupLane
   lane = groupLaneAt s g
-
-  pub message-llid : m .llid ≡ lane .llid
-  message-llid = (rw is at (taken w s u g k out i d)) .0 .llid
 
   accepts : (j : ℕ) → findJoined x (lane .llid) ≡ At j → joinedMessageVerdict (x .onu .clock) (joinedAt x j) m ≡ Accepted
   unfolding joinedMessageVerdict
@@ -93,7 +95,7 @@ module _ (w : Setting) (s : State) (u g k : ℕ) (out : List ℕ) (i : Invariant
   accepted-at : (j : ℕ) → findJoined x (lane .llid) ≡ At j → subscriberKeyMessageOf x m .number ≡ 0
   unfolding subscriberKeyMessageOf byLlid subscriberAcknowledged joinedLift putJoined messageJoined validSubscriber
   accepted-at j found =
-      let here : findJoined x (m .llid) ≡ At j = ap (findJoined x) message-llid ∙ found in
+      let here : findJoined x (m .llid) ≡ At j = ap (findJoined x) (message-llid w s u g k out i d m t is) ∙ found in
       let a = refuse-passed _ OutOfRange _ (not-of-true (both-true (valid-onu w s u g k out i d) (memberships-right w s i u))) ∙ accepts j found in
       rw (
         here,

@@ -45,6 +45,7 @@ pub mod GroupStays
 pub mod GroupTaking
 pub mod GroupGoing
 pub mod GroupArrivals
+pub mod GroupProgress
 pub mod Without
 pub mod Unchanged
 pub mod Opened

@@ -2,7 +2,8 @@
 use mathlib.Core.Path.{_≡_, refl, sym, _∙_, ap}
 use mathlib.Core.Bool.{Bool, true, false}
 use mathlib.Core.List.{List}
-use Prim.Native.Nat.{ℕ}
+use mathlib.Core.Logic.{inl, inr}
+use Prim.Native.Nat.{ℕ, _+_}
 use native.Mathlib.Omega.{arith}
 use lib.Dec.{eqb, ltb}
 use lib.ListN.{length}
@@ -21,6 +22,7 @@ use Rattle.unicast.specs.History.{Envelope, InFlight, clockMessage, keyMessage,
 use Rattle.unicast.specs.Run.{laneAt, noEnvelope}
 use Rattle.unicast.specs.Premises.{Fresh}
 use Rattle.unicast.specs.Claim.{isSealed, overheardFor}
+use Rattle.unicast.specs.Progress.{longest}
 use Rattle.unicast.specs.Example.{blank}
 use Rattle.unicast.proofs.Example.{nonce-is, header-is, carried-is, numbered, agreed}
 use Rattle.unicast.proofs.Tested.{fresh-true}
@@ -28,11 +30,13 @@ use Rattle.line.specs.History.{GroupArrival, GroupLane, isJoined}
 use Rattle.line.specs.Run.{State, alone, start, joinedBy, groupLaneAt, groupSentAt, groupInFlightAt, groupAnswerAt, groupReceipt}
 use Rattle.line.specs.Premises.{Meets}
 use Rattle.line.specs.Claim.{groupNonce, GroupOpened, Sender, unit, group, sentBy, sentByAt, notReceived, Claim}
-use Rattle.line.specs.Example.{example, groupLlid, toFirstKey, toMissed, toReturn, toUnsynced, toSynced, events}
+use Rattle.line.specs.GroupProgress.{placed, ordered, mostOf, andThen, arrivals, keyRound, waited, envelopeRound, groupRecipe, GroupMoving, GroupBrings}
+use Rattle.line.specs.Example.{example, groupLlid, interval, toFirstKey, toMissed, toReturn, toUnsynced, toSynced, events}
 use Rattle.line.specs.Course.{after, played, arrivalNumber, callNumber, refusals, Course}
-use Rattle.line.specs.Demand.{arrivalAt, HandedClear, Handed, Opens, Passed, Delivered, NotOpened, Apart, Back, Unsynced, Overheard, Left, Shown, Demand}
+use Rattle.line.specs.Demand.{arrivalAt, HandedClear, Handed, Opens, Passed, Delivered, NotOpened, Apart, Back, Unsynced, Overheard, Left, Shown, missed, spare, Returned, Demand}
 use Rattle.line.proofs.Opened.{opened}
-use Rattle.line.proofs.Tested.{tested, meets, meets-true, meets-start, dueOfGroup, due-of-group-true, overhearsGroup, overhears-group-true}
+use Rattle.line.proofs.GroupProgress.{group-progress}
+use Rattle.line.proofs.Tested.{tested, new-true, meets, meets-true, meets-start, dueOfGroup, due-of-group-true, overhearsGroup, overhears-group-true}
 use Rattle.line.proofs.Theorem.{line-holds}
 use Rattle.line.proofs.Progress.{progress}
 use Rattle.line.proofs.Unchanged.{unchanged, one-spread}
@@ -302,7 +306,7 @@ shown first before unsynced synced whole =
       left = left-as whole 2 0 refl;
     }
 
----- the whole
+---- the starts of the list
 
 synced-meets : Meets example (start example) toSynced
 synced-meets = meets-start example (start example) toSynced _ example-meets
@@ -319,6 +323,31 @@ missed-meets = meets-start example (start example) toMissed _ return-meets
 first-meets : Meets example (start example) toFirstKey
 first-meets = meets-start example (start example) toFirstKey _ missed-meets
 
+---- the group's continuation
+
+missed-moves : GroupMoving missed 0 spare
+unfolding opened placed ordered mostOf
+missed-moves = record { registered = refl; below = ltb-true _ _ refl; offers = inl (ltb-true _ _ refl); inRange = leb-true _ _ refl }
+
+played-moves : GroupMoving played 0 spare
+unfolding opened tested placed ordered mostOf
+played-moves = record { registered = refl; below = ltb-true _ _ refl; offers = inr (refl, new-true played spare refl); inRange = leb-true _ _ refl }
+
+missed-brings : GroupBrings example missed 0 3 (longest + interval + 60) 11 (groupRecipe 0 spare missed)
+unfolding opened placed ordered mostOf
+missed-brings = group-progress example toMissed 0 spare example-fresh missed-meets missed-moves
+
+played-brings : GroupBrings example played 0 5 (longest + interval + 60) 11 (groupRecipe 0 spare played)
+unfolding opened placed ordered mostOf
+played-brings = group-progress example events 0 spare example-fresh example-meets played-moves
+
+returned : Returned
+unfolding opened placed ordered mostOf andThen arrivals keyRound waited envelopeRound groupRecipe
+returned =
+    record { untaken = refl; listed = refl; brings = missed-brings; opens = missed-brings .opened 1 refl refl refl; onwards = played-brings }
+
+---- the whole
+
 pub demand : Demand
 demand =
     record {
@@ -326,6 +355,7 @@ demand =
       asBefore = without-groups;
       unchanged = unchanged;
       progress = progress;
+      groupProgress = group-progress;
       spread = one-spread;
       fresh = example-fresh;
       meets = example-meets;
@@ -334,4 +364,5 @@ demand =
           shown (line-holds example toFirstKey example-fresh first-meets) (line-holds example toReturn example-fresh return-meets)
           (line-holds example toUnsynced example-fresh unsynced-meets) (line-holds example toSynced example-fresh synced-meets)
           (line-holds example events example-fresh example-meets);
+      returned = returned;
     }

@@ -32,7 +32,7 @@ groupOffers g = g .keys .offers
 unfoldable pub newTo : State → List ℕ → Bool
 newTo s key = both (unused laneOffers key (alone s .history .lanes)) (unused groupOffers key (s .history .groups))
 
-new-true : (s : State) (key : List ℕ) → newTo s key ≡ true → NewKey s key
+pub new-true : (s : State) (key : List ℕ) → newTo s key ≡ true → NewKey s key
 unfolding newTo noGroupLane
 new-true s key e =
     record {

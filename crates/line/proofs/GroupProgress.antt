@@ -25,13 +25,12 @@ use Rattle.unicast.specs.History.{Envelope, keyMessage, envelope, Entry, Keys, 
 use Rattle.unicast.specs.Run.{laneAt, freshLane, noSite}
 use Rattle.unicast.specs.Claim.{isSealed}
 use Rattle.unicast.specs.Premises.{FittingBuffer}
-use Rattle.unicast.specs.Progress.{longest}
 use Rattle.unicast.proofs.Alive.{registered-alive}
 use Rattle.line.specs.History.{GroupArrival, GroupLane, Membership, isMember, isJoined, hasTaken, groupSwitching}
 use Rattle.line.specs.Events.{Event, advance, offer, retry, sendDown, arriveGroup}
 use Rattle.line.specs.Run.{State, alone, subscriberAt, joinedBy, noGroupLane, groupLaneAt, groupInFlightAt, groupReceipt, groupInFlightArriving, now, lanes, start, step, runs}
 use Rattle.line.specs.Premises.{NewKey, DueOfGroup, Fits}
-use Rattle.line.specs.GroupProgress.{ordered, mostOf, memberOf, downTo, membersOf, longestDown, andThen, arrivals, keyRound, waited, envelopeRound, groupRecipe, groupLimit, groupEvents, GroupMoving, OpenedAt, GroupBrings, GroupProgress}
+use Rattle.line.specs.GroupProgress.{ordered, mostOf, memberOf, downTo, membersOf, longestDown, andThen, arrivals, keyRound, waitFor, waited, envelopeRound, groupRecipe, groupLimit, groupEvents, GroupMoving, OpenedAt, GroupBrings, GroupProgress}
 use Rattle.line.proofs.AdvanceSteps.{advance-right}
 use Rattle.line.proofs.AnswerSteps.{known-line}
 use Rattle.line.proofs.Arriving.{known, unit-known, member}
@@ -155,7 +154,7 @@ module _ (w : Setting) (s : State) (g : ℕ) (i : Invariant w s) (here : g < len
       s2 = runs s first
 
       abbrev wait : ℕ
-      wait = longest + groupLaneAt s2 g .entry .interval
+      wait = waitFor s2 g
 
       abbrev s3 : State
       s3 = step s2 (advance wait)
@@ -212,8 +211,8 @@ module _ (w : Setting) (s : State) (g : ℕ) (i : Invariant w s) (here : g < len
       i3 : Invariant w s3
       i3 = advance-right w s2 wait i2
 
-      waits : wait ≡ longest + l .entry .interval
-      waits = ap (λ (y : Entry). longest + y .interval) (before-of s2 stays2 .entry)
+      waits : wait ≡ waitFor s g
+      waits = let same = ap (λ (y : Entry). y .interval) (before-of s2 stays2 .entry) in omega (arith, same)
 
       tick3 : now s3 ≡ now s2 + wait
       tick3 = advance-tick w s2 wait i2 (omega (arith, tick2, range, waits))

@@ -71,8 +71,11 @@ keyRound g key s =
     pick (ltb (l .keys .switches) (length (l .keys .offers))) (retry (l .llid)) (offer (l .llid) key) ∷ arrivals s g 0 (membersOf s g)
 
 -- until every channel is free, and an interval more, so that the next send is a switch
+abbrev pub waitFor : State → ℕ → ℕ
+waitFor s g = longest + groupLaneAt s g .entry .interval
+
 unfoldable pub waited : ℕ → State → List Event
-waited g s = advance (longest + groupLaneAt s g .entry .interval) ∷ []
+waited g s = advance (waitFor s g) ∷ []
 
 -- an empty envelope on channel 0, and its arrivals
 unfoldable pub envelopeRound : ℕ → State → List Event
@@ -84,7 +87,7 @@ groupRecipe g key = andThen (keyRound g key) (andThen (waited g) (envelopeRound 
 
 -- the ticks and the events that it takes at most
 abbrev pub groupLimit : State → ℕ → ℕ
-groupLimit s g = longest + groupLaneAt s g .entry .interval + 2 * longestDown s g
+groupLimit s g = waitFor s g + 2 * longestDown s g
 
 abbrev pub groupEvents : State → ℕ → ℕ
 groupEvents s g = 3 + 4 * length (membersOf s g)

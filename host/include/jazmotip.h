@@ -57,6 +57,10 @@
  *   - Only a switch that is not confirmed for 2^48 ticks (eight days), because every envelope under the new key got lost on its way
  *     down, or every one on its way up, can't be made good. Then the unit begins anew: as a fresh one under LLIDs that the OLT does
  *     not have yet, or at a fresh OLT, whose units are then all fresh. One end made fresh by itself does not fit the other's keys.
+ *   - This lets every joined member of a group that is synced open the group's next envelope, also one that missed keys, and that is
+ *     proved too: jazmotip_olt_offer on the group's LLID, or jazmotip_olt_retry where an offer is outstanding; let the message arrive;
+ *     let 4,194,304 ticks and an interval pass; send to the group. No member's acknowledgement needs to arrive. An offer is
+ *     JAZMOTIP_CLOCK_NOT_SET until every member's clock is acknowledged.
  *
  * Units: one tick is one EQT, 2.56 ns. One EQ is nine octets: a control octet, then eight data octets.
  */

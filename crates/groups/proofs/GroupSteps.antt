@@ -2,7 +2,7 @@
 use mathlib.Core.Path.{_≡_, refl}
 use mathlib.Core.Bool.{Bool, true}
 use mathlib.Core.List.{List, [], _∷_}
-use Prim.Native.Nat.{ℕ, zero, suc, _+_, _≤_}
+use Prim.Native.Nat.{ℕ, zero, suc, _+_, _<_, _≤_}
 use native.Mathlib.Omega.{arith}
 use lib.Dec.{leb, ltb}
 use lib.ListN.{getD, set, replicate}
@@ -31,10 +31,12 @@ use Rattle.groups.proofs.HeadValidity.{group-in-range, group-valid}
 ---- members
 
 -- a test that holds of each that is tabulated
-all-tabulated : (p : ℕ → Bool) (i n : ℕ) (f : ℕ → ℕ) → ((j : ℕ) → p (f j) ≡ true) → all p (tabulate i n f) ≡ true
+pub all-tabulated : (p : ℕ → Bool) (i n : ℕ) (f : ℕ → ℕ) → ((j : ℕ) → i ≤ j → j < i + n → p (f j) ≡ true)
+    → all p (tabulate i n f) ≡ true
 unfolding all
 all-tabulated p i zero f h = refl
-all-tabulated p i (suc n) f h = both-true (h i) (all-tabulated p (suc i) n f h)
+all-tabulated p i (suc n) f h =
+    both-true (h i (omega arith) (omega arith)) (all-tabulated p (suc i) n f (λ j a b. h j (omega (arith, a)) (omega (arith, b))))
 
 all-retabulated : (p : ℕ → Bool) (i n : ℕ) (f g : ℕ → ℕ) → ((j : ℕ) → p (f j) ≡ true → p (g j) ≡ true)
     → all p (tabulate i n f) ≡ true
@@ -64,8 +66,8 @@ module _ (units : ℕ) (m : Members) (v : validMembers units m ≡ true) where
       both-true (both-left _ _ v)
       (both-true (both-left _ _ a)
       (both-true (both-left _ _ (both-right _ _ a))
-      (all-tabulated (λ mark. leb mark 1) 0 (m .count) (λ j. getD (replicate maxMembers 0) j 0) (λ j. le-leb (getD (replicate maxMembers 0) j 0) 1 (omega
-      (arith, zero-at maxMembers j))))))
+      (all-tabulated (λ mark. leb mark 1) 0 (m .count) (λ j. getD (replicate maxMembers 0) j 0)
+      (λ j a b. le-leb (getD (replicate maxMembers 0) j 0) 1 (omega (arith, zero-at maxMembers j))))))
 
   marked-valid : (k : ℕ) → validMembers units (marked m k) ≡ true
   unfolding validMembers marked placesOf marksOf

@@ -391,7 +391,7 @@ module _ (w : Setting) (s : State) (g : ℕ) (key : List ℕ) (i : Invariant w s
   unfolding noGroupLane
   registered-known = known-line s g (λ e. true-false (sym (able .registered) ∙ ap (λ (y : GroupLane). y .entry .registered) e))
 
-  group-brings : GroupBrings w s g (groupLaneAt s g .keys .switches + 1) (groupLimit s g) (groupEvents s g) (groupRecipe g key s)
+  pub group-brings : GroupBrings w s g (groupLaneAt s g .keys .switches + 1) (groupLimit s g) (groupEvents s g) (groupRecipe g key s)
   unfolding groupRecipe andThen keyRound waited envelopeRound runs pick
   group-brings = by-offer (ltb (groupLaneAt s g .keys .switches) (length (groupLaneAt s g .keys .offers))) refl where
     most : groupLaneAt s g .keys .switches + 1 ≤ maxKeyNumber

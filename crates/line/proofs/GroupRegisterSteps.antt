@@ -43,15 +43,15 @@ use Rattle.line.proofs.Lines.{group-finds}
 
 ---- what an accepted registration has met, and answers with
 
-record Accepts (h : HeadEnd) (llid ticks : ℕ) (r : Roster) : Type 0 where
-  is : registerGroupOf h llid ticks r ≡ record { number = 0; head = withOneGroupMore h (freshGroup llid ticks (rosterMembers (h .olt) r)) }
-  interval : validInterval ticks ≡ true
-  members : validMembers (h .olt .count) (rosterMembers (h .olt) r) ≡ true
-  unit : isRegistered (h .olt) llid ≡ false
-  group : isGroup h llid ≡ false
-  room : placesTaken h < maxUnits
+pub record Accepts (h : HeadEnd) (llid ticks : ℕ) (r : Roster) : Type 0 where
+  pub is : registerGroupOf h llid ticks r ≡ record { number = 0; head = withOneGroupMore h (freshGroup llid ticks (rosterMembers (h .olt) r)) }
+  pub interval : validInterval ticks ≡ true
+  pub members : validMembers (h .olt .count) (rosterMembers (h .olt) r) ≡ true
+  pub unit : isRegistered (h .olt) llid ≡ false
+  pub group : isGroup h llid ≡ false
+  pub room : placesTaken h < maxUnits
 
-accepts : (h : HeadEnd) (llid interval : ℕ) (r : Roster) → registerGroupOf h llid interval r .number ≡ 0 → Accepts h llid interval r
+pub accepts : (h : HeadEnd) (llid interval : ℕ) (r : Roster) → registerGroupOf h llid interval r .number ≡ 0 → Accepts h llid interval r
 unfolding registerGroupOf headAnswer groupVerdict validGroupRegistration
 accepts h llid interval r e =
     let v = sym (reply-verdict _ h silent _ silent) ∙ number-accepted _ e in
@@ -145,7 +145,7 @@ module _ (w : Setting) (s : State) (llid interval : ℕ) (r : Roster) (i : Invar
   last-line = getD-at gs new [] noGroupLane (length gs) refl
 
   -- an old group, or the new one
-  by-group : (P : GroupLane → GroupRecord → Type 0) (k : ℕ) → k < length (gs ++ (new ∷ [])) → P new fresh
+  pub by-group : (P : GroupLane → GroupRecord → Type 0) (k : ℕ) → k < length (gs ++ (new ∷ [])) → P new fresh
       → (k < length gs → P (groupLaneAt s k) (groupAt (s .head) k)) → P (lineAt k) (recordAt k)
   by-group P k h own other = by-place (ltb k (length (s .history .groups))) refl where
     by-place : (t : Bool) → ltb k (length (s .history .groups)) ≡ t → P (lineAt k) (recordAt k)
@@ -267,12 +267,12 @@ refused : (h : HeadEnd) (llid interval : ℕ) (r : Roster) → (registerGroupOf 
 unfolding registerGroupOf headAnswer
 refused h llid interval r n = number-refused h silent _ (λ x e. reply-untouched _ h silent _ silent x e) n .end
 
-refused-step : (s : State) (llid interval : ℕ) (r : Roster) → (registerGroupOf (s .head) llid interval r .number ≡ 0 → ⊥)
+pub refused-step : (s : State) (llid interval : ℕ) (r : Roster) → (registerGroupOf (s .head) llid interval r .number ≡ 0 → ⊥)
     → step s (registerGroup llid interval r) ≡ s
 unfolding step registeringGroup atHead pick
 refused-step s llid interval r n = rw (refused (s .head) llid interval r n, ne-eqb _ _ n)
 
-accepted-step : (s : State) (llid interval : ℕ) (r : Roster) → Accepts (s .head) llid interval r
+pub accepted-step : (s : State) (llid interval : ℕ) (r : Roster) → Accepts (s .head) llid interval r
     → step s (registerGroup llid interval r)
     ≡ atHead s (withOneGroupMore (s .head) (freshGroup llid interval (rosterMembers (s .head .olt) r))) (s .history .units)
     (s .history .groups ++ (newGroupLane s llid interval r ∷ []))

@@ -46,6 +46,11 @@ pub mod GroupTaking
 pub mod GroupGoing
 pub mod GroupArrivals
 pub mod GroupProgress
+pub mod Seats
+pub mod SeatSteps
+pub mod GroupClocks
+pub mod OwnJoined
+pub mod WholeProgress
 pub mod Without
 pub mod Unchanged
 pub mod Opened

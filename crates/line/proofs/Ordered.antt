@@ -37,7 +37,7 @@ each-placed : (P : ℕ → Type 0) (f : ℕ → ℕ) (u : ℕ) (us : List ℕ) �
 unfolding placed
 each-placed P f u [] p q = (p, tt)
 each-placed P f u (v ∷ vs) p q =
-    pick-holds (Each P) (leb (f u) (f v)) (u ∷ v ∷ vs) (v ∷ placed f u vs) (λ e. (p, q)) (λ e. (q .0, each-placed P f u vs p (q .1)))
+    pick-holds (Each P) _ (u ∷ v ∷ vs) (v ∷ placed f u vs) (λ e. (p, q)) (λ e. (q .0, each-placed P f u vs p (q .1)))
 
 placed-each : (P : ℕ → Type 0) (f : ℕ → ℕ) (u : ℕ) (us : List ℕ) → Each P (placed f u us) → P u × Each P us
 unfolding placed pick
@@ -52,7 +52,7 @@ distinct-placed : (f : ℕ → ℕ) (u : ℕ) (us : List ℕ) → Each (λ v. v 
 unfolding placed
 distinct-placed f u [] n d = (tt, tt)
 distinct-placed f u (v ∷ vs) n d =
-    pick-holds Distinct (leb (f u) (f v)) (u ∷ v ∷ vs) (v ∷ placed f u vs) (λ e. (n, d))
+    pick-holds Distinct _ (u ∷ v ∷ vs) (v ∷ placed f u vs) (λ e. (n, d))
     (λ e. (each-placed (λ x. x ≡ v → ⊥) f u vs (λ z. n .0 (sym z)) (d .0), distinct-placed f u vs (n .1) (d .1)))
 
 rising-placed : (f : ℕ → ℕ) (u lo hi : ℕ) (us : List ℕ) → lo ≤ f u → f u ≤ hi → Rising lo hi (map f us) → Rising lo hi (map f (placed f u us))

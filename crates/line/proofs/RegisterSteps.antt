@@ -45,14 +45,14 @@ use Rattle.line.proofs.Beside.{unit-itself, beside-right}
 use Rattle.line.proofs.Places.{set-field, set-holds}
 
 -- what an accepted registration has met, and answers with
-record Accepts (h : HeadEnd) (i : Identity) (trip interval : ℕ) : Type 0 where
-  olt : registerOf (h .olt) i trip interval ≡ record { number = 0; olt = withOneMore (h .olt) (freshUnit i trip interval) }
-  head : headRegisterOf h i trip interval ≡ record { number = 0; head = withOlt h (withOneMore (h .olt) (freshUnit i trip interval)) }
-  few : i .count ≤ maxLlids
-  apart : meets (groupLlids (registeredGroups h)) (llidsOf i) ≡ false
-  room : placesTaken h < maxUnits
+pub record Accepts (h : HeadEnd) (i : Identity) (trip interval : ℕ) : Type 0 where
+  pub olt : registerOf (h .olt) i trip interval ≡ record { number = 0; olt = withOneMore (h .olt) (freshUnit i trip interval) }
+  pub head : headRegisterOf h i trip interval ≡ record { number = 0; head = withOlt h (withOneMore (h .olt) (freshUnit i trip interval)) }
+  pub few : i .count ≤ maxLlids
+  pub apart : meets (groupLlids (registeredGroups h)) (llidsOf i) ≡ false
+  pub room : placesTaken h < maxUnits
 
-accepts : (h : HeadEnd) (i : Identity) (trip interval : ℕ) → headRegisterOf h i trip interval .number ≡ 0 → Accepts h i trip interval
+pub accepts : (h : HeadEnd) (i : Identity) (trip interval : ℕ) → headRegisterOf h i trip interval .number ≡ 0 → Accepts h i trip interval
 unfolding headRegisterOf headAnswer unitVerdict validHead validRegistration registerOf oltAnswer registering registerVerdict
 accepts h i trip interval e =
     let v = sym (reply-verdict _ h silent _ silent) ∙ number-accepted _ e in
@@ -82,7 +82,7 @@ refused : (h : HeadEnd) (i : Identity) (trip interval : ℕ) → (headRegisterOf
 unfolding headRegisterOf headAnswer
 refused h i trip interval n = number-refused h silent _ (λ x e. reply-untouched _ h silent _ silent x e) n .end
 
-refused-step : (s : State) (u : ℕ) (i : Identity) (trip interval : ℕ) → (headRegisterOf (s .head) i trip interval .number ≡ 0 → ⊥)
+pub refused-step : (s : State) (u : ℕ) (i : Identity) (trip interval : ℕ) → (headRegisterOf (s .head) i trip interval .number ≡ 0 → ⊥)
     → step s (register u i trip interval) ≡ s
 unfolding step line.registering atHead alone entering noted pick
 refused-step s u i trip interval n =

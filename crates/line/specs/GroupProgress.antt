@@ -2,26 +2,31 @@
 -- group's next envelope, also one that missed keys. It reads the history alone, so it is also what a host does. Assumes nothing.
 use mathlib.Core.Path.{_≡_}
 use mathlib.Core.Bool.{Bool, true}
-use mathlib.Core.List.{List, [], _∷_, _++_, List·Memᴰ}
+use mathlib.Core.List.{List, [], _∷_, _++_, map, List·Memᴰ}
 use mathlib.Core.Logic.{_⊎_}
 use Prim.Native.Nat.{ℕ, zero, suc, _+_, _-_, _*_, _<_, _≤_, max}
 use lib.Dec.{leb, ltb}
 use lib.ListN.{length, getD}
 use Rattle.octets.specs.Choice.{pick}
-use Rattle.clock.specs.Ticks.{maxTick}
+use Rattle.clock.specs.Ticks.{maxTick, maxRoundTrip}
+use Rattle.ends.specs.Identities.{has}
 use Rattle.ends.specs.Limits.{maxKeyNumber}
+use Rattle.ends.specs.declared.Identity.{Identity}
 use Rattle.groups.specs.Head.{groupAt}
 use Rattle.groups.specs.GroupCalls.{membersSet}
 use Rattle.unicast.specs.Setting.{Setting}
 use Rattle.unicast.specs.History.{Envelope, isSynced}
+use Rattle.unicast.specs.Events as units
+use Rattle.unicast.specs.Run as run
 use Rattle.unicast.specs.Run.{laneAt}
 use Rattle.unicast.specs.Premises.{Fresh}
-use Rattle.unicast.specs.Progress.{longest}
+use Rattle.unicast.specs.Progress.{longest, clockRound}
 use Rattle.line.specs.History.{GroupArrival, GroupLane, isMember, isJoined}
 use Rattle.line.specs.Events.{Event, advance, offer, retry, sendDown, arriveGroup}
 use Rattle.line.specs.Run.{State, alone, joinedBy, groupLaneAt, now, lanes, start, runs}
 use Rattle.line.specs.Premises.{NewKey, Meets}
 use Rattle.line.specs.Claim.{GroupOpened}
+use Rattle.line.specs.Without.{plain}
 
 ---- the members
 
@@ -92,6 +97,36 @@ groupLimit s g = waitFor s g + 2 * longestDown s g
 abbrev pub groupEvents : State → ℕ → ℕ
 groupEvents s g = 3 + 4 * length (membersOf s g)
 
+---- the members' clocks, where an offer waits for them
+
+-- the first of the LLIDs that the unit has
+unfoldable pub nameIn : Identity → List ℕ → ℕ
+nameIn i [] = 0
+nameIn i (x ∷ xs) = pick (has i x) x (nameIn i xs)
+
+-- an LLID by which the group's registration named the unit
+abbrev pub nameOf : State → ℕ → ℕ → ℕ
+nameOf s g u = nameIn (laneAt (alone s) u .site .identity) (groupLaneAt s g .roster)
+
+-- until nothing is under way to the unit, and its clock's round
+unfoldable pub clockOf : ℕ → ℕ → run.State → List units.Event
+clockOf u llid s = units.advance longest ∷ clockRound u llid (run.step s (units.advance longest))
+
+-- of one member after the other
+unfoldable pub clocksOf : ℕ → List ℕ → State → List Event
+clocksOf g [] s = []
+clocksOf g (u ∷ us) s = andThen (λ t. map plain (clockOf u (nameOf t g u) (alone t))) (clocksOf g us) s
+
+-- the clocks, and then the continuation
+unfoldable pub wholeRecipe : ℕ → List ℕ → State → List Event
+wholeRecipe g key = andThen (λ s. clocksOf g (membersOf s g) s) (groupRecipe g key)
+
+abbrev pub wholeLimit : State → ℕ → ℕ
+wholeLimit s g = length (membersOf s g) * (longest + maxRoundTrip) + waitFor s g + 2 * maxRoundTrip
+
+abbrev pub wholeEvents : State → ℕ → ℕ
+wholeEvents s g = 3 + 11 * length (membersOf s g)
+
 ---- the claim
 
 -- the group can come to its next key: its offer is outstanding; or it can be made, since every member's clock is acknowledged and the key is new
@@ -131,3 +166,29 @@ GroupProgress =
     (w : Setting) (es : List Event) (g : ℕ) (key : List ℕ) → Fresh w → Meets w (start w) es → GroupMoving (runs (start w) es) g key
     → GroupBrings w (runs (start w) es) g (groupLaneAt (runs (start w) es) g .keys .switches + 1) (groupLimit (runs (start w) es) g)
     (groupEvents (runs (start w) es) g) (groupRecipe g key (runs (start w) es))
+
+---- from any registered group
+
+pub record WholeMoving (s : State) (g : ℕ) (key : List ℕ) : Type 0 where
+  pub registered : groupLaneAt s g .entry .registered ≡ true
+  pub below : groupLaneAt s g .keys .switches < maxKeyNumber
+  pub new : NewKey s key
+  pub inRange : now s + wholeLimit s g ≤ maxTick
+
+-- every joined member opens the group's next envelope, under key n: it is synced by then
+pub record WholeBrings (w : Setting) (s : State) (g n ticks events : ℕ) (es : List Event) : Type 0 where
+  pub meets : Meets w s es
+  pub switches : groupLaneAt (runs s es) g .keys .switches ≡ n
+  pub next : Envelope
+  pub sent : groupLaneAt (runs s es) g .sent ≡ groupLaneAt s g .sent ++ (next ∷ [])
+  pub numbered : next .number ≡ n
+  pub opened : (u : ℕ) → memberOf s g u ≡ true → isJoined (joinedBy s u) (groupLaneAt s g .llid) ≡ true
+      → OpenedAt w (groupLaneAt (runs s es) g) u next
+  pub soon : now (runs s es) ≤ now s + ticks
+  pub short : length es ≤ events
+
+abbrev pub WholeProgress : Type 0
+WholeProgress =
+    (w : Setting) (es : List Event) (g : ℕ) (key : List ℕ) → Fresh w → Meets w (start w) es → WholeMoving (runs (start w) es) g key
+    → WholeBrings w (runs (start w) es) g (groupLaneAt (runs (start w) es) g .keys .switches + 1) (wholeLimit (runs (start w) es) g)
+    (wholeEvents (runs (start w) es) g) (wholeRecipe g key (runs (start w) es))

@@ -54,7 +54,7 @@ owns-then : (u llid : ℕ) (key : List ℕ) (f g : State → List Event) (s : St
 unfolding andThen
 owns-then u llid key f g s a b = owns-append u llid key (f s) (g (run s (f s))) a (b (run s (f s)))
 
-owns-clock : (u llid : ℕ) (key : List ℕ) (s : State) → Owns u llid key (clockRound u llid s)
+pub owns-clock : (u llid : ℕ) (key : List ℕ) (s : State) → Owns u llid key (clockRound u llid s)
 unfolding clockRound answeredRound
 owns-clock u llid key s =
     pick-holds (λ (es : List Event). Owns u llid key es) (isSynced (laneAt s u)) _ (capture llid ∷ clockSend llid ∷ answeredRound u llid (laneAt s u))

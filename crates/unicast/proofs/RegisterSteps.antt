@@ -301,3 +301,8 @@ register-right w s u i trip interval v f = by-number (eqb (registerOf (s .olt) i
       rw (m .0) (registered-right w s u i trip interval v (f z) (m .1))
   by-number false e =
       rw (e, register-refused (s .olt) i trip interval (eqb-false _ _ e), set-getD (s .history .lanes) u (freshLane noSite)) v
+
+-- a unit is registered once
+pub registered-once : (w : Setting) (s : State) (u : ℕ) (i : Identity) (trip interval : ℕ) → Invariant w s → Fits w s (register u i trip interval)
+    → registerOf (s .olt) i trip interval .number ≡ 0 → laneAt s u .entry .registered ≡ false
+registered-once w s u i trip interval v f z = unregistered w s u i trip interval v (f z) (register-made (s .olt) i trip interval z .1)

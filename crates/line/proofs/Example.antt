@@ -3,11 +3,12 @@ use mathlib.Core.Path.{_≡_, refl, sym, _∙_, ap}
 use mathlib.Core.Bool.{Bool, true, false}
 use mathlib.Core.List.{List}
 use mathlib.Core.Logic.{inl, inr}
-use Prim.Native.Nat.{ℕ, _+_}
+use Prim.Native.Nat.{ℕ, _+_, _*_}
 use native.Mathlib.Omega.{arith}
 use lib.Dec.{eqb, ltb}
 use lib.ListN.{length}
 use borrow.Author.Tests.{ltb-true, leb-true, eqb-true}
+use Rattle.clock.specs.Ticks.{maxRoundTrip}
 use Rattle.octets.proofs.Choice.{true-false}
 use Rattle.octets.proofs.Members.{mem-at}
 use Rattle.octets.specs.Output.{WithOutput}
@@ -30,12 +31,13 @@ use Rattle.line.specs.History.{GroupArrival, GroupLane, isJoined}
 use Rattle.line.specs.Run.{State, alone, start, joinedBy, groupLaneAt, groupSentAt, groupInFlightAt, groupAnswerAt, groupReceipt}
 use Rattle.line.specs.Premises.{Meets}
 use Rattle.line.specs.Claim.{groupNonce, GroupOpened, Sender, unit, group, sentBy, sentByAt, notReceived, Claim}
-use Rattle.line.specs.GroupProgress.{placed, ordered, mostOf, andThen, arrivals, keyRound, waited, envelopeRound, groupRecipe, GroupMoving, GroupBrings}
+use Rattle.line.specs.GroupProgress.{placed, ordered, mostOf, andThen, arrivals, keyRound, waited, envelopeRound, groupRecipe, wholeRecipe, GroupMoving, GroupBrings, WholeMoving, WholeBrings}
 use Rattle.line.specs.Example.{example, groupLlid, interval, toFirstKey, toMissed, toReturn, toUnsynced, toSynced, events}
 use Rattle.line.specs.Course.{after, played, arrivalNumber, callNumber, refusals, Course}
-use Rattle.line.specs.Demand.{arrivalAt, HandedClear, Handed, Opens, Passed, Delivered, NotOpened, Apart, Back, Unsynced, Overheard, Left, Shown, missed, spare, Returned, Demand}
+use Rattle.line.specs.Demand.{arrivalAt, HandedClear, Handed, Opens, Passed, Delivered, NotOpened, Apart, Back, Unsynced, Overheard, Left, Shown, missed, unsynced, spare, Returned, Demand}
 use Rattle.line.proofs.Opened.{opened}
 use Rattle.line.proofs.GroupProgress.{group-progress}
+use Rattle.line.proofs.WholeProgress.{whole-progress}
 use Rattle.line.proofs.Tested.{tested, new-true, meets, meets-true, meets-start, dueOfGroup, due-of-group-true, overhearsGroup, overhears-group-true}
 use Rattle.line.proofs.Theorem.{line-holds}
 use Rattle.line.proofs.Progress.{progress}
@@ -341,10 +343,27 @@ played-brings : GroupBrings example played 0 5 (longest + interval + 60) 11 (gro
 unfolding opened placed ordered mostOf
 played-brings = group-progress example events 0 spare example-fresh example-meets played-moves
 
+unsynced-moves : WholeMoving unsynced 0 spare
+unfolding opened tested placed ordered
+unsynced-moves = record { registered = refl; below = ltb-true _ _ refl; new = new-true unsynced spare refl; inRange = leb-true _ _ refl }
+
+unsynced-brings : WholeBrings example unsynced 0 4 (2 * (longest + maxRoundTrip) + (longest + interval) + 2 * maxRoundTrip) 25
+    (wholeRecipe 0 spare unsynced)
+unfolding opened placed ordered
+unsynced-brings = whole-progress example toUnsynced 0 spare example-fresh unsynced-meets unsynced-moves
+
 returned : Returned
 unfolding opened placed ordered mostOf andThen arrivals keyRound waited envelopeRound groupRecipe
 returned =
-    record { untaken = refl; listed = refl; brings = missed-brings; opens = missed-brings .opened 1 refl refl refl; onwards = played-brings }
+    record {
+      untaken = refl;
+      listed = refl;
+      brings = missed-brings;
+      opens = missed-brings .opened 1 refl refl refl;
+      onwards = played-brings;
+      clocked = unsynced-brings;
+      opensToo = unsynced-brings .opened 1 refl refl;
+    }
 
 ---- the whole
 
@@ -356,6 +375,7 @@ demand =
       unchanged = unchanged;
       progress = progress;
       groupProgress = group-progress;
+      wholeProgress = whole-progress;
       spread = one-spread;
       fresh = example-fresh;
       meets = example-meets;

@@ -1,19 +1,18 @@
 -- What has left for a group arrives at each member when it is due. Assumes nothing.
 use mathlib.Core.Path.{_≡_, refl, sym, _∙_, ap, subst}
 use mathlib.Core.List.{List, [], _∷_, _++_, map}
-use Prim.Native.Nat.{ℕ, _+_, _-_, _*_, _<_, _≤_}
+use Prim.Native.Nat.{ℕ, _+_, _-_, _*_, _≤_}
 use native.Mathlib.Omega.{arith}
 use lib.ListN.{length, getD}
 use Rattle.clock.specs.Ticks.{maxTick}
 use Rattle.unicast.specs.Setting.{Setting}
 use Rattle.unicast.specs.History.{InFlight, leftAt, Lane}
 use Rattle.unicast.specs.Premises.{FittingBuffer}
-use Rattle.unicast.specs.Run.{laneAt}
 use Rattle.unicast.proofs.Invariant.{Rising}
 use Rattle.unicast.proofs.Rounds.{last-is, last-some}
 use Rattle.line.specs.History.{GroupLane}
 use Rattle.line.specs.Events.{Event, advance, arriveGroup}
-use Rattle.line.specs.Run.{State, alone, noGroupLane, groupLaneAt, groupInFlightAt, now, lanes, step, runs}
+use Rattle.line.specs.Run.{State, noGroupLane, groupLaneAt, groupInFlightAt, now, lanes, step, runs}
 use Rattle.line.specs.Premises.{DueOfGroup, Meets}
 use Rattle.line.specs.GroupProgress.{downTo, memberOf, membersOf, longestDown, arrivals}
 use Rattle.line.proofs.AdvanceSteps.{advance-right}

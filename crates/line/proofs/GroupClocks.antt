@@ -1,12 +1,10 @@
 -- A unit's clock round from wherever it stands: nothing is under way to it by then. Assumes nothing.
-use mathlib.Core.Path.{_≡_, refl, sym, _∙_, ap}
-use mathlib.Core.Bool.{Bool, true, false}
+use mathlib.Core.Path.{_≡_, refl, _∙_, ap}
 use mathlib.Core.List.{List, [], _∷_, map, List·Memᴰ}
 use Prim.Native.Nat.{ℕ, suc, _+_, _<_, _≤_}
 use native.Mathlib.Omega.{arith}
 use lib.ListN.{length}
 use borrow.Author.Tests.{lt-ltb}
-use Rattle.octets.specs.Choice.{pick}
 use Rattle.octets.proofs.Choice.{pick-holds, pick-true}
 use Rattle.clock.specs.Ticks.{maxTick, maxRoundTrip}
 use Rattle.ends.specs.Table.{unitAt}
@@ -15,9 +13,9 @@ use Rattle.unicast.specs.History.{Envelope, InFlight, clockMessage, keyMessage,
 use Rattle.unicast.specs.Events.{Event, advance, capture, clockSend, arriveDown, arriveAnswer}
 use Rattle.unicast.specs.Premises.{Meets}
 use Rattle.unicast.specs.Run.{State, laneAt, inFlightAt, step, run, advancing, clockSending, answering, messageArriving, envelopeArriving, inFlightArriving, atOnu, withLanes}
-use Rattle.unicast.specs.Progress.{longest, tripOf, clockRoundOf, overdue, dueDown, dueUp, answeredRound, clockRound}
+use Rattle.unicast.specs.Progress.{longest, tripOf, clockRoundOf, overdue, answeredRound, clockRound}
 use Rattle.unicast.proofs.Calm.{Calms, calm-run}
-use Rattle.unicast.proofs.ClockRound.{ClockDone, clock-round}
+use Rattle.unicast.proofs.ClockRound.{clock-round}
 use Rattle.unicast.proofs.Going.{Here, here-after, alive, advance-goes}
 use Rattle.unicast.proofs.Invariant.{Rising}
 use Rattle.unicast.proofs.Owned.{Owns, owns-clock, at-olt-keeps, set-stays, noted-keeps}

@@ -24,7 +24,6 @@ use Rattle.envelope.specs.Channels.{downstream}
 use Rattle.sealing.specs.Seal.{countCarried, runsCarried}
 use Rattle.ends.specs.Identities.{has}
 use Rattle.ends.specs.Keys.{keyIn}
-use Rattle.ends.specs.Validity.{validOnu}
 use Rattle.ends.specs.declared.Found.{Found}
 use Rattle.ends.specs.declared.Found.the-variants.{At, Nowhere}
 use Rattle.ends.specs.declared.Onu.{Onu}
@@ -55,7 +54,6 @@ use Rattle.unicast.specs.History.{Envelope, InFlight, envelope, leftAt, keyOf, 
 use Rattle.unicast.specs.Run.{laneAt}
 use Rattle.unicast.specs.Premises.{FittingBuffer}
 use Rattle.unicast.specs.Claim.{PassageRight, ArrivedRight}
-use Rattle.unicast.proofs.Frames.{clock-some}
 use Rattle.unicast.proofs.Envelopes.{arrivalOf, opens-right, octets-fit}
 use Rattle.unicast.proofs.OnuSteps.{receive-refused}
 use Rattle.unicast.proofs.ReceiptDownSteps.{rx-at}

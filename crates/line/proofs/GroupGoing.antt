@@ -23,12 +23,12 @@ use Rattle.ends.specs.Keys.{keyIn}
 use Rattle.ends.specs.Limits.{maxKeyNumber}
 use Rattle.ends.specs.Occupancy.{freeFrom, taken}
 use Rattle.ends.specs.declared.Found.the-variants.{At}
-use Rattle.protocol.specs.Headers.{choiceEnciphered, choiceAged, clockChannelKey, noSending}
+use Rattle.protocol.specs.Headers.{choiceAged, clockChannelKey, noSending}
 use Rattle.protocol.specs.Messages.{noKeyMessage}
 use Rattle.protocol.specs.declared.KeyMessage.{KeyMessage}
 use Rattle.protocol.specs.UnitCalls.{keysOffered, keyMessageOf, retryVerdict}
 use Rattle.traffic.specs.Passages.{misfit}
-use Rattle.groups.specs.GroupCalls.{groupOutcome, membersSet, groupOfferVerdict, offerGroup, retryGroup, groupSwitches, groupSendChoice, sendGroup}
+use Rattle.groups.specs.GroupCalls.{groupOutcome, membersSet, groupOfferVerdict, offerGroup, retryGroup, groupSendChoice, sendGroup}
 use Rattle.groups.specs.Head.{findGroup, groupAt, validHead}
 use Rattle.groups.specs.declared.GroupRecord.{GroupRecord}
 use Rattle.groups.specs.declared.HeadEnd.{HeadEnd}
@@ -36,7 +36,7 @@ use Rattle.multicast.specs.Naming.{byLlid}
 use Rattle.multicast.specs.HeadCalls.{headKeySent, headOfferOf, headRetryOf}
 use Rattle.multicast.specs.HeadTraffic.{sendAhead, headSent, headSendOf}
 use Rattle.unicast.specs.Setting.{Setting}
-use Rattle.unicast.specs.History.{Envelope, InFlight, keyMessage, envelope, keyOf}
+use Rattle.unicast.specs.History.{Envelope, InFlight, keyMessage, envelope}
 use Rattle.unicast.specs.Run.{laneAt, offering, retrying}
 use Rattle.line.specs.History.{GroupLane, noPath, isMember, groupSwitching, groupNumber, leavingFor, groupWith, groupOffered, groupLeaving, groupSent}
 use Rattle.line.specs.Events.{offer, retry, sendDown}

@@ -3,7 +3,7 @@ use mathlib.Core.Path.{_≡_, refl, sym, _∙_, ap, ap₂, subst}
 use mathlib.Core.Bool.{Bool, true, false}
 use mathlib.Core.List.{List, [], _∷_, _++_, List·Memᴰ, List·Memᴰ·head, Memᴰ·append-right}
 use mathlib.Core.Logic.{_⊎_, inl, inr}
-use Prim.Native.Nat.{ℕ, _+_, _-_, _*_, _/_, _<_, _≤_}
+use Prim.Native.Nat.{ℕ, _+_, _-_, _/_, _<_, _≤_}
 use native.Mathlib.Nat.{add-mul, div-mul-le-self, le-div-iff-mul-le}
 use native.Mathlib.Omega.{arith}
 use lib.Dec.{ltb}
@@ -36,7 +36,7 @@ use Rattle.line.proofs.AnswerSteps.{known-line}
 use Rattle.line.proofs.Arriving.{known, unit-known, member}
 use Rattle.line.proofs.Claims.{claim-holds}
 use Rattle.line.proofs.GroupArrivals.{Gone, runs-append, meets-append, arrivals-length, members-reached}
-use Rattle.line.proofs.GroupGoing.{Leaves, KeyLeaves, EnvelopeLeaves, offer-goes, retry-goes, next, send-goes}
+use Rattle.line.proofs.GroupGoing.{KeyLeaves, EnvelopeLeaves, offer-goes, retry-goes, next, send-goes}
 use Rattle.line.proofs.GroupStays.{Stays, stays-then, same-lane, advance-stays, advance-tick, advance-channels, Comes, arrives-as, message-comes, message-took, envelope-comes, envelope-noted}
 use Rattle.line.proofs.GroupSteps.{member-same}
 use Rattle.line.proofs.GroupTaking.{message-llid, message-accepted}

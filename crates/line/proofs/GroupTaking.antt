@@ -7,7 +7,6 @@ use native.Mathlib.Omega.{arith}
 use lib.Dec.{eqb, leb, ltb}
 use borrow.Author.Tests.{eqb-true, eqb-false, eq-eqb, le-leb, lt-ltb}
 use Rattle.octets.specs.Choice.{both, either, pick}
-use Rattle.octets.specs.Lists.{same}
 use Rattle.octets.proofs.Choice.{both-true, either-left, either-right, not-of-true, true-false}
 use Rattle.octets.proofs.Lists.{same-refl}
 use Rattle.refusal.specs.declared.Refusal.the-variants.{OutOfRange, ClockNotSet, NothingOutstanding}

@@ -1,5 +1,5 @@
 -- Every event keeps units and members seated. Assumes nothing.
-use mathlib.Core.Path.{_≡_, refl, sym, _∙_, ap, subst}
+use mathlib.Core.Path.{_≡_, refl, sym, _∙_, ap}
 use mathlib.Core.Bool.{Bool, true, false}
 use mathlib.Core.List.{List, [], _∷_, _++_, map}
 use Prim.Native.Nat.{ℕ, _+_, _<_, _≤_}
@@ -8,13 +8,13 @@ use lib.Dec.{eqb, ltb}
 use lib.ListN.{length, getD, set, length-map, length-set, List·getD-map}
 use lib.Seq.{getD-set-same, getD-set-other}
 use borrow.Author.Tests.{eqb-true, eqb-false, ltb-true, leb-true, lt-ltb}
-use Rattle.octets.specs.Choice.{both, pick}
+use Rattle.octets.specs.Choice.{pick}
 use Rattle.octets.specs.Lists.{tabulate}
 use Rattle.octets.proofs.Choice.{both-left, both-right, both-true, pick-holds, pick-true, true-false}
 use Rattle.octets.proofs.Lists.{tabulate-length, tabulate-at}
 use Rattle.octets.proofs.Maps.{map-same, map-at}
 use Rattle.octets.proofs.Tests.{all-at}
-use Rattle.ends.specs.Identities.{among, has, llidsOf, meets}
+use Rattle.ends.specs.Identities.{among, has, meets}
 use Rattle.ends.specs.Limits.{maxUnits}
 use Rattle.ends.specs.Table.{find}
 use Rattle.ends.specs.declared.Found.{Found}
@@ -30,21 +30,18 @@ use Rattle.groups.specs.Members.{placesOf, rosterLlids, freshMembers, validMemb
 use Rattle.groups.specs.declared.GroupRecord.{GroupRecord}
 use Rattle.groups.specs.declared.Roster.{Roster}
 use Rattle.multicast.specs.HeadCalls.{registerGroupOf, headRegisterOf, placeFound, rosterMembers}
-use Rattle.protocol.specs.OltCalls.{registerOf}
 use Rattle.protocol.specs.declared.OltAnswer.{OltAnswer}
-use Rattle.multicast.specs.declared.HeadAnswer.{HeadAnswer}
-use Rattle.unicast.specs.Setting.{Setting, Site, Delays}
-use Rattle.unicast.specs.History.{InFlight, clockMessage, keyMessage, envelope, Entry, Lane, laneWith, laneRegistered, laneCaptured, laneLeaving, laneOffered, laneAcknowledged, laneSentDown, laneSentUp, laneTaken, laneAnswered, laneArrivedDown, laneArrivedUp, laneMoved}
-use Rattle.unicast.specs.Premises.{Fresh}
+use Rattle.unicast.specs.Setting.{Setting}
+use Rattle.unicast.specs.History.{InFlight, clockMessage, keyMessage, envelope, Lane, laneWith, laneRegistered, laneCaptured, laneLeaving, laneOffered, laneAcknowledged, laneSentDown, laneSentUp, laneTaken, laneAnswered, laneArrivedDown, laneArrivedUp, laneMoved}
 use Rattle.unicast.specs.Run as run
-use Rattle.unicast.specs.Run.{laneAt, inFlightAt, noSite, freshLane, accepted, noted, named, withLanes, atOlt, atOnu, atOltFor, entering, clockSending, offering, retrying, changing}
+use Rattle.unicast.specs.Run.{laneAt, inFlightAt, noSite, freshLane, accepted, noted, withLanes, atOlt, atOnu, atOltFor, entering, clockSending, offering, retrying, changing}
 use Rattle.unicast.proofs.Alive.{registered-alive}
 use Rattle.unicast.proofs.Owned.{at-olt-keeps, set-stays, noted-keeps, whose}
-use Rattle.unicast.proofs.Places.{Held, found-has}
+use Rattle.unicast.proofs.Places.{found-has}
 use Rattle.unicast.proofs.RegisterSteps.{registered-once}
 use Rattle.line.specs.History.{GroupLane, isMember, groupWith, groupOffered, groupLeaving, groupSent, groupTaken, groupAnswered, groupArrived, groupMoved}
 use Rattle.line.specs.Events.{Event, advance, register, registerGroup, capture, clockSend, offer, retry, sendDown, join, sendUp, arriveDown, arriveGroup, arriveUp, arriveAnswer, arriveGroupAnswer, overhear, overhearGroup, changePath, measure, newTime, strayClock, strayKey, strayAnswer, strayDown, strayUp}
-use Rattle.line.specs.Run.{State, alone, start, groupLaneAt, noGroupLane, groupInFlightAt, lanes, notedFor, atHead, atUnit, atUnitAlone, advancing, registering, newGroupLane, registeringGroup, clockSendingTo, offeringTo, retryingTo, sendingDown, joiningAt, sendingUp, messageArriving, inFlightArriving, groupMessageArriving, groupInFlightArriving, arrivingUp, answering, changingPath, subscriberAfter, headAfter, step, runs}
+use Rattle.line.specs.Run.{State, alone, start, groupLaneAt, noGroupLane, groupInFlightAt, lanes, notedFor, atHead, atUnit, atUnitAlone, advancing, registering, newGroupLane, clockSendingTo, offeringTo, retryingTo, sendingDown, joiningAt, sendingUp, messageArriving, inFlightArriving, groupMessageArriving, groupInFlightArriving, arrivingUp, answering, changingPath, subscriberAfter, headAfter, step, runs}
 use Rattle.line.specs.Premises.{Fits, Meets}
 use Rattle.line.proofs.Finding.{among-at}
 use Rattle.line.proofs.GroupRegisterSteps as groups
@@ -52,7 +49,7 @@ use Rattle.line.proofs.RegisterSteps.{accepts, refused-step}
 use Rattle.line.proofs.Invariant.{Invariant}
 use Rattle.line.proofs.Lines.{group-stands}
 use Rattle.line.proofs.Places.{set-field}
-use Rattle.line.proofs.Seats.{Seat, MemberSeat, Seated, seatsOf, Sits, member-whose, seated-sits, advance-seats, capture-seats, measure-seats, clock-send-seats, offer-seats, retry-seats, send-seats, acknowledge-seats, receive-seats}
+use Rattle.line.proofs.Seats.{Seat, MemberSeat, Seated, seatsOf, Sits, seated-sits, advance-seats, capture-seats, measure-seats, clock-send-seats, offer-seats, retry-seats, send-seats, acknowledge-seats, receive-seats}
 use Rattle.line.proofs.Theorem.{step-right}
 
 ---- the groups' rosters
@@ -60,9 +57,6 @@ use Rattle.line.proofs.Theorem.{step-right}
 map-field : {A B : Type 0} (q : A → B) (f : A → A) → ((x : A) → q (f x) ≡ q x) → (l : List A) (k : ℕ) (d : A) → q (getD (map f l) k d) ≡ q (getD l k d)
 map-field {A} {B} q f e l k d =
     sym (List·getD-map q (map f l) k d) ∙ ap (λ (m : List B). getD m k (q d)) (map-same f q e l) ∙ List·getD-map q l k d
-
-rosterOf : GroupLane → List ℕ
-rosterOf g = g .roster
 
 noted-roster : (number llid : ℕ) (f : GroupLane → GroupLane) (gs : List GroupLane) → ((x : GroupLane) → f x .roster ≡ x .roster) → (g : ℕ)
     → getD (notedFor number llid f gs) g noGroupLane .roster ≡ getD gs g noGroupLane .roster

@@ -1,33 +1,23 @@
 -- Each place of the OLT's table is that of a unit, and each place in a group's record that of a unit which its registration named.
 -- Assumes nothing.
 use mathlib.Core.Path.{_≡_, refl, sym, _∙_, ap}
-use mathlib.Core.Bool.{Bool, true, false}
-use mathlib.Core.List.{List, [], _∷_, _++_, map}
-use Prim.Native.Nat.{ℕ, _+_, _<_, _≤_}
+use mathlib.Core.Bool.{true}
+use mathlib.Core.List.{List}
+use Prim.Native.Nat.{ℕ, _<_}
 use native.Mathlib.Omega.{arith}
-use lib.Dec.{eqb, ltb}
-use lib.ListN.{length, getD, set, length-map, length-set, List·getD-map}
-use lib.Seq.{getD-set-same, getD-set-other}
-use borrow.Author.Tests.{eqb-true, eqb-false, ltb-true, ltb-false, leb-true, lt-ltb, ne-eqb}
-use Rattle.octets.specs.Choice.{both, pick}
-use Rattle.octets.specs.Lists.{tabulate, all}
-use Rattle.octets.proofs.Choice.{both-left, both-right, both-true, pick-holds, pick-true, true-false}
-use Rattle.octets.proofs.Lists.{tabulate-length, tabulate-at}
-use Rattle.octets.proofs.Maps.{map-same, map-at, getD-first}
-use Rattle.octets.proofs.Tests.{all-at}
+use lib.ListN.{length, getD}
+use Rattle.octets.specs.Choice.{both}
+use Rattle.octets.proofs.Choice.{pick-holds}
+use Rattle.octets.proofs.Maps.{getD-first}
 use Rattle.octets.specs.Output.{WithOutput, withOutput}
 use Rattle.refusal.specs.Number.{verdictNumber}
 use Rattle.refusal.specs.declared.Verdict.{Verdict}
 use Rattle.refusal.specs.declared.Verdict.the-variants.{Accepted}
 use Rattle.envelope.specs.ControlMask.{eqsOf}
-use Rattle.ends.specs.Identities.{among, has, llidsOf, meets}
-use Rattle.ends.specs.Limits.{maxUnits}
-use Rattle.ends.specs.Table.{find}
+use Rattle.ends.specs.Identities.{llidsOf, meets}
 use Rattle.ends.specs.declared.Found.{Found}
 use Rattle.ends.specs.declared.Found.the-variants.{At, Nowhere}
-use Rattle.ends.specs.declared.Identity.{Identity}
 use Rattle.ends.specs.declared.Olt.{Olt}
-use Rattle.ends.proofs.Identities.{meets-apart}
 use Rattle.protocol.specs.Headers.{noSending}
 use Rattle.protocol.specs.Messages.{noKeyMessage}
 use Rattle.protocol.specs.OltCalls.{captureOf, measureOf, clockSendOf, offerOf, retryOf, acknowledgeOf}
@@ -43,16 +33,14 @@ use Rattle.traffic.specs.declared.OltReceived.{OltReceived}
 use Rattle.traffic.specs.declared.OltSent.{OltSent}
 use Rattle.groups.specs.GroupCalls as calls
 use Rattle.groups.specs.GroupCalls.{GroupOutcome, groupOutcome, groupAdvanced, membersSet, offerGroup, retryGroup, memberNamed, groupMarked, acknowledgeGroup, sendGroup}
-use Rattle.groups.specs.Head.{findGroup, groupAt, pastGroup, withGroupKeys, withMembers, withOlt, withGroup, freshGroup, validGroups}
-use Rattle.groups.specs.Limits.{maxMembers}
-use Rattle.groups.specs.Members.{placesOf, rosterLlids, freshMembers, unmarked, marked, validMembers}
+use Rattle.groups.specs.Head.{findGroup, groupAt, pastGroup, withGroupKeys, withMembers, withOlt, withGroup, validGroups}
+use Rattle.groups.specs.Members.{unmarked, marked}
 use Rattle.groups.specs.declared.Answer.{Answer}
 use Rattle.groups.specs.declared.GroupRecord.{GroupRecord}
 use Rattle.groups.specs.declared.Groups.{Groups}
 use Rattle.groups.specs.declared.HeadEnd.{HeadEnd}
-use Rattle.groups.specs.declared.Roster.{Roster}
 use Rattle.multicast.specs.Naming.{byLlid, groupLift}
-use Rattle.multicast.specs.HeadCalls.{headAnswer, headKeySent, oltAnswered, oltClockSent, oltKeySent, headAdvanced, groupsAdvanced, headAdvanceOf, headCaptureOf, headMeasureOf, headClockSendOf, groupOfferOf, headOfferOf, groupRetryOf, headRetryOf, ownAcknowledgement, groupAcknowledgeOf, headAcknowledgeOf, placeFound, rosterMembers}
+use Rattle.multicast.specs.HeadCalls.{headAnswer, headKeySent, oltAnswered, oltClockSent, oltKeySent, headAdvanced, groupsAdvanced, headAdvanceOf, headCaptureOf, headMeasureOf, headClockSendOf, groupOfferOf, headOfferOf, groupRetryOf, headRetryOf, ownAcknowledgement, groupAcknowledgeOf, headAcknowledgeOf}
 use Rattle.multicast.specs.HeadTraffic.{sendAhead, headSent, oltSentIn, groupSendOf, headSendOf, headNotReceived, oltReceivedIn, groupReceiveVerdict, headReceiveOf}
 use Rattle.multicast.specs.declared.HeadAnswer.{HeadAnswer}
 use Rattle.multicast.specs.declared.HeadClockSent.{HeadClockSent}
@@ -65,7 +53,7 @@ use Rattle.unicast.specs.Run as run
 use Rattle.unicast.specs.Run.{laneAt}
 use Rattle.unicast.proofs.Owned.{whose}
 use Rattle.line.specs.History.{GroupLane, isMember}
-use Rattle.line.specs.Run.{State, alone, groupLaneAt, noGroupLane}
+use Rattle.line.specs.Run.{State, alone, groupLaneAt}
 use Rattle.line.proofs.GroupCalls.{Ends, accepted, refused, lift-ends}
 use Rattle.line.proofs.Places.{set-field}
 

@@ -2,15 +2,14 @@
 use mathlib.Core.Path.{_≡_, refl, sym, _∙_, ap, ap₂, subst}
 use mathlib.Core.Bool.{Bool, true, false}
 use mathlib.Core.List.{List, [], _∷_, _++_, map}
-use mathlib.Core.Logic.{inl, inr, ⊎-elim}
+use mathlib.Core.Logic.{inr, ⊎-elim}
 use Prim.Native.Nat.{ℕ, zero, suc, _+_, _*_, _<_, _≤_, max}
 use native.Mathlib.Nat.{max-le, suc-mul}
 use native.Mathlib.Omega.{arith}
-use lib.Dec.{leb, ltb}
+use lib.Dec.{leb}
 use lib.ListN.{length, getD, length-append, length-map}
-use borrow.Author.Tests.{ltb-true, ltb-false, eqb-true, eq-eqb}
+use borrow.Author.Tests.{eqb-true, eq-eqb}
 use Rattle.octets.specs.Choice.{pick}
-use Rattle.octets.specs.Lists.{tabulate, all}
 use Rattle.octets.proofs.Choice.{both-left, both-right, either-false, either-left, either-right, either-cases, pick-holds, true-false}
 use Rattle.clock.specs.Ticks.{maxTick, maxRoundTrip}
 use Rattle.ends.specs.Flags.{isUp}
@@ -22,29 +21,28 @@ use Rattle.groups.specs.Head.{groupAt}
 use Rattle.groups.specs.Members.{placesOf}
 use Rattle.groups.proofs.GroupSteps.{all-tabulated}
 use Rattle.unicast.specs.Setting.{Setting, Site}
-use Rattle.unicast.specs.History.{Entry, Lane, isSynced}
-use Rattle.unicast.specs.Events as units
+use Rattle.unicast.specs.History.{Entry, isSynced}
 use Rattle.unicast.specs.Run as run
 use Rattle.unicast.specs.Run.{laneAt}
 use Rattle.unicast.specs.Progress.{longest}
 use Rattle.unicast.proofs.Alive.{registered-alive}
 use Rattle.unicast.proofs.Going.{Here}
-use Rattle.unicast.proofs.Owned.{Owned, Owns, whose}
+use Rattle.unicast.proofs.Owned.{whose}
 use Rattle.line.specs.History.{GroupLane, Membership, isMember, isJoined}
 use Rattle.line.specs.Events.{Event}
-use Rattle.line.specs.Run.{State, alone, joinedBy, noGroupLane, groupLaneAt, now, lanes, start, step, runs, advancing, atHead, atUnit, atUnitAlone, clockSendingTo, offeringTo, retryingTo, sendingDown, sendingUp, messageArriving, inFlightArriving, arrivingUp, answering}
+use Rattle.line.specs.Run.{State, alone, noGroupLane, groupLaneAt, now, lanes, start, runs}
 use Rattle.line.specs.Premises.{NewKey, Meets}
 use Rattle.line.specs.Without.{plain}
-use Rattle.line.specs.GroupProgress.{placed, ordered, mostOf, memberOf, downTo, membersOf, longestDown, andThen, nameIn, nameOf, clockOf, clocksOf, wholeRecipe, wholeLimit, wholeEvents, groupRecipe, groupLimit, groupEvents, GroupMoving, GroupBrings, WholeMoving, WholeBrings, WholeProgress}
+use Rattle.line.specs.GroupProgress.{placed, ordered, mostOf, memberOf, downTo, membersOf, longestDown, andThen, nameIn, nameOf, clockOf, clocksOf, wholeRecipe, wholeLimit, wholeEvents, groupRecipe, GroupMoving, WholeMoving, WholeBrings, WholeProgress}
 use Rattle.line.proofs.AnswerSteps.{known-line}
 use Rattle.line.proofs.GroupArrivals.{runs-append, meets-append}
-use Rattle.line.proofs.GroupClocks.{keptOf, ClockGoes, clock-goes}
+use Rattle.line.proofs.GroupClocks.{keptOf, clock-goes}
 use Rattle.line.proofs.GroupProgress.{group-brings}
 use Rattle.line.proofs.Invariant.{Invariant}
 use Rattle.line.proofs.Ordered.{Each, each-as, each-ordered, ordered-each}
-use Rattle.line.proofs.OwnEvents.{NewToGroups, own-list}
+use Rattle.line.proofs.OwnEvents.{own-list}
 use Rattle.line.proofs.OwnJoined.{own-joined-list}
-use Rattle.line.proofs.Seats.{MemberSeat, Seated, member-whose}
+use Rattle.line.proofs.Seats.{Seated, member-whose}
 use Rattle.line.proofs.SeatSteps.{seated-run, seated-start}
 use Rattle.line.proofs.StartSteps.{start-right}
 use Rattle.line.proofs.Theorem.{run-right}

@@ -2,9 +2,9 @@
 use mathlib.Core.Path.{_≡_}
 use mathlib.Core.Bool.{true, false}
 use mathlib.Core.List.{List, [], _∷_}
-use Prim.Native.Nat.{ℕ, _+_, _-_, _<_}
+use Prim.Native.Nat.{ℕ, _+_, _-_, _*_, _<_}
 use lib.ListN.{length, getD}
-use Rattle.clock.specs.Ticks.{clockTurn, localTurn}
+use Rattle.clock.specs.Ticks.{clockTurn, localTurn, maxRoundTrip}
 use Rattle.envelope.specs.CounterBlock.{counterBlock}
 use Rattle.envelope.specs.declared.Nonce.{Nonce}
 use Rattle.sealing.specs.KeyExpansion.{keyExpansion}
@@ -27,7 +27,7 @@ use Rattle.line.specs.Run.{State, alone, start, step, runs, subscriberAt
 use Rattle.line.specs.Premises.{Meets}
 use Rattle.line.specs.Claim.{Claim, Sender, unit, group, sentBy, sentByAt, keysOf, nonceBy}
 use Rattle.line.specs.Progress.{Progress}
-use Rattle.line.specs.GroupProgress.{groupRecipe, OpenedAt, GroupBrings, GroupProgress}
+use Rattle.line.specs.GroupProgress.{groupRecipe, wholeRecipe, OpenedAt, GroupBrings, GroupProgress, WholeBrings, WholeProgress}
 use Rattle.line.specs.Without.{AsBefore, Unchanged, OneSpread}
 use Rattle.line.specs.Example.{example, groupLlid, interval, toFirstKey, toMissed, toReturn, toUnsynced, toSynced, events}
 use Rattle.line.specs.Course.{after, played, Course}
@@ -177,6 +177,10 @@ pub record Shown : Type 0 where
 abbrev pub missed : State
 missed = after toMissed
 
+-- cut short where the second member's path has changed, and it is not synced
+abbrev pub unsynced : State
+unsynced = after toUnsynced
+
 -- the key of an offer that is not made
 abbrev pub spare : List ℕ
 spare = keyFrom 96
@@ -200,6 +204,9 @@ pub record Returned : Type 0 where
   pub opens : OpenedAt example (groupLaneAt (runs missed (groupRecipe 0 spare missed)) 0) 1 (brings .next)
   -- at the end of the list no offer is outstanding: the continuation makes one
   pub onwards : GroupBrings example played 0 5 (longest + interval + 60) 11 (groupRecipe 0 spare played)
+  -- where the second member is not synced, its clock comes first, and it opens the envelope under key 4 too
+  pub clocked : WholeBrings example unsynced 0 4 (2 * (longest + maxRoundTrip) + (longest + interval) + 2 * maxRoundTrip) 25 (wholeRecipe 0 spare unsynced)
+  pub opensToo : OpenedAt example (groupLaneAt (runs unsynced (wholeRecipe 0 spare unsynced)) 0) 1 (clocked .next)
 
 ---- the whole
 
@@ -212,6 +219,7 @@ pub record Demand : Type 0 where
   -- the line never freezes
   pub progress : Progress
   pub groupProgress : GroupProgress
+  pub wholeProgress : WholeProgress
   pub spread : OneSpread
   pub fresh : Fresh example
   pub meets : Meets example (start example) events

@@ -140,14 +140,15 @@ module _ (w : Setting) (s : State) (g : ℕ) (i : Invariant w s) (known : g < le
 
   -- a new key is not the one in use
   other-key : (key : List ℕ) → NewKey s key → both (leb 1 (r .keys .active)) (same key (keyIn (r .keys .slots) (r .keys .active))) ≡ false
-  other-key key new = then-both-false _ _ (λ some. by-test (same key (keyIn (r .keys .slots) (r .keys .active))) refl (leb-true 1 (r .keys .active) some)) where
-    by-test : (t : Bool) → same key (keyIn (r .keys .slots) (r .keys .active)) ≡ t → 1 ≤ r .keys .active
-        → same key (keyIn (r .keys .slots) (r .keys .active)) ≡ false
-    by-test false e some = e
-    by-test true e some =
-        let j = i .group g known in
-        let stored = j .stored (r .keys .active) some (omega arith) (j .mid) in
-        absurd (new .groups g (r .keys .active - 1) (omega (arith, some, j .mid, j .listed)) (sym (same-true _ _ e ∙ stored)))
+  other-key key new =
+      then-both-false _ _ (λ some. by-test (same key (keyIn (r .keys .slots) (r .keys .active))) refl (leb-true 1 (r .keys .active) some)) where
+        by-test : (t : Bool) → same key (keyIn (r .keys .slots) (r .keys .active)) ≡ t → 1 ≤ r .keys .active
+            → same key (keyIn (r .keys .slots) (r .keys .active)) ≡ false
+        by-test false e some = e
+        by-test true e some =
+            let j = i .group g known in
+            let stored = j .stored (r .keys .active) some (omega arith) (j .mid) in
+            absurd (new .groups g (r .keys .active - 1) (omega (arith, some, j .mid, j .listed)) (sym (same-true _ _ e ∙ stored)))
 
   offer-left : (key : List ℕ) → membersSet (s .head .olt) (r .members) ≡ true → NewKey s key → length (l .keys .offers) ≤ l .keys .switches
       → l .keys .switches < maxKeyNumber

@@ -108,7 +108,8 @@ module _ (w : Setting) (s : State) (g : ℕ) (i : Invariant w s) (here : g < len
     abbrev s1 : State
     s1 = step s e
 
-    key-arrives : (t : State) (u k : ℕ) → Invariant w t → Stays g s1 t → (d : DueOfGroup t u g k []) → groupInFlightAt t u g k ≡ keyMessage m (now s)
+    key-arrives : (t : State) (u k : ℕ) → Invariant w t → Stays g s1 t → (d : DueOfGroup t u g k [])
+        → groupInFlightAt t u g k ≡ keyMessage m (now s)
         → Comes g u t (step t (arriveGroup u g k [])) × Took u (step t (arriveGroup u g k []))
     unfolding groupInFlightArriving
     key-arrives t u k v stays d is =
@@ -283,8 +284,9 @@ module _ (w : Setting) (s : State) (g : ℕ) (i : Invariant w s) (here : g < len
           let named : x .llid ≡ l .llid = goes .llid ∙ before .llid in (
             subst (Comes g u t) same (envelope-comes t u g at k [] x),
             λ joined synced.
-                let taken = took u (omega (arith, unit-known w t u g k [] v d, ap length units)) (sym (member-stays g s t units roster u) ∙ member w t u g k [] v d)
-                joined synced in
+                let taken =
+                took u (omega (arith, unit-known w t u g k [] v d, ap length units))
+                (sym (member-stays g s t units roster u) ∙ member w t u g k [] v d) joined synced in
                 let taken4 : hasTaken (joinedBy s4 u) (l .llid) n ≡ true =
                 ap (λ (js : List (List Membership)). hasTaken (getD js u []) (l .llid) n) (goes .leaves .joined) ∙ taken in
                 subst (Came g u x) same
@@ -408,7 +410,9 @@ module _ (w : Setting) (s : State) (g : ℕ) (key : List ℕ) (i : Invariant w s
           ⊎ ((membersSet (s .head .olt) (groupAt (s .head) g .members) ≡ true) × NewKey s key)
           → GroupBrings w s g (groupLaneAt s g .keys .switches + 1) (groupLimit s g) (groupEvents s g)
           (andThen (λ z. offer (groupLaneAt s g .llid) key ∷ arrivals s g 0 (membersOf s g)) (andThen (waited g) (envelopeRound g)) s)
-      by-able (inl more) = let none = ltb-false (groupLaneAt s g .keys .switches) (length (groupLaneAt s g .keys .offers)) e in absurd (omega (arith, more, none))
+      by-able (inl more) =
+          let none = ltb-false (groupLaneAt s g .keys .switches) (length (groupLaneAt s g .keys .offers)) e in
+          absurd (omega (arith, more, none))
       by-able (inr q) =
           brings-by w s g i registered-known (offer (groupLaneAt s g .llid) key) _
           (offer-goes w s g i registered-known key (q .0) (q .1) (ltb-false _ _ e) (able .below)) most (λ z. q .1) (able .inRange)

@@ -50,7 +50,7 @@ pub mod Seats
 pub mod SeatSteps
 pub mod GroupClocks
 pub mod OwnJoined
-pub mod WholeProgress
+pub mod GroupRestored
 pub mod Without
 pub mod Unchanged
 pub mod Opened

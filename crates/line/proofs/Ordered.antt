@@ -55,7 +55,8 @@ distinct-placed f u (v ∷ vs) n d =
     pick-holds Distinct _ (u ∷ v ∷ vs) (v ∷ placed f u vs) (λ e. (n, d))
     (λ e. (each-placed (λ x. x ≡ v → ⊥) f u vs (λ z. n .0 (sym z)) (d .0), distinct-placed f u vs (n .1) (d .1)))
 
-rising-placed : (f : ℕ → ℕ) (u lo hi : ℕ) (us : List ℕ) → lo ≤ f u → f u ≤ hi → Rising lo hi (map f us) → Rising lo hi (map f (placed f u us))
+rising-placed : (f : ℕ → ℕ) (u lo hi : ℕ) (us : List ℕ) → lo ≤ f u → f u ≤ hi → Rising lo hi (map f us)
+    → Rising lo hi (map f (placed f u us))
 unfolding placed
 rising-placed f u lo hi [] a b r = (a, b)
 rising-placed f u lo hi (v ∷ vs) a b r =

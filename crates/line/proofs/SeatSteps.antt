@@ -54,7 +54,8 @@ use Rattle.line.proofs.Theorem.{step-right}
 
 ---- the groups' rosters
 
-map-field : {A B : Type 0} (q : A → B) (f : A → A) → ((x : A) → q (f x) ≡ q x) → (l : List A) (k : ℕ) (d : A) → q (getD (map f l) k d) ≡ q (getD l k d)
+map-field : {A B : Type 0} (q : A → B) (f : A → A) → ((x : A) → q (f x) ≡ q x) → (l : List A) (k : ℕ) (d : A)
+    → q (getD (map f l) k d) ≡ q (getD l k d)
 map-field {A} {B} q f e l k d =
     sym (List·getD-map q (map f l) k d) ∙ ap (λ (m : List B). getD m k (q d)) (map-same f q e l) ∙ List·getD-map q l k d
 
@@ -134,7 +135,8 @@ module _ (w : Setting) (s : State) (i : Invariant w s) where
       record {
         units = λ p h. by-place p h own other (eqb p (s .history .units .registrations)) refl;
         members = λ g j h k.
-            let q = d .members g j (omega (arith, h, ap length lines)) (omega (arith, k, ap (λ (x : Groups). getD (x .table) g pastGroup .members .count) groups)) in
+            let counted = ap (λ (x : Groups). getD (x .table) g pastGroup .members .count) groups in
+            let q = d .members g j (omega (arith, h, ap length lines)) (omega (arith, k, counted)) in
             let same = other (q .unit) (both-left _ _ (q .member)) in
             record {
               unit = q .unit;

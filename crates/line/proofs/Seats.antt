@@ -197,7 +197,7 @@ module _ (h : HeadEnd) where
     by-found : (f : Found)
         → seatsOf (groupAt (byLlid f (oltSentIn h (oltSendOf (h .olt) llid channel p out) out) (groupSendOf h llid channel p out) .answer .head) g)
         ≡ seatsOf (groupAt h g)
-    by-found Nowhere = same-groups (oltSentIn h (oltSendOf (h .olt) llid channel p out) out .answer .head) (sent-groups (oltSendOf (h .olt) llid channel p out) out) g
+    by-found Nowhere = let r = oltSendOf (h .olt) llid channel p out in same-groups (oltSentIn h r out .answer .head) (sent-groups r out) g
     by-found (At i) = lift-seats noSending (sendAhead p out channel) (λ o x. sendGroup llid channel (eqsOf p) (o .shared) x) i refl g
 
   pub acknowledge-seats : (llid : ℕ) (a : Answer) (g : ℕ) → seatsOf (groupAt (headAcknowledgeOf h llid a .head) g) ≡ seatsOf (groupAt h g)
@@ -206,7 +206,9 @@ module _ (h : HeadEnd) where
     by-found : (f : Found)
         → seatsOf (groupAt (byLlid f (oltAnswered h (acknowledgeOf (h .olt) llid (ownAcknowledgement a))) (groupAcknowledgeOf h a) .head) g)
         ≡ seatsOf (groupAt h g)
-    by-found Nowhere = same-groups (oltAnswered h (acknowledgeOf (h .olt) llid (ownAcknowledgement a)) .head) (answered-groups (acknowledgeOf (h .olt) llid (ownAcknowledgement a))) g
+    by-found Nowhere =
+        let r = acknowledgeOf (h .olt) llid (ownAcknowledgement a) in
+        same-groups (oltAnswered h r .head) (answered-groups r) g
     by-found (At i) =
         lift-seats silent Accepted (λ o x. acknowledgeGroup a (memberNamed o (x .members) a) (o .shared) x) i
         (marked-seats (groupAt h i) (memberNamed (h .olt) (groupAt h i .members) a)) g

@@ -27,7 +27,7 @@ use Rattle.line.specs.Run.{State, alone, start, step, runs, subscriberAt
 use Rattle.line.specs.Premises.{Meets}
 use Rattle.line.specs.Claim.{Claim, Sender, unit, group, sentBy, sentByAt, keysOf, nonceBy}
 use Rattle.line.specs.Progress.{Progress}
-use Rattle.line.specs.GroupProgress.{groupRecipe, wholeRecipe, OpenedAt, GroupBrings, GroupProgress, WholeBrings, WholeProgress}
+use Rattle.line.specs.GroupProgress.{groupRecipe, restoring, OpenedAt, GroupBrings, GroupProgress, Restores, GroupRestored}
 use Rattle.line.specs.Without.{AsBefore, Unchanged, OneSpread}
 use Rattle.line.specs.Example.{example, groupLlid, interval, toFirstKey, toMissed, toReturn, toUnsynced, toSynced, events}
 use Rattle.line.specs.Course.{after, played, Course}
@@ -205,8 +205,8 @@ pub record Returned : Type 0 where
   -- at the end of the list no offer is outstanding: the continuation makes one
   pub onwards : GroupBrings example played 0 5 (longest + interval + 60) 11 (groupRecipe 0 spare played)
   -- where the second member is not synced, its clock comes first, and it opens the envelope under key 4 too
-  pub clocked : WholeBrings example unsynced 0 4 (2 * (longest + maxRoundTrip) + (longest + interval) + 2 * maxRoundTrip) 25 (wholeRecipe 0 spare unsynced)
-  pub opensToo : OpenedAt example (groupLaneAt (runs unsynced (wholeRecipe 0 spare unsynced)) 0) 1 (clocked .next)
+  pub restores : Restores example unsynced 0 4 (2 * (longest + maxRoundTrip) + (longest + interval) + 2 * maxRoundTrip) 25 (restoring 0 spare unsynced)
+  pub opensToo : OpenedAt example (groupLaneAt (runs unsynced (restoring 0 spare unsynced)) 0) 1 (restores .next)
 
 ---- the whole
 
@@ -219,7 +219,7 @@ pub record Demand : Type 0 where
   -- the line never freezes
   pub progress : Progress
   pub groupProgress : GroupProgress
-  pub wholeProgress : WholeProgress
+  pub groupRestored : GroupRestored
   pub spread : OneSpread
   pub fresh : Fresh example
   pub meets : Meets example (start example) events

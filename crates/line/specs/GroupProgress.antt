@@ -118,14 +118,14 @@ clocksOf g [] s = []
 clocksOf g (u ∷ us) s = andThen (λ t. map plain (clockOf u (nameOf t g u) (alone t))) (clocksOf g us) s
 
 -- the clocks, and then the continuation
-unfoldable pub wholeRecipe : ℕ → List ℕ → State → List Event
-wholeRecipe g key = andThen (λ s. clocksOf g (membersOf s g) s) (groupRecipe g key)
+unfoldable pub restoring : ℕ → List ℕ → State → List Event
+restoring g key = andThen (λ s. clocksOf g (membersOf s g) s) (groupRecipe g key)
 
-abbrev pub wholeLimit : State → ℕ → ℕ
-wholeLimit s g = length (membersOf s g) * (longest + maxRoundTrip) + waitFor s g + 2 * maxRoundTrip
+abbrev pub restoringLimit : State → ℕ → ℕ
+restoringLimit s g = length (membersOf s g) * (longest + maxRoundTrip) + waitFor s g + 2 * maxRoundTrip
 
-abbrev pub wholeEvents : State → ℕ → ℕ
-wholeEvents s g = 3 + 11 * length (membersOf s g)
+abbrev pub restoringEvents : State → ℕ → ℕ
+restoringEvents s g = 3 + 11 * length (membersOf s g)
 
 ---- the claim
 
@@ -169,14 +169,14 @@ GroupProgress =
 
 ---- from any registered group
 
-pub record WholeMoving (s : State) (g : ℕ) (key : List ℕ) : Type 0 where
+pub record Restorable (s : State) (g : ℕ) (key : List ℕ) : Type 0 where
   pub registered : groupLaneAt s g .entry .registered ≡ true
   pub below : groupLaneAt s g .keys .switches < maxKeyNumber
   pub new : NewKey s key
-  pub inRange : now s + wholeLimit s g ≤ maxTick
+  pub inRange : now s + restoringLimit s g ≤ maxTick
 
 -- every joined member opens the group's next envelope, under key n: it is synced by then
-pub record WholeBrings (w : Setting) (s : State) (g n ticks events : ℕ) (es : List Event) : Type 0 where
+pub record Restores (w : Setting) (s : State) (g n ticks events : ℕ) (es : List Event) : Type 0 where
   pub meets : Meets w s es
   pub switches : groupLaneAt (runs s es) g .keys .switches ≡ n
   pub next : Envelope
@@ -187,8 +187,8 @@ pub record WholeBrings (w : Setting) (s : State) (g n ticks events : ℕ) (es : 
   pub soon : now (runs s es) ≤ now s + ticks
   pub short : length es ≤ events
 
-abbrev pub WholeProgress : Type 0
-WholeProgress =
-    (w : Setting) (es : List Event) (g : ℕ) (key : List ℕ) → Fresh w → Meets w (start w) es → WholeMoving (runs (start w) es) g key
-    → WholeBrings w (runs (start w) es) g (groupLaneAt (runs (start w) es) g .keys .switches + 1) (wholeLimit (runs (start w) es) g)
-    (wholeEvents (runs (start w) es) g) (wholeRecipe g key (runs (start w) es))
+abbrev pub GroupRestored : Type 0
+GroupRestored =
+    (w : Setting) (es : List Event) (g : ℕ) (key : List ℕ) → Fresh w → Meets w (start w) es → Restorable (runs (start w) es) g key
+    → Restores w (runs (start w) es) g (groupLaneAt (runs (start w) es) g .keys .switches + 1) (restoringLimit (runs (start w) es) g)
+    (restoringEvents (runs (start w) es) g) (restoring g key (runs (start w) es))

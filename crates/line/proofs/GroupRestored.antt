@@ -33,7 +33,7 @@ use Rattle.line.specs.Events.{Event}
 use Rattle.line.specs.Run.{State, alone, noGroupLane, groupLaneAt, now, lanes, start, runs}
 use Rattle.line.specs.Premises.{NewKey, Meets}
 use Rattle.line.specs.Without.{plain}
-use Rattle.line.specs.GroupProgress.{placed, ordered, mostOf, memberOf, downTo, membersOf, longestDown, andThen, nameIn, nameOf, clockOf, clocksOf, wholeRecipe, wholeLimit, wholeEvents, groupRecipe, GroupMoving, WholeMoving, WholeBrings, WholeProgress}
+use Rattle.line.specs.GroupProgress.{placed, ordered, mostOf, memberOf, downTo, membersOf, longestDown, andThen, nameIn, nameOf, clockOf, clocksOf, restoring, restoringLimit, restoringEvents, groupRecipe, GroupMoving, Restorable, Restores, GroupRestored}
 use Rattle.line.proofs.AnswerSteps.{known-line}
 use Rattle.line.proofs.GroupArrivals.{runs-append, meets-append}
 use Rattle.line.proofs.GroupClocks.{keptOf, clock-goes}
@@ -161,7 +161,8 @@ record ClocksDone (w : Setting) (s : State) (us : List ℕ) (es : List Event) : 
   tick : now (runs s es) ≤ now s + length us * (longest + maxRoundTrip)
   short : length es ≤ 7 * length us
 
-clocks-done : (w : Setting) (g : ℕ) (key : List ℕ) (us : List ℕ) (s : State) → Invariant w s → NewKey s key → Each (λ u. memberOf s g u ≡ true) us
+clocks-done : (w : Setting) (g : ℕ) (key : List ℕ) (us : List ℕ) (s : State) → Invariant w s → NewKey s key
+    → Each (λ u. memberOf s g u ≡ true) us
     → now s + length us * (longest + maxRoundTrip) ≤ maxTick → ClocksDone w s us (clocksOf g us s)
 unfolding clocksOf andThen runs isMember alone
 clocks-done w g key [] s i new members range =
@@ -243,7 +244,7 @@ longest-near w s g i = most-below (memberOf s g) (downTo s) maxRoundTrip (length
 
 ---- the whole
 
-module _ (w : Setting) (s : State) (g : ℕ) (key : List ℕ) (i : Invariant w s) (d : Seated s) (able : WholeMoving s g key) where
+module _ (w : Setting) (s : State) (g : ℕ) (key : List ℕ) (i : Invariant w s) (d : Seated s) (able : Restorable s g key) where
   here : g < length (s .history .groups)
   unfolding noGroupLane
   here = known-line s g (λ e. true-false (sym (able .registered) ∙ ap (λ (y : GroupLane). y .entry .registered) e))
@@ -312,9 +313,9 @@ module _ (w : Setting) (s : State) (g : ℕ) (key : List ℕ) (i : Invariant w s
         inRange = omega (arith, able .inRange, done .tick, same-interval, near);
       }
 
-  pub whole-brings : WholeBrings w s g (groupLaneAt s g .keys .switches + 1) (wholeLimit s g) (wholeEvents s g) (wholeRecipe g key s)
-  unfolding wholeRecipe andThen
-  whole-brings =
+  pub restores : Restores w s g (groupLaneAt s g .keys .switches + 1) (restoringLimit s g) (restoringEvents s g) (restoring g key s)
+  unfolding restoring andThen
+  restores =
       let b = group-brings w t g key v moving in
       let second = groupRecipe g key t in
       let there = runs-append s first second in
@@ -339,7 +340,7 @@ module _ (w : Setting) (s : State) (g : ℕ) (key : List ℕ) (i : Invariant w s
         short = omega (arith, length-append first second, b .short, done .short, members);
       }
 
-pub whole-progress : WholeProgress
-whole-progress w es g key f m able =
-    whole-brings w (runs (start w) es) g key (run-right w (start w) es (start-right w f) m)
+pub group-restored : GroupRestored
+group-restored w es g key f m able =
+    restores w (runs (start w) es) g key (run-right w (start w) es (start-right w f) m)
     (seated-run w (start w) es (start-right w f) m (seated-start w)) able

@@ -92,7 +92,10 @@ pub(crate) fn new_olt(mac: u64, clock: u64) -> Olt
         channels,
     };
     let unit = no_unit();
-    let units = [unit; MAX_UNITS as usize];
+    let mut units = [unit; MAX_UNITS as usize];
+    // Stored once more at a place that the compiler does not know: else it takes the table apart and writes out the parts of each unit.
+    let place = (clock % (MAX_UNITS as u64)) as usize;
+    units[place] = unit;
     Olt {
         shared,
         count: 0,

@@ -17,7 +17,7 @@ use Rattle.octets.proofs.Lists.{sum-ext, drop-part}
 use Rattle.refusal.specs.declared.Verdict.the-variants.{Accepted}
 use Rattle.clock.specs.Ticks.{clockTurn}
 use Rattle.envelope.specs.ControlMask.{countEnciphered, runs}
-use Rattle.sealing.specs.KeyExpansion.{keyExpansion}
+use Rattle.cipher.specs.KeyExpansion.{keyExpansion}
 use Rattle.sealing.specs.Payload.{sealed}
 use Rattle.records.specs.declared.header.Header.{Header}
 use Rattle.records.specs.declared.header.RecordVerdict.{RecordVerdict}

@@ -30,7 +30,7 @@ use Rattle.envelope.specs.declared.SealAnswer.{SealAnswer}
 use Rattle.envelope.specs.declared.SealAnswer.the-variants.{Done}
 use Rattle.sealing.specs.Payload.{sealed}
 use Rattle.sealing.specs.Seal.{sealing}
-use Rattle.sealing.specs.KeyExpansion.{keyExpansion}
+use Rattle.cipher.specs.KeyExpansion.{keyExpansion}
 use Rattle.sealing.proofs.Payload.{runs-at-most, sealed-length}
 use Rattle.sealing.proofs.Seal.{sealing-done}
 use Rattle.records.specs.declared.header.RecordVerdict.{RecordVerdict}

@@ -14,7 +14,7 @@ use Rattle.refusal.specs.Number.{numberOf, pairNumber}
 use Rattle.refusal.specs.Order.{refuseIf, andThen}
 use Rattle.envelope.specs.ControlMask.{countEnciphered, runs}
 use Rattle.envelope.specs.declared.Nonce.{Nonce}
-use Rattle.sealing.specs.KeyExpansion.{keyExpansion}
+use Rattle.cipher.specs.KeyExpansion.{keyExpansion}
 use Rattle.sealing.specs.Payload.{sealed}
 use Rattle.records.specs.declared.header.Header.{Header}
 use Rattle.records.specs.declared.header.RecordVerdict.{RecordVerdict}

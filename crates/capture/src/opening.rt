@@ -8,7 +8,7 @@ ghost use Rattle.octets.specs.Choice.{pick};
 ghost use Rattle.octets.specs.Lists.{part, replaced};
 ghost use Rattle.octets.specs.Output.{withOutput};
 ghost use Rattle.envelope.specs.Acceptance.{nonceFits};
-ghost use Rattle.sealing.specs.KeyExpansion.{keyExpansion};
+ghost use Rattle.cipher.specs.KeyExpansion.{keyExpansion};
 ghost use Rattle.sealing.specs.Payload.{sealed};
 ghost use Rattle.records.specs.Record.{headerOctets, flagsAt};
 ghost use Rattle.records.specs.Settings.{presenceOf, keyPresent, keyOf};
@@ -22,6 +22,8 @@ ghost use Rattle.capture.specs.Claims.{OpenedIfAccepted};
 ghost use Rattle.capture.specs.Duties.{Took, TookAs, TookAll, Span, Expanded, Ready, Settled, written, Copied};
 use crate::directory::Directory;
 use crate::verdict::call_directory;
+use cipher::aes128::RoundKeys;
+use cipher::key_expansion::expand_key;
 use envelope::Nonce;
 use envelope::nonce_fits;
 use envelope::seal_count;
@@ -42,9 +44,7 @@ use records::settings::key;
 use records::settings::mac;
 use records::settings::presence;
 use refusal::Refusal;
-use sealing::aes128::RoundKeys;
 use sealing::counter_mode::seal_expanded;
-use sealing::key_expansion::expand_key;
 
 pub enum OpenAnswer {
     // the octets deciphered, the runs of the cipher, and the keys expanded

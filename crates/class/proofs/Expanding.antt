@@ -12,7 +12,7 @@ use Rattle.octets.specs.Choice.{pick}
 use Rattle.octets.specs.Lists.{sum, copied, copiedAt, replaced}
 use Rattle.octets.proofs.Choice.{pick-true, pick-false, pick-holds, true-false}
 use Rattle.octets.proofs.Lists.{sum-below, part-length, copied-whole, copied-inside}
-use Rattle.sealing.specs.KeyExpansion.{keyExpansion}
+use Rattle.cipher.specs.KeyExpansion.{keyExpansion}
 use Rattle.records.specs.Settings.{keyOf}
 use Rattle.rights.specs.declared.settings.Caller.{Caller}
 use Rattle.rights.specs.Settings.{setOf}

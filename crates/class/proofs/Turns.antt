@@ -12,7 +12,7 @@ use Rattle.octets.specs.Bits.{bitOf}
 use Rattle.octets.specs.Choice.{either, pick}
 use Rattle.octets.proofs.Choice.{both-true}
 use Rattle.refusal.specs.Number.{numberOf}
-use Rattle.sealing.specs.KeyExpansion.{keyExpansion}
+use Rattle.cipher.specs.KeyExpansion.{keyExpansion}
 use Rattle.records.specs.declared.header.Header.{Header}
 use Rattle.records.specs.declared.header.RecordVerdict.{RecordVerdict}
 use Rattle.records.specs.declared.header.RecordVerdict.the-variants.{Clear, Sealed}

@@ -22,6 +22,8 @@ use capture::opening::OpenAnswer;
 use capture::opening::Read;
 use capture::opening::Work;
 use capture::opening::open_span;
+use cipher::aes128::RoundKeys;
+use cipher::key_expansion::expand_key;
 use envelope::Nonce;
 use octets::clear;
 use octets::copy_at;
@@ -48,8 +50,6 @@ use rights::settings::rights_at;
 use rights::settings::set_at;
 use rights::settings::set_for;
 use rights::verdict::class_verdict;
-use sealing::aes128::RoundKeys;
-use sealing::key_expansion::expand_key;
 
 // The octets of an expanded key, and of all that a class can have: two for each of 16 sets (D99).
 const EXPANDED_OCTETS: usize = 176;

@@ -2,8 +2,10 @@
 ghost use mathlib.Core.Path.{_≡_};
 ghost use Rattle.octets.specs.Output.{withOutput};
 ghost use Rattle.envelope.specs.ControlMask.{countEnciphered};
-ghost use Rattle.sealing.specs.KeyExpansion.{keyExpansion};
+ghost use Rattle.cipher.specs.KeyExpansion.{keyExpansion};
 ghost use Rattle.jazmotip.specs.Payloads.{payloadAnswer, flagDenied, sealingBy, inPlaceBy, inNumbers};
+use cipher::aes128::RoundKeys;
+use cipher::key_expansion::expand_key;
 use envelope::Nonce;
 use envelope::SealAnswer;
 use envelope::count;
@@ -12,12 +14,10 @@ use envelope::seal_count;
 use envelope::seal_number;
 use envelope::seal_runs;
 use refusal::Refusal;
-use sealing::aes128::RoundKeys;
 use sealing::counter_mode::seal;
 use sealing::counter_mode::seal_expanded;
 use sealing::counter_mode::seal_expanded_in_place;
 use sealing::counter_mode::seal_in_place;
-use sealing::key_expansion::expand_key;
 
 #[repr(C)]
 pub struct PayloadAnswer {

@@ -15,7 +15,7 @@ use Rattle.octets.specs.Output.{WithOutput}
 use Rattle.refusal.specs.Number.{numberOf}
 use Rattle.refusal.specs.declared.Refusal.the-variants.{ClockNotSet}
 use Rattle.envelope.specs.declared.Nonce.{Nonce}
-use Rattle.sealing.specs.KeyExpansion.{keyExpansion}
+use Rattle.cipher.specs.KeyExpansion.{keyExpansion}
 use Rattle.sealing.specs.Seal.{carried, countCarried}
 use Rattle.traffic.specs.Passages.{misfit}
 use Rattle.multicast.specs.declared.SubscriberReceived.{SubscriberReceived}

@@ -14,22 +14,8 @@ use Rattle.gf256.specs.Lanes.{octetAt}
 use Rattle.gf256.specs.Table.{table}
 use Rattle.gf256.proofs.Lanes.{octet-and, octet-below, octet-xor}
 use Rattle.gf256.proofs.Table.{follows, table-at}
-use Rattle.sealing.specs.RowWords.{Four, Both, Eight}
-use Rattle.sealing.proofs.RowWords.{four-octets, both-octets}
-
--- eight octets, from two fours
-pub eight : {f : ℕ → ℕ} {l u r : ℕ} → Four f l → Four (λ j. f (4 + j)) u → Both l u r → Eight f r
-eight {f} {l} {u} {r} a b both = record { octet = octet } where
-  octet : (j : ℕ) → j < 8 → octetAt r j ≡ f j
-  octet zero h = both .low 0 (omega arith) ∙ a .octet 0 (omega arith)
-  octet (suc zero) h = both .low 1 (omega arith) ∙ a .octet 1 (omega arith)
-  octet (suc (suc zero)) h = both .low 2 (omega arith) ∙ a .octet 2 (omega arith)
-  octet (suc (suc (suc zero))) h = both .low 3 (omega arith) ∙ a .octet 3 (omega arith)
-  octet (suc (suc (suc (suc zero)))) h = both .high 0 (omega arith) ∙ b .octet 0 (omega arith)
-  octet (suc (suc (suc (suc (suc zero))))) h = both .high 1 (omega arith) ∙ b .octet 1 (omega arith)
-  octet (suc (suc (suc (suc (suc (suc zero)))))) h = both .high 2 (omega arith) ∙ b .octet 2 (omega arith)
-  octet (suc (suc (suc (suc (suc (suc (suc zero))))))) h = both .high 3 (omega arith) ∙ b .octet 3 (omega arith)
-  octet (suc (suc (suc (suc (suc (suc (suc (suc j)))))))) h = absurd (omega arith)
+use Rattle.cipher.specs.RowWords.{Four, Eight}
+use Rattle.cipher.proofs.RowWords.{eight, four-octets, both-octets}
 
 ---- the octets that are data
 

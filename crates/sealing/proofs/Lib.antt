@@ -1,9 +1,4 @@
-pub mod Cipher
 pub mod DataOctets
-pub mod FirstRound
-pub mod KeyExpansion
 pub mod Payload
-pub mod RowWords
 pub mod Runs
 pub mod Seal
-pub mod Sums

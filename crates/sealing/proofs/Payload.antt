@@ -20,10 +20,10 @@ use Rattle.envelope.proofs.ControlMask.{masked-at-twice}
 use Rattle.sealing.specs.Payload.{cipherBlock, halfOf, sealedOctet, sealed, SealedLaws}
 use Rattle.envelope.specs.CounterBlock.{counterBlock}
 use Rattle.gf256.specs.Lanes.{octetAt}
-use Rattle.sealing.specs.Cipher.{cipher}
-use Rattle.sealing.specs.RowWords.{blockOctets, maskedEq}
-use Rattle.sealing.specs.Steps.{blockSealed}
-use Rattle.sealing.specs.declared.rows.Block.{Block}
+use Rattle.cipher.specs.Cipher.{cipher}
+use Rattle.cipher.specs.RowWords.{blockOctets}
+use Rattle.sealing.specs.Steps.{blockSealed, maskedEq}
+use Rattle.cipher.specs.declared.rows.Block.{Block}
 
 pub sealed-length : (w : List ℕ) (n : Nonce) (p : List ℕ) → length (sealed w n p) ≡ length p
 unfolding sealed

@@ -11,7 +11,7 @@ use Rattle.octets.specs.Lists.{tabulate}
 use Rattle.envelope.specs.ControlMask.{eqsOf, controlOctet, maskedAt, countEnciphered, mostRuns, needsRun, runs}
 use Rattle.envelope.specs.CounterBlock.{counterBlock}
 use Rattle.envelope.specs.declared.Nonce.{Nonce}
-use Rattle.sealing.specs.Cipher.{cipher}
+use Rattle.cipher.specs.Cipher.{cipher}
 
 -- the cipher block of EQ e: block k serves EQs 2k and 2k + 1
 abbrev pub cipherBlock : List ℕ → Nonce → ℕ → List ℕ

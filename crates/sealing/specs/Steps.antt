@@ -1,26 +1,22 @@
--- Steps of the code that the papers do not name: the key schedule 16 octets at a time, and a payload block by block, two that need a run at a
--- time. That they make up the papers' definitions is proved. Assumes nothing.
+-- Steps of the code that the papers do not name: a payload block by block, two that need a run at a time. That they make up the papers'
+-- definitions is proved. Assumes nothing.
 use mathlib.Core.Path.{_≡_}
 use mathlib.Core.Bool.{true, false}
-use mathlib.Core.List.{List, _++_}
-use Prim.Native.Nat.{ℕ, zero, suc, _+_, _*_, _<_, _≤_, min}
-use lib.ListN.{length}
-use Rattle.octets.specs.Lists.{written}
-use Rattle.envelope.specs.ControlMask.{blocksOf, needsRun, runsBelow}
+use mathlib.Core.List.{List, _∷_}
+use Prim.Native.Nat.{ℕ, _+_, _*_, _<_, _≤_, min}
+use lib.ListN.{length, getD}
+use Rattle.octets.specs.Lists.{tabulate, written}
+use Rattle.envelope.specs.ControlMask.{blocksOf, masked, needsRun, runsBelow}
+use Rattle.envelope.specs.CounterBlock.{counterBlock}
 use Rattle.envelope.specs.declared.Nonce.{Nonce}
-use Rattle.sealing.specs.KeyExpansion.{constantWord}
+use Rattle.gf256.specs.Lanes.{octetAt}
+use Rattle.cipher.specs.Cipher.{cipher}
+use Rattle.cipher.specs.FirstRound.{Kept}
+use Rattle.cipher.specs.RowWords.{blockOctets}
+use Rattle.cipher.specs.declared.rows.Block.{Block}
+use Rattle.cipher.specs.declared.rows.Rows.{Rows}
 use Rattle.sealing.specs.Payload.{sealed}
 use Rattle.sealing.specs.declared.counter_mode.Paired.{Paired}
-use Rattle.sealing.specs.Words.{word, xorWords, rotWord, subWord}
-
--- word j of the round key after the round key k, with x the power of x in its round constant
-abbrev pub keyWord : List ℕ → ℕ → ℕ → List ℕ
-keyWord k x zero = xorWords (word k 0) (xorWords (subWord (rotWord (word k 3))) (constantWord x))
-keyWord k x (suc j) = xorWords (word k (suc j)) (keyWord k x j)
-
--- the round key after k: four words at a time of the key schedule
-unfoldable pub nextKey : List ℕ → ℕ → List ℕ
-nextKey k x = keyWord k x 0 ++ (keyWord k x 1 ++ (keyWord k x 2 ++ keyWord k x 3))
 
 -- p with the one or two EQs of block i sealed, and the others as they are
 abbrev pub blockSealed : List ℕ → Nonce → List ℕ → ℕ → List ℕ
@@ -29,6 +25,19 @@ blockSealed w n p i = written (sealed w n p) (18 * i) (min (18 * i + 18) (length
 -- p with its blocks below k sealed
 abbrev pub sealedBelow : List ℕ → Nonce → List ℕ → ℕ → List ℕ
 sealedBelow w n p k = written (sealed w n p) 0 (min (18 * k) (length p)) p
+
+-- the EQ that starts at octet `at` of p, under the eight octets h of a cipher block: its control octet passes, and its data octets are masked
+abbrev pub maskedEq : ℕ → List ℕ → ℕ → List ℕ
+maskedEq h p at = getD p at 0 ∷ tabulate 0 8 (λ j. masked (getD p at 0) j (octetAt h j) (getD p (at + (j + 1)) 0))
+
+-- q is p with the one or two EQs of block i sealed, if b is the cipher block that serves them
+pub record Masked (b : Block) (i : ℕ) (p q : List ℕ) : Type 0 where
+  pub sealed : (w : List ℕ) (n : Nonce) → blockOctets b ≡ cipher w (counterBlock n i) → q ≡ blockSealed w n p i
+
+-- q is p with the blocks i and j sealed, by so many runs of the cipher, if `kept` is what they share of round 1
+pub record PairSealed (w : List ℕ) (kept : Rows) (i j : ℕ) (p q : List ℕ) (made : ℕ) : Type 0 where
+  pub sealed : (n : Nonce) → Kept w n kept → q ≡ blockSealed w n (blockSealed w n p i) j
+  pub runs : made ≡ 2
 
 -- r is the first block from i on that needs a run, or `blocks`, as many as there are, where none does
 pub record NextRun (p : List ℕ) (blocks i r : ℕ) : Type 0 where

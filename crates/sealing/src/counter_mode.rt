@@ -9,24 +9,23 @@ ghost use Rattle.refusal.specs.declared.Verdict.the-variants.{Accepted};
 ghost use Rattle.gf256.specs.Table.{sboxTable};
 ghost use Rattle.envelope.specs.Acceptance.{sealVerdict};
 ghost use Rattle.envelope.specs.ControlMask.{maxBlocks, blocksOf, needsRun, runs};
-ghost use Rattle.sealing.specs.Cipher.{Nr};
-ghost use Rattle.sealing.specs.KeyExpansion.{keyExpansion};
+ghost use Rattle.cipher.specs.Cipher.{Nr};
+ghost use Rattle.cipher.specs.KeyExpansion.{keyExpansion};
 ghost use Rattle.sealing.specs.Payload.{sealed, SealedLaws};
-ghost use Rattle.sealing.specs.FirstRound.{PairSealed};
-ghost use Rattle.sealing.specs.RowWords.{Masked, PairKeys, maskedEq};
+ghost use Rattle.cipher.specs.RowWords.{PairKeys};
 ghost use Rattle.sealing.specs.Seal.{sealing};
-ghost use Rattle.sealing.specs.Steps.{NextRun, PairsSealed, blockSealed};
-use super::aes128::RoundKeys;
-use super::first_round::kept_rows;
-use super::key_expansion::expand_key;
+ghost use Rattle.sealing.specs.Steps.{Masked, NextRun, PairSealed, PairsSealed, blockSealed, maskedEq};
 use super::mask::eight_at;
 use super::mask::mask_eight;
-use super::rows::Block;
-use super::rows::Rows;
-use super::rows::encrypt_lone;
-use super::rows::encrypt_pair;
-use super::rows::octet;
-use super::rows::pair_keys;
+use cipher::aes128::RoundKeys;
+use cipher::first_round::kept_rows;
+use cipher::key_expansion::expand_key;
+use cipher::rows::Block;
+use cipher::rows::Rows;
+use cipher::rows::encrypt_lone;
+use cipher::rows::encrypt_pair;
+use cipher::rows::octets_of;
+use cipher::rows::pair_keys;
 use envelope::Nonce;
 use envelope::SealAnswer;
 use envelope::count;
@@ -48,8 +47,9 @@ fn mask_eq(payload: &mut [u8], half: u64, at: usize)
     ensures { λ _. ⌜ now (payload .exit) ≡ replaced (now (payload .entry)) at (maskedEq half (now (payload .entry)) at) ⌝ }
 {
     let word = mask_eight(payload[at], half, eight_at(payload, at + 1));
+    let octets = octets_of(word);
     for j in 0..8usize {
-        payload[at + (j + 1)] = octet(word, j as u64);
+        payload[at + (j + 1)] = octets[j];
     }
 }
 

@@ -1,7 +1,3 @@
-// AES-128 (FIPS 197), and the sealing and opening of envelope payloads with it, in one crate (01, Counter block and mask; D107).
-pub mod aes128;
+// The sealing and opening of envelope payloads with AES-128 in counter mode, under the control mask (01, Counter block and mask).
 pub mod counter_mode;
-mod first_round;
-pub mod key_expansion;
 mod mask;
-mod rows;

@@ -5,28 +5,24 @@ ghost use lib.ListN.{length, getD};
 ghost use Rattle.octets.specs.Bits.{bitOf};
 ghost use Rattle.envelope.specs.ControlMask.{masked};
 ghost use Rattle.gf256.specs.Lanes.{octetAt};
-ghost use Rattle.sealing.specs.RowWords.{Eight, Four};
-use super::rows::both;
-use super::rows::four;
-use super::rows::wide;
-
-fn four_at(p: &[u8], at: usize) -> u64
-    requires { ⌜ at + 4 ≤ length (now p) ⌝ }
-    ensures { λ r. ⌜ Four (λ j. getD (now (p .entry)) (at + j) 0) r ⌝ }
-{
-    four(
-        wide(p[at + 0]),
-        wide(p[at + 1]),
-        wide(p[at + 2]),
-        wide(p[at + 3]),
-    )
-}
+ghost use Rattle.cipher.specs.RowWords.{Eight};
+use cipher::rows::eight;
+use cipher::rows::wide;
 
 pub(crate) fn eight_at(p: &[u8], at: usize) -> u64
     requires { ⌜ at + 8 ≤ length (now p) ⌝ }
     ensures { λ r. ⌜ Eight (λ j. getD (now (p .entry)) (at + j) 0) r ⌝ }
 {
-    both(four_at(p, at), four_at(p, at + 4))
+    eight([
+        p[at + 0],
+        p[at + 1],
+        p[at + 2],
+        p[at + 3],
+        p[at + 4],
+        p[at + 5],
+        p[at + 6],
+        p[at + 7],
+    ])
 }
 
 // 255 for each data octet, 0 for each control character: bit j of the control octet comes to octet j by shift and mask (D68).

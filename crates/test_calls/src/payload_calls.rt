@@ -1,13 +1,13 @@
 // The calls of sealing, each with its line.
 use crate::show;
 use crate::values;
+use cipher::aes128::RoundKeys;
 use jazmotip::payloads::jazmotip_count;
 use jazmotip::payloads::jazmotip_expand_key;
 use jazmotip::payloads::jazmotip_seal;
 use jazmotip::payloads::jazmotip_seal_expanded;
 use jazmotip::payloads::jazmotip_seal_expanded_in_place;
 use jazmotip::payloads::jazmotip_seal_in_place;
-use sealing::aes128::RoundKeys;
 
 fn expand() -> RoundKeys {
     let key = values::key();

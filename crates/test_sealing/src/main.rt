@@ -1,10 +1,10 @@
 // Seals payloads and prints, case by case, code, count and a sum over the output: against values that an independent
 // AES-128 in counter mode gave, with the mask of 01 applied (tools/test_sealing.py). In place, the runs of the cipher stand beside the count.
+use cipher::aes128;
+use cipher::key_expansion;
 use envelope::Nonce;
 use libc::STDOUT_FILENO;
-use sealing::aes128;
 use sealing::counter_mode;
-use sealing::key_expansion;
 
 // The control octet of EQ e: one value for all EQs; for 256, mixed; for 257, mixed in three of ten blocks and FF hex in the others.
 fn control(kind: u64, e: usize) -> u8 {

@@ -1,8 +1,8 @@
 // Prints published values of AES-128, each after the place it is published at: FIPS 197; SP 800-38A; Rec. ITU-T G.987.3 (document 003).
 // What the documents say is in the file stdout.
+use cipher::aes128;
+use cipher::key_expansion;
 use libc::STDOUT_FILENO;
-use sealing::aes128;
-use sealing::key_expansion;
 ghost use Prim.Native.Nat.{_<_};
 
 // The value of a hexadecimal digit.

@@ -9,7 +9,7 @@ use Rattle.refusal.specs.declared.Verdict.{Verdict}
 use Rattle.refusal.specs.declared.Verdict.the-variants.{Accepted, Refused}
 use Rattle.envelope.specs.Acceptance.{lengthsFit, sealVerdict}
 use Rattle.envelope.specs.declared.Nonce.{Nonce}
-use Rattle.sealing.specs.KeyExpansion.{keyExpansion}
+use Rattle.cipher.specs.KeyExpansion.{keyExpansion}
 use Rattle.sealing.specs.Seal.{carried, countCarried, runsCarried}
 use Rattle.protocol.specs.Headers.{choiceEnciphered}
 use Rattle.protocol.specs.declared.Passage.{Passage}

@@ -9,7 +9,7 @@ use borrow.Author.Tests.{leb-true, eq-eqb, not-false}
 use Rattle.octets.specs.Choice.{pick}
 use Rattle.octets.proofs.Choice.{both-left, both-right, both-true, not-of-true}
 use Rattle.envelope.specs.Acceptance.{lengthsFit}
-use Rattle.sealing.specs.KeyExpansion.{keyExpansion}
+use Rattle.cipher.specs.KeyExpansion.{keyExpansion}
 use Rattle.sealing.specs.Seal.{carried, countCarried, runsCarried}
 use Rattle.sealing.proofs.Seal.{carried-length, carried-twice, count-carried, runs-carried}
 use Rattle.protocol.specs.declared.Passage.{Passage}

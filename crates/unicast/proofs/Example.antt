@@ -11,7 +11,7 @@ use Rattle.octets.proofs.Members.{mem-at}
 use Rattle.octets.specs.Output.{WithOutput}
 use Rattle.refusal.specs.Number.{numberOf}
 use Rattle.envelope.specs.declared.Nonce.{Nonce}
-use Rattle.sealing.specs.KeyExpansion.{keyExpansion}
+use Rattle.cipher.specs.KeyExpansion.{keyExpansion}
 use Rattle.sealing.specs.Seal.{carried, countCarried}
 use Rattle.protocol.specs.Headers.{envelopeHeader}
 use Rattle.ends.specs.Identities.{has}

@@ -10,7 +10,7 @@ use Rattle.octets.specs.Choice.{pick}
 use Rattle.octets.proofs.Members.{each-more}
 use Rattle.envelope.specs.Acceptance.{lengthsFit}
 use Rattle.envelope.specs.declared.Nonce.{Nonce}
-use Rattle.sealing.specs.KeyExpansion.{keyExpansion}
+use Rattle.cipher.specs.KeyExpansion.{keyExpansion}
 use Rattle.sealing.specs.Seal.{carried}
 use Rattle.ends.specs.Identities.{has}
 use Rattle.ends.specs.declared.Channels.{Channels}

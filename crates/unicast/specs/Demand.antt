@@ -7,7 +7,7 @@ use lib.ListN.{length, getD}
 use Rattle.clock.specs.Ticks.{clockTurn, localTurn, maxRoundTrip}
 use Rattle.envelope.specs.CounterBlock.{counterBlock}
 use Rattle.envelope.specs.declared.Nonce.{Nonce}
-use Rattle.sealing.specs.KeyExpansion.{keyExpansion}
+use Rattle.cipher.specs.KeyExpansion.{keyExpansion}
 use Rattle.sealing.specs.Seal.{carried}
 use Rattle.protocol.specs.Headers.{choiceEnciphered, envelopeHeader, noPassage}
 use Rattle.ends.specs.Identities.{has}

@@ -5,7 +5,7 @@ use native.Mathlib.Omega.{arith}
 use Rattle.envelope.specs.ControlMask.{countEnciphered, runs}
 use borrow.Author.Needs.{needs}
 use denote.Ref.{now}
-use Rattle.sealing.specs.declared.aes128.RoundKeys.{RoundKeys}
+use Rattle.cipher.specs.declared.aes128.RoundKeys.{RoundKeys}
 use Rattle.records.specs.declared.header.Header.{Header}
 use Rattle.capture.specs.Opening.{addedAs}
 use Rattle.capture.specs.Duties.{Opens}

@@ -8,7 +8,7 @@ use borrow.Author.Tests.{not-true, not-false}
 use denote.Ref.{now}
 use Rattle.octets.specs.Choice.{both}
 use Rattle.records.specs.Settings.{keyPresent, keyOf}
-use Rattle.sealing.specs.KeyExpansion.{keyExpansion}
+use Rattle.cipher.specs.KeyExpansion.{keyExpansion}
 use Rattle.rights.specs.Settings.{setOf}
 use Rattle.class.specs.Opening.{isExpanded}
 use Rattle.class.proofs.Expanding.{not-expanded, expanded-there}

@@ -5,9 +5,9 @@ use Rattle.octets.specs.Lists.{written}
 use Rattle.envelope.specs.CounterBlock.{counterBlock}
 use Rattle.envelope.specs.declared.Nonce.{Nonce}
 use Rattle.sealing.proofs.Payload.{eq-written, sealed-more, low-serves, high-serves}
-use Rattle.sealing.specs.Cipher.{cipher}
+use Rattle.cipher.specs.Cipher.{cipher}
 use Rattle.sealing.specs.Payload.{sealed}
-use Rattle.sealing.specs.RowWords.{blockOctets}
+use Rattle.cipher.specs.RowWords.{blockOctets}
 use lib.ListN.{length}
 use mathlib.Core.List.{List}
 use mathlib.Core.Path.{_≡_, refl, _∙_}

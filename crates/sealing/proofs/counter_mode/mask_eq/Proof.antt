@@ -1,16 +1,14 @@
--- `sealing::counter_mode::mask_eq` meets its contract: the octets below j are those of the word, which has the data octets masked, and the others,
--- like the control octet, are still as they came. Assumes nothing.
+-- `sealing::counter_mode::mask_eq` meets its contract: the octets below j are the data octets masked, and the others, like the control octet, are
+-- still as they came. Assumes nothing.
 use Prim.Native.Nat.{ℕ, _+_, _-_, _≤_, _<_}
-use Rattle.octets.proofs.Lists.{paste-all, tabulate-at}
+use Rattle.octets.proofs.Lists.{paste-all, tabulate-ext}
 use Rattle.octets.specs.Lists.{tabulate, replaced}
 use Rattle.envelope.specs.ControlMask.{masked}
 use Rattle.gf256.specs.Lanes.{octetAt}
-use Rattle.sealing.specs.RowWords.{Eight}
 use lib.ListN.{length, getD, set, length-set}
 use lib.Seq.{paste, paste-zero, paste-suc, take-suc, drop-cons}
 use mathlib.Core.List.{List, _∷_, append-assoc}
 use mathlib.Core.Path.{_≡_, ap, sym, _∙_, refl}
-use native.Mathlib.Nat.{zero-add}
 use native.Mathlib.Numerals.{add-one}
 use native.Mathlib.Omega.{arith}
 use borrow.Author.Needs.{needs}
@@ -36,50 +34,46 @@ before-kept : (s t : List ℕ) (at : ℕ) → at < length s → replaced s (at +
 before-kept s t at h = rw (add-one, take-suc s at 0 h, drop-cons s at 0 h, append-assoc)
 
 abbrev Inv-loop : tie.InvT-loop
-Inv-loop payload₀ half at word j₀ payload j =
+Inv-loop payload₀ half at word octets j₀ payload j =
     (j ≤ 8) × (at + 9 ≤ length payload₀) × (length payload ≡ length payload₀)
     × (payload ≡ paste payload₀ (at + 1) (dataOctets half payload₀ at) j)
-    × Eight (dataOctet half payload₀ at) word
+    × (octets ≡ dataOctets half payload₀ at)
 
 abbrev μ-loop : tie.MeasureT-loop
-μ-loop payload₀ half at word j₀ payload j = 8 - j
+μ-loop payload₀ half at word octets j₀ payload j = 8 - j
 
 loop-holds : tie.Need-loop-holds Inv-loop μ-loop
 loop-holds c =
-    let read = c .before in
+    let masked-word = c .before in
+    let read = masked-word .before in
     let start = read .before .before .before .before in
     let a = start .args in
     let p = a .payload .now in
-    let word : Eight (dataOctet (a .half) p (a .at)) (c .mask-eight .result) =
-    record {
-      octet = λ j l.
-          let place : a .at + 1 + j ≡ a .at + (j + 1) = omega arith in
-          c .mask-eight .ensures .octet j l
-          ∙ ap (masked (getD p (a .at) 0) j (octetAt (a .half) j)) (read .eight-at .ensures .octet j l ∙ ap (λ (k : ℕ). getD p k 0) place);
-    } in
-    (search needs, start .pre, refl, paste-zero p (a .at + 1) (dataOctets (a .half) p (a .at)), word)
+    let same : (j : ℕ) → 0 ≤ j → j < 0 + 8 → octetAt (masked-word .mask-eight .result) j ≡ dataOctet (a .half) p (a .at) j = λ j z l.
+    let place : a .at + 1 + j ≡ a .at + (j + 1) = omega arith in
+    masked-word .mask-eight .ensures .octet j l
+    ∙ ap (masked (getD p (a .at) 0) j (octetAt (a .half) j)) (read .eight-at .ensures .octet j l ∙ ap (λ (k : ℕ). getD p k 0) place) in
+    let octets = c .octets-of .ensures ∙ tabulate-ext 0 8 (octetAt (masked-word .mask-eight .result)) (dataOctet (a .half) p (a .at)) same in
+    (search needs, start .pre, refl, paste-zero p (a .at + 1) (dataOctets (a .half) p (a .at)), octets)
 
 loop-again : tie.Need-loop-again Inv-loop μ-loop
 loop-again c =
-    let loop = c .before .before .loop in
+    let loop = c .before .loop in
     let a = c .before .before .before .before .before .before .before .before .args in
     let octets = dataOctets (a .half) (a .payload .now) (a .at) in
-    let here : c .octet .result ≡ getD octets (loop .j) 0 =
-    c .octet .ensures
-    ∙ loop .inv .4 .octet (loop .j) (search needs)
-    ∙ sym (rw zero-add at (tabulate-at 0 8 (dataOctet (a .half) (a .payload .now) (a .at)) (loop .j) 0 (search needs))) in (
+    let here = ap (λ (l : List ℕ). getD l (loop .j) 0) (loop .inv .4) in (
       search needs,
       loop .inv .1,
       simp length-set (loop .inv .2),
-      ap (λ (l : List ℕ). set l (a .at + (loop .j + 1)) (c .octet .result)) (loop .inv .3)
-          ∙ paste-more (a .payload .now) octets (a .at) (loop .j) (c .octet .result) here (omega arith) (search needs),
+      ap (λ (l : List ℕ). set l (a .at + (loop .j + 1)) (getD (c .before .before .octets-of .result) (loop .j) 0)) (loop .inv .3)
+          ∙ paste-more (a .payload .now) octets (a .at) (loop .j) _ here (omega arith) (search needs),
       loop .inv .4,
     )
 
 returns : tie.Need-returns Inv-loop μ-loop
 returns c =
     let loop = c .before .loop in
-    let a = c .before .before .before .before .before .before .before .args in
+    let a = c .before .before .before .before .before .before .before .before .args in
     let octets = dataOctets (a .half) (a .payload .now) (a .at) in
     let all : loop .j ≡ 8 = omega arith in
     rw all at (loop .inv .3) ∙ paste-all (a .payload .now) (a .at + 1) octets ∙ before-kept (a .payload .now) octets (a .at) (omega arith)
@@ -87,5 +81,6 @@ returns c =
 pub mask-eq-spec : {M : Type 1} → statement M
 mask-eq-spec =
     tie.close
-    (tie.spec Inv-loop μ-loop (λ c. search needs) (λ c. search needs) (λ c κs. search needs) (λ c κs. search needs) loop-holds (λ c κs. search needs)
-    (λ c. search needs) (λ c. search needs) (λ c. search needs) (λ c. search needs) (λ c. search needs) loop-again (λ c. search needs) returns)
+    (tie.spec Inv-loop μ-loop (λ c. search needs) (λ c. search needs) (λ c κs. search needs) (λ c κs. search needs) (λ c κs. search needs) loop-holds
+    (λ c. search needs) (λ c. search needs) (λ c. search needs) (λ c. search needs) (λ c. search needs) (λ c. search needs) loop-again
+    (λ c. search needs) returns)

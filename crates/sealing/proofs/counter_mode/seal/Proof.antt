@@ -1,7 +1,7 @@
 -- `sealing::counter_mode::seal` meets its contract: the key is expanded wherever it matters, and the laws hold of every payload. Assumes nothing.
 use Rattle.sealing.proofs.Payload.{sealed-laws}
 use Rattle.sealing.proofs.Seal.{sealing-key}
-use Rattle.sealing.specs.KeyExpansion.{keyExpansion}
+use Rattle.cipher.specs.KeyExpansion.{keyExpansion}
 use borrow.Author.Needs.{needs}
 use mathlib.Core.Path.{_∙_}
 use Rattle.sealing.proofs.counter_mode.seal.Statement.{statement}

@@ -1,6 +1,6 @@
 -- `sealing::counter_mode::seal_in_place` meets its contract: the key is expanded wherever it matters. Assumes nothing.
 use Rattle.sealing.proofs.Seal.{sealing-key}
-use Rattle.sealing.specs.KeyExpansion.{keyExpansion}
+use Rattle.cipher.specs.KeyExpansion.{keyExpansion}
 use borrow.Author.Needs.{needs}
 use mathlib.Core.Path.{_∙_}
 use Rattle.sealing.proofs.counter_mode.seal_in_place.Statement.{statement}

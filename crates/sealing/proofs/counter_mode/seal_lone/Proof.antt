@@ -1,6 +1,6 @@
 -- `sealing::counter_mode::seal_lone` meets its contract: its block is that of the counter block i. Assumes nothing.
 use mathlib.Core.Path.{refl, ap, _∙_}
-use Rattle.sealing.specs.Cipher.{cipher}
+use Rattle.cipher.specs.Cipher.{cipher}
 use borrow.Author.Needs.{needs}
 use Rattle.sealing.proofs.counter_mode.seal_lone.Statement.{statement}
 use Rattle.sealing.proofs.counter_mode.seal_lone.Tie as tie
@@ -11,7 +11,7 @@ returns c =
     let enciphered = masked .before .before in
     let counted = enciphered .before in
     let a = counted .before .before .args in
-    let own = enciphered .encrypt-lone .ensures ∙ ap (cipher (a .w .now)) (counted .counter-block .ensures) in
+    let own = enciphered .encrypt-lone .ensures .holds (counted .before .before .pre .0) ∙ ap (cipher (a .w .now)) (counted .counter-block .ensures) in
     (masked .mask-block .ensures .sealed (a .w .now) (a .nonce) own, refl)
 
 pub seal-lone-spec : {M : Type 1} → statement M

@@ -12,12 +12,15 @@ returns c =
     let second = c .before .before in
     let first = second .before .before .before .before in
     let enciphered = first .before .before in
-    let a = enciphered .before .before .args in
+    let start = enciphered .before .before in
+    let a = start .args in
     let w = a .w .now in
+    let both = enciphered .encrypt-pair .ensures .holds (start .pre .0 .0) in
+    let keys = start .pre .0 .1 in
     record {
       sealed = λ n share.
-          second .mask-block2 .ensures .sealed w n (enciphered .encrypt-pair .ensures .second n share)
-          ∙ ap (λ (p : List ℕ). blockSealed w n p (a .j)) (first .mask-block .ensures .sealed w n (enciphered .encrypt-pair .ensures .first n share));
+          second .mask-block2 .ensures .sealed w n (both .second n keys share)
+          ∙ ap (λ (p : List ℕ). blockSealed w n p (a .j)) (first .mask-block .ensures .sealed w n (both .first n keys share));
       runs = refl;
     }
 

@@ -4,9 +4,9 @@ use Rattle.envelope.specs.ControlMask.{maxBlocks, blocksOf, needsRun, runsBelow
 use Rattle.envelope.specs.declared.Nonce.{Nonce}
 use Rattle.sealing.proofs.Payload.{runs-at-most}
 use Rattle.sealing.proofs.Runs.{first-runs, first-sealed, idle-stretch, next-past, no-run, two-more, two-runs}
-use Rattle.sealing.specs.Cipher.{Nr}
-use Rattle.sealing.specs.FirstRound.{Kept}
-use Rattle.sealing.specs.RowWords.{PairKeys}
+use Rattle.cipher.specs.Cipher.{Nr}
+use Rattle.cipher.specs.FirstRound.{Kept}
+use Rattle.cipher.specs.RowWords.{PairKeys}
 use Rattle.sealing.specs.Steps.{NextRun, blockSealed, sealedBelow}
 use lib.ListN.{length}
 use mathlib.Core.Bool.{true}
@@ -120,10 +120,11 @@ next : (c : tie.After-next-run Inv-loop μ-loop) → let at-loop = c .before .be
 next c =
     let paired = c .before .before .before .before in
     let at-loop = paired .before .before .before in
-    let a = at-loop .before .before .before .before .before .args in
+    let start = at-loop .before .before .before .before .before in
+    let a = start .args in
     let m = at-loop .loop .second + 1 in
     next-past (a .w .now) (a .nonce) (a .payload .now) (at-loop .loop .inv .1) m m (omega arith)
-    (rw (more paired (a .nonce) (at-loop .before .kept-rows .ensures)) at (c .next-run .ensures))
+    (rw (more paired (a .nonce) (at-loop .before .kept-rows .ensures .holds (start .pre .0))) at (c .next-run .ensures))
 
 loop-again : tie.Need-loop-again Inv-loop μ-loop
 loop-again c =
@@ -153,7 +154,7 @@ loop-again c =
       below,
       to .needed,
       next-past w (a .nonce) p (inv .1) m (ran .next-run .result + 1) (omega arith)
-          (rw (more paired (a .nonce) (at-loop .before .kept-rows .ensures)) at (c .next-run2 .ensures)),
+          (rw (more paired (a .nonce) (at-loop .before .kept-rows .ensures .holds (start .pre .0))) at (c .next-run2 .ensures)),
       omega (arith, inv .8, paired .seal-pair .ensures .runs, none, two),
       λ n share. more paired n share ∙ idle-stretch w n p (inv .1) m (ran .next-run .result) past below (to .idle),
     )
@@ -170,12 +171,12 @@ returns-2 : tie.Need-returns-2 Inv-loop μ-loop
 returns-2 c =
     let at-loop = c .before in
     let inv = at-loop .loop .inv in
-    let a = at-loop .before .before .before .before .before .args in
+    let start = at-loop .before .before .before .before .before in
     record {
       below = inv .5;
       needed = inv .6;
       rest = λ k l u. inv .7 .idle k (omega arith) (omega arith);
-      sealed = inv .9 (a .nonce) (at-loop .before .kept-rows .ensures);
+      sealed = inv .9 (start .args .nonce) (at-loop .before .kept-rows .ensures .holds (start .pre .0));
       runs = inv .8;
     }
 

@@ -6,7 +6,7 @@ use lib.Dec.{ltb}
 use lib.ListN.{length}
 use borrow.Author.Tests.{ltb-false}
 use Rattle.octets.specs.Choice.{both}
-use Rattle.sealing.specs.KeyExpansion.{keyExpansion}
+use Rattle.cipher.specs.KeyExpansion.{keyExpansion}
 use Rattle.traffic.specs.Passages.{passageNonce, passed, passedCount, passedRuns}
 use Rattle.traffic.proofs.Passages.{sealing-carried, empty-clear}
 use borrow.Author.Needs.{needs}

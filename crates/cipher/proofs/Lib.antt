@@ -1,0 +1,5 @@
+pub mod Cipher
+pub mod FirstRound
+pub mod KeyExpansion
+pub mod RowWords
+pub mod Sums

@@ -1,0 +1,6 @@
+pub mod Cipher
+pub mod FirstRound
+pub mod KeyExpansion
+pub mod RowWords
+pub mod Steps
+pub mod Words

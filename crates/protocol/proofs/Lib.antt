@@ -15,3 +15,4 @@ pub mod Replies
 pub mod UnitCalls
 pub mod UnitChoices
 pub mod UnitTraffic
+pub mod Worked

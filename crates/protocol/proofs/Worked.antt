@@ -6,21 +6,26 @@ use mathlib.Core.List.{List, [], _∷_}
 use Prim.Native.Nat.{ℕ, _+_, _^_}
 use lib.ListN.{replicate}
 use Rattle.octets.specs.Choice.{both, either, pick}
-use Rattle.octets.specs.Lists.{same}
+use Rattle.octets.specs.Lists.{same, all}
 use Rattle.refusal.specs.Number.{verdictNumber}
 use Rattle.refusal.specs.Order.{refuseIf}
-use Rattle.envelope.specs.Channels.{onZero}
-use Rattle.ends.specs.Identities.{among, llidsOf, has}
+use Rattle.envelope.specs.Channels.{upstream, onZero}
+use Rattle.ends.specs.Identities.{among, distinct, llidsOf, has, kept, validMac, validIdentity}
 use Rattle.ends.specs.Keys.{noKey, noSlots, keyIn, notedAt, aged}
-use Rattle.ends.specs.Occupancy.{freeChannels, freeFrom, taken, occupied}
-use Rattle.ends.specs.Records.{withKeys, withTimer, withOnuClock, withTravel}
+use Rattle.ends.specs.Occupancy.{freeChannels, freeFrom, taken, occupied, validChannels}
+use Rattle.ends.specs.Records.{withKeys, withTimer, newOlt, withOnuClock, withTravel, newOnu}
 use Rattle.ends.specs.Timers.{timerAdvanced, timerFallen}
-use Rattle.ends.specs.Travels.{shiftOf, travelOf, travelChanged, waits}
+use Rattle.ends.specs.Table.{tableLlids}
+use Rattle.ends.specs.Travels.{shiftOf, validChanges, travelOf, travelChanged, waits}
+use Rattle.ends.specs.Validity.{validShared, validOlt, validOnuKeys, validOnuClock, validOnu}
+use Rattle.protocol.specs.Replies.{reply, advanceVerdict}
 use Rattle.protocol.specs.Lift.{outcome}
 use Rattle.protocol.specs.Headers.{choiceNumber, choiceVerdict, choiceAged, choiceEnciphered, passageOf, sendingOf}
 use Rattle.protocol.specs.UnitCalls.{unitAdvanced, clockSendVerdict}
 use Rattle.protocol.specs.UnitTraffic.{switches, unitSendChoice, unitSendVerdict, keysSwitched, keysAfterSend, sendUnit, unitReceiveChoice, unitReceiveVerdict, receiveUnit}
-use Rattle.protocol.specs.OnuCalls.{timeAhead, changesAfter, onuRetimed, newKey, heldKey, activeKey, keyMessageVerdict}
+use Rattle.protocol.specs.OltCalls.{oltAnswer, advancingOlt, advanceOltOf}
+use Rattle.protocol.specs.OnuCalls.{onuReply, timeAhead, changesAfter, onuRetimed, newKey, heldKey, activeKey, keyMessageVerdict}
+use Rattle.protocol.specs.OnuTraffic.{onuSendChoice, busyUp, onuSendVerdict, sendingOnu}
 use Rattle.ends.specs.declared.Channels.{Channels}
 use Rattle.ends.specs.declared.Identity.{Identity}
 use Rattle.ends.specs.declared.Onu.{Onu}
@@ -188,3 +193,16 @@ pub onu-rows : OnuRows
 unfolding pick both either same refuseIf among llidsOf has keyIn withOnuClock withTravel shiftOf travelOf travelChanged waits timeAhead
     changesAfter onuRetimed newKey heldKey activeKey keyMessageVerdict
 onu-rows = record { held = refl; heldOther = refl; active = refl; activeOther = refl; zero = refl; one = refl; waiting = refl; passed = refl }
+
+---- fresh ends
+
+pub record FreshRows : Type 0 where
+  -- a fresh end is valid, so not 1, and its channels are free from its first call on (01, What a reviewer will try: 1)
+  pub olt : advanceOltOf (newOlt 1 0) 7 .number ≡ 0
+  pub onu : verdictNumber (sendingOnu (newOnu identity 1 0) false 5 0x80 0 .verdict) ≡ 0
+
+pub fresh-rows : FreshRows
+unfolding pick both either all refuseIf among distinct llidsOf has kept validMac validIdentity tableLlids shiftOf validChanges travelOf waits
+    validChannels freeFrom taken onZero upstream newOlt newOnu validShared validOlt validOnuKeys validOnuClock validOnu reply advanceVerdict
+    oltAnswer advancingOlt advanceOltOf onuReply choiceEnciphered choiceAged onuSendChoice busyUp onuSendVerdict sendingOnu
+fresh-rows = record { olt = refl; onu = refl }

@@ -1,7 +1,9 @@
--- Send and receive of the OLT keep it valid, and their verdict is that of their order. Assumes nothing.
-use mathlib.Core.Path.{_≡_, refl, ap, _∙_}
+-- Send and receive of the OLT keep it valid, their verdict is that of their order, and the flag stays up until a switch. Assumes nothing.
+use mathlib.Core.Path.{_≡_, refl, sym, ap, _∙_}
 use mathlib.Core.Bool.{Bool, true, false, not}
 use Prim.Native.Nat.{ℕ, _≤_}
+use lib.Dec.{eqb}
+use borrow.Author.Tests.{eqb-true, eqb-false}
 use Rattle.octets.specs.Choice.{both}
 use Rattle.octets.specs.Eqs.{maxEqs}
 use Rattle.octets.proofs.Choice.{both-true, not-of-true}
@@ -12,20 +14,54 @@ use Rattle.refusal.specs.declared.Verdict.the-variants.{Accepted, Refused}
 use Rattle.refusal.specs.Order.{refuseIf}
 use Rattle.protocol.specs.Replies.{onValid}
 use Rattle.envelope.specs.Channels.{downstream, upstream}
-use Rattle.ends.specs.Table.{find, unitAt}
+use Rattle.ends.specs.Table.{find, unitAt, withUnit}
 use Rattle.ends.specs.Validity.{validOlt}
 use Rattle.protocol.specs.Lift.{outcome}
 use Rattle.protocol.specs.Headers.{validHeader, noPassage, noSending}
-use Rattle.protocol.specs.UnitTraffic.{sendUnit, receiveUnit}
+use Rattle.protocol.specs.UnitTraffic.{switches, sendUnit, receiveUnit}
 use Rattle.protocol.specs.OltTraffic.{sendOrder, sendingOlt, receiveOrder, receivingOlt}
 use Rattle.ends.specs.declared.Olt.{Olt}
+use Rattle.ends.specs.declared.UnitRecord.{UnitRecord}
 use Rattle.protocol.specs.declared.Header.{Header}
 use Rattle.ends.specs.declared.Found.the-variants.{At}
 use Rattle.refusal.proofs.Order.{refuse-accepted, refuse-passed, two-then}
+use Rattle.ends.proofs.Table.{find-at, with-unit, with-other}
 use Rattle.protocol.proofs.Replies.{Untouched}
-use Rattle.protocol.proofs.Lift.{Lifted, lift-verdict, lift-accepts, lift-untouched, lift-valid}
-use Rattle.protocol.proofs.UnitTraffic.{send-keeps, receive-keeps}
+use Rattle.protocol.proofs.Lift.{Lifted, lift-verdict, lift-accepts, lift-untouched, lift-keeps, lift-valid}
+use Rattle.protocol.proofs.UnitTraffic.{timer-stays, send-keeps, receive-keeps}
 use Rattle.protocol.proofs.UnitChoices.{Receives, receive-accepts}
+
+-- what a send refuses ahead of 2
+abbrev pub sendAhead : Bool → ℕ → Verdict
+sendAhead misfit channel = refuseIf misfit BadLength (refuseIf (not (downstream channel)) OutOfRange Accepted)
+
+-- what a receipt refuses ahead of 2
+abbrev pub receiveAhead : Bool → Header → Verdict
+receiveAhead misfit h = refuseIf misfit BadLength (refuseIf (not (both (upstream (h .channel)) (validHeader h))) OutOfRange Accepted)
+
+---- the timer
+
+-- the flag stays up until a switch: a send that is refused, to another unit or no switch leaves a unit's timer
+pub flag-stays : (o : Olt) (misfit : Bool) (llid channel eqs i : ℕ)
+    → (sendingOlt o misfit llid channel eqs .verdict ≡ Accepted → find o llid ≡ At i → switches (unitAt o i) ≡ false)
+    → unitAt (sendingOlt o misfit llid channel eqs .end) i .keys .timer ≡ unitAt o i .keys .timer
+unfolding sendingOlt
+flag-stays o misfit llid channel eqs i stays =
+    lift-keeps o noSending (sendAhead misfit channel) llid (sendUnit llid channel eqs) (λ (p : Olt). unitAt p i .keys .timer ≡ unitAt o i .keys .timer)
+    refl (λ l. by-place l (eqb i (l .at)) refl) where
+      by-place : (l : Lifted o noSending (sendAhead misfit channel) llid (sendUnit llid channel eqs)) (t : Bool) → eqb i (l .at) ≡ t
+          → unitAt
+          (withUnit o (l .at) (sendUnit llid channel eqs (o .shared) (unitAt o (l .at)) .channels)
+          (sendUnit llid channel eqs (o .shared) (unitAt o (l .at)) .unit)) i .keys .timer
+          ≡ unitAt o i .keys .timer
+      by-place l true e =
+          let same : i ≡ l .at = eqb-true i (l .at) e in
+          rw same
+          (ap (λ (u : UnitRecord). u .keys .timer) (with-unit o (l .at) _ _ (find-at o llid (l .at) (l .found) .place))
+          ∙ timer-stays llid channel eqs (o .shared) (unitAt o (l .at)) (rw same at (stays (l .verdict) (l .found ∙ ap At (sym same)))))
+      by-place l false e = ap (λ (u : UnitRecord). u .keys .timer) (with-other o (l .at) i _ _ (eqb-false i (l .at) e))
+
+---- validity
 
 -- a payload whose length is not refused has at most the most EQs
 pub sending-valid : (o : Olt) (misfit : Bool) (llid channel eqs : ℕ) → (misfit ≡ false → eqs ≤ maxEqs) → validOlt o ≡ true
@@ -44,14 +80,6 @@ unfolding receivingOlt
 receiving-untouched o misfit h r e = lift-untouched o noPassage _ (h .llid) (receiveUnit h) r e
 
 ---- what an accepted call has met
-
--- what a send refuses ahead of 2
-abbrev pub sendAhead : Bool → ℕ → Verdict
-sendAhead misfit channel = refuseIf misfit BadLength (refuseIf (not (downstream channel)) OutOfRange Accepted)
-
--- what a receipt refuses ahead of 2
-abbrev pub receiveAhead : Bool → Header → Verdict
-receiveAhead misfit h = refuseIf misfit BadLength (refuseIf (not (both (upstream (h .channel)) (validHeader h))) OutOfRange Accepted)
 
 -- an envelope that names a registered unit, of the right direction and with a buffer that fits, is taken as its unit takes it
 pub receiving-accepts : (o : Olt) (h : Header) (i : ℕ) → validOlt o ≡ true → upstream (h .channel) ≡ true → validHeader h ≡ true

@@ -6,7 +6,7 @@ use mathlib.Core.Logic.{⊎-elim}
 use Prim.Native.Nat.{ℕ, _+_, _-_, _≤_, _<_}
 use native.Mathlib.Omega.{arith}
 use lib.Dec.{leb, eqb}
-use borrow.Author.Tests.{leb-true, leb-false, ltb-false, eqb-true, eqb-false, le-leb, not-false}
+use borrow.Author.Tests.{leb-true, leb-false, ltb-false, eqb-true, eqb-false, le-leb, ne-eqb, not-false}
 use Rattle.octets.specs.Choice.{both, pick}
 use Rattle.octets.specs.Lists.{same}
 use Rattle.octets.proofs.Choice.{both-left, both-right, either-false, pick-false, either-left, either-right, either-cases}
@@ -28,7 +28,7 @@ use Rattle.ends.specs.declared.UnitClock.{UnitClock}
 use Rattle.ends.specs.declared.UnitRecord.{UnitRecord}
 use Rattle.ends.specs.declared.Shared.{Shared}
 use Rattle.protocol.specs.declared.Acknowledgement.{Acknowledgement}
-use Rattle.refusal.proofs.Order.{refuse-accepted}
+use Rattle.refusal.proofs.Order.{refuse-accepted, refuse-passed}
 use Rattle.ends.proofs.Timers.{timer-sum, timer-advanced-valid}
 use Rattle.ends.proofs.Keys.{first-later-valid}
 use Rattle.ends.proofs.Validity.{ClockInRange, clock-in-range, clock-valid, unit-in-range, unit-valid, shared-in-range}
@@ -178,6 +178,11 @@ offer-accepted u key e =
 pub retry-accepted : (u : UnitRecord) → retryVerdict (u .keys) ≡ Accepted → u .keys .offered ≡ u .keys .active → ⊥
 unfolding retryVerdict
 retry-accepted u e = eqb-false _ _ (refuse-accepted _ _ _ e .0)
+
+-- while an offer is outstanding a retry is accepted, whatever was acknowledged
+pub retry-accepts : (llid : ℕ) (s : Shared) (u : UnitRecord) → (u .keys .offered ≡ u .keys .active → ⊥) → retryUnit llid s u .verdict ≡ Accepted
+unfolding retryUnit retryVerdict outcome
+retry-accepts llid s u more = refuse-passed _ NothingOutstanding _ (ne-eqb _ _ more)
 
 pub key-acknowledged-accepted : (number : ℕ) (s : Shared) (u : UnitRecord) → keyAcknowledgedUnit number s u .verdict ≡ Accepted
     → (1 ≤ number) × (number ≡ u .keys .offered)

@@ -1,13 +1,17 @@
 -- Send and receive on one unit keep it valid and of its identity. Assumes nothing.
 use mathlib.Core.Path.{_≡_, refl}
-use mathlib.Core.Bool.{true}
+use mathlib.Core.Bool.{Bool, true, false}
 use Prim.Native.Nat.{ℕ, _≤_}
 use native.Mathlib.Omega.{arith}
+use lib.Dec.{eqb}
+use Rattle.octets.specs.Choice.{pick}
 use Rattle.octets.specs.Eqs.{maxEqs}
 use Rattle.ends.specs.Records.{withKeys, withConfirmation, withSlots, withFirst}
+use Rattle.ends.specs.Timers.{timerFallen}
 use Rattle.ends.specs.Validity.{validUnit}
 use Rattle.protocol.specs.Lift.{outcome}
-use Rattle.protocol.specs.UnitTraffic.{unitSendChoice, keysSwitched, keysAfterSend, sendUnit, unitReceiveChoice, unitConfirmed, unitAfterReceipt, receiveUnit}
+use Rattle.protocol.specs.UnitTraffic.{switches, unitSendChoice, keysSwitched, keysAfterSend, sendUnit, unitReceiveChoice, unitConfirmed, unitAfterReceipt, receiveUnit}
+use Rattle.ends.specs.declared.Shared.{Shared}
 use Rattle.ends.specs.declared.UnitRecord.{UnitRecord}
 use Rattle.protocol.specs.declared.Header.{Header}
 use Rattle.protocol.specs.declared.KeyChoice.{KeyChoice}
@@ -61,6 +65,20 @@ send-keeps llid channel eqs h =
           let r = shared-in-range s v in
           occupied-valid (s .channels) channel (s .tick) eqs (r .tick) h (r .channels);
     }
+
+-- the flag falls at a switch alone
+pub timer-falls : (llid channel eqs : ℕ) (s : Shared) (u : UnitRecord) → switches u ≡ true
+    → sendUnit llid channel eqs s u .unit .keys .timer ≡ timerFallen (u .keys .timer)
+unfolding sendUnit withKeys unitSendChoice keysAfterSend keysSwitched pick
+timer-falls llid channel eqs s u e = rw e
+
+pub timer-stays : (llid channel eqs : ℕ) (s : Shared) (u : UnitRecord) → switches u ≡ false
+    → sendUnit llid channel eqs s u .unit .keys .timer ≡ u .keys .timer
+unfolding sendUnit withKeys unitSendChoice keysAfterSend withFirst pick
+timer-stays llid channel eqs s u e = rw e (by-active (eqb (u .keys .active) 0)) where
+  by-active : (z : Bool) → keysAfterSend (pick z Clear (Current (u .keys .active))) (u .keys) (s .tick) .timer ≡ u .keys .timer
+  by-active true = refl
+  by-active false = refl
 
 received-valid : (choice : KeyChoice) (tick : ℕ) (u : UnitRecord) → validUnit tick u ≡ true → validUnit tick (unitAfterReceipt choice u) ≡ true
 unfolding unitAfterReceipt unitConfirmed withKeys withSlots withConfirmation

@@ -4,7 +4,8 @@ use mathlib.Core.Bool.{true}
 use mathlib.Core.List.{List}
 use Prim.Native.Nat.{ℕ, _+_, _≤_}
 use native.Mathlib.Omega.{arith}
-use borrow.Author.Tests.{eq-eqb, le-leb, lt-leb, le-ltb, ne-eqb}
+use lib.ListN.{set}
+use borrow.Author.Tests.{eq-eqb, le-leb, lt-leb, le-ltb}
 use Rattle.octets.specs.Choice.{pick}
 use Rattle.octets.proofs.Choice.{both-true, either-none, not-of-true}
 use Rattle.refusal.specs.Number.{verdictNumber}
@@ -26,11 +27,11 @@ use Rattle.protocol.specs.Lift.{Outcome, outcome, lift}
 use Rattle.protocol.specs.Messages.{clockKind, keyKind, noStamps, noKeyMessage}
 use Rattle.protocol.specs.Replies.{Silence, silent}
 use Rattle.protocol.specs.OltCalls.{oltAnswer, clockSent, keySent, captureOf, clockSendOf, offerOf, retryOf, acknowledgeOf, advanceOltOf}
-use Rattle.protocol.specs.UnitCalls.{clockCaptured, captureUnit, clockSendVerdict, clockSendUnit, offerVerdict, offerUnit, retryVerdict, retryUnit, clockAcknowledgedUnit, keyAcknowledgedUnit, acknowledgeUnit}
+use Rattle.protocol.specs.UnitCalls.{clockCaptured, captureUnit, clockSendVerdict, clockSendUnit, offerVerdict, offerUnit, retryUnit, clockAcknowledgedUnit, keyAcknowledgedUnit, acknowledgeUnit}
 use Rattle.protocol.specs.declared.KeyMessage.{KeyMessage}
 use Rattle.protocol.proofs.Lift.{Lifted, lift-accepts}
 use Rattle.protocol.proofs.OltAdvance.{advancing-accepts}
-use Rattle.protocol.proofs.UnitCalls.{Offers, clock-kind, key-kind}
+use Rattle.protocol.proofs.UnitCalls.{Offers, retry-accepts, clock-kind, key-kind}
 use Rattle.unicast.specs.Setting.{Setting}
 use Rattle.unicast.specs.History.{Lane, Entry, clockMessage, keyMessage, laneCaptured, laneLeaving, laneOffered, laneAcknowledged}
 use Rattle.unicast.specs.Events.{Event, advance, capture, clockSend, offer, retry, arriveAnswer}
@@ -182,9 +183,9 @@ module _ (w : Setting) (u llid : ℕ) (s : State) (h : Here w u llid s) where
   pub retry-goes : (unit .keys .offered ≡ unit .keys .active → ⊥)
       → Step w u s (retry llid)
       (laneLeaving (keyMessage (retryUnit llid (s .olt .shared) unit .handed) (s .history .now)) (laneAt s u)) (s .history .now)
-  unfolding step retrying retryOf keySent retryUnit outcome atOlt withLanes retryVerdict
+  unfolding step retrying retryOf keySent atOlt withLanes
   retry-goes more =
-      let accepts : retryVerdict (unit .keys) ≡ Accepted = refuse-passed _ NothingOutstanding _ (ne-eqb _ _ more) in
+      let accepts = retry-accepts llid (s .olt .shared) unit more in
       let call = lifted-number noKeyMessage Accepted (retryUnit llid) refl accepts in
       let handed = lifted-handed noKeyMessage Accepted (retryUnit llid) refl accepts in
       record {

@@ -1,5 +1,6 @@
 -- The calls on the OLT keep the invariant: captures, clock messages, retries, acknowledgements, sends, and refused receipts. Assumes nothing.
 use mathlib.Core.Path.{_≡_, refl, sym, _∙_, ap, subst}
+use mathlib.Core.Bool.{false}
 use mathlib.Core.List.{List, List·Memᴰ}
 use Prim.Native.Nat.{ℕ, _+_}
 use native.Mathlib.Omega.{arith}
@@ -15,18 +16,19 @@ use Rattle.protocol.specs.Lift.{outcome, lift}
 use Rattle.protocol.specs.Headers.{noPassage, noSending}
 use Rattle.protocol.specs.Messages.{noStamps, noKeyMessage}
 use Rattle.protocol.specs.UnitCalls.{captureUnit, clockSendUnit, retryUnit, acknowledgeUnit}
-use Rattle.protocol.specs.UnitTraffic.{sendUnit}
+use Rattle.protocol.specs.UnitTraffic.{switches, sendUnit}
 use Rattle.protocol.specs.OltCalls.{oltAnswer, clockSent, keySent, captureOf, clockSendOf, retryOf, acknowledgeOf}
 use Rattle.protocol.specs.OltTraffic.{sendingOlt, receivingOlt}
 use Rattle.protocol.specs.declared.Acknowledgement.{Acknowledgement}
 use Rattle.protocol.specs.declared.Header.{Header}
+use Rattle.ends.specs.declared.UnitRecord.{UnitRecord}
 use Rattle.refusal.proofs.Order.{refuse-accepted}
 use Rattle.protocol.proofs.Replies.{number-refused}
 use Rattle.ends.proofs.Table.{find-at}
-use Rattle.protocol.proofs.Lift.{unit-at-valid}
+use Rattle.protocol.proofs.Lift.{unit-at-valid, lift-itself}
 use Rattle.protocol.proofs.UnitCalls.{acknowledged-channels}
 use Rattle.protocol.proofs.OltCalls.{capture-valid, clock-send-valid, retry-valid, acknowledge-valid, acknowledge-refused}
-use Rattle.protocol.proofs.OltTraffic.{sendAhead, sending-valid, receiving-untouched}
+use Rattle.protocol.proofs.OltTraffic.{sendAhead, flag-stays, sending-valid, receiving-untouched}
 use Rattle.traffic.specs.Passages.{misfit}
 use Rattle.traffic.specs.Receipts.{oltReceived, oltReceiveOf}
 use Rattle.traffic.specs.Sends.{oltSent, oltSendOf}
@@ -153,11 +155,15 @@ send-down-right w s llid channel p out i fits =
       own = λ l u h e j.
           let x = unitAt (s .olt) (l .at) in
           let met = refuse-accepted _ _ _ (l .passed) in
+          let stays : switches x ≡ false → call sh x .unit .keys .timer ≡ x .keys .timer =
+          λ no.
+          ap (λ (y : UnitRecord). y .keys .timer) (sym (lift-itself (s .olt) noSending (sendAhead (misfit p out) channel) llid call l))
+          ∙ flag-stays (s .olt) (misfit p out) llid channel (eqsOf p) (l .at) (λ a b. no) in
           subst (λ (y : Envelope). Joined w (withChannels sh (call sh x .channels)) now (laneSentDown now y (laneAt s u)) (call sh x .unit) (onuAt s u))
           (sym (envelope-down-is (s .olt) now (laneAt s u .path) llid channel p out (numberDown (laneAt s u) now) (call sh x .handed) (l .verdict) (l .handed)))
           (send-down-keeps w sh now (laneAt s u) x (onuAt s u) llid channel (eqsOf p) p out (i .shared) j
           (unit-at-valid (s .olt) llid (l .at) (i .valid) (find-at (s .olt) llid (l .at) (l .found)))
-          e (not-false _ (refuse-accepted _ _ _ (met .1) .0)) (met .0) (l .accepts));
+          e (not-false _ (refuse-accepted _ _ _ (met .1) .0)) (met .0) (l .accepts) stays);
       keys = λ l. keys-named llid f (s .history .lanes) (λ y. refl) (i .keys);
     })
 

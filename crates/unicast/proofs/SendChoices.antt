@@ -92,7 +92,7 @@ first-after f tick now old h =
     pick-holds (λ (x : FirstSend). x .noted ≡ 1 → tick ≤ x .at) (isUp (f .noted)) f (notedAt now) (λ e. old) (λ e one. h)
 
 -- what a send of that choice makes of the unit's keys
-pub record Chosen (r : Entry) (now reach : ℕ) (old new : UnitKeys) (choice : KeyChoice) (number switched before : ℕ) : Type 0 where
+pub record Chosen (now reach : ℕ) (old new : UnitKeys) (choice : KeyChoice) (number switched before : ℕ) : Type 0 where
   pub chosen : choiceNumber choice ≡ number
   pub enciphered : choiceEnciphered choice ≡ leb 1 number
   pub active : new .active ≡ number
@@ -100,7 +100,6 @@ pub record Chosen (r : Entry) (now reach : ℕ) (old new : UnitKeys) (choice : K
   pub slots : new .slots ≡ old .slots
   pub low : old .active ≤ number
   pub high : number ≤ reach
-  pub timing : (k : Keys) → k .switched ≡ switched → Timing r k now (new .timer)
   pub renewed : choiceAged choice (old .first) now ≡ false → Renewed (old .first) (new .first) (old .active) number now
   -- a first send is not before the last switch, and without a switch that is the one before
   pub begun : new .first .noted ≡ 1 → switched ≤ new .first .at
@@ -122,7 +121,7 @@ module _ (w : Setting) (sh : Shared) (now : ℕ) (l : Lane) (u : UnitRecord) (o 
       (rotated (due (l .entry) (l .keys) now) (ltb (l .keys .switches) (length (l .keys .offers))) (l .keys .acknowledged))
 
   chosen-by : Begun (u .keys .first) now → (s z : Bool) → switching l now ≡ s → eqb (u .keys .active) 0 ≡ z
-      → Chosen (l .entry) now (reachOf (o .keys)) (u .keys)
+      → Chosen now (reachOf (o .keys)) (u .keys)
       (keysAfterSend (pick s (Next (u .keys .offered)) (pick z Clear (Current (u .keys .active)))) (u .keys) now)
       (pick s (Next (u .keys .offered)) (pick z Clear (Current (u .keys .active))))
       (pick s (l .keys .switches + 1) (l .keys .switches)) (pick s now (l .keys .switched)) (l .keys .switched)
@@ -141,7 +140,6 @@ module _ (w : Setting) (sh : Shared) (now : ℕ) (l : Lane) (u : UnitRecord) (o 
         slots = refl;
         low = omega (arith, n .counted);
         high = omega (arith, held, is);
-        timing = λ k q. timing-switched (l .entry) (l .keys) k now (u .keys .timer) q (j .timing);
         renewed = λ a. renewed-next (u .keys .first) (u .keys .active) (l .keys .switches + 1) now (omega (arith, n .counted));
         begun = λ one. omega arith;
         settled = λ same. absurd (omega (arith, same, n .counted));
@@ -158,7 +156,6 @@ module _ (w : Setting) (sh : Shared) (now : ℕ) (l : Lane) (u : UnitRecord) (o 
         slots = refl;
         low = omega (arith, n .counted);
         high = omega (arith, none);
-        timing = λ k q. timing-stayed (l .entry) (l .keys) k now (u .keys .timer) q (j .timing);
         renewed = λ a. rw (zeros, none) (renewed-clear (u .keys .first) now);
         begun = j .firsts .olt;
         settled = λ same. refl;
@@ -174,14 +171,22 @@ module _ (w : Setting) (sh : Shared) (now : ℕ) (l : Lane) (u : UnitRecord) (o 
         slots = refl;
         low = omega (arith, n .counted);
         high = omega (arith, n .counted, n .high);
-        timing = λ k q. timing-stayed (l .entry) (l .keys) k now (u .keys .timer) q (j .timing);
         renewed = λ a. rw (n .counted) (renewed-current (u .keys .first) (l .keys .switches) now v a);
         begun = first-after (u .keys .first) (l .keys .switched) now (j .firsts .olt) (j .timing .switched);
         settled = λ same. refl;
       }
 
+  -- the timer after a send: the flag falls at a switch alone
+  pub timing-sent : (t : Timer) → (switches u ≡ true → t ≡ timerFallen (u .keys .timer)) → (switches u ≡ false → t ≡ u .keys .timer)
+      → (k : Keys) → k .switched ≡ pick (switching l now) now (l .keys .switched) → Timing (l .entry) k now t
+  unfolding pick
+  timing-sent t falls stays k e = by-switch (switching l now) switches-listed e where
+    by-switch : (s : Bool) → switches u ≡ s → k .switched ≡ pick s now (l .keys .switched) → Timing (l .entry) k now t
+    by-switch true q r = rw (falls q) (timing-switched (l .entry) (l .keys) k now (u .keys .timer) r (j .timing))
+    by-switch false q r = rw (stays q) (timing-stayed (l .entry) (l .keys) k now (u .keys .timer) r (j .timing))
+
   pub chosen-down : (tick : ℕ) → tick ≡ now → Begun (u .keys .first) tick
-      → Chosen (l .entry) now (reachOf (o .keys)) (u .keys) (keysAfterSend (unitSendChoice u) (u .keys) tick) (unitSendChoice u) (numberDown l now)
+      → Chosen now (reachOf (o .keys)) (u .keys) (keysAfterSend (unitSendChoice u) (u .keys) tick) (unitSendChoice u) (numberDown l now)
       (pick (switching l now) now (l .keys .switched)) (l .keys .switched)
   unfolding unitSendChoice numberDown
   chosen-down tick e v = rw (e, switches-listed) (chosen-by (λ one. rw e at (v one)) (switching l now) (eqb (u .keys .active) 0) refl refl)

@@ -20,7 +20,7 @@ use Rattle.envelope.specs.Channels.{downstream, upstream}
 use Rattle.ends.specs.Occupancy.{freeFrom, taken, occupied}
 use Rattle.protocol.specs.OltTraffic.{sendingOlt}
 use Rattle.ends.specs.Records.{withKeys, withChannels}
-use Rattle.protocol.specs.UnitTraffic.{unitSendChoice, unitSendVerdict, keysAfterSend, sendUnit}
+use Rattle.protocol.specs.UnitTraffic.{switches, unitSendChoice, unitSendVerdict, keysAfterSend, sendUnit}
 use Rattle.ends.specs.Validity.{validUnit}
 use Rattle.ends.specs.declared.Channels.{Channels}
 use Rattle.protocol.specs.declared.KeyChoice.{KeyChoice}
@@ -31,21 +31,22 @@ use Rattle.ends.specs.declared.Shared.{Shared}
 use Rattle.ends.specs.declared.UnitRecord.{UnitRecord}
 use Rattle.ends.specs.declared.UnitKeys.{UnitKeys}
 use Rattle.protocol.proofs.Headers.{Goes, goes, key-for}
+use Rattle.protocol.proofs.UnitTraffic.{timer-falls}
 use Rattle.ends.proofs.Occupancy.{free-own, taken-false, free-later}
 use Rattle.traffic.specs.Passages.{misfit, outputAfter}
 use Rattle.traffic.specs.Sends.{oltSent, oltSendOf}
 use Rattle.unicast.specs.Setting.{Delays, Setting}
-use Rattle.unicast.specs.History.{downward, upward, Envelope, envelope, Lane, switching, numberDown, laneWith, leaving, sending, laneSentDown}
+use Rattle.unicast.specs.History.{downward, upward, Envelope, envelope, Keys, Lane, switching, numberDown, laneWith, leaving, sending, laneSentDown}
 use Rattle.unicast.specs.Run.{envelopeDown}
 use Rattle.unicast.specs.Claim.{PassageRight, SentRight}
-use Rattle.unicast.proofs.Invariant.{reachOf, countDown, countUp, Spent, Guarded, Joined, AtTick}
+use Rattle.unicast.proofs.Invariant.{reachOf, Timing, countDown, countUp, Spent, Guarded, Joined, AtTick}
 use Rattle.unicast.proofs.Queues.{Knows, sealed-more, envelope-number, towards-carried, towards-envelope, from-carried}
 use Rattle.unicast.proofs.Past.{sent-carried, passing-sent}
 use Rattle.unicast.proofs.Envelopes.{ways-apart, envelopeOf, passed-right, count-right, runs-right, fits-alone}
 use Rattle.unicast.proofs.Spending.{Renewed, spent-kept, spent-new, apart-new, spaced-more}
 use Rattle.unicast.specs.Progress.{longest}
 use Rattle.unicast.proofs.Pace.{order-leaving, asked-leaving, occupied-free}
-use Rattle.unicast.proofs.SendChoices.{Chosen, chosen-down, unit-first}
+use Rattle.unicast.proofs.SendChoices.{Chosen, timing-sent, chosen-down, unit-first}
 
 -- what an accepted send has met
 unit-goes : (sh : Shared) (u : UnitRecord) (channel : ℕ) → unitSendVerdict sh u channel ≡ Accepted
@@ -59,7 +60,8 @@ unit-goes sh u channel a =
 module _ (w : Setting) (sh : Shared) (now : ℕ) (l : Lane) (u : UnitRecord) (o : Onu) (j : Joined w sh now l u o) where
   -- an envelope that left for the unit, and keys and channels after it
   sent-down-joined : (k : UnitKeys) (choice : KeyChoice) (c : Channels) (e : Envelope) → (1 ≤ e .number → o .clock .synced ≡ 1)
-      → Chosen (l .entry) now (reachOf (o .keys)) (u .keys) k choice (e .number) (pick (switching l now) now (l .keys .switched)) (l .keys .switched)
+      → Chosen now (reachOf (o .keys)) (u .keys) k choice (e .number) (pick (switching l now) now (l .keys .switched)) (l .keys .switched)
+      → ((x : Keys) → x .switched ≡ pick (switching l now) now (l .keys .switched) → Timing (l .entry) x now (k .timer))
       → Renewed (u .keys .first) (k .first) (u .keys .active) (e .number) now
       → e .up ≡ l .path .up → e .direction ≡ downward → e .left ≡ now → downstream (e .channel) ≡ true
       → has (l .site .identity) (e .llid) ≡ true
@@ -67,7 +69,7 @@ module _ (w : Setting) (sh : Shared) (now : ℕ) (l : Lane) (u : UnitRecord) (o 
       → freeFrom (sh .channels) (e .channel) ≤ now → ((i : ℕ) → freeFrom (sh .channels) i ≤ freeFrom c i) → now < freeFrom c (e .channel)
       → Joined w (withChannels sh c) now (laneSentDown now e l) (withKeys u k) o
   unfolding laneSentDown laneWith leaving sending withKeys withChannels
-  sent-down-joined k choice c e synced h r present direction left down named fits right free rises after =
+  sent-down-joined k choice c e synced h timing r present direction left down named fits right free rises after =
       let n = j .numbers in
       let m = laneSentDown now e l in
       let knows : (top : ℕ) → Knows l m top =
@@ -122,7 +124,7 @@ module _ (w : Setting) (sh : Shared) (now : ℕ) (l : Lane) (u : UnitRecord) (o 
               taken = λ q. rw (h .offered) (n .taken q);
             };
         stored = record { olt = λ x p q t. rw (h .slots) (j .stored .olt x p q (rw (h .offered) at t)); onu = j .stored .onu };
-        timing = h .timing (m .keys) refl;
+        timing = timing (m .keys) refl;
         clocks = j .clocks;
         answers = j .answers;
         underWay =
@@ -213,11 +215,12 @@ module _ (w : Setting) (sh : Shared) (now : ℕ) (l : Lane) (u : UnitRecord) (o 
   -- the lane that the send is on
   pub send-down-keeps : AtTick w now sh → Joined w sh now l u o → validUnit (sh .tick) u ≡ true → has (l .site .identity) llid ≡ true
       → downstream channel ≡ true → misfit p out ≡ false → sendUnit llid channel eqs sh u .verdict ≡ Accepted
+      → (switches u ≡ false → sendUnit llid channel eqs sh u .unit .keys .timer ≡ u .keys .timer)
       → Joined w (withChannels sh (sendUnit llid channel eqs sh u .channels)) now
       (laneSentDown now (envelopeOf downward now (l .path .up) llid channel p (sendUnit llid channel eqs sh u .handed) (numberDown l now)) l)
       (sendUnit llid channel eqs sh u .unit) o
-  unfolding sendUnit
-  send-down-keeps t j v named down fit a =
+  unfolding sendUnit withKeys
+  send-down-keeps t j v named down fit a stays =
       let met = unit-goes sh u channel a in
       let h = chosen-down w sh now l u o j (sh .tick) (t .tick) (unit-first (sh .tick) u v) in
       let free : freeFrom (sh .channels) channel ≤ sh .tick = taken-false (sh .channels) channel (sh .tick) (met .free) in
@@ -225,7 +228,8 @@ module _ (w : Setting) (sh : Shared) (now : ℕ) (l : Lane) (u : UnitRecord) (o 
       (occupied (sh .channels) channel (sh .tick) eqs)
       (envelopeOf downward now (l .path .up) llid channel p (sendUnit llid channel eqs sh u .handed) (numberDown l now))
       (λ some. j .clocks .acknowledged (eqb-true _ _ (met .clock (h .enciphered ∙ le-leb 1 (numberDown l now) some))))
-      h (h .renewed (rw (t .tick) at (met .young))) refl refl refl down named (fits-alone p out fit) (sent-down-right t j v)
+      h (timing-sent w sh now l u o j _ (timer-falls llid channel eqs sh u) stays) (h .renewed (rw (t .tick) at (met .young))) refl refl refl
+      down named (fits-alone p out fit) (sent-down-right t j v)
       (omega (arith, free, t .tick))
       (λ i. free-later (sh .channels) channel i (sh .tick) eqs (met .free))
       (omega (arith, free-own (sh .channels) channel (sh .tick) eqs, t .tick))

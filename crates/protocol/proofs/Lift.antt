@@ -4,8 +4,10 @@ use mathlib.Core.Path.{_≡_, refl, sym, _∙_, ap, ap₂, subst}
 use mathlib.Core.Bool.{Bool, true, false, not}
 use Prim.Native.Nat.{ℕ, _<_}
 use native.Mathlib.Omega.{arith}
+use lib.Dec.{eqb}
 use lib.ListN.{length-take}
 use lib.Seq.{getD-take, take-set-lt}
+use borrow.Author.Tests.{eqb-true, eqb-false}
 use Rattle.octets.proofs.Choice.{not-of-true, not-of-false}
 use Rattle.octets.proofs.Tests.{all-at, all-set}
 use Rattle.refusal.specs.declared.Refusal.{Refusal}
@@ -223,6 +225,20 @@ module _ {H : Type 0} (o : Olt) (nothing : H) (ahead : Verdict) (llid : ℕ) (ca
   lift-others j h =
       lift-keeps o nothing ahead llid call (λ (p : Olt). unitAt p j ≡ unitAt o j) refl
       (λ l. with-other o (l .at) j _ _ (λ e. h (l .found ∙ ap At (sym e))))
+
+  -- what a call leaves of the unit called it leaves of every unit
+  pub lift-part : {A : Type 0} (part : UnitRecord → A) (i : ℕ)
+      → ((l : Lifted o nothing ahead llid call) → i ≡ l .at → part (call (o .shared) (unitAt o (l .at)) .unit) ≡ part (unitAt o (l .at)))
+      → part (unitAt (lift o nothing ahead llid call .end) i) ≡ part (unitAt o i)
+  lift-part {A} part i same =
+      lift-keeps o nothing ahead llid call (λ (p : Olt). part (unitAt p i) ≡ part (unitAt o i)) refl (λ l. by-place l (eqb i (l .at)) refl) where
+        by-place : (l : Lifted o nothing ahead llid call) (t : Bool) → eqb i (l .at) ≡ t
+            → part (unitAt (withUnit o (l .at) (call (o .shared) (unitAt o (l .at)) .channels) (call (o .shared) (unitAt o (l .at)) .unit)) i)
+            ≡ part (unitAt o i)
+        by-place l true e =
+            let z : i ≡ l .at = eqb-true i (l .at) e in
+            rw z (ap part (with-unit o (l .at) _ _ (find-at o llid (l .at) (l .found) .place)) ∙ same l z)
+        by-place l false e = ap part (with-other o (l .at) i _ _ (eqb-false i (l .at) e))
 
   -- the unit called, and the channels, are what the call left
   pub lift-itself : (l : Lifted o nothing ahead llid call)

@@ -2,8 +2,6 @@
 use mathlib.Core.Path.{_≡_, refl, sym, ap, _∙_}
 use mathlib.Core.Bool.{Bool, true, false, not}
 use Prim.Native.Nat.{ℕ, _≤_}
-use lib.Dec.{eqb}
-use borrow.Author.Tests.{eqb-true, eqb-false}
 use Rattle.octets.specs.Choice.{both}
 use Rattle.octets.specs.Eqs.{maxEqs}
 use Rattle.octets.proofs.Choice.{both-true, not-of-true}
@@ -14,7 +12,7 @@ use Rattle.refusal.specs.declared.Verdict.the-variants.{Accepted, Refused}
 use Rattle.refusal.specs.Order.{refuseIf}
 use Rattle.protocol.specs.Replies.{onValid}
 use Rattle.envelope.specs.Channels.{downstream, upstream}
-use Rattle.ends.specs.Table.{find, unitAt, withUnit}
+use Rattle.ends.specs.Table.{find, unitAt}
 use Rattle.ends.specs.Validity.{validOlt}
 use Rattle.protocol.specs.Lift.{outcome}
 use Rattle.protocol.specs.Headers.{validHeader, noPassage, noSending}
@@ -25,9 +23,8 @@ use Rattle.ends.specs.declared.UnitRecord.{UnitRecord}
 use Rattle.protocol.specs.declared.Header.{Header}
 use Rattle.ends.specs.declared.Found.the-variants.{At}
 use Rattle.refusal.proofs.Order.{refuse-accepted, refuse-passed, two-then}
-use Rattle.ends.proofs.Table.{find-at, with-unit, with-other}
 use Rattle.protocol.proofs.Replies.{Untouched}
-use Rattle.protocol.proofs.Lift.{Lifted, lift-verdict, lift-accepts, lift-untouched, lift-keeps, lift-valid}
+use Rattle.protocol.proofs.Lift.{Lifted, lift-verdict, lift-accepts, lift-untouched, lift-valid, lift-part}
 use Rattle.protocol.proofs.UnitTraffic.{timer-stays, send-keeps, receive-keeps}
 use Rattle.protocol.proofs.UnitChoices.{Receives, receive-accepts}
 
@@ -47,19 +44,8 @@ pub flag-stays : (o : Olt) (misfit : Bool) (llid channel eqs i : ℕ)
     → unitAt (sendingOlt o misfit llid channel eqs .end) i .keys .timer ≡ unitAt o i .keys .timer
 unfolding sendingOlt
 flag-stays o misfit llid channel eqs i stays =
-    lift-keeps o noSending (sendAhead misfit channel) llid (sendUnit llid channel eqs) (λ (p : Olt). unitAt p i .keys .timer ≡ unitAt o i .keys .timer)
-    refl (λ l. by-place l (eqb i (l .at)) refl) where
-      by-place : (l : Lifted o noSending (sendAhead misfit channel) llid (sendUnit llid channel eqs)) (t : Bool) → eqb i (l .at) ≡ t
-          → unitAt
-          (withUnit o (l .at) (sendUnit llid channel eqs (o .shared) (unitAt o (l .at)) .channels)
-          (sendUnit llid channel eqs (o .shared) (unitAt o (l .at)) .unit)) i .keys .timer
-          ≡ unitAt o i .keys .timer
-      by-place l true e =
-          let same : i ≡ l .at = eqb-true i (l .at) e in
-          rw same
-          (ap (λ (u : UnitRecord). u .keys .timer) (with-unit o (l .at) _ _ (find-at o llid (l .at) (l .found) .place))
-          ∙ timer-stays llid channel eqs (o .shared) (unitAt o (l .at)) (rw same at (stays (l .verdict) (l .found ∙ ap At (sym same)))))
-      by-place l false e = ap (λ (u : UnitRecord). u .keys .timer) (with-other o (l .at) i _ _ (eqb-false i (l .at) e))
+    lift-part o noSending (sendAhead misfit channel) llid (sendUnit llid channel eqs) (λ (u : UnitRecord). u .keys .timer) i
+    (λ l same. timer-stays llid channel eqs (o .shared) (unitAt o (l .at)) (rw same at (stays (l .verdict) (l .found ∙ ap At (sym same)))))
 
 ---- validity
 

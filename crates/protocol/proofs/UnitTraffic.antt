@@ -1,4 +1,4 @@
--- Send and receive on one unit keep it valid and of its identity. Assumes nothing.
+-- Send and receive on one unit keep it valid and of its identity, and the flag of its timer falls at a switch alone. Assumes nothing.
 use mathlib.Core.Path.{_≡_, refl}
 use mathlib.Core.Bool.{Bool, true, false}
 use Prim.Native.Nat.{ℕ, _≤_}
@@ -66,7 +66,7 @@ send-keeps llid channel eqs h =
           occupied-valid (s .channels) channel (s .tick) eqs (r .tick) h (r .channels);
     }
 
--- the flag falls at a switch alone
+-- the flag falls at a switch
 pub timer-falls : (llid channel eqs : ℕ) (s : Shared) (u : UnitRecord) → switches u ≡ true
     → sendUnit llid channel eqs s u .unit .keys .timer ≡ timerFallen (u .keys .timer)
 unfolding sendUnit withKeys unitSendChoice keysAfterSend keysSwitched pick

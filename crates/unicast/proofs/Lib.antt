@@ -48,4 +48,7 @@ pub mod Unchanged
 pub mod Opened
 pub mod Tested
 pub mod Example
+pub mod Frozen
+pub mod FrozenCalls
+pub mod FrozenSteps
 pub mod Stuck

@@ -10,7 +10,7 @@ use lib.ListN.{length, set, length-map, length-set}
 use lib.Seq.{getD-set-same, getD-set-other}
 use borrow.Author.Tests.{eqb-true, eqb-false, ne-eqb}
 use Rattle.octets.specs.Choice.{both, pick}
-use Rattle.octets.proofs.Choice.{both-true, pick-true, pick-false, true-false}
+use Rattle.octets.proofs.Choice.{both-true, pick-true, pick-false, pick-same, true-false}
 use Rattle.octets.proofs.Maps.{map-fixed, map-always}
 use Rattle.refusal.specs.Number.{verdictNumber}
 use Rattle.refusal.specs.declared.Verdict.{Verdict}
@@ -175,6 +175,17 @@ named-fresh llid f = refl
 
 pub named-at : (llid : ℕ) (f : Lane → Lane) (ls : List Lane) (u : ℕ) → laneOf (map (named llid f) ls) u ≡ named llid f (laneOf ls u)
 named-at llid f ls u = map-always (named llid f) ls u (freshLane noSite) (named-fresh llid f)
+
+noted-fresh : (number llid : ℕ) (f : Lane → Lane) → noted number (named llid f) (freshLane noSite) ≡ freshLane noSite
+unfolding noted named freshLane both pick
+noted-fresh number llid f = pick-same (eqb number 0) (freshLane noSite)
+
+-- a lane after a call that names a unit
+pub noted-at : (s : State) (o : Olt) (number llid u : ℕ) (f : Lane → Lane)
+    → laneAt (atOlt s o number llid f) u ≡ noted number (named llid f) (laneAt s u)
+unfolding atOlt withLanes
+noted-at s o number llid u f =
+    map-always (noted number (named llid f)) (s .history .lanes) u (freshLane noSite) (noted-fresh number llid f)
 
 -- what f keeps of each lane, the call keeps
 pub named-stays : {A : Type 0} (g : Lane → A) (llid : ℕ) (f : Lane → Lane) (ls : List Lane) → ((l : Lane) → g (f l) ≡ g l) → (u : ℕ)

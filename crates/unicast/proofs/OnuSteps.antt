@@ -156,7 +156,7 @@ module _ (w : Setting) (s : State) (u : ℕ) (v : Invariant w s) where
 
 ---- a send
 
-send-up-refused : (o : Onu) (llid channel : ℕ) (p out : List ℕ) → (onuSendOf o llid channel p out .answer .number ≡ 0 → ⊥)
+pub send-up-refused : (o : Onu) (llid channel : ℕ) (p out : List ℕ) → (onuSendOf o llid channel p out .answer .number ≡ 0 → ⊥)
     → onuSendOf o llid channel p out .answer .onu ≡ o
 unfolding onuSendOf onuSent
 send-up-refused o llid channel p out n = number-refused o noSending _ (sending-onu-untouched o _ llid channel _) n .end

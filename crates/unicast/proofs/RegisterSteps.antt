@@ -157,7 +157,7 @@ register-keeps w sh now place i trip interval l o d mac llids oltmac time delays
 ---- the whole
 
 -- an accepted registration is one unit more
-register-made : (o : Olt) (i : Identity) (trip interval : ℕ) → registerOf o i trip interval .number ≡ 0
+pub register-made : (o : Olt) (i : Identity) (trip interval : ℕ) → registerOf o i trip interval .number ≡ 0
     → (registerOf o i trip interval ≡ record { number = 0; olt = withOneMore o (freshUnit i trip interval) }) × Registers o i trip interval
 unfolding registerOf registering oltAnswer
 register-made o i trip interval e =
@@ -200,7 +200,7 @@ module _ (w : Setting) (s : State) (u : ℕ) (i : Identity) (trip interval : ℕ
   after-other x n = getD-set-other (s .history .lanes) u x entered _ n
 
   -- refusal 3: its LLIDs are none of the table's, and those of a registered unit are
-  unregistered : laneAt s u .entry .registered ≡ false
+  pub unregistered : laneAt s u .entry .registered ≡ false
   unfolding has find
   unregistered = by-entry (laneAt s u .entry .registered) refl where
     by-entry : (t : Bool) → laneAt s u .entry .registered ≡ t → t ≡ false

@@ -26,7 +26,8 @@
 --             unit's next key and an envelope under it has arrived each way; also the recipe that a host follows
 --   Example   a list that meets the premises, with refused calls of every kind
 --   Course    how it runs: which calls were refused, what was sent and what arrived
---   Stuck     what is truly stuck, so that the exception of Progress is needed, and what only looks so
+--   Frozen    what is truly stuck stays so, whatever follows
+--   Stuck     lists that lead there, so that the exception of Progress is needed, and what only looks stuck
 --   Demand    the theorem as one statement, and what it says of the example
 pub mod Setting
 pub mod History
@@ -37,5 +38,6 @@ pub mod Claim
 pub mod Progress
 pub mod Example
 pub mod Course
+pub mod Frozen
 pub mod Stuck
 pub mod Demand

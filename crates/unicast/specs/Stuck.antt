@@ -1,6 +1,7 @@
--- What is truly stuck, so that the exception of Progress is needed, and what only looks so: lists of one unit with no delays, of which the
--- envelope that switched, or its answer, is lost and a key's life passes. Assumes nothing.
+-- What is truly stuck, and for good, so that the exception of Progress is needed, and what only looks so: lists of one unit with no delays, of
+-- which the envelope that switched, or its answer, is lost and a key's life passes. Assumes nothing.
 use mathlib.Core.Path.{_≡_}
+use mathlib.Core.Bool.{Bool, true, false}
 use mathlib.Core.List.{List, [], _∷_, _++_}
 use Prim.Native.Nat.{ℕ, _+_, _*_}
 use lib.ListN.{length, take}
@@ -14,6 +15,7 @@ use Rattle.unicast.specs.Premises.{Meets}
 use Rattle.unicast.specs.Progress.{limitOf, awaitedCount, recipe, maxEvents, Brings}
 use Rattle.unicast.specs.Example.{example, oltMac, firstClock, identityOf, siteOf, keyFrom, events}
 use Rattle.unicast.specs.Course.{after}
+use Rattle.unicast.specs.Frozen.{Refuses, ForGood}
 
 -- one unit, which has no delays
 abbrev pub oneUnit : Setting
@@ -49,6 +51,10 @@ lostAnswer = toSwitch ++ (arriveDown 0 0 [] ∷ sendUp 0 its 0x80 [] [] ∷ adva
 unfoldable pub unanswered : List Event
 unanswered = toSwitch ++ (arriveDown 0 0 [] ∷ advance keyLife ∷ [])
 
+-- the unit answers then, and its answer arrives
+unfoldable pub lateAnswer : List Event
+lateAnswer = unanswered ++ (sendUp 0 its 0x80 [] [] ∷ arriveUp 0 0 [] ∷ [])
+
 -- both arrive
 unfoldable pub bothArrived : List Event
 bothArrived = toSwitch ++ (arriveDown 0 0 [] ∷ sendUp 0 its 0x80 [] [] ∷ arriveUp 0 0 [] ∷ advance keyLife ∷ [])
@@ -64,6 +70,15 @@ pub record Answer (es : List Event) (a b c d : ℕ) : Type 0 where
   pub retries : retryOf (reached es .olt) its .number ≡ c
   pub up : onuSendOf (onuAt (reached es) 0) its 0x80 [] [] .answer .number ≡ d
 
+-- from then on: whatever follows
+abbrev pub FromThenOn : Bool → List Event → Type 0
+FromThenOn answered es = (later : List Event) → Meets oneUnit (reached es) later → Refuses answered (run (reached es) later) 0 its
+
+-- the continuation of Progress brings the unit to key n
+abbrev pub GoesOn : Setting → State → ℕ → ℕ → ℕ → Type 0
+GoesOn w s u llid n =
+    Brings w s u n (limitOf (laneAt s u)) (maxEvents + 2 * awaitedCount (laneAt s u) (s .history .now)) (recipe u llid (keyFrom 32) s)
+
 -- the example's list, cut short while the message of key 1 is under way
 unfoldable pub cutShort : List Event
 cutShort = take 35 events
@@ -74,12 +89,17 @@ pub record Cases : Type 0 where
   pub inEvents : length lostSwitch ≡ 11
   pub answerLost : Answer lostAnswer 13 6 8 13
   pub andTwoMore : length lostAnswer ≡ 13
+  -- and for good: whatever follows, since what is frozen stays so
+  pub switchForGood : FromThenOn false lostSwitch
+  pub answerForGood : FromThenOn true lostAnswer
+  pub forGood : ForGood
   -- only looks so: the unit that has not sent under the key still does; where key 1 is confirmed the next is offered
   pub unsent : Answer unanswered 13 6 8 0
+  pub sent : Answer lateAnswer 13 0 8 12
+  pub sentGoesOn : GoesOn oneUnit (reached lateAnswer) 0 its 2
   pub old : Answer bothArrived 13 0 8 13
+  pub oldGoesOn : GoesOn oneUnit (reached bothArrived) 0 its 2
   -- in the middle of a key exchange: key 1 is offered, and its message under way
   pub offered : length (laneAt (after cutShort) 0 .keys .offers) ≡ 1
   pub underWay : awaitedCount (laneAt (after cutShort) 0) (after cutShort .history .now) ≡ 1
-  pub cut : Brings example (after cutShort) 0 1 (limitOf (laneAt (after cutShort) 0))
-      (maxEvents + 2 * awaitedCount (laneAt (after cutShort) 0) (after cutShort .history .now))
-      (recipe 0 5 (keyFrom 32) (after cutShort))
+  pub cut : GoesOn example (after cutShort) 0 5 1

@@ -13,7 +13,8 @@ use Rattle.octets.proofs.Tests.{all-one}
 use Rattle.refusal.specs.Number.{verdictNumber}
 use Rattle.refusal.specs.declared.Verdict.{Verdict}
 use Rattle.refusal.specs.declared.Verdict.the-variants.{Accepted, Refused}
-use Rattle.refusal.proofs.Order.{refuse-accepted}
+use Rattle.refusal.specs.Order.{andThen}
+use Rattle.refusal.proofs.Order.{refuse-accepted, then-accepted}
 use Rattle.clock.specs.Ticks.{maxTick}
 use Rattle.ends.specs.Limits.{maxUnits}
 use Rattle.protocol.specs.OltCalls.{advanceOltOf, advanceOrder, advancingOlt, oltAdvanced, oltAnswer, sharedAdvanced}
@@ -28,17 +29,19 @@ use Rattle.ends.specs.declared.UnitRecord.{UnitRecord}
 use Rattle.ends.specs.declared.Olt.{Olt}
 use Rattle.ends.proofs.Validity.{olt-in-range, unit-in-range}
 use Rattle.unit.specs.Reached.{ifAccepted}
+use Rattle.olt.specs.Moves.{movedOf, moveOrder}
+use Rattle.olt.specs.declared.OltMoved.{OltMoved}
 
 -- the first i units are moved
 abbrev pub movedTo : ℕ → ℕ → Olt → Olt
 movedTo n i o = record { shared = o .shared; count = o .count; units = map (unitAdvanced n) (take i (o .units)) ++ drop i (o .units) }
 
 -- what an accepted advance has met
-pub advance-met : (o : Olt) (n : ℕ) → advanceOrder o n ≡ Accepted → (validOlt o ≡ true) × (o .shared .tick + n ≤ maxTick)
+pub advance-met : (o : Olt) (ahead : Verdict) (n : ℕ) → moveOrder o ahead n ≡ Accepted → (validOlt o ≡ true) × (o .shared .tick + n ≤ maxTick)
 unfolding advanceVerdict
-advance-met o n e =
+advance-met o ahead n e =
     let a = refuse-accepted _ _ _ e in
-    (not-false _ (a .0), ltb-false _ _ (refuse-accepted _ _ _ (a .1) .0))
+    (not-false _ (a .0), ltb-false _ _ (refuse-accepted _ _ _ (then-accepted _ _ (a .1) .1) .0))
 
 -- only an accepted advance moves units
 pub moving : (v : Verdict) (count i : ℕ) → i < ifAccepted v count 0 → (v ≡ Accepted) × (i < count)
@@ -96,16 +99,25 @@ moves-on o r n i t e h f =
     rw (units, ap (λ (x : Olt). x .shared) e, ap (λ (x : Olt). x .count) e)
 
 -- what an advance leaves, by its verdict: all the units in use are moved, or none
-pub advanced : (o : Olt) (n : ℕ) (v : Verdict) (number : ℕ) (r : Olt) (i : ℕ) → v ≡ advanceOrder o n
+pub advanced : (o : Olt) (ahead : Verdict) (n : ℕ) (v : Verdict) (number : ℕ) (r : Olt) (i : ℕ) → v ≡ moveOrder o ahead n
     → r ≡ movedTo n i (record { shared = ifAccepted v (sharedAdvanced (o .shared) n) (o .shared); count = o .count; units = o .units })
-    → i ≡ ifAccepted v (o .count) 0 → number ≡ verdictNumber v → record { number = number; olt = r } ≡ advanceOltOf o n
-unfolding advanceOltOf advancingOlt oltAdvanced oltAnswer reply ifAccepted
-advanced o n v number r i e f g h = rw (h, f, g, ← e) (by-verdict v) where
-  by-verdict : (w : Verdict) → record {
-    number = verdictNumber w;
+    → i ≡ ifAccepted v (o .count) 0 → number ≡ verdictNumber v → record { olt = r; number = number } ≡ movedOf o ahead n
+unfolding movedOf oltAdvanced ifAccepted
+advanced o ahead n v number r i e f g h = rw (h, f, g, ← e) (by-verdict v) where
+  by-verdict : (w : Verdict) → _≡_ {A = OltMoved} (record {
     olt = movedTo n (ifAccepted w (o .count) 0)
         (record { shared = ifAccepted w (sharedAdvanced (o .shared) n) (o .shared); count = o .count; units = o .units });
-  }
+    number = verdictNumber w;
+  })
+      (record { olt = ifAccepted w (oltAdvanced o n) o; number = verdictNumber w })
+  by-verdict Accepted = refl
+  by-verdict (Refused x) = refl
+
+-- with nothing ahead it is the OLT's advance
+pub moved-alone : (o : Olt) (n : ℕ) → record { number = movedOf o Accepted n .number; olt = movedOf o Accepted n .olt } ≡ advanceOltOf o n
+unfolding movedOf advanceOltOf advancingOlt oltAnswer reply ifAccepted andThen
+moved-alone o n = by-verdict (advanceOrder o n) where
+  by-verdict : (w : Verdict) → record { number = verdictNumber w; olt = ifAccepted w (oltAdvanced o n) o }
       ≡ oltAnswer (reply w o silent (oltAdvanced o n) silent)
   by-verdict Accepted = refl
   by-verdict (Refused x) = refl

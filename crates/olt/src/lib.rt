@@ -9,6 +9,7 @@ ghost use mathlib.Core.Path.{_≡_};
 ghost use Rattle.octets.specs.Choice.{pick};
 ghost use Rattle.refusal.specs.Number.{verdictNumber};
 ghost use Rattle.protocol.specs.ClockCaptures.{Captures};
+ghost use Rattle.olt.specs.Moves.{movedOf};
 ghost use Rattle.protocol.specs.OltCalls.{acknowledgeOf, acknowledgeOrder, advanceOltOf, captureOf, captureOrder, clockSendOf, clockSendOrder, freshOltOf, measureOf, measureOrder, offerOf, offerOrder, registerOf, retryOf, retryOrder};
 use clock::CLOCK_TURN;
 use clock::MAX_ROUND_TRIP;
@@ -24,6 +25,7 @@ use protocol::OltAnswer;
 use protocol::ticks::advance_verdict;
 use refusal::Refusal;
 use refusal::Verdict;
+use refusal::and_then;
 use refusal::refuse_if;
 use refusal::verdict_number;
 use unit::calls;
@@ -33,6 +35,12 @@ use unit::timing::timer_advanced;
 pub struct Located {
     pub verdict: Verdict,
     pub place: usize,
+}
+
+// What an advance leaves. The end stands first, where nothing pads it, so that it is handed on where it lies (D119).
+pub struct OltMoved {
+    pub olt: Olt,
+    pub number: u8,
 }
 
 fn or_zero(keep: bool, x: u64) -> u64
@@ -69,16 +77,19 @@ pub fn register(olt: Olt, identity: Identity, trip: u64, interval: u64) -> OltAn
     }
 }
 
-// Ticks, clock and the timers of all units. What it costs does not depend on the ticks.
-pub fn advance(olt: Olt, n: u64) -> OltAnswer
-    ensures { λ r. ⌜ r ≡ advanceOltOf olt n ⌝ }
+// Ticks, clock and the timers of all units, behind a verdict that goes ahead. What it costs does not depend on the ticks. What all units
+// share is stored as it was before the end is judged: so the compiler judges the copy that it then changes, and makes no other (D119).
+pub fn moved(olt: Olt, ahead: Verdict, n: u64) -> OltMoved
+    ensures { λ r. ⌜ r ≡ movedOf olt ahead n ⌝ }
 {
     let mut r = olt;
+    let kept = olt.shared;
+    r.shared = kept;
     let valid = valid_olt(r);
     let verdict = refuse_if(
         !valid,
         Refusal::OutOfRange,
-        advance_verdict(r.shared.tick, n),
+        and_then(ahead, advance_verdict(r.shared.tick, n)),
     );
     let number = verdict_number(verdict);
     let end = timing::units_moved(verdict, r.count);
@@ -96,7 +107,18 @@ pub fn advance(olt: Olt, n: u64) -> OltAnswer
         r.units[i].keys.timer.flag = next.flag;
         i += 1;
     }
-    OltAnswer { number, olt: r }
+    OltMoved { olt: r, number }
+}
+
+pub fn advance(olt: Olt, n: u64) -> OltAnswer
+    ensures { λ r. ⌜ r ≡ advanceOltOf olt n ⌝ }
+{
+    let done = moved(olt, Verdict::Accepted, n);
+    let next = done.olt;
+    OltAnswer {
+        number: done.number,
+        olt: next,
+    }
 }
 
 // The unit's stamps are those of this tick, whenever they are sent.

@@ -9,18 +9,18 @@ use denote.Struct.Declared as declared
 use denote.Struct.Field.{rows, u8-field}
 use denote.Struct.Laws.{Laws, Lowered}
 use denote.Struct.Struct.{Plains}
-use Rattle.multicast.specs.HeadCalls.{headAdvanceOf}
-use Rattle.multicast.specs.SubscriberCalls.{subscriberAdvanceOf}
-use Rattle.multicast.specs.declared.HeadAnswer.{HeadAnswer}
-use Rattle.multicast.specs.declared.SubscriberAnswer.{SubscriberAnswer}
+use Rattle.multicast.specs.HeadCalls.{headMovedOf}
+use Rattle.multicast.specs.SubscriberCalls.{subscriberMovedOf}
+use Rattle.multicast.specs.declared.HeadMoved.{HeadMoved}
+use Rattle.multicast.specs.declared.SubscriberMoved.{SubscriberMoved}
 use Rattle.groups.proofs.HeadEnd as head-end
 use Rattle.groups.proofs.HeadEnd.Laws as head-laws
-use Rattle.multicast.proofs.HeadAnswer as head-answer
+use Rattle.multicast.proofs.HeadMoved as head-moved
 use Rattle.groups.proofs.Subscriber as subscriber-end
 use Rattle.groups.proofs.Subscriber.Laws as subscriber-laws
-use Rattle.multicast.proofs.SubscriberAnswer as subscriber-answer
+use Rattle.multicast.proofs.SubscriberMoved as subscriber-moved
 
--- an end's struct, the struct of code and end that the advance by value answers with, and the definition that it equals
+-- an end's struct, the struct of end and code that the advance by value answers with, and the definition that it equals
 pub record End : Type 2 where
   pub type : Declared
   pub laws : Laws type
@@ -34,9 +34,9 @@ pub record End : Type 2 where
   pub answers : (n : ℕ) (h : type .D) → (number (answered n h) ≡ n) × (after (answered n h) ≡ h)
   pub apart :
       (r s : Answer) →
-      _≡_ {A = Denots (rows (u8-field ∷ declared.field type ∷ []))}
-      (number r, (type .to (after r), tt))
-      (number s, (type .to (after s), tt)) →
+      _≡_ {A = Denots (rows (declared.field type ∷ u8-field ∷ []))}
+      (type .to (after r), (number r, tt))
+      (type .to (after s), (number s, tt)) →
       r ≡ s
   pub advanced : type .D → ℕ → Answer
 
@@ -46,14 +46,14 @@ head = record {
   laws = head-laws.the-laws;
   lowers = head-laws.lowers;
   plains = head-laws.the-plain;
-  name = head-answer.the-type .name;
-  Answer = HeadAnswer;
+  name = head-moved.the-type .name;
+  Answer = HeadMoved;
   number = λ r. r .number;
   after = λ r. r .head;
   answered = λ n h. record { number = n; head = h };
   answers = λ n h. (refl, refl);
-  apart = head-answer.the-type .to-one;
-  advanced = headAdvanceOf;
+  apart = head-moved.the-type .to-one;
+  advanced = headMovedOf;
 }
 
 abbrev pub subscriber : End
@@ -62,12 +62,12 @@ subscriber = record {
   laws = subscriber-laws.the-laws;
   lowers = subscriber-laws.lowers;
   plains = subscriber-laws.the-plain;
-  name = subscriber-answer.the-type .name;
-  Answer = SubscriberAnswer;
+  name = subscriber-moved.the-type .name;
+  Answer = SubscriberMoved;
   number = λ r. r .number;
   after = λ r. r .subscriber;
   answered = λ n h. record { number = n; subscriber = h };
   answers = λ n h. (refl, refl);
-  apart = subscriber-answer.the-type .to-one;
-  advanced = subscriberAdvanceOf;
+  apart = subscriber-moved.the-type .to-one;
+  advanced = subscriberMovedOf;
 }

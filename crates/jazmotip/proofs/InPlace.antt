@@ -61,9 +61,9 @@ module _ (E : End) where
       record {
         name = E .name;
         args = [];
-        parts = u8-field ∷ declared.field (E .type) ∷ [];
+        parts = declared.field (E .type) ∷ u8-field ∷ [];
         D = E .Answer;
-        to = λ r. (E .number r, (E .type .to (E .after r), tt));
+        to = λ r. (E .type .to (E .after r), (E .number r, tt));
         to-one = E .apart;
       }
 
@@ -74,14 +74,14 @@ module _ (E : End) where
   answer-mir = layout (shape answer-type)
 
   abbrev pub answer-laws : Laws answer-type
-  answer-laws = (u8-laws, (field-laws (E .type) (E .laws) (E .lowers), tt))
+  answer-laws = (field-laws (E .type) (E .laws) (E .lowers), (u8-laws, tt))
 
   module _ (r : E .Answer) (v : Val) (is : Is answer r (v ∷ [])) where
     number-fits : E .number r < 2 ^ 8
-    number-fits = owed answer-type answer-laws r (v ∷ []) is .0 .1
+    number-fits = owed answer-type answer-laws r (v ∷ []) is .1 .0 .1
 
     end-within : Is end (E .after r) (machine (E .after r) ∷ [])
-    end-within = owed answer-type answer-laws r (v ∷ []) is .1 .0
+    end-within = owed answer-type answer-laws r (v ∷ []) is .0
 
   ---- the two functions
 
@@ -128,8 +128,8 @@ module _ (E : End) where
         body =
             seq (assign (place 4 []) (rvOpd (copy (place 1 (deref end-mir ∷ [])))))
             (seq (call callee (copy (place 4 []) ∷ copy (place 2 []) ∷ []) (place 3 []))
-            (seq (assign (place 1 (deref end-mir ∷ [])) (rvOpd (copy (place 3 (field 1 ∷ [])))))
-            (seq (assign (place 0 []) (rvOpd (copy (place 3 (field 0 ∷ [])))))
+            (seq (assign (place 1 (deref end-mir ∷ [])) (rvOpd (copy (place 3 (field 0 ∷ [])))))
+            (seq (assign (place 0 []) (rvOpd (copy (place 3 (field 1 ∷ [])))))
             return)));
       }
 
@@ -253,11 +253,11 @@ module _ (E : End) where
                 rewrite ! 8 (λ (w : Val). ‵ (fat fullShare answer-mir l₃ 0 w))
                 (ap only (tells answer-type answer-laws r (v ∷ []) is-r)) refl $ drop ! $
                 -- [the end's cell; what an end owns; the open borrow; obs; auth; _4; …; _3; …; _2; …; _1; …; room for _0; …]
-                -- *_1 = _3.1
-                assigns ! (of-opd ! (load ! (from ! (fld ! refl (stop !))) (look-in ! 7 (sub ! 1 refl (whole !)))))
-                (from ! (hop ! (look ! 11 refl) (stop !))) (store-raw ! 0 refl (end-lawful .typed (E .after r) _ (end-within r v is-r) .0)) $
-                -- _0 = _3.0
+                -- *_1 = _3.0
                 assigns ! (of-opd ! (load ! (from ! (fld ! refl (stop !))) (look-in ! 7 (sub ! 0 refl (whole !)))))
+                (from ! (hop ! (look ! 11 refl) (stop !))) (store-raw ! 0 refl (end-lawful .typed (E .after r) _ (end-within r v is-r) .0)) $
+                -- _0 = _3.1
+                assigns ! (of-opd ! (load ! (from ! (fld ! refl (stop !))) (look-in ! 7 (sub ! 1 refl (whole !)))))
                 (from ! (stop !)) (init ! 13 refl (tt, record { fits = number-fits r v is-r })) $
                 -- the borrow, closed at the end of the answer
                 move ! (1 ∷ []) $ drop ! $ owned ! end (Is end) end-makes (E .after r) _ (end-within r v is-r) $

@@ -1,7 +1,7 @@
 // The calls of the OLT with its groups. All take the end by value but advance, which changes the end that is lent (01, Clock).
 ghost use mathlib.Core.Path.{_≡_};
 ghost use Rattle.octets.specs.Output.{withOutput};
-ghost use Rattle.multicast.specs.HeadCalls.{freshHeadOf, headAcknowledgeOf, headAdvanceOf, headCaptureOf, headClockSendOf, headMeasureOf, headOfferOf, headRegisterOf, headRetryOf, registerGroupOf};
+ghost use Rattle.multicast.specs.HeadCalls.{freshHeadOf, headAcknowledgeOf, headAdvanceOf, headCaptureOf, headClockSendOf, headMeasureOf, headMovedOf, headOfferOf, headRegisterOf, headRetryOf, registerGroupOf};
 ghost use Rattle.multicast.specs.HeadTraffic.{headReceiveOf, headSendOf};
 use ends::Identity;
 use groups::Answer;
@@ -10,6 +10,7 @@ use groups::Roster;
 use multicast::HeadAnswer;
 use multicast::HeadClockSent;
 use multicast::HeadKeySent;
+use multicast::HeadMoved;
 use multicast::HeadReceived;
 use multicast::HeadSent;
 use multicast::at_head;
@@ -49,10 +50,10 @@ pub extern "C" fn jazmotip_olt_register_group(
 }
 
 // The advance by value, with what the walk of the one in place needs of its contract (D116).
-fn advanced(olt: HeadEnd, n: u64) -> HeadAnswer
-    ensures { λ r. ⌜ r ≡ headAdvanceOf olt n ⌝ }
+fn advanced(olt: HeadEnd, n: u64) -> HeadMoved
+    ensures { λ r. ⌜ r ≡ headMovedOf olt n ⌝ }
 {
-    at_head::advance(olt, n)
+    at_head::moved(olt, n)
 }
 
 // The whole end is stored, also where it is refused and so the same.

@@ -1,13 +1,14 @@
 // The calls of the ONU with the groups that it joined. All take the end by value but advance, which changes the end that is lent (01, Clock).
 ghost use mathlib.Core.Path.{_≡_};
 ghost use Rattle.octets.specs.Output.{withOutput};
-ghost use Rattle.multicast.specs.SubscriberCalls.{freshSubscriberOf, joinOf, subscriberAdvanceOf, subscriberClockMessageOf, subscriberKeyMessageOf, subscriberNewTimeOf};
+ghost use Rattle.multicast.specs.SubscriberCalls.{freshSubscriberOf, joinOf, subscriberAdvanceOf, subscriberClockMessageOf, subscriberKeyMessageOf, subscriberMovedOf, subscriberNewTimeOf};
 ghost use Rattle.multicast.specs.SubscriberTraffic.{subscriberReceiveOf, subscriberSendOf};
 use clock::Stamps;
 use ends::Identity;
 use groups::Subscriber;
 use multicast::SubscriberAcknowledged;
 use multicast::SubscriberAnswer;
+use multicast::SubscriberMoved;
 use multicast::SubscriberReceived;
 use multicast::SubscriberSent;
 use multicast::at_subscriber;
@@ -30,10 +31,10 @@ pub extern "C" fn jazmotip_onu_join(onu: Subscriber, llid: u16) -> SubscriberAns
 }
 
 // The advance by value, with what the walk of the one in place needs of its contract.
-fn advanced(onu: Subscriber, n: u64) -> SubscriberAnswer
-    ensures { λ r. ⌜ r ≡ subscriberAdvanceOf onu n ⌝ }
+fn advanced(onu: Subscriber, n: u64) -> SubscriberMoved
+    ensures { λ r. ⌜ r ≡ subscriberMovedOf onu n ⌝ }
 {
-    at_subscriber::advance(onu, n)
+    at_subscriber::moved(onu, n)
 }
 
 // The whole end is stored, also where it is refused and so the same.

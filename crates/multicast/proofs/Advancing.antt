@@ -1,18 +1,21 @@
 -- The walk of an advance along the groups. Assumes nothing.
-use mathlib.Core.Path.{_≡_, refl, sym, _∙_}
+use mathlib.Core.Path.{_≡_, refl}
 use mathlib.Core.Bool.{Bool, true, false}
 use mathlib.Core.List.{List, map, _++_}
 use Prim.Native.Nat.{ℕ, _+_, _≤_, _<_}
 use native.Mathlib.Numerals.{add-one}
 use native.Mathlib.Omega.{arith}
 use lib.ListN.{length, take, drop, getD, set}
-use borrow.Author.Tests.{leb-true}
-use Rattle.octets.specs.Choice.{both}
-use Rattle.octets.proofs.Choice.{both-left, both-right}
+use lib.Dec.{eqb}
+use borrow.Author.Tests.{eqb-true, leb-true, not-false}
+use Rattle.octets.specs.Choice.{both, either, pick}
+use Rattle.octets.proofs.Choice.{both-left, both-right, true-false}
 use Rattle.octets.proofs.Maps.{first-at, first-more}
 use Rattle.octets.proofs.Tests.{all-one, all-weaker}
 use Rattle.octets.specs.Lists.{all}
-use Rattle.refusal.specs.Number.{verdictNumber}
+use Rattle.refusal.specs.Number.{numberOf, verdictNumber}
+use Rattle.refusal.specs.Order.{andThen, refuseIf}
+use Rattle.refusal.specs.declared.Refusal.{Refusal}
 use Rattle.refusal.specs.declared.Verdict.{Verdict}
 use Rattle.refusal.specs.declared.Verdict.the-variants.{Accepted, Refused}
 use Rattle.refusal.proofs.Numbers.{number-accepted}
@@ -23,14 +26,18 @@ use Rattle.ends.specs.Records.{withTimer}
 use Rattle.ends.specs.Timers.{timerAdvanced, validTimer}
 use Rattle.ends.specs.declared.Timer.{Timer}
 use Rattle.ends.specs.Validity.{validKeys, validOlt}
-use Rattle.protocol.specs.OltCalls.{advanceOltOf, advanceOrder, advancingOlt, oltAdvanced, oltAnswer}
-use Rattle.protocol.specs.Replies.{reply, silent}
-use Rattle.protocol.proofs.Replies.{advance-accepted, reply-verdict}
+use Rattle.protocol.specs.OltCalls.{oltAdvanced}
+use Rattle.protocol.specs.Replies.{advanceVerdict, onValid, reply, silent}
+use Rattle.protocol.proofs.Replies.{advance-accepted}
+use Rattle.unit.specs.Reached.{ifAccepted}
+use Rattle.olt.specs.Moves.{moveOrder}
 use Rattle.groups.specs.GroupCalls.{groupAdvanced}
 use Rattle.groups.specs.Head.{pastGroup, placesTaken, registeredGroups, validGroup, validGroups, validHead, withGroupKeys}
 use Rattle.groups.specs.declared.GroupRecord.{GroupRecord}
 use Rattle.groups.specs.declared.HeadEnd.{HeadEnd}
-use Rattle.multicast.specs.HeadCalls.{groupsAdvanced, headAdvanced, headAdvanceOf, headAnswer}
+use Rattle.multicast.specs.HeadCalls.{groupsAdvanced, headAdvanced, headAdvanceOf, headAnswer, headMovedOf}
+use Rattle.multicast.specs.declared.HeadMoved.{HeadMoved}
+use Rattle.multicast.proofs.NoGroups.{no-groups-invalid}
 
 -- the first i groups are moved
 abbrev pub groupsMovedTo : ℕ → ℕ → List GroupRecord → List GroupRecord
@@ -52,49 +59,68 @@ group-timer-valid t r n i end e h k v =
 
 ---- the whole head end
 
--- where the groups are valid, the head end is where the OLT is
-pub head-by-olt : (h : HeadEnd) → validGroups h ≡ true → validHead h ≡ validOlt (h .olt)
+-- the verdict on an advance
+abbrev pub headOrder : HeadEnd → ℕ → Verdict
+headOrder h n = onValid (validHead h) (advanceVerdict (h .olt .shared .tick) n)
+
+-- 1 for the groups goes ahead of 17; in a valid OLT no group at all is groups that are valid
+sound-order : (z t v : Bool) (a : Verdict) → (z ≡ true → t ≡ false → v ≡ false)
+    → onValid v (andThen (onValid (either z t) Accepted) a) ≡ onValid (both v t) a
+unfolding either both refuseIf andThen
+sound-order false true true a k = refl
+sound-order false true false a k = refl
+sound-order false false true a k = refl
+sound-order false false false a k = refl
+sound-order true true true a k = refl
+sound-order true true false a k = refl
+sound-order true false true a k = true-false (k refl refl)
+sound-order true false false a k = refl
+
+pub move-order : (h : HeadEnd) (n : ℕ)
+    → moveOrder (h .olt) (onValid (either (eqb (h .groups .count) 0) (validGroups h)) Accepted) n ≡ headOrder h n
 unfolding validHead
-head-by-olt h e = rw e (by-case (validOlt (h .olt))) where
-  by-case : (t : Bool) → both t true ≡ t
-  by-case true = unfold both in refl
-  by-case false = unfold both in refl
+move-order h n =
+    sound-order (eqb (h .groups .count) 0) (validGroups h) (validOlt (h .olt)) (advanceVerdict (h .olt .shared .tick) n)
+    (λ z e. no-groups-invalid h (eqb-true _ _ z) e)
 
-module _ (h : HeadEnd) (n : ℕ) (valid : validGroups h ≡ true) where
-  -- what an accepted advance has met
-  pub record Advances : Type 0 where
-    pub few : h .groups .count ≤ maxUnits
-    pub ticks : n ≤ maxTick
-    pub timers : all (λ g. validTimer (g .keys .timer)) (registeredGroups h) ≡ true
+-- what an accepted advance has met
+pub record Advances (h : HeadEnd) (n : ℕ) : Type 0 where
+  pub few : h .groups .count ≤ maxUnits
+  pub ticks : n ≤ maxTick
+  pub timers : all (λ g. validTimer (g .keys .timer)) (registeredGroups h) ≡ true
 
-  pub advances : advanceOltOf (h .olt) n .number ≡ 0 → Advances
-  unfolding advanceOltOf advancingOlt oltAnswer validGroups validGroup validKeys
-  advances e =
-      let order = sym (reply-verdict (advanceOrder (h .olt) n) (h .olt) silent (oltAdvanced (h .olt) n) silent) ∙ number-accepted _ e in
-      let room = leb-true (placesTaken h) maxUnits (both-left _ _ valid) in
-      record {
-        few = omega arith;
-        ticks = omega (arith, advance-accepted (h .olt .shared .tick) n (refuse-accepted _ _ _ order .1));
-        timers =
-            all-weaker (validGroup (h .olt .shared .tick) (h .olt .count)) (λ g. validTimer (g .keys .timer))
-            (λ g k. both-left _ _ (both-left _ _ (both-right _ _ k))) (registeredGroups h) (both-left _ _ (both-right _ _ valid));
-      }
+pub advances : (h : HeadEnd) (n : ℕ) → headOrder h n ≡ Accepted → Advances h n
+unfolding validHead validGroups validGroup validKeys
+advances h n e =
+    let met = refuse-accepted _ _ _ e in
+    let valid = both-right _ _ (not-false _ (met .0)) in
+    let room = leb-true (placesTaken h) maxUnits (both-left _ _ valid) in
+    record {
+      few = omega arith;
+      ticks = omega (arith, advance-accepted (h .olt .shared .tick) n (met .1));
+      timers =
+          all-weaker (validGroup (h .olt .shared .tick) (h .olt .count)) (λ g. validTimer (g .keys .timer))
+          (λ g k. both-left _ _ (both-left _ _ (both-right _ _ k))) (registeredGroups h) (both-left _ _ (both-right _ _ valid));
+    }
 
-  pub advance-moved : advanceOltOf (h .olt) n .number ≡ 0
-      → record { number = advanceOltOf (h .olt) n .number; head = record { olt = advanceOltOf (h .olt) n .olt; groups = groupsAdvanced (h .groups) n } }
-      ≡ headAdvanceOf h n
-  unfolding advanceOltOf advancingOlt oltAnswer headAdvanceOf headAnswer headAdvanced reply
-  advance-moved e = rw (head-by-olt h valid) (by-verdict (advanceOrder (h .olt) n) e) where
-    by-verdict : (v : Verdict) → let r = reply v (h .olt) silent (oltAdvanced (h .olt) n) silent in verdictNumber (r .verdict) ≡ 0
-        → record { number = verdictNumber (r .verdict); head = record { olt = r .end; groups = groupsAdvanced (h .groups) n } }
-        ≡ headAnswer (reply v h silent (headAdvanced h n) silent)
-    by-verdict Accepted k = refl
-    by-verdict (Refused x) k = refused-accepts x (number-accepted (Refused x) k)
+-- what it leaves, by its verdict: all move, or none
+pub head-moved : (h : HeadEnd) (n : ℕ) (v : Verdict) → v ≡ headOrder h n
+    → _≡_ {A = HeadMoved} (record {
+      head = record { olt = ifAccepted v (oltAdvanced (h .olt) n) (h .olt); groups = pick (eqb (verdictNumber v) 0) (groupsAdvanced (h .groups) n) (h .groups) };
+      number = verdictNumber v;
+    })
+    (headMovedOf h n)
+unfolding headAdvanceOf headAnswer headAdvanced reply ifAccepted pick
+head-moved h n v e = rw (← e) (by-verdict v) where
+  by-code : (x : Refusal) (t : Bool) → eqb (numberOf x) 0 ≡ t → pick t (groupsAdvanced (h .groups) n) (h .groups) ≡ h .groups
+  by-code x true k = refused-accepts x (number-accepted (Refused x) (eqb-true _ _ k))
+  by-code x false k = refl
 
-  pub advance-stopped : (advanceOltOf (h .olt) n .number ≡ 0 → ⊥) → record { number = advanceOltOf (h .olt) n .number; head = h } ≡ headAdvanceOf h n
-  unfolding advanceOltOf advancingOlt oltAnswer headAdvanceOf headAnswer reply
-  advance-stopped e = rw (head-by-olt h valid) (by-verdict (advanceOrder (h .olt) n) e) where
-    by-verdict : (v : Verdict) → let r = reply v (h .olt) silent (oltAdvanced (h .olt) n) silent in (verdictNumber (r .verdict) ≡ 0 → ⊥)
-        → record { number = verdictNumber (r .verdict); head = h } ≡ headAnswer (reply v h silent (headAdvanced h n) silent)
-    by-verdict Accepted k = absurd (k refl)
-    by-verdict (Refused x) k = refl
+  by-verdict : (w : Verdict) → let r = headAnswer (reply w h silent (headAdvanced h n) silent) in
+      _≡_ {A = HeadMoved} (record {
+        head = record { olt = ifAccepted w (oltAdvanced (h .olt) n) (h .olt); groups = pick (eqb (verdictNumber w) 0) (groupsAdvanced (h .groups) n) (h .groups) };
+        number = verdictNumber w;
+      })
+      (record { head = r .head; number = r .number })
+  by-verdict Accepted = refl
+  by-verdict (Refused x) = rw (by-code x (eqb (numberOf x) 0) refl)

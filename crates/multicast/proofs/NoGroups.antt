@@ -40,6 +40,7 @@ use Rattle.groups.specs.GroupCalls.{groupAdvanced}
 use Rattle.groups.specs.Head.{apartLlids, findGroup, groupFrom, groupLlids, validGroups, validHead, withOlt}
 use Rattle.groups.specs.declared.Answer.{Answer}
 use Rattle.groups.specs.declared.GroupRecord.{GroupRecord}
+use Rattle.groups.specs.declared.Groups.{Groups}
 use Rattle.groups.specs.declared.HeadEnd.{HeadEnd}
 use Rattle.multicast.specs.HeadCalls.{groupsAdvanced, headAcknowledgeOf, headAdvanced, headAdvanceOf, headAnswer, headCaptureOf, headClockSendOf, headMeasureOf, headOfferOf, headRegisterOf, headRetryOf, oltAnswered, oltClockSent, oltKeySent, ownAcknowledgement, unitVerdict}
 use Rattle.multicast.specs.HeadTraffic.{headReceiveOf, headSendOf, oltReceivedIn, oltSentIn}
@@ -59,6 +60,14 @@ module _ (h : HeadEnd) (none : h .groups .count ≡ 0) where
     by-places : (t : Bool) → both t true ≡ false → t ≡ false
     by-places true k = k
     by-places false k = refl
+
+pub groups-rest : (g : Groups) (n : ℕ) → g .count ≡ 0 → groupsAdvanced g n ≡ g
+unfolding groupsAdvanced
+groups-rest g n none =
+    let t = g .table in
+    let e : map (groupAdvanced n) (take (g .count) t) ++ drop (g .count) t ≡ t =
+    ap (λ (c : ℕ). map (groupAdvanced n) (take c t) ++ drop c t) none in
+    ap (λ (l : List GroupRecord). record { count = g .count; table = l }) e
 
 ---- what the OLT answers, standing in the head end
 
@@ -146,17 +155,9 @@ module _ (h : HeadEnd) (none : h .groups .count ≡ 0) where
   unfolding headRegisterOf registerOf registering
   as-register i trip interval = rw (head-as-olt, unit-as-olt i trip interval) (reply-as-olt _ _)
 
-  groups-rest : (n : ℕ) → groupsAdvanced (h .groups) n ≡ h .groups
-  unfolding groupsAdvanced
-  groups-rest n =
-      let t = h .groups .table in
-      let e : map (groupAdvanced n) (take (h .groups .count) t) ++ drop (h .groups .count) t ≡ t =
-      ap (λ (c : ℕ). map (groupAdvanced n) (take c t) ++ drop c t) none in
-      ap (λ (l : List GroupRecord). record { count = h .groups .count; table = l }) e
-
   as-advance : (n : ℕ) → headAdvanceOf h n ≡ answeredIn h (advanceOltOf (h .olt) n)
   unfolding headAdvanceOf headAdvanced advanceOltOf advancingOlt withOlt
-  as-advance n = rw (head-as-olt, groups-rest n) (reply-as-olt _ _)
+  as-advance n = rw (head-as-olt, groups-rest (h .groups) n none) (reply-as-olt _ _)
 
   as-send : (llid channel : ℕ) (p out : List ℕ) → headSendOf h llid channel p out ≡ sentIn h (oltSendOf (h .olt) llid channel p out)
   unfolding headSendOf oltSendOf oltSent sendingOlt oltSentIn pick withOlt outputAfter passedCount passedRuns choiceEnciphered countCarried runsCarried

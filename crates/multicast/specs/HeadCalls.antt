@@ -39,6 +39,7 @@ use Rattle.multicast.specs.Naming.{byLlid, groupLift}
 use Rattle.multicast.specs.declared.HeadAnswer.{HeadAnswer}
 use Rattle.multicast.specs.declared.HeadClockSent.{HeadClockSent}
 use Rattle.multicast.specs.declared.HeadKeySent.{HeadKeySent}
+use Rattle.multicast.specs.declared.HeadMoved.{HeadMoved}
 
 unfoldable pub headAnswer : Reply HeadEnd Silence → HeadAnswer
 headAnswer r = record { number = verdictNumber (r .verdict); head = r .end }
@@ -125,6 +126,10 @@ headAdvanced h n = record { olt = oltAdvanced (h .olt) n; groups = groupsAdvance
 
 unfoldable pub headAdvanceOf : HeadEnd → ℕ → HeadAnswer
 headAdvanceOf h n = headAnswer (reply (onValid (validHead h) (advanceVerdict (h .olt .shared .tick) n)) h silent (headAdvanced h n) silent)
+
+-- the same, the end first
+abbrev pub headMovedOf : HeadEnd → ℕ → HeadMoved
+headMovedOf h n = record { head = headAdvanceOf h n .head; number = headAdvanceOf h n .number }
 
 ---- capture, the round trip measured again, and clock send: a group's LLID is 2, for it is no unit's
 

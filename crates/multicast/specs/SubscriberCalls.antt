@@ -25,6 +25,7 @@ use Rattle.groups.specs.declared.Subscriber.{Subscriber}
 use Rattle.groups.specs.declared.Answer.{Answer}
 use Rattle.multicast.specs.Naming.{byLlid}
 use Rattle.multicast.specs.declared.SubscriberAnswer.{SubscriberAnswer}
+use Rattle.multicast.specs.declared.SubscriberMoved.{SubscriberMoved}
 use Rattle.multicast.specs.declared.SubscriberAcknowledged.{SubscriberAcknowledged}
 
 unfoldable pub subscriberAnswer : Reply Subscriber Silence → SubscriberAnswer
@@ -84,6 +85,10 @@ joinOf s llid =
 
 unfoldable pub subscriberAdvanceOf : Subscriber → ℕ → SubscriberAnswer
 subscriberAdvanceOf s n = onuAnswered s (advanceOnuOf (s .onu) n)
+
+-- the same, the end first
+abbrev pub subscriberMovedOf : Subscriber → ℕ → SubscriberMoved
+subscriberMovedOf s n = record { subscriber = subscriberAdvanceOf s n .subscriber; number = subscriberAdvanceOf s n .number }
 
 unfoldable pub subscriberNewTimeOf : Subscriber → ℕ → SubscriberAnswer
 subscriberNewTimeOf s time = onuAnswered s (newTimeOf (s .onu) time)

@@ -1,14 +1,22 @@
 // The calls of a head end but send and receive (02, C-14). A call on a unit is the unit's, put back in a copy of the OLT (D120).
 ghost use mathlib.Core.Path.{_≡_};
-ghost use Prim.Native.Nat.{_<_};
+ghost use mathlib.Core.Bool.{true};
+ghost use Prim.Native.Nat.{_≤_, _<_};
+ghost use lib.Dec.{eqb};
+ghost use lib.ListN.{take};
+ghost use Rattle.octets.specs.Choice.{pick};
+ghost use Rattle.octets.specs.Lists.{all};
+ghost use Rattle.clock.specs.Ticks.{maxTick};
 ghost use Rattle.ends.specs.Limits.{maxUnits};
+ghost use Rattle.ends.specs.Timers.{validTimer};
 ghost use Rattle.protocol.specs.OltCalls.{acknowledgeOf, offerOf, retryOf};
 ghost use Rattle.groups.specs.GroupCalls.{memberNamed};
-ghost use Rattle.multicast.specs.HeadCalls.{freshHeadOf, groupAcknowledgeOf, groupOfferOf, groupRetryOf, headAcknowledgeOf, headAdvanceOf, headCaptureOf, headClockSendOf, headMeasureOf, headOfferOf, headRegisterOf, headRetryOf, oltAnswered, oltKeySent, ownAcknowledgement, registerGroupOf};
+ghost use Rattle.multicast.specs.HeadCalls.{freshHeadOf, groupAcknowledgeOf, groupOfferOf, groupRetryOf, groupsAdvanced, headAcknowledgeOf, headAdvanceOf, headCaptureOf, headClockSendOf, headMeasureOf, headMovedOf, headOfferOf, headRegisterOf, headRetryOf, oltAnswered, oltKeySent, ownAcknowledgement, registerGroupOf};
 ghost use Rattle.multicast.specs.WithoutGroups.{WithoutGroups};
 use crate::HeadAnswer;
 use crate::HeadClockSent;
 use crate::HeadKeySent;
+use crate::HeadMoved;
 use crate::answers;
 use crate::answers::with_olt;
 use crate::head_place::group_named;
@@ -26,7 +34,6 @@ use groups::Groups;
 use groups::HeadEnd;
 use groups::Members;
 use groups::Roster;
-use groups::check_head::valid_groups;
 use groups::making::fresh_group;
 use groups::making::no_groups;
 use groups::membership::member_at;
@@ -102,46 +109,52 @@ pub fn register_group(head: HeadEnd, llid: u16, interval: u64, roster: Roster) -
     }
 }
 
-fn advance_beside(head: HeadEnd, n: u64) -> HeadAnswer
-    ensures { λ r. ⌜ r ≡ headAdvanceOf head n ⌝ }
+// The groups after an advance with that code. Without one nothing is copied for that.
+fn groups_moved(groups: Groups, number: u8, n: u64) -> Groups
+    requires { ⌜ (number ≡ 0 → (groups .count ≤ maxUnits) × (n ≤ maxTick)) ⌝ }
+    requires { ⌜ (number ≡ 0 → all (λ g. validTimer (g .keys .timer)) (take (groups .count) (groups .table)) ≡ true) ⌝ }
+    ensures { λ r. ⌜ r ≡ pick (eqb number 0) (groupsAdvanced groups n) groups ⌝ }
 {
-    if !valid_groups(head) {
-        return answers::refused(head, Refusal::OutOfRange);
-    }
-    let done = olt::advance(head.olt, n);
-    let number = done.number;
     if number != 0 {
-        return HeadAnswer { number, head };
+        return groups;
     }
-    let olt = done.olt;
-    let count = head.groups.count;
-    let table = head.groups.table;
+    let count = groups.count;
+    if count == 0 {
+        return groups;
+    }
+    let table = groups.table;
     let moved = table_advanced(table, count as usize, n);
-    let groups = Groups {
+    Groups {
         count,
         table: moved,
-    };
-    HeadAnswer {
-        number,
-        head: HeadEnd { olt, groups },
     }
 }
 
 // Ticks, clock and the timers of all units and groups. What it costs does not depend on the ticks.
+pub fn moved(head: HeadEnd, n: u64) -> HeadMoved
+    ensures { λ r. ⌜ r ≡ headMovedOf head n ⌝ }
+{
+    let sound = sound_groups(head);
+    let ahead = refuse_if(!sound, Refusal::OutOfRange, Verdict::Accepted);
+    let done = olt::moved(head.olt, ahead, n);
+    let number = done.number;
+    let olt = done.olt;
+    let groups = groups_moved(head.groups, number, n);
+    HeadMoved {
+        head: HeadEnd { olt, groups },
+        number,
+    }
+}
+
 pub fn advance(head: HeadEnd, n: u64) -> HeadAnswer
     ensures { λ r. ⌜ r ≡ headAdvanceOf head n ⌝ }
 {
-    if head.groups.count == 0 {
-        let done = olt::advance(head.olt, n);
-        let olt = done.olt;
-        let groups = head.groups;
-        return HeadAnswer {
-            number: done.number,
-            head: HeadEnd { olt, groups },
-        };
+    let done = moved(head, n);
+    let next = done.head;
+    HeadAnswer {
+        number: done.number,
+        head: next,
     }
-    let whole = head;
-    advance_beside(whole, n)
 }
 
 // A group has no clock: its LLID is no unit's.

@@ -8,9 +8,10 @@ ghost use Rattle.groups.specs.JoinedCalls.{messageJoined, noAnswer};
 ghost use Rattle.groups.specs.Limits.{maxJoined};
 ghost use Rattle.groups.specs.Subscriber.{alone, findJoined, freshJoined, validMemberships, validSubscriber, withJoined, withOneJoinedMore};
 ghost use Rattle.multicast.specs.SubscriberClaims.{Apart};
-ghost use Rattle.multicast.specs.SubscriberCalls.{freshSubscriberOf, joinedLift, joinOf, joinVerdict, notAcknowledged, onuAcknowledgedIn, ownAcknowledged, ownAnswered, subscriberAcknowledged, subscriberAdvanceOf, subscriberClockMessageOf, subscriberKeyMessageOf, subscriberNewTimeOf};
+ghost use Rattle.multicast.specs.SubscriberCalls.{freshSubscriberOf, joinedLift, joinOf, joinVerdict, notAcknowledged, onuAcknowledgedIn, ownAcknowledged, ownAnswered, subscriberAcknowledged, subscriberAdvanceOf, subscriberClockMessageOf, subscriberKeyMessageOf, subscriberMovedOf, subscriberNewTimeOf};
 use crate::SubscriberAcknowledged;
 use crate::SubscriberAnswer;
+use crate::SubscriberMoved;
 use clock::Stamps;
 use ends::Found;
 use ends::Identity;
@@ -161,6 +162,18 @@ pub fn advance(subscriber: Subscriber, n: u64) -> SubscriberAnswer
     SubscriberAnswer {
         number: answer.number,
         subscriber: Subscriber { onu, memberships },
+    }
+}
+
+// The same answer, the end first.
+pub fn moved(subscriber: Subscriber, n: u64) -> SubscriberMoved
+    ensures { λ r. ⌜ r ≡ subscriberMovedOf subscriber n ⌝ }
+{
+    let done = advance(subscriber, n);
+    let next = done.subscriber;
+    SubscriberMoved {
+        subscriber: next,
+        number: done.number,
     }
 }
 

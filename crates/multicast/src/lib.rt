@@ -24,6 +24,12 @@ pub struct HeadAnswer {
     pub head: HeadEnd,
 }
 
+// What an advance leaves. The end stands first, where nothing pads it, so that it is handed on where it lies (D119).
+pub struct HeadMoved {
+    pub head: HeadEnd,
+    pub number: u8,
+}
+
 #[repr(C)]
 pub struct HeadClockSent {
     pub number: u8,
@@ -59,6 +65,11 @@ pub struct HeadReceived {
 pub struct SubscriberAnswer {
     pub number: u8,
     pub subscriber: Subscriber,
+}
+
+pub struct SubscriberMoved {
+    pub subscriber: Subscriber,
+    pub number: u8,
 }
 
 #[repr(C)]

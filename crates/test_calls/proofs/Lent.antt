@@ -67,13 +67,13 @@ module _ (E : End) where
             (seq (assign (place 5 []) (addrOf (place 3 [])))
             (seq (call callee (copy (place 5 []) ∷ copy (place 2 []) ∷ []) (place 4 []))
             (seq (assign (place 6 []) (rvOpd (copy (place 3 []))))
-            (seq (assign (place 0 []) (aggregate (copy (place 4 []) ∷ copy (place 6 []) ∷ [])))
+            (seq (assign (place 0 []) (aggregate (copy (place 6 []) ∷ copy (place 4 []) ∷ [])))
             return))));
       }
 
   -- an answer as the machine has it
   abbrev pub held : ℕ → State E → Val
-  held r z = vstruct (ofList (vint w8 r ∷ mach z ∷ []))
+  held r z = vstruct (ofList (mach z ∷ vint w8 r ∷ []))
 
   pub made : (r : ℕ) (z : State E) → r < 2 ^ 8 → Is row z (mach z ∷ []) → Is (answer E) (E .answered r z) (held r z ∷ [])
   made r z fits8 is =
@@ -81,7 +81,7 @@ module _ (E : End) where
       let fits : E .number (E .answered r z) < 2 ^ 8 = rw (e .0) fits8 in
       let holds : Is row (E .after (E .answered r z)) (mach (E .after (E .answered r z)) ∷ []) = rw (e .1) is in
       let own : Is (answer E) (E .answered r z) (held (E .number (E .answered r z)) (E .after (E .answered r z)) ∷ []) =
-      owes (answer-type E) (answer-laws E) (E .answered r z) ((refl, fits), (holds, tt)) in
+      owes (answer-type E) (answer-laws E) (E .answered r z) (holds, ((refl, fits), tt)) in
       subst (λ (x : State E). Is (answer E) (E .answered r z) (held r x ∷ [])) (e .1)
       (subst (λ (x : ℕ). Is (answer E) (E .answered r z) (held x (E .after (E .answered r z)) ∷ [])) (e .0) own)
 
@@ -186,7 +186,7 @@ module _ (E : End) where
               -- [_3; true; room for _6; …; _5; …; _4; …; of _3 …; _2; …; _1; …; room for _0; …]
               assigns ! (of-opd ! (load ! (from ! (stop !)) (look ! 0 refl))) (from ! (stop !))
               (init ! 2 refl (lawful (E .type) (E .laws) 𝓤 H A W .typed z _ holds .0)) $
-              assigns ! (agg ! (and-then ! (load ! (from ! (stop !)) (look ! 6 refl)) (and-then ! (load ! (from ! (stop !)) (look ! 2 refl)) (no-more !))))
+              assigns ! (agg ! (and-then ! (load ! (from ! (stop !)) (look ! 2 refl)) (and-then ! (load ! (from ! (stop !)) (look ! 6 refl)) (no-more !))))
               (from ! (stop !)) (init ! 13 refl (lawful (answer-type E) (answer-laws E) 𝓤 H A W .typed (E .answered r z) _ (made r z (is .1) holds) .0)) $
               returns ! (look ! 13 refl) $ forget ! 0 refl $ forget ! 2 refl $ forget ! 4 refl $ forget ! 6 refl $ forget ! 9 refl $ forget ! 11 refl $
               forget ! 13 refl $

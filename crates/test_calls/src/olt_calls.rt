@@ -15,9 +15,9 @@ use jazmotip::at_olt::jazmotip_olt_register;
 use jazmotip::at_olt::jazmotip_olt_register_group;
 use jazmotip::at_olt::jazmotip_olt_retry;
 use jazmotip::at_olt::jazmotip_olt_send;
-use multicast::HeadAnswer;
 use multicast::HeadClockSent;
 use multicast::HeadKeySent;
+use multicast::HeadMoved;
 use multicast::HeadSent;
 use protocol::Header;
 
@@ -41,10 +41,10 @@ pub(crate) fn register_group(olt: HeadEnd, interval: u64, count: u8) -> HeadEnd 
 }
 
 // Lends its own copy, which the call changes in place.
-fn advanced(olt: HeadEnd, n: u64) -> HeadAnswer {
+fn advanced(olt: HeadEnd, n: u64) -> HeadMoved {
     let mut next = olt;
     let number = jazmotip_olt_advance(&mut next, n);
-    HeadAnswer { number, head: next }
+    HeadMoved { head: next, number }
 }
 
 pub(crate) fn advance(olt: HeadEnd, n: u64) -> HeadEnd {

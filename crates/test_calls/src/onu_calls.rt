@@ -12,7 +12,7 @@ use jazmotip::at_onu::jazmotip_onu_new_time;
 use jazmotip::at_onu::jazmotip_onu_receive;
 use jazmotip::at_onu::jazmotip_onu_send;
 use multicast::SubscriberAcknowledged;
-use multicast::SubscriberAnswer;
+use multicast::SubscriberMoved;
 use multicast::SubscriberSent;
 use protocol::Header;
 use protocol::KeyMessage;
@@ -30,12 +30,12 @@ pub(crate) fn join(onu: Subscriber, llid: u16) -> Subscriber {
 }
 
 // Lends its own copy, which the call changes in place.
-fn advanced(onu: Subscriber, n: u64) -> SubscriberAnswer {
+fn advanced(onu: Subscriber, n: u64) -> SubscriberMoved {
     let mut next = onu;
     let number = jazmotip_onu_advance(&mut next, n);
-    SubscriberAnswer {
-        number,
+    SubscriberMoved {
         subscriber: next,
+        number,
     }
 }
 

@@ -1,17 +1,10 @@
--- `multicast::at_head::advance` meets its contract: without groups the head end answers as its OLT. Assumes nothing.
+-- `multicast::at_head::advance` meets its contract: the move's answer, the code first. Assumes nothing.
 use borrow.Author.Needs.{needs}
-use mathlib.Core.Path.{sym}
-use Rattle.groups.specs.Head.{withOlt}
-use Rattle.multicast.proofs.NoGroups.{without-groups}
 use Rattle.multicast.proofs.at_head.advance.Statement.{statement}
 use Rattle.multicast.proofs.at_head.advance.Tie as tie
 
 returns : tie.Need-returns
-unfolding withOlt
-returns c =
-    let done = c .before .before in
-    let a = done .before .before .before .args in
-    rw (done .advance .ensures) (sym (without-groups .asOlt (a .head) (done .before .if1 .taken) .advance (a .n)))
+returns c = rw (c .before .moved .ensures)
 
 pub advance-spec : {M : Type 1} → statement M
-advance-spec = tie.close (tie.spec (λ c κs. search needs) returns (λ c κs. search needs) (λ c. search needs))
+advance-spec = tie.close (tie.spec (λ c κs. search needs) returns)

@@ -27,8 +27,8 @@ use denote.Exit.{yes}
 use Rattle.groups.specs.declared.HeadEnd.{HeadEnd}
 use Rattle.groups.proofs.HeadEnd.{the-row, the-type}
 use Rattle.groups.proofs.HeadEnd.Laws.{the-laws, the-plain}
-use Rattle.multicast.proofs.HeadAnswer as answer
-use Rattle.multicast.proofs.HeadAnswer.Laws as answer-laws
+use Rattle.multicast.proofs.HeadMoved as answer
+use Rattle.multicast.proofs.HeadMoved.Laws as answer-laws
 use Rattle.jazmotip.proofs.End.{head}
 use Rattle.jazmotip.proofs.InPlace.{machine}
 use Rattle.jazmotip.proofs.at_olt.jazmotip_olt_advance.Met as in-place

@@ -27,8 +27,8 @@ use denote.Exit.{yes}
 use Rattle.groups.specs.declared.Subscriber.{Subscriber}
 use Rattle.groups.proofs.Subscriber.{the-row, the-type}
 use Rattle.groups.proofs.Subscriber.Laws.{the-laws, the-plain}
-use Rattle.multicast.proofs.SubscriberAnswer as answer
-use Rattle.multicast.proofs.SubscriberAnswer.Laws as answer-laws
+use Rattle.multicast.proofs.SubscriberMoved as answer
+use Rattle.multicast.proofs.SubscriberMoved.Laws as answer-laws
 use Rattle.jazmotip.proofs.End.{subscriber}
 use Rattle.jazmotip.proofs.InPlace.{machine}
 use Rattle.jazmotip.proofs.at_onu.jazmotip_onu_advance.Met as in-place

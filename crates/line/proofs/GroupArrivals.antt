@@ -9,6 +9,7 @@ use Rattle.unicast.specs.Setting.{Setting}
 use Rattle.unicast.specs.History.{InFlight, leftAt, Lane}
 use Rattle.unicast.specs.Premises.{FittingBuffer}
 use Rattle.unicast.proofs.Invariant.{Rising}
+use Rattle.unicast.proofs.Progress.{rising-top}
 use Rattle.unicast.proofs.Rounds.{last-is, last-some}
 use Rattle.line.specs.History.{GroupLane}
 use Rattle.line.specs.Events.{Event, advance, arriveGroup}
@@ -20,7 +21,7 @@ use Rattle.line.proofs.GroupArrivalSteps.{arrive-group-right}
 use Rattle.line.proofs.GroupGoing.{Leaves}
 use Rattle.line.proofs.GroupStays.{Stays, stays-itself, stays-then, same-lane, advance-stays, advance-groups, advance-tick, Comes}
 use Rattle.line.proofs.Invariant.{Invariant}
-use Rattle.line.proofs.Ordered.{Each, each-both, Distinct, each-ordered, distinct-ordered, rising-most, ordered-rising}
+use Rattle.line.proofs.Ordered.{Each, each-both, Distinct, each-ordered, distinct-ordered, ordered-rising}
 
 ---- lists
 
@@ -79,7 +80,7 @@ module _ (w : Setting) (g : ℕ) (x : InFlight) (s0 s1 : State) (P : ℕ → Sta
   all-arrive (u ∷ us) t passed most i stays tick rising range distinct waits =
       let n = downTo s0 u - passed in
       let k = length (getD (groupLaneAt s0 g .towards) u []) in
-      let high = rising-most (downTo s0 u) most (map (downTo s0) us) (rising .1) in
+      let high = rising-top (downTo s0) (downTo s0 u) most us (rising .1) in
       let t1 = step t (advance n) in
       let i1 = advance-right w t n i in
       let tick1 : now t1 ≡ now s0 + downTo s0 u =

@@ -19,9 +19,9 @@ use Rattle.unicast.proofs.ClockRound.{clock-round}
 use Rattle.unicast.proofs.Going.{Here, here-after, alive, advance-goes}
 use Rattle.unicast.proofs.Invariant.{Rising}
 use Rattle.unicast.proofs.Owned.{Owns, owns-clock, at-olt-keeps, set-stays, noted-keeps}
+use Rattle.unicast.proofs.Progress.{rising-top, clock-short}
 use Rattle.unicast.proofs.Whole.{Quiet}
 use Rattle.line.specs.GroupProgress.{clockOf}
-use Rattle.line.proofs.Ordered.{rising-most}
 
 -- what left before is overdue
 late-all : {A : Type 0} (f : A → ℕ) (delay lo hi now : ℕ) (xs : List A) → Rising lo hi (map f xs) → hi + delay < now
@@ -29,7 +29,7 @@ late-all : {A : Type 0} (f : A → ℕ) (delay lo hi now : ℕ) (xs : List A) �
 unfolding overdue
 late-all f delay lo hi now [] r h = refl
 late-all {A} f delay lo hi now (x ∷ xs) r h =
-    let most = rising-most (f x) hi (map f xs) (r .1) in
+    let most = rising-top f (f x) hi xs (r .1) in
     pick-true (suc (overdue now (map (λ (y : A). f y + delay) xs))) 0 (lt-ltb (f x + delay) now (omega (arith, most, h)))
     ∙ ap suc (late-all f delay (f x) hi now xs (r .1) h)
 
@@ -100,12 +100,6 @@ round-calm u llid s =
     pick-holds (λ (es : List Event). Calms es) (isSynced (laneAt s u)) _ (capture llid ∷ clockSend llid ∷ answeredRound u llid (laneAt s u))
     (λ e. (tt, tt)) (λ e. (tt, (tt, (tt, (tt, (tt, (tt, tt)))))))
 
-round-short : (u llid : ℕ) (s : State) → length (clockRound u llid s) ≤ 6
-unfolding clockRound answeredRound
-round-short u llid s =
-    pick-holds (λ (es : List Event). length es ≤ 6) (isSynced (laneAt s u)) _ (capture llid ∷ clockSend llid ∷ answeredRound u llid (laneAt s u))
-    (λ e. omega arith) (λ e. omega arith)
-
 ---- the round
 
 -- the unit's clock is acknowledged, what others have of it stays
@@ -161,5 +155,5 @@ module _ (w : Setting) (u llid : ℕ) (s : State) (h : Here w u llid s) (range :
         steady = λ p k.
             calm-run w s (advance longest ∷ clockRound u llid s1) p (h .invariant) meets k (tt, round-calm u llid s1) .acknowledged;
         tick = omega (arith, c .goes .tick, most, t .tick);
-        short = omega (arith, round-short u llid s1);
+        short = omega (arith, clock-short u llid s1);
       }

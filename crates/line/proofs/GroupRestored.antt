@@ -41,7 +41,6 @@ use Rattle.line.proofs.GroupProgress.{group-brings}
 use Rattle.line.proofs.Invariant.{Invariant}
 use Rattle.line.proofs.Ordered.{Each, each-as, each-ordered, ordered-each}
 use Rattle.line.proofs.OwnEvents.{own-list}
-use Rattle.line.proofs.OwnJoined.{own-joined-list}
 use Rattle.line.proofs.Seats.{Seated, member-whose}
 use Rattle.line.proofs.SeatSteps.{seated-run, seated-start}
 use Rattle.line.proofs.StartSteps.{start-right}
@@ -142,7 +141,7 @@ clock-done w s g u key i e new range =
       clocked =
           record {
             groups = a .groups;
-            joined = own-joined-list s u llid key es (c .owns key);
+            joined = a .joined;
             kept = λ v. ap (λ (z : run.State). keptOf (laneAt z v)) (a .same) ∙ c .kept v;
           };
       acknowledged = ap (λ (z : run.State). unitAt (z .olt) (placeOf s u) .clock .acknowledged) (a .same) ∙ c .acknowledged;

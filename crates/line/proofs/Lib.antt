@@ -49,7 +49,6 @@ pub mod GroupProgress
 pub mod Seats
 pub mod SeatSteps
 pub mod GroupClocks
-pub mod OwnJoined
 pub mod GroupRestored
 pub mod Without
 pub mod Unchanged

@@ -10,6 +10,7 @@ use borrow.Author.Tests.{leb-true, leb-false, eqb-true, eqb-false}
 use Rattle.octets.specs.Choice.{pick}
 use Rattle.octets.proofs.Choice.{pick-holds, pick-true}
 use Rattle.unicast.proofs.Invariant.{Rising}
+use Rattle.unicast.proofs.Pace.{rising-later}
 use Rattle.line.specs.GroupProgress.{placed, ordered, mostOf}
 
 -- what holds of each
@@ -64,14 +65,6 @@ rising-placed f u lo hi (v ∷ vs) a b r =
     (λ e. (a, (leb-true (f u) (f v) e, r .1)))
     (λ e. (r .0, rising-placed f u (f v) hi vs (omega (arith, leb-false (f u) (f v) e)) b (r .1)))
 
-rising-wider : (lo hi hi' : ℕ) (ts : List ℕ) → hi ≤ hi' → Rising lo hi ts → Rising lo hi' ts
-rising-wider lo hi hi' [] h r = omega (arith, h, r)
-rising-wider lo hi hi' (t ∷ ts) h r = (r .0, rising-wider t hi hi' ts h (r .1))
-
-pub rising-most : (lo hi : ℕ) (ts : List ℕ) → Rising lo hi ts → lo ≤ hi
-rising-most lo hi [] r = r
-rising-most lo hi (t ∷ ts) r = omega (arith, r .0, rising-most t hi ts (r .1))
-
 ---- all that pass the test
 
 module _ (p : ℕ → Bool) (f : ℕ → ℕ) where
@@ -114,5 +107,5 @@ module _ (p : ℕ → Bool) (f : ℕ → ℕ) where
         → Rising 0 (pick t (max (f n) (mostOf p f n)) (mostOf p f n)) (map f (pick t (placed f n (ordered p f n)) (ordered p f n)))
     by-test true rest =
         rising-placed f n 0 (max (f n) (mostOf p f n)) (ordered p f n) (omega arith) (le-max-left (f n) (mostOf p f n))
-        (rising-wider 0 (mostOf p f n) (max (f n) (mostOf p f n)) (map f (ordered p f n)) (le-max-right (f n) (mostOf p f n)) rest)
+        (rising-later 0 (mostOf p f n) (max (f n) (mostOf p f n)) (map f (ordered p f n)) (le-max-right (f n) (mostOf p f n)) rest)
     by-test false rest = rest

@@ -185,19 +185,49 @@ module _ (w : Setting) (s : State) (i : Invariant w s) (u llid : ℕ) (key : Lis
   own-groups (units.strayDown v h p out) o = absurd o
   own-groups (units.strayUp h p out) o = absurd o
 
+  in-flight-joined : (v k : ℕ) (out : List ℕ) (x : InFlight) → inFlightArriving s v k out x .history .joined ≡ s .history .joined
+  unfolding inFlightArriving messageArriving atUnitAlone atUnit
+  in-flight-joined v k out (clockMessage m c t) = refl
+  in-flight-joined v k out (keyMessage m t) = refl
+  in-flight-joined v k out (envelope e) = refl
+
+  own-joined : (e : units.Event) → Owned u llid key e → step s (plain e) .history .joined ≡ s .history .joined
+  unfolding plain step advancing clockSendingTo offeringTo retryingTo sendingDown sendingUp arrivingUp answering atHead atUnitAlone atUnit
+  own-joined (units.advance n) o = refl
+  own-joined (units.capture x) o = refl
+  own-joined (units.clockSend x) o = refl
+  own-joined (units.offer x other) o = refl
+  own-joined (units.retry x) o = refl
+  own-joined (units.sendDown x channel p out) o = refl
+  own-joined (units.sendUp v x channel p out) o = refl
+  own-joined (units.arriveDown v k out) o = in-flight-joined v k out (inFlightAt (alone s) v k)
+  own-joined (units.arriveUp v k out) o = refl
+  own-joined (units.arriveAnswer v k x) o = refl
+  own-joined (units.register v x trip interval) o = absurd o
+  own-joined (units.overhear v other k out) o = absurd o
+  own-joined (units.changePath v x time p) o = absurd o
+  own-joined (units.measure x trip) o = absurd o
+  own-joined (units.newTime v time) o = absurd o
+  own-joined (units.strayClock v m) o = absurd o
+  own-joined (units.strayKey v m) o = absurd o
+  own-joined (units.strayAnswer x a) o = absurd o
+  own-joined (units.strayDown v h p out) o = absurd o
+  own-joined (units.strayUp h p out) o = absurd o
+
 ---- a list of them
 
 pub record Alike (w : Setting) (s : State) (es : List units.Event) : Type 0 where
   pub meets : Meets w s (map plain es)
   pub same : alone (runs s (map plain es)) ≡ run.run (alone s) es
   pub groups : runs s (map plain es) .history .groups ≡ s .history .groups
+  pub joined : runs s (map plain es) .history .joined ≡ s .history .joined
 
 pub own-list : (w : Setting) (s : State) (es : List units.Event) (u llid : ℕ) (key : List ℕ) → Invariant w s
     → laneAt (alone s) u .entry .registered ≡ true
     → has (laneAt (alone s) u .site .identity) llid ≡ true → NewToGroups (s .history .groups) key → Owns u llid key es → premises.Meets w (alone s) es
     → Alike w s es
 unfolding runs run.run
-own-list w s [] u llid key i registered named new o m = record { meets = tt; same = refl; groups = refl }
+own-list w s [] u llid key i registered named new o m = record { meets = tt; same = refl; groups = refl; joined = refl }
 own-list w s (e ∷ es) u llid key i registered named new o m =
     let f = own-fits w s i u llid key registered named e (o .0) new (m .0) in
     let same = own-same w s i u llid key registered named e (o .0) (m .0) in
@@ -211,4 +241,5 @@ own-list w s (e ∷ es) u llid key i registered named new o m =
       meets = (f, rest .meets);
       same = rest .same ∙ ap (λ (t : run.State). run.run t es) same;
       groups = rest .groups ∙ groups;
+      joined = rest .joined ∙ own-joined w s i u llid key registered named e (o .0);
     }

@@ -18,7 +18,7 @@ use Rattle.unicast.proofs.Invariant.{Asked, Rising, InOrder}
 
 ---- ticks that never fall
 
-rising-later : (lo hi top : ℕ) (ts : List ℕ) → hi ≤ top → Rising lo hi ts → Rising lo top ts
+pub rising-later : (lo hi top : ℕ) (ts : List ℕ) → hi ≤ top → Rising lo hi ts → Rising lo top ts
 rising-later lo hi top [] h r = omega (arith, h, r)
 rising-later lo hi top (t ∷ ts) h r = (r .0, rising-later t hi top ts h (r .1))
 

@@ -71,7 +71,7 @@ least-each up (x ∷ es) e m =
 
 ---- what is under way has left
 
-rising-top : {A : Type 0} (f : A → ℕ) (lo hi : ℕ) (xs : List A) → Rising lo hi (map f xs) → lo ≤ hi
+pub rising-top : {A : Type 0} (f : A → ℕ) (lo hi : ℕ) (xs : List A) → Rising lo hi (map f xs) → lo ≤ hi
 rising-top f lo hi [] r = r
 rising-top f lo hi (x ∷ xs) r = let rest = rising-top f (f x) hi xs (r .1) in omega (arith, rest, r .0)
 
@@ -83,7 +83,7 @@ rising-each f lo hi (y ∷ ys) x r m =
 
 ---- how many events
 
-clock-short : (u llid : ℕ) (s : State) → length (clockRound u llid s) ≤ 6
+pub clock-short : (u llid : ℕ) (s : State) → length (clockRound u llid s) ≤ 6
 unfolding clockRound answeredRound
 clock-short u llid s =
     pick-holds (λ (es : List Event). length es ≤ 6) (isSynced (laneAt s u)) _ (capture llid ∷ clockSend llid ∷ answeredRound u llid (laneAt s u))

@@ -59,8 +59,8 @@
  *     not have yet, or at a fresh OLT, whose units are then all fresh. One end made fresh by itself does not fit the other's keys.
  *   - This lets every joined member of a group that is synced open the group's next envelope, also one that missed keys, and that is
  *     proved too: jazmotip_olt_offer on the group's LLID, or jazmotip_olt_retry where an offer is outstanding; let the message arrive;
- *     let 4,194,304 ticks and an interval pass; send to the group. No member's acknowledgement needs to arrive. An offer is
- *     JAZMOTIP_CLOCK_NOT_SET until every member's clock is acknowledged.
+ *     let 4,194,304 ticks and an interval pass; send to the group. No acknowledgement of the key needs to arrive. An offer is
+ *     JAZMOTIP_CLOCK_NOT_SET until every member's clock is acknowledged: set those clocks first.
  *
  * Units: one tick is one EQT, 2.56 ns. One EQ is nine octets: a control octet, then eight data octets.
  */

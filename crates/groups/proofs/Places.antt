@@ -39,7 +39,7 @@ place-at i (y ∷ l) x k e = by-head (eqb y x) refl (place-at (suc i) l x k) e w
       record { low = omega (arith, r .low); below = omega (arith, r .below); has = rw n (r .has) }
 
 -- what stands in a list is among it
-among-at : (l : List ℕ) (i d : ℕ) → i < length l → among (getD l i d) l ≡ true
+pub among-at : (l : List ℕ) (i d : ℕ) → i < length l → among (getD l i d) l ≡ true
 unfolding among
 among-at [] i d h = absurd (not-suc-le-zero h)
 among-at (y ∷ l) zero d h = either-left _ (eq-eqb y y refl)

@@ -13,15 +13,16 @@ use Rattle.protocol.specs.OltCalls.{oltAdvanced, sharedAdvanced}
 use Rattle.protocol.specs.declared.KeyMessage.{KeyMessage}
 use Rattle.protocol.proofs.Replies.{advance-accepts}
 use Rattle.groups.specs.declared.Subscriber.{Subscriber}
+use Rattle.groups.proofs.HeadValidity.{head-valid}
 use Rattle.multicast.specs.HeadCalls.{headAdvanced}
 use Rattle.multicast.specs.declared.SubscriberAcknowledged.{SubscriberAcknowledged}
+use Rattle.multicast.proofs.HeadGrowth.{advance-moves}
 use Rattle.unicast.specs.Setting.{Setting}
 use Rattle.unicast.specs.History.{Envelope, InFlight, envelope, Lane}
 use Rattle.unicast.specs.Run.{accepted, laneAt, freshLane, noSite}
 use Rattle.line.specs.History.{GroupArrival, GroupLane, Membership, isJoined, hasTaken, taking, groupWith, groupTaken, groupAnswered, groupArrived}
 use Rattle.line.specs.Events.{advance, arriveGroup}
 use Rattle.line.specs.Run.{State, alone, joinedBy, groupLaneAt, noGroupLane, groupInFlightAt, now, lanes, atUnit, advancing, groupMessageArriving, groupReceipt, groupInFlightArriving, step}
-use Rattle.line.proofs.AloneHead.{advance-moves}
 use Rattle.line.proofs.Arriving.{taken-others}
 use Rattle.line.proofs.Invariant.{Invariant}
 use Rattle.line.proofs.Places.{set-field, set-holds}
@@ -100,12 +101,14 @@ module _ (w : Setting) (s : State) (n : ℕ) (i : Invariant w s) (most : now s +
   pub advance-tick : now (step s (advance n)) ≡ now s + n
   unfolding step advancing pick alone
   advance-tick =
-      rw (advance-moves (s .head) (i .valid) n (i .units .valid) (advance-accepts (s .head .olt .shared .tick) n (omega (arith, most, i .units .shared .tick))))
+      rw (advance-moves (s .head) n (head-valid (s .head) (record { olt = i .units .valid; groups = i .valid }))
+      (advance-accepts (s .head .olt .shared .tick) n (omega (arith, most, i .units .shared .tick))))
 
   pub advance-channels : step s (advance n) .head .olt .shared .channels ≡ s .head .olt .shared .channels
   unfolding step advancing alone headAdvanced oltAdvanced sharedAdvanced
   advance-channels =
-      rw (advance-moves (s .head) (i .valid) n (i .units .valid) (advance-accepts (s .head .olt .shared .tick) n (omega (arith, most, i .units .shared .tick))))
+      rw (advance-moves (s .head) n (head-valid (s .head) (record { olt = i .units .valid; groups = i .valid }))
+      (advance-accepts (s .head .olt .shared .tick) n (omega (arith, most, i .units .shared .tick))))
 
 ---- something of the group arrives at unit u
 

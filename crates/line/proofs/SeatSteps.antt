@@ -29,6 +29,7 @@ use Rattle.groups.specs.Limits.{maxMembers}
 use Rattle.groups.specs.Members.{placesOf, rosterLlids, freshMembers, validMembers}
 use Rattle.groups.specs.declared.GroupRecord.{GroupRecord}
 use Rattle.groups.specs.declared.Roster.{Roster}
+use Rattle.groups.proofs.Places.{among-at}
 use Rattle.multicast.specs.HeadCalls.{registerGroupOf, headRegisterOf, placeFound, rosterMembers}
 use Rattle.protocol.specs.declared.OltAnswer.{OltAnswer}
 use Rattle.unicast.specs.Setting.{Setting}
@@ -43,7 +44,6 @@ use Rattle.line.specs.History.{GroupLane, isMember, groupWith, groupOffe
 use Rattle.line.specs.Events.{Event, advance, register, registerGroup, capture, clockSend, offer, retry, sendDown, join, sendUp, arriveDown, arriveGroup, arriveUp, arriveAnswer, arriveGroupAnswer, overhear, overhearGroup, changePath, measure, newTime, strayClock, strayKey, strayAnswer, strayDown, strayUp}
 use Rattle.line.specs.Run.{State, alone, start, groupLaneAt, noGroupLane, groupInFlightAt, lanes, notedFor, atHead, atUnit, atUnitAlone, advancing, registering, newGroupLane, clockSendingTo, offeringTo, retryingTo, sendingDown, joiningAt, sendingUp, messageArriving, inFlightArriving, groupMessageArriving, groupInFlightArriving, arrivingUp, answering, changingPath, subscriberAfter, headAfter, step, runs}
 use Rattle.line.specs.Premises.{Fits, Meets}
-use Rattle.line.proofs.Finding.{among-at}
 use Rattle.line.proofs.GroupRegisterSteps as groups
 use Rattle.line.proofs.RegisterSteps.{accepts, refused-step}
 use Rattle.line.proofs.Invariant.{Invariant}

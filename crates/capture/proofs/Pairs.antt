@@ -1,5 +1,5 @@
 -- Laws of the pairs of a directory: what the tests on a pair say of its verdict. Assumes nothing.
-use mathlib.Core.Path.{_≡_, sym, _∙_}
+use mathlib.Core.Path.{_≡_}
 use mathlib.Core.Bool.{Bool, true, false, not}
 use mathlib.Core.List.{List}
 use Prim.Native.Nat.{ℕ, suc, _+_, _-_, _*_, _≤_, _<_}
@@ -13,7 +13,7 @@ use Rattle.octets.proofs.Choice.{both-left, both-right, pick-first}
 use Rattle.records.specs.Record.{sized}
 use Rattle.records.specs.Place.{endFits}
 use Rattle.records.proofs.Places.{end-within, end-at}
-use Rattle.records.specs.Block.{mostOctets, mostRecords, recordsIn, offsetOf, lengthOf, endOf, dueOf, recordOf}
+use Rattle.records.specs.Block.{mostOctets, mostRecords, recordsIn, offsetOf, endOf, dueOf, recordOf}
 use Rattle.capture.specs.Directory.{chained, pairOf, sizeFits, withPair, pairsFrom}
 use Rattle.capture.specs.declared.directory.Pair.the-variants.{Fits, OffChain, OffLength}
 use Rattle.capture.specs.declared.directory.Directory.the-variants.{Good}
@@ -97,13 +97,3 @@ pairs-end b n i h = let e : n - i ≡ 0 = omega arith in rw e
 pub due-next : (b : List ℕ) (i : ℕ) → dueOf b (i + 1) ≡ endOf b i
 unfolding dueOf
 due-next b i = rw add-one
-
--- behind a pair that fits, the next record is due at its end
-pub next-due : (b : List ℕ) (i due l : ℕ) → pairOf b i ≡ Fits → due ≡ dueOf b i → l ≡ lengthOf b i
-    → (due + l ≡ dueOf b (i + 1)) × (due + l ≤ length b)
-unfolding endOf
-next-due b i due l f p q =
-    let w = pair-fits b i f in
-    let n = due-next b i in
-    let e : due + l ≡ offsetOf b i + lengthOf b i = rw (q, p, ← w .place) in
-    (e ∙ sym n, omega (arith, w .inside))

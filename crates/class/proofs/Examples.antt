@@ -47,11 +47,6 @@ second-directory : directoryOf secondBlock ≡ Good 2
 unfolding directoryOf pairsFrom withPair pairOf chained sizeFits sized recordsIn offsetOf lengthOf endOf dueOf recordOf recordHeader endFits both either pick
 second-directory = refl
 
--- the LLID 0005 may be seen, 0006 not
-sees-first : maySee (getD (ownRights example firstRights) 0 0) ≡ true
-unfolding ownRights maySee mayOpen either bitOf
-sees-first = refl
-
 not-second : maySee (getD (ownRights example firstRights) 1 0) ≡ false
 unfolding ownRights maySee mayOpen either bitOf
 not-second = refl

@@ -10,7 +10,6 @@ use lib.ListN.{length, getD, length-append, List·getD-append}
 use lib.Seq.{getD-at}
 use borrow.Author.Tests.{eqb-true, ltb-true, ltb-false}
 use Rattle.octets.specs.Choice.{both, pick}
-use Rattle.octets.proofs.Maps.{map-always}
 use Rattle.ends.specs.Identities.{has}
 use Rattle.ends.specs.declared.Found.the-variants.{Nowhere}
 use Rattle.ends.specs.declared.Olt.{Olt}
@@ -21,7 +20,8 @@ use Rattle.unicast.specs.Setting.{Setting}
 use Rattle.unicast.specs.History.{Lane, laneWith, laneLeaving, laneOffered}
 use Rattle.unicast.specs.Events as events
 use Rattle.unicast.specs.Run as run
-use Rattle.unicast.specs.Run.{laneAt, atOlt, noted, named, freshLane, noSite, withLanes, offering}
+use Rattle.unicast.specs.Run.{laneAt, atOlt, noted, named, offering}
+use Rattle.unicast.proofs.LiftSteps.{noted-at}
 use Rattle.unicast.proofs.Theorem.{step-right}
 use Rattle.line.specs.Events.{offer}
 use Rattle.line.specs.Run.{State, alone, groupLaneAt, atHead, keySentAlone, offeringTo, step}
@@ -31,7 +31,7 @@ use Rattle.line.proofs.AloneHead.{offer-olt, offer-alone}
 use Rattle.line.proofs.Kept.{offer-kept}
 use Rattle.line.proofs.Beside.{beside-right}
 use Rattle.line.proofs.Lines.{noted-none}
-use Rattle.line.proofs.OltSteps.{noted-fresh, named-beside}
+use Rattle.line.proofs.OltSteps.{named-beside}
 
 -- one offer more, or none
 More : List ℕ → ℕ → List (List ℕ) → List (List ℕ) → Type 0
@@ -49,9 +49,8 @@ noted-offer key number llid f l e = by-test (eqb number 0) (both (l .entry .regi
 named-offer : (key : List ℕ) (s : run.State) (o : Olt) (number llid : ℕ) (f : Lane → Lane)
     → ((l : Lane) → f l .keys .offers ≡ l .keys .offers ++ (key ∷ []))
     → (u : ℕ) → More key number (laneAt s u .keys .offers) (laneAt (atOlt s o number llid f) u .keys .offers)
-unfolding atOlt withLanes
 named-offer key s o number llid f e u =
-    rw (map-always (noted number (named llid f)) (s .history .lanes) u (freshLane noSite) (noted-fresh number llid f))
+    rw (noted-at s o number llid u f)
     (noted-offer key number llid f (laneAt s u) (e (laneAt s u)))
 
 -- a key of the list with one more is the new one, or an old one

@@ -3,8 +3,6 @@ use mathlib.Core.Path.{_≡_, refl, _∙_, ap}
 use mathlib.Core.List.{List}
 use Prim.Native.Nat.{ℕ}
 use lib.ListN.{length, length-map}
-use Rattle.octets.specs.Choice.{both, pick}
-use Rattle.octets.proofs.Choice.{pick-same}
 use Rattle.ends.specs.declared.Found.the-variants.{Nowhere}
 use Rattle.ends.specs.declared.Olt.{Olt}
 use Rattle.protocol.specs.OltCalls.{captureOf, clockSendOf, retryOf, acknowledgeOf}
@@ -17,7 +15,7 @@ use Rattle.unicast.specs.History as history
 use Rattle.unicast.specs.History.{Lane, laneWith, laneCaptured, laneLeaving, laneSentDown, laneAcknowledged}
 use Rattle.unicast.specs.Events as events
 use Rattle.unicast.specs.Run as run
-use Rattle.unicast.specs.Run.{atOlt, noted, named, accepted, freshLane, noSite, withLanes, clockSending, retrying, answerAt}
+use Rattle.unicast.specs.Run.{atOlt, noted, named, withLanes, clockSending, retrying, answerAt}
 use Rattle.unicast.specs.Premises as premises
 use Rattle.unicast.proofs.Alive.{answered-alive}
 use Rattle.unicast.proofs.Owned.{at-olt-keeps}
@@ -33,10 +31,6 @@ use Rattle.line.proofs.Beside.{Beside, head-kept, unit-itself, beside-r
 use Rattle.line.proofs.Lines.{noted-none, unit-no-group}
 
 ---- what a lane keeps
-
-pub noted-fresh : (number llid : ℕ) (f : Lane → Lane) → noted number (named llid f) (freshLane noSite) ≡ freshLane noSite
-unfolding noted named freshLane both pick
-noted-fresh number llid f = pick-same (accepted number) (freshLane noSite)
 
 named-length : (s : run.State) (o : Olt) (number llid : ℕ) (f : Lane → Lane)
     → length (atOlt s o number llid f .history .lanes) ≡ length (s .history .lanes)

@@ -1,12 +1,12 @@
 -- One step of a walk along a list, and its end: what loops go by. Assumes nothing.
 use mathlib.Core.Path.{_≡_, _∙_}
 use mathlib.Core.Bool.{Bool, true, false}
-use mathlib.Core.List.{List, [], _∷_, _++_, append-assoc}
+use mathlib.Core.List.{List, [], _∷_}
 use Prim.Native.Nat.{ℕ, suc, _+_, _-_, _<_, _≤_}
 use native.Mathlib.Numerals.{add-one}
 use native.Mathlib.Omega.{arith}
-use lib.ListN.{length, getD, set, take, drop, length-take, drop-of-length-le}
-use lib.Seq.{drop-cons, getD-take, take-suc-set, take-suc}
+use lib.ListN.{length, getD, take, drop, length-take, drop-of-length-le}
+use lib.Seq.{drop-cons, getD-take}
 use borrow.Author.Tests.{eq-eqb, ne-eqb}
 use Rattle.octets.specs.Choice.{both}
 use Rattle.octets.specs.Lists.{tabulate, same, all}
@@ -67,10 +67,3 @@ unfolding all
 all-end p n l i h = rw (first-end n l i h)
 
 ---- a list that grows
-
--- one turn of a loop that writes a piece behind the first `at` elements
-pub append-more : (s t piece : List ℕ) (at j : ℕ) → at + j < length t → j < length piece → take (at + j) t ≡ take at s ++ take j piece
-    → take (at + (j + 1)) (set t (at + j) (getD piece j 0)) ≡ take at s ++ take (j + 1) piece
-append-more s t piece at j h l e =
-    let n : at + (j + 1) ≡ suc (at + j) = omega arith in
-    rw (n, take-suc-set t (at + j) (getD piece j 0) h, add-one, take-suc piece j 0 l, e) (append-assoc (take at s) (take j piece) (getD piece j 0 ∷ []))

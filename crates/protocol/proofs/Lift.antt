@@ -30,7 +30,7 @@ use Rattle.ends.specs.declared.Found.{Found}
 use Rattle.ends.specs.declared.Found.the-variants.{At, Nowhere}
 use Rattle.refusal.proofs.Order.{refused-accepts, refuse-passed, refuse-stopped}
 use Rattle.protocol.proofs.Replies.{reply-verdict, reply-accepted, reply-refused, Untouched}
-use Rattle.ends.proofs.Table.{Registered, find-at, registered-found, registered-nowhere, identities, SameUnits, find-same, table-same, with-unit, with-other, with-twice, with-channels, with-same-units, with-beside, Beside}
+use Rattle.ends.proofs.Table.{Registered, find-at, registered-found, registered-nowhere, SameUnits, find-same, table-same, with-unit, with-other, with-twice, with-channels, with-same-units, with-beside, Beside}
 use Rattle.ends.proofs.Validity.{shared-in-range, shared-valid, olt-in-range, olt-valid}
 
 module _ {H : Type 0} (o : Olt) (nothing : H) (ahead : Verdict) (llid : ℕ) (call : Shared → UnitRecord → Outcome H) where

@@ -1,5 +1,5 @@
 -- `multicast::at_head::groups_moved` meets its contract: groups move where the code is 0, and where there is none nothing does. Assumes nothing.
-use mathlib.Core.Path.{_≡_, sym, _∙_}
+use mathlib.Core.Path.{sym, _∙_}
 use borrow.Author.Needs.{needs}
 use borrow.Author.Tests.{eq-eqb, ne-eqb}
 use Rattle.octets.proofs.Choice.{pick-false, pick-true}

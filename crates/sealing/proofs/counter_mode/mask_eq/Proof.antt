@@ -8,7 +8,7 @@ use Rattle.gf256.specs.Lanes.{octetAt}
 use lib.ListN.{length, getD, set, length-set}
 use lib.Seq.{paste, paste-zero, paste-suc, take-suc, drop-cons}
 use mathlib.Core.List.{List, _∷_, append-assoc}
-use mathlib.Core.Path.{_≡_, ap, sym, _∙_, refl}
+use mathlib.Core.Path.{_≡_, ap, _∙_, refl}
 use native.Mathlib.Numerals.{add-one}
 use native.Mathlib.Omega.{arith}
 use borrow.Author.Needs.{needs}

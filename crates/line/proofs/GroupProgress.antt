@@ -16,8 +16,6 @@ use Rattle.sealing.proofs.Seal.{carried-length}
 use Rattle.ends.specs.Identities.{llidsOf, meets}
 use Rattle.ends.specs.Limits.{maxKeyNumber}
 use Rattle.ends.specs.Occupancy.{freeFrom}
-use Rattle.groups.specs.GroupCalls.{membersSet}
-use Rattle.groups.specs.Head.{groupAt}
 use Rattle.protocol.specs.declared.KeyMessage.{KeyMessage}
 use Rattle.multicast.specs.SubscriberCalls.{subscriberKeyMessageOf}
 use Rattle.unicast.specs.Setting.{Setting}
@@ -30,7 +28,7 @@ use Rattle.line.specs.History.{GroupArrival, GroupLane, Membership, isMe
 use Rattle.line.specs.Events.{Event, advance, offer, retry, sendDown, arriveGroup}
 use Rattle.line.specs.Run.{State, alone, subscriberAt, joinedBy, noGroupLane, groupLaneAt, groupInFlightAt, groupReceipt, groupInFlightArriving, now, lanes, start, step, runs}
 use Rattle.line.specs.Premises.{NewKey, DueOfGroup, Fits}
-use Rattle.line.specs.GroupProgress.{ordered, mostOf, memberOf, downTo, membersOf, longestDown, andThen, arrivals, keyRound, waitFor, waited, envelopeRound, groupRecipe, groupLimit, groupEvents, GroupMoving, OpenedAt, GroupBrings, GroupProgress}
+use Rattle.line.specs.GroupProgress.{ordered, mostOf, memberOf, downTo, membersOf, longestDown, andThen, arrivals, keyCall, keyRound, waitFor, waited, envelopeRound, groupRecipe, groupLimit, groupEvents, ClocksSet, GroupMoving, OpenedAt, GroupBrings, GroupProgress}
 use Rattle.line.proofs.AdvanceSteps.{advance-right}
 use Rattle.line.proofs.AnswerSteps.{known-line}
 use Rattle.line.proofs.Arriving.{known, unit-known, member}
@@ -401,13 +399,13 @@ module _ (w : Setting) (s : State) (g : ℕ) (key : List ℕ) (i : Invariant w s
 
     by-offer : (t : Bool) → ltb (groupLaneAt s g .keys .switches) (length (groupLaneAt s g .keys .offers)) ≡ t
         → GroupBrings w s g (groupLaneAt s g .keys .switches + 1) (groupLimit s g) (groupEvents s g)
-        (andThen (λ z. pick t (retry (groupLaneAt s g .llid)) (offer (groupLaneAt s g .llid) key) ∷ arrivals s g 0 (membersOf s g))
+        (andThen (λ z. keyCall (groupLaneAt s g .llid) key t ∷ arrivals s g 0 (membersOf s g))
         (andThen (waited g) (envelopeRound g)) s)
     by-offer true e =
         brings-by w s g i registered-known (retry (groupLaneAt s g .llid)) _ (retry-goes w s g i registered-known (ltb-true _ _ e)) most tt (able .inRange)
     by-offer false e = by-able (able .offers) where
       by-able : (groupLaneAt s g .keys .switches < length (groupLaneAt s g .keys .offers))
-          ⊎ ((membersSet (s .head .olt) (groupAt (s .head) g .members) ≡ true) × NewKey s key)
+          ⊎ (ClocksSet s g × NewKey s key)
           → GroupBrings w s g (groupLaneAt s g .keys .switches + 1) (groupLimit s g) (groupEvents s g)
           (andThen (λ z. offer (groupLaneAt s g .llid) key ∷ arrivals s g 0 (membersOf s g)) (andThen (waited g) (envelopeRound g)) s)
       by-able (inl more) =

@@ -6,7 +6,6 @@ use mathlib.Core.Logic.{inr, ⊎-elim}
 use Prim.Native.Nat.{ℕ, zero, suc, _+_, _*_, _<_, _≤_, max}
 use native.Mathlib.Nat.{max-le, suc-mul}
 use native.Mathlib.Omega.{arith}
-use lib.Dec.{leb}
 use lib.ListN.{length, getD, length-append, length-map}
 use borrow.Author.Tests.{eqb-true, eq-eqb}
 use Rattle.octets.specs.Choice.{pick}
@@ -33,7 +32,7 @@ use Rattle.line.specs.Events.{Event}
 use Rattle.line.specs.Run.{State, alone, noGroupLane, groupLaneAt, now, lanes, start, runs}
 use Rattle.line.specs.Premises.{NewKey, Meets}
 use Rattle.line.specs.Without.{plain}
-use Rattle.line.specs.GroupProgress.{placed, ordered, mostOf, memberOf, downTo, membersOf, longestDown, andThen, nameIn, nameOf, clockOf, clocksOf, restoring, restoringLimit, restoringEvents, groupRecipe, GroupMoving, Restorable, Restores, GroupRestored}
+use Rattle.line.specs.GroupProgress.{before, placed, ordered, mostOf, memberOf, downTo, membersOf, longestDown, andThen, nameIn, nameOf, clockOf, clocksOf, restoring, restoringLimit, restoringEvents, groupRecipe, ClocksSet, GroupMoving, Restorable, Restores, GroupRestored}
 use Rattle.line.proofs.AnswerSteps.{known-line}
 use Rattle.line.proofs.GroupArrivals.{runs-append, meets-append}
 use Rattle.line.proofs.GroupClocks.{keptOf, clock-goes}
@@ -212,7 +211,7 @@ placed-length : (f : ℕ → ℕ) (u : ℕ) (us : List ℕ) → length (placed f
 unfolding placed
 placed-length f u [] = refl
 placed-length f u (v ∷ vs) =
-    pick-holds (λ (xs : List ℕ). length xs ≡ length (v ∷ vs) + 1) (leb (f u) (f v)) (u ∷ v ∷ vs) (v ∷ placed f u vs) (λ e. omega arith)
+    pick-holds (λ (xs : List ℕ). length xs ≡ length (v ∷ vs) + 1) (before f u v) (u ∷ v ∷ vs) (v ∷ placed f u vs) (λ e. omega arith)
     (λ e. omega (arith, placed-length f u vs))
 
 -- by the test alone
@@ -283,7 +282,7 @@ module _ (w : Setting) (s : State) (g : ℕ) (key : List ℕ) (i : Invariant w s
       subst (Acknowledged t) (sym (place-stays g s t (done .clocked) u))
       (ordered-each (memberOf s g) (downTo s) (λ x. Acknowledged t (placeOf s x)) (length (lanes s)) u (known u e) e (done .each))
 
-  all-set : membersSet (t .head .olt) (groupAt (t .head) g .members) ≡ true
+  all-set : ClocksSet t g
   unfolding membersSet placesOf
   all-set =
       let seats = seated-run w s first i (done .meets) d in

@@ -5,13 +5,13 @@ use mathlib.Core.List.{List, [], _∷_, map}
 use Prim.Native.Nat.{ℕ, zero, suc, _<_, _≤_, max}
 use native.Mathlib.Nat.{le-max-left, le-max-right}
 use native.Mathlib.Omega.{arith}
-use lib.Dec.{eqb, leb}
+use lib.Dec.{eqb}
 use borrow.Author.Tests.{leb-true, leb-false, eqb-true, eqb-false}
 use Rattle.octets.specs.Choice.{pick}
 use Rattle.octets.proofs.Choice.{pick-holds, pick-true}
 use Rattle.unicast.proofs.Invariant.{Rising}
 use Rattle.unicast.proofs.Pace.{rising-later}
-use Rattle.line.specs.GroupProgress.{placed, ordered, mostOf}
+use Rattle.line.specs.GroupProgress.{before, placed, ordered, mostOf}
 
 -- what holds of each
 abbrev pub Each : (ℕ → Type 0) → List ℕ → Type 0
@@ -43,7 +43,7 @@ each-placed P f u (v ∷ vs) p q =
 placed-each : (P : ℕ → Type 0) (f : ℕ → ℕ) (u : ℕ) (us : List ℕ) → Each P (placed f u us) → P u × Each P us
 unfolding placed pick
 placed-each P f u [] q = (q .0, tt)
-placed-each P f u (v ∷ vs) q = by-test (leb (f u) (f v)) (placed-each P f u vs) q where
+placed-each P f u (v ∷ vs) q = by-test (before f u v) (placed-each P f u vs) q where
   by-test : (t : Bool) → (Each P (placed f u vs) → P u × Each P vs) → Each P (pick t (u ∷ v ∷ vs) (v ∷ placed f u vs))
       → P u × Each P (v ∷ vs)
   by-test true rest e = e
@@ -61,7 +61,7 @@ rising-placed : (f : ℕ → ℕ) (u lo hi : ℕ) (us : List ℕ) → lo ≤ f u
 unfolding placed
 rising-placed f u lo hi [] a b r = (a, b)
 rising-placed f u lo hi (v ∷ vs) a b r =
-    pick-holds (λ ys. Rising lo hi (map f ys)) (leb (f u) (f v)) (u ∷ v ∷ vs) (v ∷ placed f u vs)
+    pick-holds (λ ys. Rising lo hi (map f ys)) (before f u v) (u ∷ v ∷ vs) (v ∷ placed f u vs)
     (λ e. (a, (leb-true (f u) (f v) e, r .1)))
     (λ e. (r .0, rising-placed f u (f v) hi vs (omega (arith, leb-false (f u) (f v) e)) b (r .1)))
 

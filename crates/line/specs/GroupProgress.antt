@@ -30,10 +30,13 @@ use Rattle.line.specs.Without.{plain}
 
 ---- the members
 
--- u has its place in a list by f
+-- u comes before v by f, and has its place in a list
+abbrev pub before : (ℕ → ℕ) → ℕ → ℕ → Bool
+before f u v = leb (f u) (f v)
+
 unfoldable pub placed : (ℕ → ℕ) → ℕ → List ℕ → List ℕ
 placed f u [] = u ∷ []
-placed f u (v ∷ vs) = pick (leb (f u) (f v)) (u ∷ v ∷ vs) (v ∷ placed f u vs)
+placed f u (v ∷ vs) = pick (before f u v) (u ∷ v ∷ vs) (v ∷ placed f u vs)
 
 -- those below n that pass the test, in the order of f, and the most that f is of them
 unfoldable pub ordered : (ℕ → Bool) → (ℕ → ℕ) → ℕ → List ℕ
@@ -69,11 +72,15 @@ arrivals s g passed [] = []
 arrivals s g passed (u ∷ us) =
     advance (downTo s u - passed) ∷ arriveGroup u g (length (getD (groupLaneAt s g .towards) u [])) [] ∷ arrivals s g (downTo s u) us
 
--- an offer, or a retry where there is one more than switches, and its arrivals
+-- a retry where an offer is outstanding, else an offer
+abbrev pub keyCall : ℕ → List ℕ → Bool → Event
+keyCall llid key outstanding = pick outstanding (retry llid) (offer llid key)
+
+-- an offer is outstanding where there is one more than switches; and the arrivals
 unfoldable pub keyRound : ℕ → List ℕ → State → List Event
 keyRound g key s =
     let l = groupLaneAt s g in
-    pick (ltb (l .keys .switches) (length (l .keys .offers))) (retry (l .llid)) (offer (l .llid) key) ∷ arrivals s g 0 (membersOf s g)
+    keyCall (l .llid) key (ltb (l .keys .switches) (length (l .keys .offers))) ∷ arrivals s g 0 (membersOf s g)
 
 -- until every channel is free, and an interval more, so that the next send is a switch
 abbrev pub waitFor : State → ℕ → ℕ
@@ -129,12 +136,15 @@ restoringEvents s g = 3 + 11 * length (membersOf s g)
 
 ---- the claim
 
+-- every member's clock is acknowledged at the OLT
+abbrev pub ClocksSet : State → ℕ → Type 0
+ClocksSet s g = membersSet (s .head .olt) (groupAt (s .head) g .members) ≡ true
+
 -- the group can come to its next key: its offer is outstanding; or it can be made, since every member's clock is acknowledged and the key is new
 pub record GroupMoving (s : State) (g : ℕ) (key : List ℕ) : Type 0 where
   pub registered : groupLaneAt s g .entry .registered ≡ true
   pub below : groupLaneAt s g .keys .switches < maxKeyNumber
-  pub offers : (groupLaneAt s g .keys .switches < length (groupLaneAt s g .keys .offers))
-      ⊎ ((membersSet (s .head .olt) (groupAt (s .head) g .members) ≡ true) × NewKey s key)
+  pub offers : (groupLaneAt s g .keys .switches < length (groupLaneAt s g .keys .offers)) ⊎ (ClocksSet s g × NewKey s key)
   pub inRange : now s + groupLimit s g ≤ maxTick
 
 -- the envelope has arrived at the unit, which opened it

@@ -1,7 +1,6 @@
 // Round 1 of two counter blocks of one envelope (01, Counter block and mask): they differ in the block index alone, so what SubBytes and ShiftRows
 // make of the thirteen other octets is kept for all of them. Octet k of the index, the lowest first, comes to column k, in a row of its own.
-ghost use mathlib.Core.Path.{_≡_};
-ghost use Prim.Native.Nat.{_+_, _*_, _<_};
+ghost use Prim.Native.Nat.{_<_};
 ghost use lib.Dec.{eqb};
 ghost use Rattle.octets.specs.Choice.{pick};
 ghost use Rattle.gf256.specs.Field.{_⊕_};

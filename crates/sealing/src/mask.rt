@@ -1,5 +1,4 @@
 // The control mask on the eight data octets of an EQ at once (01, Counter block and mask), in a word, the first octet lowest.
-ghost use mathlib.Core.Path.{_≡_};
 ghost use Prim.Native.Nat.{_+_, _-_, _*_, _≤_};
 ghost use lib.ListN.{length, getD};
 ghost use Rattle.octets.specs.Bits.{bitOf};

@@ -4,8 +4,6 @@ mod script;
 mod steps;
 
 ghost use mathlib.Core.Path.{_≡_};
-ghost use Prim.Native.Nat.{_≤_};
-ghost use lib.ListN.{length};
 ghost use Rattle.refusal.specs.declared.Verdict.the-variants.{Accepted};
 ghost use Rattle.exercise.specs.Script.{stepsIn, scriptVerdict};
 ghost use Rattle.exercise.specs.Play.{played, figuresOf};

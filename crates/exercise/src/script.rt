@@ -1,7 +1,7 @@
 // The octets of a script.
 ghost use mathlib.Core.Path.{_≡_};
 ghost use mathlib.Core.Bool.{true};
-ghost use Prim.Native.Nat.{_+_, _*_, _^_, _≤_, _<_};
+ghost use Prim.Native.Nat.{_+_, _*_, _≤_, _<_};
 ghost use lib.ListN.{length};
 ghost use Rattle.octets.specs.BigEndian.{numberAt};
 ghost use Rattle.exercise.specs.Script.{intervalOctets, stepOctets, mostSteps, intervalOf, stepsIn, stepAt, stepFits, stepsFit, intervalFits, scriptFits, scriptVerdict};

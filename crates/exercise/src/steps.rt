@@ -1,7 +1,6 @@
 // The steps of a script, played on both ends. What is lost was sent all the same, and is not received.
 ghost use mathlib.Core.Path.{_≡_};
-ghost use Prim.Native.Nat.{_≤_, _<_};
-ghost use Rattle.ends.specs.Limits.{maxUnits};
+ghost use Prim.Native.Nat.{_≤_};
 ghost use Rattle.exercise.specs.Script.{mostSteps};
 ghost use Rattle.exercise.specs.Play.{unitIdentity, unitLlid, channelDown, channelUp, started, keyOfStep, arrives, clockStepped, keySent, answered, sentDown, sentUp, advanced, stepped, figuresOf};
 ghost use mathlib.Core.List.{[]};

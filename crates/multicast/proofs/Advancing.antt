@@ -106,7 +106,10 @@ advances h n e =
 -- what it leaves, by its verdict: all move, or none
 pub head-moved : (h : HeadEnd) (n : ℕ) (v : Verdict) → v ≡ headOrder h n
     → _≡_ {A = HeadMoved} (record {
-      head = record { olt = ifAccepted v (oltAdvanced (h .olt) n) (h .olt); groups = pick (eqb (verdictNumber v) 0) (groupsAdvanced (h .groups) n) (h .groups) };
+      head = record {
+        olt = ifAccepted v (oltAdvanced (h .olt) n) (h .olt);
+        groups = pick (eqb (verdictNumber v) 0) (groupsAdvanced (h .groups) n) (h .groups);
+      };
       number = verdictNumber v;
     })
     (headMovedOf h n)
@@ -118,7 +121,10 @@ head-moved h n v e = rw (← e) (by-verdict v) where
 
   by-verdict : (w : Verdict) → let r = headAnswer (reply w h silent (headAdvanced h n) silent) in
       _≡_ {A = HeadMoved} (record {
-        head = record { olt = ifAccepted w (oltAdvanced (h .olt) n) (h .olt); groups = pick (eqb (verdictNumber w) 0) (groupsAdvanced (h .groups) n) (h .groups) };
+        head = record {
+          olt = ifAccepted w (oltAdvanced (h .olt) n) (h .olt);
+          groups = pick (eqb (verdictNumber w) 0) (groupsAdvanced (h .groups) n) (h .groups);
+        };
         number = verdictNumber w;
       })
       (record { head = r .head; number = r .number })

@@ -1,7 +1,6 @@
 // Payloads rearranged for the store, octets of one kind side by side, and restored (02, C-12).
 ghost use mathlib.Core.Path.{_≡_};
 ghost use Prim.Native.Nat.{_+_, _≤_, _<_};
-ghost use lib.ListN.{length};
 ghost use Rattle.octets.specs.Eqs.{eqOctets};
 ghost use Rattle.octets.specs.Output.{withOutput};
 ghost use Rattle.planes.specs.Calls.{lengthVerdict, rearranging, restoring};

@@ -42,7 +42,8 @@ shared-after-requires c κs = λ v.
     advance-met (a .olt) (a .ahead) (a .n) (sym (judged on) ∙ v) .1
 
 -- a unit that moves is one of a valid end, and the sum does not wrap
-met : (c : tie.In-loop Inv-loop μ-loop) → let on = c .before .before .before .before .before .before in let a = on .before .before .before .before .before .args in
+met : (c : tie.In-loop Inv-loop μ-loop) → let on = c .before .before .before .before .before .before in
+    let a = on .before .before .before .before .before .args in
     (validOlt (a .olt) ≡ true) × (a .olt .shared .tick + a .n ≤ maxTick) × (c .before .loop .i < a .olt .count) × (c .before .loop .i < maxUnits)
 met c =
     let moves = c .before .before .before .before in
@@ -82,7 +83,8 @@ returns c =
 pub moved-spec : {M : Type 1} → statement M
 moved-spec =
     tie.close
-    (tie.spec Inv-loop μ-loop (λ c κs. search needs) (λ c κs. search needs) (λ c κs. search needs) (λ c κs. search needs) (λ c κs. search needs) (λ c κs. search needs)
+    (tie.spec Inv-loop μ-loop (λ c κs. search needs) (λ c κs. search needs) (λ c κs. search needs) (λ c κs. search needs) (λ c κs. search needs)
+    (λ c κs. search needs)
     shared-after-requires (λ c. (omega arith, refl)) (λ c. let m = met c .3 in search needs) (λ c. let m = met c .3 in search needs)
     (λ c. let m = met c .3 in search needs) (λ c. let m = met c .3 in search needs) (λ c. let m = met c .3 in search needs)
     (λ c. let m = met c .3 in search needs) (λ c κs. search needs) (λ c. let m = met (c .before) .3 in search needs)

@@ -1,3 +1,5 @@
 pub mod End
 pub mod Flags
+pub mod HeadInPlace
 pub mod InPlace
+pub mod Rest

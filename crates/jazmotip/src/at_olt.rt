@@ -1,16 +1,18 @@
 // The calls of the OLT with its groups. All take the end by value but advance, which changes the end that is lent (01, Clock).
 ghost use mathlib.Core.Path.{_≡_};
+ghost use mathlib.Core.Bool.{false};
 ghost use Rattle.octets.specs.Output.{withOutput};
-ghost use Rattle.multicast.specs.HeadCalls.{freshHeadOf, headAcknowledgeOf, headAdvanceOf, headCaptureOf, headClockSendOf, headMeasureOf, headMovedOf, headOfferOf, headRegisterOf, headRetryOf, registerGroupOf};
+ghost use Rattle.multicast.specs.HeadCalls.{freshHeadOf, headAcknowledgeOf, headAdvanceOf, headCaptureOf, headClockSendOf, headMeasureOf, headOfferOf, headRegisterOf, headRetryOf, registerGroupOf};
 ghost use Rattle.multicast.specs.HeadTraffic.{headReceiveOf, headSendOf};
 use ends::Identity;
+use ends::Olt;
 use groups::Answer;
+use groups::Groups;
 use groups::HeadEnd;
 use groups::Roster;
 use multicast::HeadAnswer;
 use multicast::HeadClockSent;
 use multicast::HeadKeySent;
-use multicast::HeadMoved;
 use multicast::HeadReceived;
 use multicast::HeadSent;
 use multicast::at_head;
@@ -49,20 +51,41 @@ pub extern "C" fn jazmotip_olt_register_group(
     at_head::register_group(olt, llid, interval, roster)
 }
 
-// The advance by value, with what the walk of the one in place needs of its contract (D116).
-fn advanced(olt: HeadEnd, n: u64) -> HeadMoved
-    ensures { λ r. ⌜ r ≡ headMovedOf olt n ⌝ }
-{
-    at_head::moved(olt, n)
+// What an advance leaves. Where no group moved the groups are those that were lent, and are not stored.
+pub struct AfterAdvance {
+    pub olt: Olt,
+    pub groups: Groups,
+    pub number: u8,
+    pub grouped: bool,
 }
 
-// The whole end is stored, also where it is refused and so the same.
+// The advance by value, with what the walk of the one in place needs of its contract (D116).
+fn advanced(olt: HeadEnd, n: u64) -> AfterAdvance
+    ensures { λ r. ⌜ ((r .number ≡ headAdvanceOf olt n .number) × (record { olt = r .olt; groups = r .groups } ≡ headAdvanceOf olt n .head))
+        × (r .grouped ≡ false → r .groups ≡ olt .groups) ⌝ }
+{
+    let done = at_head::moved(olt, n);
+    let number = done.number;
+    let next = done.head.olt;
+    let groups = done.head.groups;
+    AfterAdvance {
+        olt: next,
+        groups,
+        number,
+        grouped: (number == 0) & (olt.groups.count != 0),
+    }
+}
+
+// The OLT is stored, also where it is refused and so the same, and the groups where there are any.
 #[no_mangle]
 pub extern "C" fn jazmotip_olt_advance(olt: &mut HeadEnd, n: u64) -> u8
     ensures { λ r. ⌜ (r ≡ headAdvanceOf (now (olt .entry)) n .number) × (now (olt .exit) ≡ headAdvanceOf (now (olt .entry)) n .head) ⌝ }
 {
     let answer = advanced(*olt, n);
-    *olt = answer.head;
+    olt.olt = answer.olt;
+    if answer.grouped {
+        olt.groups = answer.groups;
+    }
     answer.number
 }
 

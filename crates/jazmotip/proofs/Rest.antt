@@ -1,0 +1,23 @@
+-- Where the groups do not move they are those that were lent. Assumes nothing.
+use mathlib.Core.Path.{_≡_, refl}
+use mathlib.Core.Bool.{Bool, true, false, not, _&&_}
+use Prim.Native.Nat.{ℕ}
+use lib.Dec.{eqb}
+use borrow.Author.Tests.{eqb-true, not-false}
+use Rattle.refusal.specs.Number.{verdictNumber}
+use Rattle.refusal.specs.declared.Verdict.{Verdict}
+use Rattle.refusal.specs.declared.Verdict.the-variants.{Accepted, Refused}
+use Rattle.protocol.specs.Replies.{reply, silent}
+use Rattle.groups.specs.declared.HeadEnd.{HeadEnd}
+use Rattle.multicast.specs.HeadCalls.{headAdvanced, headAdvanceOf, headAnswer}
+use Rattle.multicast.proofs.Advancing.{headOrder}
+use Rattle.multicast.proofs.NoGroups.{groups-rest}
+
+pub rest : (h : HeadEnd) (n : ℕ) → (eqb (headAdvanceOf h n .number) 0 && not (eqb (h .groups .count) 0)) ≡ false
+    → headAdvanceOf h n .head .groups ≡ h .groups
+unfolding headAdvanceOf headAnswer headAdvanced reply
+rest h n = by-verdict (headOrder h n) where
+  by-verdict : (v : Verdict) → let r = headAnswer (reply v h silent (headAdvanced h n) silent) in
+      (eqb (r .number) 0 && not (eqb (h .groups .count) 0)) ≡ false → r .head .groups ≡ h .groups
+  by-verdict Accepted e = groups-rest (h .groups) n (eqb-true _ _ (not-false _ e))
+  by-verdict (Refused x) e = refl

@@ -372,7 +372,10 @@ pub(crate) fn command(p: Play, s: &[u8], at: usize, to: usize, n: Numbers) -> Pl
         s,
         at,
         to,
-        b"send receive take fresh register advance capture acknowledge arrive one keyed full timer clock_send offer retry mac tick clock channel0 channel1 units interval count flag noted first marked trip captured captured_at sent clocked identity register_group viewers groups group_llid group_interval group_count group_flag group_noted group_first group_active group_offered members member group_mark measure",
+        b"send receive take fresh register advance capture acknowledge arrive one keyed full timer clock_send offer retry mac tick \
+          clock channel0 channel1 units interval count flag noted first marked trip captured captured_at sent clocked identity \
+          register_group viewers groups group_llid group_interval group_count group_flag group_noted group_first group_active \
+          group_offered members member group_mark measure",
     );
     script::mark(k > 48, b'?');
     let asked = answer(p.head, p.aim, k, n, p.acknowledgement);

@@ -211,7 +211,8 @@ pub(crate) fn command(p: Play, s: &[u8], at: usize, to: usize, n: Numbers) -> Pl
         s,
         at,
         to,
-        b"send receive take fresh advance keyed clock_message clock_arrives key_message key_arrives tick channel0 channel1 noted first synced time rx olt_mac identity join groups joined_llid joined_active joined_held joined_kept changes spent bar new_time",
+        b"send receive take fresh advance keyed clock_message clock_arrives key_message key_arrives tick channel0 channel1 noted first \
+          synced time rx olt_mac identity join groups joined_llid joined_active joined_held joined_kept changes spent bar new_time",
     );
     script::mark(k > 29, b'?');
     let asked = answer(play::unit(p), p.aim.group, k, n);

@@ -30,15 +30,16 @@ use Rattle.records.specs.Block.{recordsIn, offsetOf, lengthOf, endOf, dueOf, re
 use Rattle.records.specs.Following.{headerOf, nearVerdict, withClock, slippedSettings, slippedBlock}
 use Rattle.records.proofs.Following.{kept}
 use Rattle.rows.specs.Text.{keyGlyph, rowHead, rowMiddle, rowTail, rowOf}
-use Rattle.capture.specs.declared.directory.Directory.the-variants.{Good}
+use Rattle.directory.specs.declared.Directory.the-variants.{Good}
 use Rattle.capture.specs.declared.opening.OpenAnswer.{OpenAnswer}
-use Rattle.capture.specs.Directory.{chained, pairOf, sizeFits, withPair, pairsFrom, directoryOf}
+use Rattle.directory.specs.Directory.{chained, pairOf, sizeFits, withPair, pairsFrom, directoryOf}
 use Rattle.capture.specs.Opening.{recordNonce, writtenAs, addedAs, openedRecord, recordAdds, openedBlock, blockAdds, expansions, openVerdict}
-use Rattle.capture.specs.Rebuilt.{joined, rebuilt}
+use Rattle.directory.specs.Rebuilt.{joined, rebuilt}
 use Rattle.capture.specs.Reading.{recordBy, addsBy, totalBy, openingAs, openingBy, rowBy, bodyAs, listingBy}
 use Rattle.capture.specs.Near.{clockField, withField, asSent, asRecorded, ClockFollows, ReadsAsExact, NotEmpty}
-use Rattle.capture.proofs.Records.{Records, good, header-there}
-use Rattle.capture.proofs.Rebuilding.{joined-ext, same-octets, same-count, record-is, good-again, rebuilt-again, rebuilt-ext}
+use Rattle.directory.proofs.Records.{Records, good, header-there}
+use Rattle.directory.proofs.Filling.{joined-ext}
+use Rattle.directory.proofs.Rebuilding.{same-octets, same-count, record-is, good-again, rebuilt-again, rebuilt-ext}
 use Rattle.capture.proofs.Openings.{written-length, callable, opening-done}
 use Rattle.capture.proofs.Reopening.{opened-is, accepts-again}
 use Rattle.capture.proofs.Readings.{listing-usual}

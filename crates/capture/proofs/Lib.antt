@@ -1,12 +1,7 @@
-pub mod Pairs
-pub mod Trimming
-pub mod Broken
-pub mod Records
 pub mod Openings
 pub mod Spans
 pub mod Reopening
 pub mod Lines
 pub mod Numbers
-pub mod Rebuilding
 pub mod Readings
 pub mod Exact

@@ -4,7 +4,7 @@ use mathlib.Core.Bool.{Bool, true, false, not}
 use mathlib.Core.List.{List, _++_, append-assoc}
 use Prim.Native.Nat.{ℕ, zero, suc, _+_, _-_, _*_, _/_, _%_, _^_, _≤_, _<_}
 use native.Mathlib.Omega.{arith}
-use lib.ListN.{length, take, drop, set, take-append-drop, length-append, length-take, length-drop, length-set}
+use lib.ListN.{length, take, drop, set, length-append, length-take, length-drop, length-set}
 use lib.Seq.{drop-set-add, take-set-le, take-set-lt, drop-set-lt, take-add, take-take, drop-drop}
 use lib.Count.{ones}
 use lib.Dec.{eqb}
@@ -36,14 +36,14 @@ use Rattle.sealing.proofs.Seal.{sealing-done}
 use Rattle.records.specs.declared.header.RecordVerdict.{RecordVerdict}
 use Rattle.records.specs.declared.header.RecordVerdict.the-variants.{Clear, Sealed}
 use Rattle.records.specs.declared.header.Header.{Header}
-use Rattle.capture.specs.declared.directory.Directory.{Directory}
-use Rattle.capture.specs.declared.directory.Directory.the-variants.{Good, Bad}
+use Rattle.directory.specs.declared.Directory.{Directory}
+use Rattle.directory.specs.declared.Directory.the-variants.{Good, Bad}
 use Rattle.capture.specs.declared.opening.Keys.{Keys}
 use Rattle.capture.specs.declared.opening.OpenAnswer.{OpenAnswer}
 use Rattle.records.specs.Settings.{settingsOctets, presenceOf, keyPresent, keyOf, macOf, settingsVerdict}
 use Rattle.records.specs.Record.{recordHeader, recordOctets, payloadOf}
 use Rattle.records.specs.Block.{mostOctets, recordsIn, recordOf, headerFrom, recordFrom}
-use Rattle.capture.specs.Directory.{verdictOn, directoryOf}
+use Rattle.directory.specs.Directory.{verdictOn, directoryOf}
 use Rattle.capture.specs.Opening.{writtenAs, addedAs, openedRecord, recordAdds, openedBlock, blockCount, blockRuns, expansions, openVerdict, openingAfter, opening}
 use Rattle.capture.specs.Reading.{verdictBy, addsBy}
 use Rattle.records.specs.Verdict.{clearedFlags, headerFits, verdictOf}
@@ -51,7 +51,8 @@ use Rattle.capture.specs.Verdict.{afterSettings, callDirectory}
 use Rattle.capture.specs.Duties.{Expanded, written}
 use Rattle.records.proofs.Verdicts.{settings-octets}
 use Rattle.records.proofs.Headers.{header-taken}
-use Rattle.capture.proofs.Records.{counted, record-below}
+use Rattle.directory.proofs.Records.{counted, record-below}
+use Rattle.directory.proofs.Rebuilding.{kept-in-place}
 
 -- a record's payload is accepted for opening
 seal-accepted : (n m : ℕ) (nonce : Nonce) → n % 9 ≡ 0 → n ≤ 65536 → m ≡ n → nonceFits nonce ≡ true → sealVerdict n m nonce ≡ Accepted
@@ -98,11 +99,6 @@ opened-in-place b out ys at len f h same l =
     let front : take at (set out (at + 4) f) ≡ take at out = take-set-le at out (at + 4) f (omega arith) in
     payload-in-place (set out (at + 4) f) (set (drop at b) 4 f) ys at len h stored l
     ∙ rw (front, take-set-lt len (drop at b) 4 f (omega arith), drop-set-lt len (drop at b) 4 f (omega arith), drop-drop len at b)
-
--- an output that is the block from `at` on holds the record there
-pub kept-in-place : (b out : List ℕ) (at len : ℕ) → drop at out ≡ drop at b → out ≡ take at out ++ (part b at len ++ drop (at + len) b)
-kept-in-place b out at len same =
-    sym (take-append-drop at out) ∙ rw same (ap (λ (t : List ℕ). take at out ++ t) (sym (take-append-drop len (drop at b)) ∙ rw (drop-drop len at b)))
 
 -- a clear or refused record is written as it is, and adds nothing
 pub clear-record : (s r : List ℕ) → verdictOf s r ≡ Clear → (openedRecord s r ≡ r) × ((g : List ℕ → ℕ) → recordAdds g s r ≡ 0)

@@ -30,17 +30,17 @@ use Rattle.records.specs.Block.{mostRecords, recordsIn, recordOf}
 use Rattle.records.specs.Near.{noDrift, nearest, expected, farVerdict, heardAt, heard, judged, signedOctet}
 use Rattle.records.specs.Following.{headerOf, driftAt, nearVerdict}
 use Rattle.records.proofs.Verdicts.{openable}
-use Rattle.capture.specs.declared.directory.Directory.{Directory}
-use Rattle.capture.specs.declared.directory.Directory.the-variants.{Good, Bad}
+use Rattle.directory.specs.declared.Directory.{Directory}
+use Rattle.directory.specs.declared.Directory.the-variants.{Good, Bad}
 use Rattle.capture.specs.declared.opening.OpenAnswer.the-variants.{Done, Denied}
 use Rattle.capture.specs.declared.opening.Read.{Read}
 use Rattle.capture.specs.Opening.{openedRecord, recordAdds, blockAdds, expansions, openVerdict, openingAfter, opening}
 use Rattle.capture.specs.Verdict.{verdictAsked, callDirectory, numbersOver, verdictsAfter, verdictsOf}
 use Rattle.capture.specs.Listing.{rowAt, rowsFrom, bodyAfter, listingOf}
-use Rattle.capture.specs.Rebuilt.{joined, rebuilt}
+use Rattle.directory.specs.Rebuilt.{joined, rebuilt}
 use Rattle.capture.specs.Reading.{driftBy, verdictBy, recordBy, totalBy, openingAs, openingBy, askedBy, numbersBy, judgingAs, judgingBy, bodyAs, listingBy}
 use Rattle.capture.specs.Duties.{TookAll, Opens}
-use Rattle.capture.proofs.Records.{Records, header-there}
+use Rattle.directory.proofs.Records.{Records, header-there}
 use Rattle.capture.proofs.Openings.{written-length}
 use Rattle.capture.proofs.Reopening.{opened-is}
 

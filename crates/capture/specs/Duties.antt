@@ -12,12 +12,12 @@ use Rattle.records.specs.declared.header.Header.{Header}
 use Rattle.records.specs.declared.header.RecordVerdict.{RecordVerdict}
 use Rattle.records.specs.declared.header.RecordVerdict.the-variants.{Sealed}
 use Rattle.records.specs.Settings.{settingsKeys, presenceOf, keyPresent, keyOf}
-use Rattle.records.specs.Record.{headerOctets, recordOctets, recordHeader}
+use Rattle.records.specs.Record.{headerOctets, recordOctets}
 use Rattle.records.specs.Verdict.{headerFits}
-use Rattle.records.specs.Block.{mostOctets, directoryOctets, recordsIn, offsetOf, lengthOf, dueOf, recordOf, headerFrom, recordFrom}
-use Rattle.capture.specs.declared.directory.Directory.the-variants.{Good}
+use Rattle.records.specs.Block.{mostOctets, recordsIn, headerFrom, recordFrom}
+use Rattle.directory.specs.declared.Directory.the-variants.{Good}
+use Rattle.directory.specs.Directory.{directoryOf}
 use Rattle.capture.specs.declared.opening.Keys.{Keys}
-use Rattle.capture.specs.Directory.{directoryOf}
 use Rattle.capture.specs.declared.opening.Work.{Work}
 use Rattle.capture.specs.declared.opening.Read.{Read}
 use Rattle.capture.specs.Opening.{addedAs, writtenAs}
@@ -39,21 +39,6 @@ pub record TookAll (near : Bool) (s b : List ℕ) (r : Read) : Type 0 where
   pub runs : r .runs ≡ totalBy near runs s b
   pub smallest : r .smallest ≡ driftBy near s b (recordsIn b) .smallest
   pub largest : r .largest ≡ driftBy near s b (recordsIn b) .largest
-
--- pair i is one of n and goes from `from` to `to`, and its record is due at `due`
-pub record Due (b : List ℕ) (n i due from to : ℕ) : Type 0 where
-  pub count : n ≡ recordsIn b
-  pub before : i < n
-  pub place : due ≡ dueOf b i
-  pub start : from ≡ offsetOf b i
-  pub end : to ≡ offsetOf b i + lengthOf b i
-
--- pair i and its record are in the block, and the record is as long as its EQs say
-pub record Placed (b : List ℕ) (i : ℕ) : Type 0 where
-  pub pair : directoryOctets (i + 1) ≤ length b
-  pub inside : offsetOf b i + lengthOf b i ≤ length b
-  pub octets : length (recordOf b i) ≡ lengthOf b i
-  pub size : lengthOf b i ≡ recordOctets (recordHeader (recordOf b i) .eqs)
 
 -- a record lies from `from` to `to` in the block and in the output
 pub record Span (b out : List ℕ) (from to : ℕ) : Type 0 where

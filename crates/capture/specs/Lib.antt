@@ -1,11 +1,7 @@
-pub mod Directory
-pub mod Broken
-pub mod Payload
 pub mod Verdict
 pub mod Opening
 pub mod Claims
 pub mod Listing
-pub mod Rebuilt
 pub mod Reading
 pub mod Near
 pub mod Span

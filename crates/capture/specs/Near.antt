@@ -15,7 +15,7 @@ use Rattle.records.specs.Near.{own}
 use Rattle.records.specs.Following.{headerOf, nearVerdict, Follows, slippedSettings, slippedBlock, slippedSent}
 use Rattle.capture.specs.Opening.{openVerdict, opening}
 use Rattle.capture.specs.Listing.{listingOf}
-use Rattle.capture.specs.Rebuilt.{rebuilt}
+use Rattle.directory.specs.Rebuilt.{rebuilt}
 use Rattle.capture.specs.Reading.{openingBy, listingBy}
 
 -- the place of a record's clock field, and its octets

@@ -24,7 +24,7 @@ use Rattle.capture.specs.declared.opening.OpenAnswer.the-variants.{Done,
 use Rattle.records.specs.Settings.{keyOf, macOf, presenceOf, settingsVerdict}
 use Rattle.records.specs.Record.{headerOctets, flagsAt, recordHeader, payloadOf}
 use Rattle.records.specs.Block.{directoryOctets, recordsIn, recordOf}
-use Rattle.capture.specs.Directory.{verdictOn, directoryOf}
+use Rattle.directory.specs.Directory.{verdictOn, directoryOf}
 use Rattle.records.specs.Verdict.{clearedFlags, verdictOf}
 
 -- what the counter blocks of a record with the header h are made of, at the clock t: one MAC for both directions (D76)

@@ -19,16 +19,16 @@ use Rattle.records.specs.Block.{mostRecords, recordsIn, recordOf}
 use Rattle.records.specs.Near.{noDrift, signedOctet}
 use Rattle.records.specs.Following.{headerOf, driftAt, nearVerdict}
 use Rattle.rows.specs.Text.{rowOf, refusedRow}
-use Rattle.capture.specs.declared.directory.Directory.{Directory}
-use Rattle.capture.specs.declared.directory.Directory.the-variants.{Good, Bad}
+use Rattle.directory.specs.declared.Directory.{Directory}
+use Rattle.directory.specs.declared.Directory.the-variants.{Good, Bad}
 use Rattle.capture.specs.declared.opening.OpenAnswer.the-variants.{Done, Denied}
 use Rattle.capture.specs.declared.opening.NearAnswer.{NearAnswer}
 use Rattle.capture.specs.declared.verdict.NearVerdicts.{NearVerdicts}
-use Rattle.capture.specs.Payload.{payloadVerdict}
+use Rattle.directory.specs.Payload.{payloadVerdict}
 use Rattle.capture.specs.Opening.{writtenAs, addedAs, expansions, openVerdict}
 use Rattle.capture.specs.Verdict.{afterCall, callDirectory}
 use Rattle.capture.specs.Listing.{headingText}
-use Rattle.capture.specs.Rebuilt.{joined, rebuilt}
+use Rattle.directory.specs.Rebuilt.{joined, rebuilt}
 
 -- the corrections before record i, none in the usual way, and the verdict on it
 abbrev pub driftBy : Bool → List ℕ → List ℕ → ℕ → Drift

@@ -15,10 +15,10 @@ use Rattle.records.specs.declared.header.RecordVerdict.the-variants.{Refused}
 use Rattle.records.specs.Settings.{settingsVerdict}
 use Rattle.records.specs.Verdict.{verdictOf, recordNumber}
 use Rattle.records.specs.Block.{mostRecords, recordOf}
-use Rattle.capture.specs.declared.directory.Directory.{Directory}
-use Rattle.capture.specs.declared.directory.Directory.the-variants.{Good, Bad}
-use Rattle.capture.specs.Directory.{directoryOf}
-use Rattle.capture.specs.Payload.{payloadVerdict}
+use Rattle.directory.specs.declared.Directory.{Directory}
+use Rattle.directory.specs.declared.Directory.the-variants.{Good, Bad}
+use Rattle.directory.specs.Directory.{directoryOf}
+use Rattle.directory.specs.Payload.{payloadVerdict}
 
 -- a call's own refusal comes ahead of what it gives
 abbrev pub afterCall : Verdict → RecordVerdict → RecordVerdict

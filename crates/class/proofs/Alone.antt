@@ -24,12 +24,13 @@ use Rattle.records.specs.Settings.{llidOf, presenceOf, keyPresent, presenceFits
 use Rattle.records.specs.Near.{judged}
 use Rattle.records.specs.Block.{recordsIn}
 use Rattle.records.specs.Following.{headerOf, driftAt, nearVerdict}
-use Rattle.capture.specs.declared.directory.Directory.{Directory}
-use Rattle.capture.specs.declared.directory.Directory.the-variants.{Good, Bad}
+use Rattle.directory.specs.declared.Directory.{Directory}
+use Rattle.directory.specs.declared.Directory.the-variants.{Good, Bad}
 use Rattle.capture.specs.Opening.{expansions, openVerdict}
 use Rattle.capture.specs.Verdict.{callDirectory}
 use Rattle.capture.specs.Reading.{driftBy, verdictBy, recordBy, addsBy, totalBy, openingAs, openingBy, rowBy, bodyAs, listingBy}
-use Rattle.capture.proofs.Rebuilding.{joined-ext, rebuilt-ext}
+use Rattle.directory.proofs.Filling.{joined-ext}
+use Rattle.directory.proofs.Rebuilding.{rebuilt-ext}
 use Rattle.capture.proofs.Openings.{call-good, found-bad, found-good, listing-found}
 use Rattle.capture.proofs.Readings.{no-corrections}
 use Rattle.records.proofs.Verdicts.{settings-octets}

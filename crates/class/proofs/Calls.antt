@@ -15,10 +15,10 @@ use Rattle.refusal.proofs.Order.{refuse-passed, refuse-stopped}
 use Rattle.records.specs.Near.{signedOctet}
 use Rattle.capture.specs.declared.opening.OpenAnswer.the-variants.{Done}
 use Rattle.capture.specs.declared.opening.Read.{Read}
-use Rattle.capture.specs.Rebuilt.{rebuilt}
-use Rattle.capture.specs.declared.directory.Directory.{Directory}
-use Rattle.capture.specs.declared.directory.Directory.the-variants.{Good, Bad}
-use Rattle.capture.specs.Directory.{directoryOf}
+use Rattle.directory.specs.Rebuilt.{rebuilt}
+use Rattle.directory.specs.declared.Directory.{Directory}
+use Rattle.directory.specs.declared.Directory.the-variants.{Good, Bad}
+use Rattle.directory.specs.Directory.{directoryOf}
 use Rattle.capture.specs.Verdict.{afterSettings}
 use Rattle.rights.specs.declared.settings.Caller.{Caller}
 use Rattle.rights.specs.Verdict.{classVerdict}

@@ -20,8 +20,8 @@ use Rattle.records.specs.Verdict.{encEnabled, flagsFit, headerFits, keyVerdict,
 use Rattle.records.specs.Near.{nearest, heardAt, heard, judged}
 use Rattle.records.specs.Block.{directoryOctets, recordsIn, offsetOf, lengthOf, endOf, dueOf, recordOf}
 use Rattle.records.specs.Following.{headerOf}
-use Rattle.capture.specs.declared.directory.Directory.the-variants.{Good}
-use Rattle.capture.specs.Directory.{chained, pairOf, sizeFits, withPair, pairsFrom, directoryOf}
+use Rattle.directory.specs.declared.Directory.the-variants.{Good}
+use Rattle.directory.specs.Directory.{chained, pairOf, sizeFits, withPair, pairsFrom, directoryOf}
 use Rattle.rights.specs.declared.judging.ClassVerdict.the-variants.{Hidden, Told}
 use Rattle.rights.specs.declared.judging.ClassHeard.{ClassHeard}
 use Rattle.rights.specs.Judging.{toldTo, judgedFor}

@@ -12,7 +12,7 @@ use Rattle.octets.proofs.Lists.{part-length}
 use Rattle.records.specs.Record.{recordOctets, recordHeader}
 use Rattle.records.specs.Block.{headerFrom, recordFrom}
 use Rattle.records.proofs.Headers.{header-taken}
-use Rattle.capture.proofs.Openings.{kept-in-place}
+use Rattle.directory.proofs.Rebuilding.{kept-in-place}
 use Rattle.class.specs.Opening.{hiddenRecord}
 use Rattle.class.specs.Duties.{placedAt}
 

@@ -13,8 +13,8 @@ use Rattle.records.specs.Near.{judged}
 use Rattle.records.specs.Block.{recordOf}
 use Rattle.records.specs.Following.{headerOf}
 use Rattle.capture.specs.Opening.{openedRecord, recordAdds}
-use Rattle.capture.proofs.Records.{good}
-use Rattle.capture.proofs.Rebuilding.{own-record}
+use Rattle.directory.proofs.Records.{good}
+use Rattle.directory.proofs.Rebuilding.{own-record}
 use Rattle.rights.specs.declared.settings.Caller.{Caller}
 use Rattle.rights.specs.declared.judging.ClassVerdict.the-variants.{Told}
 use Rattle.rights.specs.declared.judging.ClassHeard.{ClassHeard}

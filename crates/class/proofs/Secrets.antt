@@ -21,10 +21,10 @@ use Rattle.records.specs.Settings.{llidOf}
 use Rattle.records.specs.Record.{recordHeader}
 use Rattle.records.specs.Block.{recordsIn, offsetOf, lengthOf, endOf, dueOf, recordOf}
 use Rattle.records.specs.Following.{headerOf}
-use Rattle.capture.specs.declared.directory.Directory.the-variants.{Good, Bad}
-use Rattle.capture.specs.Rebuilt.{joined, rebuilt}
-use Rattle.capture.proofs.Records.{Records, good, placed, records-end}
-use Rattle.capture.proofs.Rebuilding.{joined-ext}
+use Rattle.directory.specs.declared.Directory.the-variants.{Good, Bad}
+use Rattle.directory.specs.Rebuilt.{joined, rebuilt}
+use Rattle.directory.proofs.Records.{Records, good, placed, records-end}
+use Rattle.directory.proofs.Filling.{joined-ext}
 use Rattle.rights.specs.declared.settings.Caller.{Caller}
 use Rattle.rights.specs.declared.judging.ClassVerdict.the-variants.{Hidden}
 use Rattle.rights.specs.declared.judging.ClassHeard.{ClassHeard}

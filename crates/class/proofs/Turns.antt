@@ -22,7 +22,7 @@ use Rattle.records.specs.Record.{recordOctets, recordHeader}
 use Rattle.records.specs.Near.{judged}
 use Rattle.records.specs.Block.{mostOctets, recordOf, headerFrom}
 use Rattle.records.specs.Following.{headerOf}
-use Rattle.capture.proofs.Records.{Records, placed, record-below}
+use Rattle.directory.proofs.Records.{Records, placed, record-below}
 use Rattle.capture.proofs.Openings.{added-below, written-length}
 use Rattle.capture.proofs.Readings.{judged-opens}
 use Rattle.rights.specs.declared.settings.Caller.{Caller}

@@ -14,10 +14,10 @@ use Rattle.records.specs.declared.header.RecordVerdict.the-variants.{Sealed}
 use Rattle.records.specs.Settings.{settingsKeys, keyOf}
 use Rattle.records.specs.Record.{recordOctets}
 use Rattle.records.specs.Block.{mostOctets, recordsIn, headerFrom}
-use Rattle.capture.specs.declared.directory.Directory.the-variants.{Good}
+use Rattle.directory.specs.declared.Directory.the-variants.{Good}
 use Rattle.capture.specs.declared.opening.Work.{Work}
 use Rattle.capture.specs.declared.opening.Read.{Read}
-use Rattle.capture.specs.Directory.{directoryOf}
+use Rattle.directory.specs.Directory.{directoryOf}
 use Rattle.capture.specs.Duties.{Opens}
 use Rattle.rights.specs.declared.settings.Caller.{Caller}
 use Rattle.rights.specs.declared.judging.ClassVerdict.{ClassVerdict}

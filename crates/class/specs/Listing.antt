@@ -6,10 +6,10 @@ use Rattle.records.specs.declared.header.Header.{Header}
 use Rattle.records.specs.Block.{recordsIn}
 use Rattle.records.specs.Following.{headerOf}
 use Rattle.rows.specs.Text.{rowOf, seenRow, hiddenRow, refusedRow}
-use Rattle.capture.specs.declared.directory.Directory.{Directory}
-use Rattle.capture.specs.declared.directory.Directory.the-variants.{Good, Bad}
+use Rattle.directory.specs.declared.Directory.{Directory}
+use Rattle.directory.specs.declared.Directory.the-variants.{Good, Bad}
 use Rattle.capture.specs.Listing.{headingText}
-use Rattle.capture.specs.Rebuilt.{joined}
+use Rattle.directory.specs.Rebuilt.{joined}
 use Rattle.rights.specs.declared.settings.Caller.{Caller}
 use Rattle.rights.specs.declared.judging.ClassVerdict.{ClassVerdict}
 use Rattle.rights.specs.declared.judging.ClassVerdict.the-variants.{Hidden, Seen, Told}

@@ -14,12 +14,12 @@ use Rattle.records.specs.Settings.{settingsKeys, presenceOf, keyPresent}
 use Rattle.records.specs.Record.{recordHeader}
 use Rattle.records.specs.Block.{recordsIn, recordOf}
 use Rattle.records.specs.Near.{signedOctet}
-use Rattle.capture.specs.declared.directory.Directory.{Directory}
-use Rattle.capture.specs.declared.directory.Directory.the-variants.{Good, Bad}
+use Rattle.directory.specs.declared.Directory.{Directory}
+use Rattle.directory.specs.declared.Directory.the-variants.{Good, Bad}
 use Rattle.capture.specs.declared.opening.OpenAnswer.the-variants.{Done, Denied}
 use Rattle.capture.specs.declared.opening.NearAnswer.{NearAnswer}
 use Rattle.capture.specs.Opening.{writtenAs, addedAs}
-use Rattle.capture.specs.Rebuilt.{rebuilt}
+use Rattle.directory.specs.Rebuilt.{rebuilt}
 use Rattle.rights.specs.declared.settings.Caller.{Caller}
 use Rattle.rights.specs.declared.judging.ClassVerdict.{ClassVerdict}
 use Rattle.rights.specs.declared.judging.ClassVerdict.the-variants.{Hidden, Seen, Told}

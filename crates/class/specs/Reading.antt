@@ -6,8 +6,8 @@ use Prim.Native.Nat.{ℕ, zero, suc}
 use Rattle.records.specs.declared.near.Drift.{Drift}
 use Rattle.records.specs.Near.{noDrift}
 use Rattle.records.specs.Following.{headerOf}
-use Rattle.capture.specs.declared.directory.Directory.{Directory}
-use Rattle.capture.specs.Directory.{directoryOf}
+use Rattle.directory.specs.declared.Directory.{Directory}
+use Rattle.directory.specs.Directory.{directoryOf}
 use Rattle.capture.specs.Verdict.{afterSettings}
 use Rattle.rights.specs.declared.settings.Caller.{Caller}
 use Rattle.rights.specs.declared.judging.ClassVerdict.{ClassVerdict}

@@ -10,7 +10,7 @@ use Rattle.records.specs.declared.header.RecordVerdict.the-variants.{Clear}
 use Rattle.records.specs.Settings.{llidOf}
 use Rattle.records.specs.Block.{directoryOctets, recordsIn, recordOf}
 use Rattle.records.specs.Following.{headerOf}
-use Rattle.capture.specs.declared.directory.Directory.the-variants.{Good}
+use Rattle.directory.specs.declared.Directory.the-variants.{Good}
 use Rattle.rights.specs.declared.settings.Caller.{Caller}
 use Rattle.rights.specs.declared.judging.ClassVerdict.the-variants.{Hidden, Told}
 use Rattle.rights.specs.Settings.{setOf, ownRights, rightsOn}

@@ -2,13 +2,13 @@
 -- there is none (02, C-11). Assumes nothing.
 use Rattle.octets.specs.Output.{WithOutput, withOutput}
 use Rattle.refusal.specs.Number.{numberOf, pairNumber}
-use Rattle.capture.specs.declared.directory.Directory.{Directory}
-use Rattle.capture.specs.declared.directory.Directory.the-variants.{Good, Bad}
+use Rattle.directory.specs.declared.Directory.{Directory}
+use Rattle.directory.specs.declared.Directory.the-variants.{Good, Bad}
 use Rattle.records.specs.declared.header.RecordVerdict.{RecordVerdict}
 use Rattle.records.specs.declared.header.RecordVerdict.the-variants.{Clear, Sealed, Refused}
-use Rattle.capture.specs.declared.payload.Bounds.{Bounds}
+use Rattle.directory.specs.declared.payload.Bounds.{Bounds}
 use Rattle.records.specs.Verdict.{recordNumber, recordPair}
-use Rattle.capture.specs.Payload.{boundsNumber, boundsPair, boundsOffset, boundsLength}
+use Rattle.directory.specs.Payload.{boundsNumber, boundsPair, boundsOffset, boundsLength}
 use Rattle.capture.specs.Opening.{openNumber, openPair, openCount, openRuns, openExpansions}
 use Rattle.capture.specs.declared.opening.OpenAnswer.{OpenAnswer}
 use Rattle.capture.specs.declared.opening.NearAnswer.{NearAnswer}

@@ -5,26 +5,26 @@ ghost use Prim.Native.Nat.{_+_, _≤_};
 ghost use lib.ListN.{length, take, drop};
 ghost use Rattle.octets.specs.Lists.{part};
 ghost use Rattle.octets.specs.Output.{withOutput};
-ghost use Rattle.capture.specs.Directory.{directoryOf};
-ghost use Rattle.capture.specs.Broken.{Judged};
+ghost use Rattle.directory.specs.Directory.{directoryOf};
+ghost use Rattle.directory.specs.Broken.{Judged};
 ghost use Rattle.capture.specs.Verdict.{verdictAsked, verdictsOf};
-ghost use Rattle.capture.specs.Payload.{payloadBounds, payloadPart};
+ghost use Rattle.directory.specs.Payload.{payloadBounds, payloadPart};
 ghost use Rattle.capture.specs.Opening.{opening};
 ghost use Rattle.capture.specs.Claims.{OpenedIfAccepted};
 ghost use Rattle.capture.specs.Listing.{listingOf};
 ghost use Rattle.jazmotip.specs.Blocks.{blockDirectory, blockVerdict, blockPart, blockAnswer, judgedInNumbers, openedInNumbers};
-use capture::directory::Directory;
-use capture::directory::check;
 use capture::listing::LISTING_OCTETS;
 use capture::listing::list;
 use capture::opening::OpenAnswer;
 use capture::opening::keys_expanded;
 use capture::opening::octets_opened;
 use capture::opening::open;
-use capture::payload::Bounds;
-use capture::payload::locate;
 use capture::verdict::ask;
 use capture::verdict::verdicts;
+use directory::Directory;
+use directory::check;
+use directory::payload::Bounds;
+use directory::payload::locate;
 use records::header::RecordVerdict;
 
 // In each answer, `pair` is the first pair that does not fit, from 1, for 18 and 19, else 0.
@@ -130,8 +130,8 @@ pub(crate) fn answer_in_numbers(answer: OpenAnswer) -> BlockAnswer
 fn part_in_numbers(bounds: Bounds) -> BlockPart
     ensures { λ r. ⌜ r ≡ blockPart bounds ⌝ }
 {
-    let number = capture::payload::number(bounds);
-    let pair = capture::payload::pair(bounds);
+    let number = directory::payload::number(bounds);
+    let pair = directory::payload::pair(bounds);
     match bounds {
         Bounds::Within(from, octets) => BlockPart {
             number,

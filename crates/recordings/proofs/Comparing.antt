@@ -17,13 +17,13 @@ use Rattle.refusal.specs.declared.Verdict.{Verdict}
 use Rattle.refusal.specs.declared.Verdict.the-variants.{Accepted, Refused}
 use Rattle.refusal.proofs.Order.{refused-accepts, refuse-accepted, refuse-passed, refuse-stopped, then-accepted}
 use Rattle.records.specs.Block.{mostRecords, recordsIn, recordOf}
-use Rattle.capture.specs.declared.directory.Directory.{Directory}
-use Rattle.capture.specs.declared.directory.Directory.the-variants.{Good, Bad}
-use Rattle.capture.specs.Directory.{verdictOn, directoryOf}
-use Rattle.capture.proofs.Records.{good}
+use Rattle.directory.specs.declared.Directory.{Directory}
+use Rattle.directory.specs.declared.Directory.the-variants.{Good, Bad}
+use Rattle.directory.specs.Directory.{verdictOn, directoryOf}
+use Rattle.directory.specs.Rebuilt.{joined}
+use Rattle.directory.proofs.Records.{good}
 use Rattle.recordings.specs.declared.verdict.Ruling.{Ruling}
 use Rattle.recordings.specs.declared.verdict.Ruling.the-variants.{Taken, Denied}
-use Rattle.recordings.specs.Pieces.{pieces}
 use Rattle.recordings.specs.Pairing.{partnerOf, alone, distinct}
 use Rattle.recordings.specs.Sameness.{same}
 use Rattle.recordings.specs.Comparing.{outputOctets, sameMark, differentMark, markAt, markOf, aloneEntry, entriesOf, aloneAt, aloneOf, totalOf, blockVerdict, repeatVerdict, ruled, rulingOn}
@@ -97,8 +97,8 @@ pub mark-paired : (a b : List ℕ) (i j : ℕ) → partnerOf (recordOf a i) b �
 unfolding markAt
 mark-paired a b i j e h = rw e (pick-false _ _ (ne-eqb j (recordsIn b) (λ q. omega arith)))
 
-none-marked : (b a : List ℕ) (j m : ℕ) → ((k : ℕ) → j ≤ k → k < j + m → alone b a k ≡ false) → pieces j m (aloneEntry b a) ≡ []
-unfolding pieces
+none-marked : (b a : List ℕ) (j m : ℕ) → ((k : ℕ) → j ≤ k → k < j + m → alone b a k ≡ false) → joined (aloneEntry b a) j m ≡ []
+unfolding joined
 none-marked b a j zero f = refl
 none-marked b a j (suc m) f =
     rw (pick-false _ _ (f j (omega arith) (omega arith))) (none-marked b a (suc j) m (λ k l h. f k (omega arith) (omega arith)))

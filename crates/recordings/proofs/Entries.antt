@@ -15,9 +15,9 @@ use Rattle.octets.proofs.Lists.{tabulate-length}
 use Rattle.records.specs.declared.header.Header.{Header}
 use Rattle.records.specs.Record.{recordHeader}
 use Rattle.records.specs.Block.{recordsIn, recordOf}
+use Rattle.directory.proofs.Filling.{joined-next}
 use Rattle.recordings.specs.Pairing.{partnerOf, alone}
 use Rattle.recordings.specs.Comparing.{aloneMark, markOf, aloneEntry, aloneMarks, entriesOf, aloneAt}
-use Rattle.recordings.proofs.Pieces.{pieces-more}
 
 -- whether a record is alone, by its partner
 pub alone-tested : (a b : List ℕ) (i v n : ℕ) → v ≡ partnerOf (recordOf a i) b → n ≡ recordsIn b → alone a b i ≡ eqb v n
@@ -26,10 +26,10 @@ alone-tested a b i v n e q = rw (e, q)
 
 -- one record more: one that is alone, and one that is not
 pub alone-here : (b a : List ℕ) (j : ℕ) → alone b a j ≡ true → aloneMarks b a (j + 1) ≡ aloneMarks b a j ++ (aloneMark ∷ [])
-alone-here b a j e = rw (pick-true _ _ e) at (pieces-more (aloneEntry b a) j)
+alone-here b a j e = rw (pick-true _ _ e) at (joined-next (aloneEntry b a) j)
 
 pub alone-left : (b a : List ℕ) (j : ℕ) → alone b a j ≡ false → aloneMarks b a (j + 1) ≡ aloneMarks b a j
-alone-left b a j e = rw (pick-false _ _ e, append-nil) at (pieces-more (aloneEntry b a) j)
+alone-left b a j e = rw (pick-false _ _ e, append-nil) at (joined-next (aloneEntry b a) j)
 
 -- whether a record counts, by its partner and header
 pub counted : (llid : ℕ) (a b : List ℕ) (i v n : ℕ) (h : Header) → v ≡ partnerOf (recordOf a i) b → n ≡ recordsIn b

@@ -1,4 +1,3 @@
-pub mod Pieces
 pub mod Pairing
 pub mod Matching
 pub mod Sameness

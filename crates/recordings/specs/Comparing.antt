@@ -16,12 +16,12 @@ use Rattle.refusal.specs.Order.{refuseIf, andThen}
 use Rattle.records.specs.Record.{recordHeader}
 use Rattle.records.specs.Verdict.{headerFits}
 use Rattle.records.specs.Block.{recordsIn, recordOf}
-use Rattle.capture.specs.Directory.{verdictOn, directoryOf}
+use Rattle.directory.specs.Directory.{verdictOn, directoryOf}
+use Rattle.directory.specs.Rebuilt.{joined}
 use Rattle.recordings.specs.declared.verdict.Ruling.{Ruling}
 use Rattle.recordings.specs.declared.verdict.Ruling.the-variants.{Taken, Denied}
 use Rattle.recordings.specs.declared.compare.Comparison.{Comparison}
 use Rattle.octets.specs.Each.{each}
-use Rattle.recordings.specs.Pieces.{pieces}
 use Rattle.recordings.specs.Pairing.{partnerOf, alone, distinct}
 use Rattle.recordings.specs.Sameness.{same}
 
@@ -53,7 +53,7 @@ aloneEntry b a j = pick (alone b a j) (aloneMark ∷ []) []
 
 -- and for each that is, of the first m
 abbrev pub aloneMarks : List ℕ → List ℕ → ℕ → List ℕ
-aloneMarks b a m = pieces 0 m (aloneEntry b a)
+aloneMarks b a m = joined (aloneEntry b a) 0 m
 
 -- per record of the first block in order, then per unpaired record of the second
 unfoldable pub entriesOf : List ℕ → List ℕ → List ℕ

@@ -1,4 +1,3 @@
-pub mod Pieces
 pub mod Pairing
 pub mod Sameness
 pub mod Comparing

@@ -9,11 +9,11 @@ use Rattle.octets.specs.Lists.{part}
 use Rattle.refusal.specs.declared.Refusal.the-variants.{BadLength}
 use Rattle.records.specs.Record.{recordHeader}
 use Rattle.records.specs.Block.{recordsIn, recordOf}
+use Rattle.directory.specs.Rebuilt.{joined}
 use Rattle.rows.specs.Text.{rowOctets}
 use Rattle.rows.specs.Entries.{entryRow, deniedRow, totalRow}
 use Rattle.recordings.specs.declared.verdict.Ruling.{Ruling}
 use Rattle.recordings.specs.declared.verdict.Ruling.the-variants.{Taken, Denied}
-use Rattle.recordings.specs.Pieces.{pieces}
 use Rattle.recordings.specs.Pairing.{partnerOf, alone}
 use Rattle.recordings.specs.Comparing.{outputOctets, aloneMark, markAt, totalOf, rulingOn}
 
@@ -44,7 +44,7 @@ bodyOctets = rowOctets * (outputOctets + 1)
 
 -- a row for each entry in its order, and the total
 abbrev pub rowsOf : ℕ → List ℕ → List ℕ → List ℕ
-rowsOf llid a b = (pieces 0 (recordsIn a) (firstRow a b) ++ pieces 0 (recordsIn b) (aloneRow b a)) ++ totalRow (totalOf llid a b)
+rowsOf llid a b = (joined (firstRow a b) 0 (recordsIn a) ++ joined (aloneRow b a) 0 (recordsIn b)) ++ totalRow (totalOf llid a b)
 
 -- a refused call prints its code, pair and block
 unfoldable pub bodyAfter : Ruling → ℕ → List ℕ → List ℕ → List ℕ

@@ -8,8 +8,8 @@ ghost use Rattle.rows.specs.Text.{rowOctets, Holds};
 ghost use Rattle.octets.specs.Choice.{pick};
 ghost use lib.Dec.{eqb};
 ghost use Rattle.records.specs.Record.{recordHeader};
+ghost use Rattle.directory.specs.Rebuilt.{joined};
 ghost use Rattle.rows.specs.Entries.{entryRow};
-ghost use Rattle.recordings.specs.Pieces.{pieces};
 ghost use Rattle.recordings.specs.Comparing.{aloneMark, outputOctets, rulingOn};
 ghost use Rattle.recordings.specs.Listing.{partnerNumber, rowWith, firstRow, aloneRow, bodyOctets, rowsOf, bodyAfter, bodyOf, listingOf};
 ghost use Rattle.recordings.specs.Duties.{Comparable, Listed};
@@ -67,7 +67,7 @@ fn put_firsts(a: &[u8], b: &[u8], table: &[u16; PLACES], text: &mut [u8], at: us
     requires { ⌜ at + rowOctets * recordsIn (now a) ≤ length (now text) ⌝ }
     ensures { λ r. ⌜ (at ≤ r) × (r ≤ at + rowOctets * recordsIn (now (a .entry))) ⌝ }
     ensures { λ r. ⌜ take r (now (text .exit)) ≡ take at (now (text .entry))
-        ++ pieces 0 (recordsIn (now (a .entry))) (firstRow (now (a .entry)) (now (b .entry))) ⌝ }
+        ++ joined (firstRow (now (a .entry)) (now (b .entry))) 0 (recordsIn (now (a .entry))) ⌝ }
     ensures { λ r. ⌜ drop r (now (text .exit)) ≡ drop r (now (text .entry)) ⌝ }
 {
     let n = count(a);
@@ -102,7 +102,7 @@ fn put_alones(b: &[u8], a: &[u8], table: &[u16; PLACES], text: &mut [u8], at: us
     requires { ⌜ at + rowOctets * recordsIn (now b) ≤ length (now text) ⌝ }
     ensures { λ r. ⌜ (at ≤ r) × (r ≤ at + rowOctets * recordsIn (now (b .entry))) ⌝ }
     ensures { λ r. ⌜ take r (now (text .exit)) ≡ take at (now (text .entry))
-        ++ pieces 0 (recordsIn (now (b .entry))) (aloneRow (now (b .entry)) (now (a .entry))) ⌝ }
+        ++ joined (aloneRow (now (b .entry)) (now (a .entry))) 0 (recordsIn (now (b .entry))) ⌝ }
     ensures { λ r. ⌜ drop r (now (text .exit)) ≡ drop r (now (text .entry)) ⌝ }
 {
     let m = count(b);

@@ -2,8 +2,8 @@
 ghost use mathlib.Core.Path.{_≡_};
 ghost use Rattle.recordings.specs.Comparing.{headersFit, blockVerdict, rulingOn};
 use crate::partners::is_distinct;
-use capture::directory::Directory;
-use capture::directory::check;
+use directory::Directory;
+use directory::check;
 use records::block::count;
 use records::block::header_at;
 use records::header::is_well_formed;

@@ -9,13 +9,13 @@ use Rattle.octets.specs.Lists.{replaced}
 use Rattle.records.specs.declared.header.Header.{Header}
 use Rattle.records.specs.Block.{directoryOctets, recordsIn, offsetOf, dueOf, recordOf, headerFrom, recordFrom}
 use Rattle.records.specs.Record.{headerOctets, recordOctets, payloadOf}
-use Rattle.capture.specs.declared.directory.Directory.the-variants.{Good}
-use Rattle.capture.specs.Directory.{directoryOf}
-use Rattle.capture.specs.Rebuilt.{joined, rebuilt}
-use Rattle.capture.proofs.Pairs.{pair-fits}
-use Rattle.capture.proofs.Records.{Records, placed, header-there, at-due}
-use Rattle.capture.proofs.Rebuilding.{upTo, still-block, one-rebuilt, all-rebuilt, same-octets, record-is, rebuilt-again, rebuilt-ext, rebuilt-self}
-use Rattle.capture.proofs.Rebuilding as Rebuilding
+use Rattle.directory.specs.declared.Directory.the-variants.{Good}
+use Rattle.directory.specs.Directory.{directoryOf}
+use Rattle.directory.specs.Rebuilt.{joined, rebuilt}
+use Rattle.directory.proofs.Pairs.{pair-fits}
+use Rattle.directory.proofs.Records.{Records, placed, header-there, at-due}
+use Rattle.directory.proofs.Rebuilding.{upTo, still-block, one-rebuilt, all-rebuilt, same-octets, record-is, rebuilt-again, rebuilt-ext, rebuilt-self}
+use Rattle.directory.proofs.Rebuilding as Rebuilding
 use Rattle.capture.proofs.Openings.{payload-in-place}
 use Rattle.store.specs.Blocks.{withPayload, recordsWith, blockWith}
 use Rattle.store.proofs.Payloads.{with-length, with-undone, with-sized}

@@ -14,10 +14,10 @@ use Rattle.refusal.proofs.Order.{refuse-accepted}
 use Rattle.records.specs.Block.{recordsIn, recordOf}
 use Rattle.records.specs.Record.{headerOctets, recordHeader, recordOctets, payloadOf, sized}
 use Rattle.records.specs.Verdict.{verdictOf}
-use Rattle.capture.specs.Directory.{directoryOf}
-use Rattle.capture.specs.declared.directory.Directory.the-variants.{Good}
+use Rattle.directory.specs.Directory.{directoryOf}
+use Rattle.directory.specs.declared.Directory.the-variants.{Good}
 use Rattle.capture.specs.Opening.{openedRecord, recordAdds, opening}
-use Rattle.capture.proofs.Records.{good, counted, header-there}
+use Rattle.directory.proofs.Records.{good, counted, header-there}
 use Rattle.store.specs.Calls.{storeVerdict}
 use Rattle.store.specs.Claims.{OpensAlike, Undone}
 use Rattle.store.proofs.Payloads.{with-header, with-payload, with-undone}

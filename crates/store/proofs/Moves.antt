@@ -14,7 +14,7 @@ use Rattle.planes.proofs.Calls.{accepts}
 use Rattle.planes.proofs.Planes.{rearranged-length, restored-length}
 use Rattle.records.specs.Block.{mostOctets, offsetOf, recordOf}
 use Rattle.records.specs.Record.{headerOctets, payloadOf}
-use Rattle.capture.proofs.Records.{Records, placed}
+use Rattle.directory.proofs.Records.{Records, placed}
 use Rattle.store.specs.Duties.{moved}
 
 pub moved-length : (back : Bool) (p : List ℕ) → length (moved back p) ≡ length p

@@ -9,7 +9,7 @@ use Rattle.refusal.specs.declared.Refusal.the-variants.{BadLength}
 use Rattle.refusal.specs.declared.Verdict.{Verdict}
 use Rattle.refusal.specs.Order.{refuseIf}
 use Rattle.planes.specs.Calls.{writing}
-use Rattle.capture.specs.Directory.{verdictOn, directoryOf}
+use Rattle.directory.specs.Directory.{verdictOn, directoryOf}
 use Rattle.store.specs.Blocks.{rearrangedBlock, restoredBlock}
 
 -- 14 for an output of another length, then 15, 18 and 19 for the directory; no settings are asked for (D91)

@@ -9,7 +9,7 @@ use Rattle.planes.specs.Planes.{rearranged, restored}
 use Rattle.records.specs.Block.{directoryOctets, recordsIn, recordOf}
 use Rattle.records.specs.Record.{recordHeader, payloadOf, sized}
 use Rattle.records.specs.Verdict.{verdictOf}
-use Rattle.capture.specs.Directory.{directoryOf}
+use Rattle.directory.specs.Directory.{directoryOf}
 use Rattle.capture.specs.Opening.{openedRecord, recordAdds, opening}
 use Rattle.store.specs.Blocks.{withPayload, blockWith}
 use Rattle.store.specs.Calls.{storeVerdict}

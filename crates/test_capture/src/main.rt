@@ -78,8 +78,8 @@ fn print_opening(settings: &[u8], block: &[u8], size: usize) {
 }
 
 fn print_payload(block: &[u8], k: usize) {
-    let verdict = capture::payload::payload_verdict(block, k);
-    let part = capture::payload::part(block, k);
+    let verdict = directory::payload::payload_verdict(block, k);
+    let part = directory::payload::part(block, k);
     io::write_all(1, b"payload ");
     io::print_decimal(1, k as u64);
     io::write_all(1, b" number ");

@@ -1,5 +1,5 @@
 -- `store::move_payload` meets its contract: the part of the output has the payload's length, and comes back in its place. Assumes nothing.
-use Rattle.capture.proofs.Records.{good}
+use Rattle.directory.proofs.Records.{good}
 use Rattle.store.proofs.Moves.{in-output, part-accepts, part-back}
 use borrow.Author.Needs.{needs}
 use Rattle.store.proofs.move_payload.Statement.{statement}

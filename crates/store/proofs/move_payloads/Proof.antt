@@ -6,8 +6,8 @@ use native.Mathlib.Omega.{arith}
 use lib.ListN.{length, drop}
 use borrow.Author.Needs.{needs}
 use Rattle.records.specs.Block.{recordsIn, dueOf}
-use Rattle.capture.proofs.Records.{good}
-use Rattle.capture.proofs.Rebuilding.{upTo, none-rebuilt}
+use Rattle.directory.proofs.Records.{good}
+use Rattle.directory.proofs.Rebuilding.{upTo, none-rebuilt}
 use Rattle.store.specs.Duties.{moved}
 use Rattle.store.proofs.Blocks.{changed, sizes, one-done, all-done}
 use Rattle.store.proofs.Moves.{moved-length}

@@ -9,7 +9,7 @@ use denote.Ref.{now}
 use Rattle.rows.proofs.Texts.{put}
 use Rattle.capture.specs.Listing.{headingText}
 use Rattle.capture.specs.Reading.{bodyBy, listingBy}
-use Rattle.capture.proofs.Lines.{same-behind}
+use Rattle.directory.proofs.Filling.{same-behind}
 use borrow.Author.Needs.{needs}
 use Rattle.capture.proofs.listing.list_by.Statement.{statement}
 use Rattle.capture.proofs.listing.list_by.Tie as tie

@@ -9,11 +9,11 @@ use borrow.Author.Needs.{needs}
 use denote.Ref.{now}
 use Rattle.rows.proofs.Lines.{refused-row-few}
 use Rattle.rows.proofs.Texts.{line-put}
-use Rattle.capture.specs.declared.directory.Directory.the-variants.{Good}
+use Rattle.directory.specs.declared.Directory.the-variants.{Good}
 use Rattle.capture.specs.Listing.{lineOctets}
 use Rattle.capture.specs.Reading.{bodyAs}
 use Rattle.capture.specs.Verdict.{callDirectory}
-use Rattle.capture.proofs.Records.{good}
+use Rattle.directory.proofs.Records.{good}
 use Rattle.capture.proofs.Openings.{call-good, found-bad, found-good, listing-found}
 use Rattle.capture.proofs.listing.put_body.Statement.{statement}
 use Rattle.capture.proofs.listing.put_body.Tie as tie

@@ -12,10 +12,10 @@ use Rattle.records.specs.declared.header.RecordVerdict.{RecordVerdict}
 use Rattle.records.specs.Block.{dueOf}
 use Rattle.rows.specs.Text.{rowOf}
 use Rattle.capture.specs.Listing.{lineOctets}
-use Rattle.capture.specs.Rebuilt.{joined}
+use Rattle.directory.specs.Rebuilt.{joined}
 use Rattle.capture.specs.Reading.{driftBy, rowBy}
-use Rattle.capture.proofs.Records.{good, Reached, reached}
-use Rattle.capture.proofs.Lines.{same-behind, one-row}
+use Rattle.directory.proofs.Records.{good, Reached, reached}
+use Rattle.directory.proofs.Filling.{joined-behind, same-behind}
 use Rattle.capture.proofs.Readings.{no-corrections, turn}
 use Rattle.capture.proofs.listing.put_rows.Statement.{statement}
 use Rattle.capture.proofs.listing.put_rows.Tie as tie
@@ -86,7 +86,7 @@ loop-again c =
       omega (arith, v .3, q .ensures .0 .1),
       omega (arith, c .record-octets .ensures, x .next),
       told .drift,
-      q .ensures .1 .0 ∙ rw (v .6) (ap (λ (t : List ℕ). (front ++ joined f 0 i) ++ t) row ∙ one-row f front i),
+      q .ensures .1 .0 ∙ rw (v .6) (ap (λ (t : List ℕ). (front ++ joined f 0 i) ++ t) row ∙ joined-behind f front i),
       q .ensures .1 .1 ∙ same-behind _ (now (a .text)) _ _ (q .ensures .0 .0) (v .7),
     )
 

@@ -6,7 +6,7 @@ use borrow.Author.Needs.{needs}
 use borrow.Author.Tests.{eqb-true}
 use denote.Ref.{now}
 use Rattle.octets.proofs.Lists.{copied-whole}
-use Rattle.capture.specs.declared.directory.Directory.the-variants.{Good}
+use Rattle.directory.specs.declared.Directory.the-variants.{Good}
 use Rattle.capture.specs.Verdict.{callDirectory}
 use Rattle.capture.proofs.Openings.{call-good, found-bad, found-good}
 use Rattle.capture.proofs.Readings.{opening-bad, opening-good}

@@ -15,8 +15,8 @@ use Rattle.records.specs.declared.near.Drift.{Drift}
 use Rattle.records.specs.Block.{recordsIn, dueOf, recordFrom}
 use Rattle.capture.specs.Opening.{writtenAs, addedAs}
 use Rattle.capture.specs.Reading.{driftBy, recordBy, addsBy, totalBy}
-use Rattle.capture.proofs.Records.{good, of-record, in-place, Reached, reached}
-use Rattle.capture.proofs.Rebuilding.{upTo, none-rebuilt, still-block, one-rebuilt, all-rebuilt}
+use Rattle.directory.proofs.Records.{good, of-record, in-place, Reached, reached}
+use Rattle.directory.proofs.Rebuilding.{upTo, none-rebuilt, still-block, one-rebuilt, all-rebuilt}
 use Rattle.capture.proofs.Openings.{enciphered-below, runs-below, adds-few, sum-few}
 use Rattle.capture.proofs.Readings.{Turn, turn, no-corrections, record-size}
 use Rattle.capture.proofs.opening.open_records.Statement.{statement}

@@ -11,8 +11,9 @@ use Rattle.octets.specs.Lists.{tabulate}
 use Rattle.records.specs.Verdict.{recordNumber}
 use Rattle.records.specs.Block.{dueOf}
 use Rattle.capture.specs.Reading.{driftBy, askedBy, numbersBy}
-use Rattle.capture.proofs.Records.{good, Reached, reached}
-use Rattle.capture.proofs.Numbers.{asked-own, fill-more}
+use Rattle.directory.proofs.Records.{good, Reached, reached}
+use Rattle.directory.proofs.Filling.{fill-more}
+use Rattle.capture.proofs.Numbers.{asked-own}
 use Rattle.capture.proofs.Readings.{no-corrections, turn}
 use Rattle.capture.proofs.verdict.put_numbers.Statement.{statement}
 use Rattle.capture.proofs.verdict.put_numbers.Tie as tie

@@ -6,9 +6,9 @@ use borrow.Author.Needs.{needs}
 use borrow.Author.Tests.{eqb-true}
 use denote.Ref.{now}
 use Rattle.records.specs.Block.{mostRecords}
-use Rattle.capture.specs.declared.directory.Directory.the-variants.{Good}
+use Rattle.directory.specs.declared.Directory.the-variants.{Good}
 use Rattle.capture.specs.Verdict.{callDirectory}
-use Rattle.capture.proofs.Records.{good}
+use Rattle.directory.proofs.Records.{good}
 use Rattle.capture.proofs.Openings.{call-good}
 use Rattle.capture.proofs.Readings.{judging-bad, judging-good}
 use Rattle.capture.proofs.verdict.verdicts_by.Statement.{statement}

@@ -7,7 +7,7 @@ use lib.ListN.{length}
 use lib.Seq.{length-take-le}
 use denote.Ref.{now}
 use borrow.Author.Needs.{needs}
-use Rattle.capture.proofs.Lines.{same-behind}
+use Rattle.directory.proofs.Filling.{same-behind}
 use Rattle.class.specs.Listing.{bodyFor, listingFor}
 use Rattle.class.proofs.listing.list_for.Statement.{statement}
 use Rattle.class.proofs.listing.list_for.Tie as tie

@@ -7,7 +7,7 @@ use lib.ListN.{length}
 use lib.Seq.{length-take-le}
 use denote.Ref.{now}
 use borrow.Author.Needs.{needs}
-use Rattle.capture.proofs.Lines.{same-behind}
+use Rattle.directory.proofs.Filling.{same-behind}
 use Rattle.class.specs.Input.{inputBody, inputListing}
 use Rattle.class.proofs.listing.list_input.Statement.{statement}
 use Rattle.class.proofs.listing.list_input.Tie as tie

@@ -9,9 +9,9 @@ use denote.Ref.{now}
 use borrow.Author.Needs.{needs}
 use Rattle.rows.proofs.Lines.{refused-row-few}
 use Rattle.rows.proofs.Texts.{line-put}
-use Rattle.capture.specs.declared.directory.Directory.the-variants.{Good}
+use Rattle.directory.specs.declared.Directory.the-variants.{Good}
 use Rattle.capture.specs.Listing.{lineOctets}
-use Rattle.capture.proofs.Records.{good}
+use Rattle.directory.proofs.Records.{good}
 use Rattle.class.specs.Reading.{callFor}
 use Rattle.class.specs.Listing.{bodyAfter}
 use Rattle.class.proofs.Calls.{found}

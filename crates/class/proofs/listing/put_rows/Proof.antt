@@ -12,9 +12,9 @@ use Rattle.records.specs.Block.{dueOf}
 use Rattle.rows.specs.Text.{textOf}
 use Rattle.rows.proofs.Texts.{line-put}
 use Rattle.capture.specs.Listing.{lineOctets}
-use Rattle.capture.specs.Rebuilt.{joined}
-use Rattle.capture.proofs.Records.{good, Reached, reached}
-use Rattle.capture.proofs.Lines.{same-behind, one-row}
+use Rattle.directory.specs.Rebuilt.{joined}
+use Rattle.directory.proofs.Records.{good, Reached, reached}
+use Rattle.directory.proofs.Filling.{joined-behind, same-behind}
 use Rattle.rights.specs.declared.judging.ClassVerdict.{ClassVerdict}
 use Rattle.class.specs.Reading.{driftFor}
 use Rattle.class.specs.Listing.{rowAs, rowFor}
@@ -86,7 +86,7 @@ loop-again c =
       omega (arith, v .3, q .0 .1),
       omega (arith, c .record-octets .ensures, x .next),
       told .1,
-      q .1 .0 ∙ rw (v .6) (ap (λ (t : List ℕ). (front ++ joined f 0 i) ++ t) row ∙ one-row f front i),
+      q .1 .0 ∙ rw (v .6) (ap (λ (t : List ℕ). (front ++ joined f 0 i) ++ t) row ∙ joined-behind f front i),
       q .1 .1 ∙ same-behind _ (now (a .text)) _ _ (q .0 .0) (v .7),
     )
 

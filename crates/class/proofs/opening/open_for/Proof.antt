@@ -6,7 +6,7 @@ use borrow.Author.Needs.{needs}
 use borrow.Author.Tests.{eqb-true}
 use denote.Ref.{now}
 use Rattle.octets.proofs.Lists.{copied-whole}
-use Rattle.capture.specs.declared.directory.Directory.the-variants.{Good}
+use Rattle.directory.specs.declared.Directory.the-variants.{Good}
 use Rattle.class.specs.Reading.{callFor}
 use Rattle.class.specs.Opening.{openingAfter, openingFor}
 use Rattle.class.proofs.Calls.{found, opening-good}

@@ -14,8 +14,8 @@ use Rattle.envelope.specs.ControlMask as Mask
 use Rattle.records.specs.declared.header.Header.{Header}
 use Rattle.records.specs.declared.near.Drift.{Drift}
 use Rattle.records.specs.Block.{dueOf, recordFrom}
-use Rattle.capture.proofs.Records.{good, of-record, in-place, Reached, reached}
-use Rattle.capture.proofs.Rebuilding.{upTo, none-rebuilt, still-block, one-rebuilt, all-rebuilt}
+use Rattle.directory.proofs.Records.{good, of-record, in-place, Reached, reached}
+use Rattle.directory.proofs.Rebuilding.{upTo, none-rebuilt, still-block, one-rebuilt, all-rebuilt}
 use Rattle.capture.proofs.Openings.{enciphered-below, runs-below, sum-few}
 use Rattle.rights.specs.Settings.{setOf, setFor}
 use Rattle.class.specs.Reading.{setAt, driftFor, toldOf}

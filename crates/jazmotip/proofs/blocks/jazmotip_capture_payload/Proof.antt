@@ -1,9 +1,9 @@
 -- `jazmotip::blocks::jazmotip_capture_payload` meets its contract by those of its two steps; the bounds name the payload. Assumes nothing.
 use mathlib.Core.Path.{_≡_, _∙_}
 use denote.Ref.{now}
-use Rattle.capture.specs.Payload.{payloadBounds}
+use Rattle.directory.specs.Payload.{payloadBounds}
 use Rattle.jazmotip.specs.Blocks.{blockPart}
-use Rattle.capture.proofs.Records.{part-named}
+use Rattle.directory.proofs.Records.{part-named}
 use borrow.Author.Needs.{needs}
 use Rattle.jazmotip.proofs.blocks.jazmotip_capture_payload.Statement.{statement}
 use Rattle.jazmotip.proofs.blocks.jazmotip_capture_payload.Tie as tie

@@ -10,7 +10,7 @@ use denote.Ref.{now}
 use borrow.Author.Needs.{needs}
 use borrow.Author.Tests.{eq-eqb, ne-eqb}
 use Rattle.records.specs.Block.{recordsIn}
-use Rattle.recordings.specs.Pieces.{pieces}
+use Rattle.directory.specs.Rebuilt.{joined}
 use Rattle.recordings.specs.Comparing.{aloneMark, aloneMarks}
 use Rattle.recordings.proofs.Entries.{alone-tested, alone-here, alone-left, put-one, stays-behind}
 use Rattle.recordings.proofs.compare.put_alones.Statement.{statement}
@@ -79,6 +79,6 @@ pub put-alones-spec : {M : Type 1} → statement M
 put-alones-spec =
     tie.close
     (tie.spec Inv-loop μ-loop (λ c κs. search needs) (λ c κs. search needs)
-    (λ c. unfold pieces in (omega arith, refl, omega arith, omega arith, rw append-nil, refl))
+    (λ c. unfold joined in (omega arith, refl, omega arith, omega arith, rw append-nil, refl))
     (λ c. search needs) (λ c. search needs) element-copy-out (λ c. room (c .before .before)) (λ c. search needs) (λ c. search needs) (λ c. omega arith)
     loop-again (λ c. search needs) returns)

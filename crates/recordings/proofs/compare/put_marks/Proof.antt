@@ -10,7 +10,7 @@ use borrow.Author.Needs.{needs}
 use Rattle.octets.specs.Lists.{tabulate}
 use Rattle.records.specs.Block.{recordsIn}
 use Rattle.recordings.specs.Comparing.{markAt, markOf}
-use Rattle.capture.proofs.Numbers.{fill-more}
+use Rattle.directory.proofs.Filling.{fill-more}
 use Rattle.recordings.proofs.compare.put_marks.Statement.{statement}
 use Rattle.recordings.proofs.compare.put_marks.Tie as tie
 

@@ -8,7 +8,7 @@ use lib.Seq.{length-take-le}
 use denote.Ref.{now}
 use borrow.Author.Needs.{needs}
 use Rattle.rows.proofs.Texts.{put}
-use Rattle.capture.proofs.Lines.{same-behind}
+use Rattle.directory.proofs.Filling.{same-behind}
 use Rattle.recordings.specs.Listing.{headingText, bodyOf, listingOf}
 use Rattle.recordings.proofs.listing.list.Statement.{statement}
 use Rattle.recordings.proofs.listing.list.Tie as tie

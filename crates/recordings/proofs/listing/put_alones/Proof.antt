@@ -9,10 +9,9 @@ use denote.Ref.{now}
 use borrow.Author.Needs.{needs}
 use Rattle.records.specs.Block.{recordsIn}
 use Rattle.rows.specs.Text.{rowOctets}
-use Rattle.capture.proofs.Lines.{same-behind}
-use Rattle.recordings.specs.Pieces.{pieces}
+use Rattle.directory.specs.Rebuilt.{joined}
+use Rattle.directory.proofs.Filling.{joined-behind, same-behind}
 use Rattle.recordings.specs.Listing.{aloneRow}
-use Rattle.recordings.proofs.Pieces.{one-piece}
 use Rattle.recordings.proofs.Entries.{alone-tested}
 use Rattle.recordings.proofs.listing.put_alones.Statement.{statement}
 use Rattle.recordings.proofs.listing.put_alones.Tie as tie
@@ -20,7 +19,7 @@ use Rattle.recordings.proofs.listing.put_alones.Tie as tie
 abbrev Inv-loop : tie.InvT-loop
 Inv-loop b a table text₀ at m end₀ j₀ text end j =
     (j ≤ m) × (length text ≡ length text₀) × (at ≤ end) × (end ≤ at + rowOctets * j)
-    × (take end text ≡ take at text₀ ++ pieces 0 j (aloneRow b a)) × (drop end text ≡ drop end text₀)
+    × (take end text ≡ take at text₀ ++ joined (aloneRow b a) 0 j) × (drop end text ≡ drop end text₀)
 
 abbrev μ-loop : tie.MeasureT-loop
 μ-loop b a table text₀ at m end₀ j₀ text end j = m - j
@@ -53,7 +52,7 @@ loop-again c =
       put .put-alone .kept .1 .1 .1 .1 .0 ∙ v .1,
       omega (arith, v .2, q .0 .0),
       omega (arith, v .3, q .0 .1),
-      q .1 .0 ∙ rw (← e, v .4) (one-piece (aloneRow b a) (take (start .args .at) text) j),
+      q .1 .0 ∙ rw (← e, v .4) (joined-behind (aloneRow b a) (take (start .args .at) text) j),
       q .1 .1 ∙ same-behind _ text _ _ (q .0 .0) (v .5),
     )
 
@@ -69,7 +68,7 @@ pub put-alones-spec : {M : Type 1} → statement M
 put-alones-spec =
     tie.close
     (tie.spec Inv-loop μ-loop (λ c κs. search needs)
-    (λ c. unfold pieces in (omega arith, refl, omega arith, omega arith, rw append-nil, refl))
+    (λ c. unfold joined in (omega arith, refl, omega arith, omega arith, rw append-nil, refl))
     (λ c. search needs) (λ c. search needs)
     (λ c. omega (arith, among c, c .before .before .before .before .before .before .pre .0))
     put-alone-requires (λ c. search needs) (λ c. omega arith) loop-again (λ c. c .before .loop .inv .1) returns)

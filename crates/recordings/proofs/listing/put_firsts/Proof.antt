@@ -10,10 +10,9 @@ use borrow.Author.Needs.{needs}
 use Rattle.records.specs.Block.{recordsIn, recordOf}
 use Rattle.rows.specs.Text.{rowOctets}
 use Rattle.rows.proofs.Texts.{line-put}
-use Rattle.capture.proofs.Lines.{same-behind}
-use Rattle.recordings.specs.Pieces.{pieces}
+use Rattle.directory.specs.Rebuilt.{joined}
+use Rattle.directory.proofs.Filling.{joined-behind, same-behind}
 use Rattle.recordings.specs.Listing.{rowWith, firstRow}
-use Rattle.recordings.proofs.Pieces.{one-piece}
 use Rattle.recordings.proofs.Pairing.{first-high}
 use Rattle.recordings.proofs.listing.put_firsts.Statement.{statement}
 use Rattle.recordings.proofs.listing.put_firsts.Tie as tie
@@ -21,7 +20,7 @@ use Rattle.recordings.proofs.listing.put_firsts.Tie as tie
 abbrev Inv-loop : tie.InvT-loop
 Inv-loop a b table text₀ at n end₀ i₀ text end i =
     (i ≤ n) × (length text ≡ length text₀) × (at ≤ end) × (end ≤ at + rowOctets * i)
-    × (take end text ≡ take at text₀ ++ pieces 0 i (firstRow a b)) × (drop end text ≡ drop end text₀)
+    × (take end text ≡ take at text₀ ++ joined (firstRow a b) 0 i) × (drop end text ≡ drop end text₀)
 
 abbrev μ-loop : tie.MeasureT-loop
 μ-loop a b table text₀ at n end₀ i₀ text end i = n - i
@@ -60,7 +59,7 @@ loop-again c =
       put .put-line .kept .0 ∙ v .1,
       omega (arith, v .2, q .0 .0),
       omega (arith, v .3, q .0 .1),
-      q .1 .0 ∙ rw (row, v .4) (one-piece (firstRow a b) (take (start .args .at) text) i),
+      q .1 .0 ∙ rw (row, v .4) (joined-behind (firstRow a b) (take (start .args .at) text) i),
       q .1 .1 ∙ same-behind _ text _ _ (q .0 .0) (v .5),
     )
 
@@ -76,7 +75,7 @@ pub put-firsts-spec : {M : Type 1} → statement M
 put-firsts-spec =
     tie.close
     (tie.spec Inv-loop μ-loop (λ c κs. search needs)
-    (λ c. unfold pieces in (omega arith, refl, omega arith, omega arith, rw append-nil, refl))
+    (λ c. unfold joined in (omega arith, refl, omega arith, omega arith, rw append-nil, refl))
     (λ c. search needs) (λ c. search needs)
     (λ c. omega (arith, among c, c .before .before .before .before .before .before .pre .0 .few))
     entry-line-requires (λ c κs. search needs) (λ c. search needs) (λ c. omega arith) loop-again (λ c. c .before .loop .inv .1) returns)

@@ -9,8 +9,8 @@ use borrow.Author.Needs.{needs}
 use Rattle.records.specs.Block.{recordsIn}
 use Rattle.rows.specs.Text.{rowOctets}
 use Rattle.rows.proofs.Texts.{line-put}
-use Rattle.capture.proofs.Lines.{same-behind}
-use Rattle.recordings.specs.Pieces.{pieces}
+use Rattle.directory.specs.Rebuilt.{joined}
+use Rattle.directory.proofs.Filling.{same-behind}
 use Rattle.recordings.specs.Listing.{firstRow, aloneRow}
 use Rattle.recordings.proofs.listing.put_rows.Statement.{statement}
 use Rattle.recordings.proofs.listing.put_rows.Tie as tie
@@ -32,9 +32,9 @@ put-alones-requires c κs =
       (matched .match-up .ensures .second, omega (arith, q .0 .1, firsts .put-firsts .kept .1 .1 .1 .0, start .pre .1, few .few, few .fewOther)),
     )
 
--- three pieces, one after the other
-joined : (x y z t p q r line : List ℕ) → x ≡ y ++ line → y ≡ z ++ q → z ≡ t ++ p → line ≡ r → x ≡ t ++ ((p ++ q) ++ r)
-joined x y z t p q r line e f g h = e ∙ rw (h, f, g) (simp append-assoc)
+-- three parts, one after the other
+three-parts : (x y z t p q r line : List ℕ) → x ≡ y ++ line → y ≡ z ++ q → z ≡ t ++ p → line ≡ r → x ≡ t ++ ((p ++ q) ++ r)
+three-parts x y z t p q r line e f g h = e ∙ rw (h, f, g) (simp append-assoc)
 
 returns : tie.Need-returns
 returns c =
@@ -58,7 +58,7 @@ returns c =
     let line = rw (other .before .before .count-alone .ensures .0, other .count-alone2 .ensures .0) at (total .total-row .ensures .octets) in (
       (omega (arith, one .0 .0, two .0 .0, three .0 .0), omega (arith, one .0 .1, two .0 .1, three .0 .1, few .few, few .fewOther)),
       (
-        joined _ _ _ front (pieces 0 (recordsIn a) (firstRow a b)) (pieces 0 (recordsIn b) (aloneRow b a)) _ _ (three .1 .0) (two .1 .0) (one .1 .0) line,
+        three-parts _ _ _ front (joined (firstRow a b) 0 (recordsIn a)) (joined (aloneRow b a) 0 (recordsIn b)) _ _ (three .1 .0) (two .1 .0) (one .1 .0) line,
         three .1 .1 ∙ same-behind _ _ _ _ (three .0 .0) (two .1 .1 ∙ same-behind _ _ _ _ (two .0 .0) (one .1 .1)),
       ),
     )

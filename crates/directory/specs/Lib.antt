@@ -1,0 +1,5 @@
+pub mod Directory
+pub mod Broken
+pub mod Payload
+pub mod Rebuilt
+pub mod Duties

@@ -8,11 +8,11 @@ use lib.Dec.{eqb}
 use Rattle.octets.specs.Choice.{pick}
 use Rattle.octets.proofs.Lists.{sum-ext}
 use Rattle.records.specs.Block.{recordsIn, recordOf}
-use Rattle.recordings.specs.Pairing.{alone, partnerOf}
-use Rattle.recordings.specs.Sameness.{sameData, same}
+use Rattle.sameness.specs.Pairing.{alone, partnerOf}
+use Rattle.sameness.specs.Sameness.{sameData, same}
 use Rattle.recordings.specs.Comparing.{aloneMark, sameMark, differentMark, markAt, markOf, aloneAt, aloneOf, totalOf}
 use Rattle.recordings.specs.Before.{markBefore, aloneBefore, totalBefore}
-use Rattle.recordings.proofs.Sameness.{same-finer}
+use Rattle.sameness.proofs.Sameness.{same-finer}
 
 finer-by : (t s d : Bool) → (s ≡ true → d ≡ true) → pick t aloneMark (pick s sameMark differentMark) ≡ sameMark
     → pick t aloneMark (pick d sameMark differentMark) ≡ sameMark

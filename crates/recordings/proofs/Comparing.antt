@@ -24,14 +24,14 @@ use Rattle.directory.specs.Rebuilt.{joined}
 use Rattle.directory.proofs.Records.{good}
 use Rattle.recordings.specs.declared.verdict.Ruling.{Ruling}
 use Rattle.recordings.specs.declared.verdict.Ruling.the-variants.{Taken, Denied}
-use Rattle.recordings.specs.Pairing.{partnerOf, alone, distinct}
-use Rattle.recordings.specs.Sameness.{same}
+use Rattle.sameness.specs.Pairing.{partnerOf, alone, distinct}
+use Rattle.sameness.specs.Sameness.{same}
 use Rattle.recordings.specs.Comparing.{outputOctets, sameMark, differentMark, markAt, markOf, aloneEntry, entriesOf, aloneAt, aloneOf, totalOf, blockVerdict, repeatVerdict, ruled, rulingOn}
 use Rattle.recordings.specs.Laws.{Pairs, Compared}
 use Rattle.recordings.specs.Duties.{Comparable}
-use Rattle.recordings.proofs.Pairing.{paired-self, paired-back, paired-through, only-one, partner-is, not-alone}
+use Rattle.sameness.proofs.Pairing.{paired-self, paired-back, paired-through, only-one, partner-is, not-alone}
 use Rattle.recordings.proofs.Before.{finer, total-before}
-use Rattle.recordings.proofs.Sameness.{same-self, same-either-way}
+use Rattle.sameness.proofs.Sameness.{same-self, same-either-way}
 
 ---- what acceptance tells, and conversely
 

@@ -16,7 +16,7 @@ use Rattle.records.specs.declared.header.Header.{Header}
 use Rattle.records.specs.Record.{recordHeader}
 use Rattle.records.specs.Block.{recordsIn, recordOf}
 use Rattle.directory.proofs.Filling.{joined-next}
-use Rattle.recordings.specs.Pairing.{partnerOf, alone}
+use Rattle.sameness.specs.Pairing.{partnerOf, alone}
 use Rattle.recordings.specs.Comparing.{aloneMark, markOf, aloneEntry, aloneMarks, entriesOf, aloneAt}
 
 -- whether a record is alone, by its partner

@@ -11,9 +11,9 @@ use lib.Seq.{getD-set-same, getD-set-other}
 use borrow.Author.Count.{below-more}
 use borrow.Author.Tests.{eqb-true, eqb-false}
 use Rattle.records.specs.Block.{recordsIn, recordOf}
-use Rattle.recordings.specs.Pairing.{paired, partnerOf, distinct}
+use Rattle.sameness.specs.Pairing.{paired, partnerOf, distinct}
 use Rattle.recordings.specs.Duties.{Listed, Met}
-use Rattle.recordings.proofs.Pairing.{paired-back, first-pairs, first-none, partner-is}
+use Rattle.sameness.proofs.Pairing.{paired-back, first-pairs, first-none, partner-is}
 
 -- one partner more
 pub listed-more : (t a b : List ℕ) (i p : ℕ) → i < length t → p ≡ partnerOf (recordOf a i) b → Listed t a b i → Listed (set t i p) a b (i + 1)

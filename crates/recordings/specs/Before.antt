@@ -6,8 +6,8 @@ use Rattle.octets.specs.Choice.{both, pick}
 use Rattle.octets.specs.Lists.{sum}
 use Rattle.records.specs.Record.{recordHeader}
 use Rattle.records.specs.Block.{recordsIn, recordOf}
-use Rattle.recordings.specs.Pairing.{alone, partnerOf}
-use Rattle.recordings.specs.Sameness.{sameData}
+use Rattle.sameness.specs.Pairing.{alone, partnerOf}
+use Rattle.sameness.specs.Sameness.{sameData}
 use Rattle.recordings.specs.Comparing.{aloneMark, sameMark, differentMark}
 
 -- the entry of record i of a

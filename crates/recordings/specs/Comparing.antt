@@ -22,8 +22,8 @@ use Rattle.recordings.specs.declared.verdict.Ruling.{Ruling}
 use Rattle.recordings.specs.declared.verdict.Ruling.the-variants.{Taken, Denied}
 use Rattle.recordings.specs.declared.compare.Comparison.{Comparison}
 use Rattle.octets.specs.Each.{each}
-use Rattle.recordings.specs.Pairing.{partnerOf, alone, distinct}
-use Rattle.recordings.specs.Sameness.{same}
+use Rattle.sameness.specs.Pairing.{partnerOf, alone, distinct}
+use Rattle.sameness.specs.Sameness.{same}
 
 -- the octets of the output, an entry each
 abbrev pub outputOctets : ℕ

@@ -7,7 +7,7 @@ use Prim.Native.Nat.{ℕ, _≤_, _<_}
 use lib.ListN.{getD}
 use Rattle.records.specs.Block.{mostRecords, recordsIn, recordOf}
 use Rattle.recordings.specs.declared.partners.Partners.{Partners}
-use Rattle.recordings.specs.Pairing.{paired, partnerOf, distinct}
+use Rattle.sameness.specs.Pairing.{paired, partnerOf, distinct}
 
 -- two blocks that are accepted have few records, and no two alike in either
 pub record Comparable (a b : List ℕ) : Type 0 where

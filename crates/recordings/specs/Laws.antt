@@ -6,7 +6,7 @@ use Prim.Native.Nat.{ℕ, _<_}
 use Rattle.octets.specs.Lists.{tabulate}
 use Rattle.records.specs.Block.{recordsIn, recordOf}
 use Rattle.recordings.specs.declared.verdict.Ruling.the-variants.{Taken}
-use Rattle.recordings.specs.Pairing.{paired, partnerOf}
+use Rattle.sameness.specs.Pairing.{paired, partnerOf}
 use Rattle.recordings.specs.Comparing.{sameMark, markOf, entriesOf, totalOf, rulingOn}
 use Rattle.recordings.specs.Before.{markBefore, totalBefore}
 

@@ -1,5 +1,3 @@
-pub mod Pairing
-pub mod Sameness
 pub mod Comparing
 pub mod Before
 pub mod Laws

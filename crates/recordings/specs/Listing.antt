@@ -14,7 +14,7 @@ use Rattle.rows.specs.Text.{rowOctets}
 use Rattle.rows.specs.Entries.{entryRow, deniedRow, totalRow}
 use Rattle.recordings.specs.declared.verdict.Ruling.{Ruling}
 use Rattle.recordings.specs.declared.verdict.Ruling.the-variants.{Taken, Denied}
-use Rattle.recordings.specs.Pairing.{partnerOf, alone}
+use Rattle.sameness.specs.Pairing.{partnerOf, alone}
 use Rattle.recordings.specs.Comparing.{outputOctets, aloneMark, markAt, totalOf, rulingOn}
 
 -- "first second llid ch clock result" and a line feed

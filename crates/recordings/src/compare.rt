@@ -12,12 +12,12 @@ ghost use Rattle.recordings.specs.Laws.{ComparedIfAccepted};
 ghost use Rattle.recordings.specs.Duties.{Comparable, Listed};
 use crate::partners::PLACES;
 use crate::partners::match_up;
-use crate::payloads::is_same;
 use crate::verdict::Ruling;
 use crate::verdict::rule;
 use records::block::count;
 use records::block::header_at;
 use refusal::Refusal;
+use sameness::payloads::is_same;
 
 // What an entry says of its record.
 pub(crate) const ALONE: u8 = 0;

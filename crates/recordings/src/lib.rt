@@ -2,5 +2,4 @@
 pub mod compare;
 pub mod listing;
 mod partners;
-mod payloads;
 pub mod verdict;

@@ -1,7 +1,6 @@
 // The verdict on two blocks, each by itself, and on the call.
 ghost use mathlib.Core.Path.{_≡_};
 ghost use Rattle.recordings.specs.Comparing.{headersFit, blockVerdict, rulingOn};
-use crate::partners::is_distinct;
 use directory::Directory;
 use directory::check;
 use records::block::count;
@@ -10,6 +9,7 @@ use records::header::is_well_formed;
 use refusal::Refusal;
 use refusal::Verdict;
 use refusal::refuse_if;
+use sameness::partners::is_distinct;
 
 // The octets of the output, an entry each.
 pub const OUTPUT_OCTETS: usize = 512;

@@ -13,7 +13,7 @@ use Rattle.rows.proofs.Texts.{line-put}
 use Rattle.directory.specs.Rebuilt.{joined}
 use Rattle.directory.proofs.Filling.{joined-behind, same-behind}
 use Rattle.recordings.specs.Listing.{rowWith, firstRow}
-use Rattle.recordings.proofs.Pairing.{first-high}
+use Rattle.sameness.proofs.Pairing.{first-high}
 use Rattle.recordings.proofs.listing.put_firsts.Statement.{statement}
 use Rattle.recordings.proofs.listing.put_firsts.Tie as tie
 

@@ -8,7 +8,7 @@ use lib.ListN.{length, getD, length-set, length-replicate, getD-replicate}
 use denote.Ref.{now}
 use borrow.Author.Needs.{needs}
 use Rattle.records.specs.Block.{mostRecords, recordsIn, recordOf}
-use Rattle.recordings.specs.Pairing.{partnerOf}
+use Rattle.sameness.specs.Pairing.{partnerOf}
 use Rattle.recordings.specs.Duties.{Listed, Met}
 use Rattle.recordings.proofs.Matching.{listed-more, met-past, met-more, met-all}
 use Rattle.recordings.proofs.partners.match_up.Statement.{statement}

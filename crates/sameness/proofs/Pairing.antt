@@ -11,7 +11,7 @@ use borrow.Author.Tests.{leb-true, leb-false, ltb-true, ltb-false, eqb-true, eq-
 use Rattle.octets.proofs.Choice.{true-false, both-left, both-right, both-true, pick-true, pick-false, pick-holds}
 use Rattle.records.specs.declared.header.Header.{Header}
 use Rattle.records.specs.Block.{recordsIn, recordOf}
-use Rattle.recordings.specs.Pairing.{keysAgree, paired, firstFrom, partnerOf, alone, unlikeRest, distinct}
+use Rattle.sameness.specs.Pairing.{keysAgree, paired, firstFrom, partnerOf, alone, unlikeRest, distinct}
 use Rattle.octets.proofs.Each.{each-at}
 
 ---- the relation

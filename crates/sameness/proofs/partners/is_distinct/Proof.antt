@@ -1,4 +1,4 @@
--- `recordings::partners::is_distinct` meets its contract. The loop's invariant: what is left to test is the records from i on. Assumes nothing.
+-- `sameness::partners::is_distinct` meets its contract. The loop's invariant: what is left to test is the records from i on. Assumes nothing.
 use mathlib.Core.Path.{_≡_, sym, _∙_}
 use Prim.Native.Nat.{_-_}
 use native.Mathlib.Omega.{arith}
@@ -7,11 +7,11 @@ use borrow.Author.Needs.{needs}
 use borrow.Author.Tests.{eq-eqb, ne-eqb}
 use Rattle.records.specs.Block.{recordsIn}
 use Rattle.octets.specs.Each.{each}
-use Rattle.recordings.specs.Pairing.{unlikeRest, distinct}
+use Rattle.sameness.specs.Pairing.{unlikeRest, distinct}
 use Rattle.octets.proofs.Each.{each-step, each-stop, each-end}
-use Rattle.recordings.proofs.Pairing.{unlike-tested}
-use Rattle.recordings.proofs.partners.is_distinct.Statement.{statement}
-use Rattle.recordings.proofs.partners.is_distinct.Tie as tie
+use Rattle.sameness.proofs.Pairing.{unlike-tested}
+use Rattle.sameness.proofs.partners.is_distinct.Statement.{statement}
+use Rattle.sameness.proofs.partners.is_distinct.Tie as tie
 
 abbrev Inv-loop : tie.InvT-loop
 Inv-loop block n i₀ i = distinct block ≡ each i (n - i) (unlikeRest block)

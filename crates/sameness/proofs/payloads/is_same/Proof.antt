@@ -1,11 +1,11 @@
--- `recordings::payloads::is_same` meets its contract: C-15's sameness, then the EncKey bit, then the control octets. Assumes nothing.
+-- `sameness::payloads::is_same` meets its contract: C-15's sameness, then the EncKey bit, then the control octets. Assumes nothing.
 use mathlib.Core.Path.{_≡_, sym, _∙_}
 use borrow.Author.Needs.{needs}
 use borrow.Author.Tests.{not-true, not-false}
 use Rattle.records.specs.Verdict.{encKey}
-use Rattle.recordings.proofs.Sameness.{same-by-data, same-by-key, same-by-controls}
-use Rattle.recordings.proofs.payloads.is_same.Statement.{statement}
-use Rattle.recordings.proofs.payloads.is_same.Tie as tie
+use Rattle.sameness.proofs.Sameness.{same-by-data, same-by-key, same-by-controls}
+use Rattle.sameness.proofs.payloads.is_same.Statement.{statement}
+use Rattle.sameness.proofs.payloads.is_same.Tie as tie
 
 returns-2 : tie.Need-returns-2
 returns-2 c =

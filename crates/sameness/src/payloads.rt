@@ -2,7 +2,7 @@
 ghost use mathlib.Core.Path.{_≡_};
 ghost use Rattle.records.specs.Block.{recordOf};
 ghost use Rattle.octets.specs.Each.{each};
-ghost use Rattle.recordings.specs.Sameness.{sameEq, sameData, sameControl, same};
+ghost use Rattle.sameness.specs.Sameness.{sameEq, sameData, sameControl, same};
 use envelope::control_octet;
 use envelope::data_octet;
 use records::block::header_at;
@@ -61,7 +61,7 @@ fn are_controls_same(p: &[u8], q: &[u8], eqs: u32) -> bool
 }
 
 // Whether record i of a and record j of b hold the same.
-pub(crate) fn is_same(a: &[u8], i: u16, b: &[u8], j: u16) -> bool
+pub fn is_same(a: &[u8], i: u16, b: &[u8], j: u16) -> bool
     ensures { λ r. ⌜ r ≡ same (recordOf (now (a .entry)) i) (recordOf (now (b .entry)) j) ⌝ }
 {
     if !is_same_data(a, i, b, j) {

@@ -12,7 +12,7 @@ use Rattle.records.specs.declared.header.Header.{Header}
 use Rattle.envelope.specs.ControlMask.{controlOctet, dataOctet}
 use Rattle.records.specs.Record.{recordHeader, payloadOf}
 use Rattle.records.specs.Verdict.{encKey}
-use Rattle.recordings.specs.Sameness.{dataOctets, sameEq, sameData, sameControl, same}
+use Rattle.sameness.specs.Sameness.{dataOctets, sameEq, sameData, sameControl, same}
 use Rattle.octets.specs.Each.{each}
 use Rattle.octets.proofs.Each.{each-at, each-true}
 

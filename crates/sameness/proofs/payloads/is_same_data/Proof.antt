@@ -1,4 +1,4 @@
--- `recordings::payloads::is_same_data` meets its contract. The loop's invariant: what is left to test is the EQs from e on. Assumes nothing.
+-- `sameness::payloads::is_same_data` meets its contract. The loop's invariant: what is left to test is the EQs from e on. Assumes nothing.
 use mathlib.Core.Path.{_≡_, sym, _∙_}
 use mathlib.Core.Bool.{false}
 use mathlib.Core.List.{List}
@@ -12,10 +12,10 @@ use Rattle.records.specs.declared.header.Header.{Header}
 use Rattle.records.specs.Record.{recordHeader, payloadOf}
 use Rattle.records.specs.Block.{recordOf}
 use Rattle.octets.specs.Each.{each}
-use Rattle.recordings.specs.Sameness.{sameEq, sameData}
+use Rattle.sameness.specs.Sameness.{sameEq, sameData}
 use Rattle.octets.proofs.Each.{each-step, each-stop, each-end}
-use Rattle.recordings.proofs.payloads.is_same_data.Statement.{statement}
-use Rattle.recordings.proofs.payloads.is_same_data.Tie as tie
+use Rattle.sameness.proofs.payloads.is_same_data.Statement.{statement}
+use Rattle.sameness.proofs.payloads.is_same_data.Tie as tie
 
 abbrev Inv-loop : tie.InvT-loop
 Inv-loop a i b j eqs p q e₀ e = sameData (recordOf a i) (recordOf b j) ≡ each e (eqs - e) (sameEq p q)

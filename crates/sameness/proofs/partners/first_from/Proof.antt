@@ -1,4 +1,4 @@
--- `recordings::partners::first_from` meets its contract. The loop's invariant: the first that pairs is the first from j on. Assumes nothing.
+-- `sameness::partners::first_from` meets its contract. The loop's invariant: the first that pairs is the first from j on. Assumes nothing.
 use mathlib.Core.Path.{_≡_, refl, sym, _∙_}
 use mathlib.Core.Bool.{Bool}
 use mathlib.Core.List.{List}
@@ -8,10 +8,10 @@ use borrow.Author.Needs.{needs}
 use Rattle.records.specs.declared.header.Header.{Header}
 use Rattle.records.specs.Record.{recordHeader}
 use Rattle.records.specs.Block.{recordOf}
-use Rattle.recordings.specs.Pairing.{keysAgree, paired, firstFrom}
-use Rattle.recordings.proofs.Pairing.{first-step, first-stop, first-end}
-use Rattle.recordings.proofs.partners.first_from.Statement.{statement}
-use Rattle.recordings.proofs.partners.first_from.Tie as tie
+use Rattle.sameness.specs.Pairing.{keysAgree, paired, firstFrom}
+use Rattle.sameness.proofs.Pairing.{first-step, first-stop, first-end}
+use Rattle.sameness.proofs.partners.first_from.Statement.{statement}
+use Rattle.sameness.proofs.partners.first_from.Tie as tie
 
 abbrev Inv-loop : tie.InvT-loop
 Inv-loop a i b from n key j₀ j = firstFrom (recordOf a i) b from (n - from) ≡ firstFrom (recordOf a i) b j (n - j)

@@ -1,4 +1,4 @@
--- `recordings::payloads::is_same_eq` meets its contract. The loop's invariant: what is left to test is the data octets from j on. Assumes nothing.
+-- `sameness::payloads::is_same_eq` meets its contract. The loop's invariant: what is left to test is the data octets from j on. Assumes nothing.
 use mathlib.Core.Path.{_≡_, refl, sym, _∙_}
 use mathlib.Core.Bool.{Bool}
 use mathlib.Core.List.{List}
@@ -10,10 +10,10 @@ use borrow.Author.Needs.{needs}
 use borrow.Author.Tests.{eq-eqb, ne-eqb}
 use Rattle.envelope.specs.ControlMask.{dataOctet}
 use Rattle.octets.specs.Each.{each}
-use Rattle.recordings.specs.Sameness.{dataOctets, sameEq}
+use Rattle.sameness.specs.Sameness.{dataOctets, sameEq}
 use Rattle.octets.proofs.Each.{each-step, each-stop, each-end}
-use Rattle.recordings.proofs.payloads.is_same_eq.Statement.{statement}
-use Rattle.recordings.proofs.payloads.is_same_eq.Tie as tie
+use Rattle.sameness.proofs.payloads.is_same_eq.Statement.{statement}
+use Rattle.sameness.proofs.payloads.is_same_eq.Tie as tie
 
 -- data octet j is the same in both
 abbrev Same : List ℕ → List ℕ → ℕ → ℕ → Bool

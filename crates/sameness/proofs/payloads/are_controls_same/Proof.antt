@@ -1,4 +1,4 @@
--- `recordings::payloads::are_controls_same` meets its contract. The loop's invariant: what is left to test is the EQs from e on. Assumes nothing.
+-- `sameness::payloads::are_controls_same` meets its contract. The loop's invariant: what is left to test is the EQs from e on. Assumes nothing.
 use mathlib.Core.Path.{_≡_, sym, _∙_}
 use Prim.Native.Nat.{_-_}
 use native.Mathlib.Omega.{arith}
@@ -7,10 +7,10 @@ use borrow.Author.Needs.{needs}
 use borrow.Author.Tests.{eq-eqb, ne-eqb}
 use Rattle.envelope.specs.ControlMask.{controlOctet}
 use Rattle.octets.specs.Each.{each}
-use Rattle.recordings.specs.Sameness.{sameControl}
+use Rattle.sameness.specs.Sameness.{sameControl}
 use Rattle.octets.proofs.Each.{each-step, each-stop, each-end}
-use Rattle.recordings.proofs.payloads.are_controls_same.Statement.{statement}
-use Rattle.recordings.proofs.payloads.are_controls_same.Tie as tie
+use Rattle.sameness.proofs.payloads.are_controls_same.Statement.{statement}
+use Rattle.sameness.proofs.payloads.are_controls_same.Tie as tie
 
 abbrev Inv-loop : tie.InvT-loop
 Inv-loop p q eqs e₀ e = each 0 eqs (sameControl p q) ≡ each e (eqs - e) (sameControl p q)

@@ -1,7 +1,3 @@
-pub mod Openings
+pub mod InPlace
 pub mod Spans
-pub mod Reopening
-pub mod Lines
-pub mod Numbers
-pub mod Readings
-pub mod Exact
+pub mod Turns

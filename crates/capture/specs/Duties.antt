@@ -20,8 +20,8 @@ use Rattle.directory.specs.Directory.{directoryOf}
 use Rattle.capture.specs.declared.opening.Keys.{Keys}
 use Rattle.capture.specs.declared.opening.Work.{Work}
 use Rattle.capture.specs.declared.opening.Read.{Read}
-use Rattle.capture.specs.Opening.{addedAs, writtenAs}
-use Rattle.capture.specs.Reading.{driftBy, totalBy}
+use Rattle.reading.specs.Opening.{addedAs, writtenAs}
+use Rattle.reading.specs.Reading.{driftBy, totalBy}
 
 -- r is what sealing or opening the payload p takes
 pub record Took (p : List ℕ) (r : Work) : Type 0 where

@@ -1,8 +1,2 @@
-pub mod Verdict
-pub mod Opening
-pub mod Claims
-pub mod Listing
-pub mod Reading
-pub mod Near
 pub mod Span
 pub mod Duties

@@ -13,12 +13,12 @@ ghost use Rattle.sealing.specs.Payload.{sealed};
 ghost use Rattle.records.specs.Record.{headerOctets, flagsAt};
 ghost use Rattle.records.specs.Settings.{presenceOf, keyPresent, keyOf};
 ghost use Rattle.records.specs.Block.{recordFrom};
-ghost use Rattle.capture.specs.Opening.{expansions, opening, openNumber, openPair, openCount, openRuns, openExpansions};
+ghost use Rattle.reading.specs.Opening.{expansions, opening, openNumber, openPair, openCount, openRuns, openExpansions};
 ghost use Rattle.directory.specs.Rebuilt.{rebuilt};
-ghost use Rattle.capture.specs.Reading.{recordBy, openingBy};
+ghost use Rattle.reading.specs.Reading.{recordBy, openingBy};
 ghost use Rattle.capture.specs.Span.{spanFits, spanOpening};
-ghost use Rattle.capture.specs.Near.{ReadsAsExact, NotEmpty};
-ghost use Rattle.capture.specs.Claims.{OpenedIfAccepted};
+ghost use Rattle.reading.specs.Near.{ReadsAsExact, NotEmpty};
+ghost use Rattle.reading.specs.Claims.{OpenedIfAccepted};
 ghost use Rattle.capture.specs.Duties.{Took, TookAs, TookAll, Span, Expanded, Ready, Settled, written, Copied};
 use crate::verdict::call_directory;
 use cipher::aes128::RoundKeys;
@@ -28,6 +28,8 @@ use envelope::Nonce;
 use envelope::nonce_fits;
 use envelope::seal_count;
 use envelope::seal_runs;
+use reading::NearAnswer;
+use reading::OpenAnswer;
 use records::block::MOST_OCTETS;
 use records::block::directory_octets;
 use records::block::header_from;
@@ -43,26 +45,12 @@ use records::near::signed;
 use records::settings::key;
 use records::settings::mac;
 use records::settings::presence;
-use refusal::Refusal;
 use sealing::counter_mode::seal_expanded;
-
-pub enum OpenAnswer {
-    // the octets deciphered, the runs of the cipher, and the keys expanded
-    Done(u64, u64, u8),
-    Denied(Refusal),
-}
 
 // The two keys of the settings, expanded.
 struct Keys {
     pub first: RoundKeys,
     pub second: RoundKeys,
-}
-
-// What a call in the near way answers, and its smallest and largest correction, each as the octet of a signed number.
-pub struct NearAnswer {
-    pub opened: OpenAnswer,
-    pub smallest: u8,
-    pub largest: u8,
 }
 
 // What opening took: the octets deciphered, and the runs of the cipher (02, C-17).

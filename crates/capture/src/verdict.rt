@@ -8,12 +8,13 @@ ghost use Rattle.records.specs.Settings.{settingsVerdict};
 ghost use Rattle.records.specs.Block.{mostRecords};
 ghost use Rattle.directory.specs.declared.Directory.the-variants.{Good};
 ghost use Rattle.directory.specs.Directory.{directoryOf};
-ghost use Rattle.capture.specs.Verdict.{verdictAsked, callDirectory, verdictsOf};
-ghost use Rattle.capture.specs.Reading.{driftBy, askedBy, numbersBy, judgingBy};
-use crate::reading::verdict_by;
+ghost use Rattle.reading.specs.Verdict.{verdictAsked, callDirectory, verdictsOf};
+ghost use Rattle.reading.specs.Reading.{driftBy, askedBy, numbersBy, judgingBy};
+use crate::ways::verdict_by;
 use directory::Directory;
 use directory::check;
 use directory::payload::payload_verdict;
+use reading::NearVerdicts;
 use records::block::MOST_RECORDS;
 use records::block::directory_octets;
 use records::block::header_from;
@@ -27,13 +28,6 @@ use records::near::signed;
 use records::settings::settings_verdict;
 use refusal::Refusal;
 use refusal::Verdict;
-
-// What the call on all records finds in the near way, and its smallest and largest correction, each as the octet of a signed number.
-pub struct NearVerdicts {
-    pub directory: Directory,
-    pub smallest: u8,
-    pub largest: u8,
-}
 
 // What a call finds: whether the output that it was lent suits, then the settings, then the directory.
 pub(crate) fn call_directory(suits: bool, settings: &[u8], block: &[u8]) -> Directory

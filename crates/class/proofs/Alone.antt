@@ -26,13 +26,13 @@ use Rattle.records.specs.Block.{recordsIn}
 use Rattle.records.specs.Following.{headerOf, driftAt, nearVerdict}
 use Rattle.directory.specs.declared.Directory.{Directory}
 use Rattle.directory.specs.declared.Directory.the-variants.{Good, Bad}
-use Rattle.capture.specs.Opening.{expansions, openVerdict}
-use Rattle.capture.specs.Verdict.{callDirectory}
-use Rattle.capture.specs.Reading.{driftBy, verdictBy, recordBy, addsBy, totalBy, openingAs, openingBy, rowBy, bodyAs, listingBy}
+use Rattle.reading.specs.Opening.{expansions, openVerdict}
+use Rattle.reading.specs.Verdict.{callDirectory}
+use Rattle.reading.specs.Reading.{driftBy, verdictBy, recordBy, addsBy, totalBy, openingAs, openingBy, rowBy, bodyAs, listingBy}
 use Rattle.directory.proofs.Filling.{joined-ext}
 use Rattle.directory.proofs.Rebuilding.{rebuilt-ext}
-use Rattle.capture.proofs.Openings.{call-good, found-bad, found-good, listing-found}
-use Rattle.capture.proofs.Readings.{no-corrections}
+use Rattle.reading.proofs.Opening.{call-good, found-bad, found-good, listing-found}
+use Rattle.reading.proofs.Readings.{no-corrections}
 use Rattle.records.proofs.Verdicts.{settings-octets}
 use Rattle.rights.specs.declared.judging.ClassVerdict.the-variants.{Told}
 use Rattle.rights.specs.declared.judging.ClassHeard.{ClassHeard}

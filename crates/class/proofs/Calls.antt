@@ -13,13 +13,13 @@ use Rattle.refusal.specs.declared.Verdict.{Verdict}
 use Rattle.refusal.specs.declared.Verdict.the-variants.{Accepted, Refused}
 use Rattle.refusal.proofs.Order.{refuse-passed, refuse-stopped}
 use Rattle.records.specs.Near.{signedOctet}
-use Rattle.capture.specs.declared.opening.OpenAnswer.the-variants.{Done}
+use Rattle.reading.specs.declared.OpenAnswer.the-variants.{Done}
 use Rattle.capture.specs.declared.opening.Read.{Read}
 use Rattle.directory.specs.Rebuilt.{rebuilt}
 use Rattle.directory.specs.declared.Directory.{Directory}
 use Rattle.directory.specs.declared.Directory.the-variants.{Good, Bad}
 use Rattle.directory.specs.Directory.{directoryOf}
-use Rattle.capture.specs.Verdict.{afterSettings}
+use Rattle.reading.specs.Verdict.{afterSettings}
 use Rattle.rights.specs.declared.settings.Caller.{Caller}
 use Rattle.rights.specs.Verdict.{classVerdict}
 use Rattle.rights.proofs.Accepting.{Valid, valid}

@@ -12,7 +12,7 @@ use Rattle.records.specs.Verdict.{verdictOf}
 use Rattle.records.specs.Near.{judged}
 use Rattle.records.specs.Block.{recordOf}
 use Rattle.records.specs.Following.{headerOf}
-use Rattle.capture.specs.Opening.{openedRecord, recordAdds}
+use Rattle.reading.specs.Opening.{openedRecord, recordAdds}
 use Rattle.directory.proofs.Records.{good}
 use Rattle.directory.proofs.Rebuilding.{own-record}
 use Rattle.rights.specs.declared.settings.Caller.{Caller}

@@ -10,7 +10,7 @@ use Rattle.octets.specs.Lists.{part}
 use Rattle.records.specs.declared.header.Header.{Header}
 use Rattle.rows.specs.Text.{seenRow, hiddenRow}
 use Rattle.rows.proofs.Lines.{decimal-below, seen-few, hidden-few}
-use Rattle.capture.specs.Listing.{lineOctets}
+use Rattle.reading.specs.Listing.{lineOctets}
 use Rattle.class.specs.Listing.{bodyFor}
 use Rattle.class.specs.Input.{inputCaller, inputSets, inputRights, inputBlock}
 

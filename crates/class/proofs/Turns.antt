@@ -23,8 +23,8 @@ use Rattle.records.specs.Near.{judged}
 use Rattle.records.specs.Block.{mostOctets, recordOf, headerFrom}
 use Rattle.records.specs.Following.{headerOf}
 use Rattle.directory.proofs.Records.{Records, placed, record-below}
-use Rattle.capture.proofs.Openings.{added-below, written-length}
-use Rattle.capture.proofs.Readings.{judged-opens}
+use Rattle.reading.proofs.Opening.{added-below, written-length}
+use Rattle.capture.proofs.Turns.{judged-opens}
 use Rattle.rights.specs.declared.settings.Caller.{Caller}
 use Rattle.rights.specs.declared.judging.ClassVerdict.{ClassVerdict}
 use Rattle.rights.specs.declared.judging.ClassVerdict.the-variants.{Hidden, Seen, Told}

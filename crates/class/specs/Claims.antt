@@ -9,10 +9,10 @@ use Rattle.records.specs.Verdict.{verdictOf}
 use Rattle.records.specs.Block.{recordsIn, offsetOf, lengthOf, recordOf}
 use Rattle.records.specs.Following.{headerOf}
 use Rattle.directory.specs.declared.Directory.the-variants.{Good}
-use Rattle.capture.specs.Opening.{openedRecord, recordAdds}
-use Rattle.capture.specs.Listing.{rowAt}
+use Rattle.reading.specs.Opening.{openedRecord, recordAdds}
+use Rattle.reading.specs.Listing.{rowAt}
 use Rattle.directory.specs.Rebuilt.{rebuilt}
-use Rattle.capture.specs.Reading.{openingBy, listingBy}
+use Rattle.reading.specs.Reading.{openingBy, listingBy}
 use Rattle.rights.specs.declared.settings.Caller.{Caller}
 use Rattle.rights.specs.declared.judging.ClassVerdict.the-variants.{Told}
 use Rattle.rights.specs.Settings.{mostSets, rightsOn}

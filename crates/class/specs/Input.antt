@@ -10,7 +10,7 @@ use Rattle.octets.specs.Lists.{part}
 use Rattle.refusal.specs.declared.Refusal.the-variants.{BadLength}
 use Rattle.records.specs.Settings.{settingsOctets}
 use Rattle.rows.specs.Text.{refusedRow}
-use Rattle.capture.specs.Listing.{headingText}
+use Rattle.reading.specs.Listing.{headingText}
 use Rattle.rights.specs.declared.settings.Caller.{Caller}
 use Rattle.class.specs.Listing.{bodyFor}
 

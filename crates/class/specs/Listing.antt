@@ -8,7 +8,7 @@ use Rattle.records.specs.Following.{headerOf}
 use Rattle.rows.specs.Text.{rowOf, seenRow, hiddenRow, refusedRow}
 use Rattle.directory.specs.declared.Directory.{Directory}
 use Rattle.directory.specs.declared.Directory.the-variants.{Good, Bad}
-use Rattle.capture.specs.Listing.{headingText}
+use Rattle.reading.specs.Listing.{headingText}
 use Rattle.directory.specs.Rebuilt.{joined}
 use Rattle.rights.specs.declared.settings.Caller.{Caller}
 use Rattle.rights.specs.declared.judging.ClassVerdict.{ClassVerdict}

@@ -16,9 +16,9 @@ use Rattle.records.specs.Block.{recordsIn, recordOf}
 use Rattle.records.specs.Near.{signedOctet}
 use Rattle.directory.specs.declared.Directory.{Directory}
 use Rattle.directory.specs.declared.Directory.the-variants.{Good, Bad}
-use Rattle.capture.specs.declared.opening.OpenAnswer.the-variants.{Done, Denied}
-use Rattle.capture.specs.declared.opening.NearAnswer.{NearAnswer}
-use Rattle.capture.specs.Opening.{writtenAs, addedAs}
+use Rattle.reading.specs.declared.OpenAnswer.the-variants.{Done, Denied}
+use Rattle.reading.specs.declared.NearAnswer.{NearAnswer}
+use Rattle.reading.specs.Opening.{writtenAs, addedAs}
 use Rattle.directory.specs.Rebuilt.{rebuilt}
 use Rattle.rights.specs.declared.settings.Caller.{Caller}
 use Rattle.rights.specs.declared.judging.ClassVerdict.{ClassVerdict}

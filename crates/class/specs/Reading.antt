@@ -8,7 +8,7 @@ use Rattle.records.specs.Near.{noDrift}
 use Rattle.records.specs.Following.{headerOf}
 use Rattle.directory.specs.declared.Directory.{Directory}
 use Rattle.directory.specs.Directory.{directoryOf}
-use Rattle.capture.specs.Verdict.{afterSettings}
+use Rattle.reading.specs.Verdict.{afterSettings}
 use Rattle.rights.specs.declared.settings.Caller.{Caller}
 use Rattle.rights.specs.declared.judging.ClassVerdict.{ClassVerdict}
 use Rattle.rights.specs.declared.judging.ClassHeard.{ClassHeard}

@@ -6,7 +6,7 @@ ghost use lib.ListN.{length, take, drop};
 ghost use Rattle.rows.specs.Text.{textOf};
 ghost use Rattle.directory.specs.declared.Directory.the-variants.{Good};
 ghost use Rattle.directory.specs.Directory.{directoryOf};
-ghost use Rattle.capture.specs.Listing.{headingText, lineOctets, bodyOctets};
+ghost use Rattle.reading.specs.Listing.{headingText, lineOctets, bodyOctets};
 ghost use Rattle.directory.specs.Rebuilt.{joined};
 ghost use Rattle.class.specs.Listing.{rowAs, rowFor, bodyFor, listingFor};
 ghost use Rattle.class.specs.Input.{inputBody, inputListing};

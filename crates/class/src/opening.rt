@@ -15,8 +15,6 @@ ghost use Rattle.class.specs.Opening.{hiddenRecord, writtenFor, recordFo
 ghost use Rattle.class.specs.Secrecy.{Secret, Example};
 ghost use Rattle.class.specs.Claims.{Reader};
 ghost use Rattle.class.specs.Duties.{expandedOctets, keysOctets, expandedAt, ExpandedNext, Expanded, TookFor, TookAllFor, Ready, SettledAs, SettledFor, placedAt, Copied};
-use capture::opening::NearAnswer;
-use capture::opening::OpenAnswer;
 use capture::opening::Read;
 use capture::opening::Work;
 use capture::opening::open_span;
@@ -29,6 +27,8 @@ use octets::clear;
 use octets::copy_at;
 use octets::octets48;
 use octets::part_of;
+use reading::NearAnswer;
+use reading::OpenAnswer;
 use records::block::directory_octets;
 use records::block::header_from;
 use records::header::Header;

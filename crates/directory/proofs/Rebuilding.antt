@@ -8,9 +8,9 @@ use native.Mathlib.Nat.{zero-add}
 use native.Mathlib.Numerals.{add-one}
 use native.Mathlib.Omega.{arith}
 use lib.ListN.{length, take, drop, getD, take-append-drop, length-append}
-use lib.Seq.{take-at, drop-at, drop-drop, drop-length, getD-take, length-take-le}
+use lib.Seq.{take-add, take-at, take-take, drop-at, drop-drop, drop-length, getD-take, length-take-le}
 use Rattle.octets.specs.BigEndian.{numberAt}
-use Rattle.octets.specs.Lists.{part}
+use Rattle.octets.specs.Lists.{part, replaced}
 use Rattle.octets.proofs.BigEndian.{number-same}
 use Rattle.octets.proofs.Choice.{pick-true}
 use Rattle.records.specs.Record.{sized, recordOctets}
@@ -150,10 +150,22 @@ module _ (f : ℕ → List ℕ) (b : List ℕ) (n : ℕ) (r : Records b n) (size
   pub rebuilt-again : (g : ℕ → List ℕ) → rebuilt g (rebuilt f b) ≡ rebuilt g b
   rebuilt-again g = again-is g (rebuilt f b) (same-count ∙ sym (r .count)) same-directory
 
+---- a record in an output that is a copy of the block
+
 -- an output that is the block from `at` on holds the record there
 pub kept-in-place : (b out : List ℕ) (at len : ℕ) → drop at out ≡ drop at b → out ≡ take at out ++ (part b at len ++ drop (at + len) b)
 kept-in-place b out at len same =
     sym (take-append-drop at out) ∙ rw same (ap (λ (t : List ℕ). take at out ++ t) (sym (take-append-drop len (drop at b)) ∙ rw (drop-drop len at b)))
+
+-- an output that goes on as c from `at` on, with the payload of the record of `len` octets there replaced
+pub payload-in-place : (out c ys : List ℕ) (at len : ℕ) → 16 ≤ len → drop at out ≡ c → length ys + 16 ≡ len
+    → replaced out (at + 16) ys ≡ take at out ++ ((take 16 (take len c) ++ ys) ++ drop len c)
+payload-in-place out c ys at len h same l =
+    let head : take (at + 16) out ≡ take at out ++ take 16 (take len c) = take-add at 16 out ∙ rw (same, take-take 16 len c h) in
+    let end : at + 16 + length ys ≡ at + len = omega arith in
+    let rest : drop (length ys) (drop (at + 16) out) ≡ drop len c =
+    drop-drop (length ys) (at + 16) out ∙ rw end (sym (drop-drop len at out) ∙ rw same) in
+    rw (head, rest) (simp append-assoc)
 
 ---- of its own records it is itself
 own-place : (b : List ℕ) (i from : ℕ) → At b i from

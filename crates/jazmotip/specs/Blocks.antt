@@ -9,10 +9,10 @@ use Rattle.records.specs.declared.header.RecordVerdict.the-variants.{Clear, Sea
 use Rattle.directory.specs.declared.payload.Bounds.{Bounds}
 use Rattle.records.specs.Verdict.{recordNumber, recordPair}
 use Rattle.directory.specs.Payload.{boundsNumber, boundsPair, boundsOffset, boundsLength}
-use Rattle.capture.specs.Opening.{openNumber, openPair, openCount, openRuns, openExpansions}
-use Rattle.capture.specs.declared.opening.OpenAnswer.{OpenAnswer}
-use Rattle.capture.specs.declared.opening.NearAnswer.{NearAnswer}
-use Rattle.capture.specs.declared.verdict.NearVerdicts.{NearVerdicts}
+use Rattle.reading.specs.Opening.{openNumber, openPair, openCount, openRuns, openExpansions}
+use Rattle.reading.specs.declared.OpenAnswer.{OpenAnswer}
+use Rattle.reading.specs.declared.NearAnswer.{NearAnswer}
+use Rattle.reading.specs.declared.NearVerdicts.{NearVerdicts}
 use Rattle.jazmotip.specs.declared.blocks.BlockDirectory.{BlockDirectory}
 use Rattle.jazmotip.specs.declared.blocks.BlockVerdict.{BlockVerdict}
 use Rattle.jazmotip.specs.declared.blocks.BlockPart.{BlockPart}

@@ -3,7 +3,7 @@ use Prim.Native.Nat.{ℕ}
 use Rattle.octets.specs.Output.{WithOutput, withOutput}
 use Rattle.refusal.specs.Number.{verdictNumber}
 use Rattle.refusal.specs.declared.Verdict.{Verdict}
-use Rattle.capture.specs.declared.opening.NearAnswer.{NearAnswer}
+use Rattle.reading.specs.declared.NearAnswer.{NearAnswer}
 use Rattle.jazmotip.specs.declared.blocks.BlockAnswer.{BlockAnswer}
 use Rattle.jazmotip.specs.Blocks.{blockAnswer}
 

@@ -7,15 +7,14 @@ ghost use Rattle.octets.specs.Lists.{part};
 ghost use Rattle.octets.specs.Output.{withOutput};
 ghost use Rattle.directory.specs.Directory.{directoryOf};
 ghost use Rattle.directory.specs.Broken.{Judged};
-ghost use Rattle.capture.specs.Verdict.{verdictAsked, verdictsOf};
+ghost use Rattle.reading.specs.Verdict.{verdictAsked, verdictsOf};
 ghost use Rattle.directory.specs.Payload.{payloadBounds, payloadPart};
-ghost use Rattle.capture.specs.Opening.{opening};
-ghost use Rattle.capture.specs.Claims.{OpenedIfAccepted};
-ghost use Rattle.capture.specs.Listing.{listingOf};
+ghost use Rattle.reading.specs.Opening.{opening};
+ghost use Rattle.reading.specs.Claims.{OpenedIfAccepted};
+ghost use Rattle.reading.specs.Listing.{listingOf};
 ghost use Rattle.jazmotip.specs.Blocks.{blockDirectory, blockVerdict, blockPart, blockAnswer, judgedInNumbers, openedInNumbers};
 use capture::listing::LISTING_OCTETS;
 use capture::listing::list;
-use capture::opening::OpenAnswer;
 use capture::opening::keys_expanded;
 use capture::opening::octets_opened;
 use capture::opening::open;
@@ -25,6 +24,7 @@ use directory::Directory;
 use directory::check;
 use directory::payload::Bounds;
 use directory::payload::locate;
+use reading::OpenAnswer;
 use records::header::RecordVerdict;
 
 // In each answer, `pair` is the first pair that does not fit, from 1, for 18 and 19, else 0.

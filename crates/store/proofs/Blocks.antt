@@ -14,9 +14,8 @@ use Rattle.directory.specs.Directory.{directoryOf}
 use Rattle.directory.specs.Rebuilt.{joined, rebuilt}
 use Rattle.directory.proofs.Pairs.{pair-fits}
 use Rattle.directory.proofs.Records.{Records, placed, header-there, at-due}
-use Rattle.directory.proofs.Rebuilding.{upTo, still-block, one-rebuilt, all-rebuilt, same-octets, record-is, rebuilt-again, rebuilt-ext, rebuilt-self}
+use Rattle.directory.proofs.Rebuilding.{upTo, payload-in-place, still-block, one-rebuilt, all-rebuilt, same-octets, record-is, rebuilt-again, rebuilt-ext, rebuilt-self}
 use Rattle.directory.proofs.Rebuilding as Rebuilding
-use Rattle.capture.proofs.Openings.{payload-in-place}
 use Rattle.store.specs.Blocks.{withPayload, recordsWith, blockWith}
 use Rattle.store.proofs.Payloads.{with-length, with-undone, with-sized}
 

@@ -16,7 +16,7 @@ use Rattle.records.specs.Record.{headerOctets, recordHeader, recordOctets, payl
 use Rattle.records.specs.Verdict.{verdictOf}
 use Rattle.directory.specs.Directory.{directoryOf}
 use Rattle.directory.specs.declared.Directory.the-variants.{Good}
-use Rattle.capture.specs.Opening.{openedRecord, recordAdds, opening}
+use Rattle.reading.specs.Opening.{openedRecord, recordAdds, opening}
 use Rattle.directory.proofs.Records.{good, counted, header-there}
 use Rattle.store.specs.Calls.{storeVerdict}
 use Rattle.store.specs.Claims.{OpensAlike, Undone}

@@ -10,7 +10,7 @@ use Rattle.records.specs.Block.{directoryOctets, recordsIn, recordOf}
 use Rattle.records.specs.Record.{recordHeader, payloadOf, sized}
 use Rattle.records.specs.Verdict.{verdictOf}
 use Rattle.directory.specs.Directory.{directoryOf}
-use Rattle.capture.specs.Opening.{openedRecord, recordAdds, opening}
+use Rattle.reading.specs.Opening.{openedRecord, recordAdds, opening}
 use Rattle.store.specs.Blocks.{withPayload, blockWith}
 use Rattle.store.specs.Calls.{storeVerdict}
 

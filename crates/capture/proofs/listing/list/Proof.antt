@@ -1,7 +1,7 @@
 -- `capture::listing::list` meets its contract: it lists in the usual way. Assumes nothing.
 use mathlib.Core.Path.{_∙_}
 use borrow.Author.Needs.{needs}
-use Rattle.capture.proofs.Readings.{listing-usual}
+use Rattle.reading.proofs.Readings.{listing-usual}
 use Rattle.capture.proofs.listing.list.Statement.{statement}
 use Rattle.capture.proofs.listing.list.Tie as tie
 

@@ -7,8 +7,8 @@ use lib.ListN.{length}
 use lib.Seq.{length-take-le}
 use denote.Ref.{now}
 use Rattle.rows.proofs.Texts.{put}
-use Rattle.capture.specs.Listing.{headingText}
-use Rattle.capture.specs.Reading.{bodyBy, listingBy}
+use Rattle.reading.specs.Listing.{headingText}
+use Rattle.reading.specs.Reading.{bodyBy, listingBy}
 use Rattle.directory.proofs.Filling.{same-behind}
 use borrow.Author.Needs.{needs}
 use Rattle.capture.proofs.listing.list_by.Statement.{statement}

@@ -10,11 +10,11 @@ use denote.Ref.{now}
 use Rattle.rows.proofs.Lines.{refused-row-few}
 use Rattle.rows.proofs.Texts.{line-put}
 use Rattle.directory.specs.declared.Directory.the-variants.{Good}
-use Rattle.capture.specs.Listing.{lineOctets}
-use Rattle.capture.specs.Reading.{bodyAs}
-use Rattle.capture.specs.Verdict.{callDirectory}
+use Rattle.reading.specs.Listing.{lineOctets}
+use Rattle.reading.specs.Reading.{bodyAs}
+use Rattle.reading.specs.Verdict.{callDirectory}
 use Rattle.directory.proofs.Records.{good}
-use Rattle.capture.proofs.Openings.{call-good, found-bad, found-good, listing-found}
+use Rattle.reading.proofs.Opening.{call-good, found-bad, found-good, listing-found}
 use Rattle.capture.proofs.listing.put_body.Statement.{statement}
 use Rattle.capture.proofs.listing.put_body.Tie as tie
 

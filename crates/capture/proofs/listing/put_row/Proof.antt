@@ -7,8 +7,8 @@ use lib.ListN.{take}
 use denote.Ref.{now}
 use borrow.Author.Needs.{needs}
 use Rattle.rows.proofs.Texts.{line-put}
-use Rattle.capture.specs.Listing.{lineOctets}
-use Rattle.capture.proofs.Lines.{row-short}
+use Rattle.reading.specs.Listing.{lineOctets}
+use Rattle.reading.proofs.Lines.{row-short}
 use Rattle.capture.proofs.listing.put_row.Statement.{statement}
 use Rattle.capture.proofs.listing.put_row.Tie as tie
 

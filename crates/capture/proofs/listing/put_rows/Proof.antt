@@ -11,12 +11,13 @@ use Rattle.records.specs.declared.header.Header.{Header}
 use Rattle.records.specs.declared.header.RecordVerdict.{RecordVerdict}
 use Rattle.records.specs.Block.{dueOf}
 use Rattle.rows.specs.Text.{rowOf}
-use Rattle.capture.specs.Listing.{lineOctets}
+use Rattle.reading.specs.Listing.{lineOctets}
 use Rattle.directory.specs.Rebuilt.{joined}
-use Rattle.capture.specs.Reading.{driftBy, rowBy}
+use Rattle.reading.specs.Reading.{driftBy, rowBy}
 use Rattle.directory.proofs.Records.{good, Reached, reached}
 use Rattle.directory.proofs.Filling.{joined-behind, same-behind}
-use Rattle.capture.proofs.Readings.{no-corrections, turn}
+use Rattle.reading.proofs.Readings.{no-corrections}
+use Rattle.capture.proofs.Turns.{turn}
 use Rattle.capture.proofs.listing.put_rows.Statement.{statement}
 use Rattle.capture.proofs.listing.put_rows.Tie as tie
 

@@ -1,7 +1,7 @@
 -- `capture::opening::expansions` meets its contract: a bit for each key. Assumes nothing.
 use native.Mathlib.Omega.{arith}
 use Rattle.octets.proofs.Bits.{bit-below}
-use Rattle.capture.specs.Opening.{expansions}
+use Rattle.reading.specs.Opening.{expansions}
 use borrow.Author.Needs.{needs}
 use Rattle.capture.proofs.opening.expansions.Statement.{statement}
 use Rattle.capture.proofs.opening.expansions.Tie as tie

@@ -2,9 +2,9 @@
 use mathlib.Core.Path.{ap, _∙_}
 use borrow.Author.Needs.{needs}
 use Rattle.octets.specs.Output.{WithOutput, withOutput}
-use Rattle.capture.specs.declared.opening.NearAnswer.{NearAnswer}
-use Rattle.capture.proofs.Reopening.{opened}
-use Rattle.capture.proofs.Readings.{opening-usual}
+use Rattle.reading.specs.declared.NearAnswer.{NearAnswer}
+use Rattle.reading.proofs.Reopening.{opened}
+use Rattle.reading.proofs.Readings.{opening-usual}
 use Rattle.capture.proofs.opening.open.Statement.{statement}
 use Rattle.capture.proofs.opening.open.Tie as tie
 

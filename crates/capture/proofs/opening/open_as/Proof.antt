@@ -7,9 +7,9 @@ use borrow.Author.Needs.{needs}
 use denote.Ref.{now}
 use Rattle.cipher.specs.declared.aes128.RoundKeys.{RoundKeys}
 use Rattle.records.specs.declared.header.Header.{Header}
-use Rattle.capture.specs.Opening.{addedAs}
+use Rattle.reading.specs.Opening.{addedAs}
 use Rattle.capture.specs.Duties.{Opens}
-use Rattle.capture.proofs.Openings.{clear-kept, refused-kept, opened-by, key-expanded, nonce-fits}
+use Rattle.capture.proofs.InPlace.{clear-kept, refused-kept, opened-by, key-expanded, nonce-fits}
 use Rattle.capture.proofs.opening.open_as.Statement.{statement}
 use Rattle.capture.proofs.opening.open_as.Tie as tie
 

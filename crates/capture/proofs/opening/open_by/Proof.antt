@@ -7,9 +7,10 @@ use borrow.Author.Tests.{eqb-true}
 use denote.Ref.{now}
 use Rattle.octets.proofs.Lists.{copied-whole}
 use Rattle.directory.specs.declared.Directory.the-variants.{Good}
-use Rattle.capture.specs.Verdict.{callDirectory}
-use Rattle.capture.proofs.Openings.{call-good, found-bad, found-good}
-use Rattle.capture.proofs.Readings.{opening-bad, opening-good}
+use Rattle.reading.specs.Verdict.{callDirectory}
+use Rattle.reading.proofs.Opening.{call-good, found-bad, found-good}
+use Rattle.reading.proofs.Readings.{opening-bad}
+use Rattle.capture.proofs.Turns.{opening-good}
 use Rattle.capture.proofs.opening.open_by.Statement.{statement}
 use Rattle.capture.proofs.opening.open_by.Tie as tie
 

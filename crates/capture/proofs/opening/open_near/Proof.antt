@@ -1,6 +1,6 @@
 -- `capture::opening::open_near` meets its contract: it opens in the near way, and the promise is a law. Assumes nothing.
 use borrow.Author.Needs.{needs}
-use Rattle.capture.proofs.Exact.{reads-as-exact, not-empty}
+use Rattle.reading.proofs.Exact.{reads-as-exact, not-empty}
 use Rattle.capture.proofs.opening.open_near.Statement.{statement}
 use Rattle.capture.proofs.opening.open_near.Tie as tie
 

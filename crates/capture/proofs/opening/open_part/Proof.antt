@@ -6,7 +6,7 @@ use lib.ListN.{set, length-set}
 use borrow.Author.Needs.{needs}
 use borrow.Rule.Slice.PartMut.{same-len-mid}
 use denote.Ref.{now}
-use Rattle.capture.proofs.Openings.{part-sealed}
+use Rattle.capture.proofs.InPlace.{part-sealed}
 use Rattle.capture.proofs.opening.open_part.Statement.{statement}
 use Rattle.capture.proofs.opening.open_part.Tie as tie
 

@@ -13,12 +13,13 @@ use Rattle.envelope.specs.ControlMask.{countEnciphered}
 use Rattle.envelope.specs.ControlMask as Mask
 use Rattle.records.specs.declared.near.Drift.{Drift}
 use Rattle.records.specs.Block.{recordsIn, dueOf, recordFrom}
-use Rattle.capture.specs.Opening.{writtenAs, addedAs}
-use Rattle.capture.specs.Reading.{driftBy, recordBy, addsBy, totalBy}
+use Rattle.reading.specs.Opening.{writtenAs, addedAs}
+use Rattle.reading.specs.Reading.{driftBy, recordBy, addsBy, totalBy}
 use Rattle.directory.proofs.Records.{good, of-record, in-place, Reached, reached}
 use Rattle.directory.proofs.Rebuilding.{upTo, none-rebuilt, still-block, one-rebuilt, all-rebuilt}
-use Rattle.capture.proofs.Openings.{enciphered-below, runs-below, adds-few, sum-few}
-use Rattle.capture.proofs.Readings.{Turn, turn, no-corrections, record-size}
+use Rattle.reading.proofs.Opening.{enciphered-below, runs-below, adds-few, sum-few}
+use Rattle.reading.proofs.Readings.{no-corrections, record-size}
+use Rattle.capture.proofs.Turns.{Turn, turn}
 use Rattle.capture.proofs.opening.open_records.Statement.{statement}
 use Rattle.capture.proofs.opening.open_records.Tie as tie
 

@@ -1,7 +1,7 @@
 -- `capture::verdict::ask` meets its contract: it asks in the usual way. Assumes nothing.
 use mathlib.Core.Path.{_∙_}
 use borrow.Author.Needs.{needs}
-use Rattle.capture.proofs.Readings.{asked-usual}
+use Rattle.reading.proofs.Readings.{asked-usual}
 use Rattle.capture.proofs.verdict.ask.Statement.{statement}
 use Rattle.capture.proofs.verdict.ask.Tie as tie
 

@@ -3,7 +3,7 @@ use mathlib.Core.Path.{sym, _∙_}
 use native.Mathlib.Omega.{arith}
 use borrow.Author.Needs.{needs}
 use denote.Ref.{now}
-use Rattle.capture.specs.Reading.{askedBy}
+use Rattle.reading.specs.Reading.{askedBy}
 use Rattle.directory.proofs.Records.{Asked, asked-for, asked-few}
 use Rattle.capture.proofs.verdict.ask_by.Statement.{statement}
 use Rattle.capture.proofs.verdict.ask_by.Tie as tie

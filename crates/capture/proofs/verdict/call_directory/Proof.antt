@@ -3,7 +3,7 @@ use mathlib.Core.Path.{sym, _∙_}
 use borrow.Author.Needs.{needs}
 use borrow.Author.Tests.{not-true, not-false}
 use Rattle.octets.proofs.Choice.{pick-true, pick-false}
-use Rattle.capture.specs.Verdict.{callDirectory}
+use Rattle.reading.specs.Verdict.{callDirectory}
 use Rattle.capture.proofs.verdict.call_directory.Statement.{statement}
 use Rattle.capture.proofs.verdict.call_directory.Tie as tie
 

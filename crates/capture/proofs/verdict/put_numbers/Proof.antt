@@ -10,11 +10,11 @@ use denote.Ref.{now}
 use Rattle.octets.specs.Lists.{tabulate}
 use Rattle.records.specs.Verdict.{recordNumber}
 use Rattle.records.specs.Block.{dueOf}
-use Rattle.capture.specs.Reading.{driftBy, askedBy, numbersBy}
+use Rattle.reading.specs.Reading.{driftBy, askedBy, numbersBy}
 use Rattle.directory.proofs.Records.{good, Reached, reached}
 use Rattle.directory.proofs.Filling.{fill-more}
-use Rattle.capture.proofs.Numbers.{asked-own}
-use Rattle.capture.proofs.Readings.{no-corrections, turn}
+use Rattle.reading.proofs.Readings.{asked-own, no-corrections}
+use Rattle.capture.proofs.Turns.{turn}
 use Rattle.capture.proofs.verdict.put_numbers.Statement.{statement}
 use Rattle.capture.proofs.verdict.put_numbers.Tie as tie
 

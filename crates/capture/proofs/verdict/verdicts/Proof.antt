@@ -2,8 +2,8 @@
 use mathlib.Core.Path.{ap, _∙_}
 use borrow.Author.Needs.{needs}
 use Rattle.octets.specs.Output.{WithOutput, withOutput}
-use Rattle.capture.specs.declared.verdict.NearVerdicts.{NearVerdicts}
-use Rattle.capture.proofs.Readings.{judging-usual}
+use Rattle.reading.specs.declared.NearVerdicts.{NearVerdicts}
+use Rattle.reading.proofs.Readings.{judging-usual}
 use Rattle.capture.proofs.verdict.verdicts.Statement.{statement}
 use Rattle.capture.proofs.verdict.verdicts.Tie as tie
 

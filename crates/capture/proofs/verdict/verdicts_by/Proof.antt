@@ -7,10 +7,10 @@ use borrow.Author.Tests.{eqb-true}
 use denote.Ref.{now}
 use Rattle.records.specs.Block.{mostRecords}
 use Rattle.directory.specs.declared.Directory.the-variants.{Good}
-use Rattle.capture.specs.Verdict.{callDirectory}
+use Rattle.reading.specs.Verdict.{callDirectory}
 use Rattle.directory.proofs.Records.{good}
-use Rattle.capture.proofs.Openings.{call-good}
-use Rattle.capture.proofs.Readings.{judging-bad, judging-good}
+use Rattle.reading.proofs.Opening.{call-good}
+use Rattle.reading.proofs.Readings.{judging-bad, judging-good}
 use Rattle.capture.proofs.verdict.verdicts_by.Statement.{statement}
 use Rattle.capture.proofs.verdict.verdicts_by.Tie as tie
 

@@ -10,7 +10,7 @@ use borrow.Author.Needs.{needs}
 use Rattle.rows.proofs.Lines.{refused-row-few}
 use Rattle.rows.proofs.Texts.{line-put}
 use Rattle.directory.specs.declared.Directory.the-variants.{Good}
-use Rattle.capture.specs.Listing.{lineOctets}
+use Rattle.reading.specs.Listing.{lineOctets}
 use Rattle.directory.proofs.Records.{good}
 use Rattle.class.specs.Reading.{callFor}
 use Rattle.class.specs.Listing.{bodyAfter}

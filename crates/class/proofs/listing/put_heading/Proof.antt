@@ -3,7 +3,7 @@ use mathlib.Core.Path.{refl}
 use denote.Ref.{now}
 use borrow.Author.Needs.{needs}
 use Rattle.rows.proofs.Texts.{put}
-use Rattle.capture.specs.Listing.{headingText}
+use Rattle.reading.specs.Listing.{headingText}
 use Rattle.class.proofs.listing.put_heading.Statement.{statement}
 use Rattle.class.proofs.listing.put_heading.Tie as tie
 

@@ -11,7 +11,7 @@ use Rattle.octets.proofs.Choice.{pick-true, pick-false}
 use Rattle.refusal.specs.declared.Refusal.the-variants.{BadLength}
 use Rattle.rows.proofs.Lines.{refused-row-few}
 use Rattle.rows.proofs.Texts.{line-put}
-use Rattle.capture.specs.Listing.{lineOctets}
+use Rattle.reading.specs.Listing.{lineOctets}
 use Rattle.rights.proofs.Sets.{product-below}
 use Rattle.class.specs.Input.{inputBody}
 use Rattle.class.proofs.Texts.{input-parts}

@@ -11,7 +11,7 @@ use Rattle.records.specs.declared.header.Header.{Header}
 use Rattle.records.specs.Block.{dueOf}
 use Rattle.rows.specs.Text.{textOf}
 use Rattle.rows.proofs.Texts.{line-put}
-use Rattle.capture.specs.Listing.{lineOctets}
+use Rattle.reading.specs.Listing.{lineOctets}
 use Rattle.directory.specs.Rebuilt.{joined}
 use Rattle.directory.proofs.Records.{good, Reached, reached}
 use Rattle.directory.proofs.Filling.{joined-behind, same-behind}

@@ -1,7 +1,7 @@
 -- `class::listing::row_as` meets its contract, verdict by verdict. Assumes nothing.
 use native.Mathlib.Omega.{arith}
 use borrow.Author.Needs.{needs}
-use Rattle.capture.proofs.Lines.{row-short}
+use Rattle.reading.proofs.Lines.{row-short}
 use Rattle.class.specs.Listing.{rowAs}
 use Rattle.class.proofs.Texts.{seen-short, hidden-short}
 use Rattle.class.proofs.listing.row_as.Statement.{statement}

@@ -16,7 +16,7 @@ use Rattle.records.specs.declared.near.Drift.{Drift}
 use Rattle.records.specs.Block.{dueOf, recordFrom}
 use Rattle.directory.proofs.Records.{good, of-record, in-place, Reached, reached}
 use Rattle.directory.proofs.Rebuilding.{upTo, none-rebuilt, still-block, one-rebuilt, all-rebuilt}
-use Rattle.capture.proofs.Openings.{enciphered-below, runs-below, sum-few}
+use Rattle.reading.proofs.Opening.{enciphered-below, runs-below, sum-few}
 use Rattle.rights.specs.Settings.{setOf, setFor}
 use Rattle.class.specs.Reading.{setAt, driftFor, toldOf}
 use Rattle.class.specs.Opening.{writtenFor, addedFor, recordFor, addsFor, totalFor}

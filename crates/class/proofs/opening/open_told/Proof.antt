@@ -15,9 +15,9 @@ use Rattle.records.specs.Settings.{macOf}
 use Rattle.records.specs.Block.{recordFrom}
 use Rattle.records.specs.Record.{recordOctets}
 use Rattle.capture.specs.declared.opening.Work.{Work}
-use Rattle.capture.specs.Opening.{addedAs}
+use Rattle.reading.specs.Opening.{addedAs}
 use Rattle.capture.specs.Duties.{Opens}
-use Rattle.capture.proofs.Openings.{clear-kept, refused-kept, opened-by, nonce-fits}
+use Rattle.capture.proofs.InPlace.{clear-kept, refused-kept, opened-by, nonce-fits}
 use Rattle.capture.proofs.Spans.{lies-fits, span-opened}
 use Rattle.rights.specs.Settings.{setOf}
 use Rattle.class.proofs.Expanding.{handed}

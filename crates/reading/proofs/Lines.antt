@@ -6,7 +6,7 @@ use Rattle.rows.specs.Text.{rowOf}
 use Rattle.rows.proofs.Lines.{decimal-below, row-few}
 use Rattle.records.specs.declared.header.Header.{Header}
 use Rattle.records.specs.declared.header.RecordVerdict.{RecordVerdict}
-use Rattle.capture.specs.Listing.{lineOctets}
+use Rattle.reading.specs.Listing.{lineOctets}
 
 -- a row whose numbers have at most four digits
 pub row-short : (k : ℕ) (h : Header) (v : RecordVerdict) → k < 10000 → h .eqs < 10000 → length (rowOf k h v) ≤ lineOctets

@@ -19,8 +19,8 @@ use Rattle.sealing.specs.Payload.{sealed}
 use Rattle.records.specs.declared.header.Header.{Header}
 use Rattle.records.specs.declared.header.RecordVerdict.{RecordVerdict}
 use Rattle.records.specs.declared.header.RecordVerdict.the-variants.{Clear, Sealed}
-use Rattle.capture.specs.declared.opening.OpenAnswer.{OpenAnswer}
-use Rattle.capture.specs.declared.opening.OpenAnswer.the-variants.{Done, Denied}
+use Rattle.reading.specs.declared.OpenAnswer.{OpenAnswer}
+use Rattle.reading.specs.declared.OpenAnswer.the-variants.{Done, Denied}
 use Rattle.records.specs.Settings.{keyOf, macOf, presenceOf, settingsVerdict}
 use Rattle.records.specs.Record.{headerOctets, flagsAt, recordHeader, payloadOf}
 use Rattle.records.specs.Block.{directoryOctets, recordsIn, recordOf}

@@ -1,12 +1,12 @@
--- `capture::reading::verdict_by` meets its contract: the header is judged with the corrections before it, or by itself. Assumes nothing.
+-- `capture::ways::verdict_by` meets its contract: the header is judged with the corrections before it, or by itself. Assumes nothing.
 use mathlib.Core.Path.{sym, ap, _∙_}
 use borrow.Author.Needs.{needs}
 use Rattle.octets.proofs.Choice.{pick-true, pick-false}
 use Rattle.records.specs.declared.near.Heard.{Heard}
 use Rattle.records.specs.Near.{judged}
 use Rattle.records.specs.Following.{nearVerdict}
-use Rattle.capture.proofs.reading.verdict_by.Statement.{statement}
-use Rattle.capture.proofs.reading.verdict_by.Tie as tie
+use Rattle.capture.proofs.ways.verdict_by.Statement.{statement}
+use Rattle.capture.proofs.ways.verdict_by.Tie as tie
 
 returns : tie.Need-returns
 unfolding nearVerdict judged

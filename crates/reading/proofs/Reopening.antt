@@ -26,7 +26,7 @@ use Rattle.records.specs.declared.header.Header.{Header}
 use Rattle.records.specs.declared.header.RecordVerdict.{RecordVerdict}
 use Rattle.records.specs.declared.header.RecordVerdict.the-variants.{Clear, Sealed}
 use Rattle.directory.specs.declared.Directory.the-variants.{Good}
-use Rattle.capture.specs.declared.opening.OpenAnswer.the-variants.{Done}
+use Rattle.reading.specs.declared.OpenAnswer.the-variants.{Done}
 use Rattle.octets.proofs.Bits.{bit-below}
 use Rattle.envelope.specs.ControlMask.{countEnciphered, runs}
 use Rattle.records.specs.Settings.{keyOf, presenceOf, llidOf, settingsVerdict}
@@ -34,13 +34,13 @@ use Rattle.records.specs.Record.{recordHeader, payloadOf, sized}
 use Rattle.records.specs.Block.{recordsIn, offsetOf, lengthOf, recordOf}
 use Rattle.directory.specs.Directory.{directoryOf}
 use Rattle.records.specs.Verdict.{encEnabled, clearedFlags, flagsFit, headerFits, recordVerdict, verdictFor, verdictOf}
-use Rattle.capture.specs.Opening.{recordNonce, cleared, writtenAs, openedRecord, recordAdds, openedFrom, openedBlock, blockAdds, expansions, openVerdict, opening}
-use Rattle.capture.specs.Claims.{Opened}
+use Rattle.reading.specs.Opening.{recordNonce, cleared, writtenAs, openedRecord, recordAdds, openedFrom, openedBlock, blockAdds, expansions, openVerdict, opening}
+use Rattle.reading.specs.Claims.{Opened}
 use Rattle.directory.specs.Rebuilt.{joined, rebuilt}
 use Rattle.directory.proofs.Records.{Records, good, header-there}
 use Rattle.directory.proofs.Rebuilding.{same-octets, same-directory, same-count, own-record, record-is, good-again, rebuilt-again, rebuilt-ext}
 use Rattle.records.proofs.Verdicts.{Openable, openable, by-key, is-clear}
-use Rattle.capture.proofs.Openings.{opened-length, clear-record, refused-record, callable, opening-done}
+use Rattle.reading.proofs.Opening.{opened-length, clear-record, refused-record, callable, opening-done}
 
 ---- an opened record is clear
 withFlags : Header → ℕ → Header

@@ -6,9 +6,9 @@ use lib.ListN.{length, take}
 use Rattle.octets.specs.Lists.{part}
 use Rattle.octets.specs.Output.{withOutput}
 use Rattle.refusal.specs.declared.Verdict.the-variants.{Accepted}
-use Rattle.capture.specs.declared.opening.OpenAnswer.the-variants.{Done}
+use Rattle.reading.specs.declared.OpenAnswer.the-variants.{Done}
 use Rattle.records.specs.Block.{directoryOctets, recordsIn, offsetOf, lengthOf, recordOf}
-use Rattle.capture.specs.Opening.{expansions, openedRecord, openedBlock, openVerdict, opening}
+use Rattle.reading.specs.Opening.{expansions, openedRecord, openedBlock, openVerdict, opening}
 
 pub record Opened (s b : List ℕ) : Type 0 where
   -- the directory stays

@@ -21,13 +21,13 @@ use Rattle.records.specs.Following.{headerOf, driftAt, nearVerdict}
 use Rattle.rows.specs.Text.{rowOf, refusedRow}
 use Rattle.directory.specs.declared.Directory.{Directory}
 use Rattle.directory.specs.declared.Directory.the-variants.{Good, Bad}
-use Rattle.capture.specs.declared.opening.OpenAnswer.the-variants.{Done, Denied}
-use Rattle.capture.specs.declared.opening.NearAnswer.{NearAnswer}
-use Rattle.capture.specs.declared.verdict.NearVerdicts.{NearVerdicts}
+use Rattle.reading.specs.declared.OpenAnswer.the-variants.{Done, Denied}
+use Rattle.reading.specs.declared.NearAnswer.{NearAnswer}
+use Rattle.reading.specs.declared.NearVerdicts.{NearVerdicts}
 use Rattle.directory.specs.Payload.{payloadVerdict}
-use Rattle.capture.specs.Opening.{writtenAs, addedAs, expansions, openVerdict}
-use Rattle.capture.specs.Verdict.{afterCall, callDirectory}
-use Rattle.capture.specs.Listing.{headingText}
+use Rattle.reading.specs.Opening.{writtenAs, addedAs, expansions, openVerdict}
+use Rattle.reading.specs.Verdict.{afterCall, callDirectory}
+use Rattle.reading.specs.Listing.{headingText}
 use Rattle.directory.specs.Rebuilt.{joined, rebuilt}
 
 -- the corrections before record i, none in the usual way, and the verdict on it

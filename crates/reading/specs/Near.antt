@@ -13,10 +13,10 @@ use Rattle.records.specs.Verdict.{verdictOf}
 use Rattle.records.specs.Block.{recordsIn, recordOf}
 use Rattle.records.specs.Near.{own}
 use Rattle.records.specs.Following.{headerOf, nearVerdict, Follows, slippedSettings, slippedBlock, slippedSent}
-use Rattle.capture.specs.Opening.{openVerdict, opening}
-use Rattle.capture.specs.Listing.{listingOf}
+use Rattle.reading.specs.Opening.{openVerdict, opening}
+use Rattle.reading.specs.Listing.{listingOf}
 use Rattle.directory.specs.Rebuilt.{rebuilt}
-use Rattle.capture.specs.Reading.{openingBy, listingBy}
+use Rattle.reading.specs.Reading.{openingBy, listingBy}
 
 -- the place of a record's clock field, and its octets
 abbrev pub clockAt : ℕ

@@ -31,18 +31,18 @@ use Rattle.records.specs.Following.{headerOf, nearVerdict, withClock, slippedSe
 use Rattle.records.proofs.Following.{kept}
 use Rattle.rows.specs.Text.{keyGlyph, rowHead, rowMiddle, rowTail, rowOf}
 use Rattle.directory.specs.declared.Directory.the-variants.{Good}
-use Rattle.capture.specs.declared.opening.OpenAnswer.{OpenAnswer}
+use Rattle.reading.specs.declared.OpenAnswer.{OpenAnswer}
 use Rattle.directory.specs.Directory.{chained, pairOf, sizeFits, withPair, pairsFrom, directoryOf}
-use Rattle.capture.specs.Opening.{recordNonce, writtenAs, addedAs, openedRecord, recordAdds, openedBlock, blockAdds, expansions, openVerdict}
+use Rattle.reading.specs.Opening.{recordNonce, writtenAs, addedAs, openedRecord, recordAdds, openedBlock, blockAdds, expansions, openVerdict}
 use Rattle.directory.specs.Rebuilt.{joined, rebuilt}
-use Rattle.capture.specs.Reading.{recordBy, addsBy, totalBy, openingAs, openingBy, rowBy, bodyAs, listingBy}
-use Rattle.capture.specs.Near.{clockField, withField, asSent, asRecorded, ClockFollows, ReadsAsExact, NotEmpty}
+use Rattle.reading.specs.Reading.{recordBy, addsBy, totalBy, openingAs, openingBy, rowBy, bodyAs, listingBy}
+use Rattle.reading.specs.Near.{clockField, withField, asSent, asRecorded, ClockFollows, ReadsAsExact, NotEmpty}
 use Rattle.directory.proofs.Records.{Records, good, header-there}
 use Rattle.directory.proofs.Filling.{joined-ext}
 use Rattle.directory.proofs.Rebuilding.{same-octets, same-count, record-is, good-again, rebuilt-again, rebuilt-ext}
-use Rattle.capture.proofs.Openings.{written-length, callable, opening-done}
-use Rattle.capture.proofs.Reopening.{opened-is, accepts-again}
-use Rattle.capture.proofs.Readings.{listing-usual}
+use Rattle.reading.proofs.Opening.{written-length, callable, opening-done}
+use Rattle.reading.proofs.Reopening.{opened-is, accepts-again}
+use Rattle.reading.proofs.Readings.{listing-usual}
 
 ---- a record with other octets in its clock field
 module _ (r x : List ℕ) (h : 16 ≤ length r) (l : length x ≡ 6) where

@@ -8,7 +8,7 @@ use Rattle.records.specs.Record.{recordHeader}
 use Rattle.records.specs.Verdict.{verdictOf}
 use Rattle.rows.specs.Text.{rowOf, refusedRow}
 use Rattle.records.specs.Block.{mostRecords, recordsIn, recordOf}
-use Rattle.capture.specs.Opening.{openVerdict}
+use Rattle.reading.specs.Opening.{openVerdict}
 
 -- the row of record i
 abbrev pub rowAt : List ℕ → List ℕ → ℕ → List ℕ

@@ -1,4 +1,4 @@
--- `capture::reading::drift_before` meets its contract: the loop's invariant: the corrections are those before record j. Assumes nothing.
+-- `capture::ways::drift_before` meets its contract: the loop's invariant: the corrections are those before record j. Assumes nothing.
 use mathlib.Core.Path.{_≡_, ap, _∙_}
 use Prim.Native.Nat.{_-_, _≤_}
 use native.Mathlib.Numerals.{add-one}
@@ -7,8 +7,8 @@ use borrow.Author.Needs.{needs}
 use Rattle.records.specs.declared.near.Heard.{Heard}
 use Rattle.records.specs.Near.{judged}
 use Rattle.records.specs.Following.{driftAt}
-use Rattle.capture.proofs.reading.drift_before.Statement.{statement}
-use Rattle.capture.proofs.reading.drift_before.Tie as tie
+use Rattle.capture.proofs.ways.drift_before.Statement.{statement}
+use Rattle.capture.proofs.ways.drift_before.Tie as tie
 
 abbrev Inv-loop : tie.InvT-loop
 Inv-loop settings block i drift₀ j₀ drift j = (j ≤ i) × (drift ≡ driftAt settings block j)

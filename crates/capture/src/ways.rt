@@ -1,7 +1,7 @@
 // The verdict on a record in the usual way, or in the near one, with a receive clock that is known only nearly (02, C-18).
 ghost use mathlib.Core.Path.{_≡_};
 ghost use Rattle.records.specs.Following.{driftAt};
-ghost use Rattle.capture.specs.Reading.{verdictBy};
+ghost use Rattle.reading.specs.Reading.{verdictBy};
 use records::block::header_at;
 use records::header::RecordVerdict;
 use records::header::verdict_for;

@@ -1,0 +1,5 @@
+pub mod Opening
+pub mod Reopening
+pub mod Lines
+pub mod Readings
+pub mod Exact

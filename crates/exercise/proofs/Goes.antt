@@ -30,7 +30,7 @@ use Rattle.unicast.specs.Events.{Event, advance, capture, clockSend, offer, ret
 use Rattle.unicast.specs.History.{Lane, Envelope, InFlight, clockMessage, keyMessage, envelope, laneCaptured, laneLeaving, laneOffered, laneTaken, laneAnswered, laneAcknowledged, laneSentDown, laneSentUp, laneArrivedDown, laneArrivedUp, laneWith, leaving, numberDown}
 use Rattle.unicast.specs.Premises.{NewKey, DueDown, DueAnswer, Meets}
 use Rattle.unicast.specs.Run.{State, step, run, accepted, noted, named, withLanes, atOlt, atOnu, atOltFor, laneAt, inFlightAt, envelopeAt, clockSending, offering, retrying, sendingDown, sendingUp, envelopeDown, envelopeUp, messageArriving, inFlightArriving, envelopeArriving, receiptDown, receiptUp, arrivingUp, answering, advancing, freshLane, noEnvelope}
-use Rattle.unicast.proofs.Rounds.{run-append, meets-append}
+use Rattle.unicast.proofs.Run.{run-append, meets-append}
 use Rattle.exercise.specs.declared.Play.{Play}
 use Rattle.exercise.specs.Play.{unitLlid, keyOfStep, channelDown, channelUp, withOlt, withOnu, withClockAnswer, withKeyAnswer, arrives, clockAnswered, clockSent, clockStepped, keyAnswered, keySent, answered, sentDown, sentUp, advanced}
 use Rattle.exercise.specs.Listed.{setting}

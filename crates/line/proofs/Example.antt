@@ -2,13 +2,11 @@
 use mathlib.Core.Path.{_≡_, refl, sym, _∙_, ap}
 use mathlib.Core.Bool.{Bool, true, false}
 use mathlib.Core.List.{List}
-use mathlib.Core.Logic.{inl, inr}
-use Prim.Native.Nat.{ℕ, _+_, _*_}
+use Prim.Native.Nat.{ℕ}
 use native.Mathlib.Omega.{arith}
 use lib.Dec.{eqb, ltb}
 use lib.ListN.{length}
 use borrow.Author.Tests.{ltb-true, leb-true, eqb-true}
-use Rattle.clock.specs.Ticks.{maxRoundTrip}
 use Rattle.octets.proofs.Choice.{true-false}
 use Rattle.octets.proofs.Members.{mem-at}
 use Rattle.octets.specs.Output.{WithOutput}
@@ -23,7 +21,6 @@ use Rattle.unicast.specs.History.{Envelope, InFlight, clockMessage, keyMessage,
 use Rattle.unicast.specs.Run.{laneAt, noEnvelope}
 use Rattle.unicast.specs.Premises.{Fresh}
 use Rattle.unicast.specs.Claim.{isSealed, overheardFor}
-use Rattle.unicast.specs.Progress.{longest}
 use Rattle.unicast.specs.Example.{blank}
 use Rattle.unicast.proofs.Example.{nonce-is, header-is, carried-is, numbered, agreed}
 use Rattle.unicast.proofs.Tested.{fresh-true}
@@ -31,22 +28,18 @@ use Rattle.line.specs.History.{GroupArrival, GroupLane, isJoined}
 use Rattle.line.specs.Run.{State, alone, start, joinedBy, groupLaneAt, groupSentAt, groupInFlightAt, groupAnswerAt, groupReceipt}
 use Rattle.line.specs.Premises.{Meets}
 use Rattle.line.specs.Claim.{groupNonce, GroupOpened, Sender, unit, group, sentBy, sentByAt, notReceived, Claim}
-use Rattle.line.specs.GroupProgress.{placed, ordered, mostOf, andThen, arrivals, keyRound, waited, envelopeRound, groupRecipe, restoring, GroupMoving, GroupBrings, Restorable, Restores}
-use Rattle.line.specs.Example.{example, groupLlid, interval, toFirstKey, toMissed, toReturn, toUnsynced, toSynced, events}
+use Rattle.line.specs.Example.{example, groupLlid, toFirstKey, toMissed, toReturn, toUnsynced, toSynced, events}
 use Rattle.line.specs.Course.{after, played, arrivalNumber, callNumber, refusals, Course}
-use Rattle.line.specs.Demand.{arrivalAt, HandedClear, Handed, Opens, Passed, Delivered, NotOpened, Apart, Back, Unsynced, Overheard, Left, Shown, missed, unsynced, spare, Returned, Demand}
+use Rattle.line.specs.Demand.{arrivalAt, HandedClear, Handed, Opens, Passed, Delivered, NotOpened, Apart, Back, Unsynced, Overheard, Left, Shown, Demand}
 use Rattle.line.proofs.Opened.{opened}
-use Rattle.line.proofs.GroupProgress.{group-progress}
-use Rattle.line.proofs.GroupRestored.{group-restored}
-use Rattle.line.proofs.Tested.{tested, new-true, meets, meets-true, meets-start, dueOfGroup, due-of-group-true, overhearsGroup, overhears-group-true}
+use Rattle.line.proofs.Tested.{tested, meets, meets-true, meets-start, dueOfGroup, due-of-group-true, overhearsGroup, overhears-group-true}
 use Rattle.line.proofs.Theorem.{line-holds}
-use Rattle.line.proofs.Progress.{progress}
-use Rattle.line.proofs.Unchanged.{unchanged, one-spread}
+use Rattle.line.proofs.Unchanged.{unchanged}
 use Rattle.line.proofs.Without.{without-groups}
 
 ---- the premises
 
-example-fresh : Fresh example
+pub example-fresh : Fresh example
 unfolding opened tested
 example-fresh = fresh-true example refl
 
@@ -54,7 +47,7 @@ example-passes : meets example (start example) events ≡ true
 unfolding opened tested
 example-passes = refl
 
-example-meets : Meets example (start example) events
+pub example-meets : Meets example (start example) events
 example-meets = meets-true example (start example) events example-passes
 
 course : Course
@@ -313,57 +306,17 @@ shown first before unsynced synced whole =
 synced-meets : Meets example (start example) toSynced
 synced-meets = meets-start example (start example) toSynced _ example-meets
 
-unsynced-meets : Meets example (start example) toUnsynced
+pub unsynced-meets : Meets example (start example) toUnsynced
 unsynced-meets = meets-start example (start example) toUnsynced _ synced-meets
 
 return-meets : Meets example (start example) toReturn
 return-meets = meets-start example (start example) toReturn _ unsynced-meets
 
-missed-meets : Meets example (start example) toMissed
+pub missed-meets : Meets example (start example) toMissed
 missed-meets = meets-start example (start example) toMissed _ return-meets
 
 first-meets : Meets example (start example) toFirstKey
 first-meets = meets-start example (start example) toFirstKey _ missed-meets
-
----- the group's continuation
-
-missed-moves : GroupMoving missed 0 spare
-unfolding opened placed ordered mostOf
-missed-moves = record { registered = refl; below = ltb-true _ _ refl; offers = inl (ltb-true _ _ refl); inRange = leb-true _ _ refl }
-
-played-moves : GroupMoving played 0 spare
-unfolding opened tested placed ordered mostOf
-played-moves = record { registered = refl; below = ltb-true _ _ refl; offers = inr (refl, new-true played spare refl); inRange = leb-true _ _ refl }
-
-missed-brings : GroupBrings example missed 0 3 (longest + interval + 60) 11 (groupRecipe 0 spare missed)
-unfolding opened placed ordered mostOf
-missed-brings = group-progress example toMissed 0 spare example-fresh missed-meets missed-moves
-
-played-brings : GroupBrings example played 0 5 (longest + interval + 60) 11 (groupRecipe 0 spare played)
-unfolding opened placed ordered mostOf
-played-brings = group-progress example events 0 spare example-fresh example-meets played-moves
-
-unsynced-moves : Restorable unsynced 0 spare
-unfolding opened tested placed ordered
-unsynced-moves = record { registered = refl; below = ltb-true _ _ refl; new = new-true unsynced spare refl; inRange = leb-true _ _ refl }
-
-unsynced-brings : Restores example unsynced 0 4 (2 * (longest + maxRoundTrip) + (longest + interval) + 2 * maxRoundTrip) 25
-    (restoring 0 spare unsynced)
-unfolding opened placed ordered
-unsynced-brings = group-restored example toUnsynced 0 spare example-fresh unsynced-meets unsynced-moves
-
-returned : Returned
-unfolding opened placed ordered mostOf andThen arrivals keyRound waited envelopeRound groupRecipe
-returned =
-    record {
-      untaken = refl;
-      listed = refl;
-      brings = missed-brings;
-      opens = missed-brings .opened 1 refl refl refl;
-      onwards = played-brings;
-      restores = unsynced-brings;
-      opensToo = unsynced-brings .opened 1 refl refl;
-    }
 
 ---- the whole
 
@@ -373,10 +326,6 @@ demand =
       theorem = line-holds;
       asBefore = without-groups;
       unchanged = unchanged;
-      progress = progress;
-      groupProgress = group-progress;
-      groupRestored = group-restored;
-      spread = one-spread;
       fresh = example-fresh;
       meets = example-meets;
       course = course;
@@ -384,5 +333,4 @@ demand =
           shown (line-holds example toFirstKey example-fresh first-meets) (line-holds example toReturn example-fresh return-meets)
           (line-holds example toUnsynced example-fresh unsynced-meets) (line-holds example toSynced example-fresh synced-meets)
           (line-holds example events example-fresh example-meets);
-      returned = returned;
     }

@@ -44,7 +44,7 @@ use Rattle.unicast.specs.History.{downward, Envelope, envelope}
 use Rattle.unicast.specs.Run.{laneAt}
 use Rattle.unicast.specs.Claim.{PassageRight, SentRight}
 use Rattle.unicast.proofs.Envelopes.{ways-apart, envelopeOf, passed-right, count-right, runs-right, fits-alone}
-use Rattle.unicast.specs.Progress.{longest}
+use Rattle.unicast.specs.Bounds.{longest}
 use Rattle.unicast.proofs.Invariant.{Begun, countDown, AtTick}
 use Rattle.unicast.proofs.Pace.{occupied-free}
 use Rattle.unicast.proofs.Past.{sent-carried}

@@ -20,7 +20,7 @@ use Rattle.groups.proofs.HeadGroups.{replaced-groups-valid}
 use Rattle.unicast.specs.Setting.{Setting}
 use Rattle.unicast.specs.History.{Lane}
 use Rattle.unicast.specs.Run.{laneAt}
-use Rattle.unicast.specs.Progress.{longest}
+use Rattle.unicast.specs.Bounds.{longest}
 use Rattle.unicast.proofs.OccupiedSteps.{occupied-right}
 use Rattle.line.specs.History.{GroupLane, isMember}
 use Rattle.line.specs.Run.{State, alone, subscriberAt, joinedBy, noGroupLane, groupLaneAt, now, lanes, atHead}

@@ -18,7 +18,7 @@ use Rattle.unicast.specs.Run as run
 use Rattle.unicast.specs.Run.{atOlt, noted, named, withLanes, clockSending, retrying, answerAt}
 use Rattle.unicast.specs.Premises as premises
 use Rattle.unicast.proofs.Alive.{answered-alive}
-use Rattle.unicast.proofs.Owned.{at-olt-keeps}
+use Rattle.unicast.proofs.Stays.{at-olt-keeps}
 use Rattle.unicast.proofs.Theorem.{step-right}
 use Rattle.line.specs.History.{GroupLane}
 use Rattle.line.specs.Events.{capture, clockSend, retry, sendDown, arriveAnswer}

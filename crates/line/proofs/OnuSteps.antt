@@ -35,7 +35,7 @@ use Rattle.unicast.specs.Run.{laneAt, onuAt, atOnu, noted, freshLane, noSite, w
 use Rattle.unicast.specs.Premises.{DueDown}
 use Rattle.unicast.proofs.Invariant as units
 use Rattle.unicast.proofs.Alive.{Alive, towards-alive}
-use Rattle.unicast.proofs.Owned.{noted-keeps}
+use Rattle.unicast.proofs.Stays.{noted-keeps}
 use Rattle.unicast.proofs.Queues.{towards-taken}
 use Rattle.unicast.proofs.Theorem.{step-right}
 use Rattle.line.specs.Events.{sendUp, arriveDown}

@@ -8,10 +8,10 @@ use Rattle.unicast.specs.Run as run
 use Rattle.unicast.specs.Run.{laneAt, withLanes, atOlt, atOnu, atOltFor, entering, clockSending, offering, retrying, inFlightAt}
 use Rattle.unicast.specs.Demand.{AsStarted}
 use Rattle.unicast.proofs.StartSteps.{lane-fresh}
-use Rattle.unicast.proofs.Unchanged.{fresh-as, more-as, each-mapped, each-set, noted-as, named-as, spread-one}
+use Rattle.unicast.proofs.Unchanged.{fresh-as, more-as, each-mapped, each-set, noted-as, named-as}
 use Rattle.line.specs.Events.{Event, advance, register, registerGroup, capture, clockSend, offer, retry, sendDown, join, sendUp, arriveDown, arriveGroup, arriveUp, arriveAnswer, arriveGroupAnswer, overhear, overhearGroup, changePath, measure, newTime, strayClock, strayKey, strayAnswer, strayDown, strayUp}
 use Rattle.line.specs.Run.{State, alone, lanes, start, atHead, atUnit, atUnitAlone, advancing, registering, registeringGroup, clockSendingTo, offeringTo, retryingTo, envelopeDown, sendingDown, joiningAt, envelopeUp, sendingUp, messageArriving, inFlightArriving, groupMessageArriving, groupInFlightArriving, groupInFlightAt, arrivingUp, answering, subscriberAfter, headAfter, step, runs}
-use Rattle.line.specs.Without.{NoChange, NoChanges, Unchanged, OneSpread}
+use Rattle.line.specs.Without.{NoChange, NoChanges, Unchanged}
 
 module _ (s : State) (e : (u : ℕ) → AsStarted (laneAt (alone s) u)) where
   in-flight-as : (u k : ℕ) (out : List ℕ) (x : InFlight) (v : ℕ) → AsStarted (laneAt (alone (inFlightArriving s u k out x)) v)
@@ -68,6 +68,3 @@ run-as s (x ∷ es) e c = run-as (step s x) es (step-as s e x (c .0)) (c .1)
 pub unchanged : Unchanged
 unfolding alone start run.start
 unchanged w es c = run-as (start w) es (λ u. lane-fresh AsStarted (w .sites) u fresh-as) c
-
-pub one-spread : OneSpread
-one-spread w es c u = spread-one (laneAt (alone (runs (start w) es)) u) (unchanged w es c u)

@@ -1,10 +1,10 @@
 -- Demand 3 of 01, groups included, as one statement, and what it says of the list of Example (02, C-14, C-16). Assumes nothing.
 use mathlib.Core.Path.{_≡_}
 use mathlib.Core.Bool.{true, false}
-use mathlib.Core.List.{List, [], _∷_}
-use Prim.Native.Nat.{ℕ, _+_, _-_, _*_, _<_}
+use mathlib.Core.List.{List}
+use Prim.Native.Nat.{ℕ, _+_, _-_, _<_}
 use lib.ListN.{length, getD}
-use Rattle.clock.specs.Ticks.{clockTurn, localTurn, maxRoundTrip}
+use Rattle.clock.specs.Ticks.{clockTurn, localTurn}
 use Rattle.envelope.specs.CounterBlock.{counterBlock}
 use Rattle.envelope.specs.declared.Nonce.{Nonce}
 use Rattle.cipher.specs.KeyExpansion.{keyExpansion}
@@ -18,18 +18,15 @@ use Rattle.unicast.specs.Premises.{Fresh}
 use Rattle.unicast.specs.Premises as premises
 use Rattle.unicast.specs.Run as run
 use Rattle.unicast.specs.Claim.{indexTurn}
-use Rattle.unicast.specs.Progress.{longest}
 use Rattle.unicast.specs.Demand.{nonce, Agreed}
 use Rattle.unicast.specs.Example.{firstClock, oltMac, identityA, keyFrom, payloadFrom, encipheredOctets, blank}
-use Rattle.line.specs.History.{GroupArrival, hasTaken}
-use Rattle.line.specs.Events.{Event, advance, retry, sendDown, arriveGroup}
-use Rattle.line.specs.Run.{State, alone, start, step, runs, subscriberAt, joinedBy, groupLaneAt, groupSentAt, groupInFlightAt, groupReceipt, receiving}
+use Rattle.line.specs.History.{GroupArrival}
+use Rattle.line.specs.Events.{Event, arriveGroup}
+use Rattle.line.specs.Run.{State, alone, start, step, runs, subscriberAt, groupLaneAt, groupSentAt, groupInFlightAt, groupReceipt, receiving}
 use Rattle.line.specs.Premises.{Meets}
 use Rattle.line.specs.Claim.{Claim, Sender, unit, group, sentBy, sentByAt, keysOf, nonceBy}
-use Rattle.line.specs.Progress.{Progress}
-use Rattle.line.specs.GroupProgress.{groupRecipe, restoring, OpenedAt, GroupBrings, GroupProgress, Restores, GroupRestored}
-use Rattle.line.specs.Without.{AsBefore, Unchanged, OneSpread}
-use Rattle.line.specs.Example.{example, groupLlid, interval, toFirstKey, toMissed, toReturn, toUnsynced, toSynced, events}
+use Rattle.line.specs.Without.{AsBefore, Unchanged}
+use Rattle.line.specs.Example.{example, groupLlid, toFirstKey, toReturn, toUnsynced, toSynced, events}
 use Rattle.line.specs.Course.{after, played, Course}
 
 -- the theorem
@@ -171,43 +168,6 @@ pub record Shown : Type 0 where
   pub overheard : Overheard (after toFirstKey) 2 1 blank 2
   pub left : Left played 2 0 blank
 
----- the group's continuation, on the example's list
-
--- cut short where the second member has missed key 2, and the offer of key 3 is outstanding
-abbrev pub missed : State
-missed = after toMissed
-
--- cut short where the second member's path has changed, and it is not synced
-abbrev pub unsynced : State
-unsynced = after toUnsynced
-
--- the key of an offer that is not made
-abbrev pub spare : List ℕ
-spare = keyFrom 96
-
-pub record Returned : Type 0 where
-  pub untaken : hasTaken (joinedBy missed 1) groupLlid 2 ≡ false
-  pub listed : groupRecipe 0 spare missed ≡ retry groupLlid
-      ∷ advance 11
-      ∷ arriveGroup 1 0 3 []
-      ∷ advance 19
-      ∷ arriveGroup 0 0 2 []
-      ∷ advance (longest + interval)
-      ∷ sendDown groupLlid 0x00 [] []
-      ∷ advance 11
-      ∷ arriveGroup 1 0 0 []
-      ∷ advance 19
-      ∷ arriveGroup 0 0 0 []
-      ∷ []
-  pub brings : GroupBrings example missed 0 3 (longest + interval + 60) 11 (groupRecipe 0 spare missed)
-  -- the member that missed key 2 opens the envelope under key 3
-  pub opens : OpenedAt example (groupLaneAt (runs missed (groupRecipe 0 spare missed)) 0) 1 (brings .next)
-  -- at the end of the list no offer is outstanding: the continuation makes one
-  pub onwards : GroupBrings example played 0 5 (longest + interval + 60) 11 (groupRecipe 0 spare played)
-  -- where the second member is not synced, its clock comes first, and it opens the envelope under key 4 too
-  pub restores : Restores example unsynced 0 4 (2 * (longest + maxRoundTrip) + (longest + interval) + 2 * maxRoundTrip) 25 (restoring 0 spare unsynced)
-  pub opensToo : OpenedAt example (groupLaneAt (runs unsynced (restoring 0 spare unsynced)) 0) 1 (restores .next)
-
 ---- the whole
 
 pub record Demand : Type 0 where
@@ -216,13 +176,7 @@ pub record Demand : Type 0 where
   pub asBefore : (w : Setting) (es : List units.Event) → Fresh w → premises.Meets w (run.start w) es → AsBefore w es
   -- and lists without path changes as before there were any
   pub unchanged : Unchanged
-  -- the line never freezes
-  pub progress : Progress
-  pub groupProgress : GroupProgress
-  pub groupRestored : GroupRestored
-  pub spread : OneSpread
   pub fresh : Fresh example
   pub meets : Meets example (start example) events
   pub course : Course
   pub shown : Shown
-  pub returned : Returned

@@ -15,20 +15,16 @@
 --             since; a sealed one is refused 5 by a unit that is not synced; a key that the unit acknowledged brings it back, once it is
 --             synced; what arrives of a group leaves the units' own lines
 --   Without   lists without groups and joins run as before, and lists without path changes
---   Progress  the line never freezes: a unit's continuation goes on here as without groups, and leaves their lines as they were
---   GroupProgress  continuations for a group, after which every joined member that is synced has opened its next envelope; and every joined
---             member, where their clocks come first
 --   Example   a list with a group that meets the premises: one of two members misses a key and comes back, and its path changes
 --   Course    how it runs: which calls were refused, what was sent and what arrived
 --   Demand    the theorem as one statement, and what it says of the example
+-- That the line never freezes is in crate progress.
 pub mod History
 pub mod Events
 pub mod Run
 pub mod Premises
 pub mod Claim
 pub mod Without
-pub mod Progress
-pub mod GroupProgress
 pub mod Example
 pub mod Course
 pub mod Demand

@@ -7,7 +7,6 @@ use Rattle.unicast.specs.Setting.{Setting}
 use Rattle.unicast.specs.Events as units
 use Rattle.unicast.specs.Run as run
 use Rattle.unicast.specs.Run.{laneAt}
-use Rattle.unicast.specs.Progress.{spread}
 use Rattle.unicast.specs.Demand.{AsStarted}
 use Rattle.line.specs.Events.{Event, advance, register, registerGroup, capture, clockSend, offer, retry, sendDown, join, sendUp, arriveDown, arriveGroup, arriveUp, arriveAnswer, arriveGroupAnswer, overhear, overhearGroup, changePath, measure, newTime, strayClock, strayKey, strayAnswer, strayDown, strayUp}
 use Rattle.line.specs.Run.{alone, start, runs}
@@ -77,7 +76,3 @@ NoChanges (e ∷ es) = NoChange e × NoChanges es
 -- every unit keeps the delays that it started with, and its envelopes go by them
 abbrev pub Unchanged : Type 0
 Unchanged = (w : Setting) (es : List Event) → NoChanges es → (u : ℕ) → AsStarted (laneAt (alone (runs (start w) es)) u)
-
--- and changes of the path add nothing to a unit's continuation where there are none
-abbrev pub OneSpread : Type 0
-OneSpread = (w : Setting) (es : List Event) → NoChanges es → (u : ℕ) → spread (laneAt (alone (runs (start w) es)) u) ≡ 0

@@ -30,8 +30,7 @@ use Rattle.unicast.specs.Demand.{arrivalAt, nonce, HandedClear, Handed, 
 use Rattle.unicast.proofs.Opened.{opened}
 use Rattle.unicast.proofs.Tested.{tested, fresh-true, meets, meets-true, meets-start}
 use Rattle.unicast.proofs.Theorem.{line-holds}
-use Rattle.unicast.proofs.Unchanged.{unchanged, one-spread}
-use Rattle.unicast.proofs.Progress.{progress, spread-most}
+use Rattle.unicast.proofs.Unchanged.{unchanged}
 
 -- what the list computes with
 unfoldable pub listed : Unit {0}
@@ -292,9 +291,6 @@ demand =
     record {
       holds = line-holds;
       unchanged = unchanged;
-      progress = progress;
-      spread = one-spread;
-      most = spread-most;
       fresh = example-fresh;
       meets = example-meets;
       course = course;

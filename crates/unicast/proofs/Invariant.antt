@@ -38,7 +38,7 @@ use Rattle.unicast.specs.Setting.{Delays, Setting}
 use Rattle.unicast.specs.History.{Direction, downward, upward, Envelope, InFlight, clockMessage, keyMessage, envelope, leftAt, Answered, Arrival, Entry, Keys, Transit, Lane, keyOf, due, clockAnswered}
 use Rattle.unicast.specs.Run.{State, laneAt, onuAt, noEnvelope}
 use Rattle.unicast.specs.Claim.{SentRight, ArrivedRight}
-use Rattle.unicast.specs.Progress.{highest, longest}
+use Rattle.unicast.specs.Bounds.{highest, longest}
 
 -- a test as a flag
 abbrev pub flagOf : Bool → ℕ

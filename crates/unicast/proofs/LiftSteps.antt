@@ -35,7 +35,7 @@ use Rattle.protocol.proofs.Lift.{Lifted, Ends, accepted, refused, lift-ends}
 use Rattle.unicast.specs.Setting.{Setting}
 use Rattle.unicast.specs.History.{Entry, Lane}
 use Rattle.unicast.specs.Run.{State, laneAt, onuAt, noSite, freshLane, noted, named, withLanes, atOlt}
-use Rattle.unicast.specs.Progress.{longest}
+use Rattle.unicast.specs.Bounds.{longest}
 use Rattle.unicast.proofs.Invariant.{Joined, Standing, LaneRight, Invariant}
 use Rattle.unicast.proofs.Frames.{common-moved}
 use Rattle.unicast.proofs.SendDownSteps.{channels-keep, channels-at-tick}

@@ -12,7 +12,7 @@ use Rattle.ends.proofs.Validity.{with-channels-valid}
 use Rattle.unicast.specs.Setting.{Setting}
 use Rattle.unicast.specs.History.{Lane}
 use Rattle.unicast.specs.Run.{State, laneAt, onuAt}
-use Rattle.unicast.specs.Progress.{longest}
+use Rattle.unicast.specs.Bounds.{longest}
 use Rattle.unicast.proofs.Invariant.{Standing, Invariant}
 use Rattle.unicast.proofs.SendDownSteps.{channels-keep, channels-at-tick}
 

@@ -44,7 +44,7 @@ use Rattle.unicast.proofs.KeySteps.{retry-keeps}
 use Rattle.unicast.proofs.AnswerSteps.{answer-keeps}
 use Rattle.unicast.proofs.SendDownSteps.{send-down-keeps, send-channels, send-frees, envelope-down-is}
 use Rattle.unicast.proofs.Places.{held-once, held-found, busy-held, at-once}
-use Rattle.unicast.specs.Progress.{longest}
+use Rattle.unicast.specs.Bounds.{longest}
 use Rattle.unicast.proofs.LiftSteps.{keys-named, call-right}
 
 ---- captures

@@ -13,7 +13,7 @@ use Rattle.envelope.specs.Channels.{onZero}
 use Rattle.ends.specs.Occupancy.{freeFrom, occupied}
 use Rattle.ends.specs.declared.Channels.{Channels}
 use Rattle.unicast.specs.History.{Direction, Envelope, InFlight, clockMessage, leftAt, Arrival, Transit, leaving}
-use Rattle.unicast.specs.Progress.{goes, highest}
+use Rattle.unicast.specs.Bounds.{goes, highest}
 use Rattle.unicast.proofs.Invariant.{Asked, Rising, InOrder}
 
 ---- ticks that never fall

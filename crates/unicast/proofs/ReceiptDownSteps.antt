@@ -35,7 +35,7 @@ use Rattle.unicast.specs.Setting.{Setting, clockDown}
 use Rattle.unicast.specs.History.{downward, upward, Envelope, InFlight, envelope, leftAt, Arrival, Lane, laneWith, arriving, laneTaken, laneArrivedDown}
 use Rattle.unicast.specs.Claim.{PassageRight, SentRight, ArrivedRight}
 use Rattle.unicast.proofs.Invariant.{countUp, SentUnder, Under, Towards, Joined, Common}
-use Rattle.unicast.specs.Progress.{goes}
+use Rattle.unicast.specs.Bounds.{goes}
 use Rattle.unicast.proofs.Pace.{rising-dropped, highest-other, highest-own}
 use Rattle.unicast.proofs.Queues.{Knows, dropped-among, towards-carried, towards-taken, from-carried}
 use Rattle.unicast.proofs.Frames.{common-moved}

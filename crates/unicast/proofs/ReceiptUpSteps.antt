@@ -30,7 +30,7 @@ use Rattle.unicast.specs.History.{downward, upward, Envelope, Arrival, L
 use Rattle.unicast.specs.Run.{State, receiptUp}
 use Rattle.unicast.specs.Claim.{PassageRight, SentRight, ArrivedRight}
 use Rattle.unicast.proofs.Invariant.{Under, From, Joined, AtTick}
-use Rattle.unicast.specs.Progress.{goes}
+use Rattle.unicast.specs.Bounds.{goes}
 use Rattle.unicast.proofs.Pace.{rising-dropped, highest-other, highest-own}
 use Rattle.unicast.proofs.Queues.{Knows, dropped-among, towards-moved, from-moved, from-taken}
 use Rattle.unicast.proofs.Envelopes.{ways-apart, arrivalOf, opens-right, octets-fit}

@@ -31,7 +31,7 @@ use Rattle.ends.proofs.Table.{among-found, more-unit, more-other, more-places}
 use Rattle.protocol.proofs.OltCalls.{register-refused}
 use Rattle.protocol.proofs.Registration.{Registers, register-accepted, registered-valid}
 use Rattle.unicast.specs.Setting.{Setting}
-use Rattle.unicast.specs.Progress.{highest}
+use Rattle.unicast.specs.Bounds.{highest}
 use Rattle.unicast.specs.History.{envelope, Entry, Keys, Lane, due, laneRegistered}
 use Rattle.unicast.specs.Events.{register}
 use Rattle.unicast.specs.Run.{State, laneAt, onuAt, noSite, freshLane, noted, entering, step}

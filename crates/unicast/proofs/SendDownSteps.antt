@@ -44,7 +44,7 @@ use Rattle.unicast.proofs.Queues.{Knows, sealed-more, envelope-number, 
 use Rattle.unicast.proofs.Past.{sent-carried, passing-sent}
 use Rattle.unicast.proofs.Envelopes.{ways-apart, envelopeOf, passed-right, count-right, runs-right, fits-alone}
 use Rattle.unicast.proofs.Spending.{Renewed, spent-kept, spent-new, apart-new, spaced-more}
-use Rattle.unicast.specs.Progress.{longest}
+use Rattle.unicast.specs.Bounds.{longest}
 use Rattle.unicast.proofs.Pace.{order-leaving, asked-leaving, occupied-free}
 use Rattle.unicast.proofs.SendChoices.{Chosen, timing-sent, chosen-down, unit-first}
 

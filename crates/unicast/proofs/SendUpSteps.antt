@@ -47,7 +47,7 @@ use Rattle.unicast.specs.History.{downward, upward, Envelope, Lane, lane
 use Rattle.unicast.specs.Run.{envelopeUp}
 use Rattle.unicast.specs.Claim.{PassageRight, SentRight}
 use Rattle.unicast.proofs.Invariant.{Clocks, countDown, countUp, Spent, Guarded, Joined, Common}
-use Rattle.unicast.specs.Progress.{longest}
+use Rattle.unicast.specs.Bounds.{longest}
 use Rattle.unicast.proofs.Pace.{rising-more, occupied-free}
 use Rattle.unicast.proofs.Queues.{Knows, towards-moved, from-moved, from-envelope}
 use Rattle.unicast.proofs.Past.{sent-carried, passing-sent}

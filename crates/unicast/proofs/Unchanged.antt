@@ -1,21 +1,17 @@
 -- A list without path changes: every unit keeps the delays that it started with, and its envelopes go by them (02, C-16). Assumes nothing.
-use mathlib.Core.Path.{_≡_, refl, sym, _∙_, ap}
-use mathlib.Core.List.{List, List·Memᴰ, [], _∷_, _++_, map, List·Memᴰ·append-cases, List·Memᴰ·eq-of-singleton, List·Memᴰ·not-nil, List·Memᴰ·head, List·Memᴰ·tail}
+use mathlib.Core.Path.{_≡_, refl, _∙_, ap}
+use mathlib.Core.List.{List, List·Memᴰ, [], _∷_, _++_, map, List·Memᴰ·append-cases, List·Memᴰ·eq-of-singleton, List·Memᴰ·not-nil}
 use mathlib.Core.Logic.{⊎-elim}
 use Prim.Native.Nat.{ℕ, zero, suc}
-use native.Mathlib.Nat.{max-eq-left, sub-self}
-use native.Mathlib.Omega.{arith}
-use lib.Dec.{leb}
 use lib.ListN.{getD, set}
-use Rattle.octets.specs.Choice.{both, pick}
-use Rattle.octets.proofs.Choice.{pick-same, pick-holds}
+use Rattle.octets.specs.Choice.{both}
+use Rattle.octets.proofs.Choice.{pick-holds}
 use Rattle.ends.specs.Identities.{has}
 use Rattle.unicast.specs.Setting.{Delays, Site, Setting}
 use Rattle.unicast.specs.History.{Envelope, InFlight, clockMessage, keyMessage, envelope, Lane, sending, laneWith, laneRegistered, laneCaptured, laneLeaving, laneOffered, laneAcknowledged, laneSentDown, laneSentUp, laneTaken, laneAnswered, arriving, laneArrivedDown, laneArrivedUp}
 use Rattle.unicast.specs.Events.{Event, advance, register, capture, clockSend, offer, retry, sendDown, sendUp, arriveDown, arriveUp, arriveAnswer, overhear, changePath, measure, newTime, strayClock, strayKey, strayAnswer, strayDown, strayUp}
 use Rattle.unicast.specs.Run.{State, noSite, freshLane, start, laneAt, accepted, noted, named, withLanes, atOlt, atOnu, atOltFor, advancing, entering, clockSending, offering, retrying, envelopeDown, sendingDown, envelopeUp, sendingUp, messageArriving, envelopeArriving, inFlightArriving, inFlightAt, arrivingUp, answering, unitAfter, oltAfter, step, run}
-use Rattle.unicast.specs.Progress.{mostUp, leastUp, spread}
-use Rattle.unicast.specs.Demand.{AsStarted, NoChange, NoChanges, OneSpread}
+use Rattle.unicast.specs.Demand.{AsStarted, NoChange, NoChanges}
 use Rattle.unicast.proofs.StartSteps.{lane-fresh}
 
 pub fresh-as : (s : Site) → AsStarted (freshLane s)
@@ -102,23 +98,3 @@ run-as s (x ∷ es) e c = run-as (step s x) es (step-as s e x (c .0)) (c .1)
 pub unchanged : (w : Setting) (es : List Event) → NoChanges es → (u : ℕ) → AsStarted (laneAt (run (start w) es) u)
 unfolding start
 unchanged w es c = run-as (start w) es (λ u. lane-fresh AsStarted (w .sites) u fresh-as) c
-
----- and adds nothing to its continuation
-
-most-one : (up : ℕ) (es : List Envelope) → ((e : Envelope) → List·Memᴰ e es → e .up ≡ up) → (mostUp up es ≡ up) × (leastUp up es ≡ up)
-unfolding mostUp leastUp pick
-most-one up [] same = (refl, refl)
-most-one up (e ∷ es) same =
-    let rest = most-one up es (λ x m. same x (List·Memᴰ·tail m)) in
-    let own : e .up ≡ up = same e (List·Memᴰ·head refl) in
-    rw (rest .0, rest .1, own) (max-eq-left (omega arith), pick-same (leb up up) up)
-
-pub spread-one : (l : Lane) → AsStarted l → spread l ≡ 0
-unfolding spread
-spread-one l p =
-    let by = ap (λ (d : Delays). d .up) (p .0) in
-    let r = most-one (l .path .up) (l .past .sent) (λ e m. p .1 e m ∙ sym by) in
-    rw (r .0, r .1) (sub-self (l .path .up))
-
-pub one-spread : OneSpread
-one-spread w es c u = spread-one (laneAt (run (start w) es) u) (unchanged w es c u)

@@ -22,7 +22,6 @@ use Rattle.unicast.specs.Events.{Event, advance, register, capture, cloc
 use Rattle.unicast.specs.Run.{State, start, run, laneAt, onuAt, sentAt, overhearing, noEnvelope}
 use Rattle.unicast.specs.Premises.{Fresh, Meets}
 use Rattle.unicast.specs.Claim.{nonceFor, indexTurn, Claim}
-use Rattle.unicast.specs.Progress.{spread, SpreadMost, Progress}
 use Rattle.unicast.specs.Example.{example, firstClock, toFirstKey, toSecondKey, events, oltMac, identityA, identityB, identityC, keyFrom, payloadFrom, encipheredOctets, blank, short}
 use Rattle.unicast.specs.Course.{after, played, Course}
 
@@ -65,10 +64,6 @@ NoChanges (e ∷ es) = NoChange e × NoChanges es
 
 abbrev pub Unchanged : Type 0
 Unchanged = (w : Setting) (es : List Event) → NoChanges es → (u : ℕ) → AsStarted (laneAt (run (start w) es) u)
-
--- and changes of the path add nothing to a unit's continuation where there are none
-abbrev pub OneSpread : Type 0
-OneSpread = (w : Setting) (es : List Event) → NoChanges es → (u : ℕ) → spread (laneAt (run (start w) es) u) ≡ 0
 
 ---- of an envelope of the example
 
@@ -216,10 +211,6 @@ pub record Shown : Type 0 where
 pub record Demand : Type 0 where
   pub holds : Theorem
   pub unchanged : Unchanged
-  -- the line never freezes
-  pub progress : Progress
-  pub spread : OneSpread
-  pub most : SpreadMost
   pub fresh : Fresh example
   pub meets : Meets example (start example) events
   pub course : Course

@@ -22,22 +22,18 @@
 --             numbered n has arrived each way, both ends hold key n as A, C and a, the OLT in the record that has the unit's LLIDs;
 --             (4) what another registered unit overhears is refused, 14 for its buffer, else 2 downstream and 1 upstream, and leaves
 --             unit and buffer as they were
---   Progress  the line never freezes: from wherever a list leads, a continuation, computed from the history, after which both ends hold the
---             unit's next key and an envelope under it has arrived each way; also the recipe that a host follows
+--   Bounds    marks of a unit's line that the invariant keeps and crate progress reads
 --   Example   a list that meets the premises, with refused calls of every kind
 --   Course    how it runs: which calls were refused, what was sent and what arrived
---   Frozen    what is truly stuck stays so, whatever follows
---   Stuck     lists that lead there, so that the exception of Progress is needed, and what only looks stuck
 --   Demand    the theorem as one statement, and what it says of the example
+-- That the line never freezes is in crate progress.
 pub mod Setting
 pub mod History
 pub mod Events
 pub mod Run
 pub mod Premises
 pub mod Claim
-pub mod Progress
+pub mod Bounds
 pub mod Example
 pub mod Course
-pub mod Frozen
-pub mod Stuck
 pub mod Demand

@@ -1,5 +1,5 @@
--- Marks of a unit's line that the invariant keeps and progress reads (crate progress): the highest number that arrived each way, and how long
--- a channel is taken at most. Assumes nothing.
+-- What the invariant keeps of a unit's line beside the claim, and crate progress reads: the highest number that arrived each way, and how
+-- long a channel is taken at most. Assumes nothing.
 use mathlib.Core.Bool.{Bool, true, false}
 use mathlib.Core.List.{List, [], _∷_}
 use Prim.Native.Nat.{ℕ, _+_, max}

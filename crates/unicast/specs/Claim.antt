@@ -1,4 +1,4 @@
--- What holds on the whole list (demand 3 of 01; 01, The line). That the line goes on is Progress (D61). Assumes nothing.
+-- What holds on the whole list (demand 3 of 01; 01, The line). That the line goes on is in crate progress (D61). Assumes nothing.
 use mathlib.Core.Path.{_≡_}
 use mathlib.Core.Bool.{Bool, true, false}
 use mathlib.Core.List.{List, List·Memᴰ}

@@ -22,7 +22,7 @@
 --             numbered n has arrived each way, both ends hold key n as A, C and a, the OLT in the record that has the unit's LLIDs;
 --             (4) what another registered unit overhears is refused, 14 for its buffer, else 2 downstream and 1 upstream, and leaves
 --             unit and buffer as they were
---   Bounds    marks of a unit's line that the invariant keeps and crate progress reads
+--   Bounds    what the invariant keeps beside the claim, and crate progress reads
 --   Example   a list that meets the premises, with refused calls of every kind
 --   Course    how it runs: which calls were refused, what was sent and what arrived
 --   Demand    the theorem as one statement, and what it says of the example

@@ -8,8 +8,8 @@ use Rattle.octets.specs.Choice.{both, either}
 use Rattle.octets.specs.Lists.{all}
 use Rattle.octets.proofs.Steps.{first-step}
 use Rattle.ends.specs.Identities.{among, distinct, meets}
-use Rattle.groups.specs.Subscriber.{joinedLlids, validJoined, validGroupsOf, fitsBefore}
-use Rattle.groups.specs.declared.Joined.{Joined}
+use Rattle.group_protocol.specs.Subscriber.{joinedLlids, validJoined, validGroupsOf, fitsBefore}
+use Rattle.group_protocol.specs.declared.Joined.{Joined}
 
 ---- the LLIDs of the first n
 
@@ -52,7 +52,3 @@ pub groups-miss : (own : List ℕ) (n : ℕ) (l : List Joined) (i : ℕ) (d : Jo
     → validGroupsOf own (drop i (take n l)) ≡ false
 unfolding both
 groups-miss own n l i d h k e = rw (first-step n l i d h k, groups-cons own (getD l i d) (drop (i + 1) (take n l)), e)
-
-pub groups-none : (own : List ℕ) (l : List Joined) → l ≡ [] → validGroupsOf own l ≡ true
-unfolding validGroupsOf all distinct meets joinedLlids both
-groups-none own l e = rw e

@@ -1,10 +1,3 @@
-pub mod Found
-pub mod GroupSteps
-pub mod HeadGroups
-pub mod HeadValidity
-pub mod JoinedCalls
 pub mod JoinedGroups
 pub mod OneGroup
-pub mod Places
-pub mod Subscribers
 pub mod Walks

@@ -1,16 +1,12 @@
--- A group decides as the unit that it stands for. Assumes nothing.
+-- A group is left as the unit that it stands for. Assumes nothing.
 use mathlib.Core.Path.{_≡_, refl, sym, ap, _∙_}
-use mathlib.Core.Bool.{Bool, true, false}
+use mathlib.Core.Bool.{Bool, true}
 use mathlib.Core.List.{List}
-use Prim.Native.Nat.{ℕ, _+_}
-use native.Mathlib.Omega.{arith}
-use lib.Dec.{ltb, eqb}
-use borrow.Author.Tests.{le-ltb}
-use Rattle.octets.specs.Choice.{both, either, pick}
+use Prim.Native.Nat.{ℕ}
+use Rattle.octets.specs.Choice.{pick}
 use Rattle.refusal.specs.declared.Verdict.{Verdict}
 use Rattle.refusal.specs.declared.Verdict.the-variants.{Accepted, Refused}
 use Rattle.refusal.specs.Order.{andThen}
-use Rattle.ends.specs.Flags.{isUp}
 use Rattle.ends.specs.Records.{withKeys, withConfirmation}
 use Rattle.ends.specs.declared.Shared.{Shared}
 use Rattle.ends.specs.declared.UnitRecord.{UnitRecord}
@@ -18,48 +14,18 @@ use Rattle.protocol.specs.Headers.{noSending, passageOf, sendingOf}
 use Rattle.protocol.specs.Lift.{Outcome, outcome}
 use Rattle.protocol.specs.Messages.{noKeyMessage}
 use Rattle.protocol.specs.Replies.{silent}
-use Rattle.protocol.specs.UnitCalls.{offerUnit, offerVerdict, retryUnit, unitOffered}
-use Rattle.protocol.specs.UnitTraffic.{keysAfterSend, sendUnit, switches, unitSendChoice, unitSendVerdict}
+use Rattle.protocol.specs.UnitCalls.{offerUnit, retryUnit, unitOffered}
+use Rattle.protocol.specs.UnitTraffic.{keysAfterSend, sendUnit, unitSendVerdict}
 use Rattle.protocol.specs.declared.KeyMessage.{KeyMessage}
 use Rattle.protocol.specs.declared.Sending.{Sending}
 use Rattle.unit.specs.Reached.{ifAccepted, reached}
-use Rattle.groups.specs.AsUnit.{asUnit}
-use Rattle.groups.specs.GroupCalls.{GroupOutcome, groupKeysAfterSend, groupOffered, groupOfferVerdict, groupOutcome, groupSendChoice, groupSwitches, offerGroup, reachedGroup, retryGroup, sendGroup, wipedAtSwitch}
-use Rattle.groups.specs.Head.{withGroupKeys, withMembers}
-use Rattle.groups.specs.Members.{unmarked}
-use Rattle.groups.specs.declared.GroupRecord.{GroupRecord}
-
----- what it decides
-
-flag-up : (set : Bool) → isUp (pick set 1 0) ≡ set
-unfolding pick
-flag-up true = refl
-flag-up false = refl
-
-either-no : (a : Bool) → either a false ≡ a
-unfolding either
-either-no true = refl
-either-no false = refl
-
-both-yes : (a : Bool) → both a true ≡ a
-unfolding both
-both-yes true = refl
-both-yes false = refl
-
-pub offer-as-unit : (g : GroupRecord) (set : Bool) (key : List ℕ) → offerVerdict (asUnit g set) key ≡ groupOfferVerdict set (g .keys) key
-unfolding asUnit offerVerdict groupOfferVerdict
-offer-as-unit g set key =
-    rw (flag-up set, le-ltb (g .keys .active) (g .keys .active) (omega arith), either-no (ltb (g .keys .active) (g .keys .offered)))
-
-switches-as-unit : (g : GroupRecord) (set : Bool) → switches (asUnit g set) ≡ groupSwitches (g .keys)
-unfolding asUnit switches groupSwitches
-switches-as-unit g set = rw (both-yes (eqb (g .keys .offered) (g .keys .active + 1)))
-
-pub choice-as-unit : (g : GroupRecord) (set : Bool) → unitSendChoice (asUnit g set) ≡ groupSendChoice (g .keys)
-unfolding unitSendChoice groupSendChoice
-choice-as-unit g set = rw (switches-as-unit g set) (unfold asUnit in refl)
-
----- what it leaves
+use Rattle.group_protocol.specs.AsUnit.{asUnit}
+use Rattle.group_protocol.specs.GroupCalls.{GroupOutcome, groupKeysAfterSend, groupOffered, groupOutcome, groupSendChoice, offerGroup, retryGroup, sendGroup, wipedAtSwitch}
+use Rattle.group_protocol.specs.Head.{withGroupKeys, withMembers}
+use Rattle.group_protocol.specs.Members.{unmarked}
+use Rattle.group_protocol.specs.declared.GroupRecord.{GroupRecord}
+use Rattle.group_protocol.proofs.AsUnit.{choice-as-unit, offer-as-unit}
+use Rattle.groups.specs.Reached.{reachedGroup}
 
 if-accepted : {A : Type 0} (v : Verdict) (a b c : A) → (v ≡ Accepted → a ≡ b) → ifAccepted v a c ≡ ifAccepted v b c
 unfolding ifAccepted

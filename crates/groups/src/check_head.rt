@@ -6,10 +6,7 @@ ghost use Rattle.octets.specs.Lists.{all};
 ghost use Rattle.ends.specs.Identities.{distinct, meets};
 ghost use Rattle.ends.specs.Limits.{maxUnits};
 ghost use Rattle.ends.specs.Table.{registered, tableLlids};
-ghost use Rattle.groups.specs.Head.{apartLlids, groupLlids, validGroup, validGroups, validHead};
-use crate::GroupRecord;
-use crate::HeadEnd;
-use crate::MAX_GROUPS;
+ghost use Rattle.group_protocol.specs.Head.{apartLlids, groupLlids, validGroup, validGroups, validHead};
 use crate::membership::valid_members;
 use crate::search::is_group;
 use crate::search::is_registered;
@@ -19,6 +16,9 @@ use ends::check_olt::valid_olt;
 use ends::check_olt::valid_timer;
 use ends::limits::MAX_UNITS;
 use ends::sends::valid_first;
+use group_protocol::GroupRecord;
+use group_protocol::HeadEnd;
+use group_protocol::MAX_GROUPS;
 
 // At that tick, of an OLT with that many units.
 pub fn valid_group(tick: u64, units: u8, group: GroupRecord) -> bool

@@ -2,15 +2,15 @@
 ghost use mathlib.Core.Path.{_≡_};
 ghost use lib.ListN.{drop, take};
 ghost use Rattle.ends.specs.Identities.{llidsOf};
-ghost use Rattle.groups.specs.Subscriber.{fitsBefore, validGroupsOf, validJoined, validMemberships, validSubscriber};
-use crate::Joined;
-use crate::MAX_JOINED;
-use crate::Subscriber;
+ghost use Rattle.group_protocol.specs.Subscriber.{fitsBefore, validGroupsOf, validJoined, validMemberships, validSubscriber};
 use crate::joined_search::has_joined;
 use ends::Identity;
 use ends::check_onu::valid_onu;
 use ends::check_onu::valid_onu_keys;
 use ends::llids::has;
+use group_protocol::Joined;
+use group_protocol::MAX_JOINED;
+use group_protocol::Subscriber;
 
 pub fn valid_joined(joined: Joined) -> bool
     ensures { λ r. ⌜ r ≡ validJoined joined ⌝ }

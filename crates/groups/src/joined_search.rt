@@ -2,11 +2,11 @@
 ghost use mathlib.Core.Path.{_≡_};
 ghost use lib.ListN.{drop, take};
 ghost use Rattle.ends.specs.Identities.{among};
-ghost use Rattle.groups.specs.Members.{placeFrom};
-ghost use Rattle.groups.specs.Subscriber.{joinedLlids};
-use crate::Joined;
-use crate::MAX_JOINED;
+ghost use Rattle.group_protocol.specs.Members.{placeFrom};
+ghost use Rattle.group_protocol.specs.Subscriber.{joinedLlids};
 use ends::Found;
+use group_protocol::Joined;
+use group_protocol::MAX_JOINED;
 
 // Which of the first `count` groups has the LLID, from place `from` on.
 pub fn find_joined(table: [Joined; MAX_JOINED as usize], from: usize, count: u8, llid: u16) -> Found

@@ -1,16 +1,16 @@
 // New groups (02, C-14).
 ghost use mathlib.Core.Path.{_≡_};
-ghost use Rattle.groups.specs.Head.{freshGroup, noGroup, noGroups};
-use crate::GroupRecord;
-use crate::Groups;
-use crate::MAX_GROUPS;
-use crate::MAX_MEMBERS;
-use crate::Members;
+ghost use Rattle.group_protocol.specs.Head.{freshGroup, noGroup, noGroups};
 use crate::membership::fresh_members;
 use ends::FirstSend;
 use ends::Slots;
 use ends::Timer;
 use ends::UnitKeys;
+use group_protocol::GroupRecord;
+use group_protocol::Groups;
+use group_protocol::MAX_GROUPS;
+use group_protocol::MAX_MEMBERS;
+use group_protocol::Members;
 
 // Numbers 0, the flag down.
 pub fn fresh_group(llid: u16, interval: u64, members: Members) -> GroupRecord

@@ -8,14 +8,14 @@ ghost use Rattle.octets.specs.Lists.{all, tabulate};
 ghost use Rattle.ends.specs.Flags.{isUp};
 ghost use Rattle.ends.specs.Identities.{among, distinct};
 ghost use Rattle.ends.specs.Table.{pastUnit};
-ghost use Rattle.groups.specs.GroupCalls.{membersSet};
-ghost use Rattle.groups.specs.Members.{freshMembers, marked, marksOf, memberAt, placesOf, unmarked, validMembers};
-use crate::MAX_MEMBERS;
-use crate::Members;
+ghost use Rattle.group_protocol.specs.GroupCalls.{membersSet};
+ghost use Rattle.group_protocol.specs.Members.{freshMembers, marked, marksOf, memberAt, placesOf, unmarked, validMembers};
 use ends::Found;
 use ends::Olt;
 use ends::UnitRecord;
 use ends::limits::MAX_UNITS;
+use group_protocol::MAX_MEMBERS;
+use group_protocol::Members;
 
 // The octet at place j.
 fn at(octets: [u8; MAX_MEMBERS as usize], j: u8) -> u8

@@ -3,15 +3,15 @@ ghost use mathlib.Core.Path.{_≡_};
 ghost use lib.ListN.{take};
 ghost use Rattle.ends.specs.Identities.{among, llidsOf, meets};
 ghost use Rattle.ends.specs.Table.{tableLlids};
-ghost use Rattle.groups.specs.Head.{groupFrom, groupLlids};
-use crate::GroupRecord;
-use crate::MAX_GROUPS;
+ghost use Rattle.group_protocol.specs.Head.{groupFrom, groupLlids};
 use ends::Found;
 use ends::Identity;
 use ends::UnitRecord;
 use ends::limits::MAX_UNITS;
 use ends::llids::has;
 use ends::search::find;
+use group_protocol::GroupRecord;
+use group_protocol::MAX_GROUPS;
 
 // Which of the first `count` groups has the LLID.
 pub fn find_group(table: [GroupRecord; MAX_GROUPS as usize], count: u8, llid: u16) -> Found

@@ -13,11 +13,11 @@ use Rattle.multicast.specs.HeadCalls.{headMovedOf}
 use Rattle.multicast.specs.SubscriberCalls.{subscriberMovedOf}
 use Rattle.multicast.specs.declared.HeadMoved.{HeadMoved}
 use Rattle.multicast.specs.declared.SubscriberMoved.{SubscriberMoved}
-use Rattle.groups.proofs.HeadEnd as head-end
-use Rattle.groups.proofs.HeadEnd.Laws as head-laws
+use Rattle.group_protocol.proofs.HeadEnd as head-end
+use Rattle.group_protocol.proofs.HeadEnd.Laws as head-laws
 use Rattle.multicast.proofs.HeadMoved as head-moved
-use Rattle.groups.proofs.Subscriber as subscriber-end
-use Rattle.groups.proofs.Subscriber.Laws as subscriber-laws
+use Rattle.group_protocol.proofs.Subscriber as subscriber-end
+use Rattle.group_protocol.proofs.Subscriber.Laws as subscriber-laws
 use Rattle.multicast.proofs.SubscriberMoved as subscriber-moved
 
 -- an end's struct, the struct of end and code that the advance by value answers with, and the definition that it equals

@@ -42,14 +42,14 @@ use denote.Triple.Walked.{AllGo, Stays, Walks, ends-at, goes-none, goes-ref, say
 use denote.Triple.Clauses.{Clauses, Ended, closing, ensured, lasts}
 use denote.Exit.{yes}
 use Rattle.multicast.specs.HeadCalls.{headAdvanceOf}
-use Rattle.groups.specs.declared.Groups.{Groups}
-use Rattle.groups.specs.declared.HeadEnd.{HeadEnd}
+use Rattle.group_protocol.specs.declared.Groups.{Groups}
+use Rattle.group_protocol.specs.declared.HeadEnd.{HeadEnd}
 use Rattle.ends.proofs.Olt as olt-part
 use Rattle.ends.proofs.Olt.Laws as olt-laws
-use Rattle.groups.proofs.Groups as groups-part
-use Rattle.groups.proofs.Groups.Laws as groups-laws
-use Rattle.groups.proofs.HeadEnd as head-end
-use Rattle.groups.proofs.HeadEnd.Laws as head-laws
+use Rattle.group_protocol.proofs.Groups as groups-part
+use Rattle.group_protocol.proofs.Groups.Laws as groups-laws
+use Rattle.group_protocol.proofs.HeadEnd as head-end
+use Rattle.group_protocol.proofs.HeadEnd.Laws as head-laws
 use Rattle.jazmotip.specs.declared.at_olt.AfterAdvance.{AfterAdvance}
 use Rattle.jazmotip.proofs.at_olt.AfterAdvance as after
 use Rattle.jazmotip.proofs.at_olt.AfterAdvance.Laws as after-laws

@@ -7,7 +7,7 @@ use borrow.Author.Tests.{eqb-true, not-false}
 use Rattle.refusal.specs.declared.Verdict.{Verdict}
 use Rattle.refusal.specs.declared.Verdict.the-variants.{Accepted, Refused}
 use Rattle.protocol.specs.Replies.{reply, silent}
-use Rattle.groups.specs.declared.HeadEnd.{HeadEnd}
+use Rattle.group_protocol.specs.declared.HeadEnd.{HeadEnd}
 use Rattle.multicast.specs.HeadCalls.{headAdvanced, headAdvanceOf, headAnswer}
 use Rattle.multicast.proofs.Advancing.{headOrder}
 use Rattle.multicast.proofs.NoGroups.{groups-rest}

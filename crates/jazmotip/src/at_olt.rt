@@ -6,10 +6,10 @@ ghost use Rattle.multicast.specs.HeadCalls.{freshHeadOf, headAcknowledgeOf, hea
 ghost use Rattle.multicast.specs.HeadTraffic.{headReceiveOf, headSendOf};
 use ends::Identity;
 use ends::Olt;
-use groups::Answer;
-use groups::Groups;
-use groups::HeadEnd;
-use groups::Roster;
+use group_protocol::Answer;
+use group_protocol::Groups;
+use group_protocol::HeadEnd;
+use group_protocol::Roster;
 use multicast::HeadAnswer;
 use multicast::HeadClockSent;
 use multicast::HeadKeySent;

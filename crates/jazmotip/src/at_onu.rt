@@ -5,7 +5,7 @@ ghost use Rattle.multicast.specs.SubscriberCalls.{freshSubscriberOf, joinOf, su
 ghost use Rattle.multicast.specs.SubscriberTraffic.{subscriberReceiveOf, subscriberSendOf};
 use clock::Stamps;
 use ends::Identity;
-use groups::Subscriber;
+use group_protocol::Subscriber;
 use multicast::SubscriberAcknowledged;
 use multicast::SubscriberAnswer;
 use multicast::SubscriberMoved;

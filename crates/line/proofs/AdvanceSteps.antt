@@ -23,12 +23,12 @@ use Rattle.refusal.proofs.Order.{refused-accepts}
 use Rattle.protocol.proofs.OltCalls.{advance-olt-refused}
 use Rattle.protocol.proofs.OltAdvance.{advancing-accepted, advancing-accepts}
 use Rattle.refusal.proofs.Numbers.{number-accepted}
-use Rattle.groups.specs.GroupCalls.{groupAdvanced}
-use Rattle.groups.specs.Head.{groupAt, pastGroup, withGroupKeys}
-use Rattle.groups.specs.Subscriber.{withOnu}
-use Rattle.groups.specs.declared.HeadEnd.{HeadEnd}
-use Rattle.groups.specs.declared.Subscriber.{Subscriber}
-use Rattle.groups.proofs.HeadValidity.{head-valid}
+use Rattle.group_protocol.specs.GroupCalls.{groupAdvanced}
+use Rattle.group_protocol.specs.Head.{groupAt, pastGroup, withGroupKeys}
+use Rattle.group_protocol.specs.Subscriber.{withOnu}
+use Rattle.group_protocol.specs.declared.HeadEnd.{HeadEnd}
+use Rattle.group_protocol.specs.declared.Subscriber.{Subscriber}
+use Rattle.group_protocol.proofs.HeadValidity.{head-valid}
 use Rattle.multicast.specs.HeadCalls.{groupsAdvanced, headAdvanced}
 use Rattle.multicast.specs.SubscriberCalls.{subscriberAdvanceOf}
 use Rattle.multicast.specs.declared.SubscriberAnswer.{SubscriberAnswer}

@@ -4,7 +4,7 @@ use mathlib.Core.List.{List}
 use Prim.Native.Nat.{ℕ}
 use lib.ListN.{set, List·getD-map}
 use Rattle.ends.specs.declared.Onu.{Onu}
-use Rattle.groups.specs.declared.Subscriber.{Subscriber}
+use Rattle.group_protocol.specs.declared.Subscriber.{Subscriber}
 use Rattle.unicast.specs.History as units
 use Rattle.unicast.specs.Run as run
 use Rattle.line.specs.History.{Membership, GroupLane}

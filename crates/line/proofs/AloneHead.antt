@@ -26,8 +26,8 @@ use Rattle.traffic.specs.Sends.{oltSendOf}
 use Rattle.traffic.specs.Receipts.{oltReceiveOf}
 use Rattle.traffic.specs.declared.OltSent.{OltSent}
 use Rattle.traffic.specs.declared.OltReceived.{OltReceived}
-use Rattle.groups.specs.Head.{findGroup, validHead, validGroups, withOlt}
-use Rattle.groups.specs.declared.HeadEnd.{HeadEnd}
+use Rattle.group_protocol.specs.Head.{findGroup, validHead, validGroups, withOlt}
+use Rattle.group_protocol.specs.declared.HeadEnd.{HeadEnd}
 use Rattle.multicast.specs.Naming.{byLlid}
 use Rattle.multicast.specs.HeadCalls.{oltAnswered, oltClockSent, oltKeySent, headCaptureOf, headClockSendOf, headOfferOf, headRetryOf, headAcknowledgeOf, ownAcknowledgement, headAnswer, headAdvanced, headAdvanceOf}
 use Rattle.multicast.specs.HeadTraffic.{oltSentIn, oltReceivedIn, headSendOf, headReceiveOf}

@@ -16,8 +16,8 @@ use Rattle.traffic.specs.Sends.{onuSendOf}
 use Rattle.traffic.specs.Receipts.{onuReceiveOf}
 use Rattle.traffic.specs.declared.OnuSent.{OnuSent}
 use Rattle.traffic.specs.declared.OnuReceived.{OnuReceived}
-use Rattle.groups.specs.Subscriber.{findJoined, validMemberships, withOnu}
-use Rattle.groups.specs.declared.Subscriber.{Subscriber}
+use Rattle.group_protocol.specs.Subscriber.{findJoined, validMemberships, withOnu}
+use Rattle.group_protocol.specs.declared.Subscriber.{Subscriber}
 use Rattle.multicast.specs.Naming.{byLlid}
 use Rattle.multicast.specs.SubscriberCalls.{ownAnswer, ownAnswered, ownAcknowledged, onuAnswered, onuAcknowledgedIn, subscriberAdvanceOf, subscriberNewTimeOf, subscriberClockMessageOf, subscriberKeyMessageOf}
 use Rattle.multicast.specs.SubscriberTraffic.{ownSent, unitSendOf, ownSendOf, ownReceived, unitReceiveOf, ownReceiveOf, subscriberSendOf, subscriberReceiveOf}

@@ -22,12 +22,12 @@ use Rattle.protocol.proofs.OltTraffic.{receiving-untouched}
 use Rattle.protocol.proofs.Replies.{number-refused}
 use Rattle.traffic.specs.Passages.{misfit}
 use Rattle.traffic.specs.Receipts.{oltReceived, oltReceiveOf}
-use Rattle.groups.specs.GroupCalls.{groupOutcome, memberNamed, groupMarked, acknowledgeGroup}
-use Rattle.groups.specs.Head.{findGroup, groupAt, withMembers, withOlt, validGroups}
-use Rattle.groups.specs.declared.Answer.{Answer}
-use Rattle.groups.specs.declared.GroupRecord.{GroupRecord}
-use Rattle.groups.specs.declared.HeadEnd.{HeadEnd}
-use Rattle.groups.proofs.GroupSteps.{marked-llid, group-marked-valid}
+use Rattle.group_protocol.specs.GroupCalls.{groupOutcome, memberNamed, groupMarked, acknowledgeGroup}
+use Rattle.group_protocol.specs.Head.{findGroup, groupAt, withMembers, withOlt, validGroups}
+use Rattle.group_protocol.specs.declared.Answer.{Answer}
+use Rattle.group_protocol.specs.declared.GroupRecord.{GroupRecord}
+use Rattle.group_protocol.specs.declared.HeadEnd.{HeadEnd}
+use Rattle.group_protocol.proofs.GroupSteps.{marked-llid, group-marked-valid}
 use Rattle.multicast.specs.Naming.{byLlid}
 use Rattle.multicast.specs.HeadCalls.{headAnswer, ownAcknowledgement, headAcknowledgeOf}
 use Rattle.multicast.specs.HeadTraffic.{headReceiveOf}

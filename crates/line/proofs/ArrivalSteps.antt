@@ -8,7 +8,7 @@ use Rattle.ends.specs.Identities.{has}
 use Rattle.ends.specs.declared.Olt.{Olt}
 use Rattle.protocol.specs.Headers.{envelopeHeader}
 use Rattle.protocol.specs.declared.Header.{Header}
-use Rattle.groups.specs.Head.{withOlt}
+use Rattle.group_protocol.specs.Head.{withOlt}
 use Rattle.unicast.specs.Setting.{Setting}
 use Rattle.unicast.specs.History.{Entry, Lane, laneWith, laneArrivedUp}
 use Rattle.unicast.specs.Events as events

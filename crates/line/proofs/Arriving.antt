@@ -13,10 +13,10 @@ use Rattle.octets.proofs.Choice.{both-left}
 use Rattle.ends.specs.Identities.{among, has}
 use Rattle.ends.specs.Validity.{validOnu}
 use Rattle.ends.specs.declared.Onu.{Onu}
-use Rattle.groups.specs.Head.{groupAt}
-use Rattle.groups.specs.Subscriber.{hasJoined}
-use Rattle.groups.specs.declared.Subscriber.{Subscriber}
-use Rattle.groups.proofs.Places.{at-nowhere}
+use Rattle.group_protocol.specs.Head.{groupAt}
+use Rattle.group_protocol.specs.Subscriber.{hasJoined}
+use Rattle.group_protocol.specs.declared.Subscriber.{Subscriber}
+use Rattle.group_protocol.proofs.Places.{at-nowhere}
 use Rattle.unicast.specs.Setting.{Setting}
 use Rattle.unicast.specs.History.{InFlight, Lane, isSynced}
 use Rattle.unicast.specs.Run.{laneAt}

@@ -9,10 +9,10 @@ use Rattle.ends.specs.Occupancy.{freeFrom}
 use Rattle.ends.specs.declared.Olt.{Olt}
 use Rattle.ends.specs.declared.Onu.{Onu}
 use Rattle.ends.proofs.Table.{table-same}
-use Rattle.groups.specs.Head.{withOlt, validGroups}
-use Rattle.groups.specs.Subscriber.{withOnu, validMemberships}
-use Rattle.groups.specs.declared.HeadEnd.{HeadEnd}
-use Rattle.groups.specs.declared.Subscriber.{Subscriber}
+use Rattle.group_protocol.specs.Head.{withOlt, validGroups}
+use Rattle.group_protocol.specs.Subscriber.{withOnu, validMemberships}
+use Rattle.group_protocol.specs.declared.HeadEnd.{HeadEnd}
+use Rattle.group_protocol.specs.declared.Subscriber.{Subscriber}
 use Rattle.unicast.specs.Setting.{Setting}
 use Rattle.unicast.specs.Run.{laneAt}
 use Rattle.unicast.proofs.Invariant as units

@@ -17,12 +17,12 @@ use Rattle.protocol.specs.OltCalls.{measureOf}
 use Rattle.protocol.specs.OnuCalls.{newTimeOf}
 use Rattle.protocol.proofs.OltCalls.{measure-refused}
 use Rattle.protocol.proofs.NewTimes.{new-time-refused}
-use Rattle.groups.specs.Head.{groupAt, withOlt, validGroups}
-use Rattle.groups.specs.Subscriber.{withOnu, validMemberships}
-use Rattle.groups.specs.declared.GroupRecord.{GroupRecord}
-use Rattle.groups.specs.declared.HeadEnd.{HeadEnd}
-use Rattle.groups.specs.declared.Joined.{Joined}
-use Rattle.groups.specs.declared.Subscriber.{Subscriber}
+use Rattle.group_protocol.specs.Head.{groupAt, withOlt, validGroups}
+use Rattle.group_protocol.specs.Subscriber.{withOnu, validMemberships}
+use Rattle.group_protocol.specs.declared.GroupRecord.{GroupRecord}
+use Rattle.group_protocol.specs.declared.HeadEnd.{HeadEnd}
+use Rattle.group_protocol.specs.declared.Joined.{Joined}
+use Rattle.group_protocol.specs.declared.Subscriber.{Subscriber}
 use Rattle.multicast.specs.HeadCalls.{headMeasureOf}
 use Rattle.multicast.specs.SubscriberCalls.{subscriberNewTimeOf}
 use Rattle.multicast.specs.declared.HeadAnswer.{HeadAnswer}

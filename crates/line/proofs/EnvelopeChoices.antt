@@ -18,9 +18,9 @@ use Rattle.protocol.specs.Headers.{choiceEnciphered, choiceNumber, choiceVerdic
 use Rattle.protocol.specs.declared.Header.{Header}
 use Rattle.protocol.specs.declared.KeyChoice.{KeyChoice}
 use Rattle.protocol.specs.declared.KeyChoice.the-variants.{Clear, Current, Next, Barred}
-use Rattle.groups.specs.JoinedCalls.{holds, joinedChoice, joinedMoved, joinedAfterReceipt}
-use Rattle.groups.specs.declared.Joined.{Joined}
-use Rattle.groups.proofs.JoinedCalls.{next-held}
+use Rattle.group_protocol.specs.JoinedCalls.{holds, joinedChoice, joinedMoved, joinedAfterReceipt}
+use Rattle.group_protocol.specs.declared.Joined.{Joined}
+use Rattle.group_protocol.proofs.JoinedCalls.{next-held}
 use Rattle.unicast.specs.History.{InFlight}
 use Rattle.line.specs.History.{GroupLane, Membership}
 use Rattle.line.proofs.Invariant.{Under, Follows}

@@ -10,13 +10,13 @@ use Rattle.octets.specs.Choice.{pick}
 use Rattle.octets.proofs.Choice.{either-false, pick-false}
 use Rattle.ends.specs.Identities.{among}
 use Rattle.ends.specs.declared.Found.the-variants.{At, Nowhere}
-use Rattle.groups.specs.Members.{placeFrom}
-use Rattle.groups.specs.Head.{groupLlids, registeredGroups, findGroup, isGroup}
-use Rattle.groups.specs.Subscriber.{joinedLlids, joinedGroups, findJoined, hasJoined}
-use Rattle.groups.specs.declared.HeadEnd.{HeadEnd}
-use Rattle.groups.specs.declared.Subscriber.{Subscriber}
-use Rattle.groups.proofs.Places.{at-nowhere}
-use Rattle.groups.proofs.Walks.{group-place, group-found, place-among, place-absent}
+use Rattle.group_protocol.specs.Members.{placeFrom}
+use Rattle.group_protocol.specs.Head.{groupLlids, registeredGroups, findGroup, isGroup}
+use Rattle.group_protocol.specs.Subscriber.{joinedLlids, joinedGroups, findJoined, hasJoined}
+use Rattle.group_protocol.specs.declared.HeadEnd.{HeadEnd}
+use Rattle.group_protocol.specs.declared.Subscriber.{Subscriber}
+use Rattle.group_protocol.proofs.Places.{at-nowhere, place-among, place-absent}
+use Rattle.group_protocol.proofs.Llids.{group-place, group-found}
 
 ---- a number in a list
 

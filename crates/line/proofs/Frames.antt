@@ -10,11 +10,11 @@ use Rattle.ends.specs.Identities.{llidsOf, meets}
 use Rattle.ends.specs.Occupancy.{freeFrom}
 use Rattle.ends.specs.declared.Channels.{Channels}
 use Rattle.ends.specs.declared.FirstSend.{FirstSend}
-use Rattle.groups.specs.Subscriber.{findJoined}
-use Rattle.groups.specs.declared.GroupRecord.{GroupRecord}
-use Rattle.groups.specs.declared.Joined.{Joined}
-use Rattle.groups.specs.declared.Memberships.{Memberships}
-use Rattle.groups.specs.declared.Subscriber.{Subscriber}
+use Rattle.group_protocol.specs.Subscriber.{findJoined}
+use Rattle.group_protocol.specs.declared.GroupRecord.{GroupRecord}
+use Rattle.group_protocol.specs.declared.Joined.{Joined}
+use Rattle.group_protocol.specs.declared.Memberships.{Memberships}
+use Rattle.group_protocol.specs.declared.Subscriber.{Subscriber}
 use Rattle.unicast.specs.Setting.{Setting}
 use Rattle.unicast.specs.History.{Envelope, InFlight, Lane}
 use Rattle.unicast.proofs.Past.{sent-carried, arrived-carried}

@@ -20,11 +20,11 @@ use Rattle.ends.specs.declared.Found.the-variants.{At}
 use Rattle.ends.specs.declared.Olt.{Olt}
 use Rattle.protocol.specs.Replies.{onValid}
 use Rattle.protocol.proofs.Replies.{reply-accepted, reply-refused}
-use Rattle.groups.specs.GroupCalls.{GroupOutcome}
-use Rattle.groups.specs.Head.{findGroup, groupAt, withGroup, validHead}
-use Rattle.groups.specs.declared.GroupRecord.{GroupRecord}
-use Rattle.groups.specs.declared.HeadEnd.{HeadEnd}
-use Rattle.groups.specs.declared.Joined.{Joined}
+use Rattle.group_protocol.specs.GroupCalls.{GroupOutcome}
+use Rattle.group_protocol.specs.Head.{findGroup, groupAt, withGroup, validHead}
+use Rattle.group_protocol.specs.declared.GroupRecord.{GroupRecord}
+use Rattle.group_protocol.specs.declared.HeadEnd.{HeadEnd}
+use Rattle.group_protocol.specs.declared.Joined.{Joined}
 use Rattle.multicast.specs.Naming.{putGroup, groupLift}
 use Rattle.unicast.specs.Setting.{Setting}
 use Rattle.unicast.specs.History.{InFlight, Lane}

@@ -19,8 +19,8 @@ use Rattle.protocol.specs.Headers.{choiceEnciphered, choiceNumber, choiceAged}
 use Rattle.protocol.specs.UnitTraffic.{keysSwitched, keysAfterSend}
 use Rattle.protocol.specs.declared.KeyChoice.{KeyChoice}
 use Rattle.protocol.specs.declared.KeyChoice.the-variants.{Clear, Current, Next}
-use Rattle.groups.specs.GroupCalls.{groupSwitches, groupSendChoice, wipedAtSwitch, groupKeysAfterSend}
-use Rattle.groups.specs.declared.GroupRecord.{GroupRecord}
+use Rattle.group_protocol.specs.GroupCalls.{groupSwitches, groupSendChoice, wipedAtSwitch, groupKeysAfterSend}
+use Rattle.group_protocol.specs.declared.GroupRecord.{GroupRecord}
 use Rattle.unicast.specs.Setting.{Setting}
 use Rattle.unicast.specs.History.{Entry, Keys, due}
 use Rattle.unicast.proofs.Invariant.{Timing, Begun}

@@ -38,13 +38,13 @@ use Rattle.protocol.proofs.OnuChoices.{onu-receive-accepted}
 use Rattle.protocol.proofs.Replies.{reply-accepted, reply-refused}
 use Rattle.traffic.specs.Passages.{misfit, passedCount, passedRuns, outputAfter}
 use Rattle.traffic.specs.Receipts.{onuReceived, onuReceiveOf}
-use Rattle.groups.specs.Head.{groupAt}
-use Rattle.groups.specs.JoinedCalls.{holds, joinedChoice, joinedReceiveVerdict, joinedAfterReceipt, receiveJoined}
-use Rattle.groups.specs.Subscriber.{hasJoined, findJoined, joinedAt, withJoined, withOnu, validSubscriber}
-use Rattle.groups.specs.declared.Joined.{Joined}
-use Rattle.groups.specs.declared.Subscriber.{Subscriber}
-use Rattle.groups.proofs.JoinedCalls.{receipt-valid, receipt-llid}
-use Rattle.groups.proofs.Subscribers.{found-place, found-valid}
+use Rattle.group_protocol.specs.Head.{groupAt}
+use Rattle.group_protocol.specs.JoinedCalls.{holds, joinedChoice, joinedReceiveVerdict, joinedAfterReceipt, receiveJoined}
+use Rattle.group_protocol.specs.Subscriber.{hasJoined, findJoined, joinedAt, withJoined, withOnu, validSubscriber}
+use Rattle.group_protocol.specs.declared.Joined.{Joined}
+use Rattle.group_protocol.specs.declared.Subscriber.{Subscriber}
+use Rattle.group_protocol.proofs.JoinedCalls.{receipt-valid, receipt-llid}
+use Rattle.group_protocol.proofs.Subscribers.{found-place, found-valid}
 use Rattle.multicast.specs.Naming.{byLlid}
 use Rattle.multicast.specs.SubscriberCalls.{putJoined, joinedLift}
 use Rattle.multicast.specs.SubscriberTraffic.{subscriberReceived, groupReceiveOf, subscriberReceiveOf}

@@ -19,12 +19,12 @@ use Rattle.ends.proofs.Validity.{olt-in-range, shared-in-range}
 use Rattle.protocol.specs.Messages.{noKeyMessage}
 use Rattle.protocol.specs.UnitCalls.{keysOffered, keyMessageOf, retryVerdict}
 use Rattle.protocol.specs.declared.KeyMessage.{KeyMessage}
-use Rattle.groups.specs.GroupCalls as calls
-use Rattle.groups.specs.GroupCalls.{groupOutcome, membersSet, groupOfferVerdict, offerGroup, retryGroup}
-use Rattle.groups.specs.Head.{findGroup, groupAt, pastGroup, withGroupKeys, withMembers, validGroup}
-use Rattle.groups.specs.declared.GroupRecord.{GroupRecord}
-use Rattle.groups.proofs.GroupSteps.{group-offered-valid}
-use Rattle.groups.proofs.HeadValidity.{groups-in-range}
+use Rattle.group_protocol.specs.GroupCalls as calls
+use Rattle.group_protocol.specs.GroupCalls.{groupOutcome, membersSet, groupOfferVerdict, offerGroup, retryGroup}
+use Rattle.group_protocol.specs.Head.{findGroup, groupAt, pastGroup, withGroupKeys, withMembers, validGroup}
+use Rattle.group_protocol.specs.declared.GroupRecord.{GroupRecord}
+use Rattle.group_protocol.proofs.GroupSteps.{group-offered-valid}
+use Rattle.group_protocol.proofs.HeadValidity.{groups-in-range}
 use Rattle.multicast.specs.Naming.{byLlid}
 use Rattle.multicast.specs.HeadCalls.{headKeySent, headOfferOf, headRetryOf}
 use Rattle.unicast.specs.Setting.{Setting}

@@ -19,14 +19,14 @@ use Rattle.protocol.specs.OnuCalls.{onuAcknowledged, keyMessageAt}
 use Rattle.protocol.specs.declared.KeyMessage.{KeyMessage}
 use Rattle.protocol.proofs.KeyMessages.{key-message-met}
 use Rattle.protocol.proofs.OnuCalls.{key-message-refused}
-use Rattle.groups.specs.Head.{groupAt}
-use Rattle.groups.specs.JoinedCalls.{noAnswer, groupAnswer, joinedMessageVerdict, messageJoined, newNumber, heldAgain, joinedAfterMessage}
-use Rattle.groups.specs.Subscriber.{findJoined, joinedAt, withJoined, withOnu, validJoined}
-use Rattle.groups.specs.declared.Answer.{Answer}
-use Rattle.groups.specs.declared.Joined.{Joined}
-use Rattle.groups.specs.declared.Subscriber.{Subscriber}
-use Rattle.groups.proofs.JoinedCalls.{message-valid, message-llid}
-use Rattle.groups.proofs.Subscribers.{found-place, found-valid, with-joined-valid}
+use Rattle.group_protocol.specs.Head.{groupAt}
+use Rattle.group_protocol.specs.JoinedCalls.{noAnswer, groupAnswer, joinedMessageVerdict, messageJoined, newNumber, heldAgain, joinedAfterMessage}
+use Rattle.group_protocol.specs.Subscriber.{findJoined, joinedAt, withJoined, withOnu, validJoined}
+use Rattle.group_protocol.specs.declared.Answer.{Answer}
+use Rattle.group_protocol.specs.declared.Joined.{Joined}
+use Rattle.group_protocol.specs.declared.Subscriber.{Subscriber}
+use Rattle.group_protocol.proofs.JoinedCalls.{message-valid, message-llid}
+use Rattle.group_protocol.proofs.Subscribers.{found-place, found-valid, with-joined-valid}
 use Rattle.multicast.specs.Naming.{byLlid}
 use Rattle.multicast.specs.SubscriberCalls.{subscriberAcknowledged, subscriberKeyMessageOf}
 use Rattle.multicast.specs.declared.SubscriberAcknowledged.{SubscriberAcknowledged}

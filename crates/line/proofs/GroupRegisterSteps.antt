@@ -21,14 +21,14 @@ use Rattle.ends.specs.Timers.{validInterval, freshTimer}
 use Rattle.ends.specs.declared.Channels.{Channels}
 use Rattle.protocol.specs.Replies.{silent}
 use Rattle.protocol.proofs.Replies.{reply-verdict, reply-accepted, reply-untouched, number-refused}
-use Rattle.groups.specs.Head.{findGroup, groupAt, pastGroup, freshGroup, isGroup, placesTaken, withOneGroupMore}
-use Rattle.groups.specs.Members.{validMembers}
-use Rattle.groups.specs.declared.GroupRecord.{GroupRecord}
-use Rattle.groups.specs.declared.HeadEnd.{HeadEnd}
-use Rattle.groups.specs.declared.Members.{Members}
-use Rattle.groups.specs.declared.Roster.{Roster}
-use Rattle.groups.proofs.GroupSteps.{fresh-group-valid}
-use Rattle.groups.proofs.HeadGroups.{more-groups-valid}
+use Rattle.group_protocol.specs.Head.{findGroup, groupAt, pastGroup, freshGroup, isGroup, placesTaken, withOneGroupMore}
+use Rattle.group_protocol.specs.Members.{validMembers}
+use Rattle.group_protocol.specs.declared.GroupRecord.{GroupRecord}
+use Rattle.group_protocol.specs.declared.HeadEnd.{HeadEnd}
+use Rattle.group_protocol.specs.declared.Members.{Members}
+use Rattle.group_protocol.specs.declared.Roster.{Roster}
+use Rattle.group_protocol.proofs.GroupSteps.{fresh-group-valid}
+use Rattle.group_protocol.proofs.HeadGroups.{more-groups-valid}
 use Rattle.multicast.specs.HeadCalls.{headAnswer, rosterMembers, validGroupRegistration, groupVerdict, registerGroupOf}
 use Rattle.unicast.specs.Setting.{Setting}
 use Rattle.unicast.specs.History.{InFlight, due}

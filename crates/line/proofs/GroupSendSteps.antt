@@ -32,11 +32,11 @@ use Rattle.protocol.specs.declared.Sending.{Sending}
 use Rattle.protocol.proofs.Headers.{Goes, goes, key-for}
 use Rattle.traffic.specs.Passages.{misfit, outputAfter}
 use Rattle.traffic.proofs.Passages.{few-eqs}
-use Rattle.groups.specs.GroupCalls.{groupSendChoice, groupKeysAfterSend, sendGroup}
-use Rattle.groups.specs.Head.{findGroup, groupAt, withGroupKeys, validGroup}
-use Rattle.groups.specs.declared.GroupRecord.{GroupRecord}
-use Rattle.groups.specs.declared.HeadEnd.{HeadEnd}
-use Rattle.groups.proofs.GroupSteps.{group-sent-valid}
+use Rattle.group_protocol.specs.GroupCalls.{groupSendChoice, groupKeysAfterSend, sendGroup}
+use Rattle.group_protocol.specs.Head.{findGroup, groupAt, withGroupKeys, validGroup}
+use Rattle.group_protocol.specs.declared.GroupRecord.{GroupRecord}
+use Rattle.group_protocol.specs.declared.HeadEnd.{HeadEnd}
+use Rattle.group_protocol.proofs.GroupSteps.{group-sent-valid}
 use Rattle.multicast.specs.Naming.{byLlid, groupLift}
 use Rattle.multicast.specs.HeadTraffic.{sendAhead, headSent, headSendOf}
 use Rattle.unicast.specs.Setting.{Setting}

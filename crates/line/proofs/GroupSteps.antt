@@ -14,9 +14,9 @@ use Rattle.ends.specs.Occupancy.{freeFrom, validChannels}
 use Rattle.ends.specs.Records.{withChannels}
 use Rattle.ends.specs.Table.{withOltChannels}
 use Rattle.ends.specs.declared.Channels.{Channels}
-use Rattle.groups.specs.Head.{groupAt, pastGroup, withGroup, validGroup}
-use Rattle.groups.specs.declared.GroupRecord.{GroupRecord}
-use Rattle.groups.proofs.HeadGroups.{replaced-groups-valid}
+use Rattle.group_protocol.specs.Head.{groupAt, pastGroup, withGroup, validGroup}
+use Rattle.group_protocol.specs.declared.GroupRecord.{GroupRecord}
+use Rattle.group_protocol.proofs.HeadGroups.{replaced-groups-valid}
 use Rattle.unicast.specs.Setting.{Setting}
 use Rattle.unicast.specs.History.{Lane}
 use Rattle.unicast.specs.Run.{laneAt}

@@ -17,13 +17,13 @@ use Rattle.ends.specs.Limits.{maxUnits}
 use Rattle.ends.specs.declared.Channels.{Channels}
 use Rattle.ends.specs.declared.FirstSend.{FirstSend}
 use Rattle.protocol.specs.declared.KeyMessage.{KeyMessage}
-use Rattle.groups.specs.Limits.{maxJoined}
-use Rattle.groups.specs.Head.{groupAt, validGroups}
-use Rattle.groups.specs.Subscriber.{freshJoined, joinedLlids, joinedGroups, findJoined, joinedAt, validMemberships}
-use Rattle.groups.specs.JoinedCalls.{holds}
-use Rattle.groups.specs.declared.GroupRecord.{GroupRecord}
-use Rattle.groups.specs.declared.Joined.{Joined}
-use Rattle.groups.specs.declared.Subscriber.{Subscriber}
+use Rattle.group_protocol.specs.Limits.{maxJoined}
+use Rattle.group_protocol.specs.Head.{groupAt, validGroups}
+use Rattle.group_protocol.specs.Subscriber.{freshJoined, joinedLlids, joinedGroups, findJoined, joinedAt, validMemberships}
+use Rattle.group_protocol.specs.JoinedCalls.{holds}
+use Rattle.group_protocol.specs.declared.GroupRecord.{GroupRecord}
+use Rattle.group_protocol.specs.declared.Joined.{Joined}
+use Rattle.group_protocol.specs.declared.Subscriber.{Subscriber}
 use Rattle.multicast.specs.Naming.{byLlid}
 use Rattle.unicast.specs.Setting.{Setting}
 use Rattle.unicast.specs.History.{downward, Envelope, InFlight, clockMessage, keyMessage, envelope, Arrival, Lane, keyOf}

@@ -20,14 +20,14 @@ use Rattle.ends.specs.declared.Found.the-variants.{At, Nowhere}
 use Rattle.protocol.specs.Replies.{silent}
 use Rattle.protocol.proofs.OnuCalls.{zeros-invalid}
 use Rattle.protocol.proofs.Replies.{reply-verdict, reply-accepted, reply-untouched, number-refused}
-use Rattle.groups.specs.Head.{groupAt}
-use Rattle.groups.specs.Limits.{maxJoined}
-use Rattle.groups.specs.Members.{placeFrom}
-use Rattle.groups.specs.Subscriber.{freshJoined, joinedLlids, joinedGroups, hasJoined, findJoined, joinedAt, pastJoined, withOneJoinedMore, validSubscriber}
-use Rattle.groups.specs.declared.Joined.{Joined}
-use Rattle.groups.specs.declared.Subscriber.{Subscriber}
-use Rattle.groups.proofs.Places.{place-at}
-use Rattle.groups.proofs.Subscribers.{one-more-valid, fresh-joined-valid}
+use Rattle.group_protocol.specs.Head.{groupAt}
+use Rattle.group_protocol.specs.Limits.{maxJoined}
+use Rattle.group_protocol.specs.Members.{placeFrom}
+use Rattle.group_protocol.specs.Subscriber.{freshJoined, joinedLlids, joinedGroups, hasJoined, findJoined, joinedAt, pastJoined, withOneJoinedMore, validSubscriber}
+use Rattle.group_protocol.specs.declared.Joined.{Joined}
+use Rattle.group_protocol.specs.declared.Subscriber.{Subscriber}
+use Rattle.group_protocol.proofs.Places.{place-at}
+use Rattle.group_protocol.proofs.Subscribers.{one-more-valid, fresh-joined-valid}
 use Rattle.multicast.specs.Naming.{byLlid}
 use Rattle.multicast.specs.SubscriberCalls.{subscriberAnswer, joinVerdict, joinOf}
 use Rattle.unicast.specs.Setting.{Setting}

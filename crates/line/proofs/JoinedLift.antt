@@ -10,10 +10,10 @@ use Rattle.refusal.proofs.Order.{refuse-accepted}
 use Rattle.ends.specs.declared.Onu.{Onu}
 use Rattle.protocol.specs.Replies.{onValid}
 use Rattle.protocol.proofs.Replies.{reply-accepted, reply-refused}
-use Rattle.groups.specs.JoinedCalls.{JoinedOutcome}
-use Rattle.groups.specs.Subscriber.{joinedAt, withJoined, validSubscriber}
-use Rattle.groups.specs.declared.Joined.{Joined}
-use Rattle.groups.specs.declared.Subscriber.{Subscriber}
+use Rattle.group_protocol.specs.JoinedCalls.{JoinedOutcome}
+use Rattle.group_protocol.specs.Subscriber.{joinedAt, withJoined, validSubscriber}
+use Rattle.group_protocol.specs.declared.Joined.{Joined}
+use Rattle.group_protocol.specs.declared.Subscriber.{Subscriber}
 use Rattle.multicast.specs.SubscriberCalls.{putJoined, joinedLift}
 
 module _ {H : Type 0} (x : Subscriber) (nothing : H) (call : Onu → Joined → JoinedOutcome H) (i : ℕ) where

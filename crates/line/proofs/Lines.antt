@@ -17,15 +17,15 @@ use Rattle.ends.specs.declared.Found.the-variants.{At, Nowhere}
 use Rattle.ends.specs.declared.Onu.{Onu}
 use Rattle.ends.proofs.Identities.{meets-apart}
 use Rattle.ends.proofs.Table.{registered-found}
-use Rattle.groups.specs.Head.{isGroup, findGroup, validGroups}
-use Rattle.groups.specs.Subscriber.{findJoined, hasJoined, validMemberships}
-use Rattle.groups.specs.Subscriber as subscribers
-use Rattle.groups.specs.declared.HeadEnd.{HeadEnd}
-use Rattle.groups.specs.declared.Subscriber.{Subscriber}
-use Rattle.groups.proofs.Found.{Stands, group-at, group-own}
-use Rattle.groups.proofs.HeadValidity.{groups-in-range}
-use Rattle.groups.proofs.Places.{at-nowhere}
-use Rattle.groups.proofs.Subscribers.{alone-valid, memberships-valid}
+use Rattle.group_protocol.specs.Head.{isGroup, findGroup, validGroups}
+use Rattle.group_protocol.specs.Subscriber.{findJoined, hasJoined, validMemberships}
+use Rattle.group_protocol.specs.Subscriber as subscribers
+use Rattle.group_protocol.specs.declared.HeadEnd.{HeadEnd}
+use Rattle.group_protocol.specs.declared.Subscriber.{Subscriber}
+use Rattle.group_protocol.proofs.Found.{Stands, group-at, group-own}
+use Rattle.group_protocol.proofs.HeadValidity.{groups-in-range}
+use Rattle.group_protocol.proofs.Places.{at-nowhere}
+use Rattle.group_protocol.proofs.Subscribers.{alone-valid, memberships-valid}
 use Rattle.unicast.specs.Setting.{Setting}
 use Rattle.unicast.specs.History.{Lane}
 use Rattle.unicast.specs.Run.{laneAt, accepted, noted, named, freshLane, noSite}

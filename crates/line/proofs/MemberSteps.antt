@@ -10,8 +10,8 @@ use lib.ListN.{length, getD, set, length-set}
 use lib.Seq.{map-set-same, getD-set-same, getD-set-other}
 use borrow.Author.Tests.{eqb-true, eqb-false}
 use Rattle.ends.specs.declared.Onu.{Onu}
-use Rattle.groups.specs.Head.{groupAt}
-use Rattle.groups.specs.declared.Subscriber.{Subscriber}
+use Rattle.group_protocol.specs.Head.{groupAt}
+use Rattle.group_protocol.specs.declared.Subscriber.{Subscriber}
 use Rattle.unicast.specs.Setting.{Setting}
 use Rattle.unicast.specs.History.{InFlight, Lane}
 use Rattle.unicast.specs.Run.{laneAt}

@@ -14,9 +14,9 @@ use Rattle.ends.specs.Keys.{noSlots, keyIn, withKey}
 use Rattle.ends.specs.declared.Slots.{Slots}
 use Rattle.ends.proofs.Keys.{key-stored, key-beside}
 use Rattle.protocol.specs.declared.KeyMessage.{KeyMessage}
-use Rattle.groups.specs.Subscriber.{validJoined}
-use Rattle.groups.specs.JoinedCalls.{highestHeld, holds, heldAgain, newNumber, joinedTaken, joinedAfterMessage}
-use Rattle.groups.specs.declared.Joined.{Joined}
+use Rattle.group_protocol.specs.Subscriber.{validJoined}
+use Rattle.group_protocol.specs.JoinedCalls.{highestHeld, holds, heldAgain, newNumber, joinedTaken, joinedAfterMessage}
+use Rattle.group_protocol.specs.declared.Joined.{Joined}
 use Rattle.unicast.specs.History.{InFlight}
 use Rattle.line.specs.History.{GroupLane, Membership, taking}
 use Rattle.line.proofs.Invariant.{KeyUnder, Under, KeyHeld, Follows}

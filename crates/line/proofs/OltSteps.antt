@@ -7,7 +7,7 @@ use Rattle.ends.specs.declared.Found.the-variants.{Nowhere}
 use Rattle.ends.specs.declared.Olt.{Olt}
 use Rattle.protocol.specs.OltCalls.{captureOf, clockSendOf, retryOf, acknowledgeOf}
 use Rattle.traffic.specs.Sends.{oltSendOf}
-use Rattle.groups.specs.Head.{findGroup, withOlt}
+use Rattle.group_protocol.specs.Head.{findGroup, withOlt}
 use Rattle.multicast.specs.Naming.{byLlid}
 use Rattle.multicast.specs.HeadCalls.{headCaptureOf, headClockSendOf}
 use Rattle.unicast.specs.Setting.{Setting}

@@ -19,8 +19,8 @@ use Rattle.protocol.specs.Headers.{envelopeHeader}
 use Rattle.protocol.specs.declared.Header.{Header}
 use Rattle.traffic.specs.Passages.{misfit}
 use Rattle.traffic.specs.Sends.{onuSendOf}
-use Rattle.groups.specs.Subscriber.{findJoined, withOnu}
-use Rattle.groups.specs.declared.Subscriber.{Subscriber}
+use Rattle.group_protocol.specs.Subscriber.{findJoined, withOnu}
+use Rattle.group_protocol.specs.declared.Subscriber.{Subscriber}
 use Rattle.multicast.specs.Naming.{byLlid}
 use Rattle.multicast.specs.SubscriberCalls.{subscriberClockMessageOf, subscriberKeyMessageOf}
 use Rattle.multicast.specs.SubscriberTraffic.{groupSendVerdict, subscriberSendOf}

@@ -2,12 +2,12 @@
 -- Assumes nothing.
 use Rattle.refusal.specs.Order.{andThen}
 use Rattle.ends.specs.Table.{withOltChannels}
-use Rattle.groups.specs.Members.{placesOf, marksOf, rosterLlids, placeFrom, memberAt, freshMembers, unmarked, marked, validMembers}
-use Rattle.groups.specs.Head.{withGroupKeys, withMembers, freshGroup, noGroup, groupLlids, groupFrom, findGroup, pastGroup, withOlt, withGroup, withOneGroupMore, noGroups, validGroupNumbers, validGroup, apartLlids, validGroups, validHead}
-use Rattle.groups.specs.GroupCalls.{groupOutcome, groupAdvanced, membersSet, groupOfferVerdict, groupOffered, offerGroup, retryGroup, memberFound, memberNamed, answersOffer, someMember, groupAcknowledgeVerdict, groupMarked, acknowledgeGroup, groupSwitches, groupSendChoice, wipedAtSwitch, groupKeysAfterSend, sendGroup}
-use Rattle.groups.specs.Subscriber as joined
-use Rattle.groups.specs.Subscriber.{freshJoined, joinedLlids, findJoined, pastJoined, withOnu, withJoined, withOneJoinedMore, noMemberships, validJoined, validGroupsOf, validMemberships, validSubscriber}
-use Rattle.groups.specs.JoinedCalls.{highestHeld, holds, heldAgain, newNumber, joinedMessageVerdict, joinedTaken, joinedAfterMessage, groupAnswer, messageJoined, joinedChoice, joinedReceiveVerdict, joinedMoved, joinedAfterReceipt, receiveJoined}
+use Rattle.group_protocol.specs.Members.{placesOf, marksOf, rosterLlids, placeFrom, memberAt, freshMembers, unmarked, marked, validMembers}
+use Rattle.group_protocol.specs.Head.{withGroupKeys, withMembers, freshGroup, noGroup, groupLlids, groupFrom, findGroup, pastGroup, withOlt, withGroup, withOneGroupMore, noGroups, validGroupNumbers, validGroup, apartLlids, validGroups, validHead}
+use Rattle.group_protocol.specs.GroupCalls.{groupOutcome, groupAdvanced, membersSet, groupOfferVerdict, groupOffered, offerGroup, retryGroup, memberFound, memberNamed, answersOffer, someMember, groupAcknowledgeVerdict, groupMarked, acknowledgeGroup, groupSwitches, groupSendChoice, wipedAtSwitch, groupKeysAfterSend, sendGroup}
+use Rattle.group_protocol.specs.Subscriber as joined
+use Rattle.group_protocol.specs.Subscriber.{freshJoined, joinedLlids, findJoined, pastJoined, withOnu, withJoined, withOneJoinedMore, noMemberships, validJoined, validGroupsOf, validMemberships, validSubscriber}
+use Rattle.group_protocol.specs.JoinedCalls.{highestHeld, holds, heldAgain, newNumber, joinedMessageVerdict, joinedTaken, joinedAfterMessage, groupAnswer, messageJoined, joinedChoice, joinedReceiveVerdict, joinedMoved, joinedAfterReceipt, receiveJoined}
 use Rattle.multicast.specs.Naming.{byLlid, putGroup, groupLift}
 use Rattle.multicast.specs.HeadCalls.{headAnswer, headKeySent, oltAnswered, oltClockSent, oltKeySent, freshHeadOf, unitVerdict, headRegisterOf, placeFound, rosterMembers, validGroupRegistration, groupVerdict, registerGroupOf, groupsAdvanced, headAdvanced, headAdvanceOf, headCaptureOf, headMeasureOf, headClockSendOf, headOfferOf, headRetryOf, ownAcknowledgement, headAcknowledgeOf}
 use Rattle.multicast.specs.HeadTraffic.{oltSentIn, headSent, headSendOf, oltReceivedIn, groupReceiveVerdict, headReceiveOf}

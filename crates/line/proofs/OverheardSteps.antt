@@ -29,14 +29,14 @@ use Rattle.protocol.proofs.OnuTraffic.{overheard-down}
 use Rattle.traffic.specs.Passages.{misfit}
 use Rattle.traffic.specs.Receipts.{onuNotReceived, onuReceiveOf}
 use Rattle.traffic.proofs.Receipts.{onu-receive-refused}
-use Rattle.groups.specs.Head.{findGroup}
-use Rattle.groups.specs.JoinedCalls.{joinedChoice, joinedAfterReceipt, receiveJoined}
-use Rattle.groups.specs.Subscriber.{findJoined, joinedAt, withOnu}
-use Rattle.groups.specs.declared.Joined.{Joined}
-use Rattle.groups.specs.declared.Subscriber.{Subscriber}
-use Rattle.groups.proofs.JoinedCalls.{next-held}
-use Rattle.groups.proofs.Places.{at-nowhere}
-use Rattle.groups.proofs.Subscribers.{with-itself}
+use Rattle.group_protocol.specs.Head.{findGroup}
+use Rattle.group_protocol.specs.JoinedCalls.{joinedChoice, joinedAfterReceipt, receiveJoined}
+use Rattle.group_protocol.specs.Subscriber.{findJoined, joinedAt, withOnu}
+use Rattle.group_protocol.specs.declared.Joined.{Joined}
+use Rattle.group_protocol.specs.declared.Subscriber.{Subscriber}
+use Rattle.group_protocol.proofs.JoinedCalls.{next-held}
+use Rattle.group_protocol.proofs.Places.{at-nowhere}
+use Rattle.group_protocol.proofs.Subscribers.{with-itself}
 use Rattle.multicast.specs.Naming.{byLlid}
 use Rattle.multicast.specs.SubscriberTraffic.{subscriberReceived, groupReceiveOf, subscriberReceiveOf}
 use Rattle.multicast.specs.declared.SubscriberReceived.{SubscriberReceived}

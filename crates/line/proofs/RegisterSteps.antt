@@ -25,9 +25,9 @@ use Rattle.ends.proofs.Identities.{identity-valid}
 use Rattle.protocol.specs.OltCalls.{oltAnswer, validRegistration, registerVerdict, registering, registerOf}
 use Rattle.protocol.specs.Replies.{silent}
 use Rattle.protocol.proofs.Replies.{reply-verdict, reply-accepted, reply-untouched, number-refused}
-use Rattle.groups.specs.Head.{groupLlids, registeredGroups, placesTaken, withOlt, validHead}
-use Rattle.groups.specs.declared.HeadEnd.{HeadEnd}
-use Rattle.groups.proofs.HeadGroups.{unit-more-groups-valid}
+use Rattle.group_protocol.specs.Head.{groupLlids, registeredGroups, placesTaken, withOlt, validHead}
+use Rattle.group_protocol.specs.declared.HeadEnd.{HeadEnd}
+use Rattle.group_protocol.proofs.HeadGroups.{unit-more-groups-valid}
 use Rattle.multicast.specs.HeadCalls.{headAnswer, unitVerdict, headRegisterOf}
 use Rattle.multicast.specs.declared.HeadAnswer.{HeadAnswer}
 use Rattle.unicast.specs.Setting.{Setting}

@@ -14,12 +14,12 @@ use Rattle.ends.specs.declared.Olt.{Olt}
 use Rattle.ends.specs.declared.Onu.{Onu}
 use Rattle.ends.proofs.Validity.{olt-in-range}
 use Rattle.protocol.proofs.OltCalls.{fresh-valid}
-use Rattle.groups.specs.Head.{noGroups, groupLlids, apartLlids, validGroups}
-use Rattle.groups.specs.Members.{placeFrom}
-use Rattle.groups.specs.Subscriber as subscribers
-use Rattle.groups.specs.Subscriber.{freshJoined, joinedLlids, findJoined, noMemberships}
-use Rattle.groups.specs.declared.Subscriber.{Subscriber}
-use Rattle.groups.proofs.Subscribers.{alone-valid}
+use Rattle.group_protocol.specs.Head.{noGroups, groupLlids, apartLlids, validGroups}
+use Rattle.group_protocol.specs.Members.{placeFrom}
+use Rattle.group_protocol.specs.Subscriber as subscribers
+use Rattle.group_protocol.specs.Subscriber.{freshJoined, joinedLlids, findJoined, noMemberships}
+use Rattle.group_protocol.specs.declared.Subscriber.{Subscriber}
+use Rattle.group_protocol.proofs.Subscribers.{alone-valid}
 use Rattle.multicast.specs.Naming.{byLlid}
 use Rattle.multicast.specs.HeadCalls.{freshHeadOf}
 use Rattle.multicast.specs.SubscriberCalls.{freshSubscriberOf}

@@ -12,9 +12,9 @@ use Rattle.protocol.specs.declared.Header.{Header}
 use Rattle.protocol.specs.declared.KeyMessage.{KeyMessage}
 use Rattle.protocol.proofs.OnuCalls.{clock-message-refused, key-message-refused}
 use Rattle.traffic.specs.Passages.{misfit}
-use Rattle.groups.specs.JoinedCalls.{noAnswer, messageJoined, receiveJoined}
-use Rattle.groups.specs.Subscriber.{findJoined, withOnu, validMemberships}
-use Rattle.groups.specs.declared.Subscriber.{Subscriber}
+use Rattle.group_protocol.specs.JoinedCalls.{noAnswer, messageJoined, receiveJoined}
+use Rattle.group_protocol.specs.Subscriber.{findJoined, withOnu, validMemberships}
+use Rattle.group_protocol.specs.declared.Subscriber.{Subscriber}
 use Rattle.multicast.specs.Naming.{byLlid}
 use Rattle.multicast.specs.SubscriberCalls.{subscriberAcknowledged, subscriberClockMessageOf, subscriberKeyMessageOf}
 use Rattle.multicast.specs.SubscriberTraffic.{subscriberReceived, groupReceiveOf, subscriberReceiveOf}

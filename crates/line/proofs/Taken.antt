@@ -15,11 +15,11 @@ use Rattle.ends.specs.Identities.{among}
 use Rattle.ends.specs.declared.Found.{Found}
 use Rattle.ends.specs.declared.Found.the-variants.{At, Nowhere}
 use Rattle.ends.proofs.Identities.{among-append, among-head}
-use Rattle.groups.specs.Members.{placeFrom}
-use Rattle.groups.specs.Subscriber.{freshJoined, joinedLlids, joinedGroups, findJoined, joinedAt, pastJoined, withJoined}
-use Rattle.groups.specs.declared.Joined.{Joined}
-use Rattle.groups.specs.declared.Subscriber.{Subscriber}
-use Rattle.groups.proofs.Subscribers.{found-place}
+use Rattle.group_protocol.specs.Members.{placeFrom}
+use Rattle.group_protocol.specs.Subscriber.{freshJoined, joinedLlids, joinedGroups, findJoined, joinedAt, pastJoined, withJoined}
+use Rattle.group_protocol.specs.declared.Joined.{Joined}
+use Rattle.group_protocol.specs.declared.Subscriber.{Subscriber}
+use Rattle.group_protocol.proofs.Subscribers.{found-place}
 use Rattle.multicast.specs.Naming.{byLlid}
 use Rattle.line.specs.History.{Membership, isJoined, hasTaken, taking}
 use Rattle.line.proofs.Invariant.{joinedFor}

@@ -32,11 +32,11 @@ use Rattle.traffic.specs.declared.OnuReceived.{OnuReceived}
 use Rattle.traffic.specs.Sends.{onuSendOf}
 use Rattle.ends.specs.declared.Found.{Found}
 use Rattle.ends.specs.declared.Found.the-variants.{At, Nowhere}
-use Rattle.groups.specs.Head.{findGroup, withOlt}
-use Rattle.groups.specs.Members.{placeFrom}
-use Rattle.groups.specs.Subscriber.{findJoined, joinedLlids, noMemberships, validMemberships}
-use Rattle.groups.specs.declared.HeadEnd.{HeadEnd}
-use Rattle.groups.specs.declared.Subscriber.{Subscriber}
+use Rattle.group_protocol.specs.Head.{findGroup, withOlt}
+use Rattle.group_protocol.specs.Members.{placeFrom}
+use Rattle.group_protocol.specs.Subscriber.{findJoined, joinedLlids, noMemberships, validMemberships}
+use Rattle.group_protocol.specs.declared.HeadEnd.{HeadEnd}
+use Rattle.group_protocol.specs.declared.Subscriber.{Subscriber}
 use Rattle.multicast.specs.HeadCalls.{headMeasureOf}
 use Rattle.multicast.specs.SubscriberCalls.{ownAnswer}
 use Rattle.multicast.specs.declared.HeadAnswer.{HeadAnswer}

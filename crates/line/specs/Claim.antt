@@ -15,7 +15,7 @@ use Rattle.sealing.specs.Seal.{carried, countCarried, runsCarried}
 use Rattle.protocol.specs.Headers.{choiceEnciphered, envelopeHeader}
 use Rattle.protocol.specs.declared.Passage.{Passage}
 use Rattle.traffic.specs.Passages.{misfit, passageNonce}
-use Rattle.groups.specs.declared.Subscriber.{Subscriber}
+use Rattle.group_protocol.specs.declared.Subscriber.{Subscriber}
 use Rattle.multicast.specs.declared.SubscriberReceived.{SubscriberReceived}
 use Rattle.unicast.specs.Setting.{Setting, clockDown}
 use Rattle.unicast.specs.History.{Envelope, envelope, isSynced, keyOf, Keys}

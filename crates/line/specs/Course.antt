@@ -7,7 +7,7 @@ use Rattle.multicast.specs.HeadCalls.{headRegisterOf, registerGroupOf, headAdva
 use Rattle.multicast.specs.HeadTraffic.{headSendOf, headReceiveOf}
 use Rattle.multicast.specs.SubscriberCalls.{joinOf, subscriberNewTimeOf, subscriberClockMessageOf, subscriberKeyMessageOf, ownAnswer}
 use Rattle.multicast.specs.SubscriberTraffic.{subscriberSendOf, subscriberReceiveOf}
-use Rattle.groups.specs.declared.Subscriber.{Subscriber}
+use Rattle.group_protocol.specs.declared.Subscriber.{Subscriber}
 use Rattle.unicast.specs.History.{Envelope, InFlight, clockMessage, keyMessage, envelope, Arrival}
 use Rattle.unicast.specs.Run.{accepted, laneAt, inFlightAt, envelopeAt, sentAt, answerAt}
 use Rattle.line.specs.History.{GroupAnswered, GroupArrival}

@@ -7,8 +7,8 @@ use Rattle.clock.specs.declared.Stamps.{Stamps}
 use Rattle.ends.specs.declared.Identity.{Identity}
 use Rattle.protocol.specs.declared.Header.{Header}
 use Rattle.protocol.specs.declared.KeyMessage.{KeyMessage}
-use Rattle.groups.specs.declared.Roster.{Roster}
-use Rattle.groups.specs.declared.Answer.{Answer}
+use Rattle.group_protocol.specs.declared.Roster.{Roster}
+use Rattle.group_protocol.specs.declared.Answer.{Answer}
 use Rattle.unicast.specs.Setting.{Delays}
 
 pub data Event : Type 0 where

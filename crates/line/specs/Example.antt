@@ -7,8 +7,8 @@ use Prim.Native.Nat.{ℕ, _+_, _%_}
 use lib.ListN.{replicate}
 use Rattle.clock.specs.Ticks.{localTurn}
 use Rattle.protocol.specs.Messages.{ofClock, ofKey, keyKind}
-use Rattle.groups.specs.declared.Answer.{Answer}
-use Rattle.groups.specs.declared.Roster.{Roster}
+use Rattle.group_protocol.specs.declared.Answer.{Answer}
+use Rattle.group_protocol.specs.declared.Roster.{Roster}
 use Rattle.multicast.specs.SubscriberCalls.{ownAnswer}
 use Rattle.unicast.specs.Setting.{Delays, Setting}
 use Rattle.unicast.specs.Example.{firstClock, oltMac, registeredA, identityB, identityC, identityOf, siteA, siteB, siteOf, keyFrom, payloadFrom, blank, headerWith, epamAt, keyMessageWith}

@@ -9,7 +9,7 @@ use Rattle.octets.specs.Lists.{tabulate}
 use Rattle.octets.specs.Choice.{both, either, pick}
 use Rattle.ends.specs.Identities.{among, llidsOf, meets}
 use Rattle.protocol.specs.declared.Passage.{Passage}
-use Rattle.groups.specs.declared.Answer.{Answer}
+use Rattle.group_protocol.specs.declared.Answer.{Answer}
 use Rattle.unicast.specs.Setting.{Delays}
 use Rattle.unicast.specs.History as units
 use Rattle.unicast.specs.History.{Envelope, InFlight, envelope, Entry, Keys, Lane, due}

@@ -19,15 +19,15 @@ use Rattle.protocol.specs.declared.KeySent.{KeySent}
 use Rattle.protocol.specs.declared.KeyMessage.{KeyMessage}
 use Rattle.protocol.specs.declared.Passage.{Passage}
 use Rattle.traffic.specs.Passages.{misfit}
-use Rattle.groups.specs.Members.{rosterLlids}
-use Rattle.groups.specs.Head.{findGroup}
-use Rattle.groups.specs.GroupCalls.{sendGroup}
-use Rattle.groups.specs.Subscriber.{noMemberships, findJoined}
-use Rattle.groups.specs.JoinedCalls.{noAnswer, receiveJoined}
-use Rattle.groups.specs.declared.HeadEnd.{HeadEnd}
-use Rattle.groups.specs.declared.Subscriber.{Subscriber}
-use Rattle.groups.specs.declared.Roster.{Roster}
-use Rattle.groups.specs.declared.Answer.{Answer}
+use Rattle.group_protocol.specs.Members.{rosterLlids}
+use Rattle.group_protocol.specs.Head.{findGroup}
+use Rattle.group_protocol.specs.GroupCalls.{sendGroup}
+use Rattle.group_protocol.specs.Subscriber.{noMemberships, findJoined}
+use Rattle.group_protocol.specs.JoinedCalls.{noAnswer, receiveJoined}
+use Rattle.group_protocol.specs.declared.HeadEnd.{HeadEnd}
+use Rattle.group_protocol.specs.declared.Subscriber.{Subscriber}
+use Rattle.group_protocol.specs.declared.Roster.{Roster}
+use Rattle.group_protocol.specs.declared.Answer.{Answer}
 use Rattle.multicast.specs.Naming.{byLlid, groupLift}
 use Rattle.multicast.specs.HeadCalls.{freshHeadOf, headRegisterOf, registerGroupOf, headAdvanceOf, headCaptureOf, headMeasureOf, headClockSendOf, headOfferOf, headRetryOf, headAcknowledgeOf}
 use Rattle.multicast.specs.HeadTraffic.{sendAhead, headSendOf, headReceiveOf}

@@ -31,10 +31,10 @@ use Rattle.protocol.specs.Replies.{advanceVerdict, onValid, reply, silent}
 use Rattle.protocol.proofs.Replies.{advance-accepted}
 use Rattle.unit.specs.Reached.{ifAccepted}
 use Rattle.olt.specs.Moves.{moveOrder}
-use Rattle.groups.specs.GroupCalls.{groupAdvanced}
-use Rattle.groups.specs.Head.{pastGroup, placesTaken, registeredGroups, validGroup, validGroups, validHead, withGroupKeys}
-use Rattle.groups.specs.declared.GroupRecord.{GroupRecord}
-use Rattle.groups.specs.declared.HeadEnd.{HeadEnd}
+use Rattle.group_protocol.specs.GroupCalls.{groupAdvanced}
+use Rattle.group_protocol.specs.Head.{pastGroup, placesTaken, registeredGroups, validGroup, validGroups, validHead, withGroupKeys}
+use Rattle.group_protocol.specs.declared.GroupRecord.{GroupRecord}
+use Rattle.group_protocol.specs.declared.HeadEnd.{HeadEnd}
 use Rattle.multicast.specs.HeadCalls.{groupsAdvanced, headAdvanced, headAdvanceOf, headAnswer, headMovedOf}
 use Rattle.multicast.specs.declared.HeadMoved.{HeadMoved}
 use Rattle.multicast.proofs.NoGroups.{no-groups-invalid}

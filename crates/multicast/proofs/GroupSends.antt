@@ -29,10 +29,11 @@ use Rattle.traffic.specs.declared.OltReceived.{OltReceived}
 use Rattle.traffic.specs.declared.OltSent.{OltSent}
 use Rattle.traffic.specs.declared.carrying.Work.{Work}
 use Rattle.traffic.proofs.Passages.{few-eqs, judged, down-fits, chosen-carried}
-use Rattle.groups.specs.GroupCalls.{GroupOutcome, reachedGroup, sendGroup}
-use Rattle.groups.specs.Head.{groupAt, validGroups, validHead, withGroup, withOlt}
-use Rattle.groups.specs.declared.GroupRecord.{GroupRecord}
-use Rattle.groups.specs.declared.HeadEnd.{HeadEnd}
+use Rattle.group_protocol.specs.GroupCalls.{GroupOutcome, sendGroup}
+use Rattle.group_protocol.specs.Head.{groupAt, validGroups, validHead, withGroup, withOlt}
+use Rattle.group_protocol.specs.declared.GroupRecord.{GroupRecord}
+use Rattle.group_protocol.specs.declared.HeadEnd.{HeadEnd}
+use Rattle.groups.specs.Reached.{reachedGroup}
 use Rattle.multicast.specs.HeadTraffic.{groupSendOf, headNotReceived, headNotSent, headSent, oltReceivedIn, oltSentIn, sendAhead}
 use Rattle.multicast.specs.declared.HeadReceived.{HeadReceived}
 use Rattle.multicast.specs.declared.HeadSent.{HeadSent}

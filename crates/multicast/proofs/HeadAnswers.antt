@@ -12,8 +12,8 @@ use Rattle.protocol.specs.Replies.{reply, silent}
 use Rattle.protocol.specs.declared.ClockSent.{ClockSent}
 use Rattle.protocol.specs.declared.KeySent.{KeySent}
 use Rattle.protocol.specs.declared.OltAnswer.{OltAnswer}
-use Rattle.groups.specs.Head.{validGroups, withOlt}
-use Rattle.groups.specs.declared.HeadEnd.{HeadEnd}
+use Rattle.group_protocol.specs.Head.{validGroups, withOlt}
+use Rattle.group_protocol.specs.declared.HeadEnd.{HeadEnd}
 use Rattle.multicast.specs.HeadCalls.{headAnswer, oltAnswered, oltClockSent, oltKeySent}
 use Rattle.multicast.specs.Naming.{byLlid}
 

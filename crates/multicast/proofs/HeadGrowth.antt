@@ -29,15 +29,15 @@ use Rattle.protocol.proofs.OltAdvance.{olt-advanced-valid, unit-identity}
 use Rattle.protocol.proofs.OltCalls.{fresh-valid}
 use Rattle.protocol.proofs.Registration.{register-valid}
 use Rattle.protocol.proofs.Replies.{advance-accepted, reply-accepted, reply-keeps}
-use Rattle.groups.specs.GroupCalls.{groupAdvanced}
-use Rattle.groups.specs.Head.{freshGroup, groupLlids, noGroups, placesTaken, registeredGroups, validGroup, validGroups, validHead, withOlt, withOneGroupMore}
-use Rattle.groups.specs.declared.GroupRecord.{GroupRecord}
-use Rattle.groups.specs.declared.HeadEnd.{HeadEnd}
-use Rattle.groups.specs.declared.Members.{Members}
-use Rattle.groups.specs.declared.Roster.{Roster}
-use Rattle.groups.proofs.GroupSteps.{advanced-llid, fresh-group-valid, group-advanced-valid}
-use Rattle.groups.proofs.HeadGroups.{more-groups-valid, unit-more-groups-valid}
-use Rattle.groups.proofs.HeadValidity.{groups-in-range, groups-valid, head-in-range, head-valid}
+use Rattle.group_protocol.specs.GroupCalls.{groupAdvanced}
+use Rattle.group_protocol.specs.Head.{freshGroup, groupLlids, noGroups, placesTaken, registeredGroups, validGroup, validGroups, validHead, withOlt, withOneGroupMore}
+use Rattle.group_protocol.specs.declared.GroupRecord.{GroupRecord}
+use Rattle.group_protocol.specs.declared.HeadEnd.{HeadEnd}
+use Rattle.group_protocol.specs.declared.Members.{Members}
+use Rattle.group_protocol.specs.declared.Roster.{Roster}
+use Rattle.group_protocol.proofs.GroupSteps.{advanced-llid, fresh-group-valid, group-advanced-valid}
+use Rattle.group_protocol.proofs.HeadGroups.{more-groups-valid, unit-more-groups-valid}
+use Rattle.group_protocol.proofs.HeadValidity.{groups-in-range, groups-valid, head-in-range, head-valid}
 use Rattle.multicast.specs.HeadCalls.{freshHeadOf, groupVerdict, groupsAdvanced, headAdvanced, headAdvanceOf, headAnswer, headRegisterOf, registerGroupOf, rosterMembers, unitVerdict, validGroupRegistration}
 use Rattle.multicast.proofs.Registrations.{registered-olt, unit-accepted}
 

@@ -11,10 +11,11 @@ use Rattle.ends.specs.Table.{withOltChannels}
 use Rattle.ends.specs.declared.Olt.{Olt}
 use Rattle.protocol.specs.Replies.{reply, onValid}
 use Rattle.unit.specs.Reached.{ifAccepted}
-use Rattle.groups.specs.GroupCalls.{GroupOutcome, reachedGroup}
-use Rattle.groups.specs.Head.{pastGroup, groupAt, withGroup, validHead}
-use Rattle.groups.specs.declared.GroupRecord.{GroupRecord}
-use Rattle.groups.specs.declared.HeadEnd.{HeadEnd}
+use Rattle.group_protocol.specs.GroupCalls.{GroupOutcome}
+use Rattle.group_protocol.specs.Head.{pastGroup, groupAt, withGroup, validHead}
+use Rattle.group_protocol.specs.declared.GroupRecord.{GroupRecord}
+use Rattle.group_protocol.specs.declared.HeadEnd.{HeadEnd}
+use Rattle.groups.specs.Reached.{reachedGroup}
 use Rattle.multicast.specs.Naming.{putGroup, groupLift}
 
 -- 1 for the end comes ahead of all

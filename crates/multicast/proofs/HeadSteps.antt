@@ -50,15 +50,15 @@ use Rattle.traffic.specs.declared.OltSent.{OltSent}
 use Rattle.traffic.proofs.Passages.{few-eqs}
 use Rattle.traffic.proofs.Receipts.{olt-receive-valid}
 use Rattle.traffic.proofs.Sends.{olt-send-valid}
-use Rattle.groups.specs.GroupCalls.{GroupOutcome, acknowledgeGroup, groupOffered, groupOutcome, groupSendChoice, memberNamed, membersSet, offerGroup, retryGroup, sendGroup}
-use Rattle.groups.specs.Head.{findGroup, groupAt, pastGroup, registeredGroups, validGroup, validGroups, validHead, withGroup, withGroupKeys, withMembers, withOlt}
-use Rattle.groups.specs.declared.Answer.{Answer}
-use Rattle.groups.specs.declared.GroupRecord.{GroupRecord}
-use Rattle.groups.specs.declared.HeadEnd.{HeadEnd}
-use Rattle.groups.proofs.Found.{Stands, group-at}
-use Rattle.groups.proofs.GroupSteps.{group-marked-valid, group-offered-valid, group-sent-valid, marked-llid}
-use Rattle.groups.proofs.HeadGroups.{replaced-groups-valid}
-use Rattle.groups.proofs.HeadValidity.{groups-in-range, groups-valid, head-in-range, head-valid}
+use Rattle.group_protocol.specs.GroupCalls.{GroupOutcome, acknowledgeGroup, groupOffered, groupOutcome, groupSendChoice, memberNamed, membersSet, offerGroup, retryGroup, sendGroup}
+use Rattle.group_protocol.specs.Head.{findGroup, groupAt, pastGroup, registeredGroups, validGroup, validGroups, validHead, withGroup, withGroupKeys, withMembers, withOlt}
+use Rattle.group_protocol.specs.declared.Answer.{Answer}
+use Rattle.group_protocol.specs.declared.GroupRecord.{GroupRecord}
+use Rattle.group_protocol.specs.declared.HeadEnd.{HeadEnd}
+use Rattle.group_protocol.proofs.Found.{Stands, group-at}
+use Rattle.group_protocol.proofs.GroupSteps.{group-marked-valid, group-offered-valid, group-sent-valid, marked-llid}
+use Rattle.group_protocol.proofs.HeadGroups.{replaced-groups-valid}
+use Rattle.group_protocol.proofs.HeadValidity.{groups-in-range, groups-valid, head-in-range, head-valid}
 use Rattle.multicast.specs.HeadCalls.{headAcknowledgeOf, headAnswer, headCaptureOf, headClockSendOf, headKeySent, headMeasureOf, headOfferOf, headRetryOf, oltAnswered, oltClockSent, oltKeySent, ownAcknowledgement}
 use Rattle.multicast.specs.HeadTraffic.{headReceiveOf, headSendOf, headSent, oltReceivedIn, oltSentIn}
 use Rattle.multicast.specs.Naming.{byLlid, groupLift, putGroup}

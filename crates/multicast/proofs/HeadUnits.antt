@@ -26,8 +26,8 @@ use Rattle.unit.specs.Reached.{reached}
 use Rattle.olt.specs.Lookup.{locatedAfter, locatedOf}
 use Rattle.olt.specs.declared.Located.{Located}
 use Rattle.olt.proofs.Lookup.{lift-decided}
-use Rattle.groups.specs.Head.{validGroups, withOlt}
-use Rattle.groups.specs.declared.HeadEnd.{HeadEnd}
+use Rattle.group_protocol.specs.Head.{validGroups, withOlt}
+use Rattle.group_protocol.specs.declared.HeadEnd.{HeadEnd}
 use Rattle.multicast.specs.HeadCalls.{headAnswer, headKeySent, oltAnswered, oltClockSent, oltKeySent}
 use Rattle.multicast.specs.declared.HeadClockSent.{HeadClockSent}
 use Rattle.multicast.proofs.NoGroups.{no-groups-invalid}

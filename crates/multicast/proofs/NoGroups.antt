@@ -36,12 +36,12 @@ use Rattle.protocol.specs.UnitCalls.{acknowledgeUnit, captureUnit, clockSendUni
 use Rattle.protocol.specs.declared.KeySent.{KeySent}
 use Rattle.protocol.specs.declared.OltAnswer.{OltAnswer}
 use Rattle.protocol.proofs.Lift.{lift-invalid}
-use Rattle.groups.specs.GroupCalls.{groupAdvanced}
-use Rattle.groups.specs.Head.{apartLlids, findGroup, groupFrom, groupLlids, validGroups, validHead, withOlt}
-use Rattle.groups.specs.declared.Answer.{Answer}
-use Rattle.groups.specs.declared.GroupRecord.{GroupRecord}
-use Rattle.groups.specs.declared.Groups.{Groups}
-use Rattle.groups.specs.declared.HeadEnd.{HeadEnd}
+use Rattle.group_protocol.specs.GroupCalls.{groupAdvanced}
+use Rattle.group_protocol.specs.Head.{apartLlids, findGroup, groupFrom, groupLlids, validGroups, validHead, withOlt}
+use Rattle.group_protocol.specs.declared.Answer.{Answer}
+use Rattle.group_protocol.specs.declared.GroupRecord.{GroupRecord}
+use Rattle.group_protocol.specs.declared.Groups.{Groups}
+use Rattle.group_protocol.specs.declared.HeadEnd.{HeadEnd}
 use Rattle.multicast.specs.HeadCalls.{groupsAdvanced, headAcknowledgeOf, headAdvanced, headAdvanceOf, headAnswer, headCaptureOf, headClockSendOf, headMeasureOf, headOfferOf, headRegisterOf, headRetryOf, oltAnswered, oltClockSent, oltKeySent, ownAcknowledgement, unitVerdict}
 use Rattle.multicast.specs.HeadTraffic.{headReceiveOf, headSendOf, oltReceivedIn, oltSentIn}
 use Rattle.multicast.specs.WithoutGroups.{WithoutGroups, answeredIn, clockSentIn, keySentIn, receivedIn, sentIn}

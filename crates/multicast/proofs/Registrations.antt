@@ -24,12 +24,12 @@ use Rattle.ends.specs.declared.Olt.{Olt}
 use Rattle.protocol.specs.OltCalls.{oltAnswer, registering, registerOf, registerOrder, registerVerdict}
 use Rattle.protocol.specs.Replies.{Reply, Silence, onValid, silent}
 use Rattle.protocol.proofs.Replies.{reply-accepted}
-use Rattle.groups.specs.Head.{placesTaken, validHead}
-use Rattle.groups.specs.Limits.{maxMembers}
-use Rattle.groups.specs.Members.{freshMembers, rosterLlids}
-use Rattle.groups.specs.declared.HeadEnd.{HeadEnd}
-use Rattle.groups.specs.declared.Members.{Members}
-use Rattle.groups.specs.declared.Roster.{Roster}
+use Rattle.group_protocol.specs.Head.{placesTaken, validHead}
+use Rattle.group_protocol.specs.Limits.{maxMembers}
+use Rattle.group_protocol.specs.Members.{freshMembers, rosterLlids}
+use Rattle.group_protocol.specs.declared.HeadEnd.{HeadEnd}
+use Rattle.group_protocol.specs.declared.Members.{Members}
+use Rattle.group_protocol.specs.declared.Roster.{Roster}
 use Rattle.multicast.specs.HeadCalls.{groupVerdict, placeFound, rosterMembers, unitVerdict}
 
 ---- a unit

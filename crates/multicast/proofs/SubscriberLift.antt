@@ -13,12 +13,13 @@ use Rattle.ends.specs.Identities.{among, has, llidsOf}
 use Rattle.ends.specs.declared.Onu.{Onu}
 use Rattle.ends.specs.declared.Found.the-variants.{At}
 use Rattle.protocol.specs.Replies.{reply, onValid}
-use Rattle.groups.specs.Limits.{maxJoined}
-use Rattle.groups.specs.Subscriber.{hasJoined, findJoined, joinedAt, withJoined, validSubscriber}
-use Rattle.groups.specs.JoinedCalls.{JoinedOutcome, reachedJoined}
-use Rattle.groups.specs.declared.Joined.{Joined}
-use Rattle.groups.specs.declared.Subscriber.{Subscriber}
-use Rattle.groups.proofs.Subscribers.{found-valid, valid-joins, with-itself}
+use Rattle.group_protocol.specs.Limits.{maxJoined}
+use Rattle.group_protocol.specs.Subscriber.{hasJoined, findJoined, joinedAt, withJoined, validSubscriber}
+use Rattle.group_protocol.specs.JoinedCalls.{JoinedOutcome}
+use Rattle.group_protocol.specs.declared.Joined.{Joined}
+use Rattle.group_protocol.specs.declared.Subscriber.{Subscriber}
+use Rattle.group_protocol.proofs.Subscribers.{found-valid, valid-joins, with-itself}
+use Rattle.groups.specs.Reached.{reachedJoined}
 use Rattle.multicast.specs.SubscriberCalls.{joinVerdict, joinedLift, putJoined}
 
 -- a join that is accepted finds room

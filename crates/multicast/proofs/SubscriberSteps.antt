@@ -38,15 +38,14 @@ use Rattle.traffic.specs.Passages.{misfit}
 use Rattle.traffic.specs.Sends.{onuSent, onuSendOf}
 use Rattle.traffic.specs.Receipts.{onuReceived, onuReceiveOf}
 use Rattle.traffic.proofs.Passages.{few-eqs}
-use Rattle.groups.specs.Limits.{maxJoined}
-use Rattle.groups.specs.Members.{placeFrom}
-use Rattle.groups.specs.Subscriber.{alone, freshJoined, joinedLlids, findJoined, joinedAt, withOnu, withJoined, withOneJoinedMore, validJoined, validMemberships, validSubscriber}
-use Rattle.groups.specs.JoinedCalls.{JoinedOutcome, messageJoined, receiveJoined, noAnswer, joinedChoice}
-use Rattle.groups.specs.declared.Joined.{Joined}
-use Rattle.groups.specs.declared.Subscriber.{Subscriber}
-use Rattle.groups.proofs.JoinedCalls.{message-valid, message-llid, receipt-valid, receipt-llid}
-use Rattle.groups.proofs.JoinedGroups.{groups-none}
-use Rattle.groups.proofs.Subscribers.{found-place, found-valid, valid-unit, valid-joins, valid-both, with-joined-unit, with-joined-valid, one-more-valid, fresh-joined-valid, alone-valid, with-onu-valid}
+use Rattle.group_protocol.specs.Limits.{maxJoined}
+use Rattle.group_protocol.specs.Members.{placeFrom}
+use Rattle.group_protocol.specs.Subscriber.{alone, freshJoined, joinedLlids, findJoined, joinedAt, withOnu, withJoined, withOneJoinedMore, validJoined, validMemberships, validSubscriber}
+use Rattle.group_protocol.specs.JoinedCalls.{JoinedOutcome, messageJoined, receiveJoined, noAnswer, joinedChoice}
+use Rattle.group_protocol.specs.declared.Joined.{Joined}
+use Rattle.group_protocol.specs.declared.Subscriber.{Subscriber}
+use Rattle.group_protocol.proofs.JoinedCalls.{message-valid, message-llid, receipt-valid, receipt-llid}
+use Rattle.group_protocol.proofs.Subscribers.{groups-none, found-place, found-valid, valid-unit, valid-joins, valid-both, with-joined-unit, with-joined-valid, one-more-valid, fresh-joined-valid, alone-valid, with-onu-valid}
 use Rattle.multicast.specs.Naming.{byLlid}
 use Rattle.multicast.specs.SubscriberCalls.{subscriberAnswer, subscriberAcknowledged, onuAnswered, ownAnswered, notAcknowledged, ownAcknowledged, onuAcknowledgedIn, putJoined, joinedLift, freshSubscriberOf, joinOf, subscriberAdvanceOf, subscriberNewTimeOf, subscriberClockMessageOf, subscriberKeyMessageOf}
 use Rattle.multicast.specs.SubscriberTraffic.{ownSent, unitSendOf, ownSendOf, subscriberSendOf, ownReceived, unitReceiveOf, ownReceiveOf, subscriberReceived, groupReceiveOf, subscriberReceiveOf}

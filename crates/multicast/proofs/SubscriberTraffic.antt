@@ -25,10 +25,11 @@ use Rattle.protocol.specs.declared.Passage.{Passage}
 use Rattle.traffic.specs.Passages.{misfit, passageNonce, passed, passedCount, passedRuns, passedWork, outputAfter, carriedAfter, carriedFitting}
 use Rattle.traffic.specs.declared.carrying.Work.{Work}
 use Rattle.traffic.proofs.Passages.{judged, down-fits}
-use Rattle.groups.specs.Subscriber.{findJoined, joinedAt, withJoined, validSubscriber}
-use Rattle.groups.specs.JoinedCalls.{JoinedOutcome, joinedReceiveVerdict, receiveJoined, reachedJoined}
-use Rattle.groups.specs.declared.Subscriber.{Subscriber}
-use Rattle.groups.proofs.Subscribers.{valid-unit}
+use Rattle.group_protocol.specs.Subscriber.{findJoined, joinedAt, withJoined, validSubscriber}
+use Rattle.group_protocol.specs.JoinedCalls.{JoinedOutcome, joinedReceiveVerdict, receiveJoined}
+use Rattle.group_protocol.specs.declared.Subscriber.{Subscriber}
+use Rattle.group_protocol.proofs.Subscribers.{valid-unit}
+use Rattle.groups.specs.Reached.{reachedJoined}
 use Rattle.multicast.specs.SubscriberTraffic.{subscriberReceived, groupReceiveOf}
 use Rattle.multicast.specs.declared.SubscriberReceived.{SubscriberReceived}
 use Rattle.multicast.proofs.SubscriberLift.{lift-reached}

@@ -38,8 +38,8 @@ use Rattle.traffic.specs.declared.OltSent.{OltSent}
 use Rattle.traffic.specs.declared.carrying.Work.{Work}
 use Rattle.traffic.proofs.Receipts as receipts
 use Rattle.traffic.proofs.Sends as sends
-use Rattle.groups.specs.Head.{validGroups, withOlt}
-use Rattle.groups.specs.declared.HeadEnd.{HeadEnd}
+use Rattle.group_protocol.specs.Head.{validGroups, withOlt}
+use Rattle.group_protocol.specs.declared.HeadEnd.{HeadEnd}
 use Rattle.multicast.specs.HeadTraffic.{oltReceivedIn, oltSentIn}
 use Rattle.multicast.specs.declared.HeadReceived.{HeadReceived}
 use Rattle.multicast.specs.declared.HeadSent.{HeadSent}

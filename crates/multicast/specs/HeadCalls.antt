@@ -27,14 +27,14 @@ use Rattle.protocol.specs.declared.KeyMessage.{KeyMessage}
 use Rattle.protocol.specs.declared.OltAnswer.{OltAnswer}
 use Rattle.protocol.specs.declared.ClockSent.{ClockSent}
 use Rattle.protocol.specs.declared.KeySent.{KeySent}
-use Rattle.groups.specs.Members.{rosterLlids, freshMembers, validMembers}
-use Rattle.groups.specs.Head.{freshGroup, registeredGroups, groupLlids, isGroup, findGroup, placesTaken, withOlt, withOneGroupMore, noGroups, validGroups, validHead}
-use Rattle.groups.specs.GroupCalls.{groupAdvanced, membersSet, offerGroup, retryGroup, memberNamed, acknowledgeGroup}
-use Rattle.groups.specs.declared.Groups.{Groups}
-use Rattle.groups.specs.declared.Members.{Members}
-use Rattle.groups.specs.declared.HeadEnd.{HeadEnd}
-use Rattle.groups.specs.declared.Roster.{Roster}
-use Rattle.groups.specs.declared.Answer.{Answer}
+use Rattle.group_protocol.specs.Members.{rosterLlids, freshMembers, validMembers}
+use Rattle.group_protocol.specs.Head.{freshGroup, registeredGroups, groupLlids, isGroup, findGroup, placesTaken, withOlt, withOneGroupMore, noGroups, validGroups, validHead}
+use Rattle.group_protocol.specs.GroupCalls.{groupAdvanced, membersSet, offerGroup, retryGroup, memberNamed, acknowledgeGroup}
+use Rattle.group_protocol.specs.declared.Groups.{Groups}
+use Rattle.group_protocol.specs.declared.Members.{Members}
+use Rattle.group_protocol.specs.declared.HeadEnd.{HeadEnd}
+use Rattle.group_protocol.specs.declared.Roster.{Roster}
+use Rattle.group_protocol.specs.declared.Answer.{Answer}
 use Rattle.multicast.specs.Naming.{byLlid, groupLift}
 use Rattle.multicast.specs.declared.HeadAnswer.{HeadAnswer}
 use Rattle.multicast.specs.declared.HeadClockSent.{HeadClockSent}

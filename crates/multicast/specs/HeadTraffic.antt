@@ -23,9 +23,9 @@ use Rattle.traffic.specs.Sends.{oltSendOf}
 use Rattle.traffic.specs.Receipts.{oltReceiveOf}
 use Rattle.traffic.specs.declared.OltSent.{OltSent}
 use Rattle.traffic.specs.declared.OltReceived.{OltReceived}
-use Rattle.groups.specs.Head.{findGroup, withOlt, validGroups, validHead}
-use Rattle.groups.specs.GroupCalls.{sendGroup}
-use Rattle.groups.specs.declared.HeadEnd.{HeadEnd}
+use Rattle.group_protocol.specs.Head.{findGroup, withOlt, validGroups, validHead}
+use Rattle.group_protocol.specs.GroupCalls.{sendGroup}
+use Rattle.group_protocol.specs.declared.HeadEnd.{HeadEnd}
 use Rattle.multicast.specs.Naming.{byLlid, groupLift}
 use Rattle.multicast.specs.declared.HeadSent.{HeadSent}
 use Rattle.multicast.specs.declared.HeadReceived.{HeadReceived}

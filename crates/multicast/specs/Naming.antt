@@ -7,10 +7,10 @@ use Rattle.ends.specs.declared.Olt.{Olt}
 use Rattle.ends.specs.declared.Found.{Found}
 use Rattle.ends.specs.declared.Found.the-variants.{At, Nowhere}
 use Rattle.protocol.specs.Replies.{Reply, reply, onValid}
-use Rattle.groups.specs.Head.{validHead, groupAt, withGroup}
-use Rattle.groups.specs.GroupCalls.{GroupOutcome}
-use Rattle.groups.specs.declared.GroupRecord.{GroupRecord}
-use Rattle.groups.specs.declared.HeadEnd.{HeadEnd}
+use Rattle.group_protocol.specs.Head.{validHead, groupAt, withGroup}
+use Rattle.group_protocol.specs.GroupCalls.{GroupOutcome}
+use Rattle.group_protocol.specs.declared.GroupRecord.{GroupRecord}
+use Rattle.group_protocol.specs.declared.HeadEnd.{HeadEnd}
 
 -- by the group that has the LLID: `alone` where none has
 unfoldable pub byLlid : {R : Type 0} → Found → R → (ℕ → R) → R

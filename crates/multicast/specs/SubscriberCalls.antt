@@ -17,12 +17,12 @@ use Rattle.protocol.specs.declared.Acknowledgement.{Acknowledgement}
 use Rattle.protocol.specs.declared.KeyMessage.{KeyMessage}
 use Rattle.protocol.specs.declared.OnuAnswer.{OnuAnswer}
 use Rattle.protocol.specs.declared.OnuAcknowledged.{OnuAcknowledged}
-use Rattle.groups.specs.Limits.{maxJoined}
-use Rattle.groups.specs.Subscriber.{freshJoined, hasJoined, findJoined, joinedAt, withOnu, withJoined, withOneJoinedMore, alone, validMemberships, validSubscriber}
-use Rattle.groups.specs.JoinedCalls.{JoinedOutcome, messageJoined, noAnswer}
-use Rattle.groups.specs.declared.Joined.{Joined}
-use Rattle.groups.specs.declared.Subscriber.{Subscriber}
-use Rattle.groups.specs.declared.Answer.{Answer}
+use Rattle.group_protocol.specs.Limits.{maxJoined}
+use Rattle.group_protocol.specs.Subscriber.{freshJoined, hasJoined, findJoined, joinedAt, withOnu, withJoined, withOneJoinedMore, alone, validMemberships, validSubscriber}
+use Rattle.group_protocol.specs.JoinedCalls.{JoinedOutcome, messageJoined, noAnswer}
+use Rattle.group_protocol.specs.declared.Joined.{Joined}
+use Rattle.group_protocol.specs.declared.Subscriber.{Subscriber}
+use Rattle.group_protocol.specs.declared.Answer.{Answer}
 use Rattle.multicast.specs.Naming.{byLlid}
 use Rattle.multicast.specs.declared.SubscriberAnswer.{SubscriberAnswer}
 use Rattle.multicast.specs.declared.SubscriberMoved.{SubscriberMoved}

@@ -6,7 +6,7 @@ use Rattle.octets.specs.Output.{WithOutput}
 use Rattle.ends.specs.declared.Found.{Found}
 use Rattle.ends.specs.declared.Found.the-variants.{At, Nowhere}
 use Rattle.protocol.specs.declared.Header.{Header}
-use Rattle.groups.specs.declared.Subscriber.{Subscriber}
+use Rattle.group_protocol.specs.declared.Subscriber.{Subscriber}
 use Rattle.multicast.specs.SubscriberTraffic.{unitSendOf, unitReceiveOf}
 use Rattle.multicast.specs.declared.SubscriberSent.{SubscriberSent}
 use Rattle.multicast.specs.declared.SubscriberReceived.{SubscriberReceived}

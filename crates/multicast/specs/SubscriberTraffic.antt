@@ -20,9 +20,9 @@ use Rattle.traffic.specs.Sends.{onuSendOf}
 use Rattle.traffic.specs.Receipts.{onuReceiveOf}
 use Rattle.traffic.specs.declared.OnuSent.{OnuSent}
 use Rattle.traffic.specs.declared.OnuReceived.{OnuReceived}
-use Rattle.groups.specs.Subscriber.{findJoined, withOnu, validMemberships, validSubscriber}
-use Rattle.groups.specs.JoinedCalls.{receiveJoined}
-use Rattle.groups.specs.declared.Subscriber.{Subscriber}
+use Rattle.group_protocol.specs.Subscriber.{findJoined, withOnu, validMemberships, validSubscriber}
+use Rattle.group_protocol.specs.JoinedCalls.{receiveJoined}
+use Rattle.group_protocol.specs.declared.Subscriber.{Subscriber}
 use Rattle.multicast.specs.Naming.{byLlid}
 use Rattle.multicast.specs.SubscriberCalls.{joinedLift}
 use Rattle.multicast.specs.declared.SubscriberSent.{SubscriberSent}

@@ -14,9 +14,9 @@ use Rattle.traffic.specs.Receipts.{oltReceiveOf}
 use Rattle.traffic.specs.Sends.{oltSendOf}
 use Rattle.traffic.specs.declared.OltReceived.{OltReceived}
 use Rattle.traffic.specs.declared.OltSent.{OltSent}
-use Rattle.groups.specs.Head.{withOlt}
-use Rattle.groups.specs.declared.Answer.{Answer}
-use Rattle.groups.specs.declared.HeadEnd.{HeadEnd}
+use Rattle.group_protocol.specs.Head.{withOlt}
+use Rattle.group_protocol.specs.declared.Answer.{Answer}
+use Rattle.group_protocol.specs.declared.HeadEnd.{HeadEnd}
 use Rattle.multicast.specs.HeadCalls.{headAcknowledgeOf, headAdvanceOf, headCaptureOf, headClockSendOf, headMeasureOf, headOfferOf, headRegisterOf, headRetryOf, ownAcknowledgement}
 use Rattle.multicast.specs.HeadTraffic.{headReceiveOf, headSendOf}
 use Rattle.multicast.specs.declared.HeadAnswer.{HeadAnswer}

@@ -2,11 +2,11 @@
 ghost use mathlib.Core.Path.{_≡_};
 ghost use Rattle.refusal.specs.declared.Verdict.the-variants.{Accepted, Refused};
 ghost use Rattle.protocol.specs.Replies.{silent, reply};
-ghost use Rattle.groups.specs.Head.{withOlt};
+ghost use Rattle.group_protocol.specs.Head.{withOlt};
 ghost use Rattle.multicast.specs.HeadCalls.{headAnswer};
 use crate::HeadAnswer;
 use ends::Olt;
-use groups::HeadEnd;
+use group_protocol::HeadEnd;
 use refusal::Refusal;
 use refusal::number;
 

@@ -24,7 +24,7 @@ use ends::Found;
 use envelope::downstream;
 use envelope::lengths_fit;
 use envelope::upstream;
-use groups::HeadEnd;
+use group_protocol::HeadEnd;
 use groups::sending;
 use octets::EQ_OCTETS;
 use olt::place::locate;

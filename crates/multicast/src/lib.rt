@@ -12,9 +12,9 @@ pub mod subscriber_traffic;
 mod timing;
 
 use clock::Stamps;
-use groups::Answer;
-use groups::HeadEnd;
-use groups::Subscriber;
+use group_protocol::Answer;
+use group_protocol::HeadEnd;
+use group_protocol::Subscriber;
 use protocol::Header;
 use protocol::KeyMessage;
 

@@ -2,7 +2,7 @@
 ghost use mathlib.Core.Path.{_≡_};
 ghost use Rattle.octets.specs.Output.{withOutput};
 ghost use Rattle.ends.specs.declared.Found.the-variants.{At};
-ghost use Rattle.groups.specs.Subscriber.{findJoined};
+ghost use Rattle.group_protocol.specs.Subscriber.{findJoined};
 ghost use Rattle.multicast.specs.SubscriberClaims.{Apart, ReceivesAlone, SendsAlone};
 ghost use Rattle.multicast.specs.SubscriberTraffic.{groupReceiveOf, groupSendVerdict, ownReceiveOf, ownSendOf, subscriberNotReceived, subscriberNotSent, subscriberReceiveOf, subscriberSendOf};
 use crate::SubscriberReceived;
@@ -12,7 +12,7 @@ use crate::at_subscriber::with_joined;
 use ends::Found;
 use envelope::lengths_fit;
 use envelope::upstream;
-use groups::Subscriber;
+use group_protocol::Subscriber;
 use groups::check_subscriber::valid_subscriber;
 use groups::joined_calls;
 use groups::joined_search::find_joined;

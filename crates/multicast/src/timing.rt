@@ -8,9 +8,9 @@ ghost use Rattle.octets.specs.Lists.{all};
 ghost use Rattle.clock.specs.Ticks.{maxTick};
 ghost use Rattle.ends.specs.Limits.{maxUnits};
 ghost use Rattle.ends.specs.Timers.{validTimer};
-ghost use Rattle.groups.specs.GroupCalls.{groupAdvanced};
-use groups::GroupRecord;
-use groups::MAX_GROUPS;
+ghost use Rattle.group_protocol.specs.GroupCalls.{groupAdvanced};
+use group_protocol::GroupRecord;
+use group_protocol::MAX_GROUPS;
 use unit::timing::timer_advanced;
 
 // The first `end` groups are moved by n ticks.

@@ -25,14 +25,14 @@ use Rattle.protocol.proofs.OltAdvance.{olt-sum}
 use Rattle.protocol.proofs.OnuAdvance.{advance-onu-sum}
 use Rattle.protocol.proofs.OnuCalls.{onu-accepted}
 use Rattle.protocol.proofs.Replies.{advance-accepted, advance-accepts, reply-verdict}
-use Rattle.groups.specs.GroupCalls.{groupAdvanced}
-use Rattle.groups.specs.Head.{validHead, withGroupKeys}
-use Rattle.groups.specs.Subscriber.{validMemberships, withOnu}
-use Rattle.groups.specs.declared.GroupRecord.{GroupRecord}
-use Rattle.groups.specs.declared.Groups.{Groups}
-use Rattle.groups.specs.declared.HeadEnd.{HeadEnd}
-use Rattle.groups.specs.declared.Subscriber.{Subscriber}
-use Rattle.groups.proofs.Subscribers.{valid-both, valid-joins}
+use Rattle.group_protocol.specs.GroupCalls.{groupAdvanced}
+use Rattle.group_protocol.specs.Head.{validHead, withGroupKeys}
+use Rattle.group_protocol.specs.Subscriber.{validMemberships, withOnu}
+use Rattle.group_protocol.specs.declared.GroupRecord.{GroupRecord}
+use Rattle.group_protocol.specs.declared.Groups.{Groups}
+use Rattle.group_protocol.specs.declared.HeadEnd.{HeadEnd}
+use Rattle.group_protocol.specs.declared.Subscriber.{Subscriber}
+use Rattle.group_protocol.proofs.Subscribers.{valid-both, valid-joins}
 use Rattle.multicast.specs.HeadCalls.{groupsAdvanced, headAdvanced, headAdvanceOf, headAnswer}
 use Rattle.multicast.specs.SubscriberCalls.{onuAnswered, ownAnswered, subscriberAdvanceOf}
 use Rattle.multicast.specs.declared.HeadAnswer.{HeadAnswer}

@@ -30,11 +30,11 @@ use Rattle.protocol.specs.declared.KeyMessage.{KeyMessage}
 use Rattle.clock.specs.declared.Stamps.{Stamps}
 use Rattle.traffic.specs.Passages.{misfit, outputAfter, passed, passedCount, passedRuns}
 use Rattle.unit.specs.Reached.{ifAccepted}
-use Rattle.groups.specs.GroupCalls.{GroupOutcome, acknowledgeGroup, groupOutcome, memberNamed, membersSet, offerGroup, retryGroup, sendGroup}
-use Rattle.groups.specs.Head.{groupAt, withGroup, withOlt}
-use Rattle.groups.specs.declared.GroupRecord.{GroupRecord}
-use Rattle.groups.specs.declared.HeadEnd.{HeadEnd}
-use Rattle.groups.specs.declared.Members.{Members}
+use Rattle.group_protocol.specs.GroupCalls.{GroupOutcome, acknowledgeGroup, groupOutcome, memberNamed, membersSet, offerGroup, retryGroup, sendGroup}
+use Rattle.group_protocol.specs.Head.{groupAt, withGroup, withOlt}
+use Rattle.group_protocol.specs.declared.GroupRecord.{GroupRecord}
+use Rattle.group_protocol.specs.declared.HeadEnd.{HeadEnd}
+use Rattle.group_protocol.specs.declared.Members.{Members}
 use Rattle.multicast.specs.HeadCalls.{ownAcknowledgement}
 use Rattle.multicast.specs.HeadTraffic.{sendAhead}
 use Rattle.orders.specs.Calls.{Call, Made, Told, capture, measure, clockSend, offer, retry, acknowledge, send, receive, answered, clockSent, keySent, sent, received}

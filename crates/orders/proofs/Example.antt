@@ -11,9 +11,9 @@ use Rattle.ends.specs.Records.{freshUnit, withClock}
 use Rattle.ends.specs.Table.{unitAt}
 use Rattle.ends.specs.declared.Shared.{Shared}
 use Rattle.ends.specs.declared.UnitRecord.{UnitRecord}
-use Rattle.groups.specs.Head.{freshGroup, groupAt, validHead}
-use Rattle.groups.specs.Members.{freshMembers}
-use Rattle.groups.specs.declared.HeadEnd.{HeadEnd}
+use Rattle.group_protocol.specs.Head.{freshGroup, groupAt, validHead}
+use Rattle.group_protocol.specs.Members.{freshMembers}
+use Rattle.group_protocol.specs.declared.HeadEnd.{HeadEnd}
 use Rattle.orders.specs.Calls.{Call, capture, measure, retry}
 use Rattle.orders.specs.Demand.{Demand}
 use Rattle.orders.specs.Example.{MayChange, MayNot, Shown, example, firstClock, firstUnit, interval, numberAt, oltMac, offerTo, subscriber, swapped, toFirst, toSecond, toSecondSameChannel}

@@ -27,9 +27,9 @@ use Rattle.protocol.specs.declared.Acknowledgement.{Acknowledgement}
 use Rattle.protocol.proofs.UnitCalls.{acknowledge-keeps, capture-keeps, clock-send-keeps, offer-keeps, retry-keeps}
 use Rattle.protocol.proofs.UnitTraffic.{receive-keeps}
 use Rattle.unit.specs.Reached.{ifAccepted}
-use Rattle.groups.specs.GroupCalls.{acknowledgeGroup, groupMarked, groupOffered, groupOutcome, offerGroup, retryGroup, sendGroup}
-use Rattle.groups.specs.Head.{withGroupKeys, withMembers}
-use Rattle.groups.proofs.GroupSteps.{marked-llid}
+use Rattle.group_protocol.specs.GroupCalls.{acknowledgeGroup, groupMarked, groupOffered, groupOutcome, offerGroup, retryGroup, sendGroup}
+use Rattle.group_protocol.specs.Head.{withGroupKeys, withMembers}
+use Rattle.group_protocol.proofs.GroupSteps.{marked-llid}
 use Rattle.multicast.specs.HeadCalls.{ownAcknowledgement}
 use Rattle.orders.specs.Calls.{Call, capture, measure, clockSend, offer, retry, acknowledge, send, receive}
 use Rattle.orders.specs.Parties.{Party, Taking, channelFor, group, nobody, nothing, oneChannel, takingOf, unit}

@@ -21,14 +21,14 @@ use Rattle.ends.specs.declared.UnitRecord.{UnitRecord}
 use Rattle.ends.proofs.Table.{with-unit}
 use Rattle.ends.proofs.Validity.{olt-in-range}
 use Rattle.unit.specs.Reached.{ifAccepted}
-use Rattle.groups.specs.GroupCalls.{acknowledgeGroup, groupMarked, groupOffered, groupOutcome, memberNamed, offerGroup, retryGroup, sendGroup}
-use Rattle.groups.specs.Head.{groupAt, pastGroup, registeredGroups, validHead, withGroup, withGroupKeys, withMembers, withOlt}
-use Rattle.groups.specs.Members.{marked, placesOf, unmarked, validMembers}
-use Rattle.groups.specs.declared.Answer.{Answer}
-use Rattle.groups.specs.declared.GroupRecord.{GroupRecord}
-use Rattle.groups.specs.declared.HeadEnd.{HeadEnd}
-use Rattle.groups.proofs.Found.{Stands}
-use Rattle.groups.proofs.HeadValidity.{group-in-range, head-in-range}
+use Rattle.group_protocol.specs.GroupCalls.{acknowledgeGroup, groupMarked, groupOffered, groupOutcome, memberNamed, offerGroup, retryGroup, sendGroup}
+use Rattle.group_protocol.specs.Head.{groupAt, pastGroup, registeredGroups, validHead, withGroup, withGroupKeys, withMembers, withOlt}
+use Rattle.group_protocol.specs.Members.{marked, placesOf, unmarked, validMembers}
+use Rattle.group_protocol.specs.declared.Answer.{Answer}
+use Rattle.group_protocol.specs.declared.GroupRecord.{GroupRecord}
+use Rattle.group_protocol.specs.declared.HeadEnd.{HeadEnd}
+use Rattle.group_protocol.proofs.Found.{Stands}
+use Rattle.group_protocol.proofs.HeadValidity.{group-in-range, head-in-range}
 use Rattle.multicast.proofs.HeadSteps.{group-at-valid}
 use Rattle.orders.specs.Calls.{Call, Made, Told, after, answerOf, made, capture, measure, clockSend, offer, retry, acknowledge, send, receive}
 use Rattle.orders.specs.Locality.{GroupPart, Locality, MemberPart, SameGroup, SameUnit, groupPart, memberPart, memberParts}

@@ -32,10 +32,10 @@ use Rattle.traffic.specs.Passages.{misfit, outputAfter, passedCount, passedRuns
 use Rattle.traffic.specs.Receipts.{oltReceived, oltReceiveOf}
 use Rattle.traffic.specs.Sends.{oltSendOf, oltSent}
 use Rattle.unit.specs.Reached.{ifAccepted}
-use Rattle.groups.specs.GroupCalls.{GroupOutcome, groupOutcome, membersSet}
-use Rattle.groups.specs.Head.{findGroup, groupAt, validGroups, validHead, withGroup, withOlt}
-use Rattle.groups.specs.declared.HeadEnd.{HeadEnd}
-use Rattle.groups.proofs.HeadValidity.{head-in-range}
+use Rattle.group_protocol.specs.GroupCalls.{GroupOutcome, groupOutcome, membersSet}
+use Rattle.group_protocol.specs.Head.{findGroup, groupAt, validGroups, validHead, withGroup, withOlt}
+use Rattle.group_protocol.specs.declared.HeadEnd.{HeadEnd}
+use Rattle.group_protocol.proofs.HeadValidity.{head-in-range}
 use Rattle.multicast.specs.HeadCalls.{headAcknowledgeOf, headAnswer, headCaptureOf, headClockSendOf, headKeySent, headMeasureOf, headOfferOf, headRetryOf, oltAnswered, oltClockSent, oltKeySent}
 use Rattle.multicast.specs.HeadTraffic.{groupReceiveVerdict, headReceiveOf, headSendOf, headSent, oltReceivedIn, oltSentIn}
 use Rattle.multicast.specs.Naming.{byLlid, groupLift, putGroup}

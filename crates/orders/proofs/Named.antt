@@ -12,12 +12,12 @@ use Rattle.ends.specs.declared.Found.the-variants.{At, Nowhere}
 use Rattle.ends.proofs.Identities.{meets-apart}
 use Rattle.ends.proofs.Table.{find-own, registered-found}
 use Rattle.ends.proofs.Validity.{olt-in-range}
-use Rattle.groups.specs.Head.{findGroup, groupAt, groupLlids, registeredGroups, validHead}
-use Rattle.groups.specs.declared.HeadEnd.{HeadEnd}
-use Rattle.groups.proofs.Found.{group-own}
-use Rattle.groups.proofs.HeadValidity.{groups-in-range, head-in-range}
-use Rattle.groups.proofs.Places.{at-nowhere}
-use Rattle.groups.proofs.Walks.{group-found}
+use Rattle.group_protocol.specs.Head.{findGroup, groupAt, groupLlids, registeredGroups, validHead}
+use Rattle.group_protocol.specs.declared.HeadEnd.{HeadEnd}
+use Rattle.group_protocol.proofs.Found.{group-own}
+use Rattle.group_protocol.proofs.HeadValidity.{groups-in-range, head-in-range}
+use Rattle.group_protocol.proofs.Places.{at-nowhere}
+use Rattle.group_protocol.proofs.Llids.{group-found}
 use Rattle.multicast.specs.Naming.{byLlid}
 use Rattle.orders.specs.Calls.{Call}
 use Rattle.orders.specs.Parties.{group, llidOf, partyOf, unit, unitParty}

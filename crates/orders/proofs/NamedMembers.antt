@@ -17,11 +17,11 @@ use Rattle.ends.specs.declared.Found.the-variants.{At, Nowhere}
 use Rattle.ends.specs.declared.Olt.{Olt}
 use Rattle.ends.specs.declared.UnitRecord.{UnitRecord}
 use Rattle.ends.proofs.Table.{find-at, find-own}
-use Rattle.groups.specs.GroupCalls.{memberFound, memberNamed, membersSet}
-use Rattle.groups.specs.Members.{memberAt, placeFrom, placesOf, validMembers}
-use Rattle.groups.specs.declared.Answer.{Answer}
-use Rattle.groups.specs.declared.Members.{Members}
-use Rattle.groups.proofs.Places.{at-nowhere}
+use Rattle.group_protocol.specs.GroupCalls.{memberFound, memberNamed, membersSet}
+use Rattle.group_protocol.specs.Members.{memberAt, placeFrom, placesOf, validMembers}
+use Rattle.group_protocol.specs.declared.Answer.{Answer}
+use Rattle.group_protocol.specs.declared.Members.{Members}
+use Rattle.group_protocol.proofs.Places.{at-nowhere}
 use Rattle.orders.specs.Locality.{MemberPart, memberPart}
 
 abbrev partsOf : Olt → List ℕ → List MemberPart

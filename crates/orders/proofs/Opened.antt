@@ -24,10 +24,10 @@ use Rattle.protocol.specs.UnitTraffic.{keysAfterSend, sendUnit, switches, unitS
 use Rattle.sealing.specs.Seal.{carried, countCarried, runsCarried}
 use Rattle.traffic.specs.Passages.{misfit, outputAfter, passed, passedCount, passedRuns}
 use Rattle.traffic.specs.Sends.{oltSendOf, oltSent}
-use Rattle.groups.specs.GroupCalls.{groupOfferVerdict, groupOffered, groupOutcome, membersSet, offerGroup}
-use Rattle.groups.specs.Head.{apartLlids, findGroup, freshGroup, groupFrom, groupLlids, noGroup, noGroups, pastGroup, validGroup, validGroupNumbers, validGroups, validHead, withGroup, withGroupKeys, withMembers, withOlt, withOneGroupMore}
-use Rattle.groups.specs.Members.{freshMembers, marksOf, placesOf, rosterLlids, unmarked, validMembers}
-use Rattle.groups.specs.Subscriber.{alone, freshJoined, joinedLlids, noMemberships, validGroupsOf, validJoined, validMemberships, validSubscriber, withOneJoinedMore, withOnu}
+use Rattle.group_protocol.specs.GroupCalls.{groupOfferVerdict, groupOffered, groupOutcome, membersSet, offerGroup}
+use Rattle.group_protocol.specs.Head.{apartLlids, findGroup, freshGroup, groupFrom, groupLlids, noGroup, noGroups, pastGroup, validGroup, validGroupNumbers, validGroups, validHead, withGroup, withGroupKeys, withMembers, withOlt, withOneGroupMore}
+use Rattle.group_protocol.specs.Members.{freshMembers, marksOf, placesOf, rosterLlids, unmarked, validMembers}
+use Rattle.group_protocol.specs.Subscriber.{alone, freshJoined, joinedLlids, noMemberships, validGroupsOf, validJoined, validMemberships, validSubscriber, withOneJoinedMore, withOnu}
 use Rattle.multicast.specs.HeadCalls.{freshHeadOf, groupVerdict, headAcknowledgeOf, headAdvanceOf, headAnswer, headCaptureOf, headClockSendOf, headKeySent, headMeasureOf, headOfferOf, headRegisterOf, headRetryOf, oltAnswered, oltClockSent, oltKeySent, ownAcknowledgement, placeFound, registerGroupOf, rosterMembers, unitVerdict, validGroupRegistration}
 use Rattle.multicast.specs.HeadTraffic.{headSendOf, oltSentIn}
 use Rattle.multicast.specs.Naming.{byLlid, groupLift, putGroup}

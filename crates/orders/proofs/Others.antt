@@ -19,14 +19,14 @@ use Rattle.ends.specs.declared.Olt.{Olt}
 use Rattle.ends.specs.declared.Shared.{Shared}
 use Rattle.ends.specs.declared.UnitRecord.{UnitRecord}
 use Rattle.ends.proofs.Table.{SameUnits, find-same, with-other, with-same-units}
-use Rattle.groups.specs.GroupCalls.{memberNamed, membersSet}
-use Rattle.groups.specs.Head.{findGroup, groupAt, groupLlids, pastGroup, withGroup, withOlt}
-use Rattle.groups.specs.Members.{placeFrom, placesOf}
-use Rattle.groups.specs.declared.Answer.{Answer}
-use Rattle.groups.specs.declared.GroupRecord.{GroupRecord}
-use Rattle.groups.specs.declared.HeadEnd.{HeadEnd}
-use Rattle.groups.specs.declared.Members.{Members}
-use Rattle.groups.proofs.Walks.{group-place}
+use Rattle.group_protocol.specs.GroupCalls.{memberNamed, membersSet}
+use Rattle.group_protocol.specs.Head.{findGroup, groupAt, groupLlids, pastGroup, withGroup, withOlt}
+use Rattle.group_protocol.specs.Members.{placeFrom, placesOf}
+use Rattle.group_protocol.specs.declared.Answer.{Answer}
+use Rattle.group_protocol.specs.declared.GroupRecord.{GroupRecord}
+use Rattle.group_protocol.specs.declared.HeadEnd.{HeadEnd}
+use Rattle.group_protocol.specs.declared.Members.{Members}
+use Rattle.group_protocol.proofs.Llids.{group-place}
 use Rattle.orders.specs.Calls.{Call, capture, measure, clockSend, offer, retry, acknowledge, send, receive}
 use Rattle.orders.specs.Parties.{Party, group, llidOf, memberOf, nobody, partyOf, sameParty, unit}
 use Rattle.orders.proofs.Decisions.{Own, Seen, ownOf, put, seen, shape}

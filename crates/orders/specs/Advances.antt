@@ -1,8 +1,8 @@
 -- Advances add up at both ends, with groups and path changes in the records (02, C-22). Assumes nothing.
 use mathlib.Core.Path.{_≡_}
 use Prim.Native.Nat.{ℕ, _+_}
-use Rattle.groups.specs.declared.HeadEnd.{HeadEnd}
-use Rattle.groups.specs.declared.Subscriber.{Subscriber}
+use Rattle.group_protocol.specs.declared.HeadEnd.{HeadEnd}
+use Rattle.group_protocol.specs.declared.Subscriber.{Subscriber}
 use Rattle.multicast.specs.HeadCalls.{headAdvanceOf}
 use Rattle.multicast.specs.SubscriberCalls.{subscriberAdvanceOf}
 

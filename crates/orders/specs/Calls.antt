@@ -6,8 +6,8 @@ use Rattle.octets.specs.Output.{WithOutput}
 use Rattle.clock.specs.declared.Stamps.{Stamps}
 use Rattle.protocol.specs.declared.Header.{Header}
 use Rattle.protocol.specs.declared.KeyMessage.{KeyMessage}
-use Rattle.groups.specs.declared.Answer.{Answer}
-use Rattle.groups.specs.declared.HeadEnd.{HeadEnd}
+use Rattle.group_protocol.specs.declared.Answer.{Answer}
+use Rattle.group_protocol.specs.declared.HeadEnd.{HeadEnd}
 use Rattle.multicast.specs.HeadCalls.{headAcknowledgeOf, headCaptureOf, headClockSendOf, headMeasureOf, headOfferOf, headRetryOf}
 use Rattle.multicast.specs.HeadTraffic.{headReceiveOf, headSendOf}
 use Rattle.multicast.specs.declared.HeadAnswer.{HeadAnswer}

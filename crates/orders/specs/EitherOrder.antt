@@ -2,8 +2,8 @@
 -- nothing.
 use mathlib.Core.Path.{_≡_}
 use mathlib.Core.Bool.{true, false}
-use Rattle.groups.specs.Head.{validHead}
-use Rattle.groups.specs.declared.HeadEnd.{HeadEnd}
+use Rattle.group_protocol.specs.Head.{validHead}
+use Rattle.group_protocol.specs.declared.HeadEnd.{HeadEnd}
 use Rattle.orders.specs.Calls.{Call, after, answerOf}
 use Rattle.orders.specs.Parties.{excepted, partyOf, sameParty}
 

@@ -9,11 +9,11 @@ use Rattle.refusal.specs.Number.{numberOf}
 use Rattle.refusal.specs.declared.Refusal.the-variants.{ChannelTaken, ClockNotSet, NothingOutstanding, UnknownLlid}
 use Rattle.ends.specs.declared.Identity.{Identity}
 use Rattle.protocol.specs.Messages.{clockKind}
-use Rattle.groups.specs.Head.{validHead}
-use Rattle.groups.specs.declared.Answer.{Answer}
-use Rattle.groups.specs.declared.HeadEnd.{HeadEnd}
-use Rattle.groups.specs.declared.Roster.{Roster}
-use Rattle.groups.specs.declared.Subscriber.{Subscriber}
+use Rattle.group_protocol.specs.Head.{validHead}
+use Rattle.group_protocol.specs.declared.Answer.{Answer}
+use Rattle.group_protocol.specs.declared.HeadEnd.{HeadEnd}
+use Rattle.group_protocol.specs.declared.Roster.{Roster}
+use Rattle.group_protocol.specs.declared.Subscriber.{Subscriber}
 use Rattle.multicast.specs.HeadCalls.{freshHeadOf, headAdvanceOf, headRegisterOf, registerGroupOf}
 use Rattle.multicast.specs.SubscriberCalls.{freshSubscriberOf, joinOf, subscriberAdvanceOf, subscriberNewTimeOf}
 use Rattle.orders.specs.Calls.{Call, acknowledge, after, answerOf, capture, clockSend, measure, offer, retry, send, toldNumber}

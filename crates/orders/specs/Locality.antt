@@ -9,10 +9,10 @@ use Rattle.ends.specs.Identities.{has, llidsOf}
 use Rattle.ends.specs.Table.{registered, unitAt}
 use Rattle.ends.specs.declared.UnitKeys.{UnitKeys}
 use Rattle.ends.specs.declared.UnitRecord.{UnitRecord}
-use Rattle.groups.specs.Head.{groupAt, registeredGroups, validHead}
-use Rattle.groups.specs.Members.{placesOf}
-use Rattle.groups.specs.declared.GroupRecord.{GroupRecord}
-use Rattle.groups.specs.declared.HeadEnd.{HeadEnd}
+use Rattle.group_protocol.specs.Head.{groupAt, registeredGroups, validHead}
+use Rattle.group_protocol.specs.Members.{placesOf}
+use Rattle.group_protocol.specs.declared.GroupRecord.{GroupRecord}
+use Rattle.group_protocol.specs.declared.HeadEnd.{HeadEnd}
 use Rattle.orders.specs.Calls.{Call, after, answerOf}
 use Rattle.orders.specs.Parties.{llidOf}
 

@@ -8,9 +8,9 @@ use Rattle.ends.specs.Identities.{among}
 use Rattle.ends.specs.Table.{find}
 use Rattle.ends.specs.declared.Found.{Found}
 use Rattle.ends.specs.declared.Found.the-variants.{At, Nowhere}
-use Rattle.groups.specs.Head.{findGroup, groupAt}
-use Rattle.groups.specs.Members.{placesOf}
-use Rattle.groups.specs.declared.HeadEnd.{HeadEnd}
+use Rattle.group_protocol.specs.Head.{findGroup, groupAt}
+use Rattle.group_protocol.specs.Members.{placesOf}
+use Rattle.group_protocol.specs.declared.HeadEnd.{HeadEnd}
 use Rattle.multicast.specs.Naming.{byLlid}
 use Rattle.orders.specs.Calls.{Call, capture, measure, clockSend, offer, retry, acknowledge, send, receive}
 

@@ -28,10 +28,10 @@ use Rattle.protocol.specs.Messages.{noKeyMessage}
 use Rattle.protocol.specs.declared.KeyMessage.{KeyMessage}
 use Rattle.protocol.specs.UnitCalls.{keysOffered, keyMessageOf, retryVerdict}
 use Rattle.traffic.specs.Passages.{misfit}
-use Rattle.groups.specs.GroupCalls.{groupOutcome, membersSet, groupOfferVerdict, offerGroup, retryGroup, groupSendChoice, sendGroup}
-use Rattle.groups.specs.Head.{findGroup, groupAt, validHead}
-use Rattle.groups.specs.declared.GroupRecord.{GroupRecord}
-use Rattle.groups.specs.declared.HeadEnd.{HeadEnd}
+use Rattle.group_protocol.specs.GroupCalls.{groupOutcome, membersSet, groupOfferVerdict, offerGroup, retryGroup, groupSendChoice, sendGroup}
+use Rattle.group_protocol.specs.Head.{findGroup, groupAt, validHead}
+use Rattle.group_protocol.specs.declared.GroupRecord.{GroupRecord}
+use Rattle.group_protocol.specs.declared.HeadEnd.{HeadEnd}
 use Rattle.multicast.specs.Naming.{byLlid}
 use Rattle.multicast.specs.HeadCalls.{headKeySent, headOfferOf, headRetryOf}
 use Rattle.multicast.specs.HeadTraffic.{sendAhead, headSent, headSendOf}

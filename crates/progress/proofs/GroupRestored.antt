@@ -15,10 +15,10 @@ use Rattle.ends.specs.Flags.{isUp}
 use Rattle.ends.specs.Identities.{among, has, llidsOf, meets}
 use Rattle.ends.specs.Table.{unitAt}
 use Rattle.ends.specs.declared.Identity.{Identity}
-use Rattle.groups.specs.GroupCalls.{membersSet}
-use Rattle.groups.specs.Head.{groupAt}
-use Rattle.groups.specs.Members.{placesOf}
-use Rattle.groups.proofs.GroupSteps.{all-tabulated}
+use Rattle.group_protocol.specs.GroupCalls.{membersSet}
+use Rattle.group_protocol.specs.Head.{groupAt}
+use Rattle.group_protocol.specs.Members.{placesOf}
+use Rattle.group_protocol.proofs.GroupSteps.{all-tabulated}
 use Rattle.unicast.specs.Setting.{Setting, Site}
 use Rattle.unicast.specs.History.{Entry, isSynced}
 use Rattle.unicast.specs.Run as run

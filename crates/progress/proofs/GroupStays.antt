@@ -12,8 +12,8 @@ use Rattle.ends.specs.Identities.{among}
 use Rattle.protocol.specs.OltCalls.{oltAdvanced, sharedAdvanced}
 use Rattle.protocol.specs.declared.KeyMessage.{KeyMessage}
 use Rattle.protocol.proofs.Replies.{advance-accepts}
-use Rattle.groups.specs.declared.Subscriber.{Subscriber}
-use Rattle.groups.proofs.HeadValidity.{head-valid}
+use Rattle.group_protocol.specs.declared.Subscriber.{Subscriber}
+use Rattle.group_protocol.proofs.HeadValidity.{head-valid}
 use Rattle.multicast.specs.HeadCalls.{headAdvanced}
 use Rattle.multicast.specs.declared.SubscriberAcknowledged.{SubscriberAcknowledged}
 use Rattle.multicast.proofs.HeadGrowth.{advance-moves}

@@ -19,11 +19,11 @@ use Rattle.ends.specs.declared.Found.{Found}
 use Rattle.ends.specs.declared.Found.the-variants.{At, Nowhere}
 use Rattle.protocol.specs.declared.KeyMessage.{KeyMessage}
 use Rattle.protocol.proofs.Replies.{reply-accepted}
-use Rattle.groups.specs.Head.{groupAt}
-use Rattle.groups.specs.JoinedCalls.{noAnswer, holds, heldAgain, highestHeld, newNumber, joinedMessageVerdict, messageJoined, groupAnswer, joinedAfterMessage}
-use Rattle.groups.specs.Subscriber.{findJoined, joinedAt, withJoined, validSubscriber}
-use Rattle.groups.specs.declared.Joined.{Joined}
-use Rattle.groups.specs.declared.Subscriber.{Subscriber}
+use Rattle.group_protocol.specs.Head.{groupAt}
+use Rattle.group_protocol.specs.JoinedCalls.{noAnswer, holds, heldAgain, highestHeld, newNumber, joinedMessageVerdict, messageJoined, groupAnswer, joinedAfterMessage}
+use Rattle.group_protocol.specs.Subscriber.{findJoined, joinedAt, withJoined, validSubscriber}
+use Rattle.group_protocol.specs.declared.Joined.{Joined}
+use Rattle.group_protocol.specs.declared.Subscriber.{Subscriber}
 use Rattle.multicast.specs.Naming.{byLlid}
 use Rattle.multicast.specs.SubscriberCalls.{subscriberAcknowledged, putJoined, joinedLift, subscriberKeyMessageOf}
 use Rattle.unicast.specs.Setting.{Setting}

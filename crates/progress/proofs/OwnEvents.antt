@@ -12,8 +12,8 @@ use Rattle.ends.specs.declared.Onu.{Onu}
 use Rattle.protocol.specs.Headers.{envelopeHeader}
 use Rattle.protocol.specs.declared.Header.{Header}
 use Rattle.traffic.specs.Sends.{onuSendOf}
-use Rattle.groups.specs.Head.{findGroup}
-use Rattle.groups.specs.Subscriber.{findJoined}
+use Rattle.group_protocol.specs.Head.{findGroup}
+use Rattle.group_protocol.specs.Subscriber.{findJoined}
 use Rattle.multicast.specs.declared.HeadKeySent.{HeadKeySent}
 use Rattle.multicast.specs.declared.SubscriberSent.{SubscriberSent}
 use Rattle.unicast.specs.Setting.{Site, Setting}

@@ -23,13 +23,13 @@ use Rattle.ends.specs.declared.Identity.{Identity}
 use Rattle.ends.specs.declared.Olt.{Olt}
 use Rattle.ends.proofs.Identities.{meets-apart}
 use Rattle.ends.proofs.Validity.{olt-in-range}
-use Rattle.groups.specs.Head.{groupAt, pastGroup, freshGroup, withOlt, withOneGroupMore}
-use Rattle.groups.specs.declared.Groups.{Groups}
-use Rattle.groups.specs.Limits.{maxMembers}
-use Rattle.groups.specs.Members.{placesOf, rosterLlids, freshMembers, validMembers}
-use Rattle.groups.specs.declared.GroupRecord.{GroupRecord}
-use Rattle.groups.specs.declared.Roster.{Roster}
-use Rattle.groups.proofs.Places.{among-at}
+use Rattle.group_protocol.specs.Head.{groupAt, pastGroup, freshGroup, withOlt, withOneGroupMore}
+use Rattle.group_protocol.specs.declared.Groups.{Groups}
+use Rattle.group_protocol.specs.Limits.{maxMembers}
+use Rattle.group_protocol.specs.Members.{placesOf, rosterLlids, freshMembers, validMembers}
+use Rattle.group_protocol.specs.declared.GroupRecord.{GroupRecord}
+use Rattle.group_protocol.specs.declared.Roster.{Roster}
+use Rattle.group_protocol.proofs.Places.{among-at}
 use Rattle.multicast.specs.HeadCalls.{registerGroupOf, headRegisterOf, placeFound, rosterMembers}
 use Rattle.protocol.specs.declared.OltAnswer.{OltAnswer}
 use Rattle.unicast.specs.Setting.{Setting}

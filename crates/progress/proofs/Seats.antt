@@ -31,14 +31,14 @@ use Rattle.traffic.specs.Receipts.{oltReceiveOf}
 use Rattle.traffic.specs.Sends.{oltSendOf}
 use Rattle.traffic.specs.declared.OltReceived.{OltReceived}
 use Rattle.traffic.specs.declared.OltSent.{OltSent}
-use Rattle.groups.specs.GroupCalls as calls
-use Rattle.groups.specs.GroupCalls.{GroupOutcome, groupOutcome, groupAdvanced, membersSet, offerGroup, retryGroup, memberNamed, groupMarked, acknowledgeGroup, sendGroup}
-use Rattle.groups.specs.Head.{findGroup, groupAt, pastGroup, withGroupKeys, withMembers, withOlt, withGroup, validGroups}
-use Rattle.groups.specs.Members.{unmarked, marked}
-use Rattle.groups.specs.declared.Answer.{Answer}
-use Rattle.groups.specs.declared.GroupRecord.{GroupRecord}
-use Rattle.groups.specs.declared.Groups.{Groups}
-use Rattle.groups.specs.declared.HeadEnd.{HeadEnd}
+use Rattle.group_protocol.specs.GroupCalls as calls
+use Rattle.group_protocol.specs.GroupCalls.{GroupOutcome, groupOutcome, groupAdvanced, membersSet, offerGroup, retryGroup, memberNamed, groupMarked, acknowledgeGroup, sendGroup}
+use Rattle.group_protocol.specs.Head.{findGroup, groupAt, pastGroup, withGroupKeys, withMembers, withOlt, withGroup, validGroups}
+use Rattle.group_protocol.specs.Members.{unmarked, marked}
+use Rattle.group_protocol.specs.declared.Answer.{Answer}
+use Rattle.group_protocol.specs.declared.GroupRecord.{GroupRecord}
+use Rattle.group_protocol.specs.declared.Groups.{Groups}
+use Rattle.group_protocol.specs.declared.HeadEnd.{HeadEnd}
 use Rattle.multicast.specs.Naming.{byLlid, groupLift}
 use Rattle.multicast.specs.HeadCalls.{headAnswer, headKeySent, oltAnswered, oltClockSent, oltKeySent, headAdvanced, groupsAdvanced, headAdvanceOf, headCaptureOf, headMeasureOf, headClockSendOf, groupOfferOf, headOfferOf, groupRetryOf, headRetryOf, ownAcknowledgement, groupAcknowledgeOf, headAcknowledgeOf}
 use Rattle.multicast.specs.HeadTraffic.{sendAhead, headSent, oltSentIn, groupSendOf, headSendOf, headNotReceived, oltReceivedIn, groupReceiveVerdict, headReceiveOf}

@@ -12,8 +12,8 @@ use Rattle.clock.specs.Ticks.{maxTick, maxRoundTrip}
 use Rattle.ends.specs.Identities.{has}
 use Rattle.ends.specs.Limits.{maxKeyNumber}
 use Rattle.ends.specs.declared.Identity.{Identity}
-use Rattle.groups.specs.Head.{groupAt}
-use Rattle.groups.specs.GroupCalls.{membersSet}
+use Rattle.group_protocol.specs.Head.{groupAt}
+use Rattle.group_protocol.specs.GroupCalls.{membersSet}
 use Rattle.unicast.specs.Setting.{Setting}
 use Rattle.unicast.specs.History.{Envelope, isSynced}
 use Rattle.unicast.specs.Events as units

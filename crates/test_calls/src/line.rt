@@ -4,8 +4,8 @@ use crate::olt_calls;
 use crate::onu_calls;
 use crate::values;
 use clock::Stamps;
-use groups::HeadEnd;
-use groups::Subscriber;
+use group_protocol::HeadEnd;
+use group_protocol::Subscriber;
 use protocol::Header;
 use protocol::KeyMessage;
 

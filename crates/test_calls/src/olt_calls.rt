@@ -1,8 +1,8 @@
 // The calls of the OLT, each with its line.
 use crate::show;
 use crate::values;
-use groups::Answer;
-use groups::HeadEnd;
+use group_protocol::Answer;
+use group_protocol::HeadEnd;
 use jazmotip::at_olt::jazmotip_olt_acknowledge;
 use jazmotip::at_olt::jazmotip_olt_advance;
 use jazmotip::at_olt::jazmotip_olt_capture;

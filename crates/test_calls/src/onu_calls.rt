@@ -2,7 +2,7 @@
 use crate::show;
 use crate::values;
 use clock::Stamps;
-use groups::Subscriber;
+use group_protocol::Subscriber;
 use jazmotip::at_onu::jazmotip_onu_advance;
 use jazmotip::at_onu::jazmotip_onu_clock_message;
 use jazmotip::at_onu::jazmotip_onu_fresh;

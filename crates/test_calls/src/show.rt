@@ -1,5 +1,5 @@
 // A line: the call, its code, and what it handed over.
-use groups::Answer;
+use group_protocol::Answer;
 use libc::STDOUT_FILENO;
 use protocol::Header;
 use protocol::KeyMessage;

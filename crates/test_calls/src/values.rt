@@ -1,7 +1,7 @@
 // Names, keys, payloads, settings and blocks.
 use ends::Identity;
 use envelope::Nonce;
-use groups::Roster;
+use group_protocol::Roster;
 
 pub const OLT_MAC: u64 = 0x0200_0000_0001;
 

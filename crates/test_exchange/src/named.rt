@@ -4,8 +4,8 @@ use crate::play::Play;
 use crate::script;
 use clock::Stamps;
 use ends::UnitRecord;
-use groups::HeadEnd;
-use groups::Subscriber;
+use group_protocol::HeadEnd;
+use group_protocol::Subscriber;
 use libc::STDOUT_FILENO;
 
 fn at_olt(h: HeadEnd, u: UnitRecord, sent: Stamps, k: usize) -> u64 {

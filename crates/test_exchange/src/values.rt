@@ -5,8 +5,8 @@ use ends::FirstSend;
 use ends::Identity;
 use ends::Slots;
 use ends::limits::MAX_CHANGES;
-use groups::Answer;
-use groups::Roster;
+use group_protocol::Answer;
+use group_protocol::Roster;
 use protocol::Header;
 use protocol::KeyMessage;
 

@@ -8,7 +8,7 @@ use borrow.Author.Tests.{not-true, not-false}
 use Rattle.octets.specs.Lists.{all}
 use Rattle.octets.proofs.Steps.{all-hit, all-miss, all-end}
 use Rattle.ends.specs.Limits.{maxUnits}
-use Rattle.groups.specs.Head.{pastGroup, validGroup}
+use Rattle.group_protocol.specs.Head.{pastGroup, validGroup}
 use Rattle.groups.proofs.check_head.all_valid.Statement.{statement}
 use Rattle.groups.proofs.check_head.all_valid.Tie as tie
 

@@ -1,7 +1,7 @@
 -- `groups::check_head::apart` meets its contract: the tests are those of the definition. Assumes nothing.
 use borrow.Author.Needs.{needs}
 use Rattle.octets.specs.Choice.{both}
-use Rattle.groups.specs.Head.{apartLlids}
+use Rattle.group_protocol.specs.Head.{apartLlids}
 use Rattle.groups.proofs.check_head.apart.Statement.{statement}
 use Rattle.groups.proofs.check_head.apart.Tie as tie
 

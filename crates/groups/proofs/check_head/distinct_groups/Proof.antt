@@ -7,7 +7,7 @@ use lib.ListN.{length, take}
 use borrow.Author.Needs.{needs}
 use Rattle.ends.specs.Identities.{distinct}
 use Rattle.ends.specs.Limits.{maxUnits}
-use Rattle.groups.specs.Head.{groupLlids, pastGroup}
+use Rattle.group_protocol.specs.Head.{groupLlids, pastGroup}
 use Rattle.groups.proofs.Walks.{llids-more, llids-none, llids-again}
 use Rattle.groups.proofs.check_head.distinct_groups.Statement.{statement}
 use Rattle.groups.proofs.check_head.distinct_groups.Tie as tie

@@ -9,7 +9,7 @@ use Rattle.octets.proofs.Steps.{first-end}
 use Rattle.ends.specs.Identities.{meets}
 use Rattle.ends.specs.Limits.{maxUnits}
 use Rattle.ends.specs.Table.{tableLlids}
-use Rattle.groups.specs.Head.{groupLlids, pastGroup}
+use Rattle.group_protocol.specs.Head.{groupLlids, pastGroup}
 use Rattle.groups.proofs.Walks.{group-step, group-end, meets-more, meets-stop, meets-none}
 use Rattle.groups.proofs.check_head.meet_units.Statement.{statement}
 use Rattle.groups.proofs.check_head.meet_units.Tie as tie

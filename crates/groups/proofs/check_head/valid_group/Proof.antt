@@ -2,7 +2,7 @@
 use borrow.Author.Needs.{needs}
 use Rattle.octets.specs.Choice.{both}
 use Rattle.ends.specs.Validity.{validKeys}
-use Rattle.groups.specs.Head.{validGroup, validGroupNumbers}
+use Rattle.group_protocol.specs.Head.{validGroup, validGroupNumbers}
 use Rattle.groups.proofs.check_head.valid_group.Statement.{statement}
 use Rattle.groups.proofs.check_head.valid_group.Tie as tie
 

@@ -7,7 +7,7 @@ use Rattle.octets.specs.Choice.{both}
 use Rattle.octets.specs.Lists.{all}
 use Rattle.ends.specs.Identities.{distinct, meets}
 use Rattle.ends.specs.Limits.{maxUnits}
-use Rattle.groups.specs.Head.{apartLlids, groupLlids, validGroups}
+use Rattle.group_protocol.specs.Head.{apartLlids, groupLlids, validGroups}
 use Rattle.groups.proofs.check_head.valid_groups.Statement.{statement}
 use Rattle.groups.proofs.check_head.valid_groups.Tie as tie
 

@@ -1,7 +1,7 @@
 -- `groups::check_head::valid_head` meets its contract: the tests are those of the definition. Assumes nothing.
 use borrow.Author.Needs.{needs}
 use Rattle.octets.specs.Choice.{both}
-use Rattle.groups.specs.Head.{validHead}
+use Rattle.group_protocol.specs.Head.{validHead}
 use Rattle.groups.proofs.check_head.valid_head.Statement.{statement}
 use Rattle.groups.proofs.check_head.valid_head.Tie as tie
 

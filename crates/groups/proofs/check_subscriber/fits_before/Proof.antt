@@ -2,7 +2,7 @@
 use borrow.Author.Needs.{needs}
 use Rattle.octets.specs.Choice.{both}
 use Rattle.ends.specs.Identities.{has}
-use Rattle.groups.specs.Subscriber.{fitsBefore}
+use Rattle.group_protocol.specs.Subscriber.{fitsBefore}
 use Rattle.groups.proofs.check_subscriber.fits_before.Statement.{statement}
 use Rattle.groups.proofs.check_subscriber.fits_before.Tie as tie
 

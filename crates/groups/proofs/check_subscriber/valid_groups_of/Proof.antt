@@ -7,9 +7,10 @@ use borrow.Author.Needs.{needs}
 use borrow.Author.Tests.{not-true, not-false}
 use Rattle.octets.proofs.Steps.{first-end, first-past}
 use Rattle.ends.specs.Identities.{llidsOf}
-use Rattle.groups.specs.Limits.{maxJoined}
-use Rattle.groups.specs.Subscriber.{pastJoined, validGroupsOf}
-use Rattle.groups.proofs.JoinedGroups.{groups-hit, groups-miss, groups-none}
+use Rattle.group_protocol.specs.Limits.{maxJoined}
+use Rattle.group_protocol.specs.Subscriber.{pastJoined, validGroupsOf}
+use Rattle.group_protocol.proofs.Subscribers.{groups-none}
+use Rattle.groups.proofs.JoinedGroups.{groups-hit, groups-miss}
 use Rattle.groups.proofs.check_subscriber.valid_groups_of.Statement.{statement}
 use Rattle.groups.proofs.check_subscriber.valid_groups_of.Tie as tie
 

@@ -1,7 +1,7 @@
 -- `valid_joined` meets its contract: its tests are those of the definition. Assumes nothing.
 use borrow.Author.Needs.{needs}
 use Rattle.octets.specs.Choice.{both, either}
-use Rattle.groups.specs.Subscriber.{validJoined}
+use Rattle.group_protocol.specs.Subscriber.{validJoined}
 use Rattle.groups.proofs.check_subscriber.valid_joined.Statement.{statement}
 use Rattle.groups.proofs.check_subscriber.valid_joined.Tie as tie
 

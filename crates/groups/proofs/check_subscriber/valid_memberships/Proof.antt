@@ -1,7 +1,7 @@
 -- `valid_memberships` meets its contract: its tests are those of the definition. Assumes nothing.
 use borrow.Author.Needs.{needs}
 use Rattle.octets.specs.Choice.{both}
-use Rattle.groups.specs.Subscriber.{validMemberships}
+use Rattle.group_protocol.specs.Subscriber.{validMemberships}
 use Rattle.groups.proofs.check_subscriber.valid_memberships.Statement.{statement}
 use Rattle.groups.proofs.check_subscriber.valid_memberships.Tie as tie
 

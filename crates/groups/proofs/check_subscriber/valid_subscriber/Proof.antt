@@ -1,7 +1,7 @@
 -- `valid_subscriber` meets its contract: its tests are those of the definition. Assumes nothing.
 use borrow.Author.Needs.{needs}
 use Rattle.octets.specs.Choice.{both}
-use Rattle.groups.specs.Subscriber.{validSubscriber}
+use Rattle.group_protocol.specs.Subscriber.{validSubscriber}
 use Rattle.groups.proofs.check_subscriber.valid_subscriber.Statement.{statement}
 use Rattle.groups.proofs.check_subscriber.valid_subscriber.Tie as tie
 

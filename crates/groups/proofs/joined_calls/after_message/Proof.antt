@@ -1,7 +1,7 @@
 -- `after_message` meets its contract: by the test of a new number. Assumes nothing.
 use mathlib.Core.Path.{sym, _∙_}
 use Rattle.octets.specs.Choice.{pick}
-use Rattle.groups.specs.JoinedCalls.{joinedAfterMessage}
+use Rattle.group_protocol.specs.JoinedCalls.{joinedAfterMessage}
 use Rattle.groups.proofs.joined_calls.after_message.Statement.{statement}
 use Rattle.groups.proofs.joined_calls.after_message.Tie as tie
 

@@ -1,6 +1,6 @@
 -- `after_receipt` meets its contract: by the choice. Assumes nothing.
 use borrow.Author.Needs.{needs}
-use Rattle.groups.specs.JoinedCalls.{joinedAfterReceipt}
+use Rattle.group_protocol.specs.JoinedCalls.{joinedAfterReceipt}
 use Rattle.groups.proofs.joined_calls.after_receipt.Statement.{statement}
 use Rattle.groups.proofs.joined_calls.after_receipt.Tie as tie
 

@@ -1,7 +1,7 @@
 -- `group_answer` meets its contract: the fields are those of the definition. Assumes nothing.
 use mathlib.Core.Path.{refl}
 use borrow.Author.Needs.{needs}
-use Rattle.groups.specs.JoinedCalls.{groupAnswer}
+use Rattle.group_protocol.specs.JoinedCalls.{groupAnswer}
 use Rattle.groups.proofs.joined_calls.group_answer.Statement.{statement}
 use Rattle.groups.proofs.joined_calls.group_answer.Tie as tie
 

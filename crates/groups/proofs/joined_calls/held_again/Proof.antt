@@ -1,7 +1,7 @@
 -- `held_again` meets its contract: its tests are those of the definition. Assumes nothing.
 use borrow.Author.Needs.{needs}
 use Rattle.octets.specs.Choice.{both}
-use Rattle.groups.specs.JoinedCalls.{heldAgain}
+use Rattle.group_protocol.specs.JoinedCalls.{heldAgain}
 use Rattle.groups.proofs.joined_calls.held_again.Statement.{statement}
 use Rattle.groups.proofs.joined_calls.held_again.Tie as tie
 

@@ -2,7 +2,7 @@
 use borrow.Author.Needs.{needs}
 use borrow.Author.Tests.{eq-eqb, ne-eqb}
 use Rattle.octets.specs.Choice.{pick}
-use Rattle.groups.specs.JoinedCalls.{highestHeld}
+use Rattle.group_protocol.specs.JoinedCalls.{highestHeld}
 use Rattle.groups.proofs.joined_calls.highest_held.Statement.{statement}
 use Rattle.groups.proofs.joined_calls.highest_held.Tie as tie
 

@@ -2,7 +2,7 @@
 use mathlib.Core.Path.{refl}
 use borrow.Author.Needs.{needs}
 use Rattle.octets.specs.Choice.{both, either}
-use Rattle.groups.specs.JoinedCalls.{holds}
+use Rattle.group_protocol.specs.JoinedCalls.{holds}
 use Rattle.groups.proofs.joined_calls.holds.Statement.{statement}
 use Rattle.groups.proofs.joined_calls.holds.Tie as tie
 

@@ -2,8 +2,9 @@
 use mathlib.Core.Path.{sym, _∙_}
 use borrow.Author.Needs.{needs}
 use Rattle.unit.specs.Reached.{ifAccepted}
-use Rattle.groups.specs.JoinedCalls.{joinedAnswer, messageJoined, reachedJoined}
-use Rattle.groups.proofs.JoinedCalls.{message-rows}
+use Rattle.group_protocol.specs.JoinedCalls.{messageJoined}
+use Rattle.group_protocol.proofs.JoinedCalls.{message-rows}
+use Rattle.groups.specs.Reached.{joinedAnswer, reachedJoined}
 use Rattle.groups.proofs.joined_calls.message.Statement.{statement}
 use Rattle.groups.proofs.joined_calls.message.Tie as tie
 

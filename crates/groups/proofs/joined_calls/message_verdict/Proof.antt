@@ -1,7 +1,7 @@
 -- `message_verdict` meets its contract: the causes are those of the definition, in its order. Assumes nothing.
 use borrow.Author.Needs.{needs}
 use Rattle.octets.specs.Choice.{either}
-use Rattle.groups.specs.JoinedCalls.{joinedMessageVerdict}
+use Rattle.group_protocol.specs.JoinedCalls.{joinedMessageVerdict}
 use Rattle.groups.proofs.joined_calls.message_verdict.Statement.{statement}
 use Rattle.groups.proofs.joined_calls.message_verdict.Tie as tie
 

@@ -1,6 +1,6 @@
 -- `moved` meets its contract: the fields are those of the definition. Assumes nothing.
 use borrow.Author.Needs.{needs}
-use Rattle.groups.specs.JoinedCalls.{joinedMoved}
+use Rattle.group_protocol.specs.JoinedCalls.{joinedMoved}
 use Rattle.groups.proofs.joined_calls.moved.Statement.{statement}
 use Rattle.groups.proofs.joined_calls.moved.Tie as tie
 

@@ -4,7 +4,7 @@ use borrow.Author.Tests.{le-leb}
 use Rattle.octets.specs.Choice.{both}
 use borrow.Author.Needs.{needs}
 use Rattle.ends.specs.Limits.{maxKeyNumber}
-use Rattle.groups.specs.JoinedCalls.{newNumber}
+use Rattle.group_protocol.specs.JoinedCalls.{newNumber}
 use Rattle.groups.proofs.joined_calls.new_number.Statement.{statement}
 use Rattle.groups.proofs.joined_calls.new_number.Tie as tie
 

@@ -1,6 +1,6 @@
 -- `not_received` meets its contract: the group as it was, and nothing handed over. Assumes nothing.
 use borrow.Author.Needs.{needs}
-use Rattle.groups.specs.JoinedCalls.{joinedNotReceived}
+use Rattle.groups.specs.Reached.{joinedNotReceived}
 use Rattle.groups.proofs.joined_calls.not_received.Statement.{statement}
 use Rattle.groups.proofs.joined_calls.not_received.Tie as tie
 

@@ -7,8 +7,8 @@ use borrow.Author.Tests.{eqb-true, eq-eqb, ne-eqb}
 use Rattle.octets.specs.Choice.{both, pick}
 use Rattle.octets.proofs.Choice.{both-left}
 use Rattle.ends.proofs.Validity.{onu-keys-in-range}
-use Rattle.groups.specs.Subscriber.{validJoined}
-use Rattle.groups.specs.JoinedCalls.{joinedChoice}
+use Rattle.group_protocol.specs.Subscriber.{validJoined}
+use Rattle.group_protocol.specs.JoinedCalls.{joinedChoice}
 use Rattle.groups.proofs.joined_calls.receive_choice.Statement.{statement}
 use Rattle.groups.proofs.joined_calls.receive_choice.Tie as tie
 

@@ -1,7 +1,7 @@
 -- `receive_verdict` meets its contract: the causes are those of the definition, in its order. Assumes nothing.
 use borrow.Author.Needs.{needs}
 use Rattle.octets.specs.Choice.{both}
-use Rattle.groups.specs.JoinedCalls.{joinedReceiveVerdict}
+use Rattle.group_protocol.specs.JoinedCalls.{joinedReceiveVerdict}
 use Rattle.groups.proofs.joined_calls.receive_verdict.Statement.{statement}
 use Rattle.groups.proofs.joined_calls.receive_verdict.Tie as tie
 

@@ -1,12 +1,21 @@
 -- `taken` meets its contract: a new number is above 0, and the fields are those of the definition. Assumes nothing.
+use mathlib.Core.Path.{_≡_, refl}
+use mathlib.Core.Bool.{Bool, true, false}
 use native.Mathlib.Omega.{arith}
+use mir.Val.{boolByte}
 use borrow.Author.Needs.{needs}
 use borrow.Author.Tests.{ltb-true}
+use Rattle.octets.specs.Choice.{pick}
 use Rattle.octets.proofs.Choice.{both-right}
-use Rattle.groups.specs.JoinedCalls.{highestHeld, joinedTaken, newNumber}
-use Rattle.groups.proofs.JoinedCalls.{byte-flag}
+use Rattle.group_protocol.specs.JoinedCalls.{highestHeld, joinedTaken, newNumber}
 use Rattle.groups.proofs.joined_calls.taken.Statement.{statement}
 use Rattle.groups.proofs.joined_calls.taken.Tie as tie
+
+-- a flag as its octet
+byte-flag : (b : Bool) → boolByte b ≡ pick b 1 0
+unfolding pick
+byte-flag true = refl
+byte-flag false = refl
 
 sub-active : tie.Need-sub-active
 unfolding newNumber

@@ -5,9 +5,9 @@ use native.Mathlib.Omega.{arith}
 use lib.ListN.{length, take, drop}
 use borrow.Author.Needs.{needs}
 use Rattle.octets.proofs.Steps.{first-end, first-past}
-use Rattle.groups.specs.Limits.{maxJoined}
-use Rattle.groups.specs.Members.{placeFrom}
-use Rattle.groups.specs.Subscriber.{joinedLlids, pastJoined}
+use Rattle.group_protocol.specs.Limits.{maxJoined}
+use Rattle.group_protocol.specs.Members.{placeFrom}
+use Rattle.group_protocol.specs.Subscriber.{joinedLlids, pastJoined}
 use Rattle.groups.proofs.JoinedGroups.{joined-step, joined-none}
 use Rattle.groups.proofs.Walks.{place-hit, place-miss, place-none}
 use Rattle.groups.proofs.joined_search.find_joined.Statement.{statement}

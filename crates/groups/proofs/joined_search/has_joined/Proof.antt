@@ -1,7 +1,7 @@
 -- `has_joined` meets its contract: the group of the LLID is found, or there is none. Assumes nothing.
 use mathlib.Core.Path.{sym, _∙_}
 use borrow.Author.Needs.{needs}
-use Rattle.groups.proofs.Walks.{place-among, place-absent}
+use Rattle.group_protocol.proofs.Places.{place-among, place-absent}
 use Rattle.groups.proofs.joined_search.has_joined.Statement.{statement}
 use Rattle.groups.proofs.joined_search.has_joined.Tie as tie
 

@@ -1,7 +1,7 @@
 -- `groups::making::fresh_group` meets its contract: the fields are those of the definition. Assumes nothing.
 use mathlib.Core.Path.{refl}
 use Rattle.ends.specs.Timers.{freshTimer}
-use Rattle.groups.specs.Head.{freshGroup}
+use Rattle.group_protocol.specs.Head.{freshGroup}
 use Rattle.groups.proofs.making.fresh_group.Statement.{statement}
 use Rattle.groups.proofs.making.fresh_group.Tie as tie
 

@@ -2,8 +2,8 @@
 use borrow.Author.Needs.{needs}
 use mathlib.Core.Path.{ap, _∙_}
 use Rattle.octets.specs.Choice.{pick}
-use Rattle.groups.specs.Head.{freshGroup, noGroup}
-use Rattle.groups.specs.Members.{freshMembers}
+use Rattle.group_protocol.specs.Head.{freshGroup, noGroup}
+use Rattle.group_protocol.specs.Members.{freshMembers}
 use Rattle.groups.proofs.making.no_group.Statement.{statement}
 use Rattle.groups.proofs.making.no_group.Tie as tie
 

@@ -1,6 +1,6 @@
 -- `groups::making::no_groups` meets its contract: sixteen places with no group. Assumes nothing.
 use borrow.Author.Needs.{needs}
-use Rattle.groups.specs.Head.{noGroups}
+use Rattle.group_protocol.specs.Head.{noGroups}
 use Rattle.groups.proofs.making.no_groups.Statement.{statement}
 use Rattle.groups.proofs.making.no_groups.Tie as tie
 

@@ -7,7 +7,7 @@ use lib.ListN.{getD}
 use Rattle.octets.specs.Lists.{tabulate}
 use Rattle.ends.specs.Identities.{distinct}
 use Rattle.ends.proofs.Walks.{distinct-hit, distinct-miss, distinct-end}
-use Rattle.groups.specs.Members.{placesOf}
+use Rattle.group_protocol.specs.Members.{placesOf}
 use Rattle.groups.proofs.membership.distinct_places.Statement.{statement}
 use Rattle.groups.proofs.membership.distinct_places.Tie as tie
 

@@ -8,7 +8,7 @@ use lib.Dec.{leb}
 use borrow.Author.Tests.{lt-leb, le-leb}
 use Rattle.octets.specs.Lists.{all, tabulate}
 use Rattle.octets.proofs.Steps.{tabulate-step, tabulate-end}
-use Rattle.groups.specs.Members.{marksOf}
+use Rattle.group_protocol.specs.Members.{marksOf}
 use Rattle.groups.proofs.Walks.{all-more, all-stop, all-none}
 use Rattle.groups.proofs.membership.flags_in_range.Statement.{statement}
 use Rattle.groups.proofs.membership.flags_in_range.Tie as tie

@@ -1,6 +1,6 @@
 -- `groups::membership::fresh_members` meets its contract: the eight places one by one. Assumes nothing.
 use borrow.Author.Needs.{needs}
-use Rattle.groups.specs.Members.{freshMembers}
+use Rattle.group_protocol.specs.Members.{freshMembers}
 use Rattle.groups.proofs.membership.fresh_members.Statement.{statement}
 use Rattle.groups.proofs.membership.fresh_members.Tie as tie
 

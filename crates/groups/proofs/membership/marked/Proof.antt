@@ -4,7 +4,7 @@ use native.Mathlib.Omega.{arith}
 use lib.ListN.{length}
 use lib.Seq.{set-out}
 use borrow.Author.Needs.{needs}
-use Rattle.groups.specs.Members.{marked}
+use Rattle.group_protocol.specs.Members.{marked}
 use Rattle.groups.proofs.membership.marked.Statement.{statement}
 use Rattle.groups.proofs.membership.marked.Tie as tie
 

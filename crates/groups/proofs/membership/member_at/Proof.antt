@@ -6,7 +6,7 @@ use lib.ListN.{getD}
 use borrow.Author.Needs.{needs}
 use Rattle.octets.specs.Lists.{tabulate}
 use Rattle.octets.proofs.Steps.{tabulate-step, tabulate-end}
-use Rattle.groups.specs.Members.{memberAt, placeFrom, placesOf}
+use Rattle.group_protocol.specs.Members.{memberAt, placeFrom, placesOf}
 use Rattle.groups.proofs.Walks.{place-hit, place-miss, place-none}
 use Rattle.groups.proofs.membership.member_at.Statement.{statement}
 use Rattle.groups.proofs.membership.member_at.Tie as tie

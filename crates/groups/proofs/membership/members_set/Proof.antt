@@ -7,10 +7,10 @@ use borrow.Author.Needs.{needs}
 use borrow.Author.Tests.{not-true, not-false}
 use Rattle.ends.specs.Flags.{isUp}
 use Rattle.ends.specs.Table.{pastUnit}
-use Rattle.groups.specs.GroupCalls.{membersSet}
+use Rattle.group_protocol.specs.GroupCalls.{membersSet}
 use Rattle.octets.specs.Lists.{all, tabulate}
 use Rattle.octets.proofs.Steps.{tabulate-step, tabulate-end}
-use Rattle.groups.specs.Members.{placesOf}
+use Rattle.group_protocol.specs.Members.{placesOf}
 use Rattle.groups.proofs.Walks.{all-more, all-stop, all-none}
 use Rattle.groups.proofs.membership.members_set.Statement.{statement}
 use Rattle.groups.proofs.membership.members_set.Tie as tie

@@ -8,7 +8,7 @@ use lib.Dec.{ltb}
 use borrow.Author.Tests.{lt-ltb, le-ltb}
 use Rattle.octets.specs.Lists.{all, tabulate}
 use Rattle.octets.proofs.Steps.{tabulate-step, tabulate-end}
-use Rattle.groups.specs.Members.{placesOf}
+use Rattle.group_protocol.specs.Members.{placesOf}
 use Rattle.groups.proofs.Walks.{all-more, all-stop, all-none}
 use Rattle.groups.proofs.membership.places_below.Statement.{statement}
 use Rattle.groups.proofs.membership.places_below.Tie as tie

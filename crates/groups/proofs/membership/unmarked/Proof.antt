@@ -1,6 +1,6 @@
 -- `groups::membership::unmarked` meets its contract: the marks alone are set. Assumes nothing.
 use mathlib.Core.Path.{refl}
-use Rattle.groups.specs.Members.{unmarked}
+use Rattle.group_protocol.specs.Members.{unmarked}
 use Rattle.groups.proofs.membership.unmarked.Statement.{statement}
 use Rattle.groups.proofs.membership.unmarked.Tie as tie
 

@@ -1,7 +1,7 @@
 -- `groups::membership::valid_members` meets its contract: the tests are those of the definition. Assumes nothing.
 use borrow.Author.Needs.{needs}
 use Rattle.octets.specs.Choice.{both}
-use Rattle.groups.specs.Members.{validMembers}
+use Rattle.group_protocol.specs.Members.{validMembers}
 use Rattle.groups.proofs.membership.valid_members.Statement.{statement}
 use Rattle.groups.proofs.membership.valid_members.Tie as tie
 

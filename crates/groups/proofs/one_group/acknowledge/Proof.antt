@@ -1,6 +1,6 @@
 -- `groups::one_group::acknowledge` meets its contract: the group decides, and the member is marked where it accepts. Assumes nothing.
 use borrow.Author.Needs.{needs}
-use Rattle.groups.specs.GroupCalls.{acknowledgeGroup}
+use Rattle.group_protocol.specs.GroupCalls.{acknowledgeGroup}
 use Rattle.groups.proofs.OneGroup.{quiet-reached}
 use Rattle.groups.proofs.one_group.acknowledge.Statement.{statement}
 use Rattle.groups.proofs.one_group.acknowledge.Tie as tie

@@ -1,7 +1,7 @@
 -- `groups::one_group::acknowledge_verdict` meets its contract: the causes are those of the definition, in its order. Assumes nothing.
 use borrow.Author.Needs.{needs}
 use Rattle.octets.specs.Choice.{both}
-use Rattle.groups.specs.GroupCalls.{answersOffer, groupAcknowledgeVerdict}
+use Rattle.group_protocol.specs.GroupCalls.{answersOffer, groupAcknowledgeVerdict}
 use Rattle.groups.proofs.one_group.acknowledge_verdict.Statement.{statement}
 use Rattle.groups.proofs.one_group.acknowledge_verdict.Tie as tie
 

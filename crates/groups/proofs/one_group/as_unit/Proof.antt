@@ -1,6 +1,6 @@
 -- `groups::one_group::as_unit` meets its contract: the fields are those of the definition. Assumes nothing.
 use borrow.Author.Needs.{needs}
-use Rattle.groups.specs.AsUnit.{asUnit}
+use Rattle.group_protocol.specs.AsUnit.{asUnit}
 use Rattle.groups.proofs.one_group.as_unit.Statement.{statement}
 use Rattle.groups.proofs.one_group.as_unit.Tie as tie
 

@@ -1,7 +1,7 @@
 -- `groups::one_group::marked` meets its contract: by what was found. Assumes nothing.
 use borrow.Author.Needs.{needs}
-use Rattle.groups.specs.GroupCalls.{groupMarked}
-use Rattle.groups.specs.Head.{withMembers}
+use Rattle.group_protocol.specs.GroupCalls.{groupMarked}
+use Rattle.group_protocol.specs.Head.{withMembers}
 use Rattle.groups.proofs.one_group.marked.Statement.{statement}
 use Rattle.groups.proofs.one_group.marked.Tie as tie
 

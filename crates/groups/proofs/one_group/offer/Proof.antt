@@ -6,7 +6,7 @@ use Rattle.protocol.specs.Messages.{noKeyMessage}
 use Rattle.protocol.specs.UnitCalls.{offerUnit}
 use Rattle.ends.specs.declared.UnitRecord.{UnitRecord}
 use Rattle.unit.specs.Reached.{reached}
-use Rattle.groups.specs.GroupCalls.{groupOutcome}
+use Rattle.group_protocol.specs.GroupCalls.{groupOutcome}
 use Rattle.groups.proofs.OneGroup.{offer-reached}
 use Rattle.groups.proofs.one_group.offer.Statement.{statement}
 use Rattle.groups.proofs.one_group.offer.Tie as tie

@@ -7,7 +7,7 @@ use Rattle.protocol.specs.Messages.{noKeyMessage}
 use Rattle.protocol.specs.UnitCalls.{retryUnit}
 use Rattle.ends.specs.declared.UnitRecord.{UnitRecord}
 use Rattle.unit.specs.Reached.{reached}
-use Rattle.groups.specs.GroupCalls.{groupOutcome}
+use Rattle.group_protocol.specs.GroupCalls.{groupOutcome}
 use Rattle.groups.proofs.OneGroup.{retry-reached}
 use Rattle.groups.proofs.one_group.retry.Statement.{statement}
 use Rattle.groups.proofs.one_group.retry.Tie as tie

@@ -1,6 +1,6 @@
 -- `groups::one_group::some_member` meets its contract: by what was found. Assumes nothing.
 use borrow.Author.Needs.{needs}
-use Rattle.groups.specs.GroupCalls.{someMember}
+use Rattle.group_protocol.specs.GroupCalls.{someMember}
 use Rattle.groups.proofs.one_group.some_member.Statement.{statement}
 use Rattle.groups.proofs.one_group.some_member.Tie as tie
 

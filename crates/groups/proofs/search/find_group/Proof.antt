@@ -6,9 +6,10 @@ use lib.ListN.{length, take, drop}
 use borrow.Author.Needs.{needs}
 use Rattle.octets.proofs.Steps.{first-end, first-past}
 use Rattle.ends.specs.Limits.{maxUnits}
-use Rattle.groups.specs.Head.{groupFrom, groupLlids, pastGroup}
-use Rattle.groups.specs.Members.{placeFrom}
-use Rattle.groups.proofs.Walks.{group-place, group-step, group-end, place-hit, place-miss, place-none}
+use Rattle.group_protocol.specs.Head.{groupFrom, groupLlids, pastGroup}
+use Rattle.group_protocol.specs.Members.{placeFrom}
+use Rattle.group_protocol.proofs.Llids.{group-place}
+use Rattle.groups.proofs.Walks.{group-step, group-end, place-hit, place-miss, place-none}
 use Rattle.groups.proofs.search.find_group.Statement.{statement}
 use Rattle.groups.proofs.search.find_group.Tie as tie
 

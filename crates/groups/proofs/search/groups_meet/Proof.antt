@@ -8,7 +8,7 @@ use borrow.Author.Needs.{needs}
 use Rattle.octets.proofs.Steps.{first-end, first-past}
 use Rattle.ends.specs.Identities.{has, llidsOf, meets}
 use Rattle.ends.specs.Limits.{maxUnits}
-use Rattle.groups.specs.Head.{groupLlids, pastGroup}
+use Rattle.group_protocol.specs.Head.{groupLlids, pastGroup}
 use Rattle.groups.proofs.Walks.{group-step, group-end, meets-more, meets-stop, meets-none}
 use Rattle.groups.proofs.search.groups_meet.Statement.{statement}
 use Rattle.groups.proofs.search.groups_meet.Tie as tie

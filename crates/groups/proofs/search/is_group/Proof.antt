@@ -1,7 +1,7 @@
 -- `groups::search::is_group` meets its contract: the group of the LLID is found, or there is none. Assumes nothing.
 use mathlib.Core.Path.{sym, _∙_}
 use borrow.Author.Needs.{needs}
-use Rattle.groups.proofs.Walks.{group-found, group-nowhere}
+use Rattle.group_protocol.proofs.Llids.{group-found, group-nowhere}
 use Rattle.groups.proofs.search.is_group.Statement.{statement}
 use Rattle.groups.proofs.search.is_group.Tie as tie
 

@@ -5,8 +5,8 @@ use Rattle.protocol.specs.Headers.{noSending}
 use Rattle.protocol.specs.UnitTraffic.{sendUnit}
 use Rattle.ends.specs.declared.UnitRecord.{UnitRecord}
 use Rattle.unit.specs.Reached.{reached, sentOutcome}
-use Rattle.groups.specs.GroupCalls.{groupSentOutcome}
-use Rattle.groups.specs.Head.{withGroupKeys}
+use Rattle.group_protocol.specs.Head.{withGroupKeys}
+use Rattle.groups.specs.Reached.{groupSentOutcome}
 use Rattle.groups.proofs.OneGroup.{send-reached}
 use Rattle.groups.proofs.sending.send.Statement.{statement}
 use Rattle.groups.proofs.sending.send.Tie as tie

@@ -1,7 +1,7 @@
 -- `groups::sending::wiped` meets its contract: by the choice. Assumes nothing.
 use borrow.Author.Needs.{needs}
 use Rattle.ends.specs.Records.{withSlots}
-use Rattle.groups.specs.GroupCalls.{wipedAtSwitch}
+use Rattle.group_protocol.specs.GroupCalls.{wipedAtSwitch}
 use Rattle.groups.proofs.sending.wiped.Statement.{statement}
 use Rattle.groups.proofs.sending.wiped.Tie as tie
 

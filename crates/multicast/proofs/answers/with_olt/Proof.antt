@@ -1,6 +1,6 @@
 -- `multicast::answers::with_olt` meets its contract: the OLT alone is set. Assumes nothing.
 use mathlib.Core.Path.{refl}
-use Rattle.groups.specs.Head.{withOlt}
+use Rattle.group_protocol.specs.Head.{withOlt}
 use Rattle.multicast.proofs.answers.with_olt.Statement.{statement}
 use Rattle.multicast.proofs.answers.with_olt.Tie as tie
 

@@ -5,8 +5,9 @@ use Rattle.refusal.specs.declared.Verdict.{Verdict}
 use Rattle.refusal.specs.declared.Verdict.the-variants.{Accepted}
 use Rattle.ends.specs.declared.Found.{Found}
 use Rattle.protocol.specs.Replies.{silent}
-use Rattle.groups.specs.GroupCalls.{acknowledgeGroup, groupOutcome, memberNamed, reachedGroup}
-use Rattle.groups.specs.Head.{groupAt, pastGroup}
+use Rattle.group_protocol.specs.GroupCalls.{acknowledgeGroup, groupOutcome, memberNamed}
+use Rattle.group_protocol.specs.Head.{groupAt, pastGroup}
+use Rattle.groups.specs.Reached.{reachedGroup}
 use Rattle.multicast.specs.HeadCalls.{headAnswer}
 use Rattle.multicast.proofs.HeadLift.{lift-group}
 use Rattle.multicast.proofs.at_head.acknowledge_group.Statement.{statement}

@@ -14,7 +14,7 @@ use Rattle.protocol.specs.declared.Acknowledgement.{Acknowledgement}
 use Rattle.unit.specs.Reached.{reached}
 use Rattle.olt.specs.Lookup.{locatedOf}
 use Rattle.olt.proofs.Lookup.{located-below}
-use Rattle.groups.specs.Head.{validGroups, withOlt}
+use Rattle.group_protocol.specs.Head.{validGroups, withOlt}
 use Rattle.multicast.specs.HeadCalls.{headAnswer, ownAcknowledgement}
 use Rattle.multicast.proofs.HeadUnits.{answer-guarded, lift-guarded, located-guarded}
 use Rattle.multicast.proofs.at_head.acknowledge_unit.Statement.{statement}

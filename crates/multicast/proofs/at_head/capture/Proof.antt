@@ -12,7 +12,7 @@ use Rattle.protocol.specs.Replies.{onValid, silent}
 use Rattle.protocol.specs.UnitCalls.{captureUnit}
 use Rattle.olt.specs.Lookup.{locatedOf}
 use Rattle.olt.proofs.Lookup.{located-below}
-use Rattle.groups.specs.Head.{validGroups, withOlt}
+use Rattle.group_protocol.specs.Head.{validGroups, withOlt}
 use Rattle.multicast.specs.HeadCalls.{headAnswer, headCaptureOf}
 use Rattle.multicast.proofs.HeadUnits.{answer-guarded, lift-guarded, located-guarded}
 use Rattle.multicast.proofs.at_head.capture.Statement.{statement}

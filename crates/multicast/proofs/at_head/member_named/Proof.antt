@@ -4,7 +4,7 @@ use mathlib.Core.Path.{sym}
 use borrow.Author.Tests.{eq-eqb, ne-eqb}
 use Rattle.octets.specs.Choice.{pick}
 use Rattle.ends.specs.Table.{find}
-use Rattle.groups.specs.GroupCalls.{memberFound, memberNamed}
+use Rattle.group_protocol.specs.GroupCalls.{memberFound, memberNamed}
 use Rattle.multicast.proofs.at_head.member_named.Statement.{statement}
 use Rattle.multicast.proofs.at_head.member_named.Tie as tie
 

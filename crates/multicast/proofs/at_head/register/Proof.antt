@@ -1,7 +1,7 @@
 -- `multicast::at_head::register` meets its contract: without groups the head end answers as its OLT. Assumes nothing.
 use borrow.Author.Needs.{needs}
 use mathlib.Core.Path.{sym}
-use Rattle.groups.specs.Head.{withOlt}
+use Rattle.group_protocol.specs.Head.{withOlt}
 use Rattle.multicast.proofs.NoGroups.{without-groups}
 use Rattle.multicast.proofs.at_head.register.Statement.{statement}
 use Rattle.multicast.proofs.at_head.register.Tie as tie

@@ -4,8 +4,8 @@ use mathlib.Core.Path.{sym, ap, _∙_}
 use Rattle.refusal.specs.declared.Verdict.the-variants.{Accepted}
 use Rattle.protocol.specs.declared.OltAnswer.{OltAnswer}
 use Rattle.protocol.specs.Replies.{reply, silent}
-use Rattle.groups.specs.Head.{withOlt}
-use Rattle.groups.specs.declared.HeadEnd.{HeadEnd}
+use Rattle.group_protocol.specs.Head.{withOlt}
+use Rattle.group_protocol.specs.declared.HeadEnd.{HeadEnd}
 use Rattle.multicast.specs.HeadCalls.{headAnswer, headRegisterOf}
 use Rattle.multicast.proofs.HeadAnswers.{answer-refused, answer-accepted}
 use Rattle.multicast.proofs.Registrations.{unit-accepted, registered-olt}

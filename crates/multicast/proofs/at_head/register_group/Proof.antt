@@ -3,9 +3,9 @@ use borrow.Author.Needs.{needs}
 use mathlib.Core.Path.{_≡_, sym, ap, _∙_}
 use Rattle.refusal.specs.declared.Verdict.the-variants.{Accepted}
 use Rattle.protocol.specs.Replies.{reply, silent, onValid}
-use Rattle.groups.specs.Head.{freshGroup, validHead, withOneGroupMore}
-use Rattle.groups.specs.declared.HeadEnd.{HeadEnd}
-use Rattle.groups.specs.declared.Members.{Members}
+use Rattle.group_protocol.specs.Head.{freshGroup, validHead, withOneGroupMore}
+use Rattle.group_protocol.specs.declared.HeadEnd.{HeadEnd}
+use Rattle.group_protocol.specs.declared.Members.{Members}
 use Rattle.multicast.specs.HeadCalls.{groupVerdict, headAnswer, registerGroupOf, rosterMembers}
 use Rattle.multicast.proofs.HeadAnswers.{answer-refused, answer-accepted}
 use Rattle.multicast.proofs.Registrations.{group-room}

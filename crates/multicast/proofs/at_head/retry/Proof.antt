@@ -5,7 +5,7 @@ use native.Mathlib.Omega.{arith}
 use lib.ListN.{length}
 use Rattle.ends.specs.Limits.{maxUnits}
 use Rattle.ends.proofs.Walks.{length-mapped}
-use Rattle.groups.proofs.Found.{group-at}
+use Rattle.group_protocol.proofs.Found.{group-at}
 use Rattle.multicast.specs.HeadCalls.{headRetryOf}
 use Rattle.multicast.proofs.HeadAnswers.{by-nowhere, by-at}
 use Rattle.multicast.proofs.at_head.retry.Statement.{statement}

@@ -4,8 +4,9 @@ use mathlib.Core.Path.{ap, _∙_}
 use Rattle.refusal.specs.declared.Verdict.{Verdict}
 use Rattle.refusal.specs.declared.Verdict.the-variants.{Accepted}
 use Rattle.protocol.specs.Messages.{noKeyMessage}
-use Rattle.groups.specs.GroupCalls.{groupOutcome, reachedGroup, retryGroup}
-use Rattle.groups.specs.Head.{groupAt, pastGroup}
+use Rattle.group_protocol.specs.GroupCalls.{groupOutcome, retryGroup}
+use Rattle.group_protocol.specs.Head.{groupAt, pastGroup}
+use Rattle.groups.specs.Reached.{reachedGroup}
 use Rattle.multicast.specs.HeadCalls.{headKeySent}
 use Rattle.multicast.proofs.HeadLift.{lift-group}
 use Rattle.multicast.proofs.at_head.retry_group.Statement.{statement}

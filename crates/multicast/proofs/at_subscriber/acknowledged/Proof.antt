@@ -1,6 +1,6 @@
 -- `acknowledged` meets its contract: the fields are those of the definition. Assumes nothing.
 use mathlib.Core.Path.{refl}
-use Rattle.groups.specs.Subscriber.{withOnu}
+use Rattle.group_protocol.specs.Subscriber.{withOnu}
 use Rattle.multicast.specs.SubscriberCalls.{ownAcknowledged, ownAnswer}
 use Rattle.multicast.proofs.at_subscriber.acknowledged.Statement.{statement}
 use Rattle.multicast.proofs.at_subscriber.acknowledged.Tie as tie

@@ -1,6 +1,6 @@
 -- `alone` meets its contract: four places with no group. Assumes nothing.
 use borrow.Author.Needs.{needs}
-use Rattle.groups.specs.Subscriber.{alone, noMemberships}
+use Rattle.group_protocol.specs.Subscriber.{alone, noMemberships}
 use Rattle.multicast.proofs.at_subscriber.alone.Statement.{statement}
 use Rattle.multicast.proofs.at_subscriber.alone.Tie as tie
 

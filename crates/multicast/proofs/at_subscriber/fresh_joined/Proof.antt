@@ -1,6 +1,6 @@
 -- `fresh_joined` meets its contract: the fields are those of the definition. Assumes nothing.
 use mathlib.Core.Path.{refl}
-use Rattle.groups.specs.Subscriber.{freshJoined}
+use Rattle.group_protocol.specs.Subscriber.{freshJoined}
 use Rattle.multicast.proofs.at_subscriber.fresh_joined.Statement.{statement}
 use Rattle.multicast.proofs.at_subscriber.fresh_joined.Tie as tie
 

@@ -4,10 +4,11 @@ use mathlib.Core.Bool.{true}
 use Prim.Native.Nat.{_<_}
 use borrow.Author.Needs.{needs}
 use borrow.Author.Tests.{not-true, not-false}
-use Rattle.groups.specs.Limits.{maxJoined}
-use Rattle.groups.specs.Subscriber.{pastJoined, validSubscriber}
-use Rattle.groups.specs.JoinedCalls.{joinedAnswer, messageJoined, noAnswer}
-use Rattle.groups.proofs.Subscribers.{found-below, valid-joins}
+use Rattle.group_protocol.specs.Limits.{maxJoined}
+use Rattle.group_protocol.specs.Subscriber.{pastJoined, validSubscriber}
+use Rattle.group_protocol.specs.JoinedCalls.{messageJoined, noAnswer}
+use Rattle.group_protocol.proofs.Subscribers.{found-below, valid-joins}
+use Rattle.groups.specs.Reached.{joinedAnswer}
 use Rattle.multicast.specs.SubscriberCalls.{notAcknowledged, subscriberAcknowledged}
 use Rattle.multicast.proofs.SubscriberLift.{lift-invalid, lift-reached}
 use Rattle.multicast.proofs.at_subscriber.group_message.Statement.{statement}

@@ -3,7 +3,7 @@ use borrow.Author.Needs.{needs}
 use Rattle.octets.specs.Choice.{both}
 use Rattle.octets.specs.Lists.{all}
 use Rattle.ends.specs.Identities.{distinct, meets}
-use Rattle.groups.specs.Subscriber.{joinedLlids, validGroupsOf, validMemberships}
+use Rattle.group_protocol.specs.Subscriber.{joinedLlids, validGroupsOf, validMemberships}
 use Rattle.multicast.proofs.at_subscriber.sound_memberships.Statement.{statement}
 use Rattle.multicast.proofs.at_subscriber.sound_memberships.Tie as tie
 

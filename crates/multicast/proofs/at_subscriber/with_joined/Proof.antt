@@ -1,7 +1,7 @@
 -- `with_joined` meets its contract: the table has the group at its place. Assumes nothing.
 use mathlib.Core.Path.{refl}
 use borrow.Author.Needs.{needs}
-use Rattle.groups.specs.Subscriber.{withJoined}
+use Rattle.group_protocol.specs.Subscriber.{withJoined}
 use Rattle.multicast.proofs.at_subscriber.with_joined.Statement.{statement}
 use Rattle.multicast.proofs.at_subscriber.with_joined.Tie as tie
 

@@ -1,7 +1,7 @@
 -- `with_one_more` meets its contract: the first place that is not in use is the count. Assumes nothing.
 use mathlib.Core.Path.{refl}
 use borrow.Author.Needs.{needs}
-use Rattle.groups.specs.Subscriber.{withOneJoinedMore}
+use Rattle.group_protocol.specs.Subscriber.{withOneJoinedMore}
 use Rattle.multicast.proofs.at_subscriber.with_one_more.Statement.{statement}
 use Rattle.multicast.proofs.at_subscriber.with_one_more.Tie as tie
 

@@ -7,9 +7,10 @@ use borrow.Author.Needs.{needs}
 use Rattle.octets.proofs.Steps.{first-end, first-past}
 use Rattle.ends.specs.Limits.{maxUnits}
 use Rattle.ends.proofs.Walks.{length-mapped}
-use Rattle.groups.specs.Head.{findGroup, groupFrom, groupLlids, pastGroup}
-use Rattle.groups.specs.Members.{placeFrom}
-use Rattle.groups.proofs.Walks.{group-place, group-step, group-end, place-hit, place-miss, place-none}
+use Rattle.group_protocol.specs.Head.{findGroup, groupFrom, groupLlids, pastGroup}
+use Rattle.group_protocol.specs.Members.{placeFrom}
+use Rattle.group_protocol.proofs.Llids.{group-place}
+use Rattle.groups.proofs.Walks.{group-step, group-end, place-hit, place-miss, place-none}
 use Rattle.multicast.proofs.head_place.group_named.Statement.{statement}
 use Rattle.multicast.proofs.head_place.group_named.Tie as tie
 

@@ -3,7 +3,7 @@ use borrow.Author.Needs.{needs}
 use mathlib.Core.Path.{refl}
 use Rattle.ends.specs.Records.{withChannels}
 use Rattle.ends.specs.Table.{withOltChannels}
-use Rattle.groups.specs.Head.{withGroup}
+use Rattle.group_protocol.specs.Head.{withGroup}
 use Rattle.multicast.proofs.head_place.put.Statement.{statement}
 use Rattle.multicast.proofs.head_place.put.Tie as tie
 

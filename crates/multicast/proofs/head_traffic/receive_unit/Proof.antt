@@ -12,7 +12,7 @@ use Rattle.protocol.proofs.OltTraffic.{receiveAhead}
 use Rattle.olt.specs.Lookup.{locatedOf}
 use Rattle.olt.proofs.Lookup.{located-below}
 use Rattle.traffic.specs.Passages.{misfit}
-use Rattle.groups.specs.Head.{validGroups, withOlt}
+use Rattle.group_protocol.specs.Head.{validGroups, withOlt}
 use Rattle.multicast.proofs.HeadUnits.{located-guarded}
 use Rattle.multicast.proofs.UnitPassages.{unit-received, unitReceives}
 use Rattle.multicast.proofs.head_traffic.receive_unit.Statement.{statement}

@@ -5,8 +5,8 @@ use Rattle.refusal.specs.declared.Verdict.{Verdict}
 use Rattle.protocol.specs.Headers.{noSending}
 use Rattle.protocol.specs.Replies.{onValid}
 use Rattle.traffic.specs.Passages.{misfit}
-use Rattle.groups.specs.GroupCalls.{groupSentOutcome, reachedGroup}
-use Rattle.groups.specs.Head.{groupAt, pastGroup, validHead}
+use Rattle.group_protocol.specs.Head.{groupAt, pastGroup, validHead}
+use Rattle.groups.specs.Reached.{groupSentOutcome, reachedGroup}
 use Rattle.multicast.proofs.GroupSends.{sendWay, sendDecided, send-within, group-send-done}
 use Rattle.multicast.proofs.head_traffic.send_group.Statement.{statement}
 use Rattle.multicast.proofs.head_traffic.send_group.Tie as tie

@@ -11,7 +11,7 @@ use Rattle.unit.specs.Reached.{sentOutcome}
 use Rattle.olt.specs.Lookup.{locatedOf}
 use Rattle.olt.proofs.Lookup.{located-below}
 use Rattle.traffic.specs.Passages.{misfit}
-use Rattle.groups.specs.Head.{validGroups, withOlt}
+use Rattle.group_protocol.specs.Head.{validGroups, withOlt}
 use Rattle.multicast.proofs.HeadUnits.{located-guarded}
 use Rattle.multicast.proofs.UnitPassages.{unit-sent, unit-within, unitSends}
 use Rattle.multicast.proofs.head_traffic.send_unit.Statement.{statement}

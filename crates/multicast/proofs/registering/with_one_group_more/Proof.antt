@@ -1,7 +1,7 @@
 -- `multicast::registering::with_one_group_more` meets its contract: the first place that is not in use is the count. Assumes nothing.
 use borrow.Author.Needs.{needs}
 use mathlib.Core.Path.{refl}
-use Rattle.groups.specs.Head.{withOneGroupMore}
+use Rattle.group_protocol.specs.Head.{withOneGroupMore}
 use Rattle.multicast.proofs.registering.with_one_group_more.Statement.{statement}
 use Rattle.multicast.proofs.registering.with_one_group_more.Tie as tie
 

@@ -8,10 +8,11 @@ use Rattle.octets.specs.Choice.{pick}
 use Rattle.protocol.specs.Headers.{choiceEnciphered, noPassage}
 use Rattle.sealing.specs.Seal.{countCarried, runsCarried}
 use Rattle.traffic.specs.Passages.{misfit, passedCount, passedRuns, outputAfter}
-use Rattle.groups.specs.Limits.{maxJoined}
-use Rattle.groups.specs.Subscriber.{pastJoined, joinedAt, validSubscriber}
-use Rattle.groups.specs.JoinedCalls.{joinedReceived, reachedJoined, receiveJoined}
-use Rattle.groups.proofs.Subscribers.{found-below, valid-joins}
+use Rattle.group_protocol.specs.Limits.{maxJoined}
+use Rattle.group_protocol.specs.Subscriber.{pastJoined, joinedAt, validSubscriber}
+use Rattle.group_protocol.specs.JoinedCalls.{receiveJoined}
+use Rattle.group_protocol.proofs.Subscribers.{found-below, valid-joins}
+use Rattle.groups.specs.Reached.{joinedReceived, reachedJoined}
 use Rattle.multicast.specs.SubscriberTraffic.{groupReceiveOf, subscriberReceived}
 use Rattle.multicast.proofs.SubscriberLift.{lift-invalid}
 use Rattle.multicast.proofs.SubscriberTraffic.{receiveReached, group-receive-done}

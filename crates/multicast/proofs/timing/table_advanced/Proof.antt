@@ -6,7 +6,7 @@ use native.Mathlib.Omega.{arith}
 use lib.ListN.{length}
 use Rattle.ends.specs.Limits.{maxUnits}
 use Rattle.ends.specs.Records.{withTimer}
-use Rattle.groups.specs.Head.{pastGroup, withGroupKeys}
+use Rattle.group_protocol.specs.Head.{pastGroup, withGroupKeys}
 use Rattle.multicast.proofs.Advancing.{groupsMovedTo, group-moves-on, group-timer-valid}
 use Rattle.multicast.proofs.timing.table_advanced.Statement.{statement}
 use Rattle.multicast.proofs.timing.table_advanced.Tie as tie

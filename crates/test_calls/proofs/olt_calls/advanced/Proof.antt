@@ -24,9 +24,9 @@ use denote.Triple.Statement.{Triple}
 use denote.Triple.Table.{cited, entered}
 use denote.Triple.Walked.{Stays, ends-at, goes-none, stay-none, walk-meets, walkOf, walked}
 use denote.Exit.{yes}
-use Rattle.groups.specs.declared.HeadEnd.{HeadEnd}
-use Rattle.groups.proofs.HeadEnd.{the-row, the-type}
-use Rattle.groups.proofs.HeadEnd.Laws.{the-laws, the-plain}
+use Rattle.group_protocol.specs.declared.HeadEnd.{HeadEnd}
+use Rattle.group_protocol.proofs.HeadEnd.{the-row, the-type}
+use Rattle.group_protocol.proofs.HeadEnd.Laws.{the-laws, the-plain}
 use Rattle.multicast.proofs.HeadMoved as answer
 use Rattle.multicast.proofs.HeadMoved.Laws as answer-laws
 use Rattle.jazmotip.proofs.End.{head}

@@ -24,9 +24,9 @@ use denote.Triple.Statement.{Triple}
 use denote.Triple.Table.{cited, entered}
 use denote.Triple.Walked.{Stays, ends-at, goes-none, stay-none, walk-meets, walkOf, walked}
 use denote.Exit.{yes}
-use Rattle.groups.specs.declared.Subscriber.{Subscriber}
-use Rattle.groups.proofs.Subscriber.{the-row, the-type}
-use Rattle.groups.proofs.Subscriber.Laws.{the-laws, the-plain}
+use Rattle.group_protocol.specs.declared.Subscriber.{Subscriber}
+use Rattle.group_protocol.proofs.Subscriber.{the-row, the-type}
+use Rattle.group_protocol.proofs.Subscriber.Laws.{the-laws, the-plain}
 use Rattle.multicast.proofs.SubscriberMoved as answer
 use Rattle.multicast.proofs.SubscriberMoved.Laws as answer-laws
 use Rattle.jazmotip.proofs.End.{subscriber}

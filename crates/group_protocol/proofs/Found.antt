@@ -7,12 +7,12 @@ use lib.ListN.{length, getD, length-map, length-take, List·getD-map}
 use lib.Seq.{getD-take}
 use Rattle.ends.specs.Identities.{distinct}
 use Rattle.ends.specs.declared.Found.the-variants.{At}
-use Rattle.groups.specs.Head.{registeredGroups, groupLlids, findGroup, pastGroup, groupAt}
-use Rattle.groups.specs.Members.{placeFrom}
-use Rattle.groups.specs.declared.GroupRecord.{GroupRecord}
-use Rattle.groups.specs.declared.HeadEnd.{HeadEnd}
-use Rattle.groups.proofs.Places.{place-at, place-own}
-use Rattle.groups.proofs.Walks.{group-place}
+use Rattle.group_protocol.specs.Head.{registeredGroups, groupLlids, findGroup, pastGroup, groupAt}
+use Rattle.group_protocol.specs.Members.{placeFrom}
+use Rattle.group_protocol.specs.declared.GroupRecord.{GroupRecord}
+use Rattle.group_protocol.specs.declared.HeadEnd.{HeadEnd}
+use Rattle.group_protocol.proofs.Places.{place-at, place-own}
+use Rattle.group_protocol.proofs.Llids.{group-place}
 
 -- a place in use, whose group has the LLID
 pub record Stands (h : HeadEnd) (llid i : ℕ) : Type 0 where

@@ -18,13 +18,12 @@ use Rattle.ends.specs.Validity.{validOnuKeys, validOnu}
 use Rattle.ends.specs.declared.Onu.{Onu}
 use Rattle.ends.specs.declared.Found.the-variants.{At}
 use Rattle.ends.proofs.Identities.{distinct-more}
-use Rattle.groups.specs.Limits.{maxJoined}
-use Rattle.groups.specs.Subscriber.{freshJoined, joinedGroups, joinedLlids, hasJoined, findJoined, pastJoined, joinedAt, withOnu, withJoined, withOneJoinedMore, noMemberships, alone, validJoined, validGroupsOf, validMemberships, validSubscriber}
-use Rattle.groups.specs.declared.Joined.{Joined}
-use Rattle.groups.specs.declared.Subscriber.{Subscriber}
-use Rattle.groups.proofs.Places.{place-at}
-use Rattle.groups.proofs.JoinedGroups.{groups-none}
-use Rattle.groups.proofs.Walks.{meets-last}
+use Rattle.group_protocol.specs.Limits.{maxJoined}
+use Rattle.group_protocol.specs.Subscriber.{freshJoined, joinedGroups, joinedLlids, hasJoined, findJoined, pastJoined, joinedAt, withOnu, withJoined, withOneJoinedMore, noMemberships, alone, validJoined, validGroupsOf, validMemberships, validSubscriber}
+use Rattle.group_protocol.specs.declared.Joined.{Joined}
+use Rattle.group_protocol.specs.declared.Subscriber.{Subscriber}
+use Rattle.group_protocol.proofs.Places.{place-at}
+use Rattle.group_protocol.proofs.Llids.{meets-last}
 
 ---- the group that a call names
 
@@ -154,6 +153,10 @@ one-more-valid s j few h new other v w =
 pub fresh-joined-valid : (llid : ℕ) → validJoined (freshJoined llid) ≡ true
 unfolding validJoined freshJoined validOnuKeys both either
 fresh-joined-valid llid = refl
+
+pub groups-none : (own : List ℕ) (l : List Joined) → l ≡ [] → validGroupsOf own l ≡ true
+unfolding validGroupsOf all distinct meets joinedLlids both
+groups-none own l e = rw e
 
 -- a unit without groups
 pub alone-valid : (o : Onu) → validMemberships (alone o) ≡ true

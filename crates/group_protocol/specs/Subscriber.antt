@@ -11,11 +11,11 @@ use Rattle.ends.specs.Identities.{among, distinct, meets, llidsOf}
 use Rattle.ends.specs.Validity.{validOnuKeys, validOnu}
 use Rattle.ends.specs.declared.Onu.{Onu}
 use Rattle.ends.specs.declared.Found.{Found}
-use Rattle.groups.specs.Limits.{maxJoined}
-use Rattle.groups.specs.Members.{placeFrom}
-use Rattle.groups.specs.declared.Joined.{Joined}
-use Rattle.groups.specs.declared.Memberships.{Memberships}
-use Rattle.groups.specs.declared.Subscriber.{Subscriber}
+use Rattle.group_protocol.specs.Limits.{maxJoined}
+use Rattle.group_protocol.specs.Members.{placeFrom}
+use Rattle.group_protocol.specs.declared.Joined.{Joined}
+use Rattle.group_protocol.specs.declared.Memberships.{Memberships}
+use Rattle.group_protocol.specs.declared.Subscriber.{Subscriber}
 
 -- a group just joined: no key is held
 unfoldable pub freshJoined : ℕ → Joined

@@ -11,9 +11,9 @@ use Rattle.ends.specs.declared.OnuClock.{OnuClock}
 use Rattle.protocol.specs.Headers.{keyFor, choiceNumber}
 use Rattle.protocol.specs.declared.Header.{Header}
 use Rattle.protocol.specs.declared.KeyMessage.{KeyMessage}
-use Rattle.groups.specs.Subscriber.{freshJoined}
-use Rattle.groups.specs.JoinedCalls.{joinedMessageVerdict, joinedAfterMessage, joinedChoice, joinedReceiveVerdict, joinedAfterReceipt}
-use Rattle.groups.specs.declared.Joined.{Joined}
+use Rattle.group_protocol.specs.Subscriber.{freshJoined}
+use Rattle.group_protocol.specs.JoinedCalls.{joinedMessageVerdict, joinedAfterMessage, joinedChoice, joinedReceiveVerdict, joinedAfterReceipt}
+use Rattle.group_protocol.specs.declared.Joined.{Joined}
 
 -- a key of one octet sixteen times
 abbrev pub keyOf : ℕ → List ℕ

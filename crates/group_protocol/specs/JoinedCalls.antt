@@ -6,10 +6,9 @@ use lib.Dec.{leb, ltb, eqb}
 use lib.ListN.{getD}
 use Rattle.octets.specs.Choice.{both, either, pick}
 use Rattle.octets.specs.Lists.{same}
-use Rattle.refusal.specs.declared.Refusal.{Refusal}
 use Rattle.refusal.specs.declared.Refusal.the-variants.{OutOfRange, ClockNotSet, NothingOutstanding, NoKey, EpamDiffers, ClearEnvelope, BadLength}
 use Rattle.refusal.specs.declared.Verdict.{Verdict}
-use Rattle.refusal.specs.declared.Verdict.the-variants.{Accepted, Refused}
+use Rattle.refusal.specs.declared.Verdict.the-variants.{Accepted}
 use Rattle.refusal.specs.Order.{refuseIf}
 use Rattle.clock.specs.Ticks.{epamOf}
 use Rattle.envelope.specs.Channels.{downstream}
@@ -20,19 +19,14 @@ use Rattle.ends.specs.declared.Identity.{Identity}
 use Rattle.ends.specs.declared.OnuClock.{OnuClock}
 use Rattle.ends.specs.declared.Onu.{Onu}
 use Rattle.protocol.specs.Messages.{keyKind}
-use Rattle.protocol.specs.Replies.{onValid}
-use Rattle.protocol.specs.Headers.{validHeader, choiceVerdict, passageOf, noPassage}
+use Rattle.protocol.specs.Headers.{validHeader, choiceVerdict, passageOf}
 use Rattle.protocol.specs.declared.KeyMessage.{KeyMessage}
 use Rattle.protocol.specs.declared.Header.{Header}
 use Rattle.protocol.specs.declared.KeyChoice.{KeyChoice}
 use Rattle.protocol.specs.declared.KeyChoice.the-variants.{Clear, Current, Next, Barred}
 use Rattle.protocol.specs.declared.Passage.{Passage}
-use Rattle.unit.specs.Reached.{ifAccepted}
-use Rattle.groups.specs.Subscriber.{validJoined}
-use Rattle.groups.specs.declared.Answer.{Answer}
-use Rattle.groups.specs.declared.Joined.{Joined}
-use Rattle.groups.specs.declared.JoinedAnswer.{JoinedAnswer}
-use Rattle.groups.specs.declared.JoinedReceived.{JoinedReceived}
+use Rattle.group_protocol.specs.declared.Answer.{Answer}
+use Rattle.group_protocol.specs.declared.Joined.{Joined}
 
 -- a call on one joined group: its verdict and, where that accepts, the group after it and what it hands over
 pub record JoinedOutcome (H : Type 0) : Type 0 where
@@ -137,22 +131,3 @@ receiveJoined misfit h o j =
       joined = joinedAfterReceipt (joinedChoice j h) j;
       handed = passageOf (joinedChoice j h) (j .keys .slots) (o .oltmac) (o .clock .rx);
     }
-
----- as the code answers: 1 for a group that is not valid; refused, the group stays, and nothing is handed over
-
-unfoldable pub reachedJoined : {H : Type 0} → H → Joined → JoinedOutcome H → JoinedOutcome H
-reachedJoined nothing j c =
-    record {
-      verdict = onValid (validJoined j) (c .verdict);
-      joined = ifAccepted (onValid (validJoined j) (c .verdict)) (c .joined) j;
-      handed = ifAccepted (onValid (validJoined j) (c .verdict)) (c .handed) nothing;
-    }
-
-unfoldable pub joinedAnswer : JoinedOutcome Answer → JoinedAnswer
-joinedAnswer c = record { verdict = c .verdict; joined = c .joined; answer = c .handed }
-
-unfoldable pub joinedReceived : JoinedOutcome Passage → JoinedReceived
-joinedReceived c = record { verdict = c .verdict; joined = c .joined; passage = c .handed }
-
-unfoldable pub joinedNotReceived : Joined → Refusal → JoinedReceived
-joinedNotReceived j r = record { verdict = Refused r; joined = j; passage = noPassage }

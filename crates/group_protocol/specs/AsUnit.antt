@@ -4,7 +4,7 @@ use mathlib.Core.Bool.{Bool}
 use Rattle.octets.specs.Choice.{pick}
 use Rattle.ends.specs.Identities.{noIdentity}
 use Rattle.ends.specs.declared.UnitRecord.{UnitRecord}
-use Rattle.groups.specs.declared.GroupRecord.{GroupRecord}
+use Rattle.group_protocol.specs.declared.GroupRecord.{GroupRecord}
 
 unfoldable pub asUnit : GroupRecord → Bool → UnitRecord
 asUnit g set =

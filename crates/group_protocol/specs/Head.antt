@@ -19,11 +19,11 @@ use Rattle.ends.specs.declared.UnitKeys.{UnitKeys}
 use Rattle.ends.specs.declared.Olt.{Olt}
 use Rattle.ends.specs.declared.Found.{Found}
 use Rattle.ends.specs.declared.Found.the-variants.{At, Nowhere}
-use Rattle.groups.specs.Members.{freshMembers, validMembers}
-use Rattle.groups.specs.declared.Members.{Members}
-use Rattle.groups.specs.declared.GroupRecord.{GroupRecord}
-use Rattle.groups.specs.declared.Groups.{Groups}
-use Rattle.groups.specs.declared.HeadEnd.{HeadEnd}
+use Rattle.group_protocol.specs.Members.{freshMembers, validMembers}
+use Rattle.group_protocol.specs.declared.Members.{Members}
+use Rattle.group_protocol.specs.declared.GroupRecord.{GroupRecord}
+use Rattle.group_protocol.specs.declared.Groups.{Groups}
+use Rattle.group_protocol.specs.declared.HeadEnd.{HeadEnd}
 
 ---- a group
 

@@ -9,9 +9,9 @@ use Rattle.octets.specs.Lists.{tabulate, all}
 use Rattle.ends.specs.Identities.{distinct}
 use Rattle.ends.specs.declared.Found.{Found}
 use Rattle.ends.specs.declared.Found.the-variants.{At, Nowhere}
-use Rattle.groups.specs.Limits.{maxMembers}
-use Rattle.groups.specs.declared.Members.{Members}
-use Rattle.groups.specs.declared.Roster.{Roster}
+use Rattle.group_protocol.specs.Limits.{maxMembers}
+use Rattle.group_protocol.specs.declared.Members.{Members}
+use Rattle.group_protocol.specs.declared.Roster.{Roster}
 
 -- the places of the members among the units (D39)
 unfoldable pub placesOf : Members → List ℕ

@@ -20,12 +20,12 @@ use Rattle.ends.specs.declared.Identity.{Identity}
 use Rattle.ends.specs.declared.UnitRecord.{UnitRecord}
 use Rattle.ends.proofs.Identities.{among-append, distinct-more, kept-llids}
 use Rattle.ends.proofs.Table.{more-registered}
-use Rattle.groups.specs.Head.{registeredGroups, groupLlids, isGroup, groupAt, pastGroup, placesTaken, withOlt, withGroup, withOneGroupMore, validGroup, validGroups}
-use Rattle.groups.specs.declared.GroupRecord.{GroupRecord}
-use Rattle.groups.specs.declared.HeadEnd.{HeadEnd}
-use Rattle.groups.proofs.GroupSteps.{group-later-valid}
-use Rattle.groups.proofs.HeadValidity.{groups-in-range, groups-valid}
-use Rattle.groups.proofs.Walks.{llids-append, meets-last}
+use Rattle.group_protocol.specs.Head.{registeredGroups, groupLlids, isGroup, groupAt, pastGroup, placesTaken, withOlt, withGroup, withOneGroupMore, validGroup, validGroups}
+use Rattle.group_protocol.specs.declared.GroupRecord.{GroupRecord}
+use Rattle.group_protocol.specs.declared.HeadEnd.{HeadEnd}
+use Rattle.group_protocol.proofs.GroupSteps.{group-later-valid}
+use Rattle.group_protocol.proofs.HeadValidity.{groups-in-range, groups-valid}
+use Rattle.group_protocol.proofs.Llids.{llids-append, meets-last}
 
 ---- one group replaced
 

@@ -9,7 +9,7 @@ use Rattle.octets.specs.Lists.{all, same}
 use Rattle.refusal.specs.declared.Refusal.the-variants.{UnknownLlid, ClockNotSet, OfferPending, SameKey, NothingOutstanding, AtEnd}
 use Rattle.refusal.specs.declared.Verdict.{Verdict}
 use Rattle.refusal.specs.declared.Verdict.the-variants.{Accepted}
-use Rattle.refusal.specs.Order.{refuseIf, andThen}
+use Rattle.refusal.specs.Order.{refuseIf}
 use Rattle.ends.specs.Limits.{maxKeyNumber}
 use Rattle.ends.specs.Flags.{isUp}
 use Rattle.ends.specs.Timers.{timerAdvanced}
@@ -32,13 +32,11 @@ use Rattle.protocol.specs.declared.KeyMessage.{KeyMessage}
 use Rattle.protocol.specs.declared.KeyChoice.{KeyChoice}
 use Rattle.protocol.specs.declared.KeyChoice.the-variants.{Clear, Current, Next, Barred}
 use Rattle.protocol.specs.declared.Sending.{Sending}
-use Rattle.unit.specs.Reached.{ifAccepted}
-use Rattle.groups.specs.Members.{placesOf, memberAt, unmarked, marked}
-use Rattle.groups.specs.Head.{withGroupKeys, withMembers}
-use Rattle.groups.specs.declared.Members.{Members}
-use Rattle.groups.specs.declared.GroupRecord.{GroupRecord}
-use Rattle.groups.specs.declared.Answer.{Answer}
-use Rattle.groups.specs.declared.GroupSent.{GroupSent}
+use Rattle.group_protocol.specs.Members.{placesOf, memberAt, unmarked, marked}
+use Rattle.group_protocol.specs.Head.{withGroupKeys, withMembers}
+use Rattle.group_protocol.specs.declared.Members.{Members}
+use Rattle.group_protocol.specs.declared.GroupRecord.{GroupRecord}
+use Rattle.group_protocol.specs.declared.Answer.{Answer}
 
 -- a call on one group: its verdict and, where that accepts, the group and the channels after it and what it hands over
 pub record GroupOutcome (H : Type 0) : Type 0 where
@@ -145,19 +143,3 @@ sendGroup llid channel eqs s g =
       channels = occupied (s .channels) channel (s .tick) eqs;
       handed = sendingOf (groupSendChoice (g .keys)) (g .keys .slots) (s .mac) (s .clock) channel llid;
     }
-
----- as the code answers: way is the verdict on the way to the group; refused there or by the group, group and channels stay, and nothing is
----- handed over
-
-unfoldable pub reachedGroup : {H : Type 0} → Verdict → H → Shared → GroupRecord → GroupOutcome H → GroupOutcome H
-reachedGroup way nothing s g c =
-    record {
-      verdict = andThen way (c .verdict);
-      group = ifAccepted (andThen way (c .verdict)) (c .group) g;
-      channels = ifAccepted (andThen way (c .verdict)) (c .channels) (s .channels);
-      handed = ifAccepted (andThen way (c .verdict)) (c .handed) nothing;
-    }
-
--- the answer of a send; the other calls leave the channels, and their answers go without
-unfoldable pub groupSentOutcome : GroupSent → GroupOutcome Sending
-groupSentOutcome r = record { verdict = r .verdict; group = r .group; channels = r .channels; handed = r .sending }

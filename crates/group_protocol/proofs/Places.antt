@@ -8,11 +8,11 @@ use native.Mathlib.Omega.{arith}
 use lib.Dec.{eqb}
 use lib.ListN.{length, getD}
 use borrow.Author.Tests.{eqb-true, eq-eqb, ne-eqb, not-true}
-use Rattle.octets.specs.Choice.{pick}
-use Rattle.octets.proofs.Choice.{both-left, both-right, either-left, either-right, pick-true, pick-false, true-false}
+use Rattle.octets.specs.Choice.{either, pick}
+use Rattle.octets.proofs.Choice.{both-left, both-right, either-left, either-right, either-none, pick-true, pick-false, true-false}
 use Rattle.ends.specs.Identities.{among, distinct}
 use Rattle.ends.specs.declared.Found.the-variants.{At, Nowhere}
-use Rattle.groups.specs.Members.{placeFrom}
+use Rattle.group_protocol.specs.Members.{placeFrom}
 
 pub at-nowhere : {P : Type 0} (k : ℕ) → At k ≡ Nowhere → P
 at-nowhere k e = let z : _≡_ {A = ℕ} 0 1 = cc in absurd (omega arith)
@@ -56,3 +56,23 @@ place-own k (y ∷ l) (suc i) d n h =
     let differs : y ≡ getD l i d → ⊥ =
     λ e. true-false (sym (among-at l i d below) ∙ ap (λ (z : ℕ). among z l) (sym e) ∙ new) in
     pick-false (At k) _ (ne-eqb y (getD l i d) differs) ∙ place-own (suc k) l i d (both-right _ _ n) below ∙ ap At (omega arith)
+
+-- a number that has a place is in the list, and one that has none is not
+pub place-among : (i x : ℕ) (l : List ℕ) (j : ℕ) → placeFrom i l x ≡ At j → among x l ≡ true
+unfolding placeFrom among pick
+place-among i x [] j e = at-nowhere j (sym e)
+place-among i x (y ∷ ys) j e = by-head (eqb y x) refl (place-among (suc i) x ys j) e where
+  by-head : (t : Bool) → eqb y x ≡ t → (placeFrom (suc i) ys x ≡ At j → among x ys ≡ true) → pick t (At i) (placeFrom (suc i) ys x) ≡ At j
+      → either (eqb y x) (among x ys) ≡ true
+  by-head true h more f = either-left _ h
+  by-head false h more f = either-right _ (more f)
+
+pub place-absent : (i x : ℕ) (l : List ℕ) → placeFrom i l x ≡ Nowhere → among x l ≡ false
+unfolding placeFrom among pick
+place-absent i x [] e = refl
+place-absent i x (y ∷ ys) e = by-head (eqb y x) refl (place-absent (suc i) x ys) e where
+  by-head : (t : Bool) → eqb y x ≡ t → (placeFrom (suc i) ys x ≡ Nowhere → among x ys ≡ false)
+      → pick t (At i) (placeFrom (suc i) ys x) ≡ Nowhere
+      → either (eqb y x) (among x ys) ≡ false
+  by-head true h more f = at-nowhere i f
+  by-head false h more f = either-none h (more f)

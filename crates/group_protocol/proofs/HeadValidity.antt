@@ -11,10 +11,10 @@ use Rattle.ends.specs.Limits.{maxUnits}
 use Rattle.ends.specs.Table.{registered, tableLlids}
 use Rattle.ends.specs.Timers.{validTimer}
 use Rattle.ends.specs.Validity.{validKeys, validOlt}
-use Rattle.groups.specs.Head.{apartLlids, groupLlids, placesTaken, registeredGroups, validGroup, validGroupNumbers, validGroups, validHead}
-use Rattle.groups.specs.Members.{validMembers}
-use Rattle.groups.specs.declared.GroupRecord.{GroupRecord}
-use Rattle.groups.specs.declared.HeadEnd.{HeadEnd}
+use Rattle.group_protocol.specs.Head.{apartLlids, groupLlids, placesTaken, registeredGroups, validGroup, validGroupNumbers, validGroups, validHead}
+use Rattle.group_protocol.specs.Members.{validMembers}
+use Rattle.group_protocol.specs.declared.GroupRecord.{GroupRecord}
+use Rattle.group_protocol.specs.declared.HeadEnd.{HeadEnd}
 
 ---- a group
 

@@ -20,13 +20,13 @@ use Rattle.protocol.specs.UnitCalls.{keysOffered}
 use Rattle.protocol.specs.UnitTraffic.{keysAfterSend, keysSwitched}
 use Rattle.protocol.specs.declared.KeyChoice.{KeyChoice}
 use Rattle.protocol.specs.declared.KeyChoice.the-variants.{Clear, Current, Next, Barred}
-use Rattle.groups.specs.GroupCalls.{groupAdvanced, groupKeysAfterSend, groupMarked, groupOffered, wipedAtSwitch}
-use Rattle.groups.specs.Head.{freshGroup, validGroup, withGroupKeys, withMembers}
-use Rattle.groups.specs.Limits.{maxMembers}
-use Rattle.groups.specs.Members.{marked, marksOf, placesOf, unmarked, validMembers}
-use Rattle.groups.specs.declared.GroupRecord.{GroupRecord}
-use Rattle.groups.specs.declared.Members.{Members}
-use Rattle.groups.proofs.HeadValidity.{group-in-range, group-valid}
+use Rattle.group_protocol.specs.GroupCalls.{groupAdvanced, groupKeysAfterSend, groupMarked, groupOffered, wipedAtSwitch}
+use Rattle.group_protocol.specs.Head.{freshGroup, validGroup, withGroupKeys, withMembers}
+use Rattle.group_protocol.specs.Limits.{maxMembers}
+use Rattle.group_protocol.specs.Members.{marked, marksOf, placesOf, unmarked, validMembers}
+use Rattle.group_protocol.specs.declared.GroupRecord.{GroupRecord}
+use Rattle.group_protocol.specs.declared.Members.{Members}
+use Rattle.group_protocol.proofs.HeadValidity.{group-in-range, group-valid}
 
 ---- members
 

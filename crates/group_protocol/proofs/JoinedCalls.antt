@@ -5,7 +5,6 @@ use mathlib.Core.Logic.{⊎-elim}
 use Prim.Native.Nat.{ℕ, _+_, _-_, _%_, _≤_, _<_}
 use native.Mathlib.Omega.{arith}
 use lib.Dec.{leb, eqb}
-use mir.Val.{boolByte}
 use borrow.Author.Tests.{eqb-true, eq-eqb, leb-true, le-leb, ltb-true, lt-ltb}
 use Rattle.octets.specs.Choice.{both, either, pick}
 use Rattle.octets.specs.Lists.{same}
@@ -23,10 +22,10 @@ use Rattle.protocol.specs.declared.Header.{Header}
 use Rattle.protocol.specs.declared.KeyMessage.{KeyMessage}
 use Rattle.protocol.specs.declared.KeyChoice.{KeyChoice}
 use Rattle.protocol.specs.declared.KeyChoice.the-variants.{Clear, Current, Next, Barred}
-use Rattle.groups.specs.Subscriber.{freshJoined, validJoined}
-use Rattle.groups.specs.JoinedCalls.{highestHeld, holds, heldAgain, newNumber, joinedMessageVerdict, joinedTaken, joinedAfterMessage, joinedChoice, joinedReceiveVerdict, joinedMoved, joinedAfterReceipt}
-use Rattle.groups.specs.Worked.{MessageRows, ReceiptRows}
-use Rattle.groups.specs.declared.Joined.{Joined}
+use Rattle.group_protocol.specs.Subscriber.{freshJoined, validJoined}
+use Rattle.group_protocol.specs.JoinedCalls.{highestHeld, holds, heldAgain, newNumber, joinedMessageVerdict, joinedTaken, joinedAfterMessage, joinedChoice, joinedReceiveVerdict, joinedMoved, joinedAfterReceipt}
+use Rattle.group_protocol.specs.Worked.{MessageRows, ReceiptRows}
+use Rattle.group_protocol.specs.declared.Joined.{Joined}
 
 ---- worked values: each row computes
 
@@ -55,12 +54,6 @@ unfolding both either pick refuseIf downstream keyIn withKey onlyKey validHeader
 receipt-rows = record { current = refl; clear = refl; next = refl; under = refl; stale = refl }
 
 ---- a key that comes into use
-
--- a flag as its octet
-pub byte-flag : (b : Bool) → boolByte b ≡ pick b 1 0
-unfolding pick
-byte-flag true = refl
-byte-flag false = refl
 
 -- a key that comes into use is held
 pub next-held : (j : Joined) (h : Header) (n : ℕ) → joinedChoice j h ≡ Next n → (j .keys .held ≡ 1) × (n ≡ j .keys .active + 1)

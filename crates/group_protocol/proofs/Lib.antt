@@ -1,0 +1,9 @@
+pub mod AsUnit
+pub mod Found
+pub mod GroupSteps
+pub mod HeadGroups
+pub mod HeadValidity
+pub mod JoinedCalls
+pub mod Llids
+pub mod Places
+pub mod Subscribers

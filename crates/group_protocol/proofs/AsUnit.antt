@@ -1,5 +1,5 @@
 -- A group decides as the unit that it stands for. Assumes nothing.
-use mathlib.Core.Path.{_≡_, refl}
+use mathlib.Core.Path.{_≡_, refl, ap}
 use mathlib.Core.Bool.{Bool, true, false}
 use mathlib.Core.List.{List}
 use Prim.Native.Nat.{ℕ, _+_}
@@ -36,7 +36,7 @@ offer-as-unit g set key =
 
 switches-as-unit : (g : GroupRecord) (set : Bool) → switches (asUnit g set) ≡ groupSwitches (g .keys)
 unfolding asUnit switches groupSwitches
-switches-as-unit g set = rw (both-yes (eqb (g .keys .offered) (g .keys .active + 1)))
+switches-as-unit g set = ap (both (isUp (g .keys .timer .flag))) (both-yes (eqb (g .keys .offered) (g .keys .active + 1)))
 
 pub choice-as-unit : (g : GroupRecord) (set : Bool) → unitSendChoice (asUnit g set) ≡ groupSendChoice (g .keys)
 unfolding unitSendChoice groupSendChoice

@@ -1,4 +1,4 @@
--- Laws of a unit's calls on one group that it joined: worked values; a valid group stays valid, and keeps its LLID. Assumes nothing.
+-- Laws of a unit's calls on one group that it joined: a valid group stays valid, and keeps its LLID. Assumes nothing.
 use mathlib.Core.Path.{_≡_, refl}
 use mathlib.Core.Bool.{Bool, true, false}
 use mathlib.Core.Logic.{⊎-elim}
@@ -7,51 +7,19 @@ use native.Mathlib.Omega.{arith}
 use lib.Dec.{leb, eqb}
 use borrow.Author.Tests.{eqb-true, eq-eqb, leb-true, le-leb, ltb-true, lt-ltb}
 use Rattle.octets.specs.Choice.{both, either, pick}
-use Rattle.octets.specs.Lists.{same}
 use Rattle.octets.proofs.Choice.{both-left, both-right, both-true, either-cases, either-left, either-right, pick-holds}
 use Rattle.refusal.specs.declared.Refusal.the-variants.{ClearEnvelope, NoKey}
-use Rattle.refusal.specs.Order.{refuseIf}
-use Rattle.envelope.specs.Channels.{downstream}
 use Rattle.ends.specs.Flags.{isUp}
-use Rattle.ends.specs.Keys.{keyIn, withKey, onlyKey}
 use Rattle.ends.specs.Limits.{maxKeyNumber}
 use Rattle.ends.specs.Validity.{validOnuKeys}
 use Rattle.ends.proofs.Validity.{onu-keys-in-range}
-use Rattle.protocol.specs.Headers.{validHeader, choiceVerdict, choiceNumber, keyFor}
 use Rattle.protocol.specs.declared.Header.{Header}
 use Rattle.protocol.specs.declared.KeyMessage.{KeyMessage}
 use Rattle.protocol.specs.declared.KeyChoice.{KeyChoice}
 use Rattle.protocol.specs.declared.KeyChoice.the-variants.{Clear, Current, Next, Barred}
-use Rattle.group_protocol.specs.Subscriber.{freshJoined, validJoined}
-use Rattle.group_protocol.specs.JoinedCalls.{highestHeld, holds, heldAgain, newNumber, joinedMessageVerdict, joinedTaken, joinedAfterMessage, joinedChoice, joinedReceiveVerdict, joinedMoved, joinedAfterReceipt}
-use Rattle.group_protocol.specs.Worked.{MessageRows, ReceiptRows}
+use Rattle.group_protocol.specs.Subscriber.{validJoined}
+use Rattle.group_protocol.specs.JoinedCalls.{highestHeld, holds, newNumber, joinedTaken, joinedAfterMessage, joinedChoice, joinedMoved, joinedAfterReceipt}
 use Rattle.group_protocol.specs.declared.Joined.{Joined}
-
----- worked values: each row computes
-
-pub message-rows : MessageRows
-unfolding both either pick same refuseIf keyIn withKey onlyKey freshJoined highestHeld holds heldAgain newNumber joinedMessageVerdict joinedTaken
-    joinedAfterMessage joinedChoice joinedMoved joinedAfterReceipt
-message-rows =
-    record {
-      active = refl;
-      lost = refl;
-      kept = refl;
-      even = refl;
-      odd = refl;
-      again = refl;
-      unchanged = refl;
-      otherKey = refl;
-      two = refl;
-      one = refl;
-      zero = refl;
-      above = refl;
-    }
-
-pub receipt-rows : ReceiptRows
-unfolding both either pick refuseIf downstream keyIn withKey onlyKey validHeader choiceVerdict choiceNumber keyFor freshJoined highestHeld holds
-    newNumber joinedTaken joinedAfterMessage joinedChoice joinedReceiveVerdict joinedMoved joinedAfterReceipt
-receipt-rows = record { current = refl; clear = refl; next = refl; under = refl; stale = refl }
 
 ---- a key that comes into use
 

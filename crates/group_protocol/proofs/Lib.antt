@@ -7,3 +7,4 @@ pub mod JoinedCalls
 pub mod Llids
 pub mod Places
 pub mod Subscribers
+pub mod Worked

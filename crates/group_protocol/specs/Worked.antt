@@ -1,23 +1,69 @@
--- Worked values of a member's keys (02, C-14: number n tells it that n - 1 is in use and older keys are forgotten), which keeping a at the
--- highest key held would fail. Assumes nothing.
+-- Worked values of groups (02, C-14): of their members, of a switch, and of a member's keys. Assumes nothing.
 use mathlib.Core.Path.{_≡_}
-use mathlib.Core.Bool.{false}
-use mathlib.Core.List.{List}
+use mathlib.Core.Bool.{Bool, true, false}
+use mathlib.Core.List.{List, [], _∷_}
 use Prim.Native.Nat.{ℕ, _^_}
 use lib.ListN.{replicate}
 use Rattle.refusal.specs.Number.{verdictNumber}
-use Rattle.ends.specs.Keys.{noKey}
+use Rattle.ends.specs.Keys.{noKey, notedAt}
+use Rattle.ends.specs.Occupancy.{freeChannels}
 use Rattle.ends.specs.declared.OnuClock.{OnuClock}
 use Rattle.protocol.specs.Headers.{keyFor, choiceNumber}
 use Rattle.protocol.specs.declared.Header.{Header}
 use Rattle.protocol.specs.declared.KeyMessage.{KeyMessage}
+use Rattle.protocol.specs.declared.Sending.{Sending}
+use Rattle.group_protocol.specs.Members.{freshMembers, validMembers}
+use Rattle.group_protocol.specs.GroupCalls.{GroupOutcome, sendGroup}
 use Rattle.group_protocol.specs.Subscriber.{freshJoined}
 use Rattle.group_protocol.specs.JoinedCalls.{joinedMessageVerdict, joinedAfterMessage, joinedChoice, joinedReceiveVerdict, joinedAfterReceipt}
+use Rattle.group_protocol.specs.declared.GroupRecord.{GroupRecord}
 use Rattle.group_protocol.specs.declared.Joined.{Joined}
 
 -- a key of one octet sixteen times
 abbrev pub keyOf : ℕ → List ℕ
 keyOf octet = replicate 16 octet
+
+---- members: a unit that is named by two of its LLIDs has one place, and is no member twice
+
+abbrev pub twoMembers : ℕ → ℕ → Bool
+twoMembers first second = validMembers 4 (freshMembers (first ∷ second ∷ []) 2)
+
+pub record MemberRows : Type 0 where
+  pub apart : twoMembers 0 3 ≡ true
+  pub twice : twoMembers 3 3 ≡ false
+  -- there is no fifth unit
+  pub past : twoMembers 0 4 ≡ false
+
+---- the switch: key 1 is in use, key 2 offered and the timer's flag up. No member has acknowledged
+
+abbrev pub offering : GroupRecord
+offering =
+    record {
+      keys =
+          record {
+            timer = record { interval = 10; count = 0; flag = 1 };
+            active = 1;
+            offered = 2;
+            slots = record { even = keyOf 2; odd = keyOf 1 };
+            first = notedAt 0;
+          };
+      members = freshMembers (0 ∷ []) 1;
+      llid = 7;
+    }
+
+abbrev pub switching : GroupOutcome Sending
+switching = sendGroup 7 0 0 (record { mac = 1; tick = 100; clock = 0; channels = freeChannels }) offering
+
+pub record SwitchRows : Type 0 where
+  -- the send waits for no acknowledgement, and goes under key 2
+  pub sent : verdictNumber (switching .verdict) ≡ 0
+  pub under : switching .handed .passage .key ≡ keyOf 2
+  pub active : switching .group .keys .active ≡ 2
+  -- key 1 is wiped
+  pub even : switching .group .keys .slots .even ≡ keyOf 2
+  pub odd : switching .group .keys .slots .odd ≡ noKey
+
+---- a member's keys: number n tells it that n - 1 is in use and older keys are forgotten, which keeping a at the highest key held would fail
 
 -- the group's LLID is 7
 abbrev pub messageOf : ℕ → ℕ → KeyMessage

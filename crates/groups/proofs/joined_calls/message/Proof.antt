@@ -3,7 +3,7 @@ use mathlib.Core.Path.{sym, _∙_}
 use borrow.Author.Needs.{needs}
 use Rattle.unit.specs.Reached.{ifAccepted}
 use Rattle.group_protocol.specs.JoinedCalls.{messageJoined}
-use Rattle.group_protocol.proofs.JoinedCalls.{message-rows}
+use Rattle.group_protocol.proofs.Worked.{message-rows}
 use Rattle.groups.specs.Reached.{joinedAnswer, reachedJoined}
 use Rattle.groups.proofs.joined_calls.message.Statement.{statement}
 use Rattle.groups.proofs.joined_calls.message.Tie as tie

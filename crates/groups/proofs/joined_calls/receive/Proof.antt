@@ -6,7 +6,8 @@ use Rattle.refusal.specs.declared.Refusal.the-variants.{OutOfRange}
 use Rattle.refusal.proofs.Order.{refuse-passed, refuse-stopped}
 use Rattle.unit.specs.Reached.{ifAccepted}
 use Rattle.group_protocol.specs.JoinedCalls.{receiveJoined}
-use Rattle.group_protocol.proofs.JoinedCalls.{receipt-rows, next-below}
+use Rattle.group_protocol.proofs.JoinedCalls.{next-below}
+use Rattle.group_protocol.proofs.Worked.{receipt-rows}
 use Rattle.groups.specs.Reached.{joinedNotReceived, joinedReceived, reachedJoined}
 use Rattle.groups.proofs.joined_calls.receive.Statement.{statement}
 use Rattle.groups.proofs.joined_calls.receive.Tie as tie

@@ -1,5 +1,5 @@
 -- Laws of the mask on eight octets at once: the one computed test, of the 256 control octets, and the mask octet by octet. Assumes nothing.
-use mathlib.Core.Path.{refl, ap, sym, _∙_}
+use mathlib.Core.Path.{_≡_, refl, ap, sym, _∙_}
 use Prim.Native.Nat.{ℕ, _+_, _-_, _*_, _%_, _^_, _<_}
 use native.Mathlib.Omega.{arith}
 use lib.Bits.{bitAnd, bitOr, bitXor}
@@ -42,7 +42,11 @@ bits c = bitAnd (bitOr (pairs c) (pairs c * 2 ^ 7 % 2 ^ 64)) 0x0101010101010101
 unfoldable pub worked : ℕ → ℕ
 worked c = 255 * (0x0101010101010101 - bits c)
 
--- the one computed test, of the 256 control octets
+-- g of a control octet is f of it, by a computed test of all 256
+pub by-test : (g f : ℕ → ℕ) → T (every (follows f) 0 (table g)) → (c : ℕ) → c < 256 → g c ≡ f c
+unfolding table
+by-test g f right c h = sym (table-at g c h) ∙ eqb→eq (getD (table g) c 0) (f c) (at (follows f) (table g) right c h)
+
 right : T (every (follows together) 0 (table worked))
 unfolding table worked together factors bitOf
 right = tt
@@ -51,9 +55,9 @@ factor-below : (c j : ℕ) → factor c j < 256
 factor-below c j = omega arith
 
 pub worked-octets : (c : ℕ) → c < 256 → Eight (λ j. 255 * (1 - bitOf c j)) (worked c)
-unfolding table together factors
+unfolding together factors
 worked-octets c h =
-    rw (sym (table-at worked c h) ∙ eqb→eq (getD (table worked) c 0) (together c) (at (follows together) (table worked) right c h))
+    rw (by-test worked together right c h)
     (eight low high (both-octets (factors c 0) (factors c 4) (low .below))) where
       low : Four (factor c) (factors c 0)
       low = four-octets (factor-below c 0) (factor-below c 1) (factor-below c 2) (factor-below c 3) refl refl refl refl refl

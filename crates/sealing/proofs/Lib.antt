@@ -1,3 +1,4 @@
+pub mod Counts
 pub mod DataOctets
 pub mod Payload
 pub mod Runs

@@ -1,14 +1,14 @@
 -- Laws of sealed payloads: what the ends, the line and the capture reader cite. Assumes nothing.
 use mathlib.Core.Path.{_≡_, refl, ap, ap₂, sym, _∙_}
 use mathlib.Core.Bool.{Bool, true, false}
-use mathlib.Core.List.{List, _∷_}
+use mathlib.Core.List.{List, _∷_, _++_}
 use Prim.Native.Nat.{ℕ, zero, suc, _+_, _-_, _*_, _/_, _%_, _<_, _≤_, min}
 use native.Mathlib.Nat.{zero-add}
 use native.Mathlib.Numerals.{add-one}
 use native.Mathlib.Omega.{arith}
 use lib.Count.{ones}
 use lib.Dec.{ltb}
-use lib.ListN.{length, getD, take, drop, length-drop, List·getD-append}
+use lib.ListN.{length, getD, take, drop, length-drop, length-take, List·getD-append}
 use lib.Seq.{ext-getD, getD-append-add, getD-drop}
 use Rattle.octets.specs.Bits.{bitOf}
 use Rattle.octets.specs.Choice.{pick}
@@ -185,6 +185,16 @@ pub eq-written : (w : List ℕ) (n : Nonce) (p : List ℕ) (at e : ℕ) {h : ℕ
 eq-written w n p at e {h} ea serves fits =
     let room : 9 * e + 9 ≤ length p = omega arith in
     rw ea (written-part (sealed w n p) (9 * e) 9 p _ (sealed-eq w n p e h serves room))
+
+-- what lies past a part that is replaced is as it was
+pub replaced-past : (s t : List ℕ) (at i : ℕ) → at ≤ length s → getD (replaced s at t) (at + (length t + i)) 0 ≡ getD s (at + (length t + i)) 0
+replaced-past s t at i h =
+    let long : length (take at s) ≡ at = simp length-take (omega arith) in
+    ap (λ (k : ℕ). getD (replaced s at t) (k + (length t + i)) 0) (sym long)
+    ∙ getD-append-add (take at s) (t ++ drop (length t) (drop at s)) (length t + i) 0
+    ∙ getD-append-add t (drop (length t) (drop at s)) i 0
+    ∙ getD-drop (length t) (drop at s) i 0
+    ∙ getD-drop at s (length t + i) 0
 
 -- from an EQ on, the sealed payload is made of the payload from that EQ on
 sealed-from : (w : List ℕ) (n : Nonce) (p q : List ℕ) (a : ℕ) → a % 9 ≡ 0 → length q ≡ length p → drop a q ≡ drop a p

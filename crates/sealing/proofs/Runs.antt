@@ -9,7 +9,7 @@ use native.Mathlib.Numerals.{add-one}
 use native.Mathlib.Omega.{arith}
 use borrow.Author.Tests.{ltb-true, ltb-false, lt-ltb, le-ltb}
 use lib.Bits.{bitAnd, and-le-l, and-le-r}
-use lib.Dec.{T, ltb, eqb→eq}
+use lib.Dec.{T, ltb}
 use lib.ListN.{length, getD, take, drop, take-append-drop}
 use lib.Seq.{drop-drop, ext-getD, getD-drop}
 use Rattle.octets.specs.Bits.{bitOf}
@@ -17,13 +17,14 @@ use Rattle.octets.specs.Choice.{pick}
 use Rattle.octets.specs.Lists.{sum, written}
 use Rattle.octets.proofs.Bits.{bit-below}
 use Rattle.octets.proofs.Lists.{part-at, part-length, sum-ext, sum-suc, written-all, written-length, written-more, written-rest}
-use Rattle.octets.proofs.Table.{at, every}
+use Rattle.octets.proofs.Table.{every}
 use Rattle.envelope.specs.ControlMask.{blocksOf, controlOctet, toEncipher, eqsOf, masked, maskedAt, mostRuns, needsRun, runs, runsBelow}
 use Rattle.envelope.specs.declared.Nonce.{Nonce}
 use Rattle.gf256.specs.Table.{table}
-use Rattle.gf256.proofs.Table.{follows, table-at}
+use Rattle.gf256.proofs.Table.{follows}
 use Rattle.sealing.specs.Payload.{cipherBlock, halfOf, sealedOctet, sealed}
 use Rattle.sealing.specs.Steps.{NextRun, blockSealed, sealedBelow}
+use Rattle.sealing.proofs.DataOctets.{by-test}
 use Rattle.sealing.proofs.Payload.{block-more, sealed-at, sealed-length}
 
 ---- the test on control octets
@@ -52,9 +53,8 @@ right = tt
 
 -- a control octet leaves data octets unless it is FF hex
 pub data-left : (c : ℕ) → c < 256 → ltb 0 (toEncipher c) ≡ ltb c 255
-unfolding table left short
-data-left c h =
-    same-test _ _ (sym (table-at left c h) ∙ eqb→eq (getD (table left) c 0) (short c) (at (follows short) (table left) right c h))
+unfolding left short
+data-left c h = same-test _ _ (by-test left short right c h)
 
 -- either of two tests, by the octets' bits
 either-left : (a b c d : ℕ) → c < 256 → d < 256 → ltb 0 a ≡ ltb c 255 → ltb 0 b ≡ ltb d 255 → ltb 0 (a + b) ≡ ltb (bitAnd c d) 255
@@ -80,23 +80,44 @@ either-left a b c d h l p q = by (ltb c 255) (ltb d 255) refl refl where
 pub data-left-of-two : (c d : ℕ) → c < 256 → d < 256 → ltb 0 (toEncipher c + toEncipher d) ≡ ltb (bitAnd c d) 255
 data-left-of-two c d h l = either-left (toEncipher c) (toEncipher d) c d h l (data-left c h) (data-left d l)
 
--- the test of a block of two EQs, and of a last one of one
+-- the sum of f over the control octets of block k
+abbrev pub overBlock : (ℕ → ℕ) → List ℕ → ℕ → ℕ
+overBlock f p k = sum (2 * k) (min 2 (eqsOf p - 2 * k)) (λ e. f (controlOctet p e))
+
+-- of a block of two EQs, and of a last one of one; and so its test
 module _ (p : List ℕ) (k : ℕ) where
-  pub needs-two : 2 * k + 2 ≤ eqsOf p → needsRun p k ≡ ltb 0 (toEncipher (controlOctet p (2 * k)) + toEncipher (controlOctet p (2 * k + 1)))
-  unfolding needsRun
-  needs-two h =
+  pub over-two : (f : ℕ → ℕ) → 2 * k + 2 ≤ eqsOf p → overBlock f p k ≡ f (controlOctet p (2 * k)) + f (controlOctet p (2 * k + 1))
+  over-two f h =
       let two : min 2 (eqsOf p - 2 * k) ≡ 2 = omega arith in
       rw two
-      (ap (λ (x : ℕ). ltb 0 (toEncipher (controlOctet p (2 * k)) + x))
-      (add-zero (toEncipher (controlOctet p (suc (2 * k)))) ∙ ap (λ (e : ℕ). toEncipher (controlOctet p e)) (sym (add-one (2 * k)))))
+      (ap (λ (x : ℕ). f (controlOctet p (2 * k)) + x)
+      (add-zero (f (controlOctet p (suc (2 * k)))) ∙ ap (λ (e : ℕ). f (controlOctet p e)) (sym (add-one (2 * k)))))
 
-  pub needs-one : eqsOf p ≡ 2 * k + 1 → needsRun p k ≡ ltb 0 (toEncipher (controlOctet p (2 * k)))
-  unfolding needsRun
-  needs-one h =
+  pub over-one : (f : ℕ → ℕ) → eqsOf p ≡ 2 * k + 1 → overBlock f p k ≡ f (controlOctet p (2 * k))
+  over-one f h =
       let single : min 2 (eqsOf p - 2 * k) ≡ 1 = omega arith in
       rw (single, add-zero)
 
+  pub needs-two : 2 * k + 2 ≤ eqsOf p → needsRun p k ≡ ltb 0 (toEncipher (controlOctet p (2 * k)) + toEncipher (controlOctet p (2 * k + 1)))
+  unfolding needsRun
+  needs-two h = ap (ltb 0) (over-two toEncipher h)
+
+  pub needs-one : eqsOf p ≡ 2 * k + 1 → needsRun p k ≡ ltb 0 (toEncipher (controlOctet p (2 * k)))
+  unfolding needsRun
+  needs-one h = ap (ltb 0) (over-one toEncipher h)
+
 ---- a block with nothing to encipher
+
+-- what each block from i up to r leaves as it is, all of them do
+pub stretch : {A : Type 0} (f : ℕ → A) (i r : ℕ) → i ≤ r → ((k : ℕ) → i ≤ k → k < r → f k ≡ f (k + 1)) → f i ≡ f r
+stretch {A} f i r h same =
+    let there : i + (r - i) ≡ r = omega arith in
+    rw there at (from (r - i) (λ k a b. same k a (omega arith))) where
+      from : (d : ℕ) → ((k : ℕ) → i ≤ k → k < i + d → f k ≡ f (k + 1)) → f i ≡ f (i + d)
+      from zero same = rw add-zero
+      from (suc d) same =
+          let next : i + suc d ≡ i + d + 1 = omega arith in
+          from d (λ k a b. same k a (omega arith)) ∙ same (i + d) (omega arith) (omega arith) ∙ ap f (sym next)
 
 -- a sum of 0 has no other term
 sum-zero-at : (i n d : ℕ) (f : ℕ → ℕ) → sum i n f ≡ 0 → d < n → f (i + d) ≡ 0
@@ -111,7 +132,7 @@ sum-zero i n f e k a b =
     let place : i + (k - i) ≡ k = omega arith in
     ap f (sym place) ∙ sum-zero-at i n (k - i) f e (omega arith)
 
-all-bits : (c : ℕ) → toEncipher c ≡ 0 → (j : ℕ) → j < 8 → bitOf c j ≡ 1
+pub all-bits : (c : ℕ) → toEncipher c ≡ 0 → (j : ℕ) → j < 8 → bitOf c j ≡ 1
 all-bits c e j h =
     let none : 1 - bitOf c j ≡ 0 = sum-zero 0 8 (λ j. 1 - bitOf c j) e j (omega arith) (omega arith) in
     omega (arith, bit-below c j)
@@ -122,7 +143,7 @@ passes block half c zero x e h = refl
 passes block half c (suc j) x e h = rw (all-bits c e j (omega arith))
 
 -- every EQ of a block that needs no run has nothing to encipher
-idle-eq : (p : List ℕ) (k e : ℕ) → needsRun p k ≡ false → e / 2 ≡ k → e < eqsOf p → toEncipher (controlOctet p e) ≡ 0
+pub idle-eq : (p : List ℕ) (k e : ℕ) → needsRun p k ≡ false → e / 2 ≡ k → e < eqsOf p → toEncipher (controlOctet p e) ≡ 0
 unfolding needsRun
 idle-eq p k e idle block h =
     let f : ℕ → ℕ = λ (e : ℕ). toEncipher (controlOctet p e) in
@@ -168,20 +189,9 @@ module _ (w : List ℕ) (n : Nonce) (p : List ℕ) (whole : length p % 9 ≡ 0) 
             (sym (take-append-drop (e - a) (drop a q)) ∙ ap (λ (l : List ℕ). take (e - a) (drop a q) ++ l) (rw past at (drop-drop (e - a) a q)))
 
   -- blocks that need no run, one after the other
-  stretch : (i d : ℕ) → i + d ≤ blocksOf (length p) → ((k : ℕ) → i ≤ k → k < i + d → needsRun p k ≡ false)
-      → sealedBelow w n p i ≡ sealedBelow w n p (i + d)
-  stretch i zero h idle = rw add-zero
-  stretch i (suc d) h idle =
-      let next : i + suc d ≡ i + d + 1 = omega arith in
-      stretch i d (omega arith) (λ k a b. idle k a (omega arith))
-      ∙ idle-more (i + d) (omega arith) (idle (i + d) (omega arith) (omega arith))
-      ∙ ap (sealedBelow w n p) (sym next)
-
   pub idle-stretch : (i r : ℕ) → i ≤ r → r ≤ blocksOf (length p) → ((k : ℕ) → i ≤ k → k < r → needsRun p k ≡ false)
       → sealedBelow w n p i ≡ sealedBelow w n p r
-  idle-stretch i r h l idle =
-      let there : i + (r - i) ≡ r = omega arith in
-      rw there at (stretch i (r - i) (omega arith) (λ k a b. idle k a (omega arith)))
+  idle-stretch i r h l idle = stretch (sealedBelow w n p) i r h (λ k a b. idle-more k (omega arith) (idle k a b))
 
   -- one block more
   pub one-more : (k : ℕ) → k < blocksOf (length p) → blockSealed w n (sealedBelow w n p k) k ≡ sealedBelow w n p (k + 1)
@@ -196,10 +206,9 @@ module _ (w : List ℕ) (n : Nonce) (p : List ℕ) (whole : length p % 9 ≡ 0) 
   two-more i j h l idle =
       ap (λ (q : List ℕ). blockSealed w n q j) (one-more i (omega arith) ∙ idle-stretch (i + 1) j (omega arith) (omega arith) idle) ∙ one-more j l
 
-  -- what lies past the sealed blocks needs what it needed
-  needs-past : (m k : ℕ) → m ≤ k → needsRun (sealedBelow w n p m) k ≡ needsRun p k
-  unfolding needsRun
-  needs-past m k h =
+  -- what lies past the sealed blocks has the control octets that it had, and so whatever is summed over those of a block
+  pub same-past : (f : ℕ → ℕ) (m k : ℕ) → m ≤ k → overBlock f (sealedBelow w n p m) k ≡ overBlock f p k
+  same-past f m k h =
       let s = sealed w n p in
       let a = min (18 * m) (length p) in
       let q = sealedBelow w n p m in
@@ -207,12 +216,15 @@ module _ (w : List ℕ) (n : Nonce) (p : List ℕ) (whole : length p % 9 ≡ 0) 
       let long : length q ≡ length p = written-length s 0 a p (omega arith) (omega arith) (omega arith) in
       let rest : drop a q ≡ drop a p = written-rest s 0 a p (omega arith) (omega arith) (omega arith) in
       rw long
-      (ap (ltb 0)
-      (sum-ext (2 * k) (min 2 (length p / 9 - 2 * k)) (λ e. toEncipher (controlOctet q e)) (λ e. toEncipher (controlOctet p e))
+      (sum-ext (2 * k) (min 2 (length p / 9 - 2 * k)) (λ e. f (controlOctet q e)) (λ e. f (controlOctet p e))
       (λ e b c.
       let place : a + (9 * e - a) ≡ 9 * e = omega arith in
-      ap toEncipher
-      (rw place at (sym (getD-drop a q (9 * e - a) 0) ∙ ap (λ (t : List ℕ). getD t (9 * e - a) 0) rest ∙ getD-drop a p (9 * e - a) 0)))))
+      ap f
+      (rw place at (sym (getD-drop a q (9 * e - a) 0) ∙ ap (λ (t : List ℕ). getD t (9 * e - a) 0) rest ∙ getD-drop a p (9 * e - a) 0))))
+
+  needs-past : (m k : ℕ) → m ≤ k → needsRun (sealedBelow w n p m) k ≡ needsRun p k
+  unfolding needsRun
+  needs-past m k h = ap (ltb 0) (same-past toEncipher m k h)
 
   pub next-past : (m i : ℕ) {r : ℕ} → m ≤ i → NextRun (sealedBelow w n p m) (blocksOf (length p)) i r → NextRun p (blocksOf (length p)) i r
   next-past m i {r} h next =
@@ -249,20 +261,9 @@ module _ (p : List ℕ) where
   unfolding pick
   one-run k e = run-more k true e
 
-  no-runs : (i d : ℕ) → ((k : ℕ) → i ≤ k → k < i + d → needsRun p k ≡ false) → runsBelow p (i + d) ≡ runsBelow p i
-  unfolding pick
-  no-runs i zero idle = rw add-zero
-  no-runs i (suc d) idle =
-      let next : i + suc d ≡ i + d + 1 = omega arith in
-      ap (runsBelow p) next
-      ∙ run-more (i + d) false (idle (i + d) (omega arith) (omega arith))
-      ∙ add-zero (runsBelow p (i + d))
-      ∙ no-runs i d (λ k a b. idle k a (omega arith))
-
   pub no-run : (i r : ℕ) → i ≤ r → ((k : ℕ) → i ≤ k → k < r → needsRun p k ≡ false) → runsBelow p r ≡ runsBelow p i
-  no-run i r h idle =
-      let there : i + (r - i) ≡ r = omega arith in
-      rw there at (no-runs i (r - i) (λ k a b. idle k a (omega arith)))
+  unfolding pick
+  no-run i r h idle = sym (stretch (runsBelow p) i r h (λ k a b. omega (arith, run-more k false (idle k a b))))
 
   pub first-runs : (i b : ℕ) → NextRun p b 0 i → 0 ≡ runsBelow p i
   first-runs i b next = sym (no-run 0 i (omega arith) (next .idle))

@@ -8,13 +8,13 @@ ghost use Rattle.octets.specs.Output.{withOutput};
 ghost use Rattle.refusal.specs.declared.Verdict.the-variants.{Accepted};
 ghost use Rattle.gf256.specs.Table.{sboxTable};
 ghost use Rattle.envelope.specs.Acceptance.{sealVerdict};
-ghost use Rattle.envelope.specs.ControlMask.{maxBlocks, blocksOf, needsRun, runs};
+ghost use Rattle.envelope.specs.ControlMask.{maxBlocks, blocksOf, countEnciphered, needsRun, runs};
 ghost use Rattle.cipher.specs.Cipher.{Nr};
 ghost use Rattle.cipher.specs.KeyExpansion.{keyExpansion};
 ghost use Rattle.sealing.specs.Payload.{sealed, SealedLaws};
 ghost use Rattle.cipher.specs.RowWords.{PairKeys};
 ghost use Rattle.sealing.specs.Seal.{sealing};
-ghost use Rattle.sealing.specs.Steps.{Masked, NextRun, PairSealed, PairsSealed, blockSealed, maskedEq};
+ghost use Rattle.sealing.specs.Steps.{Masked, NextRun, PairSealed, PairsSealed, blockCount, blockSealed, maskedEq};
 use super::mask::eight_at;
 use super::mask::mask_eight;
 use cipher::aes128::RoundKeys;
@@ -28,15 +28,22 @@ use cipher::rows::octets_of;
 use cipher::rows::pair_keys;
 use envelope::Nonce;
 use envelope::SealAnswer;
-use envelope::count;
 use envelope::counter_block;
+use envelope::enciphered_in;
 use envelope::lengths_fit;
 use envelope::nonce_fits;
 use envelope::seal_verdict;
 use refusal::Verdict;
 
-// What pairs of runs leave: the runs made, and the next block that needs one, or the number of blocks.
+// What was done: the octets enciphered, and the runs of the cipher (02, C-17).
+struct Work {
+    count: u64,
+    runs: u64,
+}
+
+// What pairs of runs leave: the octets enciphered, the runs made, and the next block that needs one, or the number of blocks.
 struct Paired {
+    count: u64,
     runs: u64,
     next: usize,
 }
@@ -53,38 +60,43 @@ fn mask_eq(payload: &mut [u8], half: u64, at: usize)
     }
 }
 
-// The one or two EQs that cipher block `i` serves, under that block.
-fn mask_block(payload: &mut [u8], block: Block, i: usize)
+// The one or two EQs that cipher block `i` serves, under that block. Tells the octets that it enciphers.
+fn mask_block(payload: &mut [u8], block: Block, i: usize) -> u64
     requires { ⌜ length (now payload) % 9 ≡ 0 ⌝ }
     requires { ⌜ (18 * i < length (now payload)) × (i < maxBlocks) ⌝ }
-    ensures { λ _. ⌜ Masked block i (now (payload .entry)) (now (payload .exit)) ⌝ }
+    ensures { λ r. ⌜ Masked block i (now (payload .entry)) (now (payload .exit)) r ⌝ }
 {
     let at = 18 * i;
+    let first = enciphered_in(payload[at]);
     mask_eq(payload, block.low, at);
     if at + 9 < payload.len() {
+        let second = enciphered_in(payload[at + 9]);
         mask_eq(payload, block.high, at + 9);
+        return first + second;
     }
+    first
 }
 
-// Block `i` by itself; tells the runs of the cipher that it made (02, C-17).
+// Block `i` by itself; tells the work.
 fn seal_lone<'a>(
     subs: &'a [u8; 256],
     w: &'a [u8; 176],
     nonce: Nonce,
     payload: &mut [u8],
     i: usize,
-) -> u64
+) -> Work
     requires { ⌜ now subs ≡ sboxTable ⌝ }
     requires { ⌜ length (now payload) % 9 ≡ 0 ⌝ }
     requires { ⌜ (18 * i < length (now payload)) × (i < maxBlocks) ⌝ }
-    ensures { λ r. ⌜ (now (payload .exit) ≡ blockSealed (now (w .entry)) nonce (now (payload .entry)) i) × (r ≡ 1) ⌝ }
+    ensures { λ r. ⌜ (now (payload .exit) ≡ blockSealed (now (w .entry)) nonce (now (payload .entry)) i)
+        × (r .count ≡ blockCount (now (payload .entry)) i) × (r .runs ≡ 1) ⌝ }
 {
     let block = encrypt_lone(subs, w, counter_block(nonce, i as u64));
-    mask_block(payload, block, i);
-    1
+    let count = mask_block(payload, block, i);
+    Work { count, runs: 1 }
 }
 
-// The blocks `i` and `j`, which are enciphered together; tells the runs, one for each.
+// The blocks `i` and `j`, which are enciphered together; tells the work, a run for each.
 fn seal_pair<'a>(
     subs: &'a [u8; 256],
     w: &'a [u8; 176],
@@ -93,16 +105,19 @@ fn seal_pair<'a>(
     payload: &mut [u8],
     i: usize,
     j: usize,
-) -> u64
+) -> Work
     requires { ⌜ (now subs ≡ sboxTable) × PairKeys (now w) Nr keys ⌝ }
     requires { ⌜ length (now payload) % 9 ≡ 0 ⌝ }
     requires { ⌜ ((18 * i < length (now payload)) × (i < maxBlocks)) × ((18 * j < length (now payload)) × (j < maxBlocks)) ⌝ }
     ensures { λ r. ⌜ PairSealed (now (w .entry)) kept i j (now (payload .entry)) (now (payload .exit)) r ⌝ }
 {
     let blocks = encrypt_pair(subs, w, keys, kept, i as u64, j as u64);
-    mask_block(payload, blocks.first, i);
-    mask_block(payload, blocks.second, j);
-    2
+    let first = mask_block(payload, blocks.first, i);
+    let second = mask_block(payload, blocks.second, j);
+    Work {
+        count: first + second,
+        runs: 2,
+    }
 }
 
 // Whether block `i` has an octet to encipher: a control octet that is not FF hex.
@@ -151,27 +166,39 @@ fn seal_pairs<'a>(
 {
     let blocks = (payload.len() + 17) / 18;
     if blocks <= j {
-        return Paired { runs: 0, next: i };
+        return Paired {
+            count: 0,
+            runs: 0,
+            next: i,
+        };
     }
     let keys = pair_keys(w);
     let kept = kept_rows(subs, w, nonce);
+    let mut count: u64 = 0;
     let mut runs: u64 = 0;
     let mut first = i;
     let mut second = j;
     while second < blocks {
-        runs += seal_pair(subs, w, keys, kept, payload, first, second);
+        let work = seal_pair(subs, w, keys, kept, payload, first, second);
+        count += work.count;
+        runs += work.runs;
         first = next_run(payload, blocks, second + 1);
         second = next_run(payload, blocks, first + 1);
     }
-    Paired { runs, next: first }
+    Paired {
+        count,
+        runs,
+        next: first,
+    }
 }
 
-// The blocks that need a run, sealed; tells the runs. A last one, with no other beside it, by itself.
-fn seal_blocks<'a>(subs: &'a [u8; 256], w: &'a [u8; 176], nonce: Nonce, payload: &mut [u8]) -> u64
+// The blocks that need a run, sealed; tells the work: the others have no octet to encipher. A last one, with no other beside it, by itself.
+fn seal_blocks<'a>(subs: &'a [u8; 256], w: &'a [u8; 176], nonce: Nonce, payload: &mut [u8]) -> Work
     requires { ⌜ now subs ≡ sboxTable ⌝ }
     requires { ⌜ length (now payload) % 9 ≡ 0 ⌝ }
     requires { ⌜ blocksOf (length (now payload)) ≤ maxBlocks ⌝ }
-    ensures { λ r. ⌜ (now (payload .exit) ≡ sealed (now (w .entry)) nonce (now (payload .entry))) × (r ≡ runs (now (payload .entry))) ⌝ }
+    ensures { λ r. ⌜ (now (payload .exit) ≡ sealed (now (w .entry)) nonce (now (payload .entry)))
+        × (r .count ≡ countEnciphered (now (payload .entry))) × (r .runs ≡ runs (now (payload .entry))) ⌝ }
 {
     let blocks = (payload.len() + 17) / 18;
     let first = next_run(payload, blocks, 0);
@@ -179,9 +206,16 @@ fn seal_blocks<'a>(subs: &'a [u8; 256], w: &'a [u8; 176], nonce: Nonce, payload:
     let paired = seal_pairs(subs, w, nonce, payload, first, second);
     let next = paired.next;
     if next < blocks {
-        return paired.runs + seal_lone(subs, w, nonce, payload, next);
+        let lone = seal_lone(subs, w, nonce, payload, next);
+        return Work {
+            count: paired.count + lone.count,
+            runs: paired.runs + lone.runs,
+        };
     }
-    paired.runs
+    Work {
+        count: paired.count,
+        runs: paired.runs,
+    }
 }
 
 // An accepted payload, sealed or opened in its place where the envelope is enciphered.
@@ -190,9 +224,9 @@ fn carry<'a>(enciphered: bool, w: &'a [u8; 176], nonce: Nonce, payload: &mut [u8
     ensures { λ r. ⌜ withOutput r (now (payload .exit)) ≡ sealing enciphered (now (w .entry)) nonce (now (payload .entry)) (now (payload .entry)) ⌝ }
 {
     if enciphered {
-        let enciphering = count(payload);
         let subs = gf256::sbox_table();
-        return SealAnswer::Done(enciphering, seal_blocks(&subs, w, nonce, payload));
+        let work = seal_blocks(&subs, w, nonce, payload);
+        return SealAnswer::Done(work.count, work.runs);
     }
     SealAnswer::Done(0, 0)
 }

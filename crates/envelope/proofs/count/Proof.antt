@@ -22,29 +22,29 @@ abbrev μ-loop : tie.MeasureT-loop
 
 add-sum : tie.Need-add-sum Inv-loop μ-loop
 add-sum c =
-    let start = c .before .before .before in
+    let here = c .before .before .before in
+    let start = here .before .before in
     omega (
       arith,
       start .good,
-      sum-below 0 (c .before .before .loop .e) 8 (λ i. 8 - ones (controlOctet (start .args .payload .now) i)) (λ k. omega arith),
+      sum-below 0 (here .loop .e) 8 (λ i. 8 - ones (controlOctet (start .args .payload .now) i)) (λ k. omega arith),
     )
 
 loop-again : tie.Need-loop-again Inv-loop μ-loop
 loop-again c = (
   search needs,
   refl,
-  rw (c .before .before .loop .inv .2, add-one, sum-suc, zero-add),
+  rw (c .before .before .before .loop .inv .2, c .enciphered-in .ensures, add-one, sum-suc, zero-add),
 )
 
 returns : tie.Need-returns Inv-loop μ-loop
 unfolding countEnciphered
 returns c =
-    let e : c .before .loop .e ≡ length (c .before .before .args .payload .now) / 9 = omega arith in
+    let e : c .before .loop .e ≡ length (c .before .before .before .args .payload .now) / 9 = omega arith in
     rw e at (c .before .loop .inv .2)
 
 pub count-spec : {M : Type 1} → statement M
 count-spec =
     tie.close
-    (tie.spec Inv-loop μ-loop (λ c. search needs) (λ c. search needs) (λ c. search needs)
-    (λ c. ones-le 8 _ (c .shared-slice-known .given (9 * c .before .before .loop .e) .fits))
-    (λ c. omega arith) add-sum (λ c. search needs) (λ c. search needs) loop-again returns)
+    (tie.spec Inv-loop μ-loop (λ c. search needs) (λ c. search needs) (λ c. search needs) (λ c κs. search needs) add-sum (λ c. search needs)
+    (λ c. search needs) loop-again returns)

@@ -1,16 +1,19 @@
 -- `sealing::counter_mode::mask_block` meets its contract: EQ 2i, and EQ 2i + 1 where there is one, are those of the sealed payload.
 -- The second is masked in a payload whose EQs before it are sealed already, which tells it nothing. Assumes nothing.
-use Prim.Native.Nat.{ℕ, _+_, _*_, min}
+use Prim.Native.Nat.{ℕ, _+_, _-_, _*_, min}
 use Rattle.octets.specs.Lists.{written}
 use Rattle.envelope.specs.CounterBlock.{counterBlock}
 use Rattle.envelope.specs.declared.Nonce.{Nonce}
-use Rattle.sealing.proofs.Payload.{eq-written, sealed-more, low-serves, high-serves}
+use Rattle.sealing.proofs.Payload.{eq-written, replaced-past, sealed-more, low-serves, high-serves}
+use Rattle.sealing.proofs.Runs.{over-one, over-two}
+use Rattle.sealing.specs.Steps.{maskedEq}
 use Rattle.cipher.specs.Cipher.{cipher}
 use Rattle.sealing.specs.Payload.{sealed}
 use Rattle.cipher.specs.RowWords.{blockOctets}
-use lib.ListN.{length}
+use lib.Count.{ones}
+use lib.ListN.{length, getD}
 use mathlib.Core.List.{List}
-use mathlib.Core.Path.{_≡_, refl, _∙_}
+use mathlib.Core.Path.{_≡_, refl, ap, _∙_}
 use native.Mathlib.Omega.{arith}
 use borrow.Author.Needs.{needs}
 use Rattle.sealing.proofs.counter_mode.mask_block.Statement.{statement}
@@ -18,42 +21,63 @@ use Rattle.sealing.proofs.counter_mode.mask_block.Tie as tie
 
 -- the payload as it came, with its octets from b up to e sealed
 abbrev sealedFrom : tie.After-mask-eq → List ℕ → Nonce → ℕ → ℕ → List ℕ
-sealedFrom c w n b e = let p = c .before .before .before .args .payload .now in written (sealed w n p) b e p
+sealedFrom c w n b e = let p = c .before .before .before .before .before .args .payload .now in written (sealed w n p) b e p
 
 -- EQ 2i, as it came back
 first : (c : tie.After-mask-eq) (w : List ℕ) (n : Nonce)
-    → let a = c .before .before .before .args in
+    → let a = c .before .before .before .before .before .args in
     blockOctets (a .block) ≡ cipher w (counterBlock n (a .i)) → (b : ℕ) → b ≡ 18 * a .i → c .mask-eq .last .0 ≡ sealedFrom c w n b (b + 9)
 first c w n enciphered b start =
-    let a = c .before .before .before .args in
+    let a = c .before .before .before .before .before .args in
     rw start
     (c .mask-eq .ensures
     ∙ eq-written w n (a .payload .now) (18 * a .i) (2 * a .i) (omega arith) (low-serves w n (a .block) (a .i) enciphered) (omega arith))
 
 returns : tie.Need-returns
 returns c =
-    let after-first = c .before .before .before .before .before .before .before in
-    let a = after-first .before .before .before .args in
+    let second = c .before .before in
+    let after-first = second .before .before .before .before .before .before .before in
+    let a = after-first .before .before .before .before .before .args in
+    let p = a .payload .now in
     let b = 18 * a .i in
-    let last : min (b + 18) (length (a .payload .now)) ≡ b + 9 + 9 = omega arith in
+    let last : min (b + 18) (length p) ≡ b + 9 + 9 = omega arith in
+    let place : 9 * (2 * a .i) ≡ b = omega arith in
+    let other : 9 * (2 * a .i + 1) ≡ b + 9 = omega arith in
+    let kept : getD (after-first .mask-eq .last .0) (b + 9) 0 ≡ getD p (b + 9) 0 =
+    ap (λ (l : List ℕ). getD l (b + 9) 0) (after-first .mask-eq .ensures) ∙ replaced-past p (maskedEq (a .block .low) p b) b 0 (omega arith) in
     record {
+      counted = rw (
+        over-two p (a .i) (λ o. 8 - ones o) (omega arith),
+        place,
+        other,
+        after-first .before .before .enciphered-in .ensures,
+        second .before .before .enciphered-in2 .ensures,
+        kept,
+      );
+      few = omega (arith, after-first .before .before .enciphered-in .ensures, second .before .before .enciphered-in2 .ensures);
       sealed = λ w n enciphered.
           rw last
-          (c .before .before .mask-eq2 .ensures
+          (second .mask-eq2 .ensures
           ∙ eq-written w n (after-first .mask-eq .last .0) (b + 9) (2 * a .i + 1) (omega arith) (high-serves w n (a .block) (a .i) enciphered) (omega arith)
           ∙ rw (first after-first w n enciphered b refl)
-          (sealed-more w n (a .payload .now) b (b + 9) (b + 9 + 9) (omega arith) (omega arith) (omega arith) (omega arith)));
+          (sealed-more w n p b (b + 9) (b + 9 + 9) (omega arith) (omega arith) (omega arith) (omega arith)));
     }
 
 returns-2 : tie.Need-returns-2
 returns-2 c =
     let after-first = c .before .before .before in
-    let a = after-first .before .before .before .args in
+    let a = after-first .before .before .before .before .before .args in
     let last : min (18 * a .i + 18) (length (a .payload .now)) ≡ 18 * a .i + 9 = omega arith in
-    record { sealed = λ w n enciphered. rw last (first after-first w n enciphered (18 * a .i) refl) }
+    let place : 9 * (2 * a .i) ≡ 18 * a .i = omega arith in
+    record {
+      counted = rw (over-one (a .payload .now) (a .i) (λ o. 8 - ones o) (omega arith), place, after-first .before .before .enciphered-in .ensures);
+      few = omega (arith, after-first .before .before .enciphered-in .ensures);
+      sealed = λ w n enciphered. rw last (first after-first w n enciphered (18 * a .i) refl);
+    }
 
 pub mask-block-spec : {M : Type 1} → statement M
 mask-block-spec =
     tie.close
-    (tie.spec (λ c. search needs) (λ c κs. search needs) (λ c. search needs) (λ c. search needs) (λ c κs. search needs) (λ c. search needs) returns
+    (tie.spec (λ c. search needs) (λ c. search needs) (λ c κs. search needs) (λ c κs. search needs) (λ c. search needs) (λ c. search needs)
+    (λ c. search needs) (λ c κs. search needs) (λ c. search needs) (λ c κs. search needs) (λ c. search needs) (λ c. search needs) returns
     (λ c. search needs) returns-2)

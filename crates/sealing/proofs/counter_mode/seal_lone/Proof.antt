@@ -12,7 +12,7 @@ returns c =
     let counted = enciphered .before in
     let a = counted .before .before .args in
     let own = enciphered .encrypt-lone .ensures .holds (counted .before .before .pre .0) ∙ ap (cipher (a .w .now)) (counted .counter-block .ensures) in
-    (masked .mask-block .ensures .sealed (a .w .now) (a .nonce) own, refl)
+    (masked .mask-block .ensures .sealed (a .w .now) (a .nonce) own, masked .mask-block .ensures .counted, refl)
 
 pub seal-lone-spec : {M : Type 1} → statement M
 seal-lone-spec = tie.close (tie.spec (λ c κs. search needs) (λ c κs. search needs) (λ c κs. search needs) (λ c. search needs) returns)

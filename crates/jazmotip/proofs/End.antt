@@ -3,8 +3,9 @@ use mathlib.Core.Path.{_≡_, refl}
 use mathlib.Core.List.{[], _∷_}
 use Prim.Native.Nat.{ℕ}
 use mir.Syntax.{Sym}
+use denote.Exit.{unchanged, yes}
 use denote.RattleType.{Denots}
-use denote.Struct.Declared.{Declared, fields}
+use denote.Struct.Declared.{Declared, fields, row}
 use denote.Struct.Declared as declared
 use denote.Struct.Field.{rows, u8-field}
 use denote.Struct.Laws.{Laws, Lowered}
@@ -26,6 +27,7 @@ pub record End : Type 2 where
   pub laws : Laws type
   pub lowers : Lowered type
   pub plains : Plains (fields type)
+  pub still : row type .exit yes ≡ unchanged
   pub name : Sym
   pub Answer : Type 0
   pub number : Answer → ℕ
@@ -46,6 +48,7 @@ head = record {
   laws = head-laws.the-laws;
   lowers = head-laws.lowers;
   plains = head-laws.the-plain;
+  still = refl;
   name = head-moved.the-type .name;
   Answer = HeadMoved;
   number = λ r. r .number;
@@ -62,6 +65,7 @@ subscriber = record {
   laws = subscriber-laws.the-laws;
   lowers = subscriber-laws.lowers;
   plains = subscriber-laws.the-plain;
+  still = refl;
   name = subscriber-moved.the-type .name;
   Answer = SubscriberMoved;
   number = λ r. r .number;

@@ -2,4 +2,5 @@ pub mod End
 pub mod Flags
 pub mod HeadInPlace
 pub mod InPlace
+pub mod Lent
 pub mod Rest

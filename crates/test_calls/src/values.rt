@@ -24,57 +24,14 @@ pub(crate) fn roster(count: u8) -> Roster {
 
 // The key of FIPS 197, A.1.
 pub(crate) fn key() -> [u8; 16] {
-    [
-        0x2b,
-        0x7e,
-        0x15,
-        0x16,
-        0x28,
-        0xae,
-        0xd2,
-        0xa6,
-        0xab,
-        0xf7,
-        0x15,
-        0x88,
-        0x09,
-        0xcf,
-        0x4f,
-        0x3c,
-    ]
+    *b"\x2b\x7e\x15\x16\x28\xae\xd2\xa6\xab\xf7\x15\x88\x09\xcf\x4f\x3c"
 }
 
 // Three EQs with control octets 00, 81 and 01.
 pub(crate) fn payload() -> [u8; 27] {
-    [
-        0x00,
-        16,
-        17,
-        18,
-        19,
-        20,
-        21,
-        22,
-        23,
-        0x81,
-        32,
-        33,
-        34,
-        35,
-        36,
-        37,
-        38,
-        39,
-        0x01,
-        48,
-        49,
-        50,
-        51,
-        52,
-        53,
-        54,
-        55,
-    ]
+    *b"\x00\x10\x11\x12\x13\x14\x15\x16\x17\
+       \x81\x20\x21\x22\x23\x24\x25\x26\x27\
+       \x01\x30\x31\x32\x33\x34\x35\x36\x37"
 }
 
 pub(crate) fn lent() -> [u8; 27] {
@@ -91,215 +48,42 @@ pub(crate) fn nonce() -> Nonce {
 
 // Two keys, of which 1 is the one above, the OLT's MAC and LLID 5.
 pub(crate) fn settings() -> [u8; 41] {
-    [
-        3,
-        0,
-        1,
-        2,
-        3,
-        4,
-        5,
-        6,
-        7,
-        8,
-        9,
-        10,
-        11,
-        12,
-        13,
-        14,
-        15,
-        0x2b,
-        0x7e,
-        0x15,
-        0x16,
-        0x28,
-        0xae,
-        0xd2,
-        0xa6,
-        0xab,
-        0xf7,
-        0x15,
-        0x88,
-        0x09,
-        0xcf,
-        0x4f,
-        0x3c,
-        2,
-        0,
-        0,
-        0,
-        0,
-        1,
-        0,
-        5,
-    ]
+    *b"\x03\
+       \x00\x01\x02\x03\x04\x05\x06\x07\x08\x09\x0a\x0b\x0c\x0d\x0e\x0f\
+       \x2b\x7e\x15\x16\x28\xae\xd2\xa6\xab\xf7\x15\x88\x09\xcf\x4f\x3c\
+       \x02\x00\x00\x00\x00\x01\
+       \x00\x05"
 }
 
 // A clear record without EQs and one of `eqs` EQs, sealed under key 1; 18, 16, 34 and 1 are right.
 pub(crate) fn block(first: u8, length: u8, second: u8, eqs: u8) -> [u8; 59] {
-    [
-        0,
-        2,
-        0,
-        0,
-        0,
-        first,
-        0,
-        0,
-        0,
-        length,
-        0,
-        0,
-        0,
-        second,
-        0,
-        0,
-        0,
-        25,
-        0,
-        0,
-        0,
-        5,
-        0,
-        1,
-        0,
-        0,
-        0,
-        0,
-        0,
-        0x41,
-        0,
-        0,
-        0,
-        0,
-        0,
-        0,
-        0,
-        5,
-        3,
-        1,
-        0,
-        0,
-        0,
-        0,
-        0,
-        0x41,
-        0,
-        0,
-        0,
-        eqs,
-        0,
-        0xe2,
-        0xa1,
-        0x3c,
-        0xb2,
-        0x95,
-        0x34,
-        0xd1,
-        0x0e,
-    ]
+    let mut r = *b"\x00\x02\
+       \x00\x00\x00\x00\x00\x00\x00\x00\
+       \x00\x00\x00\x00\x00\x00\x00\x19\
+       \x00\x00\x00\x05\x00\x01\x00\x00\x00\x00\x00\x41\x00\x00\x00\x00\
+       \x00\x00\x00\x05\x03\x01\x00\x00\x00\x00\x00\x41\x00\x00\x00\x00\
+       \x00\xe2\xa1\x3c\xb2\x95\x34\xd1\x0e";
+    r[5] = first;
+    r[9] = length;
+    r[13] = second;
+    r[49] = eqs;
+    r
 }
 
 // The settings of 01's example: no key is present.
 pub(crate) fn example_settings() -> [u8; 41] {
-    [
-        0,
-        0,
-        0,
-        0,
-        0,
-        0,
-        0,
-        0,
-        0,
-        0,
-        0,
-        0,
-        0,
-        0,
-        0,
-        0,
-        0,
-        0,
-        0,
-        0,
-        0,
-        0,
-        0,
-        0,
-        0,
-        0,
-        0,
-        0,
-        0,
-        0,
-        0,
-        0,
-        0,
-        2,
-        0,
-        0,
-        0,
-        0,
-        1,
-        0,
-        5,
-    ]
+    *b"\x00\
+       \x00\x00\x00\x00\x00\x00\x00\x00\x00\x00\x00\x00\x00\x00\x00\x00\
+       \x00\x00\x00\x00\x00\x00\x00\x00\x00\x00\x00\x00\x00\x00\x00\x00\
+       \x02\x00\x00\x00\x00\x01\
+       \x00\x05"
 }
 
 // The block of 01's example.
 pub(crate) fn example() -> [u8; 50] {
-    [
-        0,
-        2,
-        0,
-        0,
-        0,
-        18,
-        0,
-        0,
-        0,
-        16,
-        0,
-        0,
-        0,
-        34,
-        0,
-        0,
-        0,
-        16,
-        0,
-        0,
-        0,
-        5,
-        0,
-        1,
-        0,
-        0,
-        0,
-        0,
-        0,
-        0x41,
-        0,
-        0,
-        0,
-        0,
-        0,
-        0,
-        0,
-        5,
-        1,
-        2,
-        0,
-        0,
-        0,
-        0,
-        0,
-        0x42,
-        0,
-        0,
-        0,
-        0,
-    ]
+    *b"\x00\x02\
+       \x00\x00\x00\x12\x00\x00\x00\x10\
+       \x00\x00\x00\x22\x00\x00\x00\x10\
+       \x00\x00\x00\x05\x00\x01\x00\x00\x00\x00\x00\x41\x00\x00\x00\x00\
+       \x00\x00\x00\x05\x01\x02\x00\x00\x00\x00\x00\x42\x00\x00\x00\x00"
 }

@@ -10,15 +10,26 @@ use clock::Stamps;
 use ends::Identity;
 use ends::UnitKeys;
 use ends::UnitRecord;
-use group_protocol::Answer;
-use group_protocol::GroupRecord;
-use group_protocol::HeadEnd;
-use group_protocol::Members;
+use groups::Answer;
+use groups::GroupRecord;
+use groups::HeadEnd;
+use groups::Members;
+use jazmotip::at_olt::jazmotip_olt_acknowledge;
+use jazmotip::at_olt::jazmotip_olt_advance;
+use jazmotip::at_olt::jazmotip_olt_capture;
+use jazmotip::at_olt::jazmotip_olt_clock_send;
+use jazmotip::at_olt::jazmotip_olt_fresh;
+use jazmotip::at_olt::jazmotip_olt_measure;
+use jazmotip::at_olt::jazmotip_olt_offer;
+use jazmotip::at_olt::jazmotip_olt_receive;
+use jazmotip::at_olt::jazmotip_olt_register;
+use jazmotip::at_olt::jazmotip_olt_register_group;
+use jazmotip::at_olt::jazmotip_olt_retry;
+use jazmotip::at_olt::jazmotip_olt_send;
 use multicast::HeadAnswer;
 use multicast::HeadClockSent;
 use multicast::HeadKeySent;
-use multicast::at_head;
-use multicast::head_traffic;
+use multicast::HeadMoved;
 use protocol::Header;
 use protocol::KeyMessage;
 
@@ -32,23 +43,24 @@ struct OltPassed {
 
 // Clock 0, and a unit with LLIDs 5 and 6 and round trip 250.
 fn one(interval: u64) -> HeadAnswer {
-    let fresh = at_head::fresh(values::OLT_MAC, 0);
-    at_head::register(fresh.head, values::unit(), 250, interval)
+    let fresh = jazmotip_olt_fresh(values::OLT_MAC, 0);
+    jazmotip_olt_register(fresh.head, values::unit(), 250, interval)
+}
+
+// At A and O. Key A has the first octet 17, that of the other slot is `other`.
+fn keys_at(keys: UnitKeys, active: u32, offered: u32, other: u64) -> UnitKeys {
+    let slots = values::slots(active, other);
+    let mut r = keys;
+    r.active = active;
+    r.offered = offered;
+    r.slots = slots;
+    r
 }
 
 // At C, A and O, its clock sent and acknowledged.
 fn numbered(unit: UnitRecord, confirmed: u32, active: u32, offered: u32, other: u64) -> UnitRecord {
-    let slots = values::slots(active, other);
+    let keys = keys_at(unit.keys, active, offered, other);
     let mut u = unit;
-    let timer = u.keys.timer;
-    let first = u.keys.first;
-    let keys = UnitKeys {
-        timer,
-        active,
-        offered,
-        slots,
-        first,
-    };
     u.keys = keys;
     u.confirmation.confirmed = confirmed;
     u.clock.sent = 1;
@@ -87,20 +99,11 @@ fn keyed(n: Numbers) -> HeadAnswer {
     HeadAnswer { number: 0, head }
 }
 
-// Key A of a group has the first octet 17, that of the other slot is `other`.
+// The first group at A and O.
 fn with_group_keys(h: HeadEnd, active: u32, offered: u32, other: u64) -> HeadEnd {
-    let slots = values::slots(active, other);
     let mut groups = h.groups;
     let mut g = groups.table[0];
-    let timer = g.keys.timer;
-    let first = g.keys.first;
-    let keys = UnitKeys {
-        timer,
-        active,
-        offered,
-        slots,
-        first,
-    };
+    let keys = keys_at(g.keys, active, offered, other);
     g.keys = keys;
     groups.table[0] = g;
     let mut r = h;
@@ -123,10 +126,10 @@ fn viewers(n: Numbers) -> HeadAnswer {
         llids: [7, 0, 0, 0],
         count: 1,
     };
-    let two = at_head::register(start.head, identity, 0, 1000);
+    let two = jazmotip_olt_register(start.head, identity, 0, 1000);
     let u = numbered(unit_at(two.head, 1), 0, 0, 0, 0);
     let roster = values::roster(2, 6, 7, 0);
-    let grouped = at_head::register_group(with_unit(two.head, 1, u), 9, 1000, roster);
+    let grouped = jazmotip_olt_register_group(with_unit(two.head, 1, u), 9, 1000, roster);
     let head = with_group_keys(grouped.head, script::u32_of(n.a), script::u32_of(n.b), n.c);
     HeadAnswer {
         number: grouped.number,
@@ -141,12 +144,12 @@ fn with_four(h: HeadEnd, n: u16) -> HeadAnswer {
         llids: [llid, llid + 1, llid + 2, llid + 3],
         count: 4,
     };
-    at_head::register(h, identity, 0, 100)
+    jazmotip_olt_register(h, identity, 0, 100)
 }
 
 // Sixteen units of four LLIDs, 0 to 63, with interval 100.
 fn full() -> HeadAnswer {
-    let mut answer = at_head::fresh(values::OLT_MAC, 0);
+    let mut answer = jazmotip_olt_fresh(values::OLT_MAC, 0);
     let mut n: u16 = 0;
     while n < 16 {
         let more = with_four(answer.head, n);
@@ -259,25 +262,53 @@ fn with_field(h: HeadEnd, aim: Aim, k: usize, n: Numbers) -> HeadAnswer {
 // LLID, interval, how many members, and the LLIDs that name them.
 fn register_group(h: HeadEnd, n: Numbers) -> HeadAnswer {
     let roster = values::roster(n.c, n.d, n.e, n.f);
-    at_head::register_group(h, script::u16_of(n.a), n.b, roster)
+    jazmotip_olt_register_group(h, script::u16_of(n.a), n.b, roster)
 }
 
-fn answer(h: HeadEnd, aim: Aim, k: usize, n: Numbers, under_way: Answer) -> HeadAnswer {
-    let llid = script::u16_of(n.a);
+// Lends its own copy, which the call changes in place.
+pub(crate) fn advanced(olt: HeadEnd, n: u64) -> HeadMoved {
+    let mut next = olt;
+    let number = jazmotip_olt_advance(&mut next, n);
+    HeadMoved { head: next, number }
+}
+
+fn advance(h: HeadEnd, n: u64) -> HeadAnswer {
+    let moved = advanced(h, n);
+    let head = moved.head;
+    HeadAnswer {
+        number: moved.number,
+        head,
+    }
+}
+
+fn start(h: HeadEnd, k: usize, n: Numbers) -> HeadAnswer {
     match k {
-        3 => at_head::fresh(n.a, n.b),
-        4 => at_head::register(h, values::identity(n), n.e, n.f),
-        5 => at_head::advance(h, n.a),
-        6 => at_head::capture(h, llid),
-        7 => at_head::acknowledge(h, llid, values::acknowledgement(n)),
-        8 => at_head::acknowledge(h, llid, under_way),
         9 => one(n.a),
         10 => keyed(n),
         11 => full(),
         12 => timer_flag(h),
+        _ => viewers(n),
+    }
+}
+
+fn call(h: HeadEnd, k: usize, n: Numbers, under_way: Answer) -> HeadAnswer {
+    let llid = script::u16_of(n.a);
+    match k {
+        3 => jazmotip_olt_fresh(n.a, n.b),
+        4 => jazmotip_olt_register(h, values::identity(n), n.e, n.f),
+        5 => advance(h, n.a),
+        6 => jazmotip_olt_capture(h, llid),
+        7 => jazmotip_olt_acknowledge(h, llid, values::acknowledgement(n)),
+        8 => jazmotip_olt_acknowledge(h, llid, under_way),
         34 => register_group(h, n),
-        35 => viewers(n),
-        48 => at_head::measure(h, llid, n.b),
+        _ => jazmotip_olt_measure(h, llid, n.b),
+    }
+}
+
+fn answer(h: HeadEnd, aim: Aim, k: usize, n: Numbers, under_way: Answer) -> HeadAnswer {
+    match k {
+        3..=8 | 34 | 48 => call(h, k, n, under_way),
+        9..=12 | 35 => start(h, k, n),
         _ => with_field(h, aim, k, n),
     }
 }
@@ -285,7 +316,7 @@ fn answer(h: HeadEnd, aim: Aim, k: usize, n: Numbers, under_way: Answer) -> Head
 fn clock_sent(a: HeadAnswer, k: usize, llid: u16, message: Stamps) -> HeadClockSent {
     let head = a.head;
     if k == 13 {
-        return at_head::clock_send(head, llid);
+        return jazmotip_olt_clock_send(head, llid);
     }
     HeadClockSent {
         number: a.number,
@@ -298,8 +329,11 @@ fn key_sent(a: HeadClockSent, k: usize, n: Numbers, message: KeyMessage) -> Head
     let head = a.head;
     let llid = script::u16_of(n.a);
     match k {
-        14 => at_head::offer(head, llid, values::key(n.b)),
-        15 => at_head::retry(head, llid),
+        14 => {
+            let key = values::key(n.b);
+            jazmotip_olt_offer(head, llid, &key)
+        }
+        15 => jazmotip_olt_retry(head, llid),
         _ => HeadKeySent {
             number: a.number,
             head,
@@ -313,7 +347,7 @@ fn sent(h: HeadEnd, n: Numbers, payload: [u8; 36], length: usize, room: usize) -
     let mut octets = play::lent();
     let used = length % 37;
     let free = room % 37;
-    let answer = head_traffic::send(
+    let answer = jazmotip_olt_send(
         h,
         script::u16_of(n.a),
         script::u8_of(n.b),
@@ -341,7 +375,7 @@ fn received(
     let mut octets = play::lent();
     let used = length % 37;
     let free = room % 37;
-    let answer = head_traffic::receive(h, header, &payload[..used], &mut octets[..free]);
+    let answer = jazmotip_olt_receive(h, header, &payload[..used], &mut octets[..free]);
     let head = answer.head;
     let envelope = Envelope { header, octets };
     OltPassed {

@@ -9,13 +9,20 @@ use crate::values;
 use clock::Stamps;
 use ends::Onu;
 use ends::OnuKeys;
-use group_protocol::Answer;
-use group_protocol::Joined;
-use group_protocol::Subscriber;
+use groups::Answer;
+use groups::Joined;
+use groups::Subscriber;
+use jazmotip::at_onu::jazmotip_onu_advance;
+use jazmotip::at_onu::jazmotip_onu_clock_message;
+use jazmotip::at_onu::jazmotip_onu_fresh;
+use jazmotip::at_onu::jazmotip_onu_join;
+use jazmotip::at_onu::jazmotip_onu_key_message;
+use jazmotip::at_onu::jazmotip_onu_new_time;
+use jazmotip::at_onu::jazmotip_onu_receive;
+use jazmotip::at_onu::jazmotip_onu_send;
 use multicast::SubscriberAcknowledged;
 use multicast::SubscriberAnswer;
-use multicast::at_subscriber;
-use multicast::subscriber_traffic;
+use multicast::SubscriberMoved;
 use protocol::Header;
 use protocol::KeyMessage;
 
@@ -35,7 +42,7 @@ fn keyed(active: u32, held: u8, other: u64) -> SubscriberAnswer {
         held,
         slots,
     };
-    let fresh = at_subscriber::fresh(values::unit(), values::OLT_MAC, 65);
+    let fresh = jazmotip_onu_fresh(values::unit(), values::OLT_MAC, 65);
     let mut onu = fresh.subscriber.onu;
     onu.tick = 100;
     onu.clock.synced = 1;
@@ -112,13 +119,32 @@ fn with_field(s: Subscriber, place: usize, k: usize, n: Numbers) -> SubscriberAn
     }
 }
 
+// Lends its own copy, which the call changes in place.
+pub(crate) fn advanced(onu: Subscriber, n: u64) -> SubscriberMoved {
+    let mut next = onu;
+    let number = jazmotip_onu_advance(&mut next, n);
+    SubscriberMoved {
+        subscriber: next,
+        number,
+    }
+}
+
+fn advance(s: Subscriber, n: u64) -> SubscriberAnswer {
+    let moved = advanced(s, n);
+    let subscriber = moved.subscriber;
+    SubscriberAnswer {
+        number: moved.number,
+        subscriber,
+    }
+}
+
 fn answer(s: Subscriber, place: usize, k: usize, n: Numbers) -> SubscriberAnswer {
     match k {
-        3 => at_subscriber::fresh(values::identity(n), n.e, n.f),
-        4 => at_subscriber::advance(s, n.a),
+        3 => jazmotip_onu_fresh(values::identity(n), n.e, n.f),
+        4 => advance(s, n.a),
         5 => keyed(script::u32_of(n.a), script::u8_of(n.b), n.c),
-        20 => at_subscriber::join(s, script::u16_of(n.a)),
-        29 => at_subscriber::new_time(s, n.a),
+        20 => jazmotip_onu_join(s, script::u16_of(n.a)),
+        29 => jazmotip_onu_new_time(s, n.a),
         _ => with_field(s, place, k, n),
     }
 }
@@ -134,10 +160,10 @@ fn acknowledged(
 ) -> SubscriberAcknowledged {
     let subscriber = a.subscriber;
     match k {
-        6 => at_subscriber::clock_message(subscriber, Stamps { rx: n.a, tx: n.b }),
-        7 => at_subscriber::clock_message(subscriber, stamps),
-        8 => at_subscriber::key_message(subscriber, values::key_message(n)),
-        9 => at_subscriber::key_message(subscriber, message),
+        6 => jazmotip_onu_clock_message(subscriber, Stamps { rx: n.a, tx: n.b }),
+        7 => jazmotip_onu_clock_message(subscriber, stamps),
+        8 => jazmotip_onu_key_message(subscriber, values::key_message(n)),
+        9 => jazmotip_onu_key_message(subscriber, message),
         _ => SubscriberAcknowledged {
             number: a.number,
             subscriber,
@@ -151,7 +177,7 @@ fn sent(s: Subscriber, n: Numbers, payload: [u8; 36], length: usize, room: usize
     let mut octets = play::lent();
     let used = length % 37;
     let free = room % 37;
-    let answer = subscriber_traffic::send(
+    let answer = jazmotip_onu_send(
         s,
         script::u16_of(n.a),
         script::u8_of(n.b),
@@ -179,7 +205,7 @@ fn received(
     let mut octets = play::lent();
     let used = length % 37;
     let free = room % 37;
-    let answer = subscriber_traffic::receive(s, header, &payload[..used], &mut octets[..free]);
+    let answer = jazmotip_onu_receive(s, header, &payload[..used], &mut octets[..free]);
     let subscriber = answer.subscriber;
     let envelope = Envelope { header, octets };
     OnuPassed {

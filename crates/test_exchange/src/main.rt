@@ -1,7 +1,7 @@
-// Plays the script on standard input: exchanges between an OLT and two units, of clocks and keys and of envelopes, their own and of groups,
-// with losses, retries, switches and new paths; every refusal of the calls of both ends; and what the readings of 01 and of 02, C-14 and
-// C-16, tell apart. A line is a remark (#), a title, or a row: its label (D122), what is played, and after the colon what is shown of it. What it
-// must print is made by tools/test_exchange.py.
+// Plays the script on standard input, through the calls that firmware links: exchanges between an OLT and two units, of clocks and keys and of
+// envelopes, their own and of groups, with losses, retries, switches and new paths; every refusal of the calls of both ends; and what the
+// readings of 01 and of 02, C-14 and C-16, tell apart. A line is a remark (#), a title, or a row: its label (D122), what is played, and after the
+// colon what is shown of it. What it must print is made by tools/test_exchange.py.
 mod at_olt;
 mod at_onu;
 mod named;

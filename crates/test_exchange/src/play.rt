@@ -1,14 +1,16 @@
 // What the script plays on: an OLT and two units, what is under way, and what the last call gave.
 ghost use lib.ListN.{length};
 ghost use mathlib.Core.Path.{_≡_};
+use crate::at_olt;
+use crate::at_onu;
 use crate::script::Numbers;
 use crate::values;
 use clock::Stamps;
-use group_protocol::Answer;
-use group_protocol::HeadEnd;
-use group_protocol::Subscriber;
-use multicast::at_head;
-use multicast::at_subscriber;
+use groups::Answer;
+use groups::HeadEnd;
+use groups::Subscriber;
+use jazmotip::at_olt::jazmotip_olt_fresh;
+use jazmotip::at_onu::jazmotip_onu_fresh;
 use protocol::Header;
 use protocol::KeyMessage;
 
@@ -61,8 +63,8 @@ fn usual(side: u8) -> Aim {
 
 pub(crate) fn start() -> Play {
     let aim = usual(0);
-    let down = at_head::fresh(values::OLT_MAC, 0);
-    let up = at_subscriber::fresh(values::unit(), values::OLT_MAC, 0);
+    let down = jazmotip_olt_fresh(values::OLT_MAC, 0);
+    let up = jazmotip_onu_fresh(values::unit(), values::OLT_MAC, 0);
     let head = down.head;
     let unit = up.subscriber;
     let key = values::key(0);
@@ -131,9 +133,9 @@ fn aimed(aim: Aim, k: usize, n: Numbers) -> Aim {
 
 // An advance of all ends.
 fn advance(p: Play, n: u64) -> Play {
-    let down = at_head::advance(p.head, n);
-    let first = at_subscriber::advance(p.one, n);
-    let second = at_subscriber::advance(p.two, n);
+    let down = at_olt::advanced(p.head, n);
+    let first = at_onu::advanced(p.one, n);
+    let second = at_onu::advanced(p.two, n);
     let head = down.head;
     let one = first.subscriber;
     let two = second.subscriber;

@@ -114,45 +114,12 @@ pub(crate) fn header(n: Numbers) -> Header {
 
 // Four EQs, the first three with those control octets.
 pub(crate) fn payload(a: u64, b: u64, c: u64) -> [u8; 36] {
-    let one = script::u8_of(a);
-    let two = script::u8_of(b);
-    let three = script::u8_of(c);
-    [
-        one,
-        16,
-        17,
-        18,
-        19,
-        20,
-        21,
-        22,
-        23,
-        two,
-        32,
-        33,
-        34,
-        35,
-        36,
-        37,
-        38,
-        39,
-        three,
-        48,
-        49,
-        50,
-        51,
-        52,
-        53,
-        54,
-        55,
-        0,
-        64,
-        65,
-        66,
-        67,
-        68,
-        69,
-        70,
-        71,
-    ]
+    let mut eqs = *b"\x00\x10\x11\x12\x13\x14\x15\x16\x17\
+       \x00\x20\x21\x22\x23\x24\x25\x26\x27\
+       \x00\x30\x31\x32\x33\x34\x35\x36\x37\
+       \x00\x40\x41\x42\x43\x44\x45\x46\x47";
+    eqs[0] = script::u8_of(a);
+    eqs[9] = script::u8_of(b);
+    eqs[18] = script::u8_of(c);
+    eqs
 }

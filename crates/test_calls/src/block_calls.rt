@@ -8,32 +8,23 @@ use jazmotip::blocks::jazmotip_capture_open;
 use jazmotip::blocks::jazmotip_capture_payload;
 use jazmotip::blocks::jazmotip_capture_verdict;
 use jazmotip::blocks::jazmotip_capture_verdicts;
-use libc::STDOUT_FILENO;
 
 fn directory(block: &[u8]) {
-    let answer = jazmotip_capture_directory(block);
-    show::begin(b"capture_directory", answer.number);
-    show::decimal(answer.pair as u64);
-    show::decimal(answer.records as u64);
+    show::directory(b"capture_directory", jazmotip_capture_directory(block));
     show::end();
 }
 
 fn show_verdict(settings: &[u8], block: &[u8], k: usize) {
-    let answer = jazmotip_capture_verdict(settings, block, k);
-    show::begin(b"capture_verdict", answer.number);
-    show::decimal(answer.pair as u64);
-    show::octet(answer.encenabled);
-    show::octet(answer.enckey);
-    show::hex(answer.clock, 12);
-    show::end();
+    show::verdict(
+        b"capture_verdict",
+        jazmotip_capture_verdict(settings, block, k),
+    );
 }
 
 // The first four octets of what the output holds then.
 fn verdicts(settings: &[u8], block: &[u8], output: &mut [u8]) {
     let answer = jazmotip_capture_verdicts(settings, block, output);
-    show::begin(b"capture_verdicts", answer.number);
-    show::decimal(answer.pair as u64);
-    show::decimal(answer.records as u64);
+    show::directory(b"capture_verdicts", answer);
     show::octets(octets::part_of(output, 0, 4));
 }
 
@@ -49,8 +40,7 @@ fn too_few_verdicts(settings: &[u8], block: &[u8]) {
 
 fn payload(block: &[u8], k: usize) {
     let answer = jazmotip_capture_payload(block, k);
-    show::begin(b"capture_payload", answer.number);
-    show::decimal(answer.pair as u64);
+    show::at_pair(b"capture_payload", answer.number, answer.pair);
     show::decimal(answer.offset as u64);
     show::decimal(answer.length as u64);
     show::end();
@@ -59,18 +49,14 @@ fn payload(block: &[u8], k: usize) {
 fn open(settings: &[u8], block: &[u8]) {
     let mut output = [0xaau8; 59];
     let answer = jazmotip_capture_open(settings, block, &mut output);
-    show::begin(b"capture_open", answer.number);
-    show::decimal(answer.pair as u64);
+    show::at_pair(b"capture_open", answer.number, answer.pair);
     show::passed(answer.count, &output);
 }
 
 fn list(settings: &[u8], block: &[u8]) {
     let mut text = [0u8; LISTING_OCTETS];
     let n = jazmotip_capture_list(settings, block, &mut text);
-    show::name(b"capture_list");
-    show::decimal(n as u64);
-    show::end();
-    io::write_all(STDOUT_FILENO, &text[..n]);
+    show::listing(b"capture_list", &text[..n]);
 }
 
 fn directory_of(first: u8, length: u8, second: u8, eqs: u8) {

@@ -2,12 +2,12 @@
 use crate::show;
 use crate::values;
 use class::listing::LISTING_OCTETS;
+use jazmotip::blocks::BlockAnswer;
 use jazmotip::class_blocks::jazmotip_class_list;
 use jazmotip::class_blocks::jazmotip_class_list_near;
 use jazmotip::class_blocks::jazmotip_class_load;
 use jazmotip::class_blocks::jazmotip_class_open;
 use jazmotip::class_blocks::jazmotip_class_open_near;
-use libc::STDOUT_FILENO;
 use rights::settings::Caller;
 
 // A class of one set and two users.
@@ -19,14 +19,17 @@ fn asks(user: u8) -> Caller {
     }
 }
 
+fn opened(call: &[u8], answer: BlockAnswer) {
+    show::at_pair(call, answer.number, answer.pair);
+    show::octet(answer.expansions);
+    show::decimal(answer.runs);
+}
+
 fn open(user: u8, rights: &[u8], block: &[u8]) {
     let mut output = [0xaau8; 59];
     let sets = values::settings();
     let answer = jazmotip_class_open(asks(user), &sets, rights, block, &mut output);
-    show::begin(b"class_open", answer.number);
-    show::decimal(answer.pair as u64);
-    show::octet(answer.expansions);
-    show::decimal(answer.runs);
+    opened(b"class_open", answer);
     show::passed(answer.count, &output);
 }
 
@@ -34,12 +37,8 @@ fn open_near(user: u8, rights: &[u8], block: &[u8]) {
     let mut output = [0xaau8; 59];
     let sets = values::settings();
     let near = jazmotip_class_open_near(asks(user), &sets, rights, block, &mut output);
-    show::begin(b"class_open_near", near.answer.number);
-    show::decimal(near.answer.pair as u64);
-    show::octet(near.answer.expansions);
-    show::decimal(near.answer.runs);
-    show::signed(near.smallest);
-    show::signed(near.largest);
+    opened(b"class_open_near", near.answer);
+    show::between(near.smallest, near.largest);
     show::passed(near.answer.count, &output);
 }
 
@@ -47,20 +46,14 @@ fn list(user: u8, rights: &[u8], block: &[u8]) {
     let mut text = [0u8; LISTING_OCTETS];
     let sets = values::settings();
     let n = jazmotip_class_list(asks(user), &sets, rights, block, &mut text);
-    show::name(b"class_list");
-    show::decimal(n as u64);
-    show::end();
-    io::write_all(STDOUT_FILENO, &text[..n]);
+    show::listing(b"class_list", &text[..n]);
 }
 
 fn list_near(user: u8, rights: &[u8], block: &[u8]) {
     let mut text = [0u8; LISTING_OCTETS];
     let sets = values::settings();
     let n = jazmotip_class_list_near(asks(user), &sets, rights, block, &mut text);
-    show::name(b"class_list_near");
-    show::decimal(n as u64);
-    show::end();
-    io::write_all(STDOUT_FILENO, &text[..n]);
+    show::listing(b"class_list_near", &text[..n]);
 }
 
 fn calls(user: u8, rights: &[u8], block: &[u8]) {

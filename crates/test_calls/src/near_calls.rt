@@ -6,47 +6,35 @@ use jazmotip::near_blocks::jazmotip_capture_list_near;
 use jazmotip::near_blocks::jazmotip_capture_open_near;
 use jazmotip::near_blocks::jazmotip_capture_verdict_near;
 use jazmotip::near_blocks::jazmotip_capture_verdicts_near;
-use libc::STDOUT_FILENO;
 
 fn show_verdict(settings: &[u8], block: &[u8], k: usize) {
-    let answer = jazmotip_capture_verdict_near(settings, block, k);
-    show::begin(b"capture_verdict_near", answer.number);
-    show::decimal(answer.pair as u64);
-    show::octet(answer.encenabled);
-    show::octet(answer.enckey);
-    show::hex(answer.clock, 12);
-    show::end();
+    show::verdict(
+        b"capture_verdict_near",
+        jazmotip_capture_verdict_near(settings, block, k),
+    );
 }
 
 // The first four octets of what the output holds then.
 fn verdicts(settings: &[u8], block: &[u8]) {
     let mut output = [0xaau8; 256];
     let near = jazmotip_capture_verdicts_near(settings, block, &mut output);
-    show::begin(b"capture_verdicts_near", near.directory.number);
-    show::decimal(near.directory.pair as u64);
-    show::decimal(near.directory.records as u64);
-    show::signed(near.smallest);
-    show::signed(near.largest);
+    show::directory(b"capture_verdicts_near", near.directory);
+    show::between(near.smallest, near.largest);
     show::octets(octets::part_of(&output, 0, 4));
 }
 
 fn open(settings: &[u8], block: &[u8]) {
     let mut output = [0xaau8; 59];
     let near = jazmotip_capture_open_near(settings, block, &mut output);
-    show::begin(b"capture_open_near", near.answer.number);
-    show::decimal(near.answer.pair as u64);
-    show::signed(near.smallest);
-    show::signed(near.largest);
+    show::at_pair(b"capture_open_near", near.answer.number, near.answer.pair);
+    show::between(near.smallest, near.largest);
     show::passed(near.answer.count, &output);
 }
 
 fn list(settings: &[u8], block: &[u8]) {
     let mut text = [0u8; LISTING_OCTETS];
     let n = jazmotip_capture_list_near(settings, block, &mut text);
-    show::name(b"capture_list_near");
-    show::decimal(n as u64);
-    show::end();
-    io::write_all(STDOUT_FILENO, &text[..n]);
+    show::listing(b"capture_list_near", &text[..n]);
 }
 
 fn calls(settings: &[u8], block: &[u8]) {

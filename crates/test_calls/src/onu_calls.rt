@@ -17,6 +17,11 @@ use multicast::SubscriberSent;
 use protocol::Header;
 use protocol::KeyMessage;
 
+// Its Rx and Tx.
+fn stamps(onu: Subscriber) {
+    show::stamps(onu.onu.clock.rx, onu.onu.clock.time);
+}
+
 pub(crate) fn fresh(mac: u64, time: u64) -> Subscriber {
     let answer = jazmotip_onu_fresh(values::unit(), mac, time);
     show::row(b"onu_fresh", answer.number);
@@ -43,10 +48,7 @@ pub(crate) fn advance(onu: Subscriber, n: u64) -> Subscriber {
     let answer = advanced(onu, n);
     show::begin(b"onu_advance", answer.number);
     show::decimal(answer.subscriber.onu.tick);
-    show::stamps(
-        answer.subscriber.onu.clock.rx,
-        answer.subscriber.onu.clock.time,
-    );
+    stamps(answer.subscriber);
     show::end();
     answer.subscriber
 }
@@ -54,10 +56,7 @@ pub(crate) fn advance(onu: Subscriber, n: u64) -> Subscriber {
 pub(crate) fn new_time(onu: Subscriber, time: u64) -> Subscriber {
     let answer = jazmotip_onu_new_time(onu, time);
     show::begin(b"onu_new_time", answer.number);
-    show::stamps(
-        answer.subscriber.onu.clock.rx,
-        answer.subscriber.onu.clock.time,
-    );
+    stamps(answer.subscriber);
     show::end();
     answer.subscriber
 }
@@ -65,10 +64,7 @@ pub(crate) fn new_time(onu: Subscriber, time: u64) -> Subscriber {
 pub(crate) fn clock_message(onu: Subscriber, message: Stamps) -> SubscriberAcknowledged {
     let answer = jazmotip_onu_clock_message(onu, message);
     show::begin(b"onu_clock_message", answer.number);
-    show::stamps(
-        answer.subscriber.onu.clock.rx,
-        answer.subscriber.onu.clock.time,
-    );
+    stamps(answer.subscriber);
     show::acknowledgement(answer.answer);
     answer
 }

@@ -1,5 +1,7 @@
 // A line: the call, its code, and what it handed over.
 use group_protocol::Answer;
+use jazmotip::blocks::BlockDirectory;
+use jazmotip::blocks::BlockVerdict;
 use libc::STDOUT_FILENO;
 use protocol::Header;
 use protocol::KeyMessage;
@@ -36,13 +38,19 @@ pub(crate) fn octet(value: u8) {
 }
 
 // An octet of a signed number.
-pub(crate) fn signed(value: u8) {
+fn signed(value: u8) {
     if value < 128 {
         octet(value);
     } else {
         io::write_all(STDOUT_FILENO, b" -");
         io::print_decimal(STDOUT_FILENO, (255 - value) as u64 + 1);
     }
+}
+
+// Of a call in the near way: the smallest and the largest difference.
+pub(crate) fn between(smallest: u8, largest: u8) {
+    signed(smallest);
+    signed(largest);
 }
 
 pub(crate) fn begin(call: &[u8], number: u8) {
@@ -79,6 +87,33 @@ pub(crate) fn header(h: Header) {
 pub(crate) fn passed(count: u64, s: &[u8]) {
     decimal(count);
     octets(s);
+}
+
+// The pair of a call on a block stands after its code.
+pub(crate) fn at_pair(call: &[u8], number: u8, pair: u16) {
+    begin(call, number);
+    decimal(pair as u64);
+}
+
+pub(crate) fn directory(call: &[u8], answer: BlockDirectory) {
+    at_pair(call, answer.number, answer.pair);
+    decimal(answer.records as u64);
+}
+
+pub(crate) fn verdict(call: &[u8], answer: BlockVerdict) {
+    at_pair(call, answer.number, answer.pair);
+    octet(answer.encenabled);
+    octet(answer.enckey);
+    hex(answer.clock, 12);
+    end();
+}
+
+// How long a listing is, and the listing on lines of its own.
+pub(crate) fn listing(call: &[u8], text: &[u8]) {
+    name(call);
+    decimal(text.len() as u64);
+    end();
+    io::write_all(STDOUT_FILENO, text);
 }
 
 pub(crate) fn stamps(rx: u64, tx: u64) {

@@ -1,19 +1,19 @@
 // Words at the OLT: the ends that rows start from, fields, and calls.
-use crate::play;
 use crate::play::Aim;
 use crate::play::Envelope;
 use crate::play::Play;
-use crate::script;
+use crate::play;
 use crate::script::Numbers;
+use crate::script;
 use crate::values;
 use clock::Stamps;
 use ends::Identity;
 use ends::UnitKeys;
 use ends::UnitRecord;
-use groups::Answer;
-use groups::GroupRecord;
-use groups::HeadEnd;
-use groups::Members;
+use group_protocol::Answer;
+use group_protocol::GroupRecord;
+use group_protocol::HeadEnd;
+use group_protocol::Members;
 use jazmotip::at_olt::jazmotip_olt_acknowledge;
 use jazmotip::at_olt::jazmotip_olt_advance;
 use jazmotip::at_olt::jazmotip_olt_capture;

@@ -1,17 +1,17 @@
 // Words at a unit: the ends that rows start from, fields, and calls.
-use crate::play;
 use crate::play::Aim;
 use crate::play::Envelope;
 use crate::play::Play;
-use crate::script;
+use crate::play;
 use crate::script::Numbers;
+use crate::script;
 use crate::values;
 use clock::Stamps;
 use ends::Onu;
 use ends::OnuKeys;
-use groups::Answer;
-use groups::Joined;
-use groups::Subscriber;
+use group_protocol::Answer;
+use group_protocol::Joined;
+use group_protocol::Subscriber;
 use jazmotip::at_onu::jazmotip_onu_advance;
 use jazmotip::at_onu::jazmotip_onu_clock_message;
 use jazmotip::at_onu::jazmotip_onu_fresh;

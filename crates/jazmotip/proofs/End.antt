@@ -10,16 +10,16 @@ use denote.Struct.Declared as declared
 use denote.Struct.Field.{rows, u8-field}
 use denote.Struct.Laws.{Laws, Lowered}
 use denote.Struct.Struct.{Plains}
-use Rattle.multicast.specs.HeadCalls.{headMovedOf}
-use Rattle.multicast.specs.SubscriberCalls.{subscriberMovedOf}
-use Rattle.multicast.specs.declared.HeadMoved.{HeadMoved}
-use Rattle.multicast.specs.declared.SubscriberMoved.{SubscriberMoved}
+use Rattle.headend.specs.HeadCalls.{headMovedOf}
+use Rattle.subscriber.specs.SubscriberCalls.{subscriberMovedOf}
+use Rattle.headend.specs.declared.HeadMoved.{HeadMoved}
+use Rattle.subscriber.specs.declared.SubscriberMoved.{SubscriberMoved}
 use Rattle.group_protocol.proofs.HeadEnd as head-end
 use Rattle.group_protocol.proofs.HeadEnd.Laws as head-laws
-use Rattle.multicast.proofs.HeadMoved as head-moved
+use Rattle.headend.proofs.HeadMoved as head-moved
 use Rattle.group_protocol.proofs.Subscriber as subscriber-end
 use Rattle.group_protocol.proofs.Subscriber.Laws as subscriber-laws
-use Rattle.multicast.proofs.SubscriberMoved as subscriber-moved
+use Rattle.subscriber.proofs.SubscriberMoved as subscriber-moved
 
 -- an end's struct, the struct of end and code that the advance by value answers with, and the definition that it equals
 pub record End : Type 2 where

@@ -41,7 +41,7 @@ use denote.Triple.Spec.{Meets, tripleOf}
 use denote.Triple.Walked.{AllGo, Stays, Walks, ends-at, goes-none, goes-ref, says, stay-none, stay-ref, walk-meets, walkOf, walked}
 use denote.Triple.Clauses.{Clauses, Ended, closing, ensured, lasts}
 use denote.Exit.{yes}
-use Rattle.multicast.specs.HeadCalls.{headAdvanceOf}
+use Rattle.headend.specs.HeadCalls.{headAdvanceOf}
 use Rattle.group_protocol.specs.declared.Groups.{Groups}
 use Rattle.group_protocol.specs.declared.HeadEnd.{HeadEnd}
 use Rattle.ends.proofs.Olt as olt-part

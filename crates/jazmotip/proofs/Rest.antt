@@ -8,9 +8,9 @@ use Rattle.refusal.specs.declared.Verdict.{Verdict}
 use Rattle.refusal.specs.declared.Verdict.the-variants.{Accepted, Refused}
 use Rattle.protocol.specs.Replies.{reply, silent}
 use Rattle.group_protocol.specs.declared.HeadEnd.{HeadEnd}
-use Rattle.multicast.specs.HeadCalls.{headAdvanced, headAdvanceOf, headAnswer}
-use Rattle.multicast.proofs.Advancing.{headOrder}
-use Rattle.multicast.proofs.NoGroups.{groups-rest}
+use Rattle.headend.specs.HeadCalls.{headAdvanced, headAdvanceOf, headAnswer}
+use Rattle.headend.proofs.Advancing.{headOrder}
+use Rattle.headend.proofs.NoGroups.{groups-rest}
 
 pub rest : (h : HeadEnd) (n : ℕ) → (eqb (headAdvanceOf h n .number) 0 && not (eqb (h .groups .count) 0)) ≡ false
     → headAdvanceOf h n .head .groups ≡ h .groups

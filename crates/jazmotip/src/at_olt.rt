@@ -2,21 +2,21 @@
 ghost use mathlib.Core.Path.{_≡_};
 ghost use mathlib.Core.Bool.{false};
 ghost use Rattle.octets.specs.Output.{withOutput};
-ghost use Rattle.multicast.specs.HeadCalls.{freshHeadOf, headAcknowledgeOf, headAdvanceOf, headCaptureOf, headClockSendOf, headMeasureOf, headOfferOf, headRegisterOf, headRetryOf, registerGroupOf};
-ghost use Rattle.multicast.specs.HeadTraffic.{headReceiveOf, headSendOf};
+ghost use Rattle.headend.specs.HeadCalls.{freshHeadOf, headAcknowledgeOf, headAdvanceOf, headCaptureOf, headClockSendOf, headMeasureOf, headOfferOf, headRegisterOf, headRetryOf, registerGroupOf};
+ghost use Rattle.headend.specs.HeadTraffic.{headReceiveOf, headSendOf};
 use ends::Identity;
 use ends::Olt;
 use group_protocol::Answer;
 use group_protocol::Groups;
 use group_protocol::HeadEnd;
 use group_protocol::Roster;
-use multicast::HeadAnswer;
-use multicast::HeadClockSent;
-use multicast::HeadKeySent;
-use multicast::HeadReceived;
-use multicast::HeadSent;
-use multicast::at_head;
-use multicast::head_traffic;
+use headend::HeadAnswer;
+use headend::HeadClockSent;
+use headend::HeadKeySent;
+use headend::HeadReceived;
+use headend::HeadSent;
+use headend::at_head;
+use headend::head_traffic;
 use protocol::Header;
 
 #[no_mangle]

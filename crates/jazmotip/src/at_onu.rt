@@ -1,20 +1,20 @@
 // The calls of the ONU with the groups that it joined. All take the end by value but advance, which changes the end that is lent (01, Clock).
 ghost use mathlib.Core.Path.{_≡_};
 ghost use Rattle.octets.specs.Output.{withOutput};
-ghost use Rattle.multicast.specs.SubscriberCalls.{freshSubscriberOf, joinOf, subscriberAdvanceOf, subscriberClockMessageOf, subscriberKeyMessageOf, subscriberMovedOf, subscriberNewTimeOf};
-ghost use Rattle.multicast.specs.SubscriberTraffic.{subscriberReceiveOf, subscriberSendOf};
+ghost use Rattle.subscriber.specs.SubscriberCalls.{freshSubscriberOf, joinOf, subscriberAdvanceOf, subscriberClockMessageOf, subscriberKeyMessageOf, subscriberMovedOf, subscriberNewTimeOf};
+ghost use Rattle.subscriber.specs.SubscriberTraffic.{subscriberReceiveOf, subscriberSendOf};
 use clock::Stamps;
 use ends::Identity;
 use group_protocol::Subscriber;
-use multicast::SubscriberAcknowledged;
-use multicast::SubscriberAnswer;
-use multicast::SubscriberMoved;
-use multicast::SubscriberReceived;
-use multicast::SubscriberSent;
-use multicast::at_subscriber;
-use multicast::subscriber_traffic;
 use protocol::Header;
 use protocol::KeyMessage;
+use subscriber::SubscriberAcknowledged;
+use subscriber::SubscriberAnswer;
+use subscriber::SubscriberMoved;
+use subscriber::SubscriberReceived;
+use subscriber::SubscriberSent;
+use subscriber::at_subscriber;
+use subscriber::subscriber_traffic;
 
 #[no_mangle]
 pub extern "C" fn jazmotip_onu_fresh(identity: Identity, oltmac: u64, time: u64) -> SubscriberAnswer

@@ -29,11 +29,11 @@ use Rattle.group_protocol.specs.Subscriber.{withOnu}
 use Rattle.group_protocol.specs.declared.HeadEnd.{HeadEnd}
 use Rattle.group_protocol.specs.declared.Subscriber.{Subscriber}
 use Rattle.group_protocol.proofs.HeadValidity.{head-valid}
-use Rattle.multicast.specs.HeadCalls.{groupsAdvanced, headAdvanced}
-use Rattle.multicast.specs.SubscriberCalls.{subscriberAdvanceOf}
-use Rattle.multicast.specs.declared.SubscriberAnswer.{SubscriberAnswer}
-use Rattle.multicast.proofs.HeadGrowth.{advanced-groups-valid, advance-moves}
-use Rattle.multicast.proofs.SubscriberSteps.{advance-identity}
+use Rattle.headend.specs.HeadCalls.{groupsAdvanced, headAdvanced}
+use Rattle.subscriber.specs.SubscriberCalls.{subscriberAdvanceOf}
+use Rattle.subscriber.specs.declared.SubscriberAnswer.{SubscriberAnswer}
+use Rattle.headend.proofs.HeadGrowth.{advanced-groups-valid, advance-moves}
+use Rattle.subscriber.proofs.SubscriberSteps.{advance-identity}
 use Rattle.unicast.specs.Setting.{Setting}
 use Rattle.unicast.specs.Events as events
 use Rattle.unicast.specs.Run as run

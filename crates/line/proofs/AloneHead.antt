@@ -28,12 +28,12 @@ use Rattle.traffic.specs.declared.OltSent.{OltSent}
 use Rattle.traffic.specs.declared.OltReceived.{OltReceived}
 use Rattle.group_protocol.specs.Head.{findGroup, validHead, validGroups, withOlt}
 use Rattle.group_protocol.specs.declared.HeadEnd.{HeadEnd}
-use Rattle.multicast.specs.Naming.{byLlid}
-use Rattle.multicast.specs.HeadCalls.{oltAnswered, oltClockSent, oltKeySent, headCaptureOf, headClockSendOf, headOfferOf, headRetryOf, headAcknowledgeOf, ownAcknowledgement, headAnswer, headAdvanced, headAdvanceOf}
-use Rattle.multicast.specs.HeadTraffic.{oltSentIn, oltReceivedIn, headSendOf, headReceiveOf}
-use Rattle.multicast.specs.SubscriberCalls.{ownAnswer}
-use Rattle.multicast.specs.declared.HeadSent.{HeadSent}
-use Rattle.multicast.specs.declared.HeadReceived.{HeadReceived}
+use Rattle.group_protocol.specs.Naming.{byLlid}
+use Rattle.headend.specs.HeadCalls.{oltAnswered, oltClockSent, oltKeySent, headCaptureOf, headClockSendOf, headOfferOf, headRetryOf, headAcknowledgeOf, ownAcknowledgement, headAnswer, headAdvanced, headAdvanceOf}
+use Rattle.headend.specs.HeadTraffic.{oltSentIn, oltReceivedIn, headSendOf, headReceiveOf}
+use Rattle.subscriber.specs.SubscriberCalls.{ownAnswer}
+use Rattle.headend.specs.declared.HeadSent.{HeadSent}
+use Rattle.headend.specs.declared.HeadReceived.{HeadReceived}
 use Rattle.unicast.specs.Events as events
 use Rattle.unicast.specs.Run as run
 use Rattle.unicast.specs.Run.{atOlt, atOltFor, clockSending, offering, retrying, envelopeAt, answerAt}

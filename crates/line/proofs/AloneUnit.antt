@@ -18,12 +18,12 @@ use Rattle.traffic.specs.declared.OnuSent.{OnuSent}
 use Rattle.traffic.specs.declared.OnuReceived.{OnuReceived}
 use Rattle.group_protocol.specs.Subscriber.{findJoined, validMemberships, withOnu}
 use Rattle.group_protocol.specs.declared.Subscriber.{Subscriber}
-use Rattle.multicast.specs.Naming.{byLlid}
-use Rattle.multicast.specs.SubscriberCalls.{ownAnswer, ownAnswered, ownAcknowledged, onuAnswered, onuAcknowledgedIn, subscriberAdvanceOf, subscriberNewTimeOf, subscriberClockMessageOf, subscriberKeyMessageOf}
-use Rattle.multicast.specs.SubscriberTraffic.{ownSent, unitSendOf, ownSendOf, ownReceived, unitReceiveOf, ownReceiveOf, subscriberSendOf, subscriberReceiveOf}
-use Rattle.multicast.specs.declared.SubscriberAcknowledged.{SubscriberAcknowledged}
-use Rattle.multicast.specs.declared.SubscriberSent.{SubscriberSent}
-use Rattle.multicast.specs.declared.SubscriberReceived.{SubscriberReceived}
+use Rattle.group_protocol.specs.Naming.{byLlid}
+use Rattle.subscriber.specs.SubscriberCalls.{ownAnswer, ownAnswered, ownAcknowledged, onuAnswered, onuAcknowledgedIn, subscriberAdvanceOf, subscriberNewTimeOf, subscriberClockMessageOf, subscriberKeyMessageOf}
+use Rattle.subscriber.specs.SubscriberTraffic.{ownSent, unitSendOf, ownSendOf, ownReceived, unitReceiveOf, ownReceiveOf, subscriberSendOf, subscriberReceiveOf}
+use Rattle.subscriber.specs.declared.SubscriberAcknowledged.{SubscriberAcknowledged}
+use Rattle.subscriber.specs.declared.SubscriberSent.{SubscriberSent}
+use Rattle.subscriber.specs.declared.SubscriberReceived.{SubscriberReceived}
 use Rattle.unicast.specs.History.{Envelope, clockMessage, keyMessage, envelope, Lane}
 use Rattle.unicast.specs.Events as events
 use Rattle.unicast.specs.Run as run

@@ -28,11 +28,11 @@ use Rattle.group_protocol.specs.declared.Answer.{Answer}
 use Rattle.group_protocol.specs.declared.GroupRecord.{GroupRecord}
 use Rattle.group_protocol.specs.declared.HeadEnd.{HeadEnd}
 use Rattle.group_protocol.proofs.GroupSteps.{marked-llid, group-marked-valid}
-use Rattle.multicast.specs.Naming.{byLlid}
-use Rattle.multicast.specs.HeadCalls.{headAnswer, ownAcknowledgement, headAcknowledgeOf}
-use Rattle.multicast.specs.HeadTraffic.{headReceiveOf}
-use Rattle.multicast.specs.declared.HeadAnswer.{HeadAnswer}
-use Rattle.multicast.specs.declared.HeadReceived.{HeadReceived}
+use Rattle.group_protocol.specs.Naming.{byLlid}
+use Rattle.headend.specs.HeadCalls.{headAnswer, ownAcknowledgement, headAcknowledgeOf}
+use Rattle.headend.specs.HeadTraffic.{headReceiveOf}
+use Rattle.headend.specs.declared.HeadAnswer.{HeadAnswer}
+use Rattle.headend.specs.declared.HeadReceived.{HeadReceived}
 use Rattle.unicast.specs.Setting.{Setting}
 use Rattle.line.specs.History.{GroupLane}
 use Rattle.line.specs.Events.{arriveGroupAnswer, strayAnswer, strayUp}

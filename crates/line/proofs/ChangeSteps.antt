@@ -23,11 +23,11 @@ use Rattle.group_protocol.specs.declared.GroupRecord.{GroupRecord}
 use Rattle.group_protocol.specs.declared.HeadEnd.{HeadEnd}
 use Rattle.group_protocol.specs.declared.Joined.{Joined}
 use Rattle.group_protocol.specs.declared.Subscriber.{Subscriber}
-use Rattle.multicast.specs.HeadCalls.{headMeasureOf}
-use Rattle.multicast.specs.SubscriberCalls.{subscriberNewTimeOf}
-use Rattle.multicast.specs.declared.HeadAnswer.{HeadAnswer}
-use Rattle.multicast.specs.declared.SubscriberAnswer.{SubscriberAnswer}
-use Rattle.multicast.proofs.SubscriberSteps.{new-time-identity}
+use Rattle.headend.specs.HeadCalls.{headMeasureOf}
+use Rattle.subscriber.specs.SubscriberCalls.{subscriberNewTimeOf}
+use Rattle.headend.specs.declared.HeadAnswer.{HeadAnswer}
+use Rattle.subscriber.specs.declared.SubscriberAnswer.{SubscriberAnswer}
+use Rattle.subscriber.proofs.SubscriberSteps.{new-time-identity}
 use Rattle.unicast.specs.Setting.{Delays, Setting}
 use Rattle.unicast.specs.History.{InFlight, Entry, Lane, laneMoved}
 use Rattle.unicast.specs.Events as events

@@ -16,7 +16,7 @@ use Rattle.envelope.specs.declared.Nonce.{Nonce}
 use Rattle.cipher.specs.KeyExpansion.{keyExpansion}
 use Rattle.sealing.specs.Seal.{carried, countCarried}
 use Rattle.traffic.specs.Passages.{misfit}
-use Rattle.multicast.specs.declared.SubscriberReceived.{SubscriberReceived}
+use Rattle.subscriber.specs.declared.SubscriberReceived.{SubscriberReceived}
 use Rattle.unicast.specs.History.{Envelope, InFlight, clockMessage, keyMessage, envelope, downward, upward, keyOf, isSynced}
 use Rattle.unicast.specs.Run.{laneAt, noEnvelope}
 use Rattle.unicast.specs.Premises.{Fresh}

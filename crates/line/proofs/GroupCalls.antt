@@ -25,7 +25,7 @@ use Rattle.group_protocol.specs.Head.{findGroup, groupAt, withGroup, validHead}
 use Rattle.group_protocol.specs.declared.GroupRecord.{GroupRecord}
 use Rattle.group_protocol.specs.declared.HeadEnd.{HeadEnd}
 use Rattle.group_protocol.specs.declared.Joined.{Joined}
-use Rattle.multicast.specs.Naming.{putGroup, groupLift}
+use Rattle.group_protocol.specs.Naming.{putGroup, groupLift}
 use Rattle.unicast.specs.Setting.{Setting}
 use Rattle.unicast.specs.History.{InFlight, Lane}
 use Rattle.unicast.specs.Run.{atOlt, withLanes}

@@ -45,10 +45,10 @@ use Rattle.group_protocol.specs.declared.Joined.{Joined}
 use Rattle.group_protocol.specs.declared.Subscriber.{Subscriber}
 use Rattle.group_protocol.proofs.JoinedCalls.{receipt-valid, receipt-llid}
 use Rattle.group_protocol.proofs.Subscribers.{found-place, found-valid}
-use Rattle.multicast.specs.Naming.{byLlid}
-use Rattle.multicast.specs.SubscriberCalls.{putJoined, joinedLift}
-use Rattle.multicast.specs.SubscriberTraffic.{subscriberReceived, groupReceiveOf, subscriberReceiveOf}
-use Rattle.multicast.specs.declared.SubscriberReceived.{SubscriberReceived}
+use Rattle.group_protocol.specs.Naming.{byLlid}
+use Rattle.subscriber.specs.SubscriberCalls.{putJoined, joinedLift}
+use Rattle.subscriber.specs.SubscriberTraffic.{subscriberReceived, groupReceiveOf, subscriberReceiveOf}
+use Rattle.subscriber.specs.declared.SubscriberReceived.{SubscriberReceived}
 use Rattle.unicast.specs.Setting.{Setting, clockDown}
 use Rattle.unicast.specs.History.{Envelope, InFlight, envelope, leftAt, keyOf, isSynced}
 use Rattle.unicast.specs.Run.{laneAt}

@@ -25,8 +25,8 @@ use Rattle.group_protocol.specs.Head.{findGroup, groupAt, pastGroup, withGroupK
 use Rattle.group_protocol.specs.declared.GroupRecord.{GroupRecord}
 use Rattle.group_protocol.proofs.GroupSteps.{group-offered-valid}
 use Rattle.group_protocol.proofs.HeadValidity.{groups-in-range}
-use Rattle.multicast.specs.Naming.{byLlid}
-use Rattle.multicast.specs.HeadCalls.{headKeySent, headOfferOf, headRetryOf}
+use Rattle.group_protocol.specs.Naming.{byLlid}
+use Rattle.headend.specs.HeadCalls.{headKeySent, headOfferOf, headRetryOf}
 use Rattle.unicast.specs.Setting.{Setting}
 use Rattle.unicast.specs.History.{keyMessage, keyOf}
 use Rattle.unicast.specs.Run.{laneAt, offering, retrying}

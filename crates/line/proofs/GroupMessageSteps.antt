@@ -27,9 +27,9 @@ use Rattle.group_protocol.specs.declared.Joined.{Joined}
 use Rattle.group_protocol.specs.declared.Subscriber.{Subscriber}
 use Rattle.group_protocol.proofs.JoinedCalls.{message-valid, message-llid}
 use Rattle.group_protocol.proofs.Subscribers.{found-place, found-valid, with-joined-valid}
-use Rattle.multicast.specs.Naming.{byLlid}
-use Rattle.multicast.specs.SubscriberCalls.{subscriberAcknowledged, subscriberKeyMessageOf}
-use Rattle.multicast.specs.declared.SubscriberAcknowledged.{SubscriberAcknowledged}
+use Rattle.group_protocol.specs.Naming.{byLlid}
+use Rattle.subscriber.specs.SubscriberCalls.{subscriberAcknowledged, subscriberKeyMessageOf}
+use Rattle.subscriber.specs.declared.SubscriberAcknowledged.{SubscriberAcknowledged}
 use Rattle.unicast.specs.Setting.{Setting}
 use Rattle.unicast.specs.History.{InFlight, keyMessage}
 use Rattle.unicast.specs.Run.{laneAt}

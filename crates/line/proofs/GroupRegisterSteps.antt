@@ -29,7 +29,7 @@ use Rattle.group_protocol.specs.declared.Members.{Members}
 use Rattle.group_protocol.specs.declared.Roster.{Roster}
 use Rattle.group_protocol.proofs.GroupSteps.{fresh-group-valid}
 use Rattle.group_protocol.proofs.HeadGroups.{more-groups-valid}
-use Rattle.multicast.specs.HeadCalls.{headAnswer, rosterMembers, validGroupRegistration, groupVerdict, registerGroupOf}
+use Rattle.headend.specs.HeadCalls.{headAnswer, rosterMembers, validGroupRegistration, groupVerdict, registerGroupOf}
 use Rattle.unicast.specs.Setting.{Setting}
 use Rattle.unicast.specs.History.{InFlight, due}
 use Rattle.unicast.specs.Run.{laneAt}

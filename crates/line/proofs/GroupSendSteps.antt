@@ -37,8 +37,8 @@ use Rattle.group_protocol.specs.Head.{findGroup, groupAt, withGroupKeys, validG
 use Rattle.group_protocol.specs.declared.GroupRecord.{GroupRecord}
 use Rattle.group_protocol.specs.declared.HeadEnd.{HeadEnd}
 use Rattle.group_protocol.proofs.GroupSteps.{group-sent-valid}
-use Rattle.multicast.specs.Naming.{byLlid, groupLift}
-use Rattle.multicast.specs.HeadTraffic.{sendAhead, headSent, headSendOf}
+use Rattle.group_protocol.specs.Naming.{byLlid, groupLift}
+use Rattle.headend.specs.HeadTraffic.{sendAhead, headSent, headSendOf}
 use Rattle.unicast.specs.Setting.{Setting}
 use Rattle.unicast.specs.History.{downward, Envelope, envelope}
 use Rattle.unicast.specs.Run.{laneAt}

@@ -24,7 +24,7 @@ use Rattle.group_protocol.specs.JoinedCalls.{holds}
 use Rattle.group_protocol.specs.declared.GroupRecord.{GroupRecord}
 use Rattle.group_protocol.specs.declared.Joined.{Joined}
 use Rattle.group_protocol.specs.declared.Subscriber.{Subscriber}
-use Rattle.multicast.specs.Naming.{byLlid}
+use Rattle.group_protocol.specs.Naming.{byLlid}
 use Rattle.unicast.specs.Setting.{Setting}
 use Rattle.unicast.specs.History.{downward, Envelope, InFlight, clockMessage, keyMessage, envelope, Arrival, Lane, keyOf}
 use Rattle.unicast.specs.Run.{noSite, laneAt}

@@ -28,8 +28,8 @@ use Rattle.group_protocol.specs.declared.Joined.{Joined}
 use Rattle.group_protocol.specs.declared.Subscriber.{Subscriber}
 use Rattle.group_protocol.proofs.Places.{place-at}
 use Rattle.group_protocol.proofs.Subscribers.{one-more-valid, fresh-joined-valid}
-use Rattle.multicast.specs.Naming.{byLlid}
-use Rattle.multicast.specs.SubscriberCalls.{subscriberAnswer, joinVerdict, joinOf}
+use Rattle.group_protocol.specs.Naming.{byLlid}
+use Rattle.subscriber.specs.SubscriberCalls.{subscriberAnswer, joinVerdict, joinOf}
 use Rattle.unicast.specs.Setting.{Setting}
 use Rattle.unicast.specs.Run.{laneAt}
 use Rattle.unicast.proofs.Invariant as units

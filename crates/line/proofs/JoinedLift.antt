@@ -14,7 +14,7 @@ use Rattle.group_protocol.specs.JoinedCalls.{JoinedOutcome}
 use Rattle.group_protocol.specs.Subscriber.{joinedAt, withJoined, validSubscriber}
 use Rattle.group_protocol.specs.declared.Joined.{Joined}
 use Rattle.group_protocol.specs.declared.Subscriber.{Subscriber}
-use Rattle.multicast.specs.SubscriberCalls.{putJoined, joinedLift}
+use Rattle.subscriber.specs.SubscriberCalls.{putJoined, joinedLift}
 
 module _ {H : Type 0} (x : Subscriber) (nothing : H) (call : Onu → Joined → JoinedOutcome H) (i : ℕ) where
   pub record Lifted : Type 0 where

@@ -28,7 +28,7 @@ use Rattle.protocol.proofs.UnitCalls.{capture-keeps, clock-send-keeps, offer-ke
 use Rattle.protocol.proofs.UnitTraffic.{receive-keeps}
 use Rattle.traffic.specs.Receipts.{oltReceived, oltReceiveOf}
 use Rattle.traffic.specs.Sends.{oltSent, oltSendOf}
-use Rattle.multicast.proofs.HeadSteps.{send-identity}
+use Rattle.headend.proofs.HeadSteps.{send-identity}
 use Rattle.unicast.proofs.SendDownSteps.{send-channels}
 
 pub record OltKept (o p : Olt) : Type 0 where

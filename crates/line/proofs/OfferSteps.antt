@@ -15,7 +15,7 @@ use Rattle.ends.specs.declared.Found.the-variants.{Nowhere}
 use Rattle.ends.specs.declared.Olt.{Olt}
 use Rattle.protocol.specs.OltCalls.{offerOf}
 use Rattle.group_protocol.specs.Head.{findGroup, withOlt}
-use Rattle.multicast.specs.declared.HeadKeySent.{HeadKeySent}
+use Rattle.headend.specs.declared.HeadKeySent.{HeadKeySent}
 use Rattle.unicast.specs.Setting.{Setting}
 use Rattle.unicast.specs.History.{Lane, laneWith, laneLeaving, laneOffered}
 use Rattle.unicast.specs.Events as events

@@ -8,8 +8,8 @@ use Rattle.ends.specs.declared.Olt.{Olt}
 use Rattle.protocol.specs.OltCalls.{captureOf, clockSendOf, retryOf, acknowledgeOf}
 use Rattle.traffic.specs.Sends.{oltSendOf}
 use Rattle.group_protocol.specs.Head.{findGroup, withOlt}
-use Rattle.multicast.specs.Naming.{byLlid}
-use Rattle.multicast.specs.HeadCalls.{headCaptureOf, headClockSendOf}
+use Rattle.group_protocol.specs.Naming.{byLlid}
+use Rattle.headend.specs.HeadCalls.{headCaptureOf, headClockSendOf}
 use Rattle.unicast.specs.Setting.{Setting}
 use Rattle.unicast.specs.History as history
 use Rattle.unicast.specs.History.{Lane, laneWith, laneCaptured, laneLeaving, laneSentDown, laneAcknowledged}

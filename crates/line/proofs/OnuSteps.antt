@@ -21,12 +21,12 @@ use Rattle.traffic.specs.Passages.{misfit}
 use Rattle.traffic.specs.Sends.{onuSendOf}
 use Rattle.group_protocol.specs.Subscriber.{findJoined, withOnu}
 use Rattle.group_protocol.specs.declared.Subscriber.{Subscriber}
-use Rattle.multicast.specs.Naming.{byLlid}
-use Rattle.multicast.specs.SubscriberCalls.{subscriberClockMessageOf, subscriberKeyMessageOf}
-use Rattle.multicast.specs.SubscriberTraffic.{groupSendVerdict, subscriberSendOf}
-use Rattle.multicast.specs.declared.SubscriberAcknowledged.{SubscriberAcknowledged}
-use Rattle.multicast.specs.declared.SubscriberSent.{SubscriberSent}
-use Rattle.multicast.proofs.SubscriberSteps.{send-identity, clock-identity, key-identity, receive-identity}
+use Rattle.group_protocol.specs.Naming.{byLlid}
+use Rattle.subscriber.specs.SubscriberCalls.{subscriberClockMessageOf, subscriberKeyMessageOf}
+use Rattle.subscriber.specs.SubscriberTraffic.{groupSendVerdict, subscriberSendOf}
+use Rattle.subscriber.specs.declared.SubscriberAcknowledged.{SubscriberAcknowledged}
+use Rattle.subscriber.specs.declared.SubscriberSent.{SubscriberSent}
+use Rattle.subscriber.proofs.SubscriberSteps.{send-identity, clock-identity, key-identity, receive-identity}
 use Rattle.unicast.specs.Setting.{Setting}
 use Rattle.unicast.specs.History.{InFlight, clockMessage, keyMessage, envelope, Entry, Lane, laneWith, laneSentUp, laneTaken, laneAnswered, laneArrivedDown}
 use Rattle.unicast.specs.Events as events

@@ -8,11 +8,11 @@ use Rattle.group_protocol.specs.GroupCalls.{groupOutcome, groupAdvanced, member
 use Rattle.group_protocol.specs.Subscriber as joined
 use Rattle.group_protocol.specs.Subscriber.{freshJoined, joinedLlids, findJoined, pastJoined, withOnu, withJoined, withOneJoinedMore, noMemberships, validJoined, validGroupsOf, validMemberships, validSubscriber}
 use Rattle.group_protocol.specs.JoinedCalls.{highestHeld, holds, heldAgain, newNumber, joinedMessageVerdict, joinedTaken, joinedAfterMessage, groupAnswer, messageJoined, joinedChoice, joinedReceiveVerdict, joinedMoved, joinedAfterReceipt, receiveJoined}
-use Rattle.multicast.specs.Naming.{byLlid, putGroup, groupLift}
-use Rattle.multicast.specs.HeadCalls.{headAnswer, headKeySent, oltAnswered, oltClockSent, oltKeySent, freshHeadOf, unitVerdict, headRegisterOf, placeFound, rosterMembers, validGroupRegistration, groupVerdict, registerGroupOf, groupsAdvanced, headAdvanced, headAdvanceOf, headCaptureOf, headMeasureOf, headClockSendOf, headOfferOf, headRetryOf, ownAcknowledgement, headAcknowledgeOf}
-use Rattle.multicast.specs.HeadTraffic.{oltSentIn, headSent, headSendOf, oltReceivedIn, groupReceiveVerdict, headReceiveOf}
-use Rattle.multicast.specs.SubscriberCalls.{subscriberAnswer, subscriberAcknowledged, ownAnswer, putJoined, joinedLift, ownAnswered, onuAnswered, notAcknowledged, ownAcknowledged, onuAcknowledgedIn, freshSubscriberOf, joinVerdict, joinOf, subscriberAdvanceOf, subscriberNewTimeOf, subscriberClockMessageOf, subscriberKeyMessageOf}
-use Rattle.multicast.specs.SubscriberTraffic.{ownSent, unitSendOf, ownSendOf, groupSendVerdict, subscriberSendOf, ownReceived, unitReceiveOf, ownReceiveOf, subscriberReceived, groupReceiveOf, subscriberReceiveOf}
+use Rattle.group_protocol.specs.Naming.{byLlid, putGroup, groupLift}
+use Rattle.headend.specs.HeadCalls.{headAnswer, headKeySent, oltAnswered, oltClockSent, oltKeySent, freshHeadOf, unitVerdict, headRegisterOf, placeFound, rosterMembers, validGroupRegistration, groupVerdict, registerGroupOf, groupsAdvanced, headAdvanced, headAdvanceOf, headCaptureOf, headMeasureOf, headClockSendOf, headOfferOf, headRetryOf, ownAcknowledgement, headAcknowledgeOf}
+use Rattle.headend.specs.HeadTraffic.{oltSentIn, headSent, headSendOf, oltReceivedIn, groupReceiveVerdict, headReceiveOf}
+use Rattle.subscriber.specs.SubscriberCalls.{subscriberAnswer, subscriberAcknowledged, ownAnswer, putJoined, joinedLift, ownAnswered, onuAnswered, notAcknowledged, ownAcknowledged, onuAcknowledgedIn, freshSubscriberOf, joinVerdict, joinOf, subscriberAdvanceOf, subscriberNewTimeOf, subscriberClockMessageOf, subscriberKeyMessageOf}
+use Rattle.subscriber.specs.SubscriberTraffic.{ownSent, unitSendOf, ownSendOf, groupSendVerdict, subscriberSendOf, ownReceived, unitReceiveOf, ownReceiveOf, subscriberReceived, groupReceiveOf, subscriberReceiveOf}
 use Rattle.unicast.proofs.Opened as units
 use Rattle.line.specs.History as history
 use Rattle.line.specs.History.{isMember, groupSwitching, groupNumber, groupWith, leavingFor, groupLeaving, groupSent, groupTaken, groupAnswered, groupArrived, answerAgain, groupMoved, isJoined, hasTaken, joining, taking}

@@ -37,9 +37,9 @@ use Rattle.group_protocol.specs.declared.Subscriber.{Subscriber}
 use Rattle.group_protocol.proofs.JoinedCalls.{next-held}
 use Rattle.group_protocol.proofs.Places.{at-nowhere}
 use Rattle.group_protocol.proofs.Subscribers.{with-itself}
-use Rattle.multicast.specs.Naming.{byLlid}
-use Rattle.multicast.specs.SubscriberTraffic.{subscriberReceived, groupReceiveOf, subscriberReceiveOf}
-use Rattle.multicast.specs.declared.SubscriberReceived.{SubscriberReceived}
+use Rattle.group_protocol.specs.Naming.{byLlid}
+use Rattle.subscriber.specs.SubscriberTraffic.{subscriberReceived, groupReceiveOf, subscriberReceiveOf}
+use Rattle.subscriber.specs.declared.SubscriberReceived.{SubscriberReceived}
 use Rattle.unicast.specs.Setting.{Setting}
 use Rattle.unicast.specs.History.{Direction, downward, Envelope}
 use Rattle.unicast.specs.Run.{laneAt, sentAt, noEnvelope}

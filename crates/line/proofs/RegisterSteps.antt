@@ -28,8 +28,8 @@ use Rattle.protocol.proofs.Replies.{reply-verdict, reply-accepted, reply-untouc
 use Rattle.group_protocol.specs.Head.{groupLlids, registeredGroups, placesTaken, withOlt, validHead}
 use Rattle.group_protocol.specs.declared.HeadEnd.{HeadEnd}
 use Rattle.group_protocol.proofs.HeadGroups.{unit-more-groups-valid}
-use Rattle.multicast.specs.HeadCalls.{headAnswer, unitVerdict, headRegisterOf}
-use Rattle.multicast.specs.declared.HeadAnswer.{HeadAnswer}
+use Rattle.headend.specs.HeadCalls.{headAnswer, unitVerdict, headRegisterOf}
+use Rattle.headend.specs.declared.HeadAnswer.{HeadAnswer}
 use Rattle.unicast.specs.Setting.{Setting}
 use Rattle.unicast.specs.History.{Lane, laneRegistered}
 use Rattle.unicast.specs.Events as events

@@ -20,9 +20,9 @@ use Rattle.group_protocol.specs.Subscriber as subscribers
 use Rattle.group_protocol.specs.Subscriber.{freshJoined, joinedLlids, findJoined, noMemberships}
 use Rattle.group_protocol.specs.declared.Subscriber.{Subscriber}
 use Rattle.group_protocol.proofs.Subscribers.{alone-valid}
-use Rattle.multicast.specs.Naming.{byLlid}
-use Rattle.multicast.specs.HeadCalls.{freshHeadOf}
-use Rattle.multicast.specs.SubscriberCalls.{freshSubscriberOf}
+use Rattle.group_protocol.specs.Naming.{byLlid}
+use Rattle.headend.specs.HeadCalls.{freshHeadOf}
+use Rattle.subscriber.specs.SubscriberCalls.{freshSubscriberOf}
 use Rattle.unicast.specs.Setting.{Site, Setting}
 use Rattle.unicast.specs.History.{Lane}
 use Rattle.unicast.specs.Run as run

@@ -15,11 +15,11 @@ use Rattle.traffic.specs.Passages.{misfit}
 use Rattle.group_protocol.specs.JoinedCalls.{noAnswer, messageJoined, receiveJoined}
 use Rattle.group_protocol.specs.Subscriber.{findJoined, withOnu, validMemberships}
 use Rattle.group_protocol.specs.declared.Subscriber.{Subscriber}
-use Rattle.multicast.specs.Naming.{byLlid}
-use Rattle.multicast.specs.SubscriberCalls.{subscriberAcknowledged, subscriberClockMessageOf, subscriberKeyMessageOf}
-use Rattle.multicast.specs.SubscriberTraffic.{subscriberReceived, groupReceiveOf, subscriberReceiveOf}
-use Rattle.multicast.specs.declared.SubscriberAcknowledged.{SubscriberAcknowledged}
-use Rattle.multicast.specs.declared.SubscriberReceived.{SubscriberReceived}
+use Rattle.group_protocol.specs.Naming.{byLlid}
+use Rattle.subscriber.specs.SubscriberCalls.{subscriberAcknowledged, subscriberClockMessageOf, subscriberKeyMessageOf}
+use Rattle.subscriber.specs.SubscriberTraffic.{subscriberReceived, groupReceiveOf, subscriberReceiveOf}
+use Rattle.subscriber.specs.declared.SubscriberAcknowledged.{SubscriberAcknowledged}
+use Rattle.subscriber.specs.declared.SubscriberReceived.{SubscriberReceived}
 use Rattle.unicast.specs.Setting.{Setting}
 use Rattle.unicast.proofs.OnuSteps.{receive-refused}
 use Rattle.line.specs.Events.{strayClock, strayKey, strayDown}

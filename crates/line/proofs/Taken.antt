@@ -20,7 +20,7 @@ use Rattle.group_protocol.specs.Subscriber.{freshJoined, joinedLlids, joinedGro
 use Rattle.group_protocol.specs.declared.Joined.{Joined}
 use Rattle.group_protocol.specs.declared.Subscriber.{Subscriber}
 use Rattle.group_protocol.proofs.Subscribers.{found-place}
-use Rattle.multicast.specs.Naming.{byLlid}
+use Rattle.group_protocol.specs.Naming.{byLlid}
 use Rattle.line.specs.History.{Membership, isJoined, hasTaken, taking}
 use Rattle.line.proofs.Invariant.{joinedFor}
 

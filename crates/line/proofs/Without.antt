@@ -37,16 +37,16 @@ use Rattle.group_protocol.specs.Members.{placeFrom}
 use Rattle.group_protocol.specs.Subscriber.{findJoined, joinedLlids, noMemberships, validMemberships}
 use Rattle.group_protocol.specs.declared.HeadEnd.{HeadEnd}
 use Rattle.group_protocol.specs.declared.Subscriber.{Subscriber}
-use Rattle.multicast.specs.HeadCalls.{headMeasureOf}
-use Rattle.multicast.specs.SubscriberCalls.{ownAnswer}
-use Rattle.multicast.specs.declared.HeadAnswer.{HeadAnswer}
-use Rattle.multicast.specs.declared.HeadKeySent.{HeadKeySent}
-use Rattle.multicast.specs.declared.HeadReceived.{HeadReceived}
-use Rattle.multicast.specs.declared.SubscriberAcknowledged.{SubscriberAcknowledged}
-use Rattle.multicast.specs.declared.SubscriberAnswer.{SubscriberAnswer}
-use Rattle.multicast.specs.declared.SubscriberReceived.{SubscriberReceived}
-use Rattle.multicast.specs.declared.SubscriberSent.{SubscriberSent}
-use Rattle.multicast.proofs.NoGroups as multicast
+use Rattle.headend.specs.HeadCalls.{headMeasureOf}
+use Rattle.subscriber.specs.SubscriberCalls.{ownAnswer}
+use Rattle.headend.specs.declared.HeadAnswer.{HeadAnswer}
+use Rattle.headend.specs.declared.HeadKeySent.{HeadKeySent}
+use Rattle.headend.specs.declared.HeadReceived.{HeadReceived}
+use Rattle.subscriber.specs.declared.SubscriberAcknowledged.{SubscriberAcknowledged}
+use Rattle.subscriber.specs.declared.SubscriberAnswer.{SubscriberAnswer}
+use Rattle.subscriber.specs.declared.SubscriberReceived.{SubscriberReceived}
+use Rattle.subscriber.specs.declared.SubscriberSent.{SubscriberSent}
+use Rattle.headend.proofs.NoGroups as headend
 use Rattle.unicast.specs.Setting.{Setting}
 use Rattle.unicast.specs.History.{InFlight, clockMessage, keyMessage, envelope, Lane}
 use Rattle.unicast.specs.Events as units
@@ -141,7 +141,7 @@ module _ (w : Setting) (s : State) (i : Invariant w s) (p : Plain s) where
   unfolding plain alone
   plain-fits (units.advance n) f = tt
   plain-fits (units.register u x trip interval) f =
-      λ z. f (sym (ap (λ (r : HeadAnswer). r .number) (multicast.without-groups .asOlt (s .head) no-count .register x trip interval)) ∙ z)
+      λ z. f (sym (ap (λ (r : HeadAnswer). r .number) (headend.without-groups .asOlt (s .head) no-count .register x trip interval)) ∙ z)
   plain-fits (units.capture llid) f = tt
   plain-fits (units.clockSend llid) f = tt
   plain-fits (units.offer llid key) f =
@@ -271,7 +271,7 @@ module _ (w : Setting) (s : State) (i : Invariant w s) (p : Plain s) where
   register-alone : (u : ℕ) (x : Identity) (trip interval : ℕ)
       → alone (step s (register u x trip interval)) ≡ run.step (alone s) (units.register u x trip interval)
   unfolding step line.registering atHead alone withOlt run.step run.entering
-  register-alone u x trip interval = rw (multicast.without-groups .asOlt (s .head) no-count .register x trip interval)
+  register-alone u x trip interval = rw (headend.without-groups .asOlt (s .head) no-count .register x trip interval)
 
   in-flight-alone : (u k : ℕ) (out : List ℕ) (x : InFlight) → alone (inFlightArriving s u k out x) ≡ run.inFlightArriving (alone s) u k out x
   in-flight-alone u k out (clockMessage m c t) = clock-alone s u (valid u) k out m c t

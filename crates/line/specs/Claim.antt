@@ -16,7 +16,7 @@ use Rattle.protocol.specs.Headers.{choiceEnciphered, envelopeHeader}
 use Rattle.protocol.specs.declared.Passage.{Passage}
 use Rattle.traffic.specs.Passages.{misfit, passageNonce}
 use Rattle.group_protocol.specs.declared.Subscriber.{Subscriber}
-use Rattle.multicast.specs.declared.SubscriberReceived.{SubscriberReceived}
+use Rattle.subscriber.specs.declared.SubscriberReceived.{SubscriberReceived}
 use Rattle.unicast.specs.Setting.{Setting, clockDown}
 use Rattle.unicast.specs.History.{Envelope, envelope, isSynced, keyOf, Keys}
 use Rattle.unicast.specs.Run.{laneAt, sentAt}

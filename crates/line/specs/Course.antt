@@ -3,10 +3,10 @@ use mathlib.Core.Path.{_≡_}
 use mathlib.Core.List.{List, [], _∷_, _++_, map}
 use Prim.Native.Nat.{ℕ, _+_}
 use Rattle.octets.specs.Choice.{pick}
-use Rattle.multicast.specs.HeadCalls.{headRegisterOf, registerGroupOf, headAdvanceOf, headCaptureOf, headMeasureOf, headClockSendOf, headOfferOf, headRetryOf, headAcknowledgeOf}
-use Rattle.multicast.specs.HeadTraffic.{headSendOf, headReceiveOf}
-use Rattle.multicast.specs.SubscriberCalls.{joinOf, subscriberNewTimeOf, subscriberClockMessageOf, subscriberKeyMessageOf, ownAnswer}
-use Rattle.multicast.specs.SubscriberTraffic.{subscriberSendOf, subscriberReceiveOf}
+use Rattle.headend.specs.HeadCalls.{headRegisterOf, registerGroupOf, headAdvanceOf, headCaptureOf, headMeasureOf, headClockSendOf, headOfferOf, headRetryOf, headAcknowledgeOf}
+use Rattle.headend.specs.HeadTraffic.{headSendOf, headReceiveOf}
+use Rattle.subscriber.specs.SubscriberCalls.{joinOf, subscriberNewTimeOf, subscriberClockMessageOf, subscriberKeyMessageOf, ownAnswer}
+use Rattle.subscriber.specs.SubscriberTraffic.{subscriberSendOf, subscriberReceiveOf}
 use Rattle.group_protocol.specs.declared.Subscriber.{Subscriber}
 use Rattle.unicast.specs.History.{Envelope, InFlight, clockMessage, keyMessage, envelope, Arrival}
 use Rattle.unicast.specs.Run.{accepted, laneAt, inFlightAt, envelopeAt, sentAt, answerAt}

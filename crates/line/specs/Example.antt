@@ -9,7 +9,7 @@ use Rattle.clock.specs.Ticks.{localTurn}
 use Rattle.protocol.specs.Messages.{ofClock, ofKey, keyKind}
 use Rattle.group_protocol.specs.declared.Answer.{Answer}
 use Rattle.group_protocol.specs.declared.Roster.{Roster}
-use Rattle.multicast.specs.SubscriberCalls.{ownAnswer}
+use Rattle.subscriber.specs.SubscriberCalls.{ownAnswer}
 use Rattle.unicast.specs.Setting.{Delays, Setting}
 use Rattle.unicast.specs.Example.{firstClock, oltMac, registeredA, identityB, identityC, identityOf, siteA, siteB, siteOf, keyFrom, payloadFrom, blank, headerWith, epamAt, keyMessageWith}
 use Rattle.line.specs.Events.{Event, advance, register, registerGroup, capture, clockSend, offer, retry, sendDown, join, sendUp, arriveDown, arriveGroup, arriveUp, arriveAnswer, arriveGroupAnswer, overhearGroup, changePath, measure, newTime, strayKey, strayAnswer, strayDown, strayUp}

@@ -28,15 +28,15 @@ use Rattle.group_protocol.specs.declared.HeadEnd.{HeadEnd}
 use Rattle.group_protocol.specs.declared.Subscriber.{Subscriber}
 use Rattle.group_protocol.specs.declared.Roster.{Roster}
 use Rattle.group_protocol.specs.declared.Answer.{Answer}
-use Rattle.multicast.specs.Naming.{byLlid, groupLift}
-use Rattle.multicast.specs.HeadCalls.{freshHeadOf, headRegisterOf, registerGroupOf, headAdvanceOf, headCaptureOf, headMeasureOf, headClockSendOf, headOfferOf, headRetryOf, headAcknowledgeOf}
-use Rattle.multicast.specs.HeadTraffic.{sendAhead, headSendOf, headReceiveOf}
-use Rattle.multicast.specs.SubscriberCalls.{freshSubscriberOf, joinOf, subscriberAdvanceOf, subscriberNewTimeOf, subscriberClockMessageOf, subscriberKeyMessageOf, ownAnswer, joinedLift}
-use Rattle.multicast.specs.SubscriberTraffic.{subscriberSendOf, subscriberReceiveOf}
-use Rattle.multicast.specs.declared.HeadClockSent.{HeadClockSent}
-use Rattle.multicast.specs.declared.HeadKeySent.{HeadKeySent}
-use Rattle.multicast.specs.declared.SubscriberAcknowledged.{SubscriberAcknowledged}
-use Rattle.multicast.specs.declared.SubscriberReceived.{SubscriberReceived}
+use Rattle.group_protocol.specs.Naming.{byLlid, groupLift}
+use Rattle.headend.specs.HeadCalls.{freshHeadOf, headRegisterOf, registerGroupOf, headAdvanceOf, headCaptureOf, headMeasureOf, headClockSendOf, headOfferOf, headRetryOf, headAcknowledgeOf}
+use Rattle.headend.specs.HeadTraffic.{sendAhead, headSendOf, headReceiveOf}
+use Rattle.subscriber.specs.SubscriberCalls.{freshSubscriberOf, joinOf, subscriberAdvanceOf, subscriberNewTimeOf, subscriberClockMessageOf, subscriberKeyMessageOf, ownAnswer, joinedLift}
+use Rattle.subscriber.specs.SubscriberTraffic.{subscriberSendOf, subscriberReceiveOf}
+use Rattle.headend.specs.declared.HeadClockSent.{HeadClockSent}
+use Rattle.headend.specs.declared.HeadKeySent.{HeadKeySent}
+use Rattle.subscriber.specs.declared.SubscriberAcknowledged.{SubscriberAcknowledged}
+use Rattle.subscriber.specs.declared.SubscriberReceived.{SubscriberReceived}
 use Rattle.unicast.specs.Setting.{Delays, Site, Setting}
 use Rattle.unicast.specs.History as units
 use Rattle.unicast.specs.History.{downward, upward, Envelope, InFlight, clockMessage, keyMessage, envelope, Arrival, Lane, isSynced, numberDown, laneCaptured, laneSentDown, laneSentUp, laneTaken, laneAnswered, laneArrivedDown, laneArrivedUp, laneAcknowledged}

@@ -2,7 +2,7 @@
 use mathlib.Core.Path.{_≡_}
 use mathlib.Core.List.{List, [], _∷_, map}
 use Prim.Native.Nat.{ℕ}
-use Rattle.multicast.specs.SubscriberCalls.{ownAnswer}
+use Rattle.subscriber.specs.SubscriberCalls.{ownAnswer}
 use Rattle.unicast.specs.Setting.{Setting}
 use Rattle.unicast.specs.Events as units
 use Rattle.unicast.specs.Run as run

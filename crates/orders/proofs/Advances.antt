@@ -33,12 +33,12 @@ use Rattle.group_protocol.specs.declared.Groups.{Groups}
 use Rattle.group_protocol.specs.declared.HeadEnd.{HeadEnd}
 use Rattle.group_protocol.specs.declared.Subscriber.{Subscriber}
 use Rattle.group_protocol.proofs.Subscribers.{valid-both, valid-joins}
-use Rattle.multicast.specs.HeadCalls.{groupsAdvanced, headAdvanced, headAdvanceOf, headAnswer}
-use Rattle.multicast.specs.SubscriberCalls.{onuAnswered, ownAnswered, subscriberAdvanceOf}
-use Rattle.multicast.specs.declared.HeadAnswer.{HeadAnswer}
-use Rattle.multicast.specs.declared.SubscriberAnswer.{SubscriberAnswer}
-use Rattle.multicast.proofs.HeadGrowth as growth
-use Rattle.multicast.proofs.SubscriberSteps as steps
+use Rattle.headend.specs.HeadCalls.{groupsAdvanced, headAdvanced, headAdvanceOf, headAnswer}
+use Rattle.subscriber.specs.SubscriberCalls.{onuAnswered, ownAnswered, subscriberAdvanceOf}
+use Rattle.headend.specs.declared.HeadAnswer.{HeadAnswer}
+use Rattle.subscriber.specs.declared.SubscriberAnswer.{SubscriberAnswer}
+use Rattle.headend.proofs.HeadGrowth as growth
+use Rattle.subscriber.proofs.SubscriberSteps as steps
 use Rattle.orders.specs.Advances.{Advances}
 
 ---- the head end

@@ -35,8 +35,8 @@ use Rattle.group_protocol.specs.Head.{groupAt, withGroup, withOlt}
 use Rattle.group_protocol.specs.declared.GroupRecord.{GroupRecord}
 use Rattle.group_protocol.specs.declared.HeadEnd.{HeadEnd}
 use Rattle.group_protocol.specs.declared.Members.{Members}
-use Rattle.multicast.specs.HeadCalls.{ownAcknowledgement}
-use Rattle.multicast.specs.HeadTraffic.{sendAhead}
+use Rattle.headend.specs.HeadCalls.{ownAcknowledgement}
+use Rattle.headend.specs.HeadTraffic.{sendAhead}
 use Rattle.orders.specs.Calls.{Call, Made, Told, capture, measure, clockSend, offer, retry, acknowledge, send, receive, answered, clockSent, keySent, sent, received}
 use Rattle.orders.specs.Parties.{Party, group, nobody, unit}
 

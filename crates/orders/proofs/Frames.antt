@@ -30,7 +30,7 @@ use Rattle.unit.specs.Reached.{ifAccepted}
 use Rattle.group_protocol.specs.GroupCalls.{acknowledgeGroup, groupMarked, groupOffered, groupOutcome, offerGroup, retryGroup, sendGroup}
 use Rattle.group_protocol.specs.Head.{withGroupKeys, withMembers}
 use Rattle.group_protocol.proofs.GroupSteps.{marked-llid}
-use Rattle.multicast.specs.HeadCalls.{ownAcknowledgement}
+use Rattle.headend.specs.HeadCalls.{ownAcknowledgement}
 use Rattle.orders.specs.Calls.{Call, capture, measure, clockSend, offer, retry, acknowledge, send, receive}
 use Rattle.orders.specs.Parties.{Party, Taking, channelFor, group, nobody, nothing, oneChannel, takingOf, unit}
 use Rattle.orders.proofs.Decisions.{Decided, Own, Seen, asked, byVerdict, decided, shape}

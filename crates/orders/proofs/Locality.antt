@@ -29,7 +29,7 @@ use Rattle.group_protocol.specs.declared.GroupRecord.{GroupRecord}
 use Rattle.group_protocol.specs.declared.HeadEnd.{HeadEnd}
 use Rattle.group_protocol.proofs.Found.{Stands}
 use Rattle.group_protocol.proofs.HeadValidity.{group-in-range, head-in-range}
-use Rattle.multicast.proofs.HeadSteps.{group-at-valid}
+use Rattle.headend.proofs.HeadSteps.{group-at-valid}
 use Rattle.orders.specs.Calls.{Call, Made, Told, after, answerOf, made, capture, measure, clockSend, offer, retry, acknowledge, send, receive}
 use Rattle.orders.specs.Locality.{GroupPart, Locality, MemberPart, SameGroup, SameUnit, groupPart, memberPart, memberParts}
 use Rattle.orders.specs.Parties.{group, llidOf, partyOf, unit}

@@ -36,10 +36,10 @@ use Rattle.group_protocol.specs.GroupCalls.{GroupOutcome, groupOutcome, members
 use Rattle.group_protocol.specs.Head.{findGroup, groupAt, validGroups, validHead, withGroup, withOlt}
 use Rattle.group_protocol.specs.declared.HeadEnd.{HeadEnd}
 use Rattle.group_protocol.proofs.HeadValidity.{head-in-range}
-use Rattle.multicast.specs.HeadCalls.{headAcknowledgeOf, headAnswer, headCaptureOf, headClockSendOf, headKeySent, headMeasureOf, headOfferOf, headRetryOf, oltAnswered, oltClockSent, oltKeySent}
-use Rattle.multicast.specs.HeadTraffic.{groupReceiveVerdict, headReceiveOf, headSendOf, headSent, oltReceivedIn, oltSentIn}
-use Rattle.multicast.specs.Naming.{byLlid, groupLift, putGroup}
-use Rattle.multicast.proofs.HeadLift.{with-group-itself}
+use Rattle.headend.specs.HeadCalls.{headAcknowledgeOf, headAnswer, headCaptureOf, headClockSendOf, headKeySent, headMeasureOf, headOfferOf, headRetryOf, oltAnswered, oltClockSent, oltKeySent}
+use Rattle.headend.specs.HeadTraffic.{groupReceiveVerdict, headReceiveOf, headSendOf, headSent, oltReceivedIn, oltSentIn}
+use Rattle.group_protocol.specs.Naming.{byLlid, groupLift, putGroup}
+use Rattle.headend.proofs.HeadLift.{with-group-itself}
 use Rattle.orders.specs.Calls.{Call, Made, made, capture, measure, clockSend, offer, retry, acknowledge, send, receive, received}
 use Rattle.orders.specs.Parties.{Party, group, llidOf, nobody, partyOf, unitParty}
 use Rattle.orders.proofs.Decisions.{asked, byVerdict, decided, madeBy, ownOf, put, seen, shape}

@@ -18,7 +18,7 @@ use Rattle.group_protocol.proofs.Found.{group-own}
 use Rattle.group_protocol.proofs.HeadValidity.{groups-in-range, head-in-range}
 use Rattle.group_protocol.proofs.Places.{at-nowhere}
 use Rattle.group_protocol.proofs.Llids.{group-found}
-use Rattle.multicast.specs.Naming.{byLlid}
+use Rattle.group_protocol.specs.Naming.{byLlid}
 use Rattle.orders.specs.Calls.{Call}
 use Rattle.orders.specs.Parties.{group, llidOf, partyOf, unit, unitParty}
 

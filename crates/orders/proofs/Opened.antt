@@ -28,10 +28,10 @@ use Rattle.group_protocol.specs.GroupCalls.{groupOfferVerdict, groupOffered, gr
 use Rattle.group_protocol.specs.Head.{apartLlids, findGroup, freshGroup, groupFrom, groupLlids, noGroup, noGroups, pastGroup, validGroup, validGroupNumbers, validGroups, validHead, withGroup, withGroupKeys, withMembers, withOlt, withOneGroupMore}
 use Rattle.group_protocol.specs.Members.{freshMembers, marksOf, placesOf, rosterLlids, unmarked, validMembers}
 use Rattle.group_protocol.specs.Subscriber.{alone, freshJoined, joinedLlids, noMemberships, validGroupsOf, validJoined, validMemberships, validSubscriber, withOneJoinedMore, withOnu}
-use Rattle.multicast.specs.HeadCalls.{freshHeadOf, groupVerdict, headAcknowledgeOf, headAdvanceOf, headAnswer, headCaptureOf, headClockSendOf, headKeySent, headMeasureOf, headOfferOf, headRegisterOf, headRetryOf, oltAnswered, oltClockSent, oltKeySent, ownAcknowledgement, placeFound, registerGroupOf, rosterMembers, unitVerdict, validGroupRegistration}
-use Rattle.multicast.specs.HeadTraffic.{headSendOf, oltSentIn}
-use Rattle.multicast.specs.Naming.{byLlid, groupLift, putGroup}
-use Rattle.multicast.specs.SubscriberCalls.{freshSubscriberOf, joinOf, joinVerdict, onuAnswered, ownAnswered, subscriberAdvanceOf, subscriberAnswer, subscriberNewTimeOf}
+use Rattle.headend.specs.HeadCalls.{freshHeadOf, groupVerdict, headAcknowledgeOf, headAdvanceOf, headAnswer, headCaptureOf, headClockSendOf, headKeySent, headMeasureOf, headOfferOf, headRegisterOf, headRetryOf, oltAnswered, oltClockSent, oltKeySent, ownAcknowledgement, placeFound, registerGroupOf, rosterMembers, unitVerdict, validGroupRegistration}
+use Rattle.headend.specs.HeadTraffic.{headSendOf, oltSentIn}
+use Rattle.group_protocol.specs.Naming.{byLlid, groupLift, putGroup}
+use Rattle.subscriber.specs.SubscriberCalls.{freshSubscriberOf, joinOf, joinVerdict, onuAnswered, ownAnswered, subscriberAdvanceOf, subscriberAnswer, subscriberNewTimeOf}
 use Rattle.orders.specs.Calls.{made, toldNumber}
 use Rattle.orders.specs.Example.{example, subscriber, swapped}
 use Rattle.orders.specs.Locality.{memberParts}

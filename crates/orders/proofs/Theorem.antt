@@ -8,7 +8,7 @@ use Rattle.ends.specs.Records.{withChannels}
 use Rattle.ends.specs.declared.Channels.{Channels}
 use Rattle.group_protocol.specs.Head.{validHead}
 use Rattle.group_protocol.specs.declared.HeadEnd.{HeadEnd}
-use Rattle.multicast.proofs.HeadSteps.{valid-after-acknowledge, valid-after-capture, valid-after-clock-send, valid-after-measure, valid-after-offer, valid-after-receive, valid-after-retry, valid-after-send}
+use Rattle.headend.proofs.HeadSteps.{valid-after-acknowledge, valid-after-capture, valid-after-clock-send, valid-after-measure, valid-after-offer, valid-after-receive, valid-after-retry, valid-after-send}
 use Rattle.orders.specs.Calls.{Call, Made, Told, after, made, capture, measure, clockSend, offer, retry, acknowledge, send, receive}
 use Rattle.orders.specs.EitherOrder.{EitherOrder}
 use Rattle.orders.specs.Parties.{Party, excepted, group, memberOf, nobody, oneChannel, partyOf, sameParty, takingOf, unit}

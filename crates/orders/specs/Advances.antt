@@ -3,8 +3,8 @@ use mathlib.Core.Path.{_≡_}
 use Prim.Native.Nat.{ℕ, _+_}
 use Rattle.group_protocol.specs.declared.HeadEnd.{HeadEnd}
 use Rattle.group_protocol.specs.declared.Subscriber.{Subscriber}
-use Rattle.multicast.specs.HeadCalls.{headAdvanceOf}
-use Rattle.multicast.specs.SubscriberCalls.{subscriberAdvanceOf}
+use Rattle.headend.specs.HeadCalls.{headAdvanceOf}
+use Rattle.subscriber.specs.SubscriberCalls.{subscriberAdvanceOf}
 
 -- wherever the sum is accepted
 pub record Advances : Type 0 where

@@ -8,13 +8,13 @@ use Rattle.protocol.specs.declared.Header.{Header}
 use Rattle.protocol.specs.declared.KeyMessage.{KeyMessage}
 use Rattle.group_protocol.specs.declared.Answer.{Answer}
 use Rattle.group_protocol.specs.declared.HeadEnd.{HeadEnd}
-use Rattle.multicast.specs.HeadCalls.{headAcknowledgeOf, headCaptureOf, headClockSendOf, headMeasureOf, headOfferOf, headRetryOf}
-use Rattle.multicast.specs.HeadTraffic.{headReceiveOf, headSendOf}
-use Rattle.multicast.specs.declared.HeadAnswer.{HeadAnswer}
-use Rattle.multicast.specs.declared.HeadClockSent.{HeadClockSent}
-use Rattle.multicast.specs.declared.HeadKeySent.{HeadKeySent}
-use Rattle.multicast.specs.declared.HeadReceived.{HeadReceived}
-use Rattle.multicast.specs.declared.HeadSent.{HeadSent}
+use Rattle.headend.specs.HeadCalls.{headAcknowledgeOf, headCaptureOf, headClockSendOf, headMeasureOf, headOfferOf, headRetryOf}
+use Rattle.headend.specs.HeadTraffic.{headReceiveOf, headSendOf}
+use Rattle.headend.specs.declared.HeadAnswer.{HeadAnswer}
+use Rattle.headend.specs.declared.HeadClockSent.{HeadClockSent}
+use Rattle.headend.specs.declared.HeadKeySent.{HeadKeySent}
+use Rattle.headend.specs.declared.HeadReceived.{HeadReceived}
+use Rattle.headend.specs.declared.HeadSent.{HeadSent}
 
 pub data Call : Type 0 where
   capture : (llid : ℕ) → Call

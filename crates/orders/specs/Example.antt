@@ -14,8 +14,8 @@ use Rattle.group_protocol.specs.declared.Answer.{Answer}
 use Rattle.group_protocol.specs.declared.HeadEnd.{HeadEnd}
 use Rattle.group_protocol.specs.declared.Roster.{Roster}
 use Rattle.group_protocol.specs.declared.Subscriber.{Subscriber}
-use Rattle.multicast.specs.HeadCalls.{freshHeadOf, headAdvanceOf, headRegisterOf, registerGroupOf}
-use Rattle.multicast.specs.SubscriberCalls.{freshSubscriberOf, joinOf, subscriberAdvanceOf, subscriberNewTimeOf}
+use Rattle.headend.specs.HeadCalls.{freshHeadOf, headAdvanceOf, headRegisterOf, registerGroupOf}
+use Rattle.subscriber.specs.SubscriberCalls.{freshSubscriberOf, joinOf, subscriberAdvanceOf, subscriberNewTimeOf}
 use Rattle.orders.specs.Calls.{Call, acknowledge, after, answerOf, capture, clockSend, measure, offer, retry, send, toldNumber}
 use Rattle.orders.specs.EitherOrder.{Commute}
 use Rattle.orders.specs.Locality.{SameGroup, SameUnit}

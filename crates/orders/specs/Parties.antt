@@ -11,7 +11,7 @@ use Rattle.ends.specs.declared.Found.the-variants.{At, Nowhere}
 use Rattle.group_protocol.specs.Head.{findGroup, groupAt}
 use Rattle.group_protocol.specs.Members.{placesOf}
 use Rattle.group_protocol.specs.declared.HeadEnd.{HeadEnd}
-use Rattle.multicast.specs.Naming.{byLlid}
+use Rattle.group_protocol.specs.Naming.{byLlid}
 use Rattle.orders.specs.Calls.{Call, capture, measure, clockSend, offer, retry, acknowledge, send, receive}
 
 -- the LLID that a call names

@@ -1,4 +1,4 @@
-// Two units, either order (02, C-22): laws on the calls of `multicast`.
+// Two units, either order (02, C-22): laws on the calls of `headend` and `subscriber`.
 ghost use mathlib.Core.Path.{_≡_};
 ghost use Rattle.orders.specs.Calls.{after};
 ghost use Rattle.orders.specs.Demand.{Demand};

@@ -32,9 +32,9 @@ use Rattle.group_protocol.specs.GroupCalls.{groupOutcome, membersSet, groupOffe
 use Rattle.group_protocol.specs.Head.{findGroup, groupAt, validHead}
 use Rattle.group_protocol.specs.declared.GroupRecord.{GroupRecord}
 use Rattle.group_protocol.specs.declared.HeadEnd.{HeadEnd}
-use Rattle.multicast.specs.Naming.{byLlid}
-use Rattle.multicast.specs.HeadCalls.{headKeySent, headOfferOf, headRetryOf}
-use Rattle.multicast.specs.HeadTraffic.{sendAhead, headSent, headSendOf}
+use Rattle.group_protocol.specs.Naming.{byLlid}
+use Rattle.headend.specs.HeadCalls.{headKeySent, headOfferOf, headRetryOf}
+use Rattle.headend.specs.HeadTraffic.{sendAhead, headSent, headSendOf}
 use Rattle.unicast.specs.Setting.{Setting}
 use Rattle.unicast.specs.History.{Envelope, InFlight, keyMessage, envelope}
 use Rattle.unicast.specs.Run.{laneAt, offering, retrying}

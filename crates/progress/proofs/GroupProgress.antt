@@ -17,7 +17,7 @@ use Rattle.ends.specs.Identities.{llidsOf, meets}
 use Rattle.ends.specs.Limits.{maxKeyNumber}
 use Rattle.ends.specs.Occupancy.{freeFrom}
 use Rattle.protocol.specs.declared.KeyMessage.{KeyMessage}
-use Rattle.multicast.specs.SubscriberCalls.{subscriberKeyMessageOf}
+use Rattle.subscriber.specs.SubscriberCalls.{subscriberKeyMessageOf}
 use Rattle.unicast.specs.Setting.{Setting}
 use Rattle.unicast.specs.History.{Envelope, keyMessage, envelope, Entry, Keys, Lane, due, isSynced}
 use Rattle.unicast.specs.Run.{laneAt, freshLane, noSite}

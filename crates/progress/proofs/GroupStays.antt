@@ -14,9 +14,9 @@ use Rattle.protocol.specs.declared.KeyMessage.{KeyMessage}
 use Rattle.protocol.proofs.Replies.{advance-accepts}
 use Rattle.group_protocol.specs.declared.Subscriber.{Subscriber}
 use Rattle.group_protocol.proofs.HeadValidity.{head-valid}
-use Rattle.multicast.specs.HeadCalls.{headAdvanced}
-use Rattle.multicast.specs.declared.SubscriberAcknowledged.{SubscriberAcknowledged}
-use Rattle.multicast.proofs.HeadGrowth.{advance-moves}
+use Rattle.headend.specs.HeadCalls.{headAdvanced}
+use Rattle.subscriber.specs.declared.SubscriberAcknowledged.{SubscriberAcknowledged}
+use Rattle.headend.proofs.HeadGrowth.{advance-moves}
 use Rattle.unicast.specs.Setting.{Setting}
 use Rattle.unicast.specs.History.{Envelope, InFlight, envelope, Lane}
 use Rattle.unicast.specs.Run.{accepted, laneAt, freshLane, noSite}

@@ -24,8 +24,8 @@ use Rattle.group_protocol.specs.JoinedCalls.{noAnswer, holds, heldAgain, highes
 use Rattle.group_protocol.specs.Subscriber.{findJoined, joinedAt, withJoined, validSubscriber}
 use Rattle.group_protocol.specs.declared.Joined.{Joined}
 use Rattle.group_protocol.specs.declared.Subscriber.{Subscriber}
-use Rattle.multicast.specs.Naming.{byLlid}
-use Rattle.multicast.specs.SubscriberCalls.{subscriberAcknowledged, putJoined, joinedLift, subscriberKeyMessageOf}
+use Rattle.group_protocol.specs.Naming.{byLlid}
+use Rattle.subscriber.specs.SubscriberCalls.{subscriberAcknowledged, putJoined, joinedLift, subscriberKeyMessageOf}
 use Rattle.unicast.specs.Setting.{Setting}
 use Rattle.unicast.specs.History.{InFlight, keyMessage, keyOf, isSynced}
 use Rattle.unicast.specs.Run.{laneAt}

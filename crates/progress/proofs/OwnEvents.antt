@@ -14,8 +14,8 @@ use Rattle.protocol.specs.declared.Header.{Header}
 use Rattle.traffic.specs.Sends.{onuSendOf}
 use Rattle.group_protocol.specs.Head.{findGroup}
 use Rattle.group_protocol.specs.Subscriber.{findJoined}
-use Rattle.multicast.specs.declared.HeadKeySent.{HeadKeySent}
-use Rattle.multicast.specs.declared.SubscriberSent.{SubscriberSent}
+use Rattle.headend.specs.declared.HeadKeySent.{HeadKeySent}
+use Rattle.subscriber.specs.declared.SubscriberSent.{SubscriberSent}
 use Rattle.unicast.specs.Setting.{Site, Setting}
 use Rattle.unicast.specs.History.{InFlight, clockMessage, keyMessage, envelope, Entry}
 use Rattle.unicast.specs.Events as units

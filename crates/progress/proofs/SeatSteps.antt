@@ -30,7 +30,7 @@ use Rattle.group_protocol.specs.Members.{placesOf, rosterLlids, freshMembers, v
 use Rattle.group_protocol.specs.declared.GroupRecord.{GroupRecord}
 use Rattle.group_protocol.specs.declared.Roster.{Roster}
 use Rattle.group_protocol.proofs.Places.{among-at}
-use Rattle.multicast.specs.HeadCalls.{registerGroupOf, headRegisterOf, placeFound, rosterMembers}
+use Rattle.headend.specs.HeadCalls.{registerGroupOf, headRegisterOf, placeFound, rosterMembers}
 use Rattle.protocol.specs.declared.OltAnswer.{OltAnswer}
 use Rattle.unicast.specs.Setting.{Setting}
 use Rattle.unicast.specs.History.{InFlight, clockMessage, keyMessage, envelope, Lane, laneWith, laneRegistered, laneCaptured, laneLeaving, laneOffered, laneAcknowledged, laneSentDown, laneSentUp, laneTaken, laneAnswered, laneArrivedDown, laneArrivedUp, laneMoved}

@@ -39,14 +39,14 @@ use Rattle.group_protocol.specs.declared.Answer.{Answer}
 use Rattle.group_protocol.specs.declared.GroupRecord.{GroupRecord}
 use Rattle.group_protocol.specs.declared.Groups.{Groups}
 use Rattle.group_protocol.specs.declared.HeadEnd.{HeadEnd}
-use Rattle.multicast.specs.Naming.{byLlid, groupLift}
-use Rattle.multicast.specs.HeadCalls.{headAnswer, headKeySent, oltAnswered, oltClockSent, oltKeySent, headAdvanced, groupsAdvanced, headAdvanceOf, headCaptureOf, headMeasureOf, headClockSendOf, groupOfferOf, headOfferOf, groupRetryOf, headRetryOf, ownAcknowledgement, groupAcknowledgeOf, headAcknowledgeOf}
-use Rattle.multicast.specs.HeadTraffic.{sendAhead, headSent, oltSentIn, groupSendOf, headSendOf, headNotReceived, oltReceivedIn, groupReceiveVerdict, headReceiveOf}
-use Rattle.multicast.specs.declared.HeadAnswer.{HeadAnswer}
-use Rattle.multicast.specs.declared.HeadClockSent.{HeadClockSent}
-use Rattle.multicast.specs.declared.HeadKeySent.{HeadKeySent}
-use Rattle.multicast.specs.declared.HeadSent.{HeadSent}
-use Rattle.multicast.specs.declared.HeadReceived.{HeadReceived}
+use Rattle.group_protocol.specs.Naming.{byLlid, groupLift}
+use Rattle.headend.specs.HeadCalls.{headAnswer, headKeySent, oltAnswered, oltClockSent, oltKeySent, headAdvanced, groupsAdvanced, headAdvanceOf, headCaptureOf, headMeasureOf, headClockSendOf, groupOfferOf, headOfferOf, groupRetryOf, headRetryOf, ownAcknowledgement, groupAcknowledgeOf, headAcknowledgeOf}
+use Rattle.headend.specs.HeadTraffic.{sendAhead, headSent, oltSentIn, groupSendOf, headSendOf, headNotReceived, oltReceivedIn, groupReceiveVerdict, headReceiveOf}
+use Rattle.headend.specs.declared.HeadAnswer.{HeadAnswer}
+use Rattle.headend.specs.declared.HeadClockSent.{HeadClockSent}
+use Rattle.headend.specs.declared.HeadKeySent.{HeadKeySent}
+use Rattle.headend.specs.declared.HeadSent.{HeadSent}
+use Rattle.headend.specs.declared.HeadReceived.{HeadReceived}
 use Rattle.unicast.specs.Setting.{Site}
 use Rattle.unicast.specs.History.{Entry, Lane}
 use Rattle.unicast.specs.Run as run

@@ -3,6 +3,10 @@ use crate::show;
 use crate::values;
 use group_protocol::Answer;
 use group_protocol::HeadEnd;
+use headend::HeadClockSent;
+use headend::HeadKeySent;
+use headend::HeadMoved;
+use headend::HeadSent;
 use jazmotip::at_olt::jazmotip_olt_acknowledge;
 use jazmotip::at_olt::jazmotip_olt_advance;
 use jazmotip::at_olt::jazmotip_olt_capture;
@@ -15,10 +19,6 @@ use jazmotip::at_olt::jazmotip_olt_register;
 use jazmotip::at_olt::jazmotip_olt_register_group;
 use jazmotip::at_olt::jazmotip_olt_retry;
 use jazmotip::at_olt::jazmotip_olt_send;
-use multicast::HeadClockSent;
-use multicast::HeadKeySent;
-use multicast::HeadMoved;
-use multicast::HeadSent;
 use protocol::Header;
 
 pub(crate) fn fresh(mac: u64, clock: u64) -> HeadEnd {

@@ -11,11 +11,11 @@ use jazmotip::at_onu::jazmotip_onu_key_message;
 use jazmotip::at_onu::jazmotip_onu_new_time;
 use jazmotip::at_onu::jazmotip_onu_receive;
 use jazmotip::at_onu::jazmotip_onu_send;
-use multicast::SubscriberAcknowledged;
-use multicast::SubscriberMoved;
-use multicast::SubscriberSent;
 use protocol::Header;
 use protocol::KeyMessage;
+use subscriber::SubscriberAcknowledged;
+use subscriber::SubscriberMoved;
+use subscriber::SubscriberSent;
 
 // Its Rx and Tx.
 fn stamps(onu: Subscriber) {

@@ -1,0 +1,10 @@
+pub mod Advancing
+pub mod GroupSends
+pub mod HeadAnswers
+pub mod HeadGrowth
+pub mod HeadLift
+pub mod HeadSteps
+pub mod HeadUnits
+pub mod NoGroups
+pub mod Registrations
+pub mod UnitPassages

@@ -1,0 +1,3 @@
+pub mod HeadCalls
+pub mod HeadTraffic
+pub mod WithoutGroups

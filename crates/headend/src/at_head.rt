@@ -1,0 +1,422 @@
+// The calls of a head end but send and receive (02, C-14). A call on a unit is the unit's, put back in a copy of the OLT (D120).
+ghost use mathlib.Core.Path.{_≡_};
+ghost use mathlib.Core.Bool.{true};
+ghost use Prim.Native.Nat.{_≤_, _<_};
+ghost use lib.Dec.{eqb};
+ghost use lib.ListN.{take};
+ghost use Rattle.octets.specs.Choice.{pick};
+ghost use Rattle.octets.specs.Lists.{all};
+ghost use Rattle.clock.specs.Ticks.{maxTick};
+ghost use Rattle.ends.specs.Limits.{maxUnits};
+ghost use Rattle.ends.specs.Timers.{validTimer};
+ghost use Rattle.protocol.specs.OltCalls.{acknowledgeOf, offerOf, retryOf};
+ghost use Rattle.group_protocol.specs.GroupCalls.{memberNamed};
+ghost use Rattle.headend.specs.HeadCalls.{freshHeadOf, groupAcknowledgeOf, groupOfferOf, groupRetryOf, groupsAdvanced, headAcknowledgeOf, headAdvanceOf, headCaptureOf, headClockSendOf, headMeasureOf, headMovedOf, headOfferOf, headRegisterOf, headRetryOf, oltAnswered, oltKeySent, ownAcknowledgement, registerGroupOf};
+ghost use Rattle.headend.specs.WithoutGroups.{WithoutGroups};
+use crate::HeadAnswer;
+use crate::HeadClockSent;
+use crate::HeadKeySent;
+use crate::HeadMoved;
+use crate::answers;
+use crate::answers::with_olt;
+use crate::head_place::group_named;
+use crate::head_place::put;
+use crate::head_place::sound_groups;
+use crate::head_place::way_to;
+use crate::registering;
+use crate::timing::table_advanced;
+use clock::MAX_ROUND_TRIP;
+use ends::Found;
+use ends::Identity;
+use ends::Olt;
+use group_protocol::Answer;
+use group_protocol::Groups;
+use group_protocol::HeadEnd;
+use group_protocol::Members;
+use group_protocol::Roster;
+use groups::making::fresh_group;
+use groups::making::no_groups;
+use groups::membership::member_at;
+use groups::membership::members_set;
+use groups::one_group;
+use olt::place::locate;
+use protocol::Acknowledgement;
+use refusal::Refusal;
+use refusal::Verdict;
+use refusal::refuse_if;
+use refusal::verdict_number;
+use unit::calls;
+
+// A fresh head end of that MAC and first clock, without groups, so that it answers as its OLT. Refused, it is an end of zeros.
+pub fn fresh(mac: u64, clock: u64) -> HeadAnswer
+    ensures { λ r. ⌜ r ≡ freshHeadOf mac clock ⌝ }
+    ensures alone { λ _. ⌜ WithoutGroups ⌝ }
+{
+    let done = olt::fresh(mac, clock);
+    let olt = done.olt;
+    let groups = no_groups();
+    let head = HeadEnd { olt, groups };
+    HeadAnswer {
+        number: done.number,
+        head,
+    }
+}
+
+// Beside groups, which 3 and 4 know.
+fn register_beside(head: HeadEnd, identity: Identity, trip: u64, interval: u64) -> HeadAnswer
+    ensures { λ r. ⌜ r ≡ headRegisterOf head identity trip interval ⌝ }
+{
+    let verdict = registering::unit_verdict(head, identity, trip, interval);
+    match verdict {
+        Verdict::Refused(refusal) => answers::refused(head, refusal),
+        Verdict::Accepted => {
+            let done = olt::register(head.olt, identity, trip, interval);
+            let olt = done.olt;
+            answers::accepted(with_olt(head, olt))
+        }
+    }
+}
+
+// Registers a unit. 3 and 4 know the groups.
+pub fn register(head: HeadEnd, identity: Identity, trip: u64, interval: u64) -> HeadAnswer
+    ensures { λ r. ⌜ r ≡ headRegisterOf head identity trip interval ⌝ }
+{
+    if head.groups.count == 0 {
+        let done = olt::register(head.olt, identity, trip, interval);
+        let olt = done.olt;
+        let groups = head.groups;
+        return HeadAnswer {
+            number: done.number,
+            head: HeadEnd { olt, groups },
+        };
+    }
+    let whole = head;
+    register_beside(whole, identity, trip, interval)
+}
+
+// Registers a group with its members, each named by any LLID of its unit.
+pub fn register_group(head: HeadEnd, llid: u16, interval: u64, roster: Roster) -> HeadAnswer
+    ensures { λ r. ⌜ r ≡ registerGroupOf head llid interval roster ⌝ }
+{
+    let members = registering::roster_members(head.olt, roster);
+    let verdict = registering::group_verdict(head, llid, interval, members);
+    match verdict {
+        Verdict::Refused(refusal) => answers::refused(head, refusal),
+        Verdict::Accepted => {
+            let group = fresh_group(llid, interval, members);
+            answers::accepted(registering::with_one_group_more(head, group))
+        }
+    }
+}
+
+// The groups after an advance with that code. Without one nothing is copied for that.
+fn groups_moved(groups: Groups, number: u8, n: u64) -> Groups
+    requires { ⌜ (number ≡ 0 → (groups .count ≤ maxUnits) × (n ≤ maxTick)) ⌝ }
+    requires { ⌜ (number ≡ 0 → all (λ g. validTimer (g .keys .timer)) (take (groups .count) (groups .table)) ≡ true) ⌝ }
+    ensures { λ r. ⌜ r ≡ pick (eqb number 0) (groupsAdvanced groups n) groups ⌝ }
+{
+    if number != 0 {
+        return groups;
+    }
+    let count = groups.count;
+    if count == 0 {
+        return groups;
+    }
+    let table = groups.table;
+    let moved = table_advanced(table, count as usize, n);
+    Groups {
+        count,
+        table: moved,
+    }
+}
+
+// Ticks, clock and the timers of all units and groups. What it costs does not depend on the ticks.
+pub fn moved(head: HeadEnd, n: u64) -> HeadMoved
+    ensures { λ r. ⌜ r ≡ headMovedOf head n ⌝ }
+{
+    let sound = sound_groups(head);
+    let ahead = refuse_if(!sound, Refusal::OutOfRange, Verdict::Accepted);
+    let done = olt::moved(head.olt, ahead, n);
+    let number = done.number;
+    let olt = done.olt;
+    let groups = groups_moved(head.groups, number, n);
+    HeadMoved {
+        head: HeadEnd { olt, groups },
+        number,
+    }
+}
+
+pub fn advance(head: HeadEnd, n: u64) -> HeadAnswer
+    ensures { λ r. ⌜ r ≡ headAdvanceOf head n ⌝ }
+{
+    let done = moved(head, n);
+    let next = done.head;
+    HeadAnswer {
+        number: done.number,
+        head: next,
+    }
+}
+
+// A group has no clock: its LLID is no unit's.
+pub fn capture(head: HeadEnd, llid: u16) -> HeadAnswer
+    ensures { λ r. ⌜ r ≡ headCaptureOf head llid ⌝ }
+{
+    let valid = sound_groups(head);
+    let ahead = refuse_if(!valid, Refusal::OutOfRange, Verdict::Accepted);
+    let mut olt = head.olt;
+    let at = locate(olt, ahead, llid);
+    let i = at.place;
+    let way = at.verdict;
+    let unit = olt.units[i];
+    let done = calls::capture(way, olt.shared, unit);
+    let verdict = done.verdict;
+    let number = verdict_number(verdict);
+    let next = done.unit;
+    olt.units[i] = next;
+    let groups = head.groups;
+    HeadAnswer {
+        number,
+        head: HeadEnd { olt, groups },
+    }
+}
+
+// The round trip measured again (02, C-16). The unit's groups go on.
+pub fn measure(head: HeadEnd, llid: u16, trip: u64) -> HeadAnswer
+    ensures { λ r. ⌜ r ≡ headMeasureOf head llid trip ⌝ }
+{
+    let valid = sound_groups(head);
+    let ranged = refuse_if(
+        !(trip <= MAX_ROUND_TRIP),
+        Refusal::OutOfRange,
+        Verdict::Accepted,
+    );
+    let ahead = refuse_if(!valid, Refusal::OutOfRange, ranged);
+    let mut olt = head.olt;
+    let at = locate(olt, ahead, llid);
+    let i = at.place;
+    let way = at.verdict;
+    let unit = olt.units[i];
+    let done = calls::measure(way, olt.shared, unit, trip);
+    let verdict = done.verdict;
+    let number = verdict_number(verdict);
+    let next = done.unit;
+    olt.units[i] = next;
+    let groups = head.groups;
+    HeadAnswer {
+        number,
+        head: HeadEnd { olt, groups },
+    }
+}
+
+pub fn clock_send(head: HeadEnd, llid: u16) -> HeadClockSent
+    ensures { λ r. ⌜ r ≡ headClockSendOf head llid ⌝ }
+{
+    let valid = sound_groups(head);
+    let ahead = refuse_if(!valid, Refusal::OutOfRange, Verdict::Accepted);
+    let mut olt = head.olt;
+    let at = locate(olt, ahead, llid);
+    let i = at.place;
+    let way = at.verdict;
+    let unit = olt.units[i];
+    let done = calls::clock_send(way, olt.shared, unit);
+    let verdict = done.verdict;
+    let number = verdict_number(verdict);
+    let next = done.unit;
+    let message = done.message;
+    olt.units[i] = next;
+    let groups = head.groups;
+    HeadClockSent {
+        number,
+        head: HeadEnd { olt, groups },
+        message,
+    }
+}
+
+fn offer_unit(head: HeadEnd, llid: u16, key: [u8; 16]) -> HeadKeySent
+    ensures { λ r. ⌜ r ≡ oltKeySent head (offerOf (head .olt) llid key) ⌝ }
+{
+    let valid = sound_groups(head);
+    let ahead = refuse_if(!valid, Refusal::OutOfRange, Verdict::Accepted);
+    let mut olt = head.olt;
+    let at = locate(olt, ahead, llid);
+    let i = at.place;
+    let way = at.verdict;
+    let unit = olt.units[i];
+    let done = calls::offer(way, olt.shared, unit, llid, key);
+    let verdict = done.verdict;
+    let number = verdict_number(verdict);
+    let next = done.unit;
+    let message = done.message;
+    olt.units[i] = next;
+    let groups = head.groups;
+    HeadKeySent {
+        number,
+        head: HeadEnd { olt, groups },
+        message,
+    }
+}
+
+fn offer_group(head: HeadEnd, i: usize, llid: u16, key: [u8; 16]) -> HeadKeySent
+    requires { ⌜ i < maxUnits ⌝ }
+    ensures { λ r. ⌜ r ≡ groupOfferOf head llid key i ⌝ }
+{
+    let way = way_to(head, Verdict::Accepted);
+    let groups = head.groups;
+    let group = groups.table[i];
+    let set = members_set(head.olt, group.members);
+    let shared = head.olt.shared;
+    let done = one_group::offer(way, shared, group, set, llid, key);
+    let verdict = done.verdict;
+    let next = done.group;
+    let message = done.message;
+    HeadKeySent {
+        number: verdict_number(verdict),
+        head: put(head, i, shared.channels, next),
+        message,
+    }
+}
+
+// To a unit, or to a group, whose members' clocks must all be acknowledged.
+pub fn offer(head: HeadEnd, llid: u16, key: [u8; 16]) -> HeadKeySent
+    ensures { λ r. ⌜ r ≡ headOfferOf head llid key ⌝ }
+{
+    let found = group_named(head, llid);
+    match found {
+        Found::Nowhere => offer_unit(head, llid, key),
+        Found::At(i) => offer_group(head, i, llid, key),
+    }
+}
+
+fn retry_unit(head: HeadEnd, llid: u16) -> HeadKeySent
+    ensures { λ r. ⌜ r ≡ oltKeySent head (retryOf (head .olt) llid) ⌝ }
+{
+    let valid = sound_groups(head);
+    let ahead = refuse_if(!valid, Refusal::OutOfRange, Verdict::Accepted);
+    let mut olt = head.olt;
+    let at = locate(olt, ahead, llid);
+    let i = at.place;
+    let way = at.verdict;
+    let unit = olt.units[i];
+    let done = calls::retry(way, olt.shared, unit, llid);
+    let verdict = done.verdict;
+    let number = verdict_number(verdict);
+    let next = done.unit;
+    let message = done.message;
+    olt.units[i] = next;
+    let groups = head.groups;
+    HeadKeySent {
+        number,
+        head: HeadEnd { olt, groups },
+        message,
+    }
+}
+
+fn retry_group(head: HeadEnd, i: usize, llid: u16) -> HeadKeySent
+    requires { ⌜ i < maxUnits ⌝ }
+    ensures { λ r. ⌜ r ≡ groupRetryOf head llid i ⌝ }
+{
+    let way = way_to(head, Verdict::Accepted);
+    let groups = head.groups;
+    let group = groups.table[i];
+    let shared = head.olt.shared;
+    let done = one_group::retry(way, shared, group, llid);
+    let verdict = done.verdict;
+    let next = done.group;
+    let message = done.message;
+    HeadKeySent {
+        number: verdict_number(verdict),
+        head: put(head, i, shared.channels, next),
+        message,
+    }
+}
+
+// The offer's number and key again.
+pub fn retry(head: HeadEnd, llid: u16) -> HeadKeySent
+    ensures { λ r. ⌜ r ≡ headRetryOf head llid ⌝ }
+{
+    let found = group_named(head, llid);
+    match found {
+        Found::Nowhere => retry_unit(head, llid),
+        Found::At(i) => retry_group(head, i, llid),
+    }
+}
+
+// A unit's own acknowledgement names no unit; one that does fits nothing.
+fn own_acknowledgement(answer: Answer) -> Acknowledgement
+    ensures { λ r. ⌜ r ≡ ownAcknowledgement answer ⌝ }
+{
+    if answer.named == 0 {
+        return Acknowledgement {
+            kind: answer.kind,
+            number: answer.number,
+        };
+    }
+    Acknowledgement { kind: 0, number: 0 }
+}
+
+fn acknowledge_unit(head: HeadEnd, llid: u16, answer: Answer) -> HeadAnswer
+    ensures { λ r. ⌜ r ≡ oltAnswered head (acknowledgeOf (head .olt) llid (ownAcknowledgement answer)) ⌝ }
+{
+    let valid = sound_groups(head);
+    let ahead = refuse_if(!valid, Refusal::OutOfRange, Verdict::Accepted);
+    let own = own_acknowledgement(answer);
+    let mut olt = head.olt;
+    let at = locate(olt, ahead, llid);
+    let i = at.place;
+    let way = at.verdict;
+    let unit = olt.units[i];
+    let done = calls::acknowledge(way, olt.shared, unit, own);
+    let verdict = done.verdict;
+    let number = verdict_number(verdict);
+    let next = done.unit;
+    olt.units[i] = next;
+    let groups = head.groups;
+    HeadAnswer {
+        number,
+        head: HeadEnd { olt, groups },
+    }
+}
+
+// The member that the answer names, by any LLID of its unit.
+fn member_named(olt: Olt, members: Members, answer: Answer) -> Found
+    ensures { λ r. ⌜ r ≡ memberNamed olt members answer ⌝ }
+{
+    if answer.named != 1 {
+        return Found::Nowhere;
+    }
+    let units = olt.units;
+    let found = ends::search::find(units, olt.count, answer.unit);
+    match found {
+        Found::Nowhere => Found::Nowhere,
+        Found::At(place) => member_at(members, place),
+    }
+}
+
+fn acknowledge_group(head: HeadEnd, i: usize, answer: Answer) -> HeadAnswer
+    requires { ⌜ i < maxUnits ⌝ }
+    ensures { λ r. ⌜ r ≡ groupAcknowledgeOf head answer i ⌝ }
+{
+    let way = way_to(head, Verdict::Accepted);
+    let groups = head.groups;
+    let group = groups.table[i];
+    let member = member_named(head.olt, group.members, answer);
+    let shared = head.olt.shared;
+    let done = one_group::acknowledge(way, shared, group, member, answer);
+    let verdict = done.verdict;
+    let next = done.group;
+    HeadAnswer {
+        number: verdict_number(verdict),
+        head: put(head, i, shared.channels, next),
+    }
+}
+
+// Of a unit, or of a group's member, which the answer names.
+pub fn acknowledge(head: HeadEnd, llid: u16, answer: Answer) -> HeadAnswer
+    ensures { λ r. ⌜ r ≡ headAcknowledgeOf head llid answer ⌝ }
+{
+    let found = group_named(head, llid);
+    match found {
+        Found::Nowhere => acknowledge_unit(head, llid, answer),
+        Found::At(i) => acknowledge_group(head, i, answer),
+    }
+}

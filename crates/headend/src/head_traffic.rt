@@ -1,0 +1,195 @@
+// Send and receive of a head end, with their octets (02, C-14).
+ghost use mathlib.Core.Path.{_≡_};
+ghost use mathlib.Core.Bool.{not};
+ghost use Prim.Native.Nat.{_<_};
+ghost use Rattle.octets.specs.Choice.{both};
+ghost use Rattle.octets.specs.Output.{withOutput};
+ghost use Rattle.envelope.specs.Acceptance.{lengthsFit};
+ghost use Rattle.envelope.specs.Channels.{downstream, upstream};
+ghost use Rattle.refusal.specs.Order.{refuseIf};
+ghost use Rattle.refusal.specs.declared.Refusal.the-variants.{BadLength, OutOfRange};
+ghost use Rattle.refusal.specs.declared.Verdict.the-variants.{Accepted};
+ghost use Rattle.ends.specs.Limits.{maxUnits};
+ghost use Rattle.protocol.specs.Headers.{validHeader};
+ghost use Rattle.traffic.specs.Receipts.{oltReceiveOf};
+ghost use Rattle.traffic.specs.Sends.{oltSendOf};
+ghost use Rattle.headend.specs.HeadTraffic.{groupReceiveVerdict, groupSendOf, headReceiveOf, headSendOf, oltReceivedIn, oltSentIn};
+use crate::HeadReceived;
+use crate::HeadSent;
+use crate::head_place::group_named;
+use crate::head_place::put;
+use crate::head_place::sound_groups;
+use crate::head_place::way_to;
+use ends::Found;
+use envelope::downstream;
+use envelope::lengths_fit;
+use envelope::upstream;
+use group_protocol::HeadEnd;
+use groups::sending;
+use octets::EQ_OCTETS;
+use olt::place::locate;
+use protocol::Header;
+use refusal::Refusal;
+use refusal::Verdict;
+use refusal::refuse_if;
+use refusal::verdict_number;
+use traffic::carrying::carry_fitting;
+use unit::passing::valid_header;
+
+fn send_unit(head: HeadEnd, llid: u16, channel: u8, payload: &[u8], output: &mut [u8]) -> HeadSent
+    ensures { λ r. ⌜ withOutput r (now (output .exit))
+        ≡ oltSentIn head (oltSendOf (head .olt) llid channel (now (payload .entry)) (now (output .entry))) (now (output .entry)) ⌝ }
+{
+    let valid = sound_groups(head);
+    let ahead = send_ahead(payload.len(), output.len(), channel);
+    let guarded = refuse_if(!valid, Refusal::OutOfRange, ahead);
+    let mut olt = head.olt;
+    let at = locate(olt, guarded, llid);
+    let i = at.place;
+    let way = at.verdict;
+    let unit = olt.units[i];
+    let eqs = (payload.len() / EQ_OCTETS) as u64;
+    let done = unit::traffic::send(way, olt.shared, unit, llid, channel, eqs);
+    let verdict = done.verdict;
+    let next = done.unit;
+    let channels = done.channels;
+    let sending = done.sending;
+    let header = sending.header;
+    let passage = sending.passage;
+    let work = carry_fitting(verdict, passage, channel, payload, output);
+    let number = verdict_number(verdict);
+    let mut shared = olt.shared;
+    shared.channels = channels;
+    olt.shared = shared;
+    olt.units[i] = next;
+    let groups = head.groups;
+    HeadSent {
+        number,
+        head: HeadEnd { olt, groups },
+        header,
+        count: work.count,
+        runs: work.runs,
+    }
+}
+
+// What a send refuses ahead of 2.
+fn send_ahead(n: usize, m: usize, channel: u8) -> Verdict
+    ensures { λ r. ⌜ r ≡ refuseIf (not (lengthsFit n m)) BadLength (refuseIf (not (downstream channel)) OutOfRange Accepted) ⌝ }
+{
+    refuse_if(
+        !lengths_fit(n, m),
+        Refusal::BadLength,
+        refuse_if(!downstream(channel), Refusal::OutOfRange, Verdict::Accepted),
+    )
+}
+
+fn send_group(
+    head: HeadEnd,
+    i: usize,
+    llid: u16,
+    channel: u8,
+    payload: &[u8],
+    output: &mut [u8],
+) -> HeadSent
+    requires { ⌜ i < maxUnits ⌝ }
+    ensures { λ r. ⌜ withOutput r (now (output .exit)) ≡ groupSendOf head llid channel (now (payload .entry)) (now (output .entry)) i ⌝ }
+{
+    let way = way_to(head, send_ahead(payload.len(), output.len(), channel));
+    let groups = head.groups;
+    let group = groups.table[i];
+    let eqs = (payload.len() / EQ_OCTETS) as u64;
+    let done = sending::send(way, head.olt.shared, group, llid, channel, eqs);
+    let verdict = done.verdict;
+    let next = done.group;
+    let channels = done.channels;
+    let sent = done.sending;
+    let header = sent.header;
+    let passage = sent.passage;
+    let work = carry_fitting(verdict, passage, channel, payload, output);
+    HeadSent {
+        number: verdict_number(verdict),
+        head: put(head, i, channels, next),
+        header,
+        count: work.count,
+        runs: work.runs,
+    }
+}
+
+// To a unit or to a group. A group's next accepted send with the flag up and O = A + 1 switches, acknowledged or not.
+pub fn send(head: HeadEnd, llid: u16, channel: u8, payload: &[u8], output: &mut [u8]) -> HeadSent
+    ensures { λ r. ⌜ withOutput r (now (output .exit)) ≡ headSendOf head llid channel (now (payload .entry)) (now (output .entry)) ⌝ }
+{
+    let found = group_named(head, llid);
+    match found {
+        Found::Nowhere => send_unit(head, llid, channel, payload, output),
+        Found::At(i) => send_group(head, i, llid, channel, payload, output),
+    }
+}
+
+// What a receipt refuses ahead of 2, then the rest.
+fn receive_ahead(n: usize, m: usize, header: Header, rest: Verdict) -> Verdict
+    ensures { λ r. ⌜ r
+        ≡ refuseIf (not (lengthsFit n m)) BadLength (refuseIf (not (both (upstream (header .channel)) (validHeader header))) OutOfRange rest) ⌝ }
+{
+    let right = upstream(header.channel) & valid_header(header);
+    refuse_if(
+        !lengths_fit(n, m),
+        Refusal::BadLength,
+        refuse_if(!right, Refusal::OutOfRange, rest),
+    )
+}
+
+fn receive_unit(head: HeadEnd, header: Header, octets: &[u8], output: &mut [u8]) -> HeadReceived
+    ensures { λ r. ⌜ withOutput r (now (output .exit))
+        ≡ oltReceivedIn head (oltReceiveOf (head .olt) header (now (octets .entry)) (now (output .entry))) (now (output .entry)) ⌝ }
+{
+    let valid = sound_groups(head);
+    let ahead = receive_ahead(octets.len(), output.len(), header, Verdict::Accepted);
+    let guarded = refuse_if(!valid, Refusal::OutOfRange, ahead);
+    let mut olt = head.olt;
+    let at = locate(olt, guarded, header.llid);
+    let i = at.place;
+    let way = at.verdict;
+    let unit = olt.units[i];
+    let done = unit::traffic::receive(way, olt.shared, unit, header);
+    let verdict = done.verdict;
+    let next = done.unit;
+    let passage = done.passage;
+    let work = carry_fitting(verdict, passage, header.channel, octets, output);
+    let number = verdict_number(verdict);
+    olt.units[i] = next;
+    let groups = head.groups;
+    HeadReceived {
+        number,
+        head: HeadEnd { olt, groups },
+        count: work.count,
+        runs: work.runs,
+    }
+}
+
+// What a receipt on a group's LLID is refused.
+fn group_receive_verdict(head: HeadEnd, header: Header, n: usize, m: usize) -> Verdict
+    ensures { λ r. ⌜ r ≡ groupReceiveVerdict head header n m ⌝ }
+{
+    let rest = receive_ahead(n, m, header, Verdict::Refused(Refusal::GroupLlid));
+    way_to(head, rest)
+}
+
+// From a unit: on a group's LLID the OLT receives nothing.
+pub fn receive(head: HeadEnd, header: Header, octets: &[u8], output: &mut [u8]) -> HeadReceived
+    ensures { λ r. ⌜ withOutput r (now (output .exit)) ≡ headReceiveOf head header (now (octets .entry)) (now (output .entry)) ⌝ }
+{
+    let found = group_named(head, header.llid);
+    match found {
+        Found::Nowhere => receive_unit(head, header, octets, output),
+        Found::At(_) => {
+            let verdict = group_receive_verdict(head, header, octets.len(), output.len());
+            HeadReceived {
+                number: verdict_number(verdict),
+                head,
+                count: 0,
+                runs: 0,
+            }
+        }
+    }
+}

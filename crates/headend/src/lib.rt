@@ -1,0 +1,58 @@
+// The calls of an OLT with its groups, a head end (02, C-14). A call that names a group's LLID is made on the group, any other on the OLT as 01
+// has it. Each takes the end by value and gives back the code, the end and what is handed over; refused, the end and the output are those that
+// were lent.
+
+mod answers;
+pub mod at_head;
+mod head_place;
+pub mod head_traffic;
+mod registering;
+mod timing;
+
+use clock::Stamps;
+use group_protocol::HeadEnd;
+use protocol::Header;
+use protocol::KeyMessage;
+
+#[repr(C)]
+pub struct HeadAnswer {
+    pub number: u8,
+    pub head: HeadEnd,
+}
+
+// What an advance leaves. The end stands first, where nothing pads it, so that it is handed on where it lies (D119).
+pub struct HeadMoved {
+    pub head: HeadEnd,
+    pub number: u8,
+}
+
+#[repr(C)]
+pub struct HeadClockSent {
+    pub number: u8,
+    pub head: HeadEnd,
+    pub message: Stamps,
+}
+
+#[repr(C)]
+pub struct HeadKeySent {
+    pub number: u8,
+    pub head: HeadEnd,
+    pub message: KeyMessage,
+}
+
+#[repr(C)]
+pub struct HeadSent {
+    pub number: u8,
+    pub head: HeadEnd,
+    pub header: Header,
+    pub count: u64,
+    pub runs: u64,
+}
+
+#[repr(C)]
+pub struct HeadReceived {
+    pub number: u8,
+    pub head: HeadEnd,
+    pub count: u64,
+    pub runs: u64,
+}

@@ -1,9 +1,0 @@
--- `multicast::answers::refused` meets its contract: the code is the refusal's. Assumes nothing.
-use borrow.Author.Needs.{needs}
-use Rattle.protocol.specs.Replies.{reply}
-use Rattle.multicast.specs.HeadCalls.{headAnswer}
-use Rattle.multicast.proofs.answers.refused.Statement.{statement}
-use Rattle.multicast.proofs.answers.refused.Tie as tie
-
-pub refused-spec : {M : Type 1} → statement M
-refused-spec = tie.close (tie.spec (λ c κs. search needs) (λ c. unfold headAnswer reply in rw (c .number .ensures)))

@@ -1,0 +1,3 @@
+pub mod SubscriberLift
+pub mod SubscriberSteps
+pub mod SubscriberTraffic

@@ -1,0 +1,3 @@
+pub mod SubscriberCalls
+pub mod SubscriberTraffic
+pub mod SubscriberClaims

@@ -1,10 +1,10 @@
 // Words at the OLT: the ends that rows start from, fields, and calls.
+use crate::play;
 use crate::play::Aim;
 use crate::play::Envelope;
 use crate::play::Play;
-use crate::play;
-use crate::script::Numbers;
 use crate::script;
+use crate::script::Numbers;
 use crate::values;
 use clock::Stamps;
 use ends::Identity;
@@ -14,6 +14,10 @@ use group_protocol::Answer;
 use group_protocol::GroupRecord;
 use group_protocol::HeadEnd;
 use group_protocol::Members;
+use headend::HeadAnswer;
+use headend::HeadClockSent;
+use headend::HeadKeySent;
+use headend::HeadMoved;
 use jazmotip::at_olt::jazmotip_olt_acknowledge;
 use jazmotip::at_olt::jazmotip_olt_advance;
 use jazmotip::at_olt::jazmotip_olt_capture;
@@ -26,10 +30,6 @@ use jazmotip::at_olt::jazmotip_olt_register;
 use jazmotip::at_olt::jazmotip_olt_register_group;
 use jazmotip::at_olt::jazmotip_olt_retry;
 use jazmotip::at_olt::jazmotip_olt_send;
-use multicast::HeadAnswer;
-use multicast::HeadClockSent;
-use multicast::HeadKeySent;
-use multicast::HeadMoved;
 use protocol::Header;
 use protocol::KeyMessage;
 

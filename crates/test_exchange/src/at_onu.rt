@@ -1,10 +1,10 @@
 // Words at a unit: the ends that rows start from, fields, and calls.
+use crate::play;
 use crate::play::Aim;
 use crate::play::Envelope;
 use crate::play::Play;
-use crate::play;
-use crate::script::Numbers;
 use crate::script;
+use crate::script::Numbers;
 use crate::values;
 use clock::Stamps;
 use ends::Onu;
@@ -20,11 +20,11 @@ use jazmotip::at_onu::jazmotip_onu_key_message;
 use jazmotip::at_onu::jazmotip_onu_new_time;
 use jazmotip::at_onu::jazmotip_onu_receive;
 use jazmotip::at_onu::jazmotip_onu_send;
-use multicast::SubscriberAcknowledged;
-use multicast::SubscriberAnswer;
-use multicast::SubscriberMoved;
 use protocol::Header;
 use protocol::KeyMessage;
+use subscriber::SubscriberAcknowledged;
+use subscriber::SubscriberAnswer;
+use subscriber::SubscriberMoved;
 
 // The unit after a send or a receipt, and what passed.
 struct OnuPassed {

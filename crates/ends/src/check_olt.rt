@@ -236,7 +236,7 @@ fn judge_table(olt: Olt, count: usize, llid: u16) -> Judged
     valid_with(place)
 }
 
-// Whether the OLT is valid and, if so, which unit has the LLID.
+// Whether the OLT is valid and, if so, which unit has the LLID. An empty table is not copied for that.
 pub fn judge(olt: Olt, llid: u16) -> Judged
     ensures { λ r. ⌜ r ≡ judgedOf olt llid ⌝ }
 {
@@ -246,6 +246,9 @@ pub fn judge(olt: Olt, llid: u16) -> Judged
     }
     if !valid_shared(olt.shared) {
         return invalid();
+    }
+    if count == 0 {
+        return valid_with(MAX_UNITS as usize);
     }
     judge_table(olt, count as usize, llid)
 }

@@ -3,9 +3,11 @@ use mathlib.Core.Bool.{true}
 use mathlib.Core.Path.{_≡_, sym, _∙_}
 use borrow.Author.Needs.{needs}
 use borrow.Author.Tests.{le-leb, lt-leb, not-true, not-false}
-use Rattle.octets.specs.Choice.{both}
+use Rattle.octets.specs.Choice.{both, pick}
+use Rattle.octets.specs.Lists.{all}
 use Rattle.octets.proofs.Choice.{both-false-left, both-false-right}
-use Rattle.ends.specs.Table.{find}
+use Rattle.ends.specs.Identities.{distinct}
+use Rattle.ends.specs.Table.{find, findFrom, tableLlids}
 use Rattle.ends.specs.Validity.{judgedOf, judgedTable, validOlt, validShared}
 use Rattle.ends.proofs.Validity.{judged-no}
 use Rattle.ends.proofs.check_olt.judge.Statement.{statement}
@@ -26,13 +28,19 @@ shared-valid : (c : tie.Else2) → validShared (c .before .before .before .args 
 shared-valid c = sym (c .before .valid-shared .ensures) ∙ not-false (c .before .valid-shared .result) (c .if2 .left)
 
 returns-3 : tie.Need-returns-3
-unfolding judgedOf judgedTable validOlt both find
+unfolding judgedOf validOlt find findFrom tableLlids all distinct both pick
 returns-3 c =
-    let passed = c .before in
+    let passed = c .before .before in
+    rw (c .before .if3 .taken, shared-valid passed) (c .valid-with .ensures)
+
+returns-4 : tie.Need-returns-4
+unfolding judgedOf judgedTable validOlt both find
+returns-4 c =
+    let passed = c .before .before in
     rw (le-leb _ _ (passed .before .before .if1 .left), shared-valid passed) (c .judge-table .ensures)
 
 pub judge-spec : {M : Type 1} → statement M
 judge-spec =
     tie.close
     (tie.spec (λ c κs. search needs) returns (λ c κs. search needs) (λ c κs. search needs) returns-2 (λ c. search needs) (λ c κs. search needs)
-    returns-3)
+    returns-3 (λ c. search needs) (λ c κs. search needs) returns-4)

@@ -1,7 +1,7 @@
 // Whether an OLT that is lent is valid (01, 'When the reader says no': Ahead of each list comes 1).
 ghost use mathlib.Core.Path.{_≡_};
 ghost use mathlib.Core.Bool.{true, false};
-ghost use mathlib.Core.List.{_++_};
+ghost use mathlib.Core.List.{[], _∷_, _++_};
 ghost use Prim.Native.Nat.{_+_, _≤_, _<_};
 ghost use lib.ListN.{length, take};
 ghost use Rattle.ends.specs.Identities.{among, distinct, has, llidsOf};
@@ -23,6 +23,7 @@ use crate::UnitRecord;
 use crate::limits::MAX_INTERVAL;
 use crate::limits::MAX_LLIDS;
 use crate::limits::MAX_UNITS;
+use crate::llids::distinct_llids;
 use crate::llids::has;
 use crate::llids::valid_identity;
 use crate::llids::valid_mac;
@@ -236,7 +237,20 @@ fn judge_table(olt: Olt, count: usize, llid: u16) -> Judged
     valid_with(place)
 }
 
-// Whether the OLT is valid and, if so, which unit has the LLID. An empty table is not copied for that.
+// The same of a table of one unit.
+fn judge_one(tick: u64, unit: UnitRecord, llid: u16) -> Judged
+    ensures { λ r. ⌜ r ≡ judgedTable tick (unit ∷ []) llid ⌝ }
+{
+    if !valid_unit(tick, unit) {
+        return invalid();
+    }
+    if !distinct_llids(unit.identity) {
+        return invalid();
+    }
+    valid_with(first_place(MAX_UNITS as usize, 0, unit.identity, llid))
+}
+
+// Whether the OLT is valid and, if so, which unit has the LLID. An empty table and one of a single unit are judged without a copy (D119).
 pub fn judge(olt: Olt, llid: u16) -> Judged
     ensures { λ r. ⌜ r ≡ judgedOf olt llid ⌝ }
 {
@@ -249,6 +263,9 @@ pub fn judge(olt: Olt, llid: u16) -> Judged
     }
     if count == 0 {
         return valid_with(MAX_UNITS as usize);
+    }
+    if count == 1 {
+        return judge_one(olt.shared.tick, olt.units[0], llid);
     }
     judge_table(olt, count as usize, llid)
 }

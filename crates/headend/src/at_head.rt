@@ -11,7 +11,7 @@ ghost use Rattle.ends.specs.Limits.{maxUnits};
 ghost use Rattle.ends.specs.Timers.{validTimer};
 ghost use Rattle.protocol.specs.OltCalls.{acknowledgeOf, offerOf, retryOf};
 ghost use Rattle.group_protocol.specs.GroupCalls.{memberNamed};
-ghost use Rattle.headend.specs.HeadCalls.{freshHeadOf, groupAcknowledgeOf, groupOfferOf, groupRetryOf, groupsAdvanced, headAcknowledgeOf, headAdvanceOf, headCaptureOf, headClockSendOf, headMeasureOf, headMovedOf, headOfferOf, headRegisterOf, headRetryOf, oltAnswered, oltKeySent, ownAcknowledgement, registerGroupOf};
+ghost use Rattle.headend.specs.HeadCalls.{freshHeadOf, groupAcknowledgeOf, groupOfferOf, groupRetryOf, groupsAdvanced, headAcknowledgeOf, headCaptureOf, headClockSendOf, headMeasureOf, headMovedOf, headOfferOf, headRegisterOf, headRetryOf, oltAnswered, oltKeySent, ownAcknowledgement, registerGroupOf};
 ghost use Rattle.headend.specs.WithoutGroups.{WithoutGroups};
 use crate::HeadAnswer;
 use crate::HeadClockSent;
@@ -143,17 +143,6 @@ pub fn moved(head: HeadEnd, n: u64) -> HeadMoved
     HeadMoved {
         head: HeadEnd { olt, groups },
         number,
-    }
-}
-
-pub fn advance(head: HeadEnd, n: u64) -> HeadAnswer
-    ensures { λ r. ⌜ r ≡ headAdvanceOf head n ⌝ }
-{
-    let done = moved(head, n);
-    let next = done.head;
-    HeadAnswer {
-        number: done.number,
-        head: next,
     }
 }
 

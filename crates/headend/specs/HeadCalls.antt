@@ -38,6 +38,7 @@ use Rattle.group_protocol.specs.declared.Answer.{Answer}
 use Rattle.group_protocol.specs.Naming.{byLlid, groupLift}
 use Rattle.headend.specs.declared.HeadAnswer.{HeadAnswer}
 use Rattle.headend.specs.declared.HeadClockSent.{HeadClockSent}
+use Rattle.headend.specs.declared.HeadDone.{HeadDone}
 use Rattle.headend.specs.declared.HeadKeySent.{HeadKeySent}
 use Rattle.headend.specs.declared.HeadMoved.{HeadMoved}
 
@@ -138,6 +139,10 @@ headCaptureOf h llid = oltAnswered h (captureOf (h .olt) llid)
 
 unfoldable pub headMeasureOf : HeadEnd → ℕ → ℕ → HeadAnswer
 headMeasureOf h llid trip = oltAnswered h (measureOf (h .olt) llid trip)
+
+-- the answer of either, the end first, and the OLT's MAC beside it
+abbrev pub headDone : HeadAnswer → HeadDone
+headDone r = record { head = r .head; mac = r .head .olt .shared .mac; number = r .number }
 
 unfoldable pub headClockSendOf : HeadEnd → ℕ → HeadClockSent
 headClockSendOf h llid = oltClockSent h (clockSendOf (h .olt) llid)

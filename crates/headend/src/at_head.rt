@@ -11,10 +11,11 @@ ghost use Rattle.ends.specs.Limits.{maxUnits};
 ghost use Rattle.ends.specs.Timers.{validTimer};
 ghost use Rattle.protocol.specs.OltCalls.{acknowledgeOf, offerOf, retryOf};
 ghost use Rattle.group_protocol.specs.GroupCalls.{memberNamed};
-ghost use Rattle.headend.specs.HeadCalls.{freshHeadOf, groupAcknowledgeOf, groupOfferOf, groupRetryOf, groupsAdvanced, headAcknowledgeOf, headCaptureOf, headClockSendOf, headMeasureOf, headMovedOf, headOfferOf, headRegisterOf, headRetryOf, oltAnswered, oltKeySent, ownAcknowledgement, registerGroupOf};
+ghost use Rattle.headend.specs.HeadCalls.{freshHeadOf, groupAcknowledgeOf, groupOfferOf, groupRetryOf, groupsAdvanced, headAcknowledgeOf, headCaptureOf, headClockSendOf, headDone, headMeasureOf, headMovedOf, headOfferOf, headRegisterOf, headRetryOf, oltAnswered, oltKeySent, ownAcknowledgement, registerGroupOf};
 ghost use Rattle.headend.specs.WithoutGroups.{WithoutGroups};
 use crate::HeadAnswer;
 use crate::HeadClockSent;
+use crate::HeadDone;
 use crate::HeadKeySent;
 use crate::HeadMoved;
 use crate::answers;
@@ -147,8 +148,8 @@ pub fn moved(head: HeadEnd, n: u64) -> HeadMoved
 }
 
 // A group has no clock: its LLID is no unit's.
-pub fn capture(head: HeadEnd, llid: u16) -> HeadAnswer
-    ensures { λ r. ⌜ r ≡ headCaptureOf head llid ⌝ }
+pub fn capture(head: HeadEnd, llid: u16) -> HeadDone
+    ensures { λ r. ⌜ r ≡ headDone (headCaptureOf head llid) ⌝ }
 {
     let valid = sound_groups(head);
     let ahead = refuse_if(!valid, Refusal::OutOfRange, Verdict::Accepted);
@@ -163,15 +164,17 @@ pub fn capture(head: HeadEnd, llid: u16) -> HeadAnswer
     let next = done.unit;
     olt.units[i] = next;
     let groups = head.groups;
-    HeadAnswer {
-        number,
+    let mac = olt.shared.mac;
+    HeadDone {
         head: HeadEnd { olt, groups },
+        mac,
+        number,
     }
 }
 
 // The round trip measured again (02, C-16). The unit's groups go on.
-pub fn measure(head: HeadEnd, llid: u16, trip: u64) -> HeadAnswer
-    ensures { λ r. ⌜ r ≡ headMeasureOf head llid trip ⌝ }
+pub fn measure(head: HeadEnd, llid: u16, trip: u64) -> HeadDone
+    ensures { λ r. ⌜ r ≡ headDone (headMeasureOf head llid trip) ⌝ }
 {
     let valid = sound_groups(head);
     let ranged = refuse_if(
@@ -191,9 +194,11 @@ pub fn measure(head: HeadEnd, llid: u16, trip: u64) -> HeadAnswer
     let next = done.unit;
     olt.units[i] = next;
     let groups = head.groups;
-    HeadAnswer {
-        number,
+    let mac = olt.shared.mac;
+    HeadDone {
         head: HeadEnd { olt, groups },
+        mac,
+        number,
     }
 }
 

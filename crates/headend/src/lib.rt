@@ -26,6 +26,13 @@ pub struct HeadMoved {
     pub number: u8,
 }
 
+// The answer of capture and measure, the record first. `mac` is the OLT's own, which the exported call stores again (D119).
+pub struct HeadDone {
+    pub head: HeadEnd,
+    pub mac: u64,
+    pub number: u8,
+}
+
 #[repr(C)]
 pub struct HeadClockSent {
     pub number: u8,

@@ -93,7 +93,13 @@ pub extern "C" fn jazmotip_olt_advance(olt: &mut HeadEnd, n: u64) -> u8
 pub extern "C" fn jazmotip_olt_capture(olt: HeadEnd, llid: u16) -> HeadAnswer
     ensures { λ r. ⌜ r ≡ headCaptureOf olt llid ⌝ }
 {
-    at_head::capture(olt, llid)
+    let done = at_head::capture(olt, llid);
+    let mut head = done.head;
+    head.olt.shared.mac = done.mac;
+    HeadAnswer {
+        number: done.number,
+        head,
+    }
 }
 
 // The round trip measured again (02, C-16).
@@ -101,7 +107,13 @@ pub extern "C" fn jazmotip_olt_capture(olt: HeadEnd, llid: u16) -> HeadAnswer
 pub extern "C" fn jazmotip_olt_measure(olt: HeadEnd, llid: u16, trip: u64) -> HeadAnswer
     ensures { λ r. ⌜ r ≡ headMeasureOf olt llid trip ⌝ }
 {
-    at_head::measure(olt, llid, trip)
+    let done = at_head::measure(olt, llid, trip);
+    let mut head = done.head;
+    head.olt.shared.mac = done.mac;
+    HeadAnswer {
+        number: done.number,
+        head,
+    }
 }
 
 #[no_mangle]

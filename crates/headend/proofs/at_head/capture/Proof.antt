@@ -13,7 +13,7 @@ use Rattle.protocol.specs.UnitCalls.{captureUnit}
 use Rattle.olt.specs.Lookup.{locatedOf}
 use Rattle.olt.proofs.Lookup.{located-below}
 use Rattle.group_protocol.specs.Head.{validGroups, withOlt}
-use Rattle.headend.specs.HeadCalls.{headAnswer, headCaptureOf}
+use Rattle.headend.specs.HeadCalls.{headAnswer, headCaptureOf, headDone}
 use Rattle.headend.proofs.HeadUnits.{answer-guarded, lift-guarded, located-guarded}
 use Rattle.headend.proofs.at_head.capture.Statement.{statement}
 use Rattle.headend.proofs.at_head.capture.Tie as tie
@@ -38,9 +38,9 @@ returns c =
     let a = at .before .before .before .before .args in
     let x = outcome (a .head .olt .shared) (done .result .verdict) (done .result .unit) silent in
     rw (numbered .verdict-number .ensures)
-    (ap headAnswer (lift-guarded (a .head) silent (a .llid) captureUnit Accepted (at .locate .result) x
-    (here at) (done .ensures))
-    ∙ answer-guarded (a .head) _)
+    (ap headDone
+    (ap headAnswer (lift-guarded (a .head) silent (a .llid) captureUnit Accepted (at .locate .result) x (here at) (done .ensures))
+    ∙ answer-guarded (a .head) _))
 
 pub capture-spec : {M : Type 1} → statement M
 capture-spec =

@@ -19,7 +19,7 @@ use Rattle.protocol.specs.UnitCalls.{measureUnit}
 use Rattle.olt.specs.Lookup.{locatedOf}
 use Rattle.olt.proofs.Lookup.{located-below}
 use Rattle.group_protocol.specs.Head.{validGroups, withOlt}
-use Rattle.headend.specs.HeadCalls.{headAnswer, headMeasureOf}
+use Rattle.headend.specs.HeadCalls.{headAnswer, headDone, headMeasureOf}
 use Rattle.headend.proofs.HeadUnits.{answer-guarded, lift-guarded, located-guarded}
 use Rattle.headend.proofs.at_head.measure.Statement.{statement}
 use Rattle.headend.proofs.at_head.measure.Tie as tie
@@ -50,8 +50,9 @@ returns c =
     let a = at .before .before .before .before .before .args in
     let x = outcome (a .head .olt .shared) (done .result .verdict) (done .result .unit) silent in
     rw (numbered .verdict-number .ensures)
+    (ap headDone
     (ap headAnswer (lift-guarded (a .head) silent (a .llid) (measureUnit (a .trip)) (ranged (a .trip)) (at .locate .result) x (here at) (done .ensures))
-    ∙ answer-guarded (a .head) _)
+    ∙ answer-guarded (a .head) _))
 
 pub measure-spec : {M : Type 1} → statement M
 measure-spec =

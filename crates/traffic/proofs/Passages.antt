@@ -6,7 +6,7 @@ use Prim.Native.Nat.{ℕ, _≤_, _<_}
 use native.Mathlib.Omega.{arith}
 use lib.ListN.{length}
 use borrow.Author.Tests.{lt-ltb, not-false}
-use Rattle.octets.specs.Choice.{both, pick}
+use Rattle.octets.specs.Choice.{pick}
 use Rattle.octets.specs.Eqs.{maxEqs}
 use Rattle.octets.proofs.Choice.{both-left, both-true, either-left, either-right, not-of-true}
 use Rattle.octets.specs.Output.{WithOutput, withOutput}
@@ -20,7 +20,7 @@ use Rattle.envelope.specs.Acceptance.{nonceFits, sealVerdict}
 use Rattle.envelope.specs.Answer.{sealCount, sealRuns}
 use Rattle.envelope.specs.declared.Nonce.{Nonce}
 use Rattle.envelope.specs.declared.SealAnswer.{SealAnswer}
-use Rattle.envelope.proofs.Acceptance.{lengths-fit}
+use Rattle.envelope.proofs.Acceptance.{accepted, lengths-fit}
 use Rattle.sealing.specs.Payload.{sealed}
 use Rattle.sealing.specs.Seal.{carried, countCarried, runsCarried, sealingAfter, sealing}
 use Rattle.ends.specs.Identities.{validMac, validIdentity}
@@ -85,11 +85,11 @@ reply-carried passage Accepted lent next nothing handed channel p out e = refl
 reply-carried passage (Refused r) lent next nothing handed channel p out e = rw e
 
 -- an empty payload passes enciphered as it passes clear
-pub empty-clear : (b some : Bool) (w : List ℕ) (n : Nonce) (p : List ℕ) → (some ≡ false → length p ≡ 0)
-    → withOutput {R = Work} (record { count = countCarried (both b some) p; runs = runsCarried (both b some) p }) (carried (both b some) w n p)
+pub empty-carried : (b : Bool) (w : List ℕ) (n : Nonce) (p out : List ℕ) → length p ≡ 0 → sealVerdict (length p) (length out) n ≡ Accepted
+    → withOutput {R = Work} (record { count = 0; runs = 0 }) out
     ≡ withOutput (record { count = countCarried b p; runs = runsCarried b p }) (carried b w n p)
-unfolding both countCarried runsCarried carried countEnciphered runs sealed pick
-empty-clear false some w n p h = refl
-empty-clear true true w n p h = refl
-empty-clear true false w n [] h = refl
-empty-clear true false w n (x ∷ p) h = let z = h refl in absurd (omega arith)
+unfolding countCarried runsCarried carried countEnciphered runs sealed pick
+empty-carried false w n [] [] h j = refl
+empty-carried true w n [] [] h j = refl
+empty-carried b w n [] (x ∷ out) h j = let z = lengths-fit (length {A = ℕ} []) (length (x ∷ out)) (accepted _ _ n j .0) .same in absurd (omega arith)
+empty-carried b w n (x ∷ p) out h j = absurd (omega arith)

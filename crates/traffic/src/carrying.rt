@@ -36,8 +36,11 @@ pub(crate) fn carry(passage: Passage, channel: u8, payload: &[u8], output: &mut 
     ensures { λ r. ⌜ withOutput r (now (output .exit))
         ≡ withOutput (passedWork passage (now (payload .entry))) (passed channel passage (now (payload .entry))) ⌝ }
 {
+    if payload.len() == 0 {
+        return Work { count: 0, runs: 0 };
+    }
     let choice = passage.choice;
-    let enciphered = is_enciphered(choice) & (0 < payload.len());
+    let enciphered = is_enciphered(choice);
     let key = passage.key;
     let nonce = Nonce {
         channel,

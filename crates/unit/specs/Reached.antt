@@ -6,6 +6,7 @@ use Rattle.refusal.specs.declared.Verdict.{Verdict}
 use Rattle.refusal.specs.declared.Verdict.the-variants.{Accepted, Refused}
 use Rattle.protocol.specs.Lift.{Outcome}
 use Rattle.protocol.specs.declared.Sending.{Sending}
+use Rattle.ends.specs.Records.{withKeys}
 use Rattle.ends.specs.declared.Shared.{Shared}
 use Rattle.ends.specs.declared.UnitRecord.{UnitRecord}
 use Rattle.unit.specs.declared.UnitSent.{UnitSent}
@@ -24,6 +25,18 @@ reached way nothing s u c =
       handed = ifAccepted (andThen way (c .verdict)) (c .handed) nothing;
     }
 
--- the answer of a send; the other calls leave the channels, and their answers go without
-unfoldable pub sentOutcome : UnitSent → Outcome Sending
-sentOutcome r = record { verdict = r .verdict; unit = r .unit; channels = r .channels; handed = r .sending }
+-- the unit that was lent, with what a send changes of it
+unfoldable pub unitSent : UnitRecord → UnitSent → UnitRecord
+unitSent u r =
+    withKeys u
+    (record {
+      timer = record { interval = u .keys .timer .interval; count = u .keys .timer .count; flag = r .flag };
+      active = r .active;
+      offered = u .keys .offered;
+      slots = u .keys .slots;
+      first = record { noted = r .noted; at = r .at };
+    })
+
+-- the answer of a send on the unit that was lent; the other calls leave the channels, and their answers go without
+unfoldable pub sentOutcome : UnitRecord → UnitSent → Outcome Sending
+sentOutcome u r = record { verdict = r .verdict; unit = unitSent u r; channels = r .channels; handed = r .sending }

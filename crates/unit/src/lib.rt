@@ -33,9 +33,13 @@ pub struct UnitKeySent {
     pub message: KeyMessage,
 }
 
+// What a send changes of the unit's keys (the timer's flag, the key in use, its first send), and not the whole unit.
 pub struct UnitSent {
     pub verdict: Verdict,
-    pub unit: UnitRecord,
+    pub flag: u8,
+    pub active: u32,
+    pub noted: u8,
+    pub at: u64,
     pub channels: Channels,
     pub sending: Sending,
 }

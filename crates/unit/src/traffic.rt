@@ -80,7 +80,7 @@ pub fn send(
     channel: u8,
     eqs: u64,
 ) -> UnitSent
-    ensures { λ r. ⌜ ((way ≡ Accepted → (shared .tick ≤ maxTick) × (eqs ≤ maxEqs)) → sentOutcome r
+    ensures { λ r. ⌜ ((way ≡ Accepted → (shared .tick ≤ maxTick) × (eqs ≤ maxEqs)) → sentOutcome unit r
         ≡ reached way noSending shared unit (sendUnit llid channel eqs shared unit)) ⌝ }
 {
     let channels = shared.channels;
@@ -96,16 +96,21 @@ pub fn send(
     match verdict {
         Verdict::Refused(refusal) => UnitSent {
             verdict: Verdict::Refused(refusal),
-            unit,
+            flag: keys.timer.flag,
+            active: keys.active,
+            noted: keys.first.noted,
+            at: keys.first.at,
             channels,
             sending: passing::no_sending(),
         },
         Verdict::Accepted => {
-            let mut next = unit;
-            next.keys = keys_sent(choice, keys, tick);
+            let after = keys_sent(choice, keys, tick);
             UnitSent {
                 verdict: Verdict::Accepted,
-                unit: next,
+                flag: after.timer.flag,
+                active: after.active,
+                noted: after.first.noted,
+                at: after.first.at,
                 channels: passing::occupied(channels, channel, tick, eqs),
                 sending: passing::sending_of(
                     choice,

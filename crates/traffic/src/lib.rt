@@ -67,16 +67,19 @@ pub fn olt_send(olt: Olt, llid: u16, channel: u8, payload: &[u8], output: &mut [
     let eqs = (payload.len() / EQ_OCTETS) as u64;
     let done = traffic::send(way, r.shared, unit, llid, channel, eqs);
     let verdict = done.verdict;
-    let next = done.unit;
+    let mut next = unit;
+    next.keys.timer.flag = done.flag;
+    next.keys.active = done.active;
+    next.keys.first.noted = done.noted;
+    next.keys.first.at = done.at;
     let channels = done.channels;
     let sending = done.sending;
     let header = sending.header;
     let passage = sending.passage;
     let work = carrying::carry_accepted(verdict, passage, channel, payload, output);
     let number = verdict_number(verdict);
-    let mut shared = r.shared;
-    shared.channels = channels;
-    r.shared = shared;
+    r.shared.channels.zero = channels.zero;
+    r.shared.channels.one = channels.one;
     r.units[i] = next;
     OltSent {
         number,

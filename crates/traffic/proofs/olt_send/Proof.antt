@@ -4,10 +4,10 @@ use Prim.Native.Nat.{_<_}
 use borrow.Author.Needs.{needs}
 use Rattle.refusal.specs.declared.Verdict.{Verdict}
 use Rattle.ends.specs.Limits.{maxUnits}
-use Rattle.ends.specs.Records.{withChannels}
-use Rattle.ends.specs.Table.{pastUnit, withUnit}
+use Rattle.ends.specs.Records.{withChannels, withKeys}
+use Rattle.ends.specs.Table.{pastUnit, unitAt, withUnit}
 use Rattle.protocol.proofs.OltTraffic.{sendAhead}
-use Rattle.unit.specs.Reached.{sentOutcome}
+use Rattle.unit.specs.Reached.{sentOutcome, unitSent}
 use Rattle.olt.specs.Lookup.{locatedOf}
 use Rattle.olt.proofs.Lookup.{located-below}
 use Rattle.traffic.specs.Passages.{misfit}
@@ -28,7 +28,8 @@ below c = located-below _ _ _ _ (here c)
 
 -- what the unit decides
 decided : (c : tie.After-send) → let at = c .before .before .before in let a = at .before .before .before .before .args in
-    sentOutcome (c .send .result) ≡ sendDecided (a .olt) (a .llid) (a .channel) (a .payload .now) (a .output .now) (at .locate .result)
+    sentOutcome (unitAt (a .olt) (at .locate .result .place)) (c .send .result)
+    ≡ sendDecided (a .olt) (a .llid) (a .channel) (a .payload .now) (a .output .now) (at .locate .result)
 unfolding pastUnit
 decided c =
     let at = c .before .before .before in
@@ -38,24 +39,24 @@ decided c =
 carry-accepted-requires : tie.Need-carry-accepted-requires
 unfolding sentOutcome
 carry-accepted-requires c κs =
-    let sent = c .before .before .before .before .before .before in
+    let sent = c .before .before .before .before .before .before .before .before .before in
     let at = sent .before .before .before in
     let a = at .before .before .before .before .args in
-    send-fits (a .olt) (a .llid) (a .channel) (a .payload .now) (a .output .now) (at .locate .result) (here at) (sentOutcome (sent .send .result))
-    (decided sent)
+    send-fits (a .olt) (a .llid) (a .channel) (a .payload .now) (a .output .now) (at .locate .result) (here at)
+    (sentOutcome (unitAt (a .olt) (at .locate .result .place)) (sent .send .result)) (decided sent)
 
 returns : tie.Need-returns
-unfolding sentOutcome withUnit withChannels
+unfolding sentOutcome unitSent withKeys pastUnit withUnit withChannels
 returns c =
-    let numbered = c .before in
+    let numbered = c .before .before in
     let carried = numbered .before .before .before in
-    let sent = carried .before .before .before .before .before .before .before in
+    let sent = carried .before .before .before .before .before .before .before .before .before .before in
     let at = sent .before .before .before in
     let a = at .before .before .before .before .args in
     olt-send-ordered (a .olt) (a .llid) (a .channel) (a .payload .now) (a .output .now) _ _
     (rw (numbered .verdict-number .ensures)
-    (olt-send-done (a .olt) (a .llid) (a .channel) (a .payload .now) (a .output .now) (at .locate .result) (here at) (sentOutcome (sent .send .result))
-    (decided sent) _ _
+    (olt-send-done (a .olt) (a .llid) (a .channel) (a .payload .now) (a .output .now) (at .locate .result) (here at)
+    (sentOutcome (unitAt (a .olt) (at .locate .result .place)) (sent .send .result)) (decided sent) _ _
     (carried .carry-accepted .ensures)))
 
 pub olt-send-spec : {M : Type 1} → statement M
@@ -64,6 +65,6 @@ olt-send-spec =
     (tie.spec (λ c κs. search needs) (λ c κs. search needs) (λ c. let h = below c in search needs) (λ c. let h = below c in search needs)
     (λ c κs. search needs)
     carry-accepted-requires (λ c κs. search needs)
-    (λ c. let h = below (c .before .before .before .before .before .before .before .before .before .before .before .before .before .before) in search needs)
-    (λ c. let h = below (c .before .before .before .before .before .before .before .before .before .before .before .before .before .before) in search needs)
+    (λ c. let h = below (c .before .before .before .before .before .before .before .before .before .before .before .before .before .before .before .before .before .before) in search needs)
+    (λ c. let h = below (c .before .before .before .before .before .before .before .before .before .before .before .before .before .before .before .before .before .before) in search needs)
     (λ c. search needs) returns)

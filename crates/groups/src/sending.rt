@@ -53,7 +53,12 @@ pub fn send(
     let sending = done.sending;
     let passage = sending.passage;
     let choice = passage.choice;
-    let keys = wiped(choice, done.unit.keys);
+    let mut after = group.keys;
+    after.timer.flag = done.flag;
+    after.active = done.active;
+    after.first.noted = done.noted;
+    after.first.at = done.at;
+    let keys = wiped(choice, after);
     let mut next = group;
     next.keys = keys;
     GroupSent {

@@ -51,16 +51,19 @@ fn send_unit(head: HeadEnd, llid: u16, channel: u8, payload: &[u8], output: &mut
     let eqs = (payload.len() / EQ_OCTETS) as u64;
     let done = unit::traffic::send(way, olt.shared, unit, llid, channel, eqs);
     let verdict = done.verdict;
-    let next = done.unit;
+    let mut next = unit;
+    next.keys.timer.flag = done.flag;
+    next.keys.active = done.active;
+    next.keys.first.noted = done.noted;
+    next.keys.first.at = done.at;
     let channels = done.channels;
     let sending = done.sending;
     let header = sending.header;
     let passage = sending.passage;
     let work = carry_fitting(verdict, passage, channel, payload, output);
     let number = verdict_number(verdict);
-    let mut shared = olt.shared;
-    shared.channels = channels;
-    olt.shared = shared;
+    olt.shared.channels.zero = channels.zero;
+    olt.shared.channels.one = channels.one;
     olt.units[i] = next;
     let groups = head.groups;
     HeadSent {

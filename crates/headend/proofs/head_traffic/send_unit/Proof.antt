@@ -3,11 +3,11 @@ use borrow.Author.Needs.{needs}
 use mathlib.Core.Path.{_≡_, _∙_}
 use Prim.Native.Nat.{_<_}
 use Rattle.ends.specs.Limits.{maxUnits}
-use Rattle.ends.specs.Records.{withChannels}
-use Rattle.ends.specs.Table.{pastUnit, withUnit}
+use Rattle.ends.specs.Records.{withChannels, withKeys}
+use Rattle.ends.specs.Table.{pastUnit, unitAt, withUnit}
 use Rattle.protocol.specs.Replies.{onValid}
 use Rattle.protocol.proofs.OltTraffic.{sendAhead}
-use Rattle.unit.specs.Reached.{sentOutcome}
+use Rattle.unit.specs.Reached.{sentOutcome, unitSent}
 use Rattle.olt.specs.Lookup.{locatedOf}
 use Rattle.olt.proofs.Lookup.{located-below}
 use Rattle.traffic.specs.Passages.{misfit}
@@ -33,7 +33,8 @@ below c = located-below _ _ _ _ (here c)
 
 -- what the unit decides
 decided : (c : tie.After-send) → let at = c .before .before .before in let a = at .before .before .before .before .before .before .before .args in
-    sentOutcome (c .send .result) ≡ unitSends (a .head) (a .llid) (a .channel) (a .payload .now) (a .output .now) (at .locate .result)
+    sentOutcome (unitAt (a .head .olt) (at .locate .result .place)) (c .send .result)
+    ≡ unitSends (a .head) (a .llid) (a .channel) (a .payload .now) (a .output .now) (at .locate .result)
 unfolding pastUnit
 decided c =
     let at = c .before .before .before in
@@ -41,15 +42,16 @@ decided c =
     c .send .ensures (unit-within (a .head) (a .llid) (a .channel) (a .payload .now) (a .output .now) (at .locate .result) (here at))
 
 returns : tie.Need-returns
-unfolding sentOutcome withUnit withChannels withOlt
+unfolding sentOutcome unitSent withKeys pastUnit withUnit withChannels withOlt
 returns c =
-    let numbered = c .before .before in
+    let numbered = c .before .before .before in
     let carried = numbered .before .before .before in
-    let sent = carried .before .before .before .before .before .before .before in
+    let sent = carried .before .before .before .before .before .before .before .before .before .before in
     let at = sent .before .before .before in
     let a = at .before .before .before .before .before .before .before .args in
     rw (numbered .verdict-number .ensures)
-    (unit-sent (a .head) (a .llid) (a .channel) (a .payload .now) (a .output .now) (at .locate .result) (sentOutcome (sent .send .result)) (decided sent) _
+    (unit-sent (a .head) (a .llid) (a .channel) (a .payload .now) (a .output .now) (at .locate .result)
+    (sentOutcome (unitAt (a .head .olt) (at .locate .result .place)) (sent .send .result)) (decided sent) _
     (carried .carry-fitting .ensures) (here at))
 
 pub send-unit-spec : {M : Type 1} → statement M
@@ -57,6 +59,6 @@ send-unit-spec =
     tie.close
     (tie.spec (λ c κs. search needs) (λ c κs. search needs) (λ c κs. search needs) (λ c κs. search needs) (λ c. let h = below c in search needs)
     (λ c. let h = below c in search needs) (λ c κs. search needs) (λ c κs. search needs) (λ c κs. search needs)
-    (λ c. let h = below (c .before .before .before .before .before .before .before .before .before .before .before .before .before .before) in search needs)
-    (λ c. let h = below (c .before .before .before .before .before .before .before .before .before .before .before .before .before .before) in search needs)
+    (λ c. let h = below (c .before .before .before .before .before .before .before .before .before .before .before .before .before .before .before .before .before .before) in search needs)
+    (λ c. let h = below (c .before .before .before .before .before .before .before .before .before .before .before .before .before .before .before .before .before .before) in search needs)
     (λ c. search needs) returns)

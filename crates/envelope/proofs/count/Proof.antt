@@ -1,10 +1,10 @@
 -- `envelope::count` meets its contract: the sum over the EQs counted. Assumes nothing.
-use Prim.Native.Nat.{_*_, _≤_, _-_, _/_}
+use Prim.Native.Nat.{_≤_, _-_, _/_}
 use Rattle.octets.proofs.Lists.{sum-suc, sum-below}
 use Rattle.octets.specs.Lists.{sum}
 use Rattle.envelope.specs.ControlMask.{controlOctet, countEnciphered}
 use borrow.Author.Needs.{needs}
-use lib.Count.{ones, ones-le}
+use lib.Count.{ones}
 use lib.ListN.{length}
 use mathlib.Core.Path.{_≡_, refl}
 use native.Mathlib.Nat.{zero-add}

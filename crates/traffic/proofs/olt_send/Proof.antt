@@ -26,6 +26,11 @@ here c =
 below : (c : tie.After-locate) → c .locate .result .place < maxUnits
 below c = located-below _ _ _ _ (here c)
 
+-- where the unit stands, told behind the cipher
+still : (c : tie.After-carry-accepted) → let sent = c .before .before .before .before .before .before .before .before .before .before in
+    let at = sent .before .before .before in at .locate .result .place < maxUnits
+still c = let sent = c .before .before .before .before .before .before .before .before .before .before in below (sent .before .before .before)
+
 -- what the unit decides
 decided : (c : tie.After-send) → let at = c .before .before .before in let a = at .before .before .before .before .args in
     sentOutcome (unitAt (a .olt) (at .locate .result .place)) (c .send .result)
@@ -63,8 +68,7 @@ pub olt-send-spec : {M : Type 1} → statement M
 olt-send-spec =
     tie.close
     (tie.spec (λ c κs. search needs) (λ c κs. search needs) (λ c. let h = below c in search needs) (λ c. let h = below c in search needs)
-    (λ c κs. search needs)
-    carry-accepted-requires (λ c κs. search needs)
-    (λ c. let h = below (c .before .before .before .before .before .before .before .before .before .before .before .before .before .before .before .before .before .before) in search needs)
-    (λ c. let h = below (c .before .before .before .before .before .before .before .before .before .before .before .before .before .before .before .before .before .before) in search needs)
+    (λ c κs. search needs) carry-accepted-requires (λ c κs. search needs)
+    (λ c. let h = still (c .before .before .before .before .before) in search needs)
+    (λ c. let h = still (c .before .before .before .before .before) in search needs)
     (λ c. search needs) returns)

@@ -1,7 +1,7 @@
 -- `ends::check_olt::judge_one` meets its contract: the tests are those of the definition, and its walk has one step. Assumes nothing.
 use mathlib.Core.Bool.{true}
 use mathlib.Core.List.{[], _∷_, append-nil}
-use mathlib.Core.Path.{_≡_, refl, sym, ap, _∙_}
+use mathlib.Core.Path.{refl, sym, ap, _∙_}
 use Prim.Native.Nat.{ℕ}
 use native.Mathlib.Omega.{arith}
 use borrow.Author.Needs.{needs}

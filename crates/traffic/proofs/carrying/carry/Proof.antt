@@ -29,5 +29,6 @@ returns-2 c =
     (sealed .seal .ensures .0) (start .pre))
 
 pub carry-spec : {M : Type 1} → statement M
-carry-spec = tie.close (tie.spec returns (λ c κs. search needs) (λ c κs. search needs) (λ c κs. search needs) (λ c κs. search needs) (λ c. search needs)
-    returns-2)
+carry-spec =
+    tie.close
+    (tie.spec returns (λ c κs. search needs) (λ c κs. search needs) (λ c κs. search needs) (λ c κs. search needs) (λ c. search needs) returns-2)

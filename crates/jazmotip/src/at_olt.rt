@@ -89,6 +89,7 @@ pub extern "C" fn jazmotip_olt_advance(olt: &mut HeadEnd, n: u64) -> u8
     answer.number
 }
 
+// Here and in measure the MAC that is there is stored again, so that the record is handed on where it lies (D119).
 #[no_mangle]
 pub extern "C" fn jazmotip_olt_capture(olt: HeadEnd, llid: u16) -> HeadAnswer
     ensures { λ r. ⌜ r ≡ headCaptureOf olt llid ⌝ }

@@ -35,20 +35,17 @@ located-judged true v f = refl
 located-judged false v f = refl
 
 -- the verdict is the first refusal in order
-pub located-ordered : (o : Olt) (ahead : Verdict) (llid : ℕ) (l : Located) → l ≡ locatedOf o ahead llid
-    → (l ≡ locatedOf o ahead llid) × (l .verdict ≡ locateOrder o ahead llid)
+pub located-ordered : (o : Olt) (ahead : Verdict) (llid : ℕ) (l : Located) → l ≡ locatedOf o ahead llid → l .verdict ≡ locateOrder o ahead llid
 unfolding locatedOf locatedAfter locateOrder andThen refuseIf
-located-ordered o ahead llid l e = (
-  e,
-  ap (λ (x : Located). x .verdict) e
-      ∙ by-case (validOlt o) ahead (find o llid) (isRegistered o llid) (registered-found o llid) (registered-nowhere o llid),
-) where
-  by-case : (t : Bool) (v : Verdict) (f : Found) (r : Bool) → ((i : ℕ) → f ≡ At i → r ≡ true) → (f ≡ Nowhere → r ≡ false)
-      → locatedAfter (onValid t v) f .verdict ≡ onValid t (andThen v (refuseIf (not r) UnknownLlid Accepted))
-  by-case true Accepted (At i) r k a = rw (k i refl)
-  by-case true Accepted Nowhere r k a = rw (a refl)
-  by-case true (Refused x) f r k a = refl
-  by-case false v f r k a = refl
+located-ordered o ahead llid l e =
+    ap (λ (x : Located). x .verdict) e
+    ∙ by-case (validOlt o) ahead (find o llid) (isRegistered o llid) (registered-found o llid) (registered-nowhere o llid) where
+      by-case : (t : Bool) (v : Verdict) (f : Found) (r : Bool) → ((i : ℕ) → f ≡ At i → r ≡ true) → (f ≡ Nowhere → r ≡ false)
+          → locatedAfter (onValid t v) f .verdict ≡ onValid t (andThen v (refuseIf (not r) UnknownLlid Accepted))
+      by-case true Accepted (At i) r k a = rw (k i refl)
+      by-case true Accepted Nowhere r k a = rw (a refl)
+      by-case true (Refused x) f r k a = refl
+      by-case false v f r k a = refl
 
 -- the place of a unit is one of the table's
 pub found-below : (o : Olt) (llid i : ℕ) → validOlt o ≡ true → find o llid ≡ At i → i < maxUnits

@@ -1,5 +1,7 @@
 // The unit that a call names.
 ghost use mathlib.Core.Path.{_≡_};
+ghost use Prim.Native.Nat.{_<_};
+ghost use Rattle.ends.specs.Limits.{maxUnits};
 ghost use Rattle.olt.specs.Lookup.{locateOrder, locatedAfter, locatedOf};
 use crate::Located;
 use ends::Found;
@@ -34,6 +36,7 @@ fn located_after(way: Verdict, found: Found) -> Located
 pub fn locate(olt: Olt, ahead: Verdict, llid: u16) -> Located
     ensures { λ r. ⌜ r ≡ locatedOf olt ahead llid ⌝ }
     ensures order { λ r. ⌜ r .verdict ≡ locateOrder olt ahead llid ⌝ }
+    ensures place { λ r. ⌜ r .place < maxUnits ⌝ }
 {
     let judged = judge(olt, llid);
     let found = judged.found;

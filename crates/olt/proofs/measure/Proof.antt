@@ -1,21 +1,16 @@
 -- `olt::measure` meets its contract: the unit is found, decides, and is put back. Assumes nothing.
 use mathlib.Core.Path.{ap}
-use Prim.Native.Nat.{_<_}
 use borrow.Author.Needs.{needs}
 use Rattle.protocol.specs.Lift.{outcome}
-use Rattle.ends.specs.Limits.{maxUnits}
 use Rattle.protocol.specs.Replies.{silent}
 use Rattle.ends.specs.Records.{withChannels}
 use Rattle.ends.specs.Table.{pastUnit, withUnit}
 use Rattle.protocol.specs.OltCalls.{measureOf, oltAnswer}
 use Rattle.protocol.specs.UnitCalls.{measureUnit}
 use Rattle.protocol.proofs.OltCalls.{measure-ordered}
-use Rattle.olt.proofs.Lookup.{located-below, lift-decided}
+use Rattle.olt.proofs.Lookup.{lift-decided}
 use Rattle.olt.proofs.measure.Statement.{statement}
 use Rattle.olt.proofs.measure.Tie as tie
-
-below : (c : tie.After-locate) → c .locate .result .place < maxUnits
-below c = located-below _ _ _ _ (c .locate .ensures .0)
 
 returns : tie.Need-returns
 unfolding measureOf oltAnswer outcome withUnit withChannels pastUnit
@@ -35,7 +30,5 @@ returns c =
 pub measure-spec : {M : Type 1} → statement M
 measure-spec =
     tie.close
-    (tie.spec (λ c κs. search needs) (λ c κs. search needs) (λ c. let h = below c in search needs) (λ c. let h = below c in search needs)
-    (λ c κs. search needs) (λ c κs. search needs) (λ c. let h = below (c .before .before .before .before .before) in search needs)
-    (λ c. let h = below (c .before .before .before .before .before) in search needs)
-    returns)
+    (tie.spec (λ c κs. search needs) (λ c κs. search needs) (λ c. search needs) (λ c. search needs) (λ c κs. search needs) (λ c κs. search needs)
+    (λ c. search needs) (λ c. search needs) returns)

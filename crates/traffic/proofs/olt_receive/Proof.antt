@@ -1,16 +1,13 @@
 -- `traffic::olt_receive` meets its contract: the unit is found, decides, and is put back, and the payload is opened where it accepts. Assumes nothing.
 use mathlib.Core.Path.{_≡_, ap, _∙_}
-use Prim.Native.Nat.{_<_}
 use borrow.Author.Needs.{needs}
 use Rattle.refusal.specs.declared.Verdict.{Verdict}
 use Rattle.protocol.specs.Lift.{Outcome, outcome}
-use Rattle.ends.specs.Limits.{maxUnits}
 use Rattle.ends.specs.Records.{withChannels}
 use Rattle.ends.specs.Table.{pastUnit, withUnit}
 use Rattle.protocol.specs.declared.Passage.{Passage}
 use Rattle.protocol.proofs.OltTraffic.{receiveAhead}
 use Rattle.olt.specs.Lookup.{locatedOf}
-use Rattle.olt.proofs.Lookup.{located-below}
 use Rattle.traffic.specs.Passages.{misfit}
 use Rattle.traffic.proofs.Receipts.{receiveDecided, receive-fits, olt-receive-done, olt-receive-ordered}
 use Rattle.traffic.proofs.olt_receive.Statement.{statement}
@@ -23,9 +20,6 @@ unfolding misfit
 here c =
     let a = c .before .before .before .before .args in
     c .locate .ensures .0 ∙ ap (λ (v : Verdict). locatedOf (a .olt) v (a .header .llid)) (c .before .receive-ahead .ensures)
-
-below : (c : tie.After-locate) → c .locate .result .place < maxUnits
-below c = located-below _ _ _ _ (here c)
 
 -- what the unit decides
 abbrev answer : tie.After-receive → Outcome Passage
@@ -60,9 +54,5 @@ returns c =
 pub olt-receive-spec : {M : Type 1} → statement M
 olt-receive-spec =
     tie.close
-    (tie.spec (λ c κs. search needs) (λ c κs. search needs) (λ c. let h = below c in search needs) (λ c. let h = below c in search needs)
-    (λ c κs. search needs)
-    carry-accepted-requires (λ c κs. search needs)
-    (λ c. let h = below (c .before .before .before .before .before .before .before .before .before .before) in search needs)
-    (λ c. let h = below (c .before .before .before .before .before .before .before .before .before .before) in search needs)
-    (λ c. search needs) returns)
+    (tie.spec (λ c κs. search needs) (λ c κs. search needs) (λ c. search needs) (λ c. search needs) (λ c κs. search needs) carry-accepted-requires
+    (λ c κs. search needs) (λ c. search needs) (λ c. search needs) (λ c. search needs) returns)

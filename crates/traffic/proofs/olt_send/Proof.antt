@@ -1,15 +1,12 @@
 -- `traffic::olt_send` meets its contract: the unit is found, decides, and is put back, and the payload is sealed where it accepts. Assumes nothing.
 use mathlib.Core.Path.{_≡_, ap, _∙_}
-use Prim.Native.Nat.{_<_}
 use borrow.Author.Needs.{needs}
 use Rattle.refusal.specs.declared.Verdict.{Verdict}
-use Rattle.ends.specs.Limits.{maxUnits}
 use Rattle.ends.specs.Records.{withChannels, withKeys}
 use Rattle.ends.specs.Table.{pastUnit, unitAt, withUnit}
 use Rattle.protocol.proofs.OltTraffic.{sendAhead}
 use Rattle.unit.specs.Reached.{sentOutcome, unitSent}
 use Rattle.olt.specs.Lookup.{locatedOf}
-use Rattle.olt.proofs.Lookup.{located-below}
 use Rattle.traffic.specs.Passages.{misfit}
 use Rattle.traffic.proofs.Sends.{sendDecided, send-within, send-fits, olt-send-done, olt-send-ordered}
 use Rattle.traffic.proofs.olt_send.Statement.{statement}
@@ -22,14 +19,6 @@ unfolding misfit
 here c =
     let a = c .before .before .before .before .args in
     c .locate .ensures .0 ∙ ap (λ (v : Verdict). locatedOf (a .olt) v (a .llid)) (c .before .send-ahead .ensures)
-
-below : (c : tie.After-locate) → c .locate .result .place < maxUnits
-below c = located-below _ _ _ _ (here c)
-
--- where the unit stands, told behind the cipher
-still : (c : tie.After-carry-accepted) → let sent = c .before .before .before .before .before .before .before .before .before .before in
-    let at = sent .before .before .before in at .locate .result .place < maxUnits
-still c = let sent = c .before .before .before .before .before .before .before .before .before .before in below (sent .before .before .before)
 
 -- what the unit decides
 decided : (c : tie.After-send) → let at = c .before .before .before in let a = at .before .before .before .before .args in
@@ -67,8 +56,5 @@ returns c =
 pub olt-send-spec : {M : Type 1} → statement M
 olt-send-spec =
     tie.close
-    (tie.spec (λ c κs. search needs) (λ c κs. search needs) (λ c. let h = below c in search needs) (λ c. let h = below c in search needs)
-    (λ c κs. search needs) carry-accepted-requires (λ c κs. search needs)
-    (λ c. let h = still (c .before .before .before .before .before) in search needs)
-    (λ c. let h = still (c .before .before .before .before .before) in search needs)
-    (λ c. search needs) returns)
+    (tie.spec (λ c κs. search needs) (λ c κs. search needs) (λ c. search needs) (λ c. search needs) (λ c κs. search needs) carry-accepted-requires
+    (λ c κs. search needs) (λ c. search needs) (λ c. search needs) (λ c. search needs) returns)

@@ -21,6 +21,7 @@ use crate::HeadMoved;
 use crate::answers;
 use crate::answers::with_olt;
 use crate::head_place::group_named;
+use crate::head_place::locate_unit;
 use crate::head_place::put;
 use crate::head_place::sound_groups;
 use crate::head_place::way_to;
@@ -40,7 +41,6 @@ use groups::making::no_groups;
 use groups::membership::member_at;
 use groups::membership::members_set;
 use groups::one_group;
-use olt::place::locate;
 use protocol::Acknowledgement;
 use refusal::Refusal;
 use refusal::Verdict;
@@ -151,10 +151,8 @@ pub fn moved(head: HeadEnd, n: u64) -> HeadMoved
 pub fn capture(head: HeadEnd, llid: u16) -> HeadDone
     ensures { λ r. ⌜ r ≡ headDone (headCaptureOf head llid) ⌝ }
 {
-    let valid = sound_groups(head);
-    let ahead = refuse_if(!valid, Refusal::OutOfRange, Verdict::Accepted);
+    let at = locate_unit(head, Verdict::Accepted, llid);
     let mut olt = head.olt;
-    let at = locate(olt, ahead, llid);
     let i = at.place;
     let way = at.verdict;
     let unit = olt.units[i];
@@ -176,15 +174,13 @@ pub fn capture(head: HeadEnd, llid: u16) -> HeadDone
 pub fn measure(head: HeadEnd, llid: u16, trip: u64) -> HeadDone
     ensures { λ r. ⌜ r ≡ headDone (headMeasureOf head llid trip) ⌝ }
 {
-    let valid = sound_groups(head);
-    let ranged = refuse_if(
+    let ahead = refuse_if(
         !(trip <= MAX_ROUND_TRIP),
         Refusal::OutOfRange,
         Verdict::Accepted,
     );
-    let ahead = refuse_if(!valid, Refusal::OutOfRange, ranged);
+    let at = locate_unit(head, ahead, llid);
     let mut olt = head.olt;
-    let at = locate(olt, ahead, llid);
     let i = at.place;
     let way = at.verdict;
     let unit = olt.units[i];
@@ -205,10 +201,8 @@ pub fn measure(head: HeadEnd, llid: u16, trip: u64) -> HeadDone
 pub fn clock_send(head: HeadEnd, llid: u16) -> HeadClockSent
     ensures { λ r. ⌜ r ≡ headClockSendOf head llid ⌝ }
 {
-    let valid = sound_groups(head);
-    let ahead = refuse_if(!valid, Refusal::OutOfRange, Verdict::Accepted);
+    let at = locate_unit(head, Verdict::Accepted, llid);
     let mut olt = head.olt;
-    let at = locate(olt, ahead, llid);
     let i = at.place;
     let way = at.verdict;
     let unit = olt.units[i];
@@ -229,10 +223,8 @@ pub fn clock_send(head: HeadEnd, llid: u16) -> HeadClockSent
 fn offer_unit(head: HeadEnd, llid: u16, key: [u8; 16]) -> HeadKeySent
     ensures { λ r. ⌜ r ≡ oltKeySent head (offerOf (head .olt) llid key) ⌝ }
 {
-    let valid = sound_groups(head);
-    let ahead = refuse_if(!valid, Refusal::OutOfRange, Verdict::Accepted);
+    let at = locate_unit(head, Verdict::Accepted, llid);
     let mut olt = head.olt;
-    let at = locate(olt, ahead, llid);
     let i = at.place;
     let way = at.verdict;
     let unit = olt.units[i];
@@ -284,10 +276,8 @@ pub fn offer(head: HeadEnd, llid: u16, key: [u8; 16]) -> HeadKeySent
 fn retry_unit(head: HeadEnd, llid: u16) -> HeadKeySent
     ensures { λ r. ⌜ r ≡ oltKeySent head (retryOf (head .olt) llid) ⌝ }
 {
-    let valid = sound_groups(head);
-    let ahead = refuse_if(!valid, Refusal::OutOfRange, Verdict::Accepted);
+    let at = locate_unit(head, Verdict::Accepted, llid);
     let mut olt = head.olt;
-    let at = locate(olt, ahead, llid);
     let i = at.place;
     let way = at.verdict;
     let unit = olt.units[i];
@@ -351,11 +341,9 @@ fn own_acknowledgement(answer: Answer) -> Acknowledgement
 fn acknowledge_unit(head: HeadEnd, llid: u16, answer: Answer) -> HeadAnswer
     ensures { λ r. ⌜ r ≡ oltAnswered head (acknowledgeOf (head .olt) llid (ownAcknowledgement answer)) ⌝ }
 {
-    let valid = sound_groups(head);
-    let ahead = refuse_if(!valid, Refusal::OutOfRange, Verdict::Accepted);
     let own = own_acknowledgement(answer);
+    let at = locate_unit(head, Verdict::Accepted, llid);
     let mut olt = head.olt;
-    let at = locate(olt, ahead, llid);
     let i = at.place;
     let way = at.verdict;
     let unit = olt.units[i];

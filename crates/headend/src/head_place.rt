@@ -1,10 +1,11 @@
-// The group that a call on a head end names (02, C-14).
+// The group or unit that a call on a head end names (02, C-14).
 ghost use mathlib.Core.Path.{_≡_};
 ghost use Prim.Native.Nat.{_<_};
 ghost use lib.Dec.{eqb};
 ghost use Rattle.octets.specs.Choice.{either};
 ghost use Rattle.ends.specs.Limits.{maxUnits};
 ghost use Rattle.protocol.specs.Replies.{onValid};
+ghost use Rattle.olt.specs.Lookup.{locatedOf};
 ghost use Rattle.group_protocol.specs.Head.{findGroup, validGroups, validHead, withGroup};
 use ends::Channels;
 use ends::Found;
@@ -13,6 +14,8 @@ use group_protocol::HeadEnd;
 use group_protocol::MAX_GROUPS;
 use groups::check_head::valid_groups;
 use groups::check_head::valid_head;
+use olt::Located;
+use olt::place::locate;
 use refusal::Refusal;
 use refusal::Verdict;
 use refusal::refuse_if;
@@ -54,6 +57,16 @@ pub(crate) fn sound_groups(head: HeadEnd) -> bool
     }
     let whole = head;
     valid_groups(whole)
+}
+
+// The unit that has the LLID: 1 for an end that is not valid, its groups included, then what the call refuses ahead of 2, then 2.
+pub(crate) fn locate_unit(head: HeadEnd, ahead: Verdict, llid: u16) -> Located
+    ensures { λ r. ⌜ r ≡ locatedOf (head .olt) (onValid (validGroups head) ahead) llid ⌝ }
+    ensures place { λ r. ⌜ r .place < maxUnits ⌝ }
+{
+    let sound = sound_groups(head);
+    let guarded = refuse_if(!sound, Refusal::OutOfRange, ahead);
+    locate(head.olt, guarded, llid)
 }
 
 // One group and the channels replaced.

@@ -17,8 +17,8 @@ ghost use Rattle.headend.specs.HeadTraffic.{groupReceiveVerdict, groupSe
 use crate::HeadReceived;
 use crate::HeadSent;
 use crate::head_place::group_named;
+use crate::head_place::locate_unit;
 use crate::head_place::put;
-use crate::head_place::sound_groups;
 use crate::head_place::way_to;
 use ends::Found;
 use envelope::downstream;
@@ -27,7 +27,6 @@ use envelope::upstream;
 use group_protocol::HeadEnd;
 use groups::sending;
 use octets::EQ_OCTETS;
-use olt::place::locate;
 use protocol::Header;
 use refusal::Refusal;
 use refusal::Verdict;
@@ -40,11 +39,9 @@ fn send_unit(head: HeadEnd, llid: u16, channel: u8, payload: &[u8], output: &mut
     ensures { λ r. ⌜ withOutput r (now (output .exit))
         ≡ oltSentIn head (oltSendOf (head .olt) llid channel (now (payload .entry)) (now (output .entry))) (now (output .entry)) ⌝ }
 {
-    let valid = sound_groups(head);
     let ahead = send_ahead(payload.len(), output.len(), channel);
-    let guarded = refuse_if(!valid, Refusal::OutOfRange, ahead);
+    let at = locate_unit(head, ahead, llid);
     let mut olt = head.olt;
-    let at = locate(olt, guarded, llid);
     let i = at.place;
     let way = at.verdict;
     let unit = olt.units[i];
@@ -146,11 +143,9 @@ fn receive_unit(head: HeadEnd, header: Header, octets: &[u8], output: &mut [u8])
     ensures { λ r. ⌜ withOutput r (now (output .exit))
         ≡ oltReceivedIn head (oltReceiveOf (head .olt) header (now (octets .entry)) (now (output .entry))) (now (output .entry)) ⌝ }
 {
-    let valid = sound_groups(head);
     let ahead = receive_ahead(octets.len(), output.len(), header, Verdict::Accepted);
-    let guarded = refuse_if(!valid, Refusal::OutOfRange, ahead);
+    let at = locate_unit(head, ahead, header.llid);
     let mut olt = head.olt;
-    let at = locate(olt, guarded, header.llid);
     let i = at.place;
     let way = at.verdict;
     let unit = olt.units[i];

@@ -10,9 +10,8 @@ use Rattle.envelope.specs.declared.Nonce.{Nonce}
 use Rattle.gf256.specs.Field.{_⊕_}
 use Rattle.gf256.specs.Lanes.{octetAt}
 use Rattle.gf256.specs.Substitution.{sbox}
-use Rattle.cipher.specs.Cipher.{Nr, cell, addRoundKey, roundKey, round, cipher}
-use Rattle.cipher.specs.RowWords.{PairKeys, state, blockOctets}
-use Rattle.cipher.specs.declared.rows.Blocks.{Blocks}
+use Rattle.cipher.specs.Cipher.{Nr, cell, addRoundKey, roundKey, round, lastRound, cipher}
+use Rattle.cipher.specs.RowWords.{PairKeys, state}
 use Rattle.cipher.specs.declared.rows.Rows.{Rows}
 
 -- counter block i as round 1 meets it
@@ -43,7 +42,7 @@ pub record IndexOctets (key i j k x : ℕ) : Type 0 where
 pub record FirstRound (w : List ℕ) (k kept : Rows) (i j : ℕ) (x : Rows) : Type 0 where
   pub states : (n : Nonce) → Kept w n kept → (z : ℕ) → z < 2 → state x z ≡ round (state k z) (entered w n (ofTwo z i j))
 
--- b has the counter blocks i and j enciphered, if `ks` has the round keys and `kept` what the two share of round 1
-pub record PairEnciphered (w : List ℕ) (ks : List Rows) (kept : Rows) (i j : ℕ) (b : Blocks) : Type 0 where
-  pub first : (n : Nonce) → PairKeys w Nr ks → Kept w n kept → blockOctets (b .first) ≡ cipher w (counterBlock n i)
-  pub second : (n : Nonce) → PairKeys w Nr ks → Kept w n kept → blockOctets (b .second) ≡ cipher w (counterBlock n j)
+-- x has the counter blocks i and j before their last round, if `ks` has the round keys and `kept` what the two share of round 1
+pub record BeforeLast (w : List ℕ) (ks : List Rows) (kept : Rows) (i j : ℕ) (x : Rows) : Type 0 where
+  pub first : (n : Nonce) → PairKeys w Nr ks → Kept w n kept → lastRound (roundKey w Nr) (state x 0) ≡ cipher w (counterBlock n i)
+  pub second : (n : Nonce) → PairKeys w Nr ks → Kept w n kept → lastRound (roundKey w Nr) (state x 1) ≡ cipher w (counterBlock n j)

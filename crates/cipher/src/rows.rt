@@ -8,7 +8,7 @@ ghost use Rattle.octets.specs.Lists.{tabulate};
 ghost use Rattle.gf256.specs.Lanes.{octetAt};
 ghost use Rattle.gf256.specs.Substitution.{sbox};
 ghost use Rattle.cipher.specs.Cipher.{Nr, roundKey, rounds, lastRound, cipher};
-ghost use Rattle.cipher.specs.FirstRound.{PairEnciphered};
+ghost use Rattle.cipher.specs.FirstRound.{BeforeLast};
 ghost use Rattle.cipher.specs.RowWords.{Both, BySbox, Eight, Four, LastColumns, Mixed, PairKeys, Reached, Rounded, Shifted, TwoRows, blockOctets, rowOf, state};
 use super::aes128::add_first_key;
 use super::first_round::first_round;
@@ -28,11 +28,6 @@ pub struct Rows {
 pub struct Block {
     pub low: u64,
     pub high: u64,
-}
-
-pub struct Blocks {
-    pub first: Block,
-    pub second: Block,
 }
 
 pub fn wide(x: u8) -> u64
@@ -287,7 +282,7 @@ fn last_round(subs: &[u8; 256], k: [u8; 16], s: Rows) -> Block
 }
 
 // The second of two states alone.
-fn second(s: Rows) -> Rows
+pub fn second(s: Rows) -> Rows
     ensures { λ r. ⌜ state r 0 ≡ state s 1 ⌝ }
 {
     Rows {
@@ -298,32 +293,35 @@ fn second(s: Rows) -> Rows
     }
 }
 
+// The cipher block that the last round makes of a state, the first of two.
+pub fn finished<'a>(subs: &'a [u8; 256], w: &'a [u8; 176], s: Rows) -> Block
+    ensures { λ r. ⌜ BySbox (now (subs .entry)) (blockOctets r ≡ lastRound (roundKey (now (w .entry)) Nr) (state s 0)) ⌝ }
+{
+    last_round(subs, round_key(w, ROUNDS), s)
+}
+
 // The cipher on one block.
 pub fn encrypt_lone<'a>(subs: &'a [u8; 256], w: &'a [u8; 176], block: [u8; 16]) -> Block
     ensures { λ r. ⌜ BySbox (now (subs .entry)) (blockOctets r ≡ cipher (now (w .entry)) block) ⌝ }
 {
     let s = lone_rounds(subs, w, rows_of(add_first_key(w, block)));
-    last_round(subs, round_key(w, ROUNDS), s)
+    finished(subs, w, s)
 }
 
-// The cipher on the counter blocks i and j, of whose round 1 `kept` is what they share.
-pub fn encrypt_pair<'a>(
+// The cipher on the counter blocks i and j up to the last round; `kept` is what they share of round 1. A caller finishes one block and is done with
+// it before the other: both at once need more registers than there are.
+pub fn before_last<'a>(
     subs: &'a [u8; 256],
     w: &'a [u8; 176],
     keys: [Rows; 10],
     kept: Rows,
     i: u64,
     j: u64,
-) -> Blocks
-    ensures { λ r. ⌜ BySbox (now (subs .entry)) (PairEnciphered (now (w .entry)) keys kept i j r) ⌝ }
+) -> Rows
+    ensures { λ r. ⌜ BySbox (now (subs .entry)) (BeforeLast (now (w .entry)) keys kept i j r) ⌝ }
 {
     let start = first_round(subs, w, keys[1], kept, i, j);
-    let s = pair_rounds(subs, keys, start);
-    let k = round_key(w, ROUNDS);
-    Blocks {
-        first: last_round(subs, k, s),
-        second: last_round(subs, k, second(s)),
-    }
+    pair_rounds(subs, keys, start)
 }
 
 pub(crate) fn octet(x: u64, j: u64) -> u8

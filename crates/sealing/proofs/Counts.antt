@@ -76,3 +76,11 @@ module _ (w : List ℕ) (n : Nonce) (p : List ℕ) (whole : length p % 9 ≡ 0) 
   two-counts i j h l idle =
       rw (one-more w n p whole i (omega arith) ∙ idle-stretch w n p whole (i + 1) j (omega arith) (omega arith) idle)
       (omega (arith, one-count i (omega arith), no-count p whole (i + 1) j (omega arith) (omega arith) idle, one-count j l))
+
+  -- the last block that needs a run
+  pub last-count : (k : ℕ) → k < blocksOf (length p) → ((b : ℕ) → k < b → b < blocksOf (length p) → needsRun p b ≡ false)
+      → countBelow p k + blockCount (sealedBelow w n p k) k ≡ countEnciphered p
+  last-count k h idle =
+      one-count k h
+      ∙ sym (no-count p whole (k + 1) (blocksOf (length p)) (omega arith) (omega arith) (λ b l u. idle b (omega arith) u))
+      ∙ all-count p whole

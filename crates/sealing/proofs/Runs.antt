@@ -248,6 +248,14 @@ module _ (w : List ℕ) (n : Nonce) (p : List ℕ) (whole : length p % 9 ≡ 0) 
       let all : min (18 * blocksOf (length p)) (length p) ≡ length p = omega arith in
       rw all (written-all (sealed w n p) p (sealed-length w n p))
 
+  -- the last block that needs a run
+  pub last-sealed : (k : ℕ) → k < blocksOf (length p) → ((b : ℕ) → k < b → b < blocksOf (length p) → needsRun p b ≡ false)
+      → blockSealed w n (sealedBelow w n p k) k ≡ sealed w n p
+  last-sealed k h idle =
+      one-more k h
+      ∙ idle-stretch (k + 1) (blocksOf (length p)) (omega arith) (omega arith) (λ b l u. idle b (omega arith) u)
+      ∙ all-sealed
+
 ---- how runs add up
 
 module _ (p : List ℕ) where
@@ -257,7 +265,7 @@ module _ (p : List ℕ) where
       (sum-suc 0 k (λ b. pick (needsRun p b) 1 0)
       ∙ ap (λ (x : ℕ). runsBelow p k + x) (rw zero-add (ap (λ (s : Bool). pick s 1 0) e)))
 
-  pub one-run : (k : ℕ) → needsRun p k ≡ true → runsBelow p (k + 1) ≡ runsBelow p k + 1
+  one-run : (k : ℕ) → needsRun p k ≡ true → runsBelow p (k + 1) ≡ runsBelow p k + 1
   unfolding pick
   one-run k e = run-more k true e
 
@@ -275,3 +283,10 @@ module _ (p : List ℕ) where
   pub all-runs : length p % 9 ≡ 0 → runsBelow p (blocksOf (length p)) ≡ runs p
   unfolding runs
   all-runs whole = let same : blocksOf (length p) ≡ mostRuns p = omega arith in ap (runsBelow p) same
+
+  pub last-run : length p % 9 ≡ 0 → (k : ℕ) → k < blocksOf (length p) → needsRun p k ≡ true
+      → ((b : ℕ) → k < b → b < blocksOf (length p) → needsRun p b ≡ false) → runsBelow p k + 1 ≡ runs p
+  last-run whole k h needed idle =
+      sym (one-run k needed)
+      ∙ sym (no-run (k + 1) (blocksOf (length p)) (omega arith) (λ b l u. idle b (omega arith) u))
+      ∙ all-runs whole

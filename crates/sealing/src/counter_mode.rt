@@ -22,10 +22,12 @@ use cipher::first_round::kept_rows;
 use cipher::key_expansion::expand_key;
 use cipher::rows::Block;
 use cipher::rows::Rows;
+use cipher::rows::before_last;
 use cipher::rows::encrypt_lone;
-use cipher::rows::encrypt_pair;
+use cipher::rows::finished;
 use cipher::rows::octets_of;
 use cipher::rows::pair_keys;
+use cipher::rows::second;
 use envelope::Nonce;
 use envelope::SealAnswer;
 use envelope::counter_block;
@@ -111,11 +113,11 @@ fn seal_pair<'a>(
     requires { ⌜ ((18 * i < length (now payload)) × (i < maxBlocks)) × ((18 * j < length (now payload)) × (j < maxBlocks)) ⌝ }
     ensures { λ r. ⌜ PairSealed (now (w .entry)) kept i j (now (payload .entry)) (now (payload .exit)) r ⌝ }
 {
-    let blocks = encrypt_pair(subs, w, keys, kept, i as u64, j as u64);
-    let first = mask_block(payload, blocks.first, i);
-    let second = mask_block(payload, blocks.second, j);
+    let s = before_last(subs, w, keys, kept, i as u64, j as u64);
+    let here = mask_block(payload, finished(subs, w, s), i);
+    let there = mask_block(payload, finished(subs, w, second(s)), j);
     Work {
-        count: first + second,
+        count: here + there,
         runs: 2,
     }
 }
@@ -149,7 +151,7 @@ fn next_run(payload: &[u8], blocks: usize, i: usize) -> usize
     k
 }
 
-// Seals the blocks that need a run, from `i` and `j` on, two at a time: all, or all but a last one. One alone needs no keys for two.
+// Seals the blocks that need a run, from `i` and `j` on, two at a time: all, or all but a last one.
 fn seal_pairs<'a>(
     subs: &'a [u8; 256],
     w: &'a [u8; 176],
@@ -165,13 +167,6 @@ fn seal_pairs<'a>(
     ensures { λ r. ⌜ PairsSealed (now (w .entry)) nonce (now (payload .entry)) (now (payload .exit)) r ⌝ }
 {
     let blocks = (payload.len() + 17) / 18;
-    if blocks <= j {
-        return Paired {
-            count: 0,
-            runs: 0,
-            next: i,
-        };
-    }
     let keys = pair_keys(w);
     let kept = kept_rows(subs, w, nonce);
     let mut count: u64 = 0;
@@ -192,7 +187,8 @@ fn seal_pairs<'a>(
     }
 }
 
-// The blocks that need a run, sealed; tells the work: the others have no octet to encipher. A last one, with no other beside it, by itself.
+// The blocks that need a run, sealed; tells the work: the others have no octet to encipher. One alone needs no keys for two, and so does a last one with
+// no other beside it.
 fn seal_blocks<'a>(subs: &'a [u8; 256], w: &'a [u8; 176], nonce: Nonce, payload: &mut [u8]) -> Work
     requires { ⌜ now subs ≡ sboxTable ⌝ }
     requires { ⌜ length (now payload) % 9 ≡ 0 ⌝ }
@@ -202,7 +198,13 @@ fn seal_blocks<'a>(subs: &'a [u8; 256], w: &'a [u8; 176], nonce: Nonce, payload:
 {
     let blocks = (payload.len() + 17) / 18;
     let first = next_run(payload, blocks, 0);
+    if blocks <= first {
+        return Work { count: 0, runs: 0 };
+    }
     let second = next_run(payload, blocks, first + 1);
+    if blocks <= second {
+        return seal_lone(subs, w, nonce, payload, first);
+    }
     let paired = seal_pairs(subs, w, nonce, payload, first, second);
     let next = paired.next;
     if next < blocks {

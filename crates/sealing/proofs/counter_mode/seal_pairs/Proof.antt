@@ -29,24 +29,9 @@ Inv-loop subs w payload₀ i j blocks keys kept count₀ runs₀ first₀ second
 abbrev μ-loop : tie.MeasureT-loop
 μ-loop subs w payload₀ i j blocks keys kept count₀ runs₀ first₀ second₀ payload count runs first second = blocks - first
 
-returns : tie.Need-returns Inv-loop μ-loop
-returns c =
-    let start = c .before .before in
-    let a = start .args in
-    let p = a .payload .now in
-    let first = start .pre .1 .1 .0 in
-    record {
-      below = first .below (omega arith);
-      needed = first .needed;
-      rest = λ k l u. start .pre .1 .1 .1 .idle k (omega arith) (omega arith);
-      sealed = first-sealed (a .w .now) (a .nonce) p (start .pre .1 .0 .0) (a .i) first;
-      count = first-count p (start .pre .1 .0 .0) (a .i) first;
-      runs = first-runs p (a .i) (blocksOf (length p)) first;
-    }
-
 loop-holds : tie.Need-loop-holds Inv-loop μ-loop
 loop-holds c =
-    let start = c .before .before .before .before in
+    let start = c .before .before .before in
     let a = start .args in
     let p = a .payload .now in
     let whole = start .pre .1 .0 .0 in
@@ -67,18 +52,18 @@ loop-holds c =
 seal-pair-requires : tie.Need-seal-pair-requires Inv-loop μ-loop
 seal-pair-requires c κs =
     let at-loop = c .before .before in
-    let start = at-loop .before .before .before .before .before in
+    let start = at-loop .before .before .before .before in
     let inv = at-loop .loop .inv in
     let after : at-loop .loop .first + 1 ≤ at-loop .loop .second = inv .7 .from in
     ((start .pre .0, inv .4), (omega arith, ((omega arith, omega arith), (omega arith, omega arith))))
 
 -- the octets of one pair more are counted
 counted : (c : tie.After-seal-pair Inv-loop μ-loop) → let at-loop = c .before .before .before in
-    let p = at-loop .before .before .before .before .before .args .payload .now in
+    let p = at-loop .before .before .before .before .args .payload .now in
     at-loop .loop .count + c .seal-pair .result .count ≡ countBelow p (at-loop .loop .second + 1)
 counted c =
     let at-loop = c .before .before .before in
-    let start = at-loop .before .before .before .before .before in
+    let start = at-loop .before .before .before .before in
     let a = start .args in
     let loop = at-loop .loop in
     let share = at-loop .before .kept-rows .ensures .holds (start .pre .0) in
@@ -95,18 +80,18 @@ add-count : tie.Need-add-count Inv-loop μ-loop
 add-count c =
     let paired = c .before .before .before in
     let at-loop = paired .before .before .before in
-    let start = at-loop .before .before .before .before .before in
+    let start = at-loop .before .before .before .before in
     omega (arith, counted paired, count-at-most (start .args .payload .now) (at-loop .loop .second + 1), at-loop .loop .inv .2)
 
 add-runs : tie.Need-add-runs Inv-loop μ-loop
 add-runs c =
     let at-loop = c .before .before .before .before .before .before .before in
-    let start = at-loop .before .before .before .before .before in
+    let start = at-loop .before .before .before .before in
     omega (arith, runs-at-most (start .args .payload .now) (at-loop .loop .first), at-loop .loop .inv .9, at-loop .loop .inv .5, at-loop .loop .inv .2)
 
 -- the payload with one pair more sealed has its length
 long : (c : tie.After-seal-pair Inv-loop μ-loop)
-    → length (c .seal-pair .last .1 .1 .1 .1 .0) ≡ length (c .before .before .before .before .before .before .before .before .args .payload .now)
+    → length (c .seal-pair .last .1 .1 .1 .1 .0) ≡ length (c .before .before .before .before .before .before .before .args .payload .now)
 long c = c .seal-pair .kept .1 .1 .1 .1 .0 ∙ c .before .before .before .loop .inv .3
 
 next-run-requires : tie.Need-next-run-requires Inv-loop μ-loop
@@ -133,12 +118,12 @@ next-run-requires-2 c κs =
 
 -- one pair more is sealed
 more : (c : tie.After-seal-pair Inv-loop μ-loop) → let at-loop = c .before .before .before in let a =
-    at-loop .before .before .before .before .before .args in
+    at-loop .before .before .before .before .args in
     (n : Nonce) → Kept (a .w .now) n (at-loop .before .kept-rows .result)
     → c .seal-pair .last .1 .1 .1 .1 .0 ≡ sealedBelow (a .w .now) n (a .payload .now) (at-loop .loop .second + 1)
 more c n share =
     let at-loop = c .before .before .before in
-    let a = at-loop .before .before .before .before .before .args in
+    let a = at-loop .before .before .before .before .args in
     let loop = at-loop .loop in
     let w = a .w .now in
     let after : loop .first + 1 ≤ loop .second = loop .inv .7 .from in
@@ -148,12 +133,12 @@ more c n share =
 
 -- what comes after it is what came after it in the payload as it was
 next : (c : tie.After-next-run Inv-loop μ-loop) → let at-loop = c .before .before .before .before .before .before .before .before .before in
-    let p = at-loop .before .before .before .before .before .args .payload .now in
+    let p = at-loop .before .before .before .before .args .payload .now in
     NextRun p (blocksOf (length p)) (at-loop .loop .second + 1) (c .next-run .result)
 next c =
     let paired = c .before .before .before .before .before .before in
     let at-loop = paired .before .before .before in
-    let start = at-loop .before .before .before .before .before in
+    let start = at-loop .before .before .before .before in
     let a = start .args in
     let m = at-loop .loop .second + 1 in
     next-past (a .w .now) (a .nonce) (a .payload .now) (at-loop .loop .inv .1) m m (omega arith)
@@ -164,7 +149,7 @@ loop-again c =
     let ran = c .before .before in
     let paired = ran .before .before .before .before .before .before in
     let at-loop = paired .before .before .before in
-    let start = at-loop .before .before .before .before .before in
+    let start = at-loop .before .before .before .before in
     let a = start .args in
     let p = a .payload .now in
     let w = a .w .now in
@@ -202,11 +187,11 @@ loop-less c =
     let past : at-loop .loop .second + 1 ≤ ran .next-run .result = next ran .from in
     omega (arith, inside .loop-test .taken)
 
-returns-2 : tie.Need-returns-2 Inv-loop μ-loop
-returns-2 c =
+returns : tie.Need-returns Inv-loop μ-loop
+returns c =
     let at-loop = c .before in
     let inv = at-loop .loop .inv in
-    let start = at-loop .before .before .before .before .before in
+    let start = at-loop .before .before .before .before in
     record {
       below = inv .5;
       needed = inv .6;
@@ -219,5 +204,5 @@ returns-2 c =
 pub seal-pairs-spec : {M : Type 1} → statement M
 seal-pairs-spec =
     tie.close
-    (tie.spec Inv-loop μ-loop (λ c. search needs) returns (λ c κs. search needs) (λ c κs. search needs) loop-holds seal-pair-requires add-count add-runs
-    (λ c. search needs) next-run-requires add-next-run-2 next-run-requires-2 loop-less loop-again (λ c. search needs) returns-2)
+    (tie.spec Inv-loop μ-loop (λ c. search needs) (λ c κs. search needs) (λ c κs. search needs) loop-holds seal-pair-requires add-count add-runs
+    (λ c. search needs) next-run-requires add-next-run-2 next-run-requires-2 loop-less loop-again (λ c. search needs) returns)

@@ -2,10 +2,8 @@
 ghost use mathlib.Core.Path.{_≡_};
 ghost use Rattle.refusal.specs.declared.Verdict.the-variants.{Accepted, Refused};
 ghost use Rattle.protocol.specs.Replies.{silent, reply};
-ghost use Rattle.group_protocol.specs.Head.{withOlt};
 ghost use Rattle.headend.specs.HeadCalls.{headAnswer};
 use crate::HeadAnswer;
-use ends::Olt;
 use group_protocol::HeadEnd;
 use refusal::Refusal;
 use refusal::number;
@@ -21,13 +19,4 @@ pub(crate) fn refused(head: HeadEnd, refusal: Refusal) -> HeadAnswer
 {
     let number = number(refusal);
     HeadAnswer { number, head }
-}
-
-// The head end with the OLT that a call on it left.
-pub(crate) fn with_olt(head: HeadEnd, olt: Olt) -> HeadEnd
-    ensures { λ r. ⌜ r ≡ withOlt head olt ⌝ }
-{
-    let mut r = head;
-    r.olt = olt;
-    r
 }

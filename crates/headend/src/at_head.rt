@@ -6,12 +6,15 @@ ghost use lib.Dec.{eqb};
 ghost use lib.ListN.{take};
 ghost use Rattle.octets.specs.Choice.{pick};
 ghost use Rattle.octets.specs.Lists.{all};
+ghost use Rattle.refusal.specs.declared.Verdict.the-variants.{Accepted};
 ghost use Rattle.clock.specs.Ticks.{maxTick};
 ghost use Rattle.ends.specs.Limits.{maxUnits};
 ghost use Rattle.ends.specs.Timers.{validTimer};
 ghost use Rattle.protocol.specs.OltCalls.{acknowledgeOf, offerOf, retryOf};
+ghost use Rattle.protocol.specs.Replies.{onValid};
 ghost use Rattle.group_protocol.specs.GroupCalls.{memberNamed};
-ghost use Rattle.headend.specs.HeadCalls.{freshHeadOf, groupAcknowledgeOf, groupOfferOf, groupRetryOf, groupsAdvanced, headAcknowledgeOf, headCaptureOf, headClockSendOf, headDone, headMeasureOf, headMovedOf, headOfferOf, headRegisterOf, headRetryOf, oltAnswered, oltKeySent, ownAcknowledgement, registerGroupOf};
+ghost use Rattle.group_protocol.specs.Head.{validHead};
+ghost use Rattle.headend.specs.HeadCalls.{freshHeadOf, groupAcknowledgeOf, groupOfferOf, groupRetryOf, groupsAdvanced, headAcknowledgeOf, headCaptureOf, headClockSendOf, headDone, headMeasureOf, headMovedOf, headOfferOf, headRegisterOf, headRetryOf, oltAnswered, oltKeySent, ownAcknowledgement, registerGroupOf, unitVerdict};
 ghost use Rattle.headend.specs.WithoutGroups.{WithoutGroups};
 use crate::HeadAnswer;
 use crate::HeadClockSent;
@@ -19,7 +22,6 @@ use crate::HeadDone;
 use crate::HeadKeySent;
 use crate::HeadMoved;
 use crate::answers;
-use crate::answers::with_olt;
 use crate::head_place::group_named;
 use crate::head_place::locate_unit;
 use crate::head_place::put;
@@ -63,36 +65,30 @@ pub fn fresh(mac: u64, clock: u64) -> HeadAnswer
     }
 }
 
-// Beside groups, which 3 and 4 know.
-fn register_beside(head: HeadEnd, identity: Identity, trip: u64, interval: u64) -> HeadAnswer
-    ensures { λ r. ⌜ r ≡ headRegisterOf head identity trip interval ⌝ }
+// What a unit is refused beside groups, which 3 and 4 know; without one, nothing.
+fn beside_groups(head: HeadEnd, identity: Identity, trip: u64, interval: u64) -> Verdict
+    ensures { λ r. ⌜ r ≡ pick (eqb (head .groups .count) 0) Accepted (onValid (validHead head) (unitVerdict head identity trip interval)) ⌝ }
 {
-    let verdict = registering::unit_verdict(head, identity, trip, interval);
-    match verdict {
-        Verdict::Refused(refusal) => answers::refused(head, refusal),
-        Verdict::Accepted => {
-            let done = olt::register(head.olt, identity, trip, interval);
-            let olt = done.olt;
-            answers::accepted(with_olt(head, olt))
-        }
+    if head.groups.count == 0 {
+        return Verdict::Accepted;
     }
+    registering::unit_verdict(head, identity, trip, interval)
 }
 
 // Registers a unit. 3 and 4 know the groups.
-pub fn register(head: HeadEnd, identity: Identity, trip: u64, interval: u64) -> HeadAnswer
-    ensures { λ r. ⌜ r ≡ headRegisterOf head identity trip interval ⌝ }
+pub fn register(head: HeadEnd, identity: Identity, trip: u64, interval: u64) -> HeadDone
+    ensures { λ r. ⌜ r ≡ headDone (headRegisterOf head identity trip interval) ⌝ }
 {
-    if head.groups.count == 0 {
-        let done = olt::register(head.olt, identity, trip, interval);
-        let olt = done.olt;
-        let groups = head.groups;
-        return HeadAnswer {
-            number: done.number,
-            head: HeadEnd { olt, groups },
-        };
+    let ahead = beside_groups(head, identity, trip, interval);
+    let done = olt::register(head.olt, ahead, identity, trip, interval);
+    let olt = done.olt;
+    let groups = head.groups;
+    let mac = olt.shared.mac;
+    HeadDone {
+        head: HeadEnd { olt, groups },
+        mac,
+        number: done.number,
     }
-    let whole = head;
-    register_beside(whole, identity, trip, interval)
 }
 
 // Registers a group with its members, each named by any LLID of its unit.

@@ -35,7 +35,13 @@ pub extern "C" fn jazmotip_olt_register(
 ) -> HeadAnswer
     ensures { λ r. ⌜ r ≡ headRegisterOf olt identity trip interval ⌝ }
 {
-    at_head::register(olt, identity, trip, interval)
+    let done = at_head::register(olt, identity, trip, interval);
+    let mut head = done.head;
+    head.olt.shared.mac = done.mac;
+    HeadAnswer {
+        number: done.number,
+        head,
+    }
 }
 
 // A group takes a unit's place; each member is named by any LLID of its unit.
@@ -89,7 +95,7 @@ pub extern "C" fn jazmotip_olt_advance(olt: &mut HeadEnd, n: u64) -> u8
     answer.number
 }
 
-// Here and in measure the MAC that is there is stored again, so that the record is handed on where it lies (D119).
+// Here, in register and in measure the MAC that is there is stored again, so that the record is handed on where it lies (D119).
 #[no_mangle]
 pub extern "C" fn jazmotip_olt_capture(olt: HeadEnd, llid: u16) -> HeadAnswer
     ensures { λ r. ⌜ r ≡ headCaptureOf olt llid ⌝ }

@@ -1,2 +1,3 @@
 pub mod Lookup
 pub mod Moves
+pub mod Registers

@@ -37,6 +37,7 @@ use Rattle.group_protocol.specs.declared.Roster.{Roster}
 use Rattle.group_protocol.specs.declared.Answer.{Answer}
 use Rattle.group_protocol.specs.Naming.{byLlid, groupLift}
 use Rattle.headend.specs.declared.HeadAnswer.{HeadAnswer}
+use Rattle.headend.specs.declared.HeadClockDone.{HeadClockDone}
 use Rattle.headend.specs.declared.HeadClockSent.{HeadClockSent}
 use Rattle.headend.specs.declared.HeadDone.{HeadDone}
 use Rattle.headend.specs.declared.HeadKeySent.{HeadKeySent}
@@ -146,6 +147,10 @@ headDone r = record { head = r .head; mac = r .head .olt .shared .mac; number = 
 
 unfoldable pub headClockSendOf : HeadEnd → ℕ → HeadClockSent
 headClockSendOf h llid = oltClockSent h (clockSendOf (h .olt) llid)
+
+-- its answer so
+abbrev pub headClockDone : HeadClockSent → HeadClockDone
+headClockDone r = record { head = r .head; mac = r .head .olt .shared .mac; message = r .message; number = r .number }
 
 ---- offer: 2, 5, 6, 7, 17
 

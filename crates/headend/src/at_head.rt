@@ -14,10 +14,10 @@ ghost use Rattle.protocol.specs.OltCalls.{acknowledgeOf, offerOf, retryOf};
 ghost use Rattle.protocol.specs.Replies.{onValid};
 ghost use Rattle.group_protocol.specs.GroupCalls.{memberNamed};
 ghost use Rattle.group_protocol.specs.Head.{validHead};
-ghost use Rattle.headend.specs.HeadCalls.{freshHeadOf, groupAcknowledgeOf, groupOfferOf, groupRetryOf, groupsAdvanced, headAcknowledgeOf, headCaptureOf, headClockSendOf, headDone, headMeasureOf, headMovedOf, headOfferOf, headRegisterOf, headRetryOf, oltAnswered, oltKeySent, ownAcknowledgement, registerGroupOf, unitVerdict};
+ghost use Rattle.headend.specs.HeadCalls.{freshHeadOf, groupAcknowledgeOf, groupOfferOf, groupRetryOf, groupsAdvanced, headAcknowledgeOf, headCaptureOf, headClockDone, headClockSendOf, headDone, headMeasureOf, headMovedOf, headOfferOf, headRegisterOf, headRetryOf, oltAnswered, oltKeySent, ownAcknowledgement, registerGroupOf, unitVerdict};
 ghost use Rattle.headend.specs.WithoutGroups.{WithoutGroups};
 use crate::HeadAnswer;
-use crate::HeadClockSent;
+use crate::HeadClockDone;
 use crate::HeadDone;
 use crate::HeadKeySent;
 use crate::HeadMoved;
@@ -194,8 +194,8 @@ pub fn measure(head: HeadEnd, llid: u16, trip: u64) -> HeadDone
     }
 }
 
-pub fn clock_send(head: HeadEnd, llid: u16) -> HeadClockSent
-    ensures { λ r. ⌜ r ≡ headClockSendOf head llid ⌝ }
+pub fn clock_send(head: HeadEnd, llid: u16) -> HeadClockDone
+    ensures { λ r. ⌜ r ≡ headClockDone (headClockSendOf head llid) ⌝ }
 {
     let at = locate_unit(head, Verdict::Accepted, llid);
     let mut olt = head.olt;
@@ -209,10 +209,12 @@ pub fn clock_send(head: HeadEnd, llid: u16) -> HeadClockSent
     let message = done.message;
     olt.units[i] = next;
     let groups = head.groups;
-    HeadClockSent {
-        number,
+    let mac = olt.shared.mac;
+    HeadClockDone {
         head: HeadEnd { olt, groups },
+        mac,
         message,
+        number,
     }
 }
 

@@ -33,6 +33,14 @@ pub struct HeadDone {
     pub number: u8,
 }
 
+// That of clock send.
+pub struct HeadClockDone {
+    pub head: HeadEnd,
+    pub mac: u64,
+    pub message: Stamps,
+    pub number: u8,
+}
+
 #[repr(C)]
 pub struct HeadClockSent {
     pub number: u8,

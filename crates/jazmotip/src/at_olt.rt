@@ -95,7 +95,7 @@ pub extern "C" fn jazmotip_olt_advance(olt: &mut HeadEnd, n: u64) -> u8
     answer.number
 }
 
-// Here, in register and in measure the MAC that is there is stored again, so that the record is handed on where it lies (D119).
+// Here and wherever else a record comes first the MAC that is there is stored again, so that the record is handed on where it lies (D119).
 #[no_mangle]
 pub extern "C" fn jazmotip_olt_capture(olt: HeadEnd, llid: u16) -> HeadAnswer
     ensures { λ r. ⌜ r ≡ headCaptureOf olt llid ⌝ }
@@ -127,7 +127,15 @@ pub extern "C" fn jazmotip_olt_measure(olt: HeadEnd, llid: u16, trip: u64) -> He
 pub extern "C" fn jazmotip_olt_clock_send(olt: HeadEnd, llid: u16) -> HeadClockSent
     ensures { λ r. ⌜ r ≡ headClockSendOf olt llid ⌝ }
 {
-    at_head::clock_send(olt, llid)
+    let done = at_head::clock_send(olt, llid);
+    let mut head = done.head;
+    head.olt.shared.mac = done.mac;
+    let message = done.message;
+    HeadClockSent {
+        number: done.number,
+        head,
+        message,
+    }
 }
 
 #[no_mangle]

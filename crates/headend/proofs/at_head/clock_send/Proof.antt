@@ -9,7 +9,7 @@ use Rattle.protocol.specs.Messages.{noStamps}
 use Rattle.protocol.specs.OltCalls.{clockSendOf}
 use Rattle.protocol.specs.UnitCalls.{clockSendUnit}
 use Rattle.group_protocol.specs.Head.{withOlt}
-use Rattle.headend.specs.HeadCalls.{headClockSendOf}
+use Rattle.headend.specs.HeadCalls.{headClockDone, headClockSendOf}
 use Rattle.headend.proofs.HeadUnits.{clock-guarded, headClockSent, lift-guarded}
 use Rattle.headend.proofs.at_head.clock_send.Statement.{statement}
 use Rattle.headend.proofs.at_head.clock_send.Tie as tie
@@ -23,9 +23,10 @@ returns c =
     let a = at .before .args in
     let x = outcome (a .head .olt .shared) (done .result .verdict) (done .result .unit) (done .result .message) in
     rw (numbered .verdict-number .ensures)
+    (ap headClockDone
     (ap headClockSent (lift-guarded (a .head) noStamps (a .llid) clockSendUnit Accepted (at .locate-unit .result) x (at .locate-unit .ensures .0)
     (done .ensures))
-    ∙ clock-guarded (a .head) _)
+    ∙ clock-guarded (a .head) _))
 
 pub clock-send-spec : {M : Type 1} → statement M
 clock-send-spec =

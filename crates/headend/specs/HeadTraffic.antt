@@ -23,11 +23,14 @@ use Rattle.traffic.specs.Sends.{oltSendOf}
 use Rattle.traffic.specs.Receipts.{oltReceiveOf}
 use Rattle.traffic.specs.declared.OltSent.{OltSent}
 use Rattle.traffic.specs.declared.OltReceived.{OltReceived}
+use Rattle.ends.specs.declared.Found.{Found}
+use Rattle.ends.specs.declared.Found.the-variants.{At, Nowhere}
 use Rattle.group_protocol.specs.Head.{findGroup, withOlt, validGroups, validHead}
 use Rattle.group_protocol.specs.GroupCalls.{sendGroup}
 use Rattle.group_protocol.specs.declared.HeadEnd.{HeadEnd}
 use Rattle.group_protocol.specs.Naming.{byLlid, groupLift}
 use Rattle.headend.specs.declared.HeadSent.{HeadSent}
+use Rattle.headend.specs.declared.HeadReceiptDone.{HeadReceiptDone}
 use Rattle.headend.specs.declared.HeadReceived.{HeadReceived}
 
 ---- send: 14, 1, 2, 5, 12, 13
@@ -99,3 +102,18 @@ unfoldable pub headReceiveOf : HeadEnd → Header → List ℕ → List ℕ → 
 headReceiveOf h header p out =
     byLlid (findGroup h (header .llid)) (oltReceivedIn h (oltReceiveOf (h .olt) header p out) out)
     (λ i. withOutput (headNotReceived h (verdictNumber (groupReceiveVerdict h header (length p) (length out)))) out)
+
+-- the same, the end first, and the OLT's MAC beside it
+abbrev pub headReceiptDone : HeadReceived → HeadReceiptDone
+headReceiptDone r = record { head = r .head; mac = r .head .olt .shared .mac; count = r .count; runs = r .runs; number = r .number }
+
+abbrev pub receiptDone : WithOutput HeadReceived → WithOutput HeadReceiptDone
+receiptDone r = withOutput (headReceiptDone (r .answer)) (r .output)
+
+abbrev pub headReceiptOf : HeadEnd → Header → List ℕ → List ℕ → WithOutput HeadReceiptDone
+headReceiptOf h header p out = receiptDone (headReceiveOf h header p out)
+
+-- what a receipt is refused behind its own 14 and 1, by the group that has its LLID
+abbrev pub ownLlid : Found → Verdict
+ownLlid Nowhere = Accepted
+ownLlid (At i) = Refused GroupLlid

@@ -11,10 +11,9 @@ ghost use Rattle.refusal.specs.declared.Refusal.the-variants.{BadLength, OutOfR
 ghost use Rattle.refusal.specs.declared.Verdict.the-variants.{Accepted};
 ghost use Rattle.ends.specs.Limits.{maxUnits};
 ghost use Rattle.protocol.specs.Headers.{validHeader};
-ghost use Rattle.traffic.specs.Receipts.{oltReceiveOf};
 ghost use Rattle.traffic.specs.Sends.{oltSendOf};
-ghost use Rattle.headend.specs.HeadTraffic.{groupReceiveVerdict, groupSendOf, headReceiveOf, headSendOf, oltReceivedIn, oltSentIn};
-use crate::HeadReceived;
+ghost use Rattle.headend.specs.HeadTraffic.{groupSendOf, headReceiptOf, headSendOf, oltSentIn, ownLlid};
+use crate::HeadReceiptDone;
 use crate::HeadSent;
 use crate::head_place::group_named;
 use crate::head_place::locate_unit;
@@ -139,11 +138,23 @@ fn receive_ahead(n: usize, m: usize, header: Header, rest: Verdict) -> Verdict
     )
 }
 
-fn receive_unit(head: HeadEnd, header: Header, octets: &[u8], output: &mut [u8]) -> HeadReceived
-    ensures { λ r. ⌜ withOutput r (now (output .exit))
-        ≡ oltReceivedIn head (oltReceiveOf (head .olt) header (now (octets .entry)) (now (output .entry))) (now (output .entry)) ⌝ }
+// What stands in the way of a receipt behind its own 14 and 1: on a group's LLID the OLT receives nothing.
+fn own_llid(found: Found) -> Verdict
+    ensures { λ r. ⌜ r ≡ ownLlid found ⌝ }
 {
-    let ahead = receive_ahead(octets.len(), output.len(), header, Verdict::Accepted);
+    match found {
+        Found::Nowhere => Verdict::Accepted,
+        Found::At(_) => Verdict::Refused(Refusal::GroupLlid),
+    }
+}
+
+// From a unit. Refused, it goes the same way to its answer.
+pub fn receive(head: HeadEnd, header: Header, octets: &[u8], output: &mut [u8]) -> HeadReceiptDone
+    ensures { λ r. ⌜ withOutput r (now (output .exit)) ≡ headReceiptOf head header (now (octets .entry)) (now (output .entry)) ⌝ }
+{
+    let found = group_named(head, header.llid);
+    let rest = own_llid(found);
+    let ahead = receive_ahead(octets.len(), output.len(), header, rest);
     let at = locate_unit(head, ahead, header.llid);
     let mut olt = head.olt;
     let i = at.place;
@@ -157,37 +168,12 @@ fn receive_unit(head: HeadEnd, header: Header, octets: &[u8], output: &mut [u8])
     let number = verdict_number(verdict);
     olt.units[i] = next;
     let groups = head.groups;
-    HeadReceived {
-        number,
+    let mac = olt.shared.mac;
+    HeadReceiptDone {
         head: HeadEnd { olt, groups },
+        mac,
         count: work.count,
         runs: work.runs,
-    }
-}
-
-// What a receipt on a group's LLID is refused.
-fn group_receive_verdict(head: HeadEnd, header: Header, n: usize, m: usize) -> Verdict
-    ensures { λ r. ⌜ r ≡ groupReceiveVerdict head header n m ⌝ }
-{
-    let rest = receive_ahead(n, m, header, Verdict::Refused(Refusal::GroupLlid));
-    way_to(head, rest)
-}
-
-// From a unit: on a group's LLID the OLT receives nothing.
-pub fn receive(head: HeadEnd, header: Header, octets: &[u8], output: &mut [u8]) -> HeadReceived
-    ensures { λ r. ⌜ withOutput r (now (output .exit)) ≡ headReceiveOf head header (now (octets .entry)) (now (output .entry)) ⌝ }
-{
-    let found = group_named(head, header.llid);
-    match found {
-        Found::Nowhere => receive_unit(head, header, octets, output),
-        Found::At(_) => {
-            let verdict = group_receive_verdict(head, header, octets.len(), output.len());
-            HeadReceived {
-                number: verdict_number(verdict),
-                head,
-                count: 0,
-                runs: 0,
-            }
-        }
+        number,
     }
 }

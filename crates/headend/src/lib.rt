@@ -41,6 +41,15 @@ pub struct HeadClockDone {
     pub number: u8,
 }
 
+// That of receive.
+pub struct HeadReceiptDone {
+    pub head: HeadEnd,
+    pub mac: u64,
+    pub count: u64,
+    pub runs: u64,
+    pub number: u8,
+}
+
 #[repr(C)]
 pub struct HeadClockSent {
     pub number: u8,

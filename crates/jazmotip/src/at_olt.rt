@@ -185,5 +185,13 @@ pub extern "C" fn jazmotip_olt_receive(
 ) -> HeadReceived
     ensures { λ r. ⌜ withOutput r (now (output .exit)) ≡ headReceiveOf olt header (now (octets .entry)) (now (output .entry)) ⌝ }
 {
-    head_traffic::receive(olt, header, octets, output)
+    let done = head_traffic::receive(olt, header, octets, output);
+    let mut head = done.head;
+    head.olt.shared.mac = done.mac;
+    HeadReceived {
+        number: done.number,
+        head,
+        count: done.count,
+        runs: done.runs,
+    }
 }

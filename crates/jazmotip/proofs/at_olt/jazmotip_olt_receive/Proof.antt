@@ -1,0 +1,15 @@
+-- `jazmotip::at_olt::jazmotip_olt_receive` meets its contract: the MAC that is stored is the one that is there. Assumes nothing.
+use borrow.Author.Needs.{needs}
+use mathlib.Core.Path.{ap}
+use Rattle.octets.specs.Output.{WithOutput}
+use Rattle.headend.specs.declared.HeadReceiptDone.{HeadReceiptDone}
+use Rattle.jazmotip.proofs.at_olt.jazmotip_olt_receive.Statement.{statement}
+use Rattle.jazmotip.proofs.at_olt.jazmotip_olt_receive.Tie as tie
+
+returns : tie.Need-returns
+returns c =
+    let e = c .before .before .before .before .receive .ensures in
+    rw (ap (λ (y : WithOutput HeadReceiptDone). y .answer) e, ap (λ (y : WithOutput HeadReceiptDone). y .output) e)
+
+pub jazmotip-olt-receive-spec : {M : Type 1} → statement M
+jazmotip-olt-receive-spec = tie.close (tie.spec (λ c κs. search needs) (λ c. search needs) returns)

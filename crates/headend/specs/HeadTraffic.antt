@@ -14,6 +14,8 @@ use Rattle.refusal.specs.declared.Verdict.{Verdict}
 use Rattle.refusal.specs.declared.Verdict.the-variants.{Accepted, Refused}
 use Rattle.envelope.specs.Acceptance.{lengthsFit}
 use Rattle.envelope.specs.Channels.{downstream, upstream}
+use Rattle.ends.specs.declared.Found.{Found}
+use Rattle.ends.specs.declared.Found.the-variants.{At, Nowhere}
 use Rattle.protocol.specs.Headers.{validHeader, noSending}
 use Rattle.protocol.specs.Replies.{Reply, onValid}
 use Rattle.protocol.specs.declared.Header.{Header}
@@ -23,8 +25,6 @@ use Rattle.traffic.specs.Sends.{oltSendOf}
 use Rattle.traffic.specs.Receipts.{oltReceiveOf}
 use Rattle.traffic.specs.declared.OltSent.{OltSent}
 use Rattle.traffic.specs.declared.OltReceived.{OltReceived}
-use Rattle.ends.specs.declared.Found.{Found}
-use Rattle.ends.specs.declared.Found.the-variants.{At, Nowhere}
 use Rattle.group_protocol.specs.Head.{findGroup, withOlt, validGroups, validHead}
 use Rattle.group_protocol.specs.GroupCalls.{sendGroup}
 use Rattle.group_protocol.specs.declared.HeadEnd.{HeadEnd}

@@ -12,7 +12,6 @@ use crate::Step;
 use ends::Identity;
 use protocol::Acknowledgement;
 use protocol::KeySent;
-use refusal::Verdict;
 
 const OLT_MAC: u64 = 0x0200_0000_0001;
 
@@ -46,7 +45,7 @@ pub(crate) fn start(interval: u64) -> Play
     ensures { λ r. ⌜ r ≡ started interval ⌝ }
 {
     let head = olt::fresh(OLT_MAC, 0);
-    let registered = olt::register(head.olt, Verdict::Accepted, unit_identity(), 0, interval);
+    let registered = olt::register(head.olt, unit_identity(), 0, interval);
     let unit = onu::fresh(unit_identity(), OLT_MAC, 0);
     let olt = registered.olt;
     let onu = unit.onu;

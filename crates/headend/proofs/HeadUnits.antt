@@ -40,19 +40,12 @@ sound-located false t v ahead f k = refl
 sound-located true true v ahead f k = refl
 sound-located true false v ahead f k = rw (k refl refl)
 
-located-sound : (h : HeadEnd) (ahead : Verdict) (llid : ℕ)
+pub located-sound : (h : HeadEnd) (ahead : Verdict) (llid : ℕ)
     → locatedOf (h .olt) (onValid (either (eqb (h .groups .count) 0) (validGroups h)) ahead) llid ≡ locatedOf (h .olt) (onValid (validGroups h) ahead) llid
 unfolding locatedOf
 located-sound h ahead llid =
     sound-located (eqb (h .groups .count) 0) (validGroups h) (validOlt (h .olt)) ahead (find (h .olt) llid)
     (λ z e. no-groups-invalid h (eqb-true _ _ z) e)
-
--- where the unit stands, past the groups' guard and what is refused ahead of 2
-pub located-guarded : (h : HeadEnd) (ahead : Verdict) (llid : ℕ) (sound : Bool) (guard : Verdict) (l : Located)
-    → sound ≡ either (eqb (h .groups .count) 0) (validGroups h) → guard ≡ onValid sound ahead → l ≡ locatedOf (h .olt) guard llid
-    → l ≡ locatedOf (h .olt) (onValid (validGroups h) ahead) llid
-located-guarded h ahead llid sound guard l s g e =
-    e ∙ ap (λ (v : Verdict). locatedOf (h .olt) v llid) (g ∙ ap (λ (t : Bool). onValid t ahead) s) ∙ located-sound h ahead llid
 
 -- what the OLT replies, in the head end
 abbrev pub inHead : {H : Type 0} → HeadEnd → Reply Olt H → Reply HeadEnd H

@@ -5,18 +5,20 @@ use mathlib.Core.List.{List}
 use Prim.Native.Nat.{ℕ, _<_}
 use native.Mathlib.Nat.{zero-add}
 use native.Mathlib.Omega.{arith}
-use lib.Dec.{eqb, ltb}
+use lib.Dec.{ltb}
 use lib.ListN.{getD}
-use borrow.Author.Tests.{eqb-true, leb-false, lt-leb, ltb-true, not-false}
+use borrow.Author.Tests.{leb-false, lt-leb, ltb-true, not-false}
 use Rattle.octets.specs.Choice.{pick}
 use Rattle.octets.specs.Lists.{tabulate}
 use Rattle.octets.proofs.Choice.{both-left, either-false, not-of-true}
 use Rattle.octets.proofs.Lists.{tabulate-at, tabulate-ext, tabulate-length}
 use Rattle.octets.proofs.Maps.{map-at}
+use Rattle.refusal.specs.Number.{verdictNumber}
 use Rattle.refusal.specs.declared.Refusal.the-variants.{OutOfRange, RepeatedLlid, TableFull}
 use Rattle.refusal.specs.declared.Verdict.{Verdict}
 use Rattle.refusal.specs.declared.Verdict.the-variants.{Accepted, Refused}
-use Rattle.refusal.proofs.Order.{refuse-accepted, refuse-passed}
+use Rattle.refusal.proofs.Numbers.{number-accepted}
+use Rattle.refusal.proofs.Order.{refuse-accepted, refuse-passed, refused-accepts}
 use Rattle.ends.specs.Limits.{maxUnits}
 use Rattle.ends.specs.Records.{freshUnit}
 use Rattle.ends.specs.Table.{find, withOneMore}
@@ -25,7 +27,6 @@ use Rattle.ends.specs.declared.Olt.{Olt}
 use Rattle.protocol.specs.OltCalls.{oltAnswer, registering, registerOf, registerOrder, registerVerdict}
 use Rattle.protocol.specs.Replies.{Reply, Silence, onValid, reply, silent}
 use Rattle.protocol.proofs.Replies.{reply-accepted}
-use Rattle.olt.specs.Registers.{registerBehind}
 use Rattle.group_protocol.specs.Head.{placesTaken, validHead, withOlt}
 use Rattle.group_protocol.specs.Limits.{maxMembers}
 use Rattle.group_protocol.specs.Members.{freshMembers, rosterLlids}
@@ -33,8 +34,6 @@ use Rattle.group_protocol.specs.declared.HeadEnd.{HeadEnd}
 use Rattle.group_protocol.specs.declared.Members.{Members}
 use Rattle.group_protocol.specs.declared.Roster.{Roster}
 use Rattle.headend.specs.HeadCalls.{groupVerdict, headAnswer, headRegisterOf, placeFound, rosterMembers, unitVerdict}
-use Rattle.headend.specs.WithoutGroups.{answeredIn}
-use Rattle.headend.proofs.NoGroups.{without-groups}
 
 ---- a unit
 
@@ -57,20 +56,13 @@ pub registered-olt : (o : Olt) (i : Identity) (trip interval : ℕ) → register
 unfolding registerOf registering oltAnswer
 registered-olt o i trip interval e = ap (λ (r : Reply Olt Silence). r .end) (reply-accepted _ o silent _ silent e)
 
--- what the OLT answers behind the head end's verdict
-behind-verdict : (h : HeadEnd) (i : Identity) (trip interval : ℕ) (v : Verdict) → onValid (validHead h) (unitVerdict h i trip interval) ≡ v
-    → headRegisterOf h i trip interval ≡ answeredIn h (registerBehind v (h .olt) i trip interval)
-unfolding headRegisterOf registerBehind registerOf registering headAnswer oltAnswer reply withOlt
-behind-verdict h i trip interval Accepted e = rw (e, unit-accepted h i trip interval e)
-behind-verdict h i trip interval (Refused r) e = rw e
-
--- without groups nothing goes ahead: the OLT's own verdict is the head end's
-pub registered-behind : (h : HeadEnd) (i : Identity) (trip interval : ℕ) (none : Bool) → eqb (h .groups .count) 0 ≡ none
-    → headRegisterOf h i trip interval
-    ≡ answeredIn h (registerBehind (pick none Accepted (onValid (validHead h) (unitVerdict h i trip interval))) (h .olt) i trip interval)
-unfolding registerBehind pick
-registered-behind h i trip interval true e = without-groups .asOlt h (eqb-true _ _ e) .register i trip interval
-registered-behind h i trip interval false e = behind-verdict h i trip interval _ refl
+-- what is left, by the code
+pub registered-by : (h : HeadEnd) (i : Identity) (trip interval : ℕ) (v : Verdict) (o : Olt)
+    → onValid (validHead h) (unitVerdict h i trip interval) ≡ v → (verdictNumber v ≡ 0 → o ≡ withOneMore (h .olt) (freshUnit i trip interval))
+    → ((verdictNumber v ≡ 0 → ⊥) → o ≡ h .olt) → headRegisterOf h i trip interval ≡ record { number = verdictNumber v; head = withOlt h o }
+unfolding headRegisterOf headAnswer reply withOlt
+registered-by h i trip interval Accepted o e more same = rw (e, more refl)
+registered-by h i trip interval (Refused r) o e more same = rw (e, same (λ z. refused-accepts r (number-accepted (Refused r) z)))
 
 ---- a group
 

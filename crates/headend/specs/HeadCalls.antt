@@ -141,16 +141,17 @@ headCaptureOf h llid = oltAnswered h (captureOf (h .olt) llid)
 unfoldable pub headMeasureOf : HeadEnd → ℕ → ℕ → HeadAnswer
 headMeasureOf h llid trip = oltAnswered h (measureOf (h .olt) llid trip)
 
--- the answer of either, the end first, and the OLT's MAC beside it
+-- the answer of either, the end first, and the OLT's MAC and the number of groups beside it
 abbrev pub headDone : HeadAnswer → HeadDone
-headDone r = record { head = r .head; mac = r .head .olt .shared .mac; number = r .number }
+headDone r = record { head = r .head; mac = r .head .olt .shared .mac; groups = r .head .groups .count; number = r .number }
 
 unfoldable pub headClockSendOf : HeadEnd → ℕ → HeadClockSent
 headClockSendOf h llid = oltClockSent h (clockSendOf (h .olt) llid)
 
 -- its answer so
 abbrev pub headClockDone : HeadClockSent → HeadClockDone
-headClockDone r = record { head = r .head; mac = r .head .olt .shared .mac; message = r .message; number = r .number }
+headClockDone r =
+    record { head = r .head; mac = r .head .olt .shared .mac; groups = r .head .groups .count; message = r .message; number = r .number }
 
 ---- offer: 2, 5, 6, 7, 17
 

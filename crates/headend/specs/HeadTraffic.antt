@@ -103,9 +103,10 @@ headReceiveOf h header p out =
     byLlid (findGroup h (header .llid)) (oltReceivedIn h (oltReceiveOf (h .olt) header p out) out)
     (λ i. withOutput (headNotReceived h (verdictNumber (groupReceiveVerdict h header (length p) (length out)))) out)
 
--- the same, the end first, and the OLT's MAC beside it
+-- the same, the end first, and the OLT's MAC and the number of groups beside it
 abbrev pub headReceiptDone : HeadReceived → HeadReceiptDone
-headReceiptDone r = record { head = r .head; mac = r .head .olt .shared .mac; count = r .count; runs = r .runs; number = r .number }
+headReceiptDone r =
+    record { head = r .head; mac = r .head .olt .shared .mac; groups = r .head .groups .count; count = r .count; runs = r .runs; number = r .number }
 
 abbrev pub receiptDone : WithOutput HeadReceived → WithOutput HeadReceiptDone
 receiptDone r = withOutput (headReceiptDone (r .answer)) (r .output)

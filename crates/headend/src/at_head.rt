@@ -6,15 +6,12 @@ ghost use lib.Dec.{eqb};
 ghost use lib.ListN.{take};
 ghost use Rattle.octets.specs.Choice.{pick};
 ghost use Rattle.octets.specs.Lists.{all};
-ghost use Rattle.refusal.specs.declared.Verdict.the-variants.{Accepted};
 ghost use Rattle.clock.specs.Ticks.{maxTick};
 ghost use Rattle.ends.specs.Limits.{maxUnits};
 ghost use Rattle.ends.specs.Timers.{validTimer};
 ghost use Rattle.protocol.specs.OltCalls.{acknowledgeOf, offerOf, retryOf};
-ghost use Rattle.protocol.specs.Replies.{onValid};
 ghost use Rattle.group_protocol.specs.GroupCalls.{memberNamed};
-ghost use Rattle.group_protocol.specs.Head.{validHead};
-ghost use Rattle.headend.specs.HeadCalls.{freshHeadOf, groupAcknowledgeOf, groupOfferOf, groupRetryOf, groupsAdvanced, headAcknowledgeOf, headCaptureOf, headClockDone, headClockSendOf, headDone, headMeasureOf, headMovedOf, headOfferOf, headRegisterOf, headRetryOf, oltAnswered, oltKeySent, ownAcknowledgement, registerGroupOf, unitVerdict};
+ghost use Rattle.headend.specs.HeadCalls.{freshHeadOf, groupAcknowledgeOf, groupOfferOf, groupRetryOf, groupsAdvanced, headAcknowledgeOf, headCaptureOf, headClockDone, headClockSendOf, headDone, headMeasureOf, headMovedOf, headOfferOf, headRegisterOf, headRetryOf, oltAnswered, oltKeySent, ownAcknowledgement, registerGroupOf};
 ghost use Rattle.headend.specs.WithoutGroups.{WithoutGroups};
 use crate::HeadAnswer;
 use crate::HeadClockDone;
@@ -23,6 +20,7 @@ use crate::HeadKeySent;
 use crate::HeadMoved;
 use crate::answers;
 use crate::head_place::group_named;
+use crate::head_place::locate_sound;
 use crate::head_place::locate_unit;
 use crate::head_place::put;
 use crate::head_place::sound_groups;
@@ -38,11 +36,13 @@ use group_protocol::Groups;
 use group_protocol::HeadEnd;
 use group_protocol::Members;
 use group_protocol::Roster;
+use groups::check_head::valid_groups;
 use groups::making::fresh_group;
 use groups::making::no_groups;
 use groups::membership::member_at;
 use groups::membership::members_set;
 use groups::one_group;
+use olt::making::fresh_unit;
 use protocol::Acknowledgement;
 use refusal::Refusal;
 use refusal::Verdict;
@@ -65,29 +65,28 @@ pub fn fresh(mac: u64, clock: u64) -> HeadAnswer
     }
 }
 
-// What a unit is refused beside groups, which 3 and 4 know; without one, nothing.
-fn beside_groups(head: HeadEnd, identity: Identity, trip: u64, interval: u64) -> Verdict
-    ensures { λ r. ⌜ r ≡ pick (eqb (head .groups .count) 0) Accepted (onValid (validHead head) (unitVerdict head identity trip interval)) ⌝ }
-{
-    if head.groups.count == 0 {
-        return Verdict::Accepted;
-    }
-    registering::unit_verdict(head, identity, trip, interval)
-}
-
 // Registers a unit. 3 and 4 know the groups.
 pub fn register(head: HeadEnd, identity: Identity, trip: u64, interval: u64) -> HeadDone
     ensures { λ r. ⌜ r ≡ headDone (headRegisterOf head identity trip interval) ⌝ }
 {
-    let ahead = beside_groups(head, identity, trip, interval);
-    let done = olt::register(head.olt, ahead, identity, trip, interval);
-    let olt = done.olt;
+    let mut olt = head.olt;
+    let sound = valid_groups(head);
+    let verdict = registering::unit_verdict(head, sound, identity, trip, interval);
+    let number = verdict_number(verdict);
+    if number == 0 {
+        let unit = fresh_unit(identity, trip, interval);
+        let n = olt.count;
+        olt.units[n as usize] = unit;
+        olt.count = n + 1;
+    }
     let groups = head.groups;
     let mac = olt.shared.mac;
+    let count = groups.count;
     HeadDone {
         head: HeadEnd { olt, groups },
         mac,
-        number: done.number,
+        groups: count,
+        number,
     }
 }
 
@@ -147,8 +146,9 @@ pub fn moved(head: HeadEnd, n: u64) -> HeadMoved
 pub fn capture(head: HeadEnd, llid: u16) -> HeadDone
     ensures { λ r. ⌜ r ≡ headDone (headCaptureOf head llid) ⌝ }
 {
-    let at = locate_unit(head, Verdict::Accepted, llid);
     let mut olt = head.olt;
+    let sound = valid_groups(head);
+    let at = locate_sound(head.olt, sound, Verdict::Accepted, llid);
     let i = at.place;
     let way = at.verdict;
     let unit = olt.units[i];
@@ -159,9 +159,11 @@ pub fn capture(head: HeadEnd, llid: u16) -> HeadDone
     olt.units[i] = next;
     let groups = head.groups;
     let mac = olt.shared.mac;
+    let count = groups.count;
     HeadDone {
         head: HeadEnd { olt, groups },
         mac,
+        groups: count,
         number,
     }
 }
@@ -175,8 +177,9 @@ pub fn measure(head: HeadEnd, llid: u16, trip: u64) -> HeadDone
         Refusal::OutOfRange,
         Verdict::Accepted,
     );
-    let at = locate_unit(head, ahead, llid);
     let mut olt = head.olt;
+    let sound = valid_groups(head);
+    let at = locate_sound(head.olt, sound, ahead, llid);
     let i = at.place;
     let way = at.verdict;
     let unit = olt.units[i];
@@ -187,9 +190,11 @@ pub fn measure(head: HeadEnd, llid: u16, trip: u64) -> HeadDone
     olt.units[i] = next;
     let groups = head.groups;
     let mac = olt.shared.mac;
+    let count = groups.count;
     HeadDone {
         head: HeadEnd { olt, groups },
         mac,
+        groups: count,
         number,
     }
 }
@@ -197,8 +202,9 @@ pub fn measure(head: HeadEnd, llid: u16, trip: u64) -> HeadDone
 pub fn clock_send(head: HeadEnd, llid: u16) -> HeadClockDone
     ensures { λ r. ⌜ r ≡ headClockDone (headClockSendOf head llid) ⌝ }
 {
-    let at = locate_unit(head, Verdict::Accepted, llid);
     let mut olt = head.olt;
+    let sound = valid_groups(head);
+    let at = locate_sound(head.olt, sound, Verdict::Accepted, llid);
     let i = at.place;
     let way = at.verdict;
     let unit = olt.units[i];
@@ -210,9 +216,11 @@ pub fn clock_send(head: HeadEnd, llid: u16) -> HeadClockDone
     olt.units[i] = next;
     let groups = head.groups;
     let mac = olt.shared.mac;
+    let count = groups.count;
     HeadClockDone {
         head: HeadEnd { olt, groups },
         mac,
+        groups: count,
         message,
         number,
     }

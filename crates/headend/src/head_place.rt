@@ -9,6 +9,7 @@ ghost use Rattle.olt.specs.Lookup.{locatedOf};
 ghost use Rattle.group_protocol.specs.Head.{findGroup, validGroups, validHead, withGroup};
 use ends::Channels;
 use ends::Found;
+use ends::Olt;
 use group_protocol::GroupRecord;
 use group_protocol::HeadEnd;
 use group_protocol::MAX_GROUPS;
@@ -59,14 +60,22 @@ pub(crate) fn sound_groups(head: HeadEnd) -> bool
     valid_groups(whole)
 }
 
-// The unit that has the LLID: 1 for an end that is not valid, its groups included, then what the call refuses ahead of 2, then 2.
+// The unit that has the LLID: 1 for an OLT that is not valid or groups that are not sound, then what the call refuses ahead of 2, then 2.
+pub(crate) fn locate_sound(olt: Olt, sound: bool, ahead: Verdict, llid: u16) -> Located
+    ensures { λ r. ⌜ r ≡ locatedOf olt (onValid sound ahead) llid ⌝ }
+    ensures place { λ r. ⌜ r .place < maxUnits ⌝ }
+{
+    let guarded = refuse_if(!sound, Refusal::OutOfRange, ahead);
+    locate(olt, guarded, llid)
+}
+
+// The same in a head end, for a call that may name a group too (D119).
 pub(crate) fn locate_unit(head: HeadEnd, ahead: Verdict, llid: u16) -> Located
     ensures { λ r. ⌜ r ≡ locatedOf (head .olt) (onValid (validGroups head) ahead) llid ⌝ }
     ensures place { λ r. ⌜ r .place < maxUnits ⌝ }
 {
     let sound = sound_groups(head);
-    let guarded = refuse_if(!sound, Refusal::OutOfRange, ahead);
-    locate(head.olt, guarded, llid)
+    locate_sound(head.olt, sound, ahead, llid)
 }
 
 // One group and the channels replaced.
@@ -76,9 +85,8 @@ pub(crate) fn put(head: HeadEnd, i: usize, channels: Channels, group: GroupRecor
 {
     let mut groups = head.groups;
     groups.table[i] = group;
-    let mut r = head;
-    r.olt.shared.channels.zero = channels.zero;
-    r.olt.shared.channels.one = channels.one;
-    r.groups = groups;
-    r
+    let mut olt = head.olt;
+    olt.shared.channels.zero = channels.zero;
+    olt.shared.channels.one = channels.one;
+    HeadEnd { olt, groups }
 }

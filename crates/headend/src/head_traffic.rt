@@ -16,6 +16,7 @@ ghost use Rattle.headend.specs.HeadTraffic.{groupSendOf, headReceiptOf, 
 use crate::HeadReceiptDone;
 use crate::HeadSent;
 use crate::head_place::group_named;
+use crate::head_place::locate_sound;
 use crate::head_place::locate_unit;
 use crate::head_place::put;
 use crate::head_place::way_to;
@@ -24,6 +25,7 @@ use envelope::downstream;
 use envelope::lengths_fit;
 use envelope::upstream;
 use group_protocol::HeadEnd;
+use groups::check_head::valid_groups;
 use groups::sending;
 use octets::EQ_OCTETS;
 use protocol::Header;
@@ -39,8 +41,8 @@ fn send_unit(head: HeadEnd, llid: u16, channel: u8, payload: &[u8], output: &mut
         ≡ oltSentIn head (oltSendOf (head .olt) llid channel (now (payload .entry)) (now (output .entry))) (now (output .entry)) ⌝ }
 {
     let ahead = send_ahead(payload.len(), output.len(), channel);
-    let at = locate_unit(head, ahead, llid);
     let mut olt = head.olt;
+    let at = locate_unit(head, ahead, llid);
     let i = at.place;
     let way = at.verdict;
     let unit = olt.units[i];
@@ -155,8 +157,9 @@ pub fn receive(head: HeadEnd, header: Header, octets: &[u8], output: &mut [u8]) 
     let found = group_named(head, header.llid);
     let rest = own_llid(found);
     let ahead = receive_ahead(octets.len(), output.len(), header, rest);
-    let at = locate_unit(head, ahead, header.llid);
     let mut olt = head.olt;
+    let sound = valid_groups(head);
+    let at = locate_sound(head.olt, sound, ahead, header.llid);
     let i = at.place;
     let way = at.verdict;
     let unit = olt.units[i];
@@ -169,9 +172,11 @@ pub fn receive(head: HeadEnd, header: Header, octets: &[u8], output: &mut [u8]) 
     olt.units[i] = next;
     let groups = head.groups;
     let mac = olt.shared.mac;
+    let count = groups.count;
     HeadReceiptDone {
         head: HeadEnd { olt, groups },
         mac,
+        groups: count,
         count: work.count,
         runs: work.runs,
         number,

@@ -26,10 +26,12 @@ pub struct HeadMoved {
     pub number: u8,
 }
 
-// The answer of capture and measure, the record first. `mac` is the OLT's own, which the exported call stores again (D119).
+// The answer of capture and measure, the record first. `mac` is the OLT's own and `groups` the number of groups, which the exported call stores again
+// (D119).
 pub struct HeadDone {
     pub head: HeadEnd,
     pub mac: u64,
+    pub groups: u8,
     pub number: u8,
 }
 
@@ -37,6 +39,7 @@ pub struct HeadDone {
 pub struct HeadClockDone {
     pub head: HeadEnd,
     pub mac: u64,
+    pub groups: u8,
     pub message: Stamps,
     pub number: u8,
 }
@@ -45,6 +48,7 @@ pub struct HeadClockDone {
 pub struct HeadReceiptDone {
     pub head: HeadEnd,
     pub mac: u64,
+    pub groups: u8,
     pub count: u64,
     pub runs: u64,
     pub number: u8,

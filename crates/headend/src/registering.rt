@@ -1,8 +1,10 @@
 // What registrations with a head end refuse, and the members that one of a group names (02, C-14).
 ghost use mathlib.Core.Path.{_≡_};
 ghost use Prim.Native.Nat.{_<_};
+ghost use Rattle.octets.specs.Choice.{both};
 ghost use Rattle.ends.specs.Limits.{maxUnits};
 ghost use Rattle.ends.specs.Table.{find};
+ghost use Rattle.ends.specs.Validity.{validOlt};
 ghost use Rattle.protocol.specs.Replies.{onValid};
 ghost use Rattle.group_protocol.specs.Head.{validHead, withOneGroupMore};
 ghost use Rattle.headend.specs.HeadCalls.{groupVerdict, placeFound, rosterMembers, unitVerdict};
@@ -11,6 +13,7 @@ use ends::Found;
 use ends::Identity;
 use ends::Olt;
 use ends::check_olt::valid_interval;
+use ends::check_olt::valid_olt;
 use ends::limits::MAX_UNITS;
 use ends::llids::distinct_llids;
 use ends::llids::valid_identity;
@@ -30,11 +33,17 @@ use refusal::Refusal;
 use refusal::Verdict;
 use refusal::refuse_if;
 
-// 1 for the end that is lent, then a unit's own 1, 3 and 4.
-pub(crate) fn unit_verdict(head: HeadEnd, identity: Identity, trip: u64, interval: u64) -> Verdict
-    ensures { λ r. ⌜ r ≡ onValid (validHead head) (unitVerdict head identity trip interval) ⌝ }
+// 1 for the end that is lent, then a unit's own 1, 3 and 4. `sound` says that its groups are valid.
+pub(crate) fn unit_verdict(
+    head: HeadEnd,
+    sound: bool,
+    identity: Identity,
+    trip: u64,
+    interval: u64,
+) -> Verdict
+    ensures { λ r. ⌜ r ≡ onValid (both (validOlt (head .olt)) sound) (unitVerdict head identity trip interval) ⌝ }
 {
-    let valid = valid_head(head);
+    let valid = valid_olt(head.olt) & sound;
     let who = valid_identity(identity);
     let when = valid_interval(interval);
     let ranged = who & ((trip <= MAX_ROUND_TRIP) & when);

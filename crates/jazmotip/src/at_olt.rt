@@ -38,6 +38,7 @@ pub extern "C" fn jazmotip_olt_register(
     let done = at_head::register(olt, identity, trip, interval);
     let mut head = done.head;
     head.olt.shared.mac = done.mac;
+    head.groups.count = done.groups;
     HeadAnswer {
         number: done.number,
         head,
@@ -95,7 +96,8 @@ pub extern "C" fn jazmotip_olt_advance(olt: &mut HeadEnd, n: u64) -> u8
     answer.number
 }
 
-// Here and wherever else a record comes first the MAC that is there is stored again, so that the record is handed on where it lies (D119).
+// Here and wherever else a record comes first the MAC and the number of groups that are there are stored again, so that the record is handed on where
+// it lies (D119).
 #[no_mangle]
 pub extern "C" fn jazmotip_olt_capture(olt: HeadEnd, llid: u16) -> HeadAnswer
     ensures { λ r. ⌜ r ≡ headCaptureOf olt llid ⌝ }
@@ -103,6 +105,7 @@ pub extern "C" fn jazmotip_olt_capture(olt: HeadEnd, llid: u16) -> HeadAnswer
     let done = at_head::capture(olt, llid);
     let mut head = done.head;
     head.olt.shared.mac = done.mac;
+    head.groups.count = done.groups;
     HeadAnswer {
         number: done.number,
         head,
@@ -117,6 +120,7 @@ pub extern "C" fn jazmotip_olt_measure(olt: HeadEnd, llid: u16, trip: u64) -> He
     let done = at_head::measure(olt, llid, trip);
     let mut head = done.head;
     head.olt.shared.mac = done.mac;
+    head.groups.count = done.groups;
     HeadAnswer {
         number: done.number,
         head,
@@ -130,6 +134,7 @@ pub extern "C" fn jazmotip_olt_clock_send(olt: HeadEnd, llid: u16) -> HeadClockS
     let done = at_head::clock_send(olt, llid);
     let mut head = done.head;
     head.olt.shared.mac = done.mac;
+    head.groups.count = done.groups;
     let message = done.message;
     HeadClockSent {
         number: done.number,
@@ -188,6 +193,7 @@ pub extern "C" fn jazmotip_olt_receive(
     let done = head_traffic::receive(olt, header, octets, output);
     let mut head = done.head;
     head.olt.shared.mac = done.mac;
+    head.groups.count = done.groups;
     HeadReceived {
         number: done.number,
         head,

@@ -1,3 +1,2 @@
 pub mod Lookup
 pub mod Moves
-pub mod Registers

@@ -1,7 +1,7 @@
 // The calls of the OLT but send and receive (01, Clock; Keys; 'When the reader says no'). Each takes the end by value and gives back
 // the code, the end and what is handed over; refused, the end is the one that was lent.
 mod answers;
-mod making;
+pub mod making;
 pub mod place;
 mod timing;
 
@@ -10,8 +10,7 @@ ghost use Rattle.octets.specs.Choice.{pick};
 ghost use Rattle.refusal.specs.Number.{verdictNumber};
 ghost use Rattle.protocol.specs.ClockCaptures.{Captures};
 ghost use Rattle.olt.specs.Moves.{movedOf};
-ghost use Rattle.olt.specs.Registers.{registerBehind};
-ghost use Rattle.protocol.specs.OltCalls.{acknowledgeOf, acknowledgeOrder, advanceOltOf, captureOf, captureOrder, clockSendOf, clockSendOrder, freshOltOf, measureOf, measureOrder, offerOf, offerOrder, retryOf, retryOrder};
+ghost use Rattle.protocol.specs.OltCalls.{acknowledgeOf, acknowledgeOrder, advanceOltOf, captureOf, captureOrder, clockSendOf, clockSendOrder, freshOltOf, measureOf, measureOrder, offerOf, offerOrder, registerOf, retryOf, retryOrder};
 use clock::CLOCK_TURN;
 use clock::MAX_ROUND_TRIP;
 use ends::Identity;
@@ -65,12 +64,10 @@ pub fn fresh(mac: u64, clock: u64) -> OltAnswer
     answers::refused(olt, Refusal::OutOfRange)
 }
 
-// Registers a unit, behind a verdict that goes ahead.
-pub fn register(olt: Olt, ahead: Verdict, identity: Identity, trip: u64, interval: u64) -> OltAnswer
-    ensures { λ r. ⌜ r ≡ registerBehind ahead olt identity trip interval ⌝ }
+pub fn register(olt: Olt, identity: Identity, trip: u64, interval: u64) -> OltAnswer
+    ensures { λ r. ⌜ r ≡ registerOf olt identity trip interval ⌝ }
 {
-    let own = making::register_verdict(olt, identity, trip, interval);
-    let verdict = and_then(ahead, own);
+    let verdict = making::register_verdict(olt, identity, trip, interval);
     match verdict {
         Verdict::Refused(refusal) => answers::refused(olt, refusal),
         Verdict::Accepted => {

@@ -30,7 +30,7 @@ use refusal::Verdict;
 use refusal::refuse_if;
 
 // Numbers 0, flags down.
-pub(crate) fn fresh_unit(identity: Identity, trip: u64, interval: u64) -> UnitRecord
+pub fn fresh_unit(identity: Identity, trip: u64, interval: u64) -> UnitRecord
     ensures { λ r. ⌜ r ≡ freshUnit identity trip interval ⌝ }
 {
     let kept = kept_identity(identity);

@@ -1,12 +1,11 @@
 -- `exercise::steps::start` meets its contract: what the calls give is what the definitions give. Assumes nothing.
 use borrow.Author.Needs.{needs}
-use Rattle.olt.specs.Registers.{registerBehind}
 use Rattle.exercise.specs.Play.{started}
 use Rattle.exercise.proofs.steps.start.Statement.{statement}
 use Rattle.exercise.proofs.steps.start.Tie as tie
 
 returns : tie.Need-returns
-unfolding started registerBehind
+unfolding started
 returns c =
     let onu = c .before .before .before .before in
     let olt = onu .before .before in

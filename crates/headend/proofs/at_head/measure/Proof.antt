@@ -18,17 +18,19 @@ unfolding headMeasureOf measureOf headAnswer outcome withUnit withChannels pastU
 returns c =
     let numbered = c .before .before in
     let done = numbered .before .measure in
-    let at = numbered .before .before .before .before .before in
-    let a = at .before .before .args in
+    let at = numbered .before .before .before .before in
+    let sounded = at .before in
+    let judged = sounded .before .before in
+    let a = judged .before .args in
     let x = outcome (a .head .olt .shared) (done .result .verdict) (done .result .unit) silent in
     rw (numbered .verdict-number .ensures)
     (ap headDone
-    (ap headAnswer (lift-guarded (a .head) silent (a .llid) (measureUnit (a .trip)) _ (at .locate-unit .result) x
-    (rw (at .before .refuse-if .ensures) at (at .locate-unit .ensures .0)) (done .ensures))
+    (ap headAnswer (lift-guarded (a .head) silent (a .llid) (measureUnit (a .trip)) _ (at .locate-sound .result) x
+    (rw (sounded .valid-groups .ensures, judged .refuse-if .ensures) at (at .locate-sound .ensures .0)) (done .ensures))
     ∙ answer-guarded (a .head) _))
 
 pub measure-spec : {M : Type 1} → statement M
 measure-spec =
     tie.close
-    (tie.spec (λ c κs. search needs) (λ c κs. search needs) (λ c. search needs) (λ c. search needs) (λ c κs. search needs) (λ c κs. search needs)
+    (tie.spec (λ c κs. search needs) (λ c κs. search needs) (λ c κs. search needs) (λ c. search needs) (λ c. search needs) (λ c κs. search needs) (λ c κs. search needs)
     (λ c. search needs) (λ c. search needs) returns)

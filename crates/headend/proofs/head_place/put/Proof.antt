@@ -8,6 +8,4 @@ use Rattle.headend.proofs.head_place.put.Statement.{statement}
 use Rattle.headend.proofs.head_place.put.Tie as tie
 
 pub put-spec : {M : Type 1} → statement M
-put-spec =
-    tie.close (tie.spec (λ c. search needs) (λ c. search needs) (λ c. search needs) (λ c. search needs)
-    (λ c. unfold withGroup withOltChannels withChannels in refl))
+put-spec = tie.close (tie.spec (λ c. search needs) (λ c. search needs) (λ c. unfold withGroup withOltChannels withChannels in refl))

@@ -16,10 +16,10 @@ use Rattle.headend.proofs.head_traffic.receive.Tie as tie
 -- what the unit decides
 abbrev answer : tie.After-receive → Outcome Passage
 answer c = let d = c .receive .result in
-    outcome (c .before .before .before .before .before .before .before .before .before .before .args .head .olt .shared) (d .verdict) (d .unit) (d .passage)
+    outcome (c .before .before .before .before .before .before .before .before .before .before .before .args .head .olt .shared) (d .verdict) (d .unit) (d .passage)
 
-decided : (c : tie.After-receive) → let at = c .before .before .before .before in let a = at .before .before .before .before .before .before .args in
-    answer c ≡ unitReceives (a .head) (a .header) (a .octets .now) (a .output .now) (at .locate-unit .result)
+decided : (c : tie.After-receive) → let at = c .before .before .before in let a = at .before .before .before .before .before .before .before .before .args in
+    answer c ≡ unitReceives (a .head) (a .header) (a .octets .now) (a .output .now) (at .locate-sound .result)
 unfolding pastUnit
 decided c = c .receive .ensures
 
@@ -29,18 +29,20 @@ returns c =
     let numbered = c .before in
     let carried = numbered .before .before .before in
     let done = carried .before .before .before .before in
-    let at = done .before .before .before .before in
-    let own = at .before .before in
+    let at = done .before .before .before in
+    let sounded = at .before in
+    let judged = sounded .before .before in
+    let own = judged .before in
     let named = own .before in
     let a = named .before .before .before .args in
     rw (numbered .verdict-number .ensures)
     (ap receiptDone
-    (head-received (a .head) (a .header) (a .octets .now) (a .output .now) (at .locate-unit .result) (answer done) (decided done) _
+    (head-received (a .head) (a .header) (a .octets .now) (a .output .now) (at .locate-sound .result) (answer done) (decided done) _
     (carried .carry-fitting .ensures) (named .group-named .result) (sym (named .group-named .ensures))
-    (rw (at .before .receive-ahead .ensures, own .own-llid .ensures) at (at .locate-unit .ensures .0))))
+    (rw (sounded .valid-groups .ensures, judged .receive-ahead .ensures, own .own-llid .ensures) at (at .locate-sound .ensures .0))))
 
 pub receive-spec : {M : Type 1} → statement M
 receive-spec =
     tie.close
-    (tie.spec (λ c κs. search needs) (λ c κs. search needs) (λ c κs. search needs) (λ c κs. search needs) (λ c. search needs) (λ c. search needs)
+    (tie.spec (λ c κs. search needs) (λ c κs. search needs) (λ c κs. search needs) (λ c κs. search needs) (λ c κs. search needs) (λ c. search needs) (λ c. search needs)
     (λ c κs. search needs) (λ c κs. search needs) (λ c κs. search needs) (λ c. search needs) (λ c. search needs) (λ c. search needs) returns)

@@ -11,16 +11,17 @@ use Rattle.headend.proofs.head_traffic.send_unit.Statement.{statement}
 use Rattle.headend.proofs.head_traffic.send_unit.Tie as tie
 
 -- what the unit decides
-decided : (c : tie.After-send) → let at = c .before .before .before .before in let a = at .before .before .before .before .args in
+decided : (c : tie.After-send) → let at = c .before .before .before in let a = at .before .before .before .before .before .args in
     sentOutcome (unitAt (a .head .olt) (at .locate-unit .result .place)) (c .send .result)
     ≡ unitSends (a .head) (a .llid) (a .channel) (a .payload .now) (a .output .now) (at .locate-unit .result)
 unfolding pastUnit misfit
 decided c =
-    let at = c .before .before .before .before in
-    let a = at .before .before .before .before .args in
+    let at = c .before .before .before in
+    let judged = at .before .before in
+    let a = judged .before .before .before .args in
     c .send .ensures
     (unit-within (a .head) (a .llid) (a .channel) (a .payload .now) (a .output .now) (at .locate-unit .result)
-    (rw (at .before .send-ahead .ensures) at (at .locate-unit .ensures .0)))
+    (rw (judged .send-ahead .ensures) at (at .locate-unit .ensures .0)))
 
 returns : tie.Need-returns
 unfolding sentOutcome unitSent withKeys pastUnit withUnit withChannels withOlt misfit
@@ -28,12 +29,13 @@ returns c =
     let numbered = c .before .before .before in
     let carried = numbered .before .before .before in
     let sent = carried .before .before .before .before .before .before .before .before .before .before in
-    let at = sent .before .before .before .before in
-    let a = at .before .before .before .before .args in
+    let at = sent .before .before .before in
+    let judged = at .before .before in
+    let a = judged .before .before .before .args in
     rw (numbered .verdict-number .ensures)
     (unit-sent (a .head) (a .llid) (a .channel) (a .payload .now) (a .output .now) (at .locate-unit .result)
     (sentOutcome (unitAt (a .head .olt) (at .locate-unit .result .place)) (sent .send .result)) (decided sent) _
-    (carried .carry-fitting .ensures) (rw (at .before .send-ahead .ensures) at (at .locate-unit .ensures .0)))
+    (carried .carry-fitting .ensures) (rw (judged .send-ahead .ensures) at (at .locate-unit .ensures .0)))
 
 pub send-unit-spec : {M : Type 1} → statement M
 send-unit-spec =

@@ -25,7 +25,7 @@ returns c =
       distinct .distinct-llids .ensures,
       when .valid-interval .ensures,
       who .valid-identity .ensures,
-      who .before .valid-head .ensures,
+      who .before .valid-olt .ensures,
     )
 
 pub unit-verdict-spec : {M : Type 1} → statement M

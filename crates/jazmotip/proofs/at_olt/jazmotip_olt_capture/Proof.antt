@@ -1,10 +1,10 @@
--- `jazmotip::at_olt::jazmotip_olt_capture` meets its contract: the MAC that is stored is the one that is there. Assumes nothing.
+-- `jazmotip::at_olt::jazmotip_olt_capture` meets its contract: the MAC and the number of groups that are stored are those that are there. Assumes nothing.
 use borrow.Author.Needs.{needs}
 use Rattle.jazmotip.proofs.at_olt.jazmotip_olt_capture.Statement.{statement}
 use Rattle.jazmotip.proofs.at_olt.jazmotip_olt_capture.Tie as tie
 
 returns : tie.Need-returns
-returns c = rw (c .before .before .capture .ensures)
+returns c = rw (c .before .before .before .capture .ensures)
 
 pub jazmotip-olt-capture-spec : {M : Type 1} → statement M
 jazmotip-olt-capture-spec = tie.close (tie.spec (λ c κs. search needs) returns)

@@ -1,4 +1,4 @@
--- `jazmotip::at_olt::jazmotip_olt_receive` meets its contract: the MAC that is stored is the one that is there. Assumes nothing.
+-- `jazmotip::at_olt::jazmotip_olt_receive` meets its contract: the MAC and the number of groups that are stored are those that are there. Assumes nothing.
 use borrow.Author.Needs.{needs}
 use mathlib.Core.Path.{ap}
 use Rattle.octets.specs.Output.{WithOutput}
@@ -8,7 +8,7 @@ use Rattle.jazmotip.proofs.at_olt.jazmotip_olt_receive.Tie as tie
 
 returns : tie.Need-returns
 returns c =
-    let e = c .before .before .before .before .receive .ensures in
+    let e = c .before .before .before .before .before .receive .ensures in
     rw (ap (λ (y : WithOutput HeadReceiptDone). y .answer) e, ap (λ (y : WithOutput HeadReceiptDone). y .output) e)
 
 pub jazmotip-olt-receive-spec : {M : Type 1} → statement M

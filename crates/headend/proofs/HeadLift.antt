@@ -11,7 +11,9 @@ use Rattle.ends.specs.Table.{withOltChannels}
 use Rattle.ends.specs.declared.Olt.{Olt}
 use Rattle.protocol.specs.Replies.{reply, onValid}
 use Rattle.unit.specs.Reached.{ifAccepted}
-use Rattle.group_protocol.specs.GroupCalls.{GroupOutcome}
+use Rattle.protocol.specs.Messages.{noKeyMessage}
+use Rattle.protocol.specs.declared.KeyMessage.{KeyMessage}
+use Rattle.group_protocol.specs.GroupCalls.{GroupOutcome, groupOutcome, retryGroup}
 use Rattle.group_protocol.specs.Head.{pastGroup, groupAt, withGroup, validHead}
 use Rattle.group_protocol.specs.declared.GroupRecord.{GroupRecord}
 use Rattle.group_protocol.specs.declared.HeadEnd.{HeadEnd}
@@ -28,6 +30,21 @@ way-then false a v = refl
 pub with-group-itself : (h : HeadEnd) (i : ℕ) → withGroup h i (h .olt .shared .channels) (groupAt h i) ≡ h
 unfolding withGroup withOltChannels withChannels
 with-group-itself h i = rw (set-getD (h .groups .table) i pastGroup)
+
+-- a choice of one thing
+pub if-same : {A : Type 0} (v : Verdict) (a : A) → ifAccepted v a a ≡ a
+unfolding ifAccepted
+if-same Accepted a = refl
+if-same (Refused r) a = refl
+
+-- a retry changes nothing
+pub group-stays : (h : HeadEnd) (llid i : ℕ) (way : Verdict) (x : GroupOutcome KeyMessage)
+    → x ≡ reachedGroup way noKeyMessage (h .olt .shared) (groupAt h i) (retryGroup llid (h .olt .shared) (groupAt h i))
+    → withGroup h i (x .channels) (x .group) ≡ h
+unfolding reachedGroup retryGroup groupOutcome
+group-stays h llid i way x e =
+    let v = andThen way (retryGroup llid (h .olt .shared) (groupAt h i) .verdict) in
+    rw (e, if-same v (groupAt h i), if-same v (h .olt .shared .channels)) (with-group-itself h i)
 
 module _ {H : Type 0} (h : HeadEnd) (nothing : H) (ahead : Verdict) (call : Olt → GroupRecord → GroupOutcome H) (i : ℕ) where
   -- what the call leaves, by the group's decision

@@ -6,7 +6,7 @@ use lib.Dec.{eqb}
 use borrow.Author.Tests.{eqb-true}
 use Rattle.octets.specs.Choice.{either, pick}
 use Rattle.refusal.specs.Number.{verdictNumber}
-use Rattle.refusal.specs.Order.{refuseIf}
+use Rattle.refusal.specs.Order.{andThen, refuseIf}
 use Rattle.refusal.specs.declared.Refusal.the-variants.{OutOfRange}
 use Rattle.refusal.specs.declared.Verdict.{Verdict}
 use Rattle.refusal.specs.declared.Verdict.the-variants.{Refused}
@@ -17,10 +17,12 @@ use Rattle.ends.specs.declared.Found.{Found}
 use Rattle.ends.specs.declared.Olt.{Olt}
 use Rattle.ends.specs.declared.Shared.{Shared}
 use Rattle.ends.specs.declared.UnitRecord.{UnitRecord}
-use Rattle.protocol.specs.Lift.{Outcome, after, atUnit, lift}
+use Rattle.ends.proofs.Table.{with-itself}
+use Rattle.protocol.specs.Lift.{Outcome, after, atUnit, lift, outcome}
 use Rattle.protocol.specs.Messages.{noKeyMessage, noStamps}
 use Rattle.protocol.specs.OltCalls.{clockSent, keySent, oltAnswer}
 use Rattle.protocol.specs.Replies.{Reply, Silence, onValid, reply, silent}
+use Rattle.protocol.specs.UnitCalls.{retryUnit}
 use Rattle.protocol.specs.declared.KeyMessage.{KeyMessage}
 use Rattle.unit.specs.Reached.{reached}
 use Rattle.olt.specs.Lookup.{locatedAfter, locatedOf}
@@ -30,6 +32,7 @@ use Rattle.group_protocol.specs.Head.{validGroups, withOlt}
 use Rattle.group_protocol.specs.declared.HeadEnd.{HeadEnd}
 use Rattle.headend.specs.HeadCalls.{headAnswer, headKeySent, oltAnswered, oltClockSent, oltKeySent}
 use Rattle.headend.specs.declared.HeadClockSent.{HeadClockSent}
+use Rattle.headend.proofs.HeadLift.{if-same}
 use Rattle.headend.proofs.NoGroups.{no-groups-invalid}
 
 -- in a valid OLT no group at all is groups that are valid
@@ -71,6 +74,17 @@ module _ {H : Type 0} (h : HeadEnd) (nothing : H) (llid : ℕ) (call : Shared �
       ≡ pick (validGroups h) (inHead h (lift (h .olt) nothing ahead llid call)) (reply (Refused OutOfRange) h nothing h nothing)
   lift-guarded ahead l x e f =
       ap (inHead h) (lift-decided (h .olt) nothing (onValid (validGroups h) ahead) llid call l x e f) ∙ guarded ahead (validGroups h)
+
+-- a retry changes nothing
+pub unit-stays : (h : HeadEnd) (llid : ℕ) (l : Located) (x : Outcome KeyMessage)
+    → x ≡ reached (l .verdict) noKeyMessage (h .olt .shared) (unitAt (h .olt) (l .place))
+    (retryUnit llid (h .olt .shared) (unitAt (h .olt) (l .place)))
+    → withOlt h (withUnit (h .olt) (l .place) (x .channels) (x .unit)) ≡ h
+unfolding reached retryUnit outcome withOlt
+unit-stays h llid l x e =
+    let u = unitAt (h .olt) (l .place) in
+    let v = andThen (l .verdict) (retryUnit llid (h .olt .shared) u .verdict) in
+    rw (e, if-same v u, if-same v (h .olt .shared .channels), with-itself (h .olt) (l .place)) refl
 
 ---- the three answers
 

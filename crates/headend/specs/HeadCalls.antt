@@ -40,6 +40,7 @@ use Rattle.headend.specs.declared.HeadAnswer.{HeadAnswer}
 use Rattle.headend.specs.declared.HeadClockDone.{HeadClockDone}
 use Rattle.headend.specs.declared.HeadClockSent.{HeadClockSent}
 use Rattle.headend.specs.declared.HeadDone.{HeadDone}
+use Rattle.headend.specs.declared.HeadKeyDone.{HeadKeyDone}
 use Rattle.headend.specs.declared.HeadKeySent.{HeadKeySent}
 use Rattle.headend.specs.declared.HeadMoved.{HeadMoved}
 
@@ -169,6 +170,11 @@ groupRetryOf h llid i = headKeySent (groupLift h noKeyMessage Accepted (λ o g. 
 
 unfoldable pub headRetryOf : HeadEnd → ℕ → HeadKeySent
 headRetryOf h llid = byLlid (findGroup h llid) (oltKeySent h (retryOf (h .olt) llid)) (groupRetryOf h llid)
+
+-- its answer, the end first
+abbrev pub headKeyDone : HeadKeySent → HeadKeyDone
+headKeyDone r =
+    record { head = r .head; mac = r .head .olt .shared .mac; groups = r .head .groups .count; message = r .message; number = r .number }
 
 ---- acknowledgement: 2, 8
 

@@ -11,11 +11,13 @@ ghost use Rattle.ends.specs.Limits.{maxUnits};
 ghost use Rattle.ends.specs.Timers.{validTimer};
 ghost use Rattle.protocol.specs.OltCalls.{acknowledgeOf, offerOf, retryOf};
 ghost use Rattle.group_protocol.specs.GroupCalls.{memberNamed};
-ghost use Rattle.headend.specs.HeadCalls.{freshHeadOf, groupAcknowledgeOf, groupOfferOf, groupRetryOf, groupsAdvanced, headAcknowledgeOf, headCaptureOf, headClockDone, headClockSendOf, headDone, headMeasureOf, headMovedOf, headOfferOf, headRegisterOf, headRetryOf, oltAnswered, oltKeySent, ownAcknowledgement, registerGroupOf};
+ghost use Rattle.group_protocol.specs.Head.{validGroups};
+ghost use Rattle.headend.specs.HeadCalls.{freshHeadOf, groupAcknowledgeOf, groupOfferOf, groupRetryOf, groupsAdvanced, headAcknowledgeOf, headCaptureOf, headClockDone, headClockSendOf, headDone, headKeyDone, headKeySent, headMeasureOf, headMovedOf, headOfferOf, headRegisterOf, headRetryOf, oltAnswered, oltKeySent, ownAcknowledgement, registerGroupOf};
 ghost use Rattle.headend.specs.WithoutGroups.{WithoutGroups};
 use crate::HeadAnswer;
 use crate::HeadClockDone;
 use crate::HeadDone;
+use crate::HeadKeyDone;
 use crate::HeadKeySent;
 use crate::HeadMoved;
 use crate::answers;
@@ -31,6 +33,7 @@ use clock::MAX_ROUND_TRIP;
 use ends::Found;
 use ends::Identity;
 use ends::Olt;
+use ends::check_olt::valid_olt;
 use group_protocol::Answer;
 use group_protocol::Groups;
 use group_protocol::HeadEnd;
@@ -44,6 +47,7 @@ use groups::membership::members_set;
 use groups::one_group;
 use olt::making::fresh_unit;
 use protocol::Acknowledgement;
+use protocol::KeyMessage;
 use refusal::Refusal;
 use refusal::Verdict;
 use refusal::refuse_if;
@@ -279,55 +283,63 @@ pub fn offer(head: HeadEnd, llid: u16, key: [u8; 16]) -> HeadKeySent
     }
 }
 
-fn retry_unit(head: HeadEnd, llid: u16) -> HeadKeySent
-    ensures { λ r. ⌜ r ≡ oltKeySent head (retryOf (head .olt) llid) ⌝ }
+// What a retry tells; it changes nothing. `sound` says that the groups are valid.
+struct Told {
+    verdict: Verdict,
+    message: KeyMessage,
+}
+
+fn retry_unit(head: HeadEnd, sound: bool, llid: u16) -> Told
+    requires { ⌜ sound ≡ validGroups head ⌝ }
+    ensures { λ r. ⌜ headKeySent (record { verdict = r .verdict; end = head; handed = r .message }) ≡ oltKeySent head (retryOf (head .olt) llid) ⌝ }
 {
-    let at = locate_unit(head, Verdict::Accepted, llid);
-    let mut olt = head.olt;
+    let at = locate_sound(head.olt, sound, Verdict::Accepted, llid);
+    let olt = head.olt;
     let i = at.place;
     let way = at.verdict;
     let unit = olt.units[i];
     let done = calls::retry(way, olt.shared, unit, llid);
     let verdict = done.verdict;
-    let number = verdict_number(verdict);
-    let next = done.unit;
     let message = done.message;
-    olt.units[i] = next;
-    let groups = head.groups;
-    HeadKeySent {
-        number,
-        head: HeadEnd { olt, groups },
-        message,
-    }
+    Told { verdict, message }
 }
 
-fn retry_group(head: HeadEnd, i: usize, llid: u16) -> HeadKeySent
+fn retry_group(head: HeadEnd, sound: bool, i: usize, llid: u16) -> Told
     requires { ⌜ i < maxUnits ⌝ }
-    ensures { λ r. ⌜ r ≡ groupRetryOf head llid i ⌝ }
+    requires { ⌜ sound ≡ validGroups head ⌝ }
+    ensures { λ r. ⌜ headKeySent (record { verdict = r .verdict; end = head; handed = r .message }) ≡ groupRetryOf head llid i ⌝ }
 {
-    let way = way_to(head, Verdict::Accepted);
+    let valid = valid_olt(head.olt);
+    let way = refuse_if(!(valid & sound), Refusal::OutOfRange, Verdict::Accepted);
     let groups = head.groups;
     let group = groups.table[i];
-    let shared = head.olt.shared;
-    let done = one_group::retry(way, shared, group, llid);
+    let done = one_group::retry(way, head.olt.shared, group, llid);
     let verdict = done.verdict;
-    let next = done.group;
     let message = done.message;
-    HeadKeySent {
-        number: verdict_number(verdict),
-        head: put(head, i, shared.channels, next),
-        message,
-    }
+    Told { verdict, message }
 }
 
 // The offer's number and key again.
-pub fn retry(head: HeadEnd, llid: u16) -> HeadKeySent
-    ensures { λ r. ⌜ r ≡ headRetryOf head llid ⌝ }
+pub fn retry(head: HeadEnd, llid: u16) -> HeadKeyDone
+    ensures { λ r. ⌜ r ≡ headKeyDone (headRetryOf head llid) ⌝ }
 {
     let found = group_named(head, llid);
-    match found {
-        Found::Nowhere => retry_unit(head, llid),
-        Found::At(i) => retry_group(head, i, llid),
+    let sound = valid_groups(head);
+    let told = match found {
+        Found::Nowhere => retry_unit(head, sound, llid),
+        Found::At(i) => retry_group(head, sound, i, llid),
+    };
+    let verdict = told.verdict;
+    let number = verdict_number(verdict);
+    let message = told.message;
+    let mac = head.olt.shared.mac;
+    let groups = head.groups.count;
+    HeadKeyDone {
+        head,
+        mac,
+        groups,
+        message,
+        number,
     }
 }
 

@@ -1,9 +1,10 @@
 // The group or unit that a call on a head end names (02, C-14).
 ghost use mathlib.Core.Path.{_≡_};
-ghost use Prim.Native.Nat.{_<_};
+ghost use Prim.Native.Nat.{ℕ, _<_};
 ghost use lib.Dec.{eqb};
 ghost use Rattle.octets.specs.Choice.{either};
 ghost use Rattle.ends.specs.Limits.{maxUnits};
+ghost use Rattle.ends.specs.declared.Found.the-variants.{At};
 ghost use Rattle.protocol.specs.Replies.{onValid};
 ghost use Rattle.olt.specs.Lookup.{locatedOf};
 ghost use Rattle.group_protocol.specs.Head.{findGroup, validGroups, validHead, withGroup};
@@ -32,6 +33,7 @@ pub(crate) fn way_to(head: HeadEnd, ahead: Verdict) -> Verdict
 // The group that has the LLID. It is looked for in the end itself, so that a call hands that over as it lies.
 pub(crate) fn group_named(head: HeadEnd, llid: u16) -> Found
     ensures { λ r. ⌜ r ≡ findGroup head llid ⌝ }
+    ensures place { λ r. ⌜ ((i : ℕ) → r ≡ At i → i < maxUnits) ⌝ }
 {
     let groups = head.groups;
     let count = groups.count;

@@ -44,6 +44,15 @@ pub struct HeadClockDone {
     pub number: u8,
 }
 
+// That of retry.
+pub struct HeadKeyDone {
+    pub head: HeadEnd,
+    pub mac: u64,
+    pub groups: u8,
+    pub message: KeyMessage,
+    pub number: u8,
+}
+
 // That of receive.
 pub struct HeadReceiptDone {
     pub head: HeadEnd,

@@ -154,7 +154,16 @@ pub extern "C" fn jazmotip_olt_offer(olt: HeadEnd, llid: u16, key: &[u8; 16]) ->
 pub extern "C" fn jazmotip_olt_retry(olt: HeadEnd, llid: u16) -> HeadKeySent
     ensures { λ r. ⌜ r ≡ headRetryOf olt llid ⌝ }
 {
-    at_head::retry(olt, llid)
+    let done = at_head::retry(olt, llid);
+    let mut head = done.head;
+    head.olt.shared.mac = done.mac;
+    head.groups.count = done.groups;
+    let message = done.message;
+    HeadKeySent {
+        number: done.number,
+        head,
+        message,
+    }
 }
 
 #[no_mangle]

@@ -1,38 +1,33 @@
 -- `headend::at_head::retry` meets its contract: the LLID is a group's, or the call is on the OLT. Assumes nothing.
 use borrow.Author.Needs.{needs}
-use mathlib.Core.Path.{_≡_, sym, _∙_}
-use native.Mathlib.Omega.{arith}
-use lib.ListN.{length}
-use Rattle.ends.specs.Limits.{maxUnits}
-use Rattle.ends.proofs.Walks.{length-mapped}
-use Rattle.group_protocol.proofs.Found.{group-at}
-use Rattle.headend.specs.HeadCalls.{headRetryOf}
+use mathlib.Core.Logic.{⊎-elim}
+use mathlib.Core.Path.{_≡_, sym, ap, _∙_}
+use Rattle.headend.specs.HeadCalls.{headKeyDone, headKeySent, headRetryOf}
 use Rattle.headend.proofs.HeadAnswers.{by-nowhere, by-at}
 use Rattle.headend.proofs.at_head.retry.Statement.{statement}
 use Rattle.headend.proofs.at_head.retry.Tie as tie
 
-places : (c : tie.Start) → length (c .args .head .groups .table) ≡ maxUnits
-places c = search (needs, length-mapped)
-
 retry-group-requires : tie.Need-retry-group-requires
 retry-group-requires c κs =
     let found = c .before in
-    let start = found .before .before .before in
-    let a = start .args in
-    omega (arith, places start, group-at (a .head) (a .llid) _ (sym (found .before .before .group-named .ensures) ∙ found .found .given .1) .place)
+    let judged = found .before .before in
+    (judged .before .group-named .ensures .1 _ (found .found .given .1), judged .valid-groups .ensures)
+
+-- what is told, by the LLID
+told : (c : tie.After-verdict-number) → let x = c .before .match .told in let a = c .before .before .before .before .args in
+    headKeySent (record { verdict = x .verdict; end = a .head; handed = x .message }) ≡ headRetryOf (a .head) (a .llid)
+unfolding headRetryOf
+told c =
+    let named = sym (c .before .before .before .group-named .ensures .0) in
+    ⊎-elim (λ w. rw (w .3) (w .2 .ensures ∙ by-nowhere _ _ _ (named ∙ w .1 .given .1)))
+    (λ w. rw (w .4) (w .3 .ensures ∙ by-at _ _ _ _ (named ∙ w .1 .given .1))) (c .before .match .came)
 
 returns : tie.Need-returns
-unfolding headRetryOf
-returns c =
-    let told = c .before in
-    c .retry-unit .ensures ∙ by-nowhere _ _ _ (sym (told .before .before .group-named .ensures) ∙ told .enum-told .given .1)
-
-returns-2 : tie.Need-returns-2
-unfolding headRetryOf
-returns-2 c =
-    let found = c .before .before in
-    c .retry-group .ensures ∙ by-at _ _ _ _ (sym (found .before .before .group-named .ensures) ∙ found .found .given .1)
+unfolding headKeySent
+returns c = rw (c .before .verdict-number .ensures) (ap headKeyDone (told (c .before)))
 
 pub retry-spec : {M : Type 1} → statement M
-retry-spec = tie.close (tie.spec (λ c κs. search needs) (λ c. search needs) (λ c κs. search needs) (λ c. search needs) retry-group-requires returns
-    returns-2)
+retry-spec =
+    tie.close
+    (tie.spec (λ c κs. search needs) (λ c κs. search needs) (λ c. search needs) (λ c κs. search needs) (λ c. search needs) retry-group-requires
+    (λ c κs. search needs) returns)

@@ -1,34 +1,33 @@
--- `headend::at_head::retry_unit` meets its contract: the unit is found in the OLT, decides, and is put back. Assumes nothing.
+-- `headend::at_head::retry_unit` meets its contract: the unit is found in the OLT and decides; it stays as it is. Assumes nothing.
 use borrow.Author.Needs.{needs}
-use mathlib.Core.Path.{ap, _∙_}
+use mathlib.Core.Path.{ap, sym, _∙_}
 use Rattle.refusal.specs.declared.Verdict.the-variants.{Accepted}
-use Rattle.ends.specs.Records.{withChannels}
-use Rattle.ends.specs.Table.{pastUnit, withUnit}
+use Rattle.ends.specs.Table.{pastUnit}
 use Rattle.protocol.specs.Lift.{outcome}
 use Rattle.protocol.specs.Messages.{noKeyMessage}
 use Rattle.protocol.specs.OltCalls.{retryOf}
 use Rattle.protocol.specs.UnitCalls.{retryUnit}
-use Rattle.group_protocol.specs.Head.{withOlt}
+use Rattle.group_protocol.specs.declared.HeadEnd.{HeadEnd}
 use Rattle.headend.specs.HeadCalls.{headKeySent}
-use Rattle.headend.proofs.HeadUnits.{key-guarded, lift-guarded}
+use Rattle.headend.proofs.HeadUnits.{key-guarded, lift-guarded, unit-stays}
 use Rattle.headend.proofs.at_head.retry_unit.Statement.{statement}
 use Rattle.headend.proofs.at_head.retry_unit.Tie as tie
 
 returns : tie.Need-returns
-unfolding retryOf headKeySent outcome withUnit withChannels pastUnit withOlt
+unfolding retryOf outcome pastUnit
 returns c =
-    let numbered = c .before .before .before in
-    let done = numbered .before .retry in
-    let at = numbered .before .before .before .before .before in
+    let done = c .before in
+    let at = done .before .before .before .before in
     let a = at .before .args in
-    let x = outcome (a .head .olt .shared) (done .result .verdict) (done .result .unit) (done .result .message) in
-    rw (numbered .verdict-number .ensures)
-    (ap headKeySent (lift-guarded (a .head) noKeyMessage (a .llid) (retryUnit (a .llid)) Accepted (at .locate-unit .result) x (at .locate-unit .ensures .0)
-    (done .ensures))
-    ∙ key-guarded (a .head) _)
+    let d = done .retry .result in
+    let x = outcome (a .head .olt .shared) (d .verdict) (d .unit) (d .message) in
+    ap (λ (h : HeadEnd). headKeySent (record { verdict = d .verdict; end = h; handed = d .message }))
+    (sym (unit-stays (a .head) (a .llid) (at .locate-sound .result) x (done .retry .ensures)))
+    ∙ ap headKeySent (lift-guarded (a .head) noKeyMessage (a .llid) (retryUnit (a .llid)) Accepted (at .locate-sound .result) x
+    (rw (at .before .pre) at (at .locate-sound .ensures .0)) (done .retry .ensures))
+    ∙ key-guarded (a .head) _
 
 pub retry-unit-spec : {M : Type 1} → statement M
 retry-unit-spec =
     tie.close
-    (tie.spec (λ c κs. search needs) (λ c. search needs) (λ c. search needs) (λ c κs. search needs) (λ c κs. search needs) (λ c. search needs)
-    (λ c. search needs) returns)
+    (tie.spec (λ c κs. search needs) (λ c. search needs) (λ c. search needs) (λ c κs. search needs) returns)

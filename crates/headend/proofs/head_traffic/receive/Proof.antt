@@ -38,7 +38,7 @@ returns c =
     rw (numbered .verdict-number .ensures)
     (ap receiptDone
     (head-received (a .head) (a .header) (a .octets .now) (a .output .now) (at .locate-sound .result) (answer done) (decided done) _
-    (carried .carry-fitting .ensures) (named .group-named .result) (sym (named .group-named .ensures))
+    (carried .carry-fitting .ensures) (named .group-named .result) (sym (named .group-named .ensures .0))
     (rw (sounded .valid-groups .ensures, judged .receive-ahead .ensures, own .own-llid .ensures) at (at .locate-sound .ensures .0))))
 
 pub receive-spec : {M : Type 1} → statement M

@@ -115,7 +115,7 @@ fn next_mark(mark: u8, k: usize) -> u8
     CROWDED
 }
 
-fn contains(list: &[u16], x: u16) -> bool
+pub fn contains(list: &[u16], x: u16) -> bool
     ensures { λ r. ⌜ r ≡ among x (now (list .entry)) ⌝ }
 {
     let mut i: usize = 0;

@@ -1,12 +1,11 @@
 -- One step of a walk along a list whose first element is told, and its end: what the loops of this crate go by. Assumes nothing.
-use mathlib.Core.Path.{_≡_, refl, sym, _∙_, ap₂}
+use mathlib.Core.Path.{_≡_, refl, sym, ap, _∙_}
 use mathlib.Core.Bool.{Bool, true, false}
 use mathlib.Core.List.{List, [], _∷_, _++_}
 use Prim.Native.Nat.{ℕ, _+_, _<_}
 use native.Mathlib.Numerals.{add-one}
-use native.Mathlib.Omega.{arith}
-use lib.ListN.{length, getD, take, drop, take-append-drop}
-use lib.Seq.{take-suc, take-take}
+use lib.ListN.{length, getD, take, drop, set, take-append-drop}
+use lib.Seq.{drop-cons, take-suc, take-suc-set}
 use borrow.Author.Tests.{eq-eqb, ne-eqb}
 use Rattle.octets.specs.Choice.{both, either, pick}
 use Rattle.octets.specs.Lists.{all}
@@ -72,25 +71,24 @@ pub group-end : (l : List GroupRecord) → l ≡ [] → groupLlids l ≡ []
 unfolding groupLlids
 group-end l e = rw e
 
-pub llids-none : (l : List GroupRecord) → distinct (groupLlids (take 0 l)) ≡ true
-unfolding groupLlids distinct
-llids-none l = refl
-
--- one group more, whose LLID is none of theirs
-pub llids-more : (l : List GroupRecord) (i : ℕ) (d : GroupRecord) → i < length l → distinct (groupLlids (take i l)) ≡ true
-    → among (getD l i d .llid) (groupLlids (take i l)) ≡ false → distinct (groupLlids (take (i + 1) l)) ≡ true
+-- the LLIDs of one group more
+pub llids-gathered : (l : List GroupRecord) (r : List ℕ) (i : ℕ) (d : GroupRecord) → i < length l → i < length r → take i r ≡ groupLlids (take i l)
+    → take (i + 1) (set r i (getD l i d .llid)) ≡ groupLlids (take (i + 1) l)
 unfolding groupLlids
-llids-more l i d h e a =
-    rw (add-one, take-suc l i d h, llids-append (take i l) (getD l i d ∷ [])) (distinct-more (groupLlids (take i l)) (getD l i d .llid) e a)
+llids-gathered l r i d h k e = rw (add-one, take-suc-set r i (getD l i d .llid) k, take-suc l i d h, llids-append (take i l) (getD l i d ∷ []), e) refl
 
--- one whose LLID is one of theirs
-pub llids-again : (n : ℕ) (l : List GroupRecord) (i : ℕ) (d : GroupRecord) → i < n → i < length l
-    → among (getD l i d .llid) (groupLlids (take i l)) ≡ true
-    → distinct (groupLlids (take n l)) ≡ false
-unfolding groupLlids
-llids-again n l i d h k a =
-    let split : take n l ≡ take i l ++ (getD l i d ∷ drop (i + 1) (take n l)) =
-    sym (take-append-drop i (take n l))
-    ∙ ap₂ (λ (a b : List GroupRecord). a ++ b) (take-take i n l (omega arith)) (first-step n l i d h k) in
-    rw (split, llids-append (take i l) (getD l i d ∷ drop (i + 1) (take n l)))
-    (distinct-again (groupLlids (take i l)) (getD l i d .llid) (groupLlids (drop (i + 1) (take n l))) a)
+---- along a list
+
+pub list-step : (l : List ℕ) (i : ℕ) → i < length l → drop i l ≡ getD l i 0 ∷ drop (i + 1) l
+list-step l i h = rw add-one (drop-cons l i 0 h)
+
+-- one number more, which is none of those before
+pub distinct-step : (l : List ℕ) (i : ℕ) → i < length l → distinct (take i l) ≡ true → among (getD l i 0) (take i l) ≡ false
+    → distinct (take (i + 1) l) ≡ true
+distinct-step l i h e a = rw (add-one, take-suc l i 0 h) (distinct-more (take i l) (getD l i 0) e a)
+
+-- one that is
+pub distinct-stop : (l : List ℕ) (i : ℕ) → i < length l → among (getD l i 0) (take i l) ≡ true → distinct l ≡ false
+distinct-stop l i h a =
+    let split : l ≡ take i l ++ (getD l i 0 ∷ drop (i + 1) l) = sym (take-append-drop i l) ∙ ap (λ (b : List ℕ). take i l ++ b) (list-step l i h) in
+    ap distinct split ∙ distinct-again (take i l) (getD l i 0) (drop (i + 1) l) a

@@ -5,13 +5,12 @@ ghost use lib.ListN.{take};
 ghost use Rattle.octets.specs.Lists.{all};
 ghost use Rattle.ends.specs.Identities.{distinct, meets};
 ghost use Rattle.ends.specs.Limits.{maxUnits};
-ghost use Rattle.ends.specs.Table.{registered, tableLlids};
-ghost use Rattle.group_protocol.specs.Head.{apartLlids, groupLlids, validGroup, validGroups, validHead};
+ghost use Rattle.ends.specs.Table.{tableLlids};
+ghost use Rattle.group_protocol.specs.Head.{groupLlids, validGroup, validGroups, validHead};
 use crate::membership::valid_members;
-use crate::search::is_group;
 use crate::search::is_registered;
-use ends::Olt;
 use ends::UnitRecord;
+use ends::check_olt::contains;
 use ends::check_olt::valid_olt;
 use ends::check_olt::valid_timer;
 use ends::limits::MAX_UNITS;
@@ -47,14 +46,27 @@ fn all_valid(table: [GroupRecord; MAX_GROUPS as usize], count: u8, tick: u64, un
     true
 }
 
-fn distinct_groups(table: [GroupRecord; MAX_GROUPS as usize], count: u8) -> bool
+// The LLIDs of the first `count` groups, and zeros.
+fn group_llids(table: [GroupRecord; MAX_GROUPS as usize], count: u8) -> [u16; MAX_GROUPS as usize]
     requires { ⌜ count ≤ maxUnits ⌝ }
-    ensures { λ r. ⌜ r ≡ distinct (groupLlids (take count table)) ⌝ }
+    ensures { λ r. ⌜ take count r ≡ groupLlids (take count table) ⌝ }
 {
-    let mut i: u8 = 0;
-    while i < count {
-        let group = table[i as usize];
-        if is_group(table, i, group.llid) {
+    let mut r = [0u16; MAX_GROUPS as usize];
+    let mut i: usize = 0;
+    while i < count as usize {
+        let group = table[i];
+        r[i] = group.llid;
+        i += 1;
+    }
+    r
+}
+
+fn all_distinct(list: &[u16]) -> bool
+    ensures { λ r. ⌜ r ≡ distinct (now (list .entry)) ⌝ }
+{
+    let mut i: usize = 0;
+    while i < list.len() {
+        if contains(&list[..i], list[i]) {
             return false;
         }
         i += 1;
@@ -62,20 +74,13 @@ fn distinct_groups(table: [GroupRecord; MAX_GROUPS as usize], count: u8) -> bool
     true
 }
 
-// Whether a group has an LLID of a registered unit.
-fn meet_units(
-    table: [GroupRecord; MAX_GROUPS as usize],
-    count: u8,
-    units: [UnitRecord; MAX_UNITS as usize],
-    n: u8,
-) -> bool
-    requires { ⌜ count ≤ maxUnits ⌝ }
-    ensures { λ r. ⌜ r ≡ meets (groupLlids (take count table)) (tableLlids (take n units)) ⌝ }
+// Whether a registered unit has one of the LLIDs.
+fn meet_units(list: &[u16], units: [UnitRecord; MAX_UNITS as usize], n: u8) -> bool
+    ensures { λ r. ⌜ r ≡ meets (now (list .entry)) (tableLlids (take n units)) ⌝ }
 {
-    let mut i: u8 = 0;
-    while i < count {
-        let group = table[i as usize];
-        if is_registered(units, n, group.llid) {
+    let mut i: usize = 0;
+    while i < list.len() {
+        if is_registered(units, n, list[i]) {
             return true;
         }
         i += 1;
@@ -83,17 +88,7 @@ fn meet_units(
     false
 }
 
-fn apart(olt: Olt, table: [GroupRecord; MAX_GROUPS as usize], count: u8) -> bool
-    requires { ⌜ count ≤ maxUnits ⌝ }
-    ensures { λ r. ⌜ r ≡ apartLlids (tableLlids (registered olt)) (groupLlids (take count table)) ⌝ }
-{
-    let units = olt.units;
-    let distinct = distinct_groups(table, count);
-    let met = meet_units(table, count, units, olt.count);
-    distinct & !met
-}
-
-// The groups alone. Without one there is next to nothing to do.
+// The groups alone. Without one there is next to nothing to do. Their LLIDs are gathered, so that the two tables are not both at hand at once (D119).
 pub fn valid_groups(head: HeadEnd) -> bool
     ensures { λ r. ⌜ r ≡ validGroups head ⌝ }
 {
@@ -105,11 +100,14 @@ pub fn valid_groups(head: HeadEnd) -> bool
     if count == 0 {
         return true;
     }
-    let olt = head.olt;
     let table = head.groups.table;
-    let valid = all_valid(table, count, olt.shared.tick, units);
-    let llids = apart(olt, table, count);
-    valid & llids
+    let valid = all_valid(table, count, head.olt.shared.tick, units);
+    let llids = group_llids(table, count);
+    let n = count as usize;
+    let distinct = all_distinct(&llids[..n]);
+    let registered = head.olt.units;
+    let met = meet_units(&llids[..n], registered, units);
+    valid & (distinct & !met)
 }
 
 pub fn valid_head(head: HeadEnd) -> bool

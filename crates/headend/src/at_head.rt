@@ -98,8 +98,10 @@ pub fn register(head: HeadEnd, identity: Identity, trip: u64, interval: u64) -> 
 pub fn register_group(head: HeadEnd, llid: u16, interval: u64, roster: Roster) -> HeadAnswer
     ensures { λ r. ⌜ r ≡ registerGroupOf head llid interval roster ⌝ }
 {
+    let found = group_named(head, llid);
+    let sound = valid_groups(head);
     let members = registering::roster_members(head.olt, roster);
-    let verdict = registering::group_verdict(head, llid, interval, members);
+    let verdict = registering::group_verdict(head, sound, found, llid, interval, members);
     match verdict {
         Verdict::Refused(refusal) => answers::refused(head, refusal),
         Verdict::Accepted => {

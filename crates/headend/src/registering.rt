@@ -1,12 +1,13 @@
 // What registrations with a head end refuse, and the members that one of a group names (02, C-14).
 ghost use mathlib.Core.Path.{_≡_};
-ghost use Prim.Native.Nat.{_<_};
+ghost use Prim.Native.Nat.{ℕ, _<_};
 ghost use Rattle.octets.specs.Choice.{both};
 ghost use Rattle.ends.specs.Limits.{maxUnits};
 ghost use Rattle.ends.specs.Table.{find};
 ghost use Rattle.ends.specs.Validity.{validOlt};
 ghost use Rattle.protocol.specs.Replies.{onValid};
-ghost use Rattle.group_protocol.specs.Head.{validHead, withOneGroupMore};
+ghost use Rattle.group_protocol.specs.Head.{findGroup, isGroup, withOneGroupMore};
+ghost use Rattle.group_protocol.specs.declared.HeadEnd.{HeadEnd};
 ghost use Rattle.headend.specs.HeadCalls.{groupVerdict, placeFound, rosterMembers, unitVerdict};
 use clock::MAX_ROUND_TRIP;
 use ends::Found;
@@ -23,11 +24,9 @@ use group_protocol::GroupRecord;
 use group_protocol::HeadEnd;
 use group_protocol::Members;
 use group_protocol::Roster;
-use groups::check_head::valid_head;
 use groups::membership::fresh_members;
 use groups::membership::valid_members;
 use groups::search::groups_meet;
-use groups::search::is_group;
 use groups::search::is_registered;
 use refusal::Refusal;
 use refusal::Verdict;
@@ -101,18 +100,35 @@ pub(crate) fn roster_members(olt: Olt, roster: Roster) -> Members
     fresh_members(places, roster.count)
 }
 
-// 1 for the end that is lent, then a group's own 1, 21, 3 and 4.
-pub(crate) fn group_verdict(head: HeadEnd, llid: u16, interval: u64, members: Members) -> Verdict
-    ensures { λ r. ⌜ r ≡ onValid (validHead head) (groupVerdict head llid interval members) ⌝ }
+// Whether an LLID is a group's, by the group that was found for it.
+fn is_group(found: Found) -> bool
+    ensures { λ r. ⌜ ((h : HeadEnd) (llid : ℕ) → found ≡ findGroup h llid → r ≡ isGroup h llid) ⌝ }
 {
-    let valid = valid_head(head);
+    match found {
+        Found::At(_) => true,
+        Found::Nowhere => false,
+    }
+}
+
+// 1 for the end that is lent, then a group's own 1, 21, 3 and 4. `found` is the group that has the LLID already.
+pub(crate) fn group_verdict(
+    head: HeadEnd,
+    sound: bool,
+    found: Found,
+    llid: u16,
+    interval: u64,
+    members: Members,
+) -> Verdict
+    requires { ⌜ found ≡ findGroup head llid ⌝ }
+    ensures { λ r. ⌜ r ≡ onValid (both (validOlt (head .olt)) sound) (groupVerdict head llid interval members) ⌝ }
+{
+    let valid = valid_olt(head.olt) & sound;
     let when = valid_interval(interval);
     let ranged = (1 <= members.count) & when;
     let named = valid_members(head.olt.count, members);
     let units = head.olt.units;
     let unit = is_registered(units, head.olt.count, llid);
-    let table = head.groups.table;
-    let group = is_group(table, head.groups.count, llid);
+    let group = is_group(found);
     let places = head.olt.count as u64 + head.groups.count as u64;
     refuse_if(
         !valid,

@@ -1,6 +1,9 @@
 -- `groups::check_head::valid_groups` meets its contract: too many places, no group, or the tests of the definition. Assumes nothing.
-use Prim.Native.Nat.{_+_}
+use mathlib.Core.Path.{_≡_, sym}
+use Prim.Native.Nat.{_+_, _≤_}
 use native.Mathlib.Omega.{arith}
+use lib.ListN.{length}
+use lib.Seq.{length-take-le}
 use borrow.Author.Needs.{needs}
 use borrow.Author.Tests.{lt-leb, le-leb}
 use Rattle.octets.specs.Choice.{both}
@@ -22,15 +25,29 @@ returns-2 c =
     rw (le-leb (h .olt .count + h .groups .count) maxUnits (c .before .if1 .left), c .if2 .taken)
 
 returns-3 : tie.Need-returns-3
-unfolding validGroups both
+unfolding validGroups both apartLlids
 returns-3 c =
-    let start = c .before .before .before .before .before in
+    let told = c .before .before .before in
+    let gathered = told .before .before in
+    let start = gathered .before .before .before .before in
     let h = start .before .args .head in
-    rw (le-leb (h .olt .count + h .groups .count) maxUnits (start .if1 .left), c .before .all-valid .ensures, c .apart .ensures)
+    rw (
+      le-leb (h .olt .count + h .groups .count) maxUnits (start .if1 .left),
+      gathered .before .all-valid .ensures,
+      told .all-distinct .ensures,
+      c .meet-units .ensures,
+      gathered .group-llids .ensures,
+    )
+
+-- their places suffice
+room : (c : tie.After-group-llids) → let h = c .before .before .before .before .before .args .head in h .groups .count ≤ length (c .group-llids .result)
+room c =
+    let len : length (c .group-llids .result) ≡ maxUnits = search needs in
+    omega (arith, len, c .before .before .before .before .if1 .left)
 
 pub valid-groups-spec : {M : Type 1} → statement M
 valid-groups-spec =
     tie.close
     (tie.spec (λ c. search needs) (λ c. search needs) (λ c. search needs) (λ c. search needs) returns returns-2 (λ c κs. omega arith)
-    (λ c κs. omega arith)
-    returns-3)
+    (λ c κs. omega arith) (λ c. search needs) (λ c. search needs) (λ c. sym (length-take-le _ _ (room (c .before)))) (λ c κs. search needs)
+    (λ c. search needs) (λ c. sym (length-take-le _ _ (room (c .before .before .before .before)))) (λ c κs. search needs) returns-3)

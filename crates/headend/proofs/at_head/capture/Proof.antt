@@ -25,11 +25,12 @@ returns c =
     let x = outcome (a .head .olt .shared) (done .result .verdict) (done .result .unit) silent in
     rw (numbered .verdict-number .ensures)
     (ap headDone
-    (ap headAnswer (lift-guarded (a .head) silent (a .llid) captureUnit Accepted (at .locate-sound .result) x (rw (sounded .valid-groups .ensures) at (at .locate-sound .ensures .0)) (done .ensures))
+    (ap headAnswer (lift-guarded (a .head) silent (a .llid) captureUnit Accepted (at .locate-sound .result) x
+    (rw (sounded .valid-groups .ensures) at (at .locate-sound .ensures .0)) (done .ensures))
     ∙ answer-guarded (a .head) _))
 
 pub capture-spec : {M : Type 1} → statement M
 capture-spec =
     tie.close
-    (tie.spec (λ c κs. search needs) (λ c κs. search needs) (λ c. search needs) (λ c. search needs) (λ c κs. search needs) (λ c κs. search needs) (λ c. search needs)
-    (λ c. search needs) returns)
+    (tie.spec (λ c κs. search needs) (λ c κs. search needs) (λ c. search needs) (λ c. search needs) (λ c κs. search needs) (λ c κs. search needs)
+    (λ c. search needs) (λ c. search needs) returns)

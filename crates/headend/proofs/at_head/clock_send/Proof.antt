@@ -25,12 +25,13 @@ returns c =
     let x = outcome (a .head .olt .shared) (done .result .verdict) (done .result .unit) (done .result .message) in
     rw (numbered .verdict-number .ensures)
     (ap headClockDone
-    (ap headClockSent (lift-guarded (a .head) noStamps (a .llid) clockSendUnit Accepted (at .locate-sound .result) x (rw (sounded .valid-groups .ensures) at (at .locate-sound .ensures .0))
+    (ap headClockSent (lift-guarded (a .head) noStamps (a .llid) clockSendUnit Accepted (at .locate-sound .result) x
+    (rw (sounded .valid-groups .ensures) at (at .locate-sound .ensures .0))
     (done .ensures))
     ∙ clock-guarded (a .head) _))
 
 pub clock-send-spec : {M : Type 1} → statement M
 clock-send-spec =
     tie.close
-    (tie.spec (λ c κs. search needs) (λ c κs. search needs) (λ c. search needs) (λ c. search needs) (λ c κs. search needs) (λ c κs. search needs) (λ c. search needs)
-    (λ c. search needs) returns)
+    (tie.spec (λ c κs. search needs) (λ c κs. search needs) (λ c. search needs) (λ c. search needs) (λ c κs. search needs) (λ c κs. search needs)
+    (λ c. search needs) (λ c. search needs) returns)

@@ -15,8 +15,10 @@ use Rattle.headend.proofs.head_traffic.receive.Tie as tie
 
 -- what the unit decides
 abbrev answer : tie.After-receive → Outcome Passage
-answer c = let d = c .receive .result in
-    outcome (c .before .before .before .before .before .before .before .before .before .before .before .args .head .olt .shared) (d .verdict) (d .unit) (d .passage)
+answer c =
+    let a = c .before .before .before .before .before .before .before .before .before .before .before .args in
+    let d = c .receive .result in
+    outcome (a .head .olt .shared) (d .verdict) (d .unit) (d .passage)
 
 decided : (c : tie.After-receive) → let at = c .before .before .before in let a = at .before .before .before .before .before .before .before .before .args in
     answer c ≡ unitReceives (a .head) (a .header) (a .octets .now) (a .output .now) (at .locate-sound .result)
@@ -44,5 +46,6 @@ returns c =
 pub receive-spec : {M : Type 1} → statement M
 receive-spec =
     tie.close
-    (tie.spec (λ c κs. search needs) (λ c κs. search needs) (λ c κs. search needs) (λ c κs. search needs) (λ c κs. search needs) (λ c. search needs) (λ c. search needs)
-    (λ c κs. search needs) (λ c κs. search needs) (λ c κs. search needs) (λ c. search needs) (λ c. search needs) (λ c. search needs) returns)
+    (tie.spec (λ c κs. search needs) (λ c κs. search needs) (λ c κs. search needs) (λ c κs. search needs) (λ c κs. search needs) (λ c. search needs)
+    (λ c. search needs) (λ c κs. search needs) (λ c κs. search needs) (λ c κs. search needs) (λ c. search needs)
+    (λ c. search needs) (λ c. search needs) returns)

@@ -10,20 +10,21 @@ unfolding groupVerdict validGroupRegistration both either
 returns c =
     let full = c .before .before .before .before in
     let group = full .before .before .before in
-    let unit = group .before .before in
+    let unit = group .before in
     let named = unit .before .before in
     let when = named .before .before in
+    let start = when .before .before in
     rw (
       c .refuse-if5 .ensures,
       c .before .refuse-if4 .ensures,
       c .before .before .refuse-if3 .ensures,
       c .before .before .before .refuse-if2 .ensures,
       full .refuse-if .ensures,
-      group .is-group .ensures,
+      group .is-group .ensures (start .args .head) (start .args .llid) (start .pre),
       unit .is-registered .ensures,
       named .valid-members .ensures,
       when .valid-interval .ensures,
-      when .before .valid-head .ensures,
+      when .before .valid-olt .ensures,
     )
 
 pub group-verdict-spec : {M : Type 1} → statement M

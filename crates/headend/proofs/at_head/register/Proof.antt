@@ -38,7 +38,8 @@ returns c =
     let by = registered-by (a .head) (a .identity) (a .trip) (a .interval) _ (c .before .if1 .olt) refl in
     rw e
     (ap headDone
-    (sym (⊎-elim (λ w. by (λ z. rw (w .1 .ensures) at (w .2)) (λ f. absurd (f (sym e ∙ w .0 .taken)))) (λ w. by (λ z. absurd (w .0 .left (e ∙ z))) (λ f. w .1))
+    (sym (⊎-elim (λ w. by (λ z. rw (w .1 .ensures) at (w .2)) (λ f. absurd (f (sym e ∙ w .0 .taken))))
+    (λ w. by (λ z. absurd (w .0 .left (e ∙ z))) (λ f. w .1))
     (c .before .if1 .came))))
 
 pub register-spec : {M : Type 1} → statement M

@@ -32,4 +32,5 @@ returns c =
     ∙ ap headKeySent (lift-group (a .head) noKeyMessage Accepted (λ o g. retryGroup (a .llid) (o .shared) g) (a .i) x decided)
 
 pub retry-group-spec : {M : Type 1} → statement M
-retry-group-spec = tie.close (tie.spec (λ c κs. search needs) (λ c κs. search needs) (λ c. search needs) (λ c. search needs) (λ c κs. search needs) returns)
+retry-group-spec = tie.close (tie.spec (λ c κs. search needs) (λ c κs. search needs) (λ c. search needs) (λ c. search needs)
+    (λ c κs. search needs) returns)

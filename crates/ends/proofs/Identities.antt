@@ -3,16 +3,19 @@ use mathlib.Core.Path.{_≡_, refl, sym, _∙_, ap}
 use mathlib.Core.Bool.{Bool, true, false}
 use mathlib.Core.List.{List, [], _∷_, _++_}
 use mathlib.Core.Logic.{⊎-elim}
-use Prim.Native.Nat.{ℕ, zero, suc, _≤_, _<_}
+use Prim.Native.Nat.{ℕ, zero, suc, _+_, _≤_, _<_}
 use native.Mathlib.Nat.{zero-add}
+use native.Mathlib.Numerals.{add-one}
 use native.Mathlib.Omega.{arith}
 use lib.Dec.{ltb, eqb}
-use lib.ListN.{getD}
+use lib.ListN.{length, getD, take, drop, take-append-drop}
+use lib.Seq.{take-suc}
 use borrow.Author.Tests.{eqb-true, eq-eqb, ne-eqb, leb-true, lt-ltb, not-true}
 use Rattle.octets.specs.Choice.{both, either, pick}
 use Rattle.octets.specs.Lists.{tabulate}
-use Rattle.octets.proofs.Choice.{both-left, both-right, both-true, either-false, pick-true, true-false, either-left, either-right, either-none, either-cases, either-assoc, not-of-false}
+use Rattle.octets.proofs.Choice.{both-left, both-right, both-true, either-false, pick-true, true-false, either-left, either-right, either-none, either-cases, either-assoc, either-swap, not-of-false}
 use Rattle.octets.proofs.Lists.{tabulate-at, tabulate-ext}
+use Rattle.octets.proofs.Steps.{drop-step}
 use Rattle.ends.specs.Limits.{maxLlids}
 use Rattle.ends.specs.Identities.{among, meets, distinct, noIdentity, llidsOf, has, kept, validMac, validIdentity}
 use Rattle.ends.specs.declared.Identity.{Identity}
@@ -36,6 +39,17 @@ meets-apart (y ∷ xs) ys x m a =
     ⊎-elim (λ e. ap (λ (z : ℕ). among z ys) (sym (eqb-true y x e)) ∙ either-false _ _ m .0)
     (λ e. meets-apart xs ys x (either-false _ _ m .1) e)
     (either-cases (eqb y x) (among x xs) a)
+
+pub meets-nil : (xs : List ℕ) → meets xs [] ≡ false
+unfolding meets among either
+meets-nil [] = refl
+meets-nil (x ∷ xs) = meets-nil xs
+
+pub meets-append : (xs ys zs : List ℕ) → meets xs (ys ++ zs) ≡ either (meets xs ys) (meets xs zs)
+unfolding meets either
+meets-append [] ys zs = refl
+meets-append (x ∷ xs) ys zs =
+    rw (among-append x ys zs, meets-append xs ys zs) (either-swap (among x ys) (among x zs) (meets xs ys) (meets xs zs))
 
 pub distinct-append : (xs ys : List ℕ) → distinct xs ≡ true → distinct ys ≡ true → ((x : ℕ) → among x xs ≡ true → among x ys ≡ false)
     → distinct (xs ++ ys) ≡ true
@@ -82,6 +96,17 @@ distinct-left (x ∷ xs) ys d =
     both-true (not-of-false (new .0)) (distinct-left xs ys (both-right _ _ d))
 
 -- a number twice in the first part
+-- one number more, which is none of those before
+pub distinct-step : (l : List ℕ) (i : ℕ) → i < length l → distinct (take i l) ≡ true → among (getD l i 0) (take i l) ≡ false
+    → distinct (take (i + 1) l) ≡ true
+distinct-step l i h e a = rw (add-one, take-suc l i 0 h) (distinct-more (take i l) (getD l i 0) e a)
+
+-- one that is
+pub distinct-stop : (l : List ℕ) (i : ℕ) → i < length l → among (getD l i 0) (take i l) ≡ true → distinct l ≡ false
+distinct-stop l i h a =
+    let split : l ≡ take i l ++ (getD l i 0 ∷ drop (i + 1) l) = sym (take-append-drop i l) ∙ ap (λ (b : List ℕ). take i l ++ b) (drop-step l i 0 h) in
+    ap distinct split ∙ distinct-again (take i l) (getD l i 0) (drop (i + 1) l) a
+
 pub distinct-no : (xs ys : List ℕ) → distinct xs ≡ false → distinct (xs ++ ys) ≡ false
 distinct-no xs ys e = by-case (distinct (xs ++ ys)) refl where
   by-case : (t : Bool) → distinct (xs ++ ys) ≡ t → distinct (xs ++ ys) ≡ false

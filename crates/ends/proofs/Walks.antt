@@ -11,7 +11,7 @@ use lib.Seq.{take-suc-set}
 use borrow.Author.Tests.{lt-ltb, eq-eqb, ne-eqb, leb-true}
 use Rattle.octets.specs.Choice.{both, either, pick}
 use Rattle.octets.specs.Lists.{tabulate}
-use Rattle.octets.proofs.Choice.{both-left, both-right}
+use Rattle.octets.proofs.Choice.{both-left, both-right, either-left}
 use Rattle.octets.proofs.Steps.{tabulate-step, tabulate-end, drop-step, first-step, first-end}
 use Rattle.ends.specs.Limits.{maxLlids, maxUnits}
 use Rattle.ends.specs.Identities.{among, distinct, has, llidsOf, meets, validIdentity}
@@ -19,6 +19,7 @@ use Rattle.ends.specs.Table.{findFrom, firstPlace, foundBelow, tableLlid
 use Rattle.ends.specs.Validity.{validUnit}
 use Rattle.ends.specs.declared.UnitRecord.{UnitRecord}
 use Rattle.ends.specs.declared.Found.the-variants.{At, Nowhere}
+use Rattle.ends.proofs.Identities.{meets-append, meets-nil}
 
 -- an array whose elements are read one by one is as long as what is read
 pub length-mapped : {A B : Type 0} (f : A → B) (l : List A) (n : ℕ) → length (map f l) ≡ n → length l ≡ n
@@ -124,6 +125,22 @@ meets-miss l j n f h e = rw (tabulate-step j n f h, e)
 pub meets-end : (l : List ℕ) (j n : ℕ) (f : ℕ → ℕ) → n ≤ j → meets (tabulate j (n - j) f) l ≡ false
 unfolding meets
 meets-end l j n f h = rw (tabulate-end j n f h)
+
+---- whether a list meets the LLIDs of the first n units
+
+pub table-hit : (xs : List ℕ) (n : ℕ) (l : List UnitRecord) (i : ℕ) (d : UnitRecord) → i < n → i < length l
+    → meets xs (llidsOf (getD l i d .identity)) ≡ true → meets xs (tableLlids (drop i (take n l))) ≡ true
+table-hit xs n l i d h k e = rw (llids-step n l i d h k, meets-append) (either-left _ e)
+
+pub table-miss : (xs : List ℕ) (n : ℕ) (l : List UnitRecord) (i : ℕ) (d : UnitRecord) → i < n → i < length l
+    → meets xs (llidsOf (getD l i d .identity)) ≡ false
+    → meets xs (tableLlids (drop i (take n l))) ≡ meets xs (tableLlids (drop (i + 1) (take n l)))
+unfolding either
+table-miss xs n l i d h k e = rw (llids-step n l i d h k, meets-append, e)
+
+pub table-none : (xs : List ℕ) (us : List UnitRecord) → us ≡ [] → meets xs (tableLlids us) ≡ false
+unfolding tableLlids
+table-none xs us e = rw e (meets-nil xs)
 
 ---- validity
 

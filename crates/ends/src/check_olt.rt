@@ -128,6 +128,19 @@ pub fn contains(list: &[u16], x: u16) -> bool
     false
 }
 
+pub fn all_distinct(list: &[u16]) -> bool
+    ensures { λ r. ⌜ r ≡ distinct (now (list .entry)) ⌝ }
+{
+    let mut i: usize = 0;
+    while i < list.len() {
+        if contains(&list[..i], list[i]) {
+            return false;
+        }
+        i += 1;
+    }
+    true
+}
+
 // Whether x is one of the first n. Only where several have its place are they searched.
 fn stands(list: &[u16], n: usize, x: u16, mark: u8) -> bool
     requires { ⌜ n ≤ length (now list) ⌝ }

@@ -36,28 +36,36 @@ pub fn find(units: [UnitRecord; MAX_UNITS as usize], count: u8, llid: u16) -> Fo
     Found::Nowhere
 }
 
-fn stands_in(units: [UnitRecord; MAX_UNITS as usize], count: u8, llid: u16) -> bool
-    ensures { λ r. ⌜ r ≡ among llid (tableLlids (take count units)) ⌝ }
+// Whether the two have an LLID in common.
+fn shares(a: Identity, b: Identity) -> bool
+    ensures { λ r. ⌜ r ≡ meets (llidsOf a) (llidsOf b) ⌝ }
 {
-    let found = find(units, count, llid);
-    match found {
-        Found::At(_) => true,
-        Found::Nowhere => false,
-    }
-}
-
-// Whether one of the LLIDs is that of a registered unit.
-pub fn meets_table(units: [UnitRecord; MAX_UNITS as usize], count: u8, identity: Identity) -> bool
-    ensures { λ r. ⌜ r ≡ meets (llidsOf identity) (tableLlids (take count units)) ⌝ }
-{
-    let llids = identity.llids;
-    let n = identity.count;
+    let llids = a.llids;
+    let n = a.count;
     let mut j: u8 = 0;
     while j < n {
-        if stands_in(units, count, at(llids, j)) {
+        if has(b, at(llids, j)) {
             return true;
         }
         j += 1;
+    }
+    false
+}
+
+// Whether one of the LLIDs is that of a registered unit. The table is gone through once: no call is handed it (D119).
+pub fn meets_table(units: [UnitRecord; MAX_UNITS as usize], count: u8, identity: Identity) -> bool
+    ensures { λ r. ⌜ r ≡ meets (llidsOf identity) (tableLlids (take count units)) ⌝ }
+{
+    let mut i: usize = 0;
+    while i < MAX_UNITS as usize {
+        if count as usize <= i {
+            return false;
+        }
+        let unit = units[i];
+        if shares(identity, unit.identity) {
+            return true;
+        }
+        i += 1;
     }
     false
 }

@@ -1,22 +1,21 @@
 -- One step of a walk along a list whose first element is told, and its end: what the loops of this crate go by. Assumes nothing.
-use mathlib.Core.Path.{_≡_, refl, sym, ap, _∙_}
+use mathlib.Core.Path.{_≡_, refl, sym}
 use mathlib.Core.Bool.{Bool, true, false}
-use mathlib.Core.List.{List, [], _∷_, _++_}
+use mathlib.Core.List.{List, [], _∷_, map, map-append}
 use Prim.Native.Nat.{ℕ, _+_, _<_}
 use native.Mathlib.Numerals.{add-one}
-use lib.ListN.{length, getD, take, drop, set, take-append-drop}
-use lib.Seq.{drop-cons, take-suc, take-suc-set}
+use lib.ListN.{length, getD, take, drop, set}
+use lib.Seq.{take-suc, take-suc-set}
 use borrow.Author.Tests.{eq-eqb, ne-eqb}
 use Rattle.octets.specs.Choice.{both, either, pick}
 use Rattle.octets.specs.Lists.{all}
+use Rattle.octets.proofs.Maps.{map-take}
 use Rattle.octets.proofs.Steps.{first-step}
-use Rattle.ends.specs.Identities.{among, distinct, meets}
-use Rattle.ends.proofs.Identities.{distinct-again, distinct-more}
+use Rattle.ends.specs.Identities.{among, meets}
 use Rattle.ends.specs.declared.Found.the-variants.{At, Nowhere}
 use Rattle.group_protocol.specs.Members.{placeFrom}
 use Rattle.group_protocol.specs.Head.{groupLlids}
 use Rattle.group_protocol.specs.declared.GroupRecord.{GroupRecord}
-use Rattle.group_protocol.proofs.Llids.{llids-append}
 
 ---- which place has a number
 
@@ -71,24 +70,14 @@ pub group-end : (l : List GroupRecord) → l ≡ [] → groupLlids l ≡ []
 unfolding groupLlids
 group-end l e = rw e
 
--- the LLIDs of one group more
-pub llids-gathered : (l : List GroupRecord) (r : List ℕ) (i : ℕ) (d : GroupRecord) → i < length l → i < length r → take i r ≡ groupLlids (take i l)
-    → take (i + 1) (set r i (getD l i d .llid)) ≡ groupLlids (take (i + 1) l)
+-- the LLIDs of the first groups
+pub llids-first : (n : ℕ) (gs : List GroupRecord) → take n (groupLlids gs) ≡ groupLlids (take n gs)
 unfolding groupLlids
-llids-gathered l r i d h k e = rw (add-one, take-suc-set r i (getD l i d .llid) k, take-suc l i d h, llids-append (take i l) (getD l i d ∷ []), e) refl
+llids-first n gs = sym (map-take (λ (g : GroupRecord). g .llid) n gs)
 
----- along a list
+---- what is read of each
 
-pub list-step : (l : List ℕ) (i : ℕ) → i < length l → drop i l ≡ getD l i 0 ∷ drop (i + 1) l
-list-step l i h = rw add-one (drop-cons l i 0 h)
-
--- one number more, which is none of those before
-pub distinct-step : (l : List ℕ) (i : ℕ) → i < length l → distinct (take i l) ≡ true → among (getD l i 0) (take i l) ≡ false
-    → distinct (take (i + 1) l) ≡ true
-distinct-step l i h e a = rw (add-one, take-suc l i 0 h) (distinct-more (take i l) (getD l i 0) e a)
-
--- one that is
-pub distinct-stop : (l : List ℕ) (i : ℕ) → i < length l → among (getD l i 0) (take i l) ≡ true → distinct l ≡ false
-distinct-stop l i h a =
-    let split : l ≡ take i l ++ (getD l i 0 ∷ drop (i + 1) l) = sym (take-append-drop i l) ∙ ap (λ (b : List ℕ). take i l ++ b) (list-step l i h) in
-    ap distinct split ∙ distinct-again (take i l) (getD l i 0) (drop (i + 1) l) a
+-- of one more
+pub gathered : {A : Type 0} (f : A → ℕ) (l : List A) (r : List ℕ) (i : ℕ) (d : A) → i < length l → i < length r → take i r ≡ map f (take i l)
+    → take (i + 1) (set r i (f (getD l i d))) ≡ map f (take (i + 1) l)
+gathered f l r i d h k e = rw (add-one, take-suc-set r i (f (getD l i d)) k, take-suc l i d h, map-append f (take i l) (getD l i d ∷ []), e) refl

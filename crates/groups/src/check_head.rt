@@ -1,17 +1,17 @@
-// Whether a head end that is lent is valid (02, C-14; 01, 'When the reader says no': Ahead of each list comes 1).
+// Whether the groups of a head end that is lent are valid (02, C-14; 01, 'When the reader says no': Ahead of each list comes 1).
 ghost use mathlib.Core.Path.{_≡_};
 ghost use Prim.Native.Nat.{_≤_};
 ghost use lib.ListN.{take};
 ghost use Rattle.octets.specs.Lists.{all};
-ghost use Rattle.ends.specs.Identities.{distinct, meets};
+ghost use Rattle.ends.specs.Identities.{meets};
 ghost use Rattle.ends.specs.Limits.{maxUnits};
 ghost use Rattle.ends.specs.Table.{tableLlids};
-ghost use Rattle.group_protocol.specs.Head.{groupLlids, validGroup, validGroups, validHead};
+ghost use Rattle.group_protocol.specs.Head.{validGroup, validGroups};
 use crate::membership::valid_members;
 use crate::search::is_registered;
+use crate::search::llids_of;
 use ends::UnitRecord;
-use ends::check_olt::contains;
-use ends::check_olt::valid_olt;
+use ends::check_olt::all_distinct;
 use ends::check_olt::valid_timer;
 use ends::limits::MAX_UNITS;
 use ends::sends::valid_first;
@@ -39,34 +39,6 @@ fn all_valid(table: [GroupRecord; MAX_GROUPS as usize], count: u8, tick: u64, un
     while i < count {
         let group = table[i as usize];
         if !valid_group(tick, units, group) {
-            return false;
-        }
-        i += 1;
-    }
-    true
-}
-
-// The LLIDs of the first `count` groups, and zeros.
-fn group_llids(table: [GroupRecord; MAX_GROUPS as usize], count: u8) -> [u16; MAX_GROUPS as usize]
-    requires { ⌜ count ≤ maxUnits ⌝ }
-    ensures { λ r. ⌜ take count r ≡ groupLlids (take count table) ⌝ }
-{
-    let mut r = [0u16; MAX_GROUPS as usize];
-    let mut i: usize = 0;
-    while i < count as usize {
-        let group = table[i];
-        r[i] = group.llid;
-        i += 1;
-    }
-    r
-}
-
-fn all_distinct(list: &[u16]) -> bool
-    ensures { λ r. ⌜ r ≡ distinct (now (list .entry)) ⌝ }
-{
-    let mut i: usize = 0;
-    while i < list.len() {
-        if contains(&list[..i], list[i]) {
             return false;
         }
         i += 1;
@@ -102,18 +74,10 @@ pub fn valid_groups(head: HeadEnd) -> bool
     }
     let table = head.groups.table;
     let valid = all_valid(table, count, head.olt.shared.tick, units);
-    let llids = group_llids(table, count);
+    let llids = llids_of(table);
     let n = count as usize;
     let distinct = all_distinct(&llids[..n]);
     let registered = head.olt.units;
     let met = meet_units(&llids[..n], registered, units);
     valid & (distinct & !met)
-}
-
-pub fn valid_head(head: HeadEnd) -> bool
-    ensures { λ r. ⌜ r ≡ validHead head ⌝ }
-{
-    let olt = valid_olt(head.olt);
-    let groups = valid_groups(head);
-    olt & groups
 }

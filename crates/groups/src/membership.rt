@@ -1,5 +1,6 @@
 // The members of a group (02, C-14). A place past the eighth counts as zero, so that every count has an answer.
 ghost use mathlib.Core.Path.{_≡_};
+ghost use mathlib.Core.List.{map};
 ghost use Prim.Native.Nat.{_+_, _-_, _<_};
 ghost use lib.Dec.{leb, ltb};
 ghost use lib.ListN.{getD};
@@ -7,7 +8,6 @@ ghost use Rattle.octets.specs.Choice.{pick};
 ghost use Rattle.octets.specs.Lists.{all, tabulate};
 ghost use Rattle.ends.specs.Flags.{isUp};
 ghost use Rattle.ends.specs.Identities.{among, distinct};
-ghost use Rattle.ends.specs.Table.{pastUnit};
 ghost use Rattle.group_protocol.specs.GroupCalls.{membersSet};
 ghost use Rattle.group_protocol.specs.Members.{freshMembers, marked, marksOf, memberAt, placesOf, unmarked, validMembers};
 use ends::Found;
@@ -43,13 +43,26 @@ pub fn member_at(members: Members, place: usize) -> Found
     Found::Nowhere
 }
 
-// The clock of the unit at that place is acknowledged.
-fn is_set(units: [UnitRecord; MAX_UNITS as usize], place: u8) -> bool
-    ensures { λ r. ⌜ r ≡ isUp (getD units place pastUnit .clock .acknowledged) ⌝ }
+// The flag of each unit's clock, by its place. They are gathered, so that the table is not copied to be indexed (D119).
+fn clock_flags(units: [UnitRecord; MAX_UNITS as usize]) -> [u8; MAX_UNITS as usize]
+    ensures { λ r. ⌜ r ≡ map (λ u. u .clock .acknowledged) units ⌝ }
+{
+    let mut r = [0u8; MAX_UNITS as usize];
+    let mut i: usize = 0;
+    while i < MAX_UNITS as usize {
+        let unit = units[i];
+        r[i] = unit.clock.acknowledged;
+        i += 1;
+    }
+    r
+}
+
+// The flag at that place is up.
+fn is_set(flags: [u8; MAX_UNITS as usize], place: u8) -> bool
+    ensures { λ r. ⌜ r ≡ isUp (getD flags place 0) ⌝ }
 {
     if place < MAX_UNITS {
-        let unit = units[place as usize];
-        return unit.clock.acknowledged == 1;
+        return flags[place as usize] == 1;
     }
     false
 }
@@ -58,11 +71,12 @@ pub fn members_set(olt: Olt, members: Members) -> bool
     ensures { λ r. ⌜ r ≡ membersSet olt members ⌝ }
 {
     let units = olt.units;
+    let flags = clock_flags(units);
     let places = members.places;
     let count = members.count;
     let mut j: u8 = 0;
     while j < count {
-        if !is_set(units, at(places, j)) {
+        if !is_set(flags, at(places, j)) {
             return false;
         }
         j += 1;

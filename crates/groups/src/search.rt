@@ -23,17 +23,31 @@ pub fn is_registered(units: [UnitRecord; MAX_UNITS as usize], count: u8, llid: u
     }
 }
 
+// The LLID of each group, by its place. They are gathered, so that the table is not copied to be indexed (D119).
+pub(crate) fn llids_of(table: [GroupRecord; MAX_GROUPS as usize]) -> [u16; MAX_GROUPS as usize]
+    ensures { λ r. ⌜ r ≡ groupLlids table ⌝ }
+{
+    let mut r = [0u16; MAX_GROUPS as usize];
+    let mut i: usize = 0;
+    while i < MAX_GROUPS as usize {
+        let group = table[i];
+        r[i] = group.llid;
+        i += 1;
+    }
+    r
+}
+
 // Whether one of the LLIDs is that of a group.
 pub fn groups_meet(table: [GroupRecord; MAX_GROUPS as usize], count: u8, identity: Identity) -> bool
     ensures { λ r. ⌜ r ≡ meets (groupLlids (take count table)) (llidsOf identity) ⌝ }
 {
+    let llids = llids_of(table);
     let mut i: usize = 0;
     while i < MAX_GROUPS as usize {
         if count as usize <= i {
             return false;
         }
-        let group = table[i];
-        if has(identity, group.llid) {
+        if has(identity, llids[i]) {
             return true;
         }
         i += 1;

@@ -11,6 +11,7 @@ use Rattle.ends.specs.Table.{withOltChannels}
 use Rattle.ends.specs.declared.Olt.{Olt}
 use Rattle.protocol.specs.Replies.{reply, onValid}
 use Rattle.unit.specs.Reached.{ifAccepted}
+use Rattle.unit.proofs.Reached.{if-same}
 use Rattle.protocol.specs.Messages.{noKeyMessage}
 use Rattle.protocol.specs.declared.KeyMessage.{KeyMessage}
 use Rattle.group_protocol.specs.GroupCalls.{GroupOutcome, groupOutcome, retryGroup}
@@ -30,12 +31,6 @@ way-then false a v = refl
 pub with-group-itself : (h : HeadEnd) (i : ℕ) → withGroup h i (h .olt .shared .channels) (groupAt h i) ≡ h
 unfolding withGroup withOltChannels withChannels
 with-group-itself h i = rw (set-getD (h .groups .table) i pastGroup)
-
--- a choice of one thing
-pub if-same : {A : Type 0} (v : Verdict) (a : A) → ifAccepted v a a ≡ a
-unfolding ifAccepted
-if-same Accepted a = refl
-if-same (Refused r) a = refl
 
 -- a retry changes nothing
 pub group-stays : (h : HeadEnd) (llid i : ℕ) (way : Verdict) (x : GroupOutcome KeyMessage)

@@ -25,6 +25,7 @@ use Rattle.protocol.specs.Replies.{Reply, Silence, onValid, reply, silent}
 use Rattle.protocol.specs.UnitCalls.{retryUnit}
 use Rattle.protocol.specs.declared.KeyMessage.{KeyMessage}
 use Rattle.unit.specs.Reached.{reached}
+use Rattle.unit.proofs.Reached.{if-same}
 use Rattle.olt.specs.Lookup.{locatedAfter, locatedOf}
 use Rattle.olt.specs.declared.Located.{Located}
 use Rattle.olt.proofs.Lookup.{lift-decided}
@@ -32,7 +33,6 @@ use Rattle.group_protocol.specs.Head.{validGroups, withOlt}
 use Rattle.group_protocol.specs.declared.HeadEnd.{HeadEnd}
 use Rattle.headend.specs.HeadCalls.{headAnswer, headKeySent, oltAnswered, oltClockSent, oltKeySent}
 use Rattle.headend.specs.declared.HeadClockSent.{HeadClockSent}
-use Rattle.headend.proofs.HeadLift.{if-same}
 use Rattle.headend.proofs.NoGroups.{no-groups-invalid}
 
 -- in a valid OLT no group at all is groups that are valid

@@ -43,6 +43,7 @@ use Rattle.headend.specs.declared.HeadDone.{HeadDone}
 use Rattle.headend.specs.declared.HeadKeyDone.{HeadKeyDone}
 use Rattle.headend.specs.declared.HeadKeySent.{HeadKeySent}
 use Rattle.headend.specs.declared.HeadMoved.{HeadMoved}
+use Rattle.headend.specs.declared.Parts.{Parts}
 
 unfoldable pub headAnswer : Reply HeadEnd Silence → HeadAnswer
 headAnswer r = record { number = verdictNumber (r .verdict); head = r .end }
@@ -142,17 +143,8 @@ headCaptureOf h llid = oltAnswered h (captureOf (h .olt) llid)
 unfoldable pub headMeasureOf : HeadEnd → ℕ → ℕ → HeadAnswer
 headMeasureOf h llid trip = oltAnswered h (measureOf (h .olt) llid trip)
 
--- the answer of either, the end first, and the OLT's MAC and the number of groups beside it
-abbrev pub headDone : HeadAnswer → HeadDone
-headDone r = record { head = r .head; mac = r .head .olt .shared .mac; groups = r .head .groups .count; number = r .number }
-
 unfoldable pub headClockSendOf : HeadEnd → ℕ → HeadClockSent
 headClockSendOf h llid = oltClockSent h (clockSendOf (h .olt) llid)
-
--- its answer so
-abbrev pub headClockDone : HeadClockSent → HeadClockDone
-headClockDone r =
-    record { head = r .head; mac = r .head .olt .shared .mac; groups = r .head .groups .count; message = r .message; number = r .number }
 
 ---- offer: 2, 5, 6, 7, 17
 
@@ -171,11 +163,6 @@ groupRetryOf h llid i = headKeySent (groupLift h noKeyMessage Accepted (λ o g. 
 unfoldable pub headRetryOf : HeadEnd → ℕ → HeadKeySent
 headRetryOf h llid = byLlid (findGroup h llid) (oltKeySent h (retryOf (h .olt) llid)) (groupRetryOf h llid)
 
--- its answer, the end first
-abbrev pub headKeyDone : HeadKeySent → HeadKeyDone
-headKeyDone r =
-    record { head = r .head; mac = r .head .olt .shared .mac; groups = r .head .groups .count; message = r .message; number = r .number }
-
 ---- acknowledgement: 2, 8
 
 -- a unit's own acknowledgement names no unit; one that does fits nothing
@@ -189,3 +176,17 @@ groupAcknowledgeOf h a i =
 unfoldable pub headAcknowledgeOf : HeadEnd → ℕ → Answer → HeadAnswer
 headAcknowledgeOf h llid a =
     byLlid (findGroup h llid) (oltAnswered h (acknowledgeOf (h .olt) llid (ownAcknowledgement a))) (groupAcknowledgeOf h a)
+
+---- the answers as they are handed to the exported calls: the end in its two parts, the OLT's MAC and the number of groups behind them
+
+abbrev pub partsOf : HeadEnd → Parts
+partsOf h = record { olt = h .olt; mac = h .olt .shared .mac; groups = h .groups; count = h .groups .count }
+
+abbrev pub headDone : HeadAnswer → HeadDone
+headDone r = record { parts = partsOf (r .head); number = r .number }
+
+abbrev pub headClockDone : HeadClockSent → HeadClockDone
+headClockDone r = record { parts = partsOf (r .head); message = r .message; number = r .number }
+
+abbrev pub headKeyDone : HeadKeySent → HeadKeyDone
+headKeyDone r = record { parts = partsOf (r .head); message = r .message; number = r .number }

@@ -29,6 +29,8 @@ use Rattle.group_protocol.specs.Head.{findGroup, withOlt, validGroups, validHea
 use Rattle.group_protocol.specs.GroupCalls.{sendGroup}
 use Rattle.group_protocol.specs.declared.HeadEnd.{HeadEnd}
 use Rattle.group_protocol.specs.Naming.{byLlid, groupLift}
+use Rattle.headend.specs.HeadCalls.{partsOf}
+use Rattle.headend.specs.declared.HeadSendDone.{HeadSendDone}
 use Rattle.headend.specs.declared.HeadSent.{HeadSent}
 use Rattle.headend.specs.declared.HeadReceiptDone.{HeadReceiptDone}
 use Rattle.headend.specs.declared.HeadReceived.{HeadReceived}
@@ -78,6 +80,16 @@ unfoldable pub headSendOf : HeadEnd → ℕ → ℕ → List ℕ → List ℕ �
 headSendOf h llid channel p out =
     byLlid (findGroup h llid) (oltSentIn h (oltSendOf (h .olt) llid channel p out) out) (groupSendOf h llid channel p out)
 
+-- the same in parts
+abbrev pub headSendDone : HeadSent → HeadSendDone
+headSendDone r = record { parts = partsOf (r .head); header = r .header; count = r .count; runs = r .runs; number = r .number }
+
+abbrev pub sendDone : WithOutput HeadSent → WithOutput HeadSendDone
+sendDone r = withOutput (headSendDone (r .answer)) (r .output)
+
+abbrev pub headSendDoneOf : HeadEnd → ℕ → ℕ → List ℕ → List ℕ → WithOutput HeadSendDone
+headSendDoneOf h llid channel p out = sendDone (headSendOf h llid channel p out)
+
 ---- receive: 14, 1, 2, 20, 10, 11, 9
 
 abbrev pub headNotReceived : HeadEnd → ℕ → HeadReceived
@@ -103,10 +115,9 @@ headReceiveOf h header p out =
     byLlid (findGroup h (header .llid)) (oltReceivedIn h (oltReceiveOf (h .olt) header p out) out)
     (λ i. withOutput (headNotReceived h (verdictNumber (groupReceiveVerdict h header (length p) (length out)))) out)
 
--- the same, the end first, and the OLT's MAC and the number of groups beside it
+-- the same in parts
 abbrev pub headReceiptDone : HeadReceived → HeadReceiptDone
-headReceiptDone r =
-    record { head = r .head; mac = r .head .olt .shared .mac; groups = r .head .groups .count; count = r .count; runs = r .runs; number = r .number }
+headReceiptDone r = record { parts = partsOf (r .head); count = r .count; runs = r .runs; number = r .number }
 
 abbrev pub receiptDone : WithOutput HeadReceived → WithOutput HeadReceiptDone
 receiptDone r = withOutput (headReceiptDone (r .answer)) (r .output)

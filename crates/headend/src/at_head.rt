@@ -9,22 +9,20 @@ ghost use Rattle.octets.specs.Lists.{all};
 ghost use Rattle.clock.specs.Ticks.{maxTick};
 ghost use Rattle.ends.specs.Limits.{maxUnits};
 ghost use Rattle.ends.specs.Timers.{validTimer};
-ghost use Rattle.protocol.specs.OltCalls.{acknowledgeOf, offerOf, retryOf};
+ghost use Rattle.protocol.specs.OltCalls.{retryOf};
 ghost use Rattle.group_protocol.specs.GroupCalls.{memberNamed};
 ghost use Rattle.group_protocol.specs.Head.{validGroups};
-ghost use Rattle.headend.specs.HeadCalls.{freshHeadOf, groupAcknowledgeOf, groupOfferOf, groupRetryOf, groupsAdvanced, headAcknowledgeOf, headCaptureOf, headClockDone, headClockSendOf, headDone, headKeyDone, headKeySent, headMeasureOf, headMovedOf, headOfferOf, headRegisterOf, headRetryOf, oltAnswered, oltKeySent, ownAcknowledgement, registerGroupOf};
+ghost use Rattle.headend.specs.HeadCalls.{freshHeadOf, groupRetryOf, groupsAdvanced, headAcknowledgeOf, headCaptureOf, headClockDone, headClockSendOf, headDone, headKeyDone, headKeySent, headMeasureOf, headMovedOf, headOfferOf, headRegisterOf, headRetryOf, oltKeySent, ownAcknowledgement, registerGroupOf};
 ghost use Rattle.headend.specs.WithoutGroups.{WithoutGroups};
 use crate::HeadAnswer;
 use crate::HeadClockDone;
 use crate::HeadDone;
 use crate::HeadKeyDone;
-use crate::HeadKeySent;
 use crate::HeadMoved;
+use crate::Parts;
 use crate::answers;
 use crate::head_place::group_named;
 use crate::head_place::locate_sound;
-use crate::head_place::locate_unit;
-use crate::head_place::put;
 use crate::head_place::sound_groups;
 use crate::head_place::way_to;
 use crate::registering;
@@ -75,7 +73,8 @@ pub fn register(head: HeadEnd, identity: Identity, trip: u64, interval: u64) -> 
 {
     let mut olt = head.olt;
     let sound = valid_groups(head);
-    let verdict = registering::unit_verdict(head, sound, identity, trip, interval);
+    let valid = valid_olt(head.olt);
+    let verdict = registering::unit_verdict(head, valid & sound, identity, trip, interval);
     let number = verdict_number(verdict);
     if number == 0 {
         let unit = fresh_unit(identity, trip, interval);
@@ -87,9 +86,12 @@ pub fn register(head: HeadEnd, identity: Identity, trip: u64, interval: u64) -> 
     let mac = olt.shared.mac;
     let count = groups.count;
     HeadDone {
-        head: HeadEnd { olt, groups },
-        mac,
-        groups: count,
+        parts: Parts {
+            olt,
+            mac,
+            groups,
+            count,
+        },
         number,
     }
 }
@@ -100,8 +102,9 @@ pub fn register_group(head: HeadEnd, llid: u16, interval: u64, roster: Roster) -
 {
     let found = group_named(head, llid);
     let sound = valid_groups(head);
+    let valid = valid_olt(head.olt);
     let members = registering::roster_members(head.olt, roster);
-    let verdict = registering::group_verdict(head, sound, found, llid, interval, members);
+    let verdict = registering::group_verdict(head, valid & sound, found, llid, interval, members);
     match verdict {
         Verdict::Refused(refusal) => answers::refused(head, refusal),
         Verdict::Accepted => {
@@ -167,9 +170,12 @@ pub fn capture(head: HeadEnd, llid: u16) -> HeadDone
     let mac = olt.shared.mac;
     let count = groups.count;
     HeadDone {
-        head: HeadEnd { olt, groups },
-        mac,
-        groups: count,
+        parts: Parts {
+            olt,
+            mac,
+            groups,
+            count,
+        },
         number,
     }
 }
@@ -198,9 +204,12 @@ pub fn measure(head: HeadEnd, llid: u16, trip: u64) -> HeadDone
     let mac = olt.shared.mac;
     let count = groups.count;
     HeadDone {
-        head: HeadEnd { olt, groups },
-        mac,
-        groups: count,
+        parts: Parts {
+            olt,
+            mac,
+            groups,
+            count,
+        },
         number,
     }
 }
@@ -224,73 +233,74 @@ pub fn clock_send(head: HeadEnd, llid: u16) -> HeadClockDone
     let mac = olt.shared.mac;
     let count = groups.count;
     HeadClockDone {
-        head: HeadEnd { olt, groups },
-        mac,
-        groups: count,
+        parts: Parts {
+            olt,
+            mac,
+            groups,
+            count,
+        },
         message,
         number,
     }
 }
 
-fn offer_unit(head: HeadEnd, llid: u16, key: [u8; 16]) -> HeadKeySent
-    ensures { λ r. ⌜ r ≡ oltKeySent head (offerOf (head .olt) llid key) ⌝ }
-{
-    let at = locate_unit(head, Verdict::Accepted, llid);
-    let mut olt = head.olt;
-    let i = at.place;
-    let way = at.verdict;
-    let unit = olt.units[i];
-    let done = calls::offer(way, olt.shared, unit, llid, key);
-    let verdict = done.verdict;
-    let number = verdict_number(verdict);
-    let next = done.unit;
-    let message = done.message;
-    olt.units[i] = next;
-    let groups = head.groups;
-    HeadKeySent {
-        number,
-        head: HeadEnd { olt, groups },
-        message,
-    }
-}
-
-fn offer_group(head: HeadEnd, i: usize, llid: u16, key: [u8; 16]) -> HeadKeySent
-    requires { ⌜ i < maxUnits ⌝ }
-    ensures { λ r. ⌜ r ≡ groupOfferOf head llid key i ⌝ }
-{
-    let way = way_to(head, Verdict::Accepted);
-    let groups = head.groups;
-    let group = groups.table[i];
-    let set = members_set(head.olt, group.members);
-    let shared = head.olt.shared;
-    let done = one_group::offer(way, shared, group, set, llid, key);
-    let verdict = done.verdict;
-    let next = done.group;
-    let message = done.message;
-    HeadKeySent {
-        number: verdict_number(verdict),
-        head: put(head, i, shared.channels, next),
-        message,
-    }
-}
-
-// To a unit, or to a group, whose members' clocks must all be acknowledged.
-pub fn offer(head: HeadEnd, llid: u16, key: [u8; 16]) -> HeadKeySent
-    ensures { λ r. ⌜ r ≡ headOfferOf head llid key ⌝ }
-{
-    let found = group_named(head, llid);
-    match found {
-        Found::Nowhere => offer_unit(head, llid, key),
-        Found::At(i) => offer_group(head, i, llid, key),
-    }
-}
-
-// What a retry tells; it changes nothing. `sound` says that the groups are valid.
+// What a call that may name a unit or a group tells of it.
 struct Told {
     verdict: Verdict,
     message: KeyMessage,
 }
 
+// To a unit, or to a group, whose members' clocks must all be acknowledged.
+pub fn offer(head: HeadEnd, llid: u16, key: [u8; 16]) -> HeadKeyDone
+    ensures { λ r. ⌜ r ≡ headKeyDone (headOfferOf head llid key) ⌝ }
+{
+    let found = group_named(head, llid);
+    let mut olt = head.olt;
+    let mut groups = head.groups;
+    let sound = valid_groups(head);
+    let told = match found {
+        Found::Nowhere => {
+            let at = locate_sound(head.olt, sound, Verdict::Accepted, llid);
+            let i = at.place;
+            let way = at.verdict;
+            let unit = olt.units[i];
+            let done = calls::offer(way, olt.shared, unit, llid, key);
+            let verdict = done.verdict;
+            let next = done.unit;
+            let message = done.message;
+            olt.units[i] = next;
+            Told { verdict, message }
+        }
+        Found::At(i) => {
+            let way = way_to(head.olt, sound, Verdict::Accepted);
+            let group = groups.table[i];
+            let set = members_set(head.olt, group.members);
+            let done = one_group::offer(way, olt.shared, group, set, llid, key);
+            let verdict = done.verdict;
+            let next = done.group;
+            let message = done.message;
+            groups.table[i] = next;
+            Told { verdict, message }
+        }
+    };
+    let verdict = told.verdict;
+    let number = verdict_number(verdict);
+    let message = told.message;
+    let mac = olt.shared.mac;
+    let count = groups.count;
+    HeadKeyDone {
+        parts: Parts {
+            olt,
+            mac,
+            groups,
+            count,
+        },
+        message,
+        number,
+    }
+}
+
+// A retry changes nothing. `sound` says that the groups are valid.
 fn retry_unit(head: HeadEnd, sound: bool, llid: u16) -> Told
     requires { ⌜ sound ≡ validGroups head ⌝ }
     ensures { λ r. ⌜ headKeySent (record { verdict = r .verdict; end = head; handed = r .message }) ≡ oltKeySent head (retryOf (head .olt) llid) ⌝ }
@@ -311,8 +321,7 @@ fn retry_group(head: HeadEnd, sound: bool, i: usize, llid: u16) -> Told
     requires { ⌜ sound ≡ validGroups head ⌝ }
     ensures { λ r. ⌜ headKeySent (record { verdict = r .verdict; end = head; handed = r .message }) ≡ groupRetryOf head llid i ⌝ }
 {
-    let valid = valid_olt(head.olt);
-    let way = refuse_if(!(valid & sound), Refusal::OutOfRange, Verdict::Accepted);
+    let way = way_to(head.olt, sound, Verdict::Accepted);
     let groups = head.groups;
     let group = groups.table[i];
     let done = one_group::retry(way, head.olt.shared, group, llid);
@@ -334,12 +343,17 @@ pub fn retry(head: HeadEnd, llid: u16) -> HeadKeyDone
     let verdict = told.verdict;
     let number = verdict_number(verdict);
     let message = told.message;
-    let mac = head.olt.shared.mac;
-    let groups = head.groups.count;
+    let olt = head.olt;
+    let mac = olt.shared.mac;
+    let groups = head.groups;
+    let count = groups.count;
     HeadKeyDone {
-        head,
-        mac,
-        groups,
+        parts: Parts {
+            olt,
+            mac,
+            groups,
+            count,
+        },
         message,
         number,
     }
@@ -358,27 +372,6 @@ fn own_acknowledgement(answer: Answer) -> Acknowledgement
     Acknowledgement { kind: 0, number: 0 }
 }
 
-fn acknowledge_unit(head: HeadEnd, llid: u16, answer: Answer) -> HeadAnswer
-    ensures { λ r. ⌜ r ≡ oltAnswered head (acknowledgeOf (head .olt) llid (ownAcknowledgement answer)) ⌝ }
-{
-    let own = own_acknowledgement(answer);
-    let at = locate_unit(head, Verdict::Accepted, llid);
-    let mut olt = head.olt;
-    let i = at.place;
-    let way = at.verdict;
-    let unit = olt.units[i];
-    let done = calls::acknowledge(way, olt.shared, unit, own);
-    let verdict = done.verdict;
-    let number = verdict_number(verdict);
-    let next = done.unit;
-    olt.units[i] = next;
-    let groups = head.groups;
-    HeadAnswer {
-        number,
-        head: HeadEnd { olt, groups },
-    }
-}
-
 // The member that the answer names, by any LLID of its unit.
 fn member_named(olt: Olt, members: Members, answer: Answer) -> Found
     ensures { λ r. ⌜ r ≡ memberNamed olt members answer ⌝ }
@@ -394,31 +387,46 @@ fn member_named(olt: Olt, members: Members, answer: Answer) -> Found
     }
 }
 
-fn acknowledge_group(head: HeadEnd, i: usize, answer: Answer) -> HeadAnswer
-    requires { ⌜ i < maxUnits ⌝ }
-    ensures { λ r. ⌜ r ≡ groupAcknowledgeOf head answer i ⌝ }
-{
-    let way = way_to(head, Verdict::Accepted);
-    let groups = head.groups;
-    let group = groups.table[i];
-    let member = member_named(head.olt, group.members, answer);
-    let shared = head.olt.shared;
-    let done = one_group::acknowledge(way, shared, group, member, answer);
-    let verdict = done.verdict;
-    let next = done.group;
-    HeadAnswer {
-        number: verdict_number(verdict),
-        head: put(head, i, shared.channels, next),
-    }
-}
-
 // Of a unit, or of a group's member, which the answer names.
-pub fn acknowledge(head: HeadEnd, llid: u16, answer: Answer) -> HeadAnswer
-    ensures { λ r. ⌜ r ≡ headAcknowledgeOf head llid answer ⌝ }
+pub fn acknowledge(head: HeadEnd, llid: u16, answer: Answer) -> HeadDone
+    ensures { λ r. ⌜ r ≡ headDone (headAcknowledgeOf head llid answer) ⌝ }
 {
     let found = group_named(head, llid);
-    match found {
-        Found::Nowhere => acknowledge_unit(head, llid, answer),
-        Found::At(i) => acknowledge_group(head, i, answer),
+    let mut olt = head.olt;
+    let mut groups = head.groups;
+    let sound = valid_groups(head);
+    let verdict = match found {
+        Found::Nowhere => {
+            let own = own_acknowledgement(answer);
+            let at = locate_sound(head.olt, sound, Verdict::Accepted, llid);
+            let i = at.place;
+            let way = at.verdict;
+            let unit = olt.units[i];
+            let done = calls::acknowledge(way, olt.shared, unit, own);
+            let next = done.unit;
+            olt.units[i] = next;
+            done.verdict
+        }
+        Found::At(i) => {
+            let way = way_to(head.olt, sound, Verdict::Accepted);
+            let group = groups.table[i];
+            let member = member_named(head.olt, group.members, answer);
+            let done = one_group::acknowledge(way, olt.shared, group, member, answer);
+            let next = done.group;
+            groups.table[i] = next;
+            done.verdict
+        }
+    };
+    let number = verdict_number(verdict);
+    let mac = olt.shared.mac;
+    let count = groups.count;
+    HeadDone {
+        parts: Parts {
+            olt,
+            mac,
+            groups,
+            count,
+        },
+        number,
     }
 }

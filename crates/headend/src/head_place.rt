@@ -2,33 +2,24 @@
 ghost use mathlib.Core.Path.{_≡_};
 ghost use Prim.Native.Nat.{ℕ, _<_};
 ghost use lib.Dec.{eqb};
-ghost use Rattle.octets.specs.Choice.{either};
+ghost use Rattle.octets.specs.Choice.{both, either};
 ghost use Rattle.ends.specs.Limits.{maxUnits};
+ghost use Rattle.ends.specs.Validity.{validOlt};
 ghost use Rattle.ends.specs.declared.Found.the-variants.{At};
 ghost use Rattle.protocol.specs.Replies.{onValid};
 ghost use Rattle.olt.specs.Lookup.{locatedOf};
-ghost use Rattle.group_protocol.specs.Head.{findGroup, validGroups, validHead, withGroup};
-use ends::Channels;
+ghost use Rattle.group_protocol.specs.Head.{findGroup, validGroups};
 use ends::Found;
 use ends::Olt;
-use group_protocol::GroupRecord;
+use ends::check_olt::valid_olt;
 use group_protocol::HeadEnd;
 use group_protocol::MAX_GROUPS;
 use groups::check_head::valid_groups;
-use groups::check_head::valid_head;
 use olt::Located;
 use olt::place::locate;
 use refusal::Refusal;
 use refusal::Verdict;
 use refusal::refuse_if;
-
-// The verdict on the way to the group: 1 for an end that is not valid, then what the call refuses ahead of 2.
-pub(crate) fn way_to(head: HeadEnd, ahead: Verdict) -> Verdict
-    ensures { λ r. ⌜ r ≡ onValid (validHead head) ahead ⌝ }
-{
-    let valid = valid_head(head);
-    refuse_if(!valid, Refusal::OutOfRange, ahead)
-}
 
 // The group that has the LLID. It is looked for in the end itself, so that a call hands that over as it lies.
 pub(crate) fn group_named(head: HeadEnd, llid: u16) -> Found
@@ -71,24 +62,10 @@ pub(crate) fn locate_sound(olt: Olt, sound: bool, ahead: Verdict, llid: u16) -> 
     locate(olt, guarded, llid)
 }
 
-// The same in a head end, for a call that may name a group too (D119).
-pub(crate) fn locate_unit(head: HeadEnd, ahead: Verdict, llid: u16) -> Located
-    ensures { λ r. ⌜ r ≡ locatedOf (head .olt) (onValid (validGroups head) ahead) llid ⌝ }
-    ensures place { λ r. ⌜ r .place < maxUnits ⌝ }
+// The way to a group: 1 for an OLT that is not valid or groups that are not sound, then what the call refuses ahead of 2.
+pub(crate) fn way_to(olt: Olt, sound: bool, ahead: Verdict) -> Verdict
+    ensures { λ r. ⌜ r ≡ onValid (both (validOlt olt) sound) ahead ⌝ }
 {
-    let sound = sound_groups(head);
-    locate_sound(head.olt, sound, ahead, llid)
-}
-
-// One group and the channels replaced.
-pub(crate) fn put(head: HeadEnd, i: usize, channels: Channels, group: GroupRecord) -> HeadEnd
-    requires { ⌜ i < maxUnits ⌝ }
-    ensures { λ r. ⌜ r ≡ withGroup head i channels group ⌝ }
-{
-    let mut groups = head.groups;
-    groups.table[i] = group;
-    let mut olt = head.olt;
-    olt.shared.channels.zero = channels.zero;
-    olt.shared.channels.one = channels.one;
-    HeadEnd { olt, groups }
+    let valid = valid_olt(olt);
+    refuse_if(!(valid & sound), Refusal::OutOfRange, ahead)
 }

@@ -1,7 +1,6 @@
 // Send and receive of a head end, with their octets (02, C-14).
 ghost use mathlib.Core.Path.{_≡_};
 ghost use mathlib.Core.Bool.{not};
-ghost use Prim.Native.Nat.{_<_};
 ghost use Rattle.octets.specs.Choice.{both};
 ghost use Rattle.octets.specs.Output.{withOutput};
 ghost use Rattle.envelope.specs.Acceptance.{lengthsFit};
@@ -9,17 +8,15 @@ ghost use Rattle.envelope.specs.Channels.{downstream, upstream};
 ghost use Rattle.refusal.specs.Order.{refuseIf};
 ghost use Rattle.refusal.specs.declared.Refusal.the-variants.{BadLength, OutOfRange};
 ghost use Rattle.refusal.specs.declared.Verdict.the-variants.{Accepted};
-ghost use Rattle.ends.specs.Limits.{maxUnits};
 ghost use Rattle.protocol.specs.Headers.{validHeader};
-ghost use Rattle.traffic.specs.Sends.{oltSendOf};
-ghost use Rattle.headend.specs.HeadTraffic.{groupSendOf, headReceiptOf, headSendOf, oltSentIn, ownLlid};
+ghost use Rattle.headend.specs.HeadTraffic.{headReceiptOf, headSendDoneOf, ownLlid};
 use crate::HeadReceiptDone;
-use crate::HeadSent;
+use crate::HeadSendDone;
+use crate::Parts;
 use crate::head_place::group_named;
 use crate::head_place::locate_sound;
-use crate::head_place::locate_unit;
-use crate::head_place::put;
 use crate::head_place::way_to;
+use ends::Channels;
 use ends::Found;
 use envelope::downstream;
 use envelope::lengths_fit;
@@ -29,49 +26,13 @@ use groups::check_head::valid_groups;
 use groups::sending;
 use octets::EQ_OCTETS;
 use protocol::Header;
+use protocol::Sending;
 use refusal::Refusal;
 use refusal::Verdict;
 use refusal::refuse_if;
 use refusal::verdict_number;
 use traffic::carrying::carry_fitting;
 use unit::passing::valid_header;
-
-fn send_unit(head: HeadEnd, llid: u16, channel: u8, payload: &[u8], output: &mut [u8]) -> HeadSent
-    ensures { λ r. ⌜ withOutput r (now (output .exit))
-        ≡ oltSentIn head (oltSendOf (head .olt) llid channel (now (payload .entry)) (now (output .entry))) (now (output .entry)) ⌝ }
-{
-    let ahead = send_ahead(payload.len(), output.len(), channel);
-    let mut olt = head.olt;
-    let at = locate_unit(head, ahead, llid);
-    let i = at.place;
-    let way = at.verdict;
-    let unit = olt.units[i];
-    let eqs = (payload.len() / EQ_OCTETS) as u64;
-    let done = unit::traffic::send(way, olt.shared, unit, llid, channel, eqs);
-    let verdict = done.verdict;
-    let mut next = unit;
-    next.keys.timer.flag = done.flag;
-    next.keys.active = done.active;
-    next.keys.first.noted = done.noted;
-    next.keys.first.at = done.at;
-    let channels = done.channels;
-    let sending = done.sending;
-    let header = sending.header;
-    let passage = sending.passage;
-    let work = carry_fitting(verdict, passage, channel, payload, output);
-    let number = verdict_number(verdict);
-    olt.shared.channels.zero = channels.zero;
-    olt.shared.channels.one = channels.one;
-    olt.units[i] = next;
-    let groups = head.groups;
-    HeadSent {
-        number,
-        head: HeadEnd { olt, groups },
-        header,
-        count: work.count,
-        runs: work.runs,
-    }
-}
 
 // What a send refuses ahead of 2.
 fn send_ahead(n: usize, m: usize, channel: u8) -> Verdict
@@ -84,46 +45,89 @@ fn send_ahead(n: usize, m: usize, channel: u8) -> Verdict
     )
 }
 
-fn send_group(
+// What a unit or a group decides on a send.
+struct Told {
+    verdict: Verdict,
+    channels: Channels,
+    sending: Sending,
+}
+
+// To a unit or to a group. A group's next accepted send with the flag up and O = A + 1 switches, acknowledged or not.
+pub fn send(
     head: HeadEnd,
-    i: usize,
     llid: u16,
     channel: u8,
     payload: &[u8],
     output: &mut [u8],
-) -> HeadSent
-    requires { ⌜ i < maxUnits ⌝ }
-    ensures { λ r. ⌜ withOutput r (now (output .exit)) ≡ groupSendOf head llid channel (now (payload .entry)) (now (output .entry)) i ⌝ }
+) -> HeadSendDone
+    ensures { λ r. ⌜ withOutput r (now (output .exit)) ≡ headSendDoneOf head llid channel (now (payload .entry)) (now (output .entry)) ⌝ }
 {
-    let way = way_to(head, send_ahead(payload.len(), output.len(), channel));
-    let groups = head.groups;
-    let group = groups.table[i];
+    let ahead = send_ahead(payload.len(), output.len(), channel);
     let eqs = (payload.len() / EQ_OCTETS) as u64;
-    let done = sending::send(way, head.olt.shared, group, llid, channel, eqs);
-    let verdict = done.verdict;
-    let next = done.group;
-    let channels = done.channels;
-    let sent = done.sending;
-    let header = sent.header;
-    let passage = sent.passage;
+    let found = group_named(head, llid);
+    let mut olt = head.olt;
+    let mut groups = head.groups;
+    let sound = valid_groups(head);
+    let told = match found {
+        Found::Nowhere => {
+            let at = locate_sound(head.olt, sound, ahead, llid);
+            let i = at.place;
+            let way = at.verdict;
+            let unit = olt.units[i];
+            let done = unit::traffic::send(way, olt.shared, unit, llid, channel, eqs);
+            let verdict = done.verdict;
+            let mut next = unit;
+            next.keys.timer.flag = done.flag;
+            next.keys.active = done.active;
+            next.keys.first.noted = done.noted;
+            next.keys.first.at = done.at;
+            let channels = done.channels;
+            let sending = done.sending;
+            olt.units[i] = next;
+            Told {
+                verdict,
+                channels,
+                sending,
+            }
+        }
+        Found::At(i) => {
+            let way = way_to(head.olt, sound, ahead);
+            let group = groups.table[i];
+            let done = sending::send(way, olt.shared, group, llid, channel, eqs);
+            let verdict = done.verdict;
+            let next = done.group;
+            let channels = done.channels;
+            let sending = done.sending;
+            groups.table[i] = next;
+            Told {
+                verdict,
+                channels,
+                sending,
+            }
+        }
+    };
+    let verdict = told.verdict;
+    let channels = told.channels;
+    let sending = told.sending;
+    let header = sending.header;
+    let passage = sending.passage;
     let work = carry_fitting(verdict, passage, channel, payload, output);
-    HeadSent {
-        number: verdict_number(verdict),
-        head: put(head, i, channels, next),
+    let number = verdict_number(verdict);
+    olt.shared.channels.zero = channels.zero;
+    olt.shared.channels.one = channels.one;
+    let mac = olt.shared.mac;
+    let count = groups.count;
+    HeadSendDone {
+        parts: Parts {
+            olt,
+            mac,
+            groups,
+            count,
+        },
         header,
         count: work.count,
         runs: work.runs,
-    }
-}
-
-// To a unit or to a group. A group's next accepted send with the flag up and O = A + 1 switches, acknowledged or not.
-pub fn send(head: HeadEnd, llid: u16, channel: u8, payload: &[u8], output: &mut [u8]) -> HeadSent
-    ensures { λ r. ⌜ withOutput r (now (output .exit)) ≡ headSendOf head llid channel (now (payload .entry)) (now (output .entry)) ⌝ }
-{
-    let found = group_named(head, llid);
-    match found {
-        Found::Nowhere => send_unit(head, llid, channel, payload, output),
-        Found::At(i) => send_group(head, i, llid, channel, payload, output),
+        number,
     }
 }
 
@@ -174,9 +178,12 @@ pub fn receive(head: HeadEnd, header: Header, octets: &[u8], output: &mut [u8]) 
     let mac = olt.shared.mac;
     let count = groups.count;
     HeadReceiptDone {
-        head: HeadEnd { olt, groups },
-        mac,
-        groups: count,
+        parts: Parts {
+            olt,
+            mac,
+            groups,
+            count,
+        },
         count: work.count,
         runs: work.runs,
         number,

@@ -10,6 +10,8 @@ mod registering;
 mod timing;
 
 use clock::Stamps;
+use ends::Olt;
+use group_protocol::Groups;
 use group_protocol::HeadEnd;
 use protocol::Header;
 use protocol::KeyMessage;
@@ -26,38 +28,47 @@ pub struct HeadMoved {
     pub number: u8,
 }
 
-// The answer of capture and measure, the record first. `mac` is the OLT's own and `groups` the number of groups, which the exported call stores again
-// (D119).
-pub struct HeadDone {
-    pub head: HeadEnd,
+// The two parts of an end, each with a number of it behind, which the exported call stores again: so a part that was changed is handed on where it
+// lies (D119). `mac` is the OLT's own, `count` the number of groups.
+pub struct Parts {
+    pub olt: Olt,
     pub mac: u64,
-    pub groups: u8,
+    pub groups: Groups,
+    pub count: u8,
+}
+
+// The answer of register, capture, measure and acknowledge.
+pub struct HeadDone {
+    pub parts: Parts,
     pub number: u8,
 }
 
 // That of clock send.
 pub struct HeadClockDone {
-    pub head: HeadEnd,
-    pub mac: u64,
-    pub groups: u8,
+    pub parts: Parts,
     pub message: Stamps,
     pub number: u8,
 }
 
-// That of retry.
+// That of offer and retry.
 pub struct HeadKeyDone {
-    pub head: HeadEnd,
-    pub mac: u64,
-    pub groups: u8,
+    pub parts: Parts,
     pub message: KeyMessage,
+    pub number: u8,
+}
+
+// That of send.
+pub struct HeadSendDone {
+    pub parts: Parts,
+    pub header: Header,
+    pub count: u64,
+    pub runs: u64,
     pub number: u8,
 }
 
 // That of receive.
 pub struct HeadReceiptDone {
-    pub head: HeadEnd,
-    pub mac: u64,
-    pub groups: u8,
+    pub parts: Parts,
     pub count: u64,
     pub runs: u64,
     pub number: u8,

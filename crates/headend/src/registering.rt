@@ -1,10 +1,8 @@
 // What registrations with a head end refuse, and the members that one of a group names (02, C-14).
 ghost use mathlib.Core.Path.{_≡_};
 ghost use Prim.Native.Nat.{ℕ, _<_};
-ghost use Rattle.octets.specs.Choice.{both};
 ghost use Rattle.ends.specs.Limits.{maxUnits};
 ghost use Rattle.ends.specs.Table.{find};
-ghost use Rattle.ends.specs.Validity.{validOlt};
 ghost use Rattle.protocol.specs.Replies.{onValid};
 ghost use Rattle.group_protocol.specs.Head.{findGroup, isGroup, withOneGroupMore};
 ghost use Rattle.group_protocol.specs.declared.HeadEnd.{HeadEnd};
@@ -14,7 +12,6 @@ use ends::Found;
 use ends::Identity;
 use ends::Olt;
 use ends::check_olt::valid_interval;
-use ends::check_olt::valid_olt;
 use ends::limits::MAX_UNITS;
 use ends::llids::distinct_llids;
 use ends::llids::valid_identity;
@@ -32,17 +29,16 @@ use refusal::Refusal;
 use refusal::Verdict;
 use refusal::refuse_if;
 
-// 1 for the end that is lent, then a unit's own 1, 3 and 4. `sound` says that its groups are valid.
+// 1 for an end that is not `valid`, then a unit's own 1, 3 and 4.
 pub(crate) fn unit_verdict(
     head: HeadEnd,
-    sound: bool,
+    valid: bool,
     identity: Identity,
     trip: u64,
     interval: u64,
 ) -> Verdict
-    ensures { λ r. ⌜ r ≡ onValid (both (validOlt (head .olt)) sound) (unitVerdict head identity trip interval) ⌝ }
+    ensures { λ r. ⌜ r ≡ onValid valid (unitVerdict head identity trip interval) ⌝ }
 {
-    let valid = valid_olt(head.olt) & sound;
     let who = valid_identity(identity);
     let when = valid_interval(interval);
     let ranged = who & ((trip <= MAX_ROUND_TRIP) & when);
@@ -110,19 +106,18 @@ fn is_group(found: Found) -> bool
     }
 }
 
-// 1 for the end that is lent, then a group's own 1, 21, 3 and 4. `found` is the group that has the LLID already.
+// 1 for an end that is not `valid`, then a group's own 1, 21, 3 and 4. `found` is the group that has the LLID already.
 pub(crate) fn group_verdict(
     head: HeadEnd,
-    sound: bool,
+    valid: bool,
     found: Found,
     llid: u16,
     interval: u64,
     members: Members,
 ) -> Verdict
     requires { ⌜ found ≡ findGroup head llid ⌝ }
-    ensures { λ r. ⌜ r ≡ onValid (both (validOlt (head .olt)) sound) (groupVerdict head llid interval members) ⌝ }
+    ensures { λ r. ⌜ r ≡ onValid valid (groupVerdict head llid interval members) ⌝ }
 {
-    let valid = valid_olt(head.olt) & sound;
     let when = valid_interval(interval);
     let ranged = (1 <= members.count) & when;
     let named = valid_members(head.olt.count, members);

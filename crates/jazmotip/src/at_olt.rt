@@ -2,7 +2,8 @@
 ghost use mathlib.Core.Path.{_≡_};
 ghost use mathlib.Core.Bool.{false};
 ghost use Rattle.octets.specs.Output.{withOutput};
-ghost use Rattle.headend.specs.HeadCalls.{freshHeadOf, headAcknowledgeOf, headAdvanceOf, headCaptureOf, headClockSendOf, headMeasureOf, headOfferOf, headRegisterOf, headRetryOf, registerGroupOf};
+ghost use Rattle.group_protocol.specs.declared.HeadEnd.{HeadEnd};
+ghost use Rattle.headend.specs.HeadCalls.{freshHeadOf, headAcknowledgeOf, headAdvanceOf, headCaptureOf, headClockSendOf, headMeasureOf, headOfferOf, headRegisterOf, headRetryOf, partsOf, registerGroupOf};
 ghost use Rattle.headend.specs.HeadTraffic.{headReceiveOf, headSendOf};
 use ends::Identity;
 use ends::Olt;
@@ -15,9 +16,22 @@ use headend::HeadClockSent;
 use headend::HeadKeySent;
 use headend::HeadReceived;
 use headend::HeadSent;
+use headend::Parts;
 use headend::at_head;
 use headend::head_traffic;
 use protocol::Header;
+
+// An end made of its parts. The numbers that are there are stored again, so that each part is handed on where it lies (D119).
+fn whole(parts: Parts) -> HeadEnd
+    ensures { λ r. ⌜ ((h : HeadEnd) → parts ≡ partsOf h → r ≡ h) ⌝ }
+{
+    let olt = parts.olt;
+    let groups = parts.groups;
+    let mut head = HeadEnd { olt, groups };
+    head.olt.shared.mac = parts.mac;
+    head.groups.count = parts.count;
+    head
+}
 
 #[no_mangle]
 pub extern "C" fn jazmotip_olt_fresh(mac: u64, clock: u64) -> HeadAnswer
@@ -36,9 +50,7 @@ pub extern "C" fn jazmotip_olt_register(
     ensures { λ r. ⌜ r ≡ headRegisterOf olt identity trip interval ⌝ }
 {
     let done = at_head::register(olt, identity, trip, interval);
-    let mut head = done.head;
-    head.olt.shared.mac = done.mac;
-    head.groups.count = done.groups;
+    let head = whole(done.parts);
     HeadAnswer {
         number: done.number,
         head,
@@ -96,16 +108,12 @@ pub extern "C" fn jazmotip_olt_advance(olt: &mut HeadEnd, n: u64) -> u8
     answer.number
 }
 
-// Here and wherever else a record comes first the MAC and the number of groups that are there are stored again, so that the record is handed on where
-// it lies (D119).
 #[no_mangle]
 pub extern "C" fn jazmotip_olt_capture(olt: HeadEnd, llid: u16) -> HeadAnswer
     ensures { λ r. ⌜ r ≡ headCaptureOf olt llid ⌝ }
 {
     let done = at_head::capture(olt, llid);
-    let mut head = done.head;
-    head.olt.shared.mac = done.mac;
-    head.groups.count = done.groups;
+    let head = whole(done.parts);
     HeadAnswer {
         number: done.number,
         head,
@@ -118,9 +126,7 @@ pub extern "C" fn jazmotip_olt_measure(olt: HeadEnd, llid: u16, trip: u64) -> He
     ensures { λ r. ⌜ r ≡ headMeasureOf olt llid trip ⌝ }
 {
     let done = at_head::measure(olt, llid, trip);
-    let mut head = done.head;
-    head.olt.shared.mac = done.mac;
-    head.groups.count = done.groups;
+    let head = whole(done.parts);
     HeadAnswer {
         number: done.number,
         head,
@@ -132,9 +138,7 @@ pub extern "C" fn jazmotip_olt_clock_send(olt: HeadEnd, llid: u16) -> HeadClockS
     ensures { λ r. ⌜ r ≡ headClockSendOf olt llid ⌝ }
 {
     let done = at_head::clock_send(olt, llid);
-    let mut head = done.head;
-    head.olt.shared.mac = done.mac;
-    head.groups.count = done.groups;
+    let head = whole(done.parts);
     let message = done.message;
     HeadClockSent {
         number: done.number,
@@ -147,7 +151,14 @@ pub extern "C" fn jazmotip_olt_clock_send(olt: HeadEnd, llid: u16) -> HeadClockS
 pub extern "C" fn jazmotip_olt_offer(olt: HeadEnd, llid: u16, key: &[u8; 16]) -> HeadKeySent
     ensures { λ r. ⌜ r ≡ headOfferOf olt llid (now (key .entry)) ⌝ }
 {
-    at_head::offer(olt, llid, *key)
+    let done = at_head::offer(olt, llid, *key);
+    let head = whole(done.parts);
+    let message = done.message;
+    HeadKeySent {
+        number: done.number,
+        head,
+        message,
+    }
 }
 
 #[no_mangle]
@@ -155,9 +166,7 @@ pub extern "C" fn jazmotip_olt_retry(olt: HeadEnd, llid: u16) -> HeadKeySent
     ensures { λ r. ⌜ r ≡ headRetryOf olt llid ⌝ }
 {
     let done = at_head::retry(olt, llid);
-    let mut head = done.head;
-    head.olt.shared.mac = done.mac;
-    head.groups.count = done.groups;
+    let head = whole(done.parts);
     let message = done.message;
     HeadKeySent {
         number: done.number,
@@ -174,7 +183,12 @@ pub extern "C" fn jazmotip_olt_acknowledge(
 ) -> HeadAnswer
     ensures { λ r. ⌜ r ≡ headAcknowledgeOf olt llid acknowledgement ⌝ }
 {
-    at_head::acknowledge(olt, llid, acknowledgement)
+    let done = at_head::acknowledge(olt, llid, acknowledgement);
+    let head = whole(done.parts);
+    HeadAnswer {
+        number: done.number,
+        head,
+    }
 }
 
 #[no_mangle]
@@ -187,7 +201,16 @@ pub extern "C" fn jazmotip_olt_send(
 ) -> HeadSent
     ensures { λ r. ⌜ withOutput r (now (output .exit)) ≡ headSendOf olt llid channel (now (payload .entry)) (now (output .entry)) ⌝ }
 {
-    head_traffic::send(olt, llid, channel, payload, output)
+    let done = head_traffic::send(olt, llid, channel, payload, output);
+    let head = whole(done.parts);
+    let header = done.header;
+    HeadSent {
+        number: done.number,
+        head,
+        header,
+        count: done.count,
+        runs: done.runs,
+    }
 }
 
 #[no_mangle]
@@ -200,9 +223,7 @@ pub extern "C" fn jazmotip_olt_receive(
     ensures { λ r. ⌜ withOutput r (now (output .exit)) ≡ headReceiveOf olt header (now (octets .entry)) (now (output .entry)) ⌝ }
 {
     let done = head_traffic::receive(olt, header, octets, output);
-    let mut head = done.head;
-    head.olt.shared.mac = done.mac;
-    head.groups.count = done.groups;
+    let head = whole(done.parts);
     HeadReceived {
         number: done.number,
         head,

@@ -74,6 +74,13 @@ unfolding either
 either-cases true b e = inl refl
 either-cases false b e = inr e
 
+pub either-swap : (a b c d : Bool) → either (either a b) (either c d) ≡ either (either a c) (either b d)
+unfolding either
+either-swap true b c d = refl
+either-swap false false c d = refl
+either-swap false true true d = refl
+either-swap false true false d = refl
+
 pub either-assoc : (a b c : Bool) → either (either a b) c ≡ either a (either b c)
 unfolding either
 either-assoc true b c = refl

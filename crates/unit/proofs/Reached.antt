@@ -1,5 +1,5 @@
 -- What the verdict makes of a call on a unit. Assumes nothing.
-use mathlib.Core.Path.{_≡_}
+use mathlib.Core.Path.{_≡_, refl}
 use Rattle.refusal.specs.Order.{andThen}
 use Rattle.refusal.specs.declared.Refusal.{Refusal}
 use Rattle.refusal.specs.declared.Verdict.{Verdict}
@@ -18,3 +18,9 @@ module _ {H : Type 0} (way : Verdict) (nothing : H) (s : Shared) (u : UnitRecord
       → reached way nothing s u c ≡ record { verdict = Accepted; unit = c .unit; channels = c .channels; handed = c .handed }
   unfolding reached ifAccepted
   reached-accepted e = rw e
+
+-- a choice of one thing
+pub if-same : {A : Type 0} (v : Verdict) (a : A) → ifAccepted v a a ≡ a
+unfolding ifAccepted
+if-same Accepted a = refl
+if-same (Refused r) a = refl

@@ -5,9 +5,10 @@ use native.Mathlib.Omega.{arith}
 use lib.ListN.{length, take, drop}
 use lib.Seq.{drop-length}
 use borrow.Author.Needs.{needs}
+use Rattle.octets.proofs.Steps.{drop-step}
 use Rattle.ends.specs.Identities.{meets}
 use Rattle.ends.specs.Table.{tableLlids}
-use Rattle.groups.proofs.Walks.{list-step, meets-more, meets-stop, meets-none}
+use Rattle.groups.proofs.Walks.{meets-more, meets-stop, meets-none}
 use Rattle.groups.proofs.check_head.meet_units.Statement.{statement}
 use Rattle.groups.proofs.check_head.meet_units.Tie as tie
 
@@ -22,7 +23,7 @@ returns c =
     let a = c .before .before .before .before .before .before .args in
     let here = c .before .before .before .before .loop in
     sym (here .inv .1
-    ∙ meets-stop _ _ _ _ (list-step (a .list .now) (here .i) (omega arith)) (sym (c .before .is-registered .ensures) ∙ c .if1 .taken))
+    ∙ meets-stop _ _ _ _ (drop-step (a .list .now) (here .i) 0 (omega arith)) (sym (c .before .is-registered .ensures) ∙ c .if1 .taken))
 
 loop-again : tie.Need-loop-again Inv-loop μ-loop
 loop-again c =
@@ -30,7 +31,7 @@ loop-again c =
     let here = c .before .before .before .before .loop in (
       omega arith,
       here .inv .1
-          ∙ meets-more _ _ _ _ (list-step (a .list .now) (here .i) (omega arith)) (sym (c .before .is-registered .ensures) ∙ c .if1 .left),
+          ∙ meets-more _ _ _ _ (drop-step (a .list .now) (here .i) 0 (omega arith)) (sym (c .before .is-registered .ensures) ∙ c .if1 .left),
     )
 
 returns-2 : tie.Need-returns-2 Inv-loop μ-loop

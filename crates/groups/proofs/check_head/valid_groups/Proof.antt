@@ -11,6 +11,7 @@ use Rattle.octets.specs.Lists.{all}
 use Rattle.ends.specs.Identities.{distinct, meets}
 use Rattle.ends.specs.Limits.{maxUnits}
 use Rattle.group_protocol.specs.Head.{apartLlids, groupLlids, validGroups}
+use Rattle.groups.proofs.Walks.{llids-first}
 use Rattle.groups.proofs.check_head.valid_groups.Statement.{statement}
 use Rattle.groups.proofs.check_head.valid_groups.Tie as tie
 
@@ -36,18 +37,19 @@ returns-3 c =
       gathered .before .all-valid .ensures,
       told .all-distinct .ensures,
       c .meet-units .ensures,
-      gathered .group-llids .ensures,
+      gathered .llids-of .ensures,
+      llids-first (h .groups .count) (h .groups .table),
     )
 
 -- their places suffice
-room : (c : tie.After-group-llids) → let h = c .before .before .before .before .before .args .head in h .groups .count ≤ length (c .group-llids .result)
+room : (c : tie.After-llids-of) → let h = c .before .before .before .before .before .args .head in h .groups .count ≤ length (c .llids-of .result)
 room c =
-    let len : length (c .group-llids .result) ≡ maxUnits = search needs in
+    let len : length (c .llids-of .result) ≡ maxUnits = search needs in
     omega (arith, len, c .before .before .before .before .if1 .left)
 
 pub valid-groups-spec : {M : Type 1} → statement M
 valid-groups-spec =
     tie.close
     (tie.spec (λ c. search needs) (λ c. search needs) (λ c. search needs) (λ c. search needs) returns returns-2 (λ c κs. omega arith)
-    (λ c κs. omega arith) (λ c. search needs) (λ c. search needs) (λ c. sym (length-take-le _ _ (room (c .before)))) (λ c κs. search needs)
+    (λ c κs. search needs) (λ c. search needs) (λ c. search needs) (λ c. sym (length-take-le _ _ (room (c .before)))) (λ c κs. search needs)
     (λ c. search needs) (λ c. sym (length-take-le _ _ (room (c .before .before .before .before)))) (λ c κs. search needs) returns-3)

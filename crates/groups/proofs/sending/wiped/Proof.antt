@@ -1,15 +1,20 @@
--- `groups::sending::wiped` meets its contract: by the choice. Assumes nothing.
+-- `groups::sending::wiped` meets its contract: by whether the send switches. Assumes nothing.
+use mathlib.Core.Path.{sym, _∙_}
 use borrow.Author.Needs.{needs}
+use Rattle.octets.proofs.Choice.{pick-true, pick-false}
 use Rattle.ends.specs.Records.{withSlots}
-use Rattle.group_protocol.specs.GroupCalls.{wipedAtSwitch}
 use Rattle.groups.proofs.sending.wiped.Statement.{statement}
 use Rattle.groups.proofs.sending.wiped.Tie as tie
 
+returns : tie.Need-returns
+unfolding withSlots
+returns c =
+    let asked = c .before .before in
+    let a = asked .before .args in
+    rw (c .only-key .ensures) (sym (asked .is-next .ensures (a .keys) ∙ pick-true _ _ (c .before .if1 .taken)))
+
+returns-2 : tie.Need-returns-2
+returns-2 c = let a = c .before .before .args in sym (c .before .is-next .ensures (a .keys) ∙ pick-false _ _ (c .if1 .left))
+
 pub wiped-spec : {M : Type 1} → statement M
-wiped-spec =
-    tie.close
-    (tie.spec (λ c. search needs) (λ c. search needs) (λ c. search needs) (λ c κs. search needs) (λ c. search needs) (λ c. unfold wipedAtSwitch in rw
-    (c .enum-told .given .1))
-    (λ c. unfold wipedAtSwitch in rw (c .enum-told2 .given .1))
-    (λ c. unfold wipedAtSwitch withSlots in rw (c .before .enum-told3 .given .1, c .only-key .ensures))
-    (λ c. unfold wipedAtSwitch in rw (c .enum-told4 .given .1)))
+wiped-spec = tie.close (tie.spec (λ c κs. search needs) (λ c κs. search needs) returns returns-2)

@@ -24,7 +24,7 @@ told c =
 
 returns : tie.Need-returns
 unfolding headKeySent
-returns c = rw (c .before .verdict-number .ensures) (ap headKeyDone (told (c .before)))
+returns c = let numbered = c .before .before .before in rw (numbered .verdict-number .ensures) (ap headKeyDone (told numbered))
 
 pub retry-spec : {M : Type 1} → statement M
 retry-spec =

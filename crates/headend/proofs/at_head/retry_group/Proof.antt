@@ -19,18 +19,16 @@ unfolding groupOutcome pastGroup validHead both
 returns c =
     let done = c .before in
     let way = done .before .before .before in
-    let start = way .before .before in
-    let a = start .args in
+    let a = way .before .args in
     let s = a .head .olt .shared in
     let g = groupAt (a .head) (a .i) in
     let d = done .retry .result in
     let x = groupOutcome s (d .verdict) (d .group) (d .message) in
-    let judged = rw (way .before .valid-olt .ensures, start .pre .1) at (way .refuse-if .ensures) in
+    let judged = rw (way .before .pre .1) at (way .way-to .ensures) in
     let decided = done .retry .ensures ∙ ap (λ (v : Verdict). reachedGroup v noKeyMessage s g (retryGroup (a .llid) s g)) judged in
     ap (λ (h : HeadEnd). headKeySent (record { verdict = d .verdict; end = h; handed = d .message }))
     (sym (group-stays (a .head) (a .llid) (a .i) _ x decided))
     ∙ ap headKeySent (lift-group (a .head) noKeyMessage Accepted (λ o g. retryGroup (a .llid) (o .shared) g) (a .i) x decided)
 
 pub retry-group-spec : {M : Type 1} → statement M
-retry-group-spec = tie.close (tie.spec (λ c κs. search needs) (λ c κs. search needs) (λ c. search needs) (λ c. search needs)
-    (λ c κs. search needs) returns)
+retry-group-spec = tie.close (tie.spec (λ c κs. search needs) (λ c. search needs) (λ c. search needs) (λ c κs. search needs) returns)

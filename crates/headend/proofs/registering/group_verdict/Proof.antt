@@ -13,7 +13,7 @@ returns c =
     let unit = group .before in
     let named = unit .before .before in
     let when = named .before .before in
-    let start = when .before .before in
+    let start = when .before in
     rw (
       c .refuse-if5 .ensures,
       c .before .refuse-if4 .ensures,
@@ -24,12 +24,11 @@ returns c =
       unit .is-registered .ensures,
       named .valid-members .ensures,
       when .valid-interval .ensures,
-      when .before .valid-olt .ensures,
     )
 
 pub group-verdict-spec : {M : Type 1} → statement M
 group-verdict-spec =
     tie.close
-    (tie.spec (λ c κs. search needs) (λ c κs. search needs) (λ c κs. search needs) (λ c κs. search needs) (λ c κs. search needs) (λ c. search needs)
+    (tie.spec (λ c κs. search needs) (λ c κs. search needs) (λ c κs. search needs) (λ c κs. search needs) (λ c. search needs)
     (λ c. search needs) (λ c. search needs) (λ c. search needs) (λ c κs. search needs) (λ c κs. search needs) (λ c κs. search needs)
     (λ c κs. search needs) (λ c κs. search needs) returns)

@@ -25,12 +25,11 @@ returns c =
       distinct .distinct-llids .ensures,
       when .valid-interval .ensures,
       who .valid-identity .ensures,
-      who .before .valid-olt .ensures,
     )
 
 pub unit-verdict-spec : {M : Type 1} → statement M
 unit-verdict-spec =
     tie.close
     (tie.spec (λ c κs. search needs) (λ c κs. search needs) (λ c κs. search needs) (λ c κs. search needs) (λ c κs. search needs)
-    (λ c κs. search needs) (λ c. search needs) (λ c. search needs) (λ c. search needs) (λ c. search needs) (λ c κs. search needs)
+    (λ c. search needs) (λ c. search needs) (λ c. search needs) (λ c. search needs) (λ c κs. search needs)
     (λ c κs. search needs) (λ c κs. search needs) (λ c κs. search needs) returns)

@@ -1,4 +1,4 @@
--- `groups::check_head::all_distinct` meets its contract: the first i numbers are all different. Assumes nothing.
+-- `ends::check_olt::all_distinct` meets its contract: the first i numbers are all different. Assumes nothing.
 use mathlib.Core.Path.{_≡_, refl, sym, _∙_}
 use mathlib.Core.Bool.{true}
 use Prim.Native.Nat.{_≤_, _-_}
@@ -6,10 +6,10 @@ use native.Mathlib.Omega.{arith}
 use lib.ListN.{length, take}
 use lib.Seq.{length-take-le, take-all}
 use borrow.Author.Needs.{needs}
 use Rattle.ends.specs.Identities.{distinct}
-use Rattle.groups.proofs.Walks.{distinct-step, distinct-stop}
-use Rattle.groups.proofs.check_head.all_distinct.Statement.{statement}
-use Rattle.groups.proofs.check_head.all_distinct.Tie as tie
+use Rattle.ends.proofs.Identities.{distinct-step, distinct-stop}
+use Rattle.ends.proofs.check_olt.all_distinct.Statement.{statement}
+use Rattle.ends.proofs.check_olt.all_distinct.Tie as tie
 
 abbrev Inv-loop : tie.InvT-loop
 Inv-loop list i₀ i = (i ≤ length list) × (distinct (take i list) ≡ true)

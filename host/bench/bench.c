@@ -25,12 +25,14 @@ static const struct bytecipher_nonce c_nonce = {WORK_CHANNEL, WORK_MAC, WORK_CLO
 static jazmotip_round_keys expanded;
 static const struct openssl *openssl;
 
-static uint64_t engine_count, c_count;
+static uint64_t engine_count, engine_runs, c_count, c_runs;
 
 static void engine_seal(void *work)
 {
     struct work *w = work;
-    engine_count = jazmotip_seal(1, work_key, nonce, w->input, w->length, w->output, w->length).count;
+    jazmotip_payload_answer answer = jazmotip_seal(1, work_key, nonce, w->input, w->length, w->output, w->length);
+    engine_count = answer.count;
+    engine_runs = answer.runs;
 }
 
 static void engine_seal_expanded(void *work)
@@ -87,13 +89,28 @@ static void engine_open_class(void *work)
 static void c_seal(void *work)
 {
     struct work *w = work;
-    c_count = wordcipher_seal(work_key, c_nonce, w->input, w->length, w->output, w->length).count;
+    struct wordcipher_answer answer = wordcipher_seal(work_key, c_nonce, w->input, w->length, w->output, w->length);
+    c_count = answer.count;
+    c_runs = answer.runs;
 }
 
 static void c_seal_expanded(void *work)
 {
     struct work *w = work;
     c_count = wordcipher_seal_expanded(expanded.octets, c_nonce, w->input, w->length, w->output, w->length).count;
+}
+
+/* Every block run: without 02, C-17. */
+static void every_seal(void *work)
+{
+    struct work *w = work;
+    c_count = wordcipher_seal_every(work_key, c_nonce, w->input, w->length, w->output, w->length).count;
+}
+
+static void every_seal_expanded(void *work)
+{
+    struct work *w = work;
+    c_count = wordcipher_seal_expanded_every(expanded.octets, c_nonce, w->input, w->length, w->output, w->length).count;
 }
 
 static void tables_seal(void *work)
@@ -149,6 +166,7 @@ static void check_works(void)
     for (int i = 0; i < IDLE_WORKS; i++) {
         same(hash_after(c_seal, &idle_works[i]), hash_after(engine_seal, &idle_works[i]), &idle_works[i], "the C cipher");
         same(c_count, engine_count, &idle_works[i], "the C cipher's count");
+        same(c_runs, engine_runs, &idle_works[i], "the C cipher's runs");
     }
     for (int i = 0; i < WORKS; i++) {
         struct work *w = &works[i];
@@ -167,7 +185,11 @@ static void check_works(void)
             same(c_count, engine_count, w, "its count");
         } else {
             same(hash_after(engine_seal_expanded, w), engine, w, "the expanded key");
+            same(c_runs, engine_runs, w, "the C cipher's runs");
             same(hash_after(c_seal_expanded, w), engine, w, "the C cipher's expanded key");
+            same(hash_after(every_seal, w), engine, w, "the C cipher with every block run");
+            same(c_count, engine_count, w, "its count");
+            same(hash_after(every_seal_expanded, w), engine, w, "its expanded key");
             same(hash_after(tables_seal_expanded, w), engine, w, "the expanded key of the C cipher of two tables");
             same(jazmotip_count(w->input, w->length), engine_count, w, "count");
         }
@@ -180,7 +202,7 @@ static void check_works(void)
 
 /* ------------------------------------------------------------------------------------------------------------------ Sealing */
 
-enum { ENGINE, C, TABLES, BARE, OPENSSL, ENGINE_EXPANDED, C_EXPANDED, TABLES_EXPANDED, CONTESTANTS };
+enum { ENGINE, C, EVERY, TABLES, BARE, OPENSSL, ENGINE_EXPANDED, C_EXPANDED, EVERY_EXPANDED, TABLES_EXPANDED, CONTESTANTS };
 
 static struct rounds rounds[WORKS];
 
@@ -196,11 +218,13 @@ static void measure_work(int i)
     struct contestant all[CONTESTANTS] = {
         [ENGINE] = {.here = block ? engine_open : engine_seal, .job = w},
         [C] = {.here = block ? c_open : c_seal, .job = w},
+        [EVERY] = {.here = block ? NULL : every_seal, .job = w},
         [TABLES] = {.here = block ? tables_open : tables_seal, .job = w},
         [BARE] = {.there = openssl != NULL ? openssl->bare_seal : NULL, .job = w},
         [OPENSSL] = {.here = openssl != NULL ? openssl->seal : NULL, .job = w},
         [ENGINE_EXPANDED] = {.here = expanding ? engine_seal_expanded : NULL, .job = w},
         [C_EXPANDED] = {.here = expanding ? c_seal_expanded : NULL, .job = w},
+        [EVERY_EXPANDED] = {.here = expanding ? every_seal_expanded : NULL, .job = w},
         [TABLES_EXPANDED] = {.here = expanding ? tables_seal_expanded : NULL, .job = w},
     };
     measure_rounds(&rounds[i], all, CONTESTANTS, is_largest(w) ? 15 : 151, 1e6);
@@ -234,10 +258,10 @@ static void print_ratio(int i, int k, int of)
 
 static void print_sealing(void)
 {
-    printf("| EQs | octets | engine, ns a call | ns an EQ | MB/s | C, MB/s | engine of C | C of two tables, MB/s | engine of it |");
+    printf("| EQs | octets | engine, ns a call | ns an EQ | MB/s | C, MB/s | engine of C | engine of C without C-17 | C of two tables, MB/s | engine of it |");
     if (openssl != NULL)
         printf(" OpenSSL without AES instructions, MB/s | engine of it | OpenSSL with them, MB/s | engine of it |");
-    printf("\n|---|---:|---:|---:|---:|---:|---:|---:|---:|%s\n", openssl != NULL ? "---:|---:|---:|---:|" : "");
+    printf("\n|---|---:|---:|---:|---:|---:|---:|---:|---:|---:|%s\n", openssl != NULL ? "---:|---:|---:|---:|" : "");
     for (int i = 0; i < WORKS; i++) {
         double ns = measure_cost(&rounds[i], ENGINE).median;
         printf("| %s | %s | %s | %.1f |", name_of(i), measure_commas((double)works[i].length), measure_commas(ns),
@@ -245,6 +269,10 @@ static void print_sealing(void)
         print_rate(i, ENGINE);
         print_rate(i, C);
         print_ratio(i, ENGINE, C);
+        if (works[i].records == 0)
+            print_ratio(i, ENGINE, EVERY);
+        else
+            printf(" |");
         print_rate(i, TABLES);
         print_ratio(i, ENGINE, TABLES);
         if (openssl != NULL) {
@@ -255,13 +283,14 @@ static void print_sealing(void)
         }
         printf("\n");
     }
-    printf("\n| EQs, the key expanded before | engine, ns a call | MB/s | C, MB/s | engine of C | C of two tables, MB/s | engine of it |\n"
-           "|---|---:|---:|---:|---:|---:|---:|\n");
+    printf("\n| EQs, the key expanded before | engine, ns a call | MB/s | C, MB/s | engine of C | engine of C without C-17 | C of two tables, MB/s | engine of it |\n"
+           "|---|---:|---:|---:|---:|---:|---:|---:|\n");
     for (int i = 0; i < WORKS_PAYLOADS && !is_largest(&works[i]); i++) {
         printf("| %s | %s |", name_of(i), measure_commas(measure_cost(&rounds[i], ENGINE_EXPANDED).median));
         print_rate(i, ENGINE_EXPANDED);
         print_rate(i, C_EXPANDED);
         print_ratio(i, ENGINE_EXPANDED, C_EXPANDED);
+        print_ratio(i, ENGINE_EXPANDED, EVERY_EXPANDED);
         print_rate(i, TABLES_EXPANDED);
         print_ratio(i, ENGINE_EXPANDED, TABLES_EXPANDED);
         printf("\n");
@@ -382,7 +411,8 @@ static void print_method(void)
     printf("Contestants take turns in rounds on one processor; a figure is the median over the rounds, by processor time, and\n"
            "beside a ratio stand its lowest and highest tenth. MB are 10^6 octets of payload, control octets too. Key set-up is\n"
            "in every figure but where the key was expanded before. C is the same cipher (wordcipher.c: one table, doublings worked\n"
-           "out, the rows of two blocks in words); C of two tables looks doublings up (bytecipher.c)%s.\n"
+           "out, the rows of two blocks in words), and like the engine runs no block that has no octet to encipher and tells its runs;\n"
+           "C without C-17 runs every block. C of two tables looks doublings up (bytecipher.c)%s.\n"
            "All contestants' octets were compared and are equal. Stack is what a call writes below its caller's: what is handed\n"
            "over by value counts, the answer does not.\n\n",
            openssl != NULL ? "; OpenSSL makes\nthe key stream in bulk (AES-128-CTR), and the mask of bytecipher.c follows" : "");

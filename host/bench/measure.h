@@ -21,7 +21,7 @@ struct contestant {
 /* The processor time of this thread for so many turns, in ns. */
 double measure_turns(void (*here)(void *job), void *job, size_t times);
 
-enum { MOST_ROUNDS = 256, MOST_CONTESTANTS = 8 };
+enum { MOST_ROUNDS = 256, MOST_CONTESTANTS = 10 };
 
 /* The ns of one turn of each contestant, by round. */
 struct rounds {

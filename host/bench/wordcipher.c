@@ -1,6 +1,9 @@
 /*
  * wordcipher.c: sealing with rows of one block or of two in words (FIPS 197; 01, Counter block and mask). Word r has row r, its octets
  * column by column, the first block's lowest. A file of its own, so that nothing is inlined into the measuring loop.
+ *
+ * A block of control characters alone is copied and not run, and the runs are told (02, C-17), as the engine does; the functions whose
+ * names end in _every run every block.
  */
 #include "wordcipher.h"
 
@@ -139,55 +142,133 @@ static inline uint64_t mask_block(struct block block, const uint8_t *input, uint
     return count;
 }
 
-uint64_t wordcipher_seal_eqs(const void *round_keys, struct bytecipher_nonce nonce, const uint8_t *input, uint8_t *output,
-                             size_t eqs)
+/* Whether a block has an octet to encipher. */
+static inline int needs_run(const uint8_t *input, size_t i, size_t eqs)
+{
+    return (2 * i + 1 < eqs ? input[18 * i] & input[18 * i + 9] : input[18 * i]) != 0xff;
+}
+
+struct work_done {
+    uint64_t count, runs;
+};
+
+static inline __attribute__((always_inline)) struct work_done seal(int every, const uint8_t *round_keys,
+                                                                   struct bytecipher_nonce nonce, const uint8_t *input,
+                                                                   uint8_t *output, size_t eqs)
 {
     uint8_t one[16];
-    uint64_t count = 0;
-    size_t blocks = (eqs + 1) / 2, i = 0;
+    struct work_done done = {0, 0};
+    size_t blocks = (eqs + 1) / 2, waiting = blocks; /* for another to be run with */
     bytecipher_counter(nonce, one);
     if (blocks > 1) {
         struct rows keys[10];
         struct block two[2];
         for (int n = 0; n < 10; n++) {
-            struct rows k = rows_of((const uint8_t *)round_keys + 16 * n);
+            struct rows k = rows_of(round_keys + 16 * n);
             keys[n] = rows_of_two(k, k);
         }
         struct rows first = added(rows_of(one), rows_of(round_keys)), kept;
         first = rows_of_two(first, first);
         kept = (struct rows){shifted_rows(first.a, 0), shifted_rows(first.b, 1) & 0xff00ffffff00ffff,
                              shifted_rows(first.c, 2) & 0xffff00ffffff00ff, shifted_rows(first.d, 3) & 0xffffff00ffffff00};
-        for (; i + 1 < blocks; i += 2) {
-            encrypt_pair(round_keys, keys, kept, i, i + 1, two);
-            count += mask_block(two[0], input, output, i, eqs);
-            count += mask_block(two[1], input, output, i + 1, eqs);
+        if (every) {
+            size_t i = 0;
+            for (; i + 1 < blocks; i += 2) {
+                encrypt_pair(round_keys, keys, kept, i, i + 1, two);
+                done.count += mask_block(two[0], input, output, i, eqs);
+                done.count += mask_block(two[1], input, output, i + 1, eqs);
+            }
+            done.runs = i;
+            waiting = i;
+        } else {
+            for (size_t i = 0; i < blocks; i++) {
+                if (!needs_run(input, i, eqs)) {
+                    memcpy(output + 18 * i, input + 18 * i, 2 * i + 1 < eqs ? 18 : 9);
+                } else if (waiting == blocks) {
+                    waiting = i;
+                } else {
+                    encrypt_pair(round_keys, keys, kept, waiting, i, two);
+                    done.count += mask_block(two[0], input, output, waiting, eqs);
+                    done.count += mask_block(two[1], input, output, i, eqs);
+                    done.runs += 2;
+                    waiting = blocks;
+                }
+            }
         }
+    } else if (blocks == 1) {
+        if (every || needs_run(input, 0, eqs))
+            waiting = 0;
+        else
+            memcpy(output, input, 9 * eqs);
     }
-    if (i < blocks) {
-        set_index(one, i);
-        count += mask_block(encrypt_lone(round_keys, one), input, output, i, eqs);
+    if (waiting < blocks) {
+        set_index(one, waiting);
+        done.count += mask_block(encrypt_lone(round_keys, one), input, output, waiting, eqs);
+        done.runs++;
     }
-    return count;
+    return done;
 }
 
-struct bytecipher_answer wordcipher_seal_expanded(const uint8_t round_keys[176], struct bytecipher_nonce nonce,
+uint64_t wordcipher_seal_eqs(const void *round_keys, struct bytecipher_nonce nonce, const uint8_t *input, uint8_t *output,
+                             size_t eqs)
+{
+    return seal(0, round_keys, nonce, input, output, eqs).count;
+}
+
+static __attribute__((noinline)) struct work_done seal_needed(const uint8_t *round_keys, struct bytecipher_nonce nonce,
+                                                              const uint8_t *input, uint8_t *output, size_t eqs)
+{
+    return seal(0, round_keys, nonce, input, output, eqs);
+}
+
+static __attribute__((noinline)) struct work_done seal_every(const uint8_t *round_keys, struct bytecipher_nonce nonce,
+                                                             const uint8_t *input, uint8_t *output, size_t eqs)
+{
+    return seal(1, round_keys, nonce, input, output, eqs);
+}
+
+typedef struct work_done sealer(const uint8_t *round_keys, struct bytecipher_nonce nonce, const uint8_t *input, uint8_t *output,
+                                size_t eqs);
+
+static inline __attribute__((always_inline)) struct wordcipher_answer under(sealer *seal_by, const uint8_t *round_keys,
+                                                                            const uint8_t *key, struct bytecipher_nonce nonce,
+                                                                            const uint8_t *input, size_t input_length,
+                                                                            uint8_t *output, size_t output_length)
+{
+    struct wordcipher_answer answer = {bytecipher_judge(nonce, input_length, output_length), 0, 0};
+    if (answer.number == 0) {
+        uint8_t expanded[176];
+        if (round_keys == NULL)
+            bytecipher_expand(key, expanded);
+        struct work_done done = seal_by(round_keys != NULL ? round_keys : expanded, nonce, input, output, input_length / 9);
+        answer.count = done.count;
+        answer.runs = done.runs;
+    }
+    return answer;
+}
+
+struct wordcipher_answer wordcipher_seal_expanded(const uint8_t round_keys[176], struct bytecipher_nonce nonce,
                                                   const uint8_t *input, size_t input_length, uint8_t *output,
                                                   size_t output_length)
 {
-    struct bytecipher_answer answer = {bytecipher_judge(nonce, input_length, output_length), 0};
-    if (answer.number == 0)
-        answer.count = wordcipher_seal_eqs(round_keys, nonce, input, output, input_length / 9);
-    return answer;
+    return under(seal_needed, round_keys, NULL, nonce, input, input_length, output, output_length);
 }
 
-struct bytecipher_answer wordcipher_seal(const uint8_t key[16], struct bytecipher_nonce nonce, const uint8_t *input,
+struct wordcipher_answer wordcipher_seal(const uint8_t key[16], struct bytecipher_nonce nonce, const uint8_t *input,
                                          size_t input_length, uint8_t *output, size_t output_length)
 {
-    struct bytecipher_answer answer = {bytecipher_judge(nonce, input_length, output_length), 0};
-    if (answer.number == 0) {
-        uint8_t round_keys[176];
-        bytecipher_expand(key, round_keys);
-        answer.count = wordcipher_seal_eqs(round_keys, nonce, input, output, input_length / 9);
-    }
-    return answer;
+    return under(seal_needed, NULL, key, nonce, input, input_length, output, output_length);
+}
+
+struct wordcipher_answer wordcipher_seal_expanded_every(const uint8_t round_keys[176], struct bytecipher_nonce nonce,
+                                                        const uint8_t *input, size_t input_length, uint8_t *output,
+                                                        size_t output_length)
+{
+    return under(seal_every, round_keys, NULL, nonce, input, input_length, output, output_length);
+}
+
+struct wordcipher_answer wordcipher_seal_every(const uint8_t key[16], struct bytecipher_nonce nonce, const uint8_t *input,
+                                               size_t input_length, uint8_t *output, size_t output_length)
+{
+    return under(seal_every, NULL, key, nonce, input, input_length, output, output_length);
 }

@@ -12,11 +12,13 @@ use borrow.Author.Tests.{lt-ltb, eq-eqb, ne-eqb, leb-true}
 use Rattle.octets.specs.Choice.{both, either, pick}
 use Rattle.octets.specs.Lists.{tabulate}
 use Rattle.octets.proofs.Choice.{both-left, both-right, either-left}
+use Rattle.octets.proofs.Maps.{map-at}
 use Rattle.octets.proofs.Steps.{tabulate-step, tabulate-end, drop-step, first-step, first-end}
 use Rattle.ends.specs.Limits.{maxLlids, maxUnits}
 use Rattle.ends.specs.Identities.{among, distinct, has, llidsOf, meets, validIdentity}
 use Rattle.ends.specs.Table.{findFrom, firstPlace, foundBelow, tableLlids}
 use Rattle.ends.specs.Validity.{validUnit}
+use Rattle.ends.specs.declared.Identity.{Identity}
 use Rattle.ends.specs.declared.UnitRecord.{UnitRecord}
 use Rattle.ends.specs.declared.Found.the-variants.{At, Nowhere}
 use Rattle.ends.proofs.Identities.{meets-append, meets-nil}
@@ -24,6 +26,11 @@ use Rattle.ends.proofs.Identities.{meets-append, meets-nil}
 -- an array whose elements are read one by one is as long as what is read
 pub length-mapped : {A B : Type 0} (f : A → B) (l : List A) (n : ℕ) → length (map f l) ≡ n → length l ≡ n
 length-mapped f l n e = sym (length-map l f) ∙ e
+
+-- the identity at a place of those that were gathered
+pub identity-at : (is : List Identity) (us : List UnitRecord) (i : ℕ) (d : UnitRecord) (e : Identity) → is ≡ map (λ (u : UnitRecord). u .identity) us
+    → i < length us → getD is i e ≡ getD us i d .identity
+identity-at is us i d e t h = rw t (map-at (λ (u : UnitRecord). u .identity) us i d e h)
 
 ---- along what is tabulated
 

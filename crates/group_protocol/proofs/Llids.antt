@@ -4,8 +4,10 @@ use mathlib.Core.Bool.{true, false}
 use mathlib.Core.List.{List, [], _∷_, _++_}
 use Prim.Native.Nat.{ℕ, suc}
 use lib.Dec.{eqb}
+use lib.ListN.{take}
 use Rattle.octets.specs.Choice.{pick}
 use Rattle.octets.proofs.Choice.{either-none, either-false}
+use Rattle.octets.proofs.Maps.{map-take}
 use Rattle.ends.specs.Identities.{among, meets}
 use Rattle.ends.specs.declared.Found.the-variants.{At, Nowhere}
 use Rattle.group_protocol.specs.Head.{groupFrom, groupLlids}
@@ -29,6 +31,11 @@ pub llids-append : (a b : List GroupRecord) → groupLlids (a ++ b) ≡ groupLli
 unfolding groupLlids
 llids-append [] b = refl
 llids-append (g ∷ a) b = ap (λ (l : List ℕ). g .llid ∷ l) (llids-append a b)
+
+-- those of the first groups
+pub llids-first : (n : ℕ) (gs : List GroupRecord) → take n (groupLlids gs) ≡ groupLlids (take n gs)
+unfolding groupLlids
+llids-first n gs = sym (map-take (λ (g : GroupRecord). g .llid) n gs)
 
 -- one number more, which the other list does not have
 pub meets-last : (xs : List ℕ) (x : ℕ) (ys : List ℕ) → meets xs ys ≡ false → among x ys ≡ false → meets (xs ++ (x ∷ [])) ys ≡ false

@@ -1,15 +1,13 @@
 -- One step of a walk along a list whose first element is told, and its end: what the loops of this crate go by. Assumes nothing.
-use mathlib.Core.Path.{_≡_, refl, sym}
+use mathlib.Core.Path.{_≡_}
 use mathlib.Core.Bool.{Bool, true, false}
-use mathlib.Core.List.{List, [], _∷_, map, map-append}
+use mathlib.Core.List.{List, [], _∷_}
 use Prim.Native.Nat.{ℕ, _+_, _<_}
 use native.Mathlib.Numerals.{add-one}
-use lib.ListN.{length, getD, take, drop, set}
-use lib.Seq.{take-suc, take-suc-set}
+use lib.ListN.{length, getD, take, drop}
 use borrow.Author.Tests.{eq-eqb, ne-eqb}
 use Rattle.octets.specs.Choice.{both, either, pick}
 use Rattle.octets.specs.Lists.{all}
-use Rattle.octets.proofs.Maps.{map-take}
 use Rattle.octets.proofs.Steps.{first-step}
 use Rattle.ends.specs.Identities.{among, meets}
 use Rattle.ends.specs.declared.Found.the-variants.{At, Nowhere}
@@ -69,15 +67,3 @@ group-step n l i d h k = rw (first-step n l i d h k)
 pub group-end : (l : List GroupRecord) → l ≡ [] → groupLlids l ≡ []
 unfolding groupLlids
 group-end l e = rw e
-
--- the LLIDs of the first groups
-pub llids-first : (n : ℕ) (gs : List GroupRecord) → take n (groupLlids gs) ≡ groupLlids (take n gs)
-unfolding groupLlids
-llids-first n gs = sym (map-take (λ (g : GroupRecord). g .llid) n gs)
-
----- what is read of each
-
--- of one more
-pub gathered : {A : Type 0} (f : A → ℕ) (l : List A) (r : List ℕ) (i : ℕ) (d : A) → i < length l → i < length r → take i r ≡ map f (take i l)
-    → take (i + 1) (set r i (f (getD l i d))) ≡ map f (take (i + 1) l)
-gathered f l r i d h k e = rw (add-one, take-suc-set r i (f (getD l i d)) k, take-suc l i d h, map-append f (take i l) (getD l i d ∷ []), e) refl

@@ -3,17 +3,19 @@ ghost use mathlib.Core.Path.{_≡_};
 ghost use Prim.Native.Nat.{_≤_};
 ghost use lib.ListN.{take};
 ghost use Rattle.octets.specs.Lists.{all};
-ghost use Rattle.ends.specs.Identities.{meets};
+ghost use Rattle.ends.specs.Identities.{llidsOf, meets};
 ghost use Rattle.ends.specs.Limits.{maxUnits};
 ghost use Rattle.ends.specs.Table.{tableLlids};
 ghost use Rattle.group_protocol.specs.Head.{validGroup, validGroups};
 use crate::membership::valid_members;
-use crate::search::is_registered;
 use crate::search::llids_of;
+use ends::Identity;
 use ends::UnitRecord;
 use ends::check_olt::all_distinct;
 use ends::check_olt::valid_timer;
 use ends::limits::MAX_UNITS;
+use ends::llids::has;
+use ends::search::identities;
 use ends::sends::valid_first;
 use group_protocol::GroupRecord;
 use group_protocol::HeadEnd;
@@ -46,13 +48,32 @@ fn all_valid(table: [GroupRecord; MAX_GROUPS as usize], count: u8, tick: u64, un
     true
 }
 
+// Whether the unit has one of the LLIDs.
+fn has_one(identity: Identity, list: &[u16]) -> bool
+    ensures { λ r. ⌜ r ≡ meets (now (list .entry)) (llidsOf identity) ⌝ }
+{
+    let mut i: usize = 0;
+    while i < list.len() {
+        if has(identity, list[i]) {
+            return true;
+        }
+        i += 1;
+    }
+    false
+}
+
 // Whether a registered unit has one of the LLIDs.
 fn meet_units(list: &[u16], units: [UnitRecord; MAX_UNITS as usize], n: u8) -> bool
     ensures { λ r. ⌜ r ≡ meets (now (list .entry)) (tableLlids (take n units)) ⌝ }
 {
+    let table = identities(units);
     let mut i: usize = 0;
-    while i < list.len() {
-        if is_registered(units, n, list[i]) {
+    while i < MAX_UNITS as usize {
+        if n as usize <= i {
+            return false;
+        }
+        let identity = table[i];
+        if has_one(identity, list) {
             return true;
         }
         i += 1;

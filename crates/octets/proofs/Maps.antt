@@ -1,9 +1,11 @@
 -- Laws of lists that are mapped, all their elements or the first alone. Assumes nothing.
 use mathlib.Core.Path.{_≡_, refl, sym, ap, ap₂}
-use mathlib.Core.List.{List, [], _∷_, map, _++_}
-use Prim.Native.Nat.{ℕ, zero, suc, _<_}
+use mathlib.Core.List.{List, [], _∷_, map, map-append, _++_}
+use Prim.Native.Nat.{ℕ, zero, suc, _+_, _<_}
 use native.Mathlib.Nat.{le-of-suc-le-suc, not-suc-le-zero}
+use native.Mathlib.Numerals.{add-one}
 use lib.ListN.{length, getD, set, take, drop}
+use lib.Seq.{take-suc, take-suc-set}
 
 ---- all elements
 
@@ -35,6 +37,11 @@ map-same f g e [] = refl
 map-same {A} {B} f g e (x ∷ xs) = ap₂ (λ (y : B) (ys : List B). y ∷ ys) (e x) (map-same f g e xs)
 
 ---- the first elements
+
+-- what is read of each is stored one by one: of one more
+pub gathered : {A B : Type 0} (f : A → B) (l : List A) (r : List B) (i : ℕ) (d : A) → i < length l → i < length r → take i r ≡ map f (take i l)
+    → take (i + 1) (set r i (f (getD l i d))) ≡ map f (take (i + 1) l)
+gathered f l r i d h k e = rw (add-one, take-suc-set r i (f (getD l i d)) k, take-suc l i d h, map-append f (take i l) (getD l i d ∷ []), e) refl
 
 -- the first n of a list whose first n are mapped
 pub take-first : {A : Type 0} (f : A → A) (n : ℕ) (l : List A) → take n (map f (take n l) ++ drop n l) ≡ map f (take n l)

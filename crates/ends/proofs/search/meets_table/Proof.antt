@@ -1,7 +1,8 @@
 -- `ends::search::meets_table` meets its contract: none of the first i units has an LLID of the identity, so that the others decide.
 -- Assumes nothing.
-use mathlib.Core.Path.{_≡_, refl, sym, _∙_}
-use Prim.Native.Nat.{_≤_, _-_}
+use mathlib.Core.List.{List, map}
+use mathlib.Core.Path.{_≡_, refl, sym, ap, _∙_}
+use Prim.Native.Nat.{_≤_, _<_, _-_}
 use native.Mathlib.Omega.{arith}
 use lib.ListN.{length, take, drop}
 use borrow.Author.Needs.{needs}
@@ -9,55 +10,76 @@ use Rattle.octets.proofs.Steps.{first-end, first-past}
 use Rattle.ends.specs.Limits.{maxUnits}
 use Rattle.ends.specs.Identities.{meets, llidsOf}
 use Rattle.ends.specs.Table.{tableLlids, pastUnit}
-use Rattle.ends.proofs.Walks.{table-hit, table-miss, table-none}
+use Rattle.ends.specs.declared.Identity.{Identity}
+use Rattle.ends.specs.declared.UnitRecord.{UnitRecord}
+use Rattle.ends.proofs.Walks.{identity-at, length-mapped, table-hit, table-miss, table-none}
 use Rattle.ends.proofs.search.meets_table.Statement.{statement}
 use Rattle.ends.proofs.search.meets_table.Tie as tie
 
+-- of any units that have these identities
 abbrev Inv-loop : tie.InvT-loop
-Inv-loop count identity units i₀ i =
+Inv-loop count identity table i₀ i =
     (i ≤ maxUnits)
-    × (meets (llidsOf identity) (tableLlids (take count units)) ≡ meets (llidsOf identity) (tableLlids (drop i (take count units))))
+    × ((us : List UnitRecord) → table ≡ map (λ (u : UnitRecord). u .identity) us
+    → meets (llidsOf identity) (tableLlids (take count us)) ≡ meets (llidsOf identity) (tableLlids (drop i (take count us))))
 
 abbrev μ-loop : tie.MeasureT-loop
-μ-loop count identity units i₀ i = maxUnits - i
+μ-loop count identity table i₀ i = maxUnits - i
 
 returns : tie.Need-returns Inv-loop μ-loop
 returns c =
-    let a = c .before .before .before .args in
-    let here = c .before .before .loop in
-    sym (here .inv .1 ∙ table-none _ _ (first-end (a .count) (a .t1) (here .i) (c .if1 .taken)))
+    let at-loop = c .before .before in
+    let gathered = at-loop .before in
+    let a = gathered .before .args in
+    let here = at-loop .loop in
+    sym (here .inv .1 (a .units) (gathered .identities .ensures)
+    ∙ table-none _ _ (first-end (a .count) (a .units) (here .i) (c .if1 .taken)))
 
 returns-2 : tie.Need-returns-2 Inv-loop μ-loop
 unfolding pastUnit
 returns-2 c =
-    let a = c .before .before .before .before .before .before .args in
-    let here = c .before .before .before .before .before .loop in
-    let len : length (a .t1) ≡ maxUnits = search needs in
-    sym (here .inv .1
-    ∙ table-hit _ (a .count) (a .t1) (here .i) pastUnit (c .before .before .before .if1 .left) (omega arith)
-    (sym (c .before .shares .ensures) ∙ c .if2 .taken))
+    let at-loop = c .before .before .before .before .before in
+    let gathered = at-loop .before in
+    let a = gathered .before .args in
+    let here = at-loop .loop in
+    let len : length (a .units) ≡ maxUnits = search needs in
+    let k : here .i < length (a .units) = omega arith in
+    sym (here .inv .1 (a .units) (gathered .identities .ensures)
+    ∙ table-hit _ (a .count) (a .units) (here .i) pastUnit (c .before .before .before .if1 .left) k
+    (sym (ap (λ (j : Identity). meets (llidsOf (a .identity)) (llidsOf j))
+    (identity-at _ (a .units) (here .i) pastUnit _ (gathered .identities .ensures) k))
+    ∙ sym (c .before .shares .ensures) ∙ c .if2 .taken))
 
 loop-again : tie.Need-loop-again Inv-loop μ-loop
 unfolding pastUnit
 loop-again c =
-    let a = c .before .before .before .before .before .before .args in
-    let here = c .before .before .before .before .before .loop in
-    let len : length (a .t1) ≡ maxUnits = search needs in (
+    let at-loop = c .before .before .before .before .before in
+    let gathered = at-loop .before in
+    let a = gathered .before .args in
+    let here = at-loop .loop in
+    let len : length (gathered .identities .result) ≡ maxUnits = search needs in (
       omega arith,
-      here .inv .1
-          ∙ table-miss _ (a .count) (a .t1) (here .i) pastUnit (c .before .before .before .if1 .left) (omega arith)
-          (sym (c .before .shares .ensures) ∙ c .if2 .left),
+      λ us t.
+          let all-of : length us ≡ maxUnits = length-mapped _ us maxUnits (sym (ap (λ (l : List Identity). length l) t) ∙ len) in
+          let k : here .i < length us = omega arith in
+          here .inv .1 us t
+          ∙ table-miss _ (a .count) us (here .i) pastUnit (c .before .before .before .if1 .left) k
+          (sym (ap (λ (j : Identity). meets (llidsOf (a .identity)) (llidsOf j)) (identity-at _ us (here .i) pastUnit _ t k))
+          ∙ sym (c .before .shares .ensures) ∙ c .if2 .left),
     )
 
 returns-3 : tie.Need-returns-3 Inv-loop μ-loop
 returns-3 c =
-    let a = c .before .before .args in
-    let len : length (a .t1) ≡ maxUnits = search needs in
-    let here = c .before .loop in
-    sym (here .inv .1 ∙ table-none _ _ (first-past (a .count) (a .t1) (here .i) (omega arith)))
+    let at-loop = c .before in
+    let gathered = at-loop .before in
+    let a = gathered .before .args in
+    let here = at-loop .loop in
+    let len : length (a .units) ≡ maxUnits = search needs in
+    sym (here .inv .1 (a .units) (gathered .identities .ensures)
+    ∙ table-none _ _ (first-past (a .count) (a .units) (here .i) (omega arith)))
 
 pub meets-table-spec : {M : Type 1} → statement M
 meets-table-spec =
     tie.close
-    (tie.spec Inv-loop μ-loop (λ c. (omega arith, refl)) (λ c. omega arith) returns (λ c. omega arith) (λ c. omega arith) (λ c κs. search needs)
-    returns-2 (λ c. omega arith) (λ c. omega arith) loop-again returns-3)
+    (tie.spec Inv-loop μ-loop (λ c κs. search needs) (λ c. (omega arith, λ us t. refl)) (λ c. omega arith) returns (λ c. omega arith) (λ c. omega arith)
+    (λ c κs. search needs) returns-2 (λ c. omega arith) (λ c. omega arith) loop-again returns-3)

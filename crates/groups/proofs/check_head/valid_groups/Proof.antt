@@ -11,7 +11,7 @@ use Rattle.octets.specs.Lists.{all}
 use Rattle.ends.specs.Identities.{distinct, meets}
 use Rattle.ends.specs.Limits.{maxUnits}
 use Rattle.group_protocol.specs.Head.{apartLlids, groupLlids, validGroups}
-use Rattle.groups.proofs.Walks.{llids-first}
+use Rattle.group_protocol.proofs.Llids.{llids-first}
 use Rattle.groups.proofs.check_head.valid_groups.Statement.{statement}
 use Rattle.groups.proofs.check_head.valid_groups.Tie as tie
 

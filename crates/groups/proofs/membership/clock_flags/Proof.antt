@@ -6,10 +6,10 @@ use native.Mathlib.Omega.{arith}
 use lib.ListN.{length, take, length-set}
 use lib.Seq.{take-all}
 use borrow.Author.Needs.{needs}
+use Rattle.octets.proofs.Maps.{gathered}
 use Rattle.ends.specs.Limits.{maxUnits}
 use Rattle.ends.specs.Table.{pastUnit}
 use Rattle.ends.specs.declared.UnitRecord.{UnitRecord}
-use Rattle.groups.proofs.Walks.{gathered}
 use Rattle.groups.proofs.membership.clock_flags.Statement.{statement}
 use Rattle.groups.proofs.membership.clock_flags.Tie as tie
 

@@ -11,7 +11,8 @@ use Rattle.ends.specs.Limits.{maxUnits}
 use Rattle.ends.specs.declared.Identity.{Identity}
 use Rattle.group_protocol.specs.Head.{groupLlids}
 use Rattle.group_protocol.specs.declared.GroupRecord.{GroupRecord}
-use Rattle.groups.proofs.Walks.{llids-first, meets-more, meets-stop, meets-none}
+use Rattle.group_protocol.proofs.Llids.{llids-first}
+use Rattle.groups.proofs.Walks.{meets-more, meets-stop, meets-none}
 use Rattle.groups.proofs.search.groups_meet.Statement.{statement}
 use Rattle.groups.proofs.search.groups_meet.Tie as tie
 

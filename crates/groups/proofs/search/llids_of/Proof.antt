@@ -5,10 +5,10 @@ use native.Mathlib.Omega.{arith}
 use lib.ListN.{length, take, length-set}
 use lib.Seq.{take-all}
 use borrow.Author.Needs.{needs}
+use Rattle.octets.proofs.Maps.{gathered}
 use Rattle.ends.specs.Limits.{maxUnits}
 use Rattle.group_protocol.specs.Head.{groupLlids, pastGroup}
 use Rattle.group_protocol.specs.declared.GroupRecord.{GroupRecord}
-use Rattle.groups.proofs.Walks.{gathered}
 use Rattle.groups.proofs.search.llids_of.Statement.{statement}
 use Rattle.groups.proofs.search.llids_of.Tie as tie
 

@@ -8,14 +8,13 @@ use native.Mathlib.Omega.{arith}
 use lib.ListN.{length, take, drop, getD, set}
 use lib.Dec.{eqb}
 use borrow.Author.Tests.{eqb-true, leb-true, not-false}
-use Rattle.octets.specs.Choice.{both, either, pick}
+use Rattle.octets.specs.Choice.{both, either}
 use Rattle.octets.proofs.Choice.{both-left, both-right, true-false}
 use Rattle.octets.proofs.Maps.{first-at, first-more}
 use Rattle.octets.proofs.Tests.{all-one, all-weaker}
 use Rattle.octets.specs.Lists.{all}
-use Rattle.refusal.specs.Number.{numberOf, verdictNumber}
+use Rattle.refusal.specs.Number.{verdictNumber}
 use Rattle.refusal.specs.Order.{andThen, refuseIf}
-use Rattle.refusal.specs.declared.Refusal.{Refusal}
 use Rattle.refusal.specs.declared.Verdict.{Verdict}
 use Rattle.refusal.specs.declared.Verdict.the-variants.{Accepted, Refused}
 use Rattle.refusal.proofs.Numbers.{number-accepted}
@@ -31,12 +30,12 @@ use Rattle.protocol.specs.Replies.{advanceVerdict, onValid, reply, silent}
 use Rattle.protocol.proofs.Replies.{advance-accepted}
 use Rattle.unit.specs.Reached.{ifAccepted}
 use Rattle.olt.specs.Moves.{moveOrder}
+use Rattle.olt.specs.declared.OltMoved.{OltMoved}
 use Rattle.group_protocol.specs.GroupCalls.{groupAdvanced}
 use Rattle.group_protocol.specs.Head.{pastGroup, placesTaken, registeredGroups, validGroup, validGroups, validHead, withGroupKeys}
 use Rattle.group_protocol.specs.declared.GroupRecord.{GroupRecord}
 use Rattle.group_protocol.specs.declared.HeadEnd.{HeadEnd}
-use Rattle.headend.specs.HeadCalls.{groupsAdvanced, headAdvanced, headAdvanceOf, headAnswer, headMovedOf}
-use Rattle.headend.specs.declared.HeadMoved.{HeadMoved}
+use Rattle.headend.specs.HeadCalls.{groupsAdvanced, headAdvanced, headAdvanceOf, headAnswer, oltMovedOf}
 use Rattle.headend.proofs.NoGroups.{no-groups-invalid}
 
 -- the first i groups are moved
@@ -103,30 +102,23 @@ advances h n e =
           (λ g k. both-left _ _ (both-left _ _ (both-right _ _ k))) (registeredGroups h) (both-left _ _ (both-right _ _ valid));
     }
 
--- what it leaves, by its verdict: all move, or none
-pub head-moved : (h : HeadEnd) (n : ℕ) (v : Verdict) → v ≡ headOrder h n
-    → _≡_ {A = HeadMoved} (record {
-      head = record {
-        olt = ifAccepted v (oltAdvanced (h .olt) n) (h .olt);
-        groups = pick (eqb (verdictNumber v) 0) (groupsAdvanced (h .groups) n) (h .groups);
-      };
-      number = verdictNumber v;
-    })
-    (headMovedOf h n)
-unfolding headAdvanceOf headAnswer headAdvanced reply ifAccepted pick
-head-moved h n v e = rw (← e) (by-verdict v) where
-  by-code : (x : Refusal) (t : Bool) → eqb (numberOf x) 0 ≡ t → pick t (groupsAdvanced (h .groups) n) (h .groups) ≡ h .groups
-  by-code x true k = refused-accepts x (number-accepted (Refused x) (eqb-true _ _ k))
-  by-code x false k = refl
-
+-- the OLT that it leaves, by its verdict
+pub olt-moved : (h : HeadEnd) (n : ℕ) (v : Verdict) → v ≡ headOrder h n
+    → _≡_ {A = OltMoved} (record { olt = ifAccepted v (oltAdvanced (h .olt) n) (h .olt); number = verdictNumber v }) (oltMovedOf h n)
+unfolding headAdvanceOf headAnswer headAdvanced reply ifAccepted
+olt-moved h n v e = rw (← e) (by-verdict v) where
   by-verdict : (w : Verdict) → let r = headAnswer (reply w h silent (headAdvanced h n) silent) in
-      _≡_ {A = HeadMoved} (record {
-        head = record {
-          olt = ifAccepted w (oltAdvanced (h .olt) n) (h .olt);
-          groups = pick (eqb (verdictNumber w) 0) (groupsAdvanced (h .groups) n) (h .groups);
-        };
-        number = verdictNumber w;
-      })
-      (record { head = r .head; number = r .number })
+      _≡_ {A = OltMoved} (record { olt = ifAccepted w (oltAdvanced (h .olt) n) (h .olt); number = verdictNumber w })
+      (record { olt = r .head .olt; number = r .number })
   by-verdict Accepted = refl
-  by-verdict (Refused x) = rw (by-code x (eqb (numberOf x) 0) refl)
+  by-verdict (Refused x) = refl
+
+-- the groups that it leaves, accepted
+pub groups-go : (h : HeadEnd) (n : ℕ) → headAdvanceOf h n .number ≡ 0
+    → (headAdvanceOf h n .head .groups ≡ groupsAdvanced (h .groups) n) × Advances h n
+unfolding headAdvanceOf headAnswer headAdvanced reply
+groups-go h n = by-verdict (headOrder h n) refl where
+  by-verdict : (v : Verdict) → headOrder h n ≡ v → let r = headAnswer (reply v h silent (headAdvanced h n) silent) in
+      r .number ≡ 0 → (r .head .groups ≡ groupsAdvanced (h .groups) n) × Advances h n
+  by-verdict Accepted e z = (refl, advances h n e)
+  by-verdict (Refused x) e z = refused-accepts x (number-accepted (Refused x) z)

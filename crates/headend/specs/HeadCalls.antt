@@ -36,6 +36,7 @@ use Rattle.group_protocol.specs.declared.HeadEnd.{HeadEnd}
 use Rattle.group_protocol.specs.declared.Roster.{Roster}
 use Rattle.group_protocol.specs.declared.Answer.{Answer}
 use Rattle.group_protocol.specs.Naming.{byLlid, groupLift}
+use Rattle.olt.specs.declared.OltMoved.{OltMoved}
 use Rattle.headend.specs.declared.HeadAnswer.{HeadAnswer}
 use Rattle.headend.specs.declared.HeadClockDone.{HeadClockDone}
 use Rattle.headend.specs.declared.HeadClockSent.{HeadClockSent}
@@ -134,6 +135,10 @@ headAdvanceOf h n = headAnswer (reply (onValid (validHead h) (advanceVerdict (h 
 -- the same, the end first
 abbrev pub headMovedOf : HeadEnd → ℕ → HeadMoved
 headMovedOf h n = record { head = headAdvanceOf h n .head; number = headAdvanceOf h n .number }
+
+-- the OLT's part of it
+abbrev pub oltMovedOf : HeadEnd → ℕ → OltMoved
+oltMovedOf h n = record { olt = headAdvanceOf h n .head .olt; number = headAdvanceOf h n .number }
 
 ---- capture, the round trip measured again, and clock send: a group's LLID is 2, for it is no unit's
 

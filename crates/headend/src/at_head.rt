@@ -1,24 +1,17 @@
 // The calls of a head end but send and receive (02, C-14). A call on a unit is the unit's, put back in a copy of the OLT (D120).
 ghost use mathlib.Core.Path.{_≡_};
-ghost use mathlib.Core.Bool.{true};
-ghost use Prim.Native.Nat.{_≤_, _<_};
-ghost use lib.Dec.{eqb};
-ghost use lib.ListN.{take};
-ghost use Rattle.octets.specs.Choice.{pick};
-ghost use Rattle.octets.specs.Lists.{all};
-ghost use Rattle.clock.specs.Ticks.{maxTick};
+ghost use Prim.Native.Nat.{_<_};
 ghost use Rattle.ends.specs.Limits.{maxUnits};
-ghost use Rattle.ends.specs.Timers.{validTimer};
 ghost use Rattle.protocol.specs.OltCalls.{retryOf};
 ghost use Rattle.group_protocol.specs.GroupCalls.{memberNamed};
 ghost use Rattle.group_protocol.specs.Head.{validGroups};
-ghost use Rattle.headend.specs.HeadCalls.{freshHeadOf, groupRetryOf, groupsAdvanced, headAcknowledgeOf, headCaptureOf, headClockDone, headClockSendOf, headDone, headKeyDone, headKeySent, headMeasureOf, headMovedOf, headOfferOf, headRegisterOf, headRetryOf, oltKeySent, ownAcknowledgement, registerGroupOf};
+ghost use Rattle.group_protocol.specs.declared.HeadEnd.{HeadEnd};
+ghost use Rattle.headend.specs.HeadCalls.{freshHeadOf, groupRetryOf, headAcknowledgeOf, headAdvanceOf, headCaptureOf, headClockDone, headClockSendOf, headDone, headKeyDone, headKeySent, headMeasureOf, headOfferOf, headRegisterOf, headRetryOf, oltKeySent, oltMovedOf, ownAcknowledgement, registerGroupOf};
 ghost use Rattle.headend.specs.WithoutGroups.{WithoutGroups};
 use crate::HeadAnswer;
 use crate::HeadClockDone;
 use crate::HeadDone;
 use crate::HeadKeyDone;
-use crate::HeadMoved;
 use crate::Parts;
 use crate::answers;
 use crate::head_place::group_named;
@@ -26,7 +19,6 @@ use crate::head_place::locate_sound;
 use crate::head_place::sound_groups;
 use crate::head_place::way_to;
 use crate::registering;
-use crate::timing::table_advanced;
 use clock::MAX_ROUND_TRIP;
 use ends::Found;
 use ends::Identity;
@@ -35,6 +27,7 @@ use ends::check_olt::valid_olt;
 use group_protocol::Answer;
 use group_protocol::Groups;
 use group_protocol::HeadEnd;
+use group_protocol::MAX_GROUPS;
 use group_protocol::Members;
 use group_protocol::Roster;
 use groups::check_head::valid_groups;
@@ -43,6 +36,7 @@ use groups::making::no_groups;
 use groups::membership::member_at;
 use groups::membership::members_set;
 use groups::one_group;
+use olt::OltMoved;
 use olt::making::fresh_unit;
 use protocol::Acknowledgement;
 use protocol::KeyMessage;
@@ -51,6 +45,7 @@ use refusal::Verdict;
 use refusal::refuse_if;
 use refusal::verdict_number;
 use unit::calls;
+use unit::timing::timer_advanced;
 
 // A fresh head end of that MAC and first clock, without groups, so that it answers as its OLT. Refused, it is an end of zeros.
 pub fn fresh(mac: u64, clock: u64) -> HeadAnswer
@@ -114,41 +109,38 @@ pub fn register_group(head: HeadEnd, llid: u16, interval: u64, roster: Roster) -
     }
 }
 
-// The groups after an advance with that code. Without one nothing is copied for that.
-fn groups_moved(groups: Groups, number: u8, n: u64) -> Groups
-    requires { ⌜ (number ≡ 0 → (groups .count ≤ maxUnits) × (n ≤ maxTick)) ⌝ }
-    requires { ⌜ (number ≡ 0 → all (λ g. validTimer (g .keys .timer)) (take (groups .count) (groups .table)) ≡ true) ⌝ }
-    ensures { λ r. ⌜ r ≡ pick (eqb number 0) (groupsAdvanced groups n) groups ⌝ }
+// Ticks, clock and the timers of all units. What it costs does not depend on the ticks. The OLT is copied before the end is judged, and what its
+// units share stored as it was: so the copy is the one that is judged and moved (D119).
+pub fn moved(head: HeadEnd, n: u64) -> OltMoved
+    ensures { λ r. ⌜ r ≡ oltMovedOf head n ⌝ }
 {
-    if number != 0 {
-        return groups;
-    }
-    let count = groups.count;
-    if count == 0 {
-        return groups;
-    }
-    let table = groups.table;
-    let moved = table_advanced(table, count as usize, n);
-    Groups {
-        count,
-        table: moved,
-    }
-}
-
-// Ticks, clock and the timers of all units and groups. What it costs does not depend on the ticks.
-pub fn moved(head: HeadEnd, n: u64) -> HeadMoved
-    ensures { λ r. ⌜ r ≡ headMovedOf head n ⌝ }
-{
+    let mut olt = head.olt;
+    let kept = head.olt.shared;
+    olt.shared = kept;
     let sound = sound_groups(head);
     let ahead = refuse_if(!sound, Refusal::OutOfRange, Verdict::Accepted);
-    let done = olt::moved(head.olt, ahead, n);
-    let number = done.number;
-    let olt = done.olt;
-    let groups = groups_moved(head.groups, number, n);
-    HeadMoved {
-        head: HeadEnd { olt, groups },
-        number,
+    olt::moved(olt, ahead, n)
+}
+
+// The timers of all groups, in an advance that is accepted. Other groups than those of a valid end stay within the table all the same.
+pub fn groups_moved(groups: Groups, n: u64) -> Groups
+    ensures { λ r. ⌜ ((h : HeadEnd) → h .groups ≡ groups → headAdvanceOf h n .number ≡ 0 → r ≡ headAdvanceOf h n .head .groups) ⌝ }
+{
+    let mut r = groups;
+    let mut i: usize = 0;
+    while i < MAX_GROUPS as usize {
+        if groups.count as usize <= i {
+            return r;
+        }
+        let mut group = r.table[i];
+        let mut keys = group.keys;
+        let timer = timer_advanced(keys.timer, n);
+        keys.timer = timer;
+        group.keys = keys;
+        r.table[i] = group;
+        i += 1;
     }
+    r
 }
 
 // A group has no clock: its LLID is no unit's.

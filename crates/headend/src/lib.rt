@@ -7,7 +7,6 @@ pub mod at_head;
 mod head_place;
 pub mod head_traffic;
 mod registering;
-mod timing;
 
 use clock::Stamps;
 use ends::Olt;
@@ -22,7 +21,7 @@ pub struct HeadAnswer {
     pub head: HeadEnd,
 }
 
-// What an advance leaves. The end stands first, where nothing pads it, so that it is handed on where it lies (D119).
+// What an advance in place leaves with whoever lent a copy of its own.
 pub struct HeadMoved {
     pub head: HeadEnd,
     pub number: u8,

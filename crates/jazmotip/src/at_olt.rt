@@ -1,6 +1,6 @@
 // The calls of the OLT with its groups. All take the end by value but advance, which changes the end that is lent (01, Clock).
 ghost use mathlib.Core.Path.{_≡_};
-ghost use mathlib.Core.Bool.{false};
+ghost use mathlib.Core.Bool.{true, false};
 ghost use Rattle.octets.specs.Output.{withOutput};
 ghost use Rattle.group_protocol.specs.declared.HeadEnd.{HeadEnd};
 ghost use Rattle.headend.specs.HeadCalls.{freshHeadOf, headAcknowledgeOf, headAdvanceOf, headCaptureOf, headClockSendOf, headMeasureOf, headOfferOf, headRegisterOf, headRetryOf, partsOf, registerGroupOf};
@@ -70,29 +70,33 @@ pub extern "C" fn jazmotip_olt_register_group(
     at_head::register_group(olt, llid, interval, roster)
 }
 
-// What an advance leaves. Where no group moved the groups are those that were lent, and are not stored.
+// What an advance leaves, the groups apart: `grouped` says whether they moved.
 pub struct AfterAdvance {
     pub olt: Olt,
-    pub groups: Groups,
     pub number: u8,
     pub grouped: bool,
 }
 
 // The advance by value, with what the walk of the one in place needs of its contract (D116).
 fn advanced(olt: HeadEnd, n: u64) -> AfterAdvance
-    ensures { λ r. ⌜ ((r .number ≡ headAdvanceOf olt n .number) × (record { olt = r .olt; groups = r .groups } ≡ headAdvanceOf olt n .head))
-        × (r .grouped ≡ false → r .groups ≡ olt .groups) ⌝ }
+    ensures { λ r. ⌜ ((r .number ≡ headAdvanceOf olt n .number) × (r .olt ≡ headAdvanceOf olt n .head .olt))
+        × ((r .grouped ≡ true → headAdvanceOf olt n .number ≡ 0) × (r .grouped ≡ false → olt .groups ≡ headAdvanceOf olt n .head .groups)) ⌝ }
 {
     let done = at_head::moved(olt, n);
     let number = done.number;
-    let next = done.head.olt;
-    let groups = done.head.groups;
+    let next = done.olt;
     AfterAdvance {
         olt: next,
-        groups,
         number,
         grouped: (number == 0) & (olt.groups.count != 0),
     }
+}
+
+// The same of the groups that moved.
+fn groups_after(groups: Groups, n: u64) -> Groups
+    ensures { λ r. ⌜ ((h : HeadEnd) → h .groups ≡ groups → headAdvanceOf h n .number ≡ 0 → r ≡ headAdvanceOf h n .head .groups) ⌝ }
+{
+    at_head::groups_moved(groups, n)
 }
 
 // The OLT is stored, also where it is refused and so the same, and the groups where there are any.
@@ -103,7 +107,8 @@ pub extern "C" fn jazmotip_olt_advance(olt: &mut HeadEnd, n: u64) -> u8
     let answer = advanced(*olt, n);
     olt.olt = answer.olt;
     if answer.grouped {
-        olt.groups = answer.groups;
+        let groups = groups_after(olt.groups, n);
+        olt.groups = groups;
     }
     answer.number
 }

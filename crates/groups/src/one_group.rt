@@ -4,7 +4,6 @@ ghost use mathlib.Core.Path.{_≡_};
 ghost use Rattle.octets.specs.Choice.{pick};
 ghost use Rattle.protocol.specs.Messages.{noKeyMessage};
 ghost use Rattle.protocol.specs.Replies.{silent};
-ghost use Rattle.unit.specs.Reached.{ifAccepted};
 ghost use Rattle.group_protocol.specs.AsUnit.{asUnit};
 ghost use Rattle.group_protocol.specs.GroupCalls.{acknowledgeGroup, groupAcknowledgeVerdict, groupMarked, groupOutcome, offerGroup, retryGroup, someMember};
 ghost use Rattle.groups.specs.Reached.{reachedGroup};
@@ -66,16 +65,6 @@ pub(crate) fn as_unit(group: GroupRecord, set: bool) -> UnitRecord
     }
 }
 
-// The next one where the verdict accepts, else the one that was there.
-pub(crate) fn group_after(verdict: Verdict, next: GroupRecord, before: GroupRecord) -> GroupRecord
-    ensures { λ r. ⌜ r ≡ ifAccepted verdict next before ⌝ }
-{
-    match verdict {
-        Verdict::Accepted => next,
-        Verdict::Refused(_) => before,
-    }
-}
-
 // A new offer clears all marks.
 pub fn offer(
     way: Verdict,
@@ -91,19 +80,27 @@ pub fn offer(
     let unit = as_unit(group, set);
     let done = calls::offer(way, shared, unit, llid, key);
     let verdict = done.verdict;
-    let keys = done.unit.keys;
     let message = done.message;
-    let members = membership::unmarked(group.members);
-    let next = GroupRecord {
-        keys,
-        members,
-        llid: group.llid,
-    };
-    let after = group_after(verdict, next, group);
-    GroupKeySent {
-        verdict,
-        group: after,
-        message,
+    match verdict {
+        Verdict::Refused(refusal) => GroupKeySent {
+            verdict: Verdict::Refused(refusal),
+            group,
+            message,
+        },
+        Verdict::Accepted => {
+            let keys = done.unit.keys;
+            let members = membership::unmarked(group.members);
+            let next = GroupRecord {
+                keys,
+                members,
+                llid: group.llid,
+            };
+            GroupKeySent {
+                verdict: Verdict::Accepted,
+                group: next,
+                message,
+            }
+        }
     }
 }
 
@@ -175,10 +172,14 @@ pub fn acknowledge(
         ≡ reachedGroup way silent shared group (acknowledgeGroup answer member shared group) ⌝ }
 {
     let verdict = and_then(way, acknowledge_verdict(answer, member, group));
-    let next = marked(group, member);
-    let after = group_after(verdict, next, group);
-    GroupAnswer {
-        verdict,
-        group: after,
+    match verdict {
+        Verdict::Refused(refusal) => GroupAnswer {
+            verdict: Verdict::Refused(refusal),
+            group,
+        },
+        Verdict::Accepted => GroupAnswer {
+            verdict: Verdict::Accepted,
+            group: marked(group, member),
+        },
     }
 }

@@ -22,7 +22,7 @@ use Rattle.gf256.proofs.Lanes.{octet-and, octet-below, octet-xor}
 use Rattle.cipher.specs.Cipher.{cell, roundKey, round}
 use Rattle.cipher.specs.FirstRound.{FirstRound, IndexOctets, KeptRow, entered, ofTwo}
 use Rattle.cipher.specs.RowWords.{Both, Four, Mixed, rowOf, state}
-use Rattle.cipher.specs.declared.rows.Rows.{Rows}
+use Rattle.cipher.specs.declared.row_words.Rows.{Rows}
 use Rattle.cipher.proofs.RowWords.{four-octets, rounded-from, state-at, state-self}
 
 ---- counter blocks

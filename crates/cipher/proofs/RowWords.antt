@@ -16,8 +16,8 @@ use Rattle.gf256.specs.Substitution.{sbox}
 use Rattle.gf256.proofs.Lanes.{octet-xor, octet-below, octet-rest, octet-doubled}
 use Rattle.cipher.specs.Cipher.{stateOf, cell, roundKey, round, rounds, lastRound}
 use Rattle.cipher.specs.RowWords.{Four, Both, Eight, TwoRows, Shifted, Mixed, Rounded, LastColumns, PairKeys, Reached, rowOf, state, noRows, blockOctets}
-use Rattle.cipher.specs.declared.rows.Block.{Block}
-use Rattle.cipher.specs.declared.rows.Rows.{Rows}
+use Rattle.cipher.specs.declared.row_words.Block.{Block}
+use Rattle.cipher.specs.declared.row_words.Rows.{Rows}
 use Rattle.cipher.proofs.Sums.{first, second, third, fourth}
 
 ---- octets joined

@@ -12,7 +12,7 @@ use Rattle.gf256.specs.Lanes.{octetAt}
 use Rattle.gf256.specs.Substitution.{sbox}
 use Rattle.cipher.specs.Cipher.{Nr, cell, addRoundKey, roundKey, round, lastRound, cipher}
 use Rattle.cipher.specs.RowWords.{PairKeys, state}
-use Rattle.cipher.specs.declared.rows.Rows.{Rows}
+use Rattle.cipher.specs.declared.row_words.Rows.{Rows}
 
 -- counter block i as round 1 meets it
 abbrev pub entered : List ℕ → Nonce → ℕ → List ℕ

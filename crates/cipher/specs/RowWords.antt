@@ -10,8 +10,8 @@ use Rattle.gf256.specs.Lanes.{octetAt}
 use Rattle.gf256.specs.Substitution.{sbox}
 use Rattle.gf256.specs.Table.{sboxTable}
 use Rattle.cipher.specs.Cipher.{Nr, stateOf, roundKey, round, rounds}
-use Rattle.cipher.specs.declared.rows.Block.{Block}
-use Rattle.cipher.specs.declared.rows.Rows.{Rows}
+use Rattle.cipher.specs.declared.row_words.Block.{Block}
+use Rattle.cipher.specs.declared.row_words.Rows.{Rows}
 
 -- p holds of a result if t, the table that is lent for it, is that of the substitutions
 pub record BySbox (t : List ℕ) (p : Type 0) : Type 0 where

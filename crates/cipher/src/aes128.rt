@@ -7,8 +7,8 @@ ghost use Rattle.gf256.specs.Substitution.{sbox};
 ghost use Rattle.gf256.specs.Table.{sboxTable};
 ghost use Rattle.cipher.specs.Cipher.{addRoundKey, roundKey, cipher};
 ghost use Rattle.cipher.specs.Words.{word, xorWords, subWord};
-use super::rows::block_octets;
-use super::rows::encrypt_lone;
+use super::row_words::block_octets;
+use super::row_words::encrypt_lone;
 
 // The eleven round keys, one after the other.
 #[repr(C)]

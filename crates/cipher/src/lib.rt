@@ -2,4 +2,4 @@
 pub mod aes128;
 pub mod first_round;
 pub mod key_expansion;
-pub mod rows;
+pub mod row_words;

@@ -19,7 +19,7 @@ use ends::keyslots::only_key;
 use group_protocol::GroupRecord;
 use protocol::KeyChoice;
 use refusal::Verdict;
-use unit::traffic;
+use unit::unit_traffic;
 
 // Whether the send switches.
 fn is_next(choice: KeyChoice) -> bool
@@ -59,7 +59,7 @@ pub fn send(
         ≡ reachedGroup way noSending shared group (sendGroup llid channel eqs shared group)) ⌝ }
 {
     let unit = as_unit(group, true);
-    let done = traffic::send(way, shared, unit, llid, channel, eqs);
+    let done = unit_traffic::send(way, shared, unit, llid, channel, eqs);
     let verdict = done.verdict;
     let channels = done.channels;
     let sending = done.sending;

@@ -74,7 +74,7 @@ pub fn send(
             let i = at.place;
             let way = at.verdict;
             let unit = olt.units[i];
-            let done = unit::traffic::send(way, olt.shared, unit, llid, channel, eqs);
+            let done = unit::unit_traffic::send(way, olt.shared, unit, llid, channel, eqs);
             let verdict = done.verdict;
             let mut next = unit;
             next.keys.timer.flag = done.flag;
@@ -167,7 +167,7 @@ pub fn receive(head: HeadEnd, header: Header, octets: &[u8], output: &mut [u8]) 
     let i = at.place;
     let way = at.verdict;
     let unit = olt.units[i];
-    let done = unit::traffic::receive(way, olt.shared, unit, header);
+    let done = unit::unit_traffic::receive(way, olt.shared, unit, header);
     let verdict = done.verdict;
     let next = done.unit;
     let passage = done.passage;

@@ -23,7 +23,7 @@ use Rattle.gf256.specs.Lanes.{octetAt}
 use Rattle.cipher.specs.Cipher.{cipher}
 use Rattle.cipher.specs.RowWords.{blockOctets}
 use Rattle.sealing.specs.Steps.{blockSealed, maskedEq}
-use Rattle.cipher.specs.declared.rows.Block.{Block}
+use Rattle.cipher.specs.declared.row_words.Block.{Block}
 
 pub sealed-length : (w : List ℕ) (n : Nonce) (p : List ℕ) → length (sealed w n p) ≡ length p
 unfolding sealed

@@ -14,8 +14,8 @@ use Rattle.gf256.specs.Lanes.{octetAt}
 use Rattle.cipher.specs.Cipher.{cipher}
 use Rattle.cipher.specs.FirstRound.{Kept}
 use Rattle.cipher.specs.RowWords.{blockOctets}
-use Rattle.cipher.specs.declared.rows.Block.{Block}
-use Rattle.cipher.specs.declared.rows.Rows.{Rows}
+use Rattle.cipher.specs.declared.row_words.Block.{Block}
+use Rattle.cipher.specs.declared.row_words.Rows.{Rows}
 use Rattle.sealing.specs.Payload.{sealed}
 use Rattle.sealing.specs.declared.counter_mode.Paired.{Paired}
 use Rattle.sealing.specs.declared.counter_mode.Work.{Work}

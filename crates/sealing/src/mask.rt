@@ -5,8 +5,8 @@ ghost use Rattle.octets.specs.Bits.{bitOf};
 ghost use Rattle.envelope.specs.ControlMask.{masked};
 ghost use Rattle.gf256.specs.Lanes.{octetAt};
 ghost use Rattle.cipher.specs.RowWords.{Eight};
-use cipher::rows::eight;
-use cipher::rows::wide;
+use cipher::row_words::eight;
+use cipher::row_words::wide;
 
 pub(crate) fn eight_at(p: &[u8], at: usize) -> u64
     requires { ⌜ at + 8 ≤ length (now p) ⌝ }

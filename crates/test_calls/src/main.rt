@@ -2,17 +2,17 @@
 // is made by tools/test_calls.py.
 mod block_calls;
 mod class_calls;
-mod line;
 mod near_calls;
 mod olt_calls;
 mod onu_calls;
 mod payload_calls;
 mod show;
 mod values;
+mod whole_line;
 mod xgpon_calls;
 
 fn main() {
-    line::play();
+    whole_line::play();
     payload_calls::play();
     block_calls::play();
     near_calls::play();

@@ -18,7 +18,7 @@ use octets::EQ_OCTETS;
 use olt::place::locate;
 use protocol::Header;
 use refusal::verdict_number;
-use unit::traffic;
+use unit::unit_traffic;
 
 #[repr(C)]
 pub struct OltSent {
@@ -65,7 +65,7 @@ pub fn olt_send(olt: Olt, llid: u16, channel: u8, payload: &[u8], output: &mut [
     let way = at.verdict;
     let unit = r.units[i];
     let eqs = (payload.len() / EQ_OCTETS) as u64;
-    let done = traffic::send(way, r.shared, unit, llid, channel, eqs);
+    let done = unit_traffic::send(way, r.shared, unit, llid, channel, eqs);
     let verdict = done.verdict;
     let mut next = unit;
     next.keys.timer.flag = done.flag;
@@ -100,7 +100,7 @@ pub fn olt_receive(olt: Olt, header: Header, octets: &[u8], output: &mut [u8]) -
     let i = at.place;
     let way = at.verdict;
     let unit = r.units[i];
-    let done = traffic::receive(way, r.shared, unit, header);
+    let done = unit_traffic::receive(way, r.shared, unit, header);
     let verdict = done.verdict;
     let next = done.unit;
     let passage = done.passage;

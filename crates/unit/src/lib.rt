@@ -5,7 +5,7 @@ pub mod calls;
 pub mod passing;
 mod ticks;
 pub mod timing;
-pub mod traffic;
+pub mod unit_traffic;
 
 use clock::Stamps;
 use ends::Channels;

@@ -1,0 +1,24 @@
+-- `rows::encrypt_lone` meets its contract: AddRoundKey, the nine rounds and the last. Assumes nothing.
+use mathlib.Core.Path.{ap, _∙_}
+use Rattle.cipher.specs.Cipher.{Nr, roundKey, rounds, lastRound, cipher}
+use borrow.Author.Needs.{needs}
+use Rattle.cipher.proofs.row_words.encrypt_lone.Statement.{statement}
+use Rattle.cipher.proofs.row_words.encrypt_lone.Tie as tie
+
+returns : tie.Need-returns
+unfolding cipher
+returns c =
+    let ninth = c .before in
+    let rows = ninth .before in
+    let added = rows .before in
+    let w = added .before .args .w .now in
+    record {
+      holds = λ e.
+          c .finished .ensures .holds e
+          ∙ ap (lastRound (roundKey w Nr))
+          (ninth .lone-rounds .ensures .holds e ∙ ap (rounds w 9) (rows .rows-of .ensures ∙ added .add-first-key .ensures));
+    }
+
+pub encrypt-lone-spec : {M : Type 1} → statement M
+encrypt-lone-spec =
+    tie.close (tie.spec (λ c κs. search needs) (λ c κs. search needs) (λ c κs. search needs) (λ c κs. search needs) returns)

@@ -1,8 +1,0 @@
--- `rows::second` meets its contract, row by row. Assumes nothing.
-use mathlib.Core.Path.{refl}
-use Rattle.cipher.proofs.RowWords.{upper-state}
-use Rattle.cipher.proofs.rows.second.Statement.{statement}
-use Rattle.cipher.proofs.rows.second.Tie as tie
-
-pub second-spec : {M : Type 1} → statement M
-second-spec = tie.close (tie.spec (λ c. upper-state (c .before .before .before .before .args .s) _ refl refl refl refl))

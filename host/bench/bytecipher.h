@@ -37,9 +37,7 @@ static inline unsigned bytecipher_mask_eq(uint64_t half, const uint8_t *input, u
     word ^= half & ((spread ^ 0x0101010101010101) * 255);
     output[0] = control;
     memcpy(output + 1, &word, 8);
-    unsigned n = control - (control >> 1 & 0x55u);
-    n = (n & 0x33u) + (n >> 2 & 0x33u);
-    return 8 - ((n + (n >> 4)) & 0x0fu);
+    return (unsigned)((spread ^ 0x0101010101010101) * 0x0101010101010101 >> 56); /* faster than the ones in the control octet */
 }
 
 /* The eleven round keys of a key. */

@@ -9,7 +9,9 @@ use Rattle.octets.specs.Choice.{pick}
 use Rattle.octets.proofs.Choice.{either-none, either-false}
 use Rattle.octets.proofs.Maps.{map-take}
 use Rattle.ends.specs.Identities.{among, meets}
+use Rattle.ends.specs.declared.Found.{Found}
 use Rattle.ends.specs.declared.Found.the-variants.{At, Nowhere}
+use Rattle.group_protocol.specs.GroupCalls.{isFound}
 use Rattle.group_protocol.specs.Head.{groupFrom, groupLlids}
 use Rattle.group_protocol.specs.Members.{placeFrom}
 use Rattle.group_protocol.specs.declared.GroupRecord.{GroupRecord}
@@ -26,6 +28,12 @@ group-found i gs llid j e = place-among i llid (groupLlids gs) j (sym (group-pla
 
 pub group-nowhere : (i : ℕ) (gs : List GroupRecord) (llid : ℕ) → groupFrom i gs llid ≡ Nowhere → among llid (groupLlids gs) ≡ false
 group-nowhere i gs llid e = place-absent i llid (groupLlids gs) (sym (group-place i gs llid) ∙ e)
+
+-- the group that is found tells whether there is one
+pub found-among : (gs : List GroupRecord) (llid : ℕ) (f : Found) → f ≡ groupFrom 0 gs llid → isFound f ≡ among llid (groupLlids gs)
+unfolding isFound
+found-among gs llid (At j) e = sym (group-found 0 gs llid j (sym e))
+found-among gs llid Nowhere e = sym (group-nowhere 0 gs llid (sym e))
 
 pub llids-append : (a b : List GroupRecord) → groupLlids (a ++ b) ≡ groupLlids a ++ groupLlids b
 unfolding groupLlids

@@ -95,14 +95,14 @@ memberNamed o m a = pick (isUp (a .named)) (memberFound m (find o (a .unit))) No
 unfoldable pub answersOffer : UnitKeys → Answer → Bool
 answersOffer k a = both (eqb (a .kind) keyKind) (both (leb 1 (a .number)) (eqb (a .number) (k .offered)))
 
-unfoldable pub someMember : Found → Bool
-someMember Nowhere = false
-someMember (At j) = true
+unfoldable pub isFound : Found → Bool
+isFound Nowhere = false
+isFound (At j) = true
 
 unfoldable pub groupAcknowledgeVerdict : Answer → Found → UnitKeys → Verdict
 groupAcknowledgeVerdict a member k =
     refuseIf (eqb (a .kind) clockKind) UnknownLlid
-    (refuseIf (not (both (someMember member) (answersOffer k a))) NothingOutstanding Accepted)
+    (refuseIf (not (both (isFound member) (answersOffer k a))) NothingOutstanding Accepted)
 
 -- the member has acknowledged
 unfoldable pub groupMarked : GroupRecord → Found → GroupRecord

@@ -5,11 +5,12 @@ ghost use Rattle.octets.specs.Choice.{pick};
 ghost use Rattle.protocol.specs.Messages.{noKeyMessage};
 ghost use Rattle.protocol.specs.Replies.{silent};
 ghost use Rattle.group_protocol.specs.AsUnit.{asUnit};
-ghost use Rattle.group_protocol.specs.GroupCalls.{acknowledgeGroup, groupAcknowledgeVerdict, groupMarked, groupOutcome, offerGroup, retryGroup, someMember};
+ghost use Rattle.group_protocol.specs.GroupCalls.{acknowledgeGroup, groupAcknowledgeVerdict, groupMarked, groupOutcome, offerGroup, retryGroup};
 ghost use Rattle.groups.specs.Reached.{reachedGroup};
 use crate::GroupAnswer;
 use crate::GroupKeySent;
 use crate::membership;
+use crate::search::is_found;
 use ends::Confirmation;
 use ends::Found;
 use ends::Identity;
@@ -120,19 +121,10 @@ pub fn retry(way: Verdict, shared: Shared, group: GroupRecord, llid: u16) -> Gro
     }
 }
 
-fn some_member(member: Found) -> bool
-    ensures { λ r. ⌜ r ≡ someMember member ⌝ }
-{
-    match member {
-        Found::At(_) => true,
-        Found::Nowhere => false,
-    }
-}
-
 fn acknowledge_verdict(answer: Answer, member: Found, group: GroupRecord) -> Verdict
     ensures { λ r. ⌜ r ≡ groupAcknowledgeVerdict answer member (group .keys) ⌝ }
 {
-    let some = some_member(member);
+    let some = is_found(member);
     let number = answer.number;
     let answers = (answer.kind == KEY_KIND) & ((1 <= number) & (number == group.keys.offered));
     refuse_if(

@@ -3,6 +3,7 @@ ghost use mathlib.Core.Path.{_≡_};
 ghost use lib.ListN.{take};
 ghost use Rattle.ends.specs.Identities.{among, llidsOf, meets};
 ghost use Rattle.ends.specs.Table.{tableLlids};
+ghost use Rattle.group_protocol.specs.GroupCalls.{isFound};
 ghost use Rattle.group_protocol.specs.Head.{groupLlids};
 use ends::Found;
 use ends::Identity;
@@ -13,14 +14,19 @@ use ends::search::find;
 use group_protocol::GroupRecord;
 use group_protocol::MAX_GROUPS;
 
-pub fn is_registered(units: [UnitRecord; MAX_UNITS as usize], count: u8, llid: u16) -> bool
-    ensures { λ r. ⌜ r ≡ among llid (tableLlids (take count units)) ⌝ }
+pub fn is_found(found: Found) -> bool
+    ensures { λ r. ⌜ r ≡ isFound found ⌝ }
 {
-    let found = find(units, count, llid);
     match found {
         Found::At(_) => true,
         Found::Nowhere => false,
     }
+}
+
+pub fn is_registered(units: [UnitRecord; MAX_UNITS as usize], count: u8, llid: u16) -> bool
+    ensures { λ r. ⌜ r ≡ among llid (tableLlids (take count units)) ⌝ }
+{
+    is_found(find(units, count, llid))
 }
 
 // The LLID of each group, by its place. They are gathered, so that the table is not copied to be indexed (D119).

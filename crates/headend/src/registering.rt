@@ -1,10 +1,10 @@
 // What registrations with a head end refuse, and the members that one of a group names (02, C-14).
 ghost use mathlib.Core.Path.{_≡_};
-ghost use Prim.Native.Nat.{ℕ, _<_};
+ghost use Prim.Native.Nat.{_<_};
 ghost use Rattle.ends.specs.Limits.{maxUnits};
 ghost use Rattle.ends.specs.Table.{find};
 ghost use Rattle.protocol.specs.Replies.{onValid};
-ghost use Rattle.group_protocol.specs.Head.{findGroup, isGroup, withOneGroupMore};
+ghost use Rattle.group_protocol.specs.Head.{findGroup, withOneGroupMore};
 ghost use Rattle.group_protocol.specs.declared.HeadEnd.{HeadEnd};
 ghost use Rattle.headend.specs.HeadCalls.{groupVerdict, placeFound, rosterMembers, unitVerdict};
 use clock::MAX_ROUND_TRIP;
@@ -24,6 +24,7 @@ use group_protocol::Roster;
 use groups::membership::fresh_members;
 use groups::membership::valid_members;
 use groups::search::groups_meet;
+use groups::search::is_found;
 use groups::search::is_registered;
 use refusal::Refusal;
 use refusal::Verdict;
@@ -96,16 +97,6 @@ pub(crate) fn roster_members(olt: Olt, roster: Roster) -> Members
     fresh_members(places, roster.count)
 }
 
-// Whether an LLID is a group's, by the group that was found for it.
-fn is_group(found: Found) -> bool
-    ensures { λ r. ⌜ ((h : HeadEnd) (llid : ℕ) → found ≡ findGroup h llid → r ≡ isGroup h llid) ⌝ }
-{
-    match found {
-        Found::At(_) => true,
-        Found::Nowhere => false,
-    }
-}
-
 // 1 for an end that is not `valid`, then a group's own 1, 21, 3 and 4. `found` is the group that has the LLID already.
 pub(crate) fn group_verdict(
     head: HeadEnd,
@@ -123,7 +114,7 @@ pub(crate) fn group_verdict(
     let named = valid_members(head.olt.count, members);
     let units = head.olt.units;
     let unit = is_registered(units, head.olt.count, llid);
-    let group = is_group(found);
+    let group = is_found(found);
     let places = head.olt.count as u64 + head.groups.count as u64;
     refuse_if(
         !valid,

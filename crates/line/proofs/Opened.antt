@@ -4,7 +4,7 @@ use Rattle.refusal.specs.Order.{andThen}
 use Rattle.ends.specs.Table.{withOltChannels}
 use Rattle.group_protocol.specs.Members.{placesOf, marksOf, rosterLlids, placeFrom, memberAt, freshMembers, unmarked, marked, validMembers}
 use Rattle.group_protocol.specs.Head.{withGroupKeys, withMembers, freshGroup, noGroup, groupLlids, groupFrom, findGroup, pastGroup, withOlt, withGroup, withOneGroupMore, noGroups, validGroupNumbers, validGroup, apartLlids, validGroups, validHead}
-use Rattle.group_protocol.specs.GroupCalls.{groupOutcome, groupAdvanced, membersSet, groupOfferVerdict, groupOffered, offerGroup, retryGroup, memberFound, memberNamed, answersOffer, someMember, groupAcknowledgeVerdict, groupMarked, acknowledgeGroup, groupSwitches, groupSendChoice, wipedAtSwitch, groupKeysAfterSend, sendGroup}
+use Rattle.group_protocol.specs.GroupCalls.{groupOutcome, groupAdvanced, membersSet, groupOfferVerdict, groupOffered, offerGroup, retryGroup, memberFound, memberNamed, answersOffer, isFound, groupAcknowledgeVerdict, groupMarked, acknowledgeGroup, groupSwitches, groupSendChoice, wipedAtSwitch, groupKeysAfterSend, sendGroup}
 use Rattle.group_protocol.specs.Subscriber as joined
 use Rattle.group_protocol.specs.Subscriber.{freshJoined, joinedLlids, findJoined, pastJoined, withOnu, withJoined, withOneJoinedMore, noMemberships, validJoined, validGroupsOf, validMemberships, validSubscriber}
 use Rattle.group_protocol.specs.JoinedCalls.{highestHeld, holds, heldAgain, newNumber, joinedMessageVerdict, joinedTaken, joinedAfterMessage, groupAnswer, messageJoined, joinedChoice, joinedReceiveVerdict, joinedMoved, joinedAfterReceipt, receiveJoined}
@@ -27,7 +27,7 @@ unfolding
     placesOf marksOf rosterLlids placeFrom memberAt freshMembers unmarked marked validMembers
     withGroupKeys withMembers freshGroup noGroup groupLlids groupFrom findGroup pastGroup withOlt withGroup withOneGroupMore noGroups
     validGroupNumbers validGroup apartLlids validGroups validHead
-    groupOutcome groupAdvanced membersSet groupOfferVerdict groupOffered offerGroup retryGroup memberFound memberNamed answersOffer someMember
+    groupOutcome groupAdvanced membersSet groupOfferVerdict groupOffered offerGroup retryGroup memberFound memberNamed answersOffer isFound
     groupAcknowledgeVerdict groupMarked acknowledgeGroup groupSwitches groupSendChoice wipedAtSwitch groupKeysAfterSend sendGroup
     joined.alone freshJoined joinedLlids findJoined pastJoined withOnu withJoined withOneJoinedMore noMemberships validJoined validGroupsOf
     validMemberships validSubscriber

@@ -1,12 +1,14 @@
 -- `headend::registering::group_verdict` meets its contract: the causes are those of the definition, in its order. Assumes nothing.
 use borrow.Author.Needs.{needs}
 use Rattle.octets.specs.Choice.{both, either}
+use Rattle.group_protocol.specs.Head.{findGroup, registeredGroups}
+use Rattle.group_protocol.proofs.Llids.{found-among}
 use Rattle.headend.specs.HeadCalls.{groupVerdict, validGroupRegistration}
 use Rattle.headend.proofs.registering.group_verdict.Statement.{statement}
 use Rattle.headend.proofs.registering.group_verdict.Tie as tie
 
 returns : tie.Need-returns
-unfolding groupVerdict validGroupRegistration both either
+unfolding groupVerdict validGroupRegistration findGroup both either
 returns c =
     let full = c .before .before .before .before in
     let group = full .before .before .before in
@@ -20,7 +22,8 @@ returns c =
       c .before .before .refuse-if3 .ensures,
       c .before .before .before .refuse-if2 .ensures,
       full .refuse-if .ensures,
-      group .is-group .ensures (start .args .head) (start .args .llid) (start .pre),
+      group .is-found .ensures,
+      found-among (registeredGroups (start .args .head)) (start .args .llid) (start .args .found) (start .pre),
       unit .is-registered .ensures,
       named .valid-members .ensures,
       when .valid-interval .ensures,

@@ -1,6 +1,6 @@
 -- Laws of LLIDs. Assumes nothing.
 use mathlib.Core.Path.{_≡_, refl, sym, _∙_, ap}
-use mathlib.Core.Bool.{Bool, true, false}
+use mathlib.Core.Bool.{true, false}
 use mathlib.Core.List.{List, [], _∷_, _++_}
 use mathlib.Core.Logic.{⊎-elim}
 use Prim.Native.Nat.{ℕ, zero, suc, _+_, _≤_, _<_}
@@ -13,7 +13,7 @@ use lib.Seq.{take-suc}
 use borrow.Author.Tests.{eqb-true, eq-eqb, ne-eqb, leb-true, lt-ltb, not-true}
 use Rattle.octets.specs.Choice.{both, either, pick}
 use Rattle.octets.specs.Lists.{tabulate}
-use Rattle.octets.proofs.Choice.{both-left, both-right, both-true, either-false, pick-true, true-false, either-left, either-right, either-none, either-cases, either-assoc, either-swap, not-of-false}
+use Rattle.octets.proofs.Choice.{both-left, both-right, both-true, either-false, true-false, either-left, either-right, either-none, either-cases, either-assoc, either-swap, not-of-false, not-of-true, not-both}
 use Rattle.octets.proofs.Lists.{tabulate-at, tabulate-ext}
 use Rattle.octets.proofs.Steps.{drop-step}
 use Rattle.ends.specs.Limits.{maxLlids}
@@ -77,10 +77,7 @@ distinct-apart (y ∷ xs) ys x d a =
 
 -- a number of the first part once more
 pub distinct-again : (xs : List ℕ) (x : ℕ) (ys : List ℕ) → among x xs ≡ true → distinct (xs ++ (x ∷ ys)) ≡ false
-distinct-again xs x ys a = by-case (distinct (xs ++ (x ∷ ys))) refl where
-  by-case : (t : Bool) → distinct (xs ++ (x ∷ ys)) ≡ t → distinct (xs ++ (x ∷ ys)) ≡ false
-  by-case true q = true-false (sym (among-head x ys) ∙ distinct-apart xs (x ∷ ys) x q a)
-  by-case false q = q
+distinct-again xs x ys a = not-both _ _ (λ d. distinct-apart xs (x ∷ ys) x d a) (among-head x ys)
 
 pub distinct-more : (xs : List ℕ) (x : ℕ) → distinct xs ≡ true → among x xs ≡ false → distinct (xs ++ (x ∷ [])) ≡ true
 unfolding distinct among both
@@ -95,7 +92,6 @@ distinct-left (x ∷ xs) ys d =
     let new = either-false _ _ (sym (among-append x xs ys) ∙ not-true _ (both-left _ _ d)) in
     both-true (not-of-false (new .0)) (distinct-left xs ys (both-right _ _ d))
 
--- a number twice in the first part
 -- one number more, which is none of those before
 pub distinct-step : (l : List ℕ) (i : ℕ) → i < length l → distinct (take i l) ≡ true → among (getD l i 0) (take i l) ≡ false
     → distinct (take (i + 1) l) ≡ true
@@ -107,11 +103,9 @@ distinct-stop l i h a =
     let split : l ≡ take i l ++ (getD l i 0 ∷ drop (i + 1) l) = sym (take-append-drop i l) ∙ ap (λ (b : List ℕ). take i l ++ b) (drop-step l i 0 h) in
     ap distinct split ∙ distinct-again (take i l) (getD l i 0) (drop (i + 1) l) a
 
+-- a number twice in the first part
 pub distinct-no : (xs ys : List ℕ) → distinct xs ≡ false → distinct (xs ++ ys) ≡ false
-distinct-no xs ys e = by-case (distinct (xs ++ ys)) refl where
-  by-case : (t : Bool) → distinct (xs ++ ys) ≡ t → distinct (xs ++ ys) ≡ false
-  by-case true q = true-false (sym (distinct-left xs ys q) ∙ e)
-  by-case false q = q
+distinct-no xs ys e = not-both _ _ (λ d. not-of-true (distinct-left xs ys d)) (not-of-false e)
 
 ---- identities
 
@@ -129,14 +123,11 @@ first-has i h = by-count (i .count) h where
 
 -- the LLIDs are kept
 pub kept-llids : (i : Identity) → i .count ≤ maxLlids → llidsOf (kept i) ≡ llidsOf i
-unfolding llidsOf kept
+unfolding llidsOf kept pick
 kept-llids i h =
-    tabulate-ext 0 (i .count) (λ j. getD (tabulate 0 maxLlids (λ j. pick (ltb j (i .count)) (getD (i .llids) j 0) 0)) j 0) (λ j. getD (i .llids) j 0)
-    (λ k a b.
-    let below : k < i .count = omega arith in
-    tabulate-at 0 maxLlids (λ j. pick (ltb j (i .count)) (getD (i .llids) j 0) 0) k 0 (omega arith)
-    ∙ ap (λ (j : ℕ). pick (ltb j (i .count)) (getD (i .llids) j 0) 0) (zero-add k)
-    ∙ pick-true (getD (i .llids) k 0) 0 (lt-ltb k (i .count) below))
+    let used : ℕ → ℕ = λ j. pick (ltb j (i .count)) (getD (i .llids) j 0) 0 in
+    tabulate-ext 0 (i .count) (λ j. getD (tabulate 0 maxLlids used) j 0) _
+    (λ k a b. tabulate-at 0 maxLlids used k 0 (omega arith) ∙ rw (zero-add, lt-ltb k (i .count) (omega arith)))
 
 pub kept-has : (i : Identity) (llid : ℕ) → i .count ≤ maxLlids → has (kept i) llid ≡ has i llid
 unfolding has

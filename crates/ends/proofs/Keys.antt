@@ -22,12 +22,15 @@ pub key-index : (s : Slots) (m n : ℕ) → m % 2 ≡ n % 2 → keyIn s m ≡ ke
 unfolding keyIn
 key-index s m n e = rw e
 
+-- what is put into one place of two, by a test, is found there
+pub pick-own : {A : Type 0} (t : Bool) (a b c : A) → pick t (pick t a b) (pick t c a) ≡ a
+unfolding pick
+pick-own true a b c = refl
+pick-own false a b c = refl
+
 pub key-stored : (s : Slots) (n : ℕ) (key : List ℕ) → keyIn (withKey s n key) n ≡ key
-unfolding keyIn withKey pick
-key-stored s n key = by-index (eqb (n % 2) 0) where
-  by-index : (t : Bool) → pick t (pick t key (s .even)) (pick t (s .odd) key) ≡ key
-  by-index true = refl
-  by-index false = refl
+unfolding keyIn withKey
+key-stored s n key = pick-own (eqb (n % 2) 0) key (s .even) (s .odd)
 
 -- a key stored under one index leaves that of the other
 pub key-beside : (s : Slots) (m n : ℕ) (key : List ℕ) → (m % 2 ≡ n % 2 → ⊥) → keyIn (withKey s n key) m ≡ keyIn s m

@@ -34,19 +34,14 @@ by-search l x = refl
 
 ---- one number more
 
-among-more : (y : ℕ) (l : List ℕ) (x : ℕ) → among y (l ++ (x ∷ [])) ≡ either (among y l) (eqb x y)
-unfolding among either
-among-more y l x = among-append y l (x ∷ []) ∙ ap (either (among y l)) (last (eqb x y)) where
-  last : (t : Bool) → either t false ≡ t
-  last true = refl
-  last false = refl
-
-among-other : (y : ℕ) (l : List ℕ) (x : ℕ) → (x ≡ y → ⊥) → among y (l ++ (x ∷ [])) ≡ among y l
+pub either-no : (t : Bool) → either t false ≡ t
 unfolding either
-among-other y l x h = among-more y l x ∙ rw (ne-eqb x y h) (last (among y l)) where
-  last : (t : Bool) → either t false ≡ t
-  last true = refl
-  last false = refl
+either-no true = refl
+either-no false = refl
+
+among-more : (y : ℕ) (l : List ℕ) (x : ℕ) → among y (l ++ (x ∷ [])) ≡ either (among y l) (eqb x y)
+unfolding among
+among-more y l x = among-append y l (x ∷ []) ∙ ap (either (among y l)) (either-no (eqb x y))
 
 -- what a mark tells of a number
 record Told (l : List ℕ) (y mark : ℕ) : Type 0 where
@@ -55,23 +50,22 @@ record Told (l : List ℕ) (y mark : ℕ) : Type 0 where
 
 -- at a place that the new number does not have, the mark tells what it told
 told-old : (l : List ℕ) (x y mark : ℕ) → (x ≡ y → ⊥) → Told l y mark → Told (l ++ (x ∷ [])) y mark
+unfolding byMark pick
 told-old l x y mark h t =
-    record {
-      names = λ k. simp length-append (omega (arith, t .names k));
-      tells = among-other y l x h ∙ by-zero (eqb mark 0) refl;
-    } where
-      by-crowd : (mark ≡ 0 → ⊥) → (b : Bool) → eqb mark crowded ≡ b → among y l ≡ byMark (l ++ (x ∷ [])) y mark
-      by-crowd z true q =
-          sym (among-other y l x h) ∙ sym (by-search (l ++ (x ∷ [])) y) ∙ ap (byMark (l ++ (x ∷ [])) y) (sym (eqb-true mark crowded q))
-      by-crowd z false q =
-          let k : mark ≡ crowded → ⊥ = eqb-false mark crowded q in
-          let low : mark - 1 < length l = omega (arith, t .names k) in
-          t .tells ∙ by-own l y mark z k
-          ∙ sym (by-own (l ++ (x ∷ [])) y mark z k ∙ ap (λ (w : ℕ). eqb w y) (List·getD-append l (x ∷ []) 0 (mark - 1) low))
+    record { names = λ k. simp length-append (omega (arith, t .names k)); tells = by-mark (eqb mark 0) (eqb mark crowded) refl refl (t .tells) } where
+      told-by : List ℕ → Bool → Bool → Bool
+      told-by m none many = pick none false (pick many (among y m) (eqb (getD m (mark - 1) 0) y))
 
-      by-zero : (b : Bool) → eqb mark 0 ≡ b → among y l ≡ byMark (l ++ (x ∷ [])) y mark
-      by-zero true q = let z = eqb-true mark 0 q in t .tells ∙ by-none l y mark z ∙ sym (by-none (l ++ (x ∷ [])) y mark z)
-      by-zero false q = by-crowd (eqb-false mark 0 q) (eqb mark crowded) refl
+      same : among y (l ++ (x ∷ [])) ≡ among y l
+      same = among-more y l x ∙ rw (ne-eqb x y h) (either-no (among y l))
+
+      by-mark : (none many : Bool) → eqb mark 0 ≡ none → eqb mark crowded ≡ many → among y l ≡ told-by l none many
+          → among y (l ++ (x ∷ [])) ≡ told-by (l ++ (x ∷ [])) none many
+      by-mark true many p q f = same ∙ f
+      by-mark false true p q f = refl
+      by-mark false false p q f =
+          let low : mark - 1 < length l = omega (arith, eqb-false mark 0 p, t .names (eqb-false mark crowded q)) in
+          rw (List·getD-append l (x ∷ []) 0 (mark - 1) low) (same ∙ f)
 
 -- at its place the mark names the new number, if it is the first there, and else has all searched
 told-new : (l : List ℕ) (x y mark : ℕ) → length l + 1 < crowded → Told l y mark → Told (l ++ (x ∷ [])) y (nextMark mark (length l))
@@ -93,40 +87,28 @@ told-new l x y mark few t = by-zero (eqb mark 0) refl where
 
 pub marked-none : Marked [] (replicate markPlaces 0)
 unfolding among
-marked-none =
-    record {
-      places = refl;
-      names = λ x k. rw (unmarked x) (omega arith);
-      tells = λ x. sym (by-none [] x _ (unmarked x));
-    } where
-      unmarked : (x : ℕ) → _≡_ {A = ℕ} (getD (replicate markPlaces 0) (markPlace x) 0) 0
-      unmarked x = getD-replicate markPlaces (markPlace x) 0 0 (place-below x)
+marked-none = record { places = refl; names = λ x k. rw (unmarked x) (omega arith); tells = λ x. sym (by-none [] x _ (unmarked x)) } where
+  unmarked : (x : ℕ) → _≡_ {A = ℕ} (getD (replicate markPlaces 0) (markPlace x) 0) 0
+  unmarked x = getD-replicate markPlaces (markPlace x) 0 0 (place-below x)
 
 module _ (l marks : List ℕ) (x : ℕ) (few : length l + 1 < crowded) (m : Marked l marks) where
-  told : (y : ℕ) → Told (l ++ (x ∷ [])) y (getD (set marks (markPlace x) (nextMark (getD marks (markPlace x) 0) (length l))) (markPlace y) 0)
-  told y = by-place (eqb (markPlace y) (markPlace x)) refl where
-    was : Told l y (getD marks (markPlace y) 0)
-    was = record { names = m .names y; tells = m .tells y }
+  abbrev after : List ℕ
+  after = set marks (markPlace x) (nextMark (getD marks (markPlace x) 0) (length l))
 
-    by-place : (b : Bool) → eqb (markPlace y) (markPlace x) ≡ b
-        → Told (l ++ (x ∷ [])) y (getD (set marks (markPlace x) (nextMark (getD marks (markPlace x) 0) (length l))) (markPlace y) 0)
-    by-place true q =
+  told : (y : ℕ) → Told (l ++ (x ∷ [])) y (getD after (markPlace y) 0)
+  told y = by-place (eqb (markPlace y) (markPlace x)) refl (record { names = m .names y; tells = m .tells y }) where
+    by-place : (b : Bool) → eqb (markPlace y) (markPlace x) ≡ b → Told l y (getD marks (markPlace y) 0)
+        → Told (l ++ (x ∷ [])) y (getD after (markPlace y) 0)
+    by-place true q was =
         let e : markPlace y ≡ markPlace x = eqb-true _ _ q in
-        let low : markPlace x < length marks = omega (arith, place-below x, m .places) in
-        rw (e, getD-set-same marks (markPlace x) (nextMark (getD marks (markPlace x) 0) (length l)) 0 low)
+        rw (e, getD-set-same marks (markPlace x) _ 0 (omega (arith, place-below x, m .places)))
         (told-new l x y (getD marks (markPlace x) 0) few (rw e at was))
-    by-place false q =
-        let e : markPlace y ≡ markPlace x → ⊥ = eqb-false _ _ q in
-        rw (getD-set-other marks (markPlace x) (markPlace y) (nextMark (getD marks (markPlace x) 0) (length l)) 0 e)
-        (told-old l x y (getD marks (markPlace y) 0) (λ w. e (ap markPlace (sym w))) was)
+    by-place false q was =
+        let e = eqb-false _ _ q in
+        rw (getD-set-other marks (markPlace x) (markPlace y) _ 0 e) (told-old l x y (getD marks (markPlace y) 0) (λ w. e (ap markPlace (sym w))) was)
 
-  pub marked-more : Marked (l ++ (x ∷ [])) (set marks (markPlace x) (nextMark (getD marks (markPlace x) 0) (length l)))
-  marked-more =
-      record {
-        places = simp length-set (m .places);
-        names = λ y. told y .names;
-        tells = λ y. told y .tells;
-      }
+  marked-more : Marked (l ++ (x ∷ [])) after
+  marked-more = record { places = simp length-set (m .places); names = λ y. told y .names; tells = λ y. told y .tells }
 
 -- a number put behind the first n + j of a list, and its mark left
 pub marked-step : (list marks : List ℕ) (n j x m mark : ℕ) → n + j < length list → n + j + 1 < crowded → m ≡ markPlace x

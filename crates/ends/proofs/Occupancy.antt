@@ -13,14 +13,12 @@ use Rattle.ends.specs.Limits.{maxFree}
 use Rattle.envelope.specs.Channels.{onZero}
 use Rattle.ends.specs.Occupancy.{freeChannels, freeFrom, taken, occupied, validChannels}
 use Rattle.ends.specs.declared.Channels.{Channels}
+use Rattle.ends.proofs.Keys.{pick-own}
 
 -- a header's own channel is free from the tick after its last EQ
 pub free-own : (c : Channels) (channel tick eqs : ℕ) → freeFrom (occupied c channel tick eqs) channel ≡ tick + eqs + 1
-unfolding freeFrom occupied pick
-free-own c channel tick eqs = by-channel (onZero channel) where
-  by-channel : (t : Bool) → pick t (pick t (tick + eqs + 1) (c .zero)) (pick t (c .one) (tick + eqs + 1)) ≡ tick + eqs + 1
-  by-channel true = refl
-  by-channel false = refl
+unfolding freeFrom occupied
+free-own c channel tick eqs = pick-own (onZero channel) (tick + eqs + 1) (c .zero) (c .one)
 
 -- a header at a tick keeps its channel for as many ticks more as it has EQs
 pub taken-until : (c : Channels) (channel tick eqs later : ℕ) → later ≤ tick + eqs → taken (occupied c channel tick eqs) channel later ≡ true

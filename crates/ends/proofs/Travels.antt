@@ -3,7 +3,7 @@ use mathlib.Core.Path.{_≡_, refl}
 use mathlib.Core.Bool.{true}
 use Prim.Native.Nat.{ℕ, _+_, _-_, _*_, _%_, _≤_, _<_}
 use native.Mathlib.Omega.{arith}
-use borrow.Author.Tests.{leb-true, le-leb}
+use borrow.Author.Tests.{leb-true}
 use Rattle.clock.specs.Ticks.{maxTick}
 use Rattle.ends.specs.Limits.{maxChanges}
 use Rattle.ends.specs.Travels.{wordTurn, shiftOf, validChanges, travelOf}
@@ -12,10 +12,6 @@ use Rattle.ends.specs.declared.Onu.{Onu}
 pub shift-in-range : (changes : ℕ) → validChanges changes ≡ true → shiftOf changes ≤ 2 * maxChanges
 unfolding validChanges
 shift-in-range changes e = leb-true _ _ e
-
-pub changes-valid : (changes : ℕ) → shiftOf changes ≤ 2 * maxChanges → validChanges changes ≡ true
-unfolding validChanges
-changes-valid changes h = le-leb _ _ h
 
 -- a fresh unit's
 pub no-changes-valid : validChanges 0 ≡ true

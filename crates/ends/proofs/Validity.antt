@@ -1,11 +1,11 @@
 -- What validity says of each record, as facts, and that the facts give it. Assumes nothing.
-use mathlib.Core.Path.{_≡_, refl, sym, _∙_}
+use mathlib.Core.Path.{_≡_, refl}
 use mathlib.Core.Bool.{true, Bool, false}
 use Prim.Native.Nat.{ℕ, _+_, _≤_, _<_}
 use lib.Dec.{leb, eqb, ltb}
-use borrow.Author.Tests.{leb-true, ltb-true, le-leb, lt-ltb, eqb-true, ne-eqb}
+use borrow.Author.Tests.{leb-true, ltb-true, le-leb, lt-ltb, eqb-true, not-true}
 use Rattle.octets.specs.Choice.{either, pick}
-use Rattle.octets.proofs.Choice.{both-left, both-right, both-true, pick-true, pick-false, either-cases}
+use Rattle.octets.proofs.Choice.{both-left, both-right, both-true, either-cases, not-of-false}
 use Rattle.clock.specs.Ticks.{maxTick, clockTurn, maxRoundTrip, localTurn}
 use Rattle.ends.specs.Limits.{maxUnits, maxKeyNumber}
 use Rattle.ends.specs.Timers.{validTimer}
@@ -31,6 +31,11 @@ use Rattle.ends.specs.Flags.{isUp}
 use Rattle.ends.specs.declared.OnuKeys.{OnuKeys}
 use Rattle.ends.specs.declared.OnuClock.{OnuClock}
 
+-- from a joined test that holds, its parts, and from its parts the test
+pub ruleset facts = (both-left, both-right, leb-true, ltb-true, not-true)
+
+pub ruleset tests = (both-true, le-leb, lt-ltb, not-of-false)
+
 ---- the OLT's clock for a unit
 
 pub record ClockInRange (tick : ℕ) (c : UnitClock) : Type 0 where
@@ -42,24 +47,11 @@ pub record ClockInRange (tick : ℕ) (c : UnitClock) : Type 0 where
 
 pub clock-in-range : (tick : ℕ) (c : UnitClock) → validUnitClock tick c ≡ true → ClockInRange tick c
 unfolding validUnitClock
-clock-in-range tick c e =
-    let a = both-right _ _ e in
-    let b = both-right _ _ a in
-    let d = both-right _ _ b in
-    record {
-      trip = leb-true _ _ (both-left _ _ e);
-      captured = leb-true _ _ (both-left _ _ a);
-      since = both-left _ _ b;
-      sent = leb-true _ _ (both-left _ _ d);
-      acknowledged = leb-true _ _ (both-right _ _ d);
-    }
+clock-in-range tick c e = search facts
 
 pub clock-valid : (tick : ℕ) (c : UnitClock) → ClockInRange tick c → validUnitClock tick c ≡ true
 unfolding validUnitClock
-clock-valid tick c r =
-    both-true (le-leb _ _ (r .trip))
-    (both-true (le-leb _ _ (r .captured))
-    (both-true (r .since) (both-true (le-leb _ _ (r .sent)) (le-leb _ _ (r .acknowledged)))))
+clock-valid tick c r = search tests
 
 ---- a unit
 
@@ -75,30 +67,11 @@ pub record UnitInRange (tick : ℕ) (u : UnitRecord) : Type 0 where
 
 pub unit-in-range : (tick : ℕ) (u : UnitRecord) → validUnit tick u ≡ true → UnitInRange tick u
 unfolding validUnit validKeys validNumbers
-unit-in-range tick u e =
-    let a = both-right _ _ e in
-    let k = both-left _ _ a in
-    let b = both-right _ _ a in
-    let n = both-left _ _ b in
-    let c = both-right _ _ b in
-    record {
-      identity = both-left _ _ e;
-      timer = both-left _ _ k;
-      first = both-right _ _ k;
-      low = leb-true _ _ (both-left _ _ n);
-      mid = leb-true _ _ (both-left _ _ (both-right _ _ n));
-      high = leb-true _ _ (both-right _ _ (both-right _ _ n));
-      acknowledged = leb-true _ _ (both-left _ _ c);
-      clock = both-right _ _ c;
-    }
+unit-in-range tick u e = search facts
 
 pub unit-valid : (tick : ℕ) (u : UnitRecord) → UnitInRange tick u → validUnit tick u ≡ true
 unfolding validUnit validKeys validNumbers
-unit-valid tick u r =
-    both-true (r .identity)
-    (both-true (both-true (r .timer) (r .first))
-    (both-true (both-true (le-leb _ _ (r .low)) (both-true (le-leb _ _ (r .mid)) (le-leb _ _ (r .high))))
-    (both-true (le-leb _ _ (r .acknowledged)) (r .clock))))
+unit-valid tick u r = search tests
 
 ---- what the units share
 
@@ -110,19 +83,11 @@ pub record SharedInRange (s : Shared) : Type 0 where
 
 pub shared-in-range : (s : Shared) → validShared s ≡ true → SharedInRange s
 unfolding validShared
-shared-in-range s e =
-    let a = both-right _ _ e in
-    let b = both-right _ _ a in
-    record {
-      mac = both-left _ _ e;
-      tick = leb-true _ _ (both-left _ _ a);
-      clock = ltb-true _ _ (both-left _ _ b);
-      channels = both-right _ _ b;
-    }
+shared-in-range s e = search facts
 
 pub shared-valid : (s : Shared) → SharedInRange s → validShared s ≡ true
 unfolding validShared
-shared-valid s r = both-true (r .mac) (both-true (le-leb _ _ (r .tick)) (both-true (lt-ltb _ _ (r .clock)) (r .channels)))
+shared-valid s r = search tests
 
 ---- the OLT
 
@@ -134,14 +99,11 @@ pub record OltInRange (o : Olt) : Type 0 where
 
 pub olt-in-range : (o : Olt) → validOlt o ≡ true → OltInRange o
 unfolding validOlt
-olt-in-range o e =
-    let a = both-right _ _ e in
-    let b = both-right _ _ a in
-    record { count = leb-true _ _ (both-left _ _ e); shared = both-left _ _ a; units = both-left _ _ b; distinct = both-right _ _ b }
+olt-in-range o e = search facts
 
 pub olt-valid : (o : Olt) → OltInRange o → validOlt o ≡ true
 unfolding validOlt
-olt-valid o r = both-true (le-leb _ _ (r .count)) (both-true (r .shared) (both-true (r .units) (r .distinct)))
+olt-valid o r = search tests
 
 -- with other channels
 pub with-channels-valid : (o : Olt) (c : Channels) → validChannels c ≡ true → validOlt o ≡ true → validOlt (withOltChannels o c) ≡ true
@@ -149,13 +111,7 @@ unfolding withOltChannels withChannels
 with-channels-valid o c v e =
     let r = olt-in-range o e in
     let s = shared-in-range (o .shared) (r .shared) in
-    olt-valid (withOltChannels o c)
-    (record {
-      count = r .count;
-      shared = shared-valid _ (record { mac = s .mac; tick = s .tick; clock = s .clock; channels = v });
-      units = r .units;
-      distinct = r .distinct;
-    })
+    olt-valid (withOltChannels o c) (search shared-valid)
 
 ---- the ONU's keys and clocks
 
@@ -167,9 +123,8 @@ pub onu-keys-in-range : (k : OnuKeys) → validOnuKeys k ≡ true → OnuKeysInR
 unfolding validOnuKeys
 onu-keys-in-range k e =
     record {
-      held = leb-true _ _ (both-left _ _ e);
-      below = λ h.
-          ⊎-elim (λ z. absurd (omega (arith, eqb-true (k .held) 0 z))) (λ l. ltb-true (k .active) maxKeyNumber l) (either-cases _ _ (both-right _ _ e));
+      held = search facts;
+      below = λ h. ⊎-elim (λ z. absurd (omega (arith, eqb-true (k .held) 0 z))) (λ l. ltb-true _ _ l) (either-cases _ _ (both-right _ _ e));
     }
 
 pub record OnuClockInRange (c : OnuClock) : Type 0 where
@@ -179,19 +134,13 @@ pub record OnuClockInRange (c : OnuClock) : Type 0 where
   pub local : (c .synced ≡ 1 → ⊥) → c .time < localTurn
 
 pub onu-clock-in-range : (c : OnuClock) → validOnuClock c ≡ true → OnuClockInRange c
-unfolding validOnuClock
-onu-clock-in-range c e =
-    let a = both-right _ _ e in
-    let t = both-right _ _ a in
-    record {
-      synced = leb-true _ _ (both-left _ _ e);
-      rx = ltb-true _ _ (both-left _ _ a);
-      tx = by-synced (isUp (c .synced)) t;
-      local = λ n. ltb-true (c .time) localTurn (sym (pick-false _ _ (ne-eqb (c .synced) 1 n)) ∙ t);
-    } where
-      by-synced : (b : Bool) → pick b (ltb (c .time) clockTurn) (ltb (c .time) localTurn) ≡ true → c .time < clockTurn
-      by-synced true f = ltb-true (c .time) clockTurn (sym (pick-true _ _ refl) ∙ f)
-      by-synced false f = omega (arith, ltb-true (c .time) localTurn (sym (pick-false _ _ refl) ∙ f))
+unfolding validOnuClock pick
+onu-clock-in-range c e = by-synced (isUp (c .synced)) refl (both-right _ _ (both-right _ _ e)) where
+  by-synced : (b : Bool) → isUp (c .synced) ≡ b → pick b (ltb (c .time) clockTurn) (ltb (c .time) localTurn) ≡ true → OnuClockInRange c
+  by-synced true q f = record { synced = search facts; rx = search facts; tx = ltb-true _ _ f; local = λ n. absurd (n (eqb-true _ _ q)) }
+  by-synced false q f =
+      let low : c .time < localTurn = ltb-true _ _ f in
+      record { synced = search facts; rx = search facts; tx = omega arith; local = λ n. low }
 
 ---- the ONU
 
@@ -208,34 +157,11 @@ pub record OnuInRange (o : Onu) : Type 0 where
 
 pub onu-in-range : (o : Onu) → validOnu o ≡ true → OnuInRange o
 unfolding validOnu
-onu-in-range o e =
-    let a = both-right _ _ e in
-    let b = both-right _ _ a in
-    let c = both-right _ _ b in
-    let d = both-right _ _ c in
-    let f = both-right _ _ d in
-    let g = both-right _ _ f in
-    let h = both-right _ _ g in
-    record {
-      identity = both-left _ _ e;
-      distinct = both-left _ _ a;
-      oltmac = both-left _ _ b;
-      tick = leb-true _ _ (both-left _ _ c);
-      clock = both-left _ _ d;
-      keys = both-left _ _ f;
-      noted = leb-true _ _ (both-left _ _ g);
-      changes = both-left _ _ h;
-      channels = both-right _ _ h;
-    }
+onu-in-range o e = search facts depth 9
 
 pub onu-valid : (o : Onu) → OnuInRange o → validOnu o ≡ true
 unfolding validOnu
-onu-valid o r =
-    both-true (r .identity)
-    (both-true (r .distinct)
-    (both-true (r .oltmac)
-    (both-true (le-leb _ _ (r .tick))
-    (both-true (r .clock) (both-true (r .keys) (both-true (le-leb _ _ (r .noted)) (both-true (r .changes) (r .channels))))))))
+onu-valid o r = search tests depth 12
 
 ---- what is found in a valid table
 

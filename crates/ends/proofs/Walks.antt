@@ -61,10 +61,6 @@ pub distinct-end : (j n : ℕ) (f : ℕ → ℕ) → n ≤ j → distinct (tabul
 unfolding distinct
 distinct-end j n f h = rw (tabulate-end j n f h)
 
-pub among-nil : (x : ℕ) → among x [] ≡ false
-unfolding among
-among-nil x = refl
-
 ---- along a list
 
 pub among-drop-hit : (x : ℕ) (l : List ℕ) (i : ℕ) → i < length l → getD l i 0 ≡ x → among x (drop i l) ≡ true
@@ -76,7 +72,8 @@ unfolding among either
 among-drop-miss x l i h e = rw (drop-step l i 0 h, ne-eqb _ _ e)
 
 pub among-drop-end : (x : ℕ) (l : List ℕ) (i : ℕ) → length l ≤ i → among x (drop i l) ≡ false
-among-drop-end x l i h = rw (drop-of-length-le l h) (among-nil x)
+unfolding among
+among-drop-end x l i h = rw (drop-of-length-le l h)
 
 -- one number put behind the first n + j
 pub take-more : (l : List ℕ) (n j x : ℕ) → n + j < length l → take (n + (j + 1)) (set l (n + j) x) ≡ take (n + j) l ++ (x ∷ [])

@@ -6,8 +6,9 @@ use Prim.Native.Nat.{ℕ, _+_}
 use native.Mathlib.Omega.{arith}
 use lib.Dec.{ltb, eqb}
 use borrow.Author.Tests.{le-ltb}
-use Rattle.octets.specs.Choice.{both, either, pick}
+use Rattle.octets.specs.Choice.{both, pick}
 use Rattle.ends.specs.Flags.{isUp}
+use Rattle.ends.proofs.Marks.{either-no}
 use Rattle.protocol.specs.UnitCalls.{offerVerdict}
 use Rattle.protocol.specs.UnitTraffic.{switches, unitSendChoice}
 use Rattle.group_protocol.specs.AsUnit.{asUnit}
@@ -18,11 +19,6 @@ flag-up : (set : Bool) → isUp (pick set 1 0) ≡ set
 unfolding pick
 flag-up true = refl
 flag-up false = refl
-
-either-no : (a : Bool) → either a false ≡ a
-unfolding either
-either-no true = refl
-either-no false = refl
 
 both-yes : (a : Bool) → both a true ≡ a
 unfolding both

@@ -62,34 +62,26 @@ module _ (units : ℕ) (m : Members) (v : validMembers units m ≡ true) where
   unmarked-valid : validMembers units (unmarked m) ≡ true
   unfolding validMembers unmarked placesOf marksOf
   unmarked-valid =
-      let a = both-right _ _ v in
-      both-true (both-left _ _ v)
-      (both-true (both-left _ _ a)
-      (both-true (both-left _ _ (both-right _ _ a))
-      (all-tabulated (λ mark. leb mark 1) 0 (m .count) (λ j. getD (replicate maxMembers 0) j 0)
-      (λ j a b. le-leb (getD (replicate maxMembers 0) j 0) 1 (omega (arith, zero-at maxMembers j))))))
+      let none = all-tabulated (λ mark. leb mark 1) 0 (m .count) (λ j. getD (replicate maxMembers 0) j 0)
+      (λ j a b. le-leb (getD (replicate maxMembers 0) j 0) 1 (omega (arith, zero-at maxMembers j))) in
+      search (both-true, both-left, both-right)
 
   marked-valid : (k : ℕ) → validMembers units (marked m k) ≡ true
   unfolding validMembers marked placesOf marksOf
   marked-valid k =
-      let a = both-right _ _ v in
-      let b = both-right _ _ a in
-      both-true (both-left _ _ v)
-      (both-true (both-left _ _ a)
-      (both-true (both-left _ _ b)
-      (all-retabulated (λ mark. leb mark 1) 0 (m .count) (λ j. getD (m .marks) j 0) (λ j. getD (set (m .marks) k 1) j 0)
-      (λ j e. le-leb _ 1 (flag-set (m .marks) k j (leb-true _ 1 e))) (both-right _ _ b))))
+      let marks =
+      all-retabulated (λ mark. leb mark 1) 0 (m .count) (λ j. getD (m .marks) j 0) (λ j. getD (set (m .marks) k 1) j 0)
+      (λ j e. le-leb _ 1 (flag-set (m .marks) k j (leb-true _ 1 e))) (search (both-left, both-right)) in
+      search (both-true, both-left, both-right)
 
   -- of an OLT with more units
   pub members-later : (more : ℕ) → units ≤ more → validMembers more m ≡ true
   unfolding validMembers
   members-later more h =
-      let a = both-right _ _ v in
-      both-true (both-left _ _ v)
-      (both-true
-      (all-weaker (λ place. ltb place units) (λ place. ltb place more) (λ place e. lt-ltb place more (omega (arith, ltb-true place units e))) (placesOf m)
-      (both-left _ _ a))
-      (both-right _ _ a))
+      let places =
+      all-weaker (λ place. ltb place units) (λ place. ltb place more) (λ place e. lt-ltb place more (omega (arith, ltb-true place units e))) (placesOf m)
+      (search (both-left, both-right)) in
+      search (both-true, both-left, both-right)
 
 ---- the group
 
@@ -105,60 +97,33 @@ advanced-llid n g = refl
 pub fresh-group-valid : (tick units llid interval : ℕ) (m : Members) → validMembers units m ≡ true → validInterval interval ≡ true
     → validGroup tick units (freshGroup llid interval m) ≡ true
 unfolding freshGroup
-fresh-group-valid tick units llid interval m v i =
-    group-valid tick units _
-    (record { members = v; timer = timer-fresh-valid interval i; first = first-none-valid tick; low = omega arith; high = omega arith })
+fresh-group-valid tick units llid interval m v i = group-valid tick units _ (search (timer-fresh-valid, first-none-valid, arith))
 
 module _ (tick units : ℕ) (g : GroupRecord) (v : validGroup tick units g ≡ true) where
   pub group-offered-valid : (key : List ℕ) → validGroup tick units (groupOffered g key) ≡ true
   unfolding groupOffered withGroupKeys withMembers keysOffered
-  group-offered-valid key =
-      let r = group-in-range tick units g v in
-      group-valid tick units _
-      (record { members = unmarked-valid units (g .members) (r .members); timer = r .timer; first = r .first; low = omega arith; high = omega arith })
+  group-offered-valid key = let r = group-in-range tick units g v in group-valid tick units _ (search (unmarked-valid, arith))
 
   pub group-marked-valid : (member : Found) → validGroup tick units (groupMarked g member) ≡ true
   unfolding groupMarked withMembers
   group-marked-valid Nowhere = v
-  group-marked-valid (At j) =
-      let r = group-in-range tick units g v in
-      group-valid tick units _
-      (record { members = marked-valid units (g .members) (r .members) j; timer = r .timer; first = r .first; low = r .low; high = r .high })
+  group-marked-valid (At j) = let r = group-in-range tick units g v in group-valid tick units _ (search marked-valid)
 
   pub group-sent-valid : (choice : KeyChoice) → validGroup tick units (withGroupKeys g (groupKeysAfterSend choice (g .keys) tick)) ≡ true
   unfolding withGroupKeys groupKeysAfterSend wipedAtSwitch keysAfterSend withFirst keysSwitched withSlots
   group-sent-valid Clear = v
   group-sent-valid (Barred r) = v
-  group-sent-valid (Current n) =
-      let r = group-in-range tick units g v in
-      group-valid tick units _
-      (record { members = r .members; timer = r .timer; first = first-send-valid (g .keys .first) tick (r .first); low = r .low; high = r .high })
+  group-sent-valid (Current n) = let r = group-in-range tick units g v in group-valid tick units _ (search first-send-valid)
   group-sent-valid (Next n) =
       let r = group-in-range tick units g v in
-      group-valid tick units _
-      (record {
-        members = r .members;
-        timer = timer-fallen-valid (g .keys .timer) (r .timer);
-        first = first-noted-valid tick;
-        low = omega arith;
-        high = omega arith;
-      })
+      group-valid tick units _ (search (timer-fallen-valid, first-noted-valid, arith))
 
   pub group-advanced-valid : (n : ℕ) → validGroup (tick + n) units (groupAdvanced n g) ≡ true
   unfolding groupAdvanced withGroupKeys withTimer
   group-advanced-valid n =
       let r = group-in-range tick units g v in
-      group-valid (tick + n) units _
-      (record {
-        members = r .members;
-        timer = timer-advanced-valid n (g .keys .timer) (r .timer);
-        first = first-later-valid (g .keys .first) tick (tick + n) (omega arith) (r .first);
-        low = r .low;
-        high = r .high;
-      })
+      let later : tick ≤ tick + n = omega arith in
+      group-valid (tick + n) units _ (search (timer-advanced-valid, first-later-valid))
 
   pub group-later-valid : (more : ℕ) → units ≤ more → validGroup tick more g ≡ true
-  group-later-valid more h =
-      let r = group-in-range tick units g v in
-      group-valid tick more g
-      (record { members = members-later units (g .members) (r .members) more h; timer = r .timer; first = r .first; low = r .low; high = r .high })
+  group-later-valid more h = let r = group-in-range tick units g v in group-valid tick more g (search members-later)

@@ -2,15 +2,14 @@
 use mathlib.Core.Path.{_≡_}
 use mathlib.Core.Bool.{true, false}
 use Prim.Native.Nat.{ℕ, _+_, _≤_}
-use borrow.Author.Tests.{leb-true, le-leb, not-true}
 use Rattle.octets.specs.Lists.{all}
-use Rattle.octets.proofs.Choice.{both-left, both-right, both-true, not-of-false}
 use Rattle.ends.specs.Identities.{distinct, meets}
 use Rattle.ends.specs.Keys.{validFirst}
 use Rattle.ends.specs.Limits.{maxUnits}
 use Rattle.ends.specs.Table.{registered, tableLlids}
 use Rattle.ends.specs.Timers.{validTimer}
 use Rattle.ends.specs.Validity.{validKeys, validOlt}
+use Rattle.ends.proofs.Validity.{facts, tests}
 use Rattle.group_protocol.specs.Head.{apartLlids, groupLlids, placesTaken, registeredGroups, validGroup, validGroupNumbers, validGroups, validHead}
 use Rattle.group_protocol.specs.Members.{validMembers}
 use Rattle.group_protocol.specs.declared.GroupRecord.{GroupRecord}
@@ -27,22 +26,11 @@ pub record GroupInRange (tick units : ℕ) (g : GroupRecord) : Type 0 where
 
 pub group-in-range : (tick units : ℕ) (g : GroupRecord) → validGroup tick units g ≡ true → GroupInRange tick units g
 unfolding validGroup validKeys validGroupNumbers
-group-in-range tick units g e =
-    let a = both-right _ _ e in
-    let k = both-left _ _ a in
-    let n = both-right _ _ a in
-    record {
-      members = both-left _ _ e;
-      timer = both-left _ _ k;
-      first = both-right _ _ k;
-      low = leb-true _ _ (both-left _ _ n);
-      high = leb-true _ _ (both-right _ _ n);
-    }
+group-in-range tick units g e = search facts
 
 pub group-valid : (tick units : ℕ) (g : GroupRecord) → GroupInRange tick units g → validGroup tick units g ≡ true
 unfolding validGroup validKeys validGroupNumbers
-group-valid tick units g r =
-    both-true (r .members) (both-true (both-true (r .timer) (r .first)) (both-true (le-leb _ _ (r .low)) (le-leb _ _ (r .high))))
+group-valid tick units g r = search tests
 
 ---- the groups of a head end
 
@@ -54,19 +42,11 @@ pub record GroupsInRange (h : HeadEnd) : Type 0 where
 
 pub groups-in-range : (h : HeadEnd) → validGroups h ≡ true → GroupsInRange h
 unfolding validGroups apartLlids
-groups-in-range h e =
-    let a = both-right _ _ e in
-    let b = both-right _ _ a in
-    record {
-      places = leb-true _ _ (both-left _ _ e);
-      each = both-left _ _ a;
-      distinct = both-left _ _ b;
-      apart = not-true _ (both-right _ _ b);
-    }
+groups-in-range h e = search facts
 
 pub groups-valid : (h : HeadEnd) → GroupsInRange h → validGroups h ≡ true
 unfolding validGroups apartLlids
-groups-valid h r = both-true (le-leb _ _ (r .places)) (both-true (r .each) (both-true (r .distinct) (not-of-false (r .apart))))
+groups-valid h r = search tests
 
 ---- the head end
 
@@ -76,8 +56,8 @@ pub record HeadInRange (h : HeadEnd) : Type 0 where
 
 pub head-in-range : (h : HeadEnd) → validHead h ≡ true → HeadInRange h
 unfolding validHead
-head-in-range h e = record { olt = both-left _ _ e; groups = both-right _ _ e }
+head-in-range h e = search facts
 
 pub head-valid : (h : HeadEnd) → HeadInRange h → validHead h ≡ true
 unfolding validHead
-head-valid h r = both-true (r .olt) (r .groups)
+head-valid h r = search tests

@@ -59,13 +59,7 @@ place-own k (y ∷ l) (suc i) d n h =
 
 -- a number that has a place is in the list, and one that has none is not
 pub place-among : (i x : ℕ) (l : List ℕ) (j : ℕ) → placeFrom i l x ≡ At j → among x l ≡ true
-unfolding placeFrom among pick
-place-among i x [] j e = at-nowhere j (sym e)
-place-among i x (y ∷ ys) j e = by-head (eqb y x) refl (place-among (suc i) x ys j) e where
-  by-head : (t : Bool) → eqb y x ≡ t → (placeFrom (suc i) ys x ≡ At j → among x ys ≡ true) → pick t (At i) (placeFrom (suc i) ys x) ≡ At j
-      → either (eqb y x) (among x ys) ≡ true
-  by-head true h more f = either-left _ h
-  by-head false h more f = either-right _ (more f)
+place-among i x l j e = let m = place-at i l x j e in rw (m .has) at (among-at l (j - i) 0 (omega (arith, m .low, m .below)))
 
 pub place-absent : (i x : ℕ) (l : List ℕ) → placeFrom i l x ≡ Nowhere → among x l ≡ false
 unfolding placeFrom among pick

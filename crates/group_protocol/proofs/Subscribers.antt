@@ -7,17 +7,16 @@ use native.Mathlib.Numerals.{add-one}
 use native.Mathlib.Omega.{arith}
 use lib.ListN.{length, take, set, length-take, length-map, List·getD-map}
 use lib.Seq.{set-getD, getD-take, take-set-lt, take-suc-set, map-set-same}
-use borrow.Author.Tests.{leb-true, le-leb, not-true}
 use Rattle.octets.specs.Choice.{both, either}
 use Rattle.octets.specs.Lists.{all}
-use Rattle.octets.proofs.Choice.{both-left, both-right, both-true, not-of-false}
-use Rattle.octets.proofs.Maps.{map-take}
+use Rattle.octets.proofs.Choice.{both-left, both-right, both-true}
 use Rattle.octets.proofs.Tests.{all-one, all-set, all-append}
 use Rattle.ends.specs.Identities.{among, distinct, meets, llidsOf}
 use Rattle.ends.specs.Validity.{validOnuKeys, validOnu}
 use Rattle.ends.specs.declared.Onu.{Onu}
 use Rattle.ends.specs.declared.Found.the-variants.{At}
 use Rattle.ends.proofs.Identities.{distinct-more}
+use Rattle.ends.proofs.Validity.{facts, tests}
 use Rattle.group_protocol.specs.Limits.{maxJoined}
 use Rattle.group_protocol.specs.Subscriber.{freshJoined, joinedGroups, joinedLlids, hasJoined, findJoined, pastJoined, joinedAt, withOnu, withJoined, withOneJoinedMore, noMemberships, alone, validJoined, validGroupsOf, validMemberships, validSubscriber}
 use Rattle.group_protocol.specs.declared.Joined.{Joined}
@@ -58,20 +57,11 @@ pub record Joins (s : Subscriber) : Type 0 where
 
 pub memberships-valid : (s : Subscriber) → validMemberships s ≡ true → Joins s
 unfolding validMemberships validGroupsOf
-memberships-valid s e =
-    let g = both-right _ _ e in
-    let d = both-right _ _ g in
-    record {
-      few = leb-true _ _ (both-left _ _ e);
-      each = both-left _ _ g;
-      distinct = both-left _ _ d;
-      apart = not-true _ (both-right _ _ d);
-    }
+memberships-valid s e = search facts
 
 pub valid-memberships : (s : Subscriber) → Joins s → validMemberships s ≡ true
 unfolding validMemberships validGroupsOf
-valid-memberships s r =
-    both-true (le-leb _ _ (r .few)) (both-true (r .each) (both-true (r .distinct) (not-of-false (r .apart))))
+valid-memberships s r = search tests
 
 pub valid-unit : (s : Subscriber) → validSubscriber s ≡ true → validOnu (s .onu) ≡ true
 unfolding validSubscriber
@@ -115,17 +105,12 @@ with-joined-valid s i j h e v w =
     let r = memberships-valid s w in
     let n = s .memberships .count in
     let l = s .memberships .table in
-    let same : joinedLlids (take n (set l i j)) ≡ joinedLlids (take n l) =
-    map-take (λ (x : Joined). x .llid) n (set l i j)
-    ∙ ap (take n) (map-set-same (λ (x : Joined). x .llid) l i j pastJoined e)
-    ∙ sym (map-take (λ (x : Joined). x .llid) n l) in
+    let taken = take-set-lt n l i j h in
+    let same : joinedLlids (set (take n l) i j) ≡ joinedLlids (take n l) =
+    map-set-same (λ (x : Joined). x .llid) (take n l) i j pastJoined (rw (getD-take n l i pastJoined h) e) in
+    let each = all-set validJoined (take n l) i j (r .each) v in
     valid-memberships (withJoined s i j)
-    (record {
-      few = r .few;
-      each = rw (take-set-lt n l i j h) (all-set validJoined (joinedGroups s) i j (r .each) v);
-      distinct = ap distinct same ∙ r .distinct;
-      apart = ap (λ (x : List ℕ). meets x (llidsOf (s .onu .identity))) same ∙ r .apart;
-    })
+    (record { few = r .few; each = rw taken each; distinct = rw (taken, same) (r .distinct); apart = rw (taken, same) (r .apart) })
 
 -- one group more, whose LLID the unit does not hold
 pub one-more-valid : (s : Subscriber) (j : Joined) → s .memberships .count < maxJoined → s .memberships .count < length (s .memberships .table)
@@ -142,13 +127,10 @@ one-more-valid s j few h new other v w =
     valid-memberships (withOneJoinedMore s j)
     (record {
       few = omega arith;
-      each = rw grown (all-append validJoined (take n l) (j ∷ []) (r .each) (last-valid j v));
-      distinct = ap distinct llids ∙ distinct-more (joinedLlids (take n l)) (j .llid) (r .distinct) new;
-      apart = ap (λ (x : List ℕ). meets x (llidsOf (s .onu .identity))) llids
-          ∙ meets-last (joinedLlids (take n l)) (j .llid) (llidsOf (s .onu .identity)) (r .apart) other;
-    }) where
-      last-valid : (j : Joined) → validJoined j ≡ true → all validJoined (j ∷ []) ≡ true
-      last-valid j v = both-true v refl
+      each = rw grown (all-append validJoined (take n l) (j ∷ []) (r .each) (both-true v refl));
+      distinct = rw llids (distinct-more (joinedLlids (take n l)) (j .llid) (r .distinct) new);
+      apart = rw llids (meets-last (joinedLlids (take n l)) (j .llid) (llidsOf (s .onu .identity)) (r .apart) other);
+    })
 
 pub fresh-joined-valid : (llid : ℕ) → validJoined (freshJoined llid) ≡ true
 unfolding validJoined freshJoined validOnuKeys both either

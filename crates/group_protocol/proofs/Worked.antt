@@ -1,5 +1,4 @@
 -- The worked values of groups: each row computes from the definitions. Assumes nothing.
-use mathlib.Core.Path.{refl}
 use Rattle.octets.specs.Choice.{both, either, pick}
 use Rattle.octets.specs.Lists.{all, same}
 use Rattle.refusal.specs.Order.{refuseIf}
@@ -19,33 +18,19 @@ use Rattle.group_protocol.specs.Worked.{MemberRows, SwitchRows, MessageR
 
 pub member-rows : MemberRows
 unfolding both either pick all among distinct freshMembers marksOf placesOf validMembers
-member-rows = record { apart = refl; twice = refl; past = refl }
+member-rows = search
 
 pub switch-rows : SwitchRows
 unfolding both pick refuseIf onZero onlyKey withKey freeFrom taken withSlots choiceAged choiceNumber keyFor passageOf sendingOf keysAfterSend
     keysSwitched keyIn withGroupKeys groupKeysAfterSend groupSendChoice groupSwitches sendGroup wipedAtSwitch
-switch-rows = record { sent = refl; under = refl; active = refl; even = refl; odd = refl }
+switch-rows = search
 
 pub message-rows : MessageRows
 unfolding both either pick same refuseIf keyIn withKey onlyKey freshJoined highestHeld holds heldAgain newNumber joinedMessageVerdict joinedTaken
     joinedAfterMessage joinedChoice joinedMoved joinedAfterReceipt
-message-rows =
-    record {
-      active = refl;
-      lost = refl;
-      kept = refl;
-      even = refl;
-      odd = refl;
-      again = refl;
-      unchanged = refl;
-      otherKey = refl;
-      two = refl;
-      one = refl;
-      zero = refl;
-      above = refl;
-    }
+message-rows = search
 
 pub receipt-rows : ReceiptRows
 unfolding both either pick refuseIf downstream keyIn withKey onlyKey validHeader choiceVerdict choiceNumber keyFor freshJoined highestHeld holds
     newNumber joinedTaken joinedAfterMessage joinedChoice joinedReceiveVerdict joinedMoved joinedAfterReceipt
-receipt-rows = record { current = refl; clear = refl; next = refl; under = refl; stale = refl }
+receipt-rows = search

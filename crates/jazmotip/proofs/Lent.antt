@@ -39,7 +39,7 @@ use denote.Triple.Spec.{Meets, tripleOf}
 use denote.Triple.Walked.{Stays, ends-at, goes-none, stay-none, walk-meets, walkOf, walked}
 use denote.Exit.{Exit, Last, left, unchanged, yes}
 use Rattle.jazmotip.proofs.End.{End}
-use Rattle.jazmotip.proofs.InPlace.{State, end, end-mir, machine, answer, answer-mir, answer-type, answer-laws, by-value, in-place, in-place-clauses}
+use Rattle.jazmotip.proofs.InPlace.{State, end, end-mir, machine, answer, answer-mir, answer-type, answer-laws, advancing, by-value, in-place, in-place-clauses}
 
 -- nothing is bound of a value that is seen at exit as it was passed, and nothing said of that
 none : {D : Type 0} (e : Exit D) → e ≡ unchanged → (x : D) → Last e x
@@ -100,12 +100,12 @@ module _ (E : End) where
   answer-plains : Plains (fields (answer-type E))
   answer-plains = (field-plain (E .type) (E .plains), (u8-plain, tt))
 
-  abbrev stayed : Stays (by-value E .signature .params) (by-value E .kept)
+  abbrev stayed : Stays (by-value (advancing E) .signature .params) (by-value (advancing E) .kept)
   stayed = (stay-none (λ _. row) yes, (stay-none (λ _. u64) yes, tt))
 
   module _ {M : Type 1} (𝓤 : URA M) (H : Heap 𝓤) (A : Atoms 𝓤) where
     -- the caller promises nothing
-    abbrev silent : Clauses 𝓤 (by-value E)
+    abbrev silent : Clauses 𝓤 (by-value (advancing E))
     silent κs a = record { ghost = Unit {0}; requires = λ g. emp 𝓤; ensures = λ g r e. emp 𝓤 }
 
     -- the contract of the advance in place
@@ -165,13 +165,13 @@ module _ (E : End) where
               join ! $ move ! (2 ∷ 0 ∷ []) $ join ! $ nothing ! $ move ! (2 ∷ 0 ∷ []) $ join ! $ join ! $ frame ! $ done !
 
         abbrev Post : Val → SProp 𝓤
-        Post = walkOf 𝓤 H A (by-value E) stayed silent .post ((tt, tt, tt, (h, (n, tt)), (mach h ∷ [], (vint w64 n ∷ [], tt))), tt)
+        Post = walkOf 𝓤 H A (by-value (advancing E)) stayed silent .post ((tt, tt, tt, (h, (n, tt)), (mach h ∷ [], (vint w64 n ∷ [], tt))), tt)
 
         exits : (r : ℕ) (z : State E) → r < 2 ^ 8 → Is row z (mach z ∷ []) → ent 𝓤 (emp 𝓤) (Post (held r z))
         exits r z fits8 is =
             qed W [] ∵
             suffices ! _
-            (ends-at 𝓤 H A (by-value E) stayed silent W ((tt, tt, tt, (h, (n, tt)), (mach h ∷ [], (vint w64 n ∷ [], tt))), tt)
+            (ends-at 𝓤 H A (by-value (advancing E)) stayed silent W ((tt, tt, tt, (h, (n, tt)), (mach h ∷ [], (vint w64 n ∷ [], tt))), tt)
             (held r z) (E .answered r z) (none (row .exit yes) (E .still) h, (tt, tt)) (tt, (tt, tt))) $
             nothing ! $ owned ! u64 (Is u64) (uint-makes 𝓤 H A W w64) n _ (refl, fits) $ fjoin ! $
             owned ! row (Is row) (makes (E .type) (E .plains) 𝓤 H A) h _ was $ fjoin ! $
@@ -180,7 +180,7 @@ module _ (E : End) where
 
         module _ (callee : Name) (C : Calls 𝓤 H) (Λ : Loops 𝓤 H) (fm : FmC 𝓤 H (W .laws) C) (known : Triple 𝓤 (C callee) Known) where
           walk :
-              ent 𝓤 (onEntry 𝓤 H A (by-value E .signature) tt tt (h, (n, tt)) (mach h ∷ [], (vint w64 n ∷ [], tt)))
+              ent 𝓤 (onEntry 𝓤 H A (by-value (advancing E) .signature) tt tt (h, (n, tt)) (mach h ∷ [], (vint w64 n ∷ [], tt)))
               (WpFn 𝓤 H C Λ (code callee) (mach h ∷ vint w64 n ∷ []) Post)
           walk =
               qed W (‵ ftrue ∷ ‵ (owns (row ∷ u64 ∷ []) (h, (n, tt)) (mach h ∷ [], (vint w64 n ∷ [], tt))) ∷ []) ∵ keep ! [] $
@@ -224,23 +224,22 @@ module _ (E : End) where
               (from ! (stop !)) (init ! 13 refl (lawful (answer-type E) (answer-laws E) 𝓤 H A W .typed (E .answered r z) _ (made r z (is .1) holds) .0)) $
               returns ! (look ! 13 refl) $ forget ! 0 refl $ forget ! 2 refl $ forget ! 4 refl $ forget ! 6 refl $ forget ! 9 refl $ forget ! 11 refl $
               forget ! 13 refl $
-              move ! (13 ∷ 14 ∷ []) $ free1 ! $ move ! (11 ∷ 12 ∷ []) $ free1 ! $ move ! (9 ∷ 10 ∷ []) $ free1 ! $ move ! (0 ∷ 8 ∷ [])
-              $ free1 ! $
-              move ! (5 ∷ 6 ∷ []) $ free1 ! $ move ! (3 ∷ 4 ∷ []) $ free1 ! $ move ! (1 ∷ 2 ∷ []) $ free1 ! $ free0 ! $
+              move ! (13 ∷ 14 ∷ 11 ∷ 12 ∷ 9 ∷ 10 ∷ 0 ∷ 8 ∷ 6 ∷ 7 ∷ 4 ∷ 5 ∷ 2 ∷ 3 ∷ []) $
+              free1 ! $ free1 ! $ free1 ! $ free1 ! $ free1 ! $ free1 ! $ free1 ! $ free0 ! $
               keep ! [] $ by ! (exits r z (is .1) holds)))))))))))))))
 
       module _ (callee : Name) where
         pub lends :
             (𝓣 : Tables 𝓤 H) →
             Triple 𝓤 (𝓣 .C callee) Known →
-            Meets 𝓤 H A (by-value E .signature) (WpFn 𝓤 H (𝓣 .C) (𝓣 .Λ) (code callee)) (closing 𝓤 H A (by-value E) silent)
+            Meets 𝓤 H A (by-value (advancing E) .signature) (WpFn 𝓤 H (𝓣 .C) (𝓣 .Λ) (code callee)) (closing 𝓤 H A (by-value (advancing E)) silent)
         lends 𝓣 known =
-            walk-meets 𝓤 H A (by-value E) stayed W (
+            walk-meets 𝓤 H A (by-value (advancing E)) stayed W (
               goes-none 𝓤 H A W 0 (λ _. row) yes (λ κs. none-said (row .exit yes) (E .still)),
               (goes-none 𝓤 H A W 0 (λ _. u64) yes (λ κs x f. refl), tt),
             )
             silent (WpFn 𝓤 H (𝓣 .C) (𝓣 .Λ) (code callee)) (WpFn-mono 𝓤 H (W .laws) 𝓣 (code callee))
-            (walked 𝓤 H A (by-value E) stayed silent (WpFn 𝓤 H (𝓣 .C) (𝓣 .Λ) (code callee))
+            (walked 𝓤 H A (by-value (advancing E)) stayed silent (WpFn 𝓤 H (𝓣 .C) (𝓣 .Λ) (code callee))
             (λ κs. (vals (E .type) (E .laws), (uint-vals w64, tt))) (λ κs. (tells (E .type) (E .laws), (uint-tells w64, tt)))
             (λ κs qs bounds a g are.
             via 𝓤 _ (fst∗ 𝓤 _ (emp 𝓤))

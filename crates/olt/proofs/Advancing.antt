@@ -87,16 +87,9 @@ pub moves-on : (o r : Olt) (n i : ℕ) (t : Timer) → r ≡ movedTo n i o → i
     }
     ≡ movedTo n (i + 1) o
 moves-on o r n i t e h f =
-    let k : i < length (r .units) = rw (e, length-first) h in
-    let same : getD (r .units) i pastUnit ≡ getD (o .units) i pastUnit =
-    ap (λ (x : Olt). getD (x .units) i pastUnit) e ∙ first-at (unitAdvanced n) i (o .units) pastUnit in
-    let units : set (set (r .units) i (counted (getD (r .units) i pastUnit) (t .count))) i
-    (flagged (getD (set (r .units) i (counted (getD (r .units) i pastUnit) (t .count))) i pastUnit) (t .flag)) ≡ movedTo n (i + 1) o .units =
-    stored-twice (r .units) i _ (t .flag) k
-    ∙ ap (set (r .units) i) (both-stored n _ t f ∙ ap (unitAdvanced n) same)
-    ∙ ap (λ (x : Olt). set (x .units) i (unitAdvanced n (getD (o .units) i pastUnit))) e
-    ∙ rw add-one (first-more (unitAdvanced n) i (o .units) pastUnit h) in
-    rw (units, ap (λ (x : Olt). x .shared) e, ap (λ (x : Olt). x .count) e)
+    let k : i < length (movedTo n i o .units) = rw length-first h in
+    let g = rw e at f in
+    rw (e, stored-twice, both-stored n, first-at, add-one, first-more (unitAdvanced n) i (o .units) pastUnit h)
 
 -- what an advance leaves, by its verdict: all the units in use are moved, or none
 pub advanced : (o : Olt) (ahead : Verdict) (n : ℕ) (v : Verdict) (number : ℕ) (r : Olt) (i : ℕ) → v ≡ moveOrder o ahead n

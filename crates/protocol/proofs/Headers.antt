@@ -4,7 +4,7 @@ use mathlib.Core.Bool.{Bool, true, false}
 use Prim.Native.Nat.{ℕ, _%_, _≤_}
 use native.Mathlib.Omega.{arith}
 use lib.Dec.{leb, ltb, eqb}
-use borrow.Author.Tests.{eqb-true, le-leb, lt-ltb, eq-eqb, ne-eqb, not-false}
+use borrow.Author.Tests.{eqb-true, le-leb, lt-ltb, eq-eqb, ne-eqb}
 use Rattle.octets.specs.Choice.{both, pick}
 use Rattle.octets.proofs.Choice.{both-true, both-false-then, not-both, pick-true, pick-false}
 use Rattle.refusal.specs.declared.Verdict.the-variants.{Accepted}
@@ -14,7 +14,7 @@ use Rattle.protocol.specs.Headers.{validHeader, choiceEnciphered, choice
 use Rattle.ends.specs.declared.Slots.{Slots}
 use Rattle.ends.specs.declared.FirstSend.{FirstSend}
 use Rattle.protocol.specs.declared.KeyChoice.{KeyChoice}
-use Rattle.refusal.proofs.Order.{refuse-accepted}
+use Rattle.protocol.proofs.Replies.{met}
 
 ---- what a send at either end has met
 
@@ -25,14 +25,7 @@ pub record Goes (set busy : Bool) (choice : KeyChoice) (first : FirstSend) (now 
 
 pub goes : (set busy : Bool) (choice : KeyChoice) (first : FirstSend) (now : ℕ) → clockChannelKey set busy choice first now ≡ Accepted
     → Goes set busy choice first now
-goes set busy choice first now e =
-    let a = refuse-accepted _ _ _ e in
-    let b = refuse-accepted _ _ _ (a .1) in
-    record {
-      clock = λ sealed. not-false set (not-both _ _ (both-false-then _ _ (a .0)) sealed);
-      free = b .0;
-      young = refuse-accepted _ _ _ (b .1) .0;
-    }
+goes set busy choice first now e = search (met, not-both, both-false-then) depth 8
 
 ---- headers
 

@@ -1,17 +1,16 @@
 -- Laws of key messages at the ONU: what an accepted one has met, that it keeps the ONU valid, and that one repeated leaves it. Assumes nothing.
-use mathlib.Core.Path.{_≡_, refl, sym, _∙_, ap, ap₂}
+use mathlib.Core.Path.{_≡_, refl, _∙_, ap₂}
 use mathlib.Core.Bool.{Bool, true, false}
 use mathlib.Core.List.{List}
 use Prim.Native.Nat.{ℕ, _+_, _<_}
-use borrow.Author.Tests.{ltb-true, eqb-true, lt-ltb, eq-eqb, not-false}
+use borrow.Author.Tests.{lt-ltb, eq-eqb}
 use Rattle.octets.specs.Choice.{either}
 use Rattle.octets.specs.Lists.{same}
-use Rattle.octets.proofs.Choice.{both-left, both-right, both-true, pick-true, pick-false, not-of-true, both-false-left, either-left, either-right, pick-holds}
+use Rattle.octets.proofs.Choice.{both-true, pick-true, pick-false, both-false-left, either-left, either-right, pick-holds}
 use Rattle.octets.proofs.Lists.{same-refl}
-use Rattle.refusal.specs.declared.Refusal.the-variants.{UnknownLlid, ClockNotSet, NothingOutstanding}
 use Rattle.refusal.specs.declared.Verdict.the-variants.{Accepted}
+use Rattle.refusal.specs.Order.{refuseIf}
 use Rattle.ends.specs.Limits.{maxKeyNumber}
-use Rattle.protocol.specs.Replies.{Reply}
 use Rattle.ends.specs.Keys.{keyIn, withKey}
 use Rattle.ends.specs.Identities.{has}
 use Rattle.ends.specs.Records.{withOnuKeys}
@@ -21,11 +20,10 @@ use Rattle.protocol.specs.OnuCalls.{onuAcknowledged, newKey, heldKey, ac
 use Rattle.ends.specs.declared.OnuKeys.{OnuKeys}
 use Rattle.ends.specs.declared.Onu.{Onu}
 use Rattle.protocol.specs.declared.KeyMessage.{KeyMessage}
-use Rattle.protocol.specs.declared.Acknowledgement.{Acknowledgement}
-use Rattle.refusal.proofs.Order.{refuse-accepted, refuse-passed}
 use Rattle.refusal.proofs.Numbers.{number-accepted}
 use Rattle.ends.proofs.Keys.{key-stored}
 use Rattle.ends.proofs.Validity.{onu-in-range, onu-valid}
+use Rattle.protocol.proofs.Replies.{met}
 use Rattle.protocol.proofs.OnuCalls.{onu-accepted, onu-accepts, onu-keeps}
 
 ---- what is met
@@ -37,11 +35,7 @@ pub record TakesKey (o : Onu) (m : KeyMessage) : Type 0 where
 
 pub key-message-accepted : (o : Onu) (m : KeyMessage) → keyMessageVerdict o m ≡ Accepted → TakesKey o m
 unfolding keyMessageVerdict
-key-message-accepted o m e =
-    let a = refuse-accepted _ _ _ e in
-    let b = refuse-accepted _ _ _ (a .1) in
-    let c = refuse-accepted _ _ _ (b .1) in
-    record { has = not-false _ (a .0); synced = eqb-true _ _ (not-false _ (b .0)); fits = not-false _ (c .0) }
+key-message-accepted o m e = search met depth 8
 
 pub key-message-met : (o : Onu) (m : KeyMessage) → keyMessageTo o m .verdict ≡ Accepted → (validOnu o ≡ true) × TakesKey o m
 unfolding keyMessageTo
@@ -50,11 +44,8 @@ key-message-met o m e =
     (a .0, key-message-accepted o m (a .1))
 
 pub key-message-accepts : (o : Onu) (m : KeyMessage) → TakesKey o m → keyMessageVerdict o m ≡ Accepted
-unfolding keyMessageVerdict
-key-message-accepts o m t =
-    refuse-passed _ UnknownLlid _ (not-of-true (t .has))
-    ∙ refuse-passed _ ClockNotSet _ (not-of-true (eq-eqb (o .clock .synced) 1 (t .synced)))
-    ∙ refuse-passed _ NothingOutstanding _ (not-of-true (t .fits))
+unfolding keyMessageVerdict refuseIf
+key-message-accepts o m t = rw (t .has, t .synced, t .fits)
 
 -- what a new key's message says
 pub record NewKey (k : OnuKeys) (m : KeyMessage) : Type 0 where
@@ -64,9 +55,7 @@ pub record NewKey (k : OnuKeys) (m : KeyMessage) : Type 0 where
 
 pub new-key-true : (k : OnuKeys) (m : KeyMessage) → newKey k m ≡ true → NewKey k m
 unfolding newKey
-new-key-true k m e =
-    let a = both-right _ _ e in
-    record { held = eqb-true _ _ (both-left _ _ e); below = ltb-true _ _ (both-left _ _ a); number = eqb-true _ _ (both-right _ _ a) }
+new-key-true k m e = search met
 
 ---- validity
 
@@ -79,20 +68,7 @@ keys-taken-valid k m v =
 -- an ONU whose keys alone are replaced by valid ones
 pub keys-replaced-valid : (o : Onu) (k : OnuKeys) → validOnuKeys k ≡ true → validOnu o ≡ true → validOnu (withOnuKeys o k) ≡ true
 unfolding withOnuKeys
-keys-replaced-valid o k w v =
-    let r = onu-in-range o v in
-    onu-valid (withOnuKeys o k)
-    (record {
-      identity = r .identity;
-      distinct = r .distinct;
-      oltmac = r .oltmac;
-      tick = r .tick;
-      clock = r .clock;
-      keys = w;
-      noted = r .noted;
-      changes = r .changes;
-      channels = r .channels;
-    })
+keys-replaced-valid o k w v = let r = onu-in-range o v in onu-valid (withOnuKeys o k) (search)
 
 pub key-message-valid : (o : Onu) (m : KeyMessage) → validOnu o ≡ true → validOnu (keyMessageAt o m .onu) ≡ true
 unfolding keyMessageAt keyMessageTo onuAcknowledged
@@ -128,10 +104,6 @@ held-fits k m e =
     rw (key-stored (k .slots) (k .active + 1) (m .key)) (same-refl (m .key)) in
     both-true refl (both-true (eq-eqb _ _ e) stored)
 
-held-old : (k : OnuKeys) (key : List ℕ) (m : KeyMessage) → newKey (withHeld k key) m ≡ false
-unfolding newKey
-held-old k key m = both-false-left _ refl
-
 -- where a message fits, it fits again what it leaves, and is no new key there
 record Again (k : OnuKeys) (m : KeyMessage) : Type 0 where
   fits : either (newKey k m) (either (heldKey k m) (activeKey k m)) ≡ true
@@ -142,7 +114,7 @@ fits-again k m e = by-new (newKey k m) refl where
   by-new : (t : Bool) → newKey k m ≡ t → Again (keysTaken k m) m
   by-new true f =
       rw (taken-new k m f)
-      (record { fits = either-right _ (either-left _ (held-fits k m (new-key-true k m f .number))); old = held-old k (m .key) m })
+      (record { fits = either-right _ (either-left _ (held-fits k m (new-key-true k m f .number))); old = unfold newKey in both-false-left _ refl })
   by-new false f = rw (taken-other k m f) (record { fits = e; old = f })
 
 -- the whole reply to a key message that is accepted
@@ -170,7 +142,4 @@ pub key-message-again : (o : Onu) (m n : KeyMessage) → SameMessage o m n → k
 unfolding keyMessageAt onuAcknowledged
 key-message-again o m n s e =
     let a = key-message-met o m (number-accepted _ e) in
-    let first = key-message-taken o m (a .0) (a .1) in
-    ap (λ (x : Reply Onu Acknowledgement). onuAcknowledged (keyMessageTo (x .end) n)) first
-    ∙ ap onuAcknowledged (taken-again o m n s (a .0) (a .1))
-    ∙ ap onuAcknowledged (sym first)
+    rw (key-message-taken o m (a .0) (a .1), taken-again o m n s (a .0) (a .1))

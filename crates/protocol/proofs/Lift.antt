@@ -3,13 +3,11 @@
 use mathlib.Core.Path.{_≡_, refl, sym, _∙_, ap, ap₂, subst}
 use mathlib.Core.Bool.{Bool, true, false, not}
 use Prim.Native.Nat.{ℕ, _<_}
-use native.Mathlib.Omega.{arith}
 use lib.Dec.{eqb}
-use lib.ListN.{length-take}
-use lib.Seq.{getD-take, take-set-lt}
+use lib.Seq.{take-set-lt}
 use borrow.Author.Tests.{eqb-true, eqb-false}
 use Rattle.octets.proofs.Choice.{not-of-true, not-of-false}
-use Rattle.octets.proofs.Tests.{all-at, all-set}
+use Rattle.octets.proofs.Tests.{all-one, all-set}
 use Rattle.refusal.specs.declared.Refusal.{Refusal}
 use Rattle.refusal.specs.declared.Refusal.the-variants.{OutOfRange, UnknownLlid}
 use Rattle.refusal.specs.declared.Verdict.{Verdict}
@@ -30,7 +28,7 @@ use Rattle.ends.specs.declared.Found.{Found}
 use Rattle.ends.specs.declared.Found.the-variants.{At, Nowhere}
 use Rattle.refusal.proofs.Order.{refused-accepts, refuse-passed, refuse-stopped}
 use Rattle.protocol.proofs.Replies.{reply-verdict, reply-accepted, reply-refused, Untouched}
-use Rattle.ends.proofs.Table.{Registered, find-at, registered-found, registered-nowhere, SameUnits, find-same, table-same, with-unit, with-other, with-twice, with-channels, with-same-units, with-beside, Beside}
+use Rattle.ends.proofs.Table.{Registered, find-at, registered-found, registered-nowhere, SameUnits, find-same, table-same, with-unit, with-other, with-twice, with-same-units, with-beside, Beside}
 use Rattle.ends.proofs.Validity.{shared-in-range, shared-valid, olt-in-range, olt-valid}
 
 module _ {H : Type 0} (o : Olt) (nothing : H) (ahead : Verdict) (llid : ℕ) (call : Shared → UnitRecord → Outcome H) where
@@ -59,29 +57,14 @@ module _ {H : Type 0} (o : Olt) (nothing : H) (ahead : Verdict) (llid : ℕ) (ca
   -- the verdict as one chain: 1 for the end, what the call refuses ahead of 2, 2, what the unit decides
   pub lift-verdict : lift o nothing ahead llid call .verdict
       ≡ onValid (validOlt o) (andThen ahead (refuseIf (not (isRegistered o llid)) UnknownLlid (call (o .shared) (unitNamed o llid) .verdict)))
-  unfolding andThen unitFound putBack
-  lift-verdict = by-valid (validOlt o) refl where
-    rest : Verdict
-    rest = refuseIf (not (isRegistered o llid)) UnknownLlid (call (o .shared) (unitNamed o llid) .verdict)
-
-    by-found : validOlt o ≡ true → ahead ≡ Accepted → (x : Found) → find o llid ≡ x → lift o nothing ahead llid call .verdict ≡ rest
-    by-found e f Nowhere n =
-        ap (λ (r : Reply Olt H). r .verdict) (lift-unknown e f n)
-        ∙ sym (refuse-stopped _ UnknownLlid _ (not-of-false (registered-nowhere o llid n)))
-    by-found e f (At i) n =
-        ap (λ (r : Reply Olt H). r .verdict) (lift-unit i e f n)
-        ∙ reply-verdict (call (o .shared) (unitAt o i) .verdict) o nothing _ _
-        ∙ sym (refuse-passed _ UnknownLlid _ (not-of-true (registered-found o llid i n)) ∙ ap (λ (x : Found). call (o .shared) (unitFound o x) .verdict) n)
-
-    by-ahead : validOlt o ≡ true → (v : Verdict) → ahead ≡ v → lift o nothing ahead llid call .verdict ≡ andThen ahead rest
-    by-ahead e Accepted f = by-found e f (find o llid) refl ∙ sym (ap (λ (v : Verdict). andThen v rest) f)
-    by-ahead e (Refused r) f = ap (λ (x : Reply Olt H). x .verdict) (lift-ahead r e f) ∙ sym (ap (λ (v : Verdict). andThen v rest) f)
-
-    by-valid : (t : Bool) → validOlt o ≡ t → lift o nothing ahead llid call .verdict ≡ onValid (validOlt o) (andThen ahead rest)
-    by-valid false e =
-        ap (λ (r : Reply Olt H). r .verdict) (lift-invalid e)
-        ∙ sym (refuse-stopped _ OutOfRange _ (not-of-false e))
-    by-valid true e = by-ahead e ahead refl ∙ sym (refuse-passed _ OutOfRange _ (not-of-true e))
+  unfolding lift after atUnit putBack unitFound andThen refuseIf reply
+  lift-verdict = by-case (validOlt o) ahead (find o llid) refl where
+    by-case : (t : Bool) (v : Verdict) (x : Found) → find o llid ≡ x → after (onValid t v) o nothing (atUnit o nothing call x) .verdict
+        ≡ onValid t (andThen v (refuseIf (not (isRegistered o llid)) UnknownLlid (call (o .shared) (unitFound o x) .verdict)))
+    by-case false v x n = refl
+    by-case true (Refused r) x n = refl
+    by-case true Accepted Nowhere n = rw (registered-nowhere o llid n)
+    by-case true Accepted (At i) n = rw (registered-found o llid i n) (reply-verdict (call (o .shared) (unitAt o i) .verdict) o nothing _ _)
 
   -- what an accepted call has met, and leaves
   pub record Lifted : Type 0 where
@@ -100,16 +83,7 @@ module _ {H : Type 0} (o : Olt) (nothing : H) (ahead : Verdict) (llid : ℕ) (ca
   unfolding putBack
   lift-accepts i e f n a =
       let whole = lift-unit i e f n ∙ reply-accepted (call (o .shared) (unitAt o i) .verdict) o nothing _ _ a in
-      record {
-        at = i;
-        valid = e;
-        passed = f;
-        found = n;
-        accepts = a;
-        verdict = ap (λ (r : Reply Olt H). r .verdict) whole;
-        end = ap (λ (r : Reply Olt H). r .end) whole;
-        handed = ap (λ (r : Reply Olt H). r .handed) whole;
-      }
+      search whole
 
   -- every call is one of these
   pub data Ends : Type 0 where
@@ -118,23 +92,17 @@ module _ {H : Type 0} (o : Olt) (nothing : H) (ahead : Verdict) (llid : ℕ) (ca
 
   pub lift-ends : Ends
   unfolding putBack
-  lift-ends = by-valid (validOlt o) refl where
+  lift-ends = by-case (validOlt o) ahead (find o llid) refl refl refl where
     by-verdict : (i : ℕ) → validOlt o ≡ true → ahead ≡ Accepted → find o llid ≡ At i → (v : Verdict)
         → call (o .shared) (unitAt o i) .verdict ≡ v → Ends
     by-verdict i e f n Accepted a = accepted (lift-accepts i e f n a)
     by-verdict i e f n (Refused r) a = refused r (lift-unit i e f n ∙ reply-refused (call (o .shared) (unitAt o i) .verdict) o nothing _ _ r a)
 
-    by-found : validOlt o ≡ true → ahead ≡ Accepted → (x : Found) → find o llid ≡ x → Ends
-    by-found e f Nowhere n = refused UnknownLlid (lift-unknown e f n)
-    by-found e f (At i) n = by-verdict i e f n (call (o .shared) (unitAt o i) .verdict) refl
-
-    by-ahead : validOlt o ≡ true → (v : Verdict) → ahead ≡ v → Ends
-    by-ahead e Accepted f = by-found e f (find o llid) refl
-    by-ahead e (Refused r) f = refused r (lift-ahead r e f)
-
-    by-valid : (t : Bool) → validOlt o ≡ t → Ends
-    by-valid false e = refused OutOfRange (lift-invalid e)
-    by-valid true e = by-ahead e ahead refl
+    by-case : (t : Bool) (v : Verdict) (x : Found) → validOlt o ≡ t → ahead ≡ v → find o llid ≡ x → Ends
+    by-case false v x e f n = refused OutOfRange (lift-invalid e)
+    by-case true (Refused r) x e f n = refused r (lift-ahead r e f)
+    by-case true Accepted Nowhere e f n = refused UnknownLlid (lift-unknown e f n)
+    by-case true Accepted (At i) e f n = by-verdict i e f n (call (o .shared) (unitAt o i) .verdict) refl
 
   pub lift-accepted : lift o nothing ahead llid call .verdict ≡ Accepted → Lifted
   lift-accepted e = by-end lift-ends where
@@ -147,8 +115,7 @@ module _ {H : Type 0} (o : Olt) (nothing : H) (ahead : Verdict) (llid : ℕ) (ca
   lift-untouched r e = by-end lift-ends where
     by-end : Ends → Untouched o nothing (lift o nothing ahead llid call)
     by-end (accepted l) = refused-accepts r (sym e ∙ l .verdict)
-    by-end (refused x f) =
-        record { end = ap (λ (y : Reply Olt H). y .end) f; handed = ap (λ (y : Reply Olt H). y .handed) f }
+    by-end (refused x f) = rw f (record { end = refl; handed = refl })
 
   -- what holds of the OLT, and of it with the unit that an accepted call leaves, holds after the call
   pub lift-keeps : (P : Olt → Type 0) → P o
@@ -175,22 +142,14 @@ unfolding withUnit withChannels
 with-valid o i c u h e v w k =
     let r = olt-in-range o k in
     let s = shared-in-range (o .shared) (r .shared) in
-    let same = with-same-units o i c u e in
-    olt-valid (withUnit o i c u)
-    (record {
-      count = r .count;
-      shared = shared-valid _ (record { mac = s .mac; tick = s .tick; clock = s .clock; channels = w });
-      units = rw (take-set-lt (o .count) (o .units) i u h) (all-set (validUnit (o .shared .tick)) (registered o) i u (r .units) v);
-      distinct = ap distinct (table-same (withUnit o i c u) o same) ∙ r .distinct;
-    })
+    let units = rw (sym (take-set-lt (o .count) (o .units) i u h)) at (all-set (validUnit (o .shared .tick)) (registered o) i u (r .units) v) in
+    let once = ap distinct (table-same (withUnit o i c u) o (with-same-units o i c u e)) ∙ r .distinct in
+    olt-valid (withUnit o i c u) (search shared-valid)
 
 -- a registered unit of a valid OLT is valid
 pub unit-at-valid : (o : Olt) (llid i : ℕ) → validOlt o ≡ true → Registered o llid i → validUnit (o .shared .tick) (unitAt o i) ≡ true
 unit-at-valid o llid i v r =
-    rw (getD-take (o .count) (o .units) i pastUnit (r .used))
-    at
-    (all-at (validUnit (o .shared .tick)) (registered o) i pastUnit (olt-in-range o v .units)
-    (omega (arith, length-take (o .count) (o .units), r .used, r .place)))
+    all-one (validUnit (o .shared .tick)) (o .count) (o .units) pastUnit (olt-in-range o v .units) i (r .used) (r .place)
 
 module _ {H : Type 0} (o : Olt) (nothing : H) (ahead : Verdict) (llid : ℕ) (call : Shared → UnitRecord → Outcome H) where
   pub lift-valid : (ahead ≡ Accepted → Keeps call) → validOlt o ≡ true → validOlt (lift o nothing ahead llid call .end) ≡ true
@@ -246,10 +205,6 @@ module _ {H : Type 0} (o : Olt) (nothing : H) (ahead : Verdict) (llid : ℕ) (ca
   lift-itself l =
       ap (λ (p : Olt). unitAt p (l .at)) (l .end)
       ∙ with-unit o (l .at) _ _ (find-at o llid (l .at) (l .found) .place)
-
-  pub lift-channels : (l : Lifted o nothing ahead llid call)
-      → lift o nothing ahead llid call .end .shared .channels ≡ call (o .shared) (unitAt o (l .at)) .channels
-  lift-channels l = ap (λ (p : Olt). p .shared .channels) (l .end) ∙ with-channels o (l .at) _ _
 
   -- a call that leaves the channels, and that a second time decides as the first: made again, by any LLID of the unit, it is
   -- answered as the first, and leaves what the first left

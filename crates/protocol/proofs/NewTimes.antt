@@ -4,8 +4,8 @@ use mathlib.Core.Bool.{Bool, true, false}
 use Prim.Native.Nat.{ℕ, _+_, _-_, _%_, _≤_, _<_}
 use native.Mathlib.Omega.{arith}
 use lib.Dec.{leb, ltb}
-use borrow.Author.Tests.{leb-true, leb-false, le-leb, lt-leb, not-false}
-use Rattle.octets.proofs.Choice.{both-left, both-right, pick-true, pick-false}
+use borrow.Author.Tests.{leb-true, leb-false, le-leb, lt-leb}
+use Rattle.octets.proofs.Choice.{pick-true, pick-false}
 use Rattle.refusal.specs.declared.Verdict.the-variants.{Accepted}
 use Rattle.clock.specs.Ticks.{localTurn, localOf, maxRoundTrip}
 use Rattle.ends.specs.Limits.{maxTimeChange}
@@ -17,8 +17,7 @@ use Rattle.ends.proofs.Travels.{shift-in-range, shift-ahead, shift-back, shift-
 use Rattle.ends.proofs.Validity.{onu-in-range, onu-valid}
 use Rattle.protocol.specs.Replies.{silent}
 use Rattle.protocol.specs.OnuCalls.{onuAnswer, timeAhead, nearTime, changesAfter, onuChanges, newTimeVerdict, onuRetimed, newTimeOf}
-use Rattle.refusal.proofs.Order.{refuse-accepted}
-use Rattle.protocol.proofs.Replies.{number-refused}
+use Rattle.protocol.proofs.Replies.{met, number-refused}
 use Rattle.protocol.proofs.OnuCalls.{onu-untouched, onu-keeps, new-clock-valid}
 
 ---- what an accepted call has met
@@ -30,10 +29,7 @@ pub record NewTime (o : Onu) (time : ℕ) : Type 0 where
 
 pub new-time-accepted : (o : Onu) (time : ℕ) → newTimeVerdict o time ≡ Accepted → NewTime o time
 unfolding newTimeVerdict
-new-time-accepted o time e =
-    let a = refuse-accepted _ _ _ e in
-    let v = not-false _ (a .0) in
-    record { low = both-left _ _ v; near = both-right _ _ v; changes = not-false _ (refuse-accepted _ _ _ (a .1) .0) }
+new-time-accepted o time e = search met
 
 ---- validity
 
@@ -42,18 +38,7 @@ unfolding onuRetimed withOnuClock withTravel travelChanged
 retimed-valid o time e v =
     let r = onu-in-range o v in
     let n = new-time-accepted o time e in
-    onu-valid (onuRetimed o time)
-    (record {
-      identity = r .identity;
-      distinct = r .distinct;
-      oltmac = r .oltmac;
-      tick = r .tick;
-      clock = new-clock-valid time (n .low);
-      keys = r .keys;
-      noted = r .noted;
-      changes = n .changes;
-      channels = r .channels;
-    })
+    onu-valid (onuRetimed o time) (search new-clock-valid)
 
 pub new-time-valid : (o : Onu) (time : ℕ) → validOnu o ≡ true → validOnu (newTimeOf o time .onu) ≡ true
 unfolding newTimeOf onuAnswer

@@ -13,7 +13,7 @@ use Rattle.refusal.specs.declared.Refusal.the-variants.{OutOfRange}
 use Rattle.refusal.specs.declared.Verdict.the-variants.{Accepted}
 use Rattle.clock.specs.Ticks.{maxTick}
 use Rattle.clock.proofs.Ticks.{advanced-below, advanced-sum}
-use Rattle.protocol.specs.Replies.{Silence, silent, Reply}
+use Rattle.protocol.specs.Replies.{silent}
 use Rattle.ends.specs.Records.{withKeys}
 use Rattle.ends.specs.Table.{registered, tableLlids, unitAt, pastUnit}
 use Rattle.ends.specs.Validity.{validUnit, validOlt}
@@ -60,16 +60,12 @@ olt-advanced-valid o n h v =
     let s = shared-in-range (o .shared) (k .shared) in
     let llids : tableLlids (map (unitAdvanced n) (registered o)) ≡ tableLlids (registered o) =
     llids-same _ _ (map-same (unitAdvanced n) identityOf (unit-identity n) (registered o)) in
-    olt-valid (oltAdvanced o n)
-    (record {
-      count = k .count;
-      shared = shared-valid _ (record { mac = s .mac; tick = h; clock = advanced-below (o .shared .clock) n; channels = s .channels });
-      units =
-          rw (take-first (unitAdvanced n) (o .count) (o .units))
-          (all-map (validUnit (o .shared .tick)) (validUnit (o .shared .tick + n)) (unitAdvanced n) (unit-advanced-valid (o .shared .tick) n)
-          (registered o) (k .units));
-      distinct = rw (take-first (unitAdvanced n) (o .count) (o .units), llids) (k .distinct);
-    })
+    let shared = shared-valid (sharedAdvanced (o .shared) n) (search advanced-below) in
+    let valid =
+    all-map (validUnit (o .shared .tick)) (validUnit (o .shared .tick + n)) (unitAdvanced n) (unit-advanced-valid (o .shared .tick) n) (registered o)
+    (k .units) in
+    let taken = take-first (unitAdvanced n) (o .count) (o .units) in
+    olt-valid (oltAdvanced o n) (record { count = k .count; shared = shared; units = rw taken valid; distinct = rw (taken, llids) (k .distinct) })
 
 pub advance-olt-valid : (o : Olt) (n : ℕ) → validOlt o ≡ true → validOlt (advanceOltOf o n .olt) ≡ true
 unfolding advanceOltOf advancingOlt oltAnswer
@@ -95,15 +91,10 @@ pub advancing-sum : (o : Olt) (m n : ℕ) → advancingOlt o (m + n) .verdict �
 unfolding oltAdvanced sharedAdvanced
 advancing-sum o m n e =
     let a = advancing-accepted o (m + n) e in
-    let v = a .0 in
     let h : o .shared .tick + m ≤ maxTick = omega (arith, a .1) in
-    let first : advancingOlt o m .end ≡ oltAdvanced o m = ap (λ (r : Reply Olt Silence). r .end) (advancing-accepts o m v h) in
-    let w = olt-advanced-valid o m h v in
-    let l : oltAdvanced o m .shared .tick + n ≤ maxTick = omega (arith, a .1) in
-    ap (λ (p : Olt). advancingOlt p n) first
-    ∙ advancing-accepts (oltAdvanced o m) n w l
-    ∙ ap (λ (p : Olt). record { verdict = Accepted; end = p; handed = silent }) (olt-sum m n o)
-    ∙ sym (advancing-accepts o (m + n) v (a .1))
+    let first = advancing-accepts o m (a .0) h in
+    let second = advancing-accepts (oltAdvanced o m) n (olt-advanced-valid o m h (a .0)) (omega (arith, a .1)) in
+    rw (first, second, olt-sum m n o, advancing-accepts o (m + n) (a .0) (a .1))
 
 pub advance-olt-sum : (o : Olt) (m n : ℕ) → advanceOltOf o (m + n) .number ≡ 0 → advanceOltOf (advanceOltOf o m .olt) n ≡ advanceOltOf o (m + n)
 unfolding advanceOltOf oltAnswer

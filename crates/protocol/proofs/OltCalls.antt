@@ -12,7 +12,7 @@ use Rattle.octets.specs.Lists.{all}
 use Rattle.octets.proofs.Choice.{both-left, both-right}
 use Rattle.refusal.specs.Number.{verdictNumber}
 use Rattle.refusal.specs.declared.Refusal.{Refusal}
-use Rattle.refusal.specs.declared.Refusal.the-variants.{OutOfRange, UnknownLlid}
+use Rattle.refusal.specs.declared.Refusal.the-variants.{OutOfRange}
 use Rattle.refusal.specs.declared.Verdict.{Verdict}
 use Rattle.refusal.specs.declared.Verdict.the-variants.{Accepted}
 use Rattle.clock.specs.Ticks.{clockTurn, maxRoundTrip}
@@ -22,7 +22,7 @@ use Rattle.protocol.specs.Replies.{onValid, silent}
 use Rattle.protocol.specs.Messages.{noStamps, noKeyMessage}
 use Rattle.ends.specs.Identities.{distinct, validMac}
 use Rattle.ends.specs.Records.{noUnit, newOlt}
-use Rattle.ends.specs.Table.{tableLlids, isRegistered, unitNamed, find}
+use Rattle.ends.specs.Table.{tableLlids, unitNamed, find}
 use Rattle.ends.specs.Validity.{validOlt}
 use Rattle.protocol.specs.Lift.{outcome}
 use Rattle.protocol.specs.UnitCalls.{captureUnit, measureUnit, clockSendUnit, offerUnit, retryUnit, acknowledgeUnit}
@@ -47,13 +47,8 @@ use Rattle.protocol.proofs.UnitCalls.{capture-keeps, measure-keeps, clo
 pub new-olt-valid : (mac clock : ℕ) → validMac mac ≡ true → clock < clockTurn → validOlt (newOlt mac clock) ≡ true
 unfolding newOlt all tableLlids distinct
 new-olt-valid mac clock m c =
-    olt-valid (newOlt mac clock)
-    (record {
-      count = omega arith;
-      shared = shared-valid _ (record { mac = m; tick = omega arith; clock = c; channels = free-valid });
-      units = refl;
-      distinct = refl;
-    })
+    let shared = shared-valid (newOlt mac clock .shared) (search (free-valid, arith)) in
+    olt-valid (newOlt mac clock) (search arith)
 
 -- the end of zeros that a refused fresh gives is valid
 pub zeros-valid : validOlt (newOlt 0 0) ≡ true
@@ -150,23 +145,17 @@ measure-refused o llid trip n = number-refused o silent _ (lift-untouched o sile
 pub clock-send-refused : (o : Olt) (llid : ℕ) → (clockSendOf o llid .number ≡ 0 → ⊥)
     → (clockSendOf o llid .olt ≡ o) × (clockSendOf o llid .message ≡ noStamps)
 unfolding clockSendOf clockSent
-clock-send-refused o llid n =
-    let u = number-refused o noStamps _ (lift-untouched o noStamps Accepted llid clockSendUnit) n in
-    (u .end, u .handed)
+clock-send-refused o llid n = search (number-refused o noStamps _ (lift-untouched o noStamps Accepted llid clockSendUnit) n)
 
 pub offer-refused : (o : Olt) (llid : ℕ) (key : List ℕ) → (offerOf o llid key .number ≡ 0 → ⊥)
     → (offerOf o llid key .olt ≡ o) × (offerOf o llid key .message ≡ noKeyMessage)
 unfolding offerOf keySent
-offer-refused o llid key n =
-    let u = number-refused o noKeyMessage _ (lift-untouched o noKeyMessage Accepted llid (offerUnit llid key)) n in
-    (u .end, u .handed)
+offer-refused o llid key n = search (number-refused o noKeyMessage _ (lift-untouched o noKeyMessage Accepted llid (offerUnit llid key)) n)
 
 pub retry-refused : (o : Olt) (llid : ℕ) → (retryOf o llid .number ≡ 0 → ⊥)
     → (retryOf o llid .olt ≡ o) × (retryOf o llid .message ≡ noKeyMessage)
 unfolding retryOf keySent
-retry-refused o llid n =
-    let u = number-refused o noKeyMessage _ (lift-untouched o noKeyMessage Accepted llid (retryUnit llid)) n in
-    (u .end, u .handed)
+retry-refused o llid n = search (number-refused o noKeyMessage _ (lift-untouched o noKeyMessage Accepted llid (retryUnit llid)) n)
 
 pub acknowledge-refused : (o : Olt) (llid : ℕ) (a : Acknowledgement) → (acknowledgeOf o llid a .number ≡ 0 → ⊥) → acknowledgeOf o llid a .olt ≡ o
 unfolding acknowledgeOf oltAnswer
@@ -177,42 +166,32 @@ acknowledge-refused o llid a n = number-refused o silent _ (lift-untouched o sil
 pub capture-ordered : (o : Olt) (llid : ℕ) (r : OltAnswer) → r ≡ captureOf o llid
     → (r ≡ captureOf o llid) × (r .number ≡ verdictNumber (captureOrder o llid))
 unfolding captureOf oltAnswer captureOrder captureUnit outcome andThen
-capture-ordered o llid r e = (e, ap (λ (x : OltAnswer). x .number) e ∙ ap verdictNumber (lift-verdict o silent Accepted llid captureUnit))
+capture-ordered o llid r e = (e, rw e (ap verdictNumber (lift-verdict o silent Accepted llid captureUnit)))
 
 pub measure-ordered : (o : Olt) (llid trip : ℕ) (r : OltAnswer) → r ≡ measureOf o llid trip
     → (r ≡ measureOf o llid trip) × (r .number ≡ verdictNumber (measureOrder o llid trip))
 unfolding measureOf oltAnswer measureOrder measureUnit outcome
-measure-ordered o llid trip r e = (
-  e,
-  ap (λ (x : OltAnswer). x .number) e
-      ∙ ap verdictNumber
-      (lift-verdict o silent _ llid (measureUnit trip) ∙ ap (onValid (validOlt o)) (one-then (not (leb trip maxRoundTrip)) OutOfRange _)),
-)
+measure-ordered o llid trip r e =
+    let chain = lift-verdict o silent _ llid (measureUnit trip) ∙ ap (onValid (validOlt o)) (one-then (not (leb trip maxRoundTrip)) OutOfRange _) in
+    (e, rw e (ap verdictNumber chain))
 
 pub clock-send-ordered : (o : Olt) (llid : ℕ) (r : ClockSent) → r ≡ clockSendOf o llid
     → (r ≡ clockSendOf o llid) × (r .number ≡ verdictNumber (clockSendOrder o llid))
 unfolding clockSendOf clockSent clockSendOrder clockSendUnit outcome andThen
-clock-send-ordered o llid r e = (e, ap (λ (x : ClockSent). x .number) e ∙ ap verdictNumber (lift-verdict o noStamps Accepted llid clockSendUnit))
+clock-send-ordered o llid r e = (e, rw e (ap verdictNumber (lift-verdict o noStamps Accepted llid clockSendUnit)))
 
 pub offer-ordered : (o : Olt) (llid : ℕ) (key : List ℕ) (r : KeySent) → r ≡ offerOf o llid key
     → (r ≡ offerOf o llid key) × (r .number ≡ verdictNumber (offerOrder o llid key))
 unfolding offerOf keySent offerOrder offerUnit outcome andThen
-offer-ordered o llid key r e =
-    (e, ap (λ (x : KeySent). x .number) e ∙ ap verdictNumber (lift-verdict o noKeyMessage Accepted llid (offerUnit llid key)))
+offer-ordered o llid key r e = (e, rw e (ap verdictNumber (lift-verdict o noKeyMessage Accepted llid (offerUnit llid key))))
 
 pub retry-ordered : (o : Olt) (llid : ℕ) (r : KeySent) → r ≡ retryOf o llid
     → (r ≡ retryOf o llid) × (r .number ≡ verdictNumber (retryOrder o llid))
 unfolding retryOf keySent retryOrder retryUnit outcome andThen
-retry-ordered o llid r e = (e, ap (λ (x : KeySent). x .number) e ∙ ap verdictNumber (lift-verdict o noKeyMessage Accepted llid (retryUnit llid)))
+retry-ordered o llid r e = (e, rw e (ap verdictNumber (lift-verdict o noKeyMessage Accepted llid (retryUnit llid))))
 
 pub acknowledge-ordered : (o : Olt) (llid : ℕ) (a : Acknowledgement) (r : OltAnswer) → r ≡ acknowledgeOf o llid a
     → (r ≡ acknowledgeOf o llid a) × (r .number ≡ verdictNumber (acknowledgeOrder o llid a))
 unfolding acknowledgeOf oltAnswer acknowledgeOrder andThen
-acknowledge-ordered o llid a r e = (
-  e,
-  ap (λ (x : OltAnswer). x .number) e
-      ∙ ap verdictNumber
-      (lift-verdict o silent Accepted llid (acknowledgeUnit a)
-      ∙ ap (λ (v : Verdict). onValid (validOlt o) (refuseIf (not (isRegistered o llid)) UnknownLlid v))
-      (acknowledge-verdict a (o .shared) (unitNamed o llid))),
-)
+acknowledge-ordered o llid a r e =
+    (e, rw (e, ← acknowledge-verdict a (o .shared) (unitNamed o llid)) (ap verdictNumber (lift-verdict o silent Accepted llid (acknowledgeUnit a))))

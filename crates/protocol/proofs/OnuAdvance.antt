@@ -1,5 +1,5 @@
 -- Laws of an advance of the ONU: it stays valid, and advances add up. Assumes nothing.
-use mathlib.Core.Path.{_≡_, refl, sym, _∙_, ap}
+use mathlib.Core.Path.{_≡_, refl, _∙_, ap}
 use mathlib.Core.Bool.{Bool, true, false}
 use Prim.Native.Nat.{ℕ, _+_, _≤_, _<_}
 use native.Mathlib.Nat.{add-assoc, mod-lt}
@@ -12,7 +12,7 @@ use Rattle.clock.specs.Ticks.{maxTick, localTurn, advanced, localAdvanced}
 use Rattle.clock.proofs.Ticks.{advanced-below, advanced-sum, localAdvanced-sum}
 use Rattle.ends.specs.Flags.{isUp}
 use Rattle.ends.specs.Travels.{travelOf}
-use Rattle.protocol.specs.Replies.{Silence, silent, Reply}
+use Rattle.protocol.specs.Replies.{silent, advanceVerdict}
 use Rattle.ends.specs.Validity.{validOnuClock, validOnu}
 use Rattle.protocol.specs.OnuCalls.{onuAnswer, onuClockAdvanced, onuAdvanced, advancingOnu, advanceOnuOf}
 use Rattle.ends.specs.declared.OnuClock.{OnuClock}
@@ -55,20 +55,7 @@ onu-clock-advanced-valid n c v =
 
 pub onu-advanced-valid : (o : Onu) (n : ℕ) → o .tick + n ≤ maxTick → validOnu o ≡ true → validOnu (onuAdvanced o n) ≡ true
 unfolding onuAdvanced
-onu-advanced-valid o n h v =
-    let r = onu-in-range o v in
-    onu-valid (onuAdvanced o n)
-    (record {
-      identity = r .identity;
-      distinct = r .distinct;
-      oltmac = r .oltmac;
-      tick = h;
-      clock = onu-clock-advanced-valid n (o .clock) (r .clock);
-      keys = r .keys;
-      noted = r .noted;
-      changes = r .changes;
-      channels = r .channels;
-    })
+onu-advanced-valid o n h v = let r = onu-in-range o v in onu-valid (onuAdvanced o n) (search onu-clock-advanced-valid)
 
 -- an advance is that much travel
 pub travel-advanced : (o : Onu) (n : ℕ) → travelOf (onuAdvanced o n) ≡ travelOf o + n
@@ -80,21 +67,21 @@ unfolding advanceOnuOf advancingOnu onuAnswer
 advance-onu-valid o n v =
     onu-keeps (λ (p : Onu). validOnu p ≡ true) o silent _ _ silent v (λ w a. onu-advanced-valid o n (advance-accepted (o .tick) n a) w)
 
+advancing-onu-accepts : (o : Onu) (n : ℕ) → validOnu o ≡ true → o .tick + n ≤ maxTick
+    → advancingOnu o n ≡ record { verdict = Accepted; end = onuAdvanced o n; handed = silent }
+unfolding advancingOnu
+advancing-onu-accepts o n v h = onu-accepts o silent _ (onuAdvanced o n) silent v (advance-accepts (o .tick) n h)
+
 -- whenever the sum is accepted, an advance by m and then one by n give the whole reply of an advance by m + n
-pub advancing-onu-sum : (o : Onu) (m n : ℕ) → advancingOnu o (m + n) .verdict ≡ Accepted
+advancing-onu-sum : (o : Onu) (m n : ℕ) → advancingOnu o (m + n) .verdict ≡ Accepted
     → advancingOnu (advancingOnu o m .end) n ≡ advancingOnu o (m + n)
-unfolding advancingOnu onuAdvanced
+unfolding onuAdvanced
 advancing-onu-sum o m n e =
-    let a = onu-accepted o silent _ _ silent e in
-    let v = a .0 in
-    let h : o .tick + (m + n) ≤ maxTick = advance-accepted (o .tick) (m + n) (a .1) in
+    let a : (validOnu o ≡ true) × (advanceVerdict (o .tick) (m + n) ≡ Accepted) = unfold advancingOnu in onu-accepted o silent _ _ silent e in
+    let h = advance-accepted (o .tick) (m + n) (a .1) in
     let k : o .tick + m ≤ maxTick = omega arith in
-    let first : advancingOnu o m .end ≡ onuAdvanced o m =
-    ap (λ (r : Reply Onu Silence). r .end) (onu-accepts o silent _ (onuAdvanced o m) silent v (advance-accepts (o .tick) m k)) in
-    ap (λ (p : Onu). advancingOnu p n) first
-    ∙ onu-accepts (onuAdvanced o m) silent _ _ silent (onu-advanced-valid o m k v) (advance-accepts (onuAdvanced o m .tick) n (omega arith))
-    ∙ ap (λ (p : Onu). record { verdict = Accepted; end = p; handed = silent }) (onu-sum m n o)
-    ∙ sym (onu-accepts o silent _ (onuAdvanced o (m + n)) silent v (a .1))
+    let second = advancing-onu-accepts (onuAdvanced o m) n (onu-advanced-valid o m k (a .0)) (omega arith) in
+    rw (advancing-onu-accepts o m (a .0) k, second, onu-sum m n o, advancing-onu-accepts o (m + n) (a .0) h)
 
 pub advance-onu-sum : (o : Onu) (m n : ℕ) → advanceOnuOf o (m + n) .number ≡ 0 → advanceOnuOf (advanceOnuOf o m .onu) n ≡ advanceOnuOf o (m + n)
 unfolding advanceOnuOf onuAnswer

@@ -6,18 +6,18 @@ use native.Mathlib.Omega.{arith}
 use lib.Dec.{ltb}
 use borrow.Author.Tests.{lt-ltb, not-false}
 use Rattle.octets.specs.Choice.{both, either, pick}
-use Rattle.octets.proofs.Choice.{both-left, both-right, both-true, not-of-true, both-false-left}
+use Rattle.octets.proofs.Choice.{both-true, not-of-true, both-false-left}
 use Rattle.refusal.specs.declared.Refusal.{Refusal}
 use Rattle.refusal.specs.declared.Refusal.the-variants.{OutOfRange}
 use Rattle.refusal.specs.declared.Verdict.{Verdict}
 use Rattle.refusal.specs.declared.Verdict.the-variants.{Accepted, Refused}
-use Rattle.clock.specs.Ticks.{localTurn, localOf}
+use Rattle.clock.specs.Ticks.{localTurn}
 use Rattle.clock.specs.Stamping.{raiseOf, movedBy, raisedTo}
 use Rattle.clock.specs.declared.Stamps.{Stamps}
 use Rattle.clock.proofs.Ticks.{advanced-below}
-use Rattle.protocol.specs.Replies.{Silence, silent, Reply}
+use Rattle.protocol.specs.Replies.{silent}
 use Rattle.ends.specs.Keys.{noSlots}
-use Rattle.ends.specs.Identities.{noIdentity, distinct}
+use Rattle.ends.specs.Identities.{noIdentity, distinct, kept, llidsOf, validIdentity}
 use Rattle.ends.specs.Records.{unsyncedClock, newOnu, withOnuClock}
 use Rattle.ends.specs.Validity.{validOnuKeys, validOnuClock, validOnu}
 use Rattle.protocol.specs.Messages.{noAcknowledgement, ofClock, ofKey}
@@ -27,7 +27,7 @@ use Rattle.ends.specs.declared.Onu.{Onu}
 use Rattle.protocol.specs.declared.KeyMessage.{KeyMessage}
 use Rattle.refusal.proofs.Order.{refuse-accepted, refuse-passed}
 use Rattle.refusal.proofs.Numbers.{number-accepted}
-use Rattle.protocol.proofs.Replies.{number-refused, reply-verdict, reply-accepted, reply-keeps, reply-untouched, Untouched}
+use Rattle.protocol.proofs.Replies.{met, number-refused, reply-verdict, reply-accepted, reply-keeps, reply-untouched, Untouched}
 use Rattle.ends.proofs.Travels.{no-changes-valid}
 use Rattle.ends.proofs.Occupancy.{free-valid}
 use Rattle.ends.proofs.Identities.{none-invalid, identity-valid, kept-llids, kept-valid}
@@ -73,21 +73,11 @@ new-keys-valid = refl
 pub new-onu-valid : (i : Identity) (oltmac time : ℕ) → freshOnuVerdict i oltmac time ≡ Accepted → validOnu (newOnu i oltmac time) ≡ true
 unfolding freshOnuVerdict newOnu
 new-onu-valid i oltmac time e =
-    let a = refuse-accepted _ _ _ e in
-    let v = not-false _ (a .0) in
-    let d = not-false _ (refuse-accepted _ _ _ (a .1) .0) in
-    onu-valid (newOnu i oltmac time)
-    (record {
-      identity = kept-valid i ∙ both-left _ _ v;
-      distinct = ap distinct (kept-llids i (identity-valid i (both-left _ _ v) .1)) ∙ d;
-      oltmac = both-left _ _ (both-right _ _ v);
-      tick = omega arith;
-      clock = new-clock-valid time (both-right _ _ (both-right _ _ v));
-      keys = new-keys-valid;
-      noted = omega arith;
-      changes = no-changes-valid;
-      channels = free-valid;
-    })
+    let valid : validIdentity i ≡ true = search met depth 8 in
+    let identity = kept-valid i ∙ valid in
+    let once : distinct (llidsOf (kept i)) ≡ true = ap distinct (kept-llids i (identity-valid i valid .1)) ∙ search met depth 8 in
+    let clock : validOnuClock (unsyncedClock time) ≡ true = new-clock-valid time (search met depth 8) in
+    onu-valid (newOnu i oltmac time) (search (met, new-keys-valid, no-changes-valid, free-valid, arith) depth 8)
 
 -- an ONU of zeros, as a refused fresh gives, is not
 pub zeros-invalid : validOnu (newOnu noIdentity 0 0) ≡ false
@@ -98,8 +88,7 @@ pub fresh-onu-valid : (i : Identity) (oltmac time : ℕ) → freshOnuOf i oltmac
 unfolding freshOnuOf onuAnswer
 fresh-onu-valid i oltmac time e =
     let a = sym (reply-verdict _ (newOnu noIdentity 0 0) silent (newOnu i oltmac time) silent) ∙ number-accepted _ e in
-    ap (λ (r : Reply Onu Silence). validOnu (r .end)) (reply-accepted _ (newOnu noIdentity 0 0) silent (newOnu i oltmac time) silent a)
-    ∙ new-onu-valid i oltmac time a
+    rw (reply-accepted _ (newOnu noIdentity 0 0) silent (newOnu i oltmac time) silent a) (new-onu-valid i oltmac time a)
 
 pub fresh-onu-refused : (i : Identity) (oltmac time : ℕ) → (freshOnuOf i oltmac time .number ≡ 0 → ⊥)
     → freshOnuOf i oltmac time .onu ≡ newOnu noIdentity 0 0
@@ -117,20 +106,7 @@ clock-from-valid time s =
 
 pub onu-synced-valid : (o : Onu) (s : Stamps) → validOnu o ≡ true → validOnu (onuSynced o s) ≡ true
 unfolding onuSynced withOnuClock
-onu-synced-valid o s v =
-    let r = onu-in-range o v in
-    onu-valid (onuSynced o s)
-    (record {
-      identity = r .identity;
-      distinct = r .distinct;
-      oltmac = r .oltmac;
-      tick = r .tick;
-      clock = clock-from-valid (localOf (o .clock .time)) s;
-      keys = r .keys;
-      noted = r .noted;
-      changes = r .changes;
-      channels = r .channels;
-    })
+onu-synced-valid o s v = let r = onu-in-range o v in onu-valid (onuSynced o s) (search clock-from-valid)
 
 pub clock-message-valid : (o : Onu) (s : Stamps) → validOnu o ≡ true → validOnu (clockMessageAt o s .onu) ≡ true
 unfolding clockMessageAt clockMessageTo onuAcknowledged
@@ -146,11 +122,9 @@ advance-onu-refused o n h = number-refused o silent _ (onu-untouched o silent _ 
 pub clock-message-refused : (o : Onu) (s : Stamps) → (clockMessageAt o s .number ≡ 0 → ⊥)
     → (clockMessageAt o s .onu ≡ o) × (clockMessageAt o s .acknowledgement ≡ noAcknowledgement)
 unfolding clockMessageAt clockMessageTo onuAcknowledged
-clock-message-refused o s n = let u = number-refused o noAcknowledgement _ (onu-untouched o noAcknowledgement _ _ ofClock) n in (u .end, u .handed)
+clock-message-refused o s n = search (number-refused o noAcknowledgement _ (onu-untouched o noAcknowledgement _ _ ofClock) n)
 
 pub key-message-refused : (o : Onu) (m : KeyMessage) → (keyMessageAt o m .number ≡ 0 → ⊥)
     → (keyMessageAt o m .onu ≡ o) × (keyMessageAt o m .acknowledgement ≡ noAcknowledgement)
 unfolding keyMessageAt keyMessageTo onuAcknowledged
-key-message-refused o m n =
-    let u = number-refused o noAcknowledgement _ (onu-untouched o noAcknowledgement _ _ (ofKey (m .number))) n in
-    (u .end, u .handed)
+key-message-refused o m n = search (number-refused o noAcknowledgement _ (onu-untouched o noAcknowledgement _ _ (ofKey (m .number))) n)

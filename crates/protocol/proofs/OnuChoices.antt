@@ -1,12 +1,12 @@
 -- What an accepted send and receipt of the ONU have met, and which key a receipt goes under. Assumes nothing.
-use mathlib.Core.Path.{_≡_, refl, sym, _∙_, ap}
+use mathlib.Core.Path.{_≡_, refl, _∙_}
 use mathlib.Core.Bool.{Bool, true, false}
 use Prim.Native.Nat.{ℕ, _+_, _%_, _≤_}
 use native.Mathlib.Omega.{arith}
 use lib.Dec.{leb, eqb}
-use borrow.Author.Tests.{leb-true, eqb-true, eqb-false, le-leb, eq-eqb, ne-eqb, not-false}
-use Rattle.octets.specs.Choice.{both}
-use Rattle.octets.proofs.Choice.{both-left, both-right, both-true, pick-true, pick-false, not-of-true, both-false-right, both-false-then, then-both-false, either-false}
+use borrow.Author.Tests.{leb-true, eqb-true, eqb-false, le-leb, eq-eqb, ne-eqb}
+use Rattle.octets.specs.Choice.{both, pick}
+use Rattle.octets.proofs.Choice.{both-left, both-right, both-true, not-of-true, both-false-right, both-false-then, then-both-false, either-false}
 use Rattle.refusal.specs.declared.Refusal.the-variants.{OutOfRange, UnknownLlid, ClockNotSet, NoKey, EpamDiffers, ClearEnvelope, BadLength}
 use Rattle.refusal.specs.declared.Verdict.the-variants.{Accepted}
 use Rattle.clock.specs.Ticks.{epamOf}
@@ -21,7 +21,8 @@ use Rattle.ends.specs.declared.OnuKeys.{OnuKeys}
 use Rattle.ends.specs.declared.Onu.{Onu}
 use Rattle.protocol.specs.declared.Header.{Header}
 use Rattle.protocol.specs.declared.KeyChoice.the-variants.{Clear, Current, Next, Barred}
-use Rattle.refusal.proofs.Order.{refuse-accepted, refuse-passed}
+use Rattle.refusal.proofs.Order.{refuse-passed}
+use Rattle.protocol.proofs.Replies.{met}
 use Rattle.protocol.proofs.Headers.{Goes, goes}
 
 ---- which key a send goes under
@@ -34,16 +35,7 @@ pub record OnuSends (o : Onu) (misfit : Bool) (llid channel : ℕ) : Type 0 wher
 
 pub onu-send-accepted : (o : Onu) (misfit : Bool) (llid channel : ℕ) → onuSendVerdict o misfit llid channel ≡ Accepted → OnuSends o misfit llid channel
 unfolding onuSendVerdict
-onu-send-accepted o misfit llid channel e =
-    let a = refuse-accepted _ _ _ e in
-    let b = refuse-accepted _ _ _ (a .1) in
-    let c = refuse-accepted _ _ _ (b .1) in
-    record {
-      fits = a .0;
-      upstream = not-false _ (b .0);
-      has = not-false _ (c .0);
-      goes = goes _ _ _ _ _ (c .1);
-    }
+onu-send-accepted o misfit llid channel e = search (met, goes) depth 8
 
 -- its channel is free, and an enciphered one has waited
 pub onu-free : (o : Onu) (channel : ℕ) → busyUp o channel ≡ false
@@ -64,48 +56,37 @@ pub data OnuReceiveCase (k : OnuKeys) (h : Header) : Type 0 where
   onuUnknown : onuReceiveChoice k h ≡ Barred NoKey → (h .encenabled ≡ 0 → ⊥) → OnuReceiveCase k h
 
 pub onu-receive-case : (k : OnuKeys) (h : Header) → OnuReceiveCase k h
-unfolding onuReceiveChoice
-onu-receive-case k h = by-clear (eqb (h .encenabled) 0) refl where
-  by-active : eqb (h .encenabled) 0 ≡ true → (t : Bool) → eqb (k .active) 0 ≡ t → OnuReceiveCase k h
-  by-active e true f = onuClear (pick-true _ _ e ∙ pick-true _ _ f) (eqb-true _ _ e) (eqb-true _ _ f)
-  by-active e false f = onuLate (pick-true _ _ e ∙ pick-false _ _ f) (eqb-true _ _ e) (omega (arith, eqb-false (k .active) 0 f))
-
-  by-next : eqb (h .encenabled) 0 ≡ false → both (leb 1 (k .active)) (eqb (h .enckey) (k .active % 2)) ≡ false
-      → (t : Bool) → both (isUp (k .held)) (eqb (h .enckey) ((k .active + 1) % 2)) ≡ t → OnuReceiveCase k h
-  by-next e f true g =
-      onuNext (pick-false _ _ e ∙ pick-false _ _ f ∙ pick-true _ _ g) (eqb-false _ _ e) (eqb-true _ _ (both-left _ _ g)) (eqb-true _ _ (both-right _ _ g))
-  by-next e f false g = onuUnknown (pick-false _ _ e ∙ pick-false _ _ f ∙ pick-false _ _ g) (eqb-false _ _ e)
-
-  by-current : eqb (h .encenabled) 0 ≡ false → (t : Bool) → both (leb 1 (k .active)) (eqb (h .enckey) (k .active % 2)) ≡ t → OnuReceiveCase k h
-  by-current e true f =
-      onuCurrent (pick-false _ _ e ∙ pick-true _ _ f) (eqb-false _ _ e) (leb-true _ _ (both-left _ _ f)) (eqb-true _ _ (both-right _ _ f))
-  by-current e false f = by-next e f (both (isUp (k .held)) (eqb (h .enckey) ((k .active + 1) % 2))) refl
-
-  by-clear : (t : Bool) → eqb (h .encenabled) 0 ≡ t → OnuReceiveCase k h
-  by-clear true e = by-active e (eqb (k .active) 0) refl
-  by-clear false e = by-current e (both (leb 1 (k .active)) (eqb (h .enckey) (k .active % 2))) refl
+unfolding onuReceiveChoice pick
+onu-receive-case k h =
+    by-tests (eqb (h .encenabled) 0) (eqb (k .active) 0) (both (leb 1 (k .active)) (eqb (h .enckey) (k .active % 2)))
+    (both (isUp (k .held)) (eqb (h .enckey) ((k .active + 1) % 2))) refl refl refl refl where
+      by-tests : (clear none current next : Bool) → eqb (h .encenabled) 0 ≡ clear → eqb (k .active) 0 ≡ none
+          → both (leb 1 (k .active)) (eqb (h .enckey) (k .active % 2)) ≡ current → both (isUp (k .held)) (eqb (h .enckey) ((k .active + 1) % 2)) ≡ next
+          → OnuReceiveCase k h
+      by-tests true true current next e f p q = onuClear (rw (e, f)) (eqb-true _ _ e) (eqb-true _ _ f)
+      by-tests true false current next e f p q = onuLate (rw (e, f)) (eqb-true _ _ e) (omega (arith, eqb-false (k .active) 0 f))
+      by-tests false none true next e f p q =
+          onuCurrent (rw (e, p)) (eqb-false _ _ e) (leb-true _ _ (both-left _ _ p)) (eqb-true _ _ (both-right _ _ p))
+      by-tests false none false true e f p q =
+          onuNext (rw (e, p, q)) (eqb-false _ _ e) (eqb-true _ _ (both-left _ _ q)) (eqb-true _ _ (both-right _ _ q))
+      by-tests false none false false e f p q = onuUnknown (rw (e, p, q)) (eqb-false _ _ e)
 
 -- an envelope's header by its number: 0 is clear, a is the key in use, and the held a + 1 comes into use
 pub onu-receive-clear : (k : OnuKeys) (h : Header) → h .encenabled ≡ 0 → k .active ≡ 0 → onuReceiveChoice k h ≡ Clear
-unfolding onuReceiveChoice
-onu-receive-clear k h e c = pick-true _ _ (eq-eqb _ _ e) ∙ pick-true _ _ (eq-eqb _ _ c)
+unfolding onuReceiveChoice pick both
+onu-receive-clear k h e c = rw (e, c)
 
 pub onu-receive-current : (k : OnuKeys) (h : Header) (n : ℕ) → h .encenabled ≡ 1 → h .enckey ≡ n % 2 → 1 ≤ n → n ≡ k .active
     → onuReceiveChoice k h ≡ Current n
-unfolding onuReceiveChoice
-onu-receive-current k h n e f p c =
-    pick-false _ _ (ne-eqb (h .encenabled) 0 (λ z. omega arith))
-    ∙ pick-true _ _ (both-true (le-leb 1 (k .active) (omega arith)) (eq-eqb _ _ (f ∙ ap (λ (x : ℕ). x % 2) c)))
-    ∙ ap Current (sym c)
+unfolding onuReceiveChoice pick both
+onu-receive-current k h n e f p c = rw (e, ← c, le-leb 1 n p, f, eq-eqb (n % 2) (n % 2) refl)
 
 pub onu-receive-next : (k : OnuKeys) (h : Header) (n : ℕ) → h .encenabled ≡ 1 → h .enckey ≡ n % 2 → k .held ≡ 1 → n ≡ k .active + 1
     → onuReceiveChoice k h ≡ Next n
-unfolding onuReceiveChoice
+unfolding onuReceiveChoice pick both
 onu-receive-next k h n e f p c =
-    pick-false _ _ (ne-eqb (h .encenabled) 0 (λ z. omega arith))
-    ∙ pick-false _ _ (both-false-right _ (ne-eqb (h .enckey) (k .active % 2) (λ z. omega arith)))
-    ∙ pick-true _ _ (both-true (eq-eqb _ _ p) (eq-eqb _ _ (f ∙ ap (λ (x : ℕ). x % 2) c)))
-    ∙ ap Next (sym c)
+    let other = both-false-right (leb 1 (k .active)) (ne-eqb (h .enckey) (k .active % 2) (λ z. omega arith)) in
+    rw (e, other, p, ← c, f, eq-eqb (n % 2) (n % 2) refl)
 
 pub record OnuReceives (o : Onu) (misfit : Bool) (h : Header) : Type 0 where
   pub fits : misfit ≡ false
@@ -118,22 +99,7 @@ pub record OnuReceives (o : Onu) (misfit : Bool) (h : Header) : Type 0 where
 
 pub onu-receive-accepted : (o : Onu) (misfit : Bool) (h : Header) → onuReceiveVerdict o misfit h ≡ Accepted → OnuReceives o misfit h
 unfolding onuReceiveVerdict
-onu-receive-accepted o misfit h e =
-    let a = refuse-accepted _ _ _ e in
-    let b = refuse-accepted _ _ _ (a .1) in
-    let v = not-false _ (b .0) in
-    let c = refuse-accepted _ _ _ (b .1) in
-    let d = refuse-accepted _ _ _ (c .1) in
-    let f = refuse-accepted _ _ _ (d .1) in
-    record {
-      fits = a .0;
-      downstream = both-left _ _ v;
-      header = both-right _ _ v;
-      has = not-false _ (c .0);
-      epam = λ s. eqb-true _ _ (not-false _ (both-false-then _ _ (d .0) (eq-eqb _ _ s)));
-      synced = λ s. eqb-true _ _ (not-false _ (both-false-then _ _ (f .0) (eq-eqb _ _ s)));
-      choice = f .1;
-    }
+onu-receive-accepted o misfit h e = search (met, both-false-then, eq-eqb) depth 10
 
 pub onu-receive-accepts : (o : Onu) (misfit : Bool) (h : Header) → OnuReceives o misfit h → onuReceiveVerdict o misfit h ≡ Accepted
 unfolding onuReceiveVerdict

@@ -1,5 +1,5 @@
 -- Send and receive of the ONU keep it valid, and leave it where they are refused. Assumes nothing.
-use mathlib.Core.Path.{_≡_, refl}
+use mathlib.Core.Path.{_≡_}
 use mathlib.Core.Bool.{Bool, true, false}
 use Prim.Native.Nat.{ℕ, _≤_}
 use native.Mathlib.Omega.{arith}
@@ -13,7 +13,7 @@ use Rattle.refusal.specs.declared.Verdict.the-variants.{Refused}
 use Rattle.refusal.specs.Order.{refuseIf}
 use Rattle.envelope.specs.Channels.{downstream, upstream}
 use Rattle.ends.specs.Identities.{has}
-use Rattle.ends.specs.Travels.{travelOf, travelSpent}
+use Rattle.ends.specs.Travels.{travelSpent}
 use Rattle.ends.specs.Records.{withOnuKeys, withOnuFirst, withTravel, withOnuChannels}
 use Rattle.ends.specs.Validity.{validOnuKeys, validOnu}
 use Rattle.protocol.specs.Headers.{validHeader, noPassage, noSending}
@@ -37,38 +37,14 @@ unfolding onuNoted withOnuFirst withTravel travelSpent
 noted-valid Clear eqs o v = v
 noted-valid (Next n) eqs o v = v
 noted-valid (Barred r) eqs o v = v
-noted-valid (Current n) eqs o v =
-    let r = onu-in-range o v in
-    onu-valid _
-    (record {
-      identity = r .identity;
-      distinct = r .distinct;
-      oltmac = r .oltmac;
-      tick = r .tick;
-      clock = r .clock;
-      keys = r .keys;
-      noted = first-send-flag (o .first) (travelOf o) (r .noted);
-      changes = r .changes;
-      channels = r .channels;
-    })
+noted-valid (Current n) eqs o v = let r = onu-in-range o v in onu-valid _ (search first-send-flag)
 
 pub onu-sent-valid : (o : Onu) (channel eqs : ℕ) → eqs ≤ maxEqs → validOnu o ≡ true → validOnu (onuAfterSend o channel eqs) ≡ true
 unfolding onuAfterSend withOnuChannels
 onu-sent-valid o channel eqs h v =
     let r = onu-in-range o v in
-    let q = onu-in-range (onuNoted (onuSendChoice (o .keys)) eqs o) (noted-valid (onuSendChoice (o .keys)) eqs o v) in
-    onu-valid (onuAfterSend o channel eqs)
-    (record {
-      identity = q .identity;
-      distinct = q .distinct;
-      oltmac = q .oltmac;
-      tick = q .tick;
-      clock = q .clock;
-      keys = q .keys;
-      noted = q .noted;
-      changes = q .changes;
-      channels = occupied-valid (o .channels) channel (o .tick) eqs (r .tick) h (r .channels);
-    })
+    let q = onu-in-range _ (noted-valid (onuSendChoice (o .keys)) eqs o v) in
+    onu-valid (onuAfterSend o channel eqs) (search occupied-valid)
 
 pub sending-onu-valid : (o : Onu) (misfit : Bool) (llid channel eqs : ℕ) → (misfit ≡ false → eqs ≤ maxEqs) → validOnu o ≡ true
     → validOnu (sendingOnu o misfit llid channel eqs .end) ≡ true
@@ -78,20 +54,7 @@ sending-onu-valid o misfit llid channel eqs h v =
 
 pub onu-moved-valid : (o : Onu) → validOnu o ≡ true → validOnu (onuMoved o) ≡ true
 unfolding onuMoved withOnuFirst withOnuKeys validOnuKeys either
-onu-moved-valid o v =
-    let r = onu-in-range o v in
-    onu-valid (onuMoved o)
-    (record {
-      identity = r .identity;
-      distinct = r .distinct;
-      oltmac = r .oltmac;
-      tick = r .tick;
-      clock = r .clock;
-      keys = both-true refl refl;
-      noted = omega arith;
-      changes = r .changes;
-      channels = r .channels;
-    })
+onu-moved-valid o v = let r = onu-in-range o v in onu-valid (onuMoved o) (search (both-true, arith))
 
 received-valid : (choice : KeyChoice) (o : Onu) → validOnu o ≡ true → validOnu (onuAfterReceipt choice o) ≡ true
 unfolding onuAfterReceipt

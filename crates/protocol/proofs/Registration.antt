@@ -7,10 +7,10 @@ use native.Mathlib.Omega.{arith}
 use lib.Dec.{ltb}
 use lib.ListN.{length, take}
 use lib.Seq.{set-out, take-all}
-use borrow.Author.Tests.{leb-false, leb-true, ltb-true, ltb-false, not-false}
+use borrow.Author.Tests.{ltb-true, ltb-false}
 use Rattle.octets.specs.Choice.{either}
 use Rattle.octets.specs.Lists.{all}
-use Rattle.octets.proofs.Choice.{both-left, both-right, both-true, either-false, not-both}
+use Rattle.octets.proofs.Choice.{both-true, not-both}
 use Rattle.octets.proofs.Tests.{all-append}
 use Rattle.refusal.specs.declared.Verdict.the-variants.{Accepted}
 use Rattle.clock.specs.Ticks.{maxRoundTrip}
@@ -18,7 +18,7 @@ use Rattle.ends.specs.Limits.{maxUnits, maxLlids}
 use Rattle.protocol.specs.Replies.{silent}
 use Rattle.ends.specs.Timers.{validInterval}
 use Rattle.ends.specs.Identities.{distinct, meets, llidsOf, kept, validIdentity}
-use Rattle.ends.specs.Records.{freshUnit}
+use Rattle.ends.specs.Records.{freshUnit, newUnitClock}
 use Rattle.ends.specs.Table.{registered, tableLlids, withOneMore}
 use Rattle.ends.specs.Validity.{validUnit, validOlt}
 use Rattle.protocol.specs.OltCalls.{oltAnswer, validRegistration, registerVerdict, registering, registerOf}
@@ -26,7 +26,7 @@ use Rattle.ends.specs.declared.Identity.{Identity}
 use Rattle.ends.specs.declared.UnitRecord.{UnitRecord}
 use Rattle.ends.specs.declared.Olt.{Olt}
 use Rattle.refusal.proofs.Order.{refuse-accepted}
-use Rattle.protocol.proofs.Replies.{reply-keeps}
+use Rattle.protocol.proofs.Replies.{met, reply-keeps}
 use Rattle.ends.proofs.Timers.{timer-fresh-valid}
 use Rattle.ends.proofs.Keys.{first-none-valid}
 use Rattle.ends.proofs.Identities.{meets-apart, distinct-append, identity-valid, kept-llids, kept-valid}
@@ -45,38 +45,16 @@ pub record Registers (o : Olt) (i : Identity) (delay ticks : ℕ) : Type 0 where
 
 pub register-accepted : (o : Olt) (i : Identity) (trip interval : ℕ) → registerVerdict o i trip interval ≡ Accepted → Registers o i trip interval
 unfolding registerVerdict validRegistration
-register-accepted o i trip interval e =
-    let a = refuse-accepted _ _ _ e in
-    let v = not-false _ (a .0) in
-    let b = refuse-accepted _ _ _ (a .1) in
-    let d = either-false _ _ (b .0) in
-    let c = refuse-accepted _ _ _ (b .1) in
-    record {
-      identity = both-left _ _ v;
-      trip = leb-true _ _ (both-left _ _ (both-right _ _ v));
-      interval = both-right _ _ (both-right _ _ v);
-      distinct = not-false _ (d .0);
-      new = d .1;
-      room = leb-false _ _ (c .0);
-    }
+register-accepted o i trip interval e = search met depth 8
 
 pub fresh-unit-valid : (tick : ℕ) (i : Identity) (trip interval : ℕ) → validIdentity i ≡ true → trip ≤ maxRoundTrip
     → validInterval interval ≡ true
     → validUnit tick (freshUnit i trip interval) ≡ true
 unfolding freshUnit either
 fresh-unit-valid tick i trip interval v t n =
-    unit-valid tick (freshUnit i trip interval)
-    (record {
-      identity = kept-valid i ∙ v;
-      timer = timer-fresh-valid interval n;
-      first = first-none-valid tick;
-      low = omega arith;
-      mid = omega arith;
-      high = omega arith;
-      acknowledged = omega arith;
-      clock =
-          clock-valid tick _ (record { trip = t; captured = omega arith; since = refl; sent = omega arith; acknowledged = omega arith });
-    })
+    let same = kept-valid i ∙ v in
+    let clock = clock-valid tick (newUnitClock trip) (search arith) in
+    unit-valid tick (freshUnit i trip interval) (search (timer-fresh-valid, first-none-valid, arith))
 
 -- what the places in use have after a registration: the new unit too, if there was a place
 more-cases : (P : List UnitRecord → Type 0) (o : Olt) (u : UnitRecord) → P (registered o) → P (registered o ++ (u ∷ []))
@@ -91,13 +69,13 @@ more-cases P o u p q = by-room (ltb (o .count) (length (o .units))) refl where
       let more : take (o .count + 1) (o .units) ≡ o .units = take-all (o .count + 1) (o .units) (omega arith) in
       rw (set-out (o .units) (o .count) u h, more) (rw whole at p)
 
-llids-append : (us vs : List UnitRecord) → tableLlids (us ++ vs) ≡ tableLlids us ++ tableLlids vs
+pub table-append : (us vs : List UnitRecord) → tableLlids (us ++ vs) ≡ tableLlids us ++ tableLlids vs
 unfolding tableLlids
-llids-append [] vs = refl
-llids-append (u ∷ us) vs = rw (llids-append us vs) (sym (append-assoc (llidsOf (u .identity)) (tableLlids us) (tableLlids vs)))
+table-append [] vs = refl
+table-append (u ∷ us) vs = rw (table-append us vs) (sym (append-assoc (llidsOf (u .identity)) (tableLlids us) (tableLlids vs)))
 
 -- the LLIDs of a table with one more
-fresh-llids : (i : Identity) (trip interval : ℕ) → i .count ≤ maxLlids → tableLlids (freshUnit i trip interval ∷ []) ≡ llidsOf i
+pub fresh-llids : (i : Identity) (trip interval : ℕ) → i .count ≤ maxLlids → tableLlids (freshUnit i trip interval ∷ []) ≡ llidsOf i
 unfolding tableLlids freshUnit
 fresh-llids i trip interval h = append-nil (llidsOf (kept i)) ∙ kept-llids i h
 
@@ -109,20 +87,15 @@ registered-valid o i trip interval r v =
     let k = olt-in-range o v in
     let valid = fresh-unit-valid (o .shared .tick) i trip interval (r .identity) (r .trip) (r .interval) in
     let llids : tableLlids (registered o ++ (u ∷ [])) ≡ tableLlids (registered o) ++ llidsOf i =
-    llids-append (registered o) (u ∷ [])
-    ∙ ap (λ (l : List ℕ). tableLlids (registered o) ++ l) (fresh-llids i trip interval (identity-valid i (r .identity) .1)) in
+    rw (table-append (registered o) (u ∷ []), fresh-llids i trip interval (identity-valid i (r .identity) .1)) in
     let apart : distinct (tableLlids (registered o) ++ llidsOf i) ≡ true =
     distinct-append (tableLlids (registered o)) (llidsOf i) (k .distinct) (r .distinct)
     (λ x a. not-both _ _ (meets-apart (llidsOf i) (tableLlids (registered o)) x (r .new)) a) in
-    olt-valid (withOneMore o u)
-    (record {
-      count = omega (arith, r .room);
-      shared = k .shared;
-      units =
-          more-cases (λ (us : List UnitRecord). all (validUnit (o .shared .tick)) us ≡ true) o u (k .units)
-          (all-append (validUnit (o .shared .tick)) (registered o) (u ∷ []) (k .units) (both-true valid refl));
-      distinct = more-cases (λ (us : List UnitRecord). distinct (tableLlids us) ≡ true) o u (k .distinct) (ap distinct llids ∙ apart);
-    })
+    let units =
+    more-cases (λ (us : List UnitRecord). all (validUnit (o .shared .tick)) us ≡ true) o u (k .units)
+    (all-append (validUnit (o .shared .tick)) (registered o) (u ∷ []) (k .units) (both-true valid refl)) in
+    let once = more-cases (λ (us : List UnitRecord). distinct (tableLlids us) ≡ true) o u (k .distinct) (ap distinct llids ∙ apart) in
+    olt-valid (withOneMore o u) (search arith)
 
 pub register-valid : (o : Olt) (i : Identity) (trip interval : ℕ) → validOlt o ≡ true → validOlt (registerOf o i trip interval .olt) ≡ true
 unfolding registerOf registering oltAnswer

@@ -1,16 +1,37 @@
 -- Laws of replies: what each verdict leaves, once for all calls. Assumes nothing.
 use mathlib.Core.Path.{_≡_, refl, ap}
+use mathlib.Core.Bool.{Bool, false}
 use Prim.Native.Nat.{ℕ, _+_, _≤_}
 use native.Mathlib.Omega.{arith}
-use borrow.Author.Tests.{ltb-false, le-ltb}
+use borrow.Author.Tests.{ltb-true, ltb-false, leb-true, leb-false, le-ltb, eqb-true, not-false}
+use Rattle.octets.specs.Choice.{either}
+use Rattle.octets.proofs.Choice.{both-left, both-right, either-false}
 use Rattle.refusal.specs.declared.Refusal.{Refusal}
 use Rattle.refusal.specs.Number.{verdictNumber}
 use Rattle.refusal.specs.declared.Refusal.the-variants.{AtEnd}
 use Rattle.refusal.specs.declared.Verdict.{Verdict}
 use Rattle.refusal.specs.declared.Verdict.the-variants.{Accepted, Refused}
 use Rattle.clock.specs.Ticks.{maxTick}
+use Rattle.refusal.specs.Order.{refuseIf}
 use Rattle.refusal.proofs.Order.{refuse-accepted, refuse-passed}
 use Rattle.protocol.specs.Replies.{Reply, reply, advanceVerdict}
+
+---- what an accepted call has met
+
+pub no-cause : (cause : Bool) (r : Refusal) (v : Verdict) → refuseIf cause r v ≡ Accepted → cause ≡ false
+no-cause cause r v e = refuse-accepted cause r v e .0
+
+pub rest-accepted : (cause : Bool) (r : Refusal) (v : Verdict) → refuseIf cause r v ≡ Accepted → v ≡ Accepted
+rest-accepted cause r v e = refuse-accepted cause r v e .1
+
+pub neither-left : (a b : Bool) → either a b ≡ false → a ≡ false
+neither-left a b e = either-false a b e .0
+
+pub neither-right : (a b : Bool) → either a b ≡ false → b ≡ false
+neither-right a b e = either-false a b e .1
+
+-- from a chain of refusals that accepts, each test that was passed
+pub ruleset met = (no-cause, rest-accepted, neither-left, neither-right, both-left, both-right, not-false, eqb-true, leb-true, leb-false, ltb-true, ltb-false)
 
 ---- what a verdict leaves
 

@@ -6,11 +6,12 @@ use mathlib.Core.Logic.{⊎-elim}
 use Prim.Native.Nat.{ℕ, _+_, _≤_, _<_}
 use native.Mathlib.Omega.{arith}
 use lib.Dec.{leb, eqb}
-use borrow.Author.Tests.{leb-true, leb-false, ltb-false, eqb-true, eqb-false, le-leb, ne-eqb, not-false}
-use Rattle.octets.specs.Choice.{both, pick}
+use borrow.Author.Tests.{leb-true, eqb-true, eqb-false, le-leb, ne-eqb, not-false}
+use Rattle.octets.specs.Choice.{both, either, pick}
 use Rattle.octets.specs.Lists.{same}
-use Rattle.octets.proofs.Choice.{both-left, both-right, either-false, pick-false, either-left, either-right, either-cases}
+use Rattle.octets.proofs.Choice.{both-left, both-right, pick-false, either-left, either-right, either-cases}
 use Rattle.refusal.specs.declared.Refusal.the-variants.{NothingOutstanding}
+use Rattle.refusal.specs.declared.Verdict.{Verdict}
 use Rattle.refusal.specs.declared.Verdict.the-variants.{Accepted, Refused}
 use Rattle.clock.specs.Ticks.{ticksPerSecond, maxRoundTrip}
 use Rattle.ends.specs.Limits.{maxKeyNumber}
@@ -20,8 +21,7 @@ use Rattle.protocol.specs.Replies.{Silence, silent}
 use Rattle.ends.specs.Keys.{keyIn}
 use Rattle.protocol.specs.Messages.{clockKind, keyKind}
 use Rattle.ends.specs.Records.{withKeys, withConfirmation, withClock, newUnitClock, withTimer}
-use Rattle.ends.specs.Validity.{validUnitClock, validUnit, validShared}
-use Rattle.ends.specs.Occupancy.{validChannels}
+use Rattle.ends.specs.Validity.{validUnitClock, validUnit}
 use Rattle.protocol.specs.Lift.{Outcome, outcome}
 use Rattle.protocol.specs.UnitCalls.{unitAdvanced, clockCaptured, captureUnit, measureUnit, clockSendVerdict, clockAfterSend, clockSendUnit, offerVerdict, keysOffered, unitOffered, offerUnit, retryVerdict, retryUnit, outstanding, acknowledgeVerdict, clockAcknowledgedUnit, keyAcknowledgedUnit, acknowledgeUnit}
 use Rattle.ends.specs.declared.UnitClock.{UnitClock}
@@ -31,7 +31,8 @@ use Rattle.protocol.specs.declared.Acknowledgement.{Acknowledgement}
 use Rattle.refusal.proofs.Order.{refuse-accepted, refuse-passed}
 use Rattle.ends.proofs.Timers.{timer-sum, timer-advanced-valid}
 use Rattle.ends.proofs.Keys.{first-later-valid}
-use Rattle.ends.proofs.Validity.{ClockInRange, clock-in-range, clock-valid, unit-in-range, unit-valid, shared-in-range}
+use Rattle.ends.proofs.Validity.{ClockInRange, UnitInRange, clock-in-range, clock-valid, unit-in-range, unit-valid, shared-in-range}
+use Rattle.protocol.proofs.Replies.{met}
 use Rattle.protocol.proofs.Lift.{Keeps}
 
 ---- advance
@@ -45,99 +46,54 @@ unit-sum m n u = rw (timer-sum m n (u .keys .timer))
 clock-later : (tick later : ℕ) (c : UnitClock) → tick ≤ later → validUnitClock tick c ≡ true → validUnitClock later c ≡ true
 clock-later tick later c h e =
     let r = clock-in-range tick c e in
-    clock-valid later c
-    (record {
-      trip = r .trip;
-      captured = r .captured;
-      since =
-          ⊎-elim (λ n. either-left _ n) (λ l. either-right _ (le-leb (c .tick) later (omega (arith, leb-true (c .tick) tick l))))
-          (either-cases _ _ (r .since));
-      sent = r .sent;
-      acknowledged = r .acknowledged;
-    })
+    let since : either (eqb (c .captured) 0) (leb (c .tick) later) ≡ true =
+    ⊎-elim (λ n. either-left _ n) (λ l. either-right _ (le-leb (c .tick) later (omega (arith, leb-true (c .tick) tick l)))) (either-cases _ _ (r .since)) in
+    clock-valid later c (search)
 
 pub unit-advanced-valid : (tick n : ℕ) (u : UnitRecord) → validUnit tick u ≡ true → validUnit (tick + n) (unitAdvanced n u) ≡ true
 unfolding unitAdvanced withKeys withTimer
 unit-advanced-valid tick n u e =
     let r = unit-in-range tick u e in
-    unit-valid (tick + n) (unitAdvanced n u)
-    (record {
-      identity = r .identity;
-      timer = timer-advanced-valid n (u .keys .timer) (r .timer);
-      first = first-later-valid (u .keys .first) tick (tick + n) (omega arith) (r .first);
-      low = r .low;
-      mid = r .mid;
-      high = r .high;
-      acknowledged = r .acknowledged;
-      clock = clock-later tick (tick + n) (u .clock) (omega arith) (r .clock);
-    })
+    let later : tick ≤ tick + n = omega arith in
+    unit-valid (tick + n) (unitAdvanced n u) (search (timer-advanced-valid, first-later-valid, clock-later))
 
 ---- calls that leave the channels
 
--- a unit whose clock alone is replaced by one in range
-clock-replaced : (tick : ℕ) (u : UnitRecord) (c : UnitClock) → ClockInRange tick c → validUnit tick u ≡ true → validUnit tick (withClock u c) ≡ true
-unfolding withClock
-clock-replaced tick u c k e =
-    let r = unit-in-range tick u e in
-    unit-valid tick (withClock u c)
-    (record {
-      identity = r .identity;
-      timer = r .timer;
-      first = r .first;
-      low = r .low;
-      mid = r .mid;
-      high = r .high;
-      acknowledged = r .acknowledged;
-      clock = clock-valid tick c k;
-    })
+-- a call that leaves the identity and keeps each part of a unit in its range
+unit-call : {H : Type 0} (verdict : Shared → UnitRecord → Verdict) (next : Shared → UnitRecord → UnitRecord) (handed : Shared → UnitRecord → H)
+    → ((s : Shared) (u : UnitRecord) → next s u .identity ≡ u .identity)
+    → ((s : Shared) (u : UnitRecord) → verdict s u ≡ Accepted → UnitInRange (s .tick) u → UnitInRange (s .tick) (next s u))
+    → Keeps (λ s u. outcome s (verdict s u) (next s u) (handed s u))
+unfolding outcome
+unit-call verdict next handed same keeps =
+    record {
+      identity = same;
+      unit = λ s u v a. unit-valid (s .tick) (next s u) (keeps s u a (unit-in-range (s .tick) u v));
+      channels = λ s u v. shared-in-range s v .channels;
+    }
 
--- where the channels stay as they are, they stay valid
-stay : (s : Shared) → validShared s ≡ true → validChannels (s .channels) ≡ true
-stay s v = shared-in-range s v .channels
+-- a call that replaces the clock of a unit alone
+clock-call : {H : Type 0} (verdict : Shared → UnitRecord → Verdict) (next : Shared → UnitClock → UnitClock) (handed : Shared → UnitRecord → H)
+    → ((s : Shared) (c : UnitClock) → ClockInRange (s .tick) c → ClockInRange (s .tick) (next s c))
+    → Keeps (λ s u. outcome s (verdict s u) (withClock u (next s (u .clock))) (handed s u))
+unfolding withClock
+clock-call verdict next handed keeps =
+    unit-call verdict (λ s u. withClock u (next s (u .clock))) handed (λ s u. refl)
+    (λ s u a r. let clock = clock-valid (s .tick) _ (keeps s (u .clock) (clock-in-range (s .tick) (u .clock) (r .clock))) in search)
 
 pub capture-keeps : Keeps captureUnit
-unfolding captureUnit outcome withClock clockCaptured
+unfolding captureUnit clockCaptured
 capture-keeps =
-    record {
-      identity = λ s u. refl;
-      unit = λ s u v a.
-          let r = clock-in-range (s .tick) (u .clock) (unit-in-range (s .tick) u v .clock) in
-          clock-replaced (s .tick) u (clockCaptured (u .clock) (s .tick))
-          (record {
-            trip = r .trip;
-            captured = omega arith;
-            since = either-right _ (le-leb (s .tick) (s .tick) (omega arith));
-            sent = r .sent;
-            acknowledged = r .acknowledged;
-          })
-          v;
-      channels = λ s u v. stay s v;
-    }
+    clock-call _ (λ s c. clockCaptured c (s .tick)) _
+    (λ s c r. let now = le-leb (s .tick) (s .tick) (omega arith) in search (either-right, arith))
 
 pub measure-keeps : (trip : ℕ) → trip ≤ maxRoundTrip → Keeps (measureUnit trip)
-unfolding measureUnit outcome withClock
-measure-keeps trip h =
-    record {
-      identity = λ s u. refl;
-      unit = λ s u v a.
-          clock-replaced (s .tick) u (newUnitClock trip)
-          (record { trip = h; captured = omega arith; since = either-left _ refl; sent = omega arith; acknowledged = omega arith })
-          v;
-      channels = λ s u v. stay s v;
-    }
+unfolding measureUnit
+measure-keeps trip h = clock-call _ (λ s c. newUnitClock trip) _ (λ s c r. search (either-left, arith))
 
 pub clock-send-keeps : Keeps clockSendUnit
-unfolding clockSendUnit outcome withClock clockAfterSend
-clock-send-keeps =
-    record {
-      identity = λ s u. refl;
-      unit = λ s u v a.
-          let r = clock-in-range (s .tick) (u .clock) (unit-in-range (s .tick) u v .clock) in
-          clock-replaced (s .tick) u (clockAfterSend (u .clock))
-          (record { trip = r .trip; captured = r .captured; since = r .since; sent = omega arith; acknowledged = r .acknowledged })
-          v;
-      channels = λ s u v. stay s v;
-    }
+unfolding clockSendUnit clockAfterSend
+clock-send-keeps = clock-call _ (λ s c. clockAfterSend c) _ (λ s c r. search arith)
 
 ---- what an accepted call has met
 
@@ -147,10 +103,7 @@ pub record ClockSends (tick : ℕ) (c : UnitClock) : Type 0 where
 
 pub clock-send-accepted : (c : UnitClock) (tick : ℕ) → clockSendVerdict c tick ≡ Accepted → ClockSends tick c
 unfolding clockSendVerdict
-clock-send-accepted c tick e =
-    let a = refuse-accepted _ _ _ e in
-    let b = refuse-accepted _ _ _ (a .1) in
-    record { captured = eqb-true _ _ (not-false _ (a .0)); soon = ltb-false _ _ (b .0) }
+clock-send-accepted c tick e = search met
 
 pub record Offers (u : UnitRecord) (key : List ℕ) : Type 0 where
   pub set : u .clock .acknowledged ≡ 1
@@ -161,19 +114,7 @@ pub record Offers (u : UnitRecord) (key : List ℕ) : Type 0 where
 
 pub offer-accepted : (u : UnitRecord) (key : List ℕ) → offerVerdict u key ≡ Accepted → Offers u key
 unfolding offerVerdict
-offer-accepted u key e =
-    let a = refuse-accepted _ _ _ e in
-    let b = refuse-accepted _ _ _ (a .1) in
-    let p = either-false _ _ (b .0) in
-    let c = refuse-accepted _ _ _ (b .1) in
-    let d = refuse-accepted _ _ _ (c .1) in
-    record {
-      set = eqb-true _ _ (not-false _ (a .0));
-      settled = ltb-false _ _ (p .0);
-      confirmed = ltb-false _ _ (p .1);
-      new = c .0;
-      below = leb-false _ _ (d .0);
-    }
+offer-accepted u key e = search met depth 8
 
 pub retry-accepted : (u : UnitRecord) → retryVerdict (u .keys) ≡ Accepted → u .keys .offered ≡ u .keys .active → ⊥
 unfolding retryVerdict
@@ -206,64 +147,20 @@ acknowledge-verdict a s u = by-kind (eqb (a .kind) clockKind) (eqb (a .kind) key
 ---- keys
 
 pub offer-keeps : (llid : ℕ) (key : List ℕ) → Keeps (offerUnit llid key)
-unfolding offerUnit outcome unitOffered keysOffered withKeys withConfirmation
-offer-keeps llid key =
-    record {
-      identity = λ s u. refl;
-      unit = λ s u v a.
-          let r = unit-in-range (s .tick) u v in
-          let b = offer-accepted u key a in
-          unit-valid (s .tick) (unitOffered u key)
-          (record {
-            identity = r .identity;
-            timer = r .timer;
-            first = r .first;
-            low = r .low;
-            mid = omega arith;
-            high = omega (arith, b .confirmed);
-            acknowledged = omega arith;
-            clock = r .clock;
-          });
-      channels = λ s u v. stay s v;
-    }
+unfolding offerUnit unitOffered keysOffered withKeys withConfirmation
+offer-keeps llid key = unit-call _ (λ s u. unitOffered u key) _ (λ s u. refl) (λ s u a r. let b = offer-accepted u key a in search arith)
 
 pub retry-keeps : (llid : ℕ) → Keeps (retryUnit llid)
-unfolding retryUnit outcome
-retry-keeps llid = record { identity = λ s u. refl; unit = λ s u v a. v; channels = λ s u v. stay s v }
+unfolding retryUnit
+retry-keeps llid = unit-call _ (λ s u. u) _ (λ s u. refl) (λ s u a r. r)
 
 clock-acknowledged-keeps : Keeps clockAcknowledgedUnit
-unfolding clockAcknowledgedUnit outcome withClock
-clock-acknowledged-keeps =
-    record {
-      identity = λ s u. refl;
-      unit = λ s u v a.
-          let r = clock-in-range (s .tick) (u .clock) (unit-in-range (s .tick) u v .clock) in
-          clock-replaced (s .tick) u _
-          (record { trip = r .trip; captured = r .captured; since = r .since; sent = r .sent; acknowledged = omega arith })
-          v;
-      channels = λ s u v. stay s v;
-    }
+unfolding clockAcknowledgedUnit
+clock-acknowledged-keeps = clock-call _ _ _ (λ s c r. search arith)
 
 key-acknowledged-keeps : (number : ℕ) → Keeps (keyAcknowledgedUnit number)
-unfolding keyAcknowledgedUnit outcome withConfirmation
-key-acknowledged-keeps number =
-    record {
-      identity = λ s u. refl;
-      unit = λ s u v a.
-          let r = unit-in-range (s .tick) u v in
-          unit-valid (s .tick) _
-          (record {
-            identity = r .identity;
-            timer = r .timer;
-            first = r .first;
-            low = r .low;
-            mid = r .mid;
-            high = r .high;
-            acknowledged = omega arith;
-            clock = r .clock;
-          });
-      channels = λ s u v. stay s v;
-    }
+unfolding keyAcknowledgedUnit withConfirmation
+key-acknowledged-keeps number = unit-call _ _ _ (λ s u. refl) (λ s u a r. search arith)
 
 ---- acknowledgements by kind
 
@@ -280,32 +177,26 @@ pub no-kind : (a : Acknowledgement) (s : Shared) (u : UnitRecord) → eqb (a .ki
 unfolding acknowledgeUnit
 no-kind a s u e f = pick-false _ _ e ∙ pick-false _ _ f
 
--- an acknowledgement of either kind, or of neither
-chosen : Acknowledgement → Bool → Bool → Shared → UnitRecord → Outcome Silence
-chosen a t k s u =
-    pick t (clockAcknowledgedUnit s u) (pick k (keyAcknowledgedUnit (a .number) s u) (outcome s (Refused NothingOutstanding) u silent))
+-- what holds of an acknowledgement of either kind, and of one of neither, holds of each
+by-kinds : (a : Acknowledgement) (P : (Shared → UnitRecord → Outcome Silence) → Type 0) → P clockAcknowledgedUnit
+    → P (keyAcknowledgedUnit (a .number)) → P (λ s u. outcome s (Refused NothingOutstanding) u silent) → P (acknowledgeUnit a)
+unfolding acknowledgeUnit pick
+by-kinds a P p q r = by-kind (eqb (a .kind) clockKind) (eqb (a .kind) keyKind) where
+  by-kind : (t k : Bool)
+      → P (λ s u. pick t (clockAcknowledgedUnit s u) (pick k (keyAcknowledgedUnit (a .number) s u) (outcome s (Refused NothingOutstanding) u silent)))
+  by-kind true k = p
+  by-kind false true = q
+  by-kind false false = r
 
 pub acknowledge-keeps : (a : Acknowledgement) → Keeps (acknowledgeUnit a)
-unfolding acknowledgeUnit outcome pick chosen
-acknowledge-keeps a = by-kind (eqb (a .kind) clockKind) (eqb (a .kind) keyKind) where
-  by-kind : (t k : Bool) → Keeps (chosen a t k)
-  by-kind true k = clock-acknowledged-keeps
-  by-kind false true = key-acknowledged-keeps (a .number)
-  by-kind false false = record { identity = λ s u. refl; unit = λ s u v e. v; channels = λ s u v. stay s v }
+acknowledge-keeps a =
+    by-kinds a Keeps clock-acknowledged-keeps (key-acknowledged-keeps (a .number)) (unit-call _ _ _ (λ s u. refl) (λ s u e r. r))
 
 pub acknowledged-channels : (a : Acknowledgement) (s : Shared) (u : UnitRecord) → acknowledgeUnit a s u .channels ≡ s .channels
-unfolding acknowledgeUnit clockAcknowledgedUnit keyAcknowledgedUnit outcome pick chosen
-acknowledged-channels a s u = by-kind (eqb (a .kind) clockKind) (eqb (a .kind) keyKind) where
-  by-kind : (t k : Bool) → chosen a t k s u .channels ≡ s .channels
-  by-kind true k = refl
-  by-kind false true = refl
-  by-kind false false = refl
+unfolding clockAcknowledgedUnit keyAcknowledgedUnit outcome
+acknowledged-channels a s u = by-kinds a (λ call. call s u .channels ≡ s .channels) refl refl refl
 
 -- an acknowledgement again is as the first
 pub acknowledged-again : (a : Acknowledgement) (s : Shared) (u : UnitRecord) → acknowledgeUnit a s (acknowledgeUnit a s u .unit) ≡ acknowledgeUnit a s u
-unfolding acknowledgeUnit clockAcknowledgedUnit keyAcknowledgedUnit outcome withClock withConfirmation pick chosen
-acknowledged-again a s u = by-kind (eqb (a .kind) clockKind) (eqb (a .kind) keyKind) where
-  by-kind : (t k : Bool) → chosen a t k s (chosen a t k s u .unit) ≡ chosen a t k s u
-  by-kind true k = refl
-  by-kind false true = refl
-  by-kind false false = refl
+unfolding clockAcknowledgedUnit keyAcknowledgedUnit outcome withClock withConfirmation
+acknowledged-again a s u = by-kinds a (λ call. call s (call s u .unit) ≡ call s u) refl refl refl

@@ -1,9 +1,11 @@
 -- Which key the OLT takes an envelope from a unit under. Assumes nothing.
-use mathlib.Core.Path.{_≡_, sym, _∙_, ap}
+use mathlib.Core.Path.{_≡_, refl, _∙_}
 use Prim.Native.Nat.{ℕ, _+_, _%_, _≤_}
 use native.Mathlib.Omega.{arith}
+use lib.Dec.{leb}
 use borrow.Author.Tests.{le-leb, eq-eqb, ne-eqb}
-use Rattle.octets.proofs.Choice.{both-true, pick-true, pick-false, not-of-true, both-false-right}
+use Rattle.octets.specs.Choice.{both, pick}
+use Rattle.octets.proofs.Choice.{not-of-true, both-false-right}
 use Rattle.refusal.specs.declared.Refusal.the-variants.{EpamDiffers}
 use Rattle.refusal.specs.declared.Verdict.the-variants.{Accepted}
 use Rattle.clock.specs.Ticks.{epamOf}
@@ -17,26 +19,21 @@ use Rattle.refusal.proofs.Order.{refuse-passed}
 
 -- an envelope's header by its number: 0 is clear, C is the key in use, and A = C + 1 comes into use
 pub receive-clear : (u : UnitRecord) (h : Header) → h .encenabled ≡ 0 → u .confirmation .confirmed ≡ 0 → unitReceiveChoice u h ≡ Clear
-unfolding unitReceiveChoice
-receive-clear u h e c = pick-true _ _ (eq-eqb _ _ e) ∙ pick-true _ _ (eq-eqb _ _ c)
+unfolding unitReceiveChoice pick both
+receive-clear u h e c = rw (e, c)
 
 pub receive-current : (u : UnitRecord) (h : Header) (n : ℕ) → h .encenabled ≡ 1 → h .enckey ≡ n % 2 → 1 ≤ n → n ≡ u .confirmation .confirmed
     → unitReceiveChoice u h ≡ Current n
-unfolding unitReceiveChoice
-receive-current u h n e k p c =
-    pick-false _ _ (ne-eqb (h .encenabled) 0 (λ z. omega arith))
-    ∙ pick-true _ _ (both-true (le-leb 1 (u .confirmation .confirmed) (omega arith)) (eq-eqb _ _ (k ∙ ap (λ (x : ℕ). x % 2) c)))
-    ∙ ap Current (sym c)
+unfolding unitReceiveChoice pick both
+receive-current u h n e k p c = rw (e, ← c, le-leb 1 n p, k, eq-eqb (n % 2) (n % 2) refl)
 
 pub receive-next : (u : UnitRecord) (h : Header) (n : ℕ) → h .encenabled ≡ 1 → h .enckey ≡ n % 2 → n ≡ u .keys .active
     → n ≡ u .confirmation .confirmed + 1
     → unitReceiveChoice u h ≡ Next n
-unfolding unitReceiveChoice
+unfolding unitReceiveChoice pick both
 receive-next u h n e k a c =
-    pick-false _ _ (ne-eqb (h .encenabled) 0 (λ z. omega arith))
-    ∙ pick-false _ _ (both-false-right _ (ne-eqb (h .enckey) (u .confirmation .confirmed % 2) (λ z. omega arith)))
-    ∙ pick-true _ _ (both-true (eq-eqb _ _ (sym a ∙ c)) (eq-eqb _ _ (k ∙ ap (λ (x : ℕ). x % 2) a)))
-    ∙ ap Next (sym a)
+    let other = both-false-right (leb 1 (u .confirmation .confirmed)) (ne-eqb (h .enckey) (u .confirmation .confirmed % 2) (λ z. omega arith)) in
+    rw (e, other, ← a, ← c, eq-eqb n n refl, k, eq-eqb (n % 2) (n % 2) refl)
 
 pub record Receives (s : Shared) (u : UnitRecord) (h : Header) : Type 0 where
   pub epam : h .epam ≡ epamOf (s .clock)

@@ -28,32 +28,10 @@ sent-valid : (choice : KeyChoice) (tick : ℕ) (u : UnitRecord) → validUnit ti
 unfolding withKeys keysAfterSend withFirst keysSwitched
 sent-valid Clear tick u v = v
 sent-valid (Barred r) tick u v = v
-sent-valid (Current n) tick u v =
-    let r = unit-in-range tick u v in
-    unit-valid tick _
-    (record {
-      identity = r .identity;
-      timer = r .timer;
-      first = first-send-valid (u .keys .first) tick (r .first);
-      low = r .low;
-      mid = r .mid;
-      high = r .high;
-      acknowledged = r .acknowledged;
-      clock = r .clock;
-    })
+sent-valid (Current n) tick u v = let r = unit-in-range tick u v in unit-valid tick _ (search first-send-valid)
 sent-valid (Next n) tick u v =
     let r = unit-in-range tick u v in
-    unit-valid tick _
-    (record {
-      identity = r .identity;
-      timer = timer-fallen-valid (u .keys .timer) (r .timer);
-      first = first-noted-valid tick;
-      low = omega (arith, r .low, r .mid);
-      mid = omega arith;
-      high = r .high;
-      acknowledged = r .acknowledged;
-      clock = r .clock;
-    })
+    unit-valid tick _ (search (timer-fallen-valid, first-noted-valid, arith))
 
 pub send-keeps : (llid channel eqs : ℕ) → eqs ≤ maxEqs → Keeps (sendUnit llid channel eqs)
 unfolding sendUnit withKeys
@@ -85,19 +63,7 @@ unfolding unitAfterReceipt unitConfirmed withKeys withSlots withConfirmation
 received-valid Clear tick u v = v
 received-valid (Current n) tick u v = v
 received-valid (Barred r) tick u v = v
-received-valid (Next n) tick u v =
-    let r = unit-in-range tick u v in
-    unit-valid tick _
-    (record {
-      identity = r .identity;
-      timer = r .timer;
-      first = r .first;
-      low = omega arith;
-      mid = r .mid;
-      high = omega (arith, r .low, r .high);
-      acknowledged = r .acknowledged;
-      clock = r .clock;
-    })
+received-valid (Next n) tick u v = let r = unit-in-range tick u v in unit-valid tick _ (search arith)
 
 received-identity : (choice : KeyChoice) (u : UnitRecord) → unitAfterReceipt choice u .identity ≡ u .identity
 unfolding unitAfterReceipt unitConfirmed withKeys withSlots withConfirmation

@@ -1,6 +1,6 @@
 -- Worked values of both ends at the papers' limits, by which a definition that is off by one tick, key or channel would show (01, Clock; Keys;
 -- 'When the reader says no'; 02, C-16; C-22): each is computed from the definitions of the calls. Assumes nothing.
-use mathlib.Core.Path.{_≡_, refl}
+use mathlib.Core.Path.{_≡_}
 use mathlib.Core.Bool.{true, false}
 use mathlib.Core.List.{List, [], _∷_}
 use Prim.Native.Nat.{ℕ, _+_, _^_}
@@ -126,27 +126,7 @@ pub olt-rows : OltRows
 unfolding pick both either refuseIf onZero freeFrom taken occupied withKeys withTimer timerAdvanced timerFallen aged outcome
     choiceNumber choiceVerdict choiceAged choiceEnciphered passageOf sendingOf unitAdvanced clockSendVerdict switches unitSendChoice unitSendVerdict
     keysSwitched keysAfterSend sendUnit unitReceiveChoice unitReceiveVerdict receiveUnit
-olt-rows =
-    record {
-      sent = refl;
-      old = refl;
-      risen = refl;
-      second = refl;
-      third = refl;
-      tooOld = refl;
-      switching = refl;
-      takenAged = refl;
-      takenUnset = refl;
-      clearUnset = refl;
-      clearTaken = refl;
-      last = refl;
-      free = refl;
-      other = refl;
-      ownMac = refl;
-      unitMac = refl;
-      clear = refl;
-      late = refl;
-    }
+olt-rows = search
 
 ---- the ONU
 
@@ -192,7 +172,7 @@ pub record OnuRows : Type 0 where
 pub onu-rows : OnuRows
 unfolding pick both either same refuseIf among llidsOf has keyIn withOnuClock withTravel shiftOf travelOf travelChanged waits timeAhead
     changesAfter onuRetimed newKey heldKey activeKey keyMessageVerdict
-onu-rows = record { held = refl; heldOther = refl; active = refl; activeOther = refl; zero = refl; one = refl; waiting = refl; passed = refl }
+onu-rows = search
 
 ---- fresh ends
 
@@ -205,4 +185,4 @@ pub fresh-rows : FreshRows
 unfolding pick both either all refuseIf among distinct llidsOf has kept validMac validIdentity tableLlids shiftOf validChanges travelOf waits
     validChannels freeFrom taken onZero upstream newOlt newOnu validShared validOlt validOnuKeys validOnuClock validOnu reply advanceVerdict
     oltAnswer advancingOlt advanceOltOf onuReply choiceEnciphered choiceAged onuSendChoice busyUp onuSendVerdict sendingOnu
-fresh-rows = record { olt = refl; onu = refl }
+fresh-rows = search

@@ -6,7 +6,7 @@ use mathlib.Core.List.{List}
 use Prim.Native.Nat.{ℕ, zero, suc, _+_, _-_, _%_, _≤_, _<_}
 use native.Mathlib.Omega.{arith}
 use lib.Dec.{eqb}
-use lib.ListN.{length, getD, replicate, length-set, getD-replicate}
+use lib.ListN.{length, getD, length-set, getD-replicate}
 use lib.Seq.{getD-set-same, getD-set-other}
 use borrow.Author.Tests.{eqb-true, eqb-false}
 use Rattle.octets.specs.Bits.{bitOf, lowCleared}
@@ -22,7 +22,7 @@ use Rattle.records.specs.Settings.{presenceOf, llidOf}
 use Rattle.records.specs.Record.{recordHeader}
 use Rattle.records.specs.Block.{offsetOf, lengthOf, recordOf}
 use Rattle.records.specs.Verdict.{encEnabled, flagsFit, headerFits, inOrder, recordVerdict, verdictFor}
-use Rattle.records.specs.Near.{mostSlip, stepped, nearest, sumAt, expected, corrected, own, farVerdict, heardAt, heard}
+use Rattle.records.specs.Near.{stepped, nearest, sumAt, expected, corrected, own, farVerdict, heardAt, heard}
 use Rattle.records.specs.Following.{headerOf, driftAt, nearVerdict, ahead, Follows, ReadsAsSent, slippedSettings, slippedBlock, slippedSent, Promise}
 use Rattle.records.proofs.Steps.{is-nearest, own-place, place-below}
 
@@ -51,52 +51,31 @@ own-at : (presence llid t d : ℕ) (drift : Drift) (h : Header) → own llid h �
 unfolding heard heardAt
 own-at presence llid t d drift h o n e = (rw n (ap (λ (x : ℕ). recordVerdict presence llid x h) e), rw n (pick-true _ _ o))
 
-other-heard : (presence llid t : ℕ) (drift : Drift) (h : Header) → own llid h ≡ false
-    → (heard presence llid drift h .verdict ≡ recordVerdict presence llid t h) × (heard presence llid drift h .drift ≡ drift)
-unfolding heard
-other-heard presence llid t drift h o = other-at presence llid t drift h (nearest (expected drift h) (h .epam)) o
-
 -- the place of a header that is past 1 and 2
 own-below : (llid : ℕ) (h : Header) → own llid h ≡ true → sumAt (h .channel) < 4
 unfolding own headerFits
 own-below llid h o = place-below (h .channel) (both-left _ _ (both-right _ _ (both-left _ _ o)))
 
-none : (p : ℕ) → p < 4 → _≡_ {A = ℕ} (getD (replicate 4 0) p 0) 0
-none p h = getD-replicate 4 p 0 0 h
-
-corrected-places : (drift : Drift) (channel d : ℕ) → length (corrected drift channel d .sums) ≡ length (drift .sums)
-unfolding corrected
-corrected-places drift channel d = simp length-set
-
 -- a clock c with a steps and a correction more is, less c, the steps with the correction
-put-on : (c a d k : ℕ) → ((c + a) % clockTurn + d + k) % clockTurn ≡ (c + (a + d + k)) % clockTurn
-put-on c a d k = omega arith
-
-taken-off : (c y : ℕ) → ((c + y) % clockTurn + (clockTurn - c % clockTurn)) % clockTurn ≡ y % clockTurn
-taken-off c y = omega arith
-
 less-clock : (c a d x : ℕ) → x ≡ stepped ((c + a) % clockTurn) d → stepped a d ≡ (x + (clockTurn - c % clockTurn)) % clockTurn
-less-clock c a d x e =
-    sym (ap (λ (y : ℕ). (y + (clockTurn - c % clockTurn)) % clockTurn) (e ∙ put-on c a d (clockTurn - mostSlip))
-    ∙ taken-off c (a + d + (clockTurn - mostSlip)))
+less-clock c a d x e = omega arith
 
 -- the sums are by how much the sender's clock is ahead
 pub record Holds (sent : ℕ → ℕ) (s b : List ℕ) (i : ℕ) : Type 0 where
   pub places : length (driftAt s b i .sums) ≡ 4
   pub sums : (p : ℕ) → p < 4 → getD (driftAt s b i .sums) p 0 ≡ ahead sent s b i p
 
+-- record i has the verdict of the sender's clock, and the sums hold behind it
+abbrev Turned : (ℕ → ℕ) → List ℕ → List ℕ → ℕ → Type 0
+Turned sent s b i =
+    (nearVerdict s b i ≡ recordVerdict (presenceOf s) (llidOf s) (sent i % clockTurn) (headerOf b i)) × Holds sent s b (suc i)
+
 module _ (sent : ℕ → ℕ) (s b : List ℕ) (i : ℕ) (v : Holds sent s b i) where
-  turn-other : own (llidOf s) (headerOf b i) ≡ false
-      → (nearVerdict s b i ≡ recordVerdict (presenceOf s) (llidOf s) (sent i % clockTurn) (headerOf b i)) × Holds sent s b (suc i)
-  unfolding nearVerdict driftAt ahead
+  turn-other : own (llidOf s) (headerOf b i) ≡ false → Turned sent s b i
+  unfolding nearVerdict driftAt ahead heard
   turn-other o =
-      let q = other-heard (presenceOf s) (llidOf s) (sent i % clockTurn) (driftAt s b i) (headerOf b i) o in (
-        q .0,
-        record {
-          places = ap (λ (d : Drift). length (d .sums)) (q .1) ∙ v .places;
-          sums = λ p h. ap (λ (d : Drift). getD (d .sums) p 0) (q .1) ∙ v .sums p h ∙ sym (pick-false _ _ (both-false-left _ o));
-        },
-      )
+      let q = other-at (presenceOf s) (llidOf s) (sent i % clockTurn) (driftAt s b i) (headerOf b i) _ o in
+      (q .0, record { places = rw (q .1) (v .places); sums = λ p h. rw (q .1) (v .sums p h ∙ sym (pick-false _ _ (both-false-left _ o))) })
 
   -- the sum of a channel index once a step is added, and the other sums
   added : (d p : ℕ) → own (llidOf s) (headerOf b i) ≡ true → p < 4
@@ -114,8 +93,7 @@ module _ (sent : ℕ → ℕ) (s b : List ℕ) (i : ℕ) (v : Holds sent s b i) 
       getD-set-other (driftAt s b i .sums) (sumAt (headerOf b i .channel)) p _ 0 (λ z. eqb-false _ _ q (sym z))
       ∙ v .sums p h ∙ sym (pick-false _ _ (both-false-right _ q))
 
-  turn-own : own (llidOf s) (headerOf b i) ≡ true → Follows sent s b i
-      → (nearVerdict s b i ≡ recordVerdict (presenceOf s) (llidOf s) (sent i % clockTurn) (headerOf b i)) × Holds sent s b (suc i)
+  turn-own : own (llidOf s) (headerOf b i) ≡ true → Follows sent s b i → Turned sent s b i
   unfolding nearVerdict driftAt
   turn-own o f =
       let h = headerOf b i in
@@ -127,20 +105,19 @@ module _ (sent : ℕ → ℕ) (s b : List ℕ) (i : ℕ) (v : Holds sent s b i) 
       let q = own-at (presenceOf s) (llidOf s) (sent i % clockTurn) (f .step) (driftAt s b i) h o near (hit ∙ omega (arith, f .slip)) in (
         q .0,
         record {
-          places = ap (λ (d : Drift). length (d .sums)) (q .1) ∙ corrected-places (driftAt s b i) (h .channel) (f .step) ∙ v .places;
-          sums = λ p l. ap (λ (d : Drift). getD (d .sums) p 0) (q .1) ∙ added (f .step) p o l (f .slip) (eqb (sumAt (h .channel)) p) refl;
+          places = rw (q .1) (unfold corrected in simp length-set (v .places));
+          sums = λ p l. rw (q .1) (added (f .step) p o l (f .slip) (eqb (sumAt (h .channel)) p) refl);
         },
       )
 
-  turn : (t : Bool) → own (llidOf s) (headerOf b i) ≡ t → (own (llidOf s) (headerOf b i) ≡ true → Follows sent s b i)
-      → (nearVerdict s b i ≡ recordVerdict (presenceOf s) (llidOf s) (sent i % clockTurn) (headerOf b i)) × Holds sent s b (suc i)
+  turn : (t : Bool) → own (llidOf s) (headerOf b i) ≡ t → (own (llidOf s) (headerOf b i) ≡ true → Follows sent s b i) → Turned sent s b i
   turn true o f = turn-own o (f o)
   turn false o f = turn-other o
 
 module _ (sent : ℕ → ℕ) (s b : List ℕ) (n : ℕ) (f : (i : ℕ) → i < n → own (llidOf s) (headerOf b i) ≡ true → Follows sent s b i) where
   at-each : (i : ℕ) → i ≤ n → Holds sent s b i
   unfolding driftAt ahead
-  at-each zero h = record { places = refl; sums = λ p l. none p l }
+  at-each zero h = record { places = refl; sums = λ p l. getD-replicate 4 p 0 0 l }
   at-each (suc i) h = turn sent s b i (at-each i (omega arith)) (own (llidOf s) (headerOf b i)) refl (f i (omega arith)) .1
 
 reads-as-sent : (s b : List ℕ) → ReadsAsSent s b

@@ -22,18 +22,12 @@ use Rattle.records.specs.Near.{mostSlip, lastStep, stepped, stepTo, near
 abbrev Place : ℕ → ℕ → Type 0
 Place c p = ((c ≤ 1) × (p ≡ c)) ⊎ ((128 ≤ c) × (c ≤ 129) × (p + 126 ≡ c))
 
-down-place : (c : ℕ) → c ≤ 1 → sumAt c ≡ c
-down-place c h = omega arith
-
-up-place : (c : ℕ) → 128 ≤ c → c ≤ 129 → sumAt c + 126 ≡ c
-up-place c h k = omega arith
-
 place-of : (c : ℕ) → channelFits c ≡ true → Place c (sumAt c)
 unfolding channelFits downstream upstream
 place-of c f =
     ⊎-elim
-    (λ d. let h = leb-true c 1 d in inl (h, down-place c h))
-    (λ u. let h = leb-true 128 c (both-left _ _ u) in let k = leb-true c 129 (both-right _ _ u) in inr (h, k, up-place c h k))
+    (λ d. let h = leb-true c 1 d in inl (h, omega arith))
+    (λ u. let h = leb-true 128 c (both-left _ _ u) in let k = leb-true c 129 (both-right _ _ u) in inr (h, k, omega arith))
     (either-cases _ _ f)
 
 one-place : (c d p : ℕ) → Place c p → Place d p → c ≡ d
@@ -44,14 +38,8 @@ one-place c d p x y =
 pub own-place : (c d : ℕ) → channelFits c ≡ true → channelFits d ≡ true → sumAt c ≡ sumAt d → c ≡ d
 own-place c d f g e = one-place c d (sumAt d) (rw e at (place-of c f)) (place-of d g)
 
-place-few : (c p : ℕ) → Place c p → p < 4
-place-few c p x = ⊎-elim (λ a. omega arith) (λ a. omega arith) x
-
 pub place-below : (c : ℕ) → channelFits c ≡ true → sumAt c < 4
-place-below c f = place-few c (sumAt c) (place-of c f)
-
-step-same : (d f : ℕ) → Step d ≡ Step f → d ≡ f
-step-same d f e = cc
+place-below c f = ⊎-elim (λ a. omega arith) (λ a. omega arith) (place-of c f)
 
 -- the step found has the low bits asked for
 step-hits : (t e : ℕ) → e < epamTurn → epamOf (stepped t (stepTo t e)) ≡ e
@@ -71,7 +59,7 @@ is-nearest t e =
     record {
       among = λ d q.
           let p = pick-first (both (ltb e epamTurn) (leb (stepTo t e) lastStep)) (Step (stepTo t e)) TooFar (Step d) (λ z. cc) q in
-          let s = step-same (stepTo t e) d (p .1) in (
+          let s : stepTo t e ≡ d = cc in (
             omega (arith, leb-true (stepTo t e) lastStep (both-right _ _ (p .0)), s),
             ap (λ (x : ℕ). epamOf (stepped t x)) (sym s) ∙ step-hits t e (ltb-true e epamTurn (both-left _ _ (p .0))),
           );

@@ -5,7 +5,7 @@ use mathlib.Core.List.{List}
 use Prim.Native.Nat.{ℕ}
 use lib.Dec.{eqb}
 use lib.ListN.{length}
-use borrow.Author.Tests.{eq-eqb, ne-eqb, eqb-true}
+use borrow.Author.Tests.{eq-eqb, eqb-true}
 use Rattle.octets.proofs.Choice.{pick-true, pick-false, pick-first}
 use Rattle.refusal.specs.declared.Refusal.the-variants.{OutOfRange, UnknownLlid, NoKey, EpamDiffers, BadLength}
 use Rattle.refusal.specs.declared.Verdict.{Verdict}
@@ -17,18 +17,6 @@ use Rattle.records.specs.declared.header.Header.{Header}
 use Rattle.records.specs.declared.header.RecordVerdict.the-variants.{Clear, Sealed, Refused}
 
 module _ (presence llid t : ℕ) (h : Header) where
-  pub malformed : headerFits h ≡ false → Refused OutOfRange ≡ recordVerdict presence llid t h
-  unfolding recordVerdict inOrder
-  malformed f = sym (pick-false _ _ f)
-
-  pub other-llid : headerFits h ≡ true → (h .llid ≡ llid → ⊥) → Refused UnknownLlid ≡ recordVerdict presence llid t h
-  unfolding recordVerdict inOrder
-  other-llid f n = sym (pick-true _ _ f ∙ pick-false _ _ (ne-eqb _ _ n))
-
-  pub other-epam : headerFits h ≡ true → h .llid ≡ llid → (h .epam ≡ epamOf t → ⊥) → Refused EpamDiffers ≡ recordVerdict presence llid t h
-  unfolding recordVerdict inOrder
-  other-epam f e n = sym (pick-true _ _ f ∙ pick-true _ _ (eq-eqb _ _ e) ∙ pick-false _ _ (ne-eqb _ _ n))
-
   pub by-key : headerFits h ≡ true → h .llid ≡ llid → h .epam ≡ epamOf t → keyVerdict presence t (h .flags) ≡ recordVerdict presence llid t h
   unfolding recordVerdict inOrder
   by-key f e a = sym (pick-true _ _ f ∙ pick-true _ _ (eq-eqb _ _ e) ∙ pick-true _ _ (eq-eqb _ _ a))
@@ -51,9 +39,6 @@ pub settings-octets : (s : List ℕ) → settingsVerdict s ≡ Accepted → leng
 unfolding settingsVerdict
 settings-octets s e = eqb-true _ _ (pick-first (eqb (length s) settingsOctets) _ (Verdict.Refused BadLength) Accepted (λ z. cc) e .0)
 
-sealed-same : (i j t u : ℕ) → Sealed i t ≡ Sealed j u → (j ≡ i) × (u ≡ t)
-sealed-same i j t u e = (cc, cc)
-
 -- what holds of a record that is judged at the clock t and to be opened under key i at the clock u
 pub record Openable (presence llid t : ℕ) (h : Header) (i u : ℕ) : Type 0 where
   pub fits : headerFits h ≡ true
@@ -72,13 +57,13 @@ openable presence llid t h i u e =
     let c = pick-first (eqb (h .epam) (epamOf t)) _ (Refused EpamDiffers) (Sealed i u) (λ z. cc) (b .1) in
     let d = pick-first (encEnabled (h .flags)) _ Clear (Sealed i u) (λ z. cc) (c .1) in
     let f = pick-first (keyPresent presence (encKey (h .flags))) _ (Refused NoKey) (Sealed i u) (λ z. cc) (d .1) in
-    let g = sealed-same (encKey (h .flags)) i t u (f .1) in
+    let index : i ≡ encKey (h .flags) = cc in
     record {
       fits = a .0;
       own = eqb-true _ _ (b .0);
       epam = eqb-true _ _ (c .0);
       enciphered = d .0;
-      present = rw (g .0) (f .0);
-      index = g .0;
-      clock = g .1;
+      present = rw index (f .0);
+      index = index;
+      clock = cc;
     }

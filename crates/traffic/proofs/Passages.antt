@@ -9,10 +9,11 @@ use borrow.Author.Tests.{lt-ltb, not-false}
 use Rattle.octets.specs.Choice.{pick}
 use Rattle.octets.specs.Eqs.{maxEqs}
 use Rattle.octets.proofs.Choice.{both-left, both-true, either-left, either-right, not-of-true}
-use Rattle.octets.specs.Output.{WithOutput, withOutput}
+use Rattle.octets.specs.Output.{withOutput}
 use Rattle.refusal.specs.declared.Verdict.{Verdict}
 use Rattle.refusal.specs.declared.Refusal.the-variants.{OutOfRange, BadLength}
 use Rattle.refusal.specs.declared.Verdict.the-variants.{Accepted, Refused}
+use Rattle.refusal.specs.Order.{andThen}
 use Rattle.refusal.proofs.Order.{refuse-passed}
 use Rattle.clock.specs.Ticks.{clockTurn}
 use Rattle.envelope.specs.ControlMask.{countEnciphered, eqsOf, runs}
@@ -24,12 +25,15 @@ use Rattle.envelope.proofs.Acceptance.{accepted, lengths-fit}
 use Rattle.sealing.specs.Payload.{sealed}
 use Rattle.sealing.specs.Seal.{carried, countCarried, runsCarried, sealingAfter, sealing}
 use Rattle.ends.specs.Identities.{validMac, validIdentity}
+use Rattle.protocol.specs.Lift.{Outcome}
 use Rattle.protocol.specs.Replies.{reply}
 use Rattle.protocol.specs.Headers.{choiceEnciphered, noPassage}
 use Rattle.ends.specs.declared.Identity.{Identity}
+use Rattle.ends.specs.declared.Shared.{Shared}
+use Rattle.ends.specs.declared.UnitRecord.{UnitRecord}
 use Rattle.protocol.specs.declared.Passage.{Passage}
 use Rattle.envelope.specs.Channels.{channelFits, downstream, upstream}
-use Rattle.unit.specs.Reached.{ifAccepted}
+use Rattle.unit.specs.Reached.{ifAccepted, reached}
 use Rattle.traffic.specs.declared.carrying.Work.{Work}
 use Rattle.traffic.specs.Passages.{misfit, passed, passedCount, passedRuns, passedWork, outputAfter, carriedAfter}
 
@@ -63,8 +67,8 @@ pub sealing-carried : (enciphered : Bool) (w : List ℕ) (n : Nonce) (p out : Li
     ≡ withOutput (record { count = countCarried enciphered p; runs = runsCarried enciphered p }) (carried enciphered w n p)
 unfolding sealing sealingAfter
 sealing-carried enciphered w n p out a o e j =
-    ap (λ (s : WithOutput SealAnswer). withOutput {R = Work} (record { count = sealCount (s .answer); runs = sealRuns (s .answer) }) (s .output))
-    (e ∙ ap (λ (v : Verdict). sealingAfter v enciphered w n p out) j)
+    let k = rw j at e in
+    rw (ap (λ y. y .answer) k, ap (λ y. y .output) k)
 
 -- a refused call hands over nothing, so that nothing is counted
 pub chosen-carried : {H : Type 0} (passage : H → Passage) (v : Verdict) (nothing handed : H) (channel : ℕ) (p out : List ℕ)
@@ -74,6 +78,14 @@ pub chosen-carried : {H : Type 0} (passage : H → Passage) (v : Verdict) (nothi
 unfolding ifAccepted carriedAfter outputAfter passedCount passedRuns choiceEnciphered countCarried runsCarried pick
 chosen-carried passage Accepted nothing handed channel p out e = refl
 chosen-carried passage (Refused r) nothing handed channel p out e = rw e
+
+pub reached-carried : {H : Type 0} (passage : H → Passage) (nothing : H) → passage nothing ≡ noPassage
+    → (way : Verdict) (s : Shared) (u : UnitRecord) (c x : Outcome H) → x ≡ reached way nothing s u c → (channel : ℕ) (p out : List ℕ)
+    → carriedAfter (x .verdict) channel (passage (x .handed)) p out
+    ≡ withOutput (passedWork (passage (x .handed)) p) (outputAfter (x .verdict) (passed channel (passage (x .handed)) p) out)
+unfolding reached
+reached-carried passage nothing e way s u c x f channel p out =
+    rw f (chosen-carried passage (andThen way (c .verdict)) nothing (c .handed) channel p out e)
 
 pub reply-carried : {E H : Type 0} (passage : H → Passage) (v : Verdict) (lent next : E) (nothing handed : H) (channel : ℕ) (p out : List ℕ)
     → passage nothing ≡ noPassage

@@ -1,5 +1,5 @@
 -- Laws of receive: what each verdict makes of it. Assumes nothing.
-use mathlib.Core.Path.{_≡_, refl, sym, ap, _∙_, subst}
+use mathlib.Core.Path.{_≡_, refl, sym, ap, _∙_}
 use mathlib.Core.Bool.{true}
 use mathlib.Core.List.{List}
 use Prim.Native.Nat.{ℕ, _<_}
@@ -16,7 +16,7 @@ use Rattle.refusal.specs.declared.Verdict.the-variants.{Accepted, Refused}
 use Rattle.envelope.specs.Acceptance.{sealVerdict}
 use Rattle.sealing.specs.Seal.{countCarried, runsCarried}
 use Rattle.ends.specs.Limits.{maxKeyNumber}
-use Rattle.protocol.specs.Replies.{onValid, Reply}
+use Rattle.protocol.specs.Replies.{onValid, Reply, reply}
 use Rattle.ends.specs.Table.{unitAt, withUnit}
 use Rattle.ends.specs.Validity.{validOlt, validOnu}
 use Rattle.protocol.specs.Lift.{Outcome, outcome}
@@ -30,11 +30,8 @@ use Rattle.ends.specs.declared.Onu.{Onu}
 use Rattle.protocol.specs.declared.Header.{Header}
 use Rattle.protocol.specs.declared.KeyChoice.the-variants.{Next}
 use Rattle.protocol.specs.declared.Passage.{Passage}
-use Rattle.ends.specs.declared.Shared.{Shared}
-use Rattle.ends.specs.declared.UnitRecord.{UnitRecord}
-use Rattle.refusal.specs.Order.{andThen}
 use Rattle.refusal.proofs.Order.{refuse-accepted, then-accepted}
-use Rattle.protocol.proofs.Replies.{reply-verdict, reply-accepted, reply-refused}
+use Rattle.protocol.proofs.Replies.{reply-verdict, reply-accepted}
 use Rattle.ends.proofs.Table.{find-at}
 use Rattle.ends.proofs.Validity.{olt-in-range, shared-in-range, unit-in-range, onu-in-range, onu-clock-in-range, onu-keys-in-range}
 use Rattle.protocol.proofs.Lift.{unit-at-valid}
@@ -46,20 +43,13 @@ use Rattle.olt.specs.Lookup.{locatedOf}
 use Rattle.olt.specs.declared.Located.{Located}
 use Rattle.olt.proofs.Lookup.{lift-decided, reaches}
 use Rattle.traffic.specs.declared.carrying.Work.{Work}
-use Rattle.traffic.specs.Passages.{misfit, passageNonce, passed, passedCount, passedRuns, passedWork, outputAfter, carriedAfter}
+use Rattle.traffic.specs.Passages.{misfit, passageNonce, passed, passedCount, passedRuns, outputAfter, carriedAfter}
 use Rattle.traffic.specs.Receipts.{oltReceived, oltReceiveOf, onuReceived, onuNotReceived, onuReceiveOf}
 use Rattle.traffic.specs.declared.OltReceived.{OltReceived}
 use Rattle.traffic.specs.declared.OnuReceived.{OnuReceived}
-use Rattle.traffic.proofs.Passages.{identity-mac, judged, down-fits, up-fits, chosen-carried, reply-carried}
+use Rattle.traffic.proofs.Passages.{identity-mac, judged, down-fits, up-fits, reached-carried, reply-carried}
 
 ---- the OLT
-
--- a refused receipt counts nothing
-reached-carried : (way : Verdict) (s : Shared) (u : UnitRecord) (c : Outcome Passage) (channel : ℕ) (p out : List ℕ)
-    → let x = reached way noPassage s u c in
-    carriedAfter (x .verdict) channel (x .handed) p out ≡ withOutput (passedWork (x .handed) p) (outputAfter (x .verdict) (passed channel (x .handed) p) out)
-unfolding reached
-reached-carried way s u c channel p out = chosen-carried (λ (q : Passage). q) (andThen way (c .verdict)) noPassage (c .handed) channel p out refl
 
 module _ (o : Olt) (h : Header) (p out : List ℕ) where
   -- what a receipt decides on the unit found
@@ -79,14 +69,12 @@ module _ (o : Olt) (h : Header) (p out : List ℕ) where
         → sealVerdict (length p) (length out) (passageNonce (h .channel) (x .handed)) ≡ Accepted
     unfolding reached receiveUnit outcome passageOf
     receive-fits x f a =
-        let v = sym (ap (λ (y : Outcome Passage). y .verdict) f) ∙ a in
+        let v = rw f at a in
         let r = reaches o (receiveAhead (misfit p out) h) (h .llid) l e (then-accepted _ _ v .0) in
         let passed = refuse-accepted _ _ _ (r .passed) in
         let s = shared-in-range (o .shared) (olt-in-range o (r .valid) .shared) in
         let u = unit-in-range _ (unitAt o (l .place)) (unit-at-valid o (h .llid) (l .place) (r .valid) (find-at o (h .llid) (l .place) (r .found))) in
-        let call = receiveUnit h (o .shared) (unitAt o (l .place)) in
-        subst (λ (y : Outcome Passage). sealVerdict (length p) (length out) (passageNonce (h .channel) (y .handed)) ≡ Accepted)
-        (sym (f ∙ reached-accepted (l .verdict) noPassage (o .shared) (unitAt o (l .place)) call v))
+        rw (f ∙ reached-accepted _ _ (o .shared) _ _ v)
         (judged p out _ (passed .0)
         (up-fits _ (both-left _ _ (not-false _ (refuse-accepted _ _ _ (passed .1) .0))) (identity-mac (unitAt o (l .place) .identity) (u .identity))
         (s .clock)))
@@ -98,15 +86,9 @@ module _ (o : Olt) (h : Header) (p out : List ℕ) where
         ≡ oltReceiveOf o h p out
     unfolding oltReceiveOf oltReceived receivingOlt
     olt-receive-done x f n octets k =
-        let carried = subst (λ (y : Outcome Passage).
-        carriedAfter (y .verdict) (h .channel) (y .handed) p out
-        ≡ withOutput (passedWork (y .handed) p) (outputAfter (y .verdict) (passed (h .channel) (y .handed) p) out))
-        (sym f) (reached-carried (l .verdict) (o .shared) (unitAt o (l .place)) _ (h .channel) p out) in
-        ap (λ (y : WithOutput Work). withOutput {R = OltReceived}
-        (record { number = verdictNumber (x .verdict); olt = withUnit o (l .place) (x .channels) (x .unit); count = y .answer .count; runs = y .answer .runs })
-        (y .output)) (k ∙ carried)
-        ∙ ap (λ (r : Reply Olt Passage). oltReceived r (h .channel) p out)
-        (lift-decided o noPassage (receiveAhead (misfit p out) h) (h .llid) (receiveUnit h) l x e f)
+        let w = k ∙ reached-carried (λ (q : Passage). q) noPassage refl _ _ _ _ x f (h .channel) p out in
+        let lifted = lift-decided o noPassage (receiveAhead (misfit p out) h) (h .llid) (receiveUnit h) l x e f in
+        rw (← lifted, ap (λ y. y .answer) w, ap (λ y. y .output) w)
 
   -- a valid OLT stays valid
   pub olt-receive-valid : validOlt o ≡ true → validOlt (oltReceiveOf o h p out .answer .olt) ≡ true
@@ -114,11 +96,6 @@ module _ (o : Olt) (h : Header) (p out : List ℕ) where
   olt-receive-valid v = receiving-valid o (misfit p out) h v
 
 ---- the ONU
-
-onu-not-received : (o : Onu) (r : Refusal) (channel : ℕ) (p out : List ℕ)
-    → withOutput (onuNotReceived o r) out ≡ onuReceived (record { verdict = Refused r; end = o; handed = noPassage }) channel p out
-unfolding onuNotReceived onuReceived passedCount passedRuns choiceEnciphered countCarried runsCarried pick outputAfter
-onu-not-received o r channel p out = refl
 
 -- only a held key comes into use, so that its number is a key number
 pub next-below : (o : Onu) (h : Header) (n : ℕ) → validOnu o ≡ true → onuReceiveChoice (o .keys) h ≡ Next n → o .keys .active < maxKeyNumber
@@ -136,10 +113,8 @@ module _ (o : Onu) (h : Header) (p out : List ℕ) where
   onuReceiveJudged = onValid (validOnu o) (onuReceiveVerdict o (misfit p out) h)
 
   pub onu-receive-refused : (r : Refusal) → onuReceiveJudged ≡ Refused r → withOutput (onuNotReceived o r) out ≡ onuReceiveOf o h p out
-  unfolding onuReceiveOf receivingOnu onuReply
-  onu-receive-refused r e =
-      onu-not-received o r (h .channel) p out
-      ∙ sym (ap (λ (x : Reply Onu Passage). onuReceived x (h .channel) p out) (reply-refused _ o noPassage _ _ r e))
+  unfolding onuReceiveOf receivingOnu onuReply reply onuNotReceived onuReceived passedCount passedRuns outputAfter choiceEnciphered
+  onu-receive-refused r e = unfold countCarried runsCarried pick in rw e
 
   -- what the receipt decides
   abbrev pub onuReceiveDecided : Reply Onu Passage
@@ -163,8 +138,5 @@ module _ (o : Onu) (h : Header) (p out : List ℕ) where
       ≡ onuReceiveOf o h p out
   unfolding onuReceiveOf onuReceived receivingOnu onuReply
   onu-receive-done n octets e =
-      let d = onuReceiveDecided in
-      ap
-      (λ (x : WithOutput Work). withOutput {R = OnuReceived}
-      (record { number = verdictNumber (d .verdict); onu = d .end; count = x .answer .count; runs = x .answer .runs }) (x .output))
-      (e ∙ reply-carried (λ (q : Passage). q) _ o _ noPassage _ (h .channel) p out refl)
+      let w = e ∙ reply-carried (λ (q : Passage). q) _ o _ noPassage _ (h .channel) p out refl in
+      rw (ap (λ y. y .answer) w, ap (λ y. y .output) w)

@@ -1,5 +1,5 @@
 -- Laws of send: what each verdict makes of it. Assumes nothing.
-use mathlib.Core.Path.{_≡_, refl, sym, ap, _∙_, subst}
+use mathlib.Core.Path.{_≡_, refl, sym, ap, _∙_}
 use mathlib.Core.Bool.{true}
 use mathlib.Core.List.{List}
 use Prim.Native.Nat.{ℕ, _≤_}
@@ -8,7 +8,6 @@ use borrow.Author.Tests.{not-false}
 use Rattle.octets.specs.Eqs.{maxEqs}
 use Rattle.octets.specs.Output.{WithOutput, withOutput}
 use Rattle.refusal.specs.Number.{verdictNumber}
-use Rattle.refusal.specs.declared.Verdict.{Verdict}
 use Rattle.refusal.specs.declared.Verdict.the-variants.{Accepted}
 use Rattle.clock.specs.Ticks.{maxTick}
 use Rattle.envelope.specs.ControlMask.{eqsOf}
@@ -25,9 +24,6 @@ use Rattle.protocol.specs.OnuTraffic.{sendingOnu}
 use Rattle.ends.specs.declared.Olt.{Olt}
 use Rattle.ends.specs.declared.Onu.{Onu}
 use Rattle.protocol.specs.declared.Sending.{Sending}
-use Rattle.ends.specs.declared.Shared.{Shared}
-use Rattle.ends.specs.declared.UnitRecord.{UnitRecord}
-use Rattle.refusal.specs.Order.{andThen}
 use Rattle.refusal.proofs.Order.{refuse-accepted, then-accepted}
 use Rattle.protocol.proofs.Replies.{reply-verdict, reply-accepted}
 use Rattle.ends.proofs.Validity.{olt-in-range, shared-in-range, onu-in-range, onu-clock-in-range}
@@ -39,22 +35,13 @@ use Rattle.olt.specs.Lookup.{locatedOf}
 use Rattle.olt.specs.declared.Located.{Located}
 use Rattle.olt.proofs.Lookup.{lift-decided, reaches}
 use Rattle.traffic.specs.declared.carrying.Work.{Work}
-use Rattle.traffic.specs.Passages.{misfit, passageNonce, passed, passedWork, outputAfter, carriedAfter}
+use Rattle.traffic.specs.Passages.{misfit, passageNonce, passed, carriedAfter}
 use Rattle.traffic.specs.Sends.{oltSent, oltSendOf, onuSent, onuSendOf}
 use Rattle.traffic.specs.declared.OltSent.{OltSent}
 use Rattle.traffic.specs.declared.OnuSent.{OnuSent}
-use Rattle.traffic.proofs.Passages.{few-eqs, identity-mac, judged, down-fits, up-fits, chosen-carried, reply-carried}
+use Rattle.traffic.proofs.Passages.{few-eqs, identity-mac, judged, down-fits, up-fits, reached-carried, reply-carried}
 
 ---- the OLT
-
--- a refused send counts nothing
-reached-carried : (way : Verdict) (s : Shared) (u : UnitRecord) (c : Outcome Sending) (channel : ℕ) (p out : List ℕ)
-    → let x = reached way noSending s u c in
-    carriedAfter (x .verdict) channel (x .handed .passage) p out
-    ≡ withOutput (passedWork (x .handed .passage) p) (outputAfter (x .verdict) (passed channel (x .handed .passage) p) out)
-unfolding reached
-reached-carried way s u c channel p out =
-    chosen-carried (λ (x : Sending). x .passage) (andThen way (c .verdict)) noSending (c .handed) channel p out refl
 
 module _ (o : Olt) (llid channel : ℕ) (p out : List ℕ) where
   -- what a send decides on the unit found
@@ -79,13 +66,11 @@ module _ (o : Olt) (llid channel : ℕ) (p out : List ℕ) where
         → sealVerdict (length p) (length out) (passageNonce channel (x .handed .passage)) ≡ Accepted
     unfolding reached sendUnit sendingOf passageOf
     send-fits x f a =
-        let v = sym (ap (λ (y : Outcome Sending). y .verdict) f) ∙ a in
+        let v = rw f at a in
         let r = reaches o (sendAhead (misfit p out) channel) llid l e (then-accepted _ _ v .0) in
         let passed = refuse-accepted _ _ _ (r .passed) in
         let s = shared-in-range (o .shared) (olt-in-range o (r .valid) .shared) in
-        let call = sendUnit llid channel (eqsOf p) (o .shared) (unitAt o (l .place)) in
-        subst (λ (y : Outcome Sending). sealVerdict (length p) (length out) (passageNonce channel (y .handed .passage)) ≡ Accepted)
-        (sym (f ∙ reached-accepted (l .verdict) noSending (o .shared) (unitAt o (l .place)) call v))
+        rw (f ∙ reached-accepted _ _ (o .shared) _ _ v)
         (judged p out _ (passed .0) (down-fits _ (not-false _ (refuse-accepted _ _ _ (passed .1) .0)) (s .mac) (s .clock)))
 
     pub olt-send-done : (x : Outcome Sending) → x ≡ sendDecided l → (n : Work) (octets : List ℕ)
@@ -101,21 +86,9 @@ module _ (o : Olt) (llid channel : ℕ) (p out : List ℕ) where
         ≡ oltSendOf o llid channel p out
     unfolding oltSendOf oltSent sendingOlt
     olt-send-done x f n octets k =
-        let carried = subst (λ (y : Outcome Sending).
-        carriedAfter (y .verdict) channel (y .handed .passage) p out
-        ≡ withOutput (passedWork (y .handed .passage) p) (outputAfter (y .verdict) (passed channel (y .handed .passage) p) out))
-        (sym f) (reached-carried (l .verdict) (o .shared) (unitAt o (l .place)) _ channel p out) in
-        ap (λ (y : WithOutput Work). withOutput {R = OltSent}
-        (record {
-          number = verdictNumber (x .verdict);
-          olt = withUnit o (l .place) (x .channels) (x .unit);
-          header = x .handed .header;
-          count = y .answer .count;
-          runs = y .answer .runs;
-        })
-        (y .output)) (k ∙ carried)
-        ∙ ap (λ (r : Reply Olt Sending). oltSent r channel p out)
-        (lift-decided o noSending (sendAhead (misfit p out) channel) llid (sendUnit llid channel (eqsOf p)) l x e f)
+        let w = k ∙ reached-carried (λ (s : Sending). s .passage) noSending refl _ _ _ _ x f channel p out in
+        let lifted = lift-decided o noSending (sendAhead (misfit p out) channel) llid (sendUnit llid channel (eqsOf p)) l x e f in
+        rw (← lifted, ap (λ y. y .answer) w, ap (λ y. y .output) w)
 
   -- a valid OLT stays valid
   pub olt-send-valid : validOlt o ≡ true → validOlt (oltSendOf o llid channel p out .answer .olt) ≡ true
@@ -148,8 +121,5 @@ module _ (o : Onu) (llid channel : ℕ) (p out : List ℕ) where
       ≡ onuSendOf o llid channel p out
   unfolding onuSendOf onuSent sendingOnu onuReply
   onu-send-done n octets e =
-      let d = onuSendDecided in
-      ap
-      (λ (x : WithOutput Work). withOutput {R = OnuSent}
-      (record { number = verdictNumber (d .verdict); onu = d .end; header = d .handed .header; count = x .answer .count; runs = x .answer .runs }) (x .output))
-      (e ∙ reply-carried (λ (s : Sending). s .passage) _ o _ noSending _ channel p out refl)
+      let w = e ∙ reply-carried (λ (s : Sending). s .passage) _ o _ noSending _ channel p out refl in
+      rw (ap (λ y. y .answer) w, ap (λ y. y .output) w)

@@ -1,25 +1,27 @@
 -- An advance of all ends keeps what holds of the OLT and of each unit, registered or not. Assumes nothing.
 use mathlib.Core.Path.{_≡_, refl, sym, _∙_, ap}
-use mathlib.Core.Logic.{inl, inr, ⊎-elim}
+use mathlib.Core.Logic.{_⊎_, inl, inr, ⊎-elim}
 use mathlib.Core.Bool.{Bool, true, false}
-use mathlib.Core.List.{List}
+use mathlib.Core.List.{List, List·Memᴰ, map}
 use Prim.Native.Nat.{ℕ, _+_, _-_, _*_, _/_, _%_, _<_, _≤_}
 use native.Mathlib.Nat.{add-assoc, mod-add-mod, div-add-mod', div-mul-le-self, mul-add-div-right, div-eq-of-lt, le-div-iff-mul-le}
 use native.Mathlib.Omega.{arith}
 use lib.Dec.{leb, ltb}
-use lib.ListN.{length, length-map}
+use lib.ListN.{length, getD, length-map}
 use borrow.Author.Tests.{leb-true, leb-false, lt-ltb, eqb-true, eqb-false, ne-eqb}
 use Rattle.octets.specs.Choice.{pick}
-use Rattle.octets.proofs.Choice.{pick-true, pick-false}
+use Rattle.octets.proofs.Choice.{pick-holds}
 use Rattle.octets.proofs.Maps.{length-first, getD-first, map-at}
-use Rattle.clock.specs.Ticks.{maxTick, localTurn, advanced, localAdvanced}
+use Rattle.clock.specs.Ticks.{maxTick, localTurn, localAdvanced}
 use Rattle.clock.specs.Stamping.{movedBy}
 use Rattle.clock.proofs.Aligned.{aligned-moved}
 use Rattle.ends.specs.Flags.{isUp}
 use Rattle.protocol.specs.Replies.{Silence, silent, Reply, advanceVerdict}
 use Rattle.ends.specs.Identities.{noIdentity}
+use Rattle.ends.specs.Limits.{maxChanges}
 use Rattle.ends.specs.Records.{withKeys, withTimer, newOnu}
 use Rattle.ends.specs.Timers.{timerAdvanced}
+use Rattle.ends.specs.Travels.{travelOf}
 use Rattle.protocol.specs.UnitCalls.{unitAdvanced}
 use Rattle.ends.specs.Table.{pastUnit, unitAt}
 use Rattle.ends.specs.Validity.{validOnu}
@@ -41,9 +43,10 @@ use Rattle.protocol.proofs.OnuCalls.{onu-accepted, onu-accepts, advance-onu-ref
 use Rattle.protocol.proofs.OltAdvance.{olt-advanced-valid, advancing-accepted, advancing-accepts}
 use Rattle.protocol.proofs.OnuAdvance.{onu-advanced-valid, travel-advanced}
 use Rattle.unicast.specs.Setting.{Delays, Setting}
-use Rattle.unicast.specs.History.{Answered, Entry, Keys, Lane, due}
+use Rattle.unicast.specs.History.{Envelope, Answered, Entry, Keys, Lane, due}
 use Rattle.unicast.specs.Events.{advance}
 use Rattle.unicast.specs.Run.{State, laneAt, onuAt, advancing, step}
+use Rattle.unicast.proofs.Cases.{below-or-not}
 use Rattle.unicast.proofs.Invariant.{flagOf, Timing, Clocks, Answers, Idle, Joined, Common, Standing, LaneRight, AtTick, Invariant}
 use Rattle.unicast.proofs.Pace.{order-later, asked-later}
 
@@ -58,18 +61,16 @@ quotient-sum i x n some =
 
 -- s multiples were reached at the last switch, x ticks have passed since the registration, and n more pass
 flag-advanced : (i s x n : ℕ) → 0 < i → s ≤ x / i → pick (leb i (x % i + n)) 1 (flagOf (ltb s (x / i))) ≡ flagOf (ltb s ((x + n) / i))
-flag-advanced i s x n some h = by-reached (leb i (x % i + n)) refl where
-  sum : (x + n) / i ≡ x / i + (x % i + n) / i
-  sum = quotient-sum i x n some
-
-  by-reached : (t : Bool) → leb i (x % i + n) ≡ t → pick t 1 (flagOf (ltb s (x / i))) ≡ flagOf (ltb s ((x + n) / i))
-  by-reached true e =
-      let more : 1 ≤ (x % i + n) / i = le-div-iff-mul-le some .1 (omega (arith, leb-true i (x % i + n) e)) in
-      pick-true 1 (flagOf (ltb s (x / i))) refl ∙ ap flagOf (sym (lt-ltb s ((x + n) / i) (omega (arith, sum))))
-  by-reached false e =
-      let none : (x % i + n) / i ≡ 0 = div-eq-of-lt (leb-false i (x % i + n) e) in
-      let same : (x + n) / i ≡ x / i = omega (arith, sum) in
-      pick-false 1 (flagOf (ltb s (x / i))) refl ∙ ap (λ (y : ℕ). flagOf (ltb s y)) (sym same)
+flag-advanced i s x n some h =
+    let sum = quotient-sum i x n some in
+    pick-holds (λ (y : ℕ). y ≡ flagOf (ltb s ((x + n) / i))) (leb i (x % i + n)) 1 (flagOf (ltb s (x / i)))
+    (λ e.
+    let more : 1 ≤ (x % i + n) / i = le-div-iff-mul-le some .1 (omega (arith, leb-true i (x % i + n) e)) in
+    ap flagOf (sym (lt-ltb s ((x + n) / i) (omega (arith, sum)))))
+    (λ e.
+    let none : (x % i + n) / i ≡ 0 = div-eq-of-lt (leb-false i (x % i + n) e) in
+    let same : (x + n) / i ≡ x / i = omega (arith, sum) in
+    ap (λ (y : ℕ). flagOf (ltb s y)) (sym same))
 
 pub timing-advanced : (r : Entry) (k : Keys) (now n : ℕ) (t : Timer) → Timing r k now t → Timing r k (now + n) (timerAdvanced t n)
 unfolding timerAdvanced due
@@ -91,48 +92,33 @@ timing-advanced r k now n t g =
 ---- a unit's clocks
 
 pub synced-advanced : (c : OnuClock) (n : ℕ) → onuClockAdvanced c n .synced ≡ c .synced
-unfolding onuClockAdvanced pick
-synced-advanced c n = by-synced (isUp (c .synced)) where
-  moved : Bool → OnuClock
-  moved t =
-      pick t (record { synced = c .synced; time = advanced (c .time) n; rx = advanced (c .rx) n })
-      (record { synced = c .synced; time = localAdvanced (c .time) n; rx = c .rx })
-
-  by-synced : (t : Bool) → moved t .synced ≡ c .synced
-  by-synced true = refl
-  by-synced false = refl
+unfolding onuClockAdvanced
+synced-advanced c n = pick-holds (λ (x : OnuClock). x .synced ≡ c .synced) (isUp (c .synced)) _ _ (λ e. refl) (λ e. refl)
 
 clocks-advanced : (first now n : ℕ) (s : Delays) (captured : ℕ) (c : UnitClock) (o : OnuClock) → Clocks first now s captured c o
     → Clocks first (now + n) s captured c (onuClockAdvanced o n)
-unfolding onuClockAdvanced pick movedBy
-clocks-advanced first now n s captured c o k = by-synced (isUp (o .synced)) refl where
-  capture : c .captured ≡ 1 → (c .tick ≡ captured) × (captured ≤ now + n)
-  capture e = let p = k .capture e in (p .0, omega (arith, p .1))
-
-  moved : Bool → OnuClock
-  moved t =
-      pick t (record { synced = o .synced; time = advanced (o .time) n; rx = advanced (o .rx) n })
-      (record { synced = o .synced; time = localAdvanced (o .time) n; rx = o .rx })
-
-  by-synced : (t : Bool) → isUp (o .synced) ≡ t → Clocks first (now + n) s captured c (moved t)
-  by-synced true e =
-      record {
-        trip = k .trip;
-        capture = capture;
-        flag = k .flag;
-        unsynced = λ z. absurd (omega (arith, eqb-true (o .synced) 1 e));
-        synced = λ z. rw (← add-assoc first now n) (aligned-moved (first + now) (s .up) (s .down) (record { rx = o .rx; tx = o .time }) n (k .synced z));
-        acknowledged = k .acknowledged;
-      }
-  by-synced false e =
-      record {
-        trip = k .trip;
-        capture = capture;
-        flag = k .flag;
-        unsynced = λ z. omega (arith, k .unsynced z);
-        synced = λ z. absurd (eqb-false (o .synced) 1 e z);
-        acknowledged = k .acknowledged;
-      }
+unfolding onuClockAdvanced movedBy
+clocks-advanced first now n s captured c o k =
+    let capture : c .captured ≡ 1 → (c .tick ≡ captured) × (captured ≤ now + n) = λ e. let p = k .capture e in (p .0, omega (arith, p .1)) in
+    pick-holds (Clocks first (now + n) s captured c) (isUp (o .synced)) _ _
+    (λ e.
+    record {
+      trip = k .trip;
+      capture = capture;
+      flag = k .flag;
+      unsynced = λ z. absurd (omega (arith, eqb-true (o .synced) 1 e));
+      synced = λ z. rw (← add-assoc first now n) (aligned-moved (first + now) (s .up) (s .down) (record { rx = o .rx; tx = o .time }) n (k .synced z));
+      acknowledged = k .acknowledged;
+    })
+    (λ e.
+    record {
+      trip = k .trip;
+      capture = capture;
+      flag = k .flag;
+      unsynced = λ z. omega (arith, k .unsynced z);
+      synced = λ z. absurd (eqb-false (o .synced) 1 e z);
+      acknowledged = k .acknowledged;
+    })
 
 answers-advanced : (now n : ℕ) (k : OnuKeys) (o : OnuClock) (answered : List Answered) → Answers now k o answered
     → Answers (now + n) k (onuClockAdvanced o n) answered
@@ -146,71 +132,22 @@ answers-advanced now n k o answered a =
 
 pub at-tick-advanced : (w : Setting) (now n : ℕ) (sh : Shared) → AtTick w now sh → AtTick w (now + n) (sharedAdvanced sh n)
 unfolding sharedAdvanced
-at-tick-advanced w now n sh t = record {
-  mac = t .mac;
-  tick = ap (λ (x : ℕ). x + n) (t .tick);
-  clock = omega (arith, t .clock);
-  free = λ k. let was =
-      t .free k in omega (arith, was);
-}
+at-tick-advanced w now n sh t =
+    record { mac = t .mac; tick = ap (λ (x : ℕ). x + n) (t .tick); clock = omega (arith, t .clock); free = λ k. omega (arith, t .free k) }
 
 pub advance-keeps : (w : Setting) (sh : Shared) (now n : ℕ) (l : Lane) (u : UnitRecord) (o : Onu) → Joined w sh now l u o
     → Joined w (sharedAdvanced sh n) (now + n) l (unitAdvanced n u) (onuAdvanced o n)
 unfolding sharedAdvanced unitAdvanced withKeys withTimer onuAdvanced
 advance-keeps w sh now n l u o j =
-    let s = j .spending in
-    record {
-      mac = j .mac;
-      llids = j .llids;
-      oltmac = j .oltmac;
-      firsts = j .firsts;
-      freed = j .freed;
-      heard = j .heard;
-      told = j .told;
-      gone = λ e m. let was = j .gone e m in omega (arith, was);
-      near = j .near;
-      ups = j .ups;
-      asked = asked-later now n (u .clock .sent) (l .transit) (j .asked);
-      order = order-later now n (l .transit) (j .order);
-      numbers = j .numbers;
-      stored = j .stored;
-      timing = timing-advanced (l .entry) (l .keys) now n (u .keys .timer) (j .timing);
-      clocks = clocks-advanced (w .first) now n (l .path) (l .captured) (u .clock) (o .clock) (j .clocks);
-      answers = answers-advanced now n (o .keys) (o .clock) (l .transit .answered) (j .answers);
-      underWay =
-          record {
-            sealed = λ e m p. synced-advanced (o .clock) n ∙ j .underWay .sealed e m p;
-            present = j .underWay .present;
-          };
-      towards = j .towards;
-      from = j .from;
-      spending = record { downs = s .downs; ups = s .ups; spaced = s .spaced };
-      passing = j .passing;
-    }
+    let gone : (e : Envelope) → List·Memᴰ e (l .past .sent) → e .left ≤ now + n = λ e m. let was = j .gone e m in omega (arith, was) in
+    search (asked-later, order-later, timing-advanced, clocks-advanced, answers-advanced, synced-advanced)
 
 pub idle-advance-keeps : (now n : ℕ) (l : Lane) (o : Onu) → Idle now l o → Idle (now + n) l (onuAdvanced o n)
 unfolding onuAdvanced onuClockAdvanced pick
 idle-advance-keeps now n l o i =
     let later : localAdvanced (o .clock .time) n ≡ (l .site .time + (now + n)) % localTurn = omega (arith, i .time) in
-    record {
-      unsynced = synced-advanced (o .clock) n ∙ i .unsynced;
-      time = rw (i .unsynced) later;
-      active = i .active;
-      held = i .held;
-      offers = i .offers;
-      acknowledged = i .acknowledged;
-      switches = i .switches;
-      number = i .number;
-      towards = i .towards;
-      from = i .from;
-      answered = i .answered;
-      sent = i .sent;
-      arrived = i .arrived;
-      noted = i .noted;
-      spent = i .spent;
-      bar = i .bar;
-      channels = i .channels;
-    }
+    let time : onuClockAdvanced (o .clock) n .time ≡ (l .site .time + (now + n)) % localTurn = rw (i .unsynced) later in
+    search (synced-advanced (o .clock) n ∙ i .unsynced)
 
 ---- the calls
 
@@ -218,20 +155,12 @@ pub common-advance-keeps : (w : Setting) (now n : ℕ) (l : Lane) (o : Onu) → 
     → Common w (now + n) l (onuAdvanced o n)
 unfolding onuAdvanced
 common-advance-keeps w now n l o h c =
-    record {
-      valid = onu-advanced-valid o n (omega (arith, c .tick)) (c .valid);
-      tick = ap (λ (x : ℕ). x + n) (c .tick);
-      mac = c .mac;
-      llids = c .llids;
-      oltmac = c .oltmac;
-      travel = omega (arith, c .travel, travel-advanced o n);
-      first =
-          record {
-            begun = λ one.
-                ⊎-elim (λ was. inl (omega (arith, was, travel-advanced o n))) (λ below. inr below) (c .first .begun one);
-            ended = c .first .ended;
-          };
-    }
+    let moved = travel-advanced o n in
+    let valid = onu-advanced-valid o n (omega (arith, c .tick)) (c .valid) in
+    let travel : travelOf (onuAdvanced o n) + l .site .up ≡ now + n + l .path .up + maxChanges = omega (arith, c .travel) in
+    let begun : o .first .noted ≡ 1 → (o .first .at ≤ travelOf (onuAdvanced o n)) ⊎ (o .first .at < o .travel .bar) =
+    λ one. ⊎-elim (λ was. inl (omega (arith, was, moved))) (λ below. inr below) (c .first .begun one) in
+    search (ap (λ (x : ℕ). x + n) (c .tick))
 
 -- as long as the tick is in range a valid ONU advances
 pub onu-advances : (o : Onu) (n : ℕ) → validOnu o ≡ true → o .tick + n ≤ maxTick → advanceOnuOf o n .onu ≡ onuAdvanced o n
@@ -300,25 +229,17 @@ stayed-right w s n h i =
     let refused : advanceOltOf (s .olt) n .number ≡ 0 → ⊥ =
     λ e. omega (arith, advancing-accepted (s .olt) n (number-accepted _ e) .1) in
     let moved : Onu → Onu = λ o. advanceOnuOf o n .onu in
-    rw (ne-eqb (advanceOltOf (s .olt) n .number) 0 refused, advance-olt-refused (s .olt) n refused)
-    (record {
-      valid = i .valid;
-      places = i .places;
-      count = i .count;
-      shared = i .shared;
-      paired = length-map (s .onus) moved ∙ i .paired;
-      lane = λ u k.
-          rw (
-            map-at moved (s .onus) u (newOnu noIdentity 0 0) (newOnu noIdentity 0 0) (omega (arith, k, i .paired)),
-            onu-stays (onuAt s u) n (omega (arith, h, i .shared .tick, i .lane u k .common .tick)),
-          ) (i .lane u k);
-      apart = i .apart;
-      keys = i .keys;
-    })
+    let paired = length-map (s .onus) moved ∙ i .paired in
+    let lane : (u : ℕ) → u < length (s .history .lanes)
+    → LaneRight w (s .olt) (s .history .now) (laneAt s u) (getD (map moved (s .onus)) u (newOnu noIdentity 0 0)) =
+    λ u k.
+    rw (
+      map-at moved (s .onus) u (newOnu noIdentity 0 0) (newOnu noIdentity 0 0) (omega (arith, k, i .paired)),
+      onu-stays (onuAt s u) n (omega (arith, h, i .shared .tick, i .lane u k .common .tick)),
+    ) (i .lane u k) in
+    rw (ne-eqb (advanceOltOf (s .olt) n .number) 0 refused, advance-olt-refused (s .olt) n refused) (search)
 
 pub advance-right : (w : Setting) (s : State) (n : ℕ) → Invariant w s → Invariant w (step s (advance n))
 unfolding step
-advance-right w s n i = by-range (leb (s .olt .shared .tick + n) maxTick) refl where
-  by-range : (t : Bool) → leb (s .olt .shared .tick + n) maxTick ≡ t → Invariant w (advancing s n)
-  by-range true e = advanced-right w s n (leb-true _ _ e) i
-  by-range false e = stayed-right w s n (leb-false _ _ e) i
+advance-right w s n i =
+    below-or-not maxTick (s .olt .shared .tick + n) (λ above. stayed-right w s n above i) (λ within. advanced-right w s n within i)

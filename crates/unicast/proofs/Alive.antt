@@ -4,10 +4,8 @@ use mathlib.Core.Bool.{Bool, true, false}
 use mathlib.Core.List.{List, [], List·Memᴰ, List·Memᴰ·not-nil}
 use Prim.Native.Nat.{ℕ, _<_}
 use native.Mathlib.Omega.{arith}
-use lib.Dec.{ltb}
-use lib.ListN.{length, List·getD-eq-default}
-use borrow.Author.Tests.{ltb-true, ltb-false}
-use Rattle.octets.proofs.Choice.{true-false}
+use lib.ListN.{length}
+use Rattle.octets.proofs.Choice.{pick-holds}
 use Rattle.ends.specs.Identities.{has}
 use Rattle.ends.specs.Table.{find, unitAt}
 use Rattle.ends.specs.declared.Found.the-variants.{At}
@@ -15,7 +13,7 @@ use Rattle.unicast.specs.Setting.{Setting}
 use Rattle.unicast.specs.History.{Envelope, Arrival, Lane}
 use Rattle.unicast.specs.Run.{State, noSite, freshLane, laneAt, onuAt}
 use Rattle.unicast.proofs.Invariant.{Idle, Joined, Common, Standing, Invariant}
-use Rattle.unicast.proofs.Places.{held-found, at-once}
+use Rattle.unicast.proofs.Places.{Held, held-found, at-once, known-lane, registered-known}
 
 -- a registered unit, and that its ends are in step
 pub record Alive (w : Setting) (s : State) (u : ℕ) : Type 0 where
@@ -25,13 +23,9 @@ pub record Alive (w : Setting) (s : State) (u : ℕ) : Type 0 where
   pub used : laneAt s u .entry .place < s .olt .count
   pub joined : Joined w (s .olt .shared) (s .history .now) (laneAt s u) (unitAt (s .olt) (laneAt s u .entry .place)) (onuAt s u)
 
--- past the end stands a lane to which nothing has happened
-known-lane : (s : State) (u : ℕ) → (laneAt s u ≡ freshLane noSite → ⊥) → u < length (s .history .lanes)
-known-lane s u n = by-length (ltb u (length (s .history .lanes))) refl where
-  by-length : (t : Bool) → ltb u (length (s .history .lanes)) ≡ t → u < length (s .history .lanes)
-  by-length true e = ltb-true u (length (s .history .lanes)) e
-  by-length false e =
-      absurd (n (List·getD-eq-default (s .history .lanes) (freshLane noSite) (ltb-false u (length (s .history .lanes)) e)))
+-- it is the lane of its place
+pub alive-held : (w : Setting) (s : State) (u : ℕ) → Alive w s u → Held s (laneAt s u .entry .place) u
+alive-held w s u a = record { known = a .known; registered = a .registered; place = refl }
 
 module _ (w : Setting) (s : State) (u : ℕ) (v : Invariant w s) where
   known-alive : u < length (s .history .lanes) → laneAt s u .entry .registered ≡ true → Alive w s u
@@ -41,20 +35,15 @@ module _ (w : Setting) (s : State) (u : ℕ) (v : Invariant w s) where
       record { known = known; registered = b; common = right .common; used = stands .0; joined = stands .1 }
 
   pub registered-alive : laneAt s u .entry .registered ≡ true → Alive w s u
-  unfolding freshLane
-  registered-alive b = known-alive (known-lane s u (λ e. true-false (sym b ∙ ap (λ (l : Lane). l .entry .registered) e))) b
+  registered-alive b = known-alive (registered-known (s .history .lanes) u b) b
 
   -- a part of the lane that is empty before the registration
   busy-alive : {A : Type 0} (part : Lane → List A) → part (freshLane noSite) ≡ []
       → (Idle (s .history .now) (laneAt s u) (onuAt s u) → part (laneAt s u) ≡ []) → (part (laneAt s u) ≡ [] → ⊥) → Alive w s u
-  busy-alive part fresh idle n = by-registered (laneAt s u .entry .registered) refl where
-    known : u < length (s .history .lanes)
-    known = known-lane s u (λ e. n (ap part e ∙ fresh))
-
-    by-registered : (t : Bool) → laneAt s u .entry .registered ≡ t → Alive w s u
-    by-registered true b = known-alive known b
-    by-registered false b =
-        absurd (n (idle (subst (λ (t : Bool). Standing t w (s .olt) (s .history .now) (laneAt s u) (onuAt s u)) b (v .lane u known .standing))))
+  busy-alive part fresh idle n =
+      let known = known-lane (s .history .lanes) u (λ e. n (ap part e ∙ fresh)) in
+      pick-holds (λ (t : Bool). Alive w s u) (laneAt s u .entry .registered) true false (known-alive known)
+      (λ b. absurd (n (idle (subst (λ (t : Bool). Standing t w (s .olt) (s .history .now) (laneAt s u) (onuAt s u)) b (v .lane u known .standing)))))
 
   pub towards-alive : (k : ℕ) → k < length (laneAt s u .transit .towards) → Alive w s u
   unfolding freshLane
@@ -86,4 +75,4 @@ pub llid-apart : (w : Setting) (s : State) (u x llid : ℕ) → Invariant w s �
 llid-apart w s u x llid v a b e f =
     v .apart u x (a .known) (b .known) (a .registered) (b .registered) (at-once _ _ (sym (found u a e) ∙ found x b f)) where
       found : (y : ℕ) → Alive w s y → has (laneAt s y .site .identity) llid ≡ true → find (s .olt) llid ≡ At (laneAt s y .entry .place)
-      found y c h = held-found w s (laneAt s y .entry .place) y llid v (record { known = c .known; registered = c .registered; place = refl }) h
+      found y c h = held-found w s (laneAt s y .entry .place) y llid v (alive-held w s y c) h

@@ -24,8 +24,7 @@ use Rattle.protocol.proofs.UnitCalls.{key-acknowledged-accepted, key-kind, cloc
 use Rattle.unicast.specs.Setting.{Setting}
 use Rattle.unicast.specs.History.{Answered, Lane, due, laneWith, laneAcknowledged}
 use Rattle.unicast.proofs.Invariant.{reachOf, Joined, AtTick}
-use Rattle.unicast.proofs.Queues.{Knows, towards-moved, from-moved}
-use Rattle.unicast.proofs.Past.{passing-moved, sent-most}
+use Rattle.unicast.proofs.Past.{moved-keeps}
 
 ---- the mark of the last offer
 
@@ -60,57 +59,7 @@ module _ (w : Setting) (sh : Shared) (now : ℕ) (l : Lane) (u : UnitRecord) (o 
   marked-keeps : Joined w sh now l u o → u .keys .offered ≤ reachOf (o .keys)
       → Joined w sh now (markedLane l true) (withConfirmation u (record { confirmed = u .confirmation .confirmed; acknowledged = 1 })) o
   unfolding laneWith withConfirmation due markedLane
-  marked-keeps j held =
-      let n = j .numbers in
-      let after = markedLane l true in
-      let knows : Knows l after (u .keys .offered) = record { site = refl; sent = λ e m. m; keys = λ m p q. refl } in
-      record {
-        mac = j .mac;
-        llids = j .llids;
-        oltmac = j .oltmac;
-        firsts = j .firsts;
-        freed = j .freed;
-        heard = j .heard;
-        told = j .told;
-        gone = j .gone;
-        near = j .near;
-        ups = j .ups;
-        asked = j .asked;
-        order = j .order;
-        numbers =
-            record {
-              counted = n .counted;
-              listed = n .listed;
-              last = n .last;
-              marked = refl;
-              flag = n .flag;
-              low = n .low;
-              mid = n .mid;
-              high = n .high;
-              top = n .top;
-              next = n .next;
-              taken = λ e. held;
-            };
-        stored = record { olt = j .stored .olt; onu = j .stored .onu };
-        timing =
-            record {
-              interval = j .timing .interval;
-              some = j .timing .some;
-              since = j .timing .since;
-              switched = j .timing .switched;
-              count = j .timing .count;
-              flag = j .timing .flag;
-            };
-        clocks = j .clocks;
-        answers = j .answers;
-        underWay = j .underWay;
-        towards = towards-moved (w .first) (l .path) l after (o .keys .active) (u .keys .active) (u .keys .offered) (l .transit .towards) knows (j .towards);
-        from = from-moved l after (u .keys .offered) (u .confirmation .confirmed) (o .keys .active) (l .transit .from) knows (j .from);
-        spending = record { downs = j .spending .downs; ups = j .spending .ups; spaced = j .spending .spaced };
-        passing =
-            passing-moved w l after (u .keys .offered) knows (u .confirmation .confirmed) (o .keys .active) refl
-            (λ e m. omega (arith, sent-most l (sh .channels) u o (j .spending) (n .mid) e m)) (j .passing);
-      }
+  marked-keeps j held = let moved = moved-keeps w sh now l (markedLane l true) u o j (search) refl in search
 
   pub key-answer-keeps : (a : Acknowledgement) (x : Answered) → AtTick w now sh → Joined w sh now l u o → a .kind ≡ keyKind
       → List·Memᴰ x (l .transit .answered) → x .acknowledgement ≡ a → acknowledgeUnit a sh u .verdict ≡ Accepted
@@ -124,40 +73,7 @@ module _ (w : Setting) (sh : Shared) (now : ℕ) (l : Lane) (u : UnitRecord) (o 
   -- the unit of an accepted clock acknowledgement is synced
   clock-marked-keeps : Joined w sh now l u o → o .clock .synced ≡ 1 → Joined w sh now l (clockAcknowledgedUnit sh u .unit) o
   unfolding clockAcknowledgedUnit outcome withClock
-  clock-marked-keeps j synced =
-      let c = j .clocks in
-      record {
-        mac = j .mac;
-        llids = j .llids;
-        oltmac = j .oltmac;
-        firsts = j .firsts;
-        freed = j .freed;
-        heard = j .heard;
-        told = j .told;
-        gone = j .gone;
-        near = j .near;
-        ups = j .ups;
-        asked = j .asked;
-        order = j .order;
-        numbers = j .numbers;
-        stored = j .stored;
-        timing = j .timing;
-        clocks =
-            record {
-              trip = c .trip;
-              capture = c .capture;
-              flag = c .flag;
-              unsynced = c .unsynced;
-              synced = c .synced;
-              acknowledged = λ e. synced;
-            };
-        answers = j .answers;
-        underWay = j .underWay;
-        towards = j .towards;
-        from = j .from;
-        spending = record { downs = j .spending .downs; ups = j .spending .ups; spaced = j .spending .spaced };
-        passing = j .passing;
-      }
+  clock-marked-keeps j synced = search
 
   pub clock-answer-keeps : (a : Acknowledgement) (x : Answered) → AtTick w now sh → Joined w sh now l u o → a .kind ≡ clockKind
       → List·Memᴰ x (l .transit .answered) → x .acknowledgement ≡ a → acknowledgeUnit a sh u .verdict ≡ Accepted

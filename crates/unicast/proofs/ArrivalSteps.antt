@@ -4,7 +4,7 @@ use mathlib.Core.Bool.{Bool, true, false}
 use mathlib.Core.List.{List}
 use Prim.Native.Nat.{ℕ}
 use native.Mathlib.Omega.{arith}
-use lib.ListN.{length, set}
+use lib.ListN.{set}
 use Rattle.ends.specs.Records.{withChannels}
 use Rattle.protocol.specs.Replies.{Reply}
 use Rattle.ends.specs.Table.{unitAt, withUnit}
@@ -20,14 +20,15 @@ use Rattle.protocol.proofs.OltTraffic.{receiveAhead, receiving-valid, receiving
 use Rattle.traffic.specs.Passages.{misfit}
 use Rattle.traffic.specs.Receipts.{oltReceived, oltReceiveOf}
 use Rattle.unicast.specs.Setting.{Setting}
-use Rattle.unicast.specs.History.{Envelope, Lane, laneWith, laneArrivedUp}
+use Rattle.unicast.specs.History.{Envelope, laneWith, laneArrivedUp}
 use Rattle.unicast.specs.Events.{arriveUp}
 use Rattle.unicast.specs.Run.{State, laneAt, onuAt, envelopeAt, freshLane, noEnvelope, atOltFor, receiptUp, arrivingUp, step}
 use Rattle.unicast.specs.Premises.{Fits}
 use Rattle.unicast.proofs.Invariant.{Joined, Invariant}
 use Rattle.unicast.proofs.Envelopes.{arrivalOf}
 use Rattle.unicast.proofs.ReceiptUpSteps.{arrive-up, arrive-up-named, arrive-up-receives, receipt-up-is}
-use Rattle.unicast.proofs.Places.{Held, joined-at, held-found, busy-held, at-once}
+use Rattle.unicast.proofs.Places.{Held, joined-at, held-found, at-once}
+use Rattle.unicast.proofs.Alive.{alive-held, from-alive}
 use Rattle.unicast.proofs.LiftSteps.{replaced-right, told-for}
 
 -- the accepted receipt of the envelope, as the unit's record takes it
@@ -63,14 +64,14 @@ arrive-up-right w s u k out i d =
     let now = s .history .now in
     let e = envelopeAt s u k in
     let place = laneAt s u .entry .place in
-    let held = busy-held w s (λ (l : Lane). length (l .transit .from)) u k i refl (λ o h. ap length (h .from)) (d .some) in
-    let j = joined-at w s place u i held .1 in
+    let alive = from-alive w s u i k (d .some) in
+    let j = alive .joined in
     let x = arrive-up-named w sh now (laneAt s u) (unitAt (s .olt) place) (onuAt s u) (i .shared) j k noEnvelope e (d .some) refl (d .now) in
-    let found = held-found w s place u (e .header .llid) i held (sym (j .llids (e .header .llid)) ∙ x .has) in
+    let found = held-found w s place u (e .header .llid) i (alive-held w s u alive) (sym (j .llids (e .header .llid)) ∙ x .has) in
     let l =
     receiving-accepts (s .olt) (e .header) place (i .valid) (x .upstream) (x .header) found
     (arrive-up-receives w sh now (laneAt s u) (unitAt (s .olt) place) (onuAt s u) (i .shared) j k noEnvelope e (d .some) refl (d .now)) in
-    let own : Held s (l .at) u = record { known = held .known; registered = held .registered; place = at-once _ _ (sym found ∙ l .found) } in
+    let own : Held s (l .at) u = record { known = alive .known; registered = alive .registered; place = at-once _ _ (sym found ∙ l .found) } in
     arrived-right w s u k out e i (x .fits out (d .buffer)) l own
     (arrive-up w sh now (laneAt s u) (unitAt (s .olt) (l .at)) (onuAt s u) (i .shared) (joined-at w s (l .at) u i own .1) k noEnvelope e
     (d .some) refl (d .now))

@@ -1,13 +1,12 @@
 -- The claim follows from the invariant. Assumes nothing.
 use mathlib.Core.Path.{_≡_, refl, sym, _∙_, ap, subst}
-use mathlib.Core.Bool.{Bool, true, false}
+use mathlib.Core.Bool.{true}
 use mathlib.Core.List.{List·Memᴰ}
 use Prim.Native.Nat.{ℕ, _+_, _-_, _%_, _<_, _≤_, _^_}
 use native.Mathlib.Nat.{mod-lt}
 use native.Mathlib.Omega.{arith}
-use lib.Dec.{ltb}
 use lib.ListN.{length, getD}
-use borrow.Author.Tests.{ltb-true, ltb-false}
+use borrow.Author.Tests.{ltb-true}
 use Rattle.octets.proofs.Choice.{both-left}
 use Rattle.octets.proofs.Members.{mem-at}
 use Rattle.clock.specs.Ticks.{clockTurn}
@@ -24,6 +23,7 @@ use Rattle.unicast.specs.Setting.{Site, Setting}
 use Rattle.unicast.specs.History.{Direction, downward, upward, Envelope, Lane}
 use Rattle.unicast.specs.Run.{State, laneAt, onuAt, sentAt, noEnvelope}
 use Rattle.unicast.specs.Claim.{senderMac, senderClock, nonceFor, indexTurn, BlocksApart, LastKeyHeld, Claim}
+use Rattle.unicast.proofs.Cases.{below-or-not}
 use Rattle.unicast.proofs.Invariant.{countUp, Joined, Common, Invariant}
 use Rattle.unicast.proofs.Alive.{Alive, sent-alive, arrived-alive}
 use Rattle.unicast.proofs.Past.{sent-most}
@@ -52,75 +52,58 @@ sender-clock-below : (w : Setting) (up : ℕ) (x : Direction) (tick : ℕ) → s
 sender-clock-below w up downward tick = mod-lt (w .first + tick) (omega arith)
 sender-clock-below w up upward tick = mod-lt (w .first + tick + up) (omega arith)
 
--- of two sends of a unit or to it under one key, the later has another channel index or clock
-later-differs : (w : Setting) (sh : Shared) (now : ℕ) (l : Lane) (u : UnitRecord) (o : Onu) → Joined w sh now l u o → (i j : ℕ) → i < j
-    → j < length (l .past .sent) → 1 ≤ getD (l .past .sent) i noEnvelope .number
-    → getD (l .past .sent) i noEnvelope .number ≡ getD (l .past .sent) j noEnvelope .number
-    → getD (l .past .sent) i noEnvelope .channel ≡ getD (l .past .sent) j noEnvelope .channel
-    → senderClock w (getD (l .past .sent) i noEnvelope .up) (getD (l .past .sent) i noEnvelope .direction) (getD (l .past .sent) i noEnvelope .left)
-    ≡ senderClock w (getD (l .past .sent) j noEnvelope .up) (getD (l .past .sent) j noEnvelope .direction) (getD (l .past .sent) j noEnvelope .left)
-    → ⊥
-later-differs w sh now l u o jn i j before below sealed number channel clock =
-    by (getD (l .past .sent) i noEnvelope .direction) (getD (l .past .sent) j noEnvelope .direction) refl refl clock where
-      first : Envelope
-      first = getD (l .past .sent) i noEnvelope
+module _ (w : Setting) (sh : Shared) (now : ℕ) (l : Lane) (u : UnitRecord) (o : Onu) (jn : Joined w sh now l u o) where
+  -- the ith that was sent, and its clock
+  abbrev nth : ℕ → Envelope
+  nth i = getD (l .past .sent) i noEnvelope
 
-      second : Envelope
-      second = getD (l .past .sent) j noEnvelope
+  abbrev clockOf : Envelope → ℕ
+  clockOf e = senderClock w (e .up) (e .direction) (e .left)
 
-      at-i : List·Memᴰ first (l .past .sent)
-      at-i = mem-at (l .past .sent) i noEnvelope (omega (arith, before, below))
+  -- of two sends of a unit or to it under one key, the later has another channel index or clock
+  later-differs : (i j : ℕ) → i < j → j < length (l .past .sent) → 1 ≤ nth i .number → nth i .number ≡ nth j .number
+      → nth i .channel ≡ nth j .channel → clockOf (nth i) ≡ clockOf (nth j) → ⊥
+  later-differs i j before below sealed number channel = by (nth i .direction) (nth j .direction) refl refl where
+    at-i : List·Memᴰ (nth i) (l .past .sent)
+    at-i = mem-at (l .past .sent) i noEnvelope (omega (arith, before, below))
 
-      at-j : List·Memᴰ second (l .past .sent)
-      at-j = mem-at (l .past .sent) j noEnvelope below
+    at-j : List·Memᴰ (nth j) (l .past .sent)
+    at-j = mem-at (l .past .sent) j noEnvelope below
 
-      by : (x y : Direction) → first .direction ≡ x → second .direction ≡ y
-          → senderClock w (first .up) x (first .left) ≡ senderClock w (second .up) y (second .left) → ⊥
-      by downward downward p q e =
-          let t = jn .spending .spaced .down i j before below p q sealed number channel in
-          clocks-differ (w .first) (first .left) (first .left) (second .left) (omega arith) (t .0) (t .1) e
-      by upward upward p q e =
-          let t = jn .spending .spaced .up i j before below p q sealed number channel in
-          clocks-differ (w .first) (countUp first) (countUp first) (countUp second) (omega arith) (t .0) (t .1)
-          (ap (λ (x : ℕ). x % clockTurn) (omega arith) ∙ e ∙ ap (λ (x : ℕ). x % clockTurn) (omega arith))
-      by downward upward p q e =
-          let low = downstream-below (first .channel) (jn .spending .downs first at-i p .0) in
-          let high = upstream-between (second .channel) (jn .spending .ups second at-j q .0) in
-          absurd (omega (arith, channel, low, high .0))
-      by upward downward p q e =
-          let high = upstream-between (first .channel) (jn .spending .ups first at-i p .0) in
-          let low = downstream-below (second .channel) (jn .spending .downs second at-j q .0) in
-          absurd (omega (arith, channel, low, high .0))
+    by : (x y : Direction) → nth i .direction ≡ x → nth j .direction ≡ y
+        → senderClock w (nth i .up) x (nth i .left) ≡ senderClock w (nth j .up) y (nth j .left) → ⊥
+    by downward downward p q e =
+        let t = jn .spending .spaced .down i j before below p q sealed number channel in
+        clocks-differ (w .first) (nth i .left) (nth i .left) (nth j .left) (omega arith) (t .0) (t .1) e
+    by upward upward p q e =
+        let t = jn .spending .spaced .up i j before below p q sealed number channel in
+        clocks-differ (w .first) (countUp (nth i)) (countUp (nth i)) (countUp (nth j)) (omega arith) (t .0) (t .1)
+        (ap (λ (x : ℕ). x % clockTurn) (omega arith) ∙ e ∙ ap (λ (x : ℕ). x % clockTurn) (omega arith))
+    by downward upward p q e =
+        let low = downstream-below (nth i .channel) (jn .spending .downs (nth i) at-i p .0) in
+        let high = upstream-between (nth j .channel) (jn .spending .ups (nth j) at-j q .0) in
+        omega (arith, channel, low, high .0)
+    by upward downward p q e =
+        let high = upstream-between (nth i .channel) (jn .spending .ups (nth i) at-i p .0) in
+        let low = downstream-below (nth j .channel) (jn .spending .downs (nth j) at-j q .0) in
+        omega (arith, channel, low, high .0)
 
-one-send : (w : Setting) (sh : Shared) (now : ℕ) (l : Lane) (u : UnitRecord) (o : Onu) → Joined w sh now l u o
-    → w .mac < 2 ^ 48 → l .site .identity .mac < 2 ^ 48 → (i j a b : ℕ) → i < length (l .past .sent)
-    → j < length (l .past .sent) → 1 ≤ getD (l .past .sent) i noEnvelope .number
-    → getD (l .past .sent) i noEnvelope .number ≡ getD (l .past .sent) j noEnvelope .number → a < indexTurn → b < indexTurn
-    → counterBlock (nonceFor w (l .site) (getD (l .past .sent) i noEnvelope)) a
-    ≡ counterBlock (nonceFor w (l .site) (getD (l .past .sent) j noEnvelope)) b
-    → (i ≡ j) × (a ≡ b)
-one-send w sh now l u o jn olt onu i j a b hi hj sealed number ha hb e = (by (ltb i j) (ltb j i) refl refl, fields .3) where
-  first : Envelope
-  first = getD (l .past .sent) i noEnvelope
-
-  second : Envelope
-  second = getD (l .past .sent) j noEnvelope
-
-  fields : (first .channel ≡ second .channel)
-      × (senderMac w (l .site) (first .direction) ≡ senderMac w (l .site) (second .direction))
-      × (senderClock w (first .up) (first .direction) (first .left) ≡ senderClock w (second .up) (second .direction) (second .left))
-      × (a ≡ b)
-  fields =
-      counter-block-injective (nonceFor w (l .site) first) (nonceFor w (l .site) second) a b
-      (sender-mac-below w (l .site) (first .direction) olt onu) (sender-mac-below w (l .site) (second .direction) olt onu)
-      (sender-clock-below w (first .up) (first .direction) (first .left)) (sender-clock-below w (second .up) (second .direction) (second .left)) ha hb e
-
-  by : (x y : Bool) → ltb i j ≡ x → ltb j i ≡ y → i ≡ j
-  by true y p q =
-      absurd (later-differs w sh now l u o jn i j (ltb-true _ _ p) hj sealed number (fields .0) (fields .2))
-  by false true p q =
-      absurd (later-differs w sh now l u o jn j i (ltb-true _ _ q) hi (omega (arith, sealed, number)) (sym number) (sym (fields .0)) (sym (fields .2)))
-  by false false p q = omega (arith, ltb-false i j p, ltb-false j i q)
+  one-send : w .mac < 2 ^ 48 → l .site .identity .mac < 2 ^ 48 → (i j a b : ℕ) → i < length (l .past .sent) → j < length (l .past .sent)
+      → 1 ≤ nth i .number → nth i .number ≡ nth j .number → a < indexTurn → b < indexTurn
+      → counterBlock (nonceFor w (l .site) (nth i)) a ≡ counterBlock (nonceFor w (l .site) (nth j)) b → (i ≡ j) × (a ≡ b)
+  one-send olt onu i j a b hi hj sealed number ha hb e =
+      let mac : (x : Envelope) → senderMac w (l .site) (x .direction) < 2 ^ 48 = λ x. sender-mac-below w (l .site) (x .direction) olt onu in
+      let clock : (x : Envelope) → clockOf x < 2 ^ 48 = λ x. sender-clock-below w (x .up) (x .direction) (x .left) in
+      let fields =
+      counter-block-injective (nonceFor w (l .site) (nth i)) (nonceFor w (l .site) (nth j)) a b (mac (nth i)) (mac (nth j)) (clock (nth i)) (clock (nth j))
+      ha hb e in
+      let same : i ≡ j =
+      below-or-not i j (λ before. absurd (later-differs i j before hj sealed number (fields .0) (fields .2)))
+      (λ after.
+      below-or-not j i
+      (λ before. absurd (later-differs j i before hi (omega (arith, sealed, number)) (sym number) (sym (fields .0)) (sym (fields .2))))
+      (λ last. omega arith)) in
+      (same, fields .3)
 
 -- a sealed envelope's number is that of an offer
 pub offer-below : (w : Setting) (s : State) (u i : ℕ) → Alive w s u → i < length (laneAt s u .past .sent) → 1 ≤ sentAt s u i .number

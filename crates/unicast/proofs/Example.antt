@@ -14,7 +14,6 @@ use Rattle.envelope.specs.declared.Nonce.{Nonce}
 use Rattle.cipher.specs.KeyExpansion.{keyExpansion}
 use Rattle.sealing.specs.Seal.{carried, countCarried}
 use Rattle.protocol.specs.Headers.{envelopeHeader}
-use Rattle.ends.specs.Identities.{has}
 use Rattle.ends.specs.declared.Identity.{Identity}
 use Rattle.traffic.specs.Passages.{misfit}
 use Rattle.traffic.specs.Receipts.{onuNotReceived}
@@ -84,12 +83,11 @@ carried-is t k k' n n' p p' a b c d = rw (a, b, c, d) refl
 
 -- of the whole list
 module _ (c : Claim example played) where
-  handed-clear : (u i : ℕ) {llid channel clock : ℕ} {payload : List ℕ} → ltb i (length (laneAt played u .past .sent)) ≡ true
-      → isSealed (sentAt played u i) ≡ false → eqb (sentAt played u i .number) 0 ≡ true → sentAt played u i .channel ≡ channel
-      → sentAt played u i .llid ≡ llid
-      → eqb (nonceFor example (laneAt played u .site) (sentAt played u i) .clock) clock ≡ true
-      → ((x : List ℕ) (n : Nonce) → carried (isSealed (sentAt played u i)) (keyExpansion x) n (sentAt played u i .payload) ≡ payload)
-      → eqb (countCarried (isSealed (sentAt played u i)) (sentAt played u i .payload)) 0 ≡ true → HandedClear u i llid channel clock payload
+  handed-clear : (u i : ℕ) {llid channel clock : ℕ} {payload : List ℕ} → let x = sentAt played u i in
+      ltb i (length (laneAt played u .past .sent)) ≡ true → isSealed x ≡ false → eqb (x .number) 0 ≡ true → x .channel ≡ channel → x .llid ≡ llid
+      → eqb (nonceFor example (laneAt played u .site) x .clock) clock ≡ true
+      → ((k : List ℕ) (n : Nonce) → carried (isSealed x) (keyExpansion k) n (x .payload) ≡ payload)
+      → eqb (countCarried (isSealed x) (x .payload)) 0 ≡ true → HandedClear u i llid channel clock payload
   handed-clear u i {llid} {channel} {clock} some hsealed clear hchannel hllid hclock hpayload hcount =
       let below = ltb-true _ _ some in
       let r = c .sent u (sentAt played u i) (mem-at (laneAt played u .past .sent) i _ below) in
@@ -101,14 +99,11 @@ module _ (c : Claim example played) where
         count = r .count ∙ eqb-true _ _ hcount;
       }
 
-  handed : (u i : ℕ) {number llid : ℕ} {key : List ℕ} {n : Nonce} {payload : List ℕ} {count : ℕ}
-      → ltb i (length (laneAt played u .past .sent)) ≡ true
-      → isSealed (sentAt played u i) ≡ true → sentAt played u i .number ≡ number → sentAt played u i .llid ≡ llid
-      → keyOf (laneAt played u .keys) (sentAt played u i .number) ≡ key
-      → eqb (nonceFor example (laneAt played u .site) (sentAt played u i) .channel) (n .channel) ≡ true
-      → eqb (nonceFor example (laneAt played u .site) (sentAt played u i) .mac) (n .mac) ≡ true
-      → eqb (nonceFor example (laneAt played u .site) (sentAt played u i) .clock) (n .clock) ≡ true
-      → sentAt played u i .payload ≡ payload → countCarried (isSealed (sentAt played u i)) (sentAt played u i .payload) ≡ count
+  handed : (u i : ℕ) {number llid : ℕ} {key : List ℕ} {n : Nonce} {payload : List ℕ} {count : ℕ} → let x = sentAt played u i in
+      let m = nonceFor example (laneAt played u .site) x in
+      ltb i (length (laneAt played u .past .sent)) ≡ true → isSealed x ≡ true → x .number ≡ number → x .llid ≡ llid
+      → keyOf (laneAt played u .keys) (x .number) ≡ key → eqb (m .channel) (n .channel) ≡ true → eqb (m .mac) (n .mac) ≡ true
+      → eqb (m .clock) (n .clock) ≡ true → x .payload ≡ payload → countCarried (isSealed x) (x .payload) ≡ count
       → Handed u i number llid key n payload count
   handed u i {number} {llid} {key} {n} {payload} some sealed hnumber hllid hkey hchannel hmac hclock hpayload hcount =
       let below = ltb-true _ _ some in
@@ -125,10 +120,9 @@ module _ (c : Claim example played) where
         reported = r .count ∙ hcount;
       }
 
-  passed : (u k : ℕ) {payload : List ℕ} → ltb k (length (laneAt played u .past .arrived)) ≡ true
-      → isSealed (arrivalAt played u k .envelope) ≡ false → arrivalAt played u k .envelope .payload ≡ payload
-      → countCarried (isSealed (arrivalAt played u k .envelope)) (arrivalAt played u k .envelope .payload) ≡ 0
-      → Passed u k payload
+  passed : (u k : ℕ) {payload : List ℕ} → let x = arrivalAt played u k .envelope in
+      ltb k (length (laneAt played u .past .arrived)) ≡ true → isSealed x ≡ false → x .payload ≡ payload
+      → countCarried (isSealed x) (x .payload) ≡ 0 → Passed u k payload
   passed u k some clear hpayload hcount =
       let below = ltb-true _ _ some in
       let r = c .arrived u (arrivalAt played u k) (mem-at (laneAt played u .past .arrived) k _ below) in
@@ -140,15 +134,11 @@ module _ (c : Claim example played) where
         count = r .count ∙ c .sent u (arrivalAt played u k .envelope) (r .sent) .count ∙ hcount;
       }
 
-  delivered : (u k : ℕ) {key : List ℕ} {n : Nonce} {payload : List ℕ} {count : ℕ} → ltb k (length (laneAt played u .past .arrived)) ≡ true
-      → isSealed (arrivalAt played u k .envelope) ≡ true
-      → keyOf (laneAt played u .keys) (arrivalAt played u k .envelope .number) ≡ key
-      → eqb (nonceFor example (laneAt played u .site) (arrivalAt played u k .envelope) .channel) (n .channel) ≡ true
-      → eqb (nonceFor example (laneAt played u .site) (arrivalAt played u k .envelope) .mac) (n .mac) ≡ true
-      → eqb (nonceFor example (laneAt played u .site) (arrivalAt played u k .envelope) .clock) (n .clock) ≡ true
-      → arrivalAt played u k .envelope .payload ≡ payload
-      → countCarried (isSealed (arrivalAt played u k .envelope)) (arrivalAt played u k .envelope .payload) ≡ count
-      → Delivered u k key n payload count
+  delivered : (u k : ℕ) {key : List ℕ} {n : Nonce} {payload : List ℕ} {count : ℕ} → let x = arrivalAt played u k .envelope in
+      let m = nonceFor example (laneAt played u .site) x in
+      ltb k (length (laneAt played u .past .arrived)) ≡ true → isSealed x ≡ true → keyOf (laneAt played u .keys) (x .number) ≡ key
+      → eqb (m .channel) (n .channel) ≡ true → eqb (m .mac) (n .mac) ≡ true → eqb (m .clock) (n .clock) ≡ true → x .payload ≡ payload
+      → countCarried (isSealed x) (x .payload) ≡ count → Delivered u k key n payload count
   delivered u k {n = n} some sealed hkey hchannel hmac hclock hpayload hcount =
       let below = ltb-true _ _ some in
       let r = c .arrived u (arrivalAt played u k) (mem-at (laneAt played u .past .arrived) k _ below) in
@@ -201,15 +191,7 @@ module _ {w : Setting} {s : State} (c : Claim w s) where
       → Agreed s u place n key i
   agreed u n {i = i} some who at switches hkey down up =
       let h = c .held u n (leb-true _ _ some) switches down up in
-      rw (sym at)
-      (record {
-        llids = λ x. h .llids x ∙ ap (λ (j : Identity). has j x) who;
-        active = h .active;
-        confirmed = h .confirmed;
-        unit = h .unit;
-        oltKey = h .oltKey ∙ hkey;
-        onuKey = h .onuKey ∙ hkey;
-      })
+      rw (sym at) (search (h .llids, h .oltKey, h .onuKey, who, hkey))
 
   overheard-as : (u v k : ℕ) {out : List ℕ} {number : ℕ} → laneAt s u .entry .registered ≡ true → eqb u v ≡ false
       → ltb k (length (laneAt s v .past .sent)) ≡ true

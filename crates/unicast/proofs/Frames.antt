@@ -1,7 +1,7 @@
 -- Laws of a registered unit of which only a part changes. Assumes nothing.
 use mathlib.Core.Path.{_≡_, refl, sym, subst}
-use mathlib.Core.Bool.{true}
-use mathlib.Core.List.{List, [], _∷_, _++_, List·Memᴰ, List·Memᴰ·head, List·Memᴰ·tail, List·Memᴰ·append-cases, List·Memᴰ·eq-of-singleton}
+use mathlib.Core.Bool.{Bool, true, false}
+use mathlib.Core.List.{List, [], _∷_, _++_, List·Memᴰ, List·Memᴰ·head, List·Memᴰ·tail}
 use mathlib.Core.Logic.{⊎-elim}
 use Prim.Native.Nat.{ℕ, suc, _≤_}
 use native.Mathlib.Omega.{arith}
@@ -11,6 +11,7 @@ use Rattle.octets.proofs.Members.{each-more}
 use Rattle.clock.specs.declared.Stamps.{Stamps}
 use Rattle.protocol.specs.Messages.{clockKind, keyKind, ofClock}
 use Rattle.protocol.specs.declared.Acknowledgement.{Acknowledgement}
+use Rattle.ends.specs.declared.Olt.{Olt}
 use Rattle.ends.specs.declared.Onu.{Onu}
 use Rattle.ends.specs.declared.OnuClock.{OnuClock}
 use Rattle.ends.specs.declared.OnuKeys.{OnuKeys}
@@ -18,10 +19,10 @@ use Rattle.ends.specs.declared.Shared.{Shared}
 use Rattle.ends.specs.declared.UnitRecord.{UnitRecord}
 use Rattle.unicast.specs.Setting.{Setting}
 use Rattle.unicast.specs.History.{Envelope, InFlight, clockMessage, envelope, leftAt, Answered, Transit, Lane, laneWith, leaving, laneLeaving, laneTaken, laneAnswered, clockAnswered}
-use Rattle.unicast.proofs.Invariant.{reachOf, Answers, UnderWay, Towards, From, Asked, InOrder, Joined, Common}
+use Rattle.unicast.proofs.Invariant.{reachOf, Answers, UnderWay, Towards, From, Asked, InOrder, Joined, Common, Standing, LaneRight}
 use Rattle.unicast.proofs.Pace.{rising-dropped, order-leaving, asked-leaving}
 use Rattle.unicast.proofs.Queues.{Knows, dropped-among, sealed-more, towards-moved, towards-dropped, from-moved}
-use Rattle.unicast.proofs.Past.{passing-moved, sent-most}
+use Rattle.unicast.proofs.Past.{moved-keeps}
 
 ---- clock acknowledgements
 
@@ -44,37 +45,25 @@ clock-some (y ∷ ys) tells e =
     ⊎-elim (λ h. tells y (List·Memᴰ·head refl) (eqb-true (y .acknowledgement .kind) clockKind h))
     (λ h. clock-some ys (λ x m. tells x (List·Memᴰ·tail m)) h) (either-cases _ _ e)
 
+-- what an answer of the unit tells
+abbrev Tells : OnuKeys → OnuClock → Answered → Type 0
+Tells k c x =
+    (x .acknowledgement .kind ≡ clockKind → c .synced ≡ 1) × (x .acknowledgement .kind ≡ keyKind → x .acknowledgement .number ≤ reachOf k)
+
 -- the unit takes a clock message, and answers
 pub answers-clock : (now : ℕ) (k : OnuKeys) (c d : OnuClock) (answered : List Answered) → d .synced ≡ 1 → Answers now k c answered
     → Answers now k d (answered ++ (record { acknowledgement = ofClock; tick = now } ∷ []))
 answers-clock now k c d answered synced a =
     record {
-      each = λ y m.
-          ⊎-elim (λ before. (λ e. synced, a .each y before .1))
-          (λ last.
-          subst (λ (z : Answered). (z .acknowledgement .kind ≡ clockKind → d .synced ≡ 1)
-          × (z .acknowledgement .kind ≡ keyKind → z .acknowledgement .number ≤ reachOf k))
-          (sym (List·Memᴰ·eq-of-singleton last)) (λ e. synced, λ e. absurd (omega arith)))
-          (List·Memᴰ·append-cases answered m);
+      each = each-more (Tells k d) answered _ (λ y m. (λ e. synced, a .each y m .1)) (λ e. synced, λ e. absurd (omega arith));
       set = λ e. clock-last answered _ refl;
     }
 
 -- an answer more, of a synced unit, for a key that it holds
-pub answers-more : (now : ℕ) (k : OnuKeys) (c : OnuClock) (answered : List Answered) (x : Answered)
-    → (x .acknowledgement .kind ≡ clockKind → c .synced ≡ 1)
-    → (x .acknowledgement .kind ≡ keyKind → x .acknowledgement .number ≤ reachOf k) → Answers now k c answered
+pub answers-more : (now : ℕ) (k : OnuKeys) (c : OnuClock) (answered : List Answered) (x : Answered) → Tells k c x → Answers now k c answered
     → Answers now k c (answered ++ (x ∷ []))
-answers-more now k c answered x synced held a =
-    record {
-      each = λ y m.
-          ⊎-elim (λ before. a .each y before)
-          (λ last.
-          subst (λ (z : Answered). (z .acknowledgement .kind ≡ clockKind → c .synced ≡ 1)
-          × (z .acknowledgement .kind ≡ keyKind → z .acknowledgement .number ≤ reachOf k))
-          (sym (List·Memᴰ·eq-of-singleton last)) (synced, held))
-          (List·Memᴰ·append-cases answered m);
-      set = λ e. clock-more answered x (a .set e);
-    }
+answers-more now k c answered x tells a =
+    record { each = each-more (Tells k c) answered x (a .each) tells; set = λ e. clock-more answered x (a .set e) }
 
 module _ (w : Setting) (sh : Shared) (now : ℕ) (l : Lane) (u : UnitRecord) (o : Onu) where
   -- only what is under way changes
@@ -85,34 +74,12 @@ module _ (w : Setting) (sh : Shared) (now : ℕ) (l : Lane) (u : UnitRecord) (o 
   unfolding laneWith
   transit-replaced t j answers under towards from asked order =
       let after = laneWith l (l .keys) t (l .past) in
-      let knows : Knows l after (u .keys .offered) = record { site = refl; sent = λ e m. m; keys = λ n p q. refl } in
-      record {
-        mac = j .mac;
-        llids = j .llids;
-        oltmac = j .oltmac;
-        firsts = j .firsts;
-        freed = j .freed;
-        heard = j .heard;
-        told = j .told;
-        gone = j .gone;
-        near = j .near;
-        ups = j .ups;
-        asked = asked;
-        order = order;
-        numbers = j .numbers;
-        stored = j .stored;
-        timing = j .timing;
-        clocks = j .clocks;
-        answers = answers;
-        underWay = under;
-        towards =
-            towards-moved (w .first) (l .path) l after (o .keys .active) (u .keys .active) (u .keys .offered) (t .towards) knows towards;
-        from = from-moved l after (u .keys .offered) (u .confirmation .confirmed) (o .keys .active) (t .from) knows from;
-        spending = record { downs = j .spending .downs; ups = j .spending .ups; spaced = j .spending .spaced };
-        passing =
-            passing-moved w l after (u .keys .offered) knows (u .confirmation .confirmed) (o .keys .active) refl
-            (λ e m. let n = j .numbers in omega (arith, sent-most l (sh .channels) u o (j .spending) (n .mid) e m)) (j .passing);
-      }
+      let knows : Knows l after (u .keys .offered) = search in
+      let passing = moved-keeps w sh now l after u o j knows refl .2 in
+      let ahead =
+      towards-moved (w .first) (l .path) l after (o .keys .active) (u .keys .active) (u .keys .offered) (t .towards) knows towards in
+      let back = from-moved l after (u .keys .offered) (u .confirmation .confirmed) (o .keys .active) (t .from) knows from in
+      search
 
   -- a thing leaves for the unit
   pub leaving-keeps : (x : InFlight) → ((e : Envelope) → x ≡ envelope e → ⊥)
@@ -148,7 +115,7 @@ module _ (w : Setting) (sh : Shared) (now : ℕ) (l : Lane) (u : UnitRecord) (o 
   unfolding laneAnswered
   answered-keeps a j synced held =
       transit-replaced _ j
-      (answers-more now (o .keys) (o .clock) (l .transit .answered) (record { acknowledgement = a; tick = now }) synced held (j .answers))
+      (answers-more now (o .keys) (o .clock) (l .transit .answered) (record { acknowledgement = a; tick = now }) (synced, held) (j .answers))
       (record { sealed = j .underWay .sealed; present = j .underWay .present }) (j .towards)
       (j .from)
       (record {
@@ -163,13 +130,17 @@ module _ (w : Setting) (sh : Shared) (now : ℕ) (l : Lane) (u : UnitRecord) (o 
 -- nothing of the lane but its site and its path matters
 pub common-moved : (w : Setting) (now : ℕ) (l l' : Lane) (o : Onu) → l .site ≡ l' .site → l .path ≡ l' .path
     → Common w now l o → Common w now l' o
-common-moved w now l l' o e p c =
-    record {
-      valid = c .valid;
-      tick = c .tick;
-      mac = rw e at (c .mac);
-      llids = rw e at (c .llids);
-      oltmac = rw e at (c .oltmac);
-      travel = rw (e, p) at (c .travel);
-      first = c .first;
-    }
+common-moved w now l l' o e p c = search (c .llids, ← e, ← p)
+
+-- a lane that is registered, with the OLT's record of it
+pub lane-joined : (w : Setting) (t : Olt) (now : ℕ) (l : Lane) (o : Onu) → l .entry .registered ≡ true → Common w now l o → Standing true w t now l o
+    → LaneRight w t now l o
+lane-joined w t now l o e c s = record { common = c; standing = subst (λ (b : Bool). Standing b w t now l o) (sym e) s }
+
+-- a lane of which nothing changes but the OLT, and stands with it still if it is registered
+pub lane-kept : (w : Setting) (t t' : Olt) (now : ℕ) (l : Lane) (o : Onu)
+    → (l .entry .registered ≡ true → Standing true w t now l o → Standing true w t' now l o) → LaneRight w t now l o → LaneRight w t' now l o
+lane-kept w t t' now l o keeps r = record { common = r .common; standing = by-registered (l .entry .registered) refl (r .standing) } where
+  by-registered : (b : Bool) → l .entry .registered ≡ b → Standing b w t now l o → Standing b w t' now l o
+  by-registered true e s = keeps e s
+  by-registered false e s = s

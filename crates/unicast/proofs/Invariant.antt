@@ -1,5 +1,6 @@
 -- The invariant: what holds of the ends and the history after every list of events. One record for each subject, over just the
--- fields that it speaks of, so that a call that leaves these leaves the record. Assumes nothing.
+-- fields that it speaks of, so that a call that leaves these leaves the record: a step says what it changes, and `search` finds the rest
+-- in what held before. Assumes nothing.
 use mathlib.Core.Path.{_≡_}
 use mathlib.Core.Bool.{Bool, true, false}
 use mathlib.Core.List.{List, [], _∷_, map, List·Memᴰ}
@@ -174,13 +175,18 @@ pub record Spaced (sent : List Envelope) : Type 0 where
   pub down : (i j : ℕ) → i < j → j < length sent → Apart countDown downward (getD sent i noEnvelope) (getD sent j noEnvelope)
   pub up : (i j : ℕ) → i < j → j < length sent → Apart countUp upward (getD sent i noEnvelope) (getD sent j noEnvelope)
 
+-- what holds of a send down, and of one up
+abbrev pub SpentDown : Channels → FirstSend → ℕ → Envelope → Type 0
+SpentDown c f active e = e .direction ≡ downward → (downstream (e .channel) ≡ true) × Spent c f active 0 0 (countDown e) e
+
+abbrev pub SpentUp : Channels → FirstSend → ℕ → ℕ → ℕ → Travel → Envelope → Type 0
+SpentUp c f active ahead up t e =
+    e .direction ≡ upward → (upstream (e .channel) ≡ true) × Spent c f active ahead maxChanges (countUp e) e × Guarded ahead up t e
+
 pub record Spending (l : Lane) (down : Channels) (u : UnitRecord) (o : Onu) : Type 0 where
-  pub downs : (e : Envelope) → List·Memᴰ e (l .past .sent) → e .direction ≡ downward
-      → (downstream (e .channel) ≡ true) × Spent down (u .keys .first) (u .keys .active) 0 0 (countDown e) e
-  pub ups : (e : Envelope) → List·Memᴰ e (l .past .sent) → e .direction ≡ upward
-      → (upstream (e .channel) ≡ true)
-      × Spent (o .channels) (o .first) (o .keys .active) (l .site .up) maxChanges (countUp e) e
-      × Guarded (l .site .up) (l .path .up) (o .travel) e
+  pub downs : (e : Envelope) → List·Memᴰ e (l .past .sent) → SpentDown down (u .keys .first) (u .keys .active) e
+  pub ups : (e : Envelope) → List·Memᴰ e (l .past .sent)
+      → SpentUp (o .channels) (o .first) (o .keys .active) (l .site .up) (l .path .up) (o .travel) e
   pub spaced : Spaced (l .past .sent)
 
 ---- what has been

@@ -1,3 +1,4 @@
+pub mod Cases
 pub mod Invariant
 pub mod Pace
 pub mod Queues

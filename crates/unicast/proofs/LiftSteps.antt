@@ -8,9 +8,9 @@ use native.Mathlib.Omega.{arith}
 use lib.Dec.{eqb}
 use lib.ListN.{length, set, length-map, length-set}
 use lib.Seq.{getD-set-same, getD-set-other}
-use borrow.Author.Tests.{eqb-true, eqb-false, ne-eqb}
+use borrow.Author.Tests.{ne-eqb}
 use Rattle.octets.specs.Choice.{both, pick}
-use Rattle.octets.proofs.Choice.{both-true, pick-true, pick-false, pick-same, true-false}
+use Rattle.octets.proofs.Choice.{pick-holds, both-true, pick-true, pick-false, pick-same, true-false}
 use Rattle.octets.proofs.Maps.{map-fixed, map-always}
 use Rattle.refusal.specs.Number.{verdictNumber}
 use Rattle.refusal.specs.declared.Verdict.{Verdict}
@@ -36,8 +36,9 @@ use Rattle.unicast.specs.Setting.{Setting}
 use Rattle.unicast.specs.History.{Entry, Lane}
 use Rattle.unicast.specs.Run.{State, laneAt, onuAt, noSite, freshLane, noted, named, withLanes, atOlt}
 use Rattle.unicast.specs.Bounds.{longest}
-use Rattle.unicast.proofs.Invariant.{Joined, Standing, LaneRight, Invariant}
-use Rattle.unicast.proofs.Frames.{common-moved}
+use Rattle.unicast.proofs.Cases.{same-or-not}
+use Rattle.unicast.proofs.Invariant.{Joined, Common, LaneRight, Invariant}
+use Rattle.unicast.proofs.Frames.{common-moved, lane-joined, lane-kept}
 use Rattle.unicast.proofs.SendDownSteps.{channels-keep, channels-at-tick}
 use Rattle.unicast.proofs.Places.{laneOf, KeysApart, keys-stay, Held, held-once, joined-at, found-has, named-held, set-keeps}
 
@@ -58,58 +59,45 @@ pub record Replaces (w : Setting) (s : State) (p : ℕ) (c : Channels) (x : Unit
   pub others : (u : ℕ) → (Held s p u → ⊥) → laneOf lanes u ≡ laneAt s u
   pub keys : KeysApart lanes
 
-pub standing-own : (b : Bool) (w : Setting) (t : Olt) (p : ℕ) (c : Channels) (x : UnitRecord) (now : ℕ) (l : Lane) (o : Onu) → b ≡ true
-    → l .entry .place ≡ p
-    → p < t .count → p < length (t .units) → Joined w (withChannels (t .shared) c) now l x o → Standing b w (withUnit t p c x) now l o
+-- the lane of the record replaced
+pub lane-own : (w : Setting) (t : Olt) (p : ℕ) (c : Channels) (x : UnitRecord) (now : ℕ) (l : Lane) (o : Onu) → l .entry .registered ≡ true
+    → l .entry .place ≡ p → p < t .count → p < length (t .units) → Common w now l o → Joined w (withChannels (t .shared) c) now l x o
+    → LaneRight w (withUnit t p c x) now l o
 unfolding withUnit
-standing-own false w t p c x now l o e f h k j = true-false (sym e)
-standing-own true w t p c x now l o e f h k j =
+lane-own w t p c x now l o e f h k common j =
     let same : unitAt (withUnit t p c x) (l .entry .place) ≡ x = ap (unitAt (withUnit t p c x)) f ∙ with-unit t p c x k in
-    (omega (arith, f, h), rw same j)
+    lane-joined w (withUnit t p c x) now l o e common (omega (arith, f, h), rw same j)
 
-pub standing-others : (b : Bool) (w : Setting) (t : Olt) (p : ℕ) (c : Channels) (x : UnitRecord) (now : ℕ) (l : Lane) (o : Onu)
-    → (b ≡ true → l .entry .place ≡ p → ⊥) → ((k : ℕ) → freeFrom (t .shared .channels) k ≤ freeFrom c k) → Standing b w t now l o
-    → Standing b w (withUnit t p c x) now l o
+-- and any other
+pub lane-other : (w : Setting) (t : Olt) (p : ℕ) (c : Channels) (x : UnitRecord) (now : ℕ) (l : Lane) (o : Onu)
+    → (l .entry .registered ≡ true → l .entry .place ≡ p → ⊥) → ((k : ℕ) → freeFrom (t .shared .channels) k ≤ freeFrom c k)
+    → LaneRight w t now l o → LaneRight w (withUnit t p c x) now l o
 unfolding withUnit
-standing-others false w t p c x now l o n rises s = s
-standing-others true w t p c x now l o n rises s =
+lane-other w t p c x now l o n rises =
     let place = l .entry .place in
-    (s .0, rw (with-other t p place c x (n refl)) (channels-keep w (t .shared) now l (unitAt t place) o c rises (s .1)))
+    lane-kept w t (withUnit t p c x) now l o
+    (λ e s. (s .0, rw (with-other t p place c x (n e)) (channels-keep w (t .shared) now l (unitAt t place) o c rises (s .1))))
 
 module _ (w : Setting) (s : State) (p : ℕ) (c : Channels) (x : UnitRecord) (lanes : List Lane) (i : Invariant w s) (r : Replaces w s p c x lanes) where
   replaced-lane : (u : ℕ) → u < length (s .history .lanes)
       → LaneRight w (withUnit (s .olt) p c x) (s .history .now) (laneOf lanes u) (onuAt s u)
-  replaced-lane u h = by-registered (laneAt s u .entry .registered) refl where
-    old : LaneRight w (s .olt) (s .history .now) (laneAt s u) (onuAt s u)
-    old = i .lane u h
-
-    stays : (Held s p u → ⊥) → LaneRight w (withUnit (s .olt) p c x) (s .history .now) (laneOf lanes u) (onuAt s u)
-    stays n =
-        rw (r .others u n)
-        (record {
-          common = old .common;
-          standing =
-              standing-others (laneAt s u .entry .registered) w (s .olt) p c x (s .history .now) (laneAt s u) (onuAt s u)
-              (λ a b. n (record { known = h; registered = a; place = b })) (r .rises) (old .standing);
-        })
-
-    by-place : laneAt s u .entry .registered ≡ true → (t : Bool) → eqb (laneAt s u .entry .place) p ≡ t
-        → LaneRight w (withUnit (s .olt) p c x) (s .history .now) (laneOf lanes u) (onuAt s u)
-    by-place e true f =
-        let place = eqb-true _ _ f in
-        record {
-          common = common-moved w (s .history .now) (laneAt s u) (laneOf lanes u) (onuAt s u) (sym (r .site u)) (sym (r .path u)) (old .common);
-          standing =
-              standing-own (laneOf lanes u .entry .registered) w (s .olt) p c x (s .history .now) (laneOf lanes u) (onuAt s u)
-              (ap (λ (y : Entry). y .registered) (r .entry u) ∙ e) (ap (λ (y : Entry). y .place) (r .entry u) ∙ place) (r .used) (r .place)
-              (r .own u (record { known = h; registered = e; place = place }));
-        }
-    by-place e false f = stays (λ a. eqb-false _ _ f (a .place))
-
-    by-registered : (t : Bool) → laneAt s u .entry .registered ≡ t
-        → LaneRight w (withUnit (s .olt) p c x) (s .history .now) (laneOf lanes u) (onuAt s u)
-    by-registered true e = by-place e (eqb (laneAt s u .entry .place) p) refl
-    by-registered false e = stays (λ a. true-false (sym (a .registered) ∙ e))
+  replaced-lane u h =
+      let stays : (Held s p u → ⊥) → LaneRight w (withUnit (s .olt) p c x) (s .history .now) (laneOf lanes u) (onuAt s u) =
+      λ n.
+      rw (r .others u n)
+      (lane-other w (s .olt) p c x (s .history .now) (laneAt s u) (onuAt s u) (λ a b. n (record { known = h; registered = a; place = b })) (r .rises)
+      (i .lane u h)) in
+      pick-holds (λ (t : Bool). LaneRight w (withUnit (s .olt) p c x) (s .history .now) (laneOf lanes u) (onuAt s u)) (laneAt s u .entry .registered)
+      true false
+      (λ e.
+      same-or-not (laneAt s u .entry .place) p
+      (λ place.
+      lane-own w (s .olt) p c x (s .history .now) (laneOf lanes u) (onuAt s u) (ap (λ (y : Entry). y .registered) (r .entry u) ∙ e)
+      (ap (λ (y : Entry). y .place) (r .entry u) ∙ place) (r .used) (r .place)
+      (common-moved w (s .history .now) (laneAt s u) (laneOf lanes u) (onuAt s u) (sym (r .site u)) (sym (r .path u)) (i .lane u h .common))
+      (r .own u (record { known = h; registered = e; place = place })))
+      (λ other. stays (λ a. other (a .place))))
+      (λ e. stays (λ a. true-false (sym (a .registered) ∙ e)))
 
   pub replaced-right : Invariant w (record { olt = withUnit (s .olt) p c x; onus = s .onus; history = withLanes (s .history) lanes })
   unfolding withLanes withUnit
@@ -144,14 +132,14 @@ told-for w s p u c x l i h valid rises frees site path entry offers j =
       rises = rises;
       frees = frees;
       paired = length-set ls u l;
-      site = set-keeps (λ (y : Lane). y .site) ls u l (h .known) site;
-      path = set-keeps (λ (y : Lane). y .path) ls u l (h .known) path;
-      entry = set-keeps (λ (y : Lane). y .entry) ls u l (h .known) entry;
+      site = set-keeps (λ (y : Lane). y .site) ls u l site;
+      path = set-keeps (λ (y : Lane). y .path) ls u l path;
+      entry = set-keeps (λ (y : Lane). y .entry) ls u l entry;
       own = λ v k.
           let same = held-once w s p v u i k h in
           rw (same, getD-set-same ls u l (freshLane noSite) (h .known)) j;
       others = λ v n. getD-set-other ls u v l (freshLane noSite) (λ e. n (subst (Held s p) (sym e) h));
-      keys = keys-stay ls (set ls u l) (set-keeps (λ (y : Lane). y .keys .offers) ls u l (h .known) offers) (i .keys);
+      keys = keys-stay ls (set ls u l) (set-keeps (λ (y : Lane). y .keys .offers) ls u l offers) (i .keys);
     }
 
 ---- a call lifted from a unit
@@ -162,12 +150,10 @@ pub named-own : (llid : ℕ) (f : Lane → Lane) (l : Lane) → l .entry .regist
 unfolding named
 named-own llid f l e h = pick-true (f l) l (both-true e h)
 
-named-keeps : {A : Type 0} (g : Lane → A) (llid : ℕ) (f : Lane → Lane) (l : Lane) → g (f l) ≡ g l → g (named llid f l) ≡ g l
-unfolding named pick
-named-keeps g llid f l e = by-test (both (l .entry .registered) (has (l .site .identity) llid)) where
-  by-test : (t : Bool) → g (pick t (f l) l) ≡ g l
-  by-test true = e
-  by-test false = refl
+pub named-keeps : {A : Type 0} (g : Lane → A) (llid : ℕ) (f : Lane → Lane) (l : Lane) → g (f l) ≡ g l → g (named llid f l) ≡ g l
+unfolding named
+named-keeps g llid f l e =
+    pick-holds (λ (m : Lane). g m ≡ g l) (both (l .entry .registered) (has (l .site .identity) llid)) (f l) l (λ h. e) (λ h. refl)
 
 named-fresh : (llid : ℕ) (f : Lane → Lane) → named llid f (freshLane noSite) ≡ freshLane noSite
 unfolding named freshLane pick both
@@ -199,67 +185,66 @@ keys-named llid f ls e k = keys-stay ls (map (named llid f) ls) (named-stays (λ
 refused-number : (v : Verdict) → (v ≡ Accepted → ⊥) → eqb (verdictNumber v) 0 ≡ false
 refused-number v n = ne-eqb (verdictNumber v) 0 (λ e. n (number-accepted v e))
 
--- what a call on a unit makes of the lane of that unit
+-- what a call on a unit makes of the lane of that unit, which is told what it hands over
 pub record Tells {H : Type 0} (w : Setting) (s : State) (nothing : H) (ahead : Verdict) (llid : ℕ) (call : Shared → UnitRecord → Outcome H)
-    (f : Lane → Lane) : Type 0 where
+    (f : H → Lane → Lane) : Type 0 where
   pub valid : validOlt (lift (s .olt) nothing ahead llid call .end) ≡ true
   pub rises : (u : UnitRecord) → call (s .olt .shared) u .verdict ≡ Accepted → (k : ℕ)
       → freeFrom (s .olt .shared .channels) k ≤ freeFrom (call (s .olt .shared) u .channels) k
   pub frees : (l : Lifted (s .olt) nothing ahead llid call) (k : ℕ)
       → freeFrom (call (s .olt .shared) (unitAt (s .olt) (l .at)) .channels) k ≤ s .history .now + longest
-  pub site : (l : Lane) → f l .site ≡ l .site
-  pub path : (l : Lane) → f l .path ≡ l .path
-  pub entry : (l : Lane) → f l .entry ≡ l .entry
-  pub own : (l : Lifted (s .olt) nothing ahead llid call) (u : ℕ) → Held s (l .at) u → has (laneAt s u .site .identity) llid ≡ true
-      → Joined w (s .olt .shared) (s .history .now) (laneAt s u) (unitAt (s .olt) (l .at)) (onuAt s u)
-      → Joined w (withChannels (s .olt .shared) (call (s .olt .shared) (unitAt (s .olt) (l .at)) .channels)) (s .history .now) (f (laneAt s u))
-      (call (s .olt .shared) (unitAt (s .olt) (l .at)) .unit) (onuAt s u)
-  pub keys : Lifted (s .olt) nothing ahead llid call → KeysApart (map (named llid f) (s .history .lanes))
+  pub site : (x : H) (l : Lane) → f x l .site ≡ l .site
+  pub path : (x : H) (l : Lane) → f x l .path ≡ l .path
+  pub entry : (x : H) (l : Lane) → f x l .entry ≡ l .entry
+  pub keys : (l : Lifted (s .olt) nothing ahead llid call)
+      → KeysApart (map (named llid (f (call (s .olt .shared) (unitAt (s .olt) (l .at)) .handed))) (s .history .lanes))
 
-module _ {H : Type 0} (w : Setting) (s : State) (nothing : H) (ahead : Verdict) (llid : ℕ) (call : Shared → UnitRecord → Outcome H) (f : Lane → Lane)
-    (i : Invariant w s) (t : Tells w s nothing ahead llid call f) where
+module _ {H : Type 0} (w : Setting) (s : State) (nothing : H) (ahead : Verdict) (llid : ℕ) (call : Shared → UnitRecord → Outcome H)
+    (f : H → Lane → Lane) (i : Invariant w s) (t : Tells w s nothing ahead llid call f)
+    (own : (l : Lifted (s .olt) nothing ahead llid call) (u : ℕ) → Held s (l .at) u → has (laneAt s u .site .identity) llid ≡ true
+    → Joined w (s .olt .shared) (s .history .now) (laneAt s u) (unitAt (s .olt) (l .at)) (onuAt s u)
+    → let c = call (s .olt .shared) (unitAt (s .olt) (l .at)) in
+    Joined w (withChannels (s .olt .shared) (c .channels)) (s .history .now) (f (c .handed) (laneAt s u)) (c .unit) (onuAt s u)) where
   -- a lane that is not that of the place found is not named
-  not-named : (p u : ℕ) → find (s .olt) llid ≡ At p → (Held s p u → ⊥) → named llid f (laneAt s u) ≡ laneAt s u
+  not-named : (g : Lane → Lane) (p u : ℕ) → find (s .olt) llid ≡ At p → (Held s p u → ⊥) → named llid g (laneAt s u) ≡ laneAt s u
   unfolding named
-  not-named p u e n = by-test (both (laneAt s u .entry .registered) (has (laneAt s u .site .identity) llid)) refl where
-    by-test : (b : Bool) → both (laneAt s u .entry .registered) (has (laneAt s u .site .identity) llid) ≡ b
-        → pick (both (laneAt s u .entry .registered) (has (laneAt s u .site .identity) llid)) (f (laneAt s u)) (laneAt s u) ≡ laneAt s u
-    by-test false h = pick-false _ _ h
-    by-test true h = absurd (n (named-held w s p u llid i e h))
+  not-named g p u e n =
+      pick-holds (λ (m : Lane). m ≡ laneAt s u) (both (laneAt s u .entry .registered) (has (laneAt s u .site .identity) llid)) (g (laneAt s u)) (laneAt s u)
+      (λ h. absurd (n (named-held w s p u llid i e h))) (λ h. refl)
 
-  told : (l : Lifted (s .olt) nothing ahead llid call)
-      → Replaces w s (l .at) (call (s .olt .shared) (unitAt (s .olt) (l .at)) .channels) (call (s .olt .shared) (unitAt (s .olt) (l .at)) .unit)
-      (map (named llid f) (s .history .lanes))
+  told : (l : Lifted (s .olt) nothing ahead llid call) → let c = call (s .olt .shared) (unitAt (s .olt) (l .at)) in
+      Replaces w s (l .at) (c .channels) (c .unit) (map (named llid (f (c .handed))) (s .history .lanes))
   told l =
       let r = find-at (s .olt) llid (l .at) (l .found) in
+      let x = call (s .olt .shared) (unitAt (s .olt) (l .at)) .handed in
       record {
         valid = rw (l .end) at (t .valid);
         used = r .used;
         place = r .place;
         rises = t .rises (unitAt (s .olt) (l .at)) (l .accepts);
         frees = t .frees l;
-        paired = length-map (s .history .lanes) (named llid f);
-        site = named-stays (λ (y : Lane). y .site) llid f (s .history .lanes) (t .site);
-        path = named-stays (λ (y : Lane). y .path) llid f (s .history .lanes) (t .path);
-        entry = named-stays (λ (y : Lane). y .entry) llid f (s .history .lanes) (t .entry);
+        paired = length-map (s .history .lanes) (named llid (f x));
+        site = named-stays (λ (y : Lane). y .site) llid (f x) (s .history .lanes) (t .site x);
+        path = named-stays (λ (y : Lane). y .path) llid (f x) (s .history .lanes) (t .path x);
+        entry = named-stays (λ (y : Lane). y .entry) llid (f x) (s .history .lanes) (t .entry x);
         own = λ u h.
             let e = found-has w s (l .at) u llid i h (l .found) in
-            rw (named-at llid f (s .history .lanes) u, named-own llid f (laneAt s u) (h .registered) e) (t .own l u h e (joined-at w s (l .at) u i h .1));
-        others = λ u n. named-at llid f (s .history .lanes) u ∙ not-named (l .at) u (l .found) n;
+            rw (named-at llid (f x) (s .history .lanes) u, named-own llid (f x) (laneAt s u) (h .registered) e)
+            (own l u h e (joined-at w s (l .at) u i h .1));
+        others = λ u n. named-at llid (f x) (s .history .lanes) u ∙ not-named (f x) (l .at) u (l .found) n;
         keys = t .keys l;
       }
 
-  pub call-right : Invariant w (atOlt s (lift (s .olt) nothing ahead llid call .end) (verdictNumber (lift (s .olt) nothing ahead llid call .verdict)) llid f)
+  pub call-right : let r = lift (s .olt) nothing ahead llid call in Invariant w (atOlt s (r .end) (verdictNumber (r .verdict)) llid (f (r .handed)))
   unfolding atOlt noted pick withLanes
   call-right = by-end (lift-ends (s .olt) nothing ahead llid call) where
-    by-end : Ends (s .olt) nothing ahead llid call
-        → Invariant w (atOlt s (lift (s .olt) nothing ahead llid call .end) (verdictNumber (lift (s .olt) nothing ahead llid call .verdict)) llid f)
-    by-end (accepted l) =
-        rw (l .verdict, l .end) (replaced-right w s (l .at) _ _ (map (named llid f) (s .history .lanes)) i (told l))
+    by-end : Ends (s .olt) nothing ahead llid call → let r = lift (s .olt) nothing ahead llid call in
+        Invariant w (atOlt s (r .end) (verdictNumber (r .verdict)) llid (f (r .handed)))
+    by-end (accepted l) = rw (l .verdict, l .handed, l .end) (replaced-right w s (l .at) _ _ _ i (told l))
     by-end (refused r e) =
         rw (
           e,
-          map-fixed (noted (verdictNumber (Refused r)) (named llid f)) (s .history .lanes)
-              (λ l. pick-false (named llid f l) l (refused-number (Refused r) (λ z. refused-accepts r z))),
+          map-fixed (noted (verdictNumber (Refused r)) (named llid (f nothing))) (s .history .lanes)
+              (λ l. pick-false (named llid (f nothing) l) l (refused-number (Refused r) (λ z. refused-accepts r z))),
         )
         i

@@ -1,25 +1,23 @@
 -- An offer keeps the invariant, and with it that no key was offered twice. Assumes nothing.
 use mathlib.Core.Path.{_≡_, refl, sym, _∙_, ap}
-use mathlib.Core.Bool.{Bool, true, false}
 use mathlib.Core.Logic.{_⊎_, inl, inr, ⊎-elim}
 use mathlib.Core.List.{List, [], _∷_, _++_, map}
 use Prim.Native.Nat.{ℕ, _<_}
 use native.Mathlib.Omega.{arith}
-use lib.Dec.{ltb}
 use lib.ListN.{length, getD, length-append, List·getD-append}
 use lib.Seq.{getD-at}
-use borrow.Author.Tests.{ltb-true, ltb-false}
 use Rattle.octets.specs.Choice.{both}
-use Rattle.octets.proofs.Choice.{pick-true, pick-false}
+use Rattle.octets.proofs.Choice.{pick-holds}
 use Rattle.refusal.specs.Number.{verdictNumber}
 use Rattle.refusal.specs.declared.Verdict.the-variants.{Accepted}
 use Rattle.ends.specs.Identities.{has}
 use Rattle.ends.specs.Records.{withChannels}
 use Rattle.ends.specs.Table.{find, unitAt}
-use Rattle.protocol.specs.Lift.{outcome, lift}
+use Rattle.protocol.specs.Lift.{outcome}
 use Rattle.protocol.specs.Messages.{noKeyMessage}
 use Rattle.protocol.specs.UnitCalls.{offerUnit}
 use Rattle.protocol.specs.OltCalls.{keySent, offerOf}
+use Rattle.protocol.specs.declared.KeyMessage.{KeyMessage}
 use Rattle.ends.specs.declared.Found.the-variants.{At}
 use Rattle.protocol.proofs.OltCalls.{offer-valid}
 use Rattle.unicast.specs.Setting.{Setting}
@@ -27,6 +25,7 @@ use Rattle.unicast.specs.History.{keyMessage, Lane, laneWith, laneLeavin
 use Rattle.unicast.specs.Events.{offer}
 use Rattle.unicast.specs.Run.{State, laneAt, onuAt, named, offering, step}
 use Rattle.unicast.specs.Premises.{NewKey, Fits}
+use Rattle.unicast.proofs.Cases.{below-or-not}
 use Rattle.unicast.proofs.Invariant.{Invariant}
 use Rattle.unicast.proofs.KeySteps.{offer-keeps}
 use Rattle.unicast.proofs.Places.{laneOf, KeysApart, Held, held-once, named-held}
@@ -35,13 +34,9 @@ use Rattle.unicast.proofs.LiftSteps.{named-at, call-right}
 -- the last of a list with one more, or one before it
 last-or-before : (os : List (List ℕ)) (key : List ℕ) (m : ℕ) → m < length (os ++ (key ∷ []))
     → ((m < length os) × (getD (os ++ (key ∷ [])) m [] ≡ getD os m [])) ⊎ ((m ≡ length os) × (getD (os ++ (key ∷ [])) m [] ≡ key))
-last-or-before os key m h = by-test (ltb m (length os)) refl where
-  by-test : (t : Bool) → ltb m (length os) ≡ t
-      → ((m < length os) × (getD (os ++ (key ∷ [])) m [] ≡ getD os m [])) ⊎ ((m ≡ length os) × (getD (os ++ (key ∷ [])) m [] ≡ key))
-  by-test true e = let k = ltb-true _ _ e in inl (k, List·getD-append os (key ∷ []) [] m k)
-  by-test false e =
-      let k : m ≡ length os = omega (arith, h, ltb-false m (length os) e, length-append os (key ∷ [])) in
-      inr (k, getD-at os key [] [] m (sym k))
+last-or-before os key m h =
+    below-or-not m (length os) (λ k. inl (k, List·getD-append os (key ∷ []) [] m k))
+    (λ above. let k : m ≡ length os = omega (arith, length-append os (key ∷ [])) in inr (k, getD-at os key [] [] m (sym k)))
 
 -- what an offer to the unit in place p makes of the offers of lane u
 data Offered (s : State) (p : ℕ) (key : List ℕ) (lanes : List Lane) (u : ℕ) : Type 0 where
@@ -79,33 +74,28 @@ named-offered : (w : Setting) (s : State) (p llid : ℕ) (key : List ℕ) (f : L
     → ((l : Lane) → f l .keys .offers ≡ l .keys .offers ++ (key ∷ [])) → (u : ℕ) → Offered s p key (map (named llid f) (s .history .lanes)) u
 unfolding named
 named-offered w s p llid key f i e more-by u =
-    by-test (both (laneAt s u .entry .registered) (has (laneAt s u .site .identity) llid)) refl where
-      by-test : (b : Bool) → both (laneAt s u .entry .registered) (has (laneAt s u .site .identity) llid) ≡ b
-          → Offered s p key (map (named llid f) (s .history .lanes)) u
-      by-test false h =
-          kept (ap (λ (l : Lane). l .keys .offers) (named-at llid f (s .history .lanes) u ∙ pick-false (f (laneAt s u)) (laneAt s u) h))
-      by-test true h =
-          more (named-held w s p u llid i e h)
-          (ap (λ (l : Lane). l .keys .offers) (named-at llid f (s .history .lanes) u ∙ pick-true (f (laneAt s u)) (laneAt s u) h) ∙ more-by (laneAt s u))
+    pick-holds
+    (λ (m : Lane). laneOf (map (named llid f) (s .history .lanes)) u ≡ m → Offered s p key (map (named llid f) (s .history .lanes)) u)
+    (both (laneAt s u .entry .registered) (has (laneAt s u .site .identity) llid)) (f (laneAt s u)) (laneAt s u)
+    (λ h q. more (named-held w s p u llid i e h) (ap (λ (l : Lane). l .keys .offers) q ∙ more-by (laneAt s u)))
+    (λ h q. kept (ap (λ (l : Lane). l .keys .offers) q)) (named-at llid f (s .history .lanes) u)
 
 pub offer-right : (w : Setting) (s : State) (llid : ℕ) (key : List ℕ) → Invariant w s → Fits w s (offer llid key)
     → Invariant w (step s (offer llid key))
 unfolding step offering offerOf keySent offerUnit outcome withChannels laneLeaving laneOffered laneWith
 offer-right w s llid key i fits =
-    let f : Lane → Lane =
-    λ l. laneLeaving (keyMessage (lift (s .olt) noKeyMessage Accepted llid (offerUnit llid key) .handed) (s .history .now)) (laneOffered key l) in
+    let f : KeyMessage → Lane → Lane = λ x l. laneLeaving (keyMessage x (s .history .now)) (laneOffered key l) in
     call-right w s noKeyMessage Accepted llid (offerUnit llid key) f i
     (record {
       valid = offer-valid (s .olt) llid key (i .valid);
       rises = λ u a k. omega arith;
       frees = λ l. i .shared .free;
-      site = λ l. refl;
-      path = λ l. refl;
-      entry = λ l. refl;
-      own = λ l u h e j.
-          rw (l .handed)
-          (offer-keeps w (s .olt .shared) (s .history .now) (laneAt s u) (unitAt (s .olt) (l .at)) (onuAt s u) llid key (i .shared) j e (l .accepts));
+      site = λ x l. refl;
+      path = λ x l. refl;
+      entry = λ x l. refl;
       keys = λ l.
-          keys-offered w s (l .at) key (map (named llid f) (s .history .lanes)) i (fits (ap verdictNumber (l .verdict)))
-          (named-offered w s (l .at) llid key f i (l .found) (λ y. refl));
+          keys-offered w s (l .at) key (map (named llid (f _)) (s .history .lanes)) i (fits (ap verdictNumber (l .verdict)))
+          (named-offered w s (l .at) llid key (f _) i (l .found) (λ y. refl));
     })
+    (λ l u h e j.
+    offer-keeps w (s .olt .shared) (s .history .now) (laneAt s u) (unitAt (s .olt) (l .at)) (onuAt s u) llid key (i .shared) j e (l .accepts))

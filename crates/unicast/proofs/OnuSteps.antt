@@ -1,12 +1,11 @@
 -- The calls on a unit keep the invariant: they touch that unit and its lane alone, and one that is refused leaves both. Assumes nothing.
 use mathlib.Core.Path.{_≡_, refl, sym, _∙_, ap, subst}
-use mathlib.Core.Bool.{Bool, true, false}
+use mathlib.Core.Bool.{true}
 use mathlib.Core.List.{List}
 use Prim.Native.Nat.{ℕ, _+_, _<_}
 use native.Mathlib.Omega.{arith}
-use lib.Dec.{eqb}
-use lib.ListN.{length, getD, set, length-set, List·getD-map}
-use lib.Seq.{getD-set-same, getD-set-other, set-getD, map-set-same}
+use lib.ListN.{length, set, length-set}
+use lib.Seq.{getD-set-same, getD-set-other, set-getD}
 use borrow.Author.Tests.{eqb-true, eqb-false}
 use Rattle.octets.proofs.Choice.{pick-holds}
 use Rattle.octets.specs.Output.{WithOutput}
@@ -37,11 +36,13 @@ use Rattle.unicast.specs.History.{InFlight, clockMessage, keyMessage, en
 use Rattle.unicast.specs.Events.{sendUp, arriveDown, overhear, strayClock, strayKey, strayDown}
 use Rattle.unicast.specs.Run.{State, noSite, freshLane, laneAt, onuAt, accepted, noted, withLanes, atOnu, sendingUp, messageArriving, receiptDown, envelopeArriving, inFlightArriving, noEnvelope, inFlightAt, unitAfter, step}
 use Rattle.unicast.specs.Premises.{FittingBuffer, DueDown, Fits}
-use Rattle.unicast.proofs.Invariant.{Joined, Common, Standing, LaneRight, AtTick, Invariant}
+use Rattle.unicast.proofs.Cases.{same-or-not}
+use Rattle.unicast.proofs.Invariant.{Joined, Common, LaneRight, AtTick, Invariant}
+use Rattle.unicast.proofs.Places.{keys-stay, set-keeps}
 use Rattle.unicast.proofs.Alive.{Alive, registered-alive, towards-alive}
 use Rattle.unicast.proofs.ClockSteps.{clock-arrives, common-clock-keeps}
 use Rattle.unicast.proofs.KeySteps.{key-arrives}
-use Rattle.unicast.proofs.Frames.{common-moved}
+use Rattle.unicast.proofs.Frames.{common-moved, lane-joined}
 use Rattle.unicast.proofs.SendUpSteps.{send-up-keeps, send-common}
 use Rattle.unicast.proofs.ReceiptDownSteps.{arrive-down, receive-common}
 use Rattle.unicast.proofs.OverheardSteps.{overheard-refused}
@@ -56,9 +57,6 @@ pub record OltRight (w : Setting) (s : State) (u : ℕ) (t : Olt) : Type 0 where
   pub shared : AtTick w (s .history .now) (t .shared)
   pub others : (x : ℕ) → x < length (s .history .lanes) → (x ≡ u → ⊥) → LaneRight w t (s .history .now) (laneAt s x) (onuAt s x)
 
-same-olt : (w : Setting) (s : State) (u : ℕ) → Invariant w s → OltRight w s u (s .olt)
-same-olt w s u v = record { valid = v .valid; places = v .places; count = v .count; shared = v .shared; others = λ x h n. v .lane x h }
-
 -- a unit and its lane are replaced, past the end nothing, and the OLT; registration and offers stay
 module _ (w : Setting) (s : State) (u : ℕ) (t : Olt) (o : Onu) (m : Lane) (v : Invariant w s) (r : OltRight w s u t)
     (right : u < length (s .history .lanes) → LaneRight w t (s .history .now) m o) (entry : m .entry ≡ laneAt s u .entry)
@@ -71,36 +69,23 @@ module _ (w : Setting) (s : State) (u : ℕ) (t : Olt) (o : Onu) (m : Lane) (v :
         history = record { now = s .history .now; registrations = s .history .registrations; lanes = set (s .history .lanes) u m };
       }
 
-  -- what the new lane has of the old one, each lane has
-  field-stays : {B : Type 0} (f : Lane → B) → f m ≡ f (laneAt s u) → (x : ℕ) → f (laneAt after x) ≡ f (laneAt s x)
-  field-stays {B} f e x =
-      sym (List·getD-map f (set (s .history .lanes) u m) x (freshLane noSite))
-      ∙ ap (λ (l : List B). getD l x (f (freshLane noSite))) (map-set-same f (s .history .lanes) u m (freshLane noSite) e)
-      ∙ List·getD-map f (s .history .lanes) x (freshLane noSite)
-
   lane-right : (x : ℕ) → x < length (s .history .lanes) → LaneRight w t (s .history .now) (laneAt after x) (onuAt after x)
-  lane-right x h = by-lane (eqb x u) refl where
-    by-lane : (b : Bool) → eqb x u ≡ b → LaneRight w t (s .history .now) (laneAt after x) (onuAt after x)
-    by-lane true e =
-        let z : x ≡ u = eqb-true x u e in
-        let known : u < length (s .history .lanes) = rw z at h in
-        rw (
-          z,
-          getD-set-same (s .history .lanes) u m (freshLane noSite) known,
-          getD-set-same (s .onus) u o (newOnu noIdentity 0 0) (omega (arith, known, v .paired)),
-        ) (right known)
-    by-lane false e =
-        let n = eqb-false x u e in
-        rw (
-          getD-set-other (s .history .lanes) u x m (freshLane noSite) n,
-          getD-set-other (s .onus) u x o (newOnu noIdentity 0 0) n,
-        ) (r .others x h n)
+  lane-right x h =
+      same-or-not x u
+      (λ z.
+      let known : u < length (s .history .lanes) = rw z at h in
+      rw (
+        z,
+        getD-set-same (s .history .lanes) u m (freshLane noSite) known,
+        getD-set-same (s .onus) u o (newOnu noIdentity 0 0) (omega (arith, known, v .paired)),
+      ) (right known))
+      (λ n.
+      rw (getD-set-other (s .history .lanes) u x m (freshLane noSite) n, getD-set-other (s .onus) u x o (newOnu noIdentity 0 0) n) (r .others x h n))
 
   pub replaced-right : Invariant w after
   replaced-right =
       let places = length-set (s .history .lanes) u m in
-      let entries = field-stays (λ (l : Lane). l .entry) entry in
-      let keys = field-stays (λ (l : Lane). l .keys .offers) offers in
+      let entries = set-keeps (λ (l : Lane). l .entry) (s .history .lanes) u m entry in
       record {
         valid = r .valid;
         places = r .places;
@@ -110,14 +95,14 @@ module _ (w : Setting) (s : State) (u : ℕ) (t : Olt) (o : Onu) (m : Lane) (v :
         lane = λ x h. lane-right x (rw places at h);
         apart = λ x y h k b c e.
             v .apart x y (rw places at h) (rw places at k) (rw (entries x) at b) (rw (entries y) at c) (rw (entries x, entries y) at e);
-        keys = λ x y i j h k e. v .keys x y i j (rw (keys x) at h) (rw (keys y) at k) (rw (keys x, keys y) at e);
+        keys = keys-stay (s .history .lanes) (set (s .history .lanes) u m) (set-keeps (λ (l : Lane). l .keys .offers) (s .history .lanes) u m offers) (v .keys);
       }
 
 pub at-onu-right : (w : Setting) (s : State) (u : ℕ) (o : Onu) (f : Lane → Lane) → Invariant w s
     → (u < length (s .history .lanes) → LaneRight w (s .olt) (s .history .now) (f (laneAt s u)) o)
     → f (laneAt s u) .entry ≡ laneAt s u .entry → f (laneAt s u) .keys .offers ≡ laneAt s u .keys .offers → Invariant w (atOnu s u o f)
 unfolding atOnu withLanes
-at-onu-right w s u o f v right entry offers = replaced-right w s u (s .olt) o (f (laneAt s u)) v (same-olt w s u v) right entry offers
+at-onu-right w s u o f v right entry offers = replaced-right w s u (s .olt) o (f (laneAt s u)) v (search (v .lane)) right entry offers
 
 -- what the lane is told by an accepted call
 noted-right : (w : Setting) (s : State) (u : ℕ) (o : Onu) (number : ℕ) (f g : Lane → Lane)
@@ -145,14 +130,8 @@ module _ (w : Setting) (s : State) (u : ℕ) (v : Invariant w s) where
       let place : laneAt s u .entry .place ≡ m .entry .place = ap (λ (t : Entry). t .place) (sym entry) in
       at-onu-right w s u o f v
       (λ known.
-      record {
-        common = c;
-        standing =
-            subst (λ (t : Bool). Standing t w (s .olt) (s .history .now) m o) (sym (ap (λ (t : Entry). t .registered) entry ∙ r .registered)) (
-              omega (arith, r .used, place),
-              subst (λ (i : ℕ). Joined w (s .olt .shared) (s .history .now) m (unitAt (s .olt) i) o) place j,
-            );
-      }) entry offers
+      lane-joined w (s .olt) (s .history .now) m o (ap (λ (t : Entry). t .registered) entry ∙ r .registered) c
+      (omega (arith, r .used, place), subst (λ (i : ℕ). Joined w (s .olt .shared) (s .history .now) m (unitAt (s .olt) i) o) place j)) entry offers
 
 ---- a send
 
@@ -182,16 +161,7 @@ key-common : (w : Setting) (now : ℕ) (l : Lane) (o : Onu) (m : KeyMessage) →
 unfolding keyMessageAt keyMessageTo onuAcknowledged withOnuKeys travelOf
 key-common w now l o m c =
     onu-keeps (λ (p : Onu). Common w now l p) o noAcknowledgement (keyMessageVerdict o m) (withOnuKeys o (keysTaken (o .keys) m)) (ofKey (m .number)) c
-    (λ v a.
-    record {
-      valid = keys-replaced-valid o (keysTaken (o .keys) m) (keys-taken-valid (o .keys) m (onu-in-range o v .keys)) v;
-      tick = c .tick;
-      mac = c .mac;
-      llids = c .llids;
-      oltmac = c .oltmac;
-      travel = c .travel;
-      first = c .first;
-    })
+    (λ v a. search (keys-replaced-valid o (keysTaken (o .keys) m) (keys-taken-valid (o .keys) m (onu-in-range o v .keys)) v))
 
 module _ (w : Setting) (s : State) (u k : ℕ) (out : List ℕ) (v : Invariant w s) (d : DueDown s u k out) where
   abbrev place : Alive w s u
@@ -223,8 +193,8 @@ module _ (w : Setting) (s : State) (u k : ℕ) (out : List ℕ) (v : Invariant w
   in-flight-right (clockMessage m c t) e due b =
       let r = place in
       let arrives =
-      clock-arrives w (s .olt .shared) (s .history .now) (laneAt s u) (unitAt (s .olt) (laneAt s u .entry .place)) (onuAt s u) k (envelope noEnvelope)
-      m c t (r .common) (r .joined) (d .some) e due in
+      clock-arrives w (s .olt .shared) (s .history .now) (laneAt s u) (unitAt (s .olt) (laneAt s u .entry .place)) (onuAt s u) (r .joined) k
+      (envelope noEnvelope) m c t (d .some) e due (r .common) in
       message-right (clockMessageAt (onuAt s u) m) (common-clock-keeps w (s .history .now) (laneAt s u) (onuAt s u) m (r .common)) (arrives .0) (arrives .1)
   in-flight-right (keyMessage m t) e due b =
       let r = place in

@@ -1,5 +1,5 @@
 -- Laws of what has been: it holds for every lane that knows more keys and sends. Assumes nothing.
-use mathlib.Core.Path.{_≡_, refl, _∙_, ap, subst}
+use mathlib.Core.Path.{_≡_, refl, _∙_, ap}
 use mathlib.Core.Bool.{Bool, true, false}
 use mathlib.Core.List.{List, List·Memᴰ, [], _∷_, _++_}
 use Prim.Native.Nat.{ℕ, _≤_}
@@ -16,12 +16,13 @@ use Rattle.ends.specs.Identities.{has}
 use Rattle.ends.specs.declared.Channels.{Channels}
 use Rattle.ends.specs.declared.Onu.{Onu}
 use Rattle.protocol.specs.declared.Passage.{Passage}
+use Rattle.ends.specs.declared.Shared.{Shared}
 use Rattle.ends.specs.declared.UnitRecord.{UnitRecord}
 use Rattle.unicast.specs.Setting.{Site, Setting}
-use Rattle.unicast.specs.History.{Direction, downward, upward, Envelope, Arrival, Past, Lane, keyOf}
+use Rattle.unicast.specs.History.{Direction, downward, upward, Envelope, Arrival, Lane, keyOf}
 use Rattle.unicast.specs.Claim.{nonceFor, isSealed, PassageRight, SentRight, ArrivedRight}
-use Rattle.unicast.proofs.Invariant.{Spending, Passing}
-use Rattle.unicast.proofs.Queues.{Knows}
+use Rattle.unicast.proofs.Invariant.{Towards, From, Spending, Passing, Joined}
+use Rattle.unicast.proofs.Queues.{Knows, towards-moved, from-moved}
 
 -- a clear envelope carries its payload, whatever the key
 carried-same : (t : Bool) (k k' : List ℕ) (n : Nonce) (p : List ℕ) → (t ≡ true → k ≡ k')
@@ -41,43 +42,26 @@ module _ (w : Setting) (l l' : Lane) (top : ℕ) (k : Knows l l' top) where
 
   pub sent-carried : (e : Envelope) → e .number ≤ top → SentRight w l e → SentRight w l' e
   sent-carried e h r =
-      record {
-        passage = passage-carried e (e .channel) (e .passage) h (r .passage);
-        header = r .header;
-        octets =
-            r .octets
-            ∙ carried-same (isSealed e) _ _ _ _ (λ t. k .keys (e .number) (leb-true 1 (e .number) t) h)
-            ∙ ap (λ (s : Site). carried (isSealed e) (keyExpansion (keyOf (l' .keys) (e .number))) (nonceFor w s e) (e .payload)) (k .site);
-        count = r .count;
-        runs = r .runs;
-      }
+      let octets =
+      r .octets
+      ∙ carried-same (isSealed e) _ _ _ _ (λ t. k .keys (e .number) (leb-true 1 (e .number) t) h)
+      ∙ ap (λ (s : Site). carried (isSealed e) (keyExpansion (keyOf (l' .keys) (e .number))) (nonceFor w s e) (e .payload)) (k .site) in
+      search passage-carried
 
   pub arrived-carried : (r : Arrival) → r .envelope .number ≤ top → ArrivedRight w l r → ArrivedRight w l' r
-  arrived-carried r h a =
-      record {
-        sent = k .sent (r .envelope) (a .sent);
-        accepted = a .accepted;
-        passage = passage-carried (r .envelope) (r .envelope .header .channel) (r .passage) h (a .passage);
-        payload = a .payload;
-        count = a .count;
-        runs = a .runs;
-      }
+  arrived-carried r h a = search (k .sent, passage-carried)
 
   -- where no more is sent and no more has arrived
   pub passing-moved : (confirmed active : ℕ) → l' .past ≡ l .past → ((e : Envelope) → List·Memᴰ e (l .past .sent) → e .number ≤ top)
       → Passing w l confirmed active → Passing w l' confirmed active
   passing-moved confirmed active same h p =
-      let was : (e : Envelope) → List·Memᴰ e (l' .past .sent) → List·Memᴰ e (l .past .sent) =
-      λ e m. subst (λ (x : Past). List·Memᴰ e (x .sent)) same m in
-      let came : (r : Arrival) → List·Memᴰ r (l' .past .arrived) → List·Memᴰ r (l .past .arrived) =
-      λ r m. subst (λ (x : Past). List·Memᴰ r (x .arrived)) same m in
       record {
-        sent = λ e m. sent-carried e (h e (was e m)) (p .sent e (was e m));
-        named = λ e m. rw (k .site) at (p .named e (was e m));
-        fits = λ e m. p .fits e (was e m);
-        arrived = λ r m. let a = p .arrived r (came r m) in arrived-carried r (h (r .envelope) (a .sent)) a;
-        down = λ r m. p .down r (came r m);
-        up = λ r m. p .up r (came r m);
+        sent = λ e m. let was = rw same at m in sent-carried e (h e was) (p .sent e was);
+        named = λ e m. rw (k .site) at (p .named e (rw same at m));
+        fits = λ e m. p .fits e (rw same at m);
+        arrived = λ r m. let a = p .arrived r (rw same at m) in arrived-carried r (h (r .envelope) (a .sent)) a;
+        down = λ r m. p .down r (rw same at m);
+        up = λ r m. p .up r (rw same at m);
       }
 
 -- no send is numbered above A
@@ -87,6 +71,19 @@ sent-most l down u o s h e m = by-direction (e .direction) refl where
   by-direction : (x : Direction) → e .direction ≡ x → e .number ≤ u .keys .active
   by-direction downward f = s .downs e m f .1 .most
   by-direction upward f = omega (arith, s .ups e m f .1 .most)
+
+-- what is under way and what has been hold of a lane that knows no less and has the same past
+pub moved-keeps : (w : Setting) (sh : Shared) (now : ℕ) (l l' : Lane) (u : UnitRecord) (o : Onu) → Joined w sh now l u o
+    → Knows l l' (u .keys .offered) → l' .past ≡ l .past
+    → Towards (w .first) (l .path) l' (o .keys .active) (u .keys .active) (u .keys .offered) (l .transit .towards)
+    × From l' (u .confirmation .confirmed) (o .keys .active) (l .transit .from) × Passing w l' (u .confirmation .confirmed) (o .keys .active)
+moved-keeps w sh now l l' u o j k same =
+    let n = j .numbers in (
+      towards-moved (w .first) (l .path) l l' (o .keys .active) (u .keys .active) (u .keys .offered) (l .transit .towards) k (j .towards),
+      from-moved l l' (u .keys .offered) (u .confirmation .confirmed) (o .keys .active) (l .transit .from) k (j .from),
+      passing-moved w l l' (u .keys .offered) k (u .confirmation .confirmed) (o .keys .active) same
+          (λ e m. omega (arith, sent-most l (sh .channels) u o (j .spending) (n .mid) e m)) (j .passing),
+    )
 
 ---- one more
 

@@ -1,26 +1,22 @@
 -- Who has which place: the lane of the unit in a place, found by any of its LLIDs, and what is replaced of one lane alone. Assumes nothing.
 use mathlib.Core.Path.{_≡_, refl, sym, _∙_, ap, subst}
-use mathlib.Core.Bool.{Bool, true, false}
+use mathlib.Core.Bool.{Bool, true}
 use mathlib.Core.List.{List, [], _∷_}
 use Prim.Native.Nat.{ℕ, zero, suc, _<_}
 use native.Mathlib.Omega.{arith}
-use lib.Dec.{eqb}
-use lib.ListN.{length, getD, set}
-use lib.Seq.{getD-set-same, getD-set-other}
-use borrow.Author.Tests.{eqb-true, eqb-false}
+use lib.ListN.{length, getD, set, List·getD-map}
+use lib.Seq.{map-set-same}
 use Rattle.octets.specs.Choice.{both}
-use Rattle.octets.proofs.Choice.{both-left, both-right}
+use Rattle.octets.proofs.Choice.{both-left, both-right, true-false}
 use Rattle.ends.specs.Identities.{has}
 use Rattle.ends.specs.Table.{find, unitAt}
 use Rattle.ends.specs.declared.Found.the-variants.{At}
-use Rattle.ends.specs.declared.Olt.{Olt}
-use Rattle.ends.specs.declared.Onu.{Onu}
 use Rattle.ends.proofs.Table.{find-at, find-own}
 use Rattle.ends.proofs.Validity.{olt-in-range}
 use Rattle.unicast.specs.Setting.{Setting}
 use Rattle.unicast.specs.History.{Lane}
 use Rattle.unicast.specs.Run.{State, laneAt, onuAt, noSite, freshLane}
-use Rattle.unicast.proofs.Invariant.{flagOf, Idle, Joined, Standing, Invariant}
+use Rattle.unicast.proofs.Invariant.{Joined, Standing, Invariant}
 
 ---- lanes
 
@@ -36,15 +32,15 @@ KeysApart ls =
 pub keys-stay : (ls ms : List Lane) → ((u : ℕ) → laneOf ms u .keys .offers ≡ laneOf ls u .keys .offers) → KeysApart ls → KeysApart ms
 keys-stay ls ms same k u v m n g h e = k u v m n (rw (same u) at g) (rw (same v) at h) (rw (same u, same v) at e)
 
--- a lane that has something of which a fresh one has none is in the list
-known-by : (g : Lane → ℕ) (ls : List Lane) (u k : ℕ) → g (freshLane noSite) ≡ 0 → k < g (laneOf ls u) → u < length ls
-known-by g [] u k e h = absurd (omega (arith, e, h))
-known-by g (l ∷ ls) zero k e h = omega arith
-known-by g (l ∷ ls) (suc u) k e h = omega (arith, known-by g ls u k e h)
+-- past the end stands a lane to which nothing has happened
+pub known-lane : (ls : List Lane) (u : ℕ) → (laneOf ls u ≡ freshLane noSite → ⊥) → u < length ls
+known-lane [] u n = absurd (n refl)
+known-lane (l ∷ ls) zero n = omega arith
+known-lane (l ∷ ls) (suc u) n = omega (arith, known-lane ls u n)
 
-registered-known : (ls : List Lane) (u : ℕ) → laneOf ls u .entry .registered ≡ true → u < length ls
+pub registered-known : (ls : List Lane) (u : ℕ) → laneOf ls u .entry .registered ≡ true → u < length ls
 unfolding freshLane
-registered-known ls u e = known-by (λ (l : Lane). flagOf (l .entry .registered)) ls u 0 refl (omega (arith, ap flagOf e))
+registered-known ls u e = known-lane ls u (λ f. true-false (sym e ∙ ap (λ (l : Lane). l .entry .registered) f))
 
 ---- who has which place
 
@@ -79,23 +75,6 @@ pub found-has : (w : Setting) (s : State) (p u llid : ℕ) → Invariant w s →
     → has (laneAt s u .site .identity) llid ≡ true
 found-has w s p u llid i h e = sym (joined-at w s p u i h .1 .llids llid) ∙ find-at (s .olt) llid p e .has
 
-not-idle : (b : Bool) (w : Setting) (t : Olt) (now : ℕ) (l : Lane) (o : Onu) → (Idle now l o → ⊥) → Standing b w t now l o → b ≡ true
-not-idle true w t now l o n s = refl
-not-idle false w t now l o n s = absurd (n s)
-
--- a lane that has something of which an idle one has none is registered
-pub busy-held : (w : Setting) (s : State) (g : Lane → ℕ) (u k : ℕ) → Invariant w s → g (freshLane noSite) ≡ 0
-    → ((o : Onu) → Idle (s .history .now) (laneAt s u) o → g (laneAt s u) ≡ 0) → k < g (laneAt s u) → Held s (laneAt s u .entry .place) u
-busy-held w s g u k i e n h =
-    let known = known-by g (s .history .lanes) u k e h in
-    record {
-      known = known;
-      registered =
-          not-idle (laneAt s u .entry .registered) w (s .olt) (s .history .now) (laneAt s u) (onuAt s u) (λ d. omega (arith, h, n (onuAt s u) d))
-          (i .lane u known .standing);
-      place = refl;
-    }
-
 pub at-once : (p q : ℕ) → At p ≡ At q → p ≡ q
 at-once p q e = cc
 
@@ -110,9 +89,10 @@ named-held w s p u llid i e h =
 
 ---- one lane replaced
 
-pub set-keeps : {A : Type 0} (g : Lane → A) (ls : List Lane) (u : ℕ) (l : Lane) → u < length ls → g l ≡ g (laneOf ls u) → (v : ℕ)
+-- what the new lane has of the old one, each lane has
+pub set-keeps : {A : Type 0} (g : Lane → A) (ls : List Lane) (u : ℕ) (l : Lane) → g l ≡ g (laneOf ls u) → (v : ℕ)
     → g (laneOf (set ls u l) v) ≡ g (laneOf ls v)
-set-keeps g ls u l h e v = by-test (eqb v u) refl where
-  by-test : (t : Bool) → eqb v u ≡ t → g (laneOf (set ls u l) v) ≡ g (laneOf ls v)
-  by-test true f = let same = eqb-true v u f in rw same (ap g (getD-set-same ls u l (freshLane noSite) h) ∙ e)
-  by-test false f = ap g (getD-set-other ls u v l (freshLane noSite) (eqb-false v u f))
+set-keeps {A} g ls u l e v =
+    sym (List·getD-map g (set ls u l) v (freshLane noSite))
+    ∙ ap (λ (xs : List A). getD xs v (g (freshLane noSite))) (map-set-same g ls u l (freshLane noSite) e)
+    ∙ List·getD-map g ls v (freshLane noSite)

@@ -23,24 +23,13 @@ pub record Knows (l l' : Lane) (top : ℕ) : Type 0 where
 
 under-carried : (l l' : Lane) (top lo lo' hi hi' : ℕ) (direction : Direction) (e : Envelope) → Knows l l' top → lo' ≤ lo → hi ≤ hi'
     → Under (l .site .identity) (l .past .sent) direction lo hi e → Under (l' .site .identity) (l' .past .sent) direction lo' hi' e
-under-carried l l' top lo lo' hi hi' direction e k h g u =
-    record {
-      above = omega (arith, u .above);
-      most = omega (arith, u .most);
-      sent = k .sent e (u .sent);
-      thatWay = u .thatWay;
-      named = rw (k .site) at (u .named);
-    }
+under-carried l l' top lo lo' hi hi' direction e k h g u = search (k .sent, ← k .site, arith)
 
 key-carried : (l l' : Lane) (lo lo' top top' : ℕ) (m : KeyMessage) → Knows l l' top → lo' ≤ lo → top ≤ top'
     → KeyRight (l .keys) (l .site .identity) lo top m → KeyRight (l' .keys) (l' .site .identity) lo' top' m
 key-carried l l' lo lo' top top' m k h g r =
-    record {
-      above = omega (arith, r .above);
-      most = omega (arith, r .most);
-      key = r .key ∙ k .keys (m .number) (omega (arith, r .above)) (r .most);
-      named = rw (k .site) at (r .named);
-    }
+    let key = r .key ∙ k .keys (m .number) (omega (arith, r .above)) (r .most) in
+    search (← k .site, arith)
 
 ---- sealed envelopes
 
@@ -105,7 +94,7 @@ pub towards-key : (first : ℕ) (p : Delays) (l : Lane) (lo hi top : ℕ) (xs : 
     → KeyRight (l .keys) (l .site .identity) hi top m → Towards first p l lo hi top xs → Towards first p l lo hi top (xs ++ (keyMessage m t ∷ []))
 towards-key first p l lo hi top xs m t h r q =
     towards-append first p l lo hi top xs (keyMessage m t ∷ []) h q
-    (λ low g. (record { above = omega (arith, r .above); most = r .most; key = r .key; named = r .named }, tt))
+    (λ low g. (search arith, tt))
 
 -- an envelope numbered hi
 pub towards-envelope : (first : ℕ) (p : Delays) (l : Lane) (lo hi top : ℕ) (xs : List InFlight) (e : Envelope) → lo ≤ hi
@@ -113,7 +102,7 @@ pub towards-envelope : (first : ℕ) (p : Delays) (l : Lane) (lo hi top : ℕ) (
     → Towards first p l lo hi top (xs ++ (envelope e ∷ []))
 towards-envelope first p l lo hi top xs e h u q =
     towards-append first p l lo hi top xs (envelope e ∷ []) h q
-    (λ low g. (record { above = omega (arith, u .above); most = u .most; sent = u .sent; thatWay = u .thatWay; named = u .named }, tt))
+    (λ low g. (search arith, tt))
 
 -- the kth and what follows it: at a message it is right, and the rest; at an envelope it lies within the bounds, and the rest
 -- lies above it
@@ -162,8 +151,7 @@ from-moved l l' top lo hi es k q = from-carried l l' top lo lo hi hi es k (omega
 -- an envelope numbered hi
 pub from-envelope : (l : Lane) (lo hi : ℕ) (es : List Envelope) (e : Envelope) → lo ≤ hi
     → Under (l .site .identity) (l .past .sent) upward hi hi e → From l lo hi es → From l lo hi (es ++ (e ∷ []))
-from-envelope l lo hi [] e h u q =
-    (record { above = omega (arith, u .above); most = u .most; sent = u .sent; thatWay = u .thatWay; named = u .named }, tt)
+from-envelope l lo hi [] e h u q = (search arith, tt)
 from-envelope l lo hi (x ∷ es) e h u q = (q .0, from-envelope l (x .number) hi es e (q .0 .most) u (q .1))
 
 pub from-taken : (l : Lane) (lo hi : ℕ) (es : List Envelope) (k : ℕ) (d e : Envelope) → k < length es → getD es k d ≡ e

@@ -1,12 +1,10 @@
 -- An envelope that arrives at its unit is accepted and opened, and keeps the invariant of its lane. Assumes nothing.
 use mathlib.Core.Path.{_≡_, refl, sym, _∙_, ap, subst}
-use mathlib.Core.Bool.{Bool, true, false}
+use mathlib.Core.Bool.{true}
 use mathlib.Core.List.{List, List·Memᴰ}
 use Prim.Native.Nat.{ℕ, suc, _+_, _<_, _≤_}
 use native.Mathlib.Omega.{arith}
-use lib.Dec.{eqb}
 use lib.ListN.{length, getD, drop}
-use borrow.Author.Tests.{eqb-true, eqb-false}
 use Rattle.octets.proofs.Members.{mem-at}
 use Rattle.refusal.specs.declared.Verdict.the-variants.{Accepted}
 use Rattle.clock.specs.Ticks.{epamOf}
@@ -14,6 +12,7 @@ use Rattle.clock.specs.Aligned.{Aligned}
 use Rattle.clock.specs.declared.Stamps.{Stamps}
 use Rattle.protocol.specs.Headers.{validHeader, envelopeHeader, keyFor, passageOf, noPassage}
 use Rattle.ends.specs.Identities.{has}
+use Rattle.ends.specs.Keys.{keyIn}
 use Rattle.ends.specs.Limits.{maxChanges}
 use Rattle.ends.specs.Travels.{travelOf}
 use Rattle.protocol.specs.OnuTraffic.{onuReceiveChoice, onuMoved, onuAfterReceipt, receivingOnu}
@@ -32,9 +31,10 @@ use Rattle.protocol.proofs.OnuChoices.{OnuReceives, onu-receive-accepts}
 use Rattle.traffic.specs.Passages.{misfit, outputAfter}
 use Rattle.traffic.specs.Receipts.{onuReceived, onuReceiveOf}
 use Rattle.unicast.specs.Setting.{Setting, clockDown}
-use Rattle.unicast.specs.History.{downward, upward, Envelope, InFlight, envelope, leftAt, Arrival, Lane, laneWith, arriving, laneTaken, laneArrivedDown}
+use Rattle.unicast.specs.History.{downward, upward, Envelope, InFlight, envelope, leftAt, Arrival, Lane, keyOf, laneWith, arriving, laneTaken, laneArrivedDown}
 use Rattle.unicast.specs.Claim.{PassageRight, SentRight, ArrivedRight}
-use Rattle.unicast.proofs.Invariant.{countUp, SentUnder, Under, Towards, Joined, Common}
+use Rattle.unicast.proofs.Cases.{same-or-not}
+use Rattle.unicast.proofs.Invariant.{reachOf, Numbers, Answers, SpentUp, SentUnder, FirstSends, Under, Towards, Joined, Common}
 use Rattle.unicast.specs.Bounds.{goes}
 use Rattle.unicast.proofs.Pace.{rising-dropped, highest-other, highest-own}
 use Rattle.unicast.proofs.Queues.{Knows, dropped-among, towards-carried, towards-taken, from-carried}
@@ -42,31 +42,18 @@ use Rattle.unicast.proofs.Frames.{common-moved}
 use Rattle.unicast.proofs.Envelopes.{ways-apart, arrivalOf, opens-right, octets-fit}
 use Rattle.unicast.proofs.SendChoices.{timing-stayed}
 use Rattle.unicast.proofs.Past.{passing-arrived}
+use Rattle.unicast.proofs.Spending.{unnoted}
 use Rattle.unicast.proofs.ReceiptChoices.{TakenDown, taken-down}
 
 ---- its lane
 
 -- of a unit whose number stays the first send does, and one that moves on has none
-first-taken : (n old new switches : ℕ) (f g : FirstSend) (low ahead : ℕ) → new ≡ n → (n ≡ old → g ≡ f)
-    → ((n ≡ old → ⊥) → g .noted ≡ 0)
-    → (f .noted ≡ 1 → old ≡ switches → low ≤ f .at + ahead) → g .noted ≡ 1 → new ≡ switches → low ≤ g .at + ahead
-first-taken n old new switches f g low ahead active stays unsent was one same = by-number (eqb n old) refl where
-  by-number : (t : Bool) → eqb n old ≡ t → low ≤ g .at + ahead
-  by-number true e =
-      let is : n ≡ old = eqb-true n old e in
-      let first : g ≡ f = stays is in
-      rw first (was (sym (ap (λ (x : FirstSend). x .noted) first) ∙ one) (omega (arith, is, active, same)))
-  by-number false e = absurd (omega (arith, one, unsent (eqb-false n old e)))
-
-first-sent : (n old new : ℕ) (f g : FirstSend) (sent : List Envelope) → new ≡ n → (n ≡ old → g ≡ f) → ((n ≡ old → ⊥) → g .noted ≡ 0)
-    → (f .noted ≡ 1 → SentUnder sent old) → g .noted ≡ 1 → SentUnder sent new
-first-sent n old new f g sent active stays unsent was one = by-number (eqb n old) refl where
-  by-number : (t : Bool) → eqb n old ≡ t → SentUnder sent new
-  by-number true e =
-      let is : n ≡ old = eqb-true n old e in
-      let b = was (sym (ap (λ (x : FirstSend). x .noted) (stays is)) ∙ one) in
-      record { envelope = b .envelope; among = b .among; thatWay = b .thatWay; numbered = b .numbered ∙ sym (active ∙ is) }
-  by-number false e = absurd (omega (arith, one, unsent (eqb-false n old e)))
+first-taken : (P : FirstSend → ℕ → Type 0) (n old new : ℕ) (f g : FirstSend) → new ≡ n → (n ≡ old → g ≡ f) → ((n ≡ old → ⊥) → g .noted ≡ 0)
+    → (f .noted ≡ 1 → P f old) → g .noted ≡ 1 → P g new
+first-taken P n old new f g active stays unsent was one =
+    same-or-not n old
+    (λ is. let first = stays is in rw (first, active ∙ is) (was (sym (ap (λ (x : FirstSend). x .noted) first) ∙ one)))
+    (λ other. absurd (omega (arith, one, unsent other)))
 
 module _ (w : Setting) (sh : Shared) (now : ℕ) (l : Lane) (u : UnitRecord) (o : Onu) (j : Joined w sh now l u o) where
   -- the unit's keys and first send after an arrival
@@ -78,94 +65,61 @@ module _ (w : Setting) (sh : Shared) (now : ℕ) (l : Lane) (u : UnitRecord) (o 
   arrived-down-joined choice k r t e rest right =
       let n = j .numbers in
       let m = laneArrivedDown r (laneTaken k l) in
-      let knows : (top : ℕ) → Knows l m top = λ top. record { site = refl; sent = λ x i. i; keys = λ x p q. refl } in
+      let knows : (top : ℕ) → Knows l m top = λ top. search in
       let low : o .keys .active ≤ t .keys .active = omega (arith, e .above, t .active) in
+      let firsts : FirstSends (l .keys .switches) (l .keys .switched) (l .site .up) (l .past .sent) (u .keys .first) (t .first) (t .keys .active) =
       record {
-        mac = j .mac;
-        llids = j .llids;
-        oltmac = j .oltmac;
-        firsts = record {
-          olt = j .firsts .olt;
-          onu = λ least each one same. first-taken (r .envelope .number) (o .keys .active) (t .keys .active) (l .keys .switches) (o .first) (t .first)
-              (l .keys .switched + least + maxChanges) (l .site .up) (t .active) (t .stays) (t .unsent) (j .firsts .onu least each) one same;
-          some = first-sent (r .envelope .number) (o .keys .active) (t .keys .active) (o .first) (t .first) (l .past .sent) (t .active) (t .stays)
-              (t .unsent) (j .firsts .some);
-        };
-        freed = j .freed;
-        heard = j .heard ∙ sym (highest-other upward (l .past .arrived) r (ap (goes upward) (e .thatWay)));
-        told = sym (highest-own downward (l .past .arrived) r (ap (goes downward) (e .thatWay)) (omega (arith, e .above, j .told, n .last)));
-        gone = j .gone;
-        near = j .near;
-        ups = j .ups;
-        asked =
-            record {
-              under = λ x i. j .asked .under x (dropped-among x (l .transit .towards) (suc k) i);
-              answered = j .asked .answered;
-            };
-        order = record { towards = rising-dropped leftAt 0 now (l .transit .towards) (suc k) (j .order .towards); from = j .order .from };
-        numbers =
-            record {
-              counted = n .counted;
-              listed = n .listed;
-              last = t .active;
-              marked = n .marked;
-              flag = t .flag;
-              low = omega (arith, n .low, low);
-              mid = omega (arith, e .most, t .active);
-              high = omega (arith, n .high, t .reach);
-              top = omega (arith, n .top, t .reach);
-              next = n .next;
-              taken = λ q. let was = n .taken q in omega (arith, was, t .reach);
-            };
-        stored =
-            record {
-              olt = j .stored .olt;
-              onu = λ x p q s.
-                  t .slots x (omega (arith, q, t .active)) (omega (arith, s, t .reach))
-                  ∙ j .stored .onu x p (omega (arith, q, low)) (omega (arith, s, t .reach));
-            };
-        timing = timing-stayed (l .entry) (l .keys) (m .keys) now (u .keys .timer) refl (j .timing);
-        clocks = j .clocks;
-        answers =
-            record {
-              each = λ x i. let was = j .answers .each x i in (was .0, λ q. let held = was .1 q in omega (arith, held, t .reach));
-              set = j .answers .set;
-            };
-        underWay =
-            record {
-              sealed = λ x m. j .underWay .sealed x (dropped-among (envelope x) (l .transit .towards) (suc k) m);
-              present = j .underWay .present;
-            };
-        towards =
-            towards-carried (w .first) (l .path) l m (r .envelope .number) (t .keys .active) (u .keys .active) (u .keys .active) (u .keys .offered)
-            (u .keys .offered)
-            (drop (suc k) (l .transit .towards)) (knows (u .keys .offered)) (omega (arith, t .active)) (omega arith) (omega arith) rest;
-        from =
-            from-carried l m 0 (u .confirmation .confirmed) (u .confirmation .confirmed) (o .keys .active) (t .keys .active) (l .transit .from) (knows 0)
-            (omega arith) low (j .from);
-        spending =
-            record {
-              downs = j .spending .downs;
-              ups = λ x i q.
-                  let was = j .spending .ups x i q in
-                  let s = was .1 in (
-                    was .0,
-                    record {
-                      most = omega (arith, s .most, low);
-                      passed = s .passed;
-                      noted = λ p f.
-                          let same : r .envelope .number ≡ o .keys .active = omega (arith, f, s .most, e .above, t .active) in
-                          subst (λ (y : FirstSend). (y .noted ≡ 1) × (y .at + l .site .up ≤ countUp x + maxChanges)) (sym (t .stays same))
-                          (s .noted p (f ∙ t .active ∙ same));
-                    },
-                    record { spent = was .2 .spent; barred = was .2 .barred },
-                  );
-              spaced = j .spending .spaced;
-            };
-        passing =
-            passing-arrived w l m r (u .confirmation .confirmed) (u .confirmation .confirmed) (o .keys .active) (t .keys .active) knows refl refl
-            (omega arith) low right (λ q. omega (arith, t .active)) (λ q. ways-apart (sym (e .thatWay) ∙ q)) (j .passing);
-      }
+        olt = j .firsts .olt;
+        onu = λ least each.
+            first-taken (λ f a. a ≡ l .keys .switches → l .keys .switched + least + maxChanges ≤ f .at + l .site .up) (r .envelope .number)
+            (o .keys .active) (t .keys .active) (o .first) (t .first) (t .active) (t .stays) (t .unsent) (j .firsts .onu least each);
+        some =
+            first-taken (λ f. SentUnder (l .past .sent)) (r .envelope .number) (o .keys .active) (t .keys .active) (o .first) (t .first) (t .active)
+            (t .stays) (t .unsent) (j .firsts .some);
+      } in
+      let heard = j .heard ∙ sym (highest-other upward (l .past .arrived) r (ap (goes upward) (e .thatWay))) in
+      let told =
+      sym (highest-own downward (l .past .arrived) r (ap (goes downward) (e .thatWay)) (omega (arith, e .above, j .told, n .last))) in
+      let order = rising-dropped leftAt 0 now (l .transit .towards) (suc k) (j .order .towards) in
+      let numbers : Numbers (m .keys) (u .keys .active) (u .keys .offered) (u .confirmation .confirmed) (u .confirmation .acknowledged) (t .keys) =
+      let taken : l .keys .acknowledged ≡ true → u .keys .offered ≤ reachOf (t .keys) = λ q. let was = n .taken q in omega (arith, was, t .reach) in
+      search arith in
+      let slots : (x : ℕ) → 1 ≤ x → t .keys .active ≤ x → x ≤ reachOf (t .keys) → keyIn (t .keys .slots) x ≡ keyOf (l .keys) x =
+      λ x p q s.
+      t .slots x (omega (arith, q, t .active)) (omega (arith, s, t .reach))
+      ∙ j .stored .onu x p (omega (arith, q, low)) (omega (arith, s, t .reach)) in
+      let timing = timing-stayed (l .entry) (l .keys) (m .keys) now (u .keys .timer) refl (j .timing) in
+      let answers : Answers now (t .keys) (o .clock) (l .transit .answered) =
+      record {
+        each = λ x i. let was = j .answers .each x i in (was .0, λ q. let held = was .1 q in omega (arith, held, t .reach));
+        set = j .answers .set;
+      } in
+      let towards =
+      towards-carried (w .first) (l .path) l m (r .envelope .number) (t .keys .active) (u .keys .active) (u .keys .active) (u .keys .offered)
+      (u .keys .offered)
+      (drop (suc k) (l .transit .towards)) (knows (u .keys .offered)) (omega (arith, t .active)) (omega arith) (omega arith) rest in
+      let from =
+      from-carried l m 0 (u .confirmation .confirmed) (u .confirmation .confirmed) (o .keys .active) (t .keys .active) (l .transit .from) (knows 0)
+      (omega arith) low (j .from) in
+      let ups : (x : Envelope) → List·Memᴰ x (l .past .sent)
+      → SpentUp (o .channels) (t .first) (t .keys .active) (l .site .up) (l .path .up) (o .travel) x =
+      λ x i q.
+      let was = j .spending .ups x i q in
+      let s = was .1 in (
+        was .0,
+        record {
+          most = omega (arith, s .most, low);
+          passed = s .passed;
+          noted = λ p f.
+              let same : r .envelope .number ≡ o .keys .active = omega (arith, f, s .most, e .above, t .active) in
+              rw (t .stays same) (s .noted p (f ∙ t .active ∙ same));
+        },
+        was .2,
+      ) in
+      let passing =
+      passing-arrived w l m r (u .confirmation .confirmed) (u .confirmation .confirmed) (o .keys .active) (t .keys .active) knows refl refl
+      (omega arith) low right (λ q. omega (arith, t .active)) (λ q. ways-apart (sym (e .thatWay) ∙ q)) (j .passing) in
+      search (j .asked .under, j .underWay .sealed, dropped-among)
 
 ---- its receipt
 
@@ -217,9 +171,9 @@ module _ (w : Setting) (sh : Shared) (now : ℕ) (l : Lane) (u : UnitRecord) (o 
       let t = chosen-at-unit in
       let n = j .numbers in
       record {
-        enciphered = t .enciphered;
+        enciphered = t .takes .enciphered;
         key = λ h.
-            ap (λ (x : ℕ). keyFor x (o .keys .slots)) (t .chosen)
+            ap (λ (x : ℕ). keyFor x (o .keys .slots)) (t .takes .chosen)
             ∙ key-for (e .number) (o .keys .slots) h
             ∙ j .stored .onu (e .number) h (queue-down .0 .above) (omega (arith, queue-down .0 .most, n .high));
         nonce = λ h.
@@ -237,15 +191,15 @@ module _ (w : Setting) (sh : Shared) (now : ℕ) (l : Lane) (u : UnitRecord) (o 
         header = ap validHeader h ∙ header-valid (e .number) (e .channel) (e .llid) (clockDown (w .first) (e .left));
         has = ap (λ (x : Header). has (o .identity) (x .llid)) h ∙ c .llids (e .llid) ∙ queue-down .0 .named;
         epam = λ s. ap (λ (x : Header). x .epam) h ∙ ap epamOf (sym (rx-down s));
-        synced = λ s. sealed-synced s (eqb (e .number) 0) refl;
-        choice = chosen-at-unit .accepts;
-      } where
-        sealed-synced : e .header .encenabled ≡ 1 → (z : Bool) → eqb (e .number) 0 ≡ z → o .clock .synced ≡ 1
-        sealed-synced s true q =
-            let clear = header-clear (e .number) (e .channel) (e .llid) (clockDown (w .first) (e .left)) (eqb-true (e .number) 0 q) in
-            let zero : e .header .encenabled ≡ 0 = ap (λ (x : Header). x .encenabled) header-down ∙ clear in
-            absurd (omega (arith, s, zero))
-        sealed-synced s false q = synced-down (omega (arith, eqb-false (e .number) 0 q))
+        synced = λ s.
+            same-or-not (e .number) 0
+            (λ none.
+            let clear = header-clear (e .number) (e .channel) (e .llid) (clockDown (w .first) (e .left)) none in
+            let zero : e .header .encenabled ≡ 0 = ap (λ (x : Header). x .encenabled) h ∙ clear in
+            absurd (omega (arith, s, zero)))
+            (λ some. synced-down (omega arith));
+        choice = chosen-at-unit .takes .accepts;
+      }
 
   accepted-down : receivingOnu o (misfit (e .octets) out) (e .header)
       ≡ record {
@@ -275,16 +229,7 @@ unfolding onuAfterReceipt onuMoved withOnuFirst withOnuKeys travelOf
 received-common w now m o Clear c = c
 received-common w now m o (Current n) c = c
 received-common w now m o (Barred r) c = c
-received-common w now m o (Next n) c =
-    record {
-      valid = onu-moved-valid o (c .valid);
-      tick = c .tick;
-      mac = c .mac;
-      llids = c .llids;
-      oltmac = c .oltmac;
-      travel = c .travel;
-      first = record { begun = λ one. absurd (omega arith); ended = λ one. absurd (omega arith) };
-    }
+received-common w now m o (Next n) c = search (onu-moved-valid, unnoted)
 
 -- it stays valid, at its tick, and who it is
 pub receive-common : (w : Setting) (now : ℕ) (l m : Lane) (o : Onu) (h : Header) (p out : List ℕ) → l .site ≡ m .site → l .path ≡ m .path

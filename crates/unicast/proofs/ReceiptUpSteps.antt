@@ -2,7 +2,7 @@
 use mathlib.Core.Path.{_≡_, refl, sym, _∙_, ap, subst}
 use mathlib.Core.Bool.{true, false}
 use mathlib.Core.List.{List, List·Memᴰ}
-use Prim.Native.Nat.{ℕ, suc, _+_, _%_, _<_}
+use Prim.Native.Nat.{ℕ, suc, _+_, _%_, _<_, _≤_}
 use native.Mathlib.Omega.{arith}
 use lib.ListN.{length, getD, drop}
 use Rattle.octets.proofs.Members.{mem-at}
@@ -10,6 +10,7 @@ use Rattle.refusal.specs.declared.Verdict.the-variants.{Accepted}
 use Rattle.clock.specs.Ticks.{clockTurn}
 use Rattle.protocol.specs.Headers.{validHeader, envelopeHeader, keyFor, passageOf}
 use Rattle.ends.specs.Identities.{has}
+use Rattle.ends.specs.Keys.{keyIn}
 use Rattle.protocol.specs.Lift.{outcome}
 use Rattle.envelope.specs.Channels.{upstream}
 use Rattle.protocol.specs.OltTraffic.{receivingOlt}
@@ -26,7 +27,7 @@ use Rattle.protocol.proofs.UnitChoices.{Receives}
 use Rattle.traffic.specs.Passages.{misfit, outputAfter}
 use Rattle.traffic.specs.Receipts.{oltReceived, oltReceiveOf}
 use Rattle.unicast.specs.Setting.{Setting, clockUp}
-use Rattle.unicast.specs.History.{downward, upward, Envelope, Arrival, Lane, laneWith, arriving, laneArrivedUp}
+use Rattle.unicast.specs.History.{downward, upward, Envelope, Arrival, Lane, keyOf, laneWith, arriving, laneArrivedUp}
 use Rattle.unicast.specs.Run.{State, receiptUp}
 use Rattle.unicast.specs.Claim.{PassageRight, SentRight, ArrivedRight}
 use Rattle.unicast.proofs.Invariant.{Under, From, Joined, AtTick}
@@ -49,60 +50,21 @@ module _ (w : Setting) (sh : Shared) (now : ℕ) (l : Lane) (u : UnitRecord) (o 
   arrived-up-joined choice k r t e rest right =
       let n = j .numbers in
       let m = laneArrivedUp k r l in
-      let knows : (top : ℕ) → Knows l m top = λ top. record { site = refl; sent = λ x i. i; keys = λ x p q. refl } in
-      record {
-        mac = j .mac;
-        llids = j .llids;
-        oltmac = j .oltmac;
-        firsts = j .firsts;
-        freed = j .freed;
-        heard = sym (highest-own upward (l .past .arrived) r (ap (goes upward) (e .thatWay)) (omega (arith, e .above, j .heard)));
-        told = j .told ∙ sym (highest-other downward (l .past .arrived) r (ap (goes downward) (e .thatWay)));
-        gone = j .gone;
-        near = j .near;
-        ups = j .ups;
-        asked = record { under = j .asked .under; answered = j .asked .answered };
-        order =
-            record {
-              towards = j .order .towards;
-              from = rising-dropped (λ (x : Envelope). x .left) 0 now (l .transit .from) (suc k) (j .order .from);
-            };
-        numbers =
-            record {
-              counted = n .counted;
-              listed = n .listed;
-              last = n .last;
-              marked = n .marked;
-              flag = n .flag;
-              low = e .most;
-              mid = n .mid;
-              high = n .high;
-              top = n .top;
-              next = omega (arith, n .next, e .above);
-              taken = n .taken;
-            };
-        stored =
-            record {
-              olt = λ x p q s. t .stored x q s ∙ j .stored .olt x p (omega (arith, q, e .above)) s;
-              onu = j .stored .onu;
-            };
-        timing = j .timing;
-        clocks = j .clocks;
-        answers = j .answers;
-        underWay =
-            record {
-              sealed = j .underWay .sealed;
-              present = λ x i. j .underWay .present x (dropped-among x (l .transit .from) (suc k) i);
-            };
-        towards =
-            towards-moved (w .first) (l .path) l m (o .keys .active) (u .keys .active) (u .keys .offered) (l .transit .towards) (knows (u .keys .offered))
-            (j .towards);
-        from = from-moved l m 0 (r .envelope .number) (o .keys .active) (drop (suc k) (l .transit .from)) (knows 0) rest;
-        spending = record { downs = j .spending .downs; ups = j .spending .ups; spaced = j .spending .spaced };
-        passing =
-            passing-arrived w l m r (u .confirmation .confirmed) (r .envelope .number) (o .keys .active) (o .keys .active) knows refl refl
-            (e .above) (omega arith) right (λ q. ways-apart (sym q ∙ e .thatWay)) (λ q. omega arith) (j .passing);
-      }
+      let knows : (top : ℕ) → Knows l m top = λ top. search in
+      let heard = sym (highest-own upward (l .past .arrived) r (ap (goes upward) (e .thatWay)) (omega (arith, e .above, j .heard))) in
+      let told = j .told ∙ sym (highest-other downward (l .past .arrived) r (ap (goes downward) (e .thatWay))) in
+      let order = rising-dropped (λ (x : Envelope). x .left) 0 now (l .transit .from) (suc k) (j .order .from) in
+      let next : u .keys .offered ≤ r .envelope .number + 1 = omega (arith, n .next, e .above) in
+      let slots : (x : ℕ) → 1 ≤ x → r .envelope .number ≤ x → x ≤ u .keys .offered → keyIn (t .slots) x ≡ keyOf (l .keys) x =
+      λ x p q s. t .stored x q s ∙ j .stored .olt x p (omega (arith, q, e .above)) s in
+      let towards =
+      towards-moved (w .first) (l .path) l m (o .keys .active) (u .keys .active) (u .keys .offered) (l .transit .towards) (knows (u .keys .offered))
+      (j .towards) in
+      let from = from-moved l m 0 (r .envelope .number) (o .keys .active) (drop (suc k) (l .transit .from)) (knows 0) rest in
+      let passing =
+      passing-arrived w l m r (u .confirmation .confirmed) (r .envelope .number) (o .keys .active) (o .keys .active) knows refl refl
+      (e .above) (omega arith) right (λ q. ways-apart (sym q ∙ e .thatWay)) (λ q. omega arith) (j .passing) in
+      search (j .underWay .present, dropped-among)
 
 ---- its receipt
 
@@ -139,9 +101,9 @@ module _ (w : Setting) (sh : Shared) (now : ℕ) (l : Lane) (u : UnitRecord) (o 
       let t = chosen-at-olt in
       let n = j .numbers in
       record {
-        enciphered = t .enciphered;
+        enciphered = t .takes .enciphered;
         key = λ h.
-            ap (λ (x : ℕ). keyFor x (u .keys .slots)) (t .chosen)
+            ap (λ (x : ℕ). keyFor x (u .keys .slots)) (t .takes .chosen)
             ∙ key-for (e .number) (u .keys .slots) h
             ∙ j .stored .olt (e .number) h (queue-up .0 .above) (omega (arith, queue-up .0 .most, n .mid, n .high, n .top));
         nonce = λ h.
@@ -172,7 +134,7 @@ module _ (w : Setting) (sh : Shared) (now : ℕ) (l : Lane) (u : UnitRecord) (o 
 
   pub arrive-up-receives : Receives sh u (e .header)
   unfolding envelopeHeader
-  arrive-up-receives = record { epam = ap (λ (x : Header). x .epam) header-up; choice = chosen-at-olt .accepts }
+  arrive-up-receives = record { epam = ap (λ (x : Header). x .epam) header-up; choice = chosen-at-olt .takes .accepts }
 
   -- the lane of its unit is kept
   pub arrive-up : Joined w sh now (laneArrivedUp k (arrivalOf e (receiveUnit (e .header) sh u .handed)) l) (receiveUnit (e .header) sh u .unit) o

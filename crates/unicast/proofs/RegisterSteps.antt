@@ -22,7 +22,6 @@ use Rattle.ends.specs.declared.Identity.{Identity}
 use Rattle.ends.specs.declared.Onu.{Onu}
 use Rattle.ends.specs.declared.Shared.{Shared}
 use Rattle.ends.specs.declared.Olt.{Olt}
-use Rattle.ends.specs.declared.UnitRecord.{UnitRecord}
 use Rattle.ends.proofs.Identities.{meets-apart, identity-valid, first-has, kept-has}
 use Rattle.refusal.proofs.Order.{refuse-accepted}
 use Rattle.refusal.proofs.Numbers.{number-accepted}
@@ -36,9 +35,11 @@ use Rattle.unicast.specs.History.{envelope, Entry, Keys, Lane, due, lane
 use Rattle.unicast.specs.Events.{register}
 use Rattle.unicast.specs.Run.{State, laneAt, onuAt, noSite, freshLane, noted, entering, step}
 use Rattle.unicast.specs.Premises.{Agrees, Fits}
-use Rattle.unicast.proofs.Invariant.{flagOf, Timing, Idle, Joined, Standing, LaneRight, Invariant}
-use Rattle.unicast.proofs.Frames.{common-moved}
-use Rattle.unicast.proofs.Places.{Held, held-found}
+use Rattle.unicast.proofs.Cases.{same-or-not}
+use Rattle.unicast.proofs.Invariant.{Timing, Idle, Joined, Standing, LaneRight, Invariant}
+use Rattle.unicast.proofs.Frames.{common-moved, lane-joined, lane-kept}
+use Rattle.unicast.proofs.Alive.{registered-alive}
+use Rattle.unicast.proofs.Places.{Held, held-found, keys-stay, set-keeps}
 
 timing-fresh : (r : Entry) (k : Keys) (now : ℕ) → r .since ≡ now → k .switched ≡ now → 1 ≤ r .interval
     → Timing r k now (freshTimer (r .interval))
@@ -46,14 +47,8 @@ unfolding freshTimer due
 timing-fresh r k now e f some =
     let z : now - r .since ≡ 0 = omega arith in
     let y : k .switched - r .since ≡ 0 = omega arith in
-    record {
-      interval = refl;
-      some = some;
-      since = omega arith;
-      switched = omega arith;
-      count = rw z (sym (zero-mod (r .interval)));
-      flag = rw (z, y) (ap flagOf (sym (le-ltb (0 / r .interval) (0 / r .interval) (omega arith))));
-    }
+    let none = le-ltb (0 / r .interval) (0 / r .interval) (omega arith) in
+    search (z, y, zero-mod, none, arith)
 
 -- the ends agree on MACs and LLIDs, LocalTime is right and the delays add up
 pub register-keeps : (w : Setting) (sh : Shared) (now place : ℕ) (i : Identity) (trip interval : ℕ) (l : Lane) (o : Onu) → Idle now l o
@@ -69,12 +64,7 @@ register-keeps w sh now place i trip interval l o d mac llids oltmac time delays
       mac = mac;
       llids = λ x. kept-has i x most ∙ llids x;
       oltmac = oltmac;
-      firsts = record {
-        olt = λ one. absurd (omega arith);
-        onu = λ least each one. absurd (omega (arith, one, d .noted));
-        some = λ one. absurd
-            (omega (arith, one, d .noted));
-      };
+      firsts = record { olt = λ one. absurd (omega arith); onu = λ least each one. absurd (omega arith); some = λ one. absurd (omega arith) };
       freed =
           record {
             free = λ last k each. omega (arith, d .channels k);
@@ -83,34 +73,13 @@ register-keeps w sh now place i trip interval l o d mac llids oltmac time delays
           };
       heard = rw (d .arrived);
       told = rw (d .arrived) (d .number);
-      gone = λ e m. none-in (l .past .sent) e (d .sent) m;
+      gone = λ x. none-in _ x (d .sent);
       near = omega (arith, delays, near);
-      ups = λ e m. none-in (l .past .sent) e (d .sent) m;
-      asked =
-          record {
-            under = λ x m. none-in (l .transit .towards) x (d .towards) m;
-            answered = λ x m. none-in (l .transit .answered) x (d .answered) m;
-          };
+      ups = λ x. none-in _ x (d .sent);
+      asked = record { under = λ x. none-in _ x (d .towards); answered = λ x. none-in _ x (d .answered) };
       order = record { towards = rw (d .towards) (omega arith); from = rw (d .from) (omega arith) };
-      numbers =
-          record {
-            counted = sym (d .switches);
-            listed = rw (d .offers);
-            last = d .active ∙ sym (d .number);
-            marked = rw (d .acknowledged);
-            flag = omega (arith, d .held);
-            low = omega arith;
-            mid = omega (arith, d .active);
-            high = omega arith;
-            top = omega (arith, d .active, d .held);
-            next = omega arith;
-            taken = λ e. omega arith;
-          };
-      stored =
-          record {
-            olt = λ n a b c. absurd (omega arith);
-            onu = λ n a b c. absurd (omega (arith, d .active, d .held));
-          };
+      numbers = search arith;
+      stored = record { olt = λ n a b c. absurd (omega arith); onu = λ n a b c. absurd (omega (arith, d .active, d .held)) };
       timing = timing-fresh (lane .entry) (lane .keys) now refl refl some;
       clocks =
           record {
@@ -121,22 +90,18 @@ register-keeps w sh now place i trip interval l o d mac llids oltmac time delays
             synced = λ e. absurd (omega (arith, d .unsynced));
             acknowledged = λ e. absurd (omega arith);
           };
-      answers =
-          record {
-            each = λ x m. none-in (l .transit .answered) x (d .answered) m;
-            set = λ e. absurd (omega (arith, e, d .unsynced));
-          };
+      answers = record { each = λ x. none-in _ x (d .answered); set = λ e. absurd (omega (arith, e, d .unsynced)) };
       underWay =
           record {
-            sealed = λ e m. none-in (l .transit .towards) (envelope e) (d .towards) m;
-            present = λ e m. none-in (l .transit .from) e (d .from) m;
+            sealed = λ e. none-in _ (envelope e) (d .towards);
+            present = λ x. none-in _ x (d .from);
           };
       towards = rw (d .towards) tt;
       from = rw (d .from) tt;
       spending =
           record {
-            downs = λ e m. none-in (l .past .sent) e (d .sent) m;
-            ups = λ e m. none-in (l .past .sent) e (d .sent) m;
+            downs = λ x. none-in _ x (d .sent);
+            ups = λ x. none-in _ x (d .sent);
             spaced =
                 record {
                   down = λ a b h k. absurd (omega (arith, k, ap length (d .sent)));
@@ -145,12 +110,12 @@ register-keeps w sh now place i trip interval l o d mac llids oltmac time delays
           };
       passing =
           record {
-            sent = λ e m. none-in (l .past .sent) e (d .sent) m;
-            named = λ e m. none-in (l .past .sent) e (d .sent) m;
-            fits = λ e m. none-in (l .past .sent) e (d .sent) m;
-            arrived = λ r m. none-in (l .past .arrived) r (d .arrived) m;
-            down = λ r m. none-in (l .past .arrived) r (d .arrived) m;
-            up = λ r m. none-in (l .past .arrived) r (d .arrived) m;
+            sent = λ x. none-in _ x (d .sent);
+            named = λ x. none-in _ x (d .sent);
+            fits = λ x. none-in _ x (d .sent);
+            arrived = λ x. none-in _ x (d .arrived);
+            down = λ x. none-in _ x (d .arrived);
+            up = λ x. none-in _ x (d .arrived);
           };
     }
 
@@ -165,19 +130,6 @@ register-made o i trip interval e =
       ap oltAnswer (reply-accepted _ o silent (withOneMore o (freshUnit i trip interval)) silent a),
       register-accepted o i trip interval (refuse-accepted _ _ _ a .1),
     )
-
--- a lane of before stands as it stood
-standing-before : (b : Bool) (w : Setting) (t : Olt) (x : UnitRecord) (now : ℕ) (l : Lane) (o : Onu) → Standing b w t now l o
-    → Standing b w (withOneMore t x) now l o
-unfolding withOneMore
-standing-before false w t x now l o s = s
-standing-before true w t x now l o s =
-    (omega (arith, s .0), rw (more-other t x (l .entry .place) (λ e. omega (arith, e, s .0))) (s .1))
-
--- a registered lane has a place in use
-standing-place : (b : Bool) (w : Setting) (t : Olt) (now : ℕ) (l : Lane) (o : Onu) → b ≡ true → Standing b w t now l o → l .entry .place < t .count
-standing-place true w t now l o e s = s .0
-standing-place false w t now l o e s = true-false (sym e)
 
 module _ (w : Setting) (s : State) (u : ℕ) (i : Identity) (trip interval : ℕ) (v : Invariant w s) (a : Agrees w s u i trip)
     (r : Registers (s .olt) i trip interval) where
@@ -221,29 +173,23 @@ module _ (w : Setting) (s : State) (u : ℕ) (i : Identity) (trip interval : ℕ
       let room : s .olt .count < length (s .olt .units) = omega (arith, r .room, v .places) in
       let unit : unitAt (after .olt) (s .history .registrations) ≡ freshUnit i trip interval =
       rw (← v .count) (more-unit (s .olt) (freshUnit i trip interval) room) in
-      record {
-        common = common-moved w (s .history .now) (laneAt s u) entered (onuAt s u) refl refl (old .common);
-        standing = (
-          omega (arith, v .count),
-          rw unit
-              (register-keeps w (s .olt .shared) (s .history .now) (s .history .registrations) i trip interval (laneAt s u) (onuAt s u) idle (a .mac) (a .llids)
-              (a .oltmac) (a .time) (a .delays) (r .trip) (r .identity) (r .interval)),
-        );
-      }
+      lane-joined w (after .olt) (s .history .now) entered (onuAt s u) refl
+      (common-moved w (s .history .now) (laneAt s u) entered (onuAt s u) refl refl (old .common)) (
+        omega (arith, v .count),
+        rw unit
+            (register-keeps w (s .olt .shared) (s .history .now) (s .history .registrations) i trip interval (laneAt s u) (onuAt s u) idle (a .mac) (a .llids)
+            (a .oltmac) (a .time) (a .delays) (r .trip) (r .identity) (r .interval)),
+      )
 
   lane-right : (x : ℕ) → x < length (after .history .lanes) → LaneRight w (after .olt) (s .history .now) (laneAt after x) (onuAt s x)
-  lane-right x h = by-lane (eqb x u) refl where
-    by-lane : (t : Bool) → eqb x u ≡ t → LaneRight w (after .olt) (s .history .now) (laneAt after x) (onuAt s x)
-    by-lane true e = let z = eqb-true x u e in rw (z, after-same) entered-right
-    by-lane false e =
-        let old = v .lane x (omega (arith, h, length-set (s .history .lanes) u entered)) in
-        rw (after-other x (eqb-false x u e))
-        (record {
-          common = old .common;
-          standing =
-              standing-before (laneAt s x .entry .registered) w (s .olt) (freshUnit i trip interval) (s .history .now) (laneAt s x) (onuAt s x)
-              (old .standing);
-        })
+  unfolding withOneMore
+  lane-right x h =
+      same-or-not x u (λ z. rw (z, after-same) entered-right)
+      (λ n.
+      rw (after-other x n)
+      (lane-kept w (s .olt) (after .olt) (s .history .now) (laneAt s x) (onuAt s x)
+      (λ b t. (omega (arith, t .0), rw (more-other (s .olt) (freshUnit i trip interval) (laneAt s x .entry .place) (λ q. omega (arith, q, t .0))) (t .1)))
+      (v .lane x (omega (arith, h, length-set (s .history .lanes) u entered)))))
 
   -- the place of the new unit is not that of another
   place-new : (x : ℕ) → x < length (s .history .lanes) → (x ≡ u → ⊥) → laneAt after x .entry .registered ≡ true
@@ -251,32 +197,21 @@ module _ (w : Setting) (s : State) (u : ℕ) (i : Identity) (trip interval : ℕ
   unfolding laneRegistered
   place-new x h n b e =
       let old : laneAt s x .entry .registered ≡ true = rw (after-other x n) at b in
-      let used = standing-place (laneAt s x .entry .registered) w (s .olt) (s .history .now) (laneAt s x) (onuAt s x) old (v .lane x h .standing) in
       let same : laneAt s x .entry .place ≡ s .history .registrations = rw (after-other x n, after-same) at e in
-      omega (arith, used, same, v .count)
+      omega (arith, registered-alive w s x v old .used, same, v .count)
 
   apart-right : (x y : ℕ) → x < length (s .history .lanes) → y < length (s .history .lanes)
       → laneAt after x .entry .registered ≡ true → laneAt after y .entry .registered ≡ true
       → laneAt after x .entry .place ≡ laneAt after y .entry .place → x ≡ y
-  apart-right x y h k b c e = by-lanes (eqb x u) refl (eqb y u) refl where
-    by-lanes : (t : Bool) → eqb x u ≡ t → (z : Bool) → eqb y u ≡ z → x ≡ y
-    by-lanes true p true q = eqb-true x u p ∙ sym (eqb-true y u q)
-    by-lanes true p false q = absurd (place-new y k (eqb-false y u q) c (rw (eqb-true x u p) at (sym e)))
-    by-lanes false p true q = absurd (place-new x h (eqb-false x u p) b (rw (eqb-true y u q) at e))
-    by-lanes false p false q =
-        let m = eqb-false x u p in
-        let n = eqb-false y u q in
-        v .apart x y h k (rw (after-other x m) at b) (rw (after-other y n) at c) (rw (after-other x m, after-other y n) at e)
-
-  after-offers : (x : ℕ) → laneAt after x .keys .offers ≡ laneAt s x .keys .offers
-  unfolding laneRegistered
-  after-offers x = by-lane (eqb x u) refl where
-    by-lane : (t : Bool) → eqb x u ≡ t → laneAt after x .keys .offers ≡ laneAt s x .keys .offers
-    by-lane true e = let z = eqb-true x u e in rw (z, after-same)
-    by-lane false e = ap (λ (l : Lane). l .keys .offers) (after-other x (eqb-false x u e))
+  apart-right x y h k b c e =
+      same-or-not x u
+      (λ p. same-or-not y u (λ q. p ∙ sym q) (λ n. absurd (place-new y k n c (rw p at (sym e)))))
+      (λ m.
+      same-or-not y u (λ q. absurd (place-new x h m b (rw q at e)))
+      (λ n. v .apart x y h k (rw (after-other x m) at b) (rw (after-other y n) at c) (rw (after-other x m, after-other y n) at e)))
 
   registered-right : Invariant w after
-  unfolding withOneMore
+  unfolding withOneMore laneRegistered
   registered-right =
       record {
         valid = registered-valid (s .olt) i trip interval r (v .valid);
@@ -286,8 +221,9 @@ module _ (w : Setting) (s : State) (u : ℕ) (i : Identity) (trip interval : ℕ
         paired = v .paired ∙ sym (length-set (s .history .lanes) u entered);
         lane = lane-right;
         apart = λ x y h k. apart-right x y (rw (length-set (s .history .lanes) u entered) at h) (rw (length-set (s .history .lanes) u entered) at k);
-        keys = λ x y m n h k e.
-            v .keys x y m n (rw (after-offers x) at h) (rw (after-offers y) at k) (rw (after-offers x, after-offers y) at e);
+        keys =
+            keys-stay (s .history .lanes) (after .history .lanes)
+            (set-keeps (λ (l : Lane). l .keys .offers) (s .history .lanes) u entered refl) (v .keys);
       }
 
 pub register-right : (w : Setting) (s : State) (u : ℕ) (i : Identity) (trip interval : ℕ) → Invariant w s → Fits w s (register u i trip interval)

@@ -4,11 +4,11 @@ use mathlib.Core.Path.{_≡_, refl, sym, _∙_, ap, ap₂, subst}
 use mathlib.Core.Bool.{Bool, true, false}
 use mathlib.Core.Logic.{_⊎_, inl, inr, ⊎-elim}
 use Prim.Native.Nat.{ℕ, _+_, _-_, _/_, _<_, _≤_, max}
-use native.Mathlib.Nat.{le-max-left, le-max-right, max-eq-left, max-eq-right}
+use native.Mathlib.Nat.{le-refl, le-max-left, le-max-right, max-eq-left, max-eq-right}
 use native.Mathlib.Omega.{arith}
 use lib.Dec.{eqb, leb, ltb}
 use lib.ListN.{length}
-use borrow.Author.Tests.{leb-true, leb-false, ltb-true, ltb-false, eqb-true, eqb-false, le-leb, le-ltb, eq-eqb, ne-eqb}
+use borrow.Author.Tests.{leb-true, ltb-true, ltb-false, eqb-true, eqb-false, le-leb, le-ltb, eq-eqb, ne-eqb}
 use Rattle.octets.specs.Choice.{both, pick}
 use Rattle.octets.proofs.Choice.{both-left, both-right, either-cases, pick-holds}
 use Rattle.protocol.specs.Headers.{choiceEnciphered, choiceNumber, choiceAged}
@@ -31,6 +31,7 @@ use Rattle.ends.specs.declared.UnitRecord.{UnitRecord}
 use Rattle.ends.specs.declared.UnitKeys.{UnitKeys}
 use Rattle.unicast.specs.Setting.{Setting}
 use Rattle.unicast.specs.History.{Entry, Keys, Lane, due, switching, numberDown}
+use Rattle.unicast.proofs.Cases.{below-or-not}
 use Rattle.unicast.proofs.Invariant.{flagOf, reachOf, Begun, BegunUp, Timing, Joined}
 use Rattle.unicast.proofs.Spending.{Renewed, renewed-current, renewed-next, renewed-clear}
 
@@ -59,15 +60,7 @@ one-ahead confirmed active offered a b c = by-test (ltb active offered) refl whe
 
 pub timing-stayed : (r : Entry) (k m : Keys) (now : ℕ) (t : Timer) → m .switched ≡ k .switched → Timing r k now t → Timing r m now t
 unfolding due
-timing-stayed r k m now t e h =
-    record {
-      interval = h .interval;
-      some = h .some;
-      since = omega (arith, h .since);
-      switched = omega (arith, h .switched);
-      count = h .count;
-      flag = rw e (h .flag);
-    }
+timing-stayed r k m now t e h = search (e, arith)
 
 -- the flag falls, and nothing is due
 pub timing-switched : (r : Entry) (k m : Keys) (now : ℕ) (t : Timer) → m .switched ≡ now → Timing r k now t → Timing r m now (timerFallen t)
@@ -75,14 +68,7 @@ unfolding due timerFallen
 timing-switched r k m now t e h =
     let none : ltb ((m .switched - r .since) / r .interval) ((now - r .since) / r .interval) ≡ false =
     rw e (le-ltb ((now - r .since) / r .interval) ((now - r .since) / r .interval) (omega arith)) in
-    record {
-      interval = h .interval;
-      some = h .some;
-      since = omega (arith, h .since, h .switched);
-      switched = omega arith;
-      count = h .count;
-      flag = sym (ap flagOf none);
-    }
+    search (sym (ap flagOf none), arith)
 
 -- a first send after a tick, whether it is made now or not
 first-after : (f : FirstSend) (tick now : ℕ) → (f .noted ≡ 1 → tick ≤ f .at) → tick ≤ now → firstSend f now .noted ≡ 1
@@ -131,50 +117,19 @@ module _ (w : Setting) (sh : Shared) (now : ℕ) (l : Lane) (u : UnitRecord) (o 
       let more : l .keys .switches < length (l .keys .offers) = ltb-true _ _ (both-left _ _ e) in
       let held : u .keys .offered ≤ reachOf (o .keys) = n .taken (both-left _ _ (both-right _ _ e)) in
       let is : u .keys .offered ≡ l .keys .switches + 1 = omega (arith, more, n .counted, n .listed, n .low, n .mid, n .next) in
-      let next : 1 ≤ l .keys .switches + 1 = omega arith in
-      record {
-        chosen = is;
-        enciphered = sym (le-leb 1 (l .keys .switches + 1) next);
-        active = is;
-        offered = refl;
-        slots = refl;
-        low = omega (arith, n .counted);
-        high = omega (arith, held, is);
-        renewed = λ a. renewed-next (u .keys .first) (u .keys .active) (l .keys .switches + 1) now (omega (arith, n .counted));
-        begun = λ one. omega arith;
-        settled = λ same. absurd (omega (arith, same, n .counted));
-      }
+      let settled : l .keys .switches + 1 ≡ u .keys .active → now ≡ l .keys .switched = λ same. absurd (omega (arith, same, n .counted)) in
+      let renewed = renewed-next (u .keys .first) (u .keys .active) (l .keys .switches + 1) now (omega (arith, n .counted)) in
+      search (sym (le-leb 1 (l .keys .switches + 1) (omega arith)), le-refl, arith)
   chosen-by v false true e f =
       let n = j .numbers in
       let zeros : u .keys .active ≡ 0 = eqb-true _ _ f in
       let none : l .keys .switches ≡ 0 = sym (n .counted) ∙ zeros in
-      record {
-        chosen = sym none;
-        enciphered = rw none;
-        active = n .counted;
-        offered = refl;
-        slots = refl;
-        low = omega (arith, n .counted);
-        high = omega (arith, none);
-        renewed = λ a. rw (zeros, none) (renewed-clear (u .keys .first) now);
-        begun = j .firsts .olt;
-        settled = λ same. refl;
-      }
+      search (zeros, none, renewed-clear, j .firsts .olt, arith)
   chosen-by v false false e f =
       let n = j .numbers in
-      let some : 1 ≤ l .keys .switches = omega (arith, n .counted, eqb-false (u .keys .active) 0 f) in
-      record {
-        chosen = n .counted;
-        enciphered = sym (le-leb 1 (l .keys .switches) some);
-        active = n .counted;
-        offered = refl;
-        slots = refl;
-        low = omega (arith, n .counted);
-        high = omega (arith, n .counted, n .high);
-        renewed = λ a. rw (n .counted) (renewed-current (u .keys .first) (l .keys .switches) now v a);
-        begun = first-after (u .keys .first) (l .keys .switched) now (j .firsts .olt) (j .timing .switched);
-        settled = λ same. refl;
-      }
+      let enciphered = sym (le-leb 1 (l .keys .switches) (omega (arith, n .counted, eqb-false (u .keys .active) 0 f))) in
+      let begun = first-after (u .keys .first) (l .keys .switched) now (j .firsts .olt) (j .timing .switched) in
+      search (n .counted, renewed-current, arith)
 
   -- the timer after a send: the flag falls at a switch alone
   pub timing-sent : (t : Timer) → (switches u ≡ true → t ≡ timerFallen (u .keys .timer)) → (switches u ≡ false → t ≡ u .keys .timer)
@@ -239,10 +194,7 @@ unfolding firstSend
 first-since f now = pick-holds (λ (x : FirstSend). (x ≡ f) ⊎ (x .at ≡ now)) (isUp (f .noted)) f (notedAt now) (λ e. inl refl) (λ e. inr refl)
 
 pub max-either : (a b : ℕ) → (max a b ≡ a) ⊎ (max a b ≡ b)
-max-either a b = by-order (leb a b) refl where
-  by-order : (t : Bool) → leb a b ≡ t → (max a b ≡ a) ⊎ (max a b ≡ b)
-  by-order true e = inr (max-eq-right (leb-true a b e))
-  by-order false e = inl (max-eq-left (omega (arith, leb-false a b e)))
+max-either a b = below-or-not a b (λ below. inr (max-eq-right (omega arith))) (λ above. inl (max-eq-left above))
 
 chosen-up-by : (o : Onu) (eqs : ℕ) → BegunUp (o .first) (travelOf o) (o .travel) → (z : Bool) → eqb (o .keys .active) 0 ≡ z
     → ChosenUp o (pick z Clear (Current (o .keys .active))) eqs (o .keys .active)

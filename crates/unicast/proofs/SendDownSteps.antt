@@ -1,7 +1,7 @@
 -- A send of the OLT keeps the invariant of the lane that it is on, and of the others. Assumes nothing.
 use mathlib.Core.Path.{_≡_, refl, sym, _∙_, ap}
 use mathlib.Core.Bool.{true, false}
-use mathlib.Core.List.{List, [], _∷_, List·Memᴰ·head, Memᴰ·append-left, Memᴰ·append-right}
+use mathlib.Core.List.{List, [], _∷_, List·Memᴰ, List·Memᴰ·head, Memᴰ·append-left, Memᴰ·append-right}
 use Prim.Native.Nat.{ℕ, _+_, _<_, _≤_}
 use native.Mathlib.Omega.{arith}
 use lib.ListN.{length}
@@ -12,11 +12,12 @@ use Rattle.refusal.specs.declared.Verdict.the-variants.{Accepted}
 use Rattle.clock.specs.Ticks.{maxRoundTrip}
 use Rattle.envelope.specs.ControlMask.{eqsOf}
 use Rattle.envelope.specs.Acceptance.{lengthsFit}
-use Rattle.protocol.specs.Headers.{keyFor, passageOf, sendingOf}
+use Rattle.protocol.specs.Headers.{envelopeHeader, keyFor, passageOf, sendingOf}
 use Rattle.ends.specs.Flags.{isUp}
 use Rattle.ends.specs.Identities.{has}
+use Rattle.ends.specs.Keys.{keyIn}
 use Rattle.ends.specs.Limits.{maxChanges}
-use Rattle.envelope.specs.Channels.{downstream, upstream}
+use Rattle.envelope.specs.Channels.{downstream}
 use Rattle.ends.specs.Occupancy.{freeFrom, taken, occupied}
 use Rattle.protocol.specs.OltTraffic.{sendingOlt}
 use Rattle.ends.specs.Records.{withKeys, withChannels}
@@ -35,12 +36,12 @@ use Rattle.protocol.proofs.UnitTraffic.{timer-falls}
 use Rattle.ends.proofs.Occupancy.{free-own, taken-false, free-later}
 use Rattle.traffic.specs.Passages.{misfit, outputAfter}
 use Rattle.traffic.specs.Sends.{oltSent, oltSendOf}
-use Rattle.unicast.specs.Setting.{Delays, Setting}
-use Rattle.unicast.specs.History.{downward, upward, Envelope, envelope, Keys, Lane, switching, numberDown, laneWith, leaving, sending, laneSentDown}
+use Rattle.unicast.specs.Setting.{Delays, Setting, clockDown}
+use Rattle.unicast.specs.History.{downward, upward, Envelope, envelope, Keys, Lane, keyOf, switching, numberDown, laneWith, leaving, sending, laneSentDown}
 use Rattle.unicast.specs.Run.{envelopeDown}
 use Rattle.unicast.specs.Claim.{PassageRight, SentRight}
-use Rattle.unicast.proofs.Invariant.{reachOf, Timing, countDown, countUp, Spent, Guarded, Joined, AtTick}
-use Rattle.unicast.proofs.Queues.{Knows, sealed-more, envelope-number, towards-carried, towards-envelope, from-carried}
+use Rattle.unicast.proofs.Invariant.{reachOf, Numbers, Timing, countDown, SpentDown, SpentUp, SentUnder, Freed, Joined, AtTick}
+use Rattle.unicast.proofs.Queues.{Knows, sealed-more, envelope-number, towards-carried, towards-envelope, from-moved}
 use Rattle.unicast.proofs.Past.{sent-carried, passing-sent}
 use Rattle.unicast.proofs.Envelopes.{ways-apart, envelopeOf, passed-right, count-right, runs-right, fits-alone}
 use Rattle.unicast.proofs.Spending.{Renewed, spent-kept, spent-new, apart-new, spaced-more}
@@ -72,119 +73,69 @@ module _ (w : Setting) (sh : Shared) (now : ℕ) (l : Lane) (u : UnitRecord) (o 
   sent-down-joined k choice c e synced h timing r present direction left down named fits right free rises after =
       let n = j .numbers in
       let m = laneSentDown now e l in
-      let knows : (top : ℕ) → Knows l m top =
-      λ top. record { site = refl; sent = λ x i. Memᴰ·append-left (e ∷ []) i; keys = λ x p q. refl } in
+      let knows : (top : ℕ) → Knows l m top = λ top. search Memᴰ·append-left in
+      let own : List·Memᴰ e (m .past .sent) = Memᴰ·append-right (l .past .sent) (List·Memᴰ·head refl) in
       let low : o .keys .active ≤ k .active = omega (arith, n .mid, h .low, h .active) in
-      record {
-        mac = j .mac;
-        llids = j .llids;
-        oltmac = j .oltmac;
-        firsts =
-            record {
-              olt = h .begun;
-              onu = λ least each one same.
-                  let stayed : e .number ≡ u .keys .active = omega (arith, same, n .mid, h .low) in
-                  let was = j .firsts .onu least (λ x i. each x (Memᴰ·append-left (e ∷ []) i)) one (omega (arith, same, stayed, n .counted)) in
-                  rw (h .settled stayed) was;
-              some = λ one.
-                  let was = j .firsts .some one in
-                  record {
-                    envelope = was .envelope;
-                    among = Memᴰ·append-left (e ∷ []) (was .among);
-                    thatWay = was .thatWay;
-                    numbered = was .numbered;
-                  };
-            };
-        freed =
-            record {
-              free = λ last i each. j .freed .free last i (λ x m. each x (Memᴰ·append-left (e ∷ []) m));
-              spent = λ last most each. j .freed .spent last most (λ x m. each x (Memᴰ·append-left (e ∷ []) m));
-              bar = j .freed .bar;
-            };
-        heard = j .heard;
-        told = j .told;
-        gone = each-more (λ (x : Envelope). x .left ≤ now) (l .past .sent) e (j .gone) (omega (arith, left));
-        near = j .near;
-        ups = each-more (λ (x : Envelope). x .up ≤ maxRoundTrip) (l .past .sent) e (j .ups) (omega (arith, present, j .near));
-        asked = asked-leaving now (u .clock .sent) (l .transit) (envelope e) (λ m c left q. let z : _≡_ {A = ℕ} 0 1 = cc in absurd (omega arith))
-            (j .asked);
-        order = order-leaving now (l .transit) (envelope e) left (j .order);
-        numbers =
-            record {
-              counted = h .active;
-              listed = h .offered ∙ n .listed;
-              last = n .last;
-              marked = n .marked;
-              flag = n .flag;
-              low = n .low;
-              mid = low;
-              high = omega (arith, h .high, h .active);
-              top = omega (arith, n .top, h .offered);
-              next = omega (arith, n .next, h .offered);
-              taken = λ q. rw (h .offered) (n .taken q);
-            };
-        stored = record { olt = λ x p q t. rw (h .slots) (j .stored .olt x p q (rw (h .offered) at t)); onu = j .stored .onu };
-        timing = timing (m .keys) refl;
-        clocks = j .clocks;
-        answers = j .answers;
-        underWay =
-            record {
-              sealed = sealed-more (o .clock .synced) (l .transit .towards) (envelope e) (j .underWay .sealed)
-                  (λ y q p. synced (omega (arith, p, envelope-number e y q)));
-              present = j .underWay .present;
-            };
-        towards =
-            towards-envelope (w .first) (l .path) m (o .keys .active) (k .active) (k .offered) (l .transit .towards) e low
-            (record {
-              above = omega (arith, h .active);
-              most = omega (arith, h .active);
-              sent = Memᴰ·append-right (l .past .sent) (List·Memᴰ·head refl);
-              thatWay = direction;
-              named = named;
-            })
-            (towards-carried (w .first) (l .path) l m (o .keys .active) (o .keys .active) (u .keys .active) (k .active) (u .keys .offered) (k .offered)
-            (l .transit .towards) (knows (u .keys .offered))
-            (omega arith) (omega (arith, h .low, h .active)) (omega (arith, h .offered)) (j .towards));
-        from =
-            from-carried l m 0 (u .confirmation .confirmed) (u .confirmation .confirmed) (o .keys .active) (o .keys .active) (l .transit .from) (knows 0)
-            (omega arith) (omega arith) (j .from);
-        spending =
-            record {
-              downs =
-                  each-more (λ (x : Envelope). x .direction ≡ downward → (downstream (x .channel) ≡ true)
-                  × Spent c (k .first) (k .active) 0 0 (countDown x) x) (l .past .sent) e
-                  (λ x i q.
-                  let was = j .spending .downs x i q in (
-                    was .0,
-                    rw (h .active)
-                        (spent-kept (sh .channels) c (u .keys .first) (k .first) (u .keys .active) (e .number) now 0 0 (countDown x) x r
-                        (rises (x .channel)) (was .1)),
-                  ))
-                  (λ q. (
-                    down,
-                    rw (h .active)
-                        (spent-new c (u .keys .first) (k .first) (u .keys .active) (e .number) now 0 0 (countDown e) e r refl
-                        (omega (arith, left)) (omega (arith, left, after))),
-                  ));
-              ups =
-                  each-more (λ (x : Envelope). x .direction ≡ upward → (upstream (x .channel) ≡ true)
-                  × Spent (o .channels) (o .first) (o .keys .active) (l .site .up) maxChanges (countUp x) x
-                  × Guarded (l .site .up) (l .path .up) (o .travel) x)
-                  (l .past .sent) e (j .spending .ups) (λ q. ways-apart (sym direction ∙ q));
-              spaced =
-                  spaced-more (l .past .sent) e
-                  (λ x i.
-                  apart-new countDown downward (sh .channels) (u .keys .first) (k .first) (u .keys .active) now 0 0 x e r (omega (arith, left))
-                  (λ q. j .spending .downs x i q .1)
-                  (λ q p n g. let before : x .left < freeFrom (sh .channels) (e .channel) = rw g at (j .spending .downs x i q .1 .passed) in
-                  omega (arith, before, free, left)))
-                  (λ x i p q. ways-apart (sym direction ∙ q))
-                  (j .spending .spaced);
-            };
-        passing =
-            passing-sent w l m e (u .confirmation .confirmed) (o .keys .active) knows refl refl
-            (sent-carried w l m (e .number) (knows (e .number)) e (omega arith) right) named fits (j .passing);
-      }
+      let numbers : Numbers (m .keys) (k .active) (k .offered) (u .confirmation .confirmed) (u .confirmation .acknowledged) (o .keys) =
+      search (n .taken, h .offered, arith) in
+      let slots : (x : ℕ) → 1 ≤ x → u .confirmation .confirmed ≤ x → x ≤ k .offered → keyIn (k .slots) x ≡ keyOf (l .keys) x =
+      λ x p q t. rw (h .slots) (j .stored .olt x p q (rw (h .offered) at t)) in
+      let timed = timing (m .keys) refl in
+      let settled : (least : ℕ) → ((x : Envelope) → List·Memᴰ x (m .past .sent) → x .direction ≡ upward → least ≤ x .up) → o .first .noted ≡ 1
+      → o .keys .active ≡ e .number → m .keys .switched + least + maxChanges ≤ o .first .at + l .site .up =
+      λ least each one same.
+      let stayed : e .number ≡ u .keys .active = omega (arith, same, n .mid, h .low) in
+      let was = j .firsts .onu least (λ x i. each x (Memᴰ·append-left (e ∷ []) i)) one (omega (arith, same, stayed, n .counted)) in
+      rw (h .settled stayed) was in
+      let some : o .first .noted ≡ 1 → SentUnder (m .past .sent) (o .keys .active) =
+      λ one. let was = j .firsts .some one in search Memᴰ·append-left in
+      let freed : Freed (l .site .up) (m .past .sent) (o .channels) (o .travel) = search (j .freed .free, j .freed .spent, Memᴰ·append-left) in
+      let gone = each-more (λ (x : Envelope). x .left ≤ now) (l .past .sent) e (j .gone) (omega (arith, left)) in
+      let ups = each-more (λ (x : Envelope). x .up ≤ maxRoundTrip) (l .past .sent) e (j .ups) (omega (arith, present, j .near)) in
+      let asked =
+      asked-leaving now (u .clock .sent) (l .transit) (envelope e) (λ m c left q. let z : _≡_ {A = ℕ} 0 1 = cc in absurd (omega arith)) (j .asked) in
+      let order = order-leaving now (l .transit) (envelope e) left (j .order) in
+      let sealed =
+      sealed-more (o .clock .synced) (l .transit .towards) (envelope e) (j .underWay .sealed)
+      (λ y q p. synced (omega (arith, p, envelope-number e y q))) in
+      let towards =
+      towards-envelope (w .first) (l .path) m (o .keys .active) (k .active) (k .offered) (l .transit .towards) e low
+      (record { above = omega (arith, h .active); most = omega (arith, h .active); sent = own; thatWay = direction; named = named })
+      (towards-carried (w .first) (l .path) l m (o .keys .active) (o .keys .active) (u .keys .active) (k .active) (u .keys .offered) (k .offered)
+      (l .transit .towards) (knows (u .keys .offered))
+      (omega arith) (omega (arith, h .low, h .active)) (omega (arith, h .offered)) (j .towards)) in
+      let from = from-moved l m 0 (u .confirmation .confirmed) (o .keys .active) (l .transit .from) (knows 0) (j .from) in
+      let downs =
+      each-more (SpentDown c (k .first) (k .active)) (l .past .sent) e
+      (λ x i q.
+      let was = j .spending .downs x i q in (
+        was .0,
+        rw (h .active)
+            (spent-kept (sh .channels) c (u .keys .first) (k .first) (u .keys .active) (e .number) now 0 0 (countDown x) x r
+            (rises (x .channel)) (was .1)),
+      ))
+      (λ q. (
+        down,
+        rw (h .active)
+            (spent-new c (u .keys .first) (k .first) (u .keys .active) (e .number) now 0 0 (countDown e) e r refl
+            (omega (arith, left)) (omega (arith, left, after))),
+      )) in
+      let others =
+      each-more (SpentUp (o .channels) (o .first) (o .keys .active) (l .site .up) (l .path .up) (o .travel)) (l .past .sent) e (j .spending .ups)
+      (λ q. ways-apart (sym direction ∙ q)) in
+      let spaced =
+      spaced-more (l .past .sent) e
+      (λ x i.
+      apart-new countDown downward (sh .channels) (u .keys .first) (k .first) (u .keys .active) now 0 0 x e r (omega (arith, left))
+      (λ q. j .spending .downs x i q .1)
+      (λ q p n g. let before : x .left < freeFrom (sh .channels) (e .channel) = rw g at (j .spending .downs x i q .1 .passed) in
+      omega (arith, before, free, left)))
+      (λ x i p q. ways-apart (sym direction ∙ q))
+      (j .spending .spaced) in
+      let passing =
+      passing-sent w l m e (u .confirmation .confirmed) (o .keys .active) knows refl refl
+      (sent-carried w l m (e .number) (knows (e .number)) e (omega arith) right) named fits (j .passing) in
+      search (h .begun)
 
 module _ (w : Setting) (sh : Shared) (now : ℕ) (l : Lane) (u : UnitRecord) (o : Onu) (llid channel eqs : ℕ) (p out : List ℕ) where
   sent-down-right : AtTick w now sh → Joined w sh now l u o → validUnit (sh .tick) u ≡ true
@@ -204,13 +155,8 @@ module _ (w : Setting) (sh : Shared) (now : ℕ) (l : Lane) (u : UnitRecord) (o 
             ∙ j .stored .olt (numberDown l now) some (omega (arith, n .low, n .mid, h .low)) (omega (arith, h .high, n .top));
         nonce = λ some. rw (t .mac, t .clock);
       } in
-      record {
-        passage = under;
-        header = rw (h .chosen, t .clock);
-        octets = passed-right w l e channel q under p;
-        count = count-right w l e channel q under p;
-        runs = runs-right w l e channel q under p;
-      }
+      let header : e .header ≡ envelopeHeader (numberDown l now) channel llid (clockDown (w .first) now) = rw (h .chosen, t .clock) in
+      search (passed-right, count-right, runs-right)
 
   -- the lane that the send is on
   pub send-down-keeps : AtTick w now sh → Joined w sh now l u o → validUnit (sh .tick) u ≡ true → has (l .site .identity) llid ≡ true
@@ -249,38 +195,11 @@ pub channels-keep : (w : Setting) (sh : Shared) (now : ℕ) (l : Lane) (u : Unit
     → ((i : ℕ) → freeFrom (sh .channels) i ≤ freeFrom c i) → Joined w sh now l u o → Joined w (withChannels sh c) now l u o
 unfolding withChannels
 channels-keep w sh now l u o c rises j =
-    record {
-      mac = j .mac;
-      llids = j .llids;
-      oltmac = j .oltmac;
-      firsts = j .firsts;
-      freed = j .freed;
-      heard = j .heard;
-      told = j .told;
-      gone = j .gone;
-      near = j .near;
-      ups = j .ups;
-      asked = j .asked;
-      order = j .order;
-      numbers = j .numbers;
-      stored = j .stored;
-      timing = j .timing;
-      clocks = j .clocks;
-      answers = j .answers;
-      underWay = j .underWay;
-      towards = j .towards;
-      from = j .from;
-      spending =
-          record {
-            downs = λ x i q.
-                let was = j .spending .downs x i q in
-                let s = was .1 in
-                (was .0, record { most = s .most; passed = omega (arith, s .passed, rises (x .channel)); noted = s .noted });
-            ups = j .spending .ups;
-            spaced = j .spending .spaced;
-          };
-      passing = j .passing;
-    }
+    let downs : (x : Envelope) → List·Memᴰ x (l .past .sent) → SpentDown c (u .keys .first) (u .keys .active) x =
+    λ x i q.
+    let was = j .spending .downs x i q in
+    (was .0, record { most = was .1 .most; passed = omega (arith, was .1 .passed, rises (x .channel)); noted = was .1 .noted }) in
+    search
 
 -- the channels after an accepted send
 pub send-channels : (llid channel eqs : ℕ) (sh : Shared) (u : UnitRecord) → sendUnit llid channel eqs sh u .verdict ≡ Accepted

@@ -1,27 +1,30 @@
 -- First sends and channels: what a send makes of them, that earlier sends stay spent, and that two sends under one number on one
 -- channel index are apart. Assumes nothing.
 use mathlib.Core.Path.{_≡_, refl, _∙_}
-use mathlib.Core.Bool.{Bool, true, false}
+use mathlib.Core.Bool.{false}
 use mathlib.Core.List.{List, [], _∷_, _++_, List·Memᴰ}
 use Prim.Native.Nat.{ℕ, _+_, _<_, _≤_}
 use native.Mathlib.Omega.{arith}
-use lib.Dec.{ltb}
 use lib.ListN.{length, getD, length-append, List·getD-append}
 use lib.Seq.{getD-at}
-use borrow.Author.Tests.{ltb-true, ltb-false, eqb-true, eqb-false}
 use Rattle.octets.proofs.Members.{mem-at}
 use Rattle.clock.specs.Ticks.{keyLife}
 use Rattle.ends.specs.Keys.{notedAt, firstSend, aged}
 use Rattle.ends.specs.Occupancy.{freeFrom}
-use Rattle.ends.specs.Flags.{isUp}
 use Rattle.ends.specs.declared.Channels.{Channels}
 use Rattle.ends.specs.declared.FirstSend.{FirstSend}
+use Rattle.ends.specs.declared.Travel.{Travel}
 use Rattle.ends.proofs.Keys.{aged-false, first-stays, first-noted}
 use Rattle.unicast.specs.History.{Direction, downward, upward, Envelope}
 use Rattle.unicast.specs.Run.{noEnvelope}
-use Rattle.unicast.proofs.Invariant.{Begun, Spent, countDown, countUp, Apart, Spaced}
+use Rattle.unicast.proofs.Cases.{same-or-not, below-or-not}
+use Rattle.unicast.proofs.Invariant.{Begun, BegunUp, Spent, countDown, countUp, Apart, Spaced}
 
 ---- first sends
+
+-- no first send is noted
+pub unnoted : (f : FirstSend) (now : ℕ) (t : Travel) → f .noted ≡ 0 → BegunUp f now t
+unnoted f now t none = record { begun = λ one. absurd (omega arith); ended = λ one. absurd (omega arith) }
 
 -- what a send under number makes of the first send under current, now, by the end's own count
 pub record Renewed (first next : FirstSend) (current number now : ℕ) : Type 0 where
@@ -31,16 +34,11 @@ pub record Renewed (first next : FirstSend) (current number now : ℕ) : Type 0 
 
 -- a send under the key in use, which is not too old
 pub renewed-current : (f : FirstSend) (n now : ℕ) → Begun f now → aged f now ≡ false → Renewed f (firstSend f now) n n now
-renewed-current f n now b a = by-noted (isUp (f .noted)) refl where
-  by-noted : (t : Bool) → isUp (f .noted) ≡ t → Renewed f (firstSend f now) n n now
-  by-noted true e =
-      let one : f .noted ≡ 1 = eqb-true (f .noted) 1 e in
-      rw (first-stays f now one)
-      (record { most = omega arith; new = λ h. (one, b one); old = λ p h g. (refl, aged-false f now one a) })
-  by-noted false e =
-      let none : f .noted ≡ 1 → ⊥ = eqb-false (f .noted) 1 e in
-      rw (first-noted f now none)
-      (record { most = omega arith; new = λ h. (refl, omega arith); old = λ p h g. absurd (none g) })
+renewed-current f n now b a =
+    same-or-not (f .noted) 1
+    (λ one.
+    rw (first-stays f now one) (record { most = omega arith; new = λ h. (one, b one); old = λ p h g. (refl, aged-false f now one a) }))
+    (λ none. rw (first-noted f now none) (record { most = omega arith; new = λ h. (refl, omega arith); old = λ p h g. absurd (none g) }))
 
 -- a send under a new key
 pub renewed-next : (f : FirstSend) (current number now : ℕ) → current < number → Renewed f (notedAt now) current number now
@@ -91,20 +89,14 @@ apart-more : (count : Envelope → ℕ) (direction : Direction) (sent : List Env
     → ((x : Envelope) → List·Memᴰ x sent → Apart count direction x e)
     → ((i j : ℕ) → i < j → j < length sent → Apart count direction (getD sent i noEnvelope) (getD sent j noEnvelope)) → (i j : ℕ) → i < j
     → j < length (sent ++ (e ∷ [])) → Apart count direction (getD (sent ++ (e ∷ [])) i noEnvelope) (getD (sent ++ (e ∷ [])) j noEnvelope)
-apart-more count direction sent e new s i j h g = by-place (ltb j (length sent)) refl where
-  within : j < length sent + 1
-  within = rw (length-append sent (e ∷ [])) at g
-
-  by-place : (t : Bool) → ltb j (length sent) ≡ t
-      → Apart count direction (getD (sent ++ (e ∷ [])) i noEnvelope) (getD (sent ++ (e ∷ [])) j noEnvelope)
-  by-place true q =
-      let l = ltb-true j (length sent) q in
-      rw (List·getD-append sent (e ∷ []) noEnvelope j l, List·getD-append sent (e ∷ []) noEnvelope i (omega arith)) (s i j h l)
-  by-place false q =
-      let l = ltb-false j (length sent) q in
-      let last : length sent ≡ j = omega (arith, within) in
-      rw (getD-at sent e [] noEnvelope j last, List·getD-append sent (e ∷ []) noEnvelope i (omega (arith, within)))
-      (new (getD sent i noEnvelope) (mem-at sent i noEnvelope (omega (arith, within))))
+apart-more count direction sent e new s i j h g =
+    let within : j < length sent + 1 = rw (length-append sent (e ∷ [])) at g in
+    below-or-not j (length sent)
+    (λ l. rw (List·getD-append sent (e ∷ []) noEnvelope j l, List·getD-append sent (e ∷ []) noEnvelope i (omega arith)) (s i j h l))
+    (λ l.
+    let last : length sent ≡ j = omega arith in
+    rw (getD-at sent e [] noEnvelope j last, List·getD-append sent (e ∷ []) noEnvelope i (omega arith))
+    (new (getD sent i noEnvelope) (mem-at sent i noEnvelope (omega arith))))
 
 pub spaced-more : (sent : List Envelope) (e : Envelope) → ((x : Envelope) → List·Memᴰ x sent → Apart countDown downward x e)
     → ((x : Envelope) → List·Memᴰ x sent → Apart countUp upward x e) → Spaced sent → Spaced (sent ++ (e ∷ []))

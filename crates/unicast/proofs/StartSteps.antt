@@ -1,14 +1,13 @@
 -- From fresh ends the invariant holds: nothing has happened. Assumes nothing.
 use mathlib.Core.Path.{_≡_, refl, sym, _∙_, ap}
-use mathlib.Core.Bool.{Bool, true, false}
+use mathlib.Core.Bool.{true, false}
 use mathlib.Core.List.{List, [], _∷_, map}
 use Prim.Native.Nat.{ℕ, zero, suc, _<_}
 use native.Mathlib.Nat.{le-of-suc-le-suc, not-suc-le-zero}
 use native.Mathlib.Omega.{arith}
 use lib.ListN.{length, getD, length-map}
 use borrow.Author.Tests.{ltb-true, not-false}
-use Rattle.octets.specs.Choice.{pick}
-use Rattle.octets.proofs.Choice.{both-left, both-right, true-false}
+use Rattle.octets.proofs.Choice.{both-left, both-right, pick-same, true-false}
 use Rattle.refusal.specs.declared.Verdict.the-variants.{Accepted}
 use Rattle.clock.specs.Ticks.{clockTurn, localTurn}
 use Rattle.protocol.specs.Replies.{Silence, silent, Reply}
@@ -33,6 +32,7 @@ use Rattle.unicast.specs.History.{Lane}
 use Rattle.unicast.specs.Run.{laneAt, noSite, freshLane, freshOnu, start}
 use Rattle.unicast.specs.Premises.{Fresh}
 use Rattle.unicast.proofs.Invariant.{Idle, Common, LaneRight, AtTick, Invariant}
+use Rattle.unicast.proofs.Spending.{unnoted}
 
 ---- the OLT
 
@@ -56,11 +56,8 @@ fresh-count mac clock e = ap (λ (o : Olt). o .count) (olt-made mac clock e .mad
 
 -- fresh channels are free
 none-taken : (k : ℕ) → freeFrom freeChannels k ≡ 0
-unfolding freeFrom pick
-none-taken k = by-channel (onZero k) where
-  by-channel : (b : Bool) → _≡_ {A = ℕ} (pick b 0 0) 0
-  by-channel true = refl
-  by-channel false = refl
+unfolding freeFrom
+none-taken k = pick-same (onZero k) 0
 
 pub fresh-at-tick : (w : Setting) → freshOltOf (w .mac) (w .first) .number ≡ 0 → AtTick w 0 (freshOltOf (w .mac) (w .first) .olt .shared)
 unfolding newOlt
@@ -92,41 +89,14 @@ pub fresh-common : (w : Setting) (s : Site) → freshOnuOf (s .identity) (s .olt
 unfolding freshLane freshOnu newOnu kept travelOf shiftOf
 fresh-common w s e =
     let m = onu-made (s .identity) (s .oltmac) (s .time) e in
-    rw (m .made)
-    (record {
-      valid = new-onu-valid (s .identity) (s .oltmac) (s .time) (m .accepted);
-      tick = refl;
-      mac = refl;
-      llids = λ x. kept-has (s .identity) x (identity-valid (s .identity) (m .identity) .1);
-      oltmac = refl;
-      travel = omega arith;
-      first = record { begun = λ one. absurd (omega arith); ended = λ one. absurd (omega arith) };
-    })
+    let most = identity-valid (s .identity) (m .identity) .1 in
+    rw (m .made) (search (new-onu-valid, kept-has, unnoted, arith))
 
 pub fresh-idle : (s : Site) → freshOnuOf (s .identity) (s .oltmac) (s .time) .number ≡ 0 → Idle 0 (freshLane s) (freshOnu s)
 unfolding freshLane freshOnu newOnu
 fresh-idle s e =
     let m = onu-made (s .identity) (s .oltmac) (s .time) e in
-    rw (m .made)
-    (record {
-      unsynced = refl;
-      time = omega (arith, m .below);
-      active = refl;
-      held = refl;
-      offers = refl;
-      acknowledged = refl;
-      switches = refl;
-      number = refl;
-      towards = refl;
-      from = refl;
-      answered = refl;
-      sent = refl;
-      arrived = refl;
-      noted = refl;
-      spent = refl;
-      bar = refl;
-      channels = none-taken;
-    })
+    rw (m .made) (search (none-taken, arith))
 
 fresh-lane-right : (w : Setting) (t : Olt) (s : Site) → freshOnuOf (s .identity) (s .oltmac) (s .time) .number ≡ 0
     → LaneRight w t 0 (freshLane s) (freshOnu s)

@@ -70,19 +70,7 @@ agrees w s u i trip =
 
 pub agrees-true : (w : Setting) (s : State) (u : ℕ) (i : Identity) (trip : ℕ) → agrees w s u i trip ≡ true → Agrees w s u i trip
 unfolding agrees has
-agrees-true w s u i trip e =
-    let a = both-right _ _ e in
-    let b = both-right _ _ a in
-    let c = both-right _ _ b in
-    let d = both-right _ _ c in
-    record {
-      known = ltb-true _ _ (both-left _ _ e);
-      mac = eqb-true _ _ (both-left _ _ a);
-      llids = alike-true _ _ (both-left _ _ b);
-      oltmac = eqb-true _ _ (both-left _ _ c);
-      time = eqb-true _ _ (both-left _ _ d);
-      delays = eqb-true _ _ (both-right _ _ d);
-    }
+agrees-true w s u i trip e = search (both-left, both-right, ltb-true, eqb-true, alike-true)
 
 unfoldable pub other : List ℕ → List ℕ → Bool
 other key k = not (same k key)
@@ -130,9 +118,7 @@ dueDown s u k out =
 
 pub due-down-true : (s : State) (u k : ℕ) (out : List ℕ) → dueDown s u k out ≡ true → DueDown s u k out
 unfolding dueDown
-due-down-true s u k out e =
-    let a = both-right _ _ e in
-    record { some = ltb-true _ _ (both-left _ _ e); now = eqb-true _ _ (both-left _ _ a); buffer = fitting-true _ _ (both-right _ _ a) }
+due-down-true s u k out e = search (both-left, both-right, ltb-true, eqb-true, fitting-true)
 
 unfoldable pub dueUp : State → ℕ → ℕ → List ℕ → Bool
 dueUp s u k out =
@@ -141,9 +127,7 @@ dueUp s u k out =
 
 pub due-up-true : (s : State) (u k : ℕ) (out : List ℕ) → dueUp s u k out ≡ true → DueUp s u k out
 unfolding dueUp
-due-up-true s u k out e =
-    let a = both-right _ _ e in
-    record { some = ltb-true _ _ (both-left _ _ e); now = eqb-true _ _ (both-left _ _ a); buffer = eqb-true _ _ (both-right _ _ a) }
+due-up-true s u k out e = search (both-left, both-right, ltb-true, eqb-true)
 
 unfoldable pub dueAnswer : State → ℕ → ℕ → ℕ → Bool
 dueAnswer s u k llid =
@@ -152,9 +136,7 @@ dueAnswer s u k llid =
 
 pub due-answer-true : (s : State) (u k llid : ℕ) → dueAnswer s u k llid ≡ true → DueAnswer s u k llid
 unfolding dueAnswer
-due-answer-true s u k llid e =
-    let a = both-right _ _ e in
-    record { some = ltb-true _ _ (both-left _ _ e); left = leb-true _ _ (both-left _ _ a); named = both-right _ _ a }
+due-answer-true s u k llid e = search (both-left, both-right, ltb-true, leb-true)
 
 unfoldable pub overhears : State → ℕ → ℕ → ℕ → Bool
 overhears s u v k =
@@ -162,9 +144,7 @@ overhears s u v k =
 
 pub overhears-true : (s : State) (u v k : ℕ) → overhears s u v k ≡ true → Overhears s u v k
 unfolding overhears
-overhears-true s u v k e =
-    let a = both-right _ _ e in
-    record { registered = both-left _ _ e; apart = eqb-false u v (not-true _ (both-left _ _ a)); some = ltb-true _ _ (both-right _ _ a) }
+overhears-true s u v k e = search (both-left, both-right, ltb-true, eqb-false, not-true)
 
 unfoldable pub changes : Setting → State → ℕ → ℕ → ℕ → Delays → Bool
 changes w s u llid time p =
@@ -175,17 +155,7 @@ changes w s u llid time p =
 
 changes-true : (w : Setting) (s : State) (u llid time : ℕ) (p : Delays) → changes w s u llid time p ≡ true → Changes w s u llid time p
 unfolding changes
-changes-true w s u llid time p e =
-    let a = both-right _ _ e in
-    let b = both-right _ _ a in
-    let c = both-right _ _ b in
-    record {
-      registered = both-left _ _ e;
-      named = both-left _ _ a;
-      measured = eqb-true _ _ (both-left _ _ b);
-      retimed = eqb-true _ _ (both-left _ _ c);
-      follows = eqb-true _ _ (both-right _ _ c);
-    }
+changes-true w s u llid time p e = search (both-left, both-right, eqb-true)
 
 unfoldable pub freshSite : Site → Bool
 freshSite s = eqb (freshOnuOf (s .identity) (s .oltmac) (s .time) .number) 0
@@ -196,10 +166,7 @@ fresh w = both (eqb (freshOltOf (w .mac) (w .first) .number) 0) (all freshSite (
 pub fresh-true : (w : Setting) → fresh w ≡ true → Fresh w
 unfolding fresh freshSite
 fresh-true w e =
-    record {
-      olt = eqb-true _ _ (both-left _ _ e);
-      onus = λ u s h. eqb-true _ _ (all-at freshSite (w .sites) u s (both-right _ _ e) h);
-    }
+    record { olt = eqb-true _ _ (both-left _ _ e); onus = λ u s h. eqb-true _ _ (all-at freshSite (w .sites) u s (both-right _ _ e) h) }
 
 ---- an event, and a list
 

@@ -13,21 +13,14 @@ use Rattle.olt.proofs.Lookup.{lift-decided}
 use Rattle.olt.proofs.acknowledge.Statement.{statement}
 use Rattle.olt.proofs.acknowledge.Tie as tie
 
-returns : tie.Need-returns
-unfolding acknowledgeOf oltAnswer outcome withUnit withChannels pastUnit
-returns c =
-    let numbered = c .before in
-    let done = numbered .before .acknowledge in
-    let at = numbered .before .before .before .before in
-    let a = at .before .args in
-    let x = outcome (a .olt .shared) (done .result .verdict) (done .result .unit) silent in
-    acknowledge-ordered (a .olt) (a .llid) (a .acknowledgement) _
-    (rw (numbered .verdict-number .ensures)
-    (ap oltAnswer
-    (lift-decided (a .olt) silent Accepted (a .llid) (acknowledgeUnit (a .acknowledgement)) (at .locate .result) x (at .locate .ensures .0) (done .ensures))))
-
 pub acknowledge-spec : {M : Type 1} → statement M
 acknowledge-spec =
     tie.close
     (tie.spec (λ c κs. search needs) (λ c. search needs) (λ c. search needs) (λ c κs. search needs) (λ c κs. search needs) (λ c. search needs)
-    (λ c. search needs) returns)
+    (λ c. search needs)
+    (λ c. let numbered = c .before in
+    let at = numbered .before .before .before .before in
+    unfold acknowledgeOf oltAnswer outcome withUnit withChannels pastUnit in
+    acknowledge-ordered _ _ _ _
+    (rw (numbered .verdict-number .ensures)
+    (ap oltAnswer (lift-decided _ silent Accepted _ (acknowledgeUnit _) _ _ (at .locate .ensures .0) (numbered .before .acknowledge .ensures))))))

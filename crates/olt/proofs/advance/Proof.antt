@@ -4,11 +4,5 @@ use Rattle.olt.proofs.Advancing.{moved-alone}
 use Rattle.olt.proofs.advance.Statement.{statement}
 use Rattle.olt.proofs.advance.Tie as tie
 
-returns : tie.Need-returns
-returns c =
-    let done = c .before in
-    let a = done .before .args in
-    rw (done .moved .ensures) (moved-alone (a .olt) (a .n))
-
 pub advance-spec : {M : Type 1} → statement M
-advance-spec = tie.close (tie.spec (λ c κs. search needs) returns)
+advance-spec = tie.close (tie.spec (λ c κs. search needs) (λ c. rw (c .before .moved .ensures) (moved-alone _ _)))

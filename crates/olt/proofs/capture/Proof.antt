@@ -13,20 +13,14 @@ use Rattle.olt.proofs.Lookup.{lift-decided}
 use Rattle.olt.proofs.capture.Statement.{statement}
 use Rattle.olt.proofs.capture.Tie as tie
 
-returns : tie.Need-returns
-unfolding captureOf oltAnswer outcome withUnit withChannels pastUnit
-returns c =
-    let numbered = c .before in
-    let done = numbered .before .capture in
-    let at = numbered .before .before .before .before in
-    let a = at .before .args in
-    let x = outcome (a .olt .shared) (done .result .verdict) (done .result .unit) silent in
-    capture-answered (a .olt) (a .llid) _
-    (rw (numbered .verdict-number .ensures)
-    (ap oltAnswer (lift-decided (a .olt) silent Accepted (a .llid) captureUnit (at .locate .result) x (at .locate .ensures .0) (done .ensures))))
-
 pub capture-spec : {M : Type 1} → statement M
 capture-spec =
     tie.close
     (tie.spec (λ c κs. search needs) (λ c. search needs) (λ c. search needs) (λ c κs. search needs) (λ c κs. search needs) (λ c. search needs)
-    (λ c. search needs) returns)
+    (λ c. search needs)
+    (λ c. let numbered = c .before in
+    let at = numbered .before .before .before .before in
+    unfold captureOf oltAnswer outcome withUnit withChannels pastUnit in
+    capture-answered _ _ _
+    (rw (numbered .verdict-number .ensures)
+    (ap oltAnswer (lift-decided _ silent Accepted _ captureUnit _ _ (at .locate .ensures .0) (numbered .before .capture .ensures))))))

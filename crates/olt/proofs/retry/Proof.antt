@@ -13,20 +13,14 @@ use Rattle.olt.proofs.Lookup.{lift-decided}
 use Rattle.olt.proofs.retry.Statement.{statement}
 use Rattle.olt.proofs.retry.Tie as tie
 
-returns : tie.Need-returns
-unfolding retryOf keySent outcome withUnit withChannels pastUnit
-returns c =
-    let numbered = c .before .before in
-    let done = numbered .before .retry in
-    let at = numbered .before .before .before .before in
-    let a = at .before .args in
-    let x = outcome (a .olt .shared) (done .result .verdict) (done .result .unit) (done .result .message) in
-    retry-ordered (a .olt) (a .llid) _
-    (rw (numbered .verdict-number .ensures)
-    (ap keySent (lift-decided (a .olt) noKeyMessage Accepted (a .llid) (retryUnit (a .llid)) (at .locate .result) x (at .locate .ensures .0) (done .ensures))))
-
 pub retry-spec : {M : Type 1} → statement M
 retry-spec =
     tie.close
     (tie.spec (λ c κs. search needs) (λ c. search needs) (λ c. search needs) (λ c κs. search needs) (λ c κs. search needs) (λ c. search needs)
-    (λ c. search needs) returns)
+    (λ c. search needs)
+    (λ c. let numbered = c .before .before in
+    let at = numbered .before .before .before .before in
+    unfold retryOf keySent outcome withUnit withChannels pastUnit in
+    retry-ordered _ _ _
+    (rw (numbered .verdict-number .ensures)
+    (ap keySent (lift-decided _ noKeyMessage Accepted _ (retryUnit _) _ _ (at .locate .ensures .0) (numbered .before .retry .ensures))))))

@@ -6,13 +6,10 @@ use Rattle.protocol.specs.OnuCalls.{onuClockAdvanced}
 use Rattle.onu.proofs.clock_advanced.Statement.{statement}
 use Rattle.onu.proofs.clock_advanced.Tie as tie
 
-returns : tie.Need-returns
-unfolding onuClockAdvanced pick
-returns c = rw (eq-eqb _ _ (c .before .before .if1 .taken), c .before .clock-after .ensures, c .clock-after2 .ensures)
-
-returns-2 : tie.Need-returns-2
-unfolding onuClockAdvanced pick
-returns-2 c = rw (ne-eqb _ _ (c .before .if1 .left), c .local-after .ensures)
-
 pub clock-advanced-spec : {M : Type 1} → statement M
-clock-advanced-spec = tie.close (tie.spec (λ c κs. search needs) (λ c κs. search needs) returns (λ c κs. search needs) returns-2)
+clock-advanced-spec =
+    tie.close
+    (tie.spec (λ c κs. search needs) (λ c κs. search needs)
+    (λ c. unfold onuClockAdvanced pick in
+    rw (eq-eqb _ _ (c .before .before .if1 .taken), c .before .clock-after .ensures, c .clock-after2 .ensures))
+    (λ c κs. search needs) (λ c. unfold onuClockAdvanced pick in rw (ne-eqb _ _ (c .before .if1 .left), c .local-after .ensures)))

@@ -1,7 +1,6 @@
 -- `traffic::olt_send` meets its contract: the unit is found, decides, and is put back, and the payload is sealed where it accepts. Assumes nothing.
-use mathlib.Core.Path.{_≡_, ap, _∙_}
+use mathlib.Core.Path.{_≡_}
 use borrow.Author.Needs.{needs}
-use Rattle.refusal.specs.declared.Verdict.{Verdict}
 use Rattle.ends.specs.Records.{withChannels, withKeys}
 use Rattle.ends.specs.Table.{pastUnit, unitAt, withUnit}
 use Rattle.protocol.proofs.OltTraffic.{sendAhead}
@@ -16,28 +15,20 @@ use Rattle.traffic.proofs.olt_send.Tie as tie
 here : (c : tie.After-locate) → let a = c .before .before .before .before .args in
     c .locate .result ≡ locatedOf (a .olt) (sendAhead (misfit (a .payload .now) (a .output .now)) (a .channel)) (a .llid)
 unfolding misfit
-here c =
-    let a = c .before .before .before .before .args in
-    c .locate .ensures .0 ∙ ap (λ (v : Verdict). locatedOf (a .olt) v (a .llid)) (c .before .send-ahead .ensures)
+here c = rw (c .before .send-ahead .ensures) at (c .locate .ensures .0)
 
 -- what the unit decides
 decided : (c : tie.After-send) → let at = c .before .before .before in let a = at .before .before .before .before .args in
     sentOutcome (unitAt (a .olt) (at .locate .result .place)) (c .send .result)
     ≡ sendDecided (a .olt) (a .llid) (a .channel) (a .payload .now) (a .output .now) (at .locate .result)
 unfolding pastUnit
-decided c =
-    let at = c .before .before .before in
-    let a = at .before .before .before .before .args in
-    c .send .ensures (send-within (a .olt) (a .llid) (a .channel) (a .payload .now) (a .output .now) (at .locate .result) (here at))
+decided c = c .send .ensures (send-within _ _ _ _ _ _ (here (c .before .before .before)))
 
 carry-accepted-requires : tie.Need-carry-accepted-requires
 unfolding sentOutcome
 carry-accepted-requires c κs =
     let sent = c .before .before .before .before .before .before .before .before .before in
-    let at = sent .before .before .before in
-    let a = at .before .before .before .before .args in
-    send-fits (a .olt) (a .llid) (a .channel) (a .payload .now) (a .output .now) (at .locate .result) (here at)
-    (sentOutcome (unitAt (a .olt) (at .locate .result .place)) (sent .send .result)) (decided sent)
+    send-fits _ _ _ _ _ _ (here (sent .before .before .before)) _ (decided sent)
 
 returns : tie.Need-returns
 unfolding sentOutcome unitSent withKeys pastUnit withUnit withChannels
@@ -45,16 +36,12 @@ returns c =
     let numbered = c .before .before in
     let carried = numbered .before .before .before in
     let sent = carried .before .before .before .before .before .before .before .before .before .before in
-    let at = sent .before .before .before in
-    let a = at .before .before .before .before .args in
-    olt-send-ordered (a .olt) (a .llid) (a .channel) (a .payload .now) (a .output .now) _ _
+    olt-send-ordered _ _ _ _ _ _ _
     (rw (numbered .verdict-number .ensures)
-    (olt-send-done (a .olt) (a .llid) (a .channel) (a .payload .now) (a .output .now) (at .locate .result) (here at)
-    (sentOutcome (unitAt (a .olt) (at .locate .result .place)) (sent .send .result)) (decided sent) _ _
-    (carried .carry-accepted .ensures)))
+    (olt-send-done _ _ _ _ _ _ (here (sent .before .before .before)) _ (decided sent) _ _ (carried .carry-accepted .ensures)))
 
 pub olt-send-spec : {M : Type 1} → statement M
 olt-send-spec =
     tie.close
-    (tie.spec (λ c κs. search needs) (λ c κs. search needs) (λ c. search needs) (λ c. search needs) (λ c κs. search needs) carry-accepted-requires
-    (λ c κs. search needs) (λ c. search needs) (λ c. search needs) (λ c. search needs) returns)
+    (tie.spec (λ c κs. search needs) (λ c κs. search needs) (λ c. search needs) (λ c. search needs) (λ c κs. search needs)
+    carry-accepted-requires (λ c κs. search needs) (λ c. search needs) (λ c. search needs) (λ c. search needs) returns)

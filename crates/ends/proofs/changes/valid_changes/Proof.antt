@@ -4,9 +4,5 @@ use Rattle.ends.specs.Travels.{validChanges}
 use Rattle.ends.proofs.changes.valid_changes.Statement.{statement}
 use Rattle.ends.proofs.changes.valid_changes.Tie as tie
 
-returns : tie.Need-returns
-unfolding validChanges
-returns c = rw (c .shift .ensures)
-
 pub valid-changes-spec : {M : Type 1} → statement M
-valid-changes-spec = tie.close (tie.spec (λ c κs. search needs) (λ c. search needs) returns)
+valid-changes-spec = tie.close (tie.spec (λ c κs. search needs) (λ c. search needs) (λ c. unfold validChanges in rw (c .shift .ensures)))

@@ -36,11 +36,12 @@ loop-holds c =
     let e : n - 0 ≡ n = omega arith in
     (omega arith, refl, refl, rw (add-zero, e), rw add-zero (p .1 .1 .1), rw add-zero (p .1 .1 .0))
 
-slice-read-mark : tie.Need-slice-read-mark Inv-loop μ-loop
-slice-read-mark c =
-    let l = c .before .before .before .loop in
-    let x = getD (c .before .before .before .before .before .before .before .before .args .identity .llids) (l .j) 0 in
-    omega (arith, c .before .mark-place .ensures, place-below x, l .inv .5 .places)
+-- a mark's place is one of the marks
+place-in : (c : tie.After-mark-place Inv-loop μ-loop) → c .mark-place .result < length (c .before .before .loop .marks)
+place-in c =
+    let l = c .before .before .loop in
+    let x = getD (c .before .before .before .before .before .before .before .args .identity .llids) (l .j) 0 in
+    omega (arith, c .mark-place .ensures, place-below x, l .inv .5 .places)
 
 stands-requires : tie.Need-stands-requires Inv-loop μ-loop
 stands-requires c κs =
@@ -59,14 +60,6 @@ returns c =
     let again = distinct-again (take (a .n + here .j) (here .list)) (f (here .j)) (tabulate (here .j + 1) (a .identity .count - (here .j + 1)) f)
     (sym (c .before .stands .ensures) ∙ c .if1 .taken) in
     (sym (rw e at again), ((λ z. true-false (sym z)), (λ z. true-false (sym z))))
-
-slice-write-marks : tie.Need-slice-write-marks Inv-loop μ-loop
-slice-write-marks c =
-    let at-mark-place = c .before .before .before .before .before in
-    let at-loop = at-mark-place .before .before in
-    let l = at-loop .loop in
-    let x = getD (at-loop .before .before .before .before .before .args .identity .llids) (l .j) 0 in
-    omega (arith, at-mark-place .mark-place .ensures, place-below x, l .inv .5 .places)
 
 loop-again : tie.Need-loop-again Inv-loop μ-loop
 loop-again c =
@@ -103,7 +96,7 @@ pub added-spec : {M : Type 1} → statement M
 added-spec =
     tie.close
     (tie.spec Inv-loop μ-loop (λ c. omega arith) loop-holds (λ c. omega arith) (λ c. omega arith) (λ c. omega arith) (λ c κs. search needs)
-    slice-read-mark
-    stands-requires (λ c. c .before .before .before .before .before .before .loop .inv .1)
+    (λ c. place-in (c .before)) stands-requires (λ c. c .before .before .before .before .before .before .loop .inv .1)
     (λ c. c .before .before .before .before .before .before .loop .inv .2) returns (λ c. omega arith) (λ c. omega arith) (λ c κs. omega arith)
-    slice-write-marks (λ c. omega arith) (λ c. omega arith) loop-again (λ c. c .before .loop .inv .1) (λ c. c .before .loop .inv .2) returns-2)
+    (λ c. place-in (c .before .before .before .before .before)) (λ c. omega arith) (λ c. omega arith) loop-again (λ c. c .before .loop .inv .1)
+    (λ c. c .before .loop .inv .2) returns-2)

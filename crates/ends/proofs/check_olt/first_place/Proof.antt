@@ -6,15 +6,9 @@ use Rattle.octets.specs.Choice.{pick}
 use Rattle.ends.proofs.check_olt.first_place.Statement.{statement}
 use Rattle.ends.proofs.check_olt.first_place.Tie as tie
 
-returns-2 : tie.Need-returns-2
-unfolding pick
-returns-2 c = rw (le-ltb _ _ (c .before .before .if1 .left), sym (c .before .has .ensures), c .if2 .taken)
-
-returns-3 : tie.Need-returns-3
-unfolding pick
-returns-3 c = rw (le-ltb _ _ (c .before .before .if1 .left), sym (c .before .has .ensures), c .if2 .left)
-
 pub first-place-spec : {M : Type 1} → statement M
 first-place-spec =
     tie.close
-    (tie.spec (λ c. search needs) (λ c. unfold pick in rw (lt-ltb _ _ (c .if1 .taken))) (λ c κs. search needs) returns-2 (λ c. search needs) returns-3)
+    (tie.spec (λ c. search needs) (λ c. unfold pick in rw (lt-ltb _ _ (c .if1 .taken))) (λ c κs. search needs)
+    (λ c. unfold pick in rw (le-ltb _ _ (c .before .before .if1 .left), sym (c .before .has .ensures), c .if2 .taken)) (λ c. search needs)
+    (λ c. unfold pick in rw (le-ltb _ _ (c .before .before .if1 .left), sym (c .before .has .ensures), c .if2 .left)))

@@ -40,16 +40,12 @@ returns-3 c =
     let passed = c .before .before in
     rw (c .before .if3 .taken, shared-valid passed) (c .valid-with .ensures)
 
-places : (c : tie.Else3) → length (c .before .before .before .before .before .args .t1 .units) ≡ maxUnits
-places c = search (needs, length-mapped)
-
 returns-4 : tie.Need-returns-4
 unfolding judgedOf judgedTable validOlt both find pastUnit
 returns-4 c =
-    let before = c .before .before .before in
-    let passed = before .before in
+    let passed = c .before .before .before .before in
     let a = passed .before .before .before .before .args in
-    let len = places before in
+    let len : length (a .t1 .units) ≡ maxUnits = search (needs, length-mapped) in
     let one : take 1 (a .t1 .units) ≡ getD (a .t1 .units) 0 pastUnit ∷ [] =
     first-step 1 (a .t1 .units) 0 pastUnit (omega arith) (omega arith)
     ∙ ap (λ (l : List UnitRecord). getD (a .t1 .units) 0 pastUnit ∷ l) (first-end 1 (a .t1 .units) 1 (omega arith)) in

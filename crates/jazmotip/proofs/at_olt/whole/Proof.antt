@@ -2,8 +2,5 @@
 use Rattle.jazmotip.proofs.at_olt.whole.Statement.{statement}
 use Rattle.jazmotip.proofs.at_olt.whole.Tie as tie
 
-returns : tie.Need-returns
-returns c h e = rw e
-
 pub whole-spec : {M : Type 1} → statement M
-whole-spec = tie.close (tie.spec returns)
+whole-spec = tie.close (tie.spec (λ c h e. rw e))

@@ -5,7 +5,7 @@ use denote.Triple.Table.{cited, entered}
 use Rattle.jazmotip.proofs.at_onu.advanced.Met as by-value
 use Rattle.jazmotip.proofs.at_onu.advanced.Symbol as callee
 use Rattle.jazmotip.proofs.End.{subscriber}
-use Rattle.jazmotip.proofs.InPlace.{Known, advances}
+use Rattle.jazmotip.proofs.InPlace.{Promises, advancing, advances}
 use Rattle.jazmotip.proofs.at_onu.jazmotip_onu_advance as in-place
 use Rattle.jazmotip.proofs.at_onu.jazmotip_onu_advance.Code as code
 use Rattle.jazmotip.proofs.at_onu.jazmotip_onu_advance.Key.{name}
@@ -17,5 +17,5 @@ jazmotip-onu-advance-spec 𝓤 H 𝓜 𝓖 𝓡 =
     entered 𝓤 H (tripleOf 𝓤 H (𝓖 .A) in-place.signature (in-place.spec 𝓤 H (𝓖 .A) (𝓜 .mem) (𝓡 .run)))
     (tables 𝓤 H 𝓜 𝓡 code.env .C) (tables 𝓤 H 𝓜 𝓡 code.env .Λ) name code.function (code.unfolded 𝓤 H 𝓜 𝓡)
     (advances subscriber 𝓤 H (𝓖 .A) (givenOf 𝓤 H 𝓜 𝓖) callee.name (tablesOf 𝓤 H 𝓜 (tables 𝓤 H 𝓜 𝓡 code.env))
-    (cited 𝓤 H (Known subscriber 𝓤 H (𝓖 .A)) 𝓜 𝓡 code.env callee.name callee.routine code.calls-jazmotip·at-onu·advanced
+    (cited 𝓤 H (Promises (advancing subscriber) 𝓤 H (𝓖 .A)) 𝓜 𝓡 code.env callee.name callee.routine code.calls-jazmotip·at-onu·advanced
     (by-value.met 𝓤 H 𝓜 𝓖 𝓡)))

@@ -4,8 +4,8 @@ use borrow.Author.Needs.{needs}
 use Rattle.jazmotip.proofs.blocks.jazmotip_capture_directory.Statement.{statement}
 use Rattle.jazmotip.proofs.blocks.jazmotip_capture_directory.Tie as tie
 
-returns : tie.Need-returns
-returns c = let e = c .before .check .ensures in (c .directory-in-numbers .ensures ∙ rw (e .0), e .1)
-
 pub jazmotip-capture-directory-spec : {M : Type 1} → statement M
-jazmotip-capture-directory-spec = tie.close (tie.spec (λ c κs. search needs) (λ c κs. search needs) returns)
+jazmotip-capture-directory-spec =
+    tie.close
+    (tie.spec (λ c κs. search needs) (λ c κs. search needs)
+    (λ c. let e = c .before .check .ensures in (c .directory-in-numbers .ensures ∙ rw (e .0), e .1)))

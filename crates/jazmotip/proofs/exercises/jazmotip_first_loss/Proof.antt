@@ -3,10 +3,8 @@ use borrow.Author.Needs.{needs}
 use Rattle.jazmotip.proofs.exercises.jazmotip_first_loss.Statement.{statement}
 use Rattle.jazmotip.proofs.exercises.jazmotip_first_loss.Tie as tie
 
-returns : tie.Need-returns
-returns c =
-    let told = c .before .before .first-loss .ensures in
-    (rw (c .before .number .ensures, c .step-told .ensures, told .0), told .1)
-
 pub jazmotip-first-loss-spec : {M : Type 1} → statement M
-jazmotip-first-loss-spec = tie.close (tie.spec (λ c κs. search needs) (λ c κs. search needs) (λ c κs. search needs) returns)
+jazmotip-first-loss-spec =
+    tie.close
+    (tie.spec (λ c κs. search needs) (λ c κs. search needs) (λ c κs. search needs)
+    (λ c. let told = c .before .before .first-loss .ensures in (rw (c .before .number .ensures, c .step-told .ensures, told .0), told .1)))

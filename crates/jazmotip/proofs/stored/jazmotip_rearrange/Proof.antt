@@ -1,14 +1,10 @@
 -- `jazmotip::stored::jazmotip_rearrange` meets its contract: the code of the verdict of `rearrange`. Assumes nothing.
-use mathlib.Core.Path.{ap}
-use Rattle.jazmotip.specs.Stored.{payloadStored}
 use borrow.Author.Needs.{needs}
 use Rattle.jazmotip.proofs.stored.jazmotip_rearrange.Statement.{statement}
 use Rattle.jazmotip.proofs.stored.jazmotip_rearrange.Tie as tie
 
-returns : tie.Need-returns
-returns c =
-    let made = c .before .before .before .rearrange .ensures in
-    (rw (c .verdict-number .ensures) (ap payloadStored (made .0)), made .1)
-
 pub jazmotip-rearrange-spec : {M : Type 1} → statement M
-jazmotip-rearrange-spec = tie.close (tie.spec (λ c κs. search needs) (λ c κs. search needs) (λ c. search needs) returns)
+jazmotip-rearrange-spec =
+    tie.close
+    (tie.spec (λ c κs. search needs) (λ c κs. search needs) (λ c. search needs)
+    (λ c. let made = c .before .before .before .rearrange .ensures in (rw (c .verdict-number .ensures, ← made .0), made .1)))

@@ -5,10 +5,7 @@ use Prim.Native.Nat.{ℕ, zero, suc, _%_}
 use lib.ListN.{replicate, set}
 use borrow.Author.Needs.{needs}
 use Rattle.ends.specs.Limits.{maxUnits}
-use Rattle.ends.specs.Occupancy.{freeChannels}
 use Rattle.ends.specs.Records.{newOlt, noUnit}
-use Rattle.ends.specs.declared.Olt.{Olt}
-use Rattle.ends.specs.declared.UnitRecord.{UnitRecord}
 use Rattle.olt.proofs.making.new_olt.Statement.{statement}
 use Rattle.olt.proofs.making.new_olt.Tie as tie
 
@@ -18,14 +15,8 @@ stored-again zero i a = refl
 stored-again (suc n) zero a = refl
 stored-again {A} (suc n) (suc i) a = ap (λ (l : List A). a ∷ l) (stored-again n i a)
 
-abbrev holding : ℕ → ℕ → List UnitRecord → Olt
-holding mac clock units = record { shared = record { mac = mac; tick = 0; clock = clock; channels = freeChannels }; count = 0; units = units }
-
-returns : tie.Need-returns
-unfolding newOlt
-returns c =
-    let a = c .before .args in
-    rw (c .no-unit .ensures) (ap (holding (a .mac) (a .clock)) (stored-again maxUnits (a .clock % maxUnits) noUnit))
-
 pub new-olt-spec : {M : Type 1} → statement M
-new-olt-spec = tie.close (tie.spec (λ c κs. search needs) (λ c. search needs) (λ c. search needs) (λ c. search needs) (λ c. search needs) returns)
+new-olt-spec =
+    tie.close
+    (tie.spec (λ c κs. search needs) (λ c. search needs) (λ c. search needs) (λ c. search needs) (λ c. search needs)
+    (λ c. unfold newOlt in rw (c .no-unit .ensures, stored-again maxUnits (c .before .args .clock % maxUnits) noUnit)))

@@ -5,9 +5,7 @@ use Rattle.protocol.specs.OltCalls.{validRegistration}
 use Rattle.olt.proofs.making.valid_registration.Statement.{statement}
 use Rattle.olt.proofs.making.valid_registration.Tie as tie
 
-returns : tie.Need-returns
-unfolding validRegistration both
-returns c = rw (c .valid-interval .ensures, c .before .valid-identity .ensures)
-
 pub valid-registration-spec : {M : Type 1} → statement M
-valid-registration-spec = tie.close (tie.spec (λ c κs. search needs) (λ c κs. search needs) returns)
+valid-registration-spec =
+    tie.close (tie.spec (λ c κs. search needs) (λ c κs. search needs)
+    (λ c. unfold validRegistration both in rw (c .valid-interval .ensures, c .before .valid-identity .ensures)))

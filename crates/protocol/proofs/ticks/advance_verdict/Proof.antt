@@ -1,5 +1,5 @@
 -- `advance_verdict` meets its contract: a tick above the last one, or more ticks than are left, is a sum above it. Assumes nothing.
-use Prim.Native.Nat.{_+_, _≤_, _<_}
+use Prim.Native.Nat.{_+_}
 use native.Mathlib.Omega.{arith}
 use borrow.Author.Tests.{lt-ltb, le-ltb}
 use Rattle.clock.specs.Ticks.{maxTick}
@@ -8,26 +8,9 @@ use Rattle.protocol.specs.Replies.{advanceVerdict}
 use Rattle.protocol.proofs.ticks.advance_verdict.Statement.{statement}
 use Rattle.protocol.proofs.ticks.advance_verdict.Tie as tie
 
-returns : tie.Need-returns
-unfolding advanceVerdict refuseIf
-returns c =
-    let a = c .before .args in
-    let h : maxTick < a .tick + a .n = omega arith in
-    rw (lt-ltb _ _ h)
-
-returns-2 : tie.Need-returns-2
-unfolding advanceVerdict refuseIf
-returns-2 c =
-    let a = c .before .before .args in
-    let h : maxTick < a .tick + a .n = omega arith in
-    rw (lt-ltb _ _ h)
-
-returns-3 : tie.Need-returns-3
-unfolding advanceVerdict refuseIf
-returns-3 c =
-    let a = c .before .before .args in
-    let h : a .tick + a .n ≤ maxTick = omega arith in
-    rw (le-ltb _ _ h)
-
 pub advance-verdict-spec : {M : Type 1} → statement M
-advance-verdict-spec = tie.close (tie.spec returns returns-2 returns-3)
+advance-verdict-spec =
+    tie.close
+    (tie.spec (λ c. unfold advanceVerdict refuseIf in rw (lt-ltb maxTick (c .before .args .tick + c .before .args .n) (omega arith)))
+    (λ c. unfold advanceVerdict refuseIf in rw (lt-ltb maxTick (c .before .before .args .tick + c .before .before .args .n) (omega arith)))
+    (λ c. unfold advanceVerdict refuseIf in rw (le-ltb maxTick (c .before .before .args .tick + c .before .before .args .n) (omega arith))))

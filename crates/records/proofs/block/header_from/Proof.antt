@@ -7,9 +7,8 @@ use Rattle.records.proofs.Headers.{header-taken}
 use Rattle.records.proofs.block.header_from.Statement.{statement}
 use Rattle.records.proofs.block.header_from.Tie as tie
 
-returns : tie.Need-returns
-unfolding headerFrom
-returns c = (c .read .ensures .0 ∙ rw (c .before .part-of .ensures) (header-taken 16 _ (omega arith)), c .read .ensures .1)
-
 pub header-from-spec : {M : Type 1} → statement M
-header-from-spec = tie.close (tie.spec (λ c κs. search needs) (λ c κs. search needs) returns)
+header-from-spec =
+    tie.close
+    (tie.spec (λ c κs. search needs) (λ c κs. search needs)
+    (λ c. unfold headerFrom in (c .read .ensures .0 ∙ rw (c .before .part-of .ensures) (header-taken 16 _ (omega arith)), c .read .ensures .1)))

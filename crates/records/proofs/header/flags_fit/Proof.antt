@@ -5,9 +5,6 @@ use Rattle.records.specs.Verdict.{flagsFit}
 use Rattle.records.proofs.header.flags_fit.Statement.{statement}
 use Rattle.records.proofs.header.flags_fit.Tie as tie
 
-returns : tie.Need-returns
-unfolding flagsFit both either
-returns c = rw (c .before .before .cleared .ensures, c .before .enc-enabled .ensures, c .enc-key .ensures)
-
 pub flags-fit-spec : {M : Type 1} → statement M
-flags-fit-spec = tie.close (tie.spec (λ c κs. search needs) (λ c κs. search needs) (λ c κs. search needs) returns)
+flags-fit-spec =
+    tie.close (tie.spec (λ c κs. search needs) (λ c κs. search needs) (λ c κs. search needs) (λ c. unfold flagsFit both either in cc))

@@ -5,9 +5,8 @@ use borrow.Author.Needs.{needs}
 use Rattle.records.proofs.header.is_sized.Statement.{statement}
 use Rattle.records.proofs.header.is_sized.Tie as tie
 
-returns : tie.Need-returns
-unfolding sized recordHeader both
-returns c = rw (c .record-octets .ensures, c .before .number32 .ensures)
-
 pub is-sized-spec : {M : Type 1} → statement M
-is-sized-spec = tie.close (tie.spec (λ c κs. search needs) (λ c κs. search needs) returns)
+is-sized-spec =
+    tie.close
+    (tie.spec (λ c κs. search needs) (λ c κs. search needs)
+    (λ c. unfold sized recordHeader both in rw (c .record-octets .ensures, c .before .number32 .ensures)))

@@ -2,9 +2,10 @@
 use mathlib.Core.Path.{_≡_, sym, _∙_}
 use mathlib.Core.Bool.{true}
 use borrow.Author.Needs.{needs}
-use borrow.Author.Tests.{not-true, not-false}
-use Rattle.records.specs.Verdict.{headerFits}
-use Rattle.records.proofs.Verdicts.{malformed, other-llid, other-epam, by-key}
+use borrow.Author.Tests.{eq-eqb, ne-eqb, not-true, not-false}
+use Rattle.octets.specs.Choice.{pick}
+use Rattle.records.specs.Verdict.{headerFits, inOrder, recordVerdict}
+use Rattle.records.proofs.Verdicts.{by-key}
 use Rattle.records.proofs.header.record_verdict.Statement.{statement}
 use Rattle.records.proofs.header.record_verdict.Tie as tie
 
@@ -13,9 +14,10 @@ formed : (c : tie.Else1) → headerFits (c .before .before .args .h) ≡ true
 formed c = sym (c .before .is-well-formed .ensures) ∙ not-false _ (c .if1 .left)
 
 returns-3 : tie.Need-returns-3
+unfolding recordVerdict inOrder pick
 returns-3 c =
     let at-llid = c .before .before .before in
-    other-epam _ _ _ _ (formed (at-llid .before .before)) (at-llid .if2 .left) (λ e. c .if3 .taken (e ∙ sym (c .before .before .epam-of .ensures)))
+    rw (formed (at-llid .before .before), eq-eqb _ _ (at-llid .if2 .left), ne-eqb _ _ (λ e. c .if3 .taken (e ∙ sym (c .before .before .epam-of .ensures))))
 
 returns-4 : tie.Need-returns-4
 returns-4 c =
@@ -28,5 +30,6 @@ pub record-verdict-spec : {M : Type 1} → statement M
 record-verdict-spec =
     tie.close
     (tie.spec (λ c κs. search needs)
-    (λ c. malformed _ _ _ _ (sym (c .before .is-well-formed .ensures) ∙ not-true _ (c .if1 .taken)))
-    (λ c. other-llid _ _ _ _ (formed (c .before .before)) (c .if2 .taken)) (λ c κs. search needs) returns-3 (λ c κs. search needs) returns-4)
+    (λ c. unfold recordVerdict inOrder pick in rw (sym (c .before .is-well-formed .ensures) ∙ not-true _ (c .if1 .taken)))
+    (λ c. unfold recordVerdict inOrder pick in rw (formed (c .before .before), ne-eqb _ _ (c .if2 .taken)))
+    (λ c κs. search needs) returns-3 (λ c κs. search needs) returns-4)

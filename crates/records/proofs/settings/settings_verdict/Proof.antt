@@ -12,15 +12,9 @@ use Rattle.records.proofs.settings.settings_verdict.Tie as tie
 tested : (c : tie.After-presence-fits) → presenceFits (presenceOf (now (c .before .before .before .before .args .s))) ≡ c .presence-fits .result
 tested c = sym (c .presence-fits .ensures ∙ rw (c .before .presence .ensures))
 
-returns-2 : tie.Need-returns-2
-unfolding settingsVerdict pick
-returns-2 c = rw (eq-eqb _ _ (c .before .before .before .if1 .left), tested (c .before) ∙ not-true _ (c .if2 .taken))
-
-returns-3 : tie.Need-returns-3
-unfolding settingsVerdict pick
-returns-3 c = rw (eq-eqb _ _ (c .before .before .before .if1 .left), tested (c .before) ∙ not-false _ (c .if2 .left))
-
 pub settings-verdict-spec : {M : Type 1} → statement M
 settings-verdict-spec =
     tie.close
-    (tie.spec (λ c. unfold settingsVerdict pick in rw (ne-eqb _ _ (c .if1 .taken))) (λ c κs. search needs) (λ c κs. search needs) returns-2 returns-3)
+    (tie.spec (λ c. unfold settingsVerdict pick in rw (ne-eqb _ _ (c .if1 .taken))) (λ c κs. search needs) (λ c κs. search needs)
+    (λ c. unfold settingsVerdict pick in rw (eq-eqb _ _ (c .before .before .before .if1 .left), tested (c .before) ∙ not-true _ (c .if2 .taken)))
+    (λ c. unfold settingsVerdict pick in rw (eq-eqb _ _ (c .before .before .before .if1 .left), tested (c .before) ∙ not-false _ (c .if2 .left))))

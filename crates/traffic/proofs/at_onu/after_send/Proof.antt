@@ -21,12 +21,6 @@ spent-requires c κs =
     let r = onu-in-range _ (p .1 .1 .0) in
     (rw (p .1 .0) (travel-bounded (start .args .onu) (r .tick) (r .changes)), p .1 .1 .1)
 
-returns : tie.Need-returns
-unfolding onuAfterSend onuNoted withOnuChannels
-returns c =
-    let taken = c .before .before in
-    rw (sym (taken .before .pre .0) ∙ c .enum-told .given .1, kept taken)
-
 returns-2 : tie.Need-returns-2
 unfolding onuAfterSend onuNoted withOnuChannels withOnuFirst withTravel
 returns-2 c =
@@ -35,21 +29,14 @@ returns-2 c =
     let p = taken .before .pre in
     rw (sym (p .0) ∙ told .enum-told2 .given .1, c .spent .ensures, c .before .first-send .ensures, p .1 .0, kept taken)
 
-returns-3 : tie.Need-returns-3
-unfolding onuAfterSend onuNoted withOnuChannels
-returns-3 c =
-    let taken = c .before .before in
-    rw (sym (taken .before .pre .0) ∙ c .enum-told3 .given .1, kept taken)
-
-returns-4 : tie.Need-returns-4
-unfolding onuAfterSend onuNoted withOnuChannels
-returns-4 c =
-    let taken = c .before .before in
-    rw (sym (taken .before .pre .0) ∙ c .enum-told4 .given .1, kept taken)
-
 pub after-send-spec : {M : Type 1} → statement M
 after-send-spec =
     tie.close
-    (tie.spec (λ c κs. search needs) (λ c. search needs) (λ c. search needs) (λ c κs. search needs) spent-requires (λ c. search needs)
-    (λ c. search needs)
-    returns returns-2 returns-3 returns-4)
+    (tie.spec (λ c κs. search needs) (λ c. search needs) (λ c. search needs) (λ c κs. search needs) spent-requires (λ c. search needs) (λ c. search needs)
+    (λ c. let taken = c .before .before in
+    unfold onuAfterSend onuNoted withOnuChannels in rw (sym (taken .before .pre .0) ∙ c .enum-told .given .1, kept taken))
+    returns-2
+    (λ c. let taken = c .before .before in
+    unfold onuAfterSend onuNoted withOnuChannels in rw (sym (taken .before .pre .0) ∙ c .enum-told3 .given .1, kept taken))
+    (λ c. let taken = c .before .before in
+    unfold onuAfterSend onuNoted withOnuChannels in rw (sym (taken .before .pre .0) ∙ c .enum-told4 .given .1, kept taken)))

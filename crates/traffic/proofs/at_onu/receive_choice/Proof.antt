@@ -1,7 +1,7 @@
 -- `traffic::at_onu::receive_choice` meets its contract: by the same tests as the definition; only a held key comes into use, so that its number fits.
 -- Assumes nothing.
-use mathlib.Core.Path.{_≡_, sym}
-use Prim.Native.Nat.{_+_, _-_, _%_}
+use mathlib.Core.Path.{_≡_}
+use Prim.Native.Nat.{ℕ, _+_, _-_, _%_}
 use borrow.Author.Tests.{eqb-true, eq-eqb, ne-eqb}
 use Rattle.octets.specs.Choice.{both, pick}
 use Rattle.octets.proofs.Choice.{both-left}
@@ -12,17 +12,9 @@ use native.Mathlib.Omega.{arith}
 use Rattle.traffic.proofs.at_onu.receive_choice.Statement.{statement}
 use Rattle.traffic.proofs.at_onu.receive_choice.Tie as tie
 
-returns : tie.Need-returns
-unfolding onuReceiveChoice pick
-returns c = rw (eq-eqb _ _ (c .before .if1 .taken), eq-eqb _ _ (c .if2 .taken))
-
-returns-2 : tie.Need-returns-2
-unfolding onuReceiveChoice pick
-returns-2 c = rw (eq-eqb _ _ (c .before .if1 .taken), ne-eqb _ _ (c .if2 .left))
-
-returns-3 : tie.Need-returns-3
-unfolding onuReceiveChoice both pick
-returns-3 c = rw (ne-eqb _ _ (c .before .before .if1 .left), c .if3 .taken)
+-- the slot that is not that of a number is that of the next
+next-slot : (n : ℕ) → 1 - n % 2 ≡ (n + 1) % 2
+next-slot n = omega arith
 
 add-t12 : tie.Need-add-t12
 unfolding both
@@ -30,20 +22,13 @@ add-t12 c =
     let start = c .before .before .before .before .before .before .before in
     omega (arith, onu-keys-in-range (start .args .keys) (start .pre) .below (eqb-true _ _ (both-left _ _ (c .if4 .taken))))
 
-returns-4 : tie.Need-returns-4
-unfolding onuReceiveChoice both pick
-returns-4 c =
-    let n = c .before .before .before .before .before .before .before .args .keys .active in
-    let e : 1 - n % 2 ≡ (n + 1) % 2 = omega arith in
-    rw (ne-eqb _ _ (c .before .before .before .before .before .if1 .left), c .before .before .before .if3 .left, sym e, c .if4 .taken)
-
-returns-5 : tie.Need-returns-5
-unfolding onuReceiveChoice both pick
-returns-5 c =
-    let n = c .before .before .before .before .before .before .before .args .keys .active in
-    let e : 1 - n % 2 ≡ (n + 1) % 2 = omega arith in
-    rw (ne-eqb _ _ (c .before .before .before .before .before .if1 .left), c .before .before .before .if3 .left, sym e, c .if4 .left)
-
 pub receive-choice-spec : {M : Type 1} → statement M
-receive-choice-spec = tie.close (tie.spec returns returns-2 (λ c. search needs) (λ c. search needs) returns-3 (λ c. search needs) add-t12 returns-4
-    returns-5)
+receive-choice-spec =
+    tie.close
+    (tie.spec (λ c. unfold onuReceiveChoice pick in rw (eq-eqb _ _ (c .before .if1 .taken), eq-eqb _ _ (c .if2 .taken)))
+    (λ c. unfold onuReceiveChoice pick in rw (eq-eqb _ _ (c .before .if1 .taken), ne-eqb _ _ (c .if2 .left))) (λ c. search needs) (λ c. search needs)
+    (λ c. unfold onuReceiveChoice both pick in rw (ne-eqb _ _ (c .before .before .if1 .left), c .if3 .taken)) (λ c. search needs) add-t12
+    (λ c. let third = c .before .before .before in
+    unfold onuReceiveChoice both pick in rw (ne-eqb _ _ (third .before .before .if1 .left), third .if3 .left, ← next-slot, c .if4 .taken))
+    (λ c. let third = c .before .before .before in
+    unfold onuReceiveChoice both pick in rw (ne-eqb _ _ (third .before .before .if1 .left), third .if3 .left, ← next-slot, c .if4 .left)))

@@ -5,13 +5,8 @@ use Rattle.ends.specs.Travels.{travelSpent}
 use Rattle.traffic.proofs.travelling.spent.Statement.{statement}
 use Rattle.traffic.proofs.travelling.spent.Tie as tie
 
-returns : tie.Need-returns
-unfolding travelSpent
-returns c = rw (max-eq-right (le-of-lt (c .if1 .taken)))
-
-returns-2 : tie.Need-returns-2
-unfolding travelSpent
-returns-2 c = rw (max-eq-left (c .if1 .left))
-
 pub spent-spec : {M : Type 1} → statement M
-spent-spec = tie.close (tie.spec (λ c. search needs) (λ c. search needs) returns returns-2)
+spent-spec =
+    tie.close
+    (tie.spec (λ c. search needs) (λ c. search needs)
+    (λ c. unfold travelSpent in rw (max-eq-right (le-of-lt (c .if1 .taken)))) (λ c. unfold travelSpent in rw (max-eq-left (c .if1 .left))))

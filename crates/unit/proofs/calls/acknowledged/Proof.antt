@@ -7,17 +7,12 @@ use Rattle.protocol.specs.UnitCalls.{acknowledgeUnit, clockAcknowledgedUnit, ke
 use Rattle.unit.proofs.calls.acknowledged.Statement.{statement}
 use Rattle.unit.proofs.calls.acknowledged.Tie as tie
 
-returns : tie.Need-returns
-unfolding acknowledgeUnit clockAcknowledgedUnit keyAcknowledgedUnit outcome pick withClock
-returns c = rw (eq-eqb _ _ (c .before .if1 .taken))
-
 returns-2 : tie.Need-returns-2
 unfolding acknowledgeUnit clockAcknowledgedUnit keyAcknowledgedUnit outcome pick withConfirmation
 returns-2 c = rw (ne-eqb _ _ (c .before .before .before .if1 .left), eq-eqb _ _ (c .before .if2 .taken))
 
-returns-3 : tie.Need-returns-3
-unfolding acknowledgeUnit clockAcknowledgedUnit keyAcknowledgedUnit outcome pick
-returns-3 c = rw (ne-eqb _ _ (c .before .before .if1 .left), ne-eqb _ _ (c .if2 .left))
-
 pub acknowledged-spec : {M : Type 1} → statement M
-acknowledged-spec = tie.close (tie.spec returns returns-2 returns-3)
+acknowledged-spec =
+    tie.close
+    (tie.spec (λ c. unfold acknowledgeUnit clockAcknowledgedUnit outcome pick withClock in rw (eq-eqb _ _ (c .before .if1 .taken))) returns-2
+    (λ c. unfold acknowledgeUnit outcome pick in rw (ne-eqb _ _ (c .before .before .if1 .left), ne-eqb _ _ (c .if2 .left))))

@@ -4,9 +4,8 @@ use Rattle.protocol.specs.UnitCalls.{clockMessageOf}
 use Rattle.unit.proofs.calls.clock_message.Statement.{statement}
 use Rattle.unit.proofs.calls.clock_message.Tie as tie
 
-returns : tie.Need-returns
-unfolding clockMessageOf
-returns c = rw (c .captured .ensures, c .before .clock-before .ensures, c .before .before .since .ensures)
-
 pub clock-message-spec : {M : Type 1} → statement M
-clock-message-spec = tie.close (tie.spec (λ c κs. search needs) (λ c κs. search needs) (λ c κs. search needs) returns)
+clock-message-spec =
+    tie.close
+    (tie.spec (λ c κs. search needs) (λ c κs. search needs) (λ c κs. search needs)
+    (λ c. unfold clockMessageOf in rw (c .captured .ensures, c .before .clock-before .ensures, c .before .before .since .ensures)))

@@ -5,12 +5,9 @@ use Rattle.protocol.specs.UnitCalls.{outstanding}
 use Rattle.unit.proofs.calls.is_outstanding.Statement.{statement}
 use Rattle.unit.proofs.calls.is_outstanding.Tie as tie
 
-returns-2 : tie.Need-returns-2
-unfolding outstanding pick both
-returns-2 c = rw (ne-eqb _ _ (c .before .if1 .left), eq-eqb _ _ (c .if2 .taken))
-
 pub is-outstanding-spec : {M : Type 1} → statement M
 is-outstanding-spec =
     tie.close
-    (tie.spec (λ c. unfold outstanding pick in rw (eq-eqb _ _ (c .if1 .taken))) returns-2
+    (tie.spec (λ c. unfold outstanding pick in rw (eq-eqb _ _ (c .if1 .taken)))
+    (λ c. unfold outstanding pick both in rw (ne-eqb _ _ (c .before .if1 .left), eq-eqb _ _ (c .if2 .taken)))
     (λ c. unfold outstanding pick in rw (ne-eqb _ _ (c .before .if1 .left), ne-eqb _ _ (c .if2 .left))))

@@ -6,7 +6,7 @@ use Rattle.protocol.specs.Lift.{outcome}
 use Rattle.ends.specs.Records.{withKeys, withConfirmation}
 use Rattle.protocol.specs.UnitCalls.{offerUnit, unitOffered}
 use Rattle.protocol.proofs.UnitCalls.{offer-accepted}
-use Rattle.unit.proofs.Reached.{reached-refused, reached-accepted}
+use Rattle.unit.specs.Reached.{ifAccepted, reached}
 use Rattle.unit.proofs.calls.offer.Statement.{statement}
 use Rattle.unit.proofs.calls.offer.Tie as tie
 
@@ -16,23 +16,21 @@ offered-requires c κs =
     let e = sym (judged .and-then .ensures) ∙ c .enum-told .given .1 in
     offer-accepted _ _ (sym (judged .before .offer-verdict .ensures) ∙ then-accepted _ _ e .1) .below
 
-returns : tie.Need-returns
-unfolding offerUnit outcome
-returns c =
-    let judged = c .before .before .before .before in
-    let e = sym (judged .and-then .ensures) ∙ c .before .before .verdict .given .1 in
-    rw (c .no-key-message .ensures) (sym (reached-refused _ _ _ _ _ _ (rw (judged .before .offer-verdict .ensures) at e)))
-
-returns-2 : tie.Need-returns-2
-unfolding offerUnit unitOffered withKeys withConfirmation outcome
-returns-2 c =
-    let told = c .before .before in
-    let judged = told .before .before in
-    let e = sym (judged .and-then .ensures) ∙ told .enum-told .given .1 in
-    rw (c .key-message .ensures, c .before .offered .ensures) (sym (reached-accepted _ _ _ _ _ (rw (judged .before .offer-verdict .ensures) at e)))
-
 pub offer-spec : {M : Type 1} → statement M
 offer-spec =
     tie.close
-    (tie.spec (λ c κs. search needs) (λ c κs. search needs) (λ c. search needs) (λ c κs. search needs) (λ c. search needs) offered-requires
-    (λ c κs. search needs) returns returns-2)
+    (tie.spec (λ c κs. search needs) (λ c κs. search needs) (λ c. search needs) (λ c κs. search needs) (λ c. search needs)
+    offered-requires (λ c κs. search needs)
+    (λ c. let judged = c .before .before .before .before in
+    unfold offerUnit outcome reached ifAccepted in
+    rw (← judged .before .offer-verdict .ensures, ← judged .and-then .ensures, c .before .before .verdict .given .1, c .no-key-message .ensures))
+    (λ c. let told = c .before .before in
+    let judged = told .before .before in
+    unfold offerUnit unitOffered withKeys withConfirmation outcome reached ifAccepted in
+    rw (
+      ← judged .before .offer-verdict .ensures,
+      ← judged .and-then .ensures,
+      told .enum-told .given .1,
+      c .key-message .ensures,
+      c .before .offered .ensures,
+    )))

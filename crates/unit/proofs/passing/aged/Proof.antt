@@ -8,11 +8,5 @@ use Rattle.unit.proofs.Elapsed.{least-since}
 use Rattle.unit.proofs.passing.aged.Statement.{statement}
 use Rattle.unit.proofs.passing.aged.Tie as tie
 
-returns : tie.Need-returns
-unfolding aged both
-returns c =
-    let a = c .before .before .args in
-    rw (c .since .ensures, least-since (a .first .at) keyLife (a .now) (omega arith))
-
 pub aged-spec : {M : Type 1} → statement M
-aged-spec = tie.close (tie.spec (λ c κs. search needs) returns)
+aged-spec = tie.close (tie.spec (λ c κs. search needs) (λ c. unfold aged both in rw (c .since .ensures, least-since _ keyLife _ (omega arith))))

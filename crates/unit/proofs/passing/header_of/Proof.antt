@@ -7,13 +7,9 @@ use borrow.Author.Needs.{needs}
 use Rattle.unit.proofs.passing.header_of.Statement.{statement}
 use Rattle.unit.proofs.passing.header_of.Tie as tie
 
-returns : tie.Need-returns
-unfolding envelopeHeader pick
-returns c = rw (sym (c .before .before .choice-number .ensures), eq-eqb _ _ (c .if1 .taken), c .before .epam-of .ensures)
-
-returns-2 : tie.Need-returns-2
-unfolding envelopeHeader pick
-returns-2 c = rw (sym (c .before .before .choice-number .ensures), ne-eqb _ _ (c .if1 .left), c .before .epam-of .ensures)
-
 pub header-of-spec : {M : Type 1} → statement M
-header-of-spec = tie.close (tie.spec (λ c κs. search needs) (λ c. search needs) (λ c κs. search needs) returns returns-2)
+header-of-spec =
+    tie.close
+    (tie.spec (λ c κs. search needs) (λ c. search needs) (λ c κs. search needs)
+    (λ c. unfold envelopeHeader pick in rw (sym (c .before .before .choice-number .ensures), eq-eqb _ _ (c .if1 .taken), c .before .epam-of .ensures))
+    (λ c. unfold envelopeHeader pick in rw (sym (c .before .before .choice-number .ensures), ne-eqb _ _ (c .if1 .left), c .before .epam-of .ensures)))

@@ -17,17 +17,11 @@ sum : (c : tie.After-wrapping-add-u64) → let a = c .before .args in
     validTimer (a .timer) ≡ true → a .n ≤ maxTick → c .wrapping-add-u64 .result ≡ a .timer .count + a .n
 sum c v h = omega (arith, timed _ v, c .wrapping-add-u64 .ensures)
 
-returns : tie.Need-returns
-unfolding timerAdvanced pick
-returns c = λ v h.
-    let e = sum (c .before .before .before) v h in
-    rw (← e, le-leb _ _ (c .before .if1 .taken), c .reduced .ensures (omega (arith, timed _ v)))
-
-returns-2 : tie.Need-returns-2
-unfolding timerAdvanced pick
-returns-2 c = λ v h.
-    let e = sum (c .before .before) v h in
-    rw (← e, lt-leb _ _ (c .if1 .left), mod-eq-of-lt (c .if1 .left))
-
 pub timer-advanced-spec : {M : Type 1} → statement M
-timer-advanced-spec = tie.close (tie.spec (λ c κs. search needs) (λ c κs. search needs) returns returns-2)
+timer-advanced-spec =
+    tie.close
+    (tie.spec (λ c κs. search needs) (λ c κs. search needs)
+    (λ c v h. unfold timerAdvanced pick in
+    rw (← sum (c .before .before .before) v h, le-leb _ _ (c .before .if1 .taken), c .reduced .ensures (omega (arith, timed _ v))))
+    (λ c v h. unfold timerAdvanced pick in
+    rw (← sum (c .before .before) v h, lt-leb _ _ (c .if1 .left), mod-eq-of-lt (c .if1 .left))))

@@ -1,10 +1,10 @@
 -- `unit::unit_traffic::receive` meets its contract: the key is chosen once, the unit decides, and what it accepts is opened with that key. Assumes nothing.
-use mathlib.Core.Path.{_≡_, sym, _∙_}
+use mathlib.Core.Path.{_≡_}
 use borrow.Author.Needs.{needs}
 use Rattle.refusal.specs.Order.{andThen}
 use Rattle.protocol.specs.Lift.{outcome}
 use Rattle.protocol.specs.UnitTraffic.{receiveUnit, unitReceiveVerdict}
-use Rattle.unit.proofs.Reached.{reached-refused, reached-accepted}
+use Rattle.unit.specs.Reached.{ifAccepted, reached}
 use Rattle.unit.proofs.unit_traffic.receive.Statement.{statement}
 use Rattle.unit.proofs.unit_traffic.receive.Tie as tie
 
@@ -17,23 +17,20 @@ judged c =
     let epam = chosen .before .before in
     rw (c .and-then .ensures, c .before .refuse-if .ensures, chosen .choice-verdict .ensures, epam .epam-of .ensures, epam .before .receive-choice .ensures)
 
-returns : tie.Need-returns
-unfolding receiveUnit outcome
-returns c =
-    let e = sym (judged (c .before .before .before .before)) ∙ c .before .before .verdict .given .1 in
-    rw (c .no-passage .ensures) (sym (reached-refused _ _ _ _ _ _ e))
-
-returns-2 : tie.Need-returns-2
-unfolding receiveUnit outcome
-returns-2 c =
-    let told = c .before .before in
-    let on = told .before .before in
-    let e = sym (judged on) ∙ told .enum-told .given .1 in
-    rw (c .passage-of .ensures, c .before .unit-received .ensures, on .before .before .before .before .before .receive-choice .ensures)
-    (sym (reached-accepted _ _ _ _ _ e))
-
 pub receive-spec : {M : Type 1} → statement M
 receive-spec =
     tie.close
     (tie.spec (λ c κs. search needs) (λ c κs. search needs) (λ c κs. search needs) (λ c κs. search needs) (λ c κs. search needs) (λ c. search needs)
-    (λ c κs. search needs) (λ c. search needs) (λ c κs. search needs) (λ c κs. search needs) returns returns-2)
+    (λ c κs. search needs) (λ c. search needs) (λ c κs. search needs) (λ c κs. search needs)
+    (λ c. unfold receiveUnit outcome reached ifAccepted in
+    rw (← judged (c .before .before .before .before), c .before .before .verdict .given .1, c .no-passage .ensures))
+    (λ c. let told = c .before .before in
+    let on = told .before .before in
+    unfold receiveUnit outcome reached ifAccepted in
+    rw (
+      ← judged on,
+      told .enum-told .given .1,
+      c .passage-of .ensures,
+      c .before .unit-received .ensures,
+      on .before .before .before .before .before .receive-choice .ensures,
+    )))

@@ -7,17 +7,11 @@ use borrow.Author.Needs.{needs}
 use Rattle.unit.proofs.unit_traffic.send_choice.Statement.{statement}
 use Rattle.unit.proofs.unit_traffic.send_choice.Tie as tie
 
-returns-2 : tie.Need-returns-2
-unfolding unitSendChoice pick
-returns-2 c = rw (sym (c .before .before .before .switches .ensures), c .before .before .if1 .left, eq-eqb _ _ (c .if2 .taken))
-
-returns-3 : tie.Need-returns-3
-unfolding unitSendChoice pick
-returns-3 c = rw (sym (c .before .before .before .switches .ensures), c .before .before .if1 .left, ne-eqb _ _ (c .if2 .left))
-
 pub send-choice-spec : {M : Type 1} → statement M
 send-choice-spec =
     tie.close
-    (tie.spec (λ c κs. search needs)
-    (λ c. unfold unitSendChoice pick in rw (sym (c .before .switches .ensures), c .if1 .taken))
-    returns-2 returns-3)
+    (tie.spec (λ c κs. search needs) (λ c. unfold unitSendChoice pick in rw (sym (c .before .switches .ensures), c .if1 .taken))
+    (λ c. let first = c .before .before in
+    unfold unitSendChoice pick in rw (sym (first .before .switches .ensures), first .if1 .left, eq-eqb _ _ (c .if2 .taken)))
+    (λ c. let first = c .before .before in
+    unfold unitSendChoice pick in rw (sym (first .before .switches .ensures), first .if1 .left, ne-eqb _ _ (c .if2 .left))))

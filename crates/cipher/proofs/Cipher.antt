@@ -5,8 +5,8 @@ use Prim.Native.Nat.{ℕ}
 use Rattle.cipher.specs.Cipher.{addRoundKey, roundKey}
 use Rattle.cipher.specs.Words.{word, xorWords}
 
-pub added-columns : (w s : List ℕ) {a b c d : List ℕ} → a ≡ xorWords (word s 0) (word w 0) → b ≡ xorWords (word s 1) (word w 1)
-    → c ≡ xorWords (word s 2) (word w 2) → d ≡ xorWords (word s 3) (word w 3)
-    → word a 0 ++ (word b 0 ++ (word c 0 ++ word d 0)) ≡ addRoundKey (roundKey w 0) s
+pub added-columns : (w s : List ℕ) {a b c d r : List ℕ} → r ≡ word a 0 ++ (word b 0 ++ (word c 0 ++ word d 0))
+    → a ≡ xorWords (word s 0) (word w 0) → b ≡ xorWords (word s 1) (word w 1) → c ≡ xorWords (word s 2) (word w 2) → d ≡ xorWords (word s 3) (word w 3)
+    → r ≡ addRoundKey (roundKey w 0) s
 unfolding roundKey
-added-columns w s ea eb ec ed = rw (ea, eb, ec, ed)
+added-columns w s e ea eb ec ed = rw (e, ea, eb, ec, ed)

@@ -14,12 +14,13 @@ use Rattle.cipher.specs.KeyExpansion.{constantWord, rcon, nextWord, expa
 use Rattle.cipher.specs.Steps.{nextKey}
 use Rattle.cipher.specs.Words.{word, xorWords, rotWord, subWord}
 
--- a round key, from its four words
-pub key-words : (k : List ℕ) (x : ℕ) {t a b c d : List ℕ} → t ≡ xorWords (subWord (rotWord (word k 3))) (constantWord x)
-    → a ≡ xorWords (word k 0) t → b ≡ xorWords (word k 1) a → c ≡ xorWords (word k 2) b → d ≡ xorWords (word k 3) c
-    → word a 0 ++ (word b 0 ++ (word c 0 ++ word d 0)) ≡ nextKey k x
+-- a round key, from its four words, and the first of them from the last before it
+pub key-words : (k : List ℕ) (x : ℕ) {a b c d e k₀ k₁ k₂ k₃ last moved sub con r : List ℕ} → r ≡ word a 0 ++ (word b 0 ++ (word c 0 ++ word d 0))
+    → d ≡ xorWords k₃ c → c ≡ xorWords k₂ b → b ≡ xorWords k₁ a → a ≡ xorWords k₀ e → e ≡ xorWords sub con
+    → sub ≡ subWord moved → moved ≡ rotWord last → con ≡ constantWord x
+    → last ≡ word k 3 → k₀ ≡ word k 0 → k₁ ≡ word k 1 → k₂ ≡ word k 2 → k₃ ≡ word k 3 → r ≡ nextKey k x
 unfolding nextKey
-key-words k x et ea eb ec ed = rw (ed, ec, eb, ea, et)
+key-words k x er ed ec eb ea ee es em ex el e₀ e₁ e₂ e₃ = rw (er, ed, ec, eb, ea, ee, es, em, ex, el, e₀, e₁, e₂, e₃)
 
 pub expanded-length : (key : List ℕ) (n : ℕ) → length key ≡ 16 → length (expanded key n) ≡ 16 + 4 * n
 unfolding expanded nextWord
@@ -111,27 +112,14 @@ schedule-length key z w n h fits e =
     ∙ omega (arith, expanded-length key (4 * n) h, length-drop (16 * (n + 1)) z)
 
 -- one turn of the loop that makes and stores the round keys
-module _ (key z w k u : List ℕ) (n x : ℕ) (h : length key ≡ 16) (ek : k ≡ drop (16 * n) (expanded key (4 * n)))
-    (ew : w ≡ expanded key (4 * n) ++ drop (16 * (n + 1)) z) (eu : u ≡ nextKey k x) (ex : x ≡ powerOfX n) where
-  made-key : expanded key (4 * (n + 1)) ≡ expanded key (4 * n) ++ u
-  made-key =
-      expanded-step key n h
-      ∙ ap (λ (l : List ℕ). expanded key (4 * n) ++ l) (sym (eu ∙ ap₂ nextKey ek ex))
-
-  before-length : length (expanded key (4 * n)) ≡ 16 * (n + 1)
-  before-length = omega (arith, expanded-length key (4 * n) h)
-
-  turn-key : u ≡ drop (16 * (n + 1)) (expanded key (4 * (n + 1)))
-  turn-key = sym (ap (drop (16 * (n + 1))) made-key ∙ drop-at (expanded key (4 * n)) u (16 * (n + 1)) before-length)
-
-  turn-schedule : replaced w (16 * (n + 1)) u ≡ expanded key (4 * (n + 1)) ++ drop (16 * (n + 1 + 1)) z
-  turn-schedule =
-      let u-length : length u ≡ 16 = ap length eu ∙ next-length k x in
-      let end : 16 * (n + 1) + length u ≡ 16 * (n + 1 + 1) = omega arith in
-      ap (λ (l : List ℕ). replaced l (16 * (n + 1)) u) ew
-      ∙ replaced-next (expanded key (4 * n)) z u (16 * (n + 1)) before-length
-      ∙ ap₂ (λ (l : List ℕ) (i : ℕ). l ++ drop i z) (sym made-key) end
-
-  pub turned : (u ≡ drop (16 * (n + 1)) (expanded key (4 * (n + 1))))
-      × (replaced w (16 * (n + 1)) u ≡ expanded key (4 * (n + 1)) ++ drop (16 * (n + 1 + 1)) z)
-  turned = (turn-key, turn-schedule)
+pub turned : (key z w k u : List ℕ) (n x : ℕ) → length key ≡ 16 → k ≡ drop (16 * n) (expanded key (4 * n))
+    → w ≡ expanded key (4 * n) ++ drop (16 * (n + 1)) z → u ≡ nextKey k x → x ≡ powerOfX n
+    → (u ≡ drop (16 * (n + 1)) (expanded key (4 * (n + 1))))
+    × (replaced w (16 * (n + 1)) u ≡ expanded key (4 * (n + 1)) ++ drop (16 * (n + 1 + 1)) z)
+turned key z w k u n x h ek ew eu ex =
+    let p = expanded key (4 * n) in
+    let made : expanded key (4 * (n + 1)) ≡ p ++ u = expanded-step key n h ∙ rw (eu, ek, ex) in
+    let before : length p ≡ 16 * (n + 1) = omega (arith, expanded-length key (4 * n) h) in
+    let u-length : length u ≡ 16 = ap length eu ∙ next-length k x in
+    let end : 16 * (n + 1) + length u ≡ 16 * (n + 1 + 1) = omega arith in
+    (rw made (sym (drop-at p u (16 * (n + 1)) before)), rw (ew, made, ← end) (replaced-next p z u (16 * (n + 1)) before))

@@ -1,25 +1,22 @@
 -- Laws of a test of each of some numbers. Assumes nothing.
 use mathlib.Core.Path.{_≡_, refl}
 use mathlib.Core.Bool.{Bool, true, false}
+use mathlib.Core.Logic.{⊎-elim}
 use Prim.Native.Nat.{ℕ, zero, suc, _+_, _-_, _≤_, _<_}
+use native.Mathlib.Nat.{eq-or-lt-of-le}
 use native.Mathlib.Numerals.{add-one}
 use native.Mathlib.Omega.{arith}
-use lib.Dec.{leb}
-use borrow.Author.Tests.{leb-true, leb-false}
 use Rattle.octets.specs.Choice.{both}
 use Rattle.octets.proofs.Choice.{both-left, both-right, both-true, both-false-left}
 use Rattle.octets.specs.Each.{each}
 
-each-at-by : (t : Bool) (i n : ℕ) (p : ℕ → Bool) (k : ℕ) → leb (suc i) k ≡ t → each i n p ≡ true → i ≤ k → k < i + n → p k ≡ true
-unfolding each
-each-at-by t i zero p k d e l h = absurd (omega arith)
-each-at-by true i (suc n) p k d e l h =
-    each-at-by (leb (suc (suc i)) k) (suc i) n p k refl (both-right _ _ e) (leb-true _ _ d) (omega arith)
-each-at-by false i (suc n) p k d e l h = let q : k ≡ i = omega (arith, leb-false (suc i) k d) in rw q (both-left _ _ e)
-
 -- it holds of one of them
 pub each-at : (i n : ℕ) (p : ℕ → Bool) (k : ℕ) → each i n p ≡ true → i ≤ k → k < i + n → p k ≡ true
-each-at i n p k e l h = each-at-by (leb (suc i) k) i n p k refl e l h
+unfolding each
+each-at i zero p k e l h = absurd (omega arith)
+each-at i (suc n) p k e l h =
+    ⊎-elim (λ (here : i ≡ k). rw (← here) (both-left _ _ e)) (λ (past : i < k). each-at (suc i) n p k (both-right _ _ e) past (omega arith))
+    (eq-or-lt-of-le l)
 
 -- and conversely
 pub each-true : (i n : ℕ) (p : ℕ → Bool) → ((k : ℕ) → i ≤ k → k < i + n → p k ≡ true) → each i n p ≡ true

@@ -156,17 +156,10 @@ written-more {A} t b a e s g h k l =
     let low : take a ((take b s ++ p) ++ drop a s) ≡ take b s ++ p = take-at (take b s ++ p) (drop a s) a n in
     let m : e ≡ a + (e - a) = omega arith in
     let high : drop e ((take b s ++ p) ++ drop a s) ≡ drop e s =
-    ap (λ (x : ℕ). drop x ((take b s ++ p) ++ drop a s)) m
-    ∙ sym (drop-drop (e - a) a ((take b s ++ p) ++ drop a s))
-    ∙ ap (λ (x : List A). drop (e - a) x) (drop-at (take b s ++ p) (drop a s) a n)
-    ∙ drop-drop (e - a) a s
-    ∙ ap (λ (x : ℕ). drop x s) (sym m) in
+    rw m (rw (← drop-drop (e - a) a ((take b s ++ p) ++ drop a s), drop-at (take b s ++ p) (drop a s) a n) (drop-drop (e - a) a s)) in
     let u : e - b ≡ (a - b) + (e - a) = omega arith in
     let v : b + (a - b) ≡ a = omega arith in
-    let joined : take (e - b) (drop b t) ≡ p ++ take (e - a) (drop a t) =
-    ap (λ (x : ℕ). take x (drop b t)) u
-    ∙ take-add (a - b) (e - a) (drop b t)
-    ∙ ap (λ (x : List A). p ++ take (e - a) x) (drop-drop (a - b) b t ∙ ap (λ (x : ℕ). drop x t) v) in
+    let joined : take (e - b) (drop b t) ≡ p ++ take (e - a) (drop a t) = rw (u, take-add (a - b) (e - a) (drop b t), drop-drop (a - b) b t, v) in
     rw (regroup, low, high, joined) (simp append-assoc)
 
 -- a part that was lent and has come back holding what t has there

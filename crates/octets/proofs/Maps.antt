@@ -67,13 +67,6 @@ getD-first f (suc n) [] i d h k = absurd (not-suc-le-zero k)
 getD-first f (suc n) (x ∷ xs) zero d h k = refl
 getD-first f (suc n) (x ∷ xs) (suc i) d h k = getD-first f n xs i d (le-of-suc-le-suc h) (le-of-suc-le-suc k)
 
--- what the map does not change of the elements is unchanged
-pub map-first : {A B : Type 0} (f : A → A) (g : A → B) → ((x : A) → g (f x) ≡ g x) → (n : ℕ) (l : List A)
-    → map g (map f (take n l) ++ drop n l) ≡ map g l
-map-first f g e zero l = refl
-map-first f g e (suc n) [] = refl
-map-first {A} {B} f g e (suc n) (x ∷ xs) = ap₂ (λ (y : B) (ys : List B). y ∷ ys) (e x) (map-first f g e n xs)
-
 module _ {A : Type 0} (f : A → A) where
   -- the next element is still the old one
   pub first-at : (i : ℕ) (l : List A) (d : A) → getD (map f (take i l) ++ drop i l) i d ≡ getD l i d

@@ -40,12 +40,12 @@ unfolding all
 all-weaker p q w [] e = refl
 all-weaker p q w (x ∷ xs) e = both-true (w x (both-left (p x) (all p xs) e)) (all-weaker p q w xs (both-right (p x) (all p xs) e))
 
--- what holds of each of the first n holds of one
 pub all-alike : {A : Type 0} (p q : A → Bool) → ((x : A) → p x ≡ q x) → (l : List A) → all p l ≡ all q l
 unfolding all
 all-alike p q h [] = refl
 all-alike p q h (x ∷ xs) = rw (h x, all-alike p q h xs)
 
+-- what holds of each of the first n holds of one
 pub all-one : {A : Type 0} (p : A → Bool) (n : ℕ) (l : List A) (d : A) → all p (take n l) ≡ true → (i : ℕ) → i < n → i < length l
     → p (getD l i d) ≡ true
 all-one p n l d e i h k = rw (getD-take n l i d h) at (all-at p (take n l) i d e (simp length-take (omega arith)))

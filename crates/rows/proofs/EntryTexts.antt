@@ -5,10 +5,9 @@ use native.Mathlib.Omega.{arith}
 use lib.Dec.{eqb}
 use lib.ListN.{length, length-append}
 use Rattle.octets.proofs.Choice.{pick-holds}
-use Rattle.refusal.specs.declared.Refusal.{Refusal}
 use Rattle.records.specs.declared.header.Header.{Header}
-use Rattle.rows.specs.Entries.{numberText, aloneText, sameText, differentText, markText, entryHead, entryTail, blockText, deniedRow, totalRow}
-use Rattle.rows.proofs.Lines.{decimal-below, decimal-few, refused-few, pair-few}
+use Rattle.rows.specs.Entries.{numberText, aloneText, sameText, differentText, markText, entryHead, entryTail, blockText}
+use Rattle.rows.proofs.Lines.{decimal-below, decimal-few}
 
 pub number-text-few : (k : ℕ) → k < 65536 → length (numberText k) ≤ 5
 unfolding numberText
@@ -31,11 +30,3 @@ tail-text-few clock mark = simp length-append (omega (arith, decimal-few clock, 
 pub block-few : (block : ℕ) → length (blockText block) ≤ 21
 unfolding blockText
 block-few block = pick-holds (λ t. length t ≤ 21) (eqb block 0) [] _ (λ e. omega arith) (λ e. omega (arith, decimal-few block))
-
-pub denied-few : (r : Refusal) (block : ℕ) → length (deniedRow r block) ≤ 53
-unfolding deniedRow
-denied-few r block = simp length-append (omega (arith, refused-few r, pair-few r, block-few block))
-
-pub total-few : (total : ℕ) → length (totalRow total) ≤ 27
-unfolding totalRow
-total-few total = simp length-append (omega (arith, decimal-few total))

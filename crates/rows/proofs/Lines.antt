@@ -17,7 +17,7 @@ use Rattle.records.specs.declared.header.Header.{Header}
 use Rattle.records.specs.declared.header.RecordVerdict.{RecordVerdict}
 use Rattle.records.specs.declared.header.RecordVerdict.the-variants.{Clear, Sealed}
 use Rattle.rows.specs.declared.Line.{Line}
-use Rattle.rows.specs.Text.{glyphOf, digits, mostDigits, digitsWithin, digitCount, decimalOf, refusedText, pairText, resultText, rowHead, rowMiddle, rowTail, rowOf, seenRow, hiddenRow, refusedRow, textOf}
+use Rattle.rows.specs.Text.{glyphOf, digits, mostDigits, digitsWithin, digitCount, decimalOf, refusedText, pairText, resultText, rowHead, rowMiddle, rowTail, rowOf, seenRow, hiddenRow, refusedRow, textOf, rowOctets, Holds}
 use Rattle.rows.specs.Duties.{Grown}
 
 -- one piece after the other
@@ -32,6 +32,10 @@ none-grown l = record { text = sym (append-nil (textOf l)); used = omega arith }
 -- the same piece, written otherwise
 pub grown-as : {l m : Line} {p q : List ℕ} → Grown l m p → p ≡ q → Grown l m q
 grown-as a e = rw e at a
+
+-- on an empty line, a piece that fits is all
+pub held : {l m : Line} {p : List ℕ} → Grown l m p → l .used ≡ 0 → length p ≤ rowOctets → Holds m p
+held g e fits = record { octets = g .text ∙ rw e; used = omega (arith, g .used); inside = omega (arith, g .used) }
 
 -- one digit more of those that are left
 pub one-digit : (t : List ℕ) (b k n x : ℕ) → x ≡ glyphOf (n / b ^ k % b) → (t ++ (x ∷ [])) ++ digits b k n ≡ t ++ digits b (k + 1) n
@@ -148,7 +152,3 @@ seen-few k h = simp length-append (omega (arith, head-few k h, middle-few h))
 pub hidden-few : (k : ℕ) → length (hiddenRow k) ≤ length (decimalOf k) + 3
 unfolding hiddenRow
 hidden-few k = simp length-append (omega arith)
-
--- the pieces of a row's middle, as they are written and as the row has them
-pub middle-pieces : (x y : ℕ) (d : List ℕ) → x ≡ y → ((x ∷ 32 ∷ []) ++ d) ++ (32 ∷ []) ≡ y ∷ 32 ∷ (d ++ (32 ∷ []))
-middle-pieces x y d e = rw e

@@ -1,6 +1,6 @@
 -- Laws of the octets that are enciphered, block by block: a block that needs no run has none, and how those of the others add up. Assumes nothing.
-use mathlib.Core.Path.{_≡_, ap, sym, _∙_}
-use mathlib.Core.Bool.{false}
+use mathlib.Core.Path.{_≡_, refl, ap, _∙_}
+use mathlib.Core.Bool.{true, false}
 use mathlib.Core.List.{List}
 use Prim.Native.Nat.{ℕ, zero, suc, _+_, _-_, _*_, _/_, _%_, _^_, _<_, _≤_, min}
 use native.Mathlib.Nat.{add-zero, zero-add, div-div-eq-div-mul, mul-comm, pow-suc}
@@ -8,12 +8,18 @@ use native.Mathlib.Omega.{arith}
 use lib.Count.{ones, ones-step}
 use lib.ListN.{length}
 use Rattle.octets.specs.Bits.{bitOf}
+use Rattle.octets.specs.Choice.{pick}
 use Rattle.octets.specs.Lists.{sum}
-use Rattle.octets.proofs.Lists.{sum-below, sum-ext}
-use Rattle.envelope.specs.ControlMask.{blocksOf, controlOctet, countEnciphered, eqsOf, needsRun}
+use Rattle.octets.proofs.Lists.{sum-below, sum-ext, written-all}
+use Rattle.envelope.specs.ControlMask.{blocksOf, controlOctet, countEnciphered, eqsOf, mostRuns, needsRun, runs, runsBelow}
 use Rattle.envelope.specs.declared.Nonce.{Nonce}
-use Rattle.sealing.specs.Steps.{NextRun, blockCount, blockSealed, countBelow, sealedBelow}
-use Rattle.sealing.proofs.Runs.{all-bits, idle-eq, idle-stretch, one-more, same-past, stretch}
+use Rattle.cipher.specs.FirstRound.{Kept}
+use Rattle.cipher.specs.declared.row_words.Rows.{Rows}
+use Rattle.sealing.specs.Payload.{sealed}
+use Rattle.sealing.specs.Steps.{NextRun, PairSealed, blockCount, blockSealed, countBelow, sealedBelow}
+use Rattle.sealing.specs.declared.counter_mode.Work.{Work}
+use Rattle.sealing.proofs.Payload.{sealed-length}
+use Rattle.sealing.proofs.Runs.{all-bits, idle-eq, idle-more, one-more, run-more, same-past, stretch}
 
 -- n set bits at the lowest places are as many ones
 set-bits : (n c : ℕ) → ((j : ℕ) → j < n → bitOf c j ≡ 1) → n ≤ ones c
@@ -51,36 +57,73 @@ module _ (p : List ℕ) where
       (λ e a b. omega (arith, set-bits 8 (controlOctet p e) (all-bits (controlOctet p e) (idle-eq p k e idle (omega arith) (omega arith))))) in
       omega (arith, sum-below (2 * k) (min 2 (eqsOf p - 2 * k)) 0 (λ e. 0) (λ e. omega arith))
 
-module _ (p : List ℕ) (whole : length p % 9 ≡ 0) where
-  pub no-count : (i r : ℕ) → i ≤ r → r ≤ blocksOf (length p) → ((k : ℕ) → i ≤ k → k < r → needsRun p k ≡ false)
-      → countBelow p r ≡ countBelow p i
-  no-count i r h l idle = sym (stretch (countBelow p) i r h (λ k a b. omega (arith, count-more p k (omega arith), idle-count p k (idle k a b))))
+---- the blocks below k
 
-  pub first-count : (i : ℕ) → NextRun p (blocksOf (length p)) 0 i → 0 ≡ countBelow p i
-  first-count i next =
-      let none : min (2 * 0) (eqsOf p) ≡ 0 = omega arith in
-      sym (rw none at (no-count 0 i (omega arith) (next .below (omega arith)) (next .idle)))
-
-  pub all-count : countBelow p (blocksOf (length p)) ≡ countEnciphered p
-  unfolding countEnciphered
-  all-count = let all : min (2 * blocksOf (length p)) (eqsOf p) ≡ eqsOf p = omega arith in rw all
+-- q is p with its blocks below k sealed, which enciphers c octets in t runs
+pub record Below (w : List ℕ) (n : Nonce) (p : List ℕ) (k : ℕ) (q : List ℕ) (c t : ℕ) : Type 0 where
+  pub sealed : q ≡ sealedBelow w n p k
+  pub count : c ≡ countBelow p k
+  pub runs : t ≡ runsBelow p k
 
 module _ (w : List ℕ) (n : Nonce) (p : List ℕ) (whole : length p % 9 ≡ 0) where
-  -- one block more, as it is when those below it are sealed
-  pub one-count : (k : ℕ) → k < blocksOf (length p) → countBelow p k + blockCount (sealedBelow w n p k) k ≡ countBelow p (k + 1)
-  one-count k h = omega (arith, same-past w n p whole (λ o. 8 - ones o) k k (omega arith), count-more p k (omega arith))
+  -- blocks that need no run, one after the other
+  pub idle-below : (i r : ℕ) {q : List ℕ} {count t : ℕ} → i ≤ r → r ≤ blocksOf (length p) → ((k : ℕ) → i ≤ k → k < r → needsRun p k ≡ false)
+      → Below w n p i q count t → Below w n p r q count t
+  unfolding pick
+  idle-below i r {q} {count} {t} h l idle =
+      stretch (λ k. Below w n p k q count t) i r h
+      (λ k a b done.
+      record {
+        sealed = done .sealed ∙ idle-more w n p whole k (idle k a b);
+        count = omega (arith, done .count, count-more p k (omega arith), idle-count p k (idle k a b));
+        runs = omega (arith, done .runs, run-more p k false (idle k a b));
+      })
+
+  -- before the first block that needs a run, nothing is to be sealed
+  pub first-below : (i : ℕ) → NextRun p (blocksOf (length p)) 0 i → Below w n p i p 0 0
+  first-below i next =
+      let octets : min (18 * 0) (length p) ≡ 0 = omega arith in
+      let eqs : min (2 * 0) (eqsOf p) ≡ 0 = omega arith in
+      idle-below 0 i (omega arith) (next .below (omega arith)) (next .idle) record { sealed = rw octets; count = rw eqs; runs = refl }
+
+  -- one block more that needs a run, as it is when those below it are sealed
+  pub one-below : (k : ℕ) {q : List ℕ} {count t : ℕ} → k < blocksOf (length p) → needsRun p k ≡ true → Below w n p k q count t
+      → Below w n p (k + 1) (blockSealed w n q k) (count + blockCount q k) (t + 1)
+  unfolding pick
+  one-below k {q} {count} {t} h need done =
+      let same : blockCount q k ≡ blockCount p k = rw (done .sealed) (same-past w n p whole (λ o. 8 - ones o) k k (omega arith)) in
+      record {
+        sealed = rw (done .sealed) (one-more w n p whole k h);
+        count = omega (arith, done .count, same, count-more p k (omega arith));
+        runs = omega (arith, done .runs, run-more p k true need);
+      }
 
   -- two blocks that need a run, with none between them that does
-  pub two-counts : (i j : ℕ) → i < j → j < blocksOf (length p) → ((k : ℕ) → i + 1 ≤ k → k < j → needsRun p k ≡ false)
-      → countBelow p i + (blockCount (sealedBelow w n p i) i + blockCount (blockSealed w n (sealedBelow w n p i) i) j) ≡ countBelow p (j + 1)
-  two-counts i j h l idle =
-      rw (one-more w n p whole i (omega arith) ∙ idle-stretch w n p whole (i + 1) j (omega arith) (omega arith) idle)
-      (omega (arith, one-count i (omega arith), no-count p whole (i + 1) j (omega arith) (omega arith) idle, one-count j l))
+  pub two-below : (i j : ℕ) {q r : List ℕ} {count t : ℕ} {kept : Rows} {work : Work} → j < blocksOf (length p) → needsRun p i ≡ true
+      → NextRun p (blocksOf (length p)) (i + 1) j
+      → Kept w n kept → PairSealed w kept i j q r work → Below w n p i q count t → Below w n p (j + 1) r (count + work .count) (t + work .runs)
+  two-below i j h need next share pair done =
+      let after : i + 1 ≤ j = next .from in
+      let both = one-below j h (next .needed h) (idle-below (i + 1) j after (omega arith) (next .idle) (one-below i (omega arith) need done)) in
+      record {
+        sealed = pair .sealed n share ∙ both .sealed;
+        count = omega (arith, pair .count n share, both .count);
+        runs = omega (arith, pair .runs, both .runs);
+      }
+
+  pub all-below : {q : List ℕ} {count t : ℕ} → Below w n p (blocksOf (length p)) q count t
+      → (q ≡ sealed w n p) × (count ≡ countEnciphered p) × (t ≡ runs p)
+  unfolding countEnciphered runs
+  all-below done =
+      let octets : min (18 * blocksOf (length p)) (length p) ≡ length p = omega arith in
+      let eqs : min (2 * blocksOf (length p)) (eqsOf p) ≡ eqsOf p = omega arith in
+      let most : blocksOf (length p) ≡ mostRuns p = omega arith in
+      (rw octets at (done .sealed) ∙ written-all (sealed w n p) p (sealed-length w n p), rw eqs at (done .count), rw most at (done .runs))
 
   -- the last block that needs a run
-  pub last-count : (k : ℕ) → k < blocksOf (length p) → ((b : ℕ) → k < b → b < blocksOf (length p) → needsRun p b ≡ false)
-      → countBelow p k + blockCount (sealedBelow w n p k) k ≡ countEnciphered p
-  last-count k h idle =
-      one-count k h
-      ∙ sym (no-count p whole (k + 1) (blocksOf (length p)) (omega arith) (omega arith) (λ b l u. idle b (omega arith) u))
-      ∙ all-count p whole
+  pub last-below : (k : ℕ) {q : List ℕ} {count t : ℕ} → k < blocksOf (length p) → needsRun p k ≡ true
+      → ((b : ℕ) → k < b → b < blocksOf (length p) → needsRun p b ≡ false) → Below w n p k q count t
+      → (blockSealed w n q k ≡ sealed w n p) × (count + blockCount q k ≡ countEnciphered p) × (t + 1 ≡ runs p)
+  last-below k h need idle done =
+      all-below
+      (idle-below (k + 1) (blocksOf (length p)) (omega arith) (omega arith) (λ b l u. idle b (omega arith) u) (one-below k h need done))

@@ -60,10 +60,10 @@ worked-octets c h =
     rw (by-test worked together right c h)
     (eight low high (both-octets (factors c 0) (factors c 4) (low .below))) where
       low : Four (factor c) (factors c 0)
-      low = four-octets (factor-below c 0) (factor-below c 1) (factor-below c 2) (factor-below c 3) refl refl refl refl refl
+      low = four-octets refl refl refl refl refl (factor-below c 0) (factor-below c 1) (factor-below c 2) (factor-below c 3)
 
       high : Four (λ j. factor c (4 + j)) (factors c 4)
-      high = four-octets (factor-below c 4) (factor-below c 5) (factor-below c 6) (factor-below c 7) refl refl refl refl refl
+      high = four-octets refl refl refl refl refl (factor-below c 4) (factor-below c 5) (factor-below c 6) (factor-below c 7)
 
 ---- the mask
 

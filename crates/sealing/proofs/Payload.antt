@@ -3,7 +3,7 @@ use mathlib.Core.Path.{_≡_, refl, ap, ap₂, sym, _∙_}
 use mathlib.Core.Bool.{Bool, true, false}
 use mathlib.Core.List.{List, _∷_, _++_}
 use Prim.Native.Nat.{ℕ, zero, suc, _+_, _-_, _*_, _/_, _%_, _<_, _≤_, min}
-use native.Mathlib.Nat.{zero-add}
+use native.Mathlib.Nat.{add-zero, zero-add}
 use native.Mathlib.Numerals.{add-one}
 use native.Mathlib.Omega.{arith}
 use lib.Count.{ones}
@@ -82,17 +82,17 @@ count-sealed w n p =
     (λ e a b. ap (λ (x : ℕ). 8 - ones x) (control-kept w n p e (omega arith))))
 
 -- and as many runs, at most one for each block, and one for each block that has a data octet (02, C-17)
-pub runs-sealed : (w : List ℕ) (n : Nonce) (p : List ℕ) → runs (sealed w n p) ≡ runs p
-unfolding runs needsRun
-runs-sealed w n p =
+needs-sealed : (w : List ℕ) (n : Nonce) (p : List ℕ) (k : ℕ) → needsRun (sealed w n p) k ≡ needsRun p k
+unfolding needsRun
+needs-sealed w n p k =
     rw sealed-length
-    (sum-ext 0 (mostRuns p) (run (sealed w n p)) (run p)
-    (λ k a b.
-    ap (λ (x : ℕ). pick (ltb 0 x) 1 0)
+    (ap (ltb 0)
     (sum-ext (2 * k) (min 2 (length p / 9 - 2 * k)) (λ e. toEncipher (controlOctet (sealed w n p) e)) (λ e. toEncipher (controlOctet p e))
-    (λ e c d. ap toEncipher (control-kept w n p e (omega arith)))))) where
-      run : List ℕ → ℕ → ℕ
-      run q k = pick (ltb 0 (sum (2 * k) (min 2 (length p / 9 - 2 * k)) (λ e. toEncipher (controlOctet q e)))) 1 0
+    (λ e c d. ap toEncipher (control-kept w n p e (omega arith)))))
+
+pub runs-sealed : (w : List ℕ) (n : Nonce) (p : List ℕ) → runs (sealed w n p) ≡ runs p
+unfolding runs
+runs-sealed w n p = simp (sealed-length, needs-sealed)
 
 pub runs-at-most : (p : List ℕ) (k : ℕ) → runsBelow p k ≤ k
 unfolding pick
@@ -128,32 +128,26 @@ sealed-laws w n p = record {
 pub record Serves (w : List ℕ) (n : Nonce) (e h : ℕ) : Type 0 where
   pub octet : (j : ℕ) → j < 8 → octetAt h j ≡ getD (cipherBlock w n e) (halfOf e + j) 0
 
+octet : (x j : ℕ) → j < 8 → getD (tabulate 0 8 (octetAt x)) j 0 ≡ octetAt x j
+octet x j l = rw zero-add at (tabulate-at 0 8 (octetAt x) j 0 l)
+
 -- the lower half of block i serves EQ 2i, and the upper half EQ 2i + 1
 module _ (w : List ℕ) (n : Nonce) (b : Block) (i : ℕ) (enciphered : blockOctets b ≡ cipher w (counterBlock n i)) where
-  served : (e k : ℕ) → e / 2 ≡ i → getD (blockOctets b) k 0 ≡ getD (cipherBlock w n e) k 0
-  served e k h = ap (λ (l : List ℕ). getD l k 0) (enciphered ∙ ap (λ (m : ℕ). cipher w (counterBlock n m)) (sym h))
+  serves : (z : ℕ) {h : ℕ} → z < 2 → ((j : ℕ) → j < 8 → getD (blockOctets b) (8 * z + j) 0 ≡ octetAt h j) → Serves w n (2 * i + z) h
+  serves z h here =
+      let block : (2 * i + z) / 2 ≡ i = omega arith in
+      let half : halfOf (2 * i + z) ≡ 8 * z = omega arith in
+      record { octet = λ j l. sym (here j l) ∙ rw (block, half, enciphered) }
 
   pub low-serves : Serves w n (2 * i) (b .low)
   low-serves =
-      record {
-        octet = λ j l.
-            let half : halfOf (2 * i) + j ≡ j = omega arith in
-            sym (rw zero-add at (tabulate-at 0 8 (octetAt (b .low)) j 0 l))
-            ∙ sym (List·getD-append (tabulate 0 8 (octetAt (b .low))) (tabulate 0 8 (octetAt (b .high))) 0 j l)
-            ∙ served (2 * i) j (omega arith)
-            ∙ ap (λ (k : ℕ). getD (cipherBlock w n (2 * i)) k 0) (sym half);
-      }
+      rw add-zero at (serves 0 {h = b .low} (omega arith)
+      (λ j l. rw zero-add (List·getD-append (tabulate 0 8 (octetAt (b .low))) (tabulate 0 8 (octetAt (b .high))) 0 j l ∙ octet (b .low) j l)))
 
   pub high-serves : Serves w n (2 * i + 1) (b .high)
   high-serves =
-      record {
-        octet = λ j l.
-            let half : halfOf (2 * i + 1) + j ≡ 8 + j = omega arith in
-            sym (rw zero-add at (tabulate-at 0 8 (octetAt (b .high)) j 0 l))
-            ∙ sym (getD-append-add (tabulate 0 8 (octetAt (b .low))) (tabulate 0 8 (octetAt (b .high))) j 0)
-            ∙ served (2 * i + 1) (8 + j) (omega arith)
-            ∙ ap (λ (k : ℕ). getD (cipherBlock w n (2 * i + 1)) k 0) (sym half);
-      }
+      serves 1 (omega arith)
+      (λ j l. getD-append-add (tabulate 0 8 (octetAt (b .low))) (tabulate 0 8 (octetAt (b .high))) j 0 ∙ octet (b .high) j l)
 
 -- the nine octets of EQ e
 sealed-eq : (w : List ℕ) (n : Nonce) (p : List ℕ) (e h : ℕ) → Serves w n e h → 9 * e + 9 ≤ length p
@@ -196,21 +190,21 @@ replaced-past s t at i h =
     ∙ getD-drop (length t) (drop at s) i 0
     ∙ getD-drop at s (length t + i) 0
 
+-- what is the same from a on is the same at each place from there on
+pub same-from : (p q : List ℕ) (a k : ℕ) → drop a q ≡ drop a p → a ≤ k → getD q k 0 ≡ getD p k 0
+same-from p q a k same h =
+    let place : a + (k - a) ≡ k = omega arith in
+    rw place at (sym (getD-drop a q (k - a) 0) ∙ ap (λ (l : List ℕ). getD l (k - a) 0) same ∙ getD-drop a p (k - a) 0)
+
 -- from an EQ on, the sealed payload is made of the payload from that EQ on
 sealed-from : (w : List ℕ) (n : Nonce) (p q : List ℕ) (a : ℕ) → a % 9 ≡ 0 → length q ≡ length p → drop a q ≡ drop a p
     → drop a (sealed w n q) ≡ drop a (sealed w n p)
 sealed-from w n p q a whole long same =
-    ext-getD 0 (drop a (sealed w n q)) (drop a (sealed w n p)) (simp (length-drop, sealed-length, long)) octet where
-      still : (k : ℕ) → a ≤ k → getD q k 0 ≡ getD p k 0
-      still k h =
-          let place : a + (k - a) ≡ k = omega arith in
-          rw place at (sym (getD-drop a q (k - a) 0) ∙ ap (λ (l : List ℕ). getD l (k - a) 0) same ∙ getD-drop a p (k - a) 0)
-
-      octet : (i : ℕ) → i < length (drop a (sealed w n q)) → getD (drop a (sealed w n q)) i 0 ≡ getD (drop a (sealed w n p)) i 0
-      octet i h =
-          let in-q : a + i < length q = omega (arith, simp (length-drop, sealed-length) at h) in
-          rw (getD-drop, getD-drop, sealed-at w n q (a + i) in-q, sealed-at w n p (a + i) (omega arith))
-          (sealed-own w n q p (a + i) (still (9 * ((a + i) / 9)) (omega arith)) (still (a + i) (omega arith)))
+    ext-getD 0 (drop a (sealed w n q)) (drop a (sealed w n p)) (simp (length-drop, sealed-length, long))
+    (λ i h.
+    let in-q : a + i < length q = omega (arith, simp (length-drop, sealed-length) at h) in
+    rw (getD-drop, getD-drop, sealed-at w n q (a + i) in-q, sealed-at w n p (a + i) (omega arith))
+    (sealed-own w n q p (a + i) (same-from p q a (9 * ((a + i) / 9)) same (omega arith)) (same-from p q a (a + i) same (omega arith))))
 
 -- what is sealed in its place from b up to a, and then from a up to e, is sealed from b up to e
 pub sealed-more : (w : List ℕ) (n : Nonce) (p : List ℕ) (b a e : ℕ) → a % 9 ≡ 0 → b ≤ a → a ≤ e → e ≤ length p

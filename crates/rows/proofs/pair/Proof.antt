@@ -24,5 +24,5 @@ pub pair-spec : {M : Type 1} → statement M
 pair-spec =
     tie.close
     (tie.spec (λ c κs. search needs) returns (λ c κs. search needs) (λ c. search needs)
-    (λ c κs. omega (arith, c .push .ensures .used, decimal-few (c .before .before .pair .result)))
+    (λ c κs. omega (arith, decimal-few (c .before .before .pair .result)))
     returns-2)

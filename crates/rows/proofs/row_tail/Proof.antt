@@ -7,20 +7,13 @@ use Rattle.rows.proofs.Lines.{both-grown, grown-as, decimal-few, middle
 use Rattle.rows.proofs.row_tail.Statement.{statement}
 use Rattle.rows.proofs.row_tail.Tie as tie
 
-result-requires : tie.Need-result-requires
-result-requires c κs =
-    let h = c .before .args .h in
-    omega (arith, c .row-middle .ensures .used, middle-few h, decimal-few (h .eqs))
-
-push-requires : tie.Need-push-requires
-push-requires c κs =
-    let a = c .before .before .args in
-    omega (arith, c .result .ensures .used, result-few (a .verdict), c .before .row-middle .ensures .used, middle-few (a .h), decimal-few (a .h .eqs))
-
 returns : tie.Need-returns
 unfolding rowTail
 returns c =
     grown-as (both-grown (both-grown (c .before .before .row-middle .ensures) (c .before .result .ensures)) (c .push .ensures)) (simp append-assoc)
 
 pub row-tail-spec : {M : Type 1} → statement M
-row-tail-spec = tie.close (tie.spec (λ c κs. search needs) result-requires push-requires returns)
+row-tail-spec =
+    tie.close
+    (tie.spec (λ c κs. search needs) (λ c κs. let h = c .before .args .h in omega (arith, middle-few h, decimal-few (h .eqs)))
+    (λ c κs. let a = c .before .before .args in omega (arith, result-few (a .verdict), middle-few (a .h), decimal-few (a .h .eqs))) returns)

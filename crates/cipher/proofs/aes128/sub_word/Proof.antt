@@ -3,16 +3,8 @@ use borrow.Author.Needs.{needs}
 use Rattle.cipher.proofs.aes128.sub_word.Statement.{statement}
 use Rattle.cipher.proofs.aes128.sub_word.Tie as tie
 
-returns : tie.Need-returns
-returns c = rw (
-  c .substitute4 .ensures,
-  c .before .substitute3 .ensures,
-  c .before .before .substitute2 .ensures,
-  c .before .before .before .substitute .ensures,
-)
-
 pub sub-word-spec : {M : Type 1} → statement M
 sub-word-spec =
     tie.close
     (tie.spec (λ c. search needs) (λ c κs. search needs) (λ c. search needs) (λ c κs. search needs) (λ c. search needs) (λ c κs. search needs)
-    (λ c. search needs) (λ c κs. search needs) returns)
+    (λ c. search needs) (λ c κs. search needs) (λ c. cc))

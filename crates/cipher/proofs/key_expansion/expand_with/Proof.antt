@@ -1,7 +1,7 @@
 -- `key_expansion::expand_with` meets its contract. The loop keeps the array at the round keys made so far, and k at the last of them. Assumes nothing.
-use mathlib.Core.Path.{_≡_, refl, ap, _∙_}
-use mathlib.Core.List.{List, _++_, append-nil}
-use Prim.Native.Nat.{ℕ, _≤_, _+_, _*_, _-_}
+use mathlib.Core.Path.{_≡_, refl, _∙_}
+use mathlib.Core.List.{_++_, append-nil}
+use Prim.Native.Nat.{_≤_, _+_, _*_, _-_}
 use native.Mathlib.Nat.{zero-add}
 use native.Mathlib.Omega.{arith}
 use lib.ListN.{length, drop, replicate, getD}
@@ -29,7 +29,7 @@ loop-holds c =
       search needs,
       sized,
       refl,
-      c .put .ensures ∙ ap (λ (i : ℕ). key ++ drop i (replicate 176 0)) sized,
+      c .put .ensures ∙ rw sized,
     )
 
 put-requires-2 : tie.Need-put-requires-2 Inv-loop μ-loop
@@ -48,9 +48,7 @@ loop-again c =
     let made = c .before .before .next-key in
     let x = getD (start .round-constants .result) (l .n) 0 in
     let power : x ≡ powerOfX (l .n) =
-    ap (λ (t : List ℕ). getD t (l .n) 0) (start .round-constants .ensures)
-    ∙ tabulate-at 0 10 powerOfX (l .n) 0 (search needs)
-    ∙ rw zero-add in
+    rw (start .round-constants .ensures) (tabulate-at 0 10 powerOfX (l .n) 0 (search needs) ∙ rw zero-add) in
     let turn = turned (start .before .args .key) (replicate 176 0) (l .w) (l .k) (made .result) (l .n) x (l .inv .1) (l .inv .2) (l .inv .3)
     (made .ensures) power in
     (search needs, l .inv .1, turn .0, c .put2 .ensures ∙ turn .1)

@@ -1,10 +1,9 @@
 -- `key_expansion::put` meets its contract. The loop keeps the array at its copy of the first j octets. Assumes nothing.
 use mathlib.Core.Path.{_≡_, ap, _∙_}
-use mathlib.Core.List.{List}
-use Prim.Native.Nat.{ℕ, _≤_, _+_, _-_}
+use Prim.Native.Nat.{_≤_, _-_}
 use native.Mathlib.Numerals.{add-one}
 use native.Mathlib.Omega.{arith}
-use lib.ListN.{length, set, getD}
+use lib.ListN.{length}
 use lib.Seq.{paste, paste-zero, paste-suc}
 use Rattle.octets.proofs.Lists.{paste-all}
 use borrow.Author.Needs.{needs}
@@ -27,8 +26,7 @@ loop-again c =
       search needs,
       l .inv .1,
       l .inv .2,
-      ap (λ (s : List ℕ). set s (a .at + l .j) (getD (a .t3) (l .j) 0)) (l .inv .3)
-          ∙ rw add-one (paste-suc (a .w .now) (a .at) (a .t3) (l .j) 0 (search needs) (search needs)),
+      rw (l .inv .3, add-one) (paste-suc (a .w .now) (a .at) (a .t3) (l .j) 0 (search needs) (search needs)),
     )
 
 returns : tie.Need-returns Inv-loop μ-loop

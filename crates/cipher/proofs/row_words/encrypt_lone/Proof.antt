@@ -1,6 +1,6 @@
 -- `rows::encrypt_lone` meets its contract: AddRoundKey, the nine rounds and the last. Assumes nothing.
-use mathlib.Core.Path.{ap, _∙_}
-use Rattle.cipher.specs.Cipher.{Nr, roundKey, rounds, lastRound, cipher}
+use mathlib.Core.Path.{_∙_}
+use Rattle.cipher.specs.Cipher.{cipher}
 use borrow.Author.Needs.{needs}
 use Rattle.cipher.proofs.row_words.encrypt_lone.Statement.{statement}
 use Rattle.cipher.proofs.row_words.encrypt_lone.Tie as tie
@@ -11,12 +11,9 @@ returns c =
     let ninth = c .before in
     let rows = ninth .before in
     let added = rows .before in
-    let w = added .before .args .w .now in
     record {
       holds = λ e.
-          c .finished .ensures .holds e
-          ∙ ap (lastRound (roundKey w Nr))
-          (ninth .lone-rounds .ensures .holds e ∙ ap (rounds w 9) (rows .rows-of .ensures ∙ added .add-first-key .ensures));
+          c .finished .ensures .holds e ∙ rw (ninth .lone-rounds .ensures .holds e, rows .rows-of .ensures, added .add-first-key .ensures);
     }
 
 pub encrypt-lone-spec : {M : Type 1} → statement M

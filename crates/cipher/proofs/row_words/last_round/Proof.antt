@@ -4,10 +4,5 @@ use borrow.Author.Needs.{needs}
 use Rattle.cipher.proofs.row_words.last_round.Statement.{statement}
 use Rattle.cipher.proofs.row_words.last_round.Tie as tie
 
-returns : tie.Need-returns
-returns c =
-    let a = c .before .before .args in
-    record { holds = λ e. last-block (a .k) (a .s) _ (c .before .last-columns .ensures .holds e) (c .last-columns2 .ensures .holds e) }
-
 pub last-round-spec : {M : Type 1} → statement M
-last-round-spec = tie.close (tie.spec (λ c κs. search needs) (λ c κs. search needs) returns)
+last-round-spec = tie.close (tie.spec (λ c κs. search needs) (λ c κs. search needs) (λ c. search last-block))

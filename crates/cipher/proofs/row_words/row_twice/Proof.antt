@@ -8,4 +8,4 @@ pub row-twice-spec : {M : Type 1} → statement M
 row-twice-spec =
     tie.close
     (tie.spec (λ c κs. search needs) (λ c κs. search needs)
-    (λ c. two-rows (c .before .gathered .ensures) (c .before .gathered .ensures) (c .both .ensures)))
+    (λ c. search two-rows))

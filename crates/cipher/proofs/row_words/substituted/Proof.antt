@@ -1,9 +1,7 @@
 -- `rows::substituted` meets its contract: the entry of the lent table at an octet is its substitution. Assumes nothing.
-use mathlib.Core.Path.{ap, _∙_}
-use mathlib.Core.List.{List}
-use Prim.Native.Nat.{ℕ, _*_, _/_, _%_, _^_}
+use mathlib.Core.Path.{_∙_}
+use Prim.Native.Nat.{_*_, _/_, _%_, _^_}
 use native.Mathlib.Omega.{arith}
-use lib.ListN.{getD}
 use Rattle.gf256.specs.Lanes.{octetAt}
 use Rattle.gf256.specs.Substitution.{sbox}
 use Rattle.gf256.proofs.Table.{table-at}
@@ -16,7 +14,7 @@ unfolding octetAt
 returns c =
     let start = c .before .before in
     let index = start .args .x / 2 ^ (8 * start .args .j) % 2 ^ 8 in (
-      record { holds = λ e. c .wide .ensures .0 ∙ ap (λ (t : List ℕ). getD t index 0) e ∙ table-at sbox index (omega arith) },
+      record { holds = λ e. c .wide .ensures .0 ∙ rw e (table-at sbox index (omega arith)) },
       c .wide .ensures .1,
     )
 

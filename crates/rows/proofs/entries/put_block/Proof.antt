@@ -17,5 +17,5 @@ put-block-spec =
     tie.close
     (tie.spec (λ c. unfold blockText pick in grown-as (none-grown _) (rw (eq-eqb _ _ (c .if1 .taken))))
     (λ c κs. search needs)
-    (λ c κs. omega (arith, c .push .ensures .used, decimal-few (c .before .before .args .block)))
+    (λ c κs. omega (arith, decimal-few (c .before .before .args .block)))
     returns-2)

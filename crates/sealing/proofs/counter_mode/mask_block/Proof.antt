@@ -41,15 +41,11 @@ returns c =
     let p = a .payload .now in
     let b = 18 * a .i in
     let last : min (b + 18) (length p) ≡ b + 9 + 9 = omega arith in
-    let place : 9 * (2 * a .i) ≡ b = omega arith in
-    let other : 9 * (2 * a .i + 1) ≡ b + 9 = omega arith in
     let kept : getD (after-first .mask-eq .last .0) (b + 9) 0 ≡ getD p (b + 9) 0 =
     ap (λ (l : List ℕ). getD l (b + 9) 0) (after-first .mask-eq .ensures) ∙ replaced-past p (maskedEq (a .block .low) p b) b 0 (omega arith) in
     record {
       counted = rw (
         over-two p (a .i) (λ o. 8 - ones o) (omega arith),
-        place,
-        other,
         after-first .before .before .enciphered-in .ensures,
         second .before .before .enciphered-in2 .ensures,
         kept,
@@ -68,9 +64,8 @@ returns-2 c =
     let after-first = c .before .before .before in
     let a = after-first .before .before .before .before .before .args in
     let last : min (18 * a .i + 18) (length (a .payload .now)) ≡ 18 * a .i + 9 = omega arith in
-    let place : 9 * (2 * a .i) ≡ 18 * a .i = omega arith in
     record {
-      counted = rw (over-one (a .payload .now) (a .i) (λ o. 8 - ones o) (omega arith), place, after-first .before .before .enciphered-in .ensures);
+      counted = rw (over-one (a .payload .now) (a .i) (λ o. 8 - ones o) (omega arith), after-first .before .before .enciphered-in .ensures);
       few = omega (arith, after-first .before .before .enciphered-in .ensures);
       sealed = λ w n enciphered. rw last (first after-first w n enciphered (18 * a .i) refl);
     }

@@ -65,8 +65,7 @@ loop-again c =
       search needs,
       loop .inv .1,
       simp length-set (loop .inv .2),
-      ap (λ (l : List ℕ). set l (a .at + (loop .j + 1)) (getD (c .before .before .octets-of .result) (loop .j) 0)) (loop .inv .3)
-          ∙ paste-more (a .payload .now) octets (a .at) (loop .j) _ here (omega arith) (search needs),
+      rw (loop .inv .3) (paste-more (a .payload .now) octets (a .at) (loop .j) _ here (omega arith) (search needs)),
       loop .inv .4,
     )
 

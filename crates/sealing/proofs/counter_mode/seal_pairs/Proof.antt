@@ -1,18 +1,17 @@
 -- `sealing::counter_mode::seal_pairs` meets its contract: the blocks below the first of the two are sealed, and between them none needs a run. Assumes nothing.
-use Prim.Native.Nat.{ℕ, _+_, _-_, _%_, _≤_, _<_}
-use Rattle.envelope.specs.ControlMask.{maxBlocks, blocksOf, needsRun, runsBelow}
+use Prim.Native.Nat.{_+_, _-_, _%_, _≤_, _<_}
+use Rattle.envelope.specs.ControlMask.{maxBlocks, blocksOf, needsRun}
 use Rattle.envelope.specs.declared.Nonce.{Nonce}
-use Rattle.sealing.proofs.Counts.{count-at-most, first-count, no-count, two-counts}
+use Rattle.sealing.proofs.Counts.{Below, count-at-most, first-below, idle-below, two-below}
 use Rattle.sealing.proofs.Payload.{runs-at-most}
-use Rattle.sealing.proofs.Runs.{first-runs, first-sealed, idle-stretch, next-past, no-run, two-more, two-runs}
+use Rattle.sealing.proofs.Runs.{next-past}
 use Rattle.cipher.specs.Cipher.{Nr}
 use Rattle.cipher.specs.FirstRound.{Kept}
 use Rattle.cipher.specs.RowWords.{PairKeys}
-use Rattle.sealing.specs.Steps.{NextRun, blockSealed, countBelow, sealedBelow}
+use Rattle.sealing.specs.Steps.{NextRun}
 use lib.ListN.{length}
 use mathlib.Core.Bool.{true}
-use mathlib.Core.List.{List}
-use mathlib.Core.Path.{_≡_, refl, ap, sym, _∙_}
+use mathlib.Core.Path.{_≡_, refl, _∙_}
 use native.Mathlib.Omega.{arith}
 use borrow.Author.Needs.{needs}
 use Rattle.sealing.proofs.counter_mode.seal_pairs.Statement.{statement}
@@ -23,8 +22,7 @@ Inv-loop subs w payload₀ i j blocks keys kept count₀ runs₀ first₀ second
     (blocks ≡ blocksOf (length payload₀)) × (length payload₀ % 9 ≡ 0) × (blocks ≤ maxBlocks) × (length payload ≡ length payload₀)
     × PairKeys w Nr keys
     × (first ≤ blocks) × (first < blocks → needsRun payload₀ first ≡ true) × NextRun payload₀ blocks (first + 1) second
-    × (count ≡ countBelow payload₀ first) × (runs ≡ runsBelow payload₀ first)
-    × ((n : Nonce) → Kept w n kept → payload ≡ sealedBelow w n payload₀ first)
+    × ((n : Nonce) → Kept w n kept → Below w n payload₀ first payload count runs)
 
 abbrev μ-loop : tie.MeasureT-loop
 μ-loop subs w payload₀ i j blocks keys kept count₀ runs₀ first₀ second₀ payload count runs first second = blocks - first
@@ -33,7 +31,6 @@ loop-holds : tie.Need-loop-holds Inv-loop μ-loop
 loop-holds c =
     let start = c .before .before .before in
     let a = start .args in
-    let p = a .payload .now in
     let whole = start .pre .1 .0 .0 in
     let first = start .pre .1 .1 .0 in (
       refl,
@@ -44,9 +41,7 @@ loop-holds c =
       first .below (omega arith),
       first .needed,
       start .pre .1 .1 .1,
-      first-count p whole (a .i) first,
-      first-runs p (a .i) (blocksOf (length p)) first,
-      λ n share. first-sealed (a .w .now) n p whole (a .i) first,
+      λ n share. first-below (a .w .now) n (a .payload .now) whole (a .i) first,
     )
 
 seal-pair-requires : tie.Need-seal-pair-requires Inv-loop μ-loop
@@ -57,37 +52,41 @@ seal-pair-requires c κs =
     let after : at-loop .loop .first + 1 ≤ at-loop .loop .second = inv .7 .from in
     ((start .pre .0, inv .4), (omega arith, ((omega arith, omega arith), (omega arith, omega arith))))
 
--- the octets of one pair more are counted
-counted : (c : tie.After-seal-pair Inv-loop μ-loop) → let at-loop = c .before .before .before in
-    let p = at-loop .before .before .before .before .args .payload .now in
-    at-loop .loop .count + c .seal-pair .result .count ≡ countBelow p (at-loop .loop .second + 1)
-counted c =
+-- one pair more is sealed and counted, under the nonce n
+abbrev More : tie.After-seal-pair Inv-loop μ-loop → Nonce → Type 0
+More c n =
     let at-loop = c .before .before .before in
-    let start = at-loop .before .before .before .before in
-    let a = start .args in
     let loop = at-loop .loop in
-    let share = at-loop .before .kept-rows .ensures .holds (start .pre .0) in
-    let after : loop .first + 1 ≤ loop .second = loop .inv .7 .from in
-    omega (
-      arith,
-      loop .inv .8,
-      rw (loop .inv .10 (a .nonce) share) at (c .seal-pair .ensures .count (a .nonce) share),
-      two-counts (a .w .now) (a .nonce) (a .payload .now) (loop .inv .1) (loop .first) (loop .second) (omega arith) (c .before .before .loop-test .taken)
-          (loop .inv .7 .idle),
-    )
+    let a = at-loop .before .before .before .before .args in
+    Below (a .w .now) n (a .payload .now) (loop .second + 1) (c .seal-pair .last .1 .1 .1 .1 .0) (loop .count + c .seal-pair .result .count)
+    (loop .runs + c .seal-pair .result .runs)
+
+more : (c : tie.After-seal-pair Inv-loop μ-loop) (n : Nonce) → let at-loop = c .before .before .before in
+    Kept (at-loop .before .before .before .before .args .w .now) n (at-loop .before .kept-rows .result) → More c n
+more c n share =
+    let at-loop = c .before .before .before in
+    let a = at-loop .before .before .before .before .args in
+    let inv = at-loop .loop .inv in
+    two-below (a .w .now) n (a .payload .now) (inv .1) (at-loop .loop .first) (at-loop .loop .second) (c .before .before .loop-test .taken)
+    (inv .6 (omega (arith, inv .7 .from))) (inv .7) share (c .seal-pair .ensures) (inv .8 n share)
+
+-- and so under that of the call
+own : (c : tie.After-seal-pair Inv-loop μ-loop) → More c (c .before .before .before .before .before .before .before .args .nonce)
+own c = let at-loop = c .before .before .before in more c _ (at-loop .before .kept-rows .ensures .holds (at-loop .before .before .before .before .pre .0))
 
 add-count : tie.Need-add-count Inv-loop μ-loop
 add-count c =
     let paired = c .before .before .before in
     let at-loop = paired .before .before .before in
     let start = at-loop .before .before .before .before in
-    omega (arith, counted paired, count-at-most (start .args .payload .now) (at-loop .loop .second + 1), at-loop .loop .inv .2)
+    omega (arith, own paired .count, count-at-most (start .args .payload .now) (at-loop .loop .second + 1), at-loop .loop .inv .2)
 
 add-runs : tie.Need-add-runs Inv-loop μ-loop
 add-runs c =
-    let at-loop = c .before .before .before .before .before .before .before in
+    let paired = c .before .before .before .before in
+    let at-loop = paired .before .before .before in
     let start = at-loop .before .before .before .before in
-    omega (arith, runs-at-most (start .args .payload .now) (at-loop .loop .first), at-loop .loop .inv .9, at-loop .loop .inv .5, at-loop .loop .inv .2)
+    omega (arith, own paired .runs, runs-at-most (start .args .payload .now) (at-loop .loop .second + 1), at-loop .loop .inv .2)
 
 -- the payload with one pair more sealed has its length
 long : (c : tie.After-seal-pair Inv-loop μ-loop)
@@ -116,21 +115,6 @@ next-run-requires-2 c κs =
     let inv = paired .before .before .before .loop .inv in
     (omega arith, omega arith)
 
--- one pair more is sealed
-more : (c : tie.After-seal-pair Inv-loop μ-loop) → let at-loop = c .before .before .before in let a =
-    at-loop .before .before .before .before .args in
-    (n : Nonce) → Kept (a .w .now) n (at-loop .before .kept-rows .result)
-    → c .seal-pair .last .1 .1 .1 .1 .0 ≡ sealedBelow (a .w .now) n (a .payload .now) (at-loop .loop .second + 1)
-more c n share =
-    let at-loop = c .before .before .before in
-    let a = at-loop .before .before .before .before .args in
-    let loop = at-loop .loop in
-    let w = a .w .now in
-    let after : loop .first + 1 ≤ loop .second = loop .inv .7 .from in
-    c .seal-pair .ensures .sealed n share
-    ∙ ap (λ (q : List ℕ). blockSealed w n (blockSealed w n q (loop .first)) (loop .second)) (loop .inv .10 n share)
-    ∙ two-more w n (a .payload .now) (loop .inv .1) (loop .first) (loop .second) (omega arith) (c .before .before .loop-test .taken) (loop .inv .7 .idle)
-
 -- what comes after it is what came after it in the payload as it was
 next : (c : tie.After-next-run Inv-loop μ-loop) → let at-loop = c .before .before .before .before .before .before .before .before .before in
     let p = at-loop .before .before .before .before .args .payload .now in
@@ -138,32 +122,24 @@ next : (c : tie.After-next-run Inv-loop μ-loop) → let at-loop = c .before .be
 next c =
     let paired = c .before .before .before .before .before .before in
     let at-loop = paired .before .before .before in
-    let start = at-loop .before .before .before .before in
-    let a = start .args in
+    let a = at-loop .before .before .before .before .args in
     let m = at-loop .loop .second + 1 in
     next-past (a .w .now) (a .nonce) (a .payload .now) (at-loop .loop .inv .1) m m (omega arith)
-    (rw (more paired (a .nonce) (at-loop .before .kept-rows .ensures .holds (start .pre .0))) at (c .next-run .ensures))
+    (rw (own paired .sealed) at (c .next-run .ensures))
 
 loop-again : tie.Need-loop-again Inv-loop μ-loop
 loop-again c =
     let ran = c .before .before in
     let paired = ran .before .before .before .before .before .before in
     let at-loop = paired .before .before .before in
-    let start = at-loop .before .before .before .before in
-    let a = start .args in
+    let a = at-loop .before .before .before .before .args in
     let p = a .payload .now in
-    let w = a .w .now in
-    let loop = at-loop .loop in
-    let inv = loop .inv in
-    let m = loop .second + 1 in
+    let inv = at-loop .loop .inv in
+    let m = at-loop .loop .second + 1 in
     let to = next ran in
-    let after : loop .first + 1 ≤ loop .second = inv .7 .from in
     let past : m ≤ ran .next-run .result = to .from in
-    let room : loop .second < blocksOf (length p) = paired .before .before .loop-test .taken in
-    let below : ran .next-run .result ≤ blocksOf (length p) = to .below (omega arith) in
-    let two : runsBelow p m ≡ runsBelow p (loop .first) + 2 =
-    two-runs p (loop .first) (loop .second) (omega arith) (inv .7 .idle) (inv .6 (omega arith)) (inv .7 .needed room) in
-    let none : runsBelow p (ran .next-run .result) ≡ runsBelow p m = no-run p m (ran .next-run .result) past (to .idle) in (
+    let room : at-loop .loop .second < blocksOf (length p) = paired .before .before .loop-test .taken in
+    let below : ran .next-run .result ≤ blocksOf (length p) = to .below (omega arith) in (
       refl,
       inv .1,
       inv .2,
@@ -171,11 +147,8 @@ loop-again c =
       inv .4,
       below,
       to .needed,
-      next-past w (a .nonce) p (inv .1) m (ran .next-run .result + 1) (omega arith)
-          (rw (more paired (a .nonce) (at-loop .before .kept-rows .ensures .holds (start .pre .0))) at (c .next-run2 .ensures)),
-      counted paired ∙ sym (no-count p (inv .1) m (ran .next-run .result) past below (to .idle)),
-      omega (arith, inv .9, paired .seal-pair .ensures .runs, none, two),
-      λ n share. more paired n share ∙ idle-stretch w n p (inv .1) m (ran .next-run .result) past below (to .idle),
+      next-past (a .w .now) (a .nonce) p (inv .1) m (ran .next-run .result + 1) (omega arith) (rw (own paired .sealed) at (c .next-run2 .ensures)),
+      λ n share. idle-below (a .w .now) n p (inv .1) m (ran .next-run .result) past below (to .idle) (more paired n share),
     )
 
 loop-less : tie.Need-loop-less Inv-loop μ-loop
@@ -192,13 +165,14 @@ returns c =
     let at-loop = c .before in
     let inv = at-loop .loop .inv in
     let start = at-loop .before .before .before .before in
+    let done = inv .8 (start .args .nonce) (at-loop .before .kept-rows .ensures .holds (start .pre .0)) in
     record {
       below = inv .5;
       needed = inv .6;
       rest = λ k l u. inv .7 .idle k (omega arith) (omega arith);
-      sealed = inv .10 (start .args .nonce) (at-loop .before .kept-rows .ensures .holds (start .pre .0));
-      count = inv .8;
-      runs = inv .9;
+      sealed = done .sealed;
+      count = done .count;
+      runs = done .runs;
     }
 
 pub seal-pairs-spec : {M : Type 1} → statement M

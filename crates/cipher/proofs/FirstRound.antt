@@ -3,7 +3,7 @@ use mathlib.Core.Path.{_≡_, refl, ap, ap₂, sym, _∙_}
 use mathlib.Core.Bool.{Bool, true, false}
 use mathlib.Core.List.{List}
 use Prim.Native.Nat.{ℕ, zero, suc, _+_, _*_, _%_, _^_, _<_}
-use native.Mathlib.Nat.{mod-eq-of-lt}
+use native.Mathlib.Nat.{mod-eq-of-lt, zero-add}
 use native.Mathlib.Omega.{arith}
 use borrow.Author.Tests.{eqb-true, eqb-false}
 use lib.Bits.{bitAnd, bitXor, and-mask, and-zero-r, xor-zero-l, xor-zero-r}
@@ -78,9 +78,9 @@ unfolding pick octetAt
 without-0 = masked-row 0xffffff00 0 refl refl refl refl
 
 -- row r of block 0, shifted, with column k cleared and twice, is row r of any two blocks
-module _ (w : List ℕ) (n : Nonce) (s : Rows) (first : state s 0 ≡ entered w n 0) where
+module _ (w : List ℕ) (n : Nonce) (s : Rows) (first : state s 0 ≡ counterBlock n 0) {key : List ℕ} (own : key ≡ roundKey w 0) where
   pub kept-row : (r k : ℕ) → r < 4 → ((c : ℕ) → c < 4 → eqb c k ≡ false → r + 4 * ((c + r) % 4) < 13)
-      → {x v y : ℕ} → Four (λ j. sbox (octetAt (rowOf s r) (4 * 0 + (r + j) % 4))) x
+      → {x v y : ℕ} → Four (λ j. sbox (octetAt (rowOf s r) ((r + j) % 4) ⊕ cell key r ((r + j) % 4))) x
       → ((c : ℕ) → c < 4 → octetAt v c ≡ pick (eqb c k) 0 (octetAt x c))
       → Both v v y → KeptRow w n r k y
   unfolding pick
@@ -91,8 +91,10 @@ module _ (w : List ℕ) (n : Nonce) (s : Rows) (first : state s 0 ≡ entered w 
     place : (z c : ℕ) → z < 2 → c < 4 → octetAt y (4 * z + c) ≡ octetAt v c
     place = by-halves (λ p z c. octetAt y p ≡ octetAt v c) (twice .low) (twice .high)
 
-    column : (d : ℕ) → d < 4 → octetAt (rowOf s r) (4 * 0 + d) ≡ cell (entered w n 0) r d
-    column d l = sym (state-at (λ r c. octetAt (rowOf s r) (4 * 0 + c)) r d h l) ∙ ap (λ (t : List ℕ). cell t r d) first
+    column : (d : ℕ) → d < 4 → octetAt (rowOf s r) d ⊕ cell key r d ≡ cell (entered w n 0) r d
+    column d l =
+        let block = rw (first, zero-add d) at (state-at (λ r c. octetAt (rowOf s r) (4 * 0 + c)) r d h l) in
+        rw (own, ← block) (sym (state-at (λ r c. cell (counterBlock n 0) r c ⊕ cell (roundKey w 0) r c) r d h l))
 
     chosen : (i c : ℕ) → c < 4 → (t : Bool) → eqb c k ≡ t → pick t 0 (octetAt x c) ≡ pick t 0 (sbox (cell (entered w n i) r ((c + r) % 4)))
     chosen i c l true e = refl
@@ -100,7 +102,7 @@ module _ (w : List ℕ) (n : Nonce) (s : Rows) (first : state s 0 ≡ entered w 
         let turn : (r + c) % 4 ≡ (c + r) % 4 = omega arith in
         shifted .octet c l
         ∙ ap sbox
-        (ap (λ (d : ℕ). octetAt (rowOf s r) (4 * 0 + d)) turn
+        (ap (λ (d : ℕ). octetAt (rowOf s r) d ⊕ cell key r d) turn
         ∙ column ((c + r) % 4) (omega arith)
         ∙ fixed-cell w n i r ((c + r) % 4) h (omega arith) (fixed c l e))
 

@@ -1,4 +1,3 @@
-pub mod Cipher
 pub mod FirstRound
 pub mod KeyExpansion
 pub mod RowWords

@@ -5,7 +5,7 @@ use mathlib.Core.Logic.{⊎-elim}
 use Prim.Native.Nat.{ℕ, zero, suc, _+_, _-_, _*_, _/_, _%_, _^_, _<_, _≤_}
 use native.Mathlib.Nat.{add-comm, one-mul, zero-add, eq-or-lt-of-le}
 use native.Mathlib.Omega.{arith}
-use lib.Bits.{bitXor}
+use lib.Bits.{bitXor, xor-zero-r}
 use lib.ListN.{length, getD, set}
 use lib.Seq.{getD-set-same, getD-set-other}
 use Rattle.octets.specs.Lists.{tabulate}
@@ -14,8 +14,8 @@ use Rattle.gf256.specs.Field.{_⊕_, _•_, xTimes}
 use Rattle.gf256.specs.Lanes.{octetAt, eachOctet}
 use Rattle.gf256.specs.Substitution.{sbox}
 use Rattle.gf256.proofs.Lanes.{octet-xor, octet-below, octet-rest, octet-doubled}
-use Rattle.cipher.specs.Cipher.{stateOf, cell, roundKey, round, rounds, lastRound}
-use Rattle.cipher.specs.RowWords.{BySbox, Four, Both, Eight, TwoRows, Shifted, Mixed, Rounded, LastColumns, PairKeys, Reached, rowOf, state, noRows, blockOctets}
+use Rattle.cipher.specs.Cipher.{stateOf, cell, subBytes, shiftRows, mixColumns, addRoundKey, roundKey, round, rounds, lastRound}
+use Rattle.cipher.specs.RowWords.{BySbox, Four, Both, Eight, TwoRows, Shifted, Mixed, Rounded, Keyed, LastColumns, keyedState, PairKeys, Reached, rowOf, state, noRows, blockOctets}
 use Rattle.cipher.specs.declared.row_words.Block.{Block}
 use Rattle.cipher.specs.declared.row_words.Rows.{Rows}
 use Rattle.cipher.proofs.Sums.{double-sum, first, second, third, fourth}
@@ -135,14 +135,8 @@ upper-state s t a b c d =
 
 ---- SubBytes and ShiftRows
 
-pub shifted-one : {t : List ℕ} {k x r : ℕ} → BySbox t (Four (λ j. sbox (octetAt x (4 * 0 + (k + j) % 4))) r) → BySbox t (Shifted 1 k x r)
-shifted-one {k = k} f =
-    record {
-      holds = λ e. record { octet = λ z c h l. let first : z ≡ 0 = omega arith in rw (first, zero-add c, add-comm c k) (f .holds e .octet c l) };
-    }
-
 pub shifted-two : {t : List ℕ} {k x l u r : ℕ} → Both l u r → BySbox t (Four (λ j. sbox (octetAt x (4 * 0 + (k + j) % 4))) l)
-    → BySbox t (Four (λ j. sbox (octetAt x (4 * 1 + (k + j) % 4))) u) → BySbox t (Shifted 2 k x r)
+    → BySbox t (Four (λ j. sbox (octetAt x (4 * 1 + (k + j) % 4))) u) → BySbox t (Shifted k x r)
 shifted-two {k = k} {x = x} b f g =
     record {
       holds = λ e.
@@ -201,33 +195,62 @@ module _ (n : ℕ) (fits : n ≤ 2) (f : ℕ → ℕ → ℕ → ℕ) (k t r : R
         (λ c l. m .second (4 * z + c) (omega arith) ∙ rw (sa, sb, sc, sd)) (λ c l. m .third (4 * z + c) (omega arith) ∙ rw (sa, sb, sc, sd))
         (λ c l. m .fourth (4 * z + c) (omega arith) ∙ rw (sa, sb, sc, sd))
 
--- the same of states in rows
-pub rounded : (n : ℕ) (k s : Rows) {subs : List ℕ} {t r : Rows} → Mixed t k r → BySbox subs (Shifted n 0 (s .a) (t .a))
-    → BySbox subs (Shifted n 1 (s .b) (t .b)) → BySbox subs (Shifted n 2 (s .c) (t .c)) → BySbox subs (Shifted n 3 (s .d) (t .d)) → n ≤ 2
-    → BySbox subs (Rounded n k s r)
-rounded n k s {t = t} {r = r} m sa sb sc sd fits =
+-- the same of two states in rows
+pub rounded : (k s : Rows) {subs : List ℕ} {t r : Rows} → Mixed t k r → BySbox subs (Shifted 0 (s .a) (t .a)) → BySbox subs (Shifted 1 (s .b) (t .b))
+    → BySbox subs (Shifted 2 (s .c) (t .c)) → BySbox subs (Shifted 3 (s .d) (t .d)) → BySbox subs (Rounded k s r)
+rounded k s {t = t} {r = r} m sa sb sc sd =
     record {
       holds = λ e.
           record {
-            states = rounded-from n fits (λ z i c. octetAt (rowOf s i) (4 * z + c)) k t r (sa .holds e .octet) (sb .holds e .octet)
+            states = rounded-from 2 (omega arith) (λ z i c. octetAt (rowOf s i) (4 * z + c)) k t r (sa .holds e .octet) (sb .holds e .octet)
                 (sc .holds e .octet) (sd .holds e .octet) m;
+          };
+    }
+
+-- a key of zeros adds nothing
+no-key : (k s : List ℕ) → addRoundKey k (addRoundKey (state noRows 0) s) ≡ addRoundKey k s
+unfolding octetAt
+no-key k s = simp xor-zero-r
+
+-- row k of one state, its key added before it was substituted and moved
+keyed-cells : (key : List ℕ) (s : Rows) (k : ℕ) {x : ℕ} → k < 4 → Four (λ j. sbox (octetAt (rowOf s k) ((k + j) % 4) ⊕ cell key k ((k + j) % 4))) x
+    → (z c : ℕ) → z < 1 → c < 4 → octetAt x (4 * z + c) ≡ sbox (cell (state s 0) k ((c + k) % 4) ⊕ cell key k ((c + k) % 4))
+keyed-cells key s k h f z c i l =
+    let first : z ≡ 0 = omega arith in
+    rw (first, zero-add c, add-comm c k, state-at (λ r j. octetAt (rowOf s r) (4 * 0 + j)) k ((k + c) % 4) h (omega arith), zero-add)
+    (f .octet c l)
+
+-- a round of one state under the key that was added ahead of it
+pub keyed-round : (key : List ℕ) (s : Rows) {subs : List ℕ} {t r : Rows} → Mixed t noRows r
+    → BySbox subs (Four (λ j. sbox (octetAt (s .a) ((0 + j) % 4) ⊕ cell key 0 ((0 + j) % 4))) (t .a))
+    → BySbox subs (Four (λ j. sbox (octetAt (s .b) ((1 + j) % 4) ⊕ cell key 1 ((1 + j) % 4))) (t .b))
+    → BySbox subs (Four (λ j. sbox (octetAt (s .c) ((2 + j) % 4) ⊕ cell key 2 ((2 + j) % 4))) (t .c))
+    → BySbox subs (Four (λ j. sbox (octetAt (s .d) ((3 + j) % 4) ⊕ cell key 3 ((3 + j) % 4))) (t .d)) → BySbox subs (Keyed key s r)
+unfolding round keyedState
+keyed-round key s {t = t} {r = r} m a b c d =
+    record {
+      holds = λ e.
+          let mixed =
+          rounded-from 1 (omega arith) (λ z i j. cell (state s 0) i j ⊕ cell key i j) noRows t r (keyed-cells key s 0 (omega arith) (a .holds e))
+          (keyed-cells key s 1 (omega arith) (b .holds e)) (keyed-cells key s 2 (omega arith) (c .holds e))
+          (keyed-cells key s 3 (omega arith) (d .holds e)) m 0 (omega arith) in
+          record {
+            states = λ next. ap (addRoundKey next) mixed ∙ no-key next (mixColumns (shiftRows (subBytes (addRoundKey key (state s 0)))));
           };
     }
 
 ---- the nine rounds
 
--- round n of one state, after those below it
-pub onward-one : (w : List ℕ) (n : ℕ) (s : Rows) {t u k : Rows} → 1 ≤ n → state t 0 ≡ rounds w (n - 1) (state s 0) → state k 0 ≡ roundKey w n
-    → Rounded 1 k t u
-    → state u 0 ≡ rounds w (n + 1 - 1) (state s 0)
+-- round n of one state up to its key, after those below it
+pub onward-one : (w : List ℕ) (n : ℕ) (s : List ℕ) {t u : Rows} {k : List ℕ} → 1 ≤ n → keyedState (roundKey w (n - 1)) t ≡ rounds w (n - 1) s
+    → k ≡ roundKey w (n - 1) → Keyed k t u → keyedState (roundKey w (n + 1 - 1)) u ≡ rounds w (n + 1 - 1) s
 unfolding rounds
-onward-one w n s {t} {u} {k} h before key g =
-    let here : n ≡ suc (n - 1) = omega arith in
+onward-one w n s h before key g =
     let next : n + 1 - 1 ≡ suc (n - 1) = omega arith in
-    rw next (g .states 0 (omega arith) ∙ ap₂ round (key ∙ ap (roundKey w) here) before)
+    rw next (g .states (roundKey w (suc (n - 1))) ∙ ap (round (roundKey w (suc (n - 1)))) (rw key before))
 
 -- round n of two states, after those below it
-pub onward-two : (ks : List Rows) (n : ℕ) {s t u : Rows} → 1 ≤ n → n < 10 → Reached ks (n - 1) s t → Rounded 2 (getD ks n noRows) t u
+pub onward-two : (ks : List Rows) (n : ℕ) {s t u : Rows} → 1 ≤ n → n < 10 → Reached ks (n - 1) s t → Rounded (getD ks n noRows) t u
     → Reached ks (n + 1 - 1) s u
 unfolding rounds
 onward-two ks n {s} {t} {u} h l before g =
@@ -260,28 +283,29 @@ one-key-more w n ks r h before first second = record {
 
 ---- the last round
 
-pub last-columns : {t k : List ℕ} {s : Rows} {i a b c d x y : ℕ} → Both a b x → Both c d y → Four (λ j. getD k (4 * i + 1 * j) 0) a
-    → Four (λ j. getD k (4 * i + 4 + 1 * j) 0) b → BySbox t (Four (λ j. sbox (octetAt (rowOf s j) ((i + j) % 4))) c)
-    → BySbox t (Four (λ j. sbox (octetAt (rowOf s j) ((i + 1 + j) % 4))) d) → BySbox t (LastColumns k s i (y ⊕ x))
-last-columns {x = x} {y = y} ab cd fa fb fc fd =
+pub last-columns : {k : List ℕ} {p x y a b u v : ℕ} → Both a b u → Both x y v → Four (λ j. getD k (p + 1 * j) 0) a
+    → Four (λ j. getD k (p + 4 + 1 * j) 0) b → LastColumns k p x y (v ⊕ u)
+last-columns {u = u} {v = v} ab xy fa fb =
     record {
-      holds = λ e.
-          record {
-            first = λ j l. octet-xor y x j ∙ ap₂ bitXor (cd .low j l ∙ fc .holds e .octet j l) (ab .low j l ∙ rw one-mul at (fa .octet j l));
-            second = λ j l. octet-xor y x (4 + j) ∙ ap₂ bitXor (cd .high j l ∙ fd .holds e .octet j l) (ab .high j l ∙ rw one-mul at (fb .octet j l));
-          };
+      first = λ j l. octet-xor v u j ∙ ap₂ bitXor (xy .low j l) (ab .low j l ∙ rw one-mul at (fa .octet j l));
+      second = λ j l. octet-xor v u (4 + j) ∙ ap₂ bitXor (xy .high j l) (ab .high j l ∙ rw one-mul at (fb .octet j l));
     }
 
--- the octets of two columns
-two-columns : {k : List ℕ} {s : Rows} {i r : ℕ} → LastColumns k s i r → tabulate 0 8 (octetAt r)
-    ≡ tabulate 0 4 (λ j. sbox (octetAt (rowOf s j) ((i + j) % 4)) ⊕ getD k (4 * i + j) 0)
-    ++ tabulate 0 4 (λ j. sbox (octetAt (rowOf s j) ((i + 1 + j) % 4)) ⊕ getD k (4 * i + 4 + j) 0)
-two-columns {r = r} e =
-    ap₂ (λ (x y : List ℕ). x ++ y) (tabulate-ext 0 4 (octetAt r) _ (λ j z l. e .first j l))
-    (tabulate-ext 0 4 (λ j. octetAt r (4 + j)) _ (λ j z l. e .second j l))
+-- the octets of two columns, f of the first and g of the second, under the key
+two-columns : {k : List ℕ} {p x y r : ℕ} {f g : ℕ → ℕ} → Four f x → Four g y → LastColumns k p x y r
+    → tabulate 0 8 (octetAt r) ≡ tabulate 0 4 (λ j. f j ⊕ getD k (p + j) 0) ++ tabulate 0 4 (λ j. g j ⊕ getD k (p + 4 + j) 0)
+two-columns {k = k} {p = p} {r = r} a b e =
+    ap₂ (λ (x y : List ℕ). x ++ y)
+    (tabulate-ext 0 4 (octetAt r) _ (λ j z l. e .first j l ∙ ap (λ (o : ℕ). o ⊕ getD k (p + j) 0) (a .octet j l)))
+    (tabulate-ext 0 4 (λ j. octetAt r (4 + j)) _ (λ j z l. e .second j l ∙ ap (λ (o : ℕ). o ⊕ getD k (p + 4 + j) 0) (b .octet j l)))
 
--- the octets of a block, from its columns by two
-pub last-block : {t : List ℕ} (k : List ℕ) (s : Rows) (b : Block) → BySbox t (LastColumns k s 0 (b .low)) → BySbox t (LastColumns k s 2 (b .high))
-    → BySbox t (blockOctets b ≡ lastRound k (state s 0))
-unfolding lastRound
-last-block k s b l h = record { holds = λ e. ap₂ (λ (x y : List ℕ). x ++ y) (two-columns (l .holds e)) (two-columns (h .holds e)) }
+-- the octets of a block, from its columns by two, f the octets of the state by row and column
+module _ (k : List ℕ) (f : ℕ → ℕ → ℕ) {t : List ℕ} {b : Block} {x y u v : ℕ} (l : LastColumns k 0 x y (b .low)) (h : LastColumns k 8 u v (b .high))
+    (c₀ : BySbox t (Four (λ j. sbox (f j ((0 + j) % 4))) x)) (c₁ : BySbox t (Four (λ j. sbox (f j ((1 + j) % 4))) y))
+    (c₂ : BySbox t (Four (λ j. sbox (f j ((2 + j) % 4))) u)) (c₃ : BySbox t (Four (λ j. sbox (f j ((3 + j) % 4))) v)) where
+  pub last-block : BySbox t (blockOctets b ≡ lastRound k (stateOf f))
+  unfolding lastRound
+  last-block =
+      record {
+        holds = λ e. ap₂ (λ (x y : List ℕ). x ++ y) (two-columns (c₀ .holds e) (c₁ .holds e) l) (two-columns (c₂ .holds e) (c₃ .holds e) h);
+      }

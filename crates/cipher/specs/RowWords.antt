@@ -9,7 +9,7 @@ use Rattle.gf256.specs.Field.{_⊕_, _•_}
 use Rattle.gf256.specs.Lanes.{octetAt}
 use Rattle.gf256.specs.Substitution.{sbox}
 use Rattle.gf256.specs.Table.{sboxTable}
-use Rattle.cipher.specs.Cipher.{Nr, stateOf, roundKey, round, rounds}
+use Rattle.cipher.specs.Cipher.{Nr, stateOf, addRoundKey, roundKey, round, rounds}
 use Rattle.cipher.specs.declared.row_words.Block.{Block}
 use Rattle.cipher.specs.declared.row_words.Rows.{Rows}
 
@@ -46,9 +46,9 @@ pub record TwoRows (s t : List ℕ) (k r : ℕ) : Type 0 where
   pub first : (c : ℕ) → c < 4 → octetAt r c ≡ getD s (k + 4 * c) 0
   pub second : (c : ℕ) → c < 4 → octetAt r (4 + c) ≡ getD t (k + 4 * c) 0
 
--- r is row k of the first n states after SubBytes and ShiftRows, where x is row k before
-pub record Shifted (n k x r : ℕ) : Type 0 where
-  pub octet : (z c : ℕ) → z < n → c < 4 → octetAt r (4 * z + c) ≡ sbox (octetAt x (4 * z + (c + k) % 4))
+-- r is row k of both states after SubBytes and ShiftRows, where x is row k before
+pub record Shifted (k x r : ℕ) : Type 0 where
+  pub octet : (z c : ℕ) → z < 2 → c < 4 → octetAt r (4 * z + c) ≡ sbox (octetAt x (4 * z + (c + k) % 4))
 
 -- r has the rows of s after MixColumns and AddRoundKey with k, in each of the eight columns
 pub record Mixed (s k r : Rows) : Type 0 where
@@ -61,9 +61,9 @@ pub record Mixed (s k r : Rows) : Type 0 where
   pub fourth : (j : ℕ) → j < 8
       → octetAt (r .d) j ≡ (3 • octetAt (s .a) j ⊕ octetAt (s .b) j ⊕ octetAt (s .c) j ⊕ 2 • octetAt (s .d) j) ⊕ octetAt (k .d) j
 
--- r has the first n states of s after a round, each under its own key of k
-pub record Rounded (n : ℕ) (k s r : Rows) : Type 0 where
-  pub states : (z : ℕ) → z < n → state r z ≡ round (state k z) (state s z)
+-- r has both states of s after a round, each under its own key of k
+pub record Rounded (k s r : Rows) : Type 0 where
+  pub states : (z : ℕ) → z < 2 → state r z ≡ round (state k z) (state s z)
 
 -- no row: what a list of rows is said to have past its end
 abbrev pub noRows : Rows
@@ -77,10 +77,18 @@ pub record PairKeys (w : List ℕ) (n : ℕ) (ks : List Rows) : Type 0 where
 pub record Reached (ks : List Rows) (n : ℕ) (s r : Rows) : Type 0 where
   pub states : (w : List ℕ) → PairKeys w Nr ks → (z : ℕ) (e : List ℕ) → z < 2 → state s z ≡ rounds w 1 e → state r z ≡ rounds w n e
 
--- r has the columns i and i + 1 of the first state of s after the last round, under its key k
-pub record LastColumns (k : List ℕ) (s : Rows) (i r : ℕ) : Type 0 where
-  pub first : (j : ℕ) → j < 4 → octetAt r j ≡ sbox (octetAt (rowOf s j) ((i + j) % 4)) ⊕ getD k (4 * i + j) 0
-  pub second : (j : ℕ) → j < 4 → octetAt r (4 + j) ≡ sbox (octetAt (rowOf s j) ((i + 1 + j) % 4)) ⊕ getD k (4 * i + 4 + j) 0
+-- the first state of s after AddRoundKey with k
+unfoldable pub keyedState : List ℕ → Rows → List ℕ
+keyedState k s = addRoundKey k (state s 0)
+
+-- r has the first state of s after AddRoundKey with k and a round up to its own AddRoundKey, whatever key that will have
+pub record Keyed (k : List ℕ) (s r : Rows) : Type 0 where
+  pub states : (next : List ℕ) → keyedState next r ≡ round next (keyedState k s)
+
+-- r has the columns x and y under the octets of k from place p on
+pub record LastColumns (k : List ℕ) (p x y r : ℕ) : Type 0 where
+  pub first : (j : ℕ) → j < 4 → octetAt r j ≡ octetAt x j ⊕ getD k (p + j) 0
+  pub second : (j : ℕ) → j < 4 → octetAt r (4 + j) ≡ octetAt y j ⊕ getD k (p + 4 + j) 0
 
 -- the 16 octets of a cipher block
 abbrev pub blockOctets : Block → List ℕ

@@ -1,11 +1,11 @@
-// Words and states of AES-128 in octets (FIPS 197): what the key expansion works on and what the cipher begins with, and the cipher on a block by
-// itself. The table is bound once by the caller and lent.
+// Words of AES-128 in octets (FIPS 197): what the key expansion works on; and the cipher on a block by itself. The table is bound once by the caller
+// and lent.
 ghost use mathlib.Core.Path.{_≡_};
 ghost use mathlib.Core.List.{_++_};
 ghost use Prim.Native.Nat.{_<_};
 ghost use Rattle.gf256.specs.Substitution.{sbox};
 ghost use Rattle.gf256.specs.Table.{sboxTable};
-ghost use Rattle.cipher.specs.Cipher.{addRoundKey, roundKey, cipher};
+ghost use Rattle.cipher.specs.Cipher.{cipher};
 ghost use Rattle.cipher.specs.Words.{word, xorWords, subWord};
 use super::row_words::block_octets;
 use super::row_words::encrypt_lone;
@@ -72,31 +72,6 @@ pub(crate) fn xor_words(a: [u8; 4], b: [u8; 4]) -> [u8; 4]
     ensures { λ r. ⌜ r ≡ xorWords a b ⌝ }
 {
     [a[0] ^ b[0], a[1] ^ b[1], a[2] ^ b[2], a[3] ^ b[3]]
-}
-
-// Column i of the state s after AddRoundKey with round key 0 of the key schedule w.
-fn added_column<'a>(w: &'a [u8; 176], s: &'a [u8; 16], i: usize) -> [u8; 4]
-    requires { ⌜ i < 4 ⌝ }
-    ensures { λ r. ⌜ r ≡ xorWords (word (now (s .entry)) i) (word (now (w .entry)) i) ⌝ }
-{
-    let k = 4 * i;
-    [
-        s[k + 0] ^ w[k + 0],
-        s[k + 1] ^ w[k + 1],
-        s[k + 2] ^ w[k + 2],
-        s[k + 3] ^ w[k + 3],
-    ]
-}
-
-pub(crate) fn add_first_key<'a>(w: &'a [u8; 176], s: [u8; 16]) -> [u8; 16]
-    ensures { λ r. ⌜ r ≡ addRoundKey (roundKey (now (w .entry)) 0) s ⌝ }
-{
-    let input = &s;
-    let a = added_column(w, input, 0);
-    let b = added_column(w, input, 1);
-    let c = added_column(w, input, 2);
-    let d = added_column(w, input, 3);
-    joined(a, b, c, d)
 }
 
 pub fn encrypt_block(keys: RoundKeys, block: [u8; 16]) -> [u8; 16]

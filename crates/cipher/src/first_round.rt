@@ -8,14 +8,13 @@ ghost use Rattle.gf256.specs.Lanes.{octetAt};
 ghost use Rattle.gf256.specs.Substitution.{sbox};
 ghost use Rattle.cipher.specs.FirstRound.{FirstRound, IndexOctets, Kept};
 ghost use Rattle.cipher.specs.RowWords.{Both, BySbox, Four};
-use super::aes128::add_first_key;
 use super::row_words::Rows;
 use super::row_words::both;
+use super::row_words::keyed;
+use super::row_words::keyed_row;
 use super::row_words::mixed;
-use super::row_words::octet;
+use super::row_words::round_key;
 use super::row_words::rows_of;
-use super::row_words::shifted_row;
-use super::row_words::wide;
 use envelope::Nonce;
 use envelope::counter_block;
 
@@ -30,11 +29,12 @@ fn twice(x: u64) -> u64
 pub fn kept_rows<'a>(subs: &'a [u8; 256], w: &'a [u8; 176], nonce: Nonce) -> Rows
     ensures { λ r. ⌜ BySbox (now (subs .entry)) (Kept (now (w .entry)) nonce r) ⌝ }
 {
-    let s = rows_of(add_first_key(w, counter_block(nonce, 0)));
-    let a = shifted_row(subs, s.a, 0, 0);
-    let b = shifted_row(subs, s.b, 1, 0) & 0xff00_ffff;
-    let c = shifted_row(subs, s.c, 2, 0) & 0xffff_00ff;
-    let d = shifted_row(subs, s.d, 3, 0) & 0xffff_ff00;
+    let s = rows_of(counter_block(nonce, 0));
+    let key = round_key(w, 0);
+    let a = keyed_row(subs, key, s.a, 0);
+    let b = keyed_row(subs, key, s.b, 1) & 0xff00_ffff;
+    let c = keyed_row(subs, key, s.c, 2) & 0xffff_00ff;
+    let d = keyed_row(subs, key, s.d, 3) & 0xffff_ff00;
     Rows {
         a: twice(a),
         b: twice(b),
@@ -48,7 +48,7 @@ fn index_octet(subs: &[u8; 256], key: u8, i: u64, k: u64) -> u64
     requires { ⌜ k < 3 ⌝ }
     ensures { λ r. ⌜ BySbox (now (subs .entry)) (Four (λ c. pick (eqb c k) (sbox (octetAt i k ⊕ key)) 0) r) × (r < 4294967296) ⌝ }
 {
-    wide(subs[(octet(i, k) ^ key) as usize]) << (8 * k)
+    keyed(subs, i, k, key) << (8 * k)
 }
 
 // The same of two block indices.

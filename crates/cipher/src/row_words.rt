@@ -5,12 +5,12 @@ ghost use mathlib.Core.Path.{_≡_};
 ghost use Prim.Native.Nat.{_+_, _*_, _%_, _<_};
 ghost use lib.ListN.{getD};
 ghost use Rattle.octets.specs.Lists.{tabulate};
+ghost use Rattle.gf256.specs.Field.{_⊕_};
 ghost use Rattle.gf256.specs.Lanes.{octetAt};
 ghost use Rattle.gf256.specs.Substitution.{sbox};
-ghost use Rattle.cipher.specs.Cipher.{Nr, roundKey, rounds, lastRound, cipher};
+ghost use Rattle.cipher.specs.Cipher.{Nr, cell, cipher, lastRound, roundKey, rounds};
 ghost use Rattle.cipher.specs.FirstRound.{BeforeLast};
-ghost use Rattle.cipher.specs.RowWords.{Both, BySbox, Eight, Four, LastColumns, Mixed, PairKeys, Reached, Rounded, Shifted, TwoRows, blockOctets, rowOf, state};
-use super::aes128::add_first_key;
+ghost use Rattle.cipher.specs.RowWords.{Both, BySbox, Eight, Four, Keyed, LastColumns, Mixed, PairKeys, Reached, Rounded, Shifted, TwoRows, blockOctets, keyedState, rowOf, state};
 use super::first_round::first_round;
 use gf256::double_octets;
 
@@ -118,7 +118,7 @@ fn substituted(subs: &[u8; 256], x: u64, j: u64) -> u64
 }
 
 // Row k of state z after SubBytes and ShiftRows.
-pub(crate) fn shifted_row(subs: &[u8; 256], x: u64, k: u64, z: u64) -> u64
+fn shifted_row(subs: &[u8; 256], x: u64, k: u64, z: u64) -> u64
     requires { ⌜ (k < 4) × (z < 2) ⌝ }
     ensures { λ r. ⌜ BySbox (now (subs .entry)) (Four (λ j. sbox (octetAt x (4 * z + (k + j) % 4))) r) × (r < 4294967296) ⌝ }
 {
@@ -133,7 +133,7 @@ pub(crate) fn shifted_row(subs: &[u8; 256], x: u64, k: u64, z: u64) -> u64
 // Row k of both states.
 fn shifted_rows(subs: &[u8; 256], x: u64, k: u64) -> u64
     requires { ⌜ k < 4 ⌝ }
-    ensures { λ r. ⌜ BySbox (now (subs .entry)) (Shifted 2 k x r) ⌝ }
+    ensures { λ r. ⌜ BySbox (now (subs .entry)) (Shifted k x r) ⌝ }
 {
     both(shifted_row(subs, x, k, 0), shifted_row(subs, x, k, 1))
 }
@@ -155,22 +155,50 @@ pub(crate) fn mixed(s: Rows, k: Rows) -> Rows
     }
 }
 
-// A round of one state.
-fn lone_round(subs: &[u8; 256], k: Rows, s: Rows) -> Rows
-    ensures { λ r. ⌜ BySbox (now (subs .entry)) (Rounded 1 k s r) ⌝ }
+// Octet j of x and an octet k of a round key, added and substituted.
+pub(crate) fn keyed(subs: &[u8; 256], x: u64, j: u64, k: u8) -> u64
+    requires { ⌜ j < 8 ⌝ }
+    ensures { λ r. ⌜ BySbox (now (subs .entry)) (r ≡ sbox (octetAt x j ⊕ k)) × (r < 256) ⌝ }
+{
+    wide(subs[(octet(x, j) ^ k) as usize])
+}
+
+// Row k of one state after AddRoundKey, SubBytes and ShiftRows. The octets of the key are added where octets are looked up, so that its rows need
+// not be gathered.
+pub(crate) fn keyed_row(subs: &[u8; 256], key: [u8; 16], x: u64, k: usize) -> u64
+    requires { ⌜ k < 4 ⌝ }
+    ensures { λ r. ⌜ BySbox (now (subs .entry)) (Four (λ j. sbox (octetAt x ((k + j) % 4) ⊕ cell key k ((k + j) % 4))) r) × (r < 4294967296) ⌝ }
+{
+    four(
+        keyed(subs, x, ((k + 0) % 4) as u64, key[k + 4 * ((k + 0) % 4)]),
+        keyed(subs, x, ((k + 1) % 4) as u64, key[k + 4 * ((k + 1) % 4)]),
+        keyed(subs, x, ((k + 2) % 4) as u64, key[k + 4 * ((k + 2) % 4)]),
+        keyed(subs, x, ((k + 3) % 4) as u64, key[k + 4 * ((k + 3) % 4)]),
+    )
+}
+
+// AddRoundKey, and a round of one state up to its own AddRoundKey.
+fn lone_round(subs: &[u8; 256], key: [u8; 16], s: Rows) -> Rows
+    ensures { λ r. ⌜ BySbox (now (subs .entry)) (Keyed key s r) ⌝ }
 {
     let t = Rows {
-        a: shifted_row(subs, s.a, 0, 0),
-        b: shifted_row(subs, s.b, 1, 0),
-        c: shifted_row(subs, s.c, 2, 0),
-        d: shifted_row(subs, s.d, 3, 0),
+        a: keyed_row(subs, key, s.a, 0),
+        b: keyed_row(subs, key, s.b, 1),
+        c: keyed_row(subs, key, s.c, 2),
+        d: keyed_row(subs, key, s.d, 3),
     };
-    mixed(t, k)
+    let none = Rows {
+        a: 0,
+        b: 0,
+        c: 0,
+        d: 0,
+    };
+    mixed(t, none)
 }
 
 // A round of two states.
 fn pair_round(subs: &[u8; 256], k: Rows, s: Rows) -> Rows
-    ensures { λ r. ⌜ BySbox (now (subs .entry)) (Rounded 2 k s r) ⌝ }
+    ensures { λ r. ⌜ BySbox (now (subs .entry)) (Rounded k s r) ⌝ }
 {
     let t = Rows {
         a: shifted_rows(subs, s.a, 0),
@@ -182,7 +210,7 @@ fn pair_round(subs: &[u8; 256], k: Rows, s: Rows) -> Rows
 }
 
 // The octets of round key n of the key schedule w.
-fn round_key(w: &[u8; 176], n: usize) -> [u8; 16]
+pub(crate) fn round_key(w: &[u8; 176], n: usize) -> [u8; 16]
     requires { ⌜ n < 11 ⌝ }
     ensures { λ r. ⌜ r ≡ roundKey (now (w .entry)) n ⌝ }
 {
@@ -207,13 +235,14 @@ fn round_key(w: &[u8; 176], n: usize) -> [u8; 16]
     ]
 }
 
-// The rounds 1 to 9 of one state.
+// AddRoundKey and the rounds 1 to 9 of one state, up to the AddRoundKey of the ninth.
 fn lone_rounds<'a>(subs: &'a [u8; 256], w: &'a [u8; 176], start: Rows) -> Rows
-    ensures { λ r. ⌜ BySbox (now (subs .entry)) (state r 0 ≡ rounds (now (w .entry)) 9 (state start 0)) ⌝ }
+    ensures { λ r. ⌜ BySbox (now (subs .entry)) (keyedState (roundKey (now (w .entry)) 9) r
+        ≡ rounds (now (w .entry)) 9 (keyedState (roundKey (now (w .entry)) 0) start)) ⌝ }
 {
     let mut s = start;
     for n in 1..ROUNDS {
-        let t = lone_round(subs, rows_of(round_key(w, n)), s);
+        let t = lone_round(subs, round_key(w, n - 1), s);
         s = t;
     }
     s
@@ -261,14 +290,14 @@ fn shifted_column(subs: &[u8; 256], s: Rows, i: u64) -> u64
     )
 }
 
-// The columns i and i + 1 of one state after the last round, under its key k.
-fn last_columns(subs: &[u8; 256], k: [u8; 16], s: Rows, i: u64) -> u64
-    requires { ⌜ i < 3 ⌝ }
-    ensures { λ r. ⌜ BySbox (now (subs .entry)) (LastColumns k s i r) ⌝ }
+// Two columns under the octets of the key k from place `at` on.
+fn last_columns(k: [u8; 16], at: usize, first: u64, second: u64) -> u64
+    requires { ⌜ at < 9 ⌝ }
+    requires { ⌜ (first < 4294967296) × (second < 4294967296) ⌝ }
+    ensures { λ r. ⌜ LastColumns k at first second r ⌝ }
 {
-    let at = (4 * i) as usize;
     let key = both(gathered(k, at, 1), gathered(k, at + 4, 1));
-    both(shifted_column(subs, s, i), shifted_column(subs, s, i + 1)) ^ key
+    both(first, second) ^ key
 }
 
 // The last round of one state, under its key.
@@ -276,8 +305,41 @@ fn last_round(subs: &[u8; 256], k: [u8; 16], s: Rows) -> Block
     ensures { λ r. ⌜ BySbox (now (subs .entry)) (blockOctets r ≡ lastRound k (state s 0)) ⌝ }
 {
     Block {
-        low: last_columns(subs, k, s, 0),
-        high: last_columns(subs, k, s, 2),
+        low: last_columns(k, 0, shifted_column(subs, s, 0), shifted_column(subs, s, 1)),
+        high: last_columns(k, 8, shifted_column(subs, s, 2), shifted_column(subs, s, 3)),
+    }
+}
+
+// Column i of one state after AddRoundKey, SubBytes and ShiftRows.
+fn keyed_column(subs: &[u8; 256], key: [u8; 16], s: Rows, i: usize) -> u64
+    requires { ⌜ i < 4 ⌝ }
+    ensures { λ r. ⌜ BySbox (now (subs .entry)) (Four (λ j. sbox (octetAt (rowOf s j) ((i + j) % 4) ⊕ cell key j ((i + j) % 4))) r) × (r < 4294967296) ⌝ }
+{
+    four(
+        keyed(subs, s.a, ((i + 0) % 4) as u64, key[0 + 4 * ((i + 0) % 4)]),
+        keyed(subs, s.b, ((i + 1) % 4) as u64, key[1 + 4 * ((i + 1) % 4)]),
+        keyed(subs, s.c, ((i + 2) % 4) as u64, key[2 + 4 * ((i + 2) % 4)]),
+        keyed(subs, s.d, ((i + 3) % 4) as u64, key[3 + 4 * ((i + 3) % 4)]),
+    )
+}
+
+// AddRoundKey, and the last round of one state, under its key k.
+fn lone_last(subs: &[u8; 256], key: [u8; 16], k: [u8; 16], s: Rows) -> Block
+    ensures { λ r. ⌜ BySbox (now (subs .entry)) (blockOctets r ≡ lastRound k (keyedState key s)) ⌝ }
+{
+    Block {
+        low: last_columns(
+            k,
+            0,
+            keyed_column(subs, key, s, 0),
+            keyed_column(subs, key, s, 1),
+        ),
+        high: last_columns(
+            k,
+            8,
+            keyed_column(subs, key, s, 2),
+            keyed_column(subs, key, s, 3),
+        ),
     }
 }
 
@@ -304,8 +366,8 @@ pub fn finished<'a>(subs: &'a [u8; 256], w: &'a [u8; 176], s: Rows) -> Block
 pub fn encrypt_lone<'a>(subs: &'a [u8; 256], w: &'a [u8; 176], block: [u8; 16]) -> Block
     ensures { λ r. ⌜ BySbox (now (subs .entry)) (blockOctets r ≡ cipher (now (w .entry)) block) ⌝ }
 {
-    let s = lone_rounds(subs, w, rows_of(add_first_key(w, block)));
-    finished(subs, w, s)
+    let s = lone_rounds(subs, w, rows_of(block));
+    lone_last(subs, round_key(w, ROUNDS - 1), round_key(w, ROUNDS), s)
 }
 
 // The cipher on the counter blocks i and j up to the last round; `kept` is what they share of round 1. A caller finishes one block and is done with

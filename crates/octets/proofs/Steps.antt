@@ -65,5 +65,3 @@ all-miss p n l i d h k e = rw (first-step n l i d h k, e)
 pub all-end : {A : Type 0} (p : A → Bool) (n : ℕ) (l : List A) (i : ℕ) → n ≤ i → all p (drop i (take n l)) ≡ true
 unfolding all
 all-end p n l i h = rw (first-end n l i h)
-
----- a list that grows

@@ -13,14 +13,18 @@ use Rattle.olt.proofs.Lookup.{lift-decided}
 use Rattle.olt.proofs.acknowledge.Statement.{statement}
 use Rattle.olt.proofs.acknowledge.Tie as tie
 
+returns : tie.Need-returns
+unfolding acknowledgeOf oltAnswer outcome withUnit withChannels pastUnit
+returns c =
+    let numbered = c .before in
+    let at = numbered .before .before .before .before in
+    acknowledge-ordered _ _ _ _
+    (rw (numbered .verdict-number .ensures)
+    (ap oltAnswer (lift-decided _ silent Accepted _ (acknowledgeUnit _) _ _ (at .locate .ensures .0) (numbered .before .acknowledge .ensures))))
+
 pub acknowledge-spec : {M : Type 1} → statement M
 acknowledge-spec =
     tie.close
     (tie.spec (λ c κs. search needs) (λ c. search needs) (λ c. search needs) (λ c κs. search needs) (λ c κs. search needs) (λ c. search needs)
     (λ c. search needs)
-    (λ c. let numbered = c .before in
-    let at = numbered .before .before .before .before in
-    unfold acknowledgeOf oltAnswer outcome withUnit withChannels pastUnit in
-    acknowledge-ordered _ _ _ _
-    (rw (numbered .verdict-number .ensures)
-    (ap oltAnswer (lift-decided _ silent Accepted _ (acknowledgeUnit _) _ _ (at .locate .ensures .0) (numbered .before .acknowledge .ensures))))))
+    returns)

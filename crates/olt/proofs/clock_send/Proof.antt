@@ -13,14 +13,18 @@ use Rattle.olt.proofs.Lookup.{lift-decided}
 use Rattle.olt.proofs.clock_send.Statement.{statement}
 use Rattle.olt.proofs.clock_send.Tie as tie
 
+returns : tie.Need-returns
+unfolding clockSendOf clockSent outcome withUnit withChannels pastUnit
+returns c =
+    let numbered = c .before .before in
+    let at = numbered .before .before .before .before in
+    clock-send-ordered _ _ _
+    (rw (numbered .verdict-number .ensures)
+    (ap clockSent (lift-decided _ noStamps Accepted _ clockSendUnit _ _ (at .locate .ensures .0) (numbered .before .clock-send .ensures))))
+
 pub clock-send-spec : {M : Type 1} → statement M
 clock-send-spec =
     tie.close
     (tie.spec (λ c κs. search needs) (λ c. search needs) (λ c. search needs) (λ c κs. search needs) (λ c κs. search needs) (λ c. search needs)
     (λ c. search needs)
-    (λ c. let numbered = c .before .before in
-    let at = numbered .before .before .before .before in
-    unfold clockSendOf clockSent outcome withUnit withChannels pastUnit in
-    clock-send-ordered _ _ _
-    (rw (numbered .verdict-number .ensures)
-    (ap clockSent (lift-decided _ noStamps Accepted _ clockSendUnit _ _ (at .locate .ensures .0) (numbered .before .clock-send .ensures))))))
+    returns)

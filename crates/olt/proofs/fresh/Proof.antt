@@ -8,16 +8,24 @@ use Rattle.protocol.specs.Replies.{reply}
 use Rattle.olt.proofs.fresh.Statement.{statement}
 use Rattle.olt.proofs.fresh.Tie as tie
 
+returns : tie.Need-returns
+unfolding freshOltOf oltAnswer reply refuseIf both pick
+returns c =
+    let made = c .before .before in
+    rw (sym (made .before .before .before .valid-mac .ensures), c .accepted .ensures, made .new-olt .ensures)
+    (rw (made .before .or-zero2 .ensures, made .before .before .or-zero .ensures, c .before .if1 .taken))
+
+returns-2 : tie.Need-returns-2
+unfolding freshOltOf oltAnswer reply refuseIf both pick
+returns-2 c =
+    let made = c .before .before in
+    rw (sym (made .before .before .before .valid-mac .ensures), c .refused .ensures, made .new-olt .ensures)
+    (rw (made .before .or-zero2 .ensures, made .before .before .or-zero .ensures, c .before .if1 .left))
+
 pub fresh-spec : {M : Type 1} → statement M
 fresh-spec =
     tie.close
     (tie.spec (λ c κs. search needs) (λ c κs. search needs) (λ c κs. search needs) (λ c κs. search needs) (λ c κs. search needs)
-    (λ c. let made = c .before .before in
-    unfold freshOltOf oltAnswer reply refuseIf both pick in
-    rw (sym (made .before .before .before .valid-mac .ensures), c .accepted .ensures, made .new-olt .ensures)
-    (rw (made .before .or-zero2 .ensures, made .before .before .or-zero .ensures, c .before .if1 .taken)))
+    returns
     (λ c κs. search needs)
-    (λ c. let made = c .before .before in
-    unfold freshOltOf oltAnswer reply refuseIf both pick in
-    rw (sym (made .before .before .before .valid-mac .ensures), c .refused .ensures, made .new-olt .ensures)
-    (rw (made .before .or-zero2 .ensures, made .before .before .or-zero .ensures, c .before .if1 .left))))
+    returns-2)

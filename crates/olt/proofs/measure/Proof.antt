@@ -12,15 +12,19 @@ use Rattle.olt.proofs.Lookup.{lift-decided}
 use Rattle.olt.proofs.measure.Statement.{statement}
 use Rattle.olt.proofs.measure.Tie as tie
 
+returns : tie.Need-returns
+unfolding measureOf oltAnswer outcome withUnit withChannels pastUnit
+returns c =
+    let numbered = c .before in
+    let at = numbered .before .before .before .before in
+    measure-ordered _ _ _ _
+    (rw (numbered .verdict-number .ensures)
+    (ap oltAnswer
+    (lift-decided _ silent _ _ (measureUnit _) _ _ (rw (at .before .refuse-if .ensures) at (at .locate .ensures .0)) (numbered .before .measure .ensures))))
+
 pub measure-spec : {M : Type 1} → statement M
 measure-spec =
     tie.close
     (tie.spec (λ c κs. search needs) (λ c κs. search needs) (λ c. search needs) (λ c. search needs) (λ c κs. search needs) (λ c κs. search needs)
     (λ c. search needs) (λ c. search needs)
-    (λ c. let numbered = c .before in
-    let at = numbered .before .before .before .before in
-    unfold measureOf oltAnswer outcome withUnit withChannels pastUnit in
-    measure-ordered _ _ _ _
-    (rw (numbered .verdict-number .ensures)
-    (ap oltAnswer
-    (lift-decided _ silent _ _ (measureUnit _) _ _ (rw (at .before .refuse-if .ensures) at (at .locate .ensures .0)) (numbered .before .measure .ensures))))))
+    returns)

@@ -13,14 +13,18 @@ use Rattle.olt.proofs.Lookup.{lift-decided}
 use Rattle.olt.proofs.offer.Statement.{statement}
 use Rattle.olt.proofs.offer.Tie as tie
 
+returns : tie.Need-returns
+unfolding offerOf keySent outcome withUnit withChannels pastUnit
+returns c =
+    let numbered = c .before .before in
+    let at = numbered .before .before .before .before in
+    offer-ordered _ _ _ _
+    (rw (numbered .verdict-number .ensures)
+    (ap keySent (lift-decided _ noKeyMessage Accepted _ (offerUnit _ _) _ _ (at .locate .ensures .0) (numbered .before .offer .ensures))))
+
 pub offer-spec : {M : Type 1} → statement M
 offer-spec =
     tie.close
     (tie.spec (λ c κs. search needs) (λ c. search needs) (λ c. search needs) (λ c κs. search needs) (λ c κs. search needs) (λ c. search needs)
     (λ c. search needs)
-    (λ c. let numbered = c .before .before in
-    let at = numbered .before .before .before .before in
-    unfold offerOf keySent outcome withUnit withChannels pastUnit in
-    offer-ordered _ _ _ _
-    (rw (numbered .verdict-number .ensures)
-    (ap keySent (lift-decided _ noKeyMessage Accepted _ (offerUnit _ _) _ _ (at .locate .ensures .0) (numbered .before .offer .ensures))))))
+    returns)

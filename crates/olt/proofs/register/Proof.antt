@@ -7,6 +7,13 @@ use Rattle.olt.proofs.Verdicts.{register-room}
 use Rattle.olt.proofs.register.Statement.{statement}
 use Rattle.olt.proofs.register.Tie as tie
 
+returns-2 : tie.Need-returns-2
+unfolding registerOf registering oltAnswer reply
+returns-2 c =
+    let made = c .before .before in
+    rw (← made .before .before .before .register-verdict .ensures, made .before .enum-told .given .1)
+    (rw (c .accepted .ensures, c .before .with-one-more .ensures, made .fresh-unit .ensures))
+
 pub register-spec : {M : Type 1} → statement M
 register-spec =
     tie.close
@@ -14,7 +21,4 @@ register-spec =
     (λ c κs. register-room _ _ _ _ (sym (c .before .before .before .register-verdict .ensures) ∙ c .before .enum-told .given .1)) (λ c κs. search needs)
     (λ c. unfold registerOf registering oltAnswer reply in
     rw (← c .before .before .before .before .register-verdict .ensures, c .before .before .verdict .given .1) (c .refused .ensures))
-    (λ c. let made = c .before .before in
-    unfold registerOf registering oltAnswer reply in
-    rw (← made .before .before .before .register-verdict .ensures, made .before .enum-told .given .1)
-    (rw (c .accepted .ensures, c .before .with-one-more .ensures, made .fresh-unit .ensures))))
+    returns-2)

@@ -13,14 +13,18 @@ use Rattle.olt.proofs.Lookup.{lift-decided}
 use Rattle.olt.proofs.retry.Statement.{statement}
 use Rattle.olt.proofs.retry.Tie as tie
 
+returns : tie.Need-returns
+unfolding retryOf keySent outcome withUnit withChannels pastUnit
+returns c =
+    let numbered = c .before .before in
+    let at = numbered .before .before .before .before in
+    retry-ordered _ _ _
+    (rw (numbered .verdict-number .ensures)
+    (ap keySent (lift-decided _ noKeyMessage Accepted _ (retryUnit _) _ _ (at .locate .ensures .0) (numbered .before .retry .ensures))))
+
 pub retry-spec : {M : Type 1} → statement M
 retry-spec =
     tie.close
     (tie.spec (λ c κs. search needs) (λ c. search needs) (λ c. search needs) (λ c κs. search needs) (λ c κs. search needs) (λ c. search needs)
     (λ c. search needs)
-    (λ c. let numbered = c .before .before in
-    let at = numbered .before .before .before .before in
-    unfold retryOf keySent outcome withUnit withChannels pastUnit in
-    retry-ordered _ _ _
-    (rw (numbered .verdict-number .ensures)
-    (ap keySent (lift-decided _ noKeyMessage Accepted _ (retryUnit _) _ _ (at .locate .ensures .0) (numbered .before .retry .ensures))))))
+    returns)

@@ -1,4 +1,4 @@
--- `rows::before_last` meets its contract: round 1 of both from what they share, and the rounds to the ninth of both. Assumes nothing.
+-- `row_words::before_last` meets its contract: round 1 of both from what they share, and the rounds to the ninth of both. Assumes nothing.
 use mathlib.Core.Path.{_≡_, refl, ap, ap₂, _∙_}
 use Prim.Native.Nat.{ℕ, _<_}
 use native.Mathlib.Omega.{arith}

@@ -1,4 +1,4 @@
--- `rows::block_octets` meets its contract, octet by octet. Assumes nothing.
+-- `row_words::block_octets` meets its contract, octet by octet. Assumes nothing.
 use borrow.Author.Needs.{needs}
 use Rattle.cipher.proofs.row_words.block_octets.Statement.{statement}
 use Rattle.cipher.proofs.row_words.block_octets.Tie as tie

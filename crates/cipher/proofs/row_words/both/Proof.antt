@@ -1,4 +1,4 @@
--- `rows::both` meets its contract: past the fourth octet stand those of the quotient by 2^32. Assumes nothing.
+-- `row_words::both` meets its contract: past the fourth octet stand those of the quotient by 2^32. Assumes nothing.
 use Rattle.cipher.proofs.RowWords.{both-octets}
 use borrow.Author.Needs.{needs}
 use Rattle.cipher.proofs.row_words.both.Statement.{statement}

@@ -1,4 +1,4 @@
--- `rows::eight` meets its contract: four octets and then four more. Assumes nothing.
+-- `row_words::eight` meets its contract: four octets and then four more. Assumes nothing.
 use Rattle.cipher.proofs.RowWords.{eight, four-octets}
 use borrow.Author.Needs.{needs}
 use Rattle.cipher.proofs.row_words.eight.Statement.{statement}

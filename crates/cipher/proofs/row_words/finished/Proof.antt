@@ -1,4 +1,4 @@
--- `rows::finished` meets its contract: the last round, under its key. Assumes nothing.
+-- `row_words::finished` meets its contract: the last round, under its key. Assumes nothing.
 use borrow.Author.Needs.{needs}
 use Rattle.cipher.proofs.row_words.finished.Statement.{statement}
 use Rattle.cipher.proofs.row_words.finished.Tie as tie

@@ -1,4 +1,4 @@
--- `rows::gathered` meets its contract: four octets of the list, joined. Assumes nothing.
+-- `row_words::gathered` meets its contract: four octets of the list, joined. Assumes nothing.
 use Rattle.cipher.proofs.RowWords.{four-octets}
 use borrow.Author.Needs.{needs}
 use Rattle.cipher.proofs.row_words.gathered.Statement.{statement}

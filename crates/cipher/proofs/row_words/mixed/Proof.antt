@@ -1,4 +1,4 @@
--- `rows::mixed` meets its contract, row by row. Assumes nothing.
+-- `row_words::mixed` meets its contract, row by row. Assumes nothing.
 use Rattle.cipher.proofs.RowWords.{mixed-rows}
 use borrow.Author.Needs.{needs}
 use Rattle.cipher.proofs.row_words.mixed.Statement.{statement}

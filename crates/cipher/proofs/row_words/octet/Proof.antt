@@ -1,4 +1,4 @@
--- `rows::octet` meets its contract: a shift to the right is a quotient. Assumes nothing.
+-- `row_words::octet` meets its contract: a shift to the right is a quotient. Assumes nothing.
 use mathlib.Core.Path.{refl}
 use Rattle.gf256.specs.Lanes.{octetAt}
 use borrow.Author.Needs.{needs}

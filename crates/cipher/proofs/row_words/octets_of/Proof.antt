@@ -1,4 +1,4 @@
--- `rows::octets_of` meets its contract, octet by octet. Assumes nothing.
+-- `row_words::octets_of` meets its contract, octet by octet. Assumes nothing.
 use borrow.Author.Needs.{needs}
 use Rattle.cipher.proofs.row_words.octets_of.Statement.{statement}
 use Rattle.cipher.proofs.row_words.octets_of.Tie as tie

@@ -1,4 +1,4 @@
--- `rows::pair_keys` meets its contract. The loop's invariant: the keys below n are made. The measure is what is left of ten. Assumes nothing.
+-- `row_words::pair_keys` meets its contract. The loop's invariant: the keys below n are made. The measure is what is left of ten. Assumes nothing.
 use mathlib.Core.Path.{_≡_, refl, _∙_}
 use Prim.Native.Nat.{_-_, _≤_}
 use native.Mathlib.Omega.{arith}

@@ -1,4 +1,4 @@
--- `rows::pair_round` meets its contract: a round of both states, row by row. Assumes nothing.
+-- `row_words::pair_round` meets its contract: a round of both states, row by row. Assumes nothing.
 use Rattle.cipher.proofs.RowWords.{rounded}
 use borrow.Author.Needs.{needs}
 use Rattle.cipher.proofs.row_words.pair_round.Statement.{statement}

@@ -1,4 +1,4 @@
--- `rows::pair_rounds` meets its contract. The loop's invariant: the rounds below n are done. The measure is what is left of ten. Assumes nothing.
+-- `row_words::pair_rounds` meets its contract. The loop's invariant: the rounds below n are done. The measure is what is left of ten. Assumes nothing.
 use mathlib.Core.Path.{_≡_}
 use Prim.Native.Nat.{_-_, _≤_}
 use native.Mathlib.Omega.{arith}

@@ -1,4 +1,4 @@
--- `rows::round_key` meets its contract: its 16 octets stand in a row. Assumes nothing.
+-- `row_words::round_key` meets its contract: its 16 octets stand in a row. Assumes nothing.
 use mathlib.Core.Path.{refl}
 use Rattle.cipher.specs.Cipher.{roundKey}
 use borrow.Author.Needs.{needs}

@@ -1,4 +1,4 @@
--- `rows::row_twice` meets its contract: both halves are the one row. Assumes nothing.
+-- `row_words::row_twice` meets its contract: both halves are the one row. Assumes nothing.
 use Rattle.cipher.proofs.RowWords.{two-rows}
 use borrow.Author.Needs.{needs}
 use Rattle.cipher.proofs.row_words.row_twice.Statement.{statement}

@@ -1,4 +1,4 @@
--- `rows::second` meets its contract, row by row. Assumes nothing.
+-- `row_words::second` meets its contract, row by row. Assumes nothing.
 use mathlib.Core.Path.{refl}
 use Rattle.cipher.proofs.RowWords.{upper-state}
 use Rattle.cipher.proofs.row_words.second.Statement.{statement}

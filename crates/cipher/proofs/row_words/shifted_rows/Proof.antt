@@ -1,4 +1,4 @@
--- `rows::shifted_rows` meets its contract: the row of each state, joined. Assumes nothing.
+-- `row_words::shifted_rows` meets its contract: the row of each state, joined. Assumes nothing.
 use Rattle.cipher.proofs.RowWords.{shifted-two}
 use borrow.Author.Needs.{needs}
 use Rattle.cipher.proofs.row_words.shifted_rows.Statement.{statement}

@@ -1,4 +1,4 @@
--- `rows::substituted` meets its contract: the entry of the lent table at an octet is its substitution. Assumes nothing.
+-- `row_words::substituted` meets its contract: the entry of the lent table at an octet is its substitution. Assumes nothing.
 use mathlib.Core.Path.{_∙_}
 use Prim.Native.Nat.{_*_, _/_, _%_, _^_}
 use native.Mathlib.Omega.{arith}

@@ -26,25 +26,37 @@ after-send-requires c κs =
     let met = onu-send-accepted _ _ _ _ (sym (judged .send-verdict .ensures) ∙ c .enum-told .given .1) in
     (chosen .send-choice .ensures, (counted .travel .ensures, (valid chosen, chosen .before .before .before .pre (met .fits))))
 
+returns : tie.Need-returns
+unfolding onuSending sendingOnu onuReply reply onuNotSending
+returns c =
+    let lent = c .before in
+    rw (sym (lent .before .valid-onu .ensures), refuse-stopped _ OutOfRange _ (lent .if1 .taken), c .not-sent .ensures)
+
+returns-2 : tie.Need-returns-2
+unfolding onuSending sendingOnu onuReply reply
+returns-2 c =
+    let told = c .before .before in
+    let judged = told .before .before in
+    let chosen = judged .before .before in
+    let lent = chosen .before in
+    rw (sym (lent .before .valid-onu .ensures), refuse-passed _ OutOfRange _ (lent .if1 .left), ← judged .send-verdict .ensures)
+    (rw (told .enum-told .given .1, c .before .after-send .ensures, c .sending-of .ensures, chosen .send-choice .ensures))
+
+returns-3 : tie.Need-returns-3
+unfolding onuSending sendingOnu onuReply reply onuNotSending
+returns-3 c =
+    let told = c .before .before in
+    let judged = told .before .before in
+    let lent = judged .before .before .before in
+    rw (sym (lent .before .valid-onu .ensures), refuse-passed _ OutOfRange _ (lent .if1 .left), ← judged .send-verdict .ensures)
+    (rw (told .verdict .given .1, c .not-sent2 .ensures))
+
 pub send-spec : {M : Type 1} → statement M
 send-spec =
     tie.close
     (tie.spec (λ c κs. search needs) (λ c κs. search needs)
-    (λ c. let lent = c .before in
-    unfold onuSending sendingOnu onuReply reply onuNotSending in
-    rw (sym (lent .before .valid-onu .ensures), refuse-stopped _ OutOfRange _ (lent .if1 .taken), c .not-sent .ensures))
+    returns
     (λ c κs. search needs) (λ c κs. valid c) (λ c κs. search needs) (λ c. search needs) after-send-requires (λ c κs. search needs) (λ c. search needs)
     (λ c κs. search needs)
-    (λ c. let told = c .before .before in
-    let judged = told .before .before in
-    let chosen = judged .before .before in
-    let lent = chosen .before in
-    unfold onuSending sendingOnu onuReply reply in
-    rw (sym (lent .before .valid-onu .ensures), refuse-passed _ OutOfRange _ (lent .if1 .left), ← judged .send-verdict .ensures)
-    (rw (told .enum-told .given .1, c .before .after-send .ensures, c .sending-of .ensures, chosen .send-choice .ensures)))
-    (λ c. let told = c .before .before in
-    let judged = told .before .before in
-    let lent = judged .before .before .before in
-    unfold onuSending sendingOnu onuReply reply onuNotSending in
-    rw (sym (lent .before .valid-onu .ensures), refuse-passed _ OutOfRange _ (lent .if1 .left), ← judged .send-verdict .ensures)
-    (rw (told .verdict .given .1, c .not-sent2 .ensures))))
+    returns-2
+    returns-3)

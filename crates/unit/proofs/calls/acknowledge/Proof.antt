@@ -19,18 +19,22 @@ judged c = c .and-then .ensures ∙ rw (acknowledge-verdict, c .before .refuse-i
 only-silent : (x : Silence) → x ≡ silent
 only-silent silent = refl
 
-pub acknowledge-spec : {M : Type 1} → statement M
-acknowledge-spec =
-    tie.close
-    (tie.spec (λ c κs. search needs) (λ c κs. search needs) (λ c κs. search needs) (λ c. search needs) (λ c. search needs) (λ c κs. search needs)
-    (λ c. unfold outcome reached ifAccepted in rw (← judged (c .before .before .before), c .before .verdict .given .1))
-    (λ c. let on = c .before .before .before in
+returns-2 : tie.Need-returns-2
+unfolding outcome reached ifAccepted
+returns-2 c =
+    let on = c .before .before .before in
     let a = on .before .before .before .args in
-    unfold outcome reached ifAccepted in
     rw (
       ← judged on,
       c .before .enum-told .given .1,
       c .acknowledged .ensures,
       acknowledged-channels,
       only-silent (acknowledgeUnit (a .acknowledgement) (a .shared) (a .unit) .handed),
-    )))
+    )
+
+pub acknowledge-spec : {M : Type 1} → statement M
+acknowledge-spec =
+    tie.close
+    (tie.spec (λ c κs. search needs) (λ c κs. search needs) (λ c κs. search needs) (λ c. search needs) (λ c. search needs) (λ c κs. search needs)
+    (λ c. unfold outcome reached ifAccepted in rw (← judged (c .before .before .before), c .before .verdict .given .1))
+    returns-2)

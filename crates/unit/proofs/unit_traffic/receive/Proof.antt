@@ -17,6 +17,19 @@ judged c =
     let epam = chosen .before .before in
     rw (c .and-then .ensures, c .before .refuse-if .ensures, chosen .choice-verdict .ensures, epam .epam-of .ensures, epam .before .receive-choice .ensures)
 
+returns-2 : tie.Need-returns-2
+unfolding receiveUnit outcome reached ifAccepted
+returns-2 c =
+    let told = c .before .before in
+    let on = told .before .before in
+    rw (
+      ← judged on,
+      told .enum-told .given .1,
+      c .passage-of .ensures,
+      c .before .unit-received .ensures,
+      on .before .before .before .before .before .receive-choice .ensures,
+    )
+
 pub receive-spec : {M : Type 1} → statement M
 receive-spec =
     tie.close
@@ -24,13 +37,4 @@ receive-spec =
     (λ c κs. search needs) (λ c. search needs) (λ c κs. search needs) (λ c κs. search needs)
     (λ c. unfold receiveUnit outcome reached ifAccepted in
     rw (← judged (c .before .before .before .before), c .before .before .verdict .given .1, c .no-passage .ensures))
-    (λ c. let told = c .before .before in
-    let on = told .before .before in
-    unfold receiveUnit outcome reached ifAccepted in
-    rw (
-      ← judged on,
-      told .enum-told .given .1,
-      c .passage-of .ensures,
-      c .before .unit-received .ensures,
-      on .before .before .before .before .before .receive-choice .ensures,
-    )))
+    returns-2)

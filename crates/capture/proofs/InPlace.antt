@@ -15,7 +15,6 @@ use Rattle.octets.specs.Eqs.{maxEqs}
 use Rattle.octets.proofs.Lists.{part-length, drop-part}
 use Rattle.octets.proofs.Choice.{both-left, both-right, both-true, not-of-true}
 use Rattle.octets.specs.Output.{WithOutput, withOutput}
-use Rattle.refusal.specs.declared.Refusal.{Refusal}
 use Rattle.refusal.specs.declared.Refusal.the-variants.{OutOfRange, BadLength}
 use Rattle.refusal.specs.declared.Verdict.the-variants.{Accepted}
 use Rattle.refusal.proofs.Order.{refuse-passed}
@@ -30,8 +29,7 @@ use Rattle.sealing.specs.Seal.{sealing}
 use Rattle.cipher.specs.KeyExpansion.{keyExpansion}
 use Rattle.sealing.proofs.Payload.{sealed-length}
 use Rattle.sealing.proofs.Seal.{sealing-done}
-use Rattle.records.specs.declared.header.RecordVerdict.{RecordVerdict}
-use Rattle.records.specs.declared.header.RecordVerdict.the-variants.{Clear, Sealed}
+use Rattle.records.specs.declared.header.RecordVerdict.the-variants.{Sealed}
 use Rattle.records.specs.declared.header.Header.{Header}
 use Rattle.capture.specs.declared.opening.Keys.{Keys}
 use Rattle.records.specs.Settings.{presenceOf, keyPresent, keyOf, macOf}
@@ -41,7 +39,7 @@ use Rattle.reading.specs.Opening.{writtenAs, addedAs}
 use Rattle.records.specs.Verdict.{clearedFlags, headerFits}
 use Rattle.capture.specs.Duties.{Expanded, written}
 use Rattle.records.proofs.Headers.{header-taken}
-use Rattle.directory.proofs.Rebuilding.{kept-in-place, payload-in-place}
+use Rattle.directory.proofs.Rebuilding.{payload-in-place}
 
 -- a record's payload is accepted for opening
 seal-accepted : (n m : ℕ) (nonce : Nonce) → n % 9 ≡ 0 → n ≤ 65536 → m ≡ n → nonceFits nonce ≡ true → sealVerdict n m nonce ≡ Accepted
@@ -80,16 +78,7 @@ opened-in-place b out ys at len f h same l =
     ∙ rw (front, take-set-lt len (drop at b) 4 f (omega arith), drop-set-lt len (drop at b) 4 f (omega arith), drop-drop len at b)
 
 module _ (s b out : List ℕ) (from : ℕ) (same : drop from out ≡ drop from b) where
-  -- an output that still is the block holds a record that is written as it is
-  pub clear-kept : out ≡ written s b out from Clear
-  unfolding writtenAs recordFrom
-  clear-kept = kept-in-place b out from (recordOctets (headerFrom b from .eqs)) same
-
-  pub refused-kept : (c : Refusal) → out ≡ written s b out from (RecordVerdict.Refused c)
-  unfolding writtenAs recordFrom
-  refused-kept c = kept-in-place b out from (recordOctets (headerFrom b from .eqs)) same
-
-  -- and an opened record once its flags are stored and its payload is replaced
+  -- an output that is the block from a record on has that record opened once its flags are stored and its payload is replaced
   pub opened-by : (j t m f : ℕ) (h : Header) (w : List ℕ) (to : ℕ) → h ≡ headerFrom b from → to ≡ from + recordOctets (h .eqs)
       → from + recordOctets (h .eqs) ≤ length b → f ≡ clearedFlags (h .flags) → m ≡ macOf s → w ≡ keyExpansion (keyOf s j)
       → ((g : List ℕ → ℕ) → g (part b (from + 16) (to - (from + 16))) ≡ addedAs g (recordFrom b from) (Sealed j t))

@@ -1,8 +1,8 @@
 -- Laws of the loops over the records of a block, in both ways of reading: what a turn comes to, and all of them. Assumes nothing.
-use mathlib.Core.Path.{_≡_, sym, ap, _∙_}
+use mathlib.Core.Path.{_≡_, refl, sym, ap, _∙_}
 use mathlib.Core.Bool.{Bool, true, false}
 use mathlib.Core.List.{List}
-use Prim.Native.Nat.{ℕ, _+_, _<_}
+use Prim.Native.Nat.{ℕ, suc, _+_, _<_}
 use native.Mathlib.Numerals.{add-one}
 use native.Mathlib.Omega.{arith}
 use lib.Dec.{eqb}
@@ -57,6 +57,12 @@ judged-opens true s drift h c i t e = opens-at s drift h (nearest (expected drif
 judged-opens false s drift h c i t e = opens-by s h (h .clock) i t e c
 
 ---- record i, with the header h, in its turn: its verdict v, and the corrections d behind it
+pub judged-turn : (near : Bool) (s b : List ℕ) (i : ℕ) (drift : Drift) → drift ≡ driftBy near s b i
+    → (judged near s drift (headerOf b i) .verdict ≡ verdictBy near s b i) × (judged near s drift (headerOf b i) .drift ≡ driftBy near s b (suc i))
+unfolding judged nearVerdict driftAt pick
+judged-turn true s b i drift e = (rw e, rw e)
+judged-turn false s b i drift e = (refl, e)
+
 pub record Turn (near : Bool) (s b : List ℕ) (i : ℕ) (h : Header) (v : RecordVerdict) (d : Drift) : Type 0 where
   pub verdict : v ≡ verdictBy near s b i
   pub drift : d ≡ driftBy near s b (i + 1)
@@ -64,18 +70,12 @@ pub record Turn (near : Bool) (s b : List ℕ) (i : ℕ) (h : Header) (v : Recor
 
 pub turn : (near : Bool) (s b : List ℕ) (i : ℕ) (old : Drift) (h : Header) (r : Heard) → r ≡ judged near s old h → old ≡ driftBy near s b i
     → h ≡ headerOf b i → h .clock < sixOctets → Turn near s b i h (r .verdict) (r .drift)
-unfolding judged nearVerdict driftAt pick
-turn true s b i old h r e eo eh c =
+turn near s b i old h r e eo eh c =
+    let own = judged-turn near s b i old eo in
     record {
-      verdict = rw (e, eo, eh);
-      drift = rw (e, eo, eh, add-one);
-      opens = λ j t q. judged-opens true s old h c j t (sym (ap (λ (x : Heard). x .verdict) e) ∙ q);
-    }
-turn false s b i old h r e eo eh c =
-    record {
-      verdict = rw (e, eh);
-      drift = ap (λ (x : Heard). x .drift) e ∙ eo;
-      opens = λ j t q. judged-opens false s old h c j t (sym (ap (λ (x : Heard). x .verdict) e) ∙ q);
+      verdict = rw (e, eh) (own .0);
+      drift = rw (e, eh, add-one) (own .1);
+      opens = λ j t q. judged-opens near s old h c j t (sym (ap (λ (x : Heard). x .verdict) e) ∙ q);
     }
 
 ---- what opening comes to

@@ -23,7 +23,7 @@ use Rattle.records.specs.declared.near.Drift.{Drift}
 use Rattle.records.specs.Settings.{llidOf, presenceOf, keyPresent, presenceFits, settingsVerdict}
 use Rattle.records.specs.Near.{judged}
 use Rattle.records.specs.Block.{recordsIn}
-use Rattle.records.specs.Following.{headerOf, driftAt, nearVerdict}
+use Rattle.records.specs.Following.{headerOf}
 use Rattle.directory.specs.declared.Directory.{Directory}
 use Rattle.directory.specs.declared.Directory.the-variants.{Good, Bad}
 use Rattle.reading.specs.Opening.{expansions, openVerdict}
@@ -33,6 +33,7 @@ use Rattle.directory.proofs.Filling.{joined-ext}
 use Rattle.directory.proofs.Rebuilding.{rebuilt-ext}
 use Rattle.reading.proofs.Opening.{call-good, found-bad, found-good, listing-found}
 use Rattle.reading.proofs.Readings.{no-corrections}
+use Rattle.capture.proofs.Turns.{judged-turn}
 use Rattle.records.proofs.Verdicts.{settings-octets}
 use Rattle.rights.specs.declared.judging.ClassVerdict.the-variants.{Told}
 use Rattle.rights.specs.declared.judging.ClassHeard.{ClassHeard}
@@ -64,12 +65,6 @@ alone-found : (suits : Bool) (s b : List ℕ) → callFor suits alone s aloneRig
 unfolding callFor callDirectory pick
 alone-found true s b = rw (verdict-by s (eqb (length s) 41) (presenceFits (presenceOf s)) refl refl)
 alone-found false s b = rw (unsuited-alone s)
-
-judged-turn : (near : Bool) (s b : List ℕ) (i : ℕ) (drift : Drift) → drift ≡ driftBy near s b i
-    → (judged near s drift (headerOf b i) .verdict ≡ verdictBy near s b i) × (judged near s drift (headerOf b i) .drift ≡ driftBy near s b (suc i))
-unfolding judged nearVerdict driftAt pick
-judged-turn true s b i drift e = (rw e, rw e)
-judged-turn false s b i drift e = (refl, e)
 
 ---- record by record, on a block of the set's LLID alone
 three-opens : mayOpen 3 ≡ true

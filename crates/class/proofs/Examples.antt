@@ -31,21 +31,13 @@ use Rattle.rights.specs.Verdict.{userFits, countsFit, presencesFit, llidsDiffer
 use Rattle.class.specs.Reading.{driftFor, toldOf, callFor}
 use Rattle.class.specs.Secrecy.{example, firstSets, secondSets, firstRights, secondRights, firstBlock, secondBlock, Example}
 
-first-settings : classVerdict true true example firstSets firstRights ≡ Accepted
+settings : (classVerdict true true example firstSets firstRights ≡ Accepted) × (classVerdict true true example secondSets secondRights ≡ Accepted)
 unfolding classVerdict userFits countsFit presencesFit llidsDiffer rightsFit each all both refuseIf pick setFrom presenceFits presenceOf llidOf bitOf lowCleared
-first-settings = refl
+settings = (refl, refl)
 
-second-settings : classVerdict true true example secondSets secondRights ≡ Accepted
-unfolding classVerdict userFits countsFit presencesFit llidsDiffer rightsFit each all both refuseIf pick setFrom presenceFits presenceOf llidOf bitOf lowCleared
-second-settings = refl
-
-first-directory : directoryOf firstBlock ≡ Good 2
+directories : (directoryOf firstBlock ≡ Good 2) × (directoryOf secondBlock ≡ Good 2)
 unfolding directoryOf pairsFrom withPair pairOf chained sizeFits sized recordsIn offsetOf lengthOf endOf dueOf recordOf recordHeader endFits both either pick
-first-directory = refl
-
-second-directory : directoryOf secondBlock ≡ Good 2
-unfolding directoryOf pairsFrom withPair pairOf chained sizeFits sized recordsIn offsetOf lengthOf endOf dueOf recordOf recordHeader endFits both either pick
-second-directory = refl
+directories = (refl, refl)
 
 not-second : maySee (getD (ownRights example firstRights) 1 0) ≡ false
 unfolding ownRights maySee mayOpen either bitOf
@@ -59,16 +51,17 @@ same-directory : take (directoryOctets (recordsIn firstBlock)) firstBlock ≡ ta
 unfolding recordsIn
 same-directory = refl
 
+two : (P : ℕ → Type 0) → P 0 → P 1 → (j : ℕ) → j < 2 → P j
+two P x y zero h = x
+two P x y (suc zero) h = y
+two P x y (suc (suc j)) h = absurd (omega arith)
+
 same-llids : (j : ℕ) → j < 2 → llidOf (setOf firstSets j) ≡ llidOf (setOf secondSets j)
 unfolding llidOf
-same-llids zero h = refl
-same-llids (suc zero) h = refl
-same-llids (suc (suc j)) h = absurd (omega arith)
+same-llids = two _ refl refl
 
 same-sets : (j : ℕ) → j < 2 → maySee (getD (ownRights example firstRights) j 0) ≡ true → setOf firstSets j ≡ setOf secondSets j
-same-sets zero h e = refl
-same-sets (suc zero) h e = true-false (sym e ∙ not-second)
-same-sets (suc (suc j)) h e = absurd (omega arith)
+same-sets = two _ (λ e. refl) (λ e. true-false (sym e ∙ not-second))
 
 two-records : recordsIn firstBlock ≡ 2
 unfolding recordsIn
@@ -76,24 +69,16 @@ two-records = refl
 
 same-headers : (i : ℕ) → i < 2 → headerOf firstBlock i .llid ≡ headerOf secondBlock i .llid
 unfolding recordOf offsetOf lengthOf recordHeader
-same-headers zero h = refl
-same-headers (suc zero) h = refl
-same-headers (suc (suc i)) h = absurd (omega arith)
+same-headers = two _ refl refl
 
-hidden-second : rightsOn example firstSets firstRights (headerOf firstBlock 1 .llid) ≡ 4
-unfolding recordOf offsetOf lengthOf recordHeader ownRights setFrom llidOf pick
-hidden-second = refl
-
-four-hides : maySee 4 ≡ false
-unfolding maySee mayOpen either bitOf
-four-hides = refl
+second-hides : maySee (rightsOn example firstSets firstRights (headerOf firstBlock 1 .llid)) ≡ false
+unfolding recordOf offsetOf lengthOf recordHeader ownRights setFrom llidOf pick maySee mayOpen either bitOf
+second-hides = refl
 
 same-records : (i : ℕ) → i < 2 → maySee (rightsOn example firstSets firstRights (headerOf firstBlock i .llid)) ≡ true
     → recordOf firstBlock i ≡ recordOf secondBlock i
 unfolding recordOf offsetOf lengthOf
-same-records zero h e = refl
-same-records (suc zero) h e = true-false (sym e ∙ ap maySee hidden-second ∙ four-hides)
-same-records (suc (suc i)) h e = absurd (omega arith)
+same-records = two _ (λ e. refl) (λ e. true-false (sym e ∙ second-hides))
 
 first-told : toldOf true example firstSets firstRights firstBlock 0 ≡ Told Clear
 unfolding toldOf driftFor judgedFor toldTo judged heard heardAt nearest recordVerdict inOrder keyVerdict headerFits channelFits downstream upstream flagsFit
@@ -102,14 +87,14 @@ first-told = refl
 
 second-hidden : toldOf true example firstSets firstRights firstBlock 1 ≡ Hidden
 unfolding toldOf judgedFor
-second-hidden = ap (λ (x : ClassHeard). x .verdict) (pick-false _ _ (ap maySee hidden-second ∙ four-hides))
+second-hidden = ap (λ (x : ClassHeard). x .verdict) (pick-false _ _ second-hides)
 
 pub pair : Example
 unfolding callFor recordOf offsetOf lengthOf
 pair =
     record {
-      first = rw (first-settings, first-directory);
-      second = rw (second-settings, second-directory);
+      first = rw (settings .0, directories .0);
+      second = rw (settings .1, directories .1);
       alike = record {
         own = own-same;
         llids = same-llids;

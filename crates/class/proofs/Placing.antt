@@ -12,7 +12,6 @@ use Rattle.octets.proofs.Lists.{part-length}
 use Rattle.records.specs.Record.{recordOctets, recordHeader}
 use Rattle.records.specs.Block.{headerFrom, recordFrom}
 use Rattle.records.proofs.Headers.{header-taken}
-use Rattle.directory.proofs.Rebuilding.{kept-in-place}
 use Rattle.class.specs.Opening.{hiddenRecord}
 use Rattle.class.specs.Duties.{placedAt}
 
@@ -54,8 +53,3 @@ pub hidden-placed : (b out : List ℕ) (from eqs : ℕ) → drop from out ≡ dr
 hidden-placed b out from eqs same e =
     let size : length (hiddenRecord eqs) ≡ recordOctets (headerFrom b from .eqs) = hidden-length eqs ∙ ap recordOctets e in
     rw (size, same, drop-drop, header-of b from, e)
-
--- an output that still is the block holds a record that is written as it is
-pub seen-kept : (b out : List ℕ) (from : ℕ) → drop from out ≡ drop from b → out ≡ placedAt b out from (recordFrom b from)
-unfolding recordFrom
-seen-kept b out from same = kept-in-place b out from (recordOctets (headerFrom b from .eqs)) same

@@ -7,10 +7,7 @@ use Prim.Native.Nat.{ℕ, zero, suc, _+_, _*_, _/_, _≤_, _<_}
 use native.Mathlib.Omega.{arith}
 use lib.Dec.{eqb}
 use lib.ListN.{length, getD, take}
-use lib.Seq.{getD-take}
-use Rattle.octets.specs.BigEndian.{numberAt}
 use Rattle.octets.specs.Choice.{pick}
-use Rattle.octets.proofs.BigEndian.{number-same}
 use Rattle.octets.proofs.Choice.{either-right, both-false-left}
 use Rattle.octets.proofs.Lists.{sum-ext}
 use Rattle.refusal.specs.declared.Refusal.the-variants.{BadLength}
@@ -19,13 +16,15 @@ use Rattle.records.specs.declared.header.Header.{Header}
 use Rattle.records.specs.declared.near.Drift.{Drift}
 use Rattle.records.specs.Settings.{llidOf}
 use Rattle.records.specs.Record.{recordHeader}
-use Rattle.records.specs.Block.{recordsIn, offsetOf, lengthOf, endOf, dueOf, recordOf}
+use Rattle.records.specs.Block.{recordsIn, dueOf, recordOf}
 use Rattle.records.specs.Following.{headerOf}
 use Rattle.directory.specs.declared.Directory.the-variants.{Good, Bad}
 use Rattle.directory.specs.Rebuilt.{joined, rebuilt}
 use Rattle.directory.proofs.Records.{Records, good, placed, records-end}
+use Rattle.directory.proofs.Rebuilding.{like-count, like-length, like-due}
 use Rattle.directory.proofs.Filling.{joined-ext}
 use Rattle.rights.specs.declared.settings.Caller.{Caller}
+use Rattle.rights.specs.declared.judging.ClassVerdict.{ClassVerdict}
 use Rattle.rights.specs.declared.judging.ClassVerdict.the-variants.{Hidden}
 use Rattle.rights.specs.declared.judging.ClassHeard.{ClassHeard}
 use Rattle.rights.specs.Settings.{setOf, setFrom, setFor, ownRights, rightsOn}
@@ -33,7 +32,7 @@ use Rattle.rights.specs.Rights.{mayOpen, maySee}
 use Rattle.rights.specs.Judging.{judgedFor}
 use Rattle.rights.proofs.Accepting.{inside}
 use Rattle.class.specs.Reading.{setAt, heardFor, driftFor, toldOf}
-use Rattle.class.specs.Opening.{writtenFor, addedFor, recordFor, addsFor, totalFor, isExpanded, expansionsFor, openingAfter, openingFor}
+use Rattle.class.specs.Opening.{hiddenRecord, writtenFor, addedFor, recordFor, addsFor, totalFor, isExpanded, expansionsFor, openingAfter, openingFor}
 use Rattle.class.specs.Listing.{rowAs, rowFor, bodyAfter, listingFor}
 use Rattle.class.specs.Secrecy.{Alike, Secret}
 use Rattle.class.proofs.Turns.{see-none}
@@ -56,44 +55,19 @@ hidden-by : (near : Bool) (q : ℕ) (s : List ℕ) (drift : Drift) (h : Header) 
 unfolding judgedFor pick
 hidden-by near q s drift h e = rw e
 
-module _ (c : Caller) (s q b t p d : List ℕ) (a : Alike c s q b t p d) (n : ℕ) (r : Records b n) (m : ℕ) (u : Records d m) where
+module _ (near : Bool) (c : Caller) (s q b t p d : List ℕ) (a : Alike c s q b t p d) (n : ℕ) (r : Records b n) (m : ℕ) (u : Records d m) where
   -- ---- the directory
-  same-octet : (k : ℕ) → k < 2 + 8 * n → getD b k 0 ≡ getD d k 0
-  same-octet k h =
-      let e : take (2 + 8 * n) b ≡ take (2 + 8 * n) d = rw (r .count) (a .directory) in
-      sym (getD-take (2 + 8 * n) b k 0 h) ∙ ap (λ (x : List ℕ). getD x k 0) e ∙ getD-take (2 + 8 * n) d k 0 h
-
-  same-number : (k at : ℕ) → at + k ≤ 2 + 8 * n → numberAt k b at ≡ numberAt k d at
-  same-number k at h = number-same k b d at at (λ j l. same-octet (at + j) (omega arith))
+  begin : take (2 + 8 * n) b ≡ take (2 + 8 * n) d
+  begin = rw (r .count) (a .directory)
 
   same-count : recordsIn b ≡ recordsIn d
-  unfolding recordsIn
-  same-count = same-number 2 0 (omega arith)
+  same-count = like-count b d n begin
 
   same-n : n ≡ m
   same-n = r .count ∙ same-count ∙ sym (u .count)
 
-  same-length : (i : ℕ) → i < n → lengthOf b i ≡ lengthOf d i
-  unfolding lengthOf
-  same-length i h = same-number 4 (2 + 8 * i + 4) (omega arith)
-
-  same-offset : (i : ℕ) → i < n → offsetOf b i ≡ offsetOf d i
-  unfolding offsetOf
-  same-offset i h = same-number 4 (2 + 8 * i) (omega arith)
-
-  same-due : (i : ℕ) → i ≤ n → dueOf b i ≡ dueOf d i
-  unfolding dueOf endOf
-  same-due zero h = rw same-count
-  same-due (suc i) h = ap₂ (λ (x y : ℕ). x + y) (same-offset i (omega arith)) (same-length i (omega arith))
-
   same-octets : length b ≡ length d
-  same-octets = sym (records-end b n r) ∙ same-due n (omega arith) ∙ ap (dueOf d) same-n ∙ records-end d m u
-
-  same-eqs : (i : ℕ) → i < n → headerOf b i .eqs ≡ headerOf d i .eqs
-  same-eqs i h =
-      let x = placed b n i r h in
-      let y = placed d m i u (omega (arith, same-n)) in
-      omega (arith, x .size, y .size, same-length i h)
+  same-octets = sym (records-end b n r) ∙ like-due b d n begin n (omega arith) ∙ ap (dueOf d) same-n ∙ records-end d m u
 
   -- ---- the settings
   same-set : (l : ℕ) → setFor c s l ≡ setFor c t l
@@ -102,78 +76,73 @@ module _ (c : Caller) (s q b t p d : List ℕ) (a : Alike c s q b t p d) (n : �
   same-right : (l : ℕ) → rightsOn c s q l ≡ rightsOn c t p l
   same-right l = ap₂ (λ (x : List ℕ) (j : ℕ). getD x j 0) (a .own) (same-set l)
 
-  -- the right on record i is the same in both
-  right-at : (i : ℕ) → i < n → rightsOn c s q (headerOf b i .llid) ≡ rightsOn c t p (headerOf d i .llid)
-  right-at i h = same-right (headerOf b i .llid) ∙ ap (rightsOn c t p) (a .headers i (rw (← r .count) h))
+  -- ---- record i
+  module _ (i : ℕ) (h : i < n) where
+    abbrev right : ℕ
+    right = rightsOn c s q (headerOf b i .llid)
 
-  -- ---- a record that may be seen is the same, and so is its set
-  module _ (i : ℕ) (h : i < n) (e : maySee (rightsOn c s q (headerOf b i .llid)) ≡ true) where
-    seen-record : recordOf b i ≡ recordOf d i
-    seen-record = a .records i (rw (← r .count) h) e
+    -- the right on it is the same in both
+    right-at : right ≡ rightsOn c t p (headerOf d i .llid)
+    right-at = same-right (headerOf b i .llid) ∙ ap (rightsOn c t p) (a .headers i (rw (← r .count) h))
 
-    seen-header : headerOf b i ≡ headerOf d i
-    seen-header = ap recordHeader seen-record
+    -- one that may be seen is the same, and so is its set
+    seen-record : maySee right ≡ true → recordOf b i ≡ recordOf d i
+    seen-record e = a .records i (rw (← r .count) h) e
 
-    seen-set : setAt c s b i ≡ setAt c t d i
-    seen-set =
+    seen-set : maySee right ≡ true → setAt c s b i ≡ setAt c t d i
+    seen-set e =
         let l = headerOf b i .llid in
         let j = inside maySee c q (setFor c s l) see-none e in
-        a .sets (setFor c s l) j e ∙ ap (setOf t) (same-set l ∙ ap (λ (x : Header). setFor c t (x .llid)) seen-header)
+        a .sets (setFor c s l) j e ∙ ap (setOf t) (same-set l ∙ ap (λ (x : List ℕ). setFor c t (recordHeader x .llid)) (seen-record e))
+
+    -- one that may not is as long
+    same-eqs : headerOf b i .eqs ≡ headerOf d i .eqs
+    same-eqs = omega (arith, placed b n i r h .size, placed d m i u (omega (arith, same-n)) .size, like-length b d n begin i h)
+
+    heard-by : (drift : Drift) (v : Bool) → maySee right ≡ v → heardFor near c s q b i drift ≡ heardFor near c t p d i drift
+    heard-by drift true e = rw (right-at, seen-set e, seen-record e)
+    heard-by drift false e = hidden-by near _ _ drift _ e ∙ sym (hidden-by near _ _ drift _ (sym (ap maySee right-at) ∙ e))
 
   -- ---- record by record
-  heard-by : (near : Bool) (i : ℕ) → i < n → (drift : Drift) (v : Bool) → maySee (rightsOn c s q (headerOf b i .llid)) ≡ v
-      → heardFor near c s q b i drift ≡ heardFor near c t p d i drift
-  heard-by near i h drift true e = rw (right-at i h, seen-set i h e, seen-header i h e)
-  heard-by near i h drift false e =
-      hidden-by near _ _ drift _ e ∙ sym (hidden-by near _ _ drift _ (sym (ap maySee (right-at i h)) ∙ e))
-
-  same-heard : (near : Bool) (i : ℕ) → i < n → (drift : Drift) → heardFor near c s q b i drift ≡ heardFor near c t p d i drift
-  same-heard near i h drift = heard-by near i h drift (maySee (rightsOn c s q (headerOf b i .llid))) refl
-
-  same-drift : (near : Bool) (i : ℕ) → i ≤ n → driftFor near c s q b i ≡ driftFor near c t p d i
+  same-drift : (i : ℕ) → i ≤ n → driftFor near c s q b i ≡ driftFor near c t p d i
   unfolding driftFor
-  same-drift near zero h = refl
-  same-drift near (suc i) h =
+  same-drift zero h = refl
+  same-drift (suc i) h =
       ap (λ (x : ClassHeard). x .drift)
-      (same-heard near i (omega arith) (driftFor near c s q b i) ∙ ap (heardFor near c t p d i) (same-drift near i (omega arith)))
+      (heard-by i (omega arith) (driftFor near c s q b i) _ refl ∙ ap (heardFor near c t p d i) (same-drift i (omega arith)))
 
-  same-told : (near : Bool) (i : ℕ) → i < n → toldOf near c s q b i ≡ toldOf near c t p d i
+  same-told : (i : ℕ) → i < n → toldOf near c s q b i ≡ toldOf near c t p d i
   unfolding toldOf
-  same-told near i h =
+  same-told i h =
       ap (λ (x : ClassHeard). x .verdict)
-      (same-heard near i h (driftFor near c s q b i) ∙ ap (heardFor near c t p d i) (same-drift near i (omega arith)))
+      (heard-by i h (driftFor near c s q b i) _ refl ∙ ap (heardFor near c t p d i) (same-drift i (omega arith)))
 
-  hidden-told : (near : Bool) (i : ℕ) → i < n → maySee (rightsOn c s q (headerOf b i .llid)) ≡ false → toldOf near c s q b i ≡ Hidden
+  hidden-told : (i : ℕ) → maySee (rightsOn c s q (headerOf b i .llid)) ≡ false → toldOf near c s q b i ≡ Hidden
   unfolding toldOf
-  hidden-told near i h e = ap (λ (x : ClassHeard). x .verdict) (hidden-by near _ _ _ _ e)
+  hidden-told i e = ap (λ (x : ClassHeard). x .verdict) (hidden-by near _ _ _ _ e)
 
-  record-by : (near : Bool) (i : ℕ) → i < n → (v : Bool) → maySee (rightsOn c s q (headerOf b i .llid)) ≡ v
-      → recordFor near c s q b i ≡ recordFor near c t p d i
+  -- what goes by a record's set, its octets and what is told of it is the same, if it is for a hidden one
+  module _ {A : Type 0} (f : List ℕ → List ℕ → ClassVerdict → A) (i : ℕ) (h : i < n)
+      (hidden : f (setAt c s b i) (recordOf b i) Hidden ≡ f (setAt c t d i) (recordOf d i) Hidden) where
+    same-by : (v : Bool) → maySee (rightsOn c s q (headerOf b i .llid)) ≡ v
+        → f (setAt c s b i) (recordOf b i) (toldOf near c s q b i) ≡ f (setAt c t d i) (recordOf d i) (toldOf near c t p d i)
+    same-by true e = rw (same-told i h, seen-set i h e, seen-record i h e)
+    same-by false e = rw (← same-told i h, hidden-told i e) hidden
+
+  same-record : (i : ℕ) → i < n → recordFor near c s q b i ≡ recordFor near c t p d i
   unfolding writtenFor
-  record-by near i h true e = rw (same-told near i h, seen-set i h e, seen-record i h e)
-  record-by near i h false e = rw (← same-told near i h, hidden-told near i h e, same-eqs i h)
+  same-record i h = same-by writtenFor i h (ap hiddenRecord (same-eqs i h)) _ refl
 
-  same-record : (near : Bool) (i : ℕ) → i < n → recordFor near c s q b i ≡ recordFor near c t p d i
-  same-record near i h = record-by near i h (maySee (rightsOn c s q (headerOf b i .llid))) refl
-
-  adds-by : (near : Bool) (g : List ℕ → ℕ) (i : ℕ) → i < n → (v : Bool) → maySee (rightsOn c s q (headerOf b i .llid)) ≡ v
-      → addsFor near c s q b g i ≡ addsFor near c t p d g i
-  unfolding addedFor
-  adds-by near g i h true e = rw (same-told near i h, seen-record i h e)
-  adds-by near g i h false e = rw (← same-told near i h, hidden-told near i h e)
-
-  same-total : (near : Bool) (g : List ℕ → ℕ) → totalFor near c s q b g ≡ totalFor near c t p d g
-  unfolding totalFor
-  same-total near g =
+  same-total : (g : List ℕ → ℕ) → totalFor near c s q b g ≡ totalFor near c t p d g
+  unfolding totalFor addedFor
+  same-total g =
       rw (← same-count)
       (sum-ext 0 (recordsIn b) (addsFor near c s q b g) (addsFor near c t p d g)
-      (λ i l h. adds-by near g i (omega (arith, r .count)) (maySee (rightsOn c s q (headerOf b i .llid))) refl))
+      (λ i l h. same-by (λ x. addedFor g) i (omega (arith, r .count)) refl _ refl))
 
-  row-by : (near : Bool) (i : ℕ) → i < n → (v : Bool) → maySee (rightsOn c s q (headerOf b i .llid)) ≡ v
-      → rowFor near c s q b i ≡ rowFor near c t p d i
+  same-row : (i : ℕ) → i < n → rowFor near c s q b i ≡ rowFor near c t p d i
   unfolding rowAs
-  row-by near i h true e = rw (same-told near i h, seen-header i h e)
-  row-by near i h false e = rw (← same-told near i h, hidden-told near i h e)
+  same-row i h = same-by (λ x y. rowAs (i + 1) (recordHeader y)) i h refl _ refl
 
   -- ---- the keys
   expanded-by : (k : ℕ) → k / 2 < c .sets → (v : Bool) → mayOpen (getD (ownRights c q) (k / 2) 0) ≡ v → isExpanded c s q k ≡ isExpanded c t p k
@@ -185,30 +154,29 @@ module _ (c : Caller) (s q b t p d : List ℕ) (a : Alike c s q b t p d) (n : �
   unfolding expansionsFor
   same-expansions =
       sum-ext 0 (2 * c .sets) (λ k. pick (isExpanded c s q k) 1 0) (λ k. pick (isExpanded c t p k) 1 0)
-      (λ k l h. ap (λ (x : Bool). pick x 1 0) (expanded-by k (omega arith) (mayOpen (getD (ownRights c q) (k / 2) 0)) refl))
+      (λ k l h. ap (λ (x : Bool). pick x 1 0) (expanded-by k (omega arith) _ refl))
 
   -- ---- the whole answer
-  same-block : (near : Bool) → rebuilt (recordFor near c s q b) b ≡ rebuilt (recordFor near c t p d) d
+  same-block : rebuilt (recordFor near c s q b) b ≡ rebuilt (recordFor near c t p d) d
   unfolding rebuilt
-  same-block near =
+  same-block =
       ap₂ (λ (x y : List ℕ). x ++ y) (a .directory ∙ ap (λ (k : ℕ). take (2 + 8 * k) d) same-count)
-      (joined-ext (recordFor near c s q b) (recordFor near c t p d) 0 (recordsIn b) (λ i l h. same-record near i (omega (arith, r .count)))
+      (joined-ext (recordFor near c s q b) (recordFor near c t p d) 0 (recordsIn b) (λ i l h. same-record i (omega (arith, r .count)))
       ∙ ap (joined (recordFor near c t p d) 0) same-count)
 
-  same-rows : (near : Bool) → joined (rowFor near c s q b) 0 (recordsIn b) ≡ joined (rowFor near c t p d) 0 (recordsIn d)
-  same-rows near =
-      joined-ext (rowFor near c s q b) (rowFor near c t p d) 0 (recordsIn b)
-      (λ i l h. row-by near i (omega (arith, r .count)) (maySee (rightsOn c s q (headerOf b i .llid))) refl)
+  same-rows : joined (rowFor near c s q b) 0 (recordsIn b) ≡ joined (rowFor near c t p d) 0 (recordsIn d)
+  same-rows =
+      joined-ext (rowFor near c s q b) (rowFor near c t p d) 0 (recordsIn b) (λ i l h. same-row i (omega (arith, r .count)))
       ∙ ap (joined (rowFor near c t p d) 0) same-count
 
-  last-drift : (near : Bool) → driftFor near c s q b (recordsIn b) ≡ driftFor near c t p d (recordsIn d)
-  last-drift near = same-drift near (recordsIn b) (omega (arith, r .count)) ∙ ap (driftFor near c t p d) same-count
+  last-drift : driftFor near c s q b (recordsIn b) ≡ driftFor near c t p d (recordsIn d)
+  last-drift = same-drift (recordsIn b) (omega (arith, r .count)) ∙ ap (driftFor near c t p d) same-count
 
-  same-opening-by : (near suits : Bool) (out : List ℕ) (x y : ℕ)
+  same-opening-by : (suits : Bool) (out : List ℕ) (x y : ℕ)
       → openingAfter (pick suits (Good x) (Bad BadLength)) near c s q b out ≡ openingAfter (pick suits (Good y) (Bad BadLength)) near c t p d out
   unfolding openingAfter pick
-  same-opening-by near true out x y = rw (same-total near countEnciphered, same-total near runs, same-expansions, last-drift near, same-block near)
-  same-opening-by near false out x y = refl
+  same-opening-by true out x y = rw (same-total countEnciphered, same-total runs, same-expansions, last-drift, same-block)
+  same-opening-by false out x y = refl
 
 pub secret : (near : Bool) (c : Caller) (s q b out : List ℕ) → Secret near c s q b out
 unfolding openingFor listingFor bodyAfter
@@ -217,9 +185,9 @@ secret near c s q b out t p d x y e f a =
     let h = found true c t p d y f in
     let r = good b x (g .good) in
     let u = good d y (h .good) in
-    let octets = same-octets c s q b t p d a x r y u in
+    let octets = same-octets near c s q b t p d a x r y u in
     record {
       opening = rw (← octets, call-suits (eqb (length out) (length b)) c s q b x e, call-suits (eqb (length out) (length b)) c t p d y f)
-          (same-opening-by c s q b t p d a x r y u near (eqb (length out) (length b)) out x y);
-      listing = rw (e, f, same-rows c s q b t p d a x r y u near);
+          (same-opening-by near c s q b t p d a x r y u (eqb (length out) (length b)) out x y);
+      listing = rw (e, f, same-rows near c s q b t p d a x r y u);
     }

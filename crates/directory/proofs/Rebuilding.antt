@@ -23,6 +23,36 @@ use Rattle.directory.proofs.Pairs.{pair-fits, due-next}
 use Rattle.directory.proofs.Records.{Records, all-fit, placed, At, at-due, records-end}
 use Rattle.directory.proofs.Filling.{joined-split, joined-ext, joined-behind}
 
+-- blocks that begin with the same octets have the same directory
+module _ (b d : List ℕ) (n : ℕ) (same : take (2 + 8 * n) b ≡ take (2 + 8 * n) d) where
+  like-number : (k at : ℕ) → at + k ≤ 2 + 8 * n → numberAt k b at ≡ numberAt k d at
+  like-number k at h =
+      number-same k b d at at
+      (λ j l.
+      sym (getD-take (2 + 8 * n) b (at + j) 0 (omega arith)) ∙ ap (λ (t : List ℕ). getD t (at + j) 0) same
+      ∙ getD-take (2 + 8 * n) d (at + j) 0 (omega arith))
+
+  pub like-count : recordsIn b ≡ recordsIn d
+  unfolding recordsIn
+  like-count = like-number 2 0 (omega arith)
+
+  pub like-offset : (i : ℕ) → i < n → offsetOf b i ≡ offsetOf d i
+  unfolding offsetOf
+  like-offset i h = like-number 4 (2 + 8 * i) (omega arith)
+
+  pub like-length : (i : ℕ) → i < n → lengthOf b i ≡ lengthOf d i
+  unfolding lengthOf
+  like-length i h = like-number 4 (2 + 8 * i + 4) (omega arith)
+
+  like-end : (i : ℕ) → i < n → endOf b i ≡ endOf d i
+  unfolding endOf
+  like-end i h = rw (like-offset i h, like-length i h)
+
+  pub like-due : (i : ℕ) → i ≤ n → dueOf b i ≡ dueOf d i
+  unfolding dueOf
+  like-due zero h = rw like-count
+  like-due (suc i) h = like-end i (omega arith)
+
 -- the directory and i of the records
 abbrev pub upTo : (ℕ → List ℕ) → List ℕ → ℕ → List ℕ
 upTo f b i = take (2 + 8 * recordsIn b) b ++ joined f 0 i
@@ -80,27 +110,10 @@ module _ (f : ℕ → List ℕ) (b : List ℕ) (n : ℕ) (r : Records b n) (size
   same-directory =
       rw (← r .count) (take-at (take (2 + 8 * n) b) (joined f 0 n) (2 + 8 * n) (length-take-le (2 + 8 * n) b (omega (arith, r .sizes .pairs, r .count))))
 
-  same-octet : (p : ℕ) → p < 2 + 8 * n → getD (rebuilt f b) p 0 ≡ getD b p 0
-  same-octet p h =
-      sym (getD-take (2 + 8 * n) (rebuilt f b) p 0 h) ∙ ap (λ (t : List ℕ). getD t p 0) same-directory ∙ getD-take (2 + 8 * n) b p 0 h
-
-  -- so do its numbers
-  same-number : (k at : ℕ) → at + k ≤ 2 + 8 * n → numberAt k (rebuilt f b) at ≡ numberAt k b at
-  same-number k at h = number-same k (rebuilt f b) b at at (λ j l. same-octet (at + j) (omega arith))
-
   pub same-count : recordsIn (rebuilt f b) ≡ recordsIn b
-  unfolding recordsIn
-  same-count = same-number 2 0 (omega arith)
+  same-count = like-count _ _ n same-directory
 
   module _ (i : ℕ) (h : i < n) where
-    same-offset : offsetOf (rebuilt f b) i ≡ offsetOf b i
-    unfolding offsetOf
-    same-offset = same-number 4 (2 + 8 * i) (omega arith)
-
-    same-length : lengthOf (rebuilt f b) i ≡ lengthOf b i
-    unfolding lengthOf
-    same-length = same-number 4 (2 + 8 * i + 4) (omega arith)
-
     -- each record stands where the one that it stands for does
     pub own-record : part (rebuilt f b) (offsetOf b i) (lengthOf b i) ≡ f i
     unfolding joined
@@ -115,22 +128,15 @@ module _ (f : ℕ → List ℕ) (b : List ℕ) (n : ℕ) (r : Records b n) (size
 
     pub record-is : recordOf (rebuilt f b) i ≡ f i
     unfolding recordOf
-    record-is = rw (same-offset, same-length) own-record
-
-  same-end : (i : ℕ) → i < n → endOf (rebuilt f b) i ≡ endOf b i
-  unfolding endOf
-  same-end i h = rw (same-offset i h, same-length i h)
-
-  same-due : (i : ℕ) → i < n → dueOf (rebuilt f b) i ≡ dueOf b i
-  unfolding dueOf
-  same-due zero h = rw same-count
-  same-due (suc i) h = same-end i (omega arith)
+    record-is = rw (like-offset _ _ n same-directory i h, like-length _ _ n same-directory i h) own-record
 
   -- the directory is good where each record still suits its EQs
   module _ (fits : (i : ℕ) → i < n → sized (f i) ≡ sized (recordOf b i)) where
     fits-again : (i : ℕ) → i < n → pairOf (rebuilt f b) i ≡ Fits
     unfolding pairOf chained
-    fits-again i h = rw (same-offset i h, same-due i h, same-end i h, same-count, same-octets, record-is i h, fits i h) (r .fit i h)
+    fits-again i h =
+        let due : dueOf (rebuilt f b) i ≡ dueOf b i = like-due _ _ n same-directory i (omega arith) in
+        rw (like-offset _ _ n same-directory i h, due, like-end _ _ n same-directory i h, same-count, same-octets, record-is i h, fits i h) (r .fit i h)
 
     right-again : sizeFits (rebuilt f b) ≡ true
     unfolding sizeFits
@@ -153,9 +159,14 @@ module _ (f : ℕ → List ℕ) (b : List ℕ) (n : ℕ) (r : Records b n) (size
 ---- a record in an output that is a copy of the block
 
 -- an output that is the block from `at` on holds the record there
-pub kept-in-place : (b out : List ℕ) (at len : ℕ) → drop at out ≡ drop at b → out ≡ take at out ++ (part b at len ++ drop (at + len) b)
+kept-in-place : (b out : List ℕ) (at len : ℕ) → drop at out ≡ drop at b → out ≡ take at out ++ (part b at len ++ drop (at + len) b)
 kept-in-place b out at len same =
     sym (take-append-drop at out) ∙ rw same (ap (λ (t : List ℕ). take at out ++ t) (sym (take-append-drop len (drop at b)) ∙ rw (drop-drop len at b)))
+
+pub kept-record : (b out : List ℕ) (from : ℕ) → drop from out ≡ drop from b
+    → out ≡ take from out ++ (recordFrom b from ++ drop (from + recordOctets (headerFrom b from .eqs)) b)
+unfolding recordFrom
+kept-record b out from same = kept-in-place b out from (recordOctets (headerFrom b from .eqs)) same
 
 -- an output that goes on as c from `at` on, with the payload of the record of `len` octets there replaced
 pub payload-in-place : (out c ys : List ℕ) (at len : ℕ) → 16 ≤ len → drop at out ≡ c → length ys + 16 ≡ len
@@ -170,10 +181,7 @@ payload-in-place out c ys at len h same l =
 ---- of its own records it is itself
 own-place : (b : List ℕ) (i from : ℕ) → At b i from
     → b ≡ take from b ++ (recordOf b i ++ drop (from + recordOctets (headerFrom b from .eqs)) b)
-unfolding recordFrom
-own-place b i from x =
-    let len = recordOctets (headerFrom b from .eqs) in
-    kept-in-place b b from len refl ∙ ap (λ (t : List ℕ). take from b ++ (t ++ drop (from + len) b)) (x .octets)
+own-place b i from x = kept-record b b from refl ∙ rw (x .octets)
 
 own-up-to : (b : List ℕ) (n : ℕ) → Records b n → (i : ℕ) → i ≤ n → b ≡ upTo (recordOf b) b i ++ drop (dueOf b i) b
 own-up-to b n r zero h = none-rebuilt (recordOf b) b n r (λ j l. refl)

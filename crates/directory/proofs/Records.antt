@@ -1,13 +1,14 @@
 -- Laws of the records of a good directory: where they stand and how long they are. Assumes nothing.
 use mathlib.Core.Path.{_≡_, refl, sym, ap, ap₂, _∙_}
-use mathlib.Core.Bool.{Bool, true, false}
-use mathlib.Core.List.{List, [], _++_}
+use mathlib.Core.Bool.{true}
+use mathlib.Core.Logic.{⊎-elim}
+use mathlib.Core.List.{List, []}
 use Prim.Native.Nat.{ℕ, zero, suc, _+_, _-_, _≤_, _<_}
-use native.Mathlib.Nat.{add-zero, zero-add, add-suc, suc-add}
+use native.Mathlib.Nat.{add-zero, zero-add, add-suc, suc-add, eq-or-lt-of-le}
 use native.Mathlib.Omega.{arith}
 use lib.Dec.{leb}
-use lib.ListN.{length, take, drop}
-use borrow.Author.Tests.{leb-true, leb-false, eqb-true}
+use lib.ListN.{length, drop}
+use borrow.Author.Tests.{leb-true, eqb-true}
 use Rattle.octets.specs.Choice.{both}
 use Rattle.octets.specs.Lists.{part}
 use Rattle.octets.proofs.Choice.{both-left, both-right, pick-first}
@@ -45,12 +46,7 @@ good-pair Fits k d n e = (refl, e)
 good-pair OffChain k d n e = (cc, cc)
 good-pair OffLength k d n e = (cc, cc)
 
--- what holds of the pair at i and of all behind it
-from-first : (b : List ℕ) (i m j : ℕ) (t : Bool) → pairOf b i ≡ Fits → ((k : ℕ) → suc i ≤ k → k < suc i + m → pairOf b k ≡ Fits)
-    → leb (suc i) j ≡ t → i ≤ j → j < i + suc m → pairOf b j ≡ Fits
-from-first b i m j true f r t l h = r j (leb-true _ _ t) (omega arith)
-from-first b i m j false f r t l h = let e : j ≡ i = omega (arith, leb-false (suc i) j t) in rw e f
-
+-- a good verdict counts the pairs, which all fit
 good-pairs : (b : List ℕ) (i m n : ℕ) → pairsFrom b i m ≡ Good n
     → (n ≡ i + m) × ((j : ℕ) → i ≤ j → j < i + m → pairOf b j ≡ Fits)
 unfolding pairsFrom
@@ -58,7 +54,7 @@ good-pairs b i zero n e = let z : i ≡ n = cc in (omega arith, λ j l h. absurd
 good-pairs b i (suc m) n e =
     let g = good-pair (pairOf b i) (suc i) (pairsFrom b (suc i) m) n e in
     let r = good-pairs b (suc i) m n (g .1) in
-    (omega (arith, r .0), λ j l h. from-first b i m j (leb (suc i) j) (g .0) (r .1) refl l h)
+    (omega (arith, r .0), λ j l h. ⊎-elim (λ z. rw (← z) (g .0)) (λ k. r .1 j k (omega arith)) (eq-or-lt-of-le {n = i} {m = j} l))
 
 -- and conversely
 pub all-fit : (b : List ℕ) (i m : ℕ) → ((j : ℕ) → i ≤ j → j < i + m → pairOf b j ≡ Fits) → pairsFrom b i m ≡ Good (i + m)
@@ -124,11 +120,6 @@ module _ {J : Type 0} (b : List ℕ) (i from : ℕ) (x : At b i from) (u v : J) 
   pub of-record : {A : Type 0} (f : List ℕ → J → A) → f (recordFrom b from) u ≡ f (recordOf b i) v
   of-record f = rw (e, x .octets)
 
-  pub in-place : (f : List ℕ → J → List ℕ) (out : List ℕ) (due : ℕ) → from ≡ due
-      → take from out ++ (f (recordFrom b from) u ++ drop (from + recordOctets (headerFrom b from .eqs)) b)
-      ≡ take due out ++ (f (recordOf b i) v ++ drop (due + recordOctets (headerFrom b due .eqs)) b)
-  in-place f out due d = rw (e, x .octets, d)
-
 -- a turn of a loop over the n records of a block: record i starts at `from`, and h is the header that is read there
 pub record Reached (b : List ℕ) (n i from : ℕ) (h : Header) : Type 0 where
   pub records : Records b n
@@ -180,48 +171,34 @@ asked-for b k e = by-directory b k (directoryOf b) refl e
 pub asked-few : {b : List ℕ} {k : ℕ} → Asked b k → k ≤ mostRecords
 asked-few a = omega (arith, a .last, a .records .count, a .records .sizes .few)
 
+named-by : (b : List ℕ) (k : ℕ) (v : Verdict) → payloadVerdict b k ≡ v
+    → let p = boundsAfter v (boundsOf b (k - 1)) in
+    (boundsOffset p + boundsLength p ≤ length b) × (part b (boundsOffset p) (boundsLength p) ≡ unlessRefused v (payloadOf (recordOf b (k - 1))))
+unfolding boundsOf
+named-by b k Accepted q =
+    let i = k - 1 in
+    let a = asked-for b k q in
+    let p = placed b (a .count) i (a .records) (omega (arith, a .first, a .last)) in
+    let n : offsetOf b i + lengthOf b i - (offsetOf b i + 16) ≡ lengthOf b i - 16 = omega arith in
+    (omega (arith, p .inside, p .size), sym (payload-part b i p ∙ rw n))
+named-by b k (Refused r) q = (omega arith, refl)
+
+-- the bounds name the payload, which is empty where it is refused
+pub part-named : (b : List ℕ) (k : ℕ)
+    → let p = payloadBounds b k in (boundsOffset p + boundsLength p ≤ length b) × (part b (boundsOffset p) (boundsLength p) ≡ payloadPart b k)
+unfolding payloadBounds payloadPart
+part-named b k = named-by b k (payloadVerdict b k) refl
+
 -- where the payload of an accepted number lies
 pub record Bounded (b : List ℕ) (k from n : ℕ) : Type 0 where
   pub inside : from + n ≤ length b
   pub octets : part b from n ≡ payloadPart b k
 
-bounded-by : (b : List ℕ) (k from n : ℕ) (v : Verdict) → payloadVerdict b k ≡ v → boundsAfter v (boundsOf b (k - 1)) ≡ Within from n
-    → (from + n ≤ length b) × (part b from n ≡ unlessRefused v (payloadOf (recordOf b (k - 1))))
-unfolding boundsOf
-bounded-by b k from n Accepted q e =
-    let i = k - 1 in
-    let a = asked-for b k q in
-    let p = placed b (a .count) i (a .records) (omega (arith, a .first, a .last)) in
-    let f : from ≡ offsetOf b i + 16 = cc in
-    let m : n ≡ offsetOf b i + lengthOf b i - (offsetOf b i + 16) = let l : n ≡ lengthOf b i - 16 = cc in omega arith in
-    (omega (arith, p .inside), rw (f, m) (sym (payload-part b i p)))
-bounded-by b k from n (Refused r) q e = let z : _≡_ {A = ℕ} 0 1 = cc in absurd (omega arith)
-
 pub bounded : (b : List ℕ) (k from n : ℕ) → payloadBounds b k ≡ Within from n → Bounded b k from n
-unfolding payloadBounds payloadPart
-bounded b k from n e =
-    let q = bounded-by b k from n (payloadVerdict b k) refl e in
-    record { inside = q .0; octets = q .1 }
-
-refused-part-by : (b : List ℕ) (i : ℕ) (l : List ℕ) (r : Refusal) (v : Verdict) → boundsAfter v (boundsOf b i) ≡ Bounds.Refused r
-    → unlessRefused v l ≡ []
-unfolding boundsOf
-refused-part-by b i l r Accepted e = let z : _≡_ {A = ℕ} 0 1 = cc in absurd (omega arith)
-refused-part-by b i l r (Refused s) e = refl
+bounded b k from n e = let q = part-named b k in record { inside = rw e at (q .0); octets = rw e at (q .1) }
 
 pub refused-part : (b : List ℕ) (k : ℕ) (r : Refusal) → payloadBounds b k ≡ Bounds.Refused r → payloadPart b k ≡ []
-unfolding payloadBounds payloadPart
-refused-part b k r e = refused-part-by b (k - 1) _ r (payloadVerdict b k) e
-
-named-by : (b : List ℕ) (k : ℕ) (p : Bounds) → payloadBounds b k ≡ p
-    → (boundsOffset p + boundsLength p ≤ length b) × (part b (boundsOffset p) (boundsLength p) ≡ payloadPart b k)
-named-by b k (Within from n) e = let w = bounded b k from n e in (w .inside, w .octets)
-named-by b k (Bounds.Refused r) e = (omega arith, sym (refused-part b k r e))
-
--- the bounds name the payload, which is empty where it is refused
-pub part-named : (b : List ℕ) (k : ℕ)
-    → let p = payloadBounds b k in (boundsOffset p + boundsLength p ≤ length b) × (part b (boundsOffset p) (boundsLength p) ≡ payloadPart b k)
-part-named b k = named-by b k (payloadBounds b k) refl
+refused-part b k r e = sym (rw e at (part-named b k .1))
 
 -- the records end where the block does
 pub records-end : (b : List ℕ) (n : ℕ) → Records b n → dueOf b n ≡ length b

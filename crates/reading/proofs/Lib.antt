@@ -3,3 +3,4 @@ pub mod Reopening
 pub mod Lines
 pub mod Readings
 pub mod Exact
+pub mod Loops

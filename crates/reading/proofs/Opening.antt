@@ -2,14 +2,13 @@
 use mathlib.Core.Path.{_≡_, refl, ap, _∙_}
 use mathlib.Core.Bool.{Bool, true, false, not}
 use mathlib.Core.List.{List}
-use Prim.Native.Nat.{ℕ, _+_, _-_, _*_, _/_, _≤_}
+use Prim.Native.Nat.{ℕ, _-_, _/_, _≤_}
 use native.Mathlib.Omega.{arith}
 use lib.ListN.{length, drop, length-append, length-take, length-drop, length-set}
 use lib.Count.{ones}
 use lib.Dec.{eqb}
 use borrow.Author.Tests.{eq-eqb, eqb-true, not-false}
 use Rattle.octets.specs.Choice.{pick}
-use Rattle.octets.specs.Lists.{sum}
 use Rattle.octets.proofs.Lists.{sum-below}
 use Rattle.octets.proofs.Choice.{pick-first}
 use Rattle.octets.specs.Output.{withOutput}
@@ -77,10 +76,6 @@ module _ (g : List ℕ → ℕ) (few : (p : List ℕ) → g p ≤ length p) wher
 
   pub adds-few : (near : Bool) (s b : List ℕ) (i : ℕ) → length b ≤ mostOctets → addsBy near g s b i ≤ mostOctets
   adds-few near s b i h = omega (arith, added-below (recordOf b i) (verdictBy near s b i), record-below b i h)
-
--- and so is the sum so far
-pub sum-few : (f : ℕ → ℕ) (i : ℕ) → ((j : ℕ) → f j ≤ mostOctets) → sum 0 i f + f i ≤ i * mostOctets + mostOctets
-sum-few f i h = omega (arith, sum-below 0 i mostOctets f h, h i)
 
 -- what acceptance of the call tells
 pub record Callable (s b : List ℕ) (m : ℕ) : Type 0 where

@@ -9,13 +9,11 @@ use lib.Dec.{eqb}
 use borrow.Author.Tests.{not-false, eqb-true, ne-eqb}
 use Rattle.octets.specs.Choice.{pick}
 use Rattle.octets.specs.Lists.{tabulate, sum}
-use Rattle.octets.proofs.Choice.{both-false-left, not-of-true, not-of-false, pick-true, pick-false}
+use Rattle.octets.proofs.Choice.{both-false-left, not-of-true, pick-true, pick-false}
 use Rattle.octets.proofs.Lists.{tabulate-ext}
-use Rattle.refusal.specs.declared.Refusal.{Refusal}
-use Rattle.refusal.specs.declared.Refusal.the-variants.{RepeatedRecord}
 use Rattle.refusal.specs.declared.Verdict.{Verdict}
 use Rattle.refusal.specs.declared.Verdict.the-variants.{Accepted, Refused}
-use Rattle.refusal.proofs.Order.{refused-accepts, refuse-accepted, refuse-passed, refuse-stopped, then-accepted}
+use Rattle.refusal.proofs.Order.{refused-accepts, refuse-accepted, refuse-passed, then-accepted}
 use Rattle.records.specs.Block.{mostRecords, recordsIn, recordOf}
 use Rattle.directory.specs.declared.Directory.{Directory}
 use Rattle.directory.specs.declared.Directory.the-variants.{Good, Bad}
@@ -23,7 +21,7 @@ use Rattle.directory.specs.Directory.{verdictOn, directoryOf}
 use Rattle.directory.specs.Rebuilt.{joined}
 use Rattle.directory.proofs.Records.{good}
 use Rattle.recordings.specs.declared.verdict.Ruling.{Ruling}
-use Rattle.recordings.specs.declared.verdict.Ruling.the-variants.{Taken, Denied}
+use Rattle.recordings.specs.declared.verdict.Ruling.the-variants.{Taken}
 use Rattle.sameness.specs.Pairing.{partnerOf, alone, distinct}
 use Rattle.sameness.specs.Sameness.{same}
 use Rattle.recordings.specs.Comparing.{outputOctets, sameMark, differentMark, markAt, markOf, aloneEntry, entriesOf, aloneAt, aloneOf, totalOf, blockVerdict, repeatVerdict, ruled, rulingOn}
@@ -47,25 +45,17 @@ unfolding ruled
 ruled-taken block Accepted rest e = (refl, e)
 ruled-taken block (Refused r) rest e = let z : _≡_ {A = ℕ} 0 1 = cc in absurd (omega arith)
 
-pub ruled-on : (block : ℕ) (v : Verdict) (rest : Ruling) → v ≡ Accepted → ruled block v rest ≡ rest
+ruled-on : (block : ℕ) (v : Verdict) (rest : Ruling) → v ≡ Accepted → ruled block v rest ≡ rest
 unfolding ruled
 ruled-on block v rest e = rw e
-
-pub ruled-refused : (block : ℕ) (v : Verdict) (r : Refusal) (rest : Ruling) → v ≡ Refused r → ruled block v rest ≡ Denied r block
-unfolding ruled
-ruled-refused block v r rest e = rw e
 
 no-repeat : (b : List ℕ) → repeatVerdict b ≡ Accepted → distinct b ≡ true
 unfolding repeatVerdict
 no-repeat b e = not-false _ (refuse-accepted _ _ _ e .0)
 
-pub once : (b : List ℕ) → distinct b ≡ true → repeatVerdict b ≡ Accepted
+once : (b : List ℕ) → distinct b ≡ true → repeatVerdict b ≡ Accepted
 unfolding repeatVerdict
 once b e = refuse-passed _ _ _ (not-of-true e)
-
-pub repeated : (b : List ℕ) → distinct b ≡ false → repeatVerdict b ≡ Refused RepeatedRecord
-unfolding repeatVerdict
-repeated b e = refuse-stopped _ _ _ (not-of-false e)
 
 pub accepting : (size : ℕ) (a b : List ℕ) → rulingOn size a b ≡ Taken → Accepting size a b
 unfolding rulingOn

@@ -10,10 +10,10 @@ use native.Mathlib.Omega.{arith}
 use lib.Dec.{eqb}
 use lib.ListN.{length, getD, drop, drop-of-length-le}
 use borrow.Author.Tests.{eqb-true, eqb-false, eq-eqb}
-use Rattle.octets.specs.Choice.{both, pick}
+use Rattle.octets.specs.Choice.{both}
 use Rattle.octets.specs.Lists.{all}
 use Rattle.octets.proofs.Steps.{drop-step}
-use Rattle.octets.proofs.Choice.{pick-true, pick-false}
+use Rattle.octets.proofs.Choice.{pick-true, pick-false, pick-holds}
 use Rattle.octets.proofs.Each.{each-at, each-true}
 use Rattle.records.specs.Settings.{llidOf}
 use Rattle.rights.specs.declared.settings.Caller.{Caller}
@@ -56,33 +56,23 @@ unfolding all
 all-done p l k h = rw (drop-of-length-le l {i = k} h)
 
 ---- the set that is found is that of the LLID
-found-by : (s : List ℕ) (l j m : ℕ) (v : Bool) → eqb (llidOf (setOf s j)) l ≡ v
-    → (setFrom s l (suc j) m < suc j + m → llidOf (setOf s (setFrom s l (suc j) m)) ≡ l) → pick v j (setFrom s l (suc j) m) < j + suc m
-    → llidOf (setOf s (pick v j (setFrom s l (suc j) m))) ≡ l
-unfolding pick
-found-by s l j m true e rest f = eqb-true _ _ e
-found-by s l j m false e rest f = rest (omega arith)
-
 pub set-found : (s : List ℕ) (l j m : ℕ) → setFrom s l j m < j + m → llidOf (setOf s (setFrom s l j m)) ≡ l
 unfolding setFrom
 set-found s l j zero h = absurd (omega arith)
-set-found s l j (suc m) h = found-by s l j m (eqb (llidOf (setOf s j)) l) refl (λ f. set-found s l (suc j) m f) h
+set-found s l j (suc m) h =
+    pick-holds (λ x. x < j + suc m → llidOf (setOf s x) ≡ l) (eqb (llidOf (setOf s j)) l) j _ (λ e f. eqb-true _ _ e)
+    (λ e f. set-found s l (suc j) m (omega arith)) h
 
 -- one that there is is found
-inside-by : (s : List ℕ) (l j m k : ℕ) (v : Bool) → eqb (llidOf (setOf s j)) l ≡ v → (suc j ≤ k → setFrom s l (suc j) m < suc j + m)
-    → j ≤ k → llidOf (setOf s k) ≡ l → pick v j (setFrom s l (suc j) m) < j + suc m
-unfolding pick
-inside-by s l j m k true e rest h f = omega arith
-inside-by s l j m k false e rest h f =
-    let behind : suc j ≤ k =
-    ⊎-elim (λ z. absurd (eqb-false _ _ e (ap (λ (x : ℕ). llidOf (setOf s x)) z ∙ f))) (λ b. b) (eq-or-lt-of-le {n = j} {m = k} h) in
-    omega (arith, rest behind)
-
 pub set-inside : (s : List ℕ) (l j m k : ℕ) → j ≤ k → k < j + m → llidOf (setOf s k) ≡ l → setFrom s l j m < j + m
 unfolding setFrom
 set-inside s l j zero k h b f = absurd (omega arith)
 set-inside s l j (suc m) k h b f =
-    inside-by s l j m k (eqb (llidOf (setOf s j)) l) refl (λ n. set-inside s l (suc j) m k n (omega arith) f) h f
+    pick-holds (λ x. x < j + suc m) (eqb (llidOf (setOf s j)) l) j _ (λ e. omega arith)
+    (λ e.
+    let behind : suc j ≤ k =
+    ⊎-elim (λ z. absurd (eqb-false _ _ e (ap (λ (x : ℕ). llidOf (setOf s x)) z ∙ f))) (λ g. g) (eq-or-lt-of-le {n = j} {m = k} h) in
+    omega (arith, set-inside s l (suc j) m k behind (omega arith) f))
 
 -- what the test for an LLID twice tells
 own-place : (c : Caller) (s : List ℕ) → llidsDiffer c s ≡ true → (j : ℕ) → j < c .sets → setFor c s (llidOf (setOf s j)) ≡ j

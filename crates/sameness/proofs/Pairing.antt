@@ -2,12 +2,13 @@
 use mathlib.Core.Path.{_≡_, refl, sym, _∙_}
 use mathlib.Core.Bool.{Bool, true, false}
 use mathlib.Core.List.{List}
+use mathlib.Core.Logic.{⊎-elim}
 use Prim.Native.Nat.{ℕ, zero, suc, _+_, _-_, _≤_, _<_}
-use native.Mathlib.Nat.{add-zero, add-suc, suc-add}
+use native.Mathlib.Nat.{add-zero, add-suc, suc-add, eq-or-lt-of-le}
 use native.Mathlib.Numerals.{add-one}
 use native.Mathlib.Omega.{arith}
-use lib.Dec.{leb, ltb, eqb}
-use borrow.Author.Tests.{leb-true, leb-false, ltb-true, ltb-false, eqb-true, eq-eqb, ne-eqb}
+use lib.Dec.{ltb, eqb}
+use borrow.Author.Tests.{ltb-true, ltb-false, eqb-true, eq-eqb, ne-eqb}
 use Rattle.octets.proofs.Choice.{true-false, both-left, both-right, both-true, pick-true, pick-false, pick-holds}
 use Rattle.records.specs.declared.header.Header.{Header}
 use Rattle.records.specs.Block.{recordsIn, recordOf}
@@ -64,18 +65,13 @@ module _ (r b : List ℕ) where
       pick-holds (λ x. x < j + suc m → paired r (recordOf b x) ≡ true) (paired r (recordOf b j)) j _ (λ e l. e)
       (λ e l. first-pairs (suc j) m (omega arith)) h
 
-  at-or-behind : (t : Bool) (j k : ℕ) → leb (suc j) k ≡ t → j ≤ k → paired r (recordOf b j) ≡ false
-      → (suc j ≤ k → paired r (recordOf b k) ≡ false) → paired r (recordOf b k) ≡ false
-  at-or-behind true j k d l e f = f (leb-true _ _ d)
-  at-or-behind false j k d l e f = let q : k ≡ j = omega (arith, leb-false (suc j) k d) in rw q e
-
   -- and none ahead of it does
   pub first-least : (j m k : ℕ) → j ≤ k → k < firstFrom r b j m → paired r (recordOf b k) ≡ false
   unfolding firstFrom
   first-least j zero k l h = absurd (omega arith)
   first-least j (suc m) k l h =
       pick-holds (λ x. k < x → paired r (recordOf b k) ≡ false) (paired r (recordOf b j)) j _ (λ e q. absurd (omega arith))
-      (λ e q. at-or-behind (leb (suc j) k) j k refl l e (λ g. first-least (suc j) m k g q)) h
+      (λ e q. ⊎-elim (λ z. rw (← z) e) (λ g. first-least (suc j) m k g q) (eq-or-lt-of-le {n = j} {m = k} l)) h
 
   pub first-none : (j m : ℕ) → ((k : ℕ) → j ≤ k → k < j + m → paired r (recordOf b k) ≡ false) → firstFrom r b j m ≡ j + m
   unfolding firstFrom

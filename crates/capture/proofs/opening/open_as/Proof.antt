@@ -7,9 +7,10 @@ use borrow.Author.Needs.{needs}
 use denote.Ref.{now}
 use Rattle.cipher.specs.declared.aes128.RoundKeys.{RoundKeys}
 use Rattle.records.specs.declared.header.Header.{Header}
-use Rattle.reading.specs.Opening.{addedAs}
+use Rattle.reading.specs.Opening.{writtenAs, addedAs}
+use Rattle.directory.proofs.Rebuilding.{kept-record}
 use Rattle.capture.specs.Duties.{Opens}
-use Rattle.capture.proofs.InPlace.{clear-kept, refused-kept, opened-by, key-expanded, nonce-fits}
+use Rattle.capture.proofs.InPlace.{opened-by, key-expanded, nonce-fits}
 use Rattle.capture.proofs.opening.open_as.Statement.{statement}
 use Rattle.capture.proofs.opening.open_as.Tie as tie
 
@@ -38,20 +39,18 @@ open-part-requires c κs =
     )
 
 returns : tie.Need-returns
-unfolding addedAs
+unfolding addedAs writtenAs
 returns c =
     let g = c .before .before .before .before .before in
-    let a = g .args in
     rw (c .enum-told .given .1)
-    (record { count = refl; runs = refl }, clear-kept (now (a .settings)) (now (a .block)) (now (a .output)) (a .from) (g .pre .0 .same))
+    (record { count = refl; runs = refl }, kept-record (now (g .args .block)) (now (g .args .output)) (g .args .from) (g .pre .0 .same))
 
 returns-2 : tie.Need-returns-2
-unfolding addedAs
+unfolding addedAs writtenAs
 returns-2 c =
     let g = c .before .before .before .before .before in
-    let a = g .args in
     rw (c .enum-told2 .given .1)
-    (record { count = refl; runs = refl }, refused-kept (now (a .settings)) (now (a .block)) (now (a .output)) (a .from) (g .pre .0 .same) _)
+    (record { count = refl; runs = refl }, kept-record (now (g .args .block)) (now (g .args .output)) (g .args .from) (g .pre .0 .same))
 
 returns-3 : tie.Need-returns-3
 returns-3 c =

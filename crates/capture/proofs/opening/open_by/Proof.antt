@@ -34,9 +34,7 @@ open-records-requires c κs =
 returns : tie.Need-returns
 returns c =
     let call = c .before .before .before in
-    let a = call .before .before .before .before .args in
-    let judged = found-bad (now (a .settings)) (now (a .block)) _ _ (sym (call .call-directory .ensures) ∙ c .before .refusal .given .1) in
-    opening-bad (a .near) (now (a .settings)) (now (a .block)) (now (a .output)) _ judged
+    opening-bad _ _ _ _ _ (found-bad _ _ _ _ (sym (call .call-directory .ensures) ∙ c .before .refusal .given .1))
 
 returns-2 : tie.Need-returns-2
 returns-2 c =
@@ -44,10 +42,8 @@ returns-2 c =
     let opened-all = told .before .before .before in
     let q = opened-all .open-records .ensures in
     let x = opened-all .before .before .before .before .before .before .before .before in
-    let a = x .before .before .before .before .before .before .args in
-    let judged = found-good (now (a .settings)) (now (a .block)) _ _ (found x) in
-    opening-good (a .near) (now (a .settings)) (now (a .block)) (now (a .output)) judged _ _ _ _ _ (q .0) (told .expansions .ensures)
-    (c .before .signed .ensures) (c .signed2 .ensures) (q .1)
+    opening-good _ _ _ _ (found-good _ _ _ _ (found x)) _ _ _ _ _ (q .0) (told .expansions .ensures) (c .before .signed .ensures) (c .signed2 .ensures)
+    (q .1)
 
 pub open-by-spec : {M : Type 1} → statement M
 open-by-spec =

@@ -26,17 +26,15 @@ put-numbers-requires c κs = let q = call-good _ _ _ _ (found (c .before .before
 returns : tie.Need-returns
 returns c =
     let call = c .before .before .before in
-    let a = call .before .before .before .before .args in
-    judging-bad (a .near) (now (a .settings)) (now (a .block)) (now (a .output)) _ (sym (call .call-directory .ensures) ∙ c .before .refusal .given .1)
+    judging-bad _ _ _ _ _ (sym (call .call-directory .ensures) ∙ c .before .refusal .given .1)
 
 returns-2 : tie.Need-returns-2
 returns-2 c =
     let put = c .before .before .before .before in
     let x = put .before .before .before in
-    let a = x .before .before .before .before .before .before .args in
     let q = put .put-numbers .ensures in
-    judging-good (a .near) (now (a .settings)) (now (a .block)) (now (a .output)) _ (found x) (good _ _ (call-good _ _ _ _ (found x) .2) .count) _ _ _ _
-    (q .0) (c .before .signed .ensures) (c .signed2 .ensures) (q .1)
+    judging-good _ _ _ _ _ (found x) (good _ _ (call-good _ _ _ _ (found x) .2) .count) _ _ _ _ (q .0) (c .before .signed .ensures) (c .signed2 .ensures)
+    (q .1)
 
 pub verdicts-by-spec : {M : Type 1} → statement M
 verdicts-by-spec =

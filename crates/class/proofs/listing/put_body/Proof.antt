@@ -1,10 +1,7 @@
 -- `class::listing::put_body` meets its contract: the rows of a call that goes on, or the row of its refusal. Assumes nothing.
-use mathlib.Core.Path.{_≡_, sym, ap, _∙_}
+use mathlib.Core.Path.{_≡_, sym, _∙_}
 use mathlib.Core.Bool.{true}
-use mathlib.Core.List.{List, _++_}
-use Prim.Native.Nat.{ℕ}
 use native.Mathlib.Omega.{arith}
-use lib.ListN.{take}
 use denote.Ref.{now}
 use borrow.Author.Needs.{needs}
 use Rattle.rows.proofs.Lines.{refused-row-few}
@@ -12,6 +9,7 @@ use Rattle.rows.proofs.Texts.{line-put}
 use Rattle.directory.specs.declared.Directory.the-variants.{Good}
 use Rattle.reading.specs.Listing.{lineOctets}
 use Rattle.directory.proofs.Records.{good}
+use Rattle.directory.proofs.Filling.{appended-as}
 use Rattle.class.specs.Reading.{callFor}
 use Rattle.class.specs.Listing.{bodyAfter}
 use Rattle.class.proofs.Calls.{found}
@@ -36,17 +34,9 @@ returns c =
     let row = at-line .before in
     let x = row .before .before .before in
     let g = start (x .before .before) in
-    let a = g .args in
     let few = refused-row-few (x .refusal .given .0 .0) in
-    let q = line-put _ _ _ _ lineOctets _ (at-line .put-line .ensures) (omega (arith, row .refused-row .ensures .used, few)) (omega (arith, g .pre)) in (
-      (q .0 .0, omega (arith, q .0 .1)),
-      (
-        q .1 .0
-            ∙ rw (← x .before .before .call-for .ensures, x .refusal .given .1)
-            (ap (λ (t : List ℕ). take (a .at) (now (a .text)) ++ t) (row .refused-row .ensures .octets)),
-        q .1 .1,
-      ),
-    )
+    let q = line-put _ _ _ _ lineOctets _ (at-line .put-line .ensures) (omega (arith, row .refused-row .ensures .used, few)) (omega (arith, g .pre)) in
+    appended-as _ _ _ _ _ _ q (rw (← x .before .before .call-for .ensures, x .refusal .given .1) (row .refused-row .ensures .octets)) (omega arith)
 
 returns-2 : tie.Need-returns-2
 unfolding bodyAfter
@@ -54,7 +44,7 @@ returns-2 c =
     let x = c .before .before .before .before .before in
     let f = found _ _ _ _ _ _ (went-on x) in
     let q = c .before .before .put-rows .ensures in
-    (q .0, (q .1 .0 ∙ rw (went-on x, good _ _ (f .good) .count), q .1 .1))
+    appended-as _ _ _ _ _ _ q (rw (went-on x, good _ _ (f .good) .count)) (omega arith)
 
 pub put-body-spec : {M : Type 1} → statement M
 put-body-spec =

@@ -1,9 +1,8 @@
 -- `class::listing::put_input` meets its contract: the input's parts are those of the definition. Assumes nothing.
-use mathlib.Core.Path.{sym, ap, _∙_}
-use mathlib.Core.List.{List, _++_}
-use Prim.Native.Nat.{ℕ, _<_}
+use mathlib.Core.Path.{sym, _∙_}
+use Prim.Native.Nat.{_<_}
 use native.Mathlib.Omega.{arith}
-use lib.ListN.{length, take}
+use lib.ListN.{length}
 use denote.Ref.{now}
 use borrow.Author.Needs.{needs}
 use borrow.Author.Tests.{lt-ltb, le-ltb}
@@ -11,6 +10,7 @@ use Rattle.octets.proofs.Choice.{pick-true, pick-false}
 use Rattle.refusal.specs.declared.Refusal.the-variants.{BadLength}
 use Rattle.rows.proofs.Lines.{refused-row-few}
 use Rattle.rows.proofs.Texts.{line-put}
+use Rattle.directory.proofs.Filling.{appended-as}
 use Rattle.reading.specs.Listing.{lineOctets}
 use Rattle.rights.proofs.Sets.{product-below}
 use Rattle.class.specs.Input.{inputBody}
@@ -28,10 +28,8 @@ returns c =
     let a = g .args in
     let few = refused-row-few BadLength in
     let q = line-put _ _ _ _ lineOctets _ (at-line .put-line .ensures) (omega (arith, row .refused-row .ensures .used, few)) (omega (arith, g .pre)) in
-    let short = pick-true {t = _} _ _ (lt-ltb (length (now (a .input))) 3 (at-then .if1 .taken)) in (
-      (q .0 .0, omega (arith, q .0 .1)),
-      (q .1 .0 ∙ ap (λ (t : List ℕ). take (a .at) (now (a .text)) ++ t) (row .refused-row .ensures .octets ∙ sym short), q .1 .1),
-    )
+    let short = pick-true {t = _} _ _ (lt-ltb (length (now (a .input))) 3 (at-then .if1 .taken)) in
+    appended-as _ _ _ _ _ _ q (row .refused-row .ensures .octets ∙ sym short) (omega arith)
 
 mul-size : tie.Need-mul-size
 mul-size c =
@@ -63,7 +61,7 @@ returns-2 c =
     (at-sets .part-of .ensures)
     (at-rights .part-of2 .ensures) (at-block .part-of3 .ensures) in
     let long = pick-false {t = _} _ _ (le-ltb (length (now (a .input))) 3 (at-else .if1 .left)) in
-    (q .0, (q .1 .0 ∙ ap (λ (t : List ℕ). take (a .at) (now (a .text)) ++ t) (parts ∙ sym long), q .1 .1))
+    appended-as _ _ _ _ _ _ q (parts ∙ sym long) (omega arith)
 
 pub put-input-spec : {M : Type 1} → statement M
 put-input-spec =

@@ -1,7 +1,9 @@
 -- `class::opening::expand_at` meets its contract: its test is that of a key to be expanded. Assumes nothing.
 use mathlib.Core.Path.{_≡_, sym, ap, _∙_}
+use mathlib.Core.Bool.{Bool}
 use mathlib.Core.List.{List}
-use Prim.Native.Nat.{ℕ, _/_, _%_}
+use Prim.Native.Nat.{ℕ, _%_}
+use lib.Dec.{eqb}
 use lib.ListN.{length}
 use borrow.Author.Needs.{needs}
 use borrow.Author.Tests.{not-true, not-false}
@@ -9,7 +11,6 @@ use denote.Ref.{now}
 use Rattle.octets.specs.Choice.{both}
 use Rattle.records.specs.Settings.{keyPresent, keyOf}
 use Rattle.cipher.specs.KeyExpansion.{keyExpansion}
-use Rattle.rights.specs.Settings.{setOf}
 use Rattle.class.specs.Opening.{isExpanded}
 use Rattle.class.proofs.Expanding.{not-expanded, expanded-there}
 use Rattle.class.proofs.opening.expand_at.Statement.{statement}
@@ -22,51 +23,37 @@ start c = c .before .before .before .before .before .before .before .before
 size : (c : tie.After-expand-key) → length (c .expand-key .result .octets) ≡ 176
 size c = search needs
 
-returns : tie.Need-returns
-unfolding isExpanded both keyPresent
-returns c =
-    let at-bit = c .before in
-    let at-presence = at-bit .before in
-    let at-may = at-presence .before in
-    let at-rights = at-may .before in
-    let at-set = at-rights .before in
-    let a = start at-bit .args in
-    not-expanded (a .caller) (now (a .sets)) (now (a .rights)) (now (a .keys)) (a .k)
-    (rw (
-      sym (at-set .set-at .ensures),
+-- the test made is that of a key to be expanded
+tested : (c : tie.After-bit) {v : Bool} → both (c .before .before .may-open .result) (eqb (c .bit .result) 1) ≡ v
+    → let a = start c .args in isExpanded (a .caller) (now (a .sets)) (now (a .rights)) (a .k) ≡ v
+unfolding isExpanded keyPresent
+tested c e =
+    let at-presence = c .before in
+    let at-rights = at-presence .before .before in
+    rw (
+      sym (at-rights .before .set-at .ensures),
       sym (at-rights .rights-at .ensures),
-      sym (at-may .may-open .ensures),
+      sym (at-presence .before .may-open .ensures),
       sym (at-presence .presence .ensures),
-      sym (at-bit .bit .ensures),
+      sym (c .bit .ensures),
     )
-    (not-true _ (c .if1 .taken)))
+    e
+
+returns : tie.Need-returns
+unfolding both
+returns c = not-expanded _ _ _ _ _ (tested (c .before) (not-true _ (c .if1 .taken)))
 
 returns-2 : tie.Need-returns-2
-unfolding isExpanded both keyPresent
+unfolding both
 returns-2 c =
     let at-copy = c .before .before in
     let at-expand = at-copy .before .before .before .before in
-    let at-key = at-expand .before in
-    let at-else = at-key .before in
+    let at-else = at-expand .before .before in
     let at-bit = at-else .before in
-    let at-presence = at-bit .before in
-    let at-may = at-presence .before in
-    let at-rights = at-may .before in
-    let at-set = at-rights .before in
     let g = start at-bit in
-    let a = g .args in
-    let w : at-expand .expand-key .result .octets ≡ keyExpansion (keyOf (setOf (now (a .sets)) (a .k / 2)) (a .k % 2)) =
-    at-expand .expand-key .ensures ∙ ap keyExpansion (at-key .key .ensures ∙ ap (λ (x : List ℕ). keyOf x (a .k % 2)) (at-set .set-at .ensures)) in
-    expanded-there (a .caller) (now (a .sets)) (now (a .rights)) (now (a .keys)) (a .k) _ _ (g .pre .1) (g .pre .0) (size at-expand)
-    (rw (
-      sym (at-set .set-at .ensures),
-      sym (at-rights .rights-at .ensures),
-      sym (at-may .may-open .ensures),
-      sym (at-presence .presence .ensures),
-      sym (at-bit .bit .ensures),
-    )
-    (not-false _ (at-else .if1 .left)))
-    w (at-copy .copy-at .ensures)
+    let set = at-bit .before .before .before .before .set-at .ensures in
+    let w = at-expand .expand-key .ensures ∙ ap keyExpansion (at-expand .before .key .ensures ∙ ap (λ (x : List ℕ). keyOf x (g .args .k % 2)) set) in
+    expanded-there _ _ _ _ _ _ _ (g .pre .1) (g .pre .0) (size at-expand) (tested at-bit (not-false _ (at-else .if1 .left))) w (at-copy .copy-at .ensures)
 
 pub expand-at-spec : {M : Type 1} → statement M
 expand-at-spec =

@@ -1,5 +1,8 @@
 -- `class::opening::open_for` meets its contract: a refused call changes nothing, an accepted one expands the keys, copies and opens. Assumes nothing.
 use mathlib.Core.Path.{_≡_, refl, sym, _∙_}
+use mathlib.Core.Bool.{Bool}
+use mathlib.Core.List.{List}
+use Prim.Native.Nat.{ℕ}
 use lib.Dec.{eqb}
 use lib.ListN.{length}
 use borrow.Author.Needs.{needs}
@@ -7,7 +10,10 @@ use borrow.Author.Tests.{eqb-true}
 use denote.Ref.{now}
 use Rattle.octets.proofs.Lists.{copied-whole}
 use Rattle.directory.specs.declared.Directory.the-variants.{Good}
+use Rattle.rights.specs.declared.settings.Caller.{Caller}
 use Rattle.class.specs.Reading.{callFor}
+use Rattle.class.specs.Secrecy.{Secret, Example}
+use Rattle.class.specs.Claims.{Reader}
 use Rattle.class.specs.Opening.{openingAfter, openingFor}
 use Rattle.class.proofs.Calls.{found, opening-good}
 use Rattle.class.proofs.Secrets.{secret}
@@ -16,6 +22,11 @@ use Rattle.class.proofs.Alone.{reads-alone}
 use Rattle.class.proofs.Examples.{pair}
 use Rattle.class.proofs.opening.open_for.Statement.{statement}
 use Rattle.class.proofs.opening.open_for.Tie as tie
+
+-- what holds of every call
+claims : (near : Bool) (c : Caller) (s q b out : List ℕ) → Secret near c s q b out × (Reader near c s q b out × Example)
+claims near c s q b out =
+    (secret near c s q b out, (record { own = reads-own c s q b; alone = reads-alone near s b out; few = few-expansions c s q b }, pair))
 
 abbrev start : tie.After-n → tie.Start
 start c = c .before .before .before .before .before .before .before
@@ -47,22 +58,7 @@ open-records-requires c κs =
 
 returns : tie.Need-returns
 unfolding openingFor openingAfter
-returns c =
-    let call = c .before .before .before in
-    let a = call .before .before .before .before .before .args in (
-      rw (← call .call-for .ensures, c .before .refusal .given .1),
-      (
-        secret (a .near) (a .caller) (now (a .sets)) (now (a .rights)) (now (a .block)) (now (a .output)),
-        (
-          record {
-            own = reads-own (a .caller) (now (a .sets)) (now (a .rights)) (now (a .block));
-            alone = reads-alone (a .near) (now (a .sets)) (now (a .block)) (now (a .output));
-            few = few-expansions (a .caller) (now (a .sets)) (now (a .rights)) (now (a .block));
-          },
-          pair,
-        ),
-      ),
-    )
+returns c = (rw (← c .before .before .before .call-for .ensures, c .before .refusal .given .1), claims _ _ _ _ _ _)
 
 returns-2 : tie.Need-returns-2
 returns-2 c =
@@ -71,22 +67,9 @@ returns-2 c =
     let at-copy = at-open .before .before .before .before .before in
     let at-expand = at-copy .before .before .before in
     let x = at-expand .before .before .before in
-    let a = start x .args in
     let q = at-open .open-records .ensures in (
-      opening-good (a .near) (a .caller) (now (a .sets)) (now (a .rights)) (now (a .block)) (now (a .output)) _ (went-on x) _ _ _ _ _ (q .0)
-          (at-expand .expand-for .ensures .0)
-          (at-signed .signed .ensures) (c .signed2 .ensures) (q .1),
-      (
-        secret (a .near) (a .caller) (now (a .sets)) (now (a .rights)) (now (a .block)) (now (a .output)),
-        (
-          record {
-            own = reads-own (a .caller) (now (a .sets)) (now (a .rights)) (now (a .block));
-            alone = reads-alone (a .near) (now (a .sets)) (now (a .block)) (now (a .output));
-            few = few-expansions (a .caller) (now (a .sets)) (now (a .rights)) (now (a .block));
-          },
-          pair,
-        ),
-      ),
+      opening-good _ _ _ _ _ _ _ (went-on x) _ _ _ _ _ (q .0) (at-expand .expand-for .ensures .0) (at-signed .signed .ensures) (c .signed2 .ensures) (q .1),
+      claims _ _ _ _ _ _,
     )
 
 pub open-for-spec : {M : Type 1} → statement M

@@ -15,9 +15,10 @@ use Rattle.records.specs.Settings.{macOf}
 use Rattle.records.specs.Block.{recordFrom}
 use Rattle.records.specs.Record.{recordOctets}
 use Rattle.capture.specs.declared.opening.Work.{Work}
-use Rattle.reading.specs.Opening.{addedAs}
+use Rattle.reading.specs.Opening.{writtenAs, addedAs}
+use Rattle.directory.proofs.Rebuilding.{kept-record}
 use Rattle.capture.specs.Duties.{Opens}
-use Rattle.capture.proofs.InPlace.{clear-kept, refused-kept, opened-by, nonce-fits}
+use Rattle.capture.proofs.InPlace.{opened-by, nonce-fits}
 use Rattle.capture.proofs.Spans.{lies-fits, span-opened}
 use Rattle.rights.specs.Settings.{setOf}
 use Rattle.class.proofs.Expanding.{handed}
@@ -33,20 +34,18 @@ opens : (c : tie.After-verdict)
 opens c = start c .pre .1 .1 .opens _ _ (c .verdict .given .1)
 
 returns : tie.Need-returns
-unfolding addedAs
+unfolding addedAs writtenAs
 returns c =
     let g = c .before .before .before .before .before .before in
-    let a = g .args in
     rw (c .enum-told .given .1)
-    (record { count = refl; runs = refl }, clear-kept (setOf (now (a .sets)) (a .j)) (now (a .block)) (now (a .output)) (a .from) (g .pre .1 .0 .same))
+    (record { count = refl; runs = refl }, kept-record (now (g .args .block)) (now (g .args .output)) (g .args .from) (g .pre .1 .0 .same))
 
 returns-2 : tie.Need-returns-2
-unfolding addedAs
+unfolding addedAs writtenAs
 returns-2 c =
     let g = c .before .before .before .before .before .before in
-    let a = g .args in
     rw (c .enum-told2 .given .1)
-    (record { count = refl; runs = refl }, refused-kept (setOf (now (a .sets)) (a .j)) (now (a .block)) (now (a .output)) (a .from) (g .pre .1 .0 .same) _)
+    (record { count = refl; runs = refl }, kept-record (now (g .args .block)) (now (g .args .output)) (g .args .from) (g .pre .1 .0 .same))
 
 add-key-at : tie.Need-add-key-at
 add-key-at c = record { fits = omega (arith, start (c .before .before .before) .pre .0 .0, opens (c .before .before .before) .index) }

@@ -4,8 +4,9 @@ use native.Mathlib.Omega.{arith}
 use borrow.Author.Needs.{needs}
 use denote.Ref.{now}
 use Rattle.records.specs.declared.header.Header.{Header}
+use Rattle.directory.proofs.Rebuilding.{kept-record}
 use Rattle.class.specs.Opening.{writtenFor, addedFor}
-use Rattle.class.proofs.Placing.{hidden-placed, seen-kept}
+use Rattle.class.proofs.Placing.{hidden-placed}
 use Rattle.class.proofs.opening.write_for.Statement.{statement}
 use Rattle.class.proofs.opening.write_for.Tie as tie
 
@@ -42,8 +43,8 @@ returns-2 : tie.Need-returns-2
 unfolding writtenFor addedFor
 returns-2 c =
     let g = c .before .before .before .before .before .before in
-    let a = g .args in
-    rw (c .enum-told2 .given .1) (record { count = refl; runs = refl }, seen-kept (now (a .block)) (now (a .output)) (a .from) (g .pre .1 .0 .same))
+    rw (c .enum-told2 .given .1)
+    (record { count = refl; runs = refl }, kept-record (now (g .args .block)) (now (g .args .output)) (g .args .from) (g .pre .1 .0 .same))
 
 returns-3 : tie.Need-returns-3
 unfolding writtenFor addedFor

@@ -1,13 +1,10 @@
 -- `recordings::listing::put_body` meets its contract: the code of a refused call, the rows of an accepted one. Assumes nothing.
-use mathlib.Core.Path.{sym, ap, _∙_}
-use mathlib.Core.List.{List, _++_}
-use Prim.Native.Nat.{ℕ}
+use mathlib.Core.Path.{sym, _∙_}
 use native.Mathlib.Omega.{arith}
-use lib.ListN.{take}
-use denote.Ref.{now}
 use borrow.Author.Needs.{needs}
 use Rattle.rows.specs.Text.{rowOctets}
 use Rattle.rows.proofs.Texts.{line-put}
+use Rattle.directory.proofs.Filling.{appended-as}
 use Rattle.recordings.specs.Listing.{bodyAfter}
 use Rattle.recordings.proofs.Comparing.{comparable}
 use Rattle.recordings.proofs.listing.put_body.Statement.{statement}
@@ -29,8 +26,7 @@ returns c =
     let start = ruled .before .before .before .before in
     let q = line-put _ _ _ _ rowOctets _ (put .put-line .ensures) (made .denied-row .ensures .inside) (omega (arith, start .pre)) in
     let e = sym (ruled .rule .ensures) ∙ refused .refusal .given .1 in
-    let row = ap (λ (t : List ℕ). take (start .args .at) (now (start .args .text)) ++ t) (made .denied-row .ensures .octets) in
-    ((q .0 .0, omega (arith, q .0 .1)), (q .1 .0 ∙ rw e row, q .1 .1))
+    appended-as _ _ _ _ _ _ q (rw e (made .denied-row .ensures .octets)) (omega arith)
 
 returns-2 : tie.Need-returns-2
 unfolding bodyAfter
@@ -38,8 +34,7 @@ returns-2 c =
     let put = c .before .before in
     let told = put .before .before in
     let e = sym (told .before .before .rule .ensures) ∙ told .enum-told .given .1 in
-    let q = put .put-rows .ensures in
-    (q .0, (q .1 .0 ∙ rw e, q .1 .1))
+    appended-as _ _ _ _ _ _ (put .put-rows .ensures) (rw e) (omega arith)
 
 pub put-body-spec : {M : Type 1} → statement M
 put-body-spec =

@@ -1,9 +1,9 @@
 -- `recordings::listing::put_input` meets its contract: what is read of the input is its LLID and its two blocks. Assumes nothing.
-use mathlib.Core.Path.{_≡_, sym, ap, _∙_}
-use mathlib.Core.List.{List, _++_}
+use mathlib.Core.Path.{_≡_, sym, _∙_}
+use mathlib.Core.List.{List}
 use Prim.Native.Nat.{ℕ, _+_, _≤_, _<_}
 use native.Mathlib.Omega.{arith}
-use lib.ListN.{length, take, drop, length-drop}
+use lib.ListN.{length, drop, length-drop}
 use lib.Seq.{take-all}
 use denote.Ref.{now}
 use borrow.Author.Needs.{needs}
@@ -14,6 +14,7 @@ use Rattle.refusal.specs.declared.Refusal.the-variants.{BadLength}
 use Rattle.rows.specs.Text.{rowOctets}
 use Rattle.rows.specs.Entries.{deniedRow}
 use Rattle.rows.proofs.Texts.{line-put}
+use Rattle.directory.proofs.Filling.{appended-as}
 use Rattle.recordings.specs.Comparing.{outputOctets, rulingOn}
 use Rattle.recordings.specs.Listing.{headOctets, askedLlid, firstLength, bodyAfter, bodyOf}
 use Rattle.recordings.proofs.listing.put_input.Statement.{statement}
@@ -42,8 +43,7 @@ returns c =
     let start = then .before .before .before .before in
     let q = line-put _ _ _ _ rowOctets _ (put .put-line .ensures) (made .denied-row .ensures .inside) (omega (arith, start .pre)) in
     let e = no-blocks (now (start .args .input)) _ (then .before .number32 .ensures) (then .if1 .taken) in
-    let row = ap (λ (t : List ℕ). take (start .args .at) (now (start .args .text)) ++ t) (made .denied-row .ensures .octets ∙ sym e) in
-    ((q .0 .0, omega (arith, q .0 .1)), (q .1 .0 ∙ row, q .1 .1))
+    appended-as _ _ _ _ _ _ q (made .denied-row .ensures .octets ∙ sym e) (omega arith)
 
 returns-2 : tie.Need-returns-2
 returns-2 c =
@@ -53,10 +53,9 @@ returns-2 c =
     let asked = first .before in
     let else = asked .before in
     let start = else .before .before .before .before in
-    let q = put .put-body .ensures in
     let whole = two-blocks (now (start .args .input)) _ _ _ _ (else .before .number32 .ensures) (else .if1 .left) in
     let e = whole (asked .number16 .ensures) (first .part-of .ensures) (second .part-of2 .ensures) in
-    (q .0, (q .1 .0 ∙ ap (λ (t : List ℕ). take (start .args .at) (now (start .args .text)) ++ t) e, q .1 .1))
+    appended-as _ _ _ _ _ _ (put .put-body .ensures) e (omega arith)
 
 pub put-input-spec : {M : Type 1} → statement M
 put-input-spec =

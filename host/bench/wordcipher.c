@@ -56,10 +56,24 @@ static inline struct rows mixed(struct rows s, struct rows k)
     return (struct rows){x ^ s.b ^ cd ^ k.a, y ^ s.a ^ cd ^ k.b, z ^ s.d ^ ab ^ k.c, x ^ y ^ z ^ s.c ^ ab ^ k.d};
 }
 
-static inline struct rows lone_round(struct rows s, struct rows k)
+/* Octet j of x and an octet of a round key, added and substituted. */
+static inline uint64_t keyed(uint64_t x, int j, uint8_t key)
 {
-    struct rows t = {shifted_row(s.a, 0, 0), shifted_row(s.b, 1, 0), shifted_row(s.c, 2, 0), shifted_row(s.d, 3, 0)};
-    return mixed(t, k);
+    return sbox[(uint8_t)(x >> 8 * j) ^ key];
+}
+
+/* Row k of one state after AddRoundKey, SubBytes and ShiftRows: adding the key's octets here is faster than gathering its rows. */
+static inline uint64_t keyed_row(const uint8_t *key, uint64_t x, int k)
+{
+    return four(keyed(x, k, key[5 * k]), keyed(x, (k + 1) % 4, key[k + 4 * ((k + 1) % 4)]),
+                keyed(x, (k + 2) % 4, key[k + 4 * ((k + 2) % 4)]), keyed(x, (k + 3) % 4, key[k + 4 * ((k + 3) % 4)]));
+}
+
+/* AddRoundKey, and a round up to its own AddRoundKey. */
+static inline struct rows lone_round(const uint8_t *key, struct rows s)
+{
+    struct rows t = {keyed_row(key, s.a, 0), keyed_row(key, s.b, 1), keyed_row(key, s.c, 2), keyed_row(key, s.d, 3)};
+    return mixed(t, (struct rows){0, 0, 0, 0});
 }
 
 static inline struct rows pair_round(struct rows s, struct rows k)
@@ -100,12 +114,24 @@ static inline struct block last_round(const uint8_t *round_keys, struct rows s)
     return (struct block){shifted_columns(s, 0) ^ low, shifted_columns(s, 2) ^ high};
 }
 
+/* Column i after AddRoundKey, SubBytes and ShiftRows. */
+static inline uint64_t keyed_column(const uint8_t *key, struct rows s, int i)
+{
+    return four(keyed(s.a, i, key[4 * i]), keyed(s.b, (i + 1) % 4, key[1 + 4 * ((i + 1) % 4)]),
+                keyed(s.c, (i + 2) % 4, key[2 + 4 * ((i + 2) % 4)]), keyed(s.d, (i + 3) % 4, key[3 + 4 * ((i + 3) % 4)]));
+}
+
 static inline struct block encrypt_lone(const uint8_t *round_keys, const uint8_t *block)
 {
-    struct rows s = added(rows_of(block), rows_of(round_keys));
-    for (int n = 1; n < 10; n++)
-        s = lone_round(s, rows_of(round_keys + 16 * n));
-    return last_round(round_keys, s);
+    struct rows s = rows_of(block);
+    for (int n = 0; n < 9; n++)
+        s = lone_round(round_keys + 16 * n, s);
+    const uint8_t *ninth = round_keys + 144;
+    uint64_t low, high;
+    memcpy(&low, round_keys + 160, 8);
+    memcpy(&high, round_keys + 168, 8);
+    return (struct block){(keyed_column(ninth, s, 0) | keyed_column(ninth, s, 1) << 32) ^ low,
+                          (keyed_column(ninth, s, 2) | keyed_column(ninth, s, 3) << 32) ^ high};
 }
 
 /* What varies of a row of two blocks after SubBytes and ShiftRows of round 1: an octet of each block's index. */

@@ -10,7 +10,6 @@ ghost use Rattle.refusal.specs.declared.Verdict.the-variants.{Accepted};
 ghost use Rattle.ends.specs.Identities.{among, has, llidsOf, meets};
 ghost use Rattle.refusal.specs.Order.{refuseIf};
 ghost use Rattle.ends.specs.Table.{findFrom, foundNumber, tableLlids};
-ghost use Rattle.ends.specs.declared.Found.the-variants.{Nowhere};
 use crate::Found;
 use crate::Identity;
 use crate::UnitRecord;

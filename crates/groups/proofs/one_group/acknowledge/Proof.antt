@@ -1,6 +1,6 @@
 -- `groups::one_group::acknowledge` meets its contract: the group decides, and the member is marked where it accepts. Assumes nothing.
 use borrow.Author.Needs.{needs}
-use mathlib.Core.Path.{_≡_, refl, sym, _∙_}
+use mathlib.Core.Path.{_≡_, refl, sym}
 use Rattle.refusal.specs.declared.Verdict.{Verdict}
 use Rattle.protocol.specs.Replies.{silent}
 use Rattle.unit.specs.Reached.{ifAccepted}

@@ -1,7 +1,7 @@
 // What sealing takes and answers that needs no cipher (01, Counter block and mask, When the reader says no: 14, 1): the counter
 // block, the count, and the verdict on a call. The control mask is defined here, and made where the cipher is (D109).
 ghost use mathlib.Core.Path.{_≡_};
-ghost use Prim.Native.Nat.{_-_};
+ghost use Prim.Native.Nat.{_≤_};
 ghost use lib.Count.{ones};
 ghost use Rattle.envelope.specs.Acceptance.{lengthsFit, nonceFits, sealVerdict};
 ghost use Rattle.envelope.specs.Answer.{sealNumber, sealCount, sealRuns};
@@ -79,11 +79,11 @@ pub fn data_octet(payload: &[u8], e: u32, j: u8) -> u8
     octet_at(payload, EQ_OCTETS * e as usize + 1 + j as usize)
 }
 
-// The octets of an EQ that sealing enciphers, by its control octet.
-pub fn enciphered_in(control: u8) -> u64
-    ensures { λ r. ⌜ r ≡ 8 - ones control ⌝ }
+// The control characters of an EQ, by its control octet.
+pub fn ones_in(control: u8) -> u64
+    ensures { λ r. ⌜ (r ≡ ones control) × (r ≤ 8) ⌝ }
 {
-    (8 - u8::count_ones(control)) as u64
+    u8::count_ones(control) as u64
 }
 
 // The octets that sealing enciphers.
@@ -93,7 +93,7 @@ pub fn count(payload: &[u8]) -> u64
     let eqs = payload.len() / EQ_OCTETS;
     let mut sum: u64 = 0;
     for e in 0..eqs {
-        sum += enciphered_in(payload[EQ_OCTETS * e]);
+        sum += 8 - ones_in(payload[EQ_OCTETS * e]);
     }
     sum
 }

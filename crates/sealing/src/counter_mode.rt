@@ -31,9 +31,9 @@ use cipher::row_words::second;
 use envelope::Nonce;
 use envelope::SealAnswer;
 use envelope::counter_block;
-use envelope::enciphered_in;
 use envelope::lengths_fit;
 use envelope::nonce_fits;
+use envelope::ones_in;
 use envelope::seal_verdict;
 use refusal::Verdict;
 
@@ -62,21 +62,22 @@ fn mask_eq(payload: &mut [u8], half: u64, at: usize)
     }
 }
 
-// The one or two EQs that cipher block `i` serves, under that block. Tells the octets that it enciphers.
+// The one or two EQs that cipher block `i` serves, under that block. Tells the octets that it enciphers. Ones are added up before they are taken from
+// 16: taken from 8 EQ by EQ, the compiler turns each control octet over to count its ones (D69).
 fn mask_block(payload: &mut [u8], block: Block, i: usize) -> u64
     requires { ⌜ length (now payload) % 9 ≡ 0 ⌝ }
     requires { ⌜ (18 * i < length (now payload)) × (i < maxBlocks) ⌝ }
     ensures { λ r. ⌜ Masked block i (now (payload .entry)) (now (payload .exit)) r ⌝ }
 {
     let at = 18 * i;
-    let first = enciphered_in(payload[at]);
+    let first = ones_in(payload[at]);
     mask_eq(payload, block.low, at);
     if at + 9 < payload.len() {
-        let second = enciphered_in(payload[at + 9]);
+        let second = ones_in(payload[at + 9]);
         mask_eq(payload, block.high, at + 9);
-        return first + second;
+        return 16 - (first + second);
     }
-    first
+    8 - first
 }
 
 // Block `i` by itself; tells the work.

@@ -34,7 +34,7 @@ loop-again : tie.Need-loop-again Inv-loop μ-loop
 loop-again c = (
   search needs,
   refl,
-  rw (c .before .before .before .loop .inv .2, c .enciphered-in .ensures, add-one, sum-suc, zero-add),
+  rw (c .before .before .before .loop .inv .2, c .ones-in .ensures .0, add-one, sum-suc, zero-add),
 )
 
 returns : tie.Need-returns Inv-loop μ-loop
@@ -46,5 +46,5 @@ returns c =
 pub count-spec : {M : Type 1} → statement M
 count-spec =
     tie.close
-    (tie.spec Inv-loop μ-loop (λ c. search needs) (λ c. search needs) (λ c. search needs) (λ c κs. search needs) add-sum (λ c. search needs)
+    (tie.spec Inv-loop μ-loop (λ c. search needs) (λ c. search needs) (λ c. search needs) (λ c κs. search needs) (λ c. search needs) add-sum (λ c. search needs)
     (λ c. search needs) loop-again returns)

@@ -43,14 +43,12 @@ returns c =
     let last : min (b + 18) (length p) ≡ b + 9 + 9 = omega arith in
     let kept : getD (after-first .mask-eq .last .0) (b + 9) 0 ≡ getD p (b + 9) 0 =
     ap (λ (l : List ℕ). getD l (b + 9) 0) (after-first .mask-eq .ensures) ∙ replaced-past p (maskedEq (a .block .low) p b) b 0 (omega arith) in
+    let x = after-first .before .before .ones-in in
+    let y = second .before .before .ones-in2 in
+    let apart : 16 - (x .result + y .result) ≡ 8 - x .result + (8 - y .result) = omega (arith, x .ensures .1, y .ensures .1) in
     record {
-      counted = rw (
-        over-two p (a .i) (λ o. 8 - ones o) (omega arith),
-        after-first .before .before .enciphered-in .ensures,
-        second .before .before .enciphered-in2 .ensures,
-        kept,
-      );
-      few = omega (arith, after-first .before .before .enciphered-in .ensures, second .before .before .enciphered-in2 .ensures);
+      counted = apart ∙ rw (over-two p (a .i) (λ o. 8 - ones o) (omega arith), x .ensures .0, y .ensures .0, kept);
+      few = omega arith;
       sealed = λ w n enciphered.
           rw last
           (second .mask-eq2 .ensures
@@ -65,8 +63,8 @@ returns-2 c =
     let a = after-first .before .before .before .before .before .args in
     let last : min (18 * a .i + 18) (length (a .payload .now)) ≡ 18 * a .i + 9 = omega arith in
     record {
-      counted = rw (over-one (a .payload .now) (a .i) (λ o. 8 - ones o) (omega arith), after-first .before .before .enciphered-in .ensures);
-      few = omega (arith, after-first .before .before .enciphered-in .ensures);
+      counted = rw (over-one (a .payload .now) (a .i) (λ o. 8 - ones o) (omega arith), after-first .before .before .ones-in .ensures .0);
+      few = omega arith;
       sealed = λ w n enciphered. rw last (first after-first w n enciphered (18 * a .i) refl);
     }
 
@@ -74,5 +72,5 @@ pub mask-block-spec : {M : Type 1} → statement M
 mask-block-spec =
     tie.close
     (tie.spec (λ c. search needs) (λ c. search needs) (λ c κs. search needs) (λ c κs. search needs) (λ c. search needs) (λ c. search needs)
-    (λ c. search needs) (λ c κs. search needs) (λ c. search needs) (λ c κs. search needs) (λ c. search needs) (λ c. search needs) returns
-    (λ c. search needs) returns-2)
+    (λ c. search needs) (λ c κs. search needs) (λ c. search needs) (λ c κs. search needs) (λ c. search needs) (λ c. search needs) (λ c. search needs)
+    returns (λ c. search needs) (λ c. search needs) returns-2)

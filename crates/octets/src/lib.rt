@@ -1,5 +1,7 @@
 // Octets: the test of a bit, numbers in octets, the first octet highest, a copy, EQs, and what six octets hold. What reads at a
 // place takes any slice and any place: an octet that is not there is 0.
+#![tactic(auto)]
+
 ghost use Rattle.std.specs.Prelude.{◌≡◌, ◌<◌, length, get_or, replicate};
 ghost use Rattle.octets.specs.Bits.{bit_of};
 ghost use Rattle.octets.specs.BigEndian.{number_at, octets_of, six_octets};

@@ -1,9 +1,11 @@
 // The refusals of 01, 'When the reader says no', in the order of its table, then those of 02, and the code of each.
+#![tactic(auto)]
+
 ghost use Rattle.std.specs.Prelude.{◌≡◌};
 ghost use Rattle.refusal.specs.Number.{number_of, pair_number, verdict_number, verdict_pair};
 ghost use Rattle.refusal.specs.Order.{and_then, refuse_if};
 
-#[derive(Drop)]
+#[derive(Clone, Copy)]
 pub enum Refusal {
     // 1: a value outside its range
     OutOfRange,
@@ -128,7 +130,7 @@ pub fn pair(refusal: Refusal) -> u16
 }
 
 // What a call that gives nothing else decides.
-#[derive(Drop)]
+#[derive(Clone, Copy)]
 pub enum Verdict {
     Accepted,
     Refused(Refusal),
@@ -165,6 +167,7 @@ pub fn refuse_if(cause: bool, refusal: Refusal, rest: Verdict) -> Verdict
 }
 
 // The first verdict where it refuses, else the second.
+#[tactic(auto, unfolding(crate::specs::Order::and_then))]
 pub fn and_then(first: Verdict, second: Verdict) -> Verdict
     ensures { result ≡ and_then first second }
 {

@@ -1,5 +1,7 @@
 // GF(2^8) (FIPS 197, 4, 5.1.1 and 5.2): the substitution of each octet and the powers of x in the round constants, as tables, and the
 // doubling of octets, worked out. Each table has a file of its own; a user binds it once, and lends it.
+#![tactic(auto)]
+
 ghost use Rattle.std.specs.Prelude.{◌≡◌};
 ghost use Rattle.gf256.specs.Field.{Inverts, x_times};
 ghost use Rattle.gf256.specs.Lanes.{each_octet};
@@ -25,6 +27,7 @@ pub fn double_octets(x: u64) -> u64
     (low << 1) ^ (high * 0x1b)
 }
 
+#[tactic(auto, unfolding(crate::specs::Table::round_constants, crate::specs::Table::power_of_x, crate::specs::Field::x_times, crate::specs::Field::modulus, octets::specs::Bits::bit_of, octets::specs::Choice::pick))]
 pub fn round_constants() -> [u8; 10]
     ensures { result ≡ round_constants }
 {

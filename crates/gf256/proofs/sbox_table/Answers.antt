@@ -7,12 +7,9 @@ use Rattle.gf256.specs.Substitution.{affine_constant, affine_bit, affine, sbox}
 use Rattle.gf256.specs.Table.{table}
 use Rattle.gf256.proofs.Field.{inverts}
 use Rattle.gf256.proofs.Table.{tabulated}
-use Rattle.gf256.proofs.sbox_table.Statement.{statement}
-use Rattle.gf256.proofs.sbox_table.Tie as tie
+use Rattle.gf256.proofs.sbox_table.Goals as goal
 
-returns : tie.Need-returns
+pub returns : goal.returns
 unfolding table sbox affine affine_bit affine_constant inverse even_power square ◌•◌ terms x_times modulus bit_of pick
-returns c = (tabulated sbox _ 256 refl tt, inverts)
-
-pub sbox_table_spec : {M : Type 1} → statement M
-sbox_table_spec = tie.close (tie.spec returns)
+returns c =
+    record { entries = tabulated sbox _ 256 refl tt; inverse = inverts }

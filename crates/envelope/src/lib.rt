@@ -1,5 +1,7 @@
 // What sealing takes and answers that needs no cipher (01, Counter block and mask, When the reader says no: 14, 1): the counter
 // block, the count, and the verdict on a call. The control mask is defined here, and made where the cipher is (D109).
+#![tactic(auto)]
+
 ghost use Rattle.std.specs.Prelude.{◌≡◌, ◌≤◌};
 ghost use Rattle.std.specs.Int.Count.{ones};
 ghost use Rattle.envelope.specs.Acceptance.{lengths_fit, nonce_fits, seal_verdict};
@@ -22,14 +24,14 @@ const MAX_CHANNEL: u8 = 1;
 
 // Channel index, sender's MAC and cipher clock at the header: what tells one envelope's counter blocks from another's.
 #[repr(C)]
-#[derive(Drop)]
+#[derive(Clone, Copy)]
 pub struct Nonce {
     pub channel: u8,
     pub mac: u64,
     pub clock: u64,
 }
 
-#[derive(Drop)]
+#[derive(Clone, Copy)]
 pub enum SealAnswer {
     // the octets enciphered, and the runs of the cipher
     Done(u64, u64),
@@ -37,6 +39,7 @@ pub enum SealAnswer {
 }
 
 // Counter block `index` of the envelope.
+#[tactic(auto, unfolding(crate::specs::CounterBlock::counter_block))]
 pub fn counter_block(nonce: Nonce, index: u64) -> [u8; 16]
     ensures { result ≡ counter_block nonce index }
 {
@@ -84,6 +87,7 @@ pub fn ones_in(control: u8) -> u64
 }
 
 // The octets that sealing enciphers.
+#[tactic(auto, unfolding(crate::specs::ControlMask::count_enciphered))]
 pub fn count(payload: &[u8]) -> u64
     ensures { result ≡ count_enciphered payload.now }
 {
@@ -96,6 +100,7 @@ pub fn count(payload: &[u8]) -> u64
 }
 
 // Whether a channel index is 00 or 01 hex.
+#[tactic(auto, unfolding(crate::specs::Channels::downstream))]
 pub fn downstream(channel: u8) -> bool
     ensures { result ≡ downstream channel }
 {
@@ -103,6 +108,7 @@ pub fn downstream(channel: u8) -> bool
 }
 
 // Whether a channel index is 80 or 81 hex.
+#[tactic(auto, unfolding(crate::specs::Channels::upstream, octets::specs::Choice::both))]
 pub fn upstream(channel: u8) -> bool
     ensures { result ≡ upstream channel }
 {
@@ -110,18 +116,21 @@ pub fn upstream(channel: u8) -> bool
 }
 
 // Whether the channel of a channel index is 0.
+#[tactic(auto, unfolding(crate::specs::Channels::on_zero))]
 pub fn on_zero(channel: u8) -> bool
     ensures { result ≡ on_zero channel }
 {
     channel % UPSTREAM_BIT == 0
 }
 
+#[tactic(auto, unfolding(crate::specs::Channels::channel_fits, octets::specs::Choice::either))]
 pub fn channel_fits(channel: u8) -> bool
     ensures { result ≡ channel_fits channel }
 {
     downstream(channel) | upstream(channel)
 }
 
+#[tactic(auto, unfolding(crate::specs::Acceptance::nonce_fits, octets::specs::Choice::both))]
 pub fn nonce_fits(nonce: Nonce) -> bool
     ensures { result ≡ nonce_fits nonce }
 {
@@ -129,12 +138,14 @@ pub fn nonce_fits(nonce: Nonce) -> bool
 }
 
 // Whether n octets are a payload, and an output of m has as many.
+#[tactic(auto, unfolding(crate::specs::Acceptance::lengths_fit, octets::specs::Choice::both))]
 pub fn lengths_fit(n: usize, m: usize) -> bool
     ensures { result ≡ lengths_fit n m }
 {
     (n % EQ_OCTETS == 0) & ((n <= MAX_OCTETS) & (m == n))
 }
 
+#[tactic(auto, unfolding(crate::specs::Acceptance::seal_verdict))]
 pub fn seal_verdict(n: usize, m: usize, nonce: Nonce) -> Verdict
     ensures { result ≡ seal_verdict n m nonce }
 {

@@ -1,4 +1,6 @@
 // The cipher clock: 48 bits, stamps, the raise and EPAM (01, Clock). All numbers are taken modulo their turn, so that every argument has an answer.
+#![tactic(auto)]
+
 ghost use Rattle.std.specs.Prelude.{◌≡◌};
 ghost use Rattle.clock.specs.Ticks.{advanced, rewound, local_of, local_advanced, epam_of};
 ghost use Rattle.clock.specs.Stamping.{captured_at, raise_of, moved_by, raised_to};
@@ -25,7 +27,7 @@ pub const MAX_ROUND_TRIP: u64 = 1_000_000;
 
 // A clock message: the OLT's clock at the capture, and that clock plus the round trip. After the raise, a unit's Rx and Tx clocks.
 #[repr(C)]
-#[derive(Drop)]
+#[derive(Clone, Copy)]
 pub struct Stamps {
     pub rx: u64,
     pub tx: u64,
@@ -61,6 +63,7 @@ pub fn epam_of(clock: u64) -> u8
     (clock % EPAM_TURN as u64) as u8
 }
 
+#[tactic(auto, unfolding(crate::specs::Stamping::captured_at))]
 pub fn captured(clock: u64, trip: u64) -> Stamps
     ensures { result ≡ captured_at clock trip }
 {
@@ -78,6 +81,7 @@ pub fn raise(time: u32, stamps: Stamps) -> u32
     std::num::wrapping_sub_u32(time, local_of(stamps.tx))
 }
 
+#[tactic(auto, unfolding(crate::specs::Stamping::moved_by))]
 pub fn moved(stamps: Stamps, ticks: u64) -> Stamps
     ensures { result ≡ moved_by ticks stamps }
 {

@@ -151,7 +151,7 @@ step_kept (active k pair g) input = rw (pair_fits pair) (from_kl4 k pair g input
 pub played_sound : {p : Past} (inputs : List Input) → Sound p → Sound (played inputs p)
 unfolding played
 played_sound [] s = s
-played_sound (input ∷ inputs) s = played_sound inputs (step_kept s input).next
+played_sound {p = p} (input ∷ inputs) s = played_sound {p = answered p input (step_of p.exchange input)} inputs (step_kept s input).next
 
 pub start_sound : Sound start
 start_sound = inactive _

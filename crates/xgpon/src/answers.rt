@@ -14,14 +14,14 @@ pub const CONFIRM: u8 = 2;
 
 // A Key_Control message: its kind, 0 for none, and the key index that it names.
 #[repr(C)]
-#[derive(Drop)]
+#[derive(Clone, Copy)]
 pub struct KeyControl {
     pub kind: u8,
     pub index: u8,
 }
 
 #[repr(C)]
-#[derive(Drop)]
+#[derive(Clone, Copy)]
 pub struct Answer {
     // 0, or the refusal code
     pub number: u8,

@@ -7,7 +7,7 @@ use refusal::{Refusal, number};
 
 // The keys that are valid in a direction: the index of each, 0 where it is not.
 #[repr(C)]
-#[derive(Drop)]
+#[derive(Clone, Copy)]
 pub struct ValidKeys {
     // 0, or the refusal code
     pub number: u8,

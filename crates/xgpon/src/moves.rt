@@ -14,7 +14,7 @@ use crate::values::{
 use refusal::Refusal;
 
 // What the OLT is handed: a report with the key index that it names, the expiry of a timer, or a decision of its own.
-#[derive(Drop)]
+#[derive(Clone, Copy)]
 pub enum Input {
     NewKey(u8),
     ExistingKey(u8),

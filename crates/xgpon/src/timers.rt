@@ -10,7 +10,7 @@ pub const TK3_START_MS: u32 = 10;
 
 // A flag for each timer, 0 or 1.
 #[repr(C)]
-#[derive(Drop)]
+#[derive(Clone, Copy)]
 pub struct Timers {
     pub tk1: u8,
     pub tk2: u8,
@@ -49,7 +49,7 @@ pub(crate) const TK1_AND_TK3: Timers = Timers {
 
 // What each timer starts from, in milliseconds.
 #[repr(C)]
-#[derive(Drop)]
+#[derive(Clone, Copy)]
 pub struct TimerStarts {
     pub tk1: u32,
     pub tk2: u32,

@@ -19,7 +19,7 @@ pub(crate) const FIRST_INDEX: u8 = 1;
 pub(crate) const SECOND_INDEX: u8 = 2;
 
 #[repr(C)]
-#[derive(Drop)]
+#[derive(Clone, Copy)]
 pub struct KeyExchange {
     // 0 to 4, for KL0 to KL4
     pub state: u8,
@@ -36,7 +36,7 @@ pub(crate) const FRESH: KeyExchange = KeyExchange {
 };
 
 // The states, and what any other numbers stand for.
-#[derive(Drop)]
+#[derive(Clone, Copy)]
 pub enum State {
     KL0,
     KL1,

@@ -14,24 +14,28 @@ use crate::sends::{valid_channels, valid_first};
 use crate::{Found, Identity, Judged, Olt, Shared, Timer, UnitClock, UnitKeys, UnitRecord};
 use clock::{CLOCK_TURN, MAX_ROUND_TRIP, MAX_TICK};
 
+#[tactic(auto, unfolding(crate::specs::Timers::valid_interval, octets::specs::Choice::both))]
 pub fn valid_interval(interval: u64) -> bool
     ensures { result ≡ valid_interval interval }
 {
     (1 <= interval) & (interval <= MAX_INTERVAL)
 }
 
+#[tactic(auto, unfolding(crate::specs::Timers::valid_timer, octets::specs::Choice::both))]
 pub fn valid_timer(timer: Timer) -> bool
     ensures { result ≡ valid_timer timer }
 {
     valid_interval(timer.interval) & ((timer.count < timer.interval) & (timer.flag <= 1))
 }
 
+#[tactic(auto, unfolding(crate::specs::Validity::valid_numbers, octets::specs::Choice::both))]
 fn valid_numbers(confirmed: u32, active: u32, offered: u32) -> bool
     ensures { result ≡ valid_numbers confirmed active offered }
 {
     (confirmed <= active) & ((active <= offered) & (offered as u64 <= confirmed as u64 + 1))
 }
 
+#[tactic(auto, unfolding(crate::specs::Validity::valid_keys, octets::specs::Choice::both))]
 fn valid_keys(tick: u64, keys: UnitKeys) -> bool
     ensures { result ≡ valid_keys tick keys }
 {
@@ -40,6 +44,7 @@ fn valid_keys(tick: u64, keys: UnitKeys) -> bool
     timer & first
 }
 
+#[tactic(auto, unfolding(crate::specs::Validity::valid_unit_clock, octets::specs::Choice::both, octets::specs::Choice::either))]
 fn valid_unit_clock(tick: u64, clock: UnitClock) -> bool
     ensures { result ≡ valid_unit_clock tick clock }
 {
@@ -49,6 +54,7 @@ fn valid_unit_clock(tick: u64, clock: UnitClock) -> bool
                 & ((clock.sent <= 1) & (clock.acknowledged <= 1))))
 }
 
+#[tactic(auto, unfolding(crate::specs::Validity::valid_unit, octets::specs::Choice::both))]
 pub fn valid_unit(tick: u64, unit: UnitRecord) -> bool
     ensures { result ≡ valid_unit tick unit }
 {
@@ -63,6 +69,7 @@ pub fn valid_unit(tick: u64, unit: UnitRecord) -> bool
     identity & (keys & (numbers & ((unit.confirmation.acknowledged <= 1) & clock)))
 }
 
+#[tactic(auto, unfolding(crate::specs::Validity::valid_shared, octets::specs::Choice::both))]
 pub fn valid_shared(shared: Shared) -> bool
     ensures { result ≡ valid_shared shared }
 {
@@ -80,12 +87,14 @@ const MARK_PLACES: usize = 256;
 const CROWDED: u8 = 255;
 
 // Where an LLID leaves its mark.
+#[tactic(auto, unfolding(crate::specs::Marks::mark_place))]
 fn mark_place(llid: u16) -> usize
     ensures { result ≡ mark_place llid }
 {
     (llid as u32 * 40503 % 65536) as usize / MARK_PLACES
 }
 
+#[tactic(auto, unfolding(crate::specs::Marks::next_mark, octets::specs::Choice::pick))]
 fn next_mark(mark: u8, k: usize) -> u8
     requires { k < max_table_llids }
     ensures { result ≡ next_mark mark k }
@@ -109,6 +118,7 @@ pub fn contains(list: &[u16], x: u16) -> bool
     false
 }
 
+#[tactic(auto, unfolding(crate::specs::Identities::distinct))]
 pub fn all_distinct(list: &[u16]) -> bool
     ensures { result ≡ distinct list.now }
 {
@@ -168,6 +178,7 @@ fn added(identity: Identity, list: &mut [u16], marks: &mut [u8], n: usize) -> bo
 }
 
 // The first place where a unit has the LLID, or one past the table.
+#[tactic(auto, unfolding(octets::specs::Choice::pick))]
 fn first_place(place: usize, i: usize, identity: Identity, llid: u16) -> usize
     ensures { result ≡ first_place place i (has identity llid) }
 {
@@ -180,6 +191,7 @@ fn first_place(place: usize, i: usize, identity: Identity, llid: u16) -> usize
     MAX_UNITS as usize
 }
 
+#[tactic(auto, unfolding(octets::specs::Choice::pick))]
 fn found_below(place: usize) -> Found
     ensures { result ≡ found_below place Nowhere }
 {
@@ -189,6 +201,7 @@ fn found_below(place: usize) -> Found
     Found::Nowhere
 }
 
+#[tactic(auto, unfolding(crate::specs::Validity::judged, octets::specs::Choice::pick))]
 fn invalid() -> Judged
     ensures { result ≡ judged false Nowhere }
 {
@@ -199,6 +212,7 @@ fn invalid() -> Judged
     }
 }
 
+#[tactic(auto, unfolding(crate::specs::Validity::judged, octets::specs::Choice::pick))]
 fn valid_with(place: usize) -> Judged
     ensures { result ≡ judged true (found_below place Nowhere) }
 {
@@ -207,6 +221,7 @@ fn valid_with(place: usize) -> Judged
 }
 
 // Whether the units are valid and no LLID of theirs stands twice, and which of them has the LLID, in one pass.
+#[tactic(auto, unfolding(crate::specs::Identities::distinct, octets::specs::Choice::pick, crate::specs::Table::past_unit, crate::specs::Validity::judged_table))]
 fn judge_table(olt: Olt, count: usize, llid: u16) -> Judged
     requires { count ≤ max_units }
     ensures { result ≡ judged_table olt.shared.tick (take count olt.units) llid }
@@ -232,6 +247,7 @@ fn judge_table(olt: Olt, count: usize, llid: u16) -> Judged
 }
 
 // The same of a table of one unit.
+#[tactic(auto, unfolding(crate::specs::Validity::judged_table, octets::specs::Lists::all, crate::specs::Table::table_llids, crate::specs::Table::find_from, octets::specs::Choice::pick))]
 fn judge_one(tick: u64, unit: UnitRecord, llid: u16) -> Judged
     ensures { result ≡ judged_table tick (unit ∷ []) llid }
 {
@@ -245,6 +261,7 @@ fn judge_one(tick: u64, unit: UnitRecord, llid: u16) -> Judged
 }
 
 // Whether the OLT is valid and, if so, which unit has the LLID. An empty table and one of a single unit are judged without a copy (D119).
+#[tactic(auto, unfolding(crate::specs::Validity::judged_of, crate::specs::Validity::valid_olt, crate::specs::Table::find, crate::specs::Table::find_from, crate::specs::Table::table_llids, octets::specs::Lists::all, crate::specs::Identities::distinct, octets::specs::Choice::both, octets::specs::Choice::pick, crate::specs::Validity::judged_table, crate::specs::Table::past_unit))]
 pub fn judge(olt: Olt, llid: u16) -> Judged
     ensures { result ≡ judged_of olt llid }
 {
@@ -264,6 +281,7 @@ pub fn judge(olt: Olt, llid: u16) -> Judged
     judge_table(olt, count as usize, llid)
 }
 
+#[tactic(auto, unfolding(crate::specs::Validity::judged, crate::specs::Validity::judged_of))]
 pub fn valid_olt(olt: Olt) -> bool
     ensures { result ≡ valid_olt olt }
 {

@@ -9,12 +9,14 @@ use crate::sends::valid_channels;
 use crate::{Onu, OnuClock, OnuKeys};
 use clock::{CLOCK_TURN, LOCAL_TURN, MAX_TICK};
 
+#[tactic(auto, unfolding(crate::specs::Validity::valid_onu_keys, octets::specs::Choice::both, octets::specs::Choice::either))]
 pub fn valid_onu_keys(keys: OnuKeys) -> bool
     ensures { result ≡ valid_onu_keys keys }
 {
     (keys.held <= 1) & ((keys.held == 0) | (keys.active < MAX_KEY_NUMBER))
 }
 
+#[tactic(auto, unfolding(crate::specs::Validity::valid_onu_clock, octets::specs::Choice::both, octets::specs::Choice::pick))]
 pub fn valid_onu_clock(clock: OnuClock) -> bool
     ensures { result ≡ valid_onu_clock clock }
 {
@@ -24,6 +26,7 @@ pub fn valid_onu_clock(clock: OnuClock) -> bool
     (clock.synced <= 1) & ((clock.rx < CLOCK_TURN) & (clock.time < LOCAL_TURN))
 }
 
+#[tactic(auto, unfolding(crate::specs::Validity::valid_onu, octets::specs::Choice::both))]
 pub fn valid_onu(o: Onu) -> bool
     ensures { result ≡ valid_onu o }
 {

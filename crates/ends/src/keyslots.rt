@@ -6,6 +6,7 @@ ghost use Rattle.ends.specs.Keys.{key_in, only_key, with_key};
 use crate::Slots;
 
 // The key kept under number n.
+#[tactic(auto, unfolding(crate::specs::Keys::key_in, octets::specs::Choice::pick))]
 pub fn key_in(slots: Slots, n: u32) -> [u8; 16]
     ensures { result ≡ key_in slots n }
 {
@@ -15,6 +16,7 @@ pub fn key_in(slots: Slots, n: u32) -> [u8; 16]
     slots.odd
 }
 
+#[tactic(auto, unfolding(crate::specs::Keys::with_key, octets::specs::Choice::pick))]
 pub fn with_key(slots: Slots, n: u32, key: [u8; 16]) -> Slots
     ensures { result ≡ with_key slots n key }
 {
@@ -27,6 +29,7 @@ pub fn with_key(slots: Slots, n: u32, key: [u8; 16]) -> Slots
 }
 
 // All but key n is wiped.
+#[tactic(auto, unfolding(crate::specs::Keys::only_key, crate::specs::Keys::with_key))]
 pub fn only_key(slots: Slots, n: u32) -> Slots
     ensures { result ≡ only_key slots n }
 {

@@ -2,6 +2,8 @@
 // holds zeros: a unit's place past the count, an LLID's place past the count, the count of a first send that was not noted, the tick of
 // a capture that was not made, Rx while unsynced, a key that is no longer in use.
 
+#![tactic(auto)]
+
 pub mod changes;
 pub mod check_olt;
 pub mod check_onu;
@@ -15,7 +17,7 @@ use crate::limits::{MAX_LLIDS, MAX_UNITS};
 
 // The key timer of a unit.
 #[repr(C)]
-#[derive(Drop)]
+#[derive(Clone, Copy)]
 pub struct Timer {
     pub interval: u64,
     pub count: u64,
@@ -24,7 +26,7 @@ pub struct Timer {
 
 // Two keys: number n is at index n mod 2.
 #[repr(C)]
-#[derive(Drop)]
+#[derive(Clone, Copy)]
 pub struct Slots {
     pub even: [u8; 16],
     pub odd: [u8; 16],
@@ -32,7 +34,7 @@ pub struct Slots {
 
 // The first send under the key in use, by the end's own count: the OLT's tick, the travel of a unit's Tx clock.
 #[repr(C)]
-#[derive(Drop)]
+#[derive(Clone, Copy)]
 pub struct FirstSend {
     pub noted: u8,
     pub at: u64,
@@ -40,7 +42,7 @@ pub struct FirstSend {
 
 // The tick from which each channel of an end is free.
 #[repr(C)]
-#[derive(Drop)]
+#[derive(Clone, Copy)]
 pub struct Channels {
     pub zero: u64,
     pub one: u64,
@@ -48,7 +50,7 @@ pub struct Channels {
 
 // A unit's MAC and its 1 to 4 LLIDs.
 #[repr(C)]
-#[derive(Drop)]
+#[derive(Clone, Copy)]
 pub struct Identity {
     pub mac: u64,
     pub llids: [u16; MAX_LLIDS as usize],
@@ -57,7 +59,7 @@ pub struct Identity {
 
 // What the OLT sends to a unit under: A, O, their keys and C's.
 #[repr(C)]
-#[derive(Drop)]
+#[derive(Clone, Copy)]
 pub struct UnitKeys {
     pub timer: Timer,
     pub active: u32,
@@ -68,7 +70,7 @@ pub struct UnitKeys {
 
 // What the unit has shown: C, and whether it acknowledged O.
 #[repr(C)]
-#[derive(Drop)]
+#[derive(Clone, Copy)]
 pub struct Confirmation {
     pub confirmed: u32,
     pub acknowledged: u8,
@@ -76,7 +78,7 @@ pub struct Confirmation {
 
 // The OLT's side of the unit's clock. A capture's stamps are those of its tick: they are worked out where it is sent.
 #[repr(C)]
-#[derive(Drop)]
+#[derive(Clone, Copy)]
 pub struct UnitClock {
     pub trip: u64,
     pub captured: u8,
@@ -87,7 +89,7 @@ pub struct UnitClock {
 
 // The OLT's record of a unit.
 #[repr(C)]
-#[derive(Drop)]
+#[derive(Clone, Copy)]
 pub struct UnitRecord {
     pub identity: Identity,
     pub keys: UnitKeys,
@@ -97,7 +99,7 @@ pub struct UnitRecord {
 
 // What all units share at the OLT.
 #[repr(C)]
-#[derive(Drop)]
+#[derive(Clone, Copy)]
 pub struct Shared {
     pub mac: u64,
     pub tick: u64,
@@ -106,7 +108,7 @@ pub struct Shared {
 }
 
 #[repr(C)]
-#[derive(Drop)]
+#[derive(Clone, Copy)]
 pub struct Olt {
     pub shared: Shared,
     pub count: u8,
@@ -115,7 +117,7 @@ pub struct Olt {
 
 // A unit's own keys: a, and whether a + 1 is held.
 #[repr(C)]
-#[derive(Drop)]
+#[derive(Clone, Copy)]
 pub struct OnuKeys {
     pub active: u32,
     pub held: u8,
@@ -124,7 +126,7 @@ pub struct OnuKeys {
 
 // A unit's own clocks. `time` is LocalTime while unsynced, and Tx, whose low 32 bits are LocalTime, once synced.
 #[repr(C)]
-#[derive(Drop)]
+#[derive(Clone, Copy)]
 pub struct OnuClock {
     pub synced: u8,
     pub time: u64,
@@ -135,7 +137,7 @@ pub struct OnuClock {
 // counted from 2^61 below zero, so that it is no negative number. `spent` is past the end of every enciphered send, and `bar` is what `spent`
 // was at the last change: till travel has come to it, no enciphered send goes.
 #[repr(C)]
-#[derive(Drop)]
+#[derive(Clone, Copy)]
 pub struct Travel {
     pub changes: u64,
     pub spent: u64,
@@ -143,7 +145,7 @@ pub struct Travel {
 }
 
 #[repr(C)]
-#[derive(Drop)]
+#[derive(Clone, Copy)]
 pub struct Onu {
     pub identity: Identity,
     pub oltmac: u64,
@@ -156,14 +158,14 @@ pub struct Onu {
 }
 
 // Which place of the table has an LLID.
-#[derive(Drop)]
+#[derive(Clone, Copy)]
 pub enum Found {
     At(usize),
     Nowhere,
 }
 
 // Whether an OLT is valid and, if so, where the unit stands that has an LLID.
-#[derive(Drop)]
+#[derive(Clone, Copy)]
 pub struct Judged {
     pub valid: bool,
     pub found: Found,

@@ -7,12 +7,14 @@ ghost use Rattle.ends.specs.Identities.{among, distinct, has, kept, llids_of, va
 use crate::Identity;
 use crate::limits::{MAC_TURN, MAX_LLIDS};
 
+#[tactic(auto, unfolding(crate::specs::Identities::valid_mac))]
 pub fn valid_mac(mac: u64) -> bool
     ensures { result ≡ valid_mac mac }
 {
     mac < MAC_TURN
 }
 
+#[tactic(auto, unfolding(crate::specs::Identities::valid_identity, octets::specs::Choice::both))]
 pub fn valid_identity(identity: Identity) -> bool
     ensures { result ≡ valid_identity identity }
 {
@@ -29,6 +31,7 @@ pub(crate) fn at(llids: [u16; MAX_LLIDS as usize], j: u8) -> u16
     0
 }
 
+#[tactic(auto, unfolding(crate::specs::Identities::has, crate::specs::Identities::llids_of))]
 pub fn has(identity: Identity, llid: u16) -> bool
     ensures { result ≡ has identity llid }
 {
@@ -60,6 +63,7 @@ fn again(llids: [u16; MAX_LLIDS as usize], j: u8, count: u8) -> bool
     false
 }
 
+#[tactic(auto, unfolding(crate::specs::Identities::llids_of))]
 pub fn distinct_llids(identity: Identity) -> bool
     ensures { result ≡ distinct (llids_of identity) }
 {
@@ -75,6 +79,7 @@ pub fn distinct_llids(identity: Identity) -> bool
     true
 }
 
+#[tactic(auto, unfolding(octets::specs::Choice::pick))]
 fn used(llids: [u16; MAX_LLIDS as usize], j: u8, count: u8) -> u16
     ensures { result ≡ pick (nat_lt j count) (slice_index llids j) 0 }
 {
@@ -85,6 +90,7 @@ fn used(llids: [u16; MAX_LLIDS as usize], j: u8, count: u8) -> u16
 }
 
 // The identity as it is kept: zeros in the places past the count.
+#[tactic(auto, unfolding(crate::specs::Identities::kept))]
 pub fn kept_identity(identity: Identity) -> Identity
     ensures { result ≡ kept identity }
 {

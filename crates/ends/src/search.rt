@@ -29,6 +29,7 @@ pub fn identities(units: [UnitRecord; MAX_UNITS as usize]) -> [Identity; MAX_UNI
 }
 
 // Which of the first `count` units has the LLID.
+#[tactic(auto, unfolding(crate::specs::Table::past_unit))]
 pub fn find(units: [UnitRecord; MAX_UNITS as usize], count: u8, llid: u16) -> Found
     ensures value { result ≡ find_from 0 (take count units) llid }
     ensures number { found_number result ≡ verdict_number (refuse_if (not (among llid (table_llids (take count units)))) UnknownLlid Accepted) }
@@ -49,6 +50,7 @@ pub fn find(units: [UnitRecord; MAX_UNITS as usize], count: u8, llid: u16) -> Fo
 }
 
 // Whether the two have an LLID in common.
+#[tactic(auto, unfolding(crate::specs::Identities::llids_of, crate::specs::Identities::has))]
 fn shares(a: Identity, b: Identity) -> bool
     ensures { result ≡ meets (llids_of a) (llids_of b) }
 {
@@ -65,6 +67,7 @@ fn shares(a: Identity, b: Identity) -> bool
 }
 
 // Whether one of the LLIDs is that of a registered unit.
+#[tactic(auto, unfolding(crate::specs::Table::past_unit))]
 pub fn meets_table(units: [UnitRecord; MAX_UNITS as usize], count: u8, identity: Identity) -> bool
     ensures { result ≡ meets (llids_of identity) (table_llids (take count units)) }
 {

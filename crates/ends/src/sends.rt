@@ -6,12 +6,14 @@ ghost use Rattle.ends.specs.Occupancy.{valid_channels};
 use crate::limits::MAX_FREE;
 use crate::{Channels, FirstSend};
 
+#[tactic(auto, unfolding(crate::specs::Keys::valid_first, octets::specs::Choice::both, octets::specs::Choice::either))]
 pub fn valid_first(first: FirstSend, tick: u64) -> bool
     ensures { result ≡ valid_first first tick }
 {
     (first.noted <= 1) & ((first.noted == 0) | (first.at <= tick))
 }
 
+#[tactic(auto, unfolding(crate::specs::Occupancy::valid_channels, octets::specs::Choice::both))]
 pub fn valid_channels(channels: Channels) -> bool
     ensures { result ≡ valid_channels channels }
 {

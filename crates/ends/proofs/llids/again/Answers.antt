@@ -1,0 +1,25 @@
+-- `ends::llids::again` meets its contract: none of the LLIDs between j and k is it, so that the others decide. Assumes nothing.
+use Rattle.std.proofs.Common.{get_or, sym, ◌∙◌, arith}
+use Rattle.ends.proofs.Walks.{among_hit, among_miss, among_end}
+use Rattle.ends.proofs.llids.again.Goals as goal
+
+pub returns-then-at-llid : goal.returns-then-at-llid
+returns-then-at-llid c =
+    let a = c.args in
+    let here = c.loop-k in
+    sym (here.invariant.1
+    ∙ among_hit _ here.k a.count (λ i. get_or a.llids i 0) (omega arith) (sym c.at.ensures ∙ c.if-at-llid.true))
+
+pub loop-k-preserved : goal.loop-k-preserved
+loop-k-preserved c =
+    let a = c.args in
+    let here = c.loop-k in (
+      omega arith,
+      here.invariant.1
+          ∙ among_miss _ here.k a.count (λ i. get_or a.llids i 0) (omega arith) (λ e. c.if-at-llid.false (c.at.ensures ∙ e)),
+    )
+
+pub returns : goal.returns
+returns c =
+    let a = c.args in
+    sym (c.loop-k.invariant.1 ∙ among_end _ c.loop-k.k a.count (λ i. get_or a.llids i 0) (omega arith))

@@ -10,7 +10,7 @@ use super::row_words::{block_octets, encrypt_lone};
 
 // The eleven round keys, one after the other.
 #[repr(C)]
-#[derive(Drop)]
+#[derive(Clone, Copy)]
 pub struct RoundKeys {
     pub octets: [u8; 176],
 }

@@ -44,6 +44,7 @@ fn put(w: &mut [u8; 176], at: usize, k: [u8; 16])
 }
 
 // The key expansion, with the table lent.
+#[tactic(auto, unfolding(crate::specs::KeyExpansion::expanded, gf256::specs::Table::round_constants, crate::specs::KeyExpansion::key_expansion))]
 pub(crate) fn expand_with(subs: &[u8; 256], key: [u8; 16]) -> RoundKeys
     requires { subs.now ≡ sbox_table }
     ensures { result.octets ≡ key_expansion key }

@@ -16,7 +16,7 @@ use gf256::double_octets;
 // Of a key of 16 octets (FIPS 197, 5, table 3).
 const ROUNDS: usize = 10;
 
-#[derive(Drop)]
+#[derive(Clone, Copy)]
 pub struct Rows {
     pub a: u64,
     pub b: u64,
@@ -25,7 +25,7 @@ pub struct Rows {
 }
 
 // A cipher block: its octets 0 to 7 and 8 to 15, the first of each lowest.
-#[derive(Drop)]
+#[derive(Clone, Copy)]
 pub struct Block {
     pub low: u64,
     pub high: u64,
@@ -111,6 +111,7 @@ fn rows_twice(s: [u8; 16]) -> Rows
 }
 
 // Octet j of x, substituted.
+#[tactic(auto, unfolding(gf256::specs::Lanes::octet_at))]
 fn substituted(subs: &[u8; 256], x: u64, j: u64) -> u64
     requires { j < 8 }
     ensures { BySbox subs.now (result ≡ sbox (octet_at x j)) × (result < 256) }
@@ -237,6 +238,7 @@ fn pair_round(subs: &[u8; 256], k: Rows, s: Rows) -> Rows
 }
 
 // The octets of round key n of the key schedule w.
+#[tactic(auto, unfolding(crate::specs::Cipher::round_key))]
 pub(crate) fn round_key(w: &[u8; 176], n: usize) -> [u8; 16]
     requires { n < 11 }
     ensures { result ≡ round_key w.now n }
@@ -263,6 +265,7 @@ pub(crate) fn round_key(w: &[u8; 176], n: usize) -> [u8; 16]
 }
 
 // AddRoundKey and the rounds 1 to 9 of one state, up to the AddRoundKey of the ninth.
+#[tactic(auto, unfolding(crate::specs::Cipher::rounds))]
 fn lone_rounds<'a>(subs: &'a [u8; 256], w: &'a [u8; 176], start: Rows) -> Rows
     ensures { BySbox subs.now (keyed_state (round_key w.now 9) result
         ≡ rounds w.now 9 (keyed_state (round_key w.now 0) start)) }
@@ -351,6 +354,7 @@ fn keyed_column(subs: &[u8; 256], key: [u8; 16], s: Rows, i: usize) -> u64
 }
 
 // AddRoundKey, and the last round of one state, under its key k.
+#[tactic(auto, unfolding(crate::specs::RowWords::keyed_state))]
 fn lone_last(subs: &[u8; 256], key: [u8; 16], k: [u8; 16], s: Rows) -> Block
     ensures { BySbox subs.now (block_octets result ≡ last_round k (keyed_state key s)) }
 {
@@ -390,6 +394,7 @@ pub fn finished<'a>(subs: &'a [u8; 256], w: &'a [u8; 176], s: Rows) -> Block
 }
 
 // The cipher on one block.
+#[tactic(auto, unfolding(crate::specs::Cipher::cipher, crate::specs::RowWords::keyed_state))]
 pub fn encrypt_lone<'a>(subs: &'a [u8; 256], w: &'a [u8; 176], block: [u8; 16]) -> Block
     ensures { BySbox subs.now (block_octets result ≡ cipher w.now block) }
 {
@@ -399,6 +404,7 @@ pub fn encrypt_lone<'a>(subs: &'a [u8; 256], w: &'a [u8; 176], block: [u8; 16]) 
 
 // The cipher on the counter blocks i and j up to the last round; `kept` is what they share of round 1. A caller finishes one block and is done with
 // it before the other: both at once need more registers than there are.
+#[tactic(auto, unfolding(crate::specs::Cipher::cipher, crate::specs::Cipher::rounds))]
 pub fn before_last<'a>(
     subs: &'a [u8; 256],
     w: &'a [u8; 176],
@@ -413,6 +419,7 @@ pub fn before_last<'a>(
     pair_rounds(subs, keys, start)
 }
 
+#[tactic(auto, unfolding(gf256::specs::Lanes::octet_at))]
 pub(crate) fn octet(x: u64, j: u64) -> u8
     requires { j < 8 }
     ensures { result ≡ octet_at x j }

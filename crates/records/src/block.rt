@@ -26,18 +26,21 @@ pub fn directory_octets(n: u16) -> usize
 }
 
 // The count of records, in the first two octets.
+#[tactic(auto, unfolding(crate::specs::Block::records_in))]
 pub fn count(block: &[u8]) -> u16
     ensures { result ≡ records_in block.now }
 {
     number16(block, 0)
 }
 
+#[tactic(auto, unfolding(crate::specs::Block::offset_of))]
 pub fn offset(block: &[u8], i: u16) -> u32
     ensures { result ≡ offset_of block.now i }
 {
     number32(block, directory_octets(i))
 }
 
+#[tactic(auto, unfolding(crate::specs::Block::length_of))]
 pub fn length_of(block: &[u8], i: u16) -> u32
     ensures { result ≡ length_of block.now i }
 {
@@ -45,6 +48,7 @@ pub fn length_of(block: &[u8], i: u16) -> u32
 }
 
 // Record i, which has i others before it.
+#[tactic(auto, unfolding(crate::specs::Block::record_of))]
 pub fn record_at(block: &[u8], i: u16) -> &[u8]
     ensures { result.now ≡ record_of block.now i }
 {
@@ -71,6 +75,7 @@ pub fn header_from(block: &[u8], from: usize) -> Header
 }
 
 // What follows the header of record i.
+#[tactic(auto, unfolding(crate::specs::Record::payload_of))]
 pub fn payload_at(block: &[u8], i: u16) -> &[u8]
     ensures { result.now ≡ payload_of (record_of block.now i) }
 {

@@ -23,7 +23,7 @@ const KINDS: u8 = 2;
 // The bits that are neither EncEnabled nor EncKey.
 const OTHER_FLAGS: u8 = 0xfc;
 
-#[derive(Drop)]
+#[derive(Clone, Copy)]
 pub struct Header {
     // 0 ESH, 1 ECH
     pub kind: u8,
@@ -36,7 +36,7 @@ pub struct Header {
 }
 
 // What a record is found to be.
-#[derive(Drop)]
+#[derive(Clone, Copy)]
 pub enum RecordVerdict {
     // passes unchanged
     Clear,
@@ -69,6 +69,7 @@ pub fn record_octets(eqs: u32) -> usize
 }
 
 // Whether a record is as long as its EQs say.
+#[tactic(auto, unfolding(crate::specs::Record::sized, crate::specs::Record::record_header, octets::specs::Choice::both))]
 pub fn is_sized(r: &[u8]) -> bool
     ensures { result ≡ sized r.now }
 {
@@ -82,6 +83,7 @@ pub fn cleared(flags: u8) -> u8
     flags & OTHER_FLAGS
 }
 
+#[tactic(auto, unfolding(crate::specs::Verdict::enc_enabled))]
 pub fn enc_enabled(flags: u8) -> bool
     ensures { result ≡ enc_enabled flags }
 {
@@ -95,6 +97,7 @@ pub fn enc_key(flags: u8) -> u8
 }
 
 // Whether no other bit is set, and EncKey not without EncEnabled.
+#[tactic(auto, unfolding(crate::specs::Verdict::flags_fit, octets::specs::Choice::both, octets::specs::Choice::either))]
 fn flags_fit(flags: u8) -> bool
     ensures { result ≡ flags_fit flags }
 {
@@ -102,6 +105,7 @@ fn flags_fit(flags: u8) -> bool
 }
 
 // Whether kind, channel index and flags are of their values, which no settings change.
+#[tactic(auto, unfolding(crate::specs::Verdict::header_fits, octets::specs::Choice::both))]
 pub fn is_well_formed(h: Header) -> bool
     ensures { result ≡ header_fits h }
 {
@@ -109,6 +113,7 @@ pub fn is_well_formed(h: Header) -> bool
 }
 
 // What is left to judge once EPAM agrees: an enciphered record needs its key.
+#[tactic(auto, unfolding(crate::specs::Settings::key_present, crate::specs::Verdict::key_verdict, octets::specs::Choice::pick))]
 fn key_verdict(presence: u8, clock: u64, flags: u8) -> RecordVerdict
     ensures { result ≡ key_verdict presence clock flags }
 {
@@ -123,6 +128,7 @@ fn key_verdict(presence: u8, clock: u64, flags: u8) -> RecordVerdict
 }
 
 // The verdict on a record by its header, for settings of this presence octet and LLID, at the clock to use.
+#[tactic(auto, unfolding(crate::specs::Verdict::record_verdict, crate::specs::Verdict::in_order, octets::specs::Choice::pick))]
 pub fn record_verdict(presence: u8, llid: u16, clock: u64, h: Header) -> RecordVerdict
     ensures { result ≡ record_verdict presence llid clock h }
 {
@@ -140,6 +146,7 @@ pub fn record_verdict(presence: u8, llid: u16, clock: u64, h: Header) -> RecordV
 }
 
 // The verdict on a record by its header, for these settings, at its own clock.
+#[tactic(auto, unfolding(crate::specs::Verdict::verdict_for))]
 pub fn verdict_for(settings: &[u8], h: Header) -> RecordVerdict
     ensures { result ≡ verdict_for settings.now h }
 {

@@ -18,7 +18,7 @@ const MOST_SLIP: u8 = 31;
 // The last step, the correction of 31.
 const LAST_STEP: u8 = 62;
 
-#[derive(Drop)]
+#[derive(Clone, Copy)]
 pub enum Correction {
     // the clock taken is so many steps above the one that is 31 below
     Step(u8),
@@ -28,7 +28,7 @@ pub enum Correction {
 
 // The corrections so far: their sums, modulo 2^48, for the channel indices 00, 01, 80 and 81 hex, and the steps of the smallest and
 // the largest, both 31 while no header was accepted.
-#[derive(Drop)]
+#[derive(Clone, Copy)]
 pub struct Drift {
     pub sums: [u64; 4],
     pub accepted: bool,
@@ -37,7 +37,7 @@ pub struct Drift {
 }
 
 // The verdict on a record, and the corrections behind it.
-#[derive(Drop)]
+#[derive(Clone, Copy)]
 pub struct Heard {
     pub verdict: RecordVerdict,
     pub drift: Drift,
@@ -91,12 +91,14 @@ pub fn expected(drift: Drift, h: Header) -> u64
     (h.clock % CLOCK_TURN + drift.sums[at] % CLOCK_TURN) % CLOCK_TURN
 }
 
+#[tactic(auto, unfolding(octets::specs::Choice::both))]
 fn smaller(accepted: bool, a: u8, b: u8) -> u8
     ensures { result ≡ pick (both accepted (leb a b)) a b }
 {
     if accepted & (a <= b) { a } else { b }
 }
 
+#[tactic(auto, unfolding(octets::specs::Choice::both))]
 fn larger(accepted: bool, a: u8, b: u8) -> u8
     ensures { result ≡ pick (both accepted (leb b a)) a b }
 {
@@ -126,6 +128,7 @@ pub fn signed(step: u8) -> u8
 }
 
 // Whether a header is past 1 and 2.
+#[tactic(auto, unfolding(crate::specs::Near::own, octets::specs::Choice::both))]
 fn own(llid: u16, h: Header) -> bool
     ensures { result ≡ own llid h }
 {
@@ -143,6 +146,7 @@ fn moved(llid: u16, drift: Drift, h: Header, step: u8) -> Drift
 }
 
 // The verdict on a record whose clock is too far: 1, 2, then 10.
+#[tactic(auto, unfolding(crate::specs::Near::far_verdict, octets::specs::Choice::pick))]
 fn too_far(llid: u16, h: Header) -> RecordVerdict
     ensures { result ≡ far_verdict llid h }
 {
@@ -156,6 +160,7 @@ fn too_far(llid: u16, h: Header) -> RecordVerdict
 }
 
 // The verdict on a record by its header, for settings of this presence octet and LLID, at the clock nearest to the one expected.
+#[tactic(auto, unfolding(crate::specs::Near::heard, crate::specs::Near::heard_at))]
 pub fn hear(presence: u8, llid: u16, drift: Drift, h: Header) -> Heard
     ensures { result ≡ heard presence llid drift h }
 {
@@ -173,6 +178,7 @@ pub fn hear(presence: u8, llid: u16, drift: Drift, h: Header) -> Heard
 }
 
 // The verdict on a record by its header under the settings, and the corrections behind it, in the near way or the usual one.
+#[tactic(auto, unfolding(crate::specs::Near::judged))]
 pub fn judge(near: bool, settings: &[u8], drift: Drift, h: Header) -> Heard
     ensures { result ≡ judged near settings.now drift h }
 {

@@ -23,18 +23,21 @@ pub const SETTINGS_KEYS: u8 = 2;
 // The bits of the presence octet that stand for no key.
 const OTHER_PRESENCE: u8 = 0xfc;
 
+#[tactic(auto, unfolding(crate::specs::Settings::presence_of))]
 pub fn presence(s: &[u8]) -> u8
     ensures { result ≡ presence_of s.now }
 {
     octet_at(s, 0)
 }
 
+#[tactic(auto, unfolding(crate::specs::Settings::mac_of))]
 pub fn mac(s: &[u8]) -> u64
     ensures { (result ≡ mac_of s.now) × (result < six_octets) }
 {
     number48(s, MAC)
 }
 
+#[tactic(auto, unfolding(crate::specs::Settings::llid_of))]
 pub fn llid(s: &[u8]) -> u16
     ensures { result ≡ llid_of s.now }
 {
@@ -42,6 +45,7 @@ pub fn llid(s: &[u8]) -> u16
 }
 
 // Key 0 or key 1.
+#[tactic(auto, unfolding(crate::specs::Settings::key_of))]
 pub fn key(s: &[u8], i: u8) -> [u8; KEY_OCTETS]
     ensures { result ≡ key_of s.now i }
 {
@@ -52,6 +56,7 @@ pub fn key(s: &[u8], i: u8) -> [u8; KEY_OCTETS]
 }
 
 // Whether no presence bit but those of the two keys is set.
+#[tactic(auto, unfolding(crate::specs::Settings::presence_fits))]
 pub fn presence_fits(presence: u8) -> bool
     ensures { result ≡ presence_fits presence }
 {
@@ -59,6 +64,7 @@ pub fn presence_fits(presence: u8) -> bool
 }
 
 // Whether settings are of their length, and no presence bit but those of the two keys is set.
+#[tactic(auto, unfolding(crate::specs::Settings::settings_verdict, octets::specs::Choice::pick))]
 pub fn settings_verdict(s: &[u8]) -> Verdict
     ensures { result ≡ settings_verdict s.now }
 {

@@ -1,84 +1,90 @@
 // Plays every state of the OLT's key exchange with every input, and exchanges outside their values too. A line has the exchange, the input,
 // and the answer: its code, the next state, the message, and the timers that start (+) and stop (-). What it must print is made by
 // tools/test_xgpon.py.
+#![tactic(auto)]
+
 mod show;
 
+use std::io;
 use xgpon::keys::{received_under, sent_under};
 use xgpon::moves::{Input, fresh, step};
 use xgpon::timers::recommended_starts;
 use xgpon::values::KeyExchange;
 
-fn row(x: KeyExchange, input: Input) {
-    show::exchange(x);
-    show::input(input);
-    show::answer(step(x, input));
+fn row(rt: &impl Print, x: KeyExchange, input: Input) -> io::Result<()> {
+    show::exchange(rt, x)?;
+    show::input(rt, input)?;
+    show::answer(rt, step(x, input))
 }
 
-fn reports(x: KeyExchange, index: u8) {
-    row(x, Input::NewKey(index));
-    row(x, Input::ExistingKey(index));
+fn reports(rt: &impl Print, x: KeyExchange, index: u8) -> io::Result<()> {
+    row(rt, x, Input::NewKey(index))?;
+    row(rt, x, Input::ExistingKey(index))
 }
 
-fn requests(x: KeyExchange) {
-    row(x, Input::Begin);
-    row(x, Input::BeginToSend);
-    row(x, Input::Rekey);
-    row(x, Input::KeyCheck);
+fn requests(rt: &impl Print, x: KeyExchange) -> io::Result<()> {
+    row(rt, x, Input::Begin)?;
+    row(rt, x, Input::BeginToSend)?;
+    row(rt, x, Input::Rekey)?;
+    row(rt, x, Input::KeyCheck)
 }
 
-fn inputs(x: KeyExchange) {
-    reports(x, 0);
-    reports(x, 1);
-    reports(x, 2);
-    reports(x, 3);
-    row(x, Input::Tk1Expires);
-    row(x, Input::Tk2Expires);
-    row(x, Input::Tk3Expires);
-    requests(x);
+fn inputs(rt: &impl Print, x: KeyExchange) -> io::Result<()> {
+    reports(rt, x, 0)?;
+    reports(rt, x, 1)?;
+    reports(rt, x, 2)?;
+    reports(rt, x, 3)?;
+    row(rt, x, Input::Tk1Expires)?;
+    row(rt, x, Input::Tk2Expires)?;
+    row(rt, x, Input::Tk3Expires)?;
+    requests(rt, x)
 }
 
-fn play(x: KeyExchange) {
-    show::exchange(x);
-    show::keys(b"may be sent under", sent_under(x));
-    show::exchange(x);
-    show::keys(b"may be received under", received_under(x));
-    inputs(x);
+fn play(rt: &impl Print, x: KeyExchange) -> io::Result<()> {
+    show::exchange(rt, x)?;
+    show::keys(rt, b"may be sent under", sent_under(x))?;
+    show::exchange(rt, x)?;
+    show::keys(rt, b"may be received under", received_under(x))?;
+    inputs(rt, x)
 }
 
-fn lent(state: u8, oldkey: u8, newkey: u8) {
-    play(KeyExchange {
-        state,
-        oldkey,
-        newkey,
-    });
+fn lent(rt: &impl Print, state: u8, oldkey: u8, newkey: u8) -> io::Result<()> {
+    play(
+        rt,
+        KeyExchange {
+            state,
+            oldkey,
+            newkey,
+        },
+    )
 }
 
 // The first exchange, the rekey after it, and the one after that.
-fn in_state(state: u8) {
-    lent(state, 0, 1);
-    lent(state, 1, 2);
-    lent(state, 2, 1);
+fn in_state(rt: &impl Print, state: u8) -> io::Result<()> {
+    lent(rt, state, 0, 1)?;
+    lent(rt, state, 1, 2)?;
+    lent(rt, state, 2, 1)
 }
 
-fn outside() {
-    lent(0, 0, 1);
-    lent(0, 1, 0);
-    lent(1, 0, 0);
-    lent(1, 0, 2);
-    lent(2, 1, 1);
-    lent(3, 2, 2);
-    lent(4, 3, 1);
-    lent(4, 2, 3);
-    lent(5, 0, 1);
-    lent(255, 0, 0);
+fn outside(rt: &impl Print) -> io::Result<()> {
+    lent(rt, 0, 0, 1)?;
+    lent(rt, 0, 1, 0)?;
+    lent(rt, 1, 0, 0)?;
+    lent(rt, 1, 0, 2)?;
+    lent(rt, 2, 1, 1)?;
+    lent(rt, 3, 2, 2)?;
+    lent(rt, 4, 3, 1)?;
+    lent(rt, 4, 2, 3)?;
+    lent(rt, 5, 0, 1)?;
+    lent(rt, 255, 0, 0)
 }
 
-fn main() {
-    show::starts(recommended_starts());
-    play(fresh());
-    in_state(1);
-    in_state(2);
-    in_state(3);
-    in_state(4);
-    outside();
+fn main(rt: HostRuntime) -> io::Result<()> {
+    show::starts(&rt, recommended_starts())?;
+    play(&rt, fresh())?;
+    in_state(&rt, 1)?;
+    in_state(&rt, 2)?;
+    in_state(&rt, 3)?;
+    in_state(&rt, 4)?;
+    outside(&rt)
 }

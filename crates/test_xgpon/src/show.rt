@@ -1,109 +1,111 @@
 // The parts of a line.
-use libc::STDOUT_FILENO;
+use std::io;
 use xgpon::answers::{Answer, CONFIRM, GENERATE, KeyControl};
 use xgpon::keys::ValidKeys;
 use xgpon::moves::Input;
 use xgpon::timers::{TimerStarts, Timers};
 use xgpon::values::KeyExchange;
 
-fn text(octets: &[u8]) {
-    io::write_all(STDOUT_FILENO, octets);
+fn text(rt: &impl Print, octets: &[u8]) -> io::Result<()> {
+    rt.write_all(octets)
 }
 
 fn wide(x: u8) -> u64 {
     x as u64
 }
 
-fn number(x: u8) {
-    io::print_decimal(STDOUT_FILENO, wide(x));
+fn number(rt: &impl Print, x: u8) -> io::Result<()> {
+    print!(rt; "{}", wide(x))
 }
 
 // A number with a space ahead.
-fn next(x: u8) {
-    text(b" ");
-    number(x);
+fn next(rt: &impl Print, x: u8) -> io::Result<()> {
+    text(rt, b" ")?;
+    number(rt, x)
 }
 
-pub(crate) fn exchange(x: KeyExchange) {
-    text(b"KL");
-    number(x.state);
-    next(x.oldkey);
-    next(x.newkey);
+pub(crate) fn exchange(rt: &impl Print, x: KeyExchange) -> io::Result<()> {
+    text(rt, b"KL")?;
+    number(rt, x.state)?;
+    next(rt, x.oldkey)?;
+    next(rt, x.newkey)
 }
 
-fn report(name: &[u8], index: u8) {
-    text(name);
-    next(index);
+fn report(rt: &impl Print, name: &[u8], index: u8) -> io::Result<()> {
+    text(rt, name)?;
+    next(rt, index)
 }
 
-pub(crate) fn input(input: Input) {
-    text(b", ");
+pub(crate) fn input(rt: &impl Print, input: Input) -> io::Result<()> {
+    text(rt, b", ")?;
     match input {
-        Input::NewKey(index) => report(b"Key_Report(NewKey)", index),
-        Input::ExistingKey(index) => report(b"Key_Report(ExistingKey)", index),
-        Input::Tk1Expires => text(b"TK1 expires"),
-        Input::Tk2Expires => text(b"TK2 expires"),
-        Input::Tk3Expires => text(b"TK3 expires"),
-        Input::Begin => text(b"begin key exchange"),
-        Input::BeginToSend => text(b"begin to send with the new key"),
-        Input::Rekey => text(b"rekey"),
-        Input::KeyCheck => text(b"key check"),
+        Input::NewKey(index) => report(rt, b"Key_Report(NewKey)", index),
+        Input::ExistingKey(index) => report(rt, b"Key_Report(ExistingKey)", index),
+        Input::Tk1Expires => text(rt, b"TK1 expires"),
+        Input::Tk2Expires => text(rt, b"TK2 expires"),
+        Input::Tk3Expires => text(rt, b"TK3 expires"),
+        Input::Begin => text(rt, b"begin key exchange"),
+        Input::BeginToSend => text(rt, b"begin to send with the new key"),
+        Input::Rekey => text(rt, b"rekey"),
+        Input::KeyCheck => text(rt, b"key check"),
     }
 }
 
-fn message(m: KeyControl) {
+fn message(rt: &impl Print, m: KeyControl) -> io::Result<()> {
     if m.kind == GENERATE {
-        text(b" Generate");
-        next(m.index);
+        text(rt, b" Generate")?;
+        next(rt, m.index)?;
     }
     if m.kind == CONFIRM {
-        text(b" Confirm");
-        next(m.index);
+        text(rt, b" Confirm")?;
+        next(rt, m.index)?;
     }
+    Ok(())
 }
 
-fn timer(sign: &[u8], flag: u8, name: u8) {
+fn timer(rt: &impl Print, sign: &[u8], flag: u8, name: u8) -> io::Result<()> {
     if flag == 1 {
-        text(sign);
-        number(name);
+        text(rt, sign)?;
+        number(rt, name)?;
     }
+    Ok(())
 }
 
-fn timers(sign: &[u8], t: Timers) {
-    timer(sign, t.tk1, 1);
-    timer(sign, t.tk2, 2);
-    timer(sign, t.tk3, 3);
+fn timers(rt: &impl Print, sign: &[u8], t: Timers) -> io::Result<()> {
+    timer(rt, sign, t.tk1, 1)?;
+    timer(rt, sign, t.tk2, 2)?;
+    timer(rt, sign, t.tk3, 3)
 }
 
-pub(crate) fn answer(a: Answer) {
-    text(b": ");
-    number(a.number);
-    text(b" ");
-    exchange(a.exchange);
-    message(a.message);
-    timers(b" +TK", a.starts);
-    timers(b" -TK", a.stops);
-    text(b"\n");
+pub(crate) fn answer(rt: &impl Print, a: Answer) -> io::Result<()> {
+    text(rt, b": ")?;
+    number(rt, a.number)?;
+    text(rt, b" ")?;
+    exchange(rt, a.exchange)?;
+    message(rt, a.message)?;
+    timers(rt, b" +TK", a.starts)?;
+    timers(rt, b" -TK", a.stops)?;
+    text(rt, b"\n")
 }
 
-pub(crate) fn keys(direction: &[u8], k: ValidKeys) {
-    text(b" ");
-    text(direction);
-    text(b": ");
-    number(k.number);
-    next(k.oldkey);
-    next(k.newkey);
-    text(b"\n");
+pub(crate) fn keys(rt: &impl Print, direction: &[u8], k: ValidKeys) -> io::Result<()> {
+    text(rt, b" ")?;
+    text(rt, direction)?;
+    text(rt, b": ")?;
+    number(rt, k.number)?;
+    next(rt, k.oldkey)?;
+    next(rt, k.newkey)?;
+    text(rt, b"\n")
 }
 
-fn milliseconds(name: &[u8], ms: u32) {
-    text(name);
-    io::print_decimal(STDOUT_FILENO, ms as u64);
-    text(b" ms\n");
+fn milliseconds(rt: &impl Print, name: &[u8], ms: u32) -> io::Result<()> {
+    text(rt, name)?;
+    print!(rt; "{}", ms as u64)?;
+    text(rt, b" ms\n")
 }
 
-pub(crate) fn starts(s: TimerStarts) {
-    milliseconds(b"TK1 ", s.tk1);
-    milliseconds(b"TK2 ", s.tk2);
-    milliseconds(b"TK3 ", s.tk3);
+pub(crate) fn starts(rt: &impl Print, s: TimerStarts) -> io::Result<()> {
+    milliseconds(rt, b"TK1 ", s.tk1)?;
+    milliseconds(rt, b"TK2 ", s.tk2)?;
+    milliseconds(rt, b"TK3 ", s.tk3)
 }

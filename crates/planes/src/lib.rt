@@ -1,4 +1,6 @@
 // Payloads rearranged for the store, octets of one kind side by side, and restored (02, C-12).
+#![tactic(auto)]
+
 ghost use Rattle.std.specs.Prelude.{◌≡◌, ◌+◌, ◌≤◌, ◌<◌};
 ghost use Rattle.octets.specs.Eqs.{eq_octets};
 ghost use Rattle.octets.specs.Output.{with_output};
@@ -117,6 +119,7 @@ fn restore_blocks(payload: &[u8], output: &mut [u8], n: usize)
 }
 
 // The verdict on n octets for an output of m.
+#[tactic(auto, unfolding(crate::specs::Calls::length_verdict))]
 pub fn length_verdict(n: usize, m: usize) -> Verdict
     ensures { result ≡ length_verdict n m }
 {

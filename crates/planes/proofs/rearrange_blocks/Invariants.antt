@@ -1,0 +1,13 @@
+-- `planes::rearrange_blocks` meets its contract: the EQs before `from` are moved, and in the end all are. Assumes nothing.
+use Prim.Native.Nat.{◌-◌}
+use Rattle.octets.specs.Eqs.{eq_octets}
+use Rattle.planes.specs.Duties.{Moved}
+use Rattle.planes.specs.Places.{place_in_planes}
+use Rattle.planes.specs.Planes.{rearranged}
+use Rattle.planes.proofs.rearrange_blocks.Given as goal
+
+abbrev pub invariant-loop-from : goal.invariant-loop-from
+invariant-loop-from l = Moved (rearranged l.payload) l.initial.output l.output (place_in_planes l.n) 0 eq_octets 0 l.from
+
+abbrev pub decreases-loop-from : goal.decreases-loop-from
+decreases-loop-from l = l.n - l.from

@@ -24,14 +24,14 @@ use envelope::{Nonce, SealAnswer, counter_block, lengths_fit, nonce_fits, ones_i
 use refusal::Verdict;
 
 // What was done: the octets enciphered, and the runs of the cipher (02, C-17).
-#[derive(Drop)]
+#[derive(Clone, Copy)]
 struct Work {
     count: u64,
     runs: u64,
 }
 
 // What pairs of runs leave: the octets enciphered, the runs made, and the next block that needs one, or the number of blocks.
-#[derive(Drop)]
+#[derive(Clone, Copy)]
 struct Paired {
     count: u64,
     runs: u64,

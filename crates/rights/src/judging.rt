@@ -9,7 +9,7 @@ use records::near::{Drift, judge};
 use refusal::Refusal;
 
 // What a user is told of a record.
-#[derive(Drop)]
+#[derive(Clone, Copy)]
 pub enum ClassVerdict {
     // nothing but that it is there
     Hidden,
@@ -20,13 +20,14 @@ pub enum ClassVerdict {
 }
 
 // The verdict on a record for a user, and the corrections behind it.
-#[derive(Drop)]
+#[derive(Clone, Copy)]
 pub struct ClassHeard {
     pub verdict: ClassVerdict,
     pub drift: Drift,
 }
 
 // A record that may be seen but not opened: 1 and 10 are told, and 9 is not asked.
+#[tactic(auto, unfolding(crate::specs::Judging::seen_as))]
 fn seen_as(verdict: RecordVerdict) -> ClassVerdict
     ensures { result ≡ seen_as verdict }
 {
@@ -42,6 +43,7 @@ fn seen_as(verdict: RecordVerdict) -> ClassVerdict
     }
 }
 
+#[tactic(auto, unfolding(crate::specs::Judging::told_to))]
 fn told_to(right: u8, verdict: RecordVerdict) -> ClassVerdict
     ensures { result ≡ told_to right verdict }
 {
@@ -52,6 +54,7 @@ fn told_to(right: u8, verdict: RecordVerdict) -> ClassVerdict
 }
 
 // The verdict on a record by its header, for a user with this right on its LLID, whose set this is; in the near way or the usual one.
+#[tactic(auto, unfolding(crate::specs::Judging::judged_for))]
 pub fn judge_for(near: bool, right: u8, set: &[u8], drift: Drift, h: Header) -> ClassHeard
     ensures { result ≡ judged_for near right set.now drift h }
 {

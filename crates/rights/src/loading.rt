@@ -12,6 +12,7 @@ use octets::copy_at;
 use records::settings::{KEY_OCTETS, KEYS, SETTINGS_KEYS, SETTINGS_OCTETS, presence};
 use refusal::{Refusal, Verdict, and_then, refuse_if};
 
+#[tactic(auto, unfolding(crate::specs::Loading::load_verdict))]
 fn load_verdict(caller: Caller, sets: &[u8], rights: &[u8], llid: u16, index: u8) -> Verdict
     ensures { result ≡ load_verdict caller sets.now rights.now llid index }
 {
@@ -24,6 +25,7 @@ fn load_verdict(caller: Caller, sets: &[u8], rights: &[u8], llid: u16, index: u8
 }
 
 // The presence octet with the bit of a key.
+#[tactic(auto, unfolding(crate::specs::Loading::with_key))]
 fn with_key(present: u8, index: u8) -> u8
     requires { index < settings_keys }
     ensures { result ≡ with_key present index }
@@ -35,6 +37,7 @@ fn with_key(present: u8, index: u8) -> u8
 }
 
 // Puts the key and its presence bit into set j.
+#[tactic(auto, unfolding(crate::specs::Loading::loaded))]
 fn put_key(sets: &mut [u8], j: u8, index: u8, present: u8, key: &[u8; KEY_OCTETS])
     requires index_lt_settings_keys { (index < settings_keys) × (settings_octets * j + settings_octets ≤ length sets.old) }
     requires present_value { present ≡ presence_of (set_of sets.old j) }

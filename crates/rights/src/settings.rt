@@ -8,7 +8,7 @@ use records::settings::{SETTINGS_OCTETS, llid};
 
 // How many sets and users there are, and the number of the user who asks, from 1 (D100).
 #[repr(C)]
-#[derive(Drop)]
+#[derive(Clone, Copy)]
 pub struct Caller {
     pub sets: u8,
     pub users: u8,
@@ -44,6 +44,7 @@ fn users_before(user: u8) -> u8
 }
 
 // The octets of rights of the user who asks, one for each set.
+#[tactic(auto, unfolding(crate::specs::Settings::own_rights))]
 pub fn own_rights(caller: Caller, rights: &[u8]) -> &[u8]
     ensures { result.now ≡ own_rights caller rights.now }
 {
@@ -58,6 +59,7 @@ pub fn rights_at(caller: Caller, rights: &[u8], j: u8) -> u8
     octet_at(own_rights(caller, rights), j as usize)
 }
 
+#[tactic(auto, unfolding(crate::specs::Rights::may_open))]
 pub fn may_open(right: u8) -> bool
     ensures { result ≡ may_open right }
 {
@@ -65,12 +67,14 @@ pub fn may_open(right: u8) -> bool
 }
 
 // Opening includes seeing.
+#[tactic(auto, unfolding(crate::specs::Rights::may_see, octets::specs::Choice::either))]
 pub fn may_see(right: u8) -> bool
     ensures { result ≡ may_see right }
 {
     (octets::bit(right, 0) == 1) | may_open(right)
 }
 
+#[tactic(auto, unfolding(crate::specs::Rights::may_load))]
 pub fn may_load(right: u8) -> bool
     ensures { result ≡ may_load right }
 {

@@ -16,12 +16,14 @@ pub const MOST_USERS: u8 = 16;
 // No right but to see, to open and to load.
 const RIGHTS_BELOW: u8 = 8;
 
+#[tactic(auto, unfolding(crate::specs::Verdict::user_fits, octets::specs::Choice::both))]
 fn user_fits(caller: Caller) -> bool
     ensures { result ≡ user_fits caller }
 {
     (1 <= caller.user) & (caller.user <= caller.users)
 }
 
+#[tactic(auto, unfolding(crate::specs::Verdict::counts_fit, octets::specs::Choice::both))]
 fn counts_fit(caller: Caller, sets: usize, rights: usize) -> bool
     ensures { result ≡ counts_fit caller sets rights }
 {
@@ -31,6 +33,7 @@ fn counts_fit(caller: Caller, sets: usize, rights: usize) -> bool
             & ((sets == SETTINGS_OCTETS * n) & (rights == n * caller.users as usize)))
 }
 
+#[tactic(auto, unfolding(crate::specs::Verdict::presences_fit))]
 fn presences_fit(caller: Caller, sets: &[u8]) -> bool
     ensures { result ≡ presences_fit caller sets.now }
 {
@@ -45,6 +48,7 @@ fn presences_fit(caller: Caller, sets: &[u8]) -> bool
     true
 }
 
+#[tactic(auto, unfolding(crate::specs::Rights::rights_fit))]
 fn rights_fit(rights: &[u8]) -> bool
     ensures { result ≡ all rights_fit rights.now }
 {
@@ -60,6 +64,7 @@ fn rights_fit(rights: &[u8]) -> bool
 }
 
 // Whether each set is the first of its LLID.
+#[tactic(auto, unfolding(crate::specs::Verdict::llids_differ))]
 fn llids_differ(caller: Caller, sets: &[u8]) -> bool
     ensures { result ≡ llids_differ caller sets.now }
 {
@@ -75,6 +80,7 @@ fn llids_differ(caller: Caller, sets: &[u8]) -> bool
 }
 
 // Whether what else the call was lent suits in length, and what else it asks for in value, is told by two tests.
+#[tactic(auto, unfolding(crate::specs::Verdict::class_verdict, refusal::specs::Order::refuse_if, octets::specs::Choice::both))]
 pub fn class_verdict(suits: bool, fits: bool, caller: Caller, sets: &[u8], rights: &[u8]) -> Verdict
     ensures value { result ≡ class_verdict suits fits caller sets.now rights.now }
     ensures repeats { Repeats caller sets.now }

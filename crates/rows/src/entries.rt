@@ -20,6 +20,7 @@ fn put_number(line: Line, k: u16) -> Line
     decimal(line, k as u64)
 }
 
+#[tactic(auto, unfolding(crate::specs::Entries::mark_text, octets::specs::Choice::pick))]
 fn put_mark(line: Line, mark: u8) -> Line
     requires { line.used + 9 ≤ row_octets }
     ensures { Grown line result (mark_text mark) }
@@ -35,6 +36,7 @@ fn put_mark(line: Line, mark: u8) -> Line
 }
 
 // The numbers in both blocks, LLID and channel index.
+#[tactic(auto, unfolding(crate::specs::Entries::entry_head))]
 fn entry_head(line: Line, first: u16, second: u16, h: Header) -> Line
     requires { line.used ≡ 0 }
     ensures { Grown line result (entry_head first second h) }
@@ -46,6 +48,7 @@ fn entry_head(line: Line, first: u16, second: u16, h: Header) -> Line
 }
 
 // Clock and entry.
+#[tactic(auto, unfolding(crate::specs::Entries::entry_tail))]
 fn entry_tail(line: Line, clock: u64, mark: u8) -> Line
     requires { line.used + 31 ≤ row_octets }
     ensures { Grown line result (entry_tail clock mark) }
@@ -55,6 +58,7 @@ fn entry_tail(line: Line, clock: u64, mark: u8) -> Line
 }
 
 // The row of an entry, by the numbers of its records, a header of theirs, and 0, 1 or 2.
+#[tactic(auto, unfolding(crate::specs::Entries::entry_row))]
 pub fn entry_row(first: u16, second: u16, h: Header, mark: u8) -> Line
     ensures { Holds result (entry_row first second h mark) }
 {
@@ -66,6 +70,7 @@ pub fn entry_row(first: u16, second: u16, h: Header, mark: u8) -> Line
 }
 
 // A blank and the block that earns a refusal, nothing where none does.
+#[tactic(auto, unfolding(crate::specs::Entries::block_text, octets::specs::Choice::pick))]
 fn put_block(line: Line, block: u8) -> Line
     requires { line.used + 21 ≤ row_octets }
     ensures { Grown line result (block_text block) }
@@ -77,6 +82,7 @@ fn put_block(line: Line, block: u8) -> Line
 }
 
 // The row of a call that is refused, with the pair, then the block.
+#[tactic(auto, unfolding(crate::specs::Entries::denied_row))]
 pub fn denied_row(refusal: Refusal, block: u8) -> Line
     ensures { Holds result (denied_row refusal block) }
 {
@@ -89,6 +95,7 @@ pub fn denied_row(refusal: Refusal, block: u8) -> Line
 }
 
 // The last row: the records that are alone.
+#[tactic(auto, unfolding(crate::specs::Entries::total_row))]
 pub fn total_row(total: u16) -> Line
     ensures { Holds result (total_row total) }
 {

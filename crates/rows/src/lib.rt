@@ -1,4 +1,6 @@
 // The rows of a listing (01, Capture block: the reader program).
+#![tactic(auto)]
+
 ghost use Rattle.std.specs.Prelude.{◌≡◌, [], ◌∷◌, ◌+◌, ◌/◌, ◌%◌, ◌^◌, ◌≤◌, ◌<◌, length};
 ghost use Rattle.octets.specs.Output.{with_output};
 ghost use Rattle.rows.specs.Text.{glyph_of, digits, digit_count, decimal_of, row_octets, key_glyph, refused_text, pair_text, result_text, row_head, row_middle, row_tail, row_of, seen_row, hidden_row, refused_row, Holds, with_line};
@@ -17,7 +19,7 @@ pub const ROW_OCTETS: usize = 63;
 const MOST_DIGITS: usize = 20;
 
 // A line being written, and how much of it is.
-#[derive(Drop)]
+#[derive(Clone, Copy)]
 pub struct Line {
     pub octets: [u8; ROW_OCTETS],
     pub used: usize,
@@ -48,6 +50,7 @@ fn push4(line: Line, a: u8, b: u8, c: u8, d: u8) -> Line
     push2(push2(line, a, b), c, d)
 }
 
+#[tactic(auto, unfolding(crate::specs::Text::glyph_of))]
 fn glyph(d: u64) -> u8
     requires { d < 16 }
     ensures { result ≡ glyph_of d }
@@ -82,6 +85,7 @@ fn put_digits(line: Line, base: u64, count: usize, n: u64) -> Line
     next
 }
 
+#[tactic(auto, unfolding(crate::specs::Text::digit_count))]
 fn digit_count(n: u64) -> usize
     ensures { result ≡ digit_count n }
 {
@@ -97,6 +101,7 @@ fn digit_count(n: u64) -> usize
     count
 }
 
+#[tactic(auto, unfolding(crate::specs::Text::decimal_of))]
 fn decimal(line: Line, n: u64) -> Line
     requires { line.used + length (decimal_of n) ≤ row_octets }
     ensures { Grown line result (decimal_of n) }
@@ -105,6 +110,7 @@ fn decimal(line: Line, n: u64) -> Line
 }
 
 // EncKey, or - for a clear record.
+#[tactic(auto, unfolding(crate::specs::Text::key_glyph))]
 fn key_glyph(h: Header) -> u8
     ensures { result ≡ key_glyph h }
 {
@@ -114,6 +120,7 @@ fn key_glyph(h: Header) -> u8
     b'-'
 }
 
+#[tactic(auto, unfolding(crate::specs::Text::refused_text))]
 fn refused(line: Line, refusal: Refusal) -> Line
     requires { line.used + 10 ≤ row_octets }
     ensures { Grown line result (refused_text refusal) }
@@ -124,6 +131,7 @@ fn refused(line: Line, refusal: Refusal) -> Line
 }
 
 // A blank and the pair that a refusal names, nothing where it names none.
+#[tactic(auto, unfolding(crate::specs::Text::pair_text))]
 fn pair(line: Line, refusal: Refusal) -> Line
     requires { line.used + 21 ≤ row_octets }
     ensures { Grown line result (pair_text refusal) }
@@ -135,6 +143,7 @@ fn pair(line: Line, refusal: Refusal) -> Line
     decimal(push(line, b' '), k as u64)
 }
 
+#[tactic(auto, unfolding(crate::specs::Text::result_text))]
 fn result(line: Line, verdict: RecordVerdict) -> Line
     requires { line.used + 10 ≤ row_octets }
     ensures { Grown line result (result_text verdict) }
@@ -147,6 +156,7 @@ fn result(line: Line, verdict: RecordVerdict) -> Line
 }
 
 // Number from 1, LLID and channel index.
+#[tactic(auto, unfolding(crate::specs::Text::row_head))]
 fn row_head(line: Line, k: u64, h: Header) -> Line
     requires { line.used ≡ 0 }
     ensures { Grown line result (row_head k h) }
@@ -157,6 +167,7 @@ fn row_head(line: Line, k: u64, h: Header) -> Line
 }
 
 // Key and EQs.
+#[tactic(auto, unfolding(crate::specs::Text::row_middle))]
 fn row_middle(line: Line, h: Header) -> Line
     requires { line.used + 23 ≤ row_octets }
     ensures { Grown line result (row_middle h) }
@@ -166,6 +177,7 @@ fn row_middle(line: Line, h: Header) -> Line
 }
 
 // Key, EQs and result.
+#[tactic(auto, unfolding(crate::specs::Text::row_tail))]
 fn row_tail(line: Line, h: Header, verdict: RecordVerdict) -> Line
     requires { line.used + 34 ≤ row_octets }
     ensures { Grown line result (row_tail h verdict) }
@@ -174,6 +186,7 @@ fn row_tail(line: Line, h: Header, verdict: RecordVerdict) -> Line
 }
 
 // The row of the record with number k.
+#[tactic(auto, unfolding(crate::specs::Text::row_of))]
 pub fn row(k: u64, h: Header, verdict: RecordVerdict) -> Line
     ensures { Holds result (row_of k h verdict) }
 {
@@ -185,6 +198,7 @@ pub fn row(k: u64, h: Header, verdict: RecordVerdict) -> Line
 }
 
 // The row of the record with number k that may be seen but not opened (02, C-19).
+#[tactic(auto, unfolding(crate::specs::Text::seen_row))]
 pub fn seen_row(k: u64, h: Header) -> Line
     ensures { Holds result (seen_row k h) }
 {
@@ -197,6 +211,7 @@ pub fn seen_row(k: u64, h: Header) -> Line
 }
 
 // The row of the record with number k whose header may not be seen.
+#[tactic(auto, unfolding(crate::specs::Text::hidden_row))]
 pub fn hidden_row(k: u64) -> Line
     ensures { Holds result (hidden_row k) }
 {
@@ -208,6 +223,7 @@ pub fn hidden_row(k: u64) -> Line
 }
 
 // The row of a call that is refused.
+#[tactic(auto, unfolding(crate::specs::Text::refused_row))]
 pub fn refused_row(refusal: Refusal) -> Line
     ensures { Holds result (refused_row refusal) }
 {

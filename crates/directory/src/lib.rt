@@ -1,4 +1,6 @@
 // The directory of a capture block (01, Capture block): a count, and for each record a pair of its offset and its length.
+#![tactic(auto)]
+
 ghost use Rattle.std.specs.Prelude.{◌≡◌};
 ghost use Rattle.records.specs.Block.{records_in};
 ghost use Rattle.directory.specs.Directory.{pair_of, size_fits, directory_of, verdict_on};
@@ -15,7 +17,7 @@ use records::place::ends_right;
 use refusal::{Refusal, Verdict};
 
 // What a pair is found to be.
-#[derive(Drop)]
+#[derive(Clone, Copy)]
 pub enum Pair {
     Fits,
     // its offset is not the one that the chain gives, or it does not end where it may
@@ -25,7 +27,7 @@ pub enum Pair {
 }
 
 // What a directory is found to be.
-#[derive(Drop)]
+#[derive(Clone, Copy)]
 pub enum Directory {
     // so many records
     Good(u16),
@@ -34,6 +36,7 @@ pub enum Directory {
 }
 
 // The verdict on pair i of n, whose record is due at `due` and goes by the pair from `from` to `to`.
+#[tactic(auto, unfolding(records::specs::Block::end_of, records::specs::Block::record_of))]
 fn pair_of(block: &[u8], n: u16, i: u16, due: usize, from: usize, to: usize) -> Pair
     requires { Due block.now n i due from to }
     ensures { result ≡ pair_of block.now i }
@@ -52,6 +55,7 @@ fn pair_of(block: &[u8], n: u16, i: u16, due: usize, from: usize, to: usize) -> 
 }
 
 // Whether a block of n records and its count are within their bounds, the pairs are all there, and an empty block is two octets.
+#[tactic(auto, unfolding(crate::specs::Directory::size_fits, octets::specs::Choice::both, octets::specs::Choice::either))]
 fn is_size_right(block: &[u8], n: u16) -> bool
     requires { n ≡ records_in block.now }
     ensures { result ≡ size_fits block.now }
@@ -63,6 +67,7 @@ fn is_size_right(block: &[u8], n: u16) -> bool
 }
 
 // What the directory of a block is found to be: bounds first, then pair by pair, chain before length at each, in one pass.
+#[tactic(auto, unfolding(records::specs::Block::due_of, crate::specs::Directory::directory_of, crate::specs::Directory::with_pair, records::specs::Block::end_of))]
 pub fn check(block: &[u8]) -> Directory
     ensures value { result ≡ directory_of block.now }
     ensures judged { Judged block.now }

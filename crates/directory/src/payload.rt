@@ -8,7 +8,7 @@ use records::header::HEADER_OCTETS;
 use refusal::{Refusal, Verdict};
 
 // Where a payload lies in its block.
-#[derive(Drop)]
+#[derive(Clone, Copy)]
 pub enum Bounds {
     // from this offset on, for so many octets
     Within(usize, usize),
@@ -16,6 +16,7 @@ pub enum Bounds {
 }
 
 // Whether a directory has a record with number k.
+#[tactic(auto, unfolding(octets::specs::Choice::both))]
 fn asked(directory: Directory, k: usize) -> Verdict
     ensures { result ≡ record_asked directory k }
 {
@@ -32,6 +33,7 @@ fn asked(directory: Directory, k: usize) -> Verdict
 }
 
 // Whether a block has a payload with number k: an empty part can also be the payload of 0 EQs.
+#[tactic(auto, unfolding(crate::specs::Payload::payload_verdict))]
 pub fn payload_verdict(block: &[u8], k: usize) -> Verdict
     ensures { result ≡ payload_verdict block.now k }
 {
@@ -39,6 +41,7 @@ pub fn payload_verdict(block: &[u8], k: usize) -> Verdict
 }
 
 // Where the payload of record k lies in the block.
+#[tactic(auto, unfolding(crate::specs::Payload::payload_bounds, crate::specs::Payload::bounds_of))]
 pub fn locate(block: &[u8], k: usize) -> Bounds
     ensures { result ≡ payload_bounds block.now k }
 {

@@ -6,6 +6,7 @@ ghost use Rattle.sameness.specs.Pairing.{keys_agree, first_from, distinct};
 use records::block::{count, header_at};
 use records::header::Header;
 
+#[tactic(auto, unfolding(crate::specs::Pairing::keys_agree, octets::specs::Choice::both))]
 fn keys_agree(g: Header, h: Header) -> bool
     ensures { result ≡ keys_agree g h }
 {
@@ -13,6 +14,7 @@ fn keys_agree(g: Header, h: Header) -> bool
 }
 
 // The first record of b, from record `from` of n on, that pairs with record i of a, or n where none does.
+#[tactic(auto, unfolding(crate::specs::Pairing::paired))]
 pub fn first_from(a: &[u8], i: u16, b: &[u8], from: u16, n: u16) -> u16
     ensures { result ≡ first_from (record_of a.now i) b.now from (n - from) }
 {
@@ -28,6 +30,7 @@ pub fn first_from(a: &[u8], i: u16, b: &[u8], from: u16, n: u16) -> u16
 }
 
 // Whether no two records of a block agree in all three.
+#[tactic(auto, unfolding(crate::specs::Pairing::distinct))]
 pub fn is_distinct(block: &[u8]) -> bool
     ensures { result ≡ distinct block.now }
 {

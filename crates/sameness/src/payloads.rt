@@ -12,6 +12,7 @@ use records::header::enc_key;
 const DATA_OCTETS: u8 = 8;
 
 // Whether EQ e has the same data octets in both payloads.
+#[tactic(auto, unfolding(crate::specs::Sameness::same_eq))]
 fn is_same_eq(p: &[u8], q: &[u8], e: u32) -> bool
     ensures { result ≡ same_eq p.now q.now e }
 {
@@ -26,6 +27,7 @@ fn is_same_eq(p: &[u8], q: &[u8], e: u32) -> bool
 }
 
 // Whether record i of a and record j of b have as many EQs, with the same data octets.
+#[tactic(auto, unfolding(crate::specs::Sameness::same_data, octets::specs::Choice::both))]
 fn is_same_data(a: &[u8], i: u16, b: &[u8], j: u16) -> bool
     ensures { result ≡ same_data (record_of a.now i) (record_of b.now j) }
 {

@@ -59,7 +59,7 @@ advances_follow : (o : Olt) (i llid : ℕ) (c : UnitClock) (p : Olt) (ns : List 
 unfolding after_advances advance_olt_of advancing_olt olt_answer
 advances_follow o i llid c p [] f h = h
 advances_follow o i llid c p (n ∷ ns) f h =
-    advances_follow o i llid c _ ns f (reply_keeps (Follows o i c) _ p silent (olt_advanced p n) silent h (λ a. advanced_follows o i llid c p n f h))
+    advances_follow o i llid c (advance_olt_of p n).olt ns f (reply_keeps (Follows o i c) _ p silent (olt_advanced p n) silent h (λ a. advanced_follows o i llid c p n f h))
 
 -- the stamps of a send that is accepted at p
 send_stamps : (o : Olt) (i llid : ℕ) (c : UnitClock) (p : Olt) → o.shared.clock < clock_turn → c.tick ≡ o.shared.tick → find o llid ≡ At i

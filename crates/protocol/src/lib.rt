@@ -1,5 +1,7 @@
 // What crosses between the ends, what an envelope goes under, and what the calls of both ends answer (01, Clock; Keys). The definition of every
 // call stands in specs/ (D110).
+#![tactic(auto)]
+
 pub mod ticks;
 
 use clock::Stamps;
@@ -8,7 +10,7 @@ use refusal::Refusal;
 
 // A key message. A clock message is a `clock::Stamps`.
 #[repr(C)]
-#[derive(Drop)]
+#[derive(Clone, Copy)]
 pub struct KeyMessage {
     pub llid: u16,
     pub number: u32,
@@ -22,7 +24,7 @@ pub const KEY_KIND: u8 = 2;
 
 // What a unit answers: its kind, with the key's number to a key message. Kind 0 is none.
 #[repr(C)]
-#[derive(Drop)]
+#[derive(Clone, Copy)]
 pub struct Acknowledgement {
     pub kind: u8,
     pub number: u32,
@@ -30,7 +32,7 @@ pub struct Acknowledgement {
 
 // An envelope's header, start or continuation; `channel` is the channel index.
 #[repr(C)]
-#[derive(Drop)]
+#[derive(Clone, Copy)]
 pub struct Header {
     pub channel: u8,
     pub llid: u16,
@@ -40,7 +42,7 @@ pub struct Header {
 }
 
 // Under which key an envelope goes (D111).
-#[derive(Drop)]
+#[derive(Clone, Copy)]
 pub enum KeyChoice {
     // none
     Clear,
@@ -53,7 +55,7 @@ pub enum KeyChoice {
 }
 
 // What an envelope is sealed or opened with, beside its channel index.
-#[derive(Drop)]
+#[derive(Clone, Copy)]
 pub struct Passage {
     pub choice: KeyChoice,
     pub key: [u8; 16],
@@ -62,21 +64,21 @@ pub struct Passage {
 }
 
 // What a send decides: the header, and what the payload is sealed with.
-#[derive(Drop)]
+#[derive(Clone, Copy)]
 pub struct Sending {
     pub header: Header,
     pub passage: Passage,
 }
 
 #[repr(C)]
-#[derive(Drop)]
+#[derive(Clone, Copy)]
 pub struct OltAnswer {
     pub number: u8,
     pub olt: Olt,
 }
 
 #[repr(C)]
-#[derive(Drop)]
+#[derive(Clone, Copy)]
 pub struct ClockSent {
     pub number: u8,
     pub olt: Olt,
@@ -84,7 +86,7 @@ pub struct ClockSent {
 }
 
 #[repr(C)]
-#[derive(Drop)]
+#[derive(Clone, Copy)]
 pub struct KeySent {
     pub number: u8,
     pub olt: Olt,
@@ -92,14 +94,14 @@ pub struct KeySent {
 }
 
 #[repr(C)]
-#[derive(Drop)]
+#[derive(Clone, Copy)]
 pub struct OnuAnswer {
     pub number: u8,
     pub onu: Onu,
 }
 
 #[repr(C)]
-#[derive(Drop)]
+#[derive(Clone, Copy)]
 pub struct OnuAcknowledged {
     pub number: u8,
     pub onu: Onu,

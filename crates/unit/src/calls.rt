@@ -17,6 +17,7 @@ use protocol::{Acknowledgement, CLOCK_KIND, KEY_KIND, KeyMessage};
 use refusal::{Refusal, Verdict, and_then, refuse_if};
 
 // The unit's stamps are those of this tick.
+#[tactic(auto, unfolding(protocol::specs::UnitCalls::capture_unit, protocol::specs::Lift::outcome, refusal::specs::Order::and_then, crate::specs::Reached::reached, crate::specs::Reached::if_accepted, protocol::specs::UnitCalls::clock_captured, ends::specs::Records::with_clock))]
 pub fn capture(way: Verdict, shared: Shared, unit: UnitRecord) -> UnitAnswer
     ensures { outcome shared result.verdict result.unit silent ≡ reached way silent shared unit (capture_unit shared unit) }
 {
@@ -38,6 +39,7 @@ pub fn capture(way: Verdict, shared: Shared, unit: UnitRecord) -> UnitAnswer
 }
 
 // The round trip measured again: what was captured, sent and acknowledged over the path before is forgotten (02, C-16).
+#[tactic(auto, unfolding(protocol::specs::UnitCalls::measure_unit, protocol::specs::Lift::outcome, refusal::specs::Order::and_then, crate::specs::Reached::reached, crate::specs::Reached::if_accepted, ends::specs::Records::with_clock))]
 pub fn measure(way: Verdict, shared: Shared, unit: UnitRecord, trip: u64) -> UnitAnswer
     ensures { outcome shared result.verdict result.unit silent ≡ reached way silent shared unit (measure_unit trip shared unit) }
 {
@@ -80,6 +82,7 @@ fn clock_send_verdict(clock: UnitClock, tick: u64) -> Verdict
 }
 
 // The stamps of the capture's tick.
+#[tactic(auto, unfolding(protocol::specs::UnitCalls::clock_message_of))]
 fn clock_message(shared: Shared, clock: UnitClock) -> Stamps
     ensures { result ≡ clock_message_of shared clock }
 {
@@ -87,6 +90,7 @@ fn clock_message(shared: Shared, clock: UnitClock) -> Stamps
     clock::captured(then, clock.trip)
 }
 
+#[tactic(auto, unfolding(protocol::specs::UnitCalls::clock_send_unit, protocol::specs::Lift::outcome, crate::specs::Reached::reached, crate::specs::Reached::if_accepted, protocol::specs::UnitCalls::clock_after_send, ends::specs::Records::with_clock))]
 pub fn clock_send(way: Verdict, shared: Shared, unit: UnitRecord) -> UnitClockSent
     ensures { outcome shared result.verdict result.unit result.message ≡ reached way no_stamps shared unit (clock_send_unit shared unit) }
 {
@@ -110,6 +114,7 @@ pub fn clock_send(way: Verdict, shared: Shared, unit: UnitRecord) -> UnitClockSe
     }
 }
 
+#[tactic(auto, unfolding(protocol::specs::UnitCalls::offer_verdict, octets::specs::Choice::both, octets::specs::Choice::either))]
 fn offer_verdict(unit: UnitRecord, key: [u8; 16]) -> Verdict
     ensures { result ≡ offer_verdict unit key }
 {
@@ -133,6 +138,7 @@ fn offer_verdict(unit: UnitRecord, key: [u8; 16]) -> Verdict
     )
 }
 
+#[tactic(auto, unfolding(protocol::specs::UnitCalls::keys_offered))]
 fn keys_offered(keys: UnitKeys, key: [u8; 16]) -> UnitKeys
     requires { keys.active < max_key_number }
     ensures { result ≡ keys_offered keys key }
@@ -146,6 +152,7 @@ fn keys_offered(keys: UnitKeys, key: [u8; 16]) -> UnitKeys
 }
 
 // A new offer starts unacknowledged.
+#[tactic(auto, unfolding(protocol::specs::UnitCalls::unit_offered, ends::specs::Records::with_keys, ends::specs::Records::with_confirmation))]
 fn offered(unit: UnitRecord, key: [u8; 16]) -> UnitRecord
     requires { unit.keys.active < max_key_number }
     ensures { result ≡ unit_offered unit key }
@@ -158,6 +165,7 @@ fn offered(unit: UnitRecord, key: [u8; 16]) -> UnitRecord
 }
 
 // The message of the outstanding offer.
+#[tactic(auto, unfolding(protocol::specs::UnitCalls::key_message_of))]
 fn key_message(llid: u16, keys: UnitKeys) -> KeyMessage
     ensures { result ≡ key_message_of llid keys }
 {
@@ -179,6 +187,7 @@ fn no_key_message() -> KeyMessage
     }
 }
 
+#[tactic(auto, unfolding(protocol::specs::UnitCalls::offer_unit, protocol::specs::Lift::outcome, crate::specs::Reached::reached, crate::specs::Reached::if_accepted, protocol::specs::UnitCalls::unit_offered, ends::specs::Records::with_keys, ends::specs::Records::with_confirmation))]
 pub fn offer(
     way: Verdict,
     shared: Shared,
@@ -208,6 +217,7 @@ pub fn offer(
 }
 
 // The offer's number and key again.
+#[tactic(auto, unfolding(protocol::specs::UnitCalls::retry_unit, protocol::specs::UnitCalls::retry_verdict, protocol::specs::Lift::outcome, crate::specs::Reached::reached, crate::specs::Reached::if_accepted))]
 pub fn retry(way: Verdict, shared: Shared, unit: UnitRecord, llid: u16) -> UnitKeySent
     ensures { outcome shared result.verdict result.unit result.message ≡ reached way no_key_message shared unit (retry_unit llid shared unit) }
 {
@@ -234,6 +244,7 @@ pub fn retry(way: Verdict, shared: Shared, unit: UnitRecord, llid: u16) -> UnitK
 }
 
 // Whether what is acknowledged is outstanding: a clock message that was sent, or key O, which is 1 or more.
+#[tactic(auto, unfolding(protocol::specs::UnitCalls::outstanding, octets::specs::Choice::pick, octets::specs::Choice::both))]
 fn is_outstanding(acknowledgement: Acknowledgement, unit: UnitRecord) -> bool
     ensures { result ≡ outstanding acknowledgement unit }
 {
@@ -250,6 +261,7 @@ fn is_outstanding(acknowledgement: Acknowledgement, unit: UnitRecord) -> bool
     false
 }
 
+#[tactic(auto, unfolding(protocol::specs::UnitCalls::acknowledge_unit, protocol::specs::UnitCalls::clock_acknowledged_unit, protocol::specs::Lift::outcome, octets::specs::Choice::pick, ends::specs::Records::with_clock, protocol::specs::UnitCalls::key_acknowledged_unit, ends::specs::Records::with_confirmation))]
 fn acknowledged(acknowledgement: Acknowledgement, shared: Shared, unit: UnitRecord) -> UnitRecord
     ensures { result ≡ (acknowledge_unit acknowledgement shared unit).unit }
 {
@@ -265,6 +277,7 @@ fn acknowledged(acknowledgement: Acknowledgement, shared: Shared, unit: UnitReco
     r
 }
 
+#[tactic(auto, unfolding(protocol::specs::Lift::outcome, crate::specs::Reached::reached, crate::specs::Reached::if_accepted, protocol::specs::UnitCalls::acknowledge_verdict))]
 pub fn acknowledge(
     way: Verdict,
     shared: Shared,

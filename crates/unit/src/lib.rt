@@ -1,6 +1,8 @@
 // What the OLT does on the record of one unit, and what both ends do alike with header, key choice and channel (01, Clock; Keys).
 // Each call takes the verdict on the way to the unit; refused there or by the unit, the unit is the one that was there, and what is
 // handed over is zeros.
+#![tactic(auto)]
+
 pub mod calls;
 pub mod passing;
 mod ticks;
@@ -13,20 +15,20 @@ use protocol::{KeyMessage, Passage, Sending};
 use refusal::Verdict;
 
 // A call that hands over nothing.
-#[derive(Drop)]
+#[derive(Clone, Copy)]
 pub struct UnitAnswer {
     pub verdict: Verdict,
     pub unit: UnitRecord,
 }
 
-#[derive(Drop)]
+#[derive(Clone, Copy)]
 pub struct UnitClockSent {
     pub verdict: Verdict,
     pub unit: UnitRecord,
     pub message: Stamps,
 }
 
-#[derive(Drop)]
+#[derive(Clone, Copy)]
 pub struct UnitKeySent {
     pub verdict: Verdict,
     pub unit: UnitRecord,
@@ -34,7 +36,7 @@ pub struct UnitKeySent {
 }
 
 // What a send changes of the unit's keys (the timer's flag, the key in use, its first send), and not the whole unit.
-#[derive(Drop)]
+#[derive(Clone, Copy)]
 pub struct UnitSent {
     pub verdict: Verdict,
     pub flag: u8,
@@ -45,7 +47,7 @@ pub struct UnitSent {
     pub sending: Sending,
 }
 
-#[derive(Drop)]
+#[derive(Clone, Copy)]
 pub struct UnitReceived {
     pub verdict: Verdict,
     pub unit: UnitRecord,

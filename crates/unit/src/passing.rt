@@ -18,12 +18,14 @@ use std::num::wrapping_add_u64;
 // A header keeps its channel for its own tick, beside one for each EQ.
 const HEADER_TICKS: u64 = 1;
 
+#[tactic(auto, unfolding(protocol::specs::Headers::valid_header, octets::specs::Choice::both))]
 pub fn valid_header(header: Header) -> bool
     ensures { result ≡ valid_header header }
 {
     (header.encenabled <= 1) & ((header.enckey <= header.encenabled) & (header.epam < EPAM_TURN))
 }
 
+#[tactic(auto, unfolding(ends::specs::Occupancy::taken, ends::specs::Occupancy::free_from, octets::specs::Choice::pick))]
 pub fn taken(channels: Channels, channel: u8, tick: u64) -> bool
     ensures { result ≡ taken channels channel tick }
 {
@@ -50,6 +52,7 @@ pub fn occupied(channels: Channels, channel: u8, tick: u64, eqs: u64) -> Channel
     }
 }
 
+#[tactic(auto, unfolding(ends::specs::Keys::aged, octets::specs::Choice::both))]
 fn aged(first: FirstSend, now: u64) -> bool
     ensures { result ≡ aged first now }
 {
@@ -57,6 +60,7 @@ fn aged(first: FirstSend, now: u64) -> bool
 }
 
 // A key that comes into use has had no send: only the key in use can be too old.
+#[tactic(auto, unfolding(protocol::specs::Headers::choice_aged))]
 fn choice_aged(choice: KeyChoice, first: FirstSend, now: u64) -> bool
     ensures { result ≡ choice_aged choice first now }
 {
@@ -69,6 +73,7 @@ fn choice_aged(choice: KeyChoice, first: FirstSend, now: u64) -> bool
     }
 }
 
+#[tactic(auto, unfolding(protocol::specs::Headers::choice_enciphered))]
 pub fn is_enciphered(choice: KeyChoice) -> bool
     ensures { result ≡ choice_enciphered choice }
 {
@@ -81,6 +86,7 @@ pub fn is_enciphered(choice: KeyChoice) -> bool
 }
 
 // A send at either end: 5 for an enciphered one where the clock is not set, then 12 for the channel, then 13 for the key.
+#[tactic(auto, unfolding(octets::specs::Choice::both))]
 pub fn clock_channel_key(
     set: bool,
     busy: bool,
@@ -103,6 +109,7 @@ pub fn clock_channel_key(
     )
 }
 
+#[tactic(auto, unfolding(ends::specs::Keys::first_send, octets::specs::Choice::pick))]
 pub fn first_send(first: FirstSend, now: u64) -> FirstSend
     ensures { result ≡ first_send first now }
 {
@@ -112,6 +119,7 @@ pub fn first_send(first: FirstSend, now: u64) -> FirstSend
     FirstSend { noted: 1, at: now }
 }
 
+#[tactic(auto, unfolding(protocol::specs::Headers::choice_verdict))]
 pub fn choice_verdict(choice: KeyChoice) -> Verdict
     ensures { result ≡ choice_verdict choice }
 {
@@ -123,6 +131,7 @@ pub fn choice_verdict(choice: KeyChoice) -> Verdict
     }
 }
 
+#[tactic(auto, unfolding(protocol::specs::Headers::choice_number))]
 fn choice_number(choice: KeyChoice) -> u32
     ensures { result ≡ choice_number choice }
 {
@@ -134,6 +143,7 @@ fn choice_number(choice: KeyChoice) -> u32
     }
 }
 
+#[tactic(auto, unfolding(protocol::specs::Headers::envelope_header, octets::specs::Choice::pick))]
 fn header_of(choice: KeyChoice, channel: u8, llid: u16, clock: u64) -> Header
     ensures { result ≡ envelope_header (choice_number choice) channel llid clock }
 {
@@ -158,6 +168,7 @@ fn header_of(choice: KeyChoice, channel: u8, llid: u16, clock: u64) -> Header
     }
 }
 
+#[tactic(auto, unfolding(protocol::specs::Headers::key_for, octets::specs::Choice::pick))]
 fn key_for(n: u32, slots: Slots) -> [u8; 16]
     ensures { result ≡ key_for n slots }
 {
@@ -167,6 +178,7 @@ fn key_for(n: u32, slots: Slots) -> [u8; 16]
     key_in(slots, n)
 }
 
+#[tactic(auto, unfolding(protocol::specs::Headers::passage_of))]
 pub fn passage_of(choice: KeyChoice, slots: Slots, mac: u64, clock: u64) -> Passage
     ensures { result ≡ passage_of choice slots mac clock }
 {
@@ -179,6 +191,7 @@ pub fn passage_of(choice: KeyChoice, slots: Slots, mac: u64, clock: u64) -> Pass
     }
 }
 
+#[tactic(auto, unfolding(protocol::specs::Headers::sending_of))]
 pub fn sending_of(
     choice: KeyChoice,
     slots: Slots,

@@ -16,6 +16,7 @@ use protocol::{Header, KeyChoice};
 use refusal::{Refusal, Verdict, and_then, refuse_if};
 
 // Whether the next accepted send switches.
+#[tactic(auto, unfolding(protocol::specs::UnitTraffic::switches, octets::specs::Choice::both))]
 fn switches(unit: UnitRecord) -> bool
     ensures { result ≡ switches unit }
 {
@@ -24,6 +25,7 @@ fn switches(unit: UnitRecord) -> bool
         & ((unit.keys.offered as u64 == next) & (unit.confirmation.acknowledged == 1))
 }
 
+#[tactic(auto, unfolding(protocol::specs::UnitTraffic::unit_send_choice, octets::specs::Choice::pick))]
 fn send_choice(unit: UnitRecord) -> KeyChoice
     ensures { result ≡ unit_send_choice unit }
 {
@@ -36,6 +38,7 @@ fn send_choice(unit: UnitRecord) -> KeyChoice
     KeyChoice::Current(unit.keys.active)
 }
 
+#[tactic(auto, unfolding(protocol::specs::UnitTraffic::keys_switched, ends::specs::Timers::timer_fallen))]
 fn keys_switched(keys: UnitKeys, tick: u64) -> UnitKeys
     ensures { result ≡ keys_switched keys tick }
 {
@@ -47,6 +50,7 @@ fn keys_switched(keys: UnitKeys, tick: u64) -> UnitKeys
     r
 }
 
+#[tactic(auto, unfolding(protocol::specs::UnitTraffic::keys_after_send, ends::specs::Records::with_first))]
 fn keys_sent(choice: KeyChoice, keys: UnitKeys, tick: u64) -> UnitKeys
     ensures { result ≡ keys_after_send choice keys tick }
 {
@@ -64,6 +68,7 @@ fn keys_sent(choice: KeyChoice, keys: UnitKeys, tick: u64) -> UnitKeys
 }
 
 // 5, 12, 13. A valid end's tick and a payload that fits are what the way to the unit has judged.
+#[tactic(auto, unfolding(crate::specs::Reached::sent_outcome, crate::specs::Reached::unit_sent, protocol::specs::UnitTraffic::send_unit, ends::specs::Records::with_keys, crate::specs::Reached::reached, crate::specs::Reached::if_accepted, protocol::specs::UnitTraffic::unit_send_verdict, protocol::specs::UnitTraffic::keys_after_send, protocol::specs::UnitTraffic::keys_switched, ends::specs::Timers::timer_fallen, ends::specs::Records::with_first))]
 pub fn send(
     way: Verdict,
     shared: Shared,
@@ -117,6 +122,7 @@ pub fn send(
     }
 }
 
+#[tactic(auto, unfolding(protocol::specs::UnitTraffic::unit_receive_choice, octets::specs::Choice::pick, octets::specs::Choice::both))]
 fn receive_choice(unit: UnitRecord, header: Header) -> KeyChoice
     ensures { result ≡ unit_receive_choice unit header }
 {
@@ -139,6 +145,7 @@ fn receive_choice(unit: UnitRecord, header: Header) -> KeyChoice
 }
 
 // C becomes A, and the key before A is wiped.
+#[tactic(auto, unfolding(protocol::specs::UnitTraffic::unit_confirmed, ends::specs::Records::with_keys, ends::specs::Records::with_slots, ends::specs::Records::with_confirmation))]
 fn confirmed(unit: UnitRecord) -> UnitRecord
     ensures { result ≡ unit_confirmed unit }
 {
@@ -150,6 +157,7 @@ fn confirmed(unit: UnitRecord) -> UnitRecord
     r
 }
 
+#[tactic(auto, unfolding(protocol::specs::UnitTraffic::unit_after_receipt))]
 fn unit_received(choice: KeyChoice, unit: UnitRecord) -> UnitRecord
     ensures { result ≡ unit_after_receipt choice unit }
 {
@@ -162,6 +170,7 @@ fn unit_received(choice: KeyChoice, unit: UnitRecord) -> UnitRecord
 }
 
 // 10, 11, 9.
+#[tactic(auto, unfolding(protocol::specs::UnitTraffic::receive_unit, protocol::specs::Lift::outcome, crate::specs::Reached::reached, crate::specs::Reached::if_accepted, protocol::specs::UnitTraffic::unit_receive_verdict))]
 pub fn receive(way: Verdict, shared: Shared, unit: UnitRecord, header: Header) -> UnitReceived
     ensures { outcome shared result.verdict result.unit result.passage ≡ reached way no_passage shared unit (receive_unit header shared unit) }
 {

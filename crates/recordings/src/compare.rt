@@ -24,7 +24,7 @@ const DIFFERENT: u8 = 2;
 // The pair is that of 18 and 19, and the block, 1 or 2, that of a refusal other than 14; else they are 0. Entries and total are 0
 // where the call is refused.
 #[repr(C)]
-#[derive(Drop)]
+#[derive(Clone, Copy)]
 pub struct Comparison {
     pub number: u8,
     pub block: u8,
@@ -34,6 +34,7 @@ pub struct Comparison {
 }
 
 // The entry of record i of a, whose partner is record p of b.
+#[tactic(auto, unfolding(crate::specs::Comparing::mark_at, octets::specs::Choice::pick))]
 pub(crate) fn mark_at(a: &[u8], i: u16, b: &[u8], p: u16) -> u8
     ensures { result ≡ mark_at (record_of a.now i) b.now p }
 {
@@ -62,6 +63,7 @@ fn put_marks(a: &[u8], b: &[u8], table: &[u16; PLACES], output: &mut [u8])
 }
 
 // Writes the entries of b's records that are alone behind the first `at`, and gives their end. Their partners in a are `table`.
+#[tactic(auto, unfolding(directory::specs::Rebuilt::joined))]
 fn put_alones(b: &[u8], a: &[u8], table: &[u16; PLACES], output: &mut [u8], at: usize) -> usize
     requires b_bound { (records_in b.now ≤ most_records) × (at ≤ most_records) × (length output.old ≡ output_octets) }
     requires listed { Listed table.now b.now a.now (records_in b.now) }
@@ -85,6 +87,7 @@ fn put_alones(b: &[u8], a: &[u8], table: &[u16; PLACES], output: &mut [u8], at: 
 }
 
 // The records of an LLID among a's that are alone. Their partners in b are `table`.
+#[tactic(auto, unfolding(octets::specs::Choice::both, crate::specs::Comparing::alone_of))]
 pub(crate) fn count_alone(llid: u16, a: &[u8], b: &[u8], table: &[u16; PLACES]) -> u16
     requires a_bound { records_in a.now ≤ most_records }
     requires listed { Listed table.now a.now b.now (records_in a.now) }
@@ -104,6 +107,7 @@ pub(crate) fn count_alone(llid: u16, a: &[u8], b: &[u8], table: &[u16; PLACES]) 
 }
 
 // The entries of two blocks, and the total.
+#[tactic(auto, unfolding(crate::specs::Comparing::compared_after))]
 fn write_entries(llid: u16, a: &[u8], b: &[u8], output: &mut [u8]) -> Comparison
     requires comparable { Comparable a.now b.now }
     requires output_len { length output.old ≡ output_octets }

@@ -26,6 +26,7 @@ const HEAD_OCTETS: usize = 6;
 pub const LISTING_OCTETS: usize = 32353;
 
 // The number, from 1, of a partner at place p of b, 0 where there is none.
+#[tactic(auto, unfolding(crate::specs::Listing::partner_number, octets::specs::Choice::pick))]
 fn partner_number(b: &[u8], p: u16) -> u16
     requires { p ≤ most_records }
     ensures { result ≡ partner_number b.now p }
@@ -133,6 +134,7 @@ fn put_body(llid: u16, a: &[u8], b: &[u8], text: &mut [u8], at: usize) -> usize
 }
 
 // The rows of the two blocks of an input, or the code of its refusal.
+#[tactic(auto, unfolding(crate::specs::Listing::body_of))]
 fn put_input(input: &[u8], text: &mut [u8], at: usize) -> usize
     requires { at + body_octets ≤ length text.old }
     ensures lower_bound { (at ≤ result) × (result ≤ at + body_octets) }

@@ -8,7 +8,7 @@ use sameness::partners::first_from;
 pub const PLACES: usize = MOST_RECORDS as usize;
 
 // For each record of a block the place of its partner in the other, or the other's count of records where it is alone.
-#[derive(Drop)]
+#[derive(Clone, Copy)]
 pub struct Partners {
     pub first: [u16; PLACES],
     pub second: [u16; PLACES],

@@ -11,13 +11,14 @@ use sameness::partners::is_distinct;
 // The octets of the output, an entry each.
 pub const OUTPUT_OCTETS: usize = 512;
 
-#[derive(Drop)]
+#[derive(Clone, Copy)]
 pub enum Ruling {
     Taken,
     // the refusal, and the block that earns it, 1 or 2, or 0 where it is of the call itself
     Denied(Refusal, u8),
 }
 
+#[tactic(auto, unfolding(crate::specs::Comparing::headers_fit))]
 fn are_headers_fit(block: &[u8]) -> bool
     ensures { result ≡ headers_fit block.now }
 {
@@ -33,6 +34,7 @@ fn are_headers_fit(block: &[u8]) -> bool
 }
 
 // 15, 18 or 19, then 1 for any record.
+#[tactic(auto, unfolding(crate::specs::Comparing::block_verdict, refusal::specs::Order::and_then))]
 fn block_verdict(block: &[u8]) -> Verdict
     ensures { result ≡ block_verdict block.now }
 {
@@ -47,6 +49,7 @@ fn block_verdict(block: &[u8]) -> Verdict
 }
 
 // 14, the first block's own refusals, the second's, then 22.
+#[tactic(auto, unfolding(crate::specs::Comparing::ruling_on, crate::specs::Comparing::ruled, refusal::specs::Order::refuse_if, crate::specs::Comparing::repeat_verdict))]
 pub(crate) fn rule(size: usize, a: &[u8], b: &[u8]) -> Ruling
     ensures { result ≡ ruling_on size a.now b.now }
 {

@@ -5,7 +5,6 @@ use Prim.Native.Nat.{ℕ, ◌+◌, ◌≤◌, ◌<◌}
 use native.Mathlib.Omega.{arith}
 use lib.ListN.{length, drop, length-drop}
 use lib.Seq.{take_all}
-use borrow.Author.Rules.{rules}
 use borrow.Author.Tests.{lt-leb, le-leb}
 use Rattle.octets.specs.Lists.{part}
 use Rattle.octets.proofs.Choice.{pick_true, pick_false}
@@ -16,8 +15,7 @@ use Rattle.rows.proofs.Texts.{line_put}
 use Rattle.directory.proofs.Filling.{appended_as}
 use Rattle.recordings.specs.Comparing.{output_octets, ruling_on}
 use Rattle.recordings.specs.Listing.{head_octets, asked_llid, first_length, body_after, body_of}
-use Rattle.recordings.proofs.listing.put_input.Statement.{statement}
-use Rattle.recordings.proofs.listing.put_input.Tie as tie
+use Rattle.recordings.proofs.listing.put_input.Goals as goal
 
 -- input that ends too soon
 no_blocks : (s : List ℕ) (n : ℕ) → n ≡ first_length s → length s < head_octets + n → body_of s ≡ denied_row BadLength 0
@@ -34,30 +32,17 @@ two_blocks s a b llid n e h l f g =
     let second : b ≡ drop (head_octets + n) s = g ∙ rest in
     rw (f, second, l, e) (sym (pick_true _ _ (le-leb _ _ (rw e at h))))
 
-returns : tie.Need-returns
+pub returns-then-input-start : goal.returns-then-input-start
+returns-then-input-start c =
+    let q = line_put _ _ _ _ row_octets _ c.put_line.ensures c.denied_row.ensures.inside (omega (arith, c.requires)) in
+    let e = no_blocks c.args.input.now _ c.number32-size.ensures c.if-input-start.true in
+    let z = appended_as _ _ _ _ _ _ q (c.denied_row.ensures.octets ∙ sym e) (omega arith) in
+    record { lower_bound = z.0; text_after = z.1.0; text_unchanged = z.1.1 }
+
+pub returns : goal.returns
 returns c =
-    let put = c.before.before in
-    let made = put.before in
-    let then = made.before.before in
-    let start = then.before.before.before.before in
-    let q = line_put _ _ _ _ row_octets _ put.put-line.ensures made.denied-row.ensures.inside (omega (arith, start.requires)) in
-    let e = no_blocks start.args.input.now _ then.before.number32.ensures then.if1.true in
-    appended_as _ _ _ _ _ _ q (made.denied-row.ensures.octets ∙ sym e) (omega arith)
-
-returns-2 : tie.Need-returns-2
-returns-2 c =
-    let put = c.before.before in
-    let second = put.before.before in
-    let first = second.before in
-    let asked = first.before in
-    let else = asked.before in
-    let start = else.before.before.before.before in
-    let whole = two_blocks start.args.input.now _ _ _ _ else.before.number32.ensures else.if1.false in
-    let e = whole asked.number16.ensures first.part_of.ensures second.part-of2.ensures in
-    appended_as _ _ _ _ _ _ put.put-body.ensures e (omega arith)
-
-pub put_input_spec : {M : Type 1} → statement M
-put_input_spec =
-    tie.close
-    (tie.spec (λ c κs. search rules) (λ c. search rules) (λ c. search rules) (λ c κs. search rules) (λ c κs. search rules) (λ c. search rules) returns
-    (λ c κs. search rules) (λ c κs. search rules) (λ c κs. search rules) (λ c κs. search rules) (λ c. search rules) returns-2)
+    let whole = two_blocks c.args.input.now _ _ _ _ c.number32-size.ensures c.if-input-start.false in
+    let e = whole c.number16-llid.ensures c.part_of-first.ensures c.part_of-second.ensures in
+    let t = c.put_body.ensures in
+    let z = appended_as _ _ _ _ _ _ (t.lower_bound, (t.text_after, t.text_unchanged)) e (omega arith) in
+    record { lower_bound = z.0; text_after = z.1.0; text_unchanged = z.1.1 }

@@ -1,0 +1,19 @@
+-- `recordings::compare::compare` meets its contract: what the ruling says, and the laws of two blocks. Assumes nothing.
+use mathlib.Core.Path.{sym, ◌∙◌}
+use Rattle.recordings.specs.Comparing.{compared_after, comparing}
+use Rattle.recordings.proofs.Comparing.{compared_laws, comparable}
+use Rattle.recordings.proofs.compare.compare.Goals as goal
+
+pub write_entries-requires : goal.write_entries-requires
+write_entries-requires c =
+    let r = comparable _ _ _ (sym c.rule.ensures ∙ c.in-Taken.is) in record { comparable = r.0; output_len = r.1 }
+
+pub returns-in-Denied : goal.returns-in-Denied
+unfolding comparing compared_after
+returns-in-Denied c =
+    record { output_after = rw (c.deny.ensures, ← c.rule.ensures, c.in-Denied.is); compared_if_accepted = compared_laws _ _ _ }
+
+pub returns-in-Taken : goal.returns-in-Taken
+unfolding comparing
+returns-in-Taken c =
+    record { output_after = rw (← c.rule.ensures, c.in-Taken.is) c.write_entries.ensures; compared_if_accepted = compared_laws _ _ _ }

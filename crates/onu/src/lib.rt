@@ -1,4 +1,6 @@
 // The calls of the ONU but send and receive, by value (01, Clock; Keys; 'When the reader says no').
+#![tactic(auto)]
+
 mod retiming;
 
 ghost use Rattle.std.specs.Prelude.{◌≡◌};
@@ -18,6 +20,7 @@ use protocol::ticks::advance_verdict;
 use protocol::{Acknowledgement, CLOCK_KIND, KEY_KIND, KeyMessage, OnuAcknowledged, OnuAnswer};
 use refusal::{Refusal, Verdict, refuse_if};
 
+#[tactic(auto, unfolding(ends::specs::Records::new_onu))]
 fn new_onu(identity: Identity, oltmac: u64, time: u64) -> Onu
     ensures { result ≡ new_onu identity oltmac time }
 {
@@ -49,6 +52,7 @@ fn new_onu(identity: Identity, oltmac: u64, time: u64) -> Onu
     }
 }
 
+#[tactic(auto, unfolding(protocol::specs::OnuCalls::fresh_onu_verdict, octets::specs::Choice::both))]
 fn fresh_verdict(identity: Identity, oltmac: u64, time: u64) -> Verdict
     ensures { result ≡ fresh_onu_verdict identity oltmac time }
 {
@@ -63,6 +67,7 @@ fn fresh_verdict(identity: Identity, oltmac: u64, time: u64) -> Verdict
 }
 
 // A fresh ONU is given its MAC and LLIDs, the OLT's MAC and LocalTime. Refused: an end of zeros.
+#[tactic(auto, unfolding(protocol::specs::OnuCalls::fresh_onu_of, protocol::specs::OnuCalls::onu_answer, protocol::specs::Replies::reply))]
 pub fn fresh(identity: Identity, oltmac: u64, time: u64) -> OnuAnswer
     ensures { result ≡ fresh_onu_of identity oltmac time }
 {
@@ -95,6 +100,7 @@ pub(crate) fn on_valid(o: Onu, rest: Verdict) -> Verdict
     refuse_if(!valid, Refusal::OutOfRange, rest)
 }
 
+#[tactic(auto, unfolding(protocol::specs::OnuCalls::onu_clock_advanced, octets::specs::Choice::pick))]
 fn clock_advanced(c: OnuClock, n: u64) -> OnuClock
     ensures { result ≡ onu_clock_advanced c n }
 {
@@ -112,6 +118,7 @@ fn clock_advanced(c: OnuClock, n: u64) -> OnuClock
     }
 }
 
+#[tactic(auto, unfolding(protocol::specs::OnuCalls::onu_advanced))]
 fn advanced(o: Onu, n: u64) -> Onu
     requires { advance_verdict o.tick n ≡ Accepted }
     ensures { result ≡ onu_advanced o n }
@@ -123,6 +130,7 @@ fn advanced(o: Onu, n: u64) -> Onu
     next
 }
 
+#[tactic(auto, unfolding(protocol::specs::OnuCalls::advance_onu_of, protocol::specs::OnuCalls::advancing_onu, protocol::specs::OnuCalls::onu_answer, protocol::specs::OnuCalls::onu_reply, protocol::specs::Replies::reply))]
 pub fn advance(o: Onu, n: u64) -> OnuAnswer
     ensures { result ≡ advance_onu_of o n }
 {
@@ -158,6 +166,7 @@ pub fn new_time(o: Onu, time: u64) -> OnuAnswer
 }
 
 // 1 for a lent end that is not valid, then for stamps past the clock's turn.
+#[tactic(auto, unfolding(protocol::specs::OnuCalls::clock_message_verdict, octets::specs::Choice::both))]
 fn clock_message_verdict(o: Onu, s: Stamps) -> Verdict
     ensures { result ≡ on_valid (valid_onu o) (clock_message_verdict s) }
 {
@@ -166,6 +175,7 @@ fn clock_message_verdict(o: Onu, s: Stamps) -> Verdict
 }
 
 // LocalTime is the low half of the one field that both share.
+#[tactic(auto, unfolding(protocol::specs::OnuCalls::clock_from))]
 fn clock_from(time: u64, s: Stamps) -> OnuClock
     ensures { result ≡ clock_from (raised_to (local_of time) s) }
 {
@@ -204,6 +214,7 @@ pub fn clock_message(o: Onu, message: Stamps) -> OnuAcknowledged
 }
 
 // Key a + 1, and no such key is held.
+#[tactic(auto, unfolding(protocol::specs::OnuCalls::new_key, octets::specs::Choice::both))]
 fn new_key(keys: OnuKeys, message: KeyMessage) -> bool
     ensures { result ≡ new_key keys message }
 {
@@ -212,6 +223,7 @@ fn new_key(keys: OnuKeys, message: KeyMessage) -> bool
 }
 
 // The message of the key a + 1 that is held, again. Its index is the one that a does not have.
+#[tactic(auto, unfolding(protocol::specs::OnuCalls::held_key, octets::specs::Choice::both))]
 fn held_key(keys: OnuKeys, message: KeyMessage) -> bool
     ensures { result ≡ held_key keys message }
 {
@@ -223,6 +235,7 @@ fn held_key(keys: OnuKeys, message: KeyMessage) -> bool
 }
 
 // Number a with its own key.
+#[tactic(auto, unfolding(protocol::specs::OnuCalls::active_key, octets::specs::Choice::both))]
 fn active_key(keys: OnuKeys, message: KeyMessage) -> bool
     ensures { result ≡ active_key keys message }
 {
@@ -233,6 +246,7 @@ fn active_key(keys: OnuKeys, message: KeyMessage) -> bool
 }
 
 // 1 for a lent end that is not valid, then 2, 5 and 8.
+#[tactic(auto, unfolding(protocol::specs::OnuCalls::key_message_verdict, octets::specs::Choice::either))]
 fn key_message_verdict(o: Onu, message: KeyMessage, new: bool) -> Verdict
     requires { new ≡ new_key o.keys message }
     ensures { result ≡ on_valid (valid_onu o) (key_message_verdict o message) }
@@ -257,6 +271,7 @@ fn key_message_verdict(o: Onu, message: KeyMessage, new: bool) -> Verdict
 }
 
 // A new key is kept; anything else that is accepted changes nothing.
+#[tactic(auto, unfolding(protocol::specs::OnuCalls::keys_taken, octets::specs::Choice::pick))]
 fn keys_taken(keys: OnuKeys, message: KeyMessage, new: bool) -> OnuKeys
     requires { new ≡ new_key keys message }
     ensures { result ≡ keys_taken keys message }

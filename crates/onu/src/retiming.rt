@@ -13,12 +13,14 @@ use refusal::{Refusal, Verdict, refuse_if};
 use std::num::{wrapping_add_u64, wrapping_sub_u64};
 
 // How far one LocalTime is ahead of another.
+#[tactic(auto, unfolding(protocol::specs::OnuCalls::time_ahead))]
 fn time_ahead(new: u64, old: u64) -> u64
     ensures { result ≡ time_ahead new old }
 {
     (new % LOCAL_TURN + (LOCAL_TURN - old % LOCAL_TURN)) % LOCAL_TURN
 }
 
+#[tactic(auto, unfolding(protocol::specs::OnuCalls::near_time, octets::specs::Choice::either))]
 fn near_time(new: u64, old: u64) -> bool
     ensures { result ≡ near_time new old }
 {
@@ -26,6 +28,7 @@ fn near_time(new: u64, old: u64) -> bool
 }
 
 // The sum of the changes, modulo 2^64, with the one from an old LocalTime to a new one.
+#[tactic(auto, unfolding(protocol::specs::OnuCalls::changes_after, octets::specs::Choice::pick))]
 fn changes_after(changes: u64, new: u64, old: u64) -> u64
     ensures { result ≡ changes_after changes new old }
 {
@@ -37,6 +40,7 @@ fn changes_after(changes: u64, new: u64, old: u64) -> u64
 }
 
 // 1 for a lent end that is not valid, then for a LocalTime that is none or too far, then 17.
+#[tactic(auto, unfolding(protocol::specs::OnuCalls::new_time_verdict, octets::specs::Choice::both))]
 pub(crate) fn new_time_verdict(o: Onu, time: u64) -> Verdict
     ensures { result ≡ on_valid (valid_onu o) (new_time_verdict o time) }
 {
@@ -53,6 +57,7 @@ pub(crate) fn new_time_verdict(o: Onu, time: u64) -> Verdict
 }
 
 // Unsynced, with that LocalTime; enciphered sends wait for travel to pass those made before.
+#[tactic(auto, unfolding(protocol::specs::OnuCalls::onu_retimed, ends::specs::Records::with_onu_clock, ends::specs::Records::with_travel, ends::specs::Travels::travel_changed))]
 pub(crate) fn retimed(o: Onu, time: u64) -> Onu
     ensures { result ≡ onu_retimed o time }
 {

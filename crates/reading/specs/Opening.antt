@@ -5,7 +5,7 @@ use Rattle.octets.specs.Lists.{sum}
 use Rattle.octets.specs.Output.{WithOutput}
 use Rattle.refusal.specs.declared.Refusal.TheVariants.{BadLength}
 use Rattle.refusal.specs.declared.Verdict.{Verdict}
-use Rattle.refusal.specs.declared.Verdict.TheVariants.{Accepted, Refused}
+use Rattle.refusal.specs.declared.Verdict.TheVariants.{Accepted}
 use Rattle.refusal.specs.Number.{number_of, pair_number}
 use Rattle.refusal.specs.Order.{refuse_if, and_then}
 use Rattle.envelope.specs.ControlMask.{count_enciphered, runs}

@@ -17,6 +17,7 @@ use ends::{Identity, UnitRecord};
 use group_protocol::{GroupRecord, HeadEnd, MAX_GROUPS};
 
 // At that tick, of an OLT with that many units.
+#[tactic(auto, unfolding(group_protocol::specs::Head::valid_group, ends::specs::Validity::valid_keys, group_protocol::specs::Head::valid_group_numbers, octets::specs::Choice::both))]
 pub fn valid_group(tick: u64, units: u8, group: GroupRecord) -> bool
     ensures { result ≡ valid_group tick units group }
 {
@@ -28,6 +29,7 @@ pub fn valid_group(tick: u64, units: u8, group: GroupRecord) -> bool
     members & ((timer & first) & ((active <= offered) & (offered <= active + 1)))
 }
 
+#[tactic(auto, unfolding(group_protocol::specs::Head::past_group))]
 fn all_valid(table: [GroupRecord; MAX_GROUPS as usize], count: u8, tick: u64, units: u8) -> bool
     requires { count ≤ max_units }
     ensures { result ≡ all (valid_group tick units) (take count table) }
@@ -44,6 +46,7 @@ fn all_valid(table: [GroupRecord; MAX_GROUPS as usize], count: u8, tick: u64, un
 }
 
 // Whether the unit has one of the LLIDs.
+#[tactic(auto, unfolding(ends::specs::Identities::has))]
 fn has_one(identity: Identity, list: &[u16]) -> bool
     ensures { result ≡ meets list.now (llids_of identity) }
 {
@@ -58,6 +61,7 @@ fn has_one(identity: Identity, list: &[u16]) -> bool
 }
 
 // Whether a registered unit has one of the LLIDs.
+#[tactic(auto, unfolding(ends::specs::Table::past_unit))]
 fn meet_units(list: &[u16], units: [UnitRecord; MAX_UNITS as usize], n: u8) -> bool
     ensures { result ≡ meets list.now (table_llids (take n units)) }
 {
@@ -77,6 +81,7 @@ fn meet_units(list: &[u16], units: [UnitRecord; MAX_UNITS as usize], n: u8) -> b
 }
 
 // The groups alone. Without one there is next to nothing to do. Their LLIDs are gathered, so that the two tables are not both at hand at once (D119).
+#[tactic(auto, unfolding(group_protocol::specs::Head::valid_groups, octets::specs::Choice::both, octets::specs::Lists::all, group_protocol::specs::Head::group_llids, group_protocol::specs::Head::apart_llids, ends::specs::Identities::distinct, ends::specs::Identities::meets))]
 pub fn valid_groups(head: HeadEnd) -> bool
     ensures { result ≡ valid_groups head }
 {

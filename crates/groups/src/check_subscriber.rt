@@ -9,6 +9,7 @@ use ends::check_onu::{valid_onu, valid_onu_keys};
 use ends::llids::has;
 use group_protocol::{Joined, MAX_JOINED, Subscriber};
 
+#[tactic(auto, unfolding(group_protocol::specs::Subscriber::valid_joined, octets::specs::Choice::both, octets::specs::Choice::either))]
 pub fn valid_joined(joined: Joined) -> bool
     ensures { result ≡ valid_joined joined }
 {
@@ -17,6 +18,7 @@ pub fn valid_joined(joined: Joined) -> bool
 }
 
 // Whether the group is valid, and its LLID neither that of a later one nor one of the unit's own.
+#[tactic(auto, unfolding(group_protocol::specs::Subscriber::fits_before, ends::specs::Identities::has, octets::specs::Choice::both))]
 fn fits_before(
     joined: Joined,
     table: [Joined; MAX_JOINED as usize],
@@ -33,6 +35,7 @@ fn fits_before(
 }
 
 // The first `count` groups of a unit.
+#[tactic(auto, unfolding(group_protocol::specs::Subscriber::past_joined))]
 fn valid_groups_of(table: [Joined; MAX_JOINED as usize], count: u8, identity: Identity) -> bool
     ensures { result ≡ valid_groups_of (llids_of identity) (take count table) }
 {
@@ -50,6 +53,7 @@ fn valid_groups_of(table: [Joined; MAX_JOINED as usize], count: u8, identity: Id
     true
 }
 
+#[tactic(auto, unfolding(group_protocol::specs::Subscriber::valid_memberships, octets::specs::Choice::both))]
 pub fn valid_memberships(subscriber: Subscriber) -> bool
     ensures { result ≡ valid_memberships subscriber }
 {
@@ -59,6 +63,7 @@ pub fn valid_memberships(subscriber: Subscriber) -> bool
     (count <= MAX_JOINED) & groups
 }
 
+#[tactic(auto, unfolding(group_protocol::specs::Subscriber::valid_subscriber, octets::specs::Choice::both))]
 pub fn valid_subscriber(subscriber: Subscriber) -> bool
     ensures { result ≡ valid_subscriber subscriber }
 {

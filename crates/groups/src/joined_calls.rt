@@ -23,6 +23,7 @@ use refusal::{Refusal, Verdict, refuse_if};
 use unit::passing;
 
 // The highest number that a key is held for, 0 where none is.
+#[tactic(auto, unfolding(group_protocol::specs::JoinedCalls::highest_held, octets::specs::Choice::pick))]
 fn highest_held(joined: Joined) -> u64
     ensures { result ≡ highest_held joined }
 {
@@ -36,6 +37,7 @@ fn highest_held(joined: Joined) -> u64
 }
 
 // The key of number n is held.
+#[tactic(auto, unfolding(group_protocol::specs::JoinedCalls::holds, octets::specs::Choice::both, octets::specs::Choice::either))]
 fn holds(joined: Joined, n: u32) -> bool
     ensures { result ≡ holds joined n }
 {
@@ -45,6 +47,7 @@ fn holds(joined: Joined, n: u32) -> bool
 }
 
 // The message of a key that is held, again.
+#[tactic(auto, unfolding(group_protocol::specs::JoinedCalls::held_again, octets::specs::Choice::both))]
 fn held_again(joined: Joined, message: KeyMessage) -> bool
     ensures { result ≡ held_again joined message }
 {
@@ -56,6 +59,7 @@ fn held_again(joined: Joined, message: KeyMessage) -> bool
 }
 
 // Any number above those that are held.
+#[tactic(auto, unfolding(group_protocol::specs::JoinedCalls::new_number, octets::specs::Choice::both))]
 fn new_number(joined: Joined, message: KeyMessage) -> bool
     ensures { result ≡ new_number joined message }
 {
@@ -64,6 +68,7 @@ fn new_number(joined: Joined, message: KeyMessage) -> bool
 }
 
 // 1 for a group that is not valid, then 5 and 8.
+#[tactic(auto, unfolding(group_protocol::specs::JoinedCalls::joined_message_verdict, octets::specs::Choice::either))]
 fn message_verdict(clock: OnuClock, joined: Joined, message: KeyMessage, new: bool) -> Verdict
     requires { new ≡ new_number joined message }
     ensures { result ≡ on_valid (valid_joined joined) (joined_message_verdict clock joined message) }
@@ -84,6 +89,7 @@ fn message_verdict(clock: OnuClock, joined: Joined, message: KeyMessage, new: bo
 }
 
 // The slots where key n - 1 stays if it is held, and all older ones are wiped.
+#[tactic(auto, unfolding(octets::specs::Choice::pick))]
 fn slots_left(slots: Slots, held: bool) -> Slots
     ensures { result ≡ pick held slots no_slots }
 {
@@ -97,6 +103,7 @@ fn slots_left(slots: Slots, held: bool) -> Slots
 }
 
 // Number n tells that n - 1 is in use.
+#[tactic(auto, unfolding(group_protocol::specs::JoinedCalls::new_number, group_protocol::specs::JoinedCalls::joined_taken, octets::specs::Choice::pick))]
 fn taken(joined: Joined, message: KeyMessage) -> Joined
     requires { new_number joined message ≡ true }
     ensures { result ≡ joined_taken joined message }
@@ -119,6 +126,7 @@ fn taken(joined: Joined, message: KeyMessage) -> Joined
 }
 
 // A new number is taken; anything else that is accepted changes nothing.
+#[tactic(auto, unfolding(group_protocol::specs::JoinedCalls::joined_after_message, octets::specs::Choice::pick))]
 fn after_message(joined: Joined, message: KeyMessage, new: bool) -> Joined
     requires { new ≡ new_number joined message }
     ensures { result ≡ joined_after_message joined message }
@@ -130,6 +138,7 @@ fn after_message(joined: Joined, message: KeyMessage, new: bool) -> Joined
 }
 
 // Names the unit by its first LLID.
+#[tactic(auto, unfolding(group_protocol::specs::JoinedCalls::group_answer))]
 fn group_answer(identity: Identity, number: u32) -> Answer
     ensures { result ≡ group_answer identity number }
 {
@@ -182,6 +191,7 @@ pub fn message(onu: Onu, joined: Joined, message: KeyMessage) -> JoinedAnswer
 }
 
 // The index of key a + 1 is the one that a does not have.
+#[tactic(auto, unfolding(group_protocol::specs::JoinedCalls::joined_choice, octets::specs::Choice::pick, octets::specs::Choice::both, group_protocol::specs::Subscriber::valid_joined))]
 fn receive_choice(joined: Joined, header: Header) -> KeyChoice
     requires { valid_joined joined ≡ true }
     ensures { result ≡ joined_choice joined header }
@@ -204,6 +214,7 @@ fn receive_choice(joined: Joined, header: Header) -> KeyChoice
 }
 
 // What a receipt of a valid group's envelope refuses.
+#[tactic(auto, unfolding(group_protocol::specs::JoinedCalls::joined_receive_verdict, octets::specs::Choice::both))]
 fn receive_verdict(
     misfit: bool,
     clock: OnuClock,
@@ -236,6 +247,7 @@ fn receive_verdict(
 }
 
 // The key a + 1 comes into use, and the old one is wiped.
+#[tactic(auto, unfolding(group_protocol::specs::JoinedCalls::joined_moved))]
 fn moved(joined: Joined) -> Joined
     requires { joined.keys.active < max_key_number }
     ensures { result ≡ joined_moved joined }
@@ -255,6 +267,7 @@ fn moved(joined: Joined) -> Joined
 }
 
 // The group that a receipt leaves, where it is accepted.
+#[tactic(auto, unfolding(group_protocol::specs::JoinedCalls::joined_after_receipt))]
 fn after_receipt(choice: KeyChoice, joined: Joined) -> Joined
     requires { (n : ℕ) → choice ≡ Next n → joined.keys.active < max_key_number }
     ensures { result ≡ joined_after_receipt choice joined }
@@ -267,6 +280,7 @@ fn after_receipt(choice: KeyChoice, joined: Joined) -> Joined
     }
 }
 
+#[tactic(auto, unfolding(crate::specs::Reached::joined_not_received))]
 fn not_received(joined: Joined, refusal: Refusal) -> JoinedReceived
     ensures { result ≡ joined_not_received joined refusal }
 {

@@ -8,6 +8,7 @@ use ends::Found;
 use group_protocol::{Joined, MAX_JOINED};
 
 // Which of the first `count` groups has the LLID, from place `from` on.
+#[tactic(auto, unfolding(group_protocol::specs::Subscriber::past_joined))]
 pub fn find_joined(table: [Joined; MAX_JOINED as usize], from: usize, count: u8, llid: u16) -> Found
     ensures { result ≡ place_from from (joined_llids (drop from (take count table))) llid }
 {

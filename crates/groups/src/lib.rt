@@ -1,6 +1,8 @@
 // Groups at both ends (02, C-14): whether their records are valid, and the calls on one group. The records and the definitions are those of
 // `group_protocol`.
 
+#![tactic(auto)]
+
 pub mod check_head;
 pub mod check_subscriber;
 pub mod joined_calls;
@@ -17,20 +19,20 @@ use protocol::{KeyMessage, Passage, Sending};
 use refusal::Verdict;
 
 // What a call on one group decides: its verdict and, where that accepts, the group after it. Refused, the group is the one that was there.
-#[derive(Drop)]
+#[derive(Clone, Copy)]
 pub struct GroupAnswer {
     pub verdict: Verdict,
     pub group: GroupRecord,
 }
 
-#[derive(Drop)]
+#[derive(Clone, Copy)]
 pub struct GroupKeySent {
     pub verdict: Verdict,
     pub group: GroupRecord,
     pub message: KeyMessage,
 }
 
-#[derive(Drop)]
+#[derive(Clone, Copy)]
 pub struct GroupSent {
     pub verdict: Verdict,
     pub group: GroupRecord,
@@ -39,14 +41,14 @@ pub struct GroupSent {
 }
 
 // What a unit's call on one group that it joined decides.
-#[derive(Drop)]
+#[derive(Clone, Copy)]
 pub struct JoinedAnswer {
     pub verdict: Verdict,
     pub joined: Joined,
     pub answer: Answer,
 }
 
-#[derive(Drop)]
+#[derive(Clone, Copy)]
 pub struct JoinedReceived {
     pub verdict: Verdict,
     pub joined: Joined,

@@ -7,6 +7,7 @@ use ends::{FirstSend, Slots, Timer, UnitKeys};
 use group_protocol::{GroupRecord, Groups, MAX_GROUPS, MAX_MEMBERS, Members};
 
 // Numbers 0, the flag down.
+#[tactic(auto, unfolding(group_protocol::specs::Head::fresh_group, ends::specs::Timers::fresh_timer))]
 pub fn fresh_group(llid: u16, interval: u64, members: Members) -> GroupRecord
     ensures { result ≡ fresh_group llid interval members }
 {
@@ -34,6 +35,7 @@ pub fn fresh_group(llid: u16, interval: u64, members: Members) -> GroupRecord
     }
 }
 
+#[tactic(auto, unfolding(group_protocol::specs::Head::no_group, group_protocol::specs::Members::fresh_members, octets::specs::Choice::pick))]
 fn no_group() -> GroupRecord
     ensures { result ≡ no_group }
 {
@@ -41,6 +43,7 @@ fn no_group() -> GroupRecord
     fresh_group(0, 0, members)
 }
 
+#[tactic(auto, unfolding(group_protocol::specs::Head::no_groups))]
 pub fn no_groups() -> Groups
     ensures { result ≡ no_groups }
 {

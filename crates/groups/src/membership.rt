@@ -22,6 +22,7 @@ fn at(octets: [u8; MAX_MEMBERS as usize], j: u8) -> u8
 }
 
 // Which member the unit at that place is.
+#[tactic(auto, unfolding(group_protocol::specs::Members::member_at, group_protocol::specs::Members::places_of))]
 pub fn member_at(members: Members, place: usize) -> Found
     ensures { result ≡ member_at members place }
 {
@@ -61,6 +62,7 @@ fn is_set(flags: [u8; MAX_UNITS as usize], place: u8) -> bool
     false
 }
 
+#[tactic(auto, unfolding(group_protocol::specs::Members::places_of, group_protocol::specs::GroupCalls::members_set, ends::specs::Table::past_unit))]
 pub fn members_set(olt: Olt, members: Members) -> bool
     ensures { result ≡ members_set olt members }
 {
@@ -78,6 +80,7 @@ pub fn members_set(olt: Olt, members: Members) -> bool
     true
 }
 
+#[tactic(auto, unfolding(group_protocol::specs::Members::places_of))]
 fn places_below(members: Members, units: u8) -> bool
     ensures { result ≡ all (λ place. ltb place units) (places_of members) }
 {
@@ -93,6 +96,7 @@ fn places_below(members: Members, units: u8) -> bool
     true
 }
 
+#[tactic(auto, unfolding(group_protocol::specs::Members::marks_of))]
 fn flags_in_range(members: Members) -> bool
     ensures { result ≡ all (λ mark. leb mark 1) (marks_of members) }
 {
@@ -124,6 +128,7 @@ fn again(places: [u8; MAX_MEMBERS as usize], j: u8, count: u8) -> bool
     false
 }
 
+#[tactic(auto, unfolding(group_protocol::specs::Members::places_of))]
 fn distinct_places(members: Members) -> bool
     ensures { result ≡ distinct (places_of members) }
 {
@@ -149,6 +154,7 @@ pub fn valid_members(units: u8, members: Members) -> bool
     ((1 <= members.count) & (members.count <= MAX_MEMBERS)) & (below & (distinct & flags))
 }
 
+#[tactic(auto, unfolding(octets::specs::Choice::pick))]
 fn used(places: [u8; MAX_MEMBERS as usize], j: u8, count: u8) -> u8
     ensures { result ≡ pick (ltb j count) (get_or places j 0) 0 }
 {
@@ -159,6 +165,7 @@ fn used(places: [u8; MAX_MEMBERS as usize], j: u8, count: u8) -> u8
 }
 
 // The members as they are kept: zeros in the places past the count, and nobody has acknowledged.
+#[tactic(auto, unfolding(group_protocol::specs::Members::fresh_members))]
 pub fn fresh_members(places: [u8; MAX_MEMBERS as usize], count: u8) -> Members
     ensures { result ≡ fresh_members places count }
 {
@@ -178,6 +185,7 @@ pub fn fresh_members(places: [u8; MAX_MEMBERS as usize], count: u8) -> Members
     }
 }
 
+#[tactic(auto, unfolding(group_protocol::specs::Members::unmarked))]
 pub fn unmarked(members: Members) -> Members
     ensures { result ≡ unmarked members }
 {
@@ -187,6 +195,7 @@ pub fn unmarked(members: Members) -> Members
 }
 
 // Member j has acknowledged.
+#[tactic(auto, unfolding(group_protocol::specs::Members::marked))]
 pub fn marked(members: Members, j: usize) -> Members
     ensures { result ≡ marked members j }
 {

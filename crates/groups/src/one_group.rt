@@ -17,6 +17,7 @@ use protocol::{CLOCK_KIND, KEY_KIND};
 use refusal::{Refusal, Verdict, and_then, refuse_if};
 use unit::calls;
 
+#[tactic(auto, unfolding(octets::specs::Choice::pick))]
 fn flag_of(up: bool) -> u8
     ensures { result ≡ pick up 1 0 }
 {
@@ -27,6 +28,7 @@ fn flag_of(up: bool) -> u8
 }
 
 // `set` says that every member's clock is acknowledged.
+#[tactic(auto, unfolding(group_protocol::specs::AsUnit::as_unit))]
 pub(crate) fn as_unit(group: GroupRecord, set: bool) -> UnitRecord
     ensures { result ≡ as_unit group set }
 {
@@ -56,6 +58,7 @@ pub(crate) fn as_unit(group: GroupRecord, set: bool) -> UnitRecord
 }
 
 // A new offer clears all marks.
+#[tactic(auto, unfolding(unit::specs::Reached::if_accepted, group_protocol::specs::GroupCalls::group_outcome, protocol::specs::Lift::outcome))]
 pub fn offer(
     way: Verdict,
     shared: Shared,
@@ -95,6 +98,7 @@ pub fn offer(
 }
 
 // The offer's number and key again.
+#[tactic(auto, unfolding(group_protocol::specs::GroupCalls::group_outcome, protocol::specs::Lift::outcome))]
 pub fn retry(way: Verdict, shared: Shared, group: GroupRecord, llid: u16) -> GroupKeySent
     ensures { group_outcome shared result.verdict result.group result.message
         ≡ reached_group way no_key_message shared group (retry_group llid shared group) }
@@ -110,6 +114,7 @@ pub fn retry(way: Verdict, shared: Shared, group: GroupRecord, llid: u16) -> Gro
     }
 }
 
+#[tactic(auto, unfolding(group_protocol::specs::GroupCalls::group_acknowledge_verdict, group_protocol::specs::GroupCalls::answers_offer, octets::specs::Choice::both))]
 fn acknowledge_verdict(answer: Answer, member: Found, group: GroupRecord) -> Verdict
     ensures { result ≡ group_acknowledge_verdict answer member group.keys }
 {
@@ -127,6 +132,7 @@ fn acknowledge_verdict(answer: Answer, member: Found, group: GroupRecord) -> Ver
     )
 }
 
+#[tactic(auto, unfolding(group_protocol::specs::GroupCalls::group_marked, group_protocol::specs::Head::with_members))]
 fn marked(group: GroupRecord, member: Found) -> GroupRecord
     ensures { result ≡ group_marked group member }
 {
@@ -142,6 +148,7 @@ fn marked(group: GroupRecord, member: Found) -> GroupRecord
 }
 
 // `member` is the one that the answer names.
+#[tactic(auto, unfolding(unit::specs::Reached::if_accepted, group_protocol::specs::GroupCalls::acknowledge_group))]
 pub fn acknowledge(
     way: Verdict,
     shared: Shared,

@@ -11,6 +11,7 @@ use ends::search::find;
 use ends::{Found, Identity, UnitRecord};
 use group_protocol::{GroupRecord, MAX_GROUPS};
 
+#[tactic(auto, unfolding(group_protocol::specs::GroupCalls::is_found))]
 pub fn is_found(found: Found) -> bool
     ensures { result ≡ is_found found }
 {
@@ -20,6 +21,7 @@ pub fn is_found(found: Found) -> bool
     }
 }
 
+#[tactic(auto, unfolding(group_protocol::specs::GroupCalls::is_found))]
 pub fn is_registered(units: [UnitRecord; MAX_UNITS as usize], count: u8, llid: u16) -> bool
     ensures { result ≡ among llid (table_llids (take count units)) }
 {
@@ -27,6 +29,7 @@ pub fn is_registered(units: [UnitRecord; MAX_UNITS as usize], count: u8, llid: u
 }
 
 // The LLID of each group, by its place. They are gathered, so that the table is not copied to be indexed (D119).
+#[tactic(auto, unfolding(group_protocol::specs::Head::group_llids, group_protocol::specs::Head::past_group))]
 pub(crate) fn llids_of(table: [GroupRecord; MAX_GROUPS as usize]) -> [u16; MAX_GROUPS as usize]
     ensures { result ≡ group_llids table }
 {
@@ -41,6 +44,7 @@ pub(crate) fn llids_of(table: [GroupRecord; MAX_GROUPS as usize]) -> [u16; MAX_G
 }
 
 // Whether one of the LLIDs is that of a group.
+#[tactic(auto, unfolding(ends::specs::Identities::has))]
 pub fn groups_meet(table: [GroupRecord; MAX_GROUPS as usize], count: u8, identity: Identity) -> bool
     ensures { result ≡ meets (group_llids (take count table)) (llids_of identity) }
 {

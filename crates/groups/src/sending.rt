@@ -33,6 +33,7 @@ fn is_next(choice: KeyChoice) -> bool
 }
 
 // At the switch the old key is wiped.
+#[tactic(auto, unfolding(ends::specs::Records::with_slots))]
 fn wiped(choice: KeyChoice, keys: UnitKeys) -> UnitKeys
     ensures { result ≡ wiped_at_switch choice keys }
 {
@@ -46,6 +47,7 @@ fn wiped(choice: KeyChoice, keys: UnitKeys) -> UnitKeys
 }
 
 // 12, 13. A valid end's tick and a payload that fits are what the way to the group has judged.
+#[tactic(auto, unfolding(crate::specs::Reached::group_sent_outcome, unit::specs::Reached::sent_outcome, unit::specs::Reached::unit_sent, ends::specs::Records::with_keys, group_protocol::specs::AsUnit::as_unit, group_protocol::specs::Head::with_group_keys))]
 pub fn send(
     way: Verdict,
     shared: Shared,

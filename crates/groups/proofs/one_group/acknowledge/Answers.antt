@@ -1,0 +1,34 @@
+-- `groups::one_group::acknowledge` meets its contract: the group decides, and the member is marked where it accepts. Assumes nothing.
+use mathlib.Core.Path.{◌≡◌, refl, sym}
+use Rattle.refusal.specs.declared.Verdict.{Verdict}
+use Rattle.refusal.specs.Order.{and_then}
+use Rattle.ends.specs.declared.Shared.{Shared}
+use Rattle.protocol.specs.Replies.{silent}
+use Rattle.unit.specs.Reached.{if_accepted}
+use Rattle.group_protocol.specs.GroupCalls.{acknowledge_group, group_acknowledge_verdict, group_marked, group_outcome}
+use Rattle.group_protocol.specs.declared.Answer.{Answer}
+use Rattle.group_protocol.specs.declared.GroupRecord.{GroupRecord}
+use Rattle.ends.specs.declared.Found.{Found}
+use Rattle.groups.specs.Reached.{reached_group}
+use Rattle.groups.proofs.OneGroup.{quiet_reached}
+use Rattle.groups.proofs.one_group.acknowledge.Goals as goal
+
+-- what the verdict makes of the group
+decided : (way : Verdict) (shared : Shared) (group : GroupRecord) (member : Found) (answer : Answer) (judged u v : Verdict) (g : GroupRecord)
+    → judged ≡ and_then way u → u ≡ group_acknowledge_verdict answer member group.keys
+    → judged ≡ v → g ≡ if_accepted v (group_marked group member) group
+    → group_outcome shared v g silent ≡ reached_group way silent shared group (acknowledge_group answer member shared group)
+unfolding acknowledge_group
+decided way shared group member answer judged u v g p q e after = rw (after, sym e, p, q) (quiet_reached way shared group _ _)
+
+pub returns-in-Refused : goal.returns-in-Refused
+unfolding if_accepted
+returns-in-Refused c =
+    let a = c.args in
+    decided a.way a.shared a.group a.member a.answer _ _ _ _ c.and_then-verdict.ensures c.acknowledge_verdict.ensures c.in-Refused.is refl
+
+pub returns-in-Accepted : goal.returns-in-Accepted
+unfolding if_accepted
+returns-in-Accepted c =
+    let a = c.args in
+    decided a.way a.shared a.group a.member a.answer _ _ _ _ c.and_then-verdict.ensures c.acknowledge_verdict.ensures c.in-Accepted.is c.marked.ensures

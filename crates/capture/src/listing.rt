@@ -28,6 +28,7 @@ fn put_row(text: &mut [u8], at: usize, k: u64, h: Header, verdict: RecordVerdict
     put_line(text, at, row(k, h, verdict))
 }
 
+#[tactic(auto, unfolding(records::specs::Block::due_of))]
 fn put_rows(near: bool, settings: &[u8], block: &[u8], text: &mut [u8], at: usize, n: u16) -> usize
     requires block_value { directory_of block.now ≡ Good n }
     requires body_octets_in_bounds { at + body_octets ≤ length text.old }

@@ -30,21 +30,21 @@ use records::settings::{key, mac, presence};
 use sealing::counter_mode::seal_expanded;
 
 // The two keys of the settings, expanded.
-#[derive(Drop)]
+#[derive(Clone, Copy)]
 struct Keys {
     pub first: RoundKeys,
     pub second: RoundKeys,
 }
 
 // What opening took: the octets deciphered, and the runs of the cipher (02, C-17).
-#[derive(Drop)]
+#[derive(Clone, Copy)]
 pub struct Work {
     pub count: u64,
     pub runs: u64,
 }
 
 // What the records of a block came to: the steps are those of the smallest and the largest correction.
-#[derive(Drop)]
+#[derive(Clone, Copy)]
 pub struct Read {
     pub count: u64,
     pub runs: u64,
@@ -80,6 +80,7 @@ fn open_part(
 }
 
 // Whether a record that ends at `to` lies in a block of `size` octets and an output of `room`, and its counter blocks are of their range.
+#[tactic(auto, unfolding(crate::specs::Span::span_fits, octets::specs::Choice::both))]
 fn span_fits(nonce: Nonce, size: usize, room: usize, to: usize) -> bool
     ensures { result ≡ span_fits nonce size room to }
 {
@@ -191,6 +192,7 @@ fn open_records(
 }
 
 // Key i of the settings, expanded where it is present.
+#[tactic(auto, unfolding(records::specs::Settings::key_present))]
 fn expand(settings: &[u8], i: u8) -> RoundKeys
     ensures { key_present (presence_of settings.now) i ≡ true → result.octets ≡ key_expansion (key_of settings.now i) }
 {
@@ -209,6 +211,7 @@ fn expand_keys(settings: &[u8]) -> Keys
 }
 
 // The keys that `expand_keys` expands.
+#[tactic(auto, unfolding(reading::specs::Opening::expansions))]
 fn expansions(settings: &[u8]) -> u8
     ensures { result ≡ expansions settings.now }
 {

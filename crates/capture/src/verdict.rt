@@ -20,6 +20,7 @@ use records::settings::settings_verdict;
 use refusal::{Refusal, Verdict};
 
 // What a call finds: whether the output that it was lent suits, then the settings, then the directory.
+#[tactic(auto, unfolding(reading::specs::Verdict::call_directory))]
 pub(crate) fn call_directory(suits: bool, settings: &[u8], block: &[u8]) -> Directory
     ensures { result ≡ call_directory suits settings.now block.now }
 {
@@ -33,6 +34,7 @@ pub(crate) fn call_directory(suits: bool, settings: &[u8], block: &[u8]) -> Dire
 }
 
 // The verdict on record k, in the near way or the usual one. The refusals of the call itself come first.
+#[tactic(auto, unfolding(reading::specs::Reading::asked_by))]
 fn ask_by(near: bool, settings: &[u8], block: &[u8], k: usize) -> RecordVerdict
     ensures { result ≡ asked_by near settings.now block.now k }
 {
@@ -60,6 +62,7 @@ pub fn ask_near(settings: &[u8], block: &[u8], k: usize) -> RecordVerdict
 }
 
 // Writes the codes of the verdicts on the n records of a block, one after the other, and gives the corrections behind them.
+#[tactic(auto, unfolding(records::specs::Block::due_of))]
 fn put_numbers(near: bool, settings: &[u8], block: &[u8], output: &mut [u8], n: u16) -> Drift
     requires settings_value { (settings_verdict settings.now ≡ Accepted) × (directory_of block.now ≡ Good n) }
     requires output_len { length output.old ≡ most_records }

@@ -8,6 +8,7 @@ use records::header::{RecordVerdict, verdict_for};
 use records::near::{Drift, judge, no_drift};
 
 // The corrections before record i.
+#[tactic(auto, unfolding(records::specs::Following::drift_at, records::specs::Near::judged))]
 fn drift_before(settings: &[u8], block: &[u8], i: u16) -> Drift
     ensures { result ≡ drift_at settings.now block.now i }
 {
@@ -23,6 +24,7 @@ fn drift_before(settings: &[u8], block: &[u8], i: u16) -> Drift
 }
 
 // The verdict on record i: in the near way the records before it are read for their corrections.
+#[tactic(auto, unfolding(records::specs::Following::near_verdict, records::specs::Near::judged))]
 pub(crate) fn verdict_by(near: bool, settings: &[u8], block: &[u8], i: u16) -> RecordVerdict
     ensures { result ≡ verdict_by near settings.now block.now i }
 {

@@ -1,5 +1,7 @@
 // The calls of the OLT but send and receive (01, Clock; Keys; 'When the reader says no'). Each takes the end by value and gives back
 // the code, the end and what is handed over; refused, the end is the one that was lent.
+#![tactic(auto)]
+
 mod answers;
 pub mod making;
 pub mod place;
@@ -23,19 +25,20 @@ use unit::calls;
 use unit::timing::timer_advanced;
 
 // Where the unit stands that a call names, and the verdict on the way there: refused, place 0.
-#[derive(Drop)]
+#[derive(Clone, Copy)]
 pub struct Located {
     pub verdict: Verdict,
     pub place: usize,
 }
 
 // What an advance leaves. The end stands first, where nothing pads it, so that it is handed on where it lies (D119).
-#[derive(Drop)]
+#[derive(Clone, Copy)]
 pub struct OltMoved {
     pub olt: Olt,
     pub number: u8,
 }
 
+#[tactic(auto, unfolding(octets::specs::Choice::pick))]
 fn or_zero(keep: bool, x: u64) -> u64
     ensures { result ≡ pick keep x 0 }
 {
@@ -46,6 +49,7 @@ fn or_zero(keep: bool, x: u64) -> u64
 }
 
 // A fresh OLT of that MAC and first clock. Refused, it is an end of zeros. One call makes either, so that the code has its sixteen units once.
+#[tactic(auto, unfolding(protocol::specs::OltCalls::fresh_olt_of, protocol::specs::OltCalls::olt_answer, protocol::specs::Replies::reply, refusal::specs::Order::refuse_if, octets::specs::Choice::both, octets::specs::Choice::pick))]
 pub fn fresh(mac: u64, clock: u64) -> OltAnswer
     ensures { result ≡ fresh_olt_of mac clock }
 {
@@ -57,6 +61,7 @@ pub fn fresh(mac: u64, clock: u64) -> OltAnswer
     answers::refused(olt, Refusal::OutOfRange)
 }
 
+#[tactic(auto, unfolding(protocol::specs::OltCalls::register_of, protocol::specs::OltCalls::registering, protocol::specs::OltCalls::olt_answer, protocol::specs::Replies::reply))]
 pub fn register(olt: Olt, identity: Identity, trip: u64, interval: u64) -> OltAnswer
     ensures { result ≡ register_of olt identity trip interval }
 {
@@ -72,6 +77,7 @@ pub fn register(olt: Olt, identity: Identity, trip: u64, interval: u64) -> OltAn
 
 // Ticks, clock and the timers of all units, behind a verdict that goes ahead. What it costs does not depend on the ticks. What all units
 // share is stored as it was before the end is judged: so the compiler judges the copy that it then changes, and makes no other (D119).
+#[tactic(auto, unfolding(ends::specs::Table::past_unit, crate::proofs::Advancing::counted, crate::proofs::Advancing::flagged, ends::specs::Records::with_keys, ends::specs::Records::with_timer))]
 pub fn moved(olt: Olt, ahead: Verdict, n: u64) -> OltMoved
     ensures { result ≡ moved_of olt ahead n }
 {

@@ -17,6 +17,7 @@ use ends::{
 use refusal::{Refusal, Verdict, refuse_if};
 
 // Numbers 0, flags down.
+#[tactic(auto, unfolding(ends::specs::Records::fresh_unit, ends::specs::Timers::fresh_timer))]
 pub fn fresh_unit(identity: Identity, trip: u64, interval: u64) -> UnitRecord
     ensures { result ≡ fresh_unit identity trip interval }
 {
@@ -57,6 +58,7 @@ pub fn fresh_unit(identity: Identity, trip: u64, interval: u64) -> UnitRecord
     }
 }
 
+#[tactic(auto, unfolding(ends::specs::Records::no_unit))]
 fn no_unit() -> UnitRecord
     ensures { result ≡ no_unit }
 {
@@ -68,6 +70,7 @@ fn no_unit() -> UnitRecord
     fresh_unit(identity, 0, 0)
 }
 
+#[tactic(auto, unfolding(ends::specs::Records::new_olt))]
 pub(crate) fn new_olt(mac: u64, clock: u64) -> Olt
     ensures { result ≡ new_olt mac clock }
 {
@@ -90,6 +93,7 @@ pub(crate) fn new_olt(mac: u64, clock: u64) -> Olt
     }
 }
 
+#[tactic(auto, unfolding(protocol::specs::OltCalls::valid_registration, octets::specs::Choice::both))]
 fn valid_registration(identity: Identity, trip: u64, interval: u64) -> bool
     ensures { result ≡ valid_registration identity trip interval }
 {
@@ -99,6 +103,7 @@ fn valid_registration(identity: Identity, trip: u64, interval: u64) -> bool
 }
 
 // 1 for the end that is lent, then register's own 1, 3 and 4.
+#[tactic(auto, unfolding(protocol::specs::OltCalls::register_verdict, octets::specs::Choice::either))]
 pub(crate) fn register_verdict(olt: Olt, identity: Identity, trip: u64, interval: u64) -> Verdict
     ensures { result ≡ register_order olt identity trip interval }
 {
@@ -127,6 +132,7 @@ pub(crate) fn register_verdict(olt: Olt, identity: Identity, trip: u64, interval
 }
 
 // One unit more, in the first place that is not in use.
+#[tactic(auto, unfolding(ends::specs::Table::with_one_more))]
 pub(crate) fn with_one_more(olt: Olt, unit: UnitRecord) -> Olt
     requires { olt.count < max_units }
     ensures { result ≡ with_one_more olt unit }

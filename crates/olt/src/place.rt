@@ -8,6 +8,7 @@ use ends::check_olt::judge;
 use ends::{Found, Olt};
 use refusal::{Refusal, Verdict, refuse_if};
 
+#[tactic(auto, unfolding(crate::specs::Lookup::located_after))]
 fn located_after(way: Verdict, found: Found) -> Located
     ensures { result ≡ located_after way found }
 {

@@ -8,6 +8,7 @@ ghost use Rattle.protocol.specs.OltCalls.{shared_advanced};
 use ends::Shared;
 use refusal::Verdict;
 
+#[tactic(auto, unfolding(protocol::specs::OltCalls::shared_advanced))]
 fn shared_advanced(shared: Shared, n: u64) -> Shared
     requires { shared.tick + n ≤ max_tick }
     ensures { result ≡ shared_advanced shared n }
@@ -19,6 +20,7 @@ fn shared_advanced(shared: Shared, n: u64) -> Shared
     r
 }
 
+#[tactic(auto, unfolding(unit::specs::Reached::if_accepted))]
 pub(crate) fn shared_after(verdict: Verdict, shared: Shared, n: u64) -> Shared
     requires { verdict ≡ Accepted → shared.tick + n ≤ max_tick }
     ensures { result ≡ if_accepted verdict (shared_advanced shared n) shared }
@@ -30,6 +32,7 @@ pub(crate) fn shared_after(verdict: Verdict, shared: Shared, n: u64) -> Shared
 }
 
 // The units that an advance moves: none where it is refused.
+#[tactic(auto, unfolding(unit::specs::Reached::if_accepted))]
 pub(crate) fn units_moved(verdict: Verdict, count: u8) -> usize
     ensures { result ≡ if_accepted verdict count 0 }
 {

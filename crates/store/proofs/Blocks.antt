@@ -40,7 +40,7 @@ module _ (f : List ℕ → List ℕ) (keeps : (p : List ℕ) → length (f p) �
   same_size = ap length (block_is f b) ∙ same_octets (changed f b) b n r sizes
 
   pub same_directory : take (directory_octets n) (block_with f b) ≡ take (directory_octets n) b
-  same_directory = ap (take (directory_octets n)) (block_is f b) ∙ Rebuilding.same-directory (changed f b) b n r sizes
+  same_directory = ap (take (directory_octets n)) (block_is f b) ∙ Rebuilding.same_directory (changed f b) b n r sizes
 
   -- record i of the block is record i with f done to its payload
   pub own_record : (i : ℕ) → i < n → record_of (block_with f b) i ≡ changed f b i
@@ -50,7 +50,7 @@ module _ (f : List ℕ → List ℕ) (keeps : (p : List ℕ) → length (f p) �
   pub good_again : directory_of (block_with f b) ≡ Good n
   good_again =
       ap directory_of (block_is f b)
-      ∙ Rebuilding.good-again (changed f b) b n r sizes
+      ∙ Rebuilding.good_again (changed f b) b n r sizes
       (λ i h. with_sized f (record_of b i) (header_there b n r i h) (keeps (payload_of (record_of b i))))
 
   -- one turn of a loop over the records, in which the payload of record i is replaced in its place

@@ -67,7 +67,7 @@ module _ (f g : List ℕ → List ℕ) (keeps : (p : List ℕ) → length (f p) 
         size = same_size f keeps b n r;
         directory = same_directory f keeps b n r;
         judged = good_again f keeps b n r ∙ sym e;
-        own_val = own;
+        own = own;
         header = λ i h. rw (own i h) (with_header f (record_of b i) (there i h));
         payload = λ i h. rw (own i h) (with_payload-holds f (record_of b i) (there i h));
         undone = back;

@@ -1,4 +1,6 @@
 // Capture blocks for the store: every payload rearranged, or restored, in a block whose directory and headers stay (02, C-12).
+#![tactic(auto)]
+
 ghost use Rattle.std.specs.Prelude.{◌≡◌, ◌+◌, ◌<◌, length};
 ghost use Rattle.octets.specs.Lists.{replaced};
 ghost use Rattle.octets.specs.Output.{with_output};
@@ -20,6 +22,7 @@ use records::header::HEADER_OCTETS;
 use refusal::{Refusal, Verdict, refuse_if};
 
 // A payload on its way to the store, or back.
+#[tactic(auto, unfolding(crate::specs::Duties::moved))]
 fn move_octets(back: bool, payload: &[u8], output: &mut [u8])
     requires { length_verdict (length payload.now) (length output.old) ≡ Accepted }
     ensures { output.new ≡ moved back payload.now }
@@ -60,6 +63,7 @@ fn move_payloads(back: bool, block: &[u8], output: &mut [u8])
 }
 
 // The verdict on the call, for an output of `size` octets.
+#[tactic(auto, unfolding(crate::specs::Calls::store_verdict))]
 fn store_verdict(block: &[u8], size: usize) -> Verdict
     ensures { result ≡ store_verdict block.now size }
 {

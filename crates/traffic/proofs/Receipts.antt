@@ -43,7 +43,7 @@ use Rattle.olt.specs.Lookup.{located_of}
 use Rattle.olt.specs.declared.Located.{Located}
 use Rattle.olt.proofs.Lookup.{lift_decided, reaches}
 use Rattle.traffic.specs.declared.carrying.Work.{Work}
-use Rattle.traffic.specs.Passages.{misfit, passage_nonce, passed, passed_count, passed_runs, output_after, carried_after}
+use Rattle.traffic.specs.Passages.{misfit, passage_nonce, passed_count, passed_runs, output_after, carried_after}
 use Rattle.traffic.specs.Receipts.{olt_received, olt_receive_of, onu_received, onu_not_received, onu_receive_of}
 use Rattle.traffic.specs.declared.OltReceived.{OltReceived}
 use Rattle.traffic.specs.declared.OnuReceived.{OnuReceived}

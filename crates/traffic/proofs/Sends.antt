@@ -35,7 +35,7 @@ use Rattle.olt.specs.Lookup.{located_of}
 use Rattle.olt.specs.declared.Located.{Located}
 use Rattle.olt.proofs.Lookup.{lift_decided, reaches}
 use Rattle.traffic.specs.declared.carrying.Work.{Work}
-use Rattle.traffic.specs.Passages.{misfit, passage_nonce, passed, carried_after}
+use Rattle.traffic.specs.Passages.{misfit, passage_nonce, carried_after}
 use Rattle.traffic.specs.Sends.{olt_sent, olt_send_of, onu_sent, onu_send_of}
 use Rattle.traffic.specs.declared.OltSent.{OltSent}
 use Rattle.traffic.specs.declared.OnuSent.{OnuSent}

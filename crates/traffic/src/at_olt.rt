@@ -27,6 +27,7 @@ pub(crate) fn send_ahead(n: usize, m: usize, channel: u8) -> Verdict
 }
 
 // What a receipt refuses ahead of 2.
+#[tactic(auto, unfolding(octets::specs::Choice::both))]
 pub(crate) fn receive_ahead(n: usize, m: usize, header: Header) -> Verdict
     ensures { result
         ≡ refuse_if (not (lengths_fit n m)) BadLength (refuse_if (not (both (upstream header.channel) (valid_header header))) OutOfRange Accepted) }

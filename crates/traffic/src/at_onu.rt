@@ -21,7 +21,7 @@ use refusal::{Refusal, Verdict, refuse_if};
 use unit::passing;
 
 // What a send decides: its verdict, the end that it leaves, and what its payload goes under (D114).
-#[derive(Drop)]
+#[derive(Clone, Copy)]
 pub(crate) struct OnuSending {
     pub verdict: Verdict,
     pub onu: Onu,
@@ -29,13 +29,14 @@ pub(crate) struct OnuSending {
 }
 
 // What a receipt decides: its verdict, the end that it leaves, and what its payload comes under.
-#[derive(Drop)]
+#[derive(Clone, Copy)]
 pub(crate) struct OnuReceiving {
     pub verdict: Verdict,
     pub onu: Onu,
     pub passage: Passage,
 }
 
+#[tactic(auto, unfolding(protocol::specs::OnuTraffic::onu_send_choice, octets::specs::Choice::pick))]
 fn send_choice(keys: OnuKeys) -> KeyChoice
     ensures { result ≡ onu_send_choice keys }
 {
@@ -46,6 +47,7 @@ fn send_choice(keys: OnuKeys) -> KeyChoice
 }
 
 // The channel is taken, or an enciphered send waits for travel to pass those made before a change of LocalTime (02, C-16).
+#[tactic(auto, unfolding(protocol::specs::OnuTraffic::busy_up, ends::specs::Travels::waits, octets::specs::Choice::both, octets::specs::Choice::either))]
 fn busy(onu: Onu, channel: u8, choice: KeyChoice, now: u64) -> bool
     requires choice_value { choice ≡ onu_send_choice onu.keys }
     requires value { now ≡ travel_of onu }
@@ -57,6 +59,7 @@ fn busy(onu: Onu, channel: u8, choice: KeyChoice, now: u64) -> bool
 }
 
 // What a send at a valid end refuses.
+#[tactic(auto, unfolding(protocol::specs::OnuTraffic::onu_send_verdict))]
 fn send_verdict(
     onu: Onu,
     misfit: bool,
@@ -86,6 +89,7 @@ fn send_verdict(
 }
 
 // The end that a send leaves, where it is accepted.
+#[tactic(auto, unfolding(protocol::specs::OnuTraffic::onu_after_send, protocol::specs::OnuTraffic::onu_noted, ends::specs::Records::with_onu_channels, ends::specs::Records::with_onu_first, ends::specs::Records::with_travel))]
 fn after_send(choice: KeyChoice, onu: Onu, channel: u8, eqs: u64, now: u64) -> Onu
     requires choice_value { choice ≡ onu_send_choice onu.keys }
     requires value { now ≡ travel_of onu }
@@ -108,6 +112,7 @@ fn after_send(choice: KeyChoice, onu: Onu, channel: u8, eqs: u64, now: u64) -> O
     }
 }
 
+#[tactic(auto, unfolding(crate::specs::Sends::onu_not_sending))]
 fn not_sent(onu: Onu, refusal: Refusal) -> OnuSending
     ensures { result ≡ onu_not_sending onu refusal }
 {
@@ -120,6 +125,7 @@ fn not_sent(onu: Onu, refusal: Refusal) -> OnuSending
 }
 
 // A send, but for its octets: 1 for a lent end that is not valid; then the key is chosen and travel counted once, and all else follows from these.
+#[tactic(auto, unfolding(crate::specs::Sends::onu_sending, protocol::specs::OnuTraffic::sending_onu, protocol::specs::OnuCalls::onu_reply, protocol::specs::Replies::reply, crate::specs::Sends::onu_not_sending))]
 pub(crate) fn send(onu: Onu, misfit: bool, llid: u16, channel: u8, eqs: u64) -> OnuSending
     requires { misfit ≡ false → eqs ≤ max_eqs }
     ensures { result ≡ onu_sending (sending_onu onu misfit llid channel eqs) }
@@ -147,6 +153,7 @@ pub(crate) fn send(onu: Onu, misfit: bool, llid: u16, channel: u8, eqs: u64) -> 
 }
 
 // The index of key a + 1 is the one that a does not have.
+#[tactic(auto, unfolding(protocol::specs::OnuTraffic::onu_receive_choice, octets::specs::Choice::pick, octets::specs::Choice::both))]
 fn receive_choice(keys: OnuKeys, header: Header) -> KeyChoice
     requires { valid_onu_keys keys ≡ true }
     ensures { result ≡ onu_receive_choice keys header }
@@ -169,6 +176,7 @@ fn receive_choice(keys: OnuKeys, header: Header) -> KeyChoice
 }
 
 // What a receipt at a valid end refuses.
+#[tactic(auto, unfolding(protocol::specs::OnuTraffic::onu_receive_verdict, octets::specs::Choice::both))]
 fn receive_verdict(onu: Onu, misfit: bool, header: Header, choice: KeyChoice) -> Verdict
     requires { choice ≡ onu_receive_choice onu.keys header }
     ensures { result ≡ onu_receive_verdict onu misfit header }
@@ -200,6 +208,7 @@ fn receive_verdict(onu: Onu, misfit: bool, header: Header, choice: KeyChoice) ->
 }
 
 // The key a + 1 comes into use: the old one is wiped, and the new one has had no send.
+#[tactic(auto, unfolding(protocol::specs::OnuTraffic::onu_moved, ends::specs::Records::with_onu_keys, ends::specs::Records::with_onu_first))]
 fn moved(onu: Onu) -> Onu
     requires { onu.keys.active < max_key_number }
     ensures { result ≡ onu_moved onu }
@@ -219,6 +228,7 @@ fn moved(onu: Onu) -> Onu
 }
 
 // The end that a receipt leaves, where it is accepted.
+#[tactic(auto, unfolding(protocol::specs::OnuTraffic::onu_after_receipt))]
 fn after_receive(choice: KeyChoice, onu: Onu) -> Onu
     requires { (n : ℕ) → choice ≡ Next n → onu.keys.active < max_key_number }
     ensures { result ≡ onu_after_receipt choice onu }
@@ -231,6 +241,7 @@ fn after_receive(choice: KeyChoice, onu: Onu) -> Onu
     }
 }
 
+#[tactic(auto, unfolding(crate::specs::Receipts::onu_not_receiving))]
 fn not_received(onu: Onu, refusal: Refusal) -> OnuReceiving
     ensures { result ≡ onu_not_receiving onu refusal }
 {
@@ -243,6 +254,7 @@ fn not_received(onu: Onu, refusal: Refusal) -> OnuReceiving
 }
 
 // A receipt, but for its octets: 1 for a lent end that is not valid; then the key is chosen once, and all else follows from that choice.
+#[tactic(auto, unfolding(crate::specs::Receipts::onu_receiving, protocol::specs::OnuTraffic::receiving_onu, protocol::specs::OnuCalls::onu_reply, protocol::specs::Replies::reply, crate::specs::Receipts::onu_not_receiving))]
 pub(crate) fn receive(onu: Onu, misfit: bool, header: Header) -> OnuReceiving
     ensures { result ≡ onu_receiving (receiving_onu onu misfit header) }
 {

@@ -12,7 +12,7 @@ use sealing::counter_mode::seal;
 use unit::passing::is_enciphered;
 
 // What a payload took: the octets enciphered, and the runs of the cipher (02, C-17).
-#[derive(Drop)]
+#[derive(Clone, Copy)]
 pub struct Work {
     pub count: u64,
     pub runs: u64,
@@ -26,6 +26,7 @@ pub(crate) fn misfit(n: usize, m: usize) -> bool
 }
 
 // Seals or opens the payload, and gives what that took. An empty one needs no key.
+#[tactic(auto, unfolding(crate::specs::Passages::passed, crate::specs::Passages::passed_count, crate::specs::Passages::passed_runs))]
 pub(crate) fn carry(passage: Passage, channel: u8, payload: &[u8], output: &mut [u8]) -> Work
     requires { seal_verdict (length payload.now) (length output.old) (passage_nonce channel passage) ≡ Accepted }
     ensures { with_output result output.new
@@ -50,6 +51,7 @@ pub(crate) fn carry(passage: Passage, channel: u8, payload: &[u8], output: &mut 
 }
 
 // Refused, the output stays and nothing is counted.
+#[tactic(auto, unfolding(crate::specs::Passages::carried_after))]
 pub(crate) fn carry_accepted(
     verdict: Verdict,
     passage: Passage,

@@ -1,5 +1,7 @@
 // Send and receive at both ends, with their octets (01, Keys; D108). Each takes the end by value and gives back the code, the end, the
 // header, the octets enciphered and the runs of the cipher, and writes the output; refused, the end and the output are those that were lent.
+#![tactic(auto)]
+
 mod at_olt;
 mod at_onu;
 pub mod carrying;
@@ -21,7 +23,7 @@ use refusal::verdict_number;
 use unit::unit_traffic;
 
 #[repr(C)]
-#[derive(Drop)]
+#[derive(Clone, Copy)]
 pub struct OltSent {
     pub number: u8,
     pub olt: Olt,
@@ -31,7 +33,7 @@ pub struct OltSent {
 }
 
 #[repr(C)]
-#[derive(Drop)]
+#[derive(Clone, Copy)]
 pub struct OltReceived {
     pub number: u8,
     pub olt: Olt,
@@ -40,7 +42,7 @@ pub struct OltReceived {
 }
 
 #[repr(C)]
-#[derive(Drop)]
+#[derive(Clone, Copy)]
 pub struct OnuSent {
     pub number: u8,
     pub onu: Onu,
@@ -50,7 +52,7 @@ pub struct OnuSent {
 }
 
 #[repr(C)]
-#[derive(Drop)]
+#[derive(Clone, Copy)]
 pub struct OnuReceived {
     pub number: u8,
     pub onu: Onu,
@@ -58,6 +60,7 @@ pub struct OnuReceived {
     pub runs: u64,
 }
 
+#[tactic(auto, unfolding(unit::specs::Reached::sent_outcome, crate::specs::Passages::misfit, ends::specs::Table::past_unit))]
 pub fn olt_send(olt: Olt, llid: u16, channel: u8, payload: &[u8], output: &mut [u8]) -> OltSent
     ensures output_after { with_output result output.new ≡ olt_send_of olt llid channel payload.now output.old }
     ensures order { result.number ≡ verdict_number (send_order olt (misfit payload.now output.old) llid channel) }
@@ -94,6 +97,7 @@ pub fn olt_send(olt: Olt, llid: u16, channel: u8, payload: &[u8], output: &mut [
     }
 }
 
+#[tactic(auto, unfolding(protocol::specs::Lift::outcome, crate::specs::Passages::misfit, ends::specs::Table::past_unit))]
 pub fn olt_receive(olt: Olt, header: Header, octets: &[u8], output: &mut [u8]) -> OltReceived
     ensures output_after { with_output result output.new ≡ olt_receive_of olt header octets.now output.old }
     ensures order { result.number ≡ verdict_number (receive_order olt (misfit octets.now output.old) header) }
@@ -119,6 +123,7 @@ pub fn olt_receive(olt: Olt, header: Header, octets: &[u8], output: &mut [u8]) -
     }
 }
 
+#[tactic(auto, unfolding(crate::specs::Sends::onu_sending, crate::specs::Passages::misfit))]
 pub fn onu_send(onu: Onu, llid: u16, channel: u8, payload: &[u8], output: &mut [u8]) -> OnuSent
     ensures { with_output result output.new ≡ onu_send_of onu llid channel payload.now output.old }
 {
@@ -144,6 +149,7 @@ pub fn onu_send(onu: Onu, llid: u16, channel: u8, payload: &[u8], output: &mut [
     }
 }
 
+#[tactic(auto, unfolding(crate::specs::Receipts::onu_receiving, crate::specs::Passages::misfit))]
 pub fn onu_receive(onu: Onu, header: Header, octets: &[u8], output: &mut [u8]) -> OnuReceived
     ensures { with_output result output.new ≡ onu_receive_of onu header octets.now output.old }
 {

@@ -9,6 +9,7 @@ ghost use Rattle.ends.specs.Validity.{valid_onu};
 use ends::changes::shift;
 use ends::{Onu, Travel};
 
+#[tactic(auto, unfolding(ends::specs::Travels::travel_of))]
 pub(crate) fn travel(onu: Onu) -> u64
     requires { valid_onu onu ≡ true }
     ensures { result ≡ travel_of onu }
@@ -17,6 +18,7 @@ pub(crate) fn travel(onu: Onu) -> u64
 }
 
 // An enciphered send of so many EQs was made now.
+#[tactic(auto, unfolding(ends::specs::Travels::travel_spent))]
 pub(crate) fn spent(travel: Travel, now: u64, eqs: u64) -> Travel
     requires bound { now ≤ max_tick + 2 * max_changes }
     requires eqs_le_max_eqs { eqs ≤ max_eqs }

@@ -1,8 +1,11 @@
 // Runs the cases of tools/store.py, which are on standard input, and prints what the calls for the store make of each: the number, with
 // the broken pair where there is one, a checksum of the output, and short outputs themselves.
-ghost use Rattle.std.specs.Prelude.{◌≡◌, ◌≤◌, ◌<◌, length, take};
+#![tactic(auto)]
+
+ghost use Rattle.std.specs.Prelude.{◌≡◌, ◌≤◌, ◌<◌, length, take, IfOk};
 
 use refusal::Verdict;
+use std::io;
 
 // The octets of a case ahead of its title and its input, and the most of an input.
 const HEAD_OCTETS: usize = 10;
@@ -34,23 +37,22 @@ fn checksum(s: &[u8]) -> u64
     b * 65536 + a
 }
 
-fn print_octets(s: &[u8]) {
+fn print_octets(rt: &impl Print, s: &[u8]) -> io::Result<()> {
     for i in 0..s.len() {
-        io::print_hex(1, wide(s[i]), 2);
+        print!(rt; "{:02x}", wide(s[i]))?;
     }
+    Ok(())
 }
 
-fn print_answer(verdict: Verdict, output: &[u8]) {
-    io::print_decimal(1, wide(refusal::verdict_number(verdict)));
-    io::write_all(1, b" ");
-    io::print_decimal(1, refusal::verdict_pair(verdict) as u64);
-    io::write_all(1, b" ");
-    io::print_hex(1, checksum(output), 8);
+fn print_answer(rt: &impl Print, verdict: Verdict, output: &[u8]) -> io::Result<()> {
+    let number = refusal::verdict_number(verdict);
+    let pair = refusal::verdict_pair(verdict);
+    print!(rt; "{number} {pair} {:08x}", checksum(output))?;
     if output.len() <= 27 {
-        io::write_all(1, b" ");
-        print_octets(output);
+        print!(rt; " ")?;
+        print_octets(rt, output)?;
     }
-    io::write_all(1, b"\n");
+    println!(rt)
 }
 
 // Call 0 rearranges a payload and call 1 restores one; 2 and 3 do so to a block.
@@ -67,9 +69,9 @@ fn call(kind: u8, input: &[u8], output: &mut [u8]) -> Verdict {
     store::restore_block(input, output)
 }
 
-fn show_case(kind: u8, input: &[u8], output: &mut [u8]) {
+fn show_case(rt: &impl Print, kind: u8, input: &[u8], output: &mut [u8]) -> io::Result<()> {
     let verdict = call(kind, input, output);
-    print_answer(verdict, output);
+    print_answer(rt, verdict, output)
 }
 
 // Octets that are not 0, so that an output left as it was can be told from one that was cleared.
@@ -79,10 +81,10 @@ fn used_space() -> [u8; MOST_OCTETS]
     [165; MOST_OCTETS]
 }
 
-fn run_call(kind: u8, input: &[u8], size: usize) {
+fn run_call(rt: &impl Print, kind: u8, input: &[u8], size: usize) -> io::Result<()> {
     let mut space = used_space();
     let n = least(size, MOST_OCTETS);
-    show_case(kind, input, &mut space[..n]);
+    show_case(rt, kind, input, &mut space[..n])
 }
 
 fn size_at(head: [u8; HEAD_OCTETS], at: usize) -> usize
@@ -92,41 +94,43 @@ fn size_at(head: [u8; HEAD_OCTETS], at: usize) -> usize
 }
 
 // Reads as many octets as are asked for, or as there is room for.
-fn fill(space: &mut [u8], size: usize) -> usize
-    ensures { (result ≤ length space.new) × (result ≡ length (take result space.new)) }
+fn fill(rt: &impl Input, space: &mut [u8], size: usize) -> io::Result<usize>
+    ensures { IfOk result (λ n. (n ≤ length space.new) × (n ≡ length (take n space.new))) }
 {
     let n = least(size, space.len());
-    io::read_full(0, &mut space[..n])
+    streams::read_full(&mut rt.reader(), &mut space[..n])
 }
 
-fn read_input(head: [u8; HEAD_OCTETS]) {
+fn read_input(rt: &(impl Input + Print), head: [u8; HEAD_OCTETS]) -> io::Result<()> {
     let mut input = [0u8; MOST_OCTETS];
-    let n = fill(&mut input, size_at(head, 6));
-    run_call(head[0], &input[..n], size_at(head, 2));
+    let n = fill(rt, &mut input, size_at(head, 6))?;
+    run_call(rt, head[0], &input[..n], size_at(head, 2))
 }
 
-fn read_title(head: [u8; HEAD_OCTETS]) {
+fn read_title(rt: &(impl Input + Print), head: [u8; HEAD_OCTETS]) -> io::Result<()> {
     let mut title = [0u8; 256];
-    let n = fill(&mut title, wide(head[1]) as usize);
-    io::write_all(1, &title[..n]);
-    io::write_all(1, b": ");
+    let n = fill(rt, &mut title, wide(head[1]) as usize)?;
+    rt.write_all(&title[..n])?;
+    print!(rt; ": ")
 }
 
 // One case: the call, the sizes of title, output and input, then title and input.
-fn run_case() -> bool {
+fn run_case(rt: &(impl Input + Print)) -> io::Result<bool> {
     let mut head = [0u8; HEAD_OCTETS];
-    if io::read_full(0, &mut head) < HEAD_OCTETS {
-        return false;
+    if streams::read_full(&mut rt.reader(), &mut head)? < HEAD_OCTETS {
+        return Ok(false);
     }
-    read_title(head);
-    read_input(head);
-    true
+    read_title(rt, head)?;
+    read_input(rt, head)?;
+    Ok(true)
 }
 
-// A proved loop has to end: this one counts down from a number that no run uses up.
-fn main() {
-    let mut turns = u64::MAX;
-    while turns > 0 && run_case() {
-        turns -= 1;
+// A proved loop has to end: this one counts to a number that no run reaches.
+fn main(rt: HostRuntime) -> io::Result<()> {
+    for _ in 0..u64::MAX {
+        if !run_case(&rt)? {
+            break;
+        }
     }
+    Ok(())
 }

@@ -1,0 +1,6 @@
+-- Both sums stay below the modulus.
+use Rattle.std.proofs.Common.{◌<◌}
+use Rattle.test_store.proofs.checksum.Given as goal
+
+abbrev pub invariant-loop-i : goal.invariant-loop-i
+invariant-loop-i l = (l.a < 65521) × (l.b < 65521)

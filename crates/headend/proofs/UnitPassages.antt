@@ -101,8 +101,8 @@ module _ (h : HeadEnd) (llid channel : ℕ) (p out : List ℕ) where
     unfolding refuse_if outcome with_olt
     sent_guarded true v e =
         let fits = then_same x.verdict (seal_verdict (length p) (length out) (passage_nonce channel x.handed.passage))
-        (sends.send-fits h.olt llid channel p out l e x f) in
-        let done = sends.olt-send-done h.olt llid channel p out l e x f w.answer w.output
+        (sends.send_fits h.olt llid channel p out l e x f) in
+        let done = sends.olt_send_done h.olt llid channel p out l e x f w.answer w.output
         (k ∙ ap (λ (u : Verdict). carried_after u channel x.handed.passage p out) fits) in
         sent_valid h out _ v ∙ ap (λ (r : WithOutput OltSent). olt_sent_in h r out) done
     sent_guarded false v e =
@@ -124,7 +124,7 @@ module _ (h : HeadEnd) (llid channel : ℕ) (p out : List ℕ) where
   within : (l : Located) (t : Bool) → l ≡ located_of h.olt (on_valid t (send_ahead (misfit p out) channel)) llid → l.verdict ≡ Accepted
       → (h.olt.shared.tick ≤ max_tick) × (eqs_of p ≤ max_eqs)
   unfolding refuse_if
-  within l true e a = sends.send-within h.olt llid channel p out l e a
+  within l true e a = sends.send_within h.olt llid channel p out l e a
   within l false e a = refused_accepts _ (sym (ap (λ (y : Located). y.verdict) (e ∙ nowhere h.olt llid)) ∙ a)
 
   pub unit_within : (l : Located) → l ≡ located_of h.olt (on_valid (valid_groups h) (send_ahead (misfit p out) channel)) llid → l.verdict ≡ Accepted
@@ -169,8 +169,8 @@ module _ (h : HeadEnd) (header : Header) (p out : List ℕ) where
     unfolding refuse_if
     received_guarded true v e =
         let fits = then_same x.verdict (seal_verdict (length p) (length out) (passage_nonce header.channel x.handed))
-        (receipts.receive-fits h.olt header p out l e x f) in
-        let done = receipts.olt-receive-done h.olt header p out l e x f w.answer w.output
+        (receipts.receive_fits h.olt header p out l e x f) in
+        let done = receipts.olt_receive_done h.olt header p out l e x f w.answer w.output
         (k ∙ ap (λ (u : Verdict). carried_after u header.channel x.handed p out) fits) in
         received_valid h out _ v ∙ ap (λ (r : WithOutput OltReceived). olt_received_in h r out) done
     received_guarded false v e = way_refused OutOfRange (e ∙ nowhere h.olt header.llid) ∙ received_invalid h out _ v

@@ -8,12 +8,14 @@ use crate::HeadAnswer;
 use group_protocol::HeadEnd;
 use refusal::{Refusal, number};
 
+#[tactic(auto, unfolding(crate::specs::HeadCalls::head_answer, protocol::specs::Replies::reply))]
 pub(crate) fn accepted(head: HeadEnd) -> HeadAnswer
     ensures { result ≡ head_answer (reply Accepted head silent head silent) }
 {
     HeadAnswer { number: 0, head }
 }
 
+#[tactic(auto, unfolding(crate::specs::HeadCalls::head_answer, protocol::specs::Replies::reply))]
 pub(crate) fn refused(head: HeadEnd, refusal: Refusal) -> HeadAnswer
     ensures { result ≡ head_answer (reply (Refused refusal) head silent head silent) }
 {

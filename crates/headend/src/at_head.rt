@@ -41,6 +41,7 @@ pub fn fresh(mac: u64, clock: u64) -> HeadAnswer
 }
 
 // Registers a unit. 3 and 4 know the groups.
+#[tactic(auto, unfolding(ends::specs::Table::with_one_more, group_protocol::specs::Head::with_olt, group_protocol::specs::Head::valid_head, octets::specs::Choice::both))]
 pub fn register(head: HeadEnd, identity: Identity, trip: u64, interval: u64) -> HeadDone
     ensures { result ≡ head_done (head_register_of head identity trip interval) }
 {
@@ -70,6 +71,7 @@ pub fn register(head: HeadEnd, identity: Identity, trip: u64, interval: u64) -> 
 }
 
 // Registers a group with its members, each named by any LLID of its unit.
+#[tactic(auto, unfolding(crate::specs::HeadCalls::register_group_of, group_protocol::specs::Head::valid_head, octets::specs::Choice::both))]
 pub fn register_group(head: HeadEnd, llid: u16, interval: u64, roster: Roster) -> HeadAnswer
     ensures { result ≡ register_group_of head llid interval roster }
 {
@@ -89,6 +91,7 @@ pub fn register_group(head: HeadEnd, llid: u16, interval: u64, roster: Roster) -
 
 // Ticks, clock and the timers of all units. What it costs does not depend on the ticks. The OLT is copied before the end is judged, and what its
 // units share stored as it was: so the copy is the one that is judged and moved (D119).
+#[tactic(auto, unfolding(olt::specs::Moves::moved_of))]
 pub fn moved(head: HeadEnd, n: u64) -> OltMoved
     ensures { result ≡ olt_moved_of head n }
 {
@@ -101,6 +104,7 @@ pub fn moved(head: HeadEnd, n: u64) -> OltMoved
 }
 
 // The timers of all groups, in an advance that is accepted. Other groups than those of a valid end stay within the table all the same.
+#[tactic(auto, unfolding(group_protocol::specs::Head::past_group, group_protocol::specs::Head::with_group_keys, ends::specs::Records::with_timer, crate::specs::HeadCalls::groups_advanced))]
 pub fn groups_moved(groups: Groups, n: u64) -> Groups
     ensures { (h : HeadEnd) → h.groups ≡ groups → (head_advance_of h n).number ≡ 0 → result ≡ (head_advance_of h n).head.groups }
 {
@@ -122,6 +126,7 @@ pub fn groups_moved(groups: Groups, n: u64) -> Groups
 }
 
 // A group has no clock: its LLID is no unit's.
+#[tactic(auto, unfolding(crate::specs::HeadCalls::head_capture_of, protocol::specs::OltCalls::capture_of, crate::specs::HeadCalls::head_answer, protocol::specs::Lift::outcome, ends::specs::Table::with_unit, ends::specs::Records::with_channels, ends::specs::Table::past_unit, group_protocol::specs::Head::with_olt))]
 pub fn capture(head: HeadEnd, llid: u16) -> HeadDone
     ensures { result ≡ head_done (head_capture_of head llid) }
 {
@@ -151,6 +156,7 @@ pub fn capture(head: HeadEnd, llid: u16) -> HeadDone
 }
 
 // The round trip measured again (02, C-16). The unit's groups go on.
+#[tactic(auto, unfolding(crate::specs::HeadCalls::head_measure_of, protocol::specs::OltCalls::measure_of, crate::specs::HeadCalls::head_answer, protocol::specs::Lift::outcome, ends::specs::Table::with_unit, ends::specs::Records::with_channels, ends::specs::Table::past_unit, group_protocol::specs::Head::with_olt))]
 pub fn measure(head: HeadEnd, llid: u16, trip: u64) -> HeadDone
     ensures { result ≡ head_done (head_measure_of head llid trip) }
 {
@@ -184,6 +190,7 @@ pub fn measure(head: HeadEnd, llid: u16, trip: u64) -> HeadDone
     }
 }
 
+#[tactic(auto, unfolding(crate::specs::HeadCalls::head_clock_send_of, protocol::specs::OltCalls::clock_send_of, protocol::specs::Lift::outcome, ends::specs::Table::with_unit, ends::specs::Records::with_channels, ends::specs::Table::past_unit, group_protocol::specs::Head::with_olt))]
 pub fn clock_send(head: HeadEnd, llid: u16) -> HeadClockDone
     ensures { result ≡ head_clock_done (head_clock_send_of head llid) }
 {
@@ -215,13 +222,14 @@ pub fn clock_send(head: HeadEnd, llid: u16) -> HeadClockDone
 }
 
 // What a call that may name a unit or a group tells of it.
-#[derive(Drop)]
+#[derive(Clone, Copy)]
 struct Told {
     verdict: Verdict,
     message: KeyMessage,
 }
 
 // To a unit, or to a group, whose members' clocks must all be acknowledged.
+#[tactic(auto, unfolding(crate::specs::HeadCalls::head_key_sent, crate::specs::HeadCalls::head_offer_of, protocol::specs::OltCalls::offer_of, protocol::specs::Lift::outcome, ends::specs::Table::with_unit, ends::specs::Records::with_channels, ends::specs::Table::past_unit, group_protocol::specs::Head::with_olt, group_protocol::specs::GroupCalls::group_outcome, group_protocol::specs::Head::past_group, group_protocol::specs::Head::with_group, ends::specs::Table::with_olt_channels, group_protocol::specs::Head::valid_head, octets::specs::Choice::both))]
 pub fn offer(head: HeadEnd, llid: u16, key: [u8; 16]) -> HeadKeyDone
     ensures { result ≡ head_key_done (head_offer_of head llid key) }
 {
@@ -272,6 +280,7 @@ pub fn offer(head: HeadEnd, llid: u16, key: [u8; 16]) -> HeadKeyDone
 }
 
 // A retry changes nothing. `sound` says that the groups are valid.
+#[tactic(auto, unfolding(protocol::specs::OltCalls::retry_of, protocol::specs::Lift::outcome, ends::specs::Table::past_unit))]
 fn retry_unit(head: HeadEnd, sound: bool, llid: u16) -> Told
     requires { sound ≡ valid_groups head }
     ensures { head_key_sent (record { verdict = result.verdict; end = head; handed = result.message }) ≡ olt_key_sent head (retry_of head.olt llid) }
@@ -287,6 +296,7 @@ fn retry_unit(head: HeadEnd, sound: bool, llid: u16) -> Told
     Told { verdict, message }
 }
 
+#[tactic(auto, unfolding(group_protocol::specs::GroupCalls::group_outcome, group_protocol::specs::Head::past_group, group_protocol::specs::Head::valid_head, octets::specs::Choice::both))]
 fn retry_group(head: HeadEnd, sound: bool, i: usize, llid: u16) -> Told
     requires i_lt_max_units { i < max_units }
     requires sound_value { sound ≡ valid_groups head }
@@ -302,6 +312,7 @@ fn retry_group(head: HeadEnd, sound: bool, i: usize, llid: u16) -> Told
 }
 
 // The offer's number and key again.
+#[tactic(auto, unfolding(crate::specs::HeadCalls::head_key_sent, crate::specs::HeadCalls::head_retry_of))]
 pub fn retry(head: HeadEnd, llid: u16) -> HeadKeyDone
     ensures { result ≡ head_key_done (head_retry_of head llid) }
 {
@@ -331,6 +342,7 @@ pub fn retry(head: HeadEnd, llid: u16) -> HeadKeyDone
 }
 
 // A unit's own acknowledgement names no unit; one that does fits nothing.
+#[tactic(auto, unfolding(crate::specs::HeadCalls::own_acknowledgement, octets::specs::Choice::pick))]
 fn own_acknowledgement(answer: Answer) -> Acknowledgement
     ensures { result ≡ own_acknowledgement answer }
 {
@@ -344,6 +356,7 @@ fn own_acknowledgement(answer: Answer) -> Acknowledgement
 }
 
 // The member that the answer names, by any LLID of its unit.
+#[tactic(auto, unfolding(group_protocol::specs::GroupCalls::member_named, octets::specs::Choice::pick, ends::specs::Table::find, group_protocol::specs::GroupCalls::member_found))]
 fn member_named(olt: Olt, members: Members, answer: Answer) -> Found
     ensures { result ≡ member_named olt members answer }
 {
@@ -359,6 +372,7 @@ fn member_named(olt: Olt, members: Members, answer: Answer) -> Found
 }
 
 // Of a unit, or of a group's member, which the answer names.
+#[tactic(auto, unfolding(crate::specs::HeadCalls::head_answer, crate::specs::HeadCalls::head_acknowledge_of, protocol::specs::OltCalls::acknowledge_of, protocol::specs::Lift::outcome, ends::specs::Table::with_unit, ends::specs::Records::with_channels, ends::specs::Table::past_unit, group_protocol::specs::Head::with_olt, group_protocol::specs::GroupCalls::group_outcome, group_protocol::specs::Head::past_group, group_protocol::specs::Head::with_group, ends::specs::Table::with_olt_channels, group_protocol::specs::Head::valid_head, octets::specs::Choice::both))]
 pub fn acknowledge(head: HeadEnd, llid: u16, answer: Answer) -> HeadDone
     ensures { result ≡ head_done (head_acknowledge_of head llid answer) }
 {

@@ -17,6 +17,7 @@ use olt::place::locate;
 use refusal::{Refusal, Verdict, refuse_if};
 
 // The group that has the LLID. It is looked for in the end itself, so that a call hands that over as it lies.
+#[tactic(auto, unfolding(group_protocol::specs::Head::past_group))]
 pub(crate) fn group_named(head: HeadEnd, llid: u16) -> Found
     ensures value { result ≡ find_group head llid }
     ensures place { (i : ℕ) → result ≡ At i → i < max_units }
@@ -38,6 +39,7 @@ pub(crate) fn group_named(head: HeadEnd, llid: u16) -> Found
 }
 
 // Whether the groups of a valid OLT are valid. Without one nothing is copied for that.
+#[tactic(auto, unfolding(octets::specs::Choice::either))]
 pub(crate) fn sound_groups(head: HeadEnd) -> bool
     ensures { result ≡ either (eqb head.groups.count 0) (valid_groups head) }
 {
@@ -58,6 +60,7 @@ pub(crate) fn locate_sound(olt: Olt, sound: bool, ahead: Verdict, llid: u16) -> 
 }
 
 // The way to a group: 1 for an OLT that is not valid or groups that are not sound, then what the call refuses ahead of 2.
+#[tactic(auto, unfolding(octets::specs::Choice::both))]
 pub(crate) fn way_to(olt: Olt, sound: bool, ahead: Verdict) -> Verdict
     ensures { result ≡ on_valid (both (valid_olt olt) sound) ahead }
 {

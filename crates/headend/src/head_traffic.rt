@@ -35,7 +35,7 @@ fn send_ahead(n: usize, m: usize, channel: u8) -> Verdict
 }
 
 // What a unit or a group decides on a send.
-#[derive(Drop)]
+#[derive(Clone, Copy)]
 struct Told {
     verdict: Verdict,
     channels: Channels,
@@ -122,6 +122,7 @@ pub fn send(
 }
 
 // What a receipt refuses ahead of 2, then the rest.
+#[tactic(auto, unfolding(octets::specs::Choice::both))]
 fn receive_ahead(n: usize, m: usize, header: Header, rest: Verdict) -> Verdict
     ensures { result
         ≡ refuse_if (not (lengths_fit n m)) BadLength (refuse_if (not (both (upstream header.channel) (valid_header header))) OutOfRange rest) }
@@ -145,6 +146,7 @@ fn own_llid(found: Found) -> Verdict
 }
 
 // From a unit. Refused, it goes the same way to its answer.
+#[tactic(auto, unfolding(protocol::specs::Lift::outcome, ends::specs::Table::with_unit, ends::specs::Records::with_channels, group_protocol::specs::Head::with_olt, traffic::specs::Passages::misfit, ends::specs::Table::past_unit))]
 pub fn receive(head: HeadEnd, header: Header, octets: &[u8], output: &mut [u8]) -> HeadReceiptDone
     ensures { with_output result output.new ≡ head_receipt_of head header octets.now output.old }
 {

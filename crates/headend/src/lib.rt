@@ -2,6 +2,8 @@
 // has it. Each takes the end by value and gives back the code, the end and what is handed over; refused, the end and the output are those that
 // were lent.
 
+#![tactic(auto)]
+
 mod answers;
 pub mod at_head;
 mod head_place;
@@ -14,14 +16,14 @@ use group_protocol::{Groups, HeadEnd};
 use protocol::{Header, KeyMessage};
 
 #[repr(C)]
-#[derive(Drop)]
+#[derive(Clone, Copy)]
 pub struct HeadAnswer {
     pub number: u8,
     pub head: HeadEnd,
 }
 
 // What an advance in place leaves with whoever lent a copy of its own.
-#[derive(Drop)]
+#[derive(Clone, Copy)]
 pub struct HeadMoved {
     pub head: HeadEnd,
     pub number: u8,
@@ -29,7 +31,7 @@ pub struct HeadMoved {
 
 // The two parts of an end, each with a number of it behind, which the exported call stores again: so a part that was changed is handed on where it
 // lies (D119). `mac` is the OLT's own, `count` the number of groups.
-#[derive(Drop)]
+#[derive(Clone, Copy)]
 pub struct Parts {
     pub olt: Olt,
     pub mac: u64,
@@ -38,14 +40,14 @@ pub struct Parts {
 }
 
 // The answer of register, capture, measure and acknowledge.
-#[derive(Drop)]
+#[derive(Clone, Copy)]
 pub struct HeadDone {
     pub parts: Parts,
     pub number: u8,
 }
 
 // That of clock send.
-#[derive(Drop)]
+#[derive(Clone, Copy)]
 pub struct HeadClockDone {
     pub parts: Parts,
     pub message: Stamps,
@@ -53,7 +55,7 @@ pub struct HeadClockDone {
 }
 
 // That of offer and retry.
-#[derive(Drop)]
+#[derive(Clone, Copy)]
 pub struct HeadKeyDone {
     pub parts: Parts,
     pub message: KeyMessage,
@@ -61,7 +63,7 @@ pub struct HeadKeyDone {
 }
 
 // That of send.
-#[derive(Drop)]
+#[derive(Clone, Copy)]
 pub struct HeadSendDone {
     pub parts: Parts,
     pub header: Header,
@@ -71,7 +73,7 @@ pub struct HeadSendDone {
 }
 
 // That of receive.
-#[derive(Drop)]
+#[derive(Clone, Copy)]
 pub struct HeadReceiptDone {
     pub parts: Parts,
     pub count: u64,
@@ -80,7 +82,7 @@ pub struct HeadReceiptDone {
 }
 
 #[repr(C)]
-#[derive(Drop)]
+#[derive(Clone, Copy)]
 pub struct HeadClockSent {
     pub number: u8,
     pub head: HeadEnd,
@@ -88,7 +90,7 @@ pub struct HeadClockSent {
 }
 
 #[repr(C)]
-#[derive(Drop)]
+#[derive(Clone, Copy)]
 pub struct HeadKeySent {
     pub number: u8,
     pub head: HeadEnd,
@@ -96,7 +98,7 @@ pub struct HeadKeySent {
 }
 
 #[repr(C)]
-#[derive(Drop)]
+#[derive(Clone, Copy)]
 pub struct HeadSent {
     pub number: u8,
     pub head: HeadEnd,
@@ -106,7 +108,7 @@ pub struct HeadSent {
 }
 
 #[repr(C)]
-#[derive(Drop)]
+#[derive(Clone, Copy)]
 pub struct HeadReceived {
     pub number: u8,
     pub head: HeadEnd,

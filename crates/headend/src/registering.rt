@@ -19,6 +19,7 @@ use groups::search::{groups_meet, is_found, is_registered};
 use refusal::{Refusal, Verdict, refuse_if};
 
 // 1 for an end that is not `valid`, then a unit's own 1, 3 and 4.
+#[tactic(auto, unfolding(crate::specs::HeadCalls::unit_verdict, protocol::specs::OltCalls::valid_registration, octets::specs::Choice::both, octets::specs::Choice::either))]
 pub(crate) fn unit_verdict(
     head: HeadEnd,
     valid: bool,
@@ -57,6 +58,7 @@ pub(crate) fn unit_verdict(
 }
 
 // The place of the unit that has the LLID, or one past the table.
+#[tactic(auto, unfolding(ends::specs::Table::find, crate::specs::HeadCalls::place_found))]
 fn place_of(olt: Olt, llid: u16) -> u8
     ensures { result ≡ place_found (find olt llid) }
 {
@@ -86,6 +88,7 @@ pub(crate) fn roster_members(olt: Olt, roster: Roster) -> Members
 }
 
 // 1 for an end that is not `valid`, then a group's own 1, 21, 3 and 4. `found` is the group that has the LLID already.
+#[tactic(auto, unfolding(crate::specs::HeadCalls::group_verdict, crate::specs::HeadCalls::valid_group_registration, group_protocol::specs::Head::find_group, octets::specs::Choice::both, octets::specs::Choice::either))]
 pub(crate) fn group_verdict(
     head: HeadEnd,
     valid: bool,
@@ -128,6 +131,7 @@ pub(crate) fn group_verdict(
 }
 
 // One group more, in the first place that is not in use.
+#[tactic(auto, unfolding(group_protocol::specs::Head::with_one_group_more))]
 pub(crate) fn with_one_group_more(head: HeadEnd, group: GroupRecord) -> HeadEnd
     requires { head.groups.count < max_units }
     ensures { result ≡ with_one_group_more head group }

@@ -10,24 +10,16 @@ use Rattle.protocol.specs.UnitCalls.{retry_unit}
 use Rattle.group_protocol.specs.declared.HeadEnd.{HeadEnd}
 use Rattle.headend.specs.HeadCalls.{head_key_sent}
 use Rattle.headend.proofs.HeadUnits.{key_guarded, lift_guarded, unit_stays}
-use Rattle.headend.proofs.at_head.retry_unit.Statement.{statement}
-use Rattle.headend.proofs.at_head.retry_unit.Tie as tie
+use Rattle.headend.proofs.at_head.retry_unit.Goals as goal
 
-returns : tie.Need-returns
+pub returns : goal.returns
 unfolding retry_of outcome past_unit
 returns c =
-    let done = c.before in
-    let at = done.before.before.before.before in
-    let a = at.before.args in
-    let d = done.retry.result in
+    let a = c.args in
+    let d = c.retry-done.result in
     let x = outcome a.head.olt.shared d.verdict d.unit d.message in
     ap (λ (h : HeadEnd). head_key_sent (record { verdict = d.verdict; end = h; handed = d.message }))
-    (sym (unit_stays a.head a.llid at.locate-sound.result x done.retry.ensures))
-    ∙ ap head_key_sent (lift_guarded a.head no_key_message a.llid (retry_unit a.llid) Accepted at.locate-sound.result x
-    (rw at.before.requires at at.locate-sound.ensures.0) done.retry.ensures)
+    (sym (unit_stays a.head a.llid c.locate_sound-at.result x c.retry-done.ensures))
+    ∙ ap head_key_sent (lift_guarded a.head no_key_message a.llid (retry_unit a.llid) Accepted c.locate_sound-at.result x
+    (rw c.requires at c.locate_sound-at.ensures.value) c.retry-done.ensures)
     ∙ key_guarded a.head _
-
-pub retry_unit_spec : {M : Type 1} → statement M
-retry_unit_spec =
-    tie.close
-    (tie.spec (λ c κs. search rules) (λ c. search rules) (λ c. search rules) (λ c κs. search rules) returns)

@@ -18,17 +18,7 @@ use Rattle.group_protocol.specs.declared.Groups.{Groups}
 use Rattle.group_protocol.specs.declared.HeadEnd.{HeadEnd}
 use Rattle.headend.specs.HeadCalls.{groups_advanced, head_advance_of}
 use Rattle.headend.proofs.Advancing.{groups_moved_to, groups_go, group_moves_on, group_timer_valid}
-use Rattle.headend.proofs.at_head.groups_moved.Statement.{statement}
-use Rattle.headend.proofs.at_head.groups_moved.Tie as tie
-
-abbrev invariant-loop : tie.invariant-loop
-invariant-loop groups n r₀ i₀ r i =
-    (i ≤ groups.count) × (i ≤ max_units) × (r.count ≡ groups.count) × (length r.table ≡ max_units)
-    × (all (λ g. valid_timer g.keys.timer) (take groups.count groups.table) ≡ true → n ≤ max_tick
-    → r.table ≡ groups_moved_to n i groups.table)
-
-abbrev decreases-loop : tie.decreases-loop
-decreases-loop groups n r₀ i₀ r i = max_units - i
+use Rattle.headend.proofs.at_head.groups_moved.Goals as goal
 
 -- where all groups are moved, they are those of an end whose advance is accepted
 all_moved : (groups r : Groups) (n i : ℕ) → (groups.count ≤ max_units → i ≡ groups.count) → r.count ≡ groups.count
@@ -45,20 +35,19 @@ all_moved groups r n i e k t h g z =
     Groups·of : ℕ → List GroupRecord → Groups
     Groups·of c l = record { count = c; table = l }
 
-returns : tie.Need-returns invariant-loop decreases-loop
-returns c =
-    let here = c.before.before.before.loop in
-    let a = c.before.before.before.before.args in
+pub returns-then-groups-i : goal.returns-then-groups-i
+returns-then-groups-i c =
+    let here = c.loop-i in
+    let a = c.args in
     all_moved a.groups here.r a.n here.i (λ _. omega (arith, here.invariant.0)) here.invariant.2 here.invariant.4
 
-loop-again : tie.Need-loop-preserved invariant-loop decreases-loop
+pub loop-i-preserved : goal.loop-i-preserved
 unfolding past_group with_group_keys with_timer
-loop-again c =
-    let turn = c.before.before.before in
-    let here = turn.before.before.before.loop in
-    let a = turn.before.before.before.before.args in
+loop-i-preserved c =
+    let here = c.loop-i in
+    let a = c.args in
     let len : length a.groups.table ≡ max_units = search (rules, length_mapped) in
-    let below : here.i < a.groups.count = turn.if1.false in
+    let below : here.i < a.groups.count = c.if-groups-i.false in
     let k : here.i < length a.groups.table = omega arith in (
       omega arith,
       omega arith,
@@ -66,21 +55,13 @@ loop-again c =
       simp length-set here.invariant.3,
       λ timers ticks.
           let e = here.invariant.4 timers ticks in
-          group_moves_on a.groups.table here.r.table a.n here.i c.timer-advanced.result e k
-          (c.timer-advanced.ensures
+          group_moves_on a.groups.table here.r.table a.n here.i c.timer_advanced-timer.result e k
+          (c.timer_advanced-timer.ensures
           (group_timer_valid a.groups.table here.r.table a.n here.i a.groups.count e below k timers) ticks),
     )
 
-returns-2 : tie.Need-returns-2 invariant-loop decreases-loop
-returns-2 c =
-    let here = c.before.loop in
-    let a = c.before.before.args in
+pub returns : goal.returns
+returns c =
+    let here = c.loop-i in
+    let a = c.args in
     all_moved a.groups here.r a.n here.i (λ few. omega (arith, here.invariant.0, here.invariant.1)) here.invariant.2 here.invariant.4
-
-pub groups_moved_spec : {M : Type 1} → statement M
-groups_moved_spec =
-    tie.close
-    (tie.spec invariant-loop decreases-loop (λ c. (omega arith, omega arith, refl, search (rules, length_mapped), λ timers ticks. refl)) (λ c. omega arith)
-    (λ c. search rules) returns
-    (λ c. omega arith) (λ c. omega arith) (λ c κs. search rules) (λ c. omega arith) (λ c. omega arith) (λ c. omega arith) (λ c. omega arith) loop-again
-    returns-2)

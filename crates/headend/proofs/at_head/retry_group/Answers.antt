@@ -11,24 +11,18 @@ use Rattle.group_protocol.specs.declared.HeadEnd.{HeadEnd}
 use Rattle.groups.specs.Reached.{reached_group}
 use Rattle.headend.specs.HeadCalls.{head_key_sent}
 use Rattle.headend.proofs.HeadLift.{group_stays, lift_group}
-use Rattle.headend.proofs.at_head.retry_group.Statement.{statement}
-use Rattle.headend.proofs.at_head.retry_group.Tie as tie
+use Rattle.headend.proofs.at_head.retry_group.Goals as goal
 
-returns : tie.Need-returns
+pub returns : goal.returns
 unfolding group_outcome past_group valid_head both
 returns c =
-    let done = c.before in
-    let way = done.before.before.before in
-    let a = way.before.args in
+    let a = c.args in
     let s = a.head.olt.shared in
     let g = group_at a.head a.i in
-    let d = done.retry.result in
+    let d = c.retry-done.result in
     let x = group_outcome s d.verdict d.group d.message in
-    let judged = rw way.before.requires.1 at way.way-to.ensures in
-    let decided = done.retry.ensures ∙ ap (λ (v : Verdict). reached_group v no_key_message s g (retry_group a.llid s g)) judged in
+    let judged = rw c.requires.sound_value at c.way_to-way.ensures in
+    let decided = c.retry-done.ensures ∙ ap (λ (v : Verdict). reached_group v no_key_message s g (retry_group a.llid s g)) judged in
     ap (λ (h : HeadEnd). head_key_sent (record { verdict = d.verdict; end = h; handed = d.message }))
     (sym (group_stays a.head a.llid a.i _ x decided))
     ∙ ap head_key_sent (lift_group a.head no_key_message Accepted (λ o g. retry_group a.llid o.shared g) a.i x decided)
-
-pub retry_group_spec : {M : Type 1} → statement M
-retry_group_spec = tie.close (tie.spec (λ c κs. search rules) (λ c. search rules) (λ c. search rules) (λ c κs. search rules) returns)

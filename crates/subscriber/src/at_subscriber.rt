@@ -20,6 +20,7 @@ use groups::joined_search::{find_joined, has_joined};
 use protocol::{KeyMessage, OnuAcknowledged};
 use refusal::{Refusal, Verdict, refuse_if, verdict_number};
 
+#[tactic(auto, unfolding(group_protocol::specs::Subscriber::fresh_joined))]
 fn fresh_joined(llid: u16) -> Joined
     ensures { result ≡ fresh_joined llid }
 {
@@ -40,6 +41,7 @@ fn fresh_joined(llid: u16) -> Joined
 }
 
 // A unit that joined no group.
+#[tactic(auto, unfolding(group_protocol::specs::Subscriber::alone, group_protocol::specs::Subscriber::no_memberships))]
 fn alone(onu: Onu) -> Subscriber
     ensures { result ≡ alone onu }
 {
@@ -50,6 +52,7 @@ fn alone(onu: Onu) -> Subscriber
 }
 
 // A fresh unit, without groups.
+#[tactic(auto, unfolding(crate::specs::SubscriberCalls::fresh_subscriber_of))]
 pub fn fresh(identity: Identity, oltmac: u64, time: u64) -> SubscriberAnswer
     ensures { result ≡ fresh_subscriber_of identity oltmac time }
 {
@@ -62,6 +65,7 @@ pub fn fresh(identity: Identity, oltmac: u64, time: u64) -> SubscriberAnswer
 }
 
 // Whether the joined groups are valid. Without one nothing is copied for that.
+#[tactic(auto, unfolding(group_protocol::specs::Subscriber::valid_memberships, group_protocol::specs::Subscriber::valid_groups_of, octets::specs::Choice::both, octets::specs::Lists::all, group_protocol::specs::Subscriber::joined_llids, ends::specs::Identities::distinct, ends::specs::Identities::meets))]
 pub(crate) fn sound_memberships(subscriber: Subscriber) -> bool
     ensures { result ≡ valid_memberships subscriber }
 {
@@ -73,6 +77,7 @@ pub(crate) fn sound_memberships(subscriber: Subscriber) -> bool
 }
 
 // 1 for a lent end that is not valid, then 3 and 4.
+#[tactic(auto, unfolding(crate::specs::SubscriberCalls::join_verdict, octets::specs::Choice::either))]
 fn join_verdict(subscriber: Subscriber, llid: u16) -> Verdict
     ensures { result ≡ on_valid (valid_subscriber subscriber) (join_verdict subscriber llid) }
 {
@@ -93,6 +98,7 @@ fn join_verdict(subscriber: Subscriber, llid: u16) -> Verdict
 }
 
 // One group more, in the first place that is not in use.
+#[tactic(auto, unfolding(group_protocol::specs::Subscriber::with_one_joined_more))]
 fn with_one_more(subscriber: Subscriber, joined: Joined) -> Subscriber
     requires { subscriber.memberships.count < max_joined }
     ensures { result ≡ with_one_joined_more subscriber joined }
@@ -109,6 +115,7 @@ fn with_one_more(subscriber: Subscriber, joined: Joined) -> Subscriber
 }
 
 // What is promised to a member counts from here.
+#[tactic(auto, unfolding(crate::specs::SubscriberCalls::join_of, crate::specs::SubscriberCalls::subscriber_answer, protocol::specs::Replies::reply))]
 pub fn join(subscriber: Subscriber, llid: u16) -> SubscriberAnswer
     ensures { result ≡ join_of subscriber llid }
 {
@@ -183,6 +190,7 @@ pub fn new_time(subscriber: Subscriber, time: u64) -> SubscriberAnswer
 }
 
 // Where the groups that the unit joined are not valid, nothing is acknowledged.
+#[tactic(auto, unfolding(crate::specs::SubscriberCalls::not_acknowledged))]
 fn not_acknowledged(subscriber: Subscriber) -> SubscriberAcknowledged
     ensures { result ≡ not_acknowledged subscriber }
 {
@@ -195,6 +203,7 @@ fn not_acknowledged(subscriber: Subscriber) -> SubscriberAcknowledged
 }
 
 // What the unit answers for itself names no unit.
+#[tactic(auto, unfolding(crate::specs::SubscriberCalls::own_acknowledged, crate::specs::SubscriberCalls::own_answer, group_protocol::specs::Subscriber::with_onu))]
 fn acknowledged(subscriber: Subscriber, answered: OnuAcknowledged) -> SubscriberAcknowledged
     ensures { result ≡ own_acknowledged subscriber answered }
 {
@@ -226,6 +235,7 @@ pub fn clock_message(subscriber: Subscriber, message: Stamps) -> SubscriberAckno
 }
 
 // A key message of the unit's own.
+#[tactic(auto, unfolding(crate::specs::SubscriberCalls::onu_acknowledged_in, octets::specs::Choice::pick))]
 fn own_message(subscriber: Subscriber, message: KeyMessage) -> SubscriberAcknowledged
     ensures { result ≡ onu_acknowledged_in subscriber (key_message_at subscriber.onu message) }
 {
@@ -236,6 +246,7 @@ fn own_message(subscriber: Subscriber, message: KeyMessage) -> SubscriberAcknowl
     acknowledged(subscriber, answered)
 }
 
+#[tactic(auto, unfolding(group_protocol::specs::Subscriber::with_joined))]
 pub(crate) fn with_joined(subscriber: Subscriber, i: usize, joined: Joined) -> Subscriber
     requires { i < max_joined }
     ensures { result ≡ with_joined subscriber i joined }
@@ -251,6 +262,7 @@ pub(crate) fn with_joined(subscriber: Subscriber, i: usize, joined: Joined) -> S
 }
 
 // A key message of a group that the unit joined. Refused by the group, the group is the one that was there.
+#[tactic(auto, unfolding(crate::specs::SubscriberCalls::subscriber_acknowledged, crate::specs::SubscriberCalls::not_acknowledged, groups::specs::Reached::joined_answer, group_protocol::specs::Subscriber::past_joined))]
 fn group_message(subscriber: Subscriber, i: usize, message: KeyMessage) -> SubscriberAcknowledged
     requires { find_joined subscriber message.llid ≡ At i }
     ensures { result ≡ subscriber_acknowledged (joined_lift subscriber no_answer (message_joined message) i) }
@@ -271,6 +283,7 @@ fn group_message(subscriber: Subscriber, i: usize, message: KeyMessage) -> Subsc
     }
 }
 
+#[tactic(auto, unfolding(group_protocol::specs::Subscriber::find_joined))]
 pub fn key_message(subscriber: Subscriber, message: KeyMessage) -> SubscriberAcknowledged
     ensures value { result ≡ subscriber_key_message_of subscriber message }
     ensures apart { Apart subscriber result.subscriber (find_joined subscriber message.llid) }

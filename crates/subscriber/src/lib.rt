@@ -2,6 +2,8 @@
 // on the unit as 01 has it. Each takes the end by value and gives back the code, the end and what is handed over; refused, the end and the
 // output are those that were lent.
 
+#![tactic(auto)]
+
 pub mod at_subscriber;
 pub mod subscriber_traffic;
 
@@ -9,20 +11,20 @@ use group_protocol::{Answer, Subscriber};
 use protocol::Header;
 
 #[repr(C)]
-#[derive(Drop)]
+#[derive(Clone, Copy)]
 pub struct SubscriberAnswer {
     pub number: u8,
     pub subscriber: Subscriber,
 }
 
-#[derive(Drop)]
+#[derive(Clone, Copy)]
 pub struct SubscriberMoved {
     pub subscriber: Subscriber,
     pub number: u8,
 }
 
 #[repr(C)]
-#[derive(Drop)]
+#[derive(Clone, Copy)]
 pub struct SubscriberAcknowledged {
     pub number: u8,
     pub subscriber: Subscriber,
@@ -30,7 +32,7 @@ pub struct SubscriberAcknowledged {
 }
 
 #[repr(C)]
-#[derive(Drop)]
+#[derive(Clone, Copy)]
 pub struct SubscriberSent {
     pub number: u8,
     pub subscriber: Subscriber,
@@ -40,7 +42,7 @@ pub struct SubscriberSent {
 }
 
 #[repr(C)]
-#[derive(Drop)]
+#[derive(Clone, Copy)]
 pub struct SubscriberReceived {
     pub number: u8,
     pub subscriber: Subscriber,

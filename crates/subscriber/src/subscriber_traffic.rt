@@ -39,6 +39,7 @@ fn not_sent(subscriber: Subscriber, number: u8) -> SubscriberSent
 }
 
 // A send of the unit's own.
+#[tactic(auto, unfolding(crate::specs::SubscriberTraffic::own_send_of, octets::specs::Choice::pick, crate::specs::SubscriberTraffic::unit_send_of, crate::specs::SubscriberTraffic::own_sent, group_protocol::specs::Subscriber::with_onu))]
 fn own_send(
     subscriber: Subscriber,
     llid: u16,
@@ -65,6 +66,7 @@ fn own_send(
 }
 
 // On a group's LLID a unit sends nothing: 20, after what is refused ahead of it.
+#[tactic(auto, unfolding(crate::specs::SubscriberTraffic::group_send_verdict))]
 fn group_send_verdict(subscriber: Subscriber, channel: u8, misfit: bool) -> Verdict
     ensures { result ≡ group_send_verdict subscriber channel misfit }
 {
@@ -120,6 +122,7 @@ fn not_received(subscriber: Subscriber) -> SubscriberReceived
 }
 
 // An envelope of the unit's own.
+#[tactic(auto, unfolding(crate::specs::SubscriberTraffic::own_receive_of, octets::specs::Choice::pick, crate::specs::SubscriberTraffic::unit_receive_of, crate::specs::SubscriberTraffic::own_received, group_protocol::specs::Subscriber::with_onu))]
 fn own_receive(
     subscriber: Subscriber,
     header: Header,
@@ -143,6 +146,7 @@ fn own_receive(
 }
 
 // An envelope of a group that the unit joined. Refused by the group, the group is the one that was there.
+#[tactic(auto, unfolding(crate::specs::SubscriberTraffic::group_receive_of, crate::specs::SubscriberTraffic::subscriber_received, traffic::specs::Passages::output_after, traffic::specs::Passages::passed_count, traffic::specs::Passages::passed_runs, protocol::specs::Headers::choice_enciphered, sealing::specs::Seal::count_carried, sealing::specs::Seal::runs_carried, octets::specs::Choice::pick, groups::specs::Reached::joined_received, traffic::specs::Passages::misfit, group_protocol::specs::Subscriber::past_joined))]
 fn group_receive(
     subscriber: Subscriber,
     i: usize,
@@ -172,6 +176,7 @@ fn group_receive(
     }
 }
 
+#[tactic(auto, unfolding(group_protocol::specs::Subscriber::find_joined))]
 pub fn receive(
     subscriber: Subscriber,
     header: Header,

@@ -1,4 +1,6 @@
 // The theorem on the whole list (demand 3 of 01).
+#![tactic(auto)]
+
 ghost use Rattle.std.specs.Prelude.{◌≡◌};
 ghost use Rattle.unicast.specs.Run.{lane_at};
 ghost use Rattle.unicast.specs.Course.{played};

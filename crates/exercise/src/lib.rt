@@ -1,5 +1,7 @@
 // Exercises (02, C-23): a script of messages and clock advances, played on fresh ends of one unit, and the first message whose loss
 // alone changes the final A, C or a.
+#![tactic(auto)]
+
 mod script;
 mod steps;
 
@@ -15,14 +17,14 @@ use protocol::Acknowledgement;
 use refusal::{Refusal, Verdict};
 
 // A step of a script. Kinds: 0 clock message, 1 offer, 2 retry, 3 clock or 4 key acknowledgement, 5 envelope down, 6 up, 7 advance.
-#[derive(Drop)]
+#[derive(Clone, Copy)]
 pub struct Step {
     pub kind: u8,
     pub ticks: u64,
 }
 
 // The ends, and the unit's answers to the latest clock message and to the latest key message, of kind 0 where there is none.
-#[derive(Drop)]
+#[derive(Clone, Copy)]
 pub struct Play {
     pub olt: Olt,
     pub onu: Onu,
@@ -31,14 +33,14 @@ pub struct Play {
 }
 
 // A, C and a.
-#[derive(Drop)]
+#[derive(Clone, Copy)]
 pub struct Figures {
     pub active: u32,
     pub confirmed: u32,
     pub unit: u32,
 }
 
-#[derive(Drop)]
+#[derive(Clone, Copy)]
 pub enum Answer {
     // this step, counted from 1, is the first whose loss matters
     First(usize),
@@ -47,6 +49,7 @@ pub enum Answer {
     Refused(Refusal),
 }
 
+#[tactic(auto, unfolding(crate::specs::Losses::same_figures, octets::specs::Choice::both))]
 fn same_figures(x: Figures, y: Figures) -> bool
     ensures { result ≡ same_figures x y }
 {
@@ -54,6 +57,7 @@ fn same_figures(x: Figures, y: Figures) -> bool
 }
 
 // Plays the script without the step `lost`, counted from 1; 0 loses none.
+#[tactic(auto, unfolding(crate::specs::Play::played))]
 fn play_without(s: &[u8], lost: usize) -> Figures
     requires { script_verdict s.now ≡ Accepted }
     ensures { result ≡ figures_of (played s.now lost) }
@@ -71,6 +75,7 @@ fn play_without(s: &[u8], lost: usize) -> Figures
 }
 
 // The first of the steps whose loss matters.
+#[tactic(auto, unfolding(crate::specs::Losses::matters))]
 fn first(s: &[u8]) -> Answer
     requires { script_verdict s.now ≡ Accepted }
     ensures { result ≡ first_from s.now 0 (steps_in s.now) }

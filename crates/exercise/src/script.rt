@@ -22,6 +22,7 @@ fn number64(s: &[u8], at: usize) -> u64
     number32(s, at) as u64 * 4294967296 + number32(s, at + 4) as u64
 }
 
+#[tactic(auto, unfolding(crate::specs::Script::interval_of))]
 pub(crate) fn interval(s: &[u8]) -> u64
     requires { interval_octets ≤ length s.now }
     ensures { result ≡ interval_of s.now }
@@ -29,6 +30,7 @@ pub(crate) fn interval(s: &[u8]) -> u64
     number64(s, 0)
 }
 
+#[tactic(auto, unfolding(crate::specs::Script::steps_in))]
 pub(crate) fn steps_in(s: &[u8]) -> usize
     requires { interval_octets ≤ length s.now }
     ensures { result ≡ steps_in s.now }
@@ -36,6 +38,7 @@ pub(crate) fn steps_in(s: &[u8]) -> usize
     (s.len() - INTERVAL_OCTETS) / STEP_OCTETS
 }
 
+#[tactic(auto, unfolding(crate::specs::Script::step_at))]
 pub(crate) fn step_at(s: &[u8], i: usize) -> Step
     requires { (i < most_steps) × (interval_octets + step_octets * (i + 1) ≤ length s.now) }
     ensures { result ≡ step_at s.now i }
@@ -46,6 +49,7 @@ pub(crate) fn step_at(s: &[u8], i: usize) -> Step
     Step { kind, ticks }
 }
 
+#[tactic(auto, unfolding(crate::specs::Script::step_fits, octets::specs::Choice::both, octets::specs::Choice::either))]
 fn step_fits(x: Step) -> bool
     ensures { result ≡ step_fits x }
 {
@@ -66,6 +70,7 @@ fn steps_fit(s: &[u8], steps: usize) -> bool
     true
 }
 
+#[tactic(auto, unfolding(crate::specs::Script::interval_fits, octets::specs::Choice::both))]
 fn interval_fits(s: &[u8]) -> bool
     ensures { result ≡ interval_fits s.now }
 {
@@ -75,6 +80,7 @@ fn interval_fits(s: &[u8]) -> bool
     ends::check_olt::valid_interval(interval(s))
 }
 
+#[tactic(auto, unfolding(crate::specs::Script::script_fits, octets::specs::Choice::both))]
 fn script_fits(s: &[u8]) -> bool
     requires { interval_octets ≤ length s.now }
     ensures { result ≡ script_fits s.now }
@@ -89,6 +95,7 @@ fn script_fits(s: &[u8]) -> bool
     steps_fit(s, steps)
 }
 
+#[tactic(auto, unfolding(crate::specs::Script::script_verdict, refusal::specs::Order::refuse_if, crate::specs::Script::interval_fits))]
 pub(crate) fn verdict(s: &[u8]) -> Verdict
     ensures { result ≡ script_verdict s.now }
 {

@@ -37,6 +37,7 @@ fn no_answer() -> Acknowledgement
 }
 
 // Fresh ends, and the unit registered.
+#[tactic(auto, unfolding(crate::specs::Play::started))]
 pub(crate) fn start(interval: u64) -> Play
     ensures { result ≡ started interval }
 {
@@ -56,6 +57,7 @@ pub(crate) fn start(interval: u64) -> Play
 }
 
 // The key that step k offers.
+#[tactic(auto, unfolding(crate::specs::Play::key_of_step))]
 fn key_of_step(k: usize) -> [u8; 16]
     requires { k ≤ most_steps }
     ensures { result ≡ key_of_step k }
@@ -64,12 +66,14 @@ fn key_of_step(k: usize) -> [u8; 16]
 }
 
 // Whether what an accepted call hands over arrives.
+#[tactic(auto, unfolding(octets::specs::Choice::both))]
 fn arrives(number: u8, lost: bool) -> bool
     ensures { result ≡ arrives number lost }
 {
     !lost & (number == 0)
 }
 
+#[tactic(auto, unfolding(crate::specs::Play::clock_stepped, crate::specs::Play::clock_sent, crate::specs::Play::clock_answered, crate::specs::Play::with_clock_answer, crate::specs::Play::with_onu, crate::specs::Play::with_olt, octets::specs::Choice::pick))]
 fn clock_step(p: Play, lost: bool) -> Play
     ensures { result ≡ clock_stepped p lost }
 {
@@ -92,6 +96,7 @@ fn clock_step(p: Play, lost: bool) -> Play
 }
 
 // The message of an offer or of a retry.
+#[tactic(auto, unfolding(crate::specs::Play::key_sent, crate::specs::Play::key_answered, crate::specs::Play::with_key_answer, crate::specs::Play::with_onu, crate::specs::Play::with_olt, octets::specs::Choice::pick))]
 fn key_step(p: Play, sent: KeySent, lost: bool) -> Play
     ensures { result ≡ key_sent p sent lost }
 {
@@ -112,6 +117,7 @@ fn key_step(p: Play, sent: KeySent, lost: bool) -> Play
 }
 
 // An answer to the latest message of its kind.
+#[tactic(auto, unfolding(crate::specs::Play::answered, octets::specs::Choice::pick, octets::specs::Choice::either, crate::specs::Play::with_olt))]
 fn answer_step(p: Play, answer: Acknowledgement, lost: bool) -> Play
     ensures { result ≡ answered p answer lost }
 {
@@ -125,6 +131,7 @@ fn answer_step(p: Play, answer: Acknowledgement, lost: bool) -> Play
     r
 }
 
+#[tactic(auto, unfolding(crate::specs::Play::sent_down, crate::specs::Play::with_onu, crate::specs::Play::with_olt, octets::specs::Choice::pick))]
 fn down_step(p: Play, lost: bool) -> Play
     ensures { result ≡ sent_down p (olt_send_of p.olt unit_llid channel_down [] []).answer lost }
 {
@@ -143,6 +150,7 @@ fn down_step(p: Play, lost: bool) -> Play
     r
 }
 
+#[tactic(auto, unfolding(crate::specs::Play::sent_up, crate::specs::Play::with_onu, crate::specs::Play::with_olt, octets::specs::Choice::pick))]
 fn up_step(p: Play, lost: bool) -> Play
     ensures { result ≡ sent_up p (onu_send_of p.onu unit_llid channel_up [] []).answer lost }
 {
@@ -161,6 +169,7 @@ fn up_step(p: Play, lost: bool) -> Play
     r
 }
 
+#[tactic(auto, unfolding(crate::specs::Play::advanced, crate::specs::Play::with_onu, crate::specs::Play::with_olt))]
 fn advance_step(p: Play, ticks: u64) -> Play
     ensures { result ≡ advanced p ticks }
 {
@@ -175,6 +184,7 @@ fn advance_step(p: Play, ticks: u64) -> Play
 }
 
 // Step k, counted from 1, by its kind.
+#[tactic(auto, unfolding(crate::specs::Play::stepped, octets::specs::Choice::pick))]
 pub(crate) fn step(x: Step, k: usize, lost: bool, p: Play) -> Play
     requires { k ≤ most_steps }
     ensures { result ≡ stepped x k lost p }
@@ -193,6 +203,7 @@ pub(crate) fn step(x: Step, k: usize, lost: bool, p: Play) -> Play
     }
 }
 
+#[tactic(auto, unfolding(crate::specs::Play::figures_of, ends::specs::Table::past_unit))]
 pub(crate) fn figures(p: Play) -> Figures
     ensures { result ≡ figures_of p }
 {

@@ -171,7 +171,7 @@ module _ (w : Setting) (s : State) (i : Invariant w s) where
 
   blocks_apart : BlocksApart w s
   blocks_apart (unit u) (unit v) m n a b hm hn pm pn key ha hb e =
-      let q = (units.claim-holds w (alone s) i.units).blocks u v m n a b hm hn pm pn key ha hb e in
+      let q = (units.claim_holds w (alone s) i.units).blocks u v m n a b hm hn pm pn key ha hb e in
       (ap unit q.0, q.1)
   blocks_apart (unit u) (group g) m n a b hm hn pm pn key ha hb e = mixed_blocks u g m n hm hn pm pn key
   blocks_apart (group g) (unit v) m n a b hm hn pm pn key ha hb e = mixed_blocks v g n m hn hm pn pm (sym key)
@@ -191,7 +191,7 @@ module _ (w : Setting) (s : State) (i : Invariant w s) where
   pub claim_holds : Claim w s
   claim_holds =
       record {
-        units = units.claim-holds w (alone s) i.units;
+        units = units.claim_holds w (alone s) i.units;
         blocks = blocks_apart;
         overheard = λ u v k out h. unit_overheard w s i u v k out h;
         overheard_of_group = λ u g k out h. group_overheard w s i u g k out h;

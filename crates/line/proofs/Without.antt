@@ -141,7 +141,7 @@ module _ (w : Setting) (s : State) (i : Invariant w s) (p : Plain s) where
   unfolding plain alone
   plain_fits (units.advance n) f = tt
   plain_fits (units.register u x trip interval) f =
-      λ z. f (sym (ap (λ (r : HeadAnswer). r.number) (((headend.without-groups).as_olt s.head no_count).register x trip interval)) ∙ z)
+      λ z. f (sym (ap (λ (r : HeadAnswer). r.number) (((headend.without_groups).as_olt s.head no_count).register x trip interval)) ∙ z)
   plain_fits (units.capture llid) f = tt
   plain_fits (units.clock_send llid) f = tt
   plain_fits (units.offer llid key) f =
@@ -271,7 +271,7 @@ module _ (w : Setting) (s : State) (i : Invariant w s) (p : Plain s) where
   register_alone : (u : ℕ) (x : Identity) (trip interval : ℕ)
       → alone (step s (register u x trip interval)) ≡ run.step (alone s) (units.register u x trip interval)
   unfolding step line.registering at_head alone with_olt run.step run.entering
-  register_alone u x trip interval = rw (((headend.without-groups).as_olt s.head no_count).register x trip interval)
+  register_alone u x trip interval = rw (((headend.without_groups).as_olt s.head no_count).register x trip interval)
 
   in_flight_alone : (u k : ℕ) (out : List ℕ) (x : InFlight) → alone (in_flight_arriving s u k out x) ≡ run.in_flight_arriving (alone s) u k out x
   in_flight_alone u k out (clock_message m c t) = clock_alone s u (valid u) k out m c t
@@ -311,7 +311,7 @@ module _ (w : Setting) (s : State) (i : Invariant w s) (p : Plain s) where
       unit_same u _ _ (envelope_refused (subscriber_at s u) (valid u) h q out (plain_fits (units.stray_down u h q out) f))
       (receive_refused (run.onu_at (alone s) u) h q out f)
   plain_alone (units.stray_up h q out) f =
-      head_same _ _ (answers.receive-refused s.head h q out i.valid (plain_fits (units.stray_up h q out) f)) (olt_receives h q out f)
+      head_same _ _ (answers.receive_refused s.head h q out i.valid (plain_fits (units.stray_up h q out) f)) (olt_receives h q out f)
 
 ---- the list
 

@@ -1,4 +1,6 @@
 // The theorem on the whole list, groups included (demand 3 of 01; 02, C-14, C-16).
+#![tactic(auto)]
+
 ghost use Rattle.std.specs.Prelude.{◌≡◌};
 ghost use Rattle.line.specs.Run.{group_lane_at};
 ghost use Rattle.line.specs.Course.{played};

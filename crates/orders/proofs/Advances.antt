@@ -62,7 +62,7 @@ head_sum m n h = ap₂ (λ (o : Olt) (g : Groups). record { olt = o; groups = g 
 
 head_accepts : (h : HeadEnd) (n : ℕ) → valid_head h ≡ true → h.olt.shared.tick + n ≤ max_tick
     → head_advance_of h n ≡ record { number = 0; head = head_advanced h n }
-head_accepts h n v k = growth.advance-moves h n v (advance_accepts h.olt.shared.tick n k)
+head_accepts h n v k = growth.advance_moves h n v (advance_accepts h.olt.shared.tick n k)
 
 head_advances-holds : (h : HeadEnd) (m n : ℕ) → (head_advance_of h (m + n)).number ≡ 0 → head_advance_of (head_advance_of h m).head n ≡ head_advance_of h (m + n)
 unfolding head_advance_of head_answer head_advanced olt_advanced shared_advanced
@@ -71,7 +71,7 @@ head_advances-holds h m n e =
     let v = not-false _ a.0 in
     let k : h.olt.shared.tick + (m + n) ≤ max_tick = advance_accepted h.olt.shared.tick (m + n) a.1 in
     let first : (head_advance_of h m).head ≡ head_advanced h m = ap (λ (r : HeadAnswer). r.head) (head_accepts h m v (omega arith)) in
-    let w : valid_head (head_advanced h m) ≡ true = subst (λ (x : HeadEnd). valid_head x ≡ true) first (growth.valid-after-advance h m v) in
+    let w : valid_head (head_advanced h m) ≡ true = subst (λ (x : HeadEnd). valid_head x ≡ true) first (growth.valid_after_advance h m v) in
     ap (λ (x : HeadEnd). head_advance_of x n) first
     ∙ head_accepts (head_advanced h m) n w (omega arith)
     ∙ ap (λ (x : HeadEnd). record { number = 0; head = x }) (head_sum m n h)
@@ -109,7 +109,7 @@ subscriber_advances s m n e =
     let next = with_onu s (advance_onu_of s.onu m).onu in
     let first : (subscriber_advance_of s m).subscriber ≡ next = ap (λ (r : SubscriberAnswer). r.subscriber) (unit_answers-holds s m a.0) in
     let w : valid_memberships next ≡ true =
-    subst (λ (x : Subscriber). valid_memberships x ≡ true) first (valid_joins _ (steps.valid-after-advance s m v)) in
+    subst (λ (x : Subscriber). valid_memberships x ≡ true) first (valid_joins _ (steps.valid_after_advance s m v)) in
     ap (λ (x : Subscriber). subscriber_advance_of x n) first
     ∙ unit_answers-holds next n w
     ∙ ap (own_answered s) (advance_onu_sum s.onu m n a.1)

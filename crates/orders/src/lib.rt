@@ -1,4 +1,6 @@
 // Two units, either order (02, C-22): laws on the calls of `headend` and `subscriber`.
+#![tactic(auto)]
+
 ghost use Rattle.std.specs.Prelude.{◌≡◌};
 ghost use Rattle.orders.specs.Calls.{after};
 ghost use Rattle.orders.specs.Demand.{Demand};

@@ -62,14 +62,14 @@ pub extern "C" fn jazmotip_olt_register_group(
 }
 
 // What an advance leaves, the groups apart: `grouped` says whether they moved.
-#[derive(Drop)]
+#[derive(Clone, Copy)]
 pub struct AfterAdvance {
     pub olt: Olt,
     pub number: u8,
     pub grouped: bool,
 }
 
-// The advance by value, with what the walk of the one in place needs of its contract (D116).
+// The advance by value, with what the one in place needs of its contract (D116).
 fn advanced(olt: HeadEnd, n: u64) -> AfterAdvance
     ensures { ((result.number ≡ (head_advance_of olt n).number) × (result.olt ≡ (head_advance_of olt n).head.olt))
         × ((result.grouped ≡ true → (head_advance_of olt n).number ≡ 0) × (result.grouped ≡ false → olt.groups ≡ (head_advance_of olt n).head.groups)) }

@@ -27,7 +27,7 @@ pub extern "C" fn jazmotip_onu_join(onu: Subscriber, llid: u16) -> SubscriberAns
     at_subscriber::join(onu, llid)
 }
 
-// The advance by value, with what the walk of the one in place needs of its contract.
+// The advance by value, with what the one in place needs of its contract.
 fn advanced(onu: Subscriber, n: u64) -> SubscriberMoved
     ensures { result ≡ subscriber_moved_of onu n }
 {

@@ -22,7 +22,7 @@ use records::header::RecordVerdict;
 
 // In each answer, `pair` is the first pair that does not fit, from 1, for 18 and 19, else 0.
 #[repr(C)]
-#[derive(Drop)]
+#[derive(Clone, Copy)]
 pub struct BlockDirectory {
     pub number: u8,
     pub pair: u16,
@@ -32,7 +32,7 @@ pub struct BlockDirectory {
 
 // Where a record is to be opened, EncEnabled is 1 and its key index and clock follow; else all three are 0.
 #[repr(C)]
-#[derive(Drop)]
+#[derive(Clone, Copy)]
 pub struct BlockVerdict {
     pub number: u8,
     pub encenabled: u8,
@@ -43,7 +43,7 @@ pub struct BlockVerdict {
 
 // A refused payload is at 0, for no octets.
 #[repr(C)]
-#[derive(Drop)]
+#[derive(Clone, Copy)]
 pub struct BlockPart {
     pub number: u8,
     pub pair: u16,
@@ -53,7 +53,7 @@ pub struct BlockPart {
 
 // The count is of the octets deciphered, 0 where the call was refused.
 #[repr(C)]
-#[derive(Drop)]
+#[derive(Clone, Copy)]
 pub struct BlockAnswer {
     pub number: u8,
     // the keys expanded (02, C-17): each present one once

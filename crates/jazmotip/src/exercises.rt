@@ -8,7 +8,7 @@ use exercise::{first_loss, number, step_told};
 
 // `step` counts from 1; it is 0 where no single loss matters, and where the script is refused.
 #[repr(C)]
-#[derive(Drop)]
+#[derive(Clone, Copy)]
 pub struct FirstLoss {
     pub number: u8,
     pub step: usize,

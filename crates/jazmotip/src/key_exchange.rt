@@ -14,7 +14,7 @@ use xgpon::timers::{TimerStarts, recommended_starts};
 use xgpon::values::KeyExchange;
 
 #[repr(C)]
-#[derive(Drop)]
+#[derive(Clone, Copy)]
 pub struct InputRecord {
     // 1 to 9, in the order of `Input`
     pub kind: u8,
@@ -22,7 +22,7 @@ pub struct InputRecord {
     pub index: u8,
 }
 
-#[derive(Drop)]
+#[derive(Clone, Copy)]
 pub enum ReadInput {
     Known(Input),
     Unknown,

@@ -15,7 +15,7 @@ use capture::verdict::{ask_near, verdicts_near};
 
 // The smallest and the largest correction are octets of signed numbers, both 0 where no header was accepted or the call was refused.
 #[repr(C)]
-#[derive(Drop)]
+#[derive(Clone, Copy)]
 pub struct BlockNearAnswer {
     pub answer: BlockAnswer,
     pub smallest: u8,
@@ -23,7 +23,7 @@ pub struct BlockNearAnswer {
 }
 
 #[repr(C)]
-#[derive(Drop)]
+#[derive(Clone, Copy)]
 pub struct BlockNearVerdicts {
     pub directory: BlockDirectory,
     pub smallest: u8,

@@ -12,7 +12,7 @@ use refusal::Refusal;
 use sealing::counter_mode::{seal, seal_expanded, seal_expanded_in_place, seal_in_place};
 
 #[repr(C)]
-#[derive(Drop)]
+#[derive(Clone, Copy)]
 pub struct PayloadAnswer {
     // 0, or the refusal code
     pub number: u8,
@@ -33,6 +33,7 @@ fn numbered(answer: SealAnswer) -> PayloadAnswer
 }
 
 // EncEnabled is above 1: the lengths come first (D125).
+#[tactic(auto, unfolding(crate::specs::Payloads::flag_denied, octets::specs::Choice::pick))]
 fn deny_flag(n: usize, m: usize) -> SealAnswer
     ensures { result ≡ flag_denied n m }
 {

@@ -13,7 +13,7 @@ use store::{rearrange_block, restore_block};
 
 // `pair` is the first pair that does not fit, from 1, for 18 and 19, else 0.
 #[repr(C)]
-#[derive(Drop)]
+#[derive(Clone, Copy)]
 pub struct StoreAnswer {
     pub number: u8,
     pub pair: u16,

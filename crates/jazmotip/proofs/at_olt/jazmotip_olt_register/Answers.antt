@@ -1,0 +1,6 @@
+-- The parts are those of the definition's end.
+use Rattle.std.proofs.Common.{ap}
+use Rattle.jazmotip.proofs.at_olt.jazmotip_olt_register.Goals as goal
+
+pub returns : goal.returns
+returns c = rw (c.whole-head.ensures _ (ap (λ y. y.parts) c.register-done.ensures), c.register-done.ensures)

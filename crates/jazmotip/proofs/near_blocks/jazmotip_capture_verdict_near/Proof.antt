@@ -1,9 +1,0 @@
--- `jazmotip::near_blocks::jazmotip_capture_verdict_near` meets its contract by those of its two steps. Assumes nothing.
-use mathlib.Core.Path.{◌∙◌}
-use borrow.Author.Rules.{rules}
-use Rattle.jazmotip.proofs.near_blocks.jazmotip_capture_verdict_near.Statement.{statement}
-use Rattle.jazmotip.proofs.near_blocks.jazmotip_capture_verdict_near.Tie as tie
-
-pub jazmotip_capture_verdict_near_spec : {M : Type 1} → statement M
-jazmotip_capture_verdict_near_spec =
-    tie.close (tie.spec (λ c κs. search rules) (λ c κs. search rules) (λ c. c.verdict-in-numbers.ensures ∙ rw c.before.ask-near.ensures))

@@ -194,12 +194,11 @@ clocks_done w g key (u ∷ us) s i new members range =
     record {
       meets = meets_append w s es (clocks_of g us t) one.meets rest.meets;
       clocked = rw there (clocked_then s t after one.clocked rest.clocked);
-      each =
-          rw there (
-            later u here one.acknowledged,
-            each_as (λ x. Acknowledged after (place_of t x)) (λ x. Acknowledged after (place_of s x)) us (λ x a. subst (Acknowledged after) (kept x) a)
-                rest.each,
-          );
+      each = (
+        rw there (later u here one.acknowledged),
+        each_as (λ x. Acknowledged after (place_of t x)) (λ x. Acknowledged (runs s (es ++ clocks_of g us t)) (place_of s x)) us
+            (λ x a. rw there (subst (Acknowledged after) (kept x) a)) rest.each,
+      );
       steady = λ x r a. rw there (later x r (one.steady (place_of s x) (registered_alive w (alone s) x i.units r).used a));
       tick = rw there (omega (arith, rest.tick, one.tick, more));
       short = omega (arith, length-append es (clocks_of g us t), one.short, rest.short);

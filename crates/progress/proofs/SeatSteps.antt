@@ -255,7 +255,7 @@ module _ (w : Setting) (s : State) (i : Invariant w s) where
         record {
           units = λ p h. let q = d.units p h in record { unit = q.unit; registered = q.registered; place = q.place };
           members = λ g j h k.
-              groups.by-group w s llid interval r i a
+              groups.by_group w s llid interval r i a
               (λ (y : GroupLane) (z : GroupRecord). (n : ℕ) → n < z.members.count → MemberSeat y (alone s) (get_or z.members.places n 0)) g h
               fresh_seats (λ q n m. d.members g n q m) j k;
         } where
@@ -268,8 +268,8 @@ module _ (w : Setting) (s : State) (i : Invariant w s) where
     by_number : (b : Bool) → eqb (register_group_of s.head llid interval r).number 0 ≡ b → Seated (step s (register_group llid interval r))
     by_number true e =
         let a = groups.accepts s.head llid interval r (eqb-true _ _ e) in
-        rw (groups.accepted-step s llid interval r a) (accepted_seated llid interval r a d)
-    by_number false e = rw (groups.refused-step s llid interval r (eqb-false _ _ e)) d
+        rw (groups.accepted_step s llid interval r a) (accepted_seated llid interval r a d)
+    by_number false e = rw (groups.refused_step s llid interval r (eqb-false _ _ e)) d
 
   ---- every event
 

@@ -1,4 +1,6 @@
 // The line never freezes: a theorem beside demand 3 of 01.
+#![tactic(auto)]
+
 ghost use Rattle.std.specs.Prelude.{◌≡◌, length};
 ghost use Rattle.progress.specs.GroupProgress.{group_recipe};
 ghost use Rattle.progress.specs.Returned.{missed, spare};

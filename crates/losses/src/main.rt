@@ -1,56 +1,60 @@
 // The program `losses` (02, C-23): a script on standard input, the timer interval in eight octets, then nine octets a step; one line
 // on standard output: the first step whose loss alone changes the final A, C or a, `none`, or `refused` and the code.
+#![tactic(auto)]
+
 use exercise::Answer;
+use std::io;
 
 // One octet more than the longest script has: a longer one is refused, never cut.
 const MOST_INPUT: usize = 585;
 
-fn write_digit(n: usize) {
+fn write_digit(rt: &impl Print, n: usize) -> io::Result<()> {
     let digit = [48 + (n % 10) as u8];
-    io::write_all(1, &digit);
+    rt.write_all(&digit)
 }
 
 // A number below 100.
-fn write_number(n: usize) {
+fn write_number(rt: &impl Print, n: usize) -> io::Result<()> {
     if 10 <= n {
-        write_digit(n / 10);
+        write_digit(rt, n / 10)?;
     }
-    write_digit(n);
+    write_digit(rt, n)
 }
 
-fn write_answer(answer: Answer) {
+fn write_answer(rt: &impl Print, answer: Answer) -> io::Result<()> {
     match answer {
-        Answer::First(step) => write_number(step),
-        Answer::None => {
-            io::write_all(1, b"none");
-        }
+        Answer::First(step) => write_number(rt, step)?,
+        Answer::None => print!(rt; "none")?,
         Answer::Refused(refusal) => {
-            io::write_all(1, b"refused ");
-            write_number(refusal::number(refusal) as usize);
+            print!(rt; "refused ")?;
+            write_number(rt, refusal::number(refusal) as usize)?;
         }
     }
-    io::write_all(1, b"\n");
+    println!(rt)
 }
 
-fn skip_some() -> bool {
-    let mut rest = io::large_buffer();
-    0 < io::read_full(0, &mut rest)
+fn skip_some(rt: &impl Input) -> io::Result<bool> {
+    let mut rest = [0u8; 65536];
+    Ok(0 < streams::read_full(&mut rt.reader(), &mut rest)?)
 }
 
 // Reads the rest of an input that is too long, so that its writer is not cut off. A proved loop has to end: this one
-// counts down from a number that no run uses up.
-fn skip_rest() {
-    let mut turns = u64::MAX;
-    while turns > 0 && skip_some() {
-        turns -= 1;
+// counts to a number that no run reaches.
+fn skip_rest(rt: &impl Input) -> io::Result<()> {
+    for _ in 0..u64::MAX {
+        if !skip_some(rt)? {
+            break;
+        }
     }
+    Ok(())
 }
 
-fn main() {
+fn main(rt: HostRuntime) -> io::Result<()> {
     let mut input = [0u8; MOST_INPUT];
-    let n = io::read_full(0, &mut input);
-    write_answer(exercise::first_loss(&input[..n]));
+    let n = streams::read_full(&mut rt.reader(), &mut input)?;
+    write_answer(&rt, exercise::first_loss(&input[..n]))?;
     if n == MOST_INPUT {
-        skip_rest();
+        skip_rest(&rt)?;
     }
+    Ok(())
 }

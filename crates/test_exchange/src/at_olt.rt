@@ -12,9 +12,10 @@ use jazmotip::at_olt::{
     jazmotip_olt_register, jazmotip_olt_register_group, jazmotip_olt_retry, jazmotip_olt_send,
 };
 use protocol::{Header, KeyMessage};
+use std::io;
 
 // The OLT after a send or a receipt, and what passed.
-#[derive(Drop)]
+#[derive(Clone, Copy)]
 struct OltPassed {
     number: u8,
     head: HeadEnd,
@@ -382,7 +383,14 @@ fn passed(before: OltPassed, k: usize, n: Numbers, aim: Aim, carried: Envelope) 
 // flag of the timer the row's number. `measure` takes LLID and round trip. From `mac` to `identity` and from `groups` to `group_mark` words
 // set fields:
 // `marked` is the mark that the offer is acknowledged, `sent` and `clocked` that the clock is sent and acknowledged.
-pub(crate) fn command(p: Play, s: &[u8], at: usize, to: usize, n: Numbers) -> Play {
+pub(crate) fn command(
+    rt: &impl Print,
+    p: Play,
+    s: &[u8],
+    at: usize,
+    to: usize,
+    n: Numbers,
+) -> io::Result<Play> {
     let k = script::word(
         s,
         at,
@@ -392,7 +400,7 @@ pub(crate) fn command(p: Play, s: &[u8], at: usize, to: usize, n: Numbers) -> Pl
           register_group viewers groups group_llid group_interval group_count group_flag group_noted group_first group_active \
           group_offered members member group_mark measure",
     );
-    script::mark(k > 48, b'?');
+    script::mark(rt, k > 48, b'?')?;
     let asked = answer(p.head, p.aim, k, n, p.acknowledgement);
     let timed = clock_sent(asked, k, script::u16_of(n.a), p.stamps);
     let keyed = key_sent(timed, k, n, p.message);
@@ -406,5 +414,5 @@ pub(crate) fn command(p: Play, s: &[u8], at: usize, to: usize, n: Numbers) -> Pl
     };
     let done = passed(before, k, n, p.aim, play::carried(p, k, n));
     let r = play::after(p, k, n, done.number, done.count, done.envelope);
-    play::after_olt(r, done.head, timed.message, keyed.message)
+    Ok(play::after_olt(r, done.head, timed.message, keyed.message))
 }

@@ -10,10 +10,11 @@ use jazmotip::at_onu::{
     jazmotip_onu_key_message, jazmotip_onu_new_time, jazmotip_onu_receive, jazmotip_onu_send,
 };
 use protocol::{Header, KeyMessage};
+use std::io;
 use subscriber::{SubscriberAcknowledged, SubscriberAnswer, SubscriberMoved};
 
 // The unit after a send or a receipt, and what passed.
-#[derive(Drop)]
+#[derive(Clone, Copy)]
 struct OnuPassed {
     number: u8,
     subscriber: Subscriber,
@@ -219,7 +220,14 @@ fn passed(before: OnuPassed, k: usize, n: Numbers, aim: Aim, carried: Envelope) 
 }
 
 // `changes`, `spent` and `bar` set the fields of travel, `first` and these last two by travel from zero.
-pub(crate) fn command(p: Play, s: &[u8], at: usize, to: usize, n: Numbers) -> Play {
+pub(crate) fn command(
+    rt: &impl Print,
+    p: Play,
+    s: &[u8],
+    at: usize,
+    to: usize,
+    n: Numbers,
+) -> io::Result<Play> {
     let k = script::word(
         s,
         at,
@@ -227,7 +235,7 @@ pub(crate) fn command(p: Play, s: &[u8], at: usize, to: usize, n: Numbers) -> Pl
         b"send receive take fresh advance keyed clock_message clock_arrives key_message key_arrives tick channel0 channel1 noted first \
           synced time rx olt_mac identity join groups joined_llid joined_active joined_held joined_kept changes spent bar new_time",
     );
-    script::mark(k > 29, b'?');
+    script::mark(rt, k > 29, b'?')?;
     let asked = answer(play::unit(p), p.aim.group, k, n);
     let taken = acknowledged(asked, k, n, p.stamps, p.message, p.acknowledgement);
     let subscriber = taken.subscriber;
@@ -240,5 +248,5 @@ pub(crate) fn command(p: Play, s: &[u8], at: usize, to: usize, n: Numbers) -> Pl
     };
     let done = passed(before, k, n, p.aim, play::carried(p, k, n));
     let r = play::after(p, k, n, done.number, done.count, done.envelope);
-    play::after_unit(r, done.subscriber, taken.answer)
+    Ok(play::after_unit(r, done.subscriber, taken.answer))
 }

@@ -4,7 +4,7 @@ use crate::{play, script};
 use clock::Stamps;
 use ends::UnitRecord;
 use group_protocol::{HeadEnd, Subscriber};
-use libc::STDOUT_FILENO;
+use std::io;
 
 fn at_olt(h: HeadEnd, u: UnitRecord, sent: Stamps, k: usize) -> u64 {
     let o = h.olt;
@@ -50,17 +50,24 @@ fn value(p: Play, u: UnitRecord, k: usize) -> u64 {
 }
 
 // The first ten are the OLT's, the last twelve a unit's.
-pub(crate) fn show(p: Play, u: UnitRecord, s: &[u8], at: usize, to: usize) {
+pub(crate) fn show(
+    rt: &impl Print,
+    p: Play,
+    u: UnitRecord,
+    s: &[u8],
+    at: usize,
+    to: usize,
+) -> io::Result<()> {
     let k = script::word(
         s,
         at,
         to,
         b"clock units count flag acknowledged MAC tick Rx Tx groups LLIDs held LocalTime kind changes spent bar",
     );
-    script::mark(k > 16, b'?');
-    script::put(b',');
-    script::put(b' ');
-    script::write(s, at, to);
-    script::put(b' ');
-    io::print_decimal(STDOUT_FILENO, value(p, u, k));
+    script::mark(rt, k > 16, b'?')?;
+    script::put(rt, b',')?;
+    script::put(rt, b' ')?;
+    script::write(rt, s, at, to)?;
+    script::put(rt, b' ')?;
+    print!(rt; "{}", value(p, u, k))
 }

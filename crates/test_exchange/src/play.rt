@@ -9,7 +9,7 @@ use jazmotip::at_olt::jazmotip_olt_fresh;
 use jazmotip::at_onu::jazmotip_onu_fresh;
 use protocol::{Header, KeyMessage};
 
-#[derive(Drop)]
+#[derive(Clone, Copy)]
 pub struct Envelope {
     pub header: Header,
     pub octets: [u8; 36],
@@ -17,7 +17,7 @@ pub struct Envelope {
 
 // What the words speak of: the OLT (side 0) or a unit (1, 2), the place of a unit's record in the OLT's table and that of a group in its
 // end's. Of four EQs the first `length` octets are sent, and `room` octets are lent for the output.
-#[derive(Drop)]
+#[derive(Clone, Copy)]
 pub struct Aim {
     pub side: u8,
     pub place: usize,
@@ -29,7 +29,7 @@ pub struct Aim {
 
 // An envelope is under way in each of four places. `number` is that of the last call, `first` and `second` are the units' numbers of
 // an advance of all ends, `passed` and `count` what the last send or receipt gave.
-#[derive(Drop)]
+#[derive(Clone, Copy)]
 pub struct Play {
     pub aim: Aim,
     pub number: u8,

@@ -1,11 +1,11 @@
 // Reading the script: words and numbers, one space apart. A number is decimal, hexadecimal as 0x41, or a power of 2 as 2^48, and may
 // have another added or taken away, as 2^48-1.
-ghost use Rattle.std.specs.Prelude.{◌≤◌};
+ghost use Rattle.std.specs.Prelude.{◌≤◌, IfOk};
 
-use libc::STDOUT_FILENO;
+use std::io;
 
 // Up to six numbers after a word; those that are not there are 0.
-#[derive(Drop)]
+#[derive(Clone, Copy)]
 pub struct Numbers {
     pub a: u64,
     pub b: u64,
@@ -16,7 +16,7 @@ pub struct Numbers {
 }
 
 // A number, and the place after it.
-#[derive(Drop)]
+#[derive(Clone, Copy)]
 struct Term {
     value: u64,
     next: usize,
@@ -55,20 +55,20 @@ pub(crate) fn starts_line(s: &[u8], at: usize) -> bool {
 }
 
 // Writes the label of a row, or a title as it stands; a remark goes unseen. The place before the row's first word, or the line's end.
-pub(crate) fn head(s: &[u8], at: usize, end: usize) -> usize
+pub(crate) fn head(rt: &impl Print, s: &[u8], at: usize, end: usize) -> io::Result<usize>
     requires { at ≤ end }
-    ensures { (at ≤ result) × (result ≤ end) }
+    ensures { IfOk result (λ place. (at ≤ place) × (place ≤ end)) }
 {
     let bar = until(s, at, end, b'|');
     if bar < end {
-        write(s, at, before(bar));
-        return bar + 1;
+        write(rt, s, at, before(bar))?;
+        return Ok(bar + 1);
     }
     if octet(s, at) != b'#' {
-        write(s, at, end);
-        mark(at < end, b'\n');
+        write(rt, s, at, end)?;
+        mark(rt, at < end, b'\n')?;
     }
-    end
+    Ok(end)
 }
 
 // Whether the name is what stands from `at` to `to`.
@@ -200,22 +200,24 @@ pub(crate) fn u32_of(x: u64) -> u32 {
     (x % 4294967296) as u32
 }
 
-pub(crate) fn put(x: u8) {
+pub(crate) fn put(rt: &impl Print, x: u8) -> io::Result<()> {
     let text = [x];
-    io::write_all(STDOUT_FILENO, &text);
+    rt.write_all(&text)
 }
 
-pub(crate) fn mark(wanted: bool, x: u8) {
+pub(crate) fn mark(rt: &impl Print, wanted: bool, x: u8) -> io::Result<()> {
     if wanted {
-        put(x);
+        put(rt, x)?;
     }
+    Ok(())
 }
 
 // Writes what stands from one place to another.
-pub(crate) fn write(s: &[u8], from: usize, to: usize) {
+pub(crate) fn write(rt: &impl Print, s: &[u8], from: usize, to: usize) -> io::Result<()> {
     if from <= to {
         if to <= s.len() {
-            io::write_all(STDOUT_FILENO, &s[from..to]);
+            rt.write_all(&s[from..to])?;
         }
     }
+    Ok(())
 }

@@ -4,8 +4,8 @@ use crate::{named, play, script, values};
 use clock::Stamps;
 use ends::{Channels, Onu, Shared, Slots, UnitRecord};
 use group_protocol::{Answer, GroupRecord, Joined, Members};
-use libc::STDOUT_FILENO;
 use protocol::{Header, KeyMessage};
+use std::io;
 
 fn wide(x: u8) -> u64 {
     x as u64
@@ -22,71 +22,77 @@ fn digits(x: u8) -> usize {
 }
 
 // Writes an octet of a text, or the value in its place. How many values were written.
-fn mark(x: u8, value: u64) -> usize {
+fn mark(rt: &impl Print, x: u8, value: u64) -> io::Result<usize> {
     let n = digits(x);
     if n > 0 {
-        io::print_hex(STDOUT_FILENO, value, n);
-        return 1;
+        print!(rt; "{value:0n$x}")?;
+        return Ok(1);
     }
     if x == b'%' {
-        io::print_decimal(STDOUT_FILENO, value);
-        return 1;
+        print!(rt; "{value}")?;
+        return Ok(1);
     }
-    script::put(x);
-    0
+    script::put(rt, x)?;
+    Ok(0)
 }
 
-fn fill(text: &[u8], values: [u64; 9]) {
+fn fill(rt: &impl Print, text: &[u8], values: [u64; 9]) -> io::Result<()> {
     let mut k: usize = 0;
     for i in 0..text.len() {
-        let used = mark(text[i], values[k % 9]);
+        let used = mark(rt, text[i], values[k % 9])?;
         k = std::num::wrapping_add_usize(k, used);
     }
+    Ok(())
 }
 
-fn few(text: &[u8], a: u64, b: u64, c: u64, d: u64) {
-    fill(text, [a, b, c, d, 0, 0, 0, 0, 0]);
+fn few(rt: &impl Print, text: &[u8], a: u64, b: u64, c: u64, d: u64) -> io::Result<()> {
+    fill(rt, text, [a, b, c, d, 0, 0, 0, 0, 0])
 }
 
 // The first n octets.
-fn octets(s: &[u8], n: usize) {
+fn octets(rt: &impl Print, s: &[u8], n: usize) -> io::Result<()> {
     for i in 0..n {
-        io::print_hex(STDOUT_FILENO, wide(script::octet(s, i)), 2);
+        print!(rt; "{:02x}", wide(script::octet(s, i)))?;
     }
+    Ok(())
 }
 
-fn two_keys(text: &[u8], one: [u8; 16], two: [u8; 16]) {
-    few(text, 0, 0, 0, 0);
-    octets(&one, 16);
-    script::put(b' ');
-    octets(&two, 16);
+fn two_keys(rt: &impl Print, text: &[u8], one: [u8; 16], two: [u8; 16]) -> io::Result<()> {
+    few(rt, text, 0, 0, 0, 0)?;
+    octets(rt, &one, 16)?;
+    script::put(rt, b' ')?;
+    octets(rt, &two, 16)
 }
 
-fn slots(s: Slots) {
+fn slots(rt: &impl Print, s: Slots) -> io::Result<()> {
     two_keys(
+        rt,
         b", ",
         ends::keyslots::key_in(s, 0),
         ends::keyslots::key_in(s, 1),
-    );
+    )
 }
 
-fn held(u: UnitRecord, o: Onu) {
+fn held(rt: &impl Print, u: UnitRecord, o: Onu) -> io::Result<()> {
     few(
+        rt,
         b", A %, C %, a %",
         u.keys.active as u64,
         u.confirmation.confirmed as u64,
         o.keys.active as u64,
         0,
-    );
+    )?;
     two_keys(
+        rt,
         b", key ",
         ends::keyslots::key_in(u.keys.slots, u.keys.active),
         ends::keyslots::key_in(o.keys.slots, o.keys.active),
-    );
+    )
 }
 
-fn record(u: UnitRecord, free: Channels) {
+fn record(rt: &impl Print, u: UnitRecord, free: Channels) -> io::Result<()> {
     fill(
+        rt,
         b", A % C % O %, acknowledged %, flag %, first % %, free % %",
         [
             u.keys.active as u64,
@@ -99,11 +105,12 @@ fn record(u: UnitRecord, free: Channels) {
             free.zero,
             free.one,
         ],
-    );
+    )
 }
 
-fn unit(o: Onu) {
+fn unit(rt: &impl Print, o: Onu) -> io::Result<()> {
     fill(
+        rt,
         b", a % held %, first % %, free % %",
         [
             o.keys.active as u64,
@@ -116,11 +123,12 @@ fn unit(o: Onu) {
             0,
             0,
         ],
-    );
+    )
 }
 
-fn header(h: Header) {
+fn header(rt: &impl Print, h: Header) -> io::Result<()> {
     fill(
+        rt,
         b", header $ & % % $",
         [
             h.channel as u64,
@@ -133,52 +141,69 @@ fn header(h: Header) {
             0,
             0,
         ],
-    );
+    )
 }
 
-fn stamps(rx: u64, tx: u64) {
-    few(b", Rx @, Tx @", rx, tx, 0, 0);
+fn stamps(rt: &impl Print, rx: u64, tx: u64) -> io::Result<()> {
+    few(rt, b", Rx @, Tx @", rx, tx, 0, 0)
 }
 
-fn message(m: KeyMessage) {
+fn message(rt: &impl Print, m: KeyMessage) -> io::Result<()> {
     let key = m.key;
     few(
+        rt,
         b", LLID %, number %, octet %",
         m.llid as u64,
         m.number as u64,
         wide(key[0]),
         0,
-    );
+    )
 }
 
-fn answer(a: Answer) {
-    few(b", kind %, number %", a.kind as u64, a.number as u64, 0, 0);
+fn answer(rt: &impl Print, a: Answer) -> io::Result<()> {
+    few(
+        rt,
+        b", kind %, number %",
+        a.kind as u64,
+        a.number as u64,
+        0,
+        0,
+    )
 }
 
 // The unit that an acknowledgement names.
-fn named_unit(a: Answer) {
-    few(b", named %, unit %", a.named as u64, a.unit as u64, 0, 0);
+fn named_unit(rt: &impl Print, a: Answer) -> io::Result<()> {
+    few(
+        rt,
+        b", named %, unit %",
+        a.named as u64,
+        a.unit as u64,
+        0,
+        0,
+    )
 }
 
 // The first n octets as numbers.
-fn list(text: &[u8], s: &[u8], n: usize) {
-    few(text, 0, 0, 0, 0);
+fn list(rt: &impl Print, text: &[u8], s: &[u8], n: usize) -> io::Result<()> {
+    few(rt, text, 0, 0, 0, 0)?;
     for i in 0..n {
-        few(b" %", wide(script::octet(s, i)), 0, 0, 0);
+        few(rt, b" %", wide(script::octet(s, i)), 0, 0, 0)?;
     }
+    Ok(())
 }
 
-fn members(m: Members) {
+fn members(rt: &impl Print, m: Members) -> io::Result<()> {
     let places = m.places;
     let marks = m.marks;
     let n = m.count as usize;
-    list(b", members", &places, n);
-    list(b", marks", &marks, n);
+    list(rt, b", members", &places, n)?;
+    list(rt, b", marks", &marks, n)
 }
 
 // A group at the OLT.
-fn group(g: GroupRecord, free: Channels) {
+fn group(rt: &impl Print, g: GroupRecord, free: Channels) -> io::Result<()> {
     fill(
+        rt,
         b", LLID % A % O %, flag %, first % %, free % %",
         [
             g.llid as u64,
@@ -191,129 +216,138 @@ fn group(g: GroupRecord, free: Channels) {
             free.one,
             0,
         ],
-    );
-    members(g.members);
+    )?;
+    members(rt, g.members)
 }
 
 // A group that a unit joined.
-fn joined(j: Joined) {
+fn joined(rt: &impl Print, j: Joined) -> io::Result<()> {
     few(
+        rt,
         b", LLID % a % kept % held %",
         j.llid as u64,
         j.keys.active as u64,
         j.kept as u64,
         j.keys.held as u64,
-    );
+    )
 }
 
 // The words group and group_slots at the OLT.
-fn group_at_olt(p: Play, k: usize) {
+fn group_at_olt(rt: &impl Print, p: Play, k: usize) -> io::Result<()> {
     let groups = p.head.groups;
     let g = groups.table[p.aim.group % 16];
     if k == 11 {
-        slots(g.keys.slots);
+        slots(rt, g.keys.slots)
     } else {
-        group(g, p.head.olt.shared.channels);
+        group(rt, g, p.head.olt.shared.channels)
     }
 }
 
 // The same at a unit.
-fn group_at_unit(p: Play, k: usize) {
+fn group_at_unit(rt: &impl Print, p: Play, k: usize) -> io::Result<()> {
     let unit = play::unit(p);
     let memberships = unit.memberships;
     let j = memberships.table[p.aim.group % 4];
     if k == 11 {
-        slots(j.keys.slots);
+        slots(rt, j.keys.slots)
     } else {
-        joined(j);
+        joined(rt, j)
     }
 }
 
-fn spoken_group(p: Play, k: usize) {
+fn spoken_group(rt: &impl Print, p: Play, k: usize) -> io::Result<()> {
     if p.aim.side == 0 {
-        group_at_olt(p, k);
+        group_at_olt(rt, p, k)
     } else {
-        group_at_unit(p, k);
+        group_at_unit(rt, p, k)
     }
 }
 
-fn output(passed: Envelope, count: u64, room: usize) {
+fn output(rt: &impl Print, passed: Envelope, count: u64, room: usize) -> io::Result<()> {
     let s = passed.octets;
-    few(b", count %, output ", count, 0, 0, 0);
-    octets(&s, room);
+    few(rt, b", count %, output ", count, 0, 0, 0)?;
+    octets(rt, &s, room)
 }
 
 // The words state, stamps and slots at the OLT.
-fn at_olt(free: Channels, u: UnitRecord, sent: Stamps, k: usize) {
+fn at_olt(
+    rt: &impl Print,
+    free: Channels,
+    u: UnitRecord,
+    sent: Stamps,
+    k: usize,
+) -> io::Result<()> {
     match k {
-        3 => stamps(sent.rx, sent.tx),
-        4 => slots(u.keys.slots),
-        _ => record(u, free),
+        3 => stamps(rt, sent.rx, sent.tx),
+        4 => slots(rt, u.keys.slots),
+        _ => record(rt, u, free),
     }
 }
 
 // The same at a unit.
-fn at_onu(o: Onu, k: usize) {
+fn at_onu(rt: &impl Print, o: Onu, k: usize) -> io::Result<()> {
     match k {
-        3 => stamps(o.clock.rx, o.clock.time),
-        4 => slots(o.keys.slots),
-        _ => unit(o),
+        3 => stamps(rt, o.clock.rx, o.clock.time),
+        4 => slots(rt, o.keys.slots),
+        _ => unit(rt, o),
     }
 }
 
-pub(crate) fn number(number: u8) {
-    few(b": %", number as u64, 0, 0, 0);
+pub(crate) fn number(rt: &impl Print, number: u8) -> io::Result<()> {
+    few(rt, b": %", number as u64, 0, 0, 0)
 }
 
 // After an advance of all ends.
-fn all_ends(first: u8, second: u8, shared: Shared) {
+fn all_ends(rt: &impl Print, first: u8, second: u8, shared: Shared) -> io::Result<()> {
     few(
+        rt,
         b" % %, tick %, clock @",
         first as u64,
         second as u64,
         shared.tick,
         shared.clock,
-    );
+    )
 }
 
 // The words sent, received, state, stamps and slots.
-fn at_end(p: Play, u: UnitRecord, k: usize) {
+fn at_end(rt: &impl Print, p: Play, u: UnitRecord, k: usize) -> io::Result<()> {
     if k == 0 {
-        header(p.passed.header);
+        header(rt, p.passed.header)?;
     }
     if k < 2 {
-        output(p.passed, p.count, p.aim.room);
+        output(rt, p.passed, p.count, p.aim.room)?;
     }
     if p.aim.side == 0 {
-        at_olt(p.head.olt.shared.channels, u, p.stamps, k);
+        at_olt(rt, p.head.olt.shared.channels, u, p.stamps, k)
     } else {
         let unit = play::unit(p);
-        at_onu(unit.onu, k);
+        at_onu(rt, unit.onu, k)
     }
 }
 
 // The key that a unit has in use at both ends.
-fn keys(p: Play, u: UnitRecord) {
+fn keys(rt: &impl Print, p: Play, u: UnitRecord) -> io::Result<()> {
     if p.aim.place == 1 {
-        held(u, p.two.onu);
+        held(rt, u, p.two.onu)
     } else {
-        held(u, p.one.onu);
+        held(rt, u, p.one.onu)
     }
 }
 
 // The OLT's clock beside those of unit 1.
-fn clocks(clock: u64, o: Onu) {
+fn clocks(rt: &impl Print, clock: u64, o: Onu) -> io::Result<()> {
     few(
+        rt,
         b", OLT clock %, Tx %, Rx %",
         clock,
         o.clock.time,
         o.clock.rx,
         0,
-    );
+    )
 }
 
 // What a word after the colon stands for; where it is none of these, a value by its name.
-pub(crate) fn show(p: Play, s: &[u8], at: usize, to: usize) {
+pub(crate) fn show(rt: &impl Print, p: Play, s: &[u8], at: usize, to: usize) -> io::Result<()> {
     let k = script::word(
         s,
         at,
@@ -324,15 +358,15 @@ pub(crate) fn show(p: Play, s: &[u8], at: usize, to: usize) {
     let place = p.aim.place % 16;
     let u = units[place];
     match k {
-        5 => message(p.message),
-        6 => answer(p.acknowledgement),
-        7 => all_ends(p.first, p.second, p.head.olt.shared),
-        8 => keys(p, u),
-        9 => clocks(p.head.olt.shared.clock, p.one.onu),
-        10 | 11 => spoken_group(p, k),
-        12 => output(p.passed, p.count, p.aim.room),
-        13 => named_unit(p.acknowledgement),
-        14 => named::show(p, u, s, at, to),
-        _ => at_end(p, u, k),
+        5 => message(rt, p.message),
+        6 => answer(rt, p.acknowledgement),
+        7 => all_ends(rt, p.first, p.second, p.head.olt.shared),
+        8 => keys(rt, p, u),
+        9 => clocks(rt, p.head.olt.shared.clock, p.one.onu),
+        10 | 11 => spoken_group(rt, p, k),
+        12 => output(rt, p.passed, p.count, p.aim.room),
+        13 => named_unit(rt, p.acknowledgement),
+        14 => named::show(rt, p, u, s, at, to),
+        _ => at_end(rt, p, u, k),
     }
 }

@@ -8,24 +8,30 @@ use jazmotip::at_olt::{
     jazmotip_olt_register, jazmotip_olt_register_group, jazmotip_olt_retry, jazmotip_olt_send,
 };
 use protocol::Header;
+use std::io;
 
-pub(crate) fn fresh(mac: u64, clock: u64) -> HeadEnd {
+pub(crate) fn fresh(rt: &impl Print, mac: u64, clock: u64) -> io::Result<HeadEnd> {
     let answer = jazmotip_olt_fresh(mac, clock);
-    show::row(b"olt_fresh", answer.number);
-    answer.head
+    show::row(rt, b"olt_fresh", answer.number)?;
+    Ok(answer.head)
 }
 
-pub(crate) fn register(olt: HeadEnd, interval: u64) -> HeadEnd {
+pub(crate) fn register(rt: &impl Print, olt: HeadEnd, interval: u64) -> io::Result<HeadEnd> {
     let answer = jazmotip_olt_register(olt, values::unit(), 250, interval);
-    show::row(b"olt_register", answer.number);
-    answer.head
+    show::row(rt, b"olt_register", answer.number)?;
+    Ok(answer.head)
 }
 
 // LLID 7, of a count of members that are named by LLIDs 6 and 5.
-pub(crate) fn register_group(olt: HeadEnd, interval: u64, count: u8) -> HeadEnd {
+pub(crate) fn register_group(
+    rt: &impl Print,
+    olt: HeadEnd,
+    interval: u64,
+    count: u8,
+) -> io::Result<HeadEnd> {
     let answer = jazmotip_olt_register_group(olt, 7, interval, values::roster(count));
-    show::row(b"olt_register_group", answer.number);
-    answer.head
+    show::row(rt, b"olt_register_group", answer.number)?;
+    Ok(answer.head)
 }
 
 // Lends its own copy, which the call changes in place.
@@ -35,69 +41,85 @@ fn advanced(olt: HeadEnd, n: u64) -> HeadMoved {
     HeadMoved { head: next, number }
 }
 
-pub(crate) fn advance(olt: HeadEnd, n: u64) -> HeadEnd {
+pub(crate) fn advance(rt: &impl Print, olt: HeadEnd, n: u64) -> io::Result<HeadEnd> {
     let answer = advanced(olt, n);
-    show::begin(b"olt_advance", answer.number);
-    show::decimal(answer.head.olt.shared.tick);
-    show::hex(answer.head.olt.shared.clock, 12);
-    show::end();
-    answer.head
+    show::begin(rt, b"olt_advance", answer.number)?;
+    show::decimal(rt, answer.head.olt.shared.tick)?;
+    show::hex(rt, answer.head.olt.shared.clock, 12)?;
+    show::end(rt)?;
+    Ok(answer.head)
 }
 
-pub(crate) fn capture(olt: HeadEnd, llid: u16) -> HeadEnd {
+pub(crate) fn capture(rt: &impl Print, olt: HeadEnd, llid: u16) -> io::Result<HeadEnd> {
     let answer = jazmotip_olt_capture(olt, llid);
-    show::row(b"olt_capture", answer.number);
-    answer.head
+    show::row(rt, b"olt_capture", answer.number)?;
+    Ok(answer.head)
 }
 
-pub(crate) fn measure(olt: HeadEnd, llid: u16, trip: u64) -> HeadEnd {
+pub(crate) fn measure(rt: &impl Print, olt: HeadEnd, llid: u16, trip: u64) -> io::Result<HeadEnd> {
     let answer = jazmotip_olt_measure(olt, llid, trip);
-    show::row(b"olt_measure", answer.number);
-    answer.head
+    show::row(rt, b"olt_measure", answer.number)?;
+    Ok(answer.head)
 }
 
-pub(crate) fn clock_send(olt: HeadEnd, llid: u16) -> HeadClockSent {
+pub(crate) fn clock_send(rt: &impl Print, olt: HeadEnd, llid: u16) -> io::Result<HeadClockSent> {
     let answer = jazmotip_olt_clock_send(olt, llid);
-    show::begin(b"olt_clock_send", answer.number);
-    show::stamps(answer.message.rx, answer.message.tx);
-    show::end();
-    answer
+    show::begin(rt, b"olt_clock_send", answer.number)?;
+    show::stamps(rt, answer.message.rx, answer.message.tx)?;
+    show::end(rt)?;
+    Ok(answer)
 }
 
-pub(crate) fn offer(olt: HeadEnd, llid: u16) -> HeadKeySent {
+pub(crate) fn offer(rt: &impl Print, olt: HeadEnd, llid: u16) -> io::Result<HeadKeySent> {
     let key = values::key();
     let answer = jazmotip_olt_offer(olt, llid, &key);
-    show::begin(b"olt_offer", answer.number);
-    show::key_message(answer.message);
-    answer
+    show::begin(rt, b"olt_offer", answer.number)?;
+    show::key_message(rt, answer.message)?;
+    Ok(answer)
 }
 
-pub(crate) fn retry(olt: HeadEnd, llid: u16) -> HeadKeySent {
+pub(crate) fn retry(rt: &impl Print, olt: HeadEnd, llid: u16) -> io::Result<HeadKeySent> {
     let answer = jazmotip_olt_retry(olt, llid);
-    show::begin(b"olt_retry", answer.number);
-    show::key_message(answer.message);
-    answer
+    show::begin(rt, b"olt_retry", answer.number)?;
+    show::key_message(rt, answer.message)?;
+    Ok(answer)
 }
 
-pub(crate) fn acknowledge(olt: HeadEnd, llid: u16, acknowledgement: Answer) -> HeadEnd {
+pub(crate) fn acknowledge(
+    rt: &impl Print,
+    olt: HeadEnd,
+    llid: u16,
+    acknowledgement: Answer,
+) -> io::Result<HeadEnd> {
     let answer = jazmotip_olt_acknowledge(olt, llid, acknowledgement);
-    show::row(b"olt_acknowledge", answer.number);
-    answer.head
+    show::row(rt, b"olt_acknowledge", answer.number)?;
+    Ok(answer.head)
 }
 
-pub(crate) fn send(olt: HeadEnd, llid: u16, channel: u8, output: &mut [u8]) -> HeadSent {
+pub(crate) fn send(
+    rt: &impl Print,
+    olt: HeadEnd,
+    llid: u16,
+    channel: u8,
+    output: &mut [u8],
+) -> io::Result<HeadSent> {
     let payload = values::payload();
     let answer = jazmotip_olt_send(olt, llid, channel, &payload, output);
-    show::begin(b"olt_send", answer.number);
-    show::header(answer.header);
-    show::passed(answer.count, output);
-    answer
+    show::begin(rt, b"olt_send", answer.number)?;
+    show::header(rt, answer.header)?;
+    show::passed(rt, answer.count, output)?;
+    Ok(answer)
 }
 
-pub(crate) fn receive(olt: HeadEnd, header: Header, octets: &[u8]) -> HeadEnd {
+pub(crate) fn receive(
+    rt: &impl Print,
+    olt: HeadEnd,
+    header: Header,
+    octets: &[u8],
+) -> io::Result<HeadEnd> {
     let mut output = values::lent();
     let answer = jazmotip_olt_receive(olt, header, octets, &mut output);
-    show::begin(b"olt_receive", answer.number);
-    show::passed(answer.count, &output);
-    answer.head
+    show::begin(rt, b"olt_receive", answer.number)?;
+    show::passed(rt, answer.count, &output)?;
+    Ok(answer.head)
 }

@@ -7,23 +7,24 @@ use jazmotip::at_onu::{
     jazmotip_onu_key_message, jazmotip_onu_new_time, jazmotip_onu_receive, jazmotip_onu_send,
 };
 use protocol::{Header, KeyMessage};
+use std::io;
 use subscriber::{SubscriberAcknowledged, SubscriberMoved, SubscriberSent};
 
 // Its Rx and Tx.
-fn stamps(onu: Subscriber) {
-    show::stamps(onu.onu.clock.rx, onu.onu.clock.time);
+fn stamps(rt: &impl Print, onu: Subscriber) -> io::Result<()> {
+    show::stamps(rt, onu.onu.clock.rx, onu.onu.clock.time)
 }
 
-pub(crate) fn fresh(mac: u64, time: u64) -> Subscriber {
+pub(crate) fn fresh(rt: &impl Print, mac: u64, time: u64) -> io::Result<Subscriber> {
     let answer = jazmotip_onu_fresh(values::unit(), mac, time);
-    show::row(b"onu_fresh", answer.number);
-    answer.subscriber
+    show::row(rt, b"onu_fresh", answer.number)?;
+    Ok(answer.subscriber)
 }
 
-pub(crate) fn join(onu: Subscriber, llid: u16) -> Subscriber {
+pub(crate) fn join(rt: &impl Print, onu: Subscriber, llid: u16) -> io::Result<Subscriber> {
     let answer = jazmotip_onu_join(onu, llid);
-    show::row(b"onu_join", answer.number);
-    answer.subscriber
+    show::row(rt, b"onu_join", answer.number)?;
+    Ok(answer.subscriber)
 }
 
 // Lends its own copy, which the call changes in place.
@@ -36,59 +37,82 @@ fn advanced(onu: Subscriber, n: u64) -> SubscriberMoved {
     }
 }
 
-pub(crate) fn advance(onu: Subscriber, n: u64) -> Subscriber {
+pub(crate) fn advance(rt: &impl Print, onu: Subscriber, n: u64) -> io::Result<Subscriber> {
     let answer = advanced(onu, n);
-    show::begin(b"onu_advance", answer.number);
-    show::decimal(answer.subscriber.onu.tick);
-    stamps(answer.subscriber);
-    show::end();
-    answer.subscriber
+    show::begin(rt, b"onu_advance", answer.number)?;
+    show::decimal(rt, answer.subscriber.onu.tick)?;
+    stamps(rt, answer.subscriber)?;
+    show::end(rt)?;
+    Ok(answer.subscriber)
 }
 
-pub(crate) fn new_time(onu: Subscriber, time: u64) -> Subscriber {
+pub(crate) fn new_time(rt: &impl Print, onu: Subscriber, time: u64) -> io::Result<Subscriber> {
     let answer = jazmotip_onu_new_time(onu, time);
-    show::begin(b"onu_new_time", answer.number);
-    stamps(answer.subscriber);
-    show::end();
-    answer.subscriber
+    show::begin(rt, b"onu_new_time", answer.number)?;
+    stamps(rt, answer.subscriber)?;
+    show::end(rt)?;
+    Ok(answer.subscriber)
 }
 
-pub(crate) fn clock_message(onu: Subscriber, message: Stamps) -> SubscriberAcknowledged {
+pub(crate) fn clock_message(
+    rt: &impl Print,
+    onu: Subscriber,
+    message: Stamps,
+) -> io::Result<SubscriberAcknowledged> {
     let answer = jazmotip_onu_clock_message(onu, message);
-    show::begin(b"onu_clock_message", answer.number);
-    stamps(answer.subscriber);
-    show::acknowledgement(answer.answer);
-    answer
+    show::begin(rt, b"onu_clock_message", answer.number)?;
+    stamps(rt, answer.subscriber)?;
+    show::acknowledgement(rt, answer.answer)?;
+    Ok(answer)
 }
 
-pub(crate) fn key_message(onu: Subscriber, message: KeyMessage) -> SubscriberAcknowledged {
+pub(crate) fn key_message(
+    rt: &impl Print,
+    onu: Subscriber,
+    message: KeyMessage,
+) -> io::Result<SubscriberAcknowledged> {
     let answer = jazmotip_onu_key_message(onu, message);
-    show::begin(b"onu_key_message", answer.number);
-    show::acknowledgement(answer.answer);
-    answer
+    show::begin(rt, b"onu_key_message", answer.number)?;
+    show::acknowledgement(rt, answer.answer)?;
+    Ok(answer)
 }
 
 // A group's message: the answer also names the unit.
-pub(crate) fn group_message(onu: Subscriber, message: KeyMessage) -> SubscriberAcknowledged {
+pub(crate) fn group_message(
+    rt: &impl Print,
+    onu: Subscriber,
+    message: KeyMessage,
+) -> io::Result<SubscriberAcknowledged> {
     let answer = jazmotip_onu_key_message(onu, message);
-    show::begin(b"onu_key_message", answer.number);
-    show::group_acknowledgement(answer.answer);
-    answer
+    show::begin(rt, b"onu_key_message", answer.number)?;
+    show::group_acknowledgement(rt, answer.answer)?;
+    Ok(answer)
 }
 
-pub(crate) fn send(onu: Subscriber, llid: u16, channel: u8, output: &mut [u8]) -> SubscriberSent {
+pub(crate) fn send(
+    rt: &impl Print,
+    onu: Subscriber,
+    llid: u16,
+    channel: u8,
+    output: &mut [u8],
+) -> io::Result<SubscriberSent> {
     let payload = values::payload();
     let answer = jazmotip_onu_send(onu, llid, channel, &payload, output);
-    show::begin(b"onu_send", answer.number);
-    show::header(answer.header);
-    show::passed(answer.count, output);
-    answer
+    show::begin(rt, b"onu_send", answer.number)?;
+    show::header(rt, answer.header)?;
+    show::passed(rt, answer.count, output)?;
+    Ok(answer)
 }
 
-pub(crate) fn receive(onu: Subscriber, header: Header, octets: &[u8]) -> Subscriber {
+pub(crate) fn receive(
+    rt: &impl Print,
+    onu: Subscriber,
+    header: Header,
+    octets: &[u8],
+) -> io::Result<Subscriber> {
     let mut output = values::lent();
     let answer = jazmotip_onu_receive(onu, header, octets, &mut output);
-    show::begin(b"onu_receive", answer.number);
-    show::passed(answer.count, &output);
-    answer.subscriber
+    show::begin(rt, b"onu_receive", answer.number)?;
+    show::passed(rt, answer.count, &output)?;
+    Ok(answer.subscriber)
 }

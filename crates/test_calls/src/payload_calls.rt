@@ -5,68 +5,69 @@ use jazmotip::payloads::{
     jazmotip_count, jazmotip_expand_key, jazmotip_seal, jazmotip_seal_expanded,
     jazmotip_seal_expanded_in_place, jazmotip_seal_in_place,
 };
+use std::io;
 
-fn expand() -> RoundKeys {
+fn expand(rt: &impl Print) -> io::Result<RoundKeys> {
     let key = values::key();
     let keys = jazmotip_expand_key(&key);
     let octets = keys.octets;
-    show::name(b"expand_key");
-    show::octets(&octets);
-    keys
+    show::name(rt, b"expand_key")?;
+    show::octets(rt, &octets)?;
+    Ok(keys)
 }
 
-fn seal(encenabled: u8) {
+fn seal(rt: &impl Print, encenabled: u8) -> io::Result<()> {
     let key = values::key();
     let payload = values::payload();
     let mut output = values::lent();
     let answer = jazmotip_seal(encenabled, &key, values::nonce(), &payload, &mut output);
-    show::begin(b"seal", answer.number);
-    show::passed(answer.count, &output);
+    show::begin(rt, b"seal", answer.number)?;
+    show::passed(rt, answer.count, &output)
 }
 
-fn seal_expanded(encenabled: u8, keys: RoundKeys) {
+fn seal_expanded(rt: &impl Print, encenabled: u8, keys: RoundKeys) -> io::Result<()> {
     let payload = values::payload();
     let mut output = values::lent();
     let answer = jazmotip_seal_expanded(encenabled, keys, values::nonce(), &payload, &mut output);
-    show::begin(b"seal_expanded", answer.number);
-    show::passed(answer.count, &output);
+    show::begin(rt, b"seal_expanded", answer.number)?;
+    show::passed(rt, answer.count, &output)
 }
 
-fn seal_in_place(encenabled: u8) {
+fn seal_in_place(rt: &impl Print, encenabled: u8) -> io::Result<()> {
     let key = values::key();
     let mut payload = values::payload();
     let answer = jazmotip_seal_in_place(encenabled, &key, values::nonce(), &mut payload);
-    show::begin(b"seal_in_place", answer.number);
-    show::passed(answer.count, &payload);
+    show::begin(rt, b"seal_in_place", answer.number)?;
+    show::passed(rt, answer.count, &payload)
 }
 
-fn seal_expanded_in_place(encenabled: u8, keys: RoundKeys) {
+fn seal_expanded_in_place(rt: &impl Print, encenabled: u8, keys: RoundKeys) -> io::Result<()> {
     let mut payload = values::payload();
     let answer = jazmotip_seal_expanded_in_place(encenabled, keys, values::nonce(), &mut payload);
-    show::begin(b"seal_expanded_in_place", answer.number);
-    show::passed(answer.count, &payload);
+    show::begin(rt, b"seal_expanded_in_place", answer.number)?;
+    show::passed(rt, answer.count, &payload)
 }
 
-fn count() {
+fn count(rt: &impl Print) -> io::Result<()> {
     let payload = values::payload();
-    show::name(b"count");
-    show::decimal(jazmotip_count(&payload));
-    show::end();
+    show::name(rt, b"count")?;
+    show::decimal(rt, jazmotip_count(&payload))?;
+    show::end(rt)
 }
 
-pub(crate) fn play() {
-    let keys = expand();
-    seal(0);
-    seal(1);
-    seal(2);
-    seal_expanded(0, keys);
-    seal_expanded(1, keys);
-    seal_expanded(2, keys);
-    seal_in_place(0);
-    seal_in_place(1);
-    seal_in_place(2);
-    seal_expanded_in_place(0, keys);
-    seal_expanded_in_place(1, keys);
-    seal_expanded_in_place(2, keys);
-    count();
+pub(crate) fn play(rt: &impl Print) -> io::Result<()> {
+    let keys = expand(rt)?;
+    seal(rt, 0)?;
+    seal(rt, 1)?;
+    seal(rt, 2)?;
+    seal_expanded(rt, 0, keys)?;
+    seal_expanded(rt, 1, keys)?;
+    seal_expanded(rt, 2, keys)?;
+    seal_in_place(rt, 0)?;
+    seal_in_place(rt, 1)?;
+    seal_in_place(rt, 2)?;
+    seal_expanded_in_place(rt, 0, keys)?;
+    seal_expanded_in_place(rt, 1, keys)?;
+    seal_expanded_in_place(rt, 2, keys)?;
+    count(rt)
 }

@@ -4,96 +4,102 @@ use jazmotip::key_exchange::{
     InputRecord, jazmotip_xgpon_fresh, jazmotip_xgpon_received_under,
     jazmotip_xgpon_recommended_starts, jazmotip_xgpon_sent_under, jazmotip_xgpon_step,
 };
+use std::io;
 use xgpon::keys::ValidKeys;
 use xgpon::timers::Timers;
 use xgpon::values::KeyExchange;
 
-fn exchange(x: KeyExchange) {
-    show::octet(x.state);
-    show::octet(x.oldkey);
-    show::octet(x.newkey);
+fn exchange(rt: &impl Print, x: KeyExchange) -> io::Result<()> {
+    show::octet(rt, x.state)?;
+    show::octet(rt, x.oldkey)?;
+    show::octet(rt, x.newkey)
 }
 
-fn timers(t: Timers) {
-    show::octet(t.tk1);
-    show::octet(t.tk2);
-    show::octet(t.tk3);
+fn timers(rt: &impl Print, t: Timers) -> io::Result<()> {
+    show::octet(rt, t.tk1)?;
+    show::octet(rt, t.tk2)?;
+    show::octet(rt, t.tk3)
 }
 
-fn fresh() -> KeyExchange {
+fn fresh(rt: &impl Print) -> io::Result<KeyExchange> {
     let x = jazmotip_xgpon_fresh();
-    show::name(b"xgpon_fresh");
-    exchange(x);
-    show::end();
-    x
+    show::name(rt, b"xgpon_fresh")?;
+    exchange(rt, x)?;
+    show::end(rt)?;
+    Ok(x)
 }
 
-fn step(x: KeyExchange, kind: u8, index: u8) -> KeyExchange {
+fn step(rt: &impl Print, x: KeyExchange, kind: u8, index: u8) -> io::Result<KeyExchange> {
     let answer = jazmotip_xgpon_step(x, InputRecord { kind, index });
-    show::begin(b"xgpon_step", answer.number);
-    exchange(answer.exchange);
-    show::octet(answer.message.kind);
-    show::octet(answer.message.index);
-    timers(answer.starts);
-    timers(answer.stops);
-    show::end();
-    answer.exchange
+    show::begin(rt, b"xgpon_step", answer.number)?;
+    exchange(rt, answer.exchange)?;
+    show::octet(rt, answer.message.kind)?;
+    show::octet(rt, answer.message.index)?;
+    timers(rt, answer.starts)?;
+    timers(rt, answer.stops)?;
+    show::end(rt)?;
+    Ok(answer.exchange)
 }
 
-fn valid(call: &[u8], keys: ValidKeys) {
-    show::begin(call, keys.number);
-    show::octet(keys.oldkey);
-    show::octet(keys.newkey);
-    show::end();
+fn valid(rt: &impl Print, call: &[u8], keys: ValidKeys) -> io::Result<()> {
+    show::begin(rt, call, keys.number)?;
+    show::octet(rt, keys.oldkey)?;
+    show::octet(rt, keys.newkey)?;
+    show::end(rt)
 }
 
-fn keys(x: KeyExchange) {
-    valid(b"xgpon_sent_under", jazmotip_xgpon_sent_under(x));
-    valid(b"xgpon_received_under", jazmotip_xgpon_received_under(x));
+fn keys(rt: &impl Print, x: KeyExchange) -> io::Result<()> {
+    valid(rt, b"xgpon_sent_under", jazmotip_xgpon_sent_under(x))?;
+    valid(
+        rt,
+        b"xgpon_received_under",
+        jazmotip_xgpon_received_under(x),
+    )
 }
 
-fn starts() {
+fn starts(rt: &impl Print) -> io::Result<()> {
     let s = jazmotip_xgpon_recommended_starts();
-    show::name(b"xgpon_recommended_starts");
-    show::decimal(s.tk1 as u64);
-    show::decimal(s.tk2 as u64);
-    show::decimal(s.tk3 as u64);
-    show::end();
+    show::name(rt, b"xgpon_recommended_starts")?;
+    show::decimal(rt, s.tk1 as u64)?;
+    show::decimal(rt, s.tk2 as u64)?;
+    show::decimal(rt, s.tk3 as u64)?;
+    show::end(rt)
 }
 
 // Asked for, reported under another index, reported, sent under and confirmed.
-fn first_key(x: KeyExchange) -> KeyExchange {
-    let asked = step(step(x, 6, 0), 1, 2);
-    let known = step(asked, 1, 1);
-    keys(known);
-    step(step(known, 7, 0), 2, 1)
+fn first_key(rt: &impl Print, x: KeyExchange) -> io::Result<KeyExchange> {
+    let asked = step(rt, step(rt, x, 6, 0)?, 1, 2)?;
+    let known = step(rt, asked, 1, 1)?;
+    keys(rt, known)?;
+    step(rt, step(rt, known, 7, 0)?, 2, 1)
 }
 
 // Checked, and asked for anew; the timers run out in turn.
-fn second_key(x: KeyExchange) {
-    let asked = step(step(x, 9, 0), 8, 0);
-    let again = step(step(asked, 4, 0), 3, 0);
-    let waiting = step(step(again, 1, 2), 7, 0);
-    keys(waiting);
-    step(step(waiting, 5, 0), 3, 0);
+fn second_key(rt: &impl Print, x: KeyExchange) -> io::Result<()> {
+    let asked = step(rt, step(rt, x, 9, 0)?, 8, 0)?;
+    let again = step(rt, step(rt, asked, 4, 0)?, 3, 0)?;
+    let waiting = step(rt, step(rt, again, 1, 2)?, 7, 0)?;
+    keys(rt, waiting)?;
+    step(rt, step(rt, waiting, 5, 0)?, 3, 0)?;
+    Ok(())
 }
 
 // Kinds are 1 to 9, states 0 to 4.
-fn refusals(x: KeyExchange) {
-    step(x, 0, 0);
-    step(x, 10, 1);
+fn refusals(rt: &impl Print, x: KeyExchange) -> io::Result<()> {
+    step(rt, x, 0, 0)?;
+    step(rt, x, 10, 1)?;
     let outside = KeyExchange {
         state: 5,
         oldkey: 0,
         newkey: 1,
     };
-    step(outside, 6, 0);
-    keys(outside);
+    step(rt, outside, 6, 0)?;
+    keys(rt, outside)
 }
 
-pub(crate) fn play() {
-    let active = first_key(fresh());
-    second_key(active);
-    refusals(active);
-    starts();
+pub(crate) fn play(rt: &impl Print) -> io::Result<()> {
+    let active = first_key(rt, fresh(rt)?)?;
+    second_key(rt, active)?;
+    refusals(rt, active)?;
+    starts(rt)
 }

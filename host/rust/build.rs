@@ -14,7 +14,7 @@ fn main() {
     println!("cargo:rerun-if-changed={}", archive.display());
     if !archive.is_file() {
         eprintln!("There is no {}.", archive.display());
-        eprintln!("Run `rt staticlib jazmotip` in the repository, or name the archive's folder in JAZMOTIP_LIB.");
+        eprintln!("Run `host/archive` in the repository, or name the archive's folder in JAZMOTIP_LIB.");
         exit(1);
     }
     println!("cargo:rustc-link-search=native={}", folder.display());

@@ -21,7 +21,7 @@
  *     8 octets.
  *   - An output overlaps nothing else that is lent in the same call; to seal or open a payload where it lies there are calls of
  *     their own. No length is above PTRDIFF_MAX.
- *   - Stack: 32 KiB are enough for a call of the OLT and for a script, 16 KiB for opening a block for a user of a class, and 5 KiB
+ *   - Stack: 32 KiB are enough for a call of the OLT, 48 KiB for a script, 16 KiB for opening a block for a user of a class, and 6 KiB
  *     for any other, with what is handed over by value and without the place of the answer. host/bench/run measures the calls of
  *     ends and capture blocks.
  *

@@ -15,7 +15,8 @@ use Rattle.cipher.specs.Steps.{next_key}
 use Rattle.cipher.specs.Words.{word, xor_words, rot_word, sub_word}
 
 -- a round key, from its four words, and the first of them from the last before it
-pub key_words : (k : List ℕ) (x : ℕ) {a b c d e k₀ k₁ k₂ k₃ last moved sub con r : List ℕ} → r ≡ word a 0 ++ (word b 0 ++ (word c 0 ++ word d 0))
+pub key_words : (k : List ℕ) (x : ℕ) {a b c d e k₀ k₁ k₂ k₃ last moved sub con r : List ℕ}
+    → r ≡ word a 0 ++ (word b 0 ++ (word c 0 ++ word d 0))
     → d ≡ xor_words k₃ c → c ≡ xor_words k₂ b → b ≡ xor_words k₁ a → a ≡ xor_words k₀ e → e ≡ xor_words sub con
     → sub ≡ sub_word moved → moved ≡ rot_word last → con ≡ constant_word x
     → last ≡ word k 3 → k₀ ≡ word k 0 → k₁ ≡ word k 1 → k₂ ≡ word k 2 → k₃ ≡ word k 3 → r ≡ next_key k x

@@ -48,7 +48,8 @@ four_octets {f} {r = r} e ea eb ec ed ha hb hc hd =
 
 -- the same of octets that a lent table gives
 pub four_substituted : {t : List ℕ} {f : ℕ → ℕ} {a b c d r : ℕ} → r ≡ a + b * 256 + (c + d * 256) * 65536
-    → BySbox t (a ≡ f 0) → BySbox t (b ≡ f 1) → BySbox t (c ≡ f 2) → BySbox t (d ≡ f 3) → a < 256 → b < 256 → c < 256 → d < 256 → BySbox t (Four f r)
+    → BySbox t (a ≡ f 0) → BySbox t (b ≡ f 1) → BySbox t (c ≡ f 2) → BySbox t (d ≡ f 3) → a < 256 → b < 256 → c < 256
+    → d < 256 → BySbox t (Four f r)
 four_substituted e ea eb ec ed ha hb hc hd =
     record { holds = λ s. four_octets e (ea.holds s) (eb.holds s) (ec.holds s) (ed.holds s) ha hb hc hd }
 
@@ -92,7 +93,8 @@ of_halves x z m {p} {q} low high =
 -- the substitutions of the four, from place k on
 pub four_by_two : {t : List ℕ} (x z k : ℕ) {p q a b c d r : ℕ} → r ≡ a + b * 256 + (c + d * 256) * 65536
     → TwoOctets x (4 * z) p → TwoOctets x (4 * z + 2) q
-    → BySbox t (a ≡ sbox (of_four p q ((k + 0) % 4))) → BySbox t (b ≡ sbox (of_four p q ((k + 1) % 4))) → BySbox t (c ≡ sbox (of_four p q ((k + 2) % 4)))
+    → BySbox t (a ≡ sbox (of_four p q ((k + 0) % 4))) → BySbox t (b ≡ sbox (of_four p q ((k + 1) % 4)))
+    → BySbox t (c ≡ sbox (of_four p q ((k + 2) % 4)))
     → BySbox t (d ≡ sbox (of_four p q ((k + 3) % 4))) → a < 256 → b < 256 → c < 256 → d < 256
     → BySbox t (Four (λ j. sbox (octet_at x (4 * z + (k + j) % 4))) r)
 four_by_two {t} x z k {p} {q} e low high ea eb ec ed =
@@ -111,7 +113,8 @@ eight {f} {l} {u} {r} a b both =
     }
 
 -- two fours
-pub both_fours : (f : ℕ → ℕ → ℕ) {l u r : ℕ} → Four (f 0) l → Four (f 1) u → Both l u r → (z c : ℕ) → z < 2 → c < 4 → octet_at r (4 * z + c) ≡ f z c
+pub both_fours : (f : ℕ → ℕ → ℕ) {l u r : ℕ} → Four (f 0) l → Four (f 1) u → Both l u r → (z c : ℕ) → z < 2 → c < 4
+    → octet_at r (4 * z + c) ≡ f z c
 both_fours f {l} {u} {r} a b both =
     by_halves (λ p z c. octet_at r p ≡ f z c) (λ c i. both.low c i ∙ a.octet c i) (λ c i. both.high c i ∙ b.octet c i)
 
@@ -182,7 +185,8 @@ shifted_two {k = k} {x = x} b f g =
 ---- MixColumns and AddRoundKey
 
 -- the sum of two words, doubled
-octet_double : (x y : ℕ) {e : ℕ} → e ≡ each_octet x_times 8 (x ⊕ y) → (j : ℕ) → j < 8 → octet_at e j ≡ x_times (octet_at x j) ⊕ x_times (octet_at y j)
+octet_double : (x y : ℕ) {e : ℕ} → e ≡ each_octet x_times 8 (x ⊕ y) → (j : ℕ) → j < 8
+    → octet_at e j ≡ x_times (octet_at x j) ⊕ x_times (octet_at y j)
 octet_double x y h j l =
     rw (h, octet_doubled (x ⊕ y) j l, octet_xor x y j) (double_sum (octet_at x j) (octet_at y j) (octet_below x j) (octet_below y j))
 
@@ -248,7 +252,8 @@ unfolding octet_at
 no_key-holds k s = simp xor_zero_r
 
 -- row k of one state, its key added before it was substituted and moved
-keyed_cells : (key : List ℕ) (s : Rows) (k : ℕ) {x : ℕ} → k < 4 → Four (λ j. sbox (octet_at (row_of s k) ((k + j) % 4) ⊕ cell key k ((k + j) % 4))) x
+keyed_cells : (key : List ℕ) (s : Rows) (k : ℕ) {x : ℕ} → k < 4
+    → Four (λ j. sbox (octet_at (row_of s k) ((k + j) % 4) ⊕ cell key k ((k + j) % 4))) x
     → (z c : ℕ) → z < 1 → c < 4 → octet_at x (4 * z + c) ≡ sbox (cell (state s 0) k ((c + k) % 4) ⊕ cell key k ((c + k) % 4))
 keyed_cells key s k h f z c i l =
     let first : z ≡ 0 = omega arith in

@@ -32,11 +32,13 @@ use Rattle.class.specs.Reading.{drift_for, told_of, call_for}
 use Rattle.class.specs.Secrecy.{example, first_sets, second_sets, first_rights, second_rights, first_block, second_block, Example}
 
 settings : (class_verdict true true example first_sets first_rights ≡ Accepted) × (class_verdict true true example second_sets second_rights ≡ Accepted)
-unfolding class_verdict user_fits counts_fit presences_fit llids_differ rights_fit each all both refuse_if pick set_from presence_fits presence_of llid_of bit_of low_cleared
+unfolding class_verdict user_fits counts_fit presences_fit llids_differ rights_fit each all both refuse_if pick set_from presence_fits
+    presence_of llid_of bit_of low_cleared
 settings = (refl, refl)
 
 directories : (directory_of first_block ≡ Good 2) × (directory_of second_block ≡ Good 2)
-unfolding directory_of pairs_from with_pair pair_of chained size_fits sized records_in offset_of length_of end_of due_of record_of record_header end_fits both either pick
+unfolding directory_of pairs_from with_pair pair_of chained size_fits sized records_in offset_of length_of end_of due_of record_of
+    record_header end_fits both either pick
 directories = (refl, refl)
 
 not_second : may_see (get_or (own_rights example first_rights) 1 0) ≡ false
@@ -81,7 +83,8 @@ unfolding record_of offset_of length_of
 same_records-holds = two _ (λ e. refl) (λ e. true_false (sym e ∙ second_hides))
 
 first_told : told_of true example first_sets first_rights first_block 0 ≡ Told Clear
-unfolding told_of drift_for judged_for told_to judged heard heard_at nearest record_verdict in_order key_verdict header_fits channel_fits downstream upstream flags_fit
+unfolding told_of drift_for judged_for told_to judged heard heard_at nearest record_verdict in_order key_verdict header_fits channel_fits
+    downstream upstream flags_fit
     enc_enabled low_cleared bit_of record_of offset_of length_of record_header own_rights set_from llid_of presence_of may_see may_open both either pick
 first_told = refl
 

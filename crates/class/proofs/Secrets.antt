@@ -145,7 +145,8 @@ module _ (near : Bool) (c : Caller) (s q b t p d : List ℕ) (a : Alike c s q b 
   same_row i h = same_by (λ x y. row_as (i + 1) (record_header y)) i h refl _ refl
 
   -- ---- the keys
-  expanded_by : (k : ℕ) → k / 2 < c.sets → (v : Bool) → may_open (get_or (own_rights c q) (k / 2) 0) ≡ v → is_expanded c s q k ≡ is_expanded c t p k
+  expanded_by : (k : ℕ) → k / 2 < c.sets → (v : Bool) → may_open (get_or (own_rights c q) (k / 2) 0) ≡ v
+      → is_expanded c s q k ≡ is_expanded c t p k
   unfolding is_expanded
   expanded_by k h true e = rw (← a.own, a.sets (k / 2) h (open_sees _ e))
   expanded_by k h false e = both_false_left _ e ∙ sym (both_false_left _ (sym (ap (λ (x : List ℕ). may_open (get_or x (k / 2) 0)) a.own) ∙ e))

@@ -22,7 +22,8 @@ pub hidden_short : (k : ℕ) → k < 10000 → length (hidden_row k) ≤ line_oc
 hidden_short k few = omega (arith, hidden_few k, decimal_below 3 k few)
 
 ---- the parts of an input
-pub input_parts : (x : List ℕ) (a b u : ℕ) (s q d : List ℕ) → a ≡ get_or x 0 0 → b ≡ get_or x 1 0 → u ≡ get_or x 2 0 → s ≡ part x 3 (41 * a)
+pub input_parts : (x : List ℕ) (a b u : ℕ) (s q d : List ℕ) → a ≡ get_or x 0 0 → b ≡ get_or x 1 0 → u ≡ get_or x 2 0
+    → s ≡ part x 3 (41 * a)
     → q ≡ part x (3 + 41 * a) (a * b) → d ≡ part x (3 + 41 * a + a * b) (length x)
     → body_for false (record { sets = a; users = b; user = u }) s q d ≡ body_for false (input_caller x) (input_sets x) (input_rights x) (input_block x)
 input_parts x a b u s q d ea eb eu es eq ed =

@@ -30,7 +30,8 @@ pub pair_off_end : (b : List ℕ) (i : ℕ) → offset_of b i ≡ due_of b i →
 unfolding pair_of chained both pick
 pair_off_end b i h e = rw (eq-eqb (offset_of b i) (due_of b i) h, e)
 
-pub pair_chained : (b : List ℕ) (i : ℕ) → offset_of b i ≡ due_of b i → ends b i ≡ true → pick (sized (record_of b i)) Fits OffLength ≡ pair_of b i
+pub pair_chained : (b : List ℕ) (i : ℕ) → offset_of b i ≡ due_of b i → ends b i ≡ true
+    → pick (sized (record_of b i)) Fits OffLength ≡ pair_of b i
 unfolding pair_of chained both pick
 pair_chained b i h e = rw (eq-eqb (offset_of b i) (due_of b i) h, e)
 

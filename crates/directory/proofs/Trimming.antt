@@ -133,7 +133,8 @@ module _ (b : List ℕ) (m : ℕ) (k : Keeps b m) (few : m ≤ records_in b) whe
       ap (λ (a : ℕ). number_at 4 (trimmed b m) a) (sym (add-zero (directory_octets i)))
       ∙ number_dropped 4 (trimmed b m) (directory_octets i) 0
       ∙ ap (λ (s : List ℕ). number_at 4 s 0) (one_pair i h)
-      ∙ four_back (start_of b m i) (octets_of 4 (length_of b i) ++ (pairs_rebuilt b m (suc i) (m - suc i) ++ records_from b 0 m)) (start_below i (omega arith))
+      ∙ four_back (start_of b m i) (octets_of 4 (length_of b i) ++ (pairs_rebuilt b m (suc i) (m - suc i) ++ records_from b 0 m))
+      (start_below i (omega arith))
 
   length_back : (i : ℕ) → i < m → length_of (trimmed b m) i ≡ length_of b i
   unfolding length_of

@@ -90,7 +90,8 @@ distinct_step l i h e a = rw (add-one, take-suc l i 0 h) (distinct_more (take i 
 -- one that is
 pub distinct_stop : (l : List ℕ) (i : ℕ) → i < length l → among (get_or l i 0) (take i l) ≡ true → distinct l ≡ false
 distinct_stop l i h a =
-    let split : l ≡ take i l ++ (get_or l i 0 ∷ drop (i + 1) l) = sym (take-append-drop i l) ∙ ap (λ (b : List ℕ). take i l ++ b) (drop_step l i 0 h) in
+    let split : l ≡ take i l ++ (get_or l i 0 ∷ drop (i + 1) l) = sym (take-append-drop i l)
+    ∙ ap (λ (b : List ℕ). take i l ++ b) (drop_step l i 0 h) in
     ap distinct split ∙ distinct_again (take i l) (get_or l i 0) (drop (i + 1) l) a
 
 -- a number twice in the first part

@@ -107,7 +107,8 @@ module _ (l marks : List ℕ) (x : ℕ) (few : length l + 1 < crowded) (m : Mark
 
 -- a number put behind the first n + j of a list, and its mark left
 pub marked_step : (list marks : List ℕ) (n j x m mark : ℕ) → n + j < length list → n + j + 1 < crowded → m ≡ mark_place x
-    → mark ≡ next_mark (get_or marks m 0) (n + j) → Marked (take (n + j) list) marks → Marked (take (n + (j + 1)) (set list (n + j) x)) (set marks m mark)
+    → mark ≡ next_mark (get_or marks m 0) (n + j) → Marked (take (n + j) list) marks
+    → Marked (take (n + (j + 1)) (set list (n + j) x)) (set marks m mark)
 marked_step list marks n j x m mark h few e f t =
     let len : length (take (n + j) list) ≡ n + j = length-take-le (n + j) list (omega arith) in
     rw (take_more list n j x h, f, e) (rw len at (marked_more (take (n + j) list) marks x (omega arith) t))

@@ -78,7 +78,8 @@ pub find_hit : (n : ℕ) (l : List UnitRecord) (i : ℕ) (d : UnitRecord) (llid 
 unfolding find_from pick
 find_hit n l i d llid h k e = rw (first_step n l i d h k, e)
 
-pub find_miss : (n : ℕ) (l : List UnitRecord) (i : ℕ) (d : UnitRecord) (llid : ℕ) → i < n → i < length l → has (get_or l i d).identity llid ≡ false
+pub find_miss : (n : ℕ) (l : List UnitRecord) (i : ℕ) (d : UnitRecord) (llid : ℕ) → i < n → i < length l
+    → has (get_or l i d).identity llid ≡ false
     → find_from i (drop i (take n l)) llid ≡ find_from (i + 1) (drop (i + 1) (take n l)) llid
 unfolding find_from pick
 find_miss n l i d llid h k e = rw (first_step n l i d h k, e, add-one)

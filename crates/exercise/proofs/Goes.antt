@@ -416,7 +416,8 @@ module _ (p : Play) (n r k : ℕ) (l : Lane) (x : Kept l n k p.clock p.key) wher
   down_arrives : Goes (with_olt p (olt_send_of p.olt unit_llid channel_down [] []).answer.olt) n r (lane_sent_down n (down l) l)
       (with_onu (with_olt p (olt_send_of p.olt unit_llid channel_down [] []).answer.olt)
       (onu_receive_of p.onu (olt_send_of p.olt unit_llid channel_down [] []).answer.header [] []).answer.onu) k
-  unfolding step run with_olt with_onu in_flight_arriving envelope_arriving at_onu with_lanes lane_sent_down lane_with leaving lane_taken lane_arrived_down down envelope_down
+  unfolding step run with_olt with_onu in_flight_arriving envelope_arriving at_onu with_lanes lane_sent_down lane_with leaving lane_taken
+      lane_arrived_down down envelope_down
   down_arrives =
       let j = length l.transit.towards in
       record {

@@ -78,7 +78,8 @@ steps s lost i (suc m) p n r l h =
 
 -- the unit is registered where its interval is in range
 is_registered-holds : (interval : ℕ) → valid_interval interval ≡ true → (register_of (fresh_olt_of olt_mac 0).olt unit_identity 0 interval).number ≡ 0
-unfolding register_of registering olt_answer register_verdict valid_registration reply refuse_if fresh_olt_of new_olt valid_olt both valid_mac valid_shared valid_channels
+unfolding register_of registering olt_answer register_verdict valid_registration reply refuse_if fresh_olt_of new_olt valid_olt both
+    valid_mac valid_shared valid_channels
     all distinct table_llids valid_identity either llids_of among meets
 is_registered-holds interval h = rw h refl
 

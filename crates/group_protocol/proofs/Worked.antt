@@ -21,16 +21,19 @@ unfolding both either pick all among distinct fresh_members marks_of places_of v
 member_rows = search
 
 pub switch_rows : SwitchRows
-unfolding both pick refuse_if on_zero only_key with_key free_from taken with_slots choice_aged choice_number key_for passage_of sending_of keys_after_send
+unfolding both pick refuse_if on_zero only_key with_key free_from taken with_slots choice_aged choice_number key_for passage_of sending_of
+    keys_after_send
     keys_switched key_in with_group_keys group_keys_after_send group_send_choice group_switches send_group wiped_at_switch
 switch_rows = search
 
 pub message_rows : MessageRows
-unfolding both either pick same refuse_if key_in with_key only_key fresh_joined highest_held holds held_again new_number joined_message_verdict joined_taken
+unfolding both either pick same refuse_if key_in with_key only_key fresh_joined highest_held holds held_again new_number
+    joined_message_verdict joined_taken
     joined_after_message joined_choice joined_moved joined_after_receipt
 message_rows = search
 
 pub receipt_rows : ReceiptRows
-unfolding both either pick refuse_if downstream key_in with_key only_key valid_header choice_verdict choice_number key_for fresh_joined highest_held holds
+unfolding both either pick refuse_if downstream key_in with_key only_key valid_header choice_verdict choice_number key_for fresh_joined
+    highest_held holds
     new_number joined_taken joined_after_message joined_choice joined_receive_verdict joined_moved joined_after_receipt
 receipt_rows = search

@@ -55,7 +55,8 @@ pub offer_reached : (way : Verdict) (s : Shared) (g : GroupRecord) (set : Bool) 
     ≡ reached_group way no_key_message s g (offer_group llid key set s g)
 unfolding offer_unit offer_group outcome group_outcome group_offered with_group_keys with_members unit_offered with_keys with_confirmation as_unit
 offer_reached way s g set llid key x r e f =
-    group_reached way no_key_message s g (as_unit g set) (offer_unit llid key s (as_unit g set)) (offer_group llid key set s g) (offer_as_unit g set key) refl refl x
+    group_reached way no_key_message s g (as_unit g set) (offer_unit llid key s (as_unit g set)) (offer_group llid key set s g)
+    (offer_as_unit g set key) refl refl x
     e r
     (f
     ∙ if_accepted-holds x.verdict _ _ g
@@ -73,7 +74,8 @@ pub retry_reached : (way : Verdict) (s : Shared) (g : GroupRecord) (set : Bool) 
     → record { verdict = x.verdict; group = g; channels = x.channels; handed = x.handed } ≡ reached_group way no_key_message s g (retry_group llid s g)
 unfolding retry_unit retry_group outcome group_outcome as_unit
 retry_reached way s g set llid x e =
-    group_reached way no_key_message s g (as_unit g set) (retry_unit llid s (as_unit g set)) (retry_group llid s g) refl refl refl x e g (same_after x.verdict g)
+    group_reached way no_key_message s g (as_unit g set) (retry_unit llid s (as_unit g set)) (retry_group llid s g) refl refl refl x e g
+    (same_after x.verdict g)
 
 pub send_reached : (way : Verdict) (s : Shared) (g : GroupRecord) (llid channel eqs : ℕ) (x : Outcome Sending)
     → x ≡ reached way no_sending s (as_unit g true) (send_unit llid channel eqs s (as_unit g true))

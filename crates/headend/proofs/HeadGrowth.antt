@@ -53,7 +53,8 @@ valid_after_fresh mac clock =
 ---- one unit more
 
 unit_registered_valid : (h : HeadEnd) (i : Identity) (trip interval : ℕ) → length h.olt.units ≡ max_units → valid_head h ≡ true
-    → on_valid (valid_head h) (unit_verdict h i trip interval) ≡ Accepted → valid_head (with_olt h (with_one_more h.olt (fresh_unit i trip interval))) ≡ true
+    → on_valid (valid_head h) (unit_verdict h i trip interval) ≡ Accepted
+    → valid_head (with_olt h (with_one_more h.olt (fresh_unit i trip interval))) ≡ true
 unfolding unit_verdict valid_registration with_olt
 unit_registered_valid h i trip interval len v e =
     let r = head_in_range h v in

@@ -102,7 +102,8 @@ pub answer_guarded : (h : HeadEnd) (r : Reply Olt Silence)
 unfolding olt_answered olt_answer head_answer reply
 answer_guarded h r = answer_by h r (valid_groups h)
 
-key_by : (h : HeadEnd) (r : Reply Olt KeyMessage) (t : Bool) → head_key_sent (pick t (in_head h r) (reply (Refused OutOfRange) h no_key_message h no_key_message))
+key_by : (h : HeadEnd) (r : Reply Olt KeyMessage) (t : Bool)
+    → head_key_sent (pick t (in_head h r) (reply (Refused OutOfRange) h no_key_message h no_key_message))
     ≡ pick t (head_key_sent (in_head h r)) (head_key_sent (reply (Refused OutOfRange) h no_key_message h no_key_message))
 unfolding pick
 key_by h r true = refl

@@ -160,7 +160,8 @@ module _ (h : HeadEnd) (none : h.groups.count ≡ 0) where
   as_advance n = rw (head_as_olt, groups_rest h.groups n none) (reply_as_olt _ _)
 
   as_send : (llid channel : ℕ) (p out : List ℕ) → head_send_of h llid channel p out ≡ sent_in h (olt_send_of h.olt llid channel p out)
-  unfolding head_send_of olt_send_of olt_sent sending_olt olt_sent_in pick with_olt output_after passed_count passed_runs choice_enciphered count_carried runs_carried
+  unfolding head_send_of olt_send_of olt_sent sending_olt olt_sent_in pick with_olt output_after passed_count passed_runs choice_enciphered
+      count_carried runs_carried
   as_send llid channel p out = sym (by_nowhere (find_group h llid) _ _ (no_group-holds h none llid)) ∙ by_valid (valid_groups h) refl where
     by_valid : (t : Bool) → valid_groups h ≡ t → let r = olt_send_of h.olt llid channel p out in
         olt_sent_in h r out ≡ sent_in h r
@@ -168,7 +169,8 @@ module _ (h : HeadEnd) (none : h.groups.count ≡ 0) where
     by_valid false e = rw (e, lift_invalid h.olt no_sending _ llid (send_unit llid channel (eqs_of p)) (no_groups_invalid h none e))
 
   as_receive : (header : Header) (p out : List ℕ) → head_receive_of h header p out ≡ received_in h (olt_receive_of h.olt header p out)
-  unfolding head_receive_of olt_receive_of olt_received receiving_olt olt_received_in pick with_olt output_after passed_count passed_runs choice_enciphered count_carried
+  unfolding head_receive_of olt_receive_of olt_received receiving_olt olt_received_in pick with_olt output_after passed_count passed_runs
+      choice_enciphered count_carried
       runs_carried
   as_receive header p out = sym (by_nowhere (find_group h header.llid) _ _ (no_group-holds h none header.llid)) ∙ by_valid (valid_groups h) refl where
     by_valid : (t : Bool) → valid_groups h ≡ t → let r = olt_receive_of h.olt header p out in

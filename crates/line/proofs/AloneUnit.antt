@@ -104,7 +104,8 @@ module _ (s : State) (u : ℕ) (v : valid_memberships (subscriber_at s u) ≡ tr
   unfolding in_flight_arriving run.in_flight_arriving
   clock_alone k out m c t =
       rw (onu_alone s u)
-      (message_alone k (subscriber_clock_message_of (subscriber_at s u) m) (clock_message_at (subscriber_at s u).onu m) (clock_message_onu (subscriber_at s u) v m))
+      (message_alone k (subscriber_clock_message_of (subscriber_at s u) m) (clock_message_at (subscriber_at s u).onu m)
+      (clock_message_onu (subscriber_at s u) v m))
 
   pub key_alone : (k : ℕ) (out : List ℕ) (m : KeyMessage) (t : ℕ) → find_joined (subscriber_at s u) m.llid ≡ Nowhere
       → alone (in_flight_arriving s u k out (key_message m t)) ≡ run.in_flight_arriving (alone s) u k out (key_message m t)

@@ -135,7 +135,8 @@ module _ (w : Setting) (s : State) (u : ℕ) (i : Invariant w s) where
 
   was_stranger : (y : Lane) (llid : ℕ) → Stranger gs y llid → Stranger s.history.groups y llid
   was_stranger y llid n k q e =
-      sym (ap (λ (z : GroupLane). is_member z y) (line_at k) ∙ member_moved u (now s) (group_lane_at s k) y) ∙ n k (omega (arith, q, lines)) (llid_at-holds k ∙ e)
+      sym (ap (λ (z : GroupLane). is_member z y) (line_at k) ∙ member_moved u (now s) (group_lane_at s k) y)
+      ∙ n k (omega (arith, q, lines)) (llid_at-holds k ∙ e)
 
   joins_lost : (v : ℕ) → v < length (lanes s) → Joins gs (lane_at (alone s) v) (subscriber_at s v) (joined_by s v)
   joins_lost v h =

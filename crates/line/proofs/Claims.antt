@@ -147,12 +147,14 @@ module _ (w : Setting) (s : State) (i : Invariant w s) where
 
   group_blocks : (g h m n a b : ℕ) → m < length (group_lane_at s g).sent → n < length (group_lane_at s h).sent
       → 1 ≤ (group_sent_at s g m).number → 1 ≤ (group_sent_at s h n).number
-      → get_or (group_lane_at s g).keys.offers ((group_sent_at s g m).number - 1) [] ≡ get_or (group_lane_at s h).keys.offers ((group_sent_at s h n).number - 1) []
+      → get_or (group_lane_at s g).keys.offers ((group_sent_at s g m).number - 1) []
+      ≡ get_or (group_lane_at s h).keys.offers ((group_sent_at s h n).number - 1) []
       → a < index_turn → b < index_turn
       → counter_block (group_nonce w (group_sent_at s g m)) a ≡ counter_block (group_nonce w (group_sent_at s h n)) b
       → (group g ≡ group h) × ((m ≡ n) × (a ≡ b))
   group_blocks g h m n a b hm hn pm pn key ha hb e =
-      let q = i.keys g h ((group_sent_at s g m).number - 1) ((group_sent_at s h n).number - 1) (group_offer_below g m hm pm) (group_offer_below h n hn pn) key in
+      let q = i.keys g h ((group_sent_at s g m).number - 1) ((group_sent_at s h n).number - 1) (group_offer_below g m hm pm)
+      (group_offer_below h n hn pn) key in
       let number : (group_sent_at s g m).number ≡ (group_sent_at s h n).number = omega (arith, pm, pn, q.1) in (
         ap group q.0,
         subst (λ (z : ℕ). n < length (group_lane_at s z).sent → (group_sent_at s g m).number ≡ (group_sent_at s z n).number
@@ -167,7 +169,8 @@ module _ (w : Setting) (s : State) (i : Invariant w s) where
   mixed_blocks u g m n hm hn pm pn key =
       let x = sent_alive w (alone s) u i.units (sent_at (alone s) u m) (mem_at _ m no_envelope hm) in
       absurd
-      (i.mixed u g ((sent_at (alone s) u m).number - 1) ((group_sent_at s g n).number - 1) (offer_below w (alone s) u m x hm pm) (group_offer_below g n hn pn) key)
+      (i.mixed u g ((sent_at (alone s) u m).number - 1) ((group_sent_at s g n).number - 1) (offer_below w (alone s) u m x hm pm)
+      (group_offer_below g n hn pn) key)
 
   blocks_apart : BlocksApart w s
   blocks_apart (unit u) (unit v) m n a b hm hn pm pn key ha hb e =

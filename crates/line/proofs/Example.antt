@@ -251,7 +251,8 @@ module _ {s : State} (c : Claim example s) where
         buffer = ap (λ (r : WithOutput SubscriberReceived). r.output) e;
       }
 
-  overheard_as : (u k : ℕ) {out : List ℕ} {number : ℕ} → overhears_group s u 0 k ≡ true → is_joined (joined_by s u) (group_sent_at s 0 k).llid ≡ false
+  overheard_as : (u k : ℕ) {out : List ℕ} {number : ℕ} → overhears_group s u 0 k ≡ true
+      → is_joined (joined_by s u) (group_sent_at s 0 k).llid ≡ false
       → number_of (overheard_for (misfit (group_sent_at s 0 k).octets out) (group_sent_at s 0 k).direction) ≡ number → Overheard s u k out number
   unfolding not_received
   overheard_as u k {out} hears stranger hnumber =

@@ -64,7 +64,8 @@ module _ (w : Setting) (c : Channels) (now : ℕ) (g : GroupLane) (r : GroupReco
       (group_keys_after_send (pick s (Next r.keys.offered) (pick z Clear (Current r.keys.active))) r.keys now)
       (pick s (Next r.keys.offered) (pick z Clear (Current r.keys.active)))
       (pick s (g.keys.switches + 1) g.keys.switches) (pick s now g.keys.switched)
-  unfolding pick group_keys_after_send wiped_at_switch keys_after_send keys_switched with_slots with_first choice_number choice_enciphered choice_aged group_switching
+  unfolding pick group_keys_after_send wiped_at_switch keys_after_send keys_switched with_slots with_first choice_number choice_enciphered
+      choice_aged group_switching
   chosen_by v true z e f =
       let more : g.keys.switches < length g.keys.offers = ltb-true _ _ (both_left _ _ e) in
       let is : r.keys.offered ≡ g.keys.switches + 1 = omega (arith, more, j.counted, j.listed, j.next) in

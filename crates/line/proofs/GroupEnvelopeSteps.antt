@@ -258,7 +258,8 @@ module _ (w : Setting) (s : State) (u g k : ℕ) (out : List ℕ) (i : Invariant
         (both_true (eq-eqb e.header.encenabled 1 (sealed_header some)) (not_of_false (ne_eqb x.onu.clock.synced 1 down)))
 
     not_opened : (x.onu.clock.synced ≡ 1 → ⊥) → 1 ≤ e.number → RefusedFor ClockNotSet s u e out
-    unfolding joined_lift put_joined receive_joined valid_subscriber group_receive_of subscriber_received output_after not_received passed_count passed_runs
+    unfolding joined_lift put_joined receive_joined valid_subscriber group_receive_of subscriber_received output_after not_received
+        passed_count passed_runs
         count_carried runs_carried choice_enciphered pick
     not_opened down some =
         receiving_is

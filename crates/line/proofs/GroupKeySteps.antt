@@ -155,7 +155,8 @@ module _ (w : Setting) (s : State) (g : ℕ) (i : Invariant w s) (known : g < le
 
   ---- a retry
 
-  module _ (m : KeyMessage) (level : record_of-holds.keys.active < record_of-holds.keys.offered) (message : m ≡ key_message_of line_of.llid record_of-holds.keys) where
+  module _ (m : KeyMessage) (level : record_of-holds.keys.active < record_of-holds.keys.offered)
+      (message : m ≡ key_message_of line_of.llid record_of-holds.keys) where
     abbrev again : GroupLane
     again = group_leaving (lanes s) (key_message m (now s)) line_of
 

@@ -150,7 +150,8 @@ module _ (w : Setting) (s : State) (u g k : ℕ) (out : List ℕ) (i : Invariant
         untaken = λ llid n m. other llid m (apart llid n) ∙ old.untaken llid n m;
       }
 
-  module _ (j : ℕ) (m : KeyMessage) (t : ℕ) (answer : Answer) (found : find_joined x lane.llid ≡ At j) (is : group_in_flight_at s u g k ≡ key_message m t)
+  module _ (j : ℕ) (m : KeyMessage) (t : ℕ) (answer : Answer) (found : find_joined x lane.llid ≡ At j)
+      (is : group_in_flight_at s u g k ≡ key_message m t)
       (fits : either (new_number (joined_at x j) m) (held_again (joined_at x j) m) ≡ true)
       (same : answer.number ≡ m.number) where
     abbrev after : GroupLane

@@ -34,7 +34,8 @@ unfolding
     highest_held holds held_again new_number joined_message_verdict joined_taken joined_after_message group_answer message_joined joined_choice
     joined_receive_verdict joined_moved joined_after_receipt receive_joined
     by_llid put_group group_lift
-    head_answer head_key_sent olt_answered olt_clock_sent olt_key_sent fresh_head_of unit_verdict head_register_of place_found roster_members valid_group_registration
+    head_answer head_key_sent olt_answered olt_clock_sent olt_key_sent fresh_head_of unit_verdict head_register_of place_found
+    roster_members valid_group_registration
     group_verdict register_group_of groups_advanced head_advanced head_advance_of head_capture_of head_measure_of head_clock_send_of head_offer_of head_retry_of
     own_acknowledgement head_acknowledge_of
     olt_sent_in head_sent head_send_of olt_received_in group_receive_verdict head_receive_of
@@ -45,8 +46,10 @@ unfolding
     history.group_offered is_member group_switching group_number group_with leaving_for group_leaving group_sent group_taken group_answered group_arrived
     answer_again group_moved is_joined has_taken joining taking
     alone fresh_subscriber start no_subscriber no_group_lane noted_for at_head at_unit at_unit_alone advancing registering new_group_lane registering_group
-    clock_sent_alone key_sent_alone clock_sending_to offering_to retrying_to head_passage envelope_down sending_down joining_at envelope_up sending_up answer_alone
-    message_arriving receipt_down in_flight_arriving group_message_arriving group_passage group_receipt group_in_flight_arriving receipt_up arriving_up answering
+    clock_sent_alone key_sent_alone clock_sending_to offering_to retrying_to head_passage envelope_down sending_down joining_at envelope_up
+    sending_up answer_alone
+    message_arriving receipt_down in_flight_arriving group_message_arriving group_passage group_receipt group_in_flight_arriving receipt_up
+    arriving_up answering
     changing_path
     subscriber_after head_after step runs
     registrations joins clocks first_key overheard missed_key next_key back_again joined_stranger path_change synced_again over_the_new_path

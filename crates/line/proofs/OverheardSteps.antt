@@ -157,7 +157,8 @@ group_overheard w s i u g k out h =
 
 ---- the events
 
-pub subscriber_stays : (w : Setting) (s : State) (u : ℕ) (x : Subscriber) → x ≡ subscriber_at s u → Invariant w s → Invariant w (subscriber_after s u x)
+pub subscriber_stays : (w : Setting) (s : State) (u : ℕ) (x : Subscriber) → x ≡ subscriber_at s u → Invariant w s
+    → Invariant w (subscriber_after s u x)
 unfolding subscriber_after
 subscriber_stays w s u x e i = rw (e, set-get_or s.subscribers u no_subscriber) i
 

@@ -92,7 +92,8 @@ pub stray_clock_right : (w : Setting) (s : State) (u : ℕ) (m : Stamps) → Inv
 unfolding step
 stray_clock_right w s u m i n = subscriber_stays w s u _ (clock_refused (subscriber_at s u) (memberships_right w s i u) m n) i
 
-pub stray_key_right : (w : Setting) (s : State) (u : ℕ) (m : KeyMessage) → Invariant w s → Fits w s (stray_key u m) → Invariant w (step s (stray_key u m))
+pub stray_key_right : (w : Setting) (s : State) (u : ℕ) (m : KeyMessage) → Invariant w s → Fits w s (stray_key u m)
+    → Invariant w (step s (stray_key u m))
 unfolding step
 stray_key_right w s u m i n = subscriber_stays w s u _ (key_refused (subscriber_at s u) (memberships_right w s i u) m n) i
 

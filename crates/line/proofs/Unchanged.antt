@@ -15,7 +15,8 @@ use Rattle.line.specs.Without.{NoChange, NoChanges, Unchanged}
 
 module _ (s : State) (e : (u : ℕ) → AsStarted (lane_at (alone s) u)) where
   in_flight_as : (u k : ℕ) (out : List ℕ) (x : InFlight) (v : ℕ) → AsStarted (lane_at (alone (in_flight_arriving s u k out x)) v)
-  unfolding alone in_flight_arriving message_arriving at_unit_alone at_unit at_onu with_lanes lane_answered lane_arrived_down lane_taken lane_with arriving
+  unfolding alone in_flight_arriving message_arriving at_unit_alone at_unit at_onu with_lanes lane_answered lane_arrived_down lane_taken
+      lane_with arriving
   in_flight_as u k out (clock_message m c t) v = each_set (lanes s) u _ (noted_as _ _ _ (e u) (e u)) e v
   in_flight_as u k out (key_message m t) v = each_set (lanes s) u _ (noted_as _ _ _ (e u) (e u)) e v
   in_flight_as u k out (envelope x) v = each_set (lanes s) u _ (e u) e v
@@ -27,7 +28,8 @@ module _ (s : State) (e : (u : ℕ) → AsStarted (lane_at (alone s) u)) where
   group_in_flight_as u g k out (envelope x) v = e v
 
   step_as : (x : Event) → NoChange x → (v : ℕ) → AsStarted (lane_at (alone (step s x)) v)
-  unfolding alone step advancing registering registering_group entering at_head at_unit_alone at_unit at_olt at_onu at_olt_for with_lanes clock_sending_to clock_sending
+  unfolding alone step advancing registering registering_group entering at_head at_unit_alone at_unit at_olt at_onu at_olt_for with_lanes
+      clock_sending_to clock_sending
       offering_to offering retrying_to retrying sending_down joining_at sending_up arriving_up answering subscriber_after head_after
       lane_registered lane_captured lane_leaving lane_offered lane_acknowledged lane_sent_down lane_sent_up lane_arrived_up lane_with
       sending arriving envelope_down envelope_up

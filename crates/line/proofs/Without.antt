@@ -217,7 +217,8 @@ module _ (w : Setting) (s : State) (i : Invariant w s) (p : Plain s) where
   in_flight_plain u k out (envelope e) = own_plain u _ _
 
   plain_stays : (e : units.Event) → Plain (step s (plain e))
-  unfolding plain step advancing line.registering changing_path clock_sending_to offering_to retrying_to sending_down sending_up arriving_up answering subscriber_after
+  unfolding plain step advancing line.registering changing_path clock_sending_to offering_to retrying_to sending_down sending_up arriving_up
+      answering subscriber_after
       head_after at_head
   plain_stays (units.advance n) = record { groups = p.groups; joined = p.joined }
   plain_stays (units.register u x trip interval) = record { groups = p.groups; joined = p.joined }

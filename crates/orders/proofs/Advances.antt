@@ -64,7 +64,8 @@ head_accepts : (h : HeadEnd) (n : ℕ) → valid_head h ≡ true → h.olt.share
     → head_advance_of h n ≡ record { number = 0; head = head_advanced h n }
 head_accepts h n v k = growth.advance_moves h n v (advance_accepts h.olt.shared.tick n k)
 
-head_advances-holds : (h : HeadEnd) (m n : ℕ) → (head_advance_of h (m + n)).number ≡ 0 → head_advance_of (head_advance_of h m).head n ≡ head_advance_of h (m + n)
+head_advances-holds : (h : HeadEnd) (m n : ℕ) → (head_advance_of h (m + n)).number ≡ 0
+    → head_advance_of (head_advance_of h m).head n ≡ head_advance_of h (m + n)
 unfolding head_advance_of head_answer head_advanced olt_advanced shared_advanced
 head_advances-holds h m n e =
     let a = refuse_accepted _ _ _ (sym (reply_verdict _ h silent (head_advanced h (m + n)) silent) ∙ number_accepted _ e) in

@@ -57,7 +57,8 @@ unfolding
     sending_olt
     advance_onu_of advancing_onu changes_after fresh_onu_of fresh_onu_verdict near_time new_time_of new_time_verdict onu_answer onu_reply onu_retimed time_ahead
     advance_verdict reply
-    acknowledge_unit capture_unit clock_acknowledged_unit clock_after_send clock_captured clock_message_of clock_send_unit clock_send_verdict key_message_of keys_offered
+    acknowledge_unit capture_unit clock_acknowledged_unit clock_after_send clock_captured clock_message_of clock_send_unit
+    clock_send_verdict key_message_of keys_offered
     measure_unit retry_unit retry_verdict
     keys_after_send send_unit switches unit_send_choice unit_send_verdict
     carried count_carried runs_carried

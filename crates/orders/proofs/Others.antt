@@ -55,7 +55,8 @@ put_groups h (group i) c own k llid =
     group_place 0 (take n (set t i own)) llid ∙ ap (λ (l : List ℕ). place_from 0 l llid) same ∙ sym (group_place 0 (take n t) llid)
 put_groups h nobody c own k llid = refl
 
-pub put_party : (h : HeadEnd) (p : Party) (c : Channels) (own : Own p) → Kept p own (own_of h p) → (y : Call) → party_of (put h p c own) y ≡ party_of h y
+pub put_party : (h : HeadEnd) (p : Party) (c : Channels) (own : Own p) → Kept p own (own_of h p) → (y : Call)
+    → party_of (put h p c own) y ≡ party_of h y
 unfolding party_of
 put_party h p c own k y = rw (put_groups h p c own k (llid_of y), find_same (put h p c own).olt h.olt (llid_of y) (put_units h p c own k))
 

@@ -7,6 +7,7 @@ use Rattle.subscriber.specs.SubscriberCalls.{subscriber_advance_of}
 
 -- wherever the sum is accepted
 pub record Advances : Type 0 where
-  pub head : (h : HeadEnd) (m n : ℕ) → (head_advance_of h (m + n)).number ≡ 0 → head_advance_of (head_advance_of h m).head n ≡ head_advance_of h (m + n)
+  pub head : (h : HeadEnd) (m n : ℕ) → (head_advance_of h (m + n)).number ≡ 0
+      → head_advance_of (head_advance_of h m).head n ≡ head_advance_of h (m + n)
   pub subscriber : (s : Subscriber) (m n : ℕ) → (subscriber_advance_of s (m + n)).number ≡ 0
       → subscriber_advance_of (subscriber_advance_of s m).subscriber n ≡ subscriber_advance_of s (m + n)

@@ -56,7 +56,8 @@ module _ {r out out₀ out₁ out₂ out₃ : List ℕ} {place : ℕ → ℕ →
   later : (k : ℕ) → get_or out₀ k 0 ≡ get_or r k 0 → get_or out₃ k 0 ≡ get_or r k 0
   later k h = w.kept k (v.kept k (u.kept k h))
 
-  octet : (i : ℕ) → c ≤ i → i < c + 3 → (s t : Bool) → eqb i c ≡ s → eqb i (c + 1) ≡ t → get_or out₃ (place i e) 0 ≡ get_or r (place i e) 0
+  octet : (i : ℕ) → c ≤ i → i < c + 3 → (s t : Bool) → eqb i c ≡ s → eqb i (c + 1) ≡ t
+      → get_or out₃ (place i e) 0 ≡ get_or r (place i e) 0
   octet i a b true t p q = let z : i ≡ c = eqb-true i c p in rw z (w.kept (place c e) (v.kept (place c e) u.right))
   octet i a b false true p q = let z : i ≡ c + 1 = eqb-true i (c + 1) q in rw z (w.kept (place (c + 1) e) v.right)
   octet i a b false false p q = let z : i ≡ c + 2 = omega (arith, eqb-false i c p, eqb-false i (c + 1) q) in rw z w.right
@@ -127,7 +128,8 @@ module _ (p out now : List ℕ) (n c at from e : ℕ) (size : Sized p out n) (gr
 
   pub rearrange_turn : Moved (rearranged p) out now (place_in_planes n) c (c + 3) from e
       → Moved (rearranged p) out
-      (three now (at + e) (get_or p (eq_octets * e + c) 0) (at + (n + e)) (get_or p (eq_octets * e + c + 1) 0) (at + (2 * n + e)) (get_or p (eq_octets * e + c + 2) 0))
+      (three now (at + e) (get_or p (eq_octets * e + c) 0) (at + (n + e)) (get_or p (eq_octets * e + c + 1) 0) (at + (2 * n + e))
+      (get_or p (eq_octets * e + c + 2) 0))
       (place_in_planes n) c (c + 3) from (e + 1)
   rearrange_turn m =
       let r = rearranged p in
@@ -139,7 +141,8 @@ module _ (p out now : List ℕ) (n c at from e : ℕ) (size : Sized p out n) (gr
 
   pub restore_turn : Moved (restored p) out now place_in_eqs c (c + 3) from e
       → Moved (restored p) out
-      (three now (eq_octets * e + c) (get_or p (at + e) 0) (eq_octets * e + c + 1) (get_or p (at + (n + e)) 0) (eq_octets * e + c + 2) (get_or p (at + (2 * n + e)) 0))
+      (three now (eq_octets * e + c) (get_or p (at + e) 0) (eq_octets * e + c + 1) (get_or p (at + (n + e)) 0) (eq_octets * e + c + 2)
+      (get_or p (at + (2 * n + e)) 0))
       place_in_eqs c (c + 3) from (e + 1)
   restore_turn m =
       let r = restored p in

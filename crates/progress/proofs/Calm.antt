@@ -91,7 +91,8 @@ acknowledge_keeps : (a : Acknowledgement) (sh : Shared) (u : UnitRecord) → u.c
 unfolding acknowledge_unit clock_acknowledged_unit key_acknowledged_unit outcome with_clock with_confirmation pick
 acknowledge_keeps a sh u h = by_kind (eqb a.kind clock_kind) (eqb a.kind key_kind) where
   by_kind : (t k : Bool)
-      → (pick t (clock_acknowledged_unit sh u) (pick k (key_acknowledged_unit a.number sh u) (outcome sh (Refused NothingOutstanding) u silent))).unit.clock.acknowledged
+      → (pick t (clock_acknowledged_unit sh u)
+      (pick k (key_acknowledged_unit a.number sh u) (outcome sh (Refused NothingOutstanding) u silent))).unit.clock.acknowledged
       ≡ 1
   by_kind true k = refl
   by_kind false true = h
@@ -168,11 +169,13 @@ advance_stays w s n i v h = by_range (leb (s.olt.shared.tick + n) max_tick) refl
 
 -- the calls of the OLT, and those on one unit
 unfoldable calls : Unit {0}
-unfolding step capture_of clock_sending clock_send_of clock_sent offering offer_of key_sent retrying retry_of answering acknowledge_of olt_answer arriving_up receiving_olt
+unfolding step capture_of clock_sending clock_send_of clock_sent offering offer_of key_sent retrying retry_of answering acknowledge_of
+    olt_answer arriving_up receiving_olt
 calls = tt
 
 unfoldable units : Unit {0}
-unfolding olt_receive_of olt_received at_olt at_olt_for with_lanes capture_unit clock_send_unit offer_unit unit_offered retry_unit receive_unit outcome with_clock with_keys
+unfolding olt_receive_of olt_received at_olt at_olt_for with_lanes capture_unit clock_send_unit offer_unit unit_offered retry_unit
+    receive_unit outcome with_clock with_keys
 units = tt
 
 unfoldable records : Unit {0}

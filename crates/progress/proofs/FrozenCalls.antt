@@ -131,7 +131,8 @@ acknowledged_first : (a : Acknowledgement) (sh : Shared) (x : UnitRecord) → (a
 unfolding acknowledge_unit clock_acknowledged_unit key_acknowledged_unit outcome with_clock with_confirmation pick
 acknowledged_first a sh x = by_kind (eqb a.kind clock_kind) (eqb a.kind key_kind) where
   by_kind : (t k : Bool)
-      → (pick t (clock_acknowledged_unit sh x) (pick k (key_acknowledged_unit a.number sh x) (outcome sh (Refused NothingOutstanding) x silent))).unit.keys.first
+      → (pick t (clock_acknowledged_unit sh x)
+      (pick k (key_acknowledged_unit a.number sh x) (outcome sh (Refused NothingOutstanding) x silent))).unit.keys.first
       ≡ x.keys.first
   by_kind true k = refl
   by_kind false true = refl
@@ -158,7 +159,8 @@ pub registering_first : (o : Olt) (identity : Identity) (trip interval i : ℕ) 
     → (unit_at (register_of o identity trip interval).olt i).keys.first ≡ (unit_at o i).keys.first
 unfolding register_of registering olt_answer
 registering_first o identity trip interval i h =
-    reply_keeps (λ (p : Olt). (unit_at p i).keys.first ≡ (unit_at o i).keys.first) _ o silent (with_one_more o (fresh_unit identity trip interval)) silent refl
+    reply_keeps (λ (p : Olt). (unit_at p i).keys.first ≡ (unit_at o i).keys.first) _ o silent
+    (with_one_more o (fresh_unit identity trip interval)) silent refl
     (λ a. ap (λ (x : UnitRecord). x.keys.first) (more_other o (fresh_unit identity trip interval) i (λ e. omega (arith, e, h))))
 
 pub capture_frozen : (b : Bool) (s : State) (u mine llid : ℕ) → Frozen b s u mine → Frozen b (step s (capture llid)) u mine

@@ -59,7 +59,8 @@ module _ (w : Setting) (g : ℕ) (x : InFlight) (s0 s1 : State) (P : ℕ → Sta
     pub tick : now (runs t es) ≤ last
 
   due_now : (t : State) (u : ℕ) → lanes t ≡ lanes s0 → now t ≡ now s0 + down_to s0 u → Waits t u
-      → DueOfGroup t u g (length (get_or (group_lane_at s0 g).towards u [])) [] × (group_in_flight_at t u g (length (get_or (group_lane_at s0 g).towards u [])) ≡ x)
+      → DueOfGroup t u g (length (get_or (group_lane_at s0 g).towards u [])) []
+      × (group_in_flight_at t u g (length (get_or (group_lane_at s0 g).towards u [])) ≡ x)
   due_now t u same tick waits =
       let there : group_in_flight_at t u g (length (get_or (group_lane_at s0 g).towards u [])) ≡ x =
       last_is _ (get_or (group_lane_at s0 g).towards u []) x _ waits in (

@@ -48,7 +48,8 @@ unfoldable lanes_opened : Unit {0}
 unfolding lane_with lane_captured lane_leaving lane_acknowledged lane_taken lane_answered lane_arrived_down
 lanes_opened = tt
 
-in_flight_kept : (s : State) (u k : ℕ) (out : List ℕ) (x : InFlight) (v : ℕ) → kept_of (lane_at (in_flight_arriving s u k out x) v) ≡ kept_of (lane_at s v)
+in_flight_kept : (s : State) (u k : ℕ) (out : List ℕ) (x : InFlight) (v : ℕ)
+    → kept_of (lane_at (in_flight_arriving s u k out x) v) ≡ kept_of (lane_at s v)
 unfolding in_flight_arriving message_arriving envelope_arriving at_onu with_lanes lanes_opened
 in_flight_kept s u k out (clock_message m c t) v = set_stays kept_of s u _ (noted_keeps kept_of _ _ (lane_taken k (lane_at s u)) refl) v
 in_flight_kept s u k out (key_message m t) v = set_stays kept_of s u _ (noted_keeps kept_of _ _ (lane_taken k (lane_at s u)) refl) v

@@ -256,7 +256,8 @@ module _ (w : Setting) (s : State) (g : ℕ) (i : Invariant w s) (here : g < len
       buffer : FittingBuffer (envelope x) []
       buffer =
           let known4 : g < length s4.history.groups = omega (arith, here3, goes.leaves.count) in
-          let among : Memᴰ x (group_lane_at s4 g).sent = rw goes.sent (mathlib.Core.List.Memᴰ.append_right (group_lane_at s3 g).sent (mathlib.Core.List.Memᴰ.head refl)) in
+          let among : Memᴰ x (group_lane_at s4 g).sent = rw goes.sent
+          (mathlib.Core.List.Memᴰ.append_right (group_lane_at s3 g).sent (mathlib.Core.List.Memᴰ.head refl)) in
           let right = ((i4.group g known4).sends x among).right in
           sym (ap length right.octets ∙ carried_length (is_sealed x) _ _ x.payload ∙ ap length goes.payload)
 
@@ -270,7 +271,8 @@ module _ (w : Setting) (s : State) (g : ℕ) (i : Invariant w s) (here : g < len
       abbrev Opens : ℕ → State → Type 0
       Opens u t = is_joined (joined_by s u) l.llid ≡ true → is_synced (lane_at (alone s) u) ≡ true → Came g u x t
 
-      envelope_arrives : (t : State) (u k : ℕ) → Invariant w t → Stays g s4 t → (d : DueOfGroup t u g k []) → group_in_flight_at t u g k ≡ envelope x
+      envelope_arrives : (t : State) (u k : ℕ) → Invariant w t → Stays g s4 t → (d : DueOfGroup t u g k [])
+          → group_in_flight_at t u g k ≡ envelope x
           → Comes g u t (step t (arrive_group u g k [])) × Opens u (step t (arrive_group u g k []))
       unfolding group_receipt
       envelope_arrives t u k v stays d is =

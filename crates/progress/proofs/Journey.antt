@@ -42,9 +42,11 @@ unfolding clock_round answered_round pick
 clock_calm u llid s = by_synced (is_synced (lane_at s u)) where
   by_synced : (t : Bool)
       → Calms
-      (pick t (arrive_answer u (clock_place (lane_at s u).transit.answered) llid ∷ []) (capture llid ∷ clock_send llid ∷ answered_round u llid (lane_at s u)))
+      (pick t (arrive_answer u (clock_place (lane_at s u).transit.answered) llid ∷ [])
+      (capture llid ∷ clock_send llid ∷ answered_round u llid (lane_at s u)))
       × Unofferings
-      (pick t (arrive_answer u (clock_place (lane_at s u).transit.answered) llid ∷ []) (capture llid ∷ clock_send llid ∷ answered_round u llid (lane_at s u)))
+      (pick t (arrive_answer u (clock_place (lane_at s u).transit.answered) llid ∷ [])
+      (capture llid ∷ clock_send llid ∷ answered_round u llid (lane_at s u)))
   by_synced true = ((tt, tt), (tt, tt))
   by_synced false = ((tt, (tt, (tt, (tt, (tt, (tt, tt)))))), (tt, (tt, (tt, (tt, (tt, (tt, tt)))))))
 

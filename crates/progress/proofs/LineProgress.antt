@@ -51,5 +51,6 @@ line_progress-holds w es u llid key f m able new =
     (own_list w s (recipe u llid key (alone s)) u llid key i able.registered able.named new.groups (owns_recipe u llid key (alone s)) b.meets)
     (subst
     (λ (t : ℕ).
-    without.Brings w (alone s) u (confirmed_by (lane_at (alone s) u) + 1) (limit_of (lane_at (alone s) u)) (max_events + 2 * awaited_count (lane_at (alone s) u) t)
+    without.Brings w (alone s) u (confirmed_by (lane_at (alone s) u) + 1) (limit_of (lane_at (alone s) u))
+    (max_events + 2 * awaited_count (lane_at (alone s) u) t)
     (recipe u llid key (alone s))) (now_alone s) b)

@@ -48,7 +48,8 @@ in_flight_offers s u k out (key_message m t) = set_stays offers_of s u _ (noted_
 in_flight_offers s u k out (envelope e) = set_stays offers_of s u _ refl
 
 offers_step : (s : State) (e : Event) → Unoffering e → SameOffers s (step s e)
-unfolding step advancing clock_sending answering arriving_up at_olt_for with_lanes lane_captured lane_leaving lane_acknowledged lane_arrived_up lane_with
+unfolding step advancing clock_sending answering arriving_up at_olt_for with_lanes lane_captured lane_leaving lane_acknowledged
+    lane_arrived_up lane_with
 offers_step s (advance n) c v = refl
 offers_step s (capture llid) c v = at_olt_keeps offers_of s _ _ llid _ (λ l. refl) v
 offers_step s (clock_send llid) c v = at_olt_keeps offers_of s _ _ llid _ (λ l. refl) v

@@ -117,14 +117,16 @@ abbrev pub whose : Lane → Site × Entry
 whose l = (l.site, l.entry)
 
 unfoldable lanes : Unit {0}
-unfolding lane_with lane_captured lane_leaving lane_offered lane_acknowledged lane_sent_down lane_sent_up lane_taken lane_answered lane_arrived_down lane_arrived_up
+unfolding lane_with lane_captured lane_leaving lane_offered lane_acknowledged lane_sent_down lane_sent_up lane_taken lane_answered
+    lane_arrived_down lane_arrived_up
 lanes = tt
 
 unfoldable steps : Unit {0}
 unfolding step advancing clock_sending offering retrying sending_down sending_up answering arriving_up at_onu at_olt_for with_lanes
 steps = tt
 
-in_flight_whose : (s : State) (u k : ℕ) (out : List ℕ) (x : InFlight) (v : ℕ) → whose (lane_at (in_flight_arriving s u k out x) v) ≡ whose (lane_at s v)
+in_flight_whose : (s : State) (u k : ℕ) (out : List ℕ) (x : InFlight) (v : ℕ)
+    → whose (lane_at (in_flight_arriving s u k out x) v) ≡ whose (lane_at s v)
 unfolding in_flight_arriving message_arriving envelope_arriving at_onu with_lanes lanes
 in_flight_whose s u k out (clock_message m c t) v = set_stays whose s u _ (noted_keeps whose _ _ (lane_taken k (lane_at s u)) refl) v
 in_flight_whose s u k out (key_message m t) v = set_stays whose s u _ (noted_keeps whose _ _ (lane_taken k (lane_at s u)) refl) v

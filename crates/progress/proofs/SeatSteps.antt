@@ -83,7 +83,8 @@ sits s t a b c d e = record { registrations = a; whose = b; count = c; roster = 
 ---- everything but registrations
 
 unfoldable lanes_opened : Unit {0}
-unfolding lane_with lane_captured lane_leaving lane_offered lane_acknowledged lane_sent_down lane_sent_up lane_taken lane_answered lane_arrived_down lane_arrived_up lane_moved
+unfolding lane_with lane_captured lane_leaving lane_offered lane_acknowledged lane_sent_down lane_sent_up lane_taken lane_answered
+    lane_arrived_down lane_arrived_up lane_moved
 lanes_opened = tt
 
 unfoldable groups_opened : Unit {0}
@@ -91,7 +92,8 @@ unfolding group_with group_offered group_leaving group_sent group_taken group_an
 groups_opened = tt
 
 unfoldable steps_opened : Unit {0}
-unfolding alone step advancing at_head at_unit_alone at_unit at_olt at_onu at_olt_for with_lanes clock_sending_to clock_sending offering_to offering retrying_to retrying
+unfolding alone step advancing at_head at_unit_alone at_unit at_olt at_onu at_olt_for with_lanes clock_sending_to clock_sending offering_to
+    offering retrying_to retrying
     sending_down joining_at sending_up arriving_up answering changing_path changing subscriber_after head_after
 steps_opened = tt
 

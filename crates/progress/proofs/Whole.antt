@@ -132,7 +132,8 @@ pub up_overdue : (l : Lane) (es : List Envelope) (x : Envelope) (now : ℕ) → 
 up_overdue l es x now e q h = rw e (late_last (λ (y : Envelope). y.left + l.path.up) now es x q h)
 
 -- what is overdue stays the same, and so does what is awaited
-pub same_keeps : (l : Lane) (now later : ℕ) → overdue later (due_down l) ≡ overdue now (due_down l) → overdue later (due_up l) ≡ overdue now (due_up l)
+pub same_keeps : (l : Lane) (now later : ℕ) → overdue later (due_down l) ≡ overdue now (due_down l)
+    → overdue later (due_up l) ≡ overdue now (due_up l)
     → awaited_count l later ≡ awaited_count l now
 same_keeps l now later d u =
     omega (

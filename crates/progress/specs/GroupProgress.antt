@@ -159,7 +159,8 @@ pub record GroupBrings (w : Setting) (s : State) (g n ticks events : ℕ) (es : 
   pub next : Envelope
   pub sent : (group_lane_at (runs s es) g).sent ≡ (group_lane_at s g).sent ++ (next ∷ [])
   pub numbered : next.number ≡ n
-  pub opened : (u : ℕ) → member_of s g u ≡ true → is_joined (joined_by s u) (group_lane_at s g).llid ≡ true → is_synced (lane_at (alone s) u) ≡ true
+  pub opened : (u : ℕ) → member_of s g u ≡ true → is_joined (joined_by s u) (group_lane_at s g).llid ≡ true
+      → is_synced (lane_at (alone s) u) ≡ true
       → OpenedAt w (group_lane_at (runs s es) g) u next
   pub soon : now (runs s es) ≤ now s + ticks
   pub short : length es ≤ events

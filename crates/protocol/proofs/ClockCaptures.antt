@@ -44,7 +44,8 @@ find_advanced p n llid =
     from_same 0 (registered (olt_advanced p n)) (registered p) llid
     (rw (take_first (unit_advanced n) p.count p.units) (map_same (unit_advanced n) identity_of (unit_identity-holds n) (registered p)))
 
-advanced_follows : (o : Olt) (i llid : ℕ) (c : UnitClock) (p : Olt) (n : ℕ) → find o llid ≡ At i → Follows o i c p → Follows o i c (olt_advanced p n)
+advanced_follows : (o : Olt) (i llid : ℕ) (c : UnitClock) (p : Olt) (n : ℕ) → find o llid ≡ At i → Follows o i c p
+    → Follows o i c (olt_advanced p n)
 unfolding olt_advanced shared_advanced unit_advanced with_keys
 advanced_follows o i llid c p n f h =
     record {
@@ -59,7 +60,8 @@ advances_follow : (o : Olt) (i llid : ℕ) (c : UnitClock) (p : Olt) (ns : List 
 unfolding after_advances advance_olt_of advancing_olt olt_answer
 advances_follow o i llid c p [] f h = h
 advances_follow o i llid c p (n ∷ ns) f h =
-    advances_follow o i llid c (advance_olt_of p n).olt ns f (reply_keeps (Follows o i c) _ p silent (olt_advanced p n) silent h (λ a. advanced_follows o i llid c p n f h))
+    advances_follow o i llid c (advance_olt_of p n).olt ns f
+    (reply_keeps (Follows o i c) _ p silent (olt_advanced p n) silent h (λ a. advanced_follows o i llid c p n f h))
 
 -- the stamps of a send that is accepted at p
 send_stamps : (o : Olt) (i llid : ℕ) (c : UnitClock) (p : Olt) → o.shared.clock < clock_turn → c.tick ≡ o.shared.tick → find o llid ≡ At i

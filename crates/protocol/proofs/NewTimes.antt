@@ -52,7 +52,8 @@ new_time_refused o time n = (number_refused o silent _ (onu_untouched o silent _
 ---- the sum of the changes
 
 -- LocalTimes of one clock, by two delays: one is ahead of the other by the signed difference of their delays
-pub time_ahead-holds : (clock before after new old : ℕ) → before ≤ max_round_trip → after ≤ max_round_trip → new % local_turn ≡ local_of (clock + after)
+pub time_ahead-holds : (clock before after new old : ℕ) → before ≤ max_round_trip → after ≤ max_round_trip
+    → new % local_turn ≡ local_of (clock + after)
     → old % local_turn ≡ local_of (clock + before) → time_ahead new old ≡ (after + (local_turn - before)) % local_turn
 unfolding time_ahead
 time_ahead-holds clock before after new old b a e f = by_order (leb before after) refl where
@@ -74,7 +75,8 @@ module _ (changes new old : ℕ) (v : valid_changes changes ≡ true) (w : valid
     back : shift_of (changes_after changes new old) ≡ shift_of ((changes + (word_turn - time_ahead old new)) % word_turn)
     back = ap shift_of (pick_false _ _ (lt-leb _ _ h))
 
-    by_reach : (t : Bool) → leb (time_ahead old new) (shift_of changes) ≡ t → shift_of (changes_after changes new old) + time_ahead old new ≡ shift_of changes
+    by_reach : (t : Bool) → leb (time_ahead old new) (shift_of changes) ≡ t
+        → shift_of (changes_after changes new old) + time_ahead old new ≡ shift_of changes
     by_reach true e = ap (λ (x : ℕ). x + time_ahead old new) back ∙ shift_back changes (time_ahead old new) (leb-true _ _ e)
     by_reach false e =
         absurd

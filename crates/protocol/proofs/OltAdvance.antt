@@ -87,7 +87,8 @@ advancing_accepts o n v h =
     reply_accepted _ o silent (olt_advanced o n) silent (refuse_passed _ OutOfRange _ (not_of_true v) ∙ advance_accepts o.shared.tick n h)
 
 -- whenever the sum is accepted, an advance by m and then one by n give the whole reply of an advance by m + n
-pub advancing_sum : (o : Olt) (m n : ℕ) → (advancing_olt o (m + n)).verdict ≡ Accepted → advancing_olt (advancing_olt o m).end n ≡ advancing_olt o (m + n)
+pub advancing_sum : (o : Olt) (m n : ℕ) → (advancing_olt o (m + n)).verdict ≡ Accepted
+    → advancing_olt (advancing_olt o m).end n ≡ advancing_olt o (m + n)
 unfolding olt_advanced shared_advanced
 advancing_sum o m n e =
     let a = advancing_accepted o (m + n) e in
@@ -96,6 +97,7 @@ advancing_sum o m n e =
     let second = advancing_accepts (olt_advanced o m) n (olt_advanced_valid o m h a.0) (omega (arith, a.1)) in
     rw (first, second, olt_sum m n o, advancing_accepts o (m + n) a.0 a.1)
 
-pub advance_olt_sum : (o : Olt) (m n : ℕ) → (advance_olt_of o (m + n)).number ≡ 0 → advance_olt_of (advance_olt_of o m).olt n ≡ advance_olt_of o (m + n)
+pub advance_olt_sum : (o : Olt) (m n : ℕ) → (advance_olt_of o (m + n)).number ≡ 0
+    → advance_olt_of (advance_olt_of o m).olt n ≡ advance_olt_of o (m + n)
 unfolding advance_olt_of olt_answer
 advance_olt_sum o m n e = ap olt_answer (advancing_sum o m n (number_accepted _ e))

@@ -157,7 +157,8 @@ pub retry_refused : (o : Olt) (llid : ℕ) → ((retry_of o llid).number ≡ 0 �
 unfolding retry_of key_sent
 retry_refused o llid n = search (number_refused o no_key_message _ (lift_untouched o no_key_message Accepted llid (retry_unit llid)) n)
 
-pub acknowledge_refused : (o : Olt) (llid : ℕ) (a : Acknowledgement) → ((acknowledge_of o llid a).number ≡ 0 → ⊥) → (acknowledge_of o llid a).olt ≡ o
+pub acknowledge_refused : (o : Olt) (llid : ℕ) (a : Acknowledgement) → ((acknowledge_of o llid a).number ≡ 0 → ⊥)
+    → (acknowledge_of o llid a).olt ≡ o
 unfolding acknowledge_of olt_answer
 acknowledge_refused o llid a n = (number_refused o silent _ (lift_untouched o silent Accepted llid (acknowledge_unit a)) n).end
 

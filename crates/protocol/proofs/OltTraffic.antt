@@ -79,7 +79,8 @@ receiving_accepts o h i v u w f r =
 
 ---- the verdict is that of the call's order
 
-pub send_order-holds : (o : Olt) (misfit : Bool) (llid channel eqs : ℕ) → (sending_olt o misfit llid channel eqs).verdict ≡ send_order o misfit llid channel
+pub send_order-holds : (o : Olt) (misfit : Bool) (llid channel eqs : ℕ)
+    → (sending_olt o misfit llid channel eqs).verdict ≡ send_order o misfit llid channel
 unfolding sending_olt send_order send_unit
 send_order-holds o misfit llid channel eqs =
     lift_verdict o no_sending (send_ahead misfit channel) llid (send_unit llid channel eqs)

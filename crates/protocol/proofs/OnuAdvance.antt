@@ -83,6 +83,7 @@ advancing_onu_sum o m n e =
     let second = advancing_onu_accepts (onu_advanced o m) n (onu_advanced_valid o m k a.0) (omega arith) in
     rw (advancing_onu_accepts o m a.0 k, second, onu_sum m n o, advancing_onu_accepts o (m + n) a.0 h)
 
-pub advance_onu_sum : (o : Onu) (m n : ℕ) → (advance_onu_of o (m + n)).number ≡ 0 → advance_onu_of (advance_onu_of o m).onu n ≡ advance_onu_of o (m + n)
+pub advance_onu_sum : (o : Onu) (m n : ℕ) → (advance_onu_of o (m + n)).number ≡ 0
+    → advance_onu_of (advance_onu_of o m).onu n ≡ advance_onu_of o (m + n)
 unfolding advance_onu_of onu_answer
 advance_onu_sum o m n e = ap onu_answer (advancing_onu_sum o m n (number_accepted _ e))

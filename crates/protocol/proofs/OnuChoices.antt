@@ -33,7 +33,8 @@ pub record OnuSends (o : Onu) (misfit : Bool) (llid channel : ℕ) : Type 0 wher
   pub has : has o.identity llid ≡ true
   pub goes : Goes (is_up o.clock.synced) (busy_up o channel) (onu_send_choice o.keys) o.first (travel_of o)
 
-pub onu_send_accepted : (o : Onu) (misfit : Bool) (llid channel : ℕ) → onu_send_verdict o misfit llid channel ≡ Accepted → OnuSends o misfit llid channel
+pub onu_send_accepted : (o : Onu) (misfit : Bool) (llid channel : ℕ) → onu_send_verdict o misfit llid channel ≡ Accepted
+    → OnuSends o misfit llid channel
 unfolding onu_send_verdict
 onu_send_accepted o misfit llid channel e = search (met, goes) depth 8
 

@@ -164,7 +164,8 @@ key_acknowledged_keeps number = unit_call _ _ _ (λ s u. refl) (λ s u a r. sear
 
 ---- acknowledgements by kind
 
-pub key_kind-holds : (a : Acknowledgement) (s : Shared) (u : UnitRecord) → a.kind ≡ key_kind → acknowledge_unit a s u ≡ key_acknowledged_unit a.number s u
+pub key_kind-holds : (a : Acknowledgement) (s : Shared) (u : UnitRecord) → a.kind ≡ key_kind
+    → acknowledge_unit a s u ≡ key_acknowledged_unit a.number s u
 unfolding acknowledge_unit pick
 key_kind-holds a s u e = rw e
 

@@ -124,7 +124,8 @@ pub record OltRows : Type 0 where
 
 pub olt_rows : OltRows
 unfolding pick both either refuse_if on_zero free_from taken occupied with_keys with_timer timer_advanced timer_fallen aged outcome
-    choice_number choice_verdict choice_aged choice_enciphered passage_of sending_of unit_advanced clock_send_verdict switches unit_send_choice unit_send_verdict
+    choice_number choice_verdict choice_aged choice_enciphered passage_of sending_of unit_advanced clock_send_verdict switches
+    unit_send_choice unit_send_verdict
     keys_switched keys_after_send send_unit unit_receive_choice unit_receive_verdict receive_unit
 olt_rows = search
 

@@ -296,7 +296,8 @@ unfolding settings_verdict presence_fits presence_of bit_of low_cleared pick
 slipped_settings-holds = refl
 
 slipped_directory : directory_of slipped_block ≡ Good 2
-unfolding directory_of pairs_from with_pair pair_of chained size_fits sized records_in offset_of length_of end_of due_of record_of record_header end_fits both either pick
+unfolding directory_of pairs_from with_pair pair_of chained size_fits sized records_in offset_of length_of end_of due_of record_of
+    record_header end_fits both either pick
 slipped_directory = refl
 
 pub not_empty : NotEmpty

@@ -15,7 +15,8 @@ use Rattle.directory.proofs.Records.{Records, Reached}
 use Rattle.directory.proofs.Rebuilding.{up_to, none_rebuilt, still_block, one_rebuilt, all_rebuilt}
 
 -- what a record adds has room in a sum of 64 bits
-pub sum_room : (g : ℕ → ℕ) → ((j : ℕ) → g j ≤ most_octets) → {i x y : ℕ} → i < most_records → x ≡ sum 0 i g → y ≡ g i → x + y < 2 ^ 64
+pub sum_room : (g : ℕ → ℕ) → ((j : ℕ) → g j ≤ most_octets) → {i x y : ℕ} → i < most_records → x ≡ sum 0 i g → y ≡ g i
+    → x + y < 2 ^ 64
 sum_room g few {i} h e f = omega (arith, sum_below 0 i most_octets g few, few i)
 
 -- what is done with record i: what is written, what is added to two sums, and the corrections before it
@@ -41,7 +42,8 @@ pub record Opened (p : Plan) (b : List ℕ) (n : ℕ) (out : List ℕ) (x y from
   pub output : out ≡ up_to p.written b i ++ drop (due_of b i) b
 
 module _ {p : Plan} {b : List ℕ} {n : ℕ} (s : Suits p b n) where
-  pub none_opened : {out : List ℕ} {from : ℕ} {d : Drift} → out ≡ b → from ≡ directory_octets n → d ≡ p.drift 0 → Opened p b n out 0 0 from d 0
+  pub none_opened : {out : List ℕ} {from : ℕ} {d : Drift} → out ≡ b → from ≡ directory_octets n → d ≡ p.drift 0
+      → Opened p b n out 0 0 from d 0
   unfolding due_of
   none_opened e f g =
       record {

@@ -100,7 +100,8 @@ module _ (near : Bool) (s b out : List ℕ) where
   unfolding judging_by
   judging_bad r e = rw e
 
-  pub judging_good : (n : ℕ) → call_directory (eqb (length out) most_records) s b ≡ Good n → n ≡ records_in b → (o : List ℕ) (x y : ℕ) (d : Drift)
+  pub judging_good : (n : ℕ) → call_directory (eqb (length out) most_records) s b ≡ Good n → n ≡ records_in b
+      → (o : List ℕ) (x y : ℕ) (d : Drift)
       → d ≡ drift_by near s b n → x ≡ signed_octet d.smallest → y ≡ signed_octet d.largest → o ≡ numbers_by near s b n out
       → with_output (record { directory = Good n; smallest = x; largest = y }) o ≡ judging_by near s b out
   unfolding judging_by

@@ -125,7 +125,8 @@ record_again : (s r : List ℕ) → 16 ≤ length r
 record_again s r h = by_verdict-holds s r (verdict_of s r) h refl
 
 ---- the opened block has the same directory
-same_eqs : (s r : List ℕ) (v : RecordVerdict) → 16 ≤ length r → verdict_of s r ≡ v → (record_header (opened_record s r)).eqs ≡ (record_header r).eqs
+same_eqs : (s r : List ℕ) (v : RecordVerdict) → 16 ≤ length r → verdict_of s r ≡ v
+    → (record_header (opened_record s r)).eqs ≡ (record_header r).eqs
 unfolding with_flags
 same_eqs s r Clear h e = ap (λ (t : List ℕ). (record_header t).eqs) (clear_record s r e).0
 same_eqs s r (RecordVerdict.Refused c) h e = ap (λ (t : List ℕ). (record_header t).eqs) (refused_record s r c e).0

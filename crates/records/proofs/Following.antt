@@ -128,13 +128,15 @@ reads_as_sent-holds s b sent n f i h =
 ---- the block that slipped
 
 own_slipped : (i : ℕ) → i < 2 → own (llid_of slipped_settings) (header_of slipped_block i) ≡ true
-unfolding own header_fits channel_fits downstream upstream flags_fit enc_enabled bit_of low_cleared both either pick record_header record_of offset_of length_of llid_of
+unfolding own header_fits channel_fits downstream upstream flags_fit enc_enabled bit_of low_cleared both either pick record_header record_of
+    offset_of length_of llid_of
 own_slipped zero h = refl
 own_slipped (suc zero) h = refl
 own_slipped (suc (suc i)) h = absurd (omega arith)
 
 follows_slipped : (i : ℕ) → i < 2 → Follows slipped_sent slipped_settings slipped_block i
-unfolding ahead own header_fits channel_fits downstream upstream flags_fit enc_enabled bit_of low_cleared both either pick record_header record_of offset_of length_of
+unfolding ahead own header_fits channel_fits downstream upstream flags_fit enc_enabled bit_of low_cleared both either pick record_header
+    record_of offset_of length_of
     llid_of
 follows_slipped zero h = record { epam = refl; step = 56; within = omega arith; slip = refl }
 follows_slipped (suc zero) h = record { epam = refl; step = 11; within = omega arith; slip = refl }

@@ -30,7 +30,8 @@ module _ (presence t flags : ℕ) where
   unfolding key_verdict
   lacks_key e n = sym (pick_true _ _ e ∙ pick_false _ _ n)
 
-  pub is_sealed-holds : enc_enabled flags ≡ true → key_present presence (enc_key flags) ≡ true → Sealed (enc_key flags) t ≡ key_verdict presence t flags
+  pub is_sealed-holds : enc_enabled flags ≡ true → key_present presence (enc_key flags) ≡ true
+      → Sealed (enc_key flags) t ≡ key_verdict presence t flags
   unfolding key_verdict
   is_sealed-holds e p = sym (pick_true _ _ e ∙ pick_true _ _ p)
 

@@ -66,7 +66,8 @@ slipped_record epam clock = octets_of 2 0 ++ (octets_of 2 5 ++ (octets_of 1 0 ++
 
 abbrev pub slipped_block : List ℕ
 slipped_block =
-    octets_of 2 2 ++ (octets_of 4 18 ++ (octets_of 4 16 ++ (octets_of 4 34 ++ (octets_of 4 16 ++ (slipped_record 20 (clock_turn - 5) ++ slipped_record 41 100)))))
+    octets_of 2 2 ++ (octets_of 4 18 ++
+    (octets_of 4 16 ++ (octets_of 4 34 ++ (octets_of 4 16 ++ (slipped_record 20 (clock_turn - 5) ++ slipped_record 41 100)))))
 
 abbrev pub slipped_sent : ℕ → ℕ
 slipped_sent zero = 20

@@ -30,7 +30,8 @@ pub set_stop : (s : List ℕ) (l j n : ℕ) → j < n → eqb (llid_of (set_of s
 unfolding set_from
 set_stop s l j n h e = let m : n - j ≡ suc (n - suc j) = omega arith in rw m (pick_true _ _ e)
 
-pub set_step : (s : List ℕ) (l j n : ℕ) → j < n → eqb (llid_of (set_of s j)) l ≡ false → set_from s l j (n - j) ≡ set_from s l (j + 1) (n - (j + 1))
+pub set_step : (s : List ℕ) (l j n : ℕ) → j < n → eqb (llid_of (set_of s j)) l ≡ false
+    → set_from s l j (n - j) ≡ set_from s l (j + 1) (n - (j + 1))
 unfolding set_from
 set_step s l j n h e = let m : n - j ≡ suc (n - suc j) = omega arith in rw (m, add-one) (pick_false _ _ e)
 

@@ -103,7 +103,8 @@ apart b i k d l h =
     first_least (record_of b i) b (suc i) (records_in b - suc i) k l (omega arith)
 
 -- the test of a loop over the records of b
-pub unlike_tested : (b : List ℕ) (i n p : ℕ) → n ≡ records_in b → p ≡ first_from (record_of b i) b (i + 1) (n - (i + 1)) → unlike_rest b i ≡ eqb p n
+pub unlike_tested : (b : List ℕ) (i n p : ℕ) → n ≡ records_in b → p ≡ first_from (record_of b i) b (i + 1) (n - (i + 1))
+    → unlike_rest b i ≡ eqb p n
 unfolding unlike_rest
 unlike_tested b i n p q e = rw (e, q, add-one)
 

@@ -67,7 +67,8 @@ pub record Below (w : List ℕ) (n : Nonce) (p : List ℕ) (k : ℕ) (q : List �
 
 module _ (w : List ℕ) (n : Nonce) (p : List ℕ) (whole : length p % 9 ≡ 0) where
   -- blocks that need no run, one after the other
-  pub idle_below : (i r : ℕ) {q : List ℕ} {count t : ℕ} → i ≤ r → r ≤ blocks_of (length p) → ((k : ℕ) → i ≤ k → k < r → needs_run p k ≡ false)
+  pub idle_below : (i r : ℕ) {q : List ℕ} {count t : ℕ} → i ≤ r → r ≤ blocks_of (length p)
+      → ((k : ℕ) → i ≤ k → k < r → needs_run p k ≡ false)
       → Below w n p i q count t → Below w n p r q count t
   unfolding pick
   idle_below i r {q} {count} {t} h l idle =

@@ -143,7 +143,8 @@ module _ (w : List ℕ) (n : Nonce) (p : List ℕ) (whole : length p % 9 ≡ 0) 
   unfolding sealed_octet
   idle_octet k x idle a b h =
       sealed_at w n p x h
-      ∙ passes (cipher_block w n (x / 9)) (half_of (x / 9)) (control_octet p (x / 9)) (x % 9) (get_or p x 0) (idle_eq p k (x / 9) idle (omega arith) (omega arith))
+      ∙ passes (cipher_block w n (x / 9)) (half_of (x / 9)) (control_octet p (x / 9)) (x % 9) (get_or p x 0)
+      (idle_eq p k (x / 9) idle (omega arith) (omega arith))
       (omega arith)
 
   -- it is sealed as it is
@@ -154,7 +155,8 @@ module _ (w : List ℕ) (n : Nonce) (p : List ℕ) (whole : length p % 9 ≡ 0) 
       let long : length s ≡ length p = sealed_length w n p in
       stretch (λ e. written s 0 a p ≡ written s 0 e p) a (min (18 * (k + 1)) (length p)) (omega arith)
       (λ x l u same. same ∙ same_octet s p x (omega arith) (omega arith) (idle_octet k x idle (omega arith) (omega arith) (omega arith))) refl where
-        same_octet : (s p : List ℕ) (x : ℕ) → x < length s → x < length p → get_or s x 0 ≡ get_or p x 0 → written s 0 x p ≡ written s 0 (x + 1) p
+        same_octet : (s p : List ℕ) (x : ℕ) → x < length s → x < length p → get_or s x 0 ≡ get_or p x 0
+            → written s 0 x p ≡ written s 0 (x + 1) p
         same_octet s p x hs hp e =
             simp (sub-zero, add-one) (rw (take-suc s x 0 hs, drop-cons p x 0 hp, e, append_assoc))
 

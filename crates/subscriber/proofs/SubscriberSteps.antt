@@ -164,7 +164,8 @@ pub new_time_identity : (o : Onu) (time : ℕ) → (new_time_of o time).onu.iden
 unfolding new_time_of onu_answer onu_retimed with_onu_clock with_travel
 new_time_identity o time = onu_keeps (λ (p : Onu). p.identity ≡ o.identity) o silent _ _ silent refl (λ _ _. refl)
 
-pub valid_after_new_time : (s : Subscriber) (time : ℕ) → valid_subscriber s ≡ true → valid_subscriber (subscriber_new_time_of s time).subscriber ≡ true
+pub valid_after_new_time : (s : Subscriber) (time : ℕ) → valid_subscriber s ≡ true
+    → valid_subscriber (subscriber_new_time_of s time).subscriber ≡ true
 unfolding subscriber_new_time_of
 valid_after_new_time s time v = answered_valid s _ v (new_time_valid s.onu time (valid_unit-holds s v)) (new_time_identity s.onu time)
 

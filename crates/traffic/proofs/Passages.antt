@@ -103,5 +103,6 @@ pub empty_carried : (b : Bool) (w : List ℕ) (n : Nonce) (p out : List ℕ) →
 unfolding count_carried runs_carried carried count_enciphered runs sealed pick
 empty_carried false w n [] [] h j = refl
 empty_carried true w n [] [] h j = refl
-empty_carried b w n [] (x ∷ out) h j = let z = (lengths_fit-holds (length {A = ℕ} []) (length (x ∷ out)) (accepted _ _ n j).0).same in absurd (omega arith)
+empty_carried b w n [] (x ∷ out) h j =
+    let z = (lengths_fit-holds (length {A = ℕ} []) (length (x ∷ out)) (accepted _ _ n j).0).same in absurd (omega arith)
 empty_carried b w n (x ∷ p) out h j = absurd (omega arith)

@@ -83,7 +83,8 @@ module _ (w : Setting) (sh : Shared) (now : ℕ) (l : Lane) (u : UnitRecord) (o 
 
   -- an acknowledgement that the OLT accepts is of either kind
   pub answer_keeps : (a : Acknowledgement) (x : Answered) → AtTick w now sh → Joined w sh now l u o → Memᴰ x l.transit.answered
-      → x.acknowledgement ≡ a → (acknowledge_unit a sh u).verdict ≡ Accepted → Joined w sh now (lane_acknowledged a l) (acknowledge_unit a sh u).unit o
+      → x.acknowledgement ≡ a → (acknowledge_unit a sh u).verdict ≡ Accepted
+      → Joined w sh now (lane_acknowledged a l) (acknowledge_unit a sh u).unit o
   unfolding outcome
   answer_keeps a x at j m e accepted = by_kind (eqb a.kind clock_kind) (eqb a.kind key_kind) refl refl where
     by_kind : (s t : Bool) → eqb a.kind clock_kind ≡ s → eqb a.kind key_kind ≡ t

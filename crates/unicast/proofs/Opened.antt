@@ -51,16 +51,19 @@ unfolding
     onu_answer onu_acknowledged onu_reply fresh_onu_verdict fresh_onu_of onu_clock_advanced onu_advanced advancing_onu advance_onu_of time_ahead near_time
     changes_after new_time_verdict onu_retimed new_time_of clock_message_verdict clock_from
     onu_synced clock_message_to clock_message_at new_key held_key active_key key_message_verdict keys_taken key_message_to key_message_at
-    onu_send_choice busy_up onu_send_verdict onu_noted onu_after_send sending_onu onu_receive_choice onu_receive_verdict onu_moved onu_after_receipt receiving_onu
+    onu_send_choice busy_up onu_send_verdict onu_noted onu_after_send sending_onu onu_receive_choice onu_receive_verdict onu_moved
+    onu_after_receipt receiving_onu
     with_keys with_confirmation with_clock with_timer with_slots with_first fresh_unit no_unit with_channels new_olt with_onu_clock with_onu_keys with_onu_first
     with_travel with_onu_channels new_onu
     shift_of valid_changes travel_of travel_spent travel_changed waits
     refuse_if reply advance_verdict
     table_llids find_from find past_unit with_unit with_one_more
     fresh_timer timer_advanced timer_fallen valid_interval valid_timer
-    unit_advanced clock_captured capture_unit measure_unit clock_send_verdict clock_after_send clock_message_of clock_send_unit offer_verdict keys_offered unit_offered
+    unit_advanced clock_captured capture_unit measure_unit clock_send_verdict clock_after_send clock_message_of clock_send_unit
+    offer_verdict keys_offered unit_offered
     key_message_of offer_unit retry_verdict retry_unit clock_acknowledged_unit key_acknowledged_unit acknowledge_unit
-    switches unit_send_choice unit_send_verdict keys_switched keys_after_send send_unit unit_receive_choice unit_receive_verdict unit_confirmed unit_after_receipt
+    switches unit_send_choice unit_send_verdict keys_switched keys_after_send send_unit unit_receive_choice unit_receive_verdict
+    unit_confirmed unit_after_receipt
     receive_unit
     valid_numbers valid_keys valid_unit_clock valid_unit valid_shared valid_olt valid_onu_keys valid_onu_clock valid_onu
     misfit choice_enciphered passed passed_count output_after
@@ -70,7 +73,8 @@ unfolding
     due switching number_down lane_with lane_registered lane_captured leaving lane_leaving lane_offered lane_acknowledged sending lane_sent_down lane_sent_up
     lane_taken lane_answered arriving lane_arrived_down lane_arrived_up leaves_again key_answers clock_answered lane_moved
     fresh_lane fresh_onu start noted named with_lanes at_olt at_onu at_olt_for advancing entering clock_sending offering retrying envelope_down sending_down
-    envelope_up sending_up message_arriving receipt_down envelope_arriving in_flight_arriving no_envelope receipt_up arriving_up answering changing unit_after olt_after
+    envelope_up sending_up message_arriving receipt_down envelope_arriving in_flight_arriving no_envelope receipt_up arriving_up answering
+    changing unit_after olt_after
     step
     run
 opened = tt

@@ -48,7 +48,8 @@ use Rattle.unicast.proofs.ReceiptChoices.{TakenDown, taken_down}
 ---- its lane
 
 -- of a unit whose number stays the first send does, and one that moves on has none
-first_taken : (P : FirstSend → ℕ → Type 0) (n old new : ℕ) (f g : FirstSend) → new ≡ n → (n ≡ old → g ≡ f) → ((n ≡ old → ⊥) → g.noted ≡ 0)
+first_taken : (P : FirstSend → ℕ → Type 0) (n old new : ℕ) (f g : FirstSend) → new ≡ n → (n ≡ old → g ≡ f)
+    → ((n ≡ old → ⊥) → g.noted ≡ 0)
     → (f.noted ≡ 1 → P f old) → g.noted ≡ 1 → P g new
 first_taken P n old new f g active stays unsent was one =
     same_or_not n old

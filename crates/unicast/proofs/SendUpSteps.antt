@@ -81,7 +81,8 @@ module _ (w : Setting) (sh : Shared) (now : ℕ) (l : Lane) (u : UnitRecord) (o 
             ⊎_elim
             (λ stays.
             rw stays
-            (j.firsts.onu least (λ x i. each x (mathlib.Core.List.Memᴰ.append_left (e ∷ []) i)) (sym (ap (λ (y : FirstSend). y.noted) stays) ∙ one) same))
+            (j.firsts.onu least (λ x i. each x (mathlib.Core.List.Memᴰ.append_left (e ∷ []) i)) (sym (ap (λ (y : FirstSend). y.noted) stays)
+            ∙ one) same))
             (λ new. omega (arith, new, mine, present, travelled, j.timing.switched)) h.since;
         some = λ one. record { envelope = e; among = own; that_way = direction; numbered = number };
       } in

@@ -113,7 +113,8 @@ lane_fresh P (s ∷ sites) zero p = p s
 lane_fresh P (s ∷ sites) (suc u) p = lane_fresh P sites u p
 
 lanes_right : (w : Setting) (t : Olt) (sites : List Site) (u : ℕ) (d : Onu)
-    → ((v : ℕ) (s : Site) → v < length sites → (fresh_onu_of (get_or sites v s).identity (get_or sites v s).oltmac (get_or sites v s).time).number ≡ 0)
+    → ((v : ℕ) (s : Site) → v < length sites
+    → (fresh_onu_of (get_or sites v s).identity (get_or sites v s).oltmac (get_or sites v s).time).number ≡ 0)
     → u < length (map fresh_lane sites) → LaneRight w t 0 (get_or (map fresh_lane sites) u (fresh_lane no_site)) (get_or (map fresh_onu sites) u d)
 lanes_right w t [] u d f h = absurd (not-suc-le-zero h)
 lanes_right w t (s ∷ sites) zero d f h = fresh_lane_right w t s (f zero s (omega arith))

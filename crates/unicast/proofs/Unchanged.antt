@@ -65,7 +65,8 @@ module _ (s : State) (e : (u : ℕ) → AsStarted (lane_at s u)) where
   in_flight_as u k out (envelope x) v = each_set s.history.lanes u _ (e u) e v
 
   step_as : (x : Event) → NoChange x → (v : ℕ) → AsStarted (lane_at (step s x) v)
-  unfolding step advancing entering at_olt at_onu at_olt_for with_lanes clock_sending offering retrying sending_down sending_up arriving_up answering unit_after olt_after
+  unfolding step advancing entering at_olt at_onu at_olt_for with_lanes clock_sending offering retrying sending_down sending_up arriving_up
+      answering unit_after olt_after
       lane_registered lane_captured lane_leaving lane_offered lane_acknowledged lane_sent_down lane_sent_up lane_arrived_up lane_with
       sending arriving envelope_down envelope_up
   step_as (advance n) c v = e v

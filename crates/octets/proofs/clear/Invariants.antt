@@ -6,7 +6,8 @@ use lib.ListN.{length, drop, replicate}
 use Rattle.octets.proofs.clear.Given as goal
 
 abbrev pub invariant-loop-i : goal.invariant-loop-i
-invariant-loop-i l = (l.i ≤ length l.initial.output) × (length l.output ≡ length l.initial.output) × (l.output ≡ replicate l.i 0 ++ drop l.i l.initial.output)
+invariant-loop-i l =
+    (l.i ≤ length l.initial.output) × (length l.output ≡ length l.initial.output) × (l.output ≡ replicate l.i 0 ++ drop l.i l.initial.output)
 
 abbrev pub decreases-loop-i : goal.decreases-loop-i
 decreases-loop-i l = length l.initial.output - l.i

@@ -13,7 +13,9 @@ pub record Least (input output : List ℕ) (n : ℕ) : Type 0 where
   pub all : take n input ++ drop n output ≡ copied input output
 
 abbrev pub invariant-loop-i : goal.invariant-loop-i
-invariant-loop-i l = (l.i ≤ l.n) × Least l.input l.initial.output l.n × (length l.output ≡ length l.initial.output) × (l.output ≡ take l.i l.input ++ drop l.i l.initial.output)
+invariant-loop-i l =
+    (l.i ≤ l.n) × Least l.input l.initial.output l.n × (length l.output ≡ length l.initial.output)
+    × (l.output ≡ take l.i l.input ++ drop l.i l.initial.output)
 
 abbrev pub decreases-loop-i : goal.decreases-loop-i
 decreases-loop-i l = l.n - l.i

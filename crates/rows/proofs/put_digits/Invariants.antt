@@ -6,7 +6,9 @@ use Rattle.rows.specs.Text.{digits, text_of}
 use Rattle.rows.proofs.put_digits.Given as goal
 
 abbrev pub invariant-loop-left : goal.invariant-loop-left
-invariant-loop-left l = (text_of l.next ++ digits l.base l.left l.n ≡ text_of l.initial.next ++ digits l.base l.count l.n) × (l.next.used + l.left ≡ l.initial.next.used + l.count)
+invariant-loop-left l =
+    (text_of l.next ++ digits l.base l.left l.n ≡ text_of l.initial.next ++ digits l.base l.count l.n)
+    × (l.next.used + l.left ≡ l.initial.next.used + l.count)
 
 abbrev pub decreases-loop-left : goal.decreases-loop-left
 decreases-loop-left l = l.left

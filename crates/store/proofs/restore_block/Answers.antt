@@ -30,4 +30,7 @@ returns-in-Refused c =
 pub returns-in-Accepted : goal.returns-in-Accepted
 unfolding moved
 returns-in-Accepted c =
-    record { output_after = writing_accepted _ _ _ _ (sym c.store_verdict.ensures ∙ c.in-Accepted.is) c.move_payloads.ensures; restored_if_accepted = laws _ _ }
+    record {
+      output_after = writing_accepted _ _ _ _ (sym c.store_verdict.ensures ∙ c.in-Accepted.is) c.move_payloads.ensures;
+      restored_if_accepted = laws _ _;
+    }

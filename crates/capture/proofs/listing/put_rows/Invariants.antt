@@ -9,7 +9,9 @@ use Rattle.directory.proofs.Filling.{Rows}
 use Rattle.capture.proofs.listing.put_rows.Given as goal
 
 abbrev pub invariant-loop-i : goal.invariant-loop-i
-invariant-loop-i l = (l.i ≤ l.n) × (l.from ≡ due_of l.block l.i) × (l.drift ≡ drift_by l.near l.settings l.block l.i) × Rows (row_by l.near l.settings l.block) line_octets l.initial.text l.at l.text l.end l.i
+invariant-loop-i l =
+    (l.i ≤ l.n) × (l.from ≡ due_of l.block l.i) × (l.drift ≡ drift_by l.near l.settings l.block l.i)
+    × Rows (row_by l.near l.settings l.block) line_octets l.initial.text l.at l.text l.end l.i
 
 abbrev pub decreases-loop-i : goal.decreases-loop-i
 decreases-loop-i l = l.n - l.i

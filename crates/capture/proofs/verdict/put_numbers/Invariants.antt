@@ -11,7 +11,8 @@ use Rattle.reading.specs.Reading.{drift_by, asked_by}
 use Rattle.capture.proofs.verdict.put_numbers.Given as goal
 
 abbrev pub invariant-loop-i : goal.invariant-loop-i
-invariant-loop-i l = (l.i ≤ l.n) × (length l.output ≡ length l.initial.output) × (l.from ≡ due_of l.block l.i) × (l.drift ≡ drift_by l.near l.settings l.block l.i)
+invariant-loop-i l =
+    (l.i ≤ l.n) × (length l.output ≡ length l.initial.output) × (l.from ≡ due_of l.block l.i) × (l.drift ≡ drift_by l.near l.settings l.block l.i)
     × (l.output ≡ tabulate 0 l.i (λ j. record_number (asked_by l.near l.settings l.block (j + 1))) ++ drop l.i l.initial.output)
 
 abbrev pub decreases-loop-i : goal.decreases-loop-i

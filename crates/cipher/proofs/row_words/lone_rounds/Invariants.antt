@@ -7,7 +7,9 @@ use Rattle.cipher.specs.RowWords.{BySbox, keyed_state}
 use Rattle.cipher.proofs.row_words.lone_rounds.Given as goal
 
 abbrev pub invariant-loop-n : goal.invariant-loop-n
-invariant-loop-n l = ((1 ≤ l.n) × (l.n ≤ 10)) × BySbox l.subs (keyed_state (round_key l.w (l.n - 1)) l.s ≡ rounds l.w (l.n - 1) (keyed_state (round_key l.w 0) l.initial.s))
+invariant-loop-n l =
+    ((1 ≤ l.n) × (l.n ≤ 10)) × BySbox l.subs
+    (keyed_state (round_key l.w (l.n - 1)) l.s ≡ rounds l.w (l.n - 1) (keyed_state (round_key l.w 0) l.initial.s))
 
 abbrev pub decreases-loop-n : goal.decreases-loop-n
 decreases-loop-n l = 10 - l.n

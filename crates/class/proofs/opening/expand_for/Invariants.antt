@@ -9,7 +9,9 @@ use Rattle.class.proofs.Expanding.{Counts}
 use Rattle.class.proofs.opening.expand_for.Given as goal
 
 abbrev pub invariant-loop-k : goal.invariant-loop-k
-invariant-loop-k l = (l.k ≤ l.n) × (length l.keys ≡ keys_octets) × (l.count ≡ sum 0 l.k (Counts l.caller l.sets l.rights)) × Expanded l.caller l.sets l.rights l.keys l.k
+invariant-loop-k l =
+    (l.k ≤ l.n) × (length l.keys ≡ keys_octets) × (l.count ≡ sum 0 l.k (Counts l.caller l.sets l.rights))
+    × Expanded l.caller l.sets l.rights l.keys l.k
 
 abbrev pub decreases-loop-k : goal.decreases-loop-k
 decreases-loop-k l = l.n - l.k

@@ -17,7 +17,8 @@ use Rattle.class.proofs.opening.open_for.Goals as goal
 pub expand_for-expanded-requires : goal.expand_for-expanded-requires
 expand_for-expanded-requires c =
     -- what the call found, and what that tells
-    let went_on : call_for (eqb (length c.args.output.now) (length c.args.block.now)) c.args.caller c.args.sets.now c.args.rights.now c.args.block.now ≡ Good c.in-Good.n =
+    let went_on : call_for (eqb (length c.args.output.now) (length c.args.block.now)) c.args.caller c.args.sets.now c.args.rights.now c.args.block.now
+    ≡ Good c.in-Good.n =
     sym c.call_for.ensures ∙ c.in-Good.is in
     let f = found _ _ _ _ _ _ went_on in
     (f.valid.few, refl)
@@ -25,7 +26,8 @@ expand_for-expanded-requires c =
 pub open_records-read-requires : goal.open_records-read-requires
 open_records-read-requires c =
     -- what the call found, and what that tells
-    let went_on : call_for (eqb (length c.args.output.now) (length c.args.block.now)) c.args.caller c.args.sets.now c.args.rights.now c.args.block.now ≡ Good c.in-Good.n =
+    let went_on : call_for (eqb (length c.args.output.now) (length c.args.block.now)) c.args.caller c.args.sets.now c.args.rights.now c.args.block.now
+    ≡ Good c.in-Good.n =
     sym c.call_for.ensures ∙ c.in-Good.is in
     let f = found _ _ _ _ _ _ went_on in
     record {
@@ -53,7 +55,8 @@ returns-in-Bad c =
 pub returns-in-Good : goal.returns-in-Good
 returns-in-Good c =
     -- what the call found, and what that tells
-    let went_on : call_for (eqb (length c.args.output.now) (length c.args.block.now)) c.args.caller c.args.sets.now c.args.rights.now c.args.block.now ≡ Good c.in-Good.n =
+    let went_on : call_for (eqb (length c.args.output.now) (length c.args.block.now)) c.args.caller c.args.sets.now c.args.rights.now c.args.block.now
+    ≡ Good c.in-Good.n =
     sym c.call_for.ensures ∙ c.in-Good.is in
     let f = found _ _ _ _ _ _ went_on in
     let q = c.open_records-read.ensures in

@@ -54,7 +54,8 @@ overflow_add-count c =
     -- what the user is told of it, and the corrections behind it
     let heard = turn _ _ _ _ _ _ _ _ _ c.judge_in-heard.ensures v.drift x.header in
     -- what a record adds is its own, and the sum has room for it
-    let adds : c.write_for-work.result.count ≡ adds_for c.args.near c.args.caller c.args.sets.now c.args.rights.now c.args.block.now count_enciphered c.loop-i.i =
+    let adds : c.write_for-work.result.count
+    ≡ adds_for c.args.near c.args.caller c.args.sets.now c.args.rights.now c.args.block.now count_enciphered c.loop-i.i =
     c.write_for-work.ensures.took_for.count ∙ of_record _ _ _ x.here _ _ heard.0 (added_for count_enciphered) in
     let room : c.loop-i.count + c.write_for-work.result.count < 2 ^ 64 =
     sum_room _ (λ j. adds_few count_enciphered enciphered_below _ _ _ _ _ j x.records.sizes.most) x.few v.count adds in

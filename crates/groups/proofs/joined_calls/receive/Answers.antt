@@ -13,7 +13,10 @@ use Rattle.groups.proofs.joined_calls.receive.Goals as goal
 pub returns-then-not-valid_joined : goal.returns-then-not-valid_joined
 unfolding joined_received receive_joined reached_joined if_accepted joined_not_received
 returns-then-not-valid_joined c =
-    record { value = rw (sym c.valid_joined.ensures, refuse_stopped _ OutOfRange _ (ap not c.if-not-valid_joined.true), c.not_received.ensures); worked = receipt_rows }
+    record {
+      value = rw (sym c.valid_joined.ensures, refuse_stopped _ OutOfRange _ (ap not c.if-not-valid_joined.true), c.not_received.ensures);
+      worked = receipt_rows;
+    }
 
 pub after_receipt-next-requires : goal.after_receipt-next-requires
 after_receipt-next-requires c =

@@ -8,7 +8,8 @@ use Rattle.group_protocol.specs.Subscriber.{joined_llids}
 use Rattle.groups.proofs.joined_search.find_joined.Given as goal
 
 abbrev pub invariant-loop-i : goal.invariant-loop-i
-invariant-loop-i l = place_from l.from (joined_llids (drop l.from (take l.count l.table))) l.llid ≡ place_from l.i (joined_llids (drop l.i (take l.count l.table))) l.llid
+invariant-loop-i l =
+    place_from l.from (joined_llids (drop l.from (take l.count l.table))) l.llid ≡ place_from l.i (joined_llids (drop l.i (take l.count l.table))) l.llid
 
 abbrev pub decreases-loop-i : goal.decreases-loop-i
 decreases-loop-i l = max_joined - l.i

@@ -8,7 +8,8 @@ use Rattle.ends.specs.Identities.{distinct}
 use Rattle.groups.proofs.membership.distinct_places.Given as goal
 
 abbrev pub invariant-loop-j : goal.invariant-loop-j
-invariant-loop-j l = (l.j ≤ l.count) × (distinct (tabulate 0 l.count (λ k. get_or l.places k 0)) ≡ distinct (tabulate l.j (l.count - l.j) (λ k. get_or l.places k 0)))
+invariant-loop-j l =
+    (l.j ≤ l.count) × (distinct (tabulate 0 l.count (λ k. get_or l.places k 0)) ≡ distinct (tabulate l.j (l.count - l.j) (λ k. get_or l.places k 0)))
 
 abbrev pub decreases-loop-j : goal.decreases-loop-j
 decreases-loop-j l = l.count - l.j

@@ -8,7 +8,8 @@ use Rattle.groups.proofs.membership.member_at.Given as goal
 
 abbrev pub invariant-loop-j : goal.invariant-loop-j
 invariant-loop-j l = (l.j ≤ l.count)
-    × (place_from 0 (tabulate 0 l.count (λ k. get_or l.places k 0)) l.place ≡ place_from l.j (tabulate l.j (l.count - l.j) (λ k. get_or l.places k 0)) l.place)
+    × (place_from 0 (tabulate 0 l.count (λ k. get_or l.places k 0)) l.place
+    ≡ place_from l.j (tabulate l.j (l.count - l.j) (λ k. get_or l.places k 0)) l.place)
 
 abbrev pub decreases-loop-j : goal.decreases-loop-j
 decreases-loop-j l = l.count - l.j

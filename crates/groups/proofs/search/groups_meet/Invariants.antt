@@ -7,7 +7,8 @@ use Rattle.ends.specs.Limits.{max_units}
 use Rattle.groups.proofs.search.groups_meet.Given as goal
 
 abbrev pub invariant-loop-i : goal.invariant-loop-i
-invariant-loop-i l = (l.i ≤ max_units) × (meets (take l.count l.llids) (llids_of l.identity) ≡ meets (drop l.i (take l.count l.llids)) (llids_of l.identity))
+invariant-loop-i l =
+    (l.i ≤ max_units) × (meets (take l.count l.llids) (llids_of l.identity) ≡ meets (drop l.i (take l.count l.llids)) (llids_of l.identity))
 
 abbrev pub decreases-loop-i : goal.decreases-loop-i
 decreases-loop-i l = max_units - l.i

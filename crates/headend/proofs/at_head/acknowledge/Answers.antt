@@ -23,7 +23,8 @@ use Rattle.headend.proofs.at_head.acknowledge.Goals as goal
 use Rattle.headend.proofs.at_head.acknowledge.Goals.{in-Nowhere, in-At}
 
 pub returns : goal.returns
-unfolding head_answer head_acknowledge_of acknowledge_of outcome with_unit with_channels past_unit with_olt group_outcome past_group with_group with_olt_channels valid_head both
+unfolding head_answer head_acknowledge_of acknowledge_of outcome with_unit with_channels past_unit with_olt group_outcome past_group
+    with_group with_olt_channels valid_head both
 returns c =
     let a = c.args in
     let m = c.match-found in

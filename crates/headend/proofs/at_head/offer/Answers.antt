@@ -24,7 +24,8 @@ use Rattle.headend.proofs.at_head.offer.Goals as goal
 use Rattle.headend.proofs.at_head.offer.Goals.{in-Nowhere, in-At}
 
 pub returns : goal.returns
-unfolding head_key_sent head_offer_of offer_of outcome with_unit with_channels past_unit with_olt group_outcome past_group with_group with_olt_channels valid_head both
+unfolding head_key_sent head_offer_of offer_of outcome with_unit with_channels past_unit with_olt group_outcome past_group with_group
+    with_olt_channels valid_head both
 returns c =
     let a = c.args in
     let m = c.match-found in

@@ -19,7 +19,8 @@ use Rattle.headend.proofs.head_traffic.send.Goals as goal
 use Rattle.headend.proofs.head_traffic.send.Goals.{in-Nowhere, in-At}
 
 pub returns : goal.returns
-unfolding head_send_of sent_outcome unit_sent with_keys past_unit with_unit with_channels with_olt misfit group_sent_outcome past_group with_group with_olt_channels
+unfolding head_send_of sent_outcome unit_sent with_keys past_unit with_unit with_channels with_olt misfit group_sent_outcome past_group
+    with_group with_olt_channels
     valid_head both
 returns c =
     let a = c.args in

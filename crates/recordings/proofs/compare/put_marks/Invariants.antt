@@ -9,7 +9,8 @@ use Rattle.recordings.specs.Comparing.{mark_of}
 use Rattle.recordings.proofs.compare.put_marks.Given as goal
 
 abbrev pub invariant-loop-i : goal.invariant-loop-i
-invariant-loop-i l = (l.i ≤ l.n) × (length l.output ≡ length l.initial.output) × (l.output ≡ tabulate 0 l.i (mark_of l.a l.b) ++ drop l.i l.initial.output)
+invariant-loop-i l =
+    (l.i ≤ l.n) × (length l.output ≡ length l.initial.output) × (l.output ≡ tabulate 0 l.i (mark_of l.a l.b) ++ drop l.i l.initial.output)
 
 abbrev pub decreases-loop-i : goal.decreases-loop-i
 decreases-loop-i l = l.n - l.i

@@ -23,7 +23,8 @@ unfolding body_of
 no_blocks s n e h = rw (← e) (pick_false _ _ (lt-leb _ _ h))
 
 -- and input with both blocks
-two_blocks : (s a b : List ℕ) (llid n : ℕ) → n ≡ first_length s → head_octets + n ≤ length s → llid ≡ asked_llid s → a ≡ part s head_octets n
+two_blocks : (s a b : List ℕ) (llid n : ℕ) → n ≡ first_length s → head_octets + n ≤ length s → llid ≡ asked_llid s
+    → a ≡ part s head_octets n
     → b ≡ part s (head_octets + n) (length s) → body_after (ruling_on output_octets a b) llid a b ≡ body_of s
 unfolding body_of
 two_blocks s a b llid n e h l f g =

@@ -29,4 +29,14 @@ returns c =
     let three =
     line_put _ _ _ _ row_octets _ c.put_line.ensures c.total_row.ensures.inside
     (omega (arith, one.lower_bound.1, two.lower_bound.1, kept-firsts, kept-alones, c.requires.body_octets_in_bounds, few.few, few.few_other)) in
-    let line = rw (c.count_alone.ensures.0, c.count_alone-2.ensures.0) at c.total_row.ensures.octets in record { lower_bound = (omega (arith, one.lower_bound.0, two.lower_bound.0, three.0.0), omega (arith, one.lower_bound.1, two.lower_bound.1, three.0.1, few.few, few.few_other)); text_after = three_parts _ _ _ front (joined (first_row a b) 0 (records_in a)) (joined (alone_row b a) 0 (records_in b)) _ _ three.1.0 two.text_after one.text_after line; text_unchanged = three.1.1 ∙ same_behind _ _ _ _ three.0.0 (two.text_unchanged ∙ same_behind _ _ _ _ two.lower_bound.0 one.text_unchanged) }
+    let line = rw (c.count_alone.ensures.0, c.count_alone-2.ensures.0) at c.total_row.ensures.octets in
+    record {
+      lower_bound = (
+        omega (arith, one.lower_bound.0, two.lower_bound.0, three.0.0),
+        omega (arith, one.lower_bound.1, two.lower_bound.1, three.0.1, few.few, few.few_other),
+      );
+      text_after = three_parts _ _ _ front (joined (first_row a b) 0 (records_in a))
+          (joined (alone_row b a) 0 (records_in b)) _ _ three.1.0 two.text_after one.text_after line;
+      text_unchanged = three.1.1
+          ∙ same_behind _ _ _ _ three.0.0 (two.text_unchanged ∙ same_behind _ _ _ _ two.lower_bound.0 one.text_unchanged);
+    }

@@ -39,7 +39,12 @@ loop-i-preserved c =
     let once = c.requires.once_other in (
       omega arith,
       listed_more c.loop-i.first _ _ i _ (omega (arith, c.count-n.ensures, v.3)) e v.1,
-      elim c.if-p-m.branch [ then-p-m w ↦ rw w.second-is (met_more _ _ i s _ once e (omega (arith, w.if-p-m.true, m)) (omega (arith, v.4)) v.2) | else-p-m w ↦ rw w.second-is (met_past _ _ i s once (omega (arith, w.if-p-m.false, m, e)) v.2) ],
+      elim c.if-p-m.branch [
+        | then-p-m w ↦ rw w.second-is
+            (met_more _ _ i s _ once e (omega (arith, w.if-p-m.true, m)) (omega (arith, v.4)) v.2)
+        | else-p-m w ↦ rw w.second-is
+            (met_past _ _ i s once (omega (arith, w.if-p-m.false, m, e)) v.2)
+      ],
       simp length-set v.3,
       elim c.if-p-m.branch [ then-p-m w ↦ rw w.second-is (simp length-set v.4) | else-p-m w ↦ rw w.second-is v.4 ],
     )

@@ -7,4 +7,5 @@ use Rattle.records.proofs.block.header_from.Goals as goal
 
 pub returns : goal.returns
 unfolding header_from
-returns c = record { value = c.read.ensures.value ∙ rw c.part_of.ensures (header_taken 16 _ (omega arith)); clock_lt_six_octets = c.read.ensures.clock_lt_six_octets }
+returns c =
+    record { value = c.read.ensures.value ∙ rw c.part_of.ensures (header_taken 16 _ (omega arith)); clock_lt_six_octets = c.read.ensures.clock_lt_six_octets }

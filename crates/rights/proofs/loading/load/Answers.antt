@@ -17,7 +17,8 @@ pub put_key-requires : goal.put_key-requires
 put_key-requires c =
     let accepted : (let a = c.args in load_verdict a.caller a.sets.now a.rights.now a.llid a.index ≡ Accepted) =
     sym c.load_verdict.ensures ∙ c.in_default.is in
-    let l = loads _ _ _ _ _ accepted in record { index_lt_settings_keys = (l.key, omega (arith, l.place, c.set_for-j.ensures)); present_value = c.presence-present.ensures ∙ rw c.set_at.ensures }
+    let l = loads _ _ _ _ _ accepted in
+    record { index_lt_settings_keys = (l.key, omega (arith, l.place, c.set_for-j.ensures)); present_value = c.presence-present.ensures ∙ rw c.set_at.ensures }
 
 pub returns : goal.returns
 unfolding loading loading_after

@@ -53,5 +53,6 @@ returns c =
     record {
       counted = rw (over_one a.payload.now a.i (λ o. 8 - ones o) (omega arith), c.ones_in-first.ensures.0);
       few = omega arith;
-      sealed = λ w n enciphered. rw last (first w n a.payload.now c.mask_eq.new.payload a.block a.i (18 * a.i) refl (omega arith) c.mask_eq.ensures enciphered);
+      sealed = λ w n enciphered. rw last
+          (first w n a.payload.now c.mask_eq.new.payload a.block a.i (18 * a.i) refl (omega arith) c.mask_eq.ensures enciphered);
     }

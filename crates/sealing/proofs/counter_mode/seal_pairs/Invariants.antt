@@ -13,9 +13,12 @@ use mathlib.Core.Path.{◌≡◌}
 use Rattle.sealing.proofs.counter_mode.seal_pairs.Given as goal
 
 abbrev pub invariant-loop-second : goal.invariant-loop-second
-invariant-loop-second l = (l.blocks ≡ blocks_of (length l.initial.payload)) × (length l.initial.payload % 9 ≡ 0) × (l.blocks ≤ max_blocks) × (length l.payload ≡ length l.initial.payload)
+invariant-loop-second l =
+    (l.blocks ≡ blocks_of (length l.initial.payload)) × (length l.initial.payload % 9 ≡ 0) × (l.blocks ≤ max_blocks)
+    × (length l.payload ≡ length l.initial.payload)
     × PairKeys l.w Nr l.keys
-    × (l.first ≤ l.blocks) × (l.first < l.blocks → needs_run l.initial.payload l.first ≡ true) × NextRun l.initial.payload l.blocks (l.first + 1) l.second
+    × (l.first ≤ l.blocks) × (l.first < l.blocks → needs_run l.initial.payload l.first ≡ true)
+    × NextRun l.initial.payload l.blocks (l.first + 1) l.second
     × ((n : Nonce) → Kept l.w n l.kept → Below l.w n l.initial.payload l.first l.payload l.count l.runs)
 
 abbrev pub decreases-loop-second : goal.decreases-loop-second

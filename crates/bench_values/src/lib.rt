@@ -6,6 +6,7 @@ ghost use Rattle.std.specs.Prelude.{◌≡◌};
 ghost use Rattle.bench_values.specs.Rows.{Rows};
 
 // How many rows the table has.
+#[tactic(auto, using(crate::proofs::Rows::rows_hold))]
 pub fn row_count() -> u8
     ensures count { result ≡ 12 }
     ensures table { Rows }

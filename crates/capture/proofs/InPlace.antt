@@ -1,4 +1,5 @@
 -- Laws of opening in place: what the sealing call does for a record, and what the output has of it then. Assumes nothing.
+use Rattle.std.specs.Prelude.{Ok}
 use mathlib.Core.Path.{◌≡◌, refl, sym, ap, ◌∙◌}
 use mathlib.Core.Bool.{true}
 use mathlib.Core.List.{List, ◌++◌}
@@ -16,20 +17,16 @@ use Rattle.octets.proofs.Lists.{part_length, drop_part}
 use Rattle.octets.proofs.Choice.{both_left, both_right, both_true, not_of_true}
 use Rattle.octets.specs.Output.{WithOutput, with_output}
 use Rattle.refusal.specs.declared.Refusal.TheVariants.{OutOfRange, BadLength}
-use Rattle.refusal.specs.declared.Verdict.TheVariants.{Accepted}
 use Rattle.refusal.proofs.Order.{refuse_passed}
 use Rattle.envelope.specs.Acceptance.{lengths_fit, nonce_fits, seal_verdict}
-use Rattle.envelope.specs.Answer.{seal_count, seal_runs}
+use Rattle.envelope.specs.Answer.{SealAnswer, seal_count, seal_runs}
 use Rattle.envelope.specs.ControlMask.{count_enciphered, runs}
 use Rattle.envelope.specs.declared.Nonce.{Nonce}
-use Rattle.envelope.specs.declared.SealAnswer.{SealAnswer}
-use Rattle.envelope.specs.declared.SealAnswer.TheVariants.{Done}
 use Rattle.sealing.specs.Payload.{sealed}
 use Rattle.sealing.specs.Seal.{sealing}
 use Rattle.cipher.specs.KeyExpansion.{key_expansion}
 use Rattle.sealing.proofs.Payload.{sealed_length}
 use Rattle.sealing.proofs.Seal.{sealing_done}
-use Rattle.records.specs.declared.header.RecordVerdict.TheVariants.{Sealed}
 use Rattle.records.specs.declared.header.Header.{Header}
 use Rattle.capture.specs.declared.opening.Keys.{Keys}
 use Rattle.records.specs.Settings.{presence_of, key_present, key_of, mac_of}
@@ -40,17 +37,19 @@ use Rattle.records.specs.Verdict.{cleared_flags, header_fits}
 use Rattle.capture.specs.Duties.{Expanded, written}
 use Rattle.records.proofs.Headers.{header_taken}
 use Rattle.directory.proofs.Rebuilding.{payload_in_place}
+use Rattle.records.specs.declared.header.Access.TheVariants.{Sealed}
+use Rattle.refusal.specs.Verdict.{no_refusal}
 
 -- a record's payload is accepted for opening
-seal_accepted : (n m : ℕ) (nonce : Nonce) → n % 9 ≡ 0 → n ≤ 65536 → m ≡ n → nonce_fits nonce ≡ true → seal_verdict n m nonce ≡ Accepted
+seal_accepted : (n m : ℕ) (nonce : Nonce) → n % 9 ≡ 0 → n ≤ 65536 → m ≡ n → nonce_fits nonce ≡ true → seal_verdict n m nonce ≡ no_refusal
 unfolding seal_verdict lengths_fit
 seal_accepted n m nonce whole most same fits =
     refuse_passed _ BadLength _ (not_of_true (both_true (eq-eqb _ _ whole) (both_true (le-leb n (9 * max_eqs) (omega arith)) (eq-eqb _ _ same))))
     ∙ refuse_passed _ OutOfRange _ (not_of_true fits)
 
 -- what an accepted call answers, and its output
-seal_done : (w : List ℕ) (n : Nonce) (p out o : List ℕ) (a : SealAnswer) → seal_verdict (length p) (length out) n ≡ Accepted
-    → with_output a o ≡ sealing true w n p out → (a ≡ Done (count_enciphered p) (runs p)) × (o ≡ sealed w n p)
+seal_done : (w : List ℕ) (n : Nonce) (p out o : List ℕ) (a : SealAnswer) → seal_verdict (length p) (length out) n ≡ no_refusal
+    → with_output a o ≡ sealing true w n p out → (a ≡ Ok (record { count = count_enciphered p; runs = runs p })) × (o ≡ sealed w n p)
 seal_done w n p out o a j e =
     let q = e ∙ sym (sealing_done w n p out true refl j) in
     (ap (λ (x : WithOutput SealAnswer). x.answer) q, ap (λ (x : WithOutput SealAnswer). x.output) q)
@@ -81,9 +80,9 @@ module _ (s b out : List ℕ) (from : ℕ) (same : drop from out ≡ drop from b
   -- an output that is the block from a record on has that record opened once its flags are stored and its payload is replaced
   pub opened_by : (j t m f : ℕ) (h : Header) (w : List ℕ) (to : ℕ) → h ≡ header_from b from → to ≡ from + record_octets h.eqs
       → from + record_octets h.eqs ≤ length b → f ≡ cleared_flags h.flags → m ≡ mac_of s → w ≡ key_expansion (key_of s j)
-      → ((g : List ℕ → ℕ) → g (part b (from + 16) (to - (from + 16))) ≡ added_as g (record_from b from) (Sealed j t))
+      → ((g : List ℕ → ℕ) → g (part b (from + 16) (to - (from + 16))) ≡ added_as g (record_from b from) (Ok (Sealed j t)))
       × (replaced (set out (from + 4) f) (from + 16) (sealed w (record { channel = h.channel; mac = m; clock = t }) (part b (from + 16) (to - (from + 16))))
-      ≡ written s b out from (Sealed j t))
+      ≡ written s b out from (Ok (Sealed j t)))
   unfolding written_as added_as record_from header_from payload_of
   opened_by j t m f h w to eh et inside ef em ew =
       let len = record_octets (record_header (drop from b)).eqs in

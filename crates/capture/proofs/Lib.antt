@@ -1,3 +1,4 @@
 pub mod InPlace
 pub mod Spans
 pub mod Turns
+pub mod Walks

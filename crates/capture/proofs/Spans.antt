@@ -13,7 +13,7 @@ use Rattle.envelope.specs.ControlMask.{count_enciphered, runs}
 use Rattle.envelope.specs.declared.Nonce.{Nonce}
 use Rattle.sealing.specs.Payload.{sealed}
 use Rattle.records.specs.Record.{record_octets}
-use Rattle.capture.specs.declared.opening.Work.{Work}
+use Rattle.envelope.specs.declared.Work.{Work}
 use Rattle.capture.specs.Span.{span_fits, span_payload, span_opening}
 
 -- what the test tells

@@ -10,7 +10,7 @@ use Rattle.envelope.specs.declared.Nonce.{Nonce}
 use Rattle.sealing.specs.Payload.{sealed}
 use Rattle.records.specs.Block.{most_octets}
 use Rattle.records.specs.Record.{header_octets, flags_at, record_octets}
-use Rattle.capture.specs.declared.opening.Work.{Work}
+use Rattle.envelope.specs.declared.Work.{Work}
 
 -- a record that ends at `to` lies in a block and in an output of its length, and its counter blocks are of their range
 unfoldable pub span_fits : Nonce → ℕ → ℕ → ℕ → Bool

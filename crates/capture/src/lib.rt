@@ -4,4 +4,5 @@
 pub mod listing;
 pub mod opening;
 pub mod verdict;
+pub mod walk;
 mod ways;

@@ -1,68 +1,73 @@
 // The listing of a capture block: a heading, and a row for each record.
-ghost use Rattle.std.specs.Prelude.{◌≡◌, true, ◌++◌, ◌+◌, ◌≤◌, ◌<◌, length, take, drop};
-ghost use Rattle.rows.specs.Text.{row_of};
-ghost use Rattle.reading.specs.Listing.{line_octets, body_octets, listing_of};
+ghost use Rattle.std.specs.Prelude.{◌≡◌, true, ◌++◌, ℕ, ◌+◌, ◌≤◌, length, take, drop, Ok};
+ghost use Rattle.reading.specs.Listing.{heading_text, body_octets, listing_of};
 ghost use Rattle.directory.specs.Rebuilt.{joined};
-ghost use Rattle.reading.specs.Reading.{row_by, body_by, listing_by};
-ghost use Rattle.directory.specs.declared.Directory.TheVariants.{Good};
+ghost use Rattle.reading.specs.Reading.{listing_by};
+ghost use Rattle.capture.specs.Walk.{row_walked, body_walked};
 ghost use Rattle.directory.specs.Directory.{directory_of};
 
 use crate::verdict::call_directory;
-use directory::Directory;
+use crate::walk::{Judge, Reader, Walk};
 use octets::copy_at;
-use records::block::{directory_octets, header_from};
-use records::header::{Header, RecordVerdict, record_octets};
-use records::near::{judge, no_drift};
-use rows::{put_line, refused_row, row};
+use refusal::Refusal;
+use rows::{put_line, refused_row};
 
 // Room for the heading and 256 lines of 40 octets.
 pub const LISTING_OCTETS: usize = 10266;
 
-// The row of the record with number k, the header h and the verdict on it, numbers of at most four digits.
-fn put_row(text: &mut [u8], at: usize, k: u64, h: Header, verdict: RecordVerdict) -> usize
-    requires { (k < 10000) × (h.eqs < 10000) × (at + line_octets ≤ length text.old) }
-    ensures lower_bound { (at ≤ result) × (result ≤ at + line_octets) }
-    ensures text_after { take result text.new ≡ take at text.old ++ row_of k h verdict }
-    ensures text_unchanged { drop result text.new ≡ drop result text.old }
+// The length of the heading: where the rows begin.
+pub const HEADING_OCTETS: usize = 26;
+
+// Puts the heading ahead of the rows.
+pub fn put_heading(text: &mut [u8; LISTING_OCTETS])
+    ensures text_after { take HEADING_OCTETS text.new ≡ heading_text }
+    ensures text_unchanged { drop HEADING_OCTETS text.new ≡ drop HEADING_OCTETS text.old }
 {
-    put_line(text, at, row(k, h, verdict))
+    copy_at(b"no llid ch key eqs result\n", text, 0);
 }
 
-#[tactic(auto, unfolding(records::specs::Block::due_of))]
-fn put_rows(near: bool, settings: &[u8], block: &[u8], text: &mut [u8], at: usize, n: u16) -> usize
-    requires block_value { directory_of block.now ≡ Good n }
+fn put_rows<J: Judge>(judge: &J, block: &[u8], text: &mut [u8], at: usize, n: u16) -> usize
+    requires block_value { directory_of block.now ≡ Ok n }
     requires body_octets_in_bounds { at + body_octets ≤ length text.old }
     ensures lower_bound { (at ≤ result) × (result ≤ at + body_octets) }
-    ensures text_after { take result text.new ≡ take at text.old ++ joined (row_by near settings.now block.now) 0 n }
+    ensures text_after { take result text.new ≡ take at text.old ++ joined (row_walked J.listed (J.judged judge.now) block.now) 0 n }
     ensures text_unchanged { drop result text.new ≡ drop result text.old }
 {
     let mut end = at;
-    let mut from = directory_octets(n);
-    let mut drift = no_drift();
-    let mut i = 0;
-    while i < n {
-        let h = header_from(block, from);
-        let heard = judge(near, settings, drift, h);
-        let verdict = heard.verdict;
-        end = put_row(text, end, i as u64 + 1, h, verdict);
-        let next = heard.drift;
-        drift = next;
-        from += record_octets(h.eqs);
-        i += 1;
+    let mut walk = Walk::start(n);
+    for i in 0..n {
+        let turn = walk.turn(judge, block);
+        end = put_line(
+            text,
+            end,
+            judge.row(i as u64 + 1, turn.header, turn.verdict),
+        );
     }
     end
 }
 
-// The rows of a block, or the code of the call's refusal.
-fn put_body(near: bool, settings: &[u8], block: &[u8], text: &mut [u8], at: usize) -> usize
-    requires { at + body_octets ≤ length text.old }
-    ensures lower_bound { (at ≤ result) × (result ≤ at + body_octets) }
-    ensures text_after { take result text.new ≡ take at text.old ++ body_by near settings.now block.now }
+// A block, and what the call found in its directory.
+#[derive(Clone, Copy)]
+pub struct Checked<'a> {
+    pub block: &'a [u8],
+    pub directory: Result<u16, Refusal>,
+    ghost found: { (n : ℕ) → directory ≡ Ok n → directory_of block.now ≡ Ok n },
+}
+
+// The rows of a block whose directory the call found good, or the code of the call's refusal.
+pub fn put_body<J: Judge>(
+    checked: &Checked<'_>,
+    judge: &J,
+    text: &mut [u8; LISTING_OCTETS],
+) -> usize
+    ensures lower_bound { (HEADING_OCTETS ≤ result) × (result ≤ HEADING_OCTETS + body_octets) }
+    ensures text_after { take result text.new
+        ≡ take HEADING_OCTETS text.old ++ body_walked checked.now.directory J.listed (J.judged judge.now) checked.now.block.now }
     ensures text_unchanged { drop result text.new ≡ drop result text.old }
 {
-    match call_directory(true, settings, block) {
-        Directory::Bad(refusal) => put_line(text, at, refused_row(refusal)),
-        Directory::Good(n) => put_rows(near, settings, block, text, at, n),
+    match checked.directory {
+        Err(refusal) => put_line(text, HEADING_OCTETS, refused_row(refusal)),
+        Ok(n) => put_rows(judge, checked.block, text, HEADING_OCTETS, n),
     }
 }
 
@@ -71,9 +76,12 @@ fn list_by(near: bool, settings: &[u8], block: &[u8], text: &mut [u8; LISTING_OC
     ensures text_after { take result text.new ≡ listing_by near settings.now block.now }
     ensures text_unchanged { drop result text.new ≡ drop result text.old }
 {
-    let heading = *b"no llid ch key eqs result\n";
-    copy_at(&heading, text, 0);
-    put_body(near, settings, block, text, heading.len())
+    let checked = Checked {
+        block,
+        directory: call_directory(true, settings, block),
+    };
+    put_heading(text);
+    put_body(&checked, &Reader { near, settings }, text)
 }
 
 // Lists a block: the heading, then the rows, or the code of the call's refusal. Gives the length of the text; the octets

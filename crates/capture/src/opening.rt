@@ -18,14 +18,14 @@ ghost use Rattle.reading.specs.Claims.{OpenedIfAccepted};
 ghost use Rattle.capture.specs.Duties.{Took, TookAs, TookAll, Span, Expanded, Ready, Settled, written, Copied};
 
 use crate::verdict::call_directory;
+use crate::walk::{Reader, Turn, Walk};
 use cipher::aes128::RoundKeys;
 use cipher::key_expansion::expand_key;
-use directory::Directory;
-use envelope::{Nonce, nonce_fits, seal_count, seal_runs};
-use reading::{NearAnswer, OpenAnswer};
-use records::block::{MOST_OCTETS, directory_octets, header_from};
-use records::header::{FLAGS, HEADER_OCTETS, Header, RecordVerdict, cleared, record_octets};
-use records::near::{judge, no_drift, signed};
+use envelope::{NO_WORK, Nonce, Work, nonce_fits, seal_count, seal_runs};
+use reading::{NearAnswer, OpenAnswer, Opened};
+use records::block::MOST_OCTETS;
+use records::header::{Access, FLAGS, HEADER_OCTETS, RecordVerdict, cleared, record_octets};
+use records::near::{Drift, signed};
 use records::settings::{key, mac, presence};
 use sealing::counter_mode::seal_expanded;
 
@@ -36,20 +36,11 @@ struct Keys {
     pub second: RoundKeys,
 }
 
-// What opening took: the octets deciphered, and the runs of the cipher (02, C-17).
-#[derive(Clone, Copy)]
-pub struct Work {
-    pub count: u64,
-    pub runs: u64,
-}
-
-// What the records of a block came to: the steps are those of the smallest and the largest correction.
+// What opening the records of a block took, and the corrections behind them.
 #[derive(Clone, Copy)]
 pub struct Read {
-    pub count: u64,
-    pub runs: u64,
-    pub smallest: u8,
-    pub largest: u8,
+    pub work: Work,
+    pub drift: Drift,
 }
 
 // Opens the payload of the record from `from` to `to` into its place in the output, sets the flags there, and tells what that took.
@@ -103,91 +94,74 @@ pub fn open_span(
     let start = from as usize;
     let to = start + record_octets(eqs);
     if !span_fits(nonce, block.len(), output.len(), to) {
-        return Work { count: 0, runs: 0 };
+        return NO_WORK;
     }
     open_part(keys, nonce, flags, block, output, start, to)
 }
 
-fn key_for(keys: Keys, index: u8) -> RoundKeys
-    ensures { result ≡ pick (eqb index 0) keys.first keys.second }
+#[tactic(auto, unfolding(octets::specs::Choice::pick))]
+fn key_for(keys: &Keys, index: u8) -> RoundKeys
+    ensures { result ≡ pick (eqb index 0) keys.now.first keys.now.second }
 {
     if index == 0 { keys.first } else { keys.second }
 }
 
-// Writes the record with the header h, which starts at `from`, as the verdict on it says, and tells what that took; a clear
-// or refused record stays as it is.
+// Writes a record as the verdict on it says, and tells what that took; a clear or refused record stays as it is.
 fn open_as(
     settings: &[u8],
-    keys: Keys,
+    keys: &Keys,
     block: &[u8],
     output: &mut [u8],
-    from: usize,
-    h: Header,
-    verdict: RecordVerdict,
+    turn: Turn<RecordVerdict>,
 ) -> Work
-    requires ready { Ready settings.now keys block.now output.old from }
-    requires settled { Settled settings.now block.now from h verdict }
-    ensures took_as { TookAs (record_from block.now from) verdict result }
-    ensures output_after { output.new ≡ written settings.now block.now output.old from verdict }
+    requires ready { Ready settings.now keys.now block.now output.old turn.from }
+    requires settled { Settled settings.now block.now turn.from turn.header turn.verdict }
+    ensures took_as { TookAs (record_from block.now turn.from) turn.verdict result }
+    ensures output_after { output.new ≡ written settings.now block.now output.old turn.from turn.verdict }
 {
-    match verdict {
-        RecordVerdict::Clear => Work { count: 0, runs: 0 },
-        RecordVerdict::Refused(_) => Work { count: 0, runs: 0 },
-        RecordVerdict::Sealed(index, clock) => {
-            let nonce = Nonce {
-                channel: h.channel,
-                mac: mac(settings),
-                clock,
-            };
-            let to = from + record_octets(h.eqs);
-            open_part(
-                key_for(keys, index),
-                nonce,
-                cleared(h.flags),
-                block,
-                output,
-                from,
-                to,
-            )
-        }
+    match turn.verdict {
+        Err(_) => NO_WORK,
+        Ok(access) => match access {
+            Access::Clear => NO_WORK,
+            Access::Sealed(index, clock) => {
+                let h = turn.header;
+                let nonce = Nonce {
+                    channel: h.channel,
+                    mac: mac(settings),
+                    clock,
+                };
+                let to = turn.from + record_octets(h.eqs);
+                open_part(
+                    key_for(keys, index),
+                    nonce,
+                    cleared(h.flags),
+                    block,
+                    output,
+                    turn.from,
+                    to,
+                )
+            }
+        },
     }
 }
 
 // Opens the n records of an output that is a copy of the block, each where the one before it ends, and tells what they came to.
-fn open_records(
-    near: bool,
-    settings: &[u8],
-    keys: Keys,
-    block: &[u8],
-    output: &mut [u8],
-    n: u16,
-) -> Read
-    requires { Copied settings.now keys block.now output.old n }
-    ensures took_all { TookAll near settings.now block.now result }
-    ensures output_after { output.new ≡ rebuilt (record_by near settings.now block.now) block.now }
+fn open_records(reader: &Reader<'_>, keys: &Keys, block: &[u8], output: &mut [u8], n: u16) -> Read
+    requires { Copied reader.now.settings.now keys.now block.now output.old n }
+    ensures took_all { TookAll reader.now.near reader.now.settings.now block.now result }
+    ensures output_after { output.new ≡ rebuilt (record_by reader.now.near reader.now.settings.now block.now) block.now }
 {
-    let mut count: u64 = 0;
-    let mut runs: u64 = 0;
-    let mut from = directory_octets(n);
-    let mut drift = no_drift();
-    let mut i = 0;
-    while i < n {
-        let h = header_from(block, from);
-        let heard = judge(near, settings, drift, h);
-        let verdict = heard.verdict;
-        let work = open_as(settings, keys, block, output, from, h, verdict);
-        count += work.count;
-        runs += work.runs;
-        let next = heard.drift;
-        drift = next;
-        from += record_octets(h.eqs);
-        i += 1;
+    let mut work = NO_WORK;
+    let mut walk = Walk::start(n);
+    for _ in 0..n {
+        let turn = walk.turn(reader, block);
+        let more = open_as(reader.settings, keys, block, output, turn);
+        work.count += more.count;
+        work.runs += more.runs;
     }
     Read {
-        count,
-        runs,
-        smallest: drift.smallest,
-        largest: drift.largest,
+        work,
+        drift: walk.drift,
     }
 }
 
@@ -211,7 +185,7 @@ fn expand_keys(settings: &[u8]) -> Keys
 }
 
 // The keys that `expand_keys` expands.
-#[tactic(auto, unfolding(reading::specs::Opening::expansions))]
+#[tactic(auto, using(octets::proofs::Bits::bit_below), unfolding(reading::specs::Opening::expansions))]
 fn expansions(settings: &[u8]) -> u8
     ensures { result ≡ expansions settings.now }
 {
@@ -224,19 +198,24 @@ fn open_by(near: bool, settings: &[u8], block: &[u8], output: &mut [u8]) -> Near
     ensures { with_output result output.new ≡ opening_by near settings.now block.now output.old }
 {
     match call_directory(output.len() == block.len(), settings, block) {
-        Directory::Bad(refusal) => NearAnswer {
-            opened: OpenAnswer::Denied(refusal),
+        Err(refusal) => NearAnswer {
+            opened: Err(refusal),
             smallest: 0,
             largest: 0,
         },
-        Directory::Good(n) => {
+        Ok(n) => {
             let keys = expand_keys(settings);
             octets::copy(block, output);
-            let read = open_records(near, settings, keys, block, output, n);
+            let reader = Reader { near, settings };
+            let read = open_records(&reader, &keys, block, output, n);
             NearAnswer {
-                opened: OpenAnswer::Done(read.count, read.runs, expansions(settings)),
-                smallest: signed(read.smallest),
-                largest: signed(read.largest),
+                opened: Ok(Opened {
+                    count: read.work.count,
+                    runs: read.work.runs,
+                    expansions: expansions(settings),
+                }),
+                smallest: signed(read.drift.smallest),
+                largest: signed(read.drift.largest),
             }
         }
     }
@@ -264,8 +243,8 @@ pub fn number(answer: OpenAnswer) -> u8
     ensures { result ≡ open_number answer }
 {
     match answer {
-        OpenAnswer::Done(_, _, _) => 0,
-        OpenAnswer::Denied(refusal) => refusal::number(refusal),
+        Ok(_) => 0,
+        Err(refusal) => u8::from(refusal),
     }
 }
 
@@ -274,8 +253,8 @@ pub fn pair(answer: OpenAnswer) -> u16
     ensures { result ≡ open_pair answer }
 {
     match answer {
-        OpenAnswer::Done(_, _, _) => 0,
-        OpenAnswer::Denied(refusal) => refusal::pair(refusal),
+        Ok(_) => 0,
+        Err(refusal) => refusal::pair(refusal),
     }
 }
 
@@ -283,28 +262,19 @@ pub fn pair(answer: OpenAnswer) -> u16
 pub fn octets_opened(answer: OpenAnswer) -> u64
     ensures { result ≡ open_count answer }
 {
-    match answer {
-        OpenAnswer::Done(count, _, _) => count,
-        OpenAnswer::Denied(_) => 0,
-    }
+    answer.map_or(0, |opened| opened.count)
 }
 
 // The runs of the cipher, 0 where the call was refused.
 pub fn runs(answer: OpenAnswer) -> u64
     ensures { result ≡ open_runs answer }
 {
-    match answer {
-        OpenAnswer::Done(_, runs, _) => runs,
-        OpenAnswer::Denied(_) => 0,
-    }
+    answer.map_or(0, |opened| opened.runs)
 }
 
 // The keys expanded, 0 where the call was refused.
 pub fn keys_expanded(answer: OpenAnswer) -> u8
     ensures { result ≡ open_expansions answer }
 {
-    match answer {
-        OpenAnswer::Done(_, _, expanded) => expanded,
-        OpenAnswer::Denied(_) => 0,
-    }
+    answer.map_or(0, |opened| opened.expansions)
 }

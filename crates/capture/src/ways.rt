@@ -13,18 +13,14 @@ fn drift_before(settings: &[u8], block: &[u8], i: u16) -> Drift
     ensures { result ≡ drift_at settings.now block.now i }
 {
     let mut drift = no_drift();
-    let mut j = 0;
-    while j < i {
-        let heard = judge(true, settings, drift, header_at(block, j));
-        let next = heard.drift;
-        drift = next;
-        j += 1;
+    for j in 0..i {
+        drift = judge(true, settings, drift, header_at(block, j)).drift;
     }
     drift
 }
 
 // The verdict on record i: in the near way the records before it are read for their corrections.
-#[tactic(auto, unfolding(records::specs::Following::near_verdict, records::specs::Near::judged))]
+#[tactic(auto, unfolding(records::specs::Following::near_verdict, records::specs::Near::judged, octets::specs::Choice::pick))]
 pub(crate) fn verdict_by(near: bool, settings: &[u8], block: &[u8], i: u16) -> RecordVerdict
     ensures { result ≡ verdict_by near settings.now block.now i }
 {

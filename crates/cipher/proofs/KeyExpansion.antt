@@ -104,14 +104,6 @@ expanded_step key n h =
     ∙ sym (append_assoc q k (next_key k (power_of_x n)))
     ∙ ap (λ (l : List ℕ). l ++ next_key k (power_of_x n)) (take-append-drop (16 * n) p)
 
--- the schedule as far as it is made, and what is left of z, have the length of z
-pub schedule_length : (key z w : List ℕ) (n : ℕ) → length key ≡ 16 → 16 * (n + 1) ≤ length z
-    → w ≡ expanded key (4 * n) ++ drop (16 * (n + 1)) z → length w ≡ length z
-schedule_length key z w n h fits e =
-    ap length e
-    ∙ length-append (expanded key (4 * n)) (drop (16 * (n + 1)) z)
-    ∙ omega (arith, expanded_length key (4 * n) h, length-drop (16 * (n + 1)) z)
-
 -- one turn of the loop that makes and stores the round keys
 pub turned : (key z w k u : List ℕ) (n x : ℕ) → length key ≡ 16 → k ≡ drop (16 * n) (expanded key (4 * n))
     → w ≡ expanded key (4 * n) ++ drop (16 * (n + 1)) z → u ≡ next_key k x → x ≡ power_of_x n

@@ -1,14 +1,14 @@
 -- Laws of rows in words: what is joined of octets, and the cipher's steps on one state or on two, row by row. Assumes nothing.
 use mathlib.Core.Path.{◌≡◌, refl, ap, ap₂, sym, ◌∙◌}
 use mathlib.Core.List.{List, ◌++◌}
-use mathlib.Core.Logic.{◌≢◌, ⊎_elim}
-use Prim.Native.Nat.{ℕ, zero, suc, ◌+◌, ◌-◌, ◌*◌, ◌/◌, ◌%◌, ◌^◌, ◌<◌, ◌≤◌}
-use native.Mathlib.Nat.{add_comm, div-div-eq-div-mul, one-mul, zero-add, eq-or-lt_of_le}
+use mathlib.Core.Logic.{◌≢◌}
+use Prim.Native.Nat.{ℕ, zero, suc, ◌+◌, ◌*◌, ◌/◌, ◌%◌, ◌^◌, ◌<◌, ◌≤◌}
+use native.Mathlib.Nat.{add_comm, div-div-eq-div-mul, one-mul, zero-add}
+use native.Mathlib.Numerals.{add-one}
 use native.Mathlib.Omega.{arith}
 use lib.Bits.{bit_xor, xor_zero_r}
-use lib.ListN.{length, get_or, set}
+use lib.ListN.{length, get_or}
 use lib.Pow.{pow-add}
-use lib.Seq.{get_or-set_same, get_or-set_other}
 use Rattle.octets.specs.Lists.{tabulate}
 use Rattle.octets.proofs.Lists.{tabulate_at, tabulate_ext, tabulate_self}
 use Rattle.gf256.specs.Field.{◌⊕◌, ◌•◌, x_times}
@@ -16,7 +16,7 @@ use Rattle.gf256.specs.Lanes.{octet_at, each_octet}
 use Rattle.gf256.specs.Substitution.{sbox}
 use Rattle.gf256.proofs.Lanes.{octet_xor, octet_below, octet_rest, octet_doubled}
 use Rattle.cipher.specs.Cipher.{state_of, cell, sub_bytes, shift_rows, mix_columns, add_round_key, round_key, round, rounds, last_round}
-use Rattle.cipher.specs.RowWords.{BySbox, Four, Both, Eight, TwoRows, Shifted, Mixed, Rounded, Keyed, LastColumns, keyed_state, PairKeys, Reached, TwoOctets, of_four, row_of, state, no_rows, block_octets}
+use Rattle.cipher.specs.RowWords.{BySbox, Four, Both, Eight, TwoRows, Shifted, Mixed, Rounded, Keyed, LastColumns, keyed_state, Reached, TwoOctets, of_four, row_of, state, no_rows, block_octets}
 use Rattle.cipher.specs.declared.row_words.Block.{Block}
 use Rattle.cipher.specs.declared.row_words.Rows.{Rows}
 use Rattle.cipher.proofs.Sums.{double_sum, first, second, third, fourth}
@@ -151,10 +151,6 @@ gathered_state s t h a b c d = rows_state s t 0 h (row 0 a) (row 1 b) (row 2 c) 
   row : (r : ℕ) {x : ℕ} → Four (λ j. get_or s (r + 4 * j) 0) x → (j : ℕ) → j < 4 → octet_at x (4 * 0 + j) ≡ cell s r j
   row r f j l = rw zero-add (f.octet j l)
 
-pub two_rows : {s t : List ℕ} {k l u r : ℕ} → Four (λ j. get_or s (k + 4 * j) 0) l → Four (λ j. get_or t (k + 4 * j) 0) u → Both l u r
-    → TwoRows s t k r
-two_rows f g b = record { first = λ c l. b.low c l ∙ f.octet c l; second = λ c l. b.high c l ∙ g.octet c l }
-
 -- both states of the rows of one state, twice
 pub twice_state : (s : List ℕ) (r : Rows) → length s ≡ 16 → TwoRows s s 0 r.a → TwoRows s s 1 r.b → TwoRows s s 2 r.c → TwoRows s s 3 r.d
     → (z : ℕ) → z < 2 → state r z ≡ s
@@ -281,45 +277,25 @@ keyed_round key s {t = t} {r = r} m a b c d =
 
 ---- the nine rounds
 
--- round n of one state up to its key, after those below it
-pub onward_one : (w : List ℕ) (n : ℕ) (s : List ℕ) {t u : Rows} {k : List ℕ} → 1 ≤ n → keyed_state (round_key w (n - 1)) t ≡ rounds w (n - 1) s
-    → k ≡ round_key w (n - 1) → Keyed k t u → keyed_state (round_key w (n + 1 - 1)) u ≡ rounds w (n + 1 - 1) s
+-- one more round of one state up to its key
+pub onward_one : (w : List ℕ) (n : ℕ) (s : List ℕ) {t u : Rows} {k : List ℕ} → keyed_state (round_key w n) t ≡ rounds w n s
+    → k ≡ round_key w n → Keyed k t u → keyed_state (round_key w (n + 1)) u ≡ rounds w (n + 1) s
 unfolding rounds
-onward_one w n s h before key g =
-    let next : n + 1 - 1 ≡ suc (n - 1) = omega arith in
-    rw next (g.states (round_key w (suc (n - 1))) ∙ ap (round (round_key w (suc (n - 1)))) (rw key before))
+onward_one w n s before key g =
+    rw add-one (g.states (round_key w (suc n)) ∙ ap (round (round_key w (suc n))) (rw key before))
 
--- round n of two states, after those below it
-pub onward_two : (ks : List Rows) (n : ℕ) {s t u : Rows} → 1 ≤ n → n < 10 → Reached ks (n - 1) s t → Rounded (get_or ks n no_rows) t u
-    → Reached ks (n + 1 - 1) s u
+-- one more round of two states
+pub onward_two : (ks : List Rows) (n : ℕ) {s t u : Rows} → n + 1 < 10 → Reached ks n s t → Rounded (get_or ks (n + 1) no_rows) t u
+    → Reached ks (n + 1) s u
 unfolding rounds
-onward_two ks n {s} {t} {u} h l before g =
-    let here : n ≡ suc (n - 1) = omega arith in
-    let next : n + 1 - 1 ≡ suc (n - 1) = omega arith in
-    rw next
+onward_two ks n {s} {t} {u} l before g =
     record {
-      states = λ w keys z e i start. g.states z i ∙ ap₂ round (keys.key n z l i ∙ ap (round_key w) here) (before.states w keys z e i start);
+      states = λ w keys z e i start.
+          g.states z i ∙ ap₂ round (keys.key (n + 1) z l i) (before.states w keys z e i start) ∙ rw add-one;
     }
 
 pub begun : (ks : List Rows) (s : Rows) → Reached ks 1 s s
 begun ks s = record { states = λ w keys z e i start. start }
-
--- the keys of two states: none yet, and one more
-pub no_keys-holds : (w : List ℕ) (ks : List Rows) → PairKeys w 0 ks
-no_keys-holds w ks = record { key = λ m z h l. absurd (omega arith) }
-
-pub one_key_more : (w : List ℕ) (n : ℕ) (ks : List Rows) (r : Rows) → n < length ks → PairKeys w n ks → state r 0 ≡ round_key w n
-    → state r 1 ≡ round_key w n
-    → PairKeys w (n + 1) (set ks n r)
-one_key_more w n ks r h before first second = record {
-  key = λ m z l i.
-      ⊎_elim (λ (same : m ≡ n). rw (same, get_or-set_same ks n r no_rows h) (new z i))
-      (λ (below : m < n). rw (get_or-set_other ks n m r no_rows (λ same. omega arith)) (before.key m z below i)) (eq-or-lt_of_le (omega arith));
-} where
-  new : (z : ℕ) → z < 2 → state r z ≡ round_key w n
-  new zero i = first
-  new (suc zero) i = second
-  new (suc (suc z)) i = absurd (omega arith)
 
 ---- the last round
 

@@ -7,6 +7,7 @@ ghost use Rattle.cipher.specs.Cipher.{cipher};
 ghost use Rattle.cipher.specs.Words.{word, xor_words, sub_word};
 
 use super::row_words::{block_octets, encrypt_lone};
+use std::array;
 
 // The eleven round keys, one after the other.
 #[repr(C)]
@@ -27,11 +28,11 @@ pub(crate) fn word_of(s: [u8; 16], i: usize) -> [u8; 4]
     requires { i < 4 }
     ensures { result ≡ word s i }
 {
-    let k = 4 * i;
-    [s[k + 0], s[k + 1], s[k + 2], s[k + 3]]
+    let (words, _) = s.as_chunks::<4>();
+    words[i]
 }
 
-// The 16 octets of four words.
+// The 16 octets of four words. Written out: the library joins arrays on the heap alone.
 pub(crate) fn joined(a: [u8; 4], b: [u8; 4], c: [u8; 4], d: [u8; 4]) -> [u8; 16]
     ensures { result ≡ word a 0 ++ (word b 0 ++ (word c 0 ++ word d 0)) }
 {
@@ -45,18 +46,13 @@ pub(crate) fn sub_word(subs: &[u8; 256], a: [u8; 4]) -> [u8; 4]
     requires { subs.now ≡ sbox_table }
     ensures { result ≡ sub_word a }
 {
-    [
-        substitute(subs, a[0]),
-        substitute(subs, a[1]),
-        substitute(subs, a[2]),
-        substitute(subs, a[3]),
-    ]
+    a.map(|x| substitute(subs, x))
 }
 
 pub(crate) fn xor_words(a: [u8; 4], b: [u8; 4]) -> [u8; 4]
     ensures { result ≡ xor_words a b }
 {
-    [a[0] ^ b[0], a[1] ^ b[1], a[2] ^ b[2], a[3] ^ b[3]]
+    array::from_fn(|i| a[i] ^ b[i])
 }
 
 pub fn encrypt_block(keys: RoundKeys, block: [u8; 16]) -> [u8; 16]

@@ -1,5 +1,5 @@
 // The key expansion of AES-128 (FIPS 197, 5.2), by 16 octets at a time. The table is bound once by the caller and lent.
-ghost use Rattle.std.specs.Prelude.{◌≡◌, ◌<◌, length};
+ghost use Rattle.std.specs.Prelude.{◌≡◌, ◌<◌};
 ghost use Rattle.octets.specs.Lists.{replaced};
 ghost use Rattle.gf256.specs.Table.{sbox_table};
 ghost use Rattle.cipher.specs.KeyExpansion.{constant_word, key_expansion};
@@ -33,13 +33,14 @@ fn next_key(subs: &[u8; 256], k: [u8; 16], x: u8) -> [u8; 16]
     joined(a, b, c, d)
 }
 
-// Stores a round key from the octet `at` on.
+// Stores a round key from the octet `at` on. Octet by octet: after `copy_from_slice` the compiler keeps the round key in memory, and a key expansion
+// takes half as long again.
 fn put(w: &mut [u8; 176], at: usize, k: [u8; 16])
-    requires { (at < 161) × (length w.old ≡ 176) }
+    requires { at < 161 }
     ensures { w.new ≡ replaced w.old at k }
 {
-    for j in 0..16usize {
-        w[at + j] = k[j];
+    for (j, x) in k.iter().enumerate() {
+        w[at + j] = *x;
     }
 }
 
@@ -49,14 +50,13 @@ pub(crate) fn expand_with(subs: &[u8; 256], key: [u8; 16]) -> RoundKeys
     requires { subs.now ≡ sbox_table }
     ensures { result.octets ≡ key_expansion key }
 {
-    let constants = gf256::round_constants();
     let mut w = [0u8; 176];
+    put(&mut w, 0, key);
     let mut k = key;
-    put(&mut w, 0, k);
-    for n in 0..10usize {
-        let u = next_key(subs, k, constants[n]);
-        put(&mut w, 16 * (n + 1), u);
-        k = u;
+    for (n, x) in gf256::round_constants().iter().enumerate() {
+        let next = next_key(subs, k, *x);
+        put(&mut w, 16 * (n + 1), next);
+        k = next;
     }
     RoundKeys { octets: w }
 }

@@ -24,6 +24,13 @@ pub struct Rows {
     pub d: u64,
 }
 
+const NO_ROWS: Rows = Rows {
+    a: 0,
+    b: 0,
+    c: 0,
+    d: 0,
+};
+
 // A cipher block: its octets 0 to 7 and 8 to 15, the first of each lowest.
 #[derive(Clone, Copy)]
 pub struct Block {
@@ -31,10 +38,11 @@ pub struct Block {
     pub high: u64,
 }
 
+// An octet in a word. A function of its own: its promise has the bound that the proofs of sums of octets read.
 pub fn wide(x: u8) -> u64
     ensures { (result ≡ x) × (result < 256) }
 {
-    x as u64
+    u64::from(x)
 }
 
 // Four octets, the first lowest.
@@ -53,7 +61,7 @@ pub(crate) fn both(low: u64, high: u64) -> u64
     low + high * 4294967296
 }
 
-// Eight octets, the first lowest.
+// Eight octets, the first lowest. By hand: of an array that goes whole to `u64::from_le_bytes` no proof knows that its elements are octets.
 pub fn eight(s: [u8; 8]) -> u64
     ensures { Eight (λ j. get_or s j 0) result }
 {
@@ -215,13 +223,7 @@ fn lone_round(subs: &[u8; 256], key: [u8; 16], s: Rows) -> Rows
         c: keyed_row(subs, key, s.c, 2),
         d: keyed_row(subs, key, s.d, 3),
     };
-    let none = Rows {
-        a: 0,
-        b: 0,
-        c: 0,
-        d: 0,
-    };
-    mixed(t, none)
+    mixed(t, NO_ROWS)
 }
 
 // A round of two states.
@@ -237,7 +239,8 @@ fn pair_round(subs: &[u8; 256], k: Rows, s: Rows) -> Rows
     mixed(t, k)
 }
 
-// The octets of round key n of the key schedule w.
+// The octets of round key n of the key schedule w. One by one: of a piece of `as_chunks` the compiler loads words and takes the octets from them, 3 % more
+// instructions for a block by itself.
 #[tactic(auto, unfolding(crate::specs::Cipher::round_key))]
 pub(crate) fn round_key(w: &[u8; 176], n: usize) -> [u8; 16]
     requires { n < 11 }
@@ -245,7 +248,7 @@ pub(crate) fn round_key(w: &[u8; 176], n: usize) -> [u8; 16]
 {
     let k = 16 * n;
     [
-        w[k + 0],
+        w[k],
         w[k + 1],
         w[k + 2],
         w[k + 3],
@@ -271,9 +274,9 @@ fn lone_rounds<'a>(subs: &'a [u8; 256], w: &'a [u8; 176], start: Rows) -> Rows
         ≡ rounds w.now 9 (keyed_state (round_key w.now 0) start)) }
 {
     let mut s = start;
-    for n in 1..ROUNDS {
-        let t = lone_round(subs, round_key(w, n - 1), s);
-        s = t;
+    // An index loop: `round_key` takes the number of the key, for the sake of speed.
+    for n in 0..ROUNDS - 1 {
+        s = lone_round(subs, round_key(w, n), s);
     }
     s
 }
@@ -283,9 +286,8 @@ fn pair_rounds<'a>(subs: &'a [u8; 256], keys: [Rows; 10], start: Rows) -> Rows
     ensures { BySbox subs.now (Reached keys 9 start result) }
 {
     let mut s = start;
-    for n in 2..ROUNDS {
-        let t = pair_round(subs, keys[n], s);
-        s = t;
+    for key in &keys[2..ROUNDS] {
+        s = pair_round(subs, *key, s);
     }
     s
 }
@@ -294,15 +296,9 @@ fn pair_rounds<'a>(subs: &'a [u8; 256], keys: [Rows; 10], start: Rows) -> Rows
 pub fn pair_keys(w: &[u8; 176]) -> [Rows; 10]
     ensures { PairKeys w.now Nr result }
 {
-    let zero = Rows {
-        a: 0,
-        b: 0,
-        c: 0,
-        d: 0,
-    };
-    let mut keys = [zero; 10];
-    for n in 0..10usize {
-        keys[n] = rows_twice(round_key(w, n));
+    let mut keys = [NO_ROWS; 10];
+    for (n, key) in keys.iter_mut().enumerate() {
+        *key = rows_twice(round_key(w, n));
     }
     keys
 }
@@ -428,40 +424,18 @@ pub(crate) fn octet(x: u64, j: u64) -> u8
 }
 
 // The eight octets of a word.
+#[tactic(auto, unfolding(gf256::specs::Lanes::octet_at))]
 pub fn octets_of(x: u64) -> [u8; 8]
     ensures { result ≡ tabulate 0 8 (octet_at x) }
 {
-    [
-        octet(x, 0),
-        octet(x, 1),
-        octet(x, 2),
-        octet(x, 3),
-        octet(x, 4),
-        octet(x, 5),
-        octet(x, 6),
-        octet(x, 7),
-    ]
+    x.to_le_bytes()
 }
 
 pub(crate) fn block_octets(b: Block) -> [u8; 16]
     ensures { result ≡ block_octets b }
 {
-    [
-        octet(b.low, 0),
-        octet(b.low, 1),
-        octet(b.low, 2),
-        octet(b.low, 3),
-        octet(b.low, 4),
-        octet(b.low, 5),
-        octet(b.low, 6),
-        octet(b.low, 7),
-        octet(b.high, 0),
-        octet(b.high, 1),
-        octet(b.high, 2),
-        octet(b.high, 3),
-        octet(b.high, 4),
-        octet(b.high, 5),
-        octet(b.high, 6),
-        octet(b.high, 7),
-    ]
+    let mut octets = [0; 16];
+    octets[..8].copy_from_slice(&octets_of(b.low));
+    octets[8..].copy_from_slice(&octets_of(b.high));
+    octets
 }

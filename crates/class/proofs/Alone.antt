@@ -1,4 +1,5 @@
 -- Laws of one user, one set, the rights to see and to open: the class's reader is document 01's. Assumes nothing.
+use Rattle.std.specs.Prelude.{Result, Ok, Err}
 use mathlib.Core.Path.{◌≡◌, refl, sym, ap, ◌∙◌}
 use mathlib.Core.Bool.{Bool, true, false}
 use mathlib.Core.List.{List}
@@ -16,7 +17,6 @@ use Rattle.octets.proofs.Bits.{bit_below}
 use Rattle.octets.proofs.Choice.{pick_true}
 use Rattle.octets.proofs.Lists.{sum_ext}
 use Rattle.refusal.specs.declared.Refusal.TheVariants.{BadLength}
-use Rattle.refusal.specs.declared.Verdict.TheVariants.{Refused}
 use Rattle.refusal.specs.Order.{refuse_if}
 use Rattle.envelope.specs.ControlMask.{count_enciphered, runs}
 use Rattle.records.specs.declared.near.Drift.{Drift}
@@ -24,8 +24,6 @@ use Rattle.records.specs.Settings.{llid_of, presence_of, key_present, presence_f
 use Rattle.records.specs.Near.{judged}
 use Rattle.records.specs.Block.{records_in}
 use Rattle.records.specs.Following.{header_of}
-use Rattle.directory.specs.declared.Directory.{Directory}
-use Rattle.directory.specs.declared.Directory.TheVariants.{Good, Bad}
 use Rattle.reading.specs.Opening.{expansions, open_verdict}
 use Rattle.reading.specs.Verdict.{call_directory}
 use Rattle.reading.specs.Reading.{drift_by, verdict_by, record_by, adds_by, total_by, opening_as, opening_by, row_by, body_as, listing_by}
@@ -36,7 +34,8 @@ use Rattle.reading.proofs.Readings.{no_corrections}
 use Rattle.capture.proofs.Turns.{judged_turn}
 use Rattle.records.proofs.Verdicts.{settings_octets-holds}
 use Rattle.rights.specs.declared.judging.ClassVerdict.TheVariants.{Told}
-use Rattle.rights.specs.declared.judging.ClassHeard.{ClassHeard}
+use Rattle.records.specs.declared.near.Heard.{Heard}
+use Rattle.rights.specs.declared.judging.ClassVerdict.{ClassVerdict}
 use Rattle.rights.specs.Settings.{set_of, set_from, set_for, own_rights, rights_on}
 use Rattle.rights.specs.Rights.{rights_fit, may_open}
 use Rattle.rights.specs.Verdict.{user_fits, counts_fit, presences_fit, llids_differ, class_verdict}
@@ -45,6 +44,7 @@ use Rattle.class.specs.Opening.{written_for, added_for, record_for, adds_for, to
 use Rattle.class.specs.Listing.{row_as, row_for, body_after, listing_for}
 use Rattle.class.specs.Claims.{alone, alone_rights, ReadsAlone}
 use Rattle.class.proofs.Readers.{told_all}
+use Rattle.refusal.specs.declared.Refusal.{Refusal}
 
 ---- what the call finds
 whole : (s : List ℕ) → eqb (length s) 41 ≡ true → set_of s 0 ≡ s
@@ -57,7 +57,7 @@ verdict_by-holds s true true e f = rw (e, whole s e, f, eq-eqb (llid_of s) (llid
 verdict_by-holds s true false e f = rw (e, whole s e, f)
 verdict_by-holds s false w e f = rw e
 
-unsuited_alone : (s : List ℕ) → class_verdict false true alone s alone_rights ≡ Refused BadLength
+unsuited_alone : (s : List ℕ) → class_verdict false true alone s alone_rights ≡ Err BadLength
 unfolding class_verdict user_fits both refuse_if
 unsuited_alone s = refl
 
@@ -92,13 +92,13 @@ module _ (near : Bool) (s b : List ℕ) (size : eqb (length s) 41 ≡ true) (own
   unfolding drift_for
   alone_drift zero h = no_corrections near s b
   alone_drift (suc i) h =
-      ap (λ (x : ClassHeard). x.drift) (alone_heard i (omega arith) _)
+      ap (λ (x : Heard ClassVerdict). x.drift) (alone_heard i (omega arith) _)
       ∙ (judged_turn near s b i _ (alone_drift i (omega arith))).1
 
   alone_told : (i : ℕ) → i < records_in b → told_of near alone s alone_rights b i ≡ Told (verdict_by near s b i)
   unfolding told_of
   alone_told i h =
-      ap (λ (x : ClassHeard). x.verdict) (alone_heard i h _) ∙ ap Told (judged_turn near s b i _ (alone_drift i (omega arith))).0
+      ap (λ (x : Heard ClassVerdict). x.verdict) (alone_heard i h _) ∙ ap Told (judged_turn near s b i _ (alone_drift i (omega arith))).0
 
   alone_record : (i : ℕ) → i < records_in b → record_for near alone s alone_rights b i ≡ record_by near s b i
   unfolding written_for
@@ -125,10 +125,10 @@ alone_expansions s e =
     rw (three_opens, whole s e, bit_counted (bit_of p 0) (bit_below p 0), bit_counted (bit_of p 1) (bit_below p 1)) (omega arith)
 
 ---- the whole answer
-alone_opened : (near : Bool) (s b out : List ℕ) (d : Directory) → ((i : ℕ) → i < records_in b → (header_of b i).llid ≡ llid_of s)
+alone_opened : (near : Bool) (s b out : List ℕ) (d : Result ℕ Refusal) → ((i : ℕ) → i < records_in b → (header_of b i).llid ≡ llid_of s)
     → call_directory (eqb (length out) (length b)) s b ≡ d → opening_after d near alone s alone_rights b out ≡ opening_by near s b out
 unfolding opening_after opening_by opening_as
-alone_opened near s b out (Good n) own e =
+alone_opened near s b out (Ok n) own e =
     let f = call_good _ s b n e in
     let size = eq-eqb (length s) 41 (settings_octets-holds s f.1) in
     rw (
@@ -139,17 +139,17 @@ alone_opened near s b out (Good n) own e =
       alone_drift near s b size own (records_in b) (omega arith),
       rebuilt_ext (record_for near alone s alone_rights b) (record_by near s b) b (alone_record near s b size own),
     )
-alone_opened near s b out (Bad r) own e = rw (found_bad s b (length out) r e)
+alone_opened near s b out (Err r) own e = rw (found_bad s b (length out) r e)
 
-alone_listed : (near : Bool) (s b : List ℕ) (d : Directory) → ((i : ℕ) → i < records_in b → (header_of b i).llid ≡ llid_of s)
+alone_listed : (near : Bool) (s b : List ℕ) (d : Result ℕ Refusal) → ((i : ℕ) → i < records_in b → (header_of b i).llid ≡ llid_of s)
     → call_directory true s b ≡ d → body_after d near alone s alone_rights b ≡ body_as near s b (open_verdict s b (length b))
 unfolding body_after body_as
-alone_listed near s b (Good n) own e =
+alone_listed near s b (Ok n) own e =
     let f = call_good _ s b n e in
     let size = eq-eqb (length s) 41 (settings_octets-holds s f.1) in
     rw (found_good s b (length b) n (listing_found s b ∙ e))
     (joined_ext (row_for near alone s alone_rights b) (row_by near s b) 0 (records_in b) (λ i l h. alone_row-holds near s b size own i (omega arith)))
-alone_listed near s b (Bad r) own e = rw (found_bad s b (length b) r (listing_found s b ∙ e))
+alone_listed near s b (Err r) own e = rw (found_bad s b (length b) r (listing_found s b ∙ e))
 
 pub reads_alone : (near : Bool) (s b out : List ℕ) → ReadsAlone near s b out
 unfolding opening_for listing_for listing_by

@@ -1,4 +1,5 @@
 -- The two inputs of Secrecy are such a pair: each fact is computed. Assumes nothing.
+use Rattle.std.specs.Prelude.{Ok}
 use mathlib.Core.Path.{◌≡◌, refl, sym, ap, ◌∙◌}
 use mathlib.Core.Bool.{true, false}
 use Prim.Native.Nat.{ℕ, zero, suc, ◌<◌}
@@ -9,10 +10,8 @@ use Rattle.octets.specs.Choice.{both, either, pick}
 use Rattle.octets.specs.Each.{each}
 use Rattle.octets.specs.Lists.{all}
 use Rattle.octets.proofs.Choice.{true_false, pick_false}
-use Rattle.refusal.specs.declared.Verdict.TheVariants.{Accepted}
 use Rattle.refusal.specs.Order.{refuse_if}
 use Rattle.envelope.specs.Channels.{downstream, upstream, channel_fits}
-use Rattle.records.specs.declared.header.RecordVerdict.TheVariants.{Clear}
 use Rattle.records.specs.Settings.{llid_of, presence_of, presence_fits}
 use Rattle.records.specs.Record.{record_header, sized}
 use Rattle.records.specs.Place.{end_fits}
@@ -20,23 +19,25 @@ use Rattle.records.specs.Verdict.{enc_enabled, flags_fit, header_fits, key_verdi
 use Rattle.records.specs.Near.{nearest, heard_at, heard, judged}
 use Rattle.records.specs.Block.{directory_octets, records_in, offset_of, length_of, end_of, due_of, record_of}
 use Rattle.records.specs.Following.{header_of}
-use Rattle.directory.specs.declared.Directory.TheVariants.{Good}
 use Rattle.directory.specs.Directory.{chained, pair_of, size_fits, with_pair, pairs_from, directory_of}
 use Rattle.rights.specs.declared.judging.ClassVerdict.TheVariants.{Hidden, Told}
-use Rattle.rights.specs.declared.judging.ClassHeard.{ClassHeard}
+use Rattle.records.specs.declared.near.Heard.{Heard}
+use Rattle.rights.specs.declared.judging.ClassVerdict.{ClassVerdict}
 use Rattle.rights.specs.Judging.{told_to, judged_for}
 use Rattle.rights.specs.Settings.{set_of, set_from, own_rights, rights_on}
 use Rattle.rights.specs.Rights.{rights_fit, may_open, may_see}
 use Rattle.rights.specs.Verdict.{user_fits, counts_fit, presences_fit, llids_differ, class_verdict}
 use Rattle.class.specs.Reading.{drift_for, told_of, call_for}
 use Rattle.class.specs.Secrecy.{example, first_sets, second_sets, first_rights, second_rights, first_block, second_block, Example}
+use Rattle.records.specs.declared.header.Access.TheVariants.{Clear}
+use Rattle.refusal.specs.Verdict.{no_refusal}
 
-settings : (class_verdict true true example first_sets first_rights ≡ Accepted) × (class_verdict true true example second_sets second_rights ≡ Accepted)
+settings : (class_verdict true true example first_sets first_rights ≡ no_refusal) × (class_verdict true true example second_sets second_rights ≡ no_refusal)
 unfolding class_verdict user_fits counts_fit presences_fit llids_differ rights_fit each all both refuse_if pick set_from presence_fits
     presence_of llid_of bit_of low_cleared
 settings = (refl, refl)
 
-directories : (directory_of first_block ≡ Good 2) × (directory_of second_block ≡ Good 2)
+directories : (directory_of first_block ≡ Ok 2) × (directory_of second_block ≡ Ok 2)
 unfolding directory_of pairs_from with_pair pair_of chained size_fits sized records_in offset_of length_of end_of due_of record_of
     record_header end_fits both either pick
 directories = (refl, refl)
@@ -82,7 +83,7 @@ same_records-holds : (i : ℕ) → i < 2 → may_see (rights_on example first_se
 unfolding record_of offset_of length_of
 same_records-holds = two _ (λ e. refl) (λ e. true_false (sym e ∙ second_hides))
 
-first_told : told_of true example first_sets first_rights first_block 0 ≡ Told Clear
+first_told : told_of true example first_sets first_rights first_block 0 ≡ Told (Ok Clear)
 unfolding told_of drift_for judged_for told_to judged heard heard_at nearest record_verdict in_order key_verdict header_fits channel_fits
     downstream upstream flags_fit
     enc_enabled low_cleared bit_of record_of offset_of length_of record_header own_rights set_from llid_of presence_of may_see may_open both either pick
@@ -90,7 +91,7 @@ first_told = refl
 
 second_hidden : told_of true example first_sets first_rights first_block 1 ≡ Hidden
 unfolding told_of judged_for
-second_hidden = ap (λ (x : ClassHeard). x.verdict) (pick_false _ _ second_hides)
+second_hidden = ap (λ (x : Heard ClassVerdict). x.verdict) (pick_false _ _ second_hides)
 
 pub pair : Example
 unfolding call_for record_of offset_of length_of

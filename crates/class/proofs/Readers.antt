@@ -17,7 +17,8 @@ use Rattle.directory.proofs.Records.{good}
 use Rattle.directory.proofs.Rebuilding.{own_record}
 use Rattle.rights.specs.declared.settings.Caller.{Caller}
 use Rattle.rights.specs.declared.judging.ClassVerdict.TheVariants.{Told}
-use Rattle.rights.specs.declared.judging.ClassHeard.{ClassHeard}
+use Rattle.records.specs.declared.near.Heard.{Heard}
+use Rattle.rights.specs.declared.judging.ClassVerdict.{ClassVerdict}
 use Rattle.rights.specs.Settings.{set_for, rights_on}
 use Rattle.rights.specs.Rights.{may_open, may_see}
 use Rattle.rights.specs.Judging.{told_to, judged_for}
@@ -42,7 +43,7 @@ told_all near q s drift h e = pick_true _ _ (open_sees q e) ∙ rw (pick_true {t
 module _ (c : Caller) (s q b : List ℕ) (i : ℕ) (may : may_open (rights_on c s q (header_of b i).llid) ≡ true) where
   told_as : told_of false c s q b i ≡ Told (verdict_of (set_at c s b i) (record_of b i))
   unfolding told_of judged
-  told_as = ap (λ (x : ClassHeard). x.verdict) (told_all false _ (set_at c s b i) (drift_for false c s q b i) (header_of b i) may)
+  told_as = ap (λ (x : Heard ClassVerdict). x.verdict) (told_all false _ (set_at c s b i) (drift_for false c s q b i) (header_of b i) may)
 
   set_as : llid_of (set_at c s b i) ≡ (header_of b i).llid
   set_as =

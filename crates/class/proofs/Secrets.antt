@@ -1,5 +1,6 @@
 -- The theorem: two inputs that differ only in what a user may not see have the same answer for that user. Record by record, what is hidden
 -- is hidden in both, and what is seen is the same in both. Assumes nothing.
+use Rattle.std.specs.Prelude.{Ok, Err}
 use mathlib.Core.Path.{◌≡◌, refl, sym, ap, ap₂, ◌∙◌}
 use mathlib.Core.Bool.{Bool, true, false}
 use mathlib.Core.List.{List, ◌++◌}
@@ -18,7 +19,6 @@ use Rattle.records.specs.Settings.{llid_of}
 use Rattle.records.specs.Record.{record_header}
 use Rattle.records.specs.Block.{records_in, due_of, record_of}
 use Rattle.records.specs.Following.{header_of}
-use Rattle.directory.specs.declared.Directory.TheVariants.{Good, Bad}
 use Rattle.directory.specs.Rebuilt.{joined, rebuilt}
 use Rattle.directory.proofs.Records.{Records, good, placed, records_end}
 use Rattle.directory.proofs.Rebuilding.{like_count, like_length, like_due}
@@ -26,7 +26,7 @@ use Rattle.directory.proofs.Filling.{joined_ext}
 use Rattle.rights.specs.declared.settings.Caller.{Caller}
 use Rattle.rights.specs.declared.judging.ClassVerdict.{ClassVerdict}
 use Rattle.rights.specs.declared.judging.ClassVerdict.TheVariants.{Hidden}
-use Rattle.rights.specs.declared.judging.ClassHeard.{ClassHeard}
+use Rattle.records.specs.declared.near.Heard.{Heard}
 use Rattle.rights.specs.Settings.{set_of, set_from, set_for, own_rights, rights_on}
 use Rattle.rights.specs.Rights.{may_open, may_see}
 use Rattle.rights.specs.Judging.{judged_for}
@@ -108,18 +108,18 @@ module _ (near : Bool) (c : Caller) (s q b t p d : List ℕ) (a : Alike c s q b 
   unfolding drift_for
   same_drift zero h = refl
   same_drift (suc i) h =
-      ap (λ (x : ClassHeard). x.drift)
+      ap (λ (x : Heard ClassVerdict). x.drift)
       (heard_by i (omega arith) (drift_for near c s q b i) _ refl ∙ ap (heard_for near c t p d i) (same_drift i (omega arith)))
 
   same_told : (i : ℕ) → i < n → told_of near c s q b i ≡ told_of near c t p d i
   unfolding told_of
   same_told i h =
-      ap (λ (x : ClassHeard). x.verdict)
+      ap (λ (x : Heard ClassVerdict). x.verdict)
       (heard_by i h (drift_for near c s q b i) _ refl ∙ ap (heard_for near c t p d i) (same_drift i (omega arith)))
 
   hidden_told : (i : ℕ) → may_see (rights_on c s q (header_of b i).llid) ≡ false → told_of near c s q b i ≡ Hidden
   unfolding told_of
-  hidden_told i e = ap (λ (x : ClassHeard). x.verdict) (hidden_by near _ _ _ _ e)
+  hidden_told i e = ap (λ (x : Heard ClassVerdict). x.verdict) (hidden_by near _ _ _ _ e)
 
   -- what goes by a record's set, its octets and what is told of it is the same, if it is for a hidden one
   module _ {A : Type 0} (f : List ℕ → List ℕ → ClassVerdict → A) (i : ℕ) (h : i < n)
@@ -174,7 +174,7 @@ module _ (near : Bool) (c : Caller) (s q b t p d : List ℕ) (a : Alike c s q b 
   last_drift = same_drift (records_in b) (omega (arith, r.count)) ∙ ap (drift_for near c t p d) same_count
 
   same_opening_by : (suits : Bool) (out : List ℕ) (x y : ℕ)
-      → opening_after (pick suits (Good x) (Bad BadLength)) near c s q b out ≡ opening_after (pick suits (Good y) (Bad BadLength)) near c t p d out
+      → opening_after (pick suits (Ok x) (Err BadLength)) near c s q b out ≡ opening_after (pick suits (Ok y) (Err BadLength)) near c t p d out
   unfolding opening_after pick
   same_opening_by true out x y = rw (same_total count_enciphered, same_total runs, same_expansions, last_drift, same_block)
   same_opening_by false out x y = refl

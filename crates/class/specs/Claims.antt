@@ -1,11 +1,10 @@
 -- What the class's reader has of document 01's (02, C-19), and what its expansions are bounded by. Assumes nothing.
-use Rattle.std.specs.Prelude.{◌≡◌, Bool, true, false, List, [], ◌∷◌, ℕ, ◌*◌, ◌<◌, ◌≤◌}
+use Rattle.std.specs.Prelude.{◌≡◌, Bool, true, false, List, [], ◌∷◌, ℕ, ◌*◌, ◌<◌, ◌≤◌, Ok}
 use Rattle.octets.specs.Lists.{part}
 use Rattle.records.specs.Settings.{settings_keys, llid_of}
 use Rattle.records.specs.Verdict.{verdict_of}
 use Rattle.records.specs.Block.{records_in, offset_of, length_of, record_of}
 use Rattle.records.specs.Following.{header_of}
-use Rattle.directory.specs.declared.Directory.TheVariants.{Good}
 use Rattle.reading.specs.Opening.{opened_record, record_adds}
 use Rattle.reading.specs.Listing.{row_at}
 use Rattle.directory.specs.Rebuilt.{rebuilt}
@@ -29,7 +28,7 @@ pub record AsReader (c : Caller) (s q b : List ℕ) (i : ℕ) : Type 0 where
 -- where the user may open its LLID: so a reader that hides everything is none
 abbrev pub ReadsOwn : Caller → List ℕ → List ℕ → List ℕ → Type 0
 ReadsOwn c s q b =
-    (n i : ℕ) → call_for true c s q b ≡ Good n → i < n → may_open (rights_on c s q (header_of b i).llid) ≡ true → AsReader c s q b i
+    (n i : ℕ) → call_for true c s q b ≡ Ok n → i < n → may_open (rights_on c s q (header_of b i).llid) ≡ true → AsReader c s q b i
 
 -- one user, one set, the rights to see and to open
 abbrev pub alone : Caller
@@ -48,7 +47,7 @@ ReadsAlone near s b out = ((i : ℕ) → i < records_in b → (header_of b i).ll
 
 -- at most 32 keys are expanded, whatever the records
 abbrev pub FewExpansions : Caller → List ℕ → List ℕ → List ℕ → Type 0
-FewExpansions c s q b = (n : ℕ) → call_for true c s q b ≡ Good n → expansions_for c s q ≤ settings_keys * most_sets
+FewExpansions c s q b = (n : ℕ) → call_for true c s q b ≡ Ok n → expansions_for c s q ≤ settings_keys * most_sets
 
 pub record Reader (near : Bool) (c : Caller) (s q b out : List ℕ) : Type 0 where
   pub own : ReadsOwn c s q b

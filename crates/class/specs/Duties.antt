@@ -1,17 +1,14 @@
 -- What functions of this crate ask of each other: nothing here is part of a promise to a caller. Assumes nothing.
-use Rattle.std.specs.Prelude.{◌≡◌, Bool, true, List, ◌++◌, ℕ, ◌+◌, ◌*◌, ◌/◌, ◌%◌, ◌≤◌, ◌<◌, length, take, drop}
+use Rattle.std.specs.Prelude.{◌≡◌, Bool, true, List, ◌++◌, ℕ, ◌+◌, ◌*◌, ◌/◌, ◌%◌, ◌≤◌, ◌<◌, length, take, drop, Ok}
 use Rattle.octets.specs.Choice.{pick}
 use Rattle.octets.specs.Lists.{part}
 use Rattle.envelope.specs.ControlMask.{count_enciphered, runs}
 use Rattle.cipher.specs.KeyExpansion.{key_expansion}
 use Rattle.records.specs.declared.header.Header.{Header}
-use Rattle.records.specs.declared.header.RecordVerdict.{RecordVerdict}
-use Rattle.records.specs.declared.header.RecordVerdict.TheVariants.{Sealed}
 use Rattle.records.specs.Settings.{settings_keys, key_of}
 use Rattle.records.specs.Record.{record_octets}
 use Rattle.records.specs.Block.{most_octets, records_in, header_from}
-use Rattle.directory.specs.declared.Directory.TheVariants.{Good}
-use Rattle.capture.specs.declared.opening.Work.{Work}
+use Rattle.envelope.specs.declared.Work.{Work}
 use Rattle.capture.specs.declared.opening.Read.{Read}
 use Rattle.directory.specs.Directory.{directory_of}
 use Rattle.capture.specs.Duties.{Opens}
@@ -21,6 +18,8 @@ use Rattle.rights.specs.declared.judging.ClassVerdict.TheVariants.{Told}
 use Rattle.rights.specs.Settings.{most_sets, set_of, set_for}
 use Rattle.class.specs.Reading.{drift_for}
 use Rattle.class.specs.Opening.{added_for, total_for, is_expanded}
+use Rattle.records.specs.Verdict.{RecordVerdict}
+use Rattle.records.specs.declared.header.Access.TheVariants.{Sealed}
 
 -- the octets of an expanded key
 abbrev pub expanded_octets : ℕ
@@ -53,10 +52,9 @@ pub record TookFor (x : List ℕ) (v : ClassVerdict) (r : Work) : Type 0 where
 
 -- what all records of a block came to
 pub record TookAllFor (near : Bool) (c : Caller) (s q b : List ℕ) (r : Read) : Type 0 where
-  pub count : r.count ≡ total_for near c s q b count_enciphered
-  pub runs : r.runs ≡ total_for near c s q b runs
-  pub smallest : r.smallest ≡ (drift_for near c s q b (records_in b)).smallest
-  pub largest : r.largest ≡ (drift_for near c s q b (records_in b)).largest
+  pub count : r.work.count ≡ total_for near c s q b count_enciphered
+  pub runs : r.work.runs ≡ total_for near c s q b runs
+  pub drift : r.drift ≡ drift_for near c s q b (records_in b)
 
 -- a record starts at `from` in the block, and the output still is the block from there on
 pub record Ready (b out : List ℕ) (from : ℕ) : Type 0 where
@@ -68,8 +66,8 @@ pub record Ready (b out : List ℕ) (from : ℕ) : Type 0 where
 -- h is the header of the record that starts at `from`, and under v it can be opened with a key that is expanded
 pub record SettledAs (s keys b : List ℕ) (j from : ℕ) (h : Header) (v : RecordVerdict) : Type 0 where
   pub header : h ≡ header_from b from
-  pub opens : (i t : ℕ) → v ≡ Sealed i t → Opens (set_of s j) h i t
-  pub key : (i t : ℕ) → v ≡ Sealed i t → expanded_at keys (settings_keys * j + i) ≡ key_expansion (key_of (set_of s j) i)
+  pub opens : (i t : ℕ) → v ≡ Ok (Sealed i t) → Opens (set_of s j) h i t
+  pub key : (i t : ℕ) → v ≡ Ok (Sealed i t) → expanded_at keys (settings_keys * j + i) ≡ key_expansion (key_of (set_of s j) i)
 
 -- v is a verdict on it for a user
 pub record SettledFor (c : Caller) (s keys b : List ℕ) (from : ℕ) (h : Header) (v : ClassVerdict) : Type 0 where
@@ -84,7 +82,7 @@ placed_at b out from x = take from out ++ (x ++ drop (from + record_octets (head
 -- the output is a copy of a block of n records, and the keys are expanded
 pub record Copied (c : Caller) (s q keys b out : List ℕ) (n : ℕ) : Type 0 where
   pub expanded : Expanded c s q keys (settings_keys * c.sets)
-  pub good : directory_of b ≡ Good n
+  pub good : directory_of b ≡ Ok n
   pub copied : out ≡ b
   pub few : c.sets ≤ most_sets
   pub size : length keys ≡ keys_octets

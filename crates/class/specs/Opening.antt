@@ -1,5 +1,5 @@
 -- Opening a capture block b for the user who asks (02, C-19). Assumes nothing.
-use Rattle.std.specs.Prelude.{Bool, List, ◌++◌, ℕ, ◌*◌, ◌/◌, ◌%◌, eqb, length, get_or, replicate}
+use Rattle.std.specs.Prelude.{Bool, List, ◌++◌, ℕ, ◌*◌, ◌/◌, ◌%◌, eqb, length, get_or, replicate, Result, Ok, Err}
 use Rattle.octets.specs.BigEndian.{octets_of}
 use Rattle.octets.specs.Choice.{both, pick}
 use Rattle.octets.specs.Eqs.{eq_octets}
@@ -10,9 +10,6 @@ use Rattle.records.specs.Settings.{settings_keys, presence_of, key_present}
 use Rattle.records.specs.Record.{record_header}
 use Rattle.records.specs.Block.{records_in, record_of}
 use Rattle.records.specs.Near.{signed_octet}
-use Rattle.directory.specs.declared.Directory.{Directory}
-use Rattle.directory.specs.declared.Directory.TheVariants.{Good, Bad}
-use Rattle.reading.specs.declared.OpenAnswer.TheVariants.{Done, Denied}
 use Rattle.reading.specs.declared.NearAnswer.{NearAnswer}
 use Rattle.reading.specs.Opening.{written_as, added_as}
 use Rattle.directory.specs.Rebuilt.{rebuilt}
@@ -22,6 +19,7 @@ use Rattle.rights.specs.declared.judging.ClassVerdict.TheVariants.{Hidden, Seen,
 use Rattle.rights.specs.Settings.{set_of, own_rights}
 use Rattle.rights.specs.Rights.{may_open}
 use Rattle.class.specs.Reading.{set_at, drift_for, told_of, call_for}
+use Rattle.refusal.specs.declared.Refusal.{Refusal}
 
 -- a hidden record is zeros but for its EQs (D96); its header has 16 octets, the last four of them the EQs
 unfoldable pub hidden_record : ℕ → List ℕ
@@ -59,16 +57,16 @@ unfoldable pub expansions_for : Caller → List ℕ → List ℕ → ℕ
 expansions_for c s q = sum 0 (settings_keys * c.sets) (λ k. pick (is_expanded c s q k) 1 0)
 
 -- a refused call has no corrections, and leaves the output as it was lent
-unfoldable pub opening_after : Directory → Bool → Caller → List ℕ → List ℕ → List ℕ → List ℕ → WithOutput NearAnswer
-opening_after (Good n) near c s q b out =
+unfoldable pub opening_after : Result ℕ Refusal → Bool → Caller → List ℕ → List ℕ → List ℕ → List ℕ → WithOutput NearAnswer
+opening_after (Ok n) near c s q b out =
     with_output
     (record {
-      opened = Done (total_for near c s q b count_enciphered) (total_for near c s q b runs) (expansions_for c s q);
+      opened = Ok (record { count = total_for near c s q b count_enciphered; runs = total_for near c s q b runs; expansions = expansions_for c s q });
       smallest = signed_octet (drift_for near c s q b (records_in b)).smallest;
       largest = signed_octet (drift_for near c s q b (records_in b)).largest;
     })
     (rebuilt (record_for near c s q b) b)
-opening_after (Bad r) near c s q b out = with_output (record { opened = Denied r; smallest = 0; largest = 0 }) out
+opening_after (Err r) near c s q b out = with_output (record { opened = Err r; smallest = 0; largest = 0 }) out
 
 -- out is the output as it was lent
 unfoldable pub opening_for : Bool → Caller → List ℕ → List ℕ → List ℕ → List ℕ → WithOutput NearAnswer

@@ -1,12 +1,10 @@
 -- Who may not see a thing learns nothing of it (02, C-19): a claim on two calls of one user, whose inputs differ only in what that user
 -- may not see. Assumes nothing.
-use Rattle.std.specs.Prelude.{◌≡◌, Bool, true, List, [], ◌∷◌, ◌++◌, ℕ, ◌<◌, get_or, take, replicate}
+use Rattle.std.specs.Prelude.{◌≡◌, Bool, true, List, [], ◌∷◌, ◌++◌, ℕ, ◌<◌, get_or, take, replicate, Ok}
 use Rattle.octets.specs.BigEndian.{octets_of}
-use Rattle.records.specs.declared.header.RecordVerdict.TheVariants.{Clear}
 use Rattle.records.specs.Settings.{llid_of}
 use Rattle.records.specs.Block.{directory_octets, records_in, record_of}
 use Rattle.records.specs.Following.{header_of}
-use Rattle.directory.specs.declared.Directory.TheVariants.{Good}
 use Rattle.rights.specs.declared.settings.Caller.{Caller}
 use Rattle.rights.specs.declared.judging.ClassVerdict.TheVariants.{Hidden, Told}
 use Rattle.rights.specs.Settings.{set_of, own_rights, rights_on}
@@ -14,6 +12,7 @@ use Rattle.rights.specs.Rights.{may_see}
 use Rattle.class.specs.Reading.{told_of, call_for}
 use Rattle.class.specs.Opening.{opening_for}
 use Rattle.class.specs.Listing.{listing_for}
+use Rattle.records.specs.declared.header.Access.TheVariants.{Clear}
 
 -- the sets s, rights q and block b differ from t, p and d only in what the user may not see
 pub record Alike (c : Caller) (s q b t p d : List ℕ) : Type 0 where
@@ -35,7 +34,7 @@ pub record SameAnswer (near : Bool) (c : Caller) (s q b t p d out : List ℕ) : 
 -- where both inputs are valid (D97)
 abbrev pub Secret : Bool → Caller → List ℕ → List ℕ → List ℕ → List ℕ → Type 0
 Secret near c s q b out =
-    (t p d : List ℕ) (m n : ℕ) → call_for true c s q b ≡ Good m → call_for true c t p d ≡ Good n → Alike c s q b t p d
+    (t p d : List ℕ) (m n : ℕ) → call_for true c s q b ≡ Ok m → call_for true c t p d ≡ Ok n → Alike c s q b t p d
     → SameAnswer near c s q b t p d out
 
 -- Two such inputs, for the first of two users, who may see and open LLID 0005, and nothing of 0006.
@@ -73,13 +72,13 @@ abbrev pub second_block : List ℕ
 second_block = example_block (1 ∷ 128 ∷ []) ((3 ∷ 63 ∷ []) ++ octets_of 6 99) (replicate 9 255)
 
 pub record Example : Type 0 where
-  pub first : call_for true example first_sets first_rights first_block ≡ Good 2
-  pub second : call_for true example second_sets second_rights second_block ≡ Good 2
+  pub first : call_for true example first_sets first_rights first_block ≡ Ok 2
+  pub second : call_for true example second_sets second_rights second_block ≡ Ok 2
   pub alike : Alike example first_sets first_rights first_block second_sets second_rights second_block
   -- they differ
   pub keys : get_or first_sets 42 0 ≡ get_or second_sets 42 0 → ⊥
   pub rights : get_or first_rights 2 0 ≡ get_or second_rights 2 0 → ⊥
   pub octets : get_or (record_of first_block 1) 16 0 ≡ get_or (record_of second_block 1) 16 0 → ⊥
   -- and the user is told of the first record, and not of the second
-  pub told : told_of true example first_sets first_rights first_block 0 ≡ Told Clear
+  pub told : told_of true example first_sets first_rights first_block 0 ≡ Told (Ok Clear)
   pub hidden : told_of true example first_sets first_rights first_block 1 ≡ Hidden

@@ -8,27 +8,24 @@ ghost use Rattle.records.specs.Block.{most_octets, record_from};
 ghost use Rattle.directory.specs.Rebuilt.{rebuilt};
 ghost use Rattle.capture.specs.Duties.{TookAs, written};
 ghost use Rattle.rights.specs.Settings.{most_sets, set_of, set_for};
-ghost use Rattle.class.specs.Reading.{call_for};
 ghost use Rattle.class.specs.Opening.{hidden_record, written_for, record_for, expansions_for, opening_for};
 ghost use Rattle.class.specs.Secrecy.{Secret, Example};
 ghost use Rattle.class.specs.Claims.{Reader};
 ghost use Rattle.class.specs.Duties.{expanded_octets, keys_octets, expanded_at, ExpandedNext, Expanded, TookFor, TookAllFor, Ready, SettledAs, SettledFor, placed_at, Copied};
 
-use capture::opening::{Read, Work, open_span};
+use crate::asker::Asker;
+use capture::opening::{Read, open_span};
+use capture::walk::{Turn, Walk};
 use cipher::aes128::RoundKeys;
 use cipher::key_expansion::expand_key;
-use directory::{Directory, check};
-use envelope::Nonce;
+use envelope::{NO_WORK, Nonce, Work};
 use octets::{clear, copy_at, octets48, part_of};
-use reading::{NearAnswer, OpenAnswer};
-use records::block::{directory_octets, header_from};
-use records::header::{Header, RecordVerdict, cleared, record_octets};
-use records::near::{no_drift, signed};
+use reading::{NearAnswer, Opened};
+use records::header::{Access, RecordVerdict, cleared, record_octets};
+use records::near::signed;
 use records::settings::{SETTINGS_KEYS, key, mac, presence};
-use refusal::Verdict;
-use rights::judging::{ClassVerdict, judge_in};
+use rights::judging::ClassVerdict;
 use rights::settings::{Caller, may_open, rights_at, set_at, set_for};
-use rights::verdict::class_verdict;
 
 // The octets of an expanded key, and of all that a class can have: two for each of 16 sets (D99).
 const EXPANDED_OCTETS: usize = 176;
@@ -37,55 +34,6 @@ const KEYS_OCTETS: usize = 5632;
 
 // The place of the EQs in a record's header.
 const EQS: usize = 12;
-
-// What a call finds: the user, the counts and what it was lent, the settings, then the directory.
-pub(crate) fn call_for(
-    suits: bool,
-    caller: Caller,
-    sets: &[u8],
-    rights: &[u8],
-    block: &[u8],
-) -> Directory
-    ensures { result ≡ call_for suits caller sets.now rights.now block.now }
-{
-    match class_verdict(suits, true, caller, sets, rights) {
-        Verdict::Refused(refusal) => Directory::Bad(refusal),
-        Verdict::Accepted => check(block),
-    }
-}
-
-// Expands key k of the class into its place among all, if it is present and the user may open its set; tells how many that are.
-fn expand_at(caller: Caller, sets: &[u8], rights: &[u8], keys: &mut [u8], k: u8) -> u8
-    requires { (k < settings_keys * most_sets) × (length keys.old ≡ keys_octets) }
-    ensures { ExpandedNext caller sets.now rights.now keys.old keys.new k result }
-{
-    let j = k / SETTINGS_KEYS;
-    let i = k % SETTINGS_KEYS;
-    let set = set_at(sets, j);
-    let opens = may_open(rights_at(caller, rights, j));
-    if !(opens & (octets::bit(presence(set), i) == 1)) {
-        return 0;
-    }
-    let expanded = expand_key(key(set, i)).octets;
-    copy_at(&expanded, keys, EXPANDED_OCTETS * k as usize);
-    1
-}
-
-// Expands each present key of a set that the user may open, once, and tells how many.
-fn expand_for(caller: Caller, sets: &[u8], rights: &[u8], keys: &mut [u8]) -> u8
-    requires { (caller.sets ≤ most_sets) × (length keys.old ≡ keys_octets) }
-    ensures value { result ≡ expansions_for caller sets.now rights.now }
-    ensures expanded { Expanded caller sets.now rights.now keys.new (settings_keys * caller.sets) }
-{
-    let n = SETTINGS_KEYS * caller.sets;
-    let mut count: u8 = 0;
-    let mut k: u8 = 0;
-    while k < n {
-        count += expand_at(caller, sets, rights, keys, k);
-        k += 1;
-    }
-    count
-}
 
 // Key k of the class among those that are expanded: one key, for one record.
 fn key_at(keys: &[u8], k: u8) -> RoundKeys
@@ -99,36 +47,45 @@ fn key_at(keys: &[u8], k: u8) -> RoundKeys
     RoundKeys { octets }
 }
 
-// Writes the record with the header h, which starts at `from`, as document 01's verdict on it says: j is the set of its LLID.
+// Writes a record as document 01's verdict on it says: j is the set of its LLID.
 fn open_told(
     sets: &[u8],
     j: u8,
     keys: &[u8],
     block: &[u8],
     output: &mut [u8],
-    from: usize,
-    h: Header,
-    verdict: RecordVerdict,
+    turn: Turn<RecordVerdict>,
 ) -> Work
     requires j_lt_most_sets { (j < most_sets) × (length keys.now ≡ keys_octets) }
-    requires ready { Ready block.now output.old from }
-    requires settled_as { SettledAs sets.now keys.now block.now j from h verdict }
-    ensures took_as { TookAs (record_from block.now from) verdict result }
-    ensures output_after { output.new ≡ written (set_of sets.now j) block.now output.old from verdict }
+    requires ready { Ready block.now output.old turn.from }
+    requires settled_as { SettledAs sets.now keys.now block.now j turn.from turn.header turn.verdict }
+    ensures took_as { TookAs (record_from block.now turn.from) turn.verdict result }
+    ensures output_after { output.new ≡ written (set_of sets.now j) block.now output.old turn.from turn.verdict }
 {
-    match verdict {
-        RecordVerdict::Clear => Work { count: 0, runs: 0 },
-        RecordVerdict::Refused(_) => Work { count: 0, runs: 0 },
-        RecordVerdict::Sealed(index, clock) => {
-            let nonce = Nonce {
-                channel: h.channel,
-                mac: mac(set_at(sets, j)),
-                clock,
-            };
-            let expanded = key_at(keys, SETTINGS_KEYS * j + index);
-            let flags = cleared(h.flags);
-            open_span(expanded, nonce, flags, block, output, from as u32, h.eqs)
-        }
+    match turn.verdict {
+        Err(_) => NO_WORK,
+        Ok(access) => match access {
+            Access::Clear => NO_WORK,
+            Access::Sealed(index, clock) => {
+                let h = turn.header;
+                let nonce = Nonce {
+                    channel: h.channel,
+                    mac: mac(set_at(sets, j)),
+                    clock,
+                };
+                let expanded = key_at(keys, SETTINGS_KEYS * j + index);
+                let flags = cleared(h.flags);
+                open_span(
+                    expanded,
+                    nonce,
+                    flags,
+                    block,
+                    output,
+                    turn.from as u32,
+                    h.eqs,
+                )
+            }
+        },
     }
 }
 
@@ -144,76 +101,90 @@ fn hide(output: &mut [u8], from: usize, eqs: u32)
     copy_at(&low, output, from + EQS);
 }
 
-// Writes the record with the header h, which starts at `from`, as the verdict for the user says, and tells what that took.
-fn write_for(
-    caller: Caller,
-    sets: &[u8],
-    keys: &[u8],
-    block: &[u8],
-    output: &mut [u8],
-    from: usize,
-    h: Header,
-    verdict: ClassVerdict,
-) -> Work
-    requires keys_len { length keys.now ≡ keys_octets }
-    requires ready { Ready block.now output.old from }
-    requires settled_for { SettledFor caller sets.now keys.now block.now from h verdict }
-    ensures took_for { TookFor (record_from block.now from) verdict result }
-    ensures output_after { output.new
-        ≡ placed_at block.now output.old from
-        (written_for (set_of sets.now (set_for caller sets.now h.llid)) (record_from block.now from) verdict) }
-{
-    match verdict {
-        ClassVerdict::Hidden => {
-            hide(output, from, h.eqs);
-            Work { count: 0, runs: 0 }
+impl<'a> Asker<'a> {
+    // Expands key k of the class into its place among all, if it is present and the user may open its set; tells how many that are.
+    fn expand_at(&self, keys: &mut [u8], k: u8) -> u8
+        requires { (k < settings_keys * most_sets) × (length keys.old ≡ keys_octets) }
+        ensures { ExpandedNext self.now.caller self.now.sets.now self.now.rights.now keys.old keys.new k result }
+    {
+        let j = k / SETTINGS_KEYS;
+        let i = k % SETTINGS_KEYS;
+        let set = set_at(self.sets, j);
+        let opens = may_open(rights_at(self.caller, self.rights, j));
+        if !(opens & (octets::bit(presence(set), i) == 1)) {
+            return 0;
         }
-        ClassVerdict::Seen => Work { count: 0, runs: 0 },
-        ClassVerdict::Told(told) => {
-            let j = set_for(caller, sets, h.llid);
-            open_told(sets, j, keys, block, output, from, h, told)
-        }
+        let expanded = expand_key(key(set, i)).octets;
+        copy_at(&expanded, keys, EXPANDED_OCTETS * k as usize);
+        1
     }
-}
 
-// Opens the n records of an output that is a copy of the block, each where the one before it ends, and tells what they came to.
-fn open_records(
-    near: bool,
-    caller: Caller,
-    sets: &[u8],
-    rights: &[u8],
-    keys: &[u8],
-    block: &[u8],
-    output: &mut [u8],
-    n: u16,
-) -> Read
-    requires { Copied caller sets.now rights.now keys.now block.now output.old n }
-    ensures took_all_for { TookAllFor near caller sets.now rights.now block.now result }
-    ensures output_after { output.new
-        ≡ rebuilt (record_for near caller sets.now rights.now block.now) block.now }
-{
-    let mut count: u64 = 0;
-    let mut runs: u64 = 0;
-    let mut from = directory_octets(n);
-    let mut drift = no_drift();
-    let mut i = 0;
-    while i < n {
-        let h = header_from(block, from);
-        let heard = judge_in(near, caller, sets, rights, drift, h);
-        let verdict = heard.verdict;
-        let work = write_for(caller, sets, keys, block, output, from, h, verdict);
-        count += work.count;
-        runs += work.runs;
-        let next = heard.drift;
-        drift = next;
-        from += record_octets(h.eqs);
-        i += 1;
+    // Expands each present key of a set that the user may open, once, and tells how many.
+    fn expand(&self, keys: &mut [u8]) -> u8
+        requires { (self.now.caller.sets ≤ most_sets) × (length keys.old ≡ keys_octets) }
+        ensures value { result ≡ expansions_for self.now.caller self.now.sets.now self.now.rights.now }
+        ensures expanded { Expanded self.now.caller self.now.sets.now self.now.rights.now keys.new (settings_keys * self.now.caller.sets) }
+    {
+        let mut count = 0;
+        for k in 0..SETTINGS_KEYS * self.caller.sets {
+            count += self.expand_at(keys, k);
+        }
+        count
     }
-    Read {
-        count,
-        runs,
-        smallest: drift.smallest,
-        largest: drift.largest,
+
+    // Writes a record as the verdict for the user says, and tells what that took.
+    fn write(&self, keys: &[u8], block: &[u8], output: &mut [u8], turn: Turn<ClassVerdict>) -> Work
+        requires keys_len { length keys.now ≡ keys_octets }
+        requires ready { Ready block.now output.old turn.from }
+        requires settled_for { SettledFor self.now.caller self.now.sets.now keys.now block.now turn.from turn.header turn.verdict }
+        ensures took_for { TookFor (record_from block.now turn.from) turn.verdict result }
+        ensures output_after { output.new
+            ≡ placed_at block.now output.old turn.from
+            (written_for (set_of self.now.sets.now (set_for self.now.caller self.now.sets.now turn.header.llid))
+            (record_from block.now turn.from) turn.verdict) }
+    {
+        let Turn {
+            from,
+            header,
+            verdict,
+        } = turn;
+        match verdict {
+            ClassVerdict::Hidden => {
+                hide(output, from, header.eqs);
+                NO_WORK
+            }
+            ClassVerdict::Seen => NO_WORK,
+            ClassVerdict::Told(verdict) => {
+                let j = set_for(self.caller, self.sets, header.llid);
+                let told = Turn {
+                    from,
+                    header,
+                    verdict,
+                };
+                open_told(self.sets, j, keys, block, output, told)
+            }
+        }
+    }
+
+    // Opens the n records of an output that is a copy of the block, each where the one before it ends, and tells what they came to.
+    fn open_records(&self, keys: &[u8], block: &[u8], output: &mut [u8], n: u16) -> Read
+        requires { Copied self.now.caller self.now.sets.now self.now.rights.now keys.now block.now output.old n }
+        ensures took_all_for { TookAllFor self.now.near self.now.caller self.now.sets.now self.now.rights.now block.now result }
+        ensures output_after { output.new
+            ≡ rebuilt (record_for self.now.near self.now.caller self.now.sets.now self.now.rights.now block.now) block.now }
+    {
+        let mut work = NO_WORK;
+        let mut walk = Walk::start(n);
+        for _ in 0..n {
+            let turn = walk.turn(self, block);
+            let more = self.write(keys, block, output, turn);
+            work.count += more.count;
+            work.runs += more.runs;
+        }
+        Read {
+            work,
+            drift: walk.drift,
+        }
     }
 }
 
@@ -232,21 +203,31 @@ pub fn open_for(
     ensures reader { Reader near caller sets.now rights.now block.now output.old }
     ensures example { Example }
 {
-    match call_for(output.len() == block.len(), caller, sets, rights, block) {
-        Directory::Bad(refusal) => NearAnswer {
-            opened: OpenAnswer::Denied(refusal),
+    let asker = Asker {
+        near,
+        caller,
+        sets,
+        rights,
+    };
+    match asker.call(output.len() == block.len(), block) {
+        Err(refusal) => NearAnswer {
+            opened: Err(refusal),
             smallest: 0,
             largest: 0,
         },
-        Directory::Good(n) => {
+        Ok(n) => {
             let mut keys = [0u8; KEYS_OCTETS];
-            let expanded = expand_for(caller, sets, rights, &mut keys);
+            let expanded = asker.expand(&mut keys);
             octets::copy(block, output);
-            let read = open_records(near, caller, sets, rights, &keys, block, output, n);
+            let read = asker.open_records(&keys, block, output, n);
             NearAnswer {
-                opened: OpenAnswer::Done(read.count, read.runs, expanded),
-                smallest: signed(read.smallest),
-                largest: signed(read.largest),
+                opened: Ok(Opened {
+                    count: read.work.count,
+                    runs: read.work.runs,
+                    expansions: expanded,
+                }),
+                smallest: signed(read.drift.smallest),
+                largest: signed(read.drift.largest),
             }
         }
     }

@@ -8,34 +8,16 @@ use std::io;
 // The three octets, 16 sets, the rights of 16 users on them, and one octet more than a block may have: a longer block is refused, never cut.
 const MOST_INPUT: usize = 66452;
 
-fn write_listing(rt: &impl Print, input: &[u8]) -> io::Result<()> {
-    let mut text = [0u8; LISTING_OCTETS];
-    let n = class::listing::list_input(input, &mut text);
-    rt.write_all(&text[..n])
-}
-
-fn skip_some(rt: &impl Input) -> io::Result<bool> {
-    let mut rest = [0u8; 65536];
-    Ok(0 < streams::read_full(&mut rt.reader(), &mut rest)?)
-}
-
-// Reads the rest of an input that is too long, so that its writer is not cut off. A proved loop has to end: this one
-// counts to a number that no run reaches.
-fn skip_rest(rt: &impl Input) -> io::Result<()> {
-    for _ in 0..u64::MAX {
-        if !skip_some(rt)? {
-            break;
-        }
-    }
-    Ok(())
-}
-
 fn main(rt: HostRuntime) -> io::Result<()> {
-    let mut input = [0u8; MOST_INPUT];
-    let n = streams::read_full(&mut rt.reader(), &mut input)?;
-    write_listing(&rt, &input[..n])?;
-    if n == MOST_INPUT {
-        skip_rest(&rt)?;
+    let mut space = [0u8; MOST_INPUT];
+    let mut text = [0u8; LISTING_OCTETS];
+    let reader = &mut rt.reader();
+    let input = streams::read_most(reader, &mut space, MOST_INPUT)?;
+    let n = class::listing::list_input(input, &mut text);
+    rt.write_all(&text[..n])?;
+    if input.len() == MOST_INPUT {
+        // The rest of an input that is too long is read, so that its writer is not cut off.
+        io::copy(reader, &mut io::sink())?;
     }
     Ok(())
 }

@@ -1,4 +1,5 @@
 -- Laws of the broken pair: the verdict on a directory names the first pair that breaks a rule, and no other. Assumes nothing.
+use Rattle.std.specs.Prelude.{Result, Ok, Err}
 use mathlib.Core.Path.{◌≡◌, refl, ap, ◌∙◌}
 use mathlib.Core.Bool.{Bool, true, false}
 use mathlib.Core.List.{List}
@@ -12,14 +13,13 @@ use Rattle.refusal.specs.declared.Refusal.TheVariants.{BadDirectory, BrokenChain
 use Rattle.records.specs.Record.{sized}
 use Rattle.directory.specs.declared.Pair.{Pair}
 use Rattle.directory.specs.declared.Pair.TheVariants.{Fits, OffChain, OffLength}
-use Rattle.directory.specs.declared.Directory.{Directory}
-use Rattle.directory.specs.declared.Directory.TheVariants.{Good, Bad}
 use Rattle.records.specs.Block.{records_in, record_of}
 use Rattle.directory.specs.Directory.{chained, pair_of, size_fits, with_pair, pairs_from, directory_of}
 use Rattle.directory.specs.Broken.{Keeps, Judged}
 use Rattle.directory.proofs.Pairs.{is_fit}
 use Rattle.directory.proofs.Records.{good, all_fit}
 use Rattle.directory.proofs.Trimming.{trimmed_good, same_record}
+use Rattle.refusal.specs.declared.Refusal.{Refusal}
 
 ---- the rules of one pair
 
@@ -55,11 +55,11 @@ off true = OffChain
 off false = OffLength
 
 -- what it makes of the verdict, whatever stands behind it
-abbrev named : Bool → ℕ → Directory
-named true k = Bad (BrokenChain k)
-named false k = Bad (UnsuitedLength k)
+abbrev named : Bool → ℕ → Result ℕ Refusal
+named true k = Err (BrokenChain k)
+named false k = Err (UnsuitedLength k)
 
-whatever_behind : (q : Bool) (k : ℕ) (d : Directory) → with_pair (off q) k d ≡ named q k
+whatever_behind : (q : Bool) (k : ℕ) (d : Result ℕ Refusal) → with_pair (off q) k d ≡ named q k
 unfolding with_pair
 whatever_behind true k d = refl
 whatever_behind false k d = refl
@@ -72,7 +72,7 @@ record First (b : List ℕ) (i m j : ℕ) (q : Bool) : Type 0 where
   found : pair_of b j ≡ off q
 
 -- the verdict names this pair, or one behind it
-this_or_behind : (p : Pair) (q : Bool) (k j : ℕ) (d : Directory) → with_pair p k d ≡ named q j
+this_or_behind : (p : Pair) (q : Bool) (k j : ℕ) (d : Result ℕ Refusal) → with_pair p k d ≡ named q j
     → ((p ≡ Fits) × (d ≡ named q j)) ⊎ ((p ≡ off q) × (k ≡ j))
 unfolding with_pair
 this_or_behind Fits q k j d e = inl (refl, e)
@@ -82,11 +82,11 @@ this_or_behind OffLength true k j d e = inr (cc, cc)
 this_or_behind OffLength false k j d e = inr (refl, cc)
 
 -- neither a whole directory nor 15 names a pair
-never_good : (q : Bool) (i k : ℕ) → Good i ≡ named q k → ⊥
+never_good : (q : Bool) (i k : ℕ) → Ok i ≡ named q k → ⊥
 never_good true i k e = let z : ◌≡◌ {A = ℕ} 0 1 = cc in omega arith
 never_good false i k e = let z : ◌≡◌ {A = ℕ} 0 1 = cc in omega arith
 
-never_bounds : (q : Bool) (k : ℕ) → Bad BadDirectory ≡ named q k → true ≡ false
+never_bounds : (q : Bool) (k : ℕ) → Err BadDirectory ≡ named q k → true ≡ false
 never_bounds true k e = cc
 never_bounds false k e = cc
 
@@ -120,18 +120,18 @@ names b i (suc m) j q f =
     (eq-or-lt_of_le {n = i} {m = j} f.from)
 
 -- 15 is not for a pair
-not_by_pair : (p : Pair) (k : ℕ) (d : Directory) → (d ≡ Bad BadDirectory → ⊥) → with_pair p k d ≡ Bad BadDirectory → ⊥
+not_by_pair : (p : Pair) (k : ℕ) (d : Result ℕ Refusal) → (d ≡ Err BadDirectory → ⊥) → with_pair p k d ≡ Err BadDirectory → ⊥
 unfolding with_pair
 not_by_pair Fits k d h e = h e
 not_by_pair OffChain k d h e = let z : ◌≡◌ {A = ℕ} 0 1 = cc in omega arith
 not_by_pair OffLength k d h e = let z : ◌≡◌ {A = ℕ} 0 1 = cc in omega arith
 
-not_bounds : (b : List ℕ) (i m : ℕ) → pairs_from b i m ≡ Bad BadDirectory → ⊥
+not_bounds : (b : List ℕ) (i m : ℕ) → pairs_from b i m ≡ Err BadDirectory → ⊥
 unfolding pairs_from
 not_bounds b i zero e = let z : ◌≡◌ {A = ℕ} 0 1 = cc in omega arith
 not_bounds b i (suc m) e = not_by_pair (pair_of b i) (suc i) (pairs_from b (suc i) m) (λ z. not_bounds b (suc i) m z) e
 
-bounds_by : (s : Bool) (d : Directory) → (d ≡ Bad BadDirectory → ⊥) → pick s d (Bad BadDirectory) ≡ Bad BadDirectory → s ≡ false
+bounds_by : (s : Bool) (d : Result ℕ Refusal) → (d ≡ Err BadDirectory → ⊥) → pick s d (Err BadDirectory) ≡ Err BadDirectory → s ≡ false
 unfolding pick
 bounds_by true d h e = absurd (h e)
 bounds_by false d h e = refl
@@ -154,7 +154,7 @@ module _ (b : List ℕ) where
   broken_at : (q : Bool) (i : ℕ) → directory_of b ≡ named q (suc i) → (i < records_in b) × Keeps b i × (pair_of b i ≡ off q)
   unfolding directory_of
   broken_at q i e =
-      let s = pick_first (size_fits b) (pairs_from b 0 (records_in b)) (Bad BadDirectory) (named q (suc i)) (never_bounds q (suc i)) e in
+      let s = pick_first (size_fits b) (pairs_from b 0 (records_in b)) (Err BadDirectory) (named q (suc i)) (never_bounds q (suc i)) e in
       let f = first b 0 (records_in b) i q s.1 in
       (omega (arith, f.to), keeps i s.0 (λ k h. f.before k (omega arith) h), f.found)
 
@@ -171,7 +171,7 @@ module _ (b : List ℕ) where
         good = λ k.
             of_pairs k.bounds
             ∙ all_fit b 0 (records_in b) (λ j l h. fit (records_in b) k j (omega arith))
-            ∙ ap Good (zero-add (records_in b));
+            ∙ ap Ok (zero-add (records_in b));
         bounds = λ e. bounds_by (size_fits b) (pairs_from b 0 (records_in b)) (not_bounds b 0 (records_in b)) e;
         out_of_bounds = λ e. pick_false _ _ e;
         off_chain = λ i e. let o = broken_at true i e in record { among = o.0; before = o.1; broken = says b i OffChain o.2 };

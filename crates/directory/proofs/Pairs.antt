@@ -1,22 +1,23 @@
 -- Laws of the pairs of a directory: what the tests on a pair say of its verdict. Assumes nothing.
-use mathlib.Core.Path.{◌≡◌}
+use Rattle.std.specs.Prelude.{Ok}
+use mathlib.Core.Path.{◌≡◌, sym, ◌∙◌}
 use mathlib.Core.Bool.{Bool, true, false, not}
 use mathlib.Core.List.{List}
 use Prim.Native.Nat.{ℕ, suc, ◌+◌, ◌-◌, ◌*◌, ◌≤◌, ◌<◌}
+use native.Mathlib.Nat.{add-sub_cancel_left}
 use native.Mathlib.Numerals.{add-one}
 use native.Mathlib.Omega.{arith}
 use lib.Dec.{eqb}
-use lib.ListN.{length}
+use lib.ListN.{length, take, drop}
 use borrow.Author.Tests.{leb-true, eqb-true, eq-eqb, ne_eqb}
 use Rattle.octets.specs.Choice.{both, either, pick}
 use Rattle.octets.proofs.Choice.{both_left, both_right, pick_first}
 use Rattle.records.specs.Record.{sized}
 use Rattle.records.specs.Place.{end_fits}
 use Rattle.records.proofs.Places.{end_within, end_at}
-use Rattle.records.specs.Block.{most_octets, most_records, records_in, offset_of, end_of, due_of, record_of}
+use Rattle.records.specs.Block.{most_octets, most_records, records_in, offset_of, length_of, end_of, due_of, record_of}
 use Rattle.directory.specs.Directory.{chained, pair_of, size_fits, with_pair, pairs_from}
 use Rattle.directory.specs.declared.Pair.TheVariants.{Fits, OffChain, OffLength}
-use Rattle.directory.specs.declared.Directory.TheVariants.{Good}
 
 -- the end of pair i suits the block
 abbrev pub ends : List ℕ → ℕ → Bool
@@ -30,10 +31,21 @@ pub pair_off_end : (b : List ℕ) (i : ℕ) → offset_of b i ≡ due_of b i →
 unfolding pair_of chained both pick
 pair_off_end b i h e = rw (eq-eqb (offset_of b i) (due_of b i) h, e)
 
-pub pair_chained : (b : List ℕ) (i : ℕ) → offset_of b i ≡ due_of b i → ends b i ≡ true
+pair_chained : (b : List ℕ) (i : ℕ) → offset_of b i ≡ due_of b i → ends b i ≡ true
     → pick (sized (record_of b i)) Fits OffLength ≡ pair_of b i
 unfolding pair_of chained both pick
 pair_chained b i h e = rw (eq-eqb (offset_of b i) (due_of b i) h, e)
+
+-- where the octets from `from` to `to` are those of its record
+between : (b : List ℕ) (i from to : ℕ) → from ≡ offset_of b i → to ≡ offset_of b i + length_of b i → take (to - from) (drop from b) ≡ record_of b i
+unfolding record_of
+between b i from to e f = rw (e, f, add-sub_cancel_left)
+
+pub pair_by_length : (b : List ℕ) (i from to : ℕ) → from ≡ offset_of b i → to ≡ offset_of b i + length_of b i → from ≡ due_of b i
+    → end_fits (eqb (i + 1) (records_in b)) to (length b) ≡ true
+    → pick (sized (take (to - from) (drop from b))) Fits OffLength ≡ pair_of b i
+unfolding end_of
+pair_by_length b i from to e f d t = rw (between b i from to e f) (pair_chained b i (sym e ∙ d) (rw f at t))
 
 -- what a pair that fits says of its record
 pub record Within (b : List ℕ) (i : ℕ) : Type 0 where
@@ -91,7 +103,7 @@ pub pairs_at : (b : List ℕ) (n i : ℕ) → i < n → pairs_from b i (n - i) �
 unfolding pairs_from
 pairs_at b n i h = let e : n - i ≡ suc (n - suc i) = omega arith in rw (e, add-one)
 
-pub pairs_end : (b : List ℕ) (n i : ℕ) → n ≤ i → pairs_from b i (n - i) ≡ Good i
+pub pairs_end : (b : List ℕ) (n i : ℕ) → n ≤ i → pairs_from b i (n - i) ≡ Ok i
 unfolding pairs_from
 pairs_end b n i h = let e : n - i ≡ 0 = omega arith in rw e
 

@@ -1,5 +1,6 @@
 -- Laws of a block with other records in the places of its own: as long as each is as long as the one that it stands for, they stand where
 -- those stood, under the same directory. Assumes nothing.
+use Rattle.std.specs.Prelude.{Ok}
 use mathlib.Core.Path.{◌≡◌, refl, sym, ap, ◌∙◌}
 use mathlib.Core.Bool.{true}
 use mathlib.Core.List.{List, ◌++◌, append_assoc, append-nil}
@@ -16,7 +17,6 @@ use Rattle.octets.proofs.Choice.{pick_true}
 use Rattle.records.specs.Record.{sized, record_octets}
 use Rattle.records.specs.Block.{records_in, offset_of, length_of, end_of, due_of, record_of, header_from, record_from}
 use Rattle.directory.specs.declared.Pair.TheVariants.{Fits}
-use Rattle.directory.specs.declared.Directory.TheVariants.{Good}
 use Rattle.directory.specs.Directory.{chained, pair_of, size_fits, directory_of}
 use Rattle.directory.specs.Rebuilt.{joined, rebuilt}
 use Rattle.directory.proofs.Pairs.{pair_fits, due_next}
@@ -142,7 +142,7 @@ module _ (f : ℕ → List ℕ) (b : List ℕ) (n : ℕ) (r : Records b n) (size
     unfolding size_fits
     right_again = rw (same_count, same_octets) r.right
 
-    pub good_again : directory_of (rebuilt f b) ≡ Good n
+    pub good_again : directory_of (rebuilt f b) ≡ Ok n
     unfolding directory_of
     good_again =
         pick_true _ _ right_again

@@ -1,4 +1,5 @@
 -- Laws of the records of a good directory: where they stand and how long they are. Assumes nothing.
+use Rattle.std.specs.Prelude.{Result, Ok, Err}
 use mathlib.Core.Path.{◌≡◌, refl, sym, ap, ap₂, ◌∙◌}
 use mathlib.Core.Bool.{true}
 use mathlib.Core.Logic.{⊎_elim}
@@ -15,8 +16,6 @@ use Rattle.octets.proofs.Choice.{both_left, both_right, pick_first}
 use Rattle.octets.proofs.Lists.{part_length, part_below, drop_part}
 use Rattle.refusal.specs.declared.Refusal.{Refusal}
 use Rattle.refusal.specs.declared.Refusal.TheVariants.{OutOfRange, BadDirectory}
-use Rattle.refusal.specs.declared.Verdict.{Verdict}
-use Rattle.refusal.specs.declared.Verdict.TheVariants.{Accepted, Refused}
 use Rattle.records.specs.declared.header.Header.{Header}
 use Rattle.records.specs.Record.{header_octets, record_octets, record_header, payload_of, sized}
 use Rattle.records.specs.Block.{most_octets, most_records, records_in, offset_of, length_of, end_of, due_of, record_of, header_from, record_from}
@@ -27,11 +26,9 @@ use Rattle.directory.specs.Duties.{Placed}
 use Rattle.directory.specs.Payload.{record_asked, payload_verdict, bounds_of, bounds_after, payload_bounds, bounds_offset, bounds_length, unless_refused, payload_part}
 use Rattle.directory.specs.declared.Pair.{Pair}
 use Rattle.directory.specs.declared.Pair.TheVariants.{Fits, OffChain, OffLength}
-use Rattle.directory.specs.declared.Directory.{Directory}
-use Rattle.directory.specs.declared.Directory.TheVariants.{Good, Bad}
 use Rattle.directory.specs.declared.payload.Bounds.{Bounds}
-use Rattle.directory.specs.declared.payload.Bounds.TheVariants.{Within}
 use Rattle.directory.proofs.Pairs.{Sizes, size_fits-holds, pair_fits, due_next}
+use Rattle.refusal.specs.Verdict.{Verdict, no_refusal}
 
 -- what a good directory of n records says of its block
 pub record Records (b : List ℕ) (n : ℕ) : Type 0 where
@@ -40,14 +37,14 @@ pub record Records (b : List ℕ) (n : ℕ) : Type 0 where
   pub sizes : Sizes b
   pub fit : (i : ℕ) → i < n → pair_of b i ≡ Fits
 
-good_pair : (p : Pair) (k : ℕ) (d : Directory) (n : ℕ) → with_pair p k d ≡ Good n → (p ≡ Fits) × (d ≡ Good n)
+good_pair : (p : Pair) (k : ℕ) (d : Result ℕ Refusal) (n : ℕ) → with_pair p k d ≡ Ok n → (p ≡ Fits) × (d ≡ Ok n)
 unfolding with_pair
 good_pair Fits k d n e = (refl, e)
 good_pair OffChain k d n e = (cc, cc)
 good_pair OffLength k d n e = (cc, cc)
 
 -- a good verdict counts the pairs, which all fit
-good_pairs : (b : List ℕ) (i m n : ℕ) → pairs_from b i m ≡ Good n
+good_pairs : (b : List ℕ) (i m n : ℕ) → pairs_from b i m ≡ Ok n
     → (n ≡ i + m) × ((j : ℕ) → i ≤ j → j < i + m → pair_of b j ≡ Fits)
 unfolding pairs_from
 good_pairs b i zero n e = let z : i ≡ n = cc in (omega arith, λ j l h. absurd (omega arith))
@@ -57,23 +54,23 @@ good_pairs b i (suc m) n e =
     (omega (arith, r.0), λ j l h. ⊎_elim (λ z. rw (← z) g.0) (λ k. r.1 j k (omega arith)) (eq-or-lt_of_le {n = i} {m = j} l))
 
 -- and conversely
-pub all_fit : (b : List ℕ) (i m : ℕ) → ((j : ℕ) → i ≤ j → j < i + m → pair_of b j ≡ Fits) → pairs_from b i m ≡ Good (i + m)
+pub all_fit : (b : List ℕ) (i m : ℕ) → ((j : ℕ) → i ≤ j → j < i + m → pair_of b j ≡ Fits) → pairs_from b i m ≡ Ok (i + m)
 unfolding pairs_from with_pair
 all_fit b i zero f = rw add-zero
 all_fit b i (suc m) f =
     rw (f i (omega arith) (omega arith)) (all_fit b (suc i) m (λ j l h. f j (omega arith) (omega arith)) ∙ rw (suc-add, add-suc))
 
-pub good : (b : List ℕ) (n : ℕ) → directory_of b ≡ Good n → Records b n
+pub good : (b : List ℕ) (n : ℕ) → directory_of b ≡ Ok n → Records b n
 unfolding directory_of
 good b n e =
-    let s = pick_first (size_fits b) (pairs_from b 0 (records_in b)) (Bad BadDirectory) (Good n) (λ z. cc) e in
+    let s = pick_first (size_fits b) (pairs_from b 0 (records_in b)) (Err BadDirectory) (Ok n) (λ z. cc) e in
     let p = good_pairs b 0 (records_in b) n s.1 in
     record { count = p.0 ∙ zero-add (records_in b); right = s.0; sizes = size_fits-holds b s.0; fit = λ i h. p.1 i (omega arith) (omega (arith, p.0)) }
 
 -- an accepted directory counts its records
-pub counted : (b : List ℕ) (d : Directory) → directory_of b ≡ d → verdict_on d ≡ Accepted → directory_of b ≡ Good (records_in b)
-counted b (Good n) q e = q ∙ ap Good (good b n q).count
-counted b (Bad r) q e = cc
+pub counted : (b : List ℕ) (d : Result ℕ Refusal) → directory_of b ≡ d → verdict_on d ≡ no_refusal → directory_of b ≡ Ok (records_in b)
+counted b (Ok n) q e = q ∙ ap Ok (good b n q).count
+counted b (Err r) q e = cc
 
 -- where record i stands, and what its length is
 pub placed : (b : List ℕ) (n i : ℕ) → Records b n → i < n → Placed b i
@@ -129,7 +126,7 @@ pub record Reached (b : List ℕ) (n i from : ℕ) (h : Header) : Type 0 where
   pub next : from + record_octets h.eqs ≡ due_of b (i + 1)
   pub end : from + record_octets h.eqs ≤ most_octets
 
-pub reached : (b : List ℕ) (n i from : ℕ) (h : Header) → directory_of b ≡ Good n → i < n → from ≡ due_of b i → h ≡ header_from b from
+pub reached : (b : List ℕ) (n i from : ℕ) (h : Header) → directory_of b ≡ Ok n → i < n → from ≡ due_of b i → h ≡ header_from b from
     → Reached b n i from h
 reached b n i from h g l d e =
     let r = good b n g in
@@ -155,33 +152,45 @@ pub record Asked (b : List ℕ) (k : ℕ) : Type 0 where
   pub first : 1 ≤ k
   pub last : k ≤ count
 
-never : (r : Refusal) → Refused r ≡ Accepted → ⊥
+never : (r : Refusal) → Err r ≡ no_refusal → ⊥
 never r e = let z : ◌≡◌ {A = ℕ} 0 1 = cc in omega arith
 
-by_directory : (b : List ℕ) (k : ℕ) (d : Directory) → directory_of b ≡ d → record_asked d k ≡ Accepted → Asked b k
-by_directory b k (Good n) q e =
-    let t = (pick_first (both (leb 1 k) (leb k n)) Accepted (Refused OutOfRange) Accepted (λ z. cc) e).0 in
+by_directory : (b : List ℕ) (k : ℕ) (d : Result ℕ Refusal) → directory_of b ≡ d → record_asked d k ≡ no_refusal → Asked b k
+by_directory b k (Ok n) q e =
+    let t = (pick_first (both (leb 1 k) (leb k n)) no_refusal (Err OutOfRange) no_refusal (λ z. cc) e).0 in
     record { count = n; records = good b n q; first = leb-true _ _ (both_left _ _ t); last = leb-true _ _ (both_right _ _ t) }
-by_directory b k (Bad r) q e = absurd (never r e)
+by_directory b k (Err r) q e = absurd (never r e)
 
-pub asked_for : (b : List ℕ) (k : ℕ) → payload_verdict b k ≡ Accepted → Asked b k
+pub asked_for : (b : List ℕ) (k : ℕ) → payload_verdict b k ≡ no_refusal → Asked b k
 unfolding payload_verdict
 asked_for b k e = by_directory b k (directory_of b) refl e
 
 pub asked_few : {b : List ℕ} {k : ℕ} → Asked b k → k ≤ most_records
 asked_few a = omega (arith, a.last, a.records.count, a.records.sizes.few)
 
+-- so it is one more than the place of a record, whose length is not below that of its header
+pub asked_first : (b : List ℕ) (k : ℕ) → payload_verdict b k ≡ no_refusal → 1 ≤ k
+asked_first b k e = (asked_for b k e).first
+
+pub asked_last : (b : List ℕ) (k : ℕ) → payload_verdict b k ≡ no_refusal → k ≤ most_records
+asked_last b k e = asked_few (asked_for b k e)
+
+pub asked_length : (b : List ℕ) (k : ℕ) → payload_verdict b k ≡ no_refusal → header_octets ≤ length_of b (k - 1)
+asked_length b k e =
+    let a = asked_for b k e in
+    omega (arith, (placed b a.count (k - 1) a.records (omega (arith, a.first, a.last))).size)
+
 named_by : (b : List ℕ) (k : ℕ) (v : Verdict) → payload_verdict b k ≡ v
     → let p = bounds_after v (bounds_of b (k - 1)) in
     (bounds_offset p + bounds_length p ≤ length b) × (part b (bounds_offset p) (bounds_length p) ≡ unless_refused v (payload_of (record_of b (k - 1))))
 unfolding bounds_of
-named_by b k Accepted q =
+named_by b k (Ok tt) q =
     let i = k - 1 in
     let a = asked_for b k q in
     let p = placed b a.count i a.records (omega (arith, a.first, a.last)) in
     let n : offset_of b i + length_of b i - (offset_of b i + 16) ≡ length_of b i - 16 = omega arith in
     (omega (arith, p.inside, p.size), sym (payload_part-holds b i p ∙ rw n))
-named_by b k (Refused r) q = (omega arith, refl)
+named_by b k (Err r) q = (omega arith, refl)
 
 -- the bounds name the payload, which is empty where it is refused
 pub part_named : (b : List ℕ) (k : ℕ)
@@ -194,10 +203,13 @@ pub record Bounded (b : List ℕ) (k from n : ℕ) : Type 0 where
   pub inside : from + n ≤ length b
   pub octets : part b from n ≡ payload_part b k
 
-pub bounded : (b : List ℕ) (k from n : ℕ) → payload_bounds b k ≡ Within from n → Bounded b k from n
+pub bounded : (b : List ℕ) (k from n : ℕ) → payload_bounds b k ≡ Ok (record { from = from; octets = n }) → Bounded b k from n
 bounded b k from n e = let q = part_named b k in record { inside = rw e at q.0; octets = rw e at q.1 }
 
-pub refused_part : (b : List ℕ) (k : ℕ) (r : Refusal) → payload_bounds b k ≡ Bounds.Refused r → payload_part b k ≡ []
+pub bounded_inside : (b : List ℕ) (k : ℕ) (p : Bounds) → payload_bounds b k ≡ Ok p → p.from + p.octets ≤ length b
+bounded_inside b k p e = (bounded b k p.from p.octets e).inside
+
+pub refused_part : (b : List ℕ) (k : ℕ) (r : Refusal) → payload_bounds b k ≡ Err r → payload_part b k ≡ []
 refused_part b k r e = sym (rw e at (part_named b k).1)
 
 -- the records end where the block does

@@ -1,5 +1,6 @@
 -- Laws of trimming: the first m records of a block, whose pairs keep both rules, make a whole block. The rebuilt directory is read back
 -- pair by pair, a pair being eight octets, and the records behind it by their lengths. Assumes nothing.
+use Rattle.std.specs.Prelude.{Ok}
 use mathlib.Core.Path.{◌≡◌, refl, sym, ap, ◌∙◌}
 use mathlib.Core.Bool.{Bool, true, false, not}
 use mathlib.Core.List.{List, ◌++◌}
@@ -18,7 +19,6 @@ use Rattle.octets.proofs.Choice.{both_true, pick_true}
 use Rattle.octets.proofs.Lists.{part_length}
 use Rattle.records.specs.Place.{end_fits}
 use Rattle.directory.specs.declared.Pair.TheVariants.{Fits}
-use Rattle.directory.specs.declared.Directory.TheVariants.{Good}
 use Rattle.records.specs.Block.{most_octets, most_records, directory_octets, records_in, offset_of, length_of, end_of, due_of, record_of}
 use Rattle.directory.specs.Directory.{chained, pair_of, size_fits, directory_of}
 use Rattle.directory.specs.Broken.{Keeps, start_of, pairs_rebuilt, records_from, trimmed}
@@ -218,8 +218,8 @@ module _ (b : List ℕ) (m : ℕ) (k : Keeps b m) (few : m ≤ records_in b) whe
       (both_true (le-leb m most_records (omega (arith, sizes.few)))
       (both_true (le-leb (2 + 8 * m) (start_of b m m) s) (alone_by (eqb m 0) m (start_of b m m) refl alone))))
 
-  pub trimmed_good : directory_of (trimmed b m) ≡ Good m
+  pub trimmed_good : directory_of (trimmed b m) ≡ Ok m
   unfolding directory_of
   trimmed_good =
       pick_true _ _ right_back
-      ∙ rw count_back (all_fit (trimmed b m) 0 m (λ i l h. fits_back i (omega arith)) ∙ ap Good (zero-add m))
+      ∙ rw count_back (all_fit (trimmed b m) 0 m (λ i l h. fits_back i (omega arith)) ∙ ap Ok (zero-add m))

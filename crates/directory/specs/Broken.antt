@@ -1,9 +1,8 @@
 -- Which pair of a capture block b is broken, and what can be kept of the block (02, C-11). Assumes nothing.
-use Rattle.std.specs.Prelude.{◌≡◌, true, false, List, [], ◌++◌, ℕ, zero, suc, ◌+◌, ◌≤◌, ◌<◌}
+use Rattle.std.specs.Prelude.{◌≡◌, true, false, List, [], ◌++◌, ℕ, zero, suc, ◌+◌, ◌≤◌, ◌<◌, Ok, Err}
 use Rattle.octets.specs.BigEndian.{octets_of}
 use Rattle.refusal.specs.declared.Refusal.TheVariants.{BadDirectory, BrokenChain, UnsuitedLength}
 use Rattle.records.specs.Record.{sized}
-use Rattle.directory.specs.declared.Directory.TheVariants.{Good, Bad}
 use Rattle.records.specs.Block.{count_octets, directory_octets, records_in, length_of, record_of}
 use Rattle.directory.specs.Directory.{chained, size_fits, directory_of}
 
@@ -48,16 +47,16 @@ trimmed b m = octets_of count_octets m ++ (pairs_rebuilt b m 0 m ++ records_from
 -- what each verdict on the directory means, and conversely
 pub record Judged (b : List ℕ) : Type 0 where
   -- a block is whole exactly if 01's arithmetic holds of it
-  pub whole : (n : ℕ) → directory_of b ≡ Good n → (n ≡ records_in b) × Keeps b n
-  pub good : Keeps b (records_in b) → directory_of b ≡ Good (records_in b)
+  pub whole : (n : ℕ) → directory_of b ≡ Ok n → (n ≡ records_in b) × Keeps b n
+  pub good : Keeps b (records_in b) → directory_of b ≡ Ok (records_in b)
   -- 15
-  pub bounds : directory_of b ≡ Bad BadDirectory → size_fits b ≡ false
-  pub out_of_bounds : size_fits b ≡ false → directory_of b ≡ Bad BadDirectory
+  pub bounds : directory_of b ≡ Err BadDirectory → size_fits b ≡ false
+  pub out_of_bounds : size_fits b ≡ false → directory_of b ≡ Err BadDirectory
   -- 18 and 19, with the pair's number
-  pub off_chain : (i : ℕ) → directory_of b ≡ Bad (BrokenChain (suc i)) → OffChainAt b i
-  pub broken_chain : (i : ℕ) → OffChainAt b i → directory_of b ≡ Bad (BrokenChain (suc i))
-  pub off_length : (i : ℕ) → directory_of b ≡ Bad (UnsuitedLength (suc i)) → OffLengthAt b i
-  pub unsuited_length : (i : ℕ) → OffLengthAt b i → directory_of b ≡ Bad (UnsuitedLength (suc i))
+  pub off_chain : (i : ℕ) → directory_of b ≡ Err (BrokenChain (suc i)) → OffChainAt b i
+  pub broken_chain : (i : ℕ) → OffChainAt b i → directory_of b ≡ Err (BrokenChain (suc i))
+  pub off_length : (i : ℕ) → directory_of b ≡ Err (UnsuitedLength (suc i)) → OffLengthAt b i
+  pub unsuited_length : (i : ℕ) → OffLengthAt b i → directory_of b ≡ Err (UnsuitedLength (suc i))
   -- the records before a broken pair make a whole block, and are in it as they were
-  pub trimmable : (m : ℕ) → Keeps b m → m ≤ records_in b → directory_of (trimmed b m) ≡ Good m
+  pub trimmable : (m : ℕ) → Keeps b m → m ≤ records_in b → directory_of (trimmed b m) ≡ Ok m
   pub same_records : (m i : ℕ) → Keeps b m → m ≤ records_in b → i < m → record_of (trimmed b m) i ≡ record_of b i

@@ -26,17 +26,8 @@ pub enum Pair {
     OffLength,
 }
 
-// What a directory is found to be.
-#[derive(Clone, Copy)]
-pub enum Directory {
-    // so many records
-    Good(u16),
-    // the refusal that it earns: 15 for its bounds, then 18 or 19 with the first pair that does not fit
-    Bad(Refusal),
-}
-
 // The verdict on pair i of n, whose record is due at `due` and goes by the pair from `from` to `to`.
-#[tactic(auto, unfolding(records::specs::Block::end_of, records::specs::Block::record_of))]
+#[tactic(auto, using(crate::proofs::Pairs::pair_off_due, crate::proofs::Pairs::pair_off_end, crate::proofs::Pairs::pair_by_length, records::proofs::Places::end_within), unfolding(records::specs::Block::end_of, records::specs::Block::record_of, octets::specs::Choice::pick))]
 fn pair_of(block: &[u8], n: u16, i: u16, due: usize, from: usize, to: usize) -> Pair
     requires { Due block.now n i due from to }
     ensures { result ≡ pair_of block.now i }
@@ -66,38 +57,33 @@ fn is_size_right(block: &[u8], n: u16) -> bool
         & ((n <= MOST_RECORDS) & ((directory_octets(n) <= size) & alone))
 }
 
-// What the directory of a block is found to be: bounds first, then pair by pair, chain before length at each, in one pass.
-#[tactic(auto, unfolding(records::specs::Block::due_of, crate::specs::Directory::directory_of, crate::specs::Directory::with_pair, records::specs::Block::end_of))]
-pub fn check(block: &[u8]) -> Directory
+// The count of records of a block whose directory is right, else the refusal that it earns, in one pass: 15 for its bounds, then pair by pair
+// 18 for the chain, 19 for the length.
+#[tactic(auto, using(crate::proofs::Broken::judged, crate::proofs::Pairs::pairs_at, crate::proofs::Pairs::pairs_end, crate::proofs::Pairs::due_next), unfolding(records::specs::Block::due_of, crate::specs::Directory::directory_of, crate::specs::Directory::with_pair, records::specs::Block::end_of, octets::specs::Choice::pick))]
+pub fn check(block: &[u8]) -> Result<u16, Refusal>
     ensures value { result ≡ directory_of block.now }
     ensures judged { Judged block.now }
 {
     let n = count(block);
     if !is_size_right(block, n) {
-        return Directory::Bad(Refusal::BadDirectory);
+        return Err(Refusal::BadDirectory);
     }
     let mut due = directory_octets(n);
-    let mut i = 0;
-    while i < n {
+    for i in 0..n {
         let from = offset(block, i) as usize;
         let to = from + length_of(block, i) as usize;
         match pair_of(block, n, i, due, from, to) {
-            Pair::Fits => {}
-            Pair::OffChain => return Directory::Bad(Refusal::BrokenChain(i + 1)),
-            Pair::OffLength => return Directory::Bad(Refusal::UnsuitedLength(i + 1)),
+            Pair::Fits => due = to,
+            Pair::OffChain => return Err(Refusal::BrokenChain(i + 1)),
+            Pair::OffLength => return Err(Refusal::UnsuitedLength(i + 1)),
         }
-        due = to;
-        i += 1;
     }
-    Directory::Good(n)
+    Ok(n)
 }
 
 // A good directory is accepted.
-pub fn verdict_on(directory: Directory) -> Verdict
+pub fn verdict_on(directory: Result<u16, Refusal>) -> Verdict
     ensures { result ≡ verdict_on directory }
 {
-    match directory {
-        Directory::Good(_) => Verdict::Accepted,
-        Directory::Bad(refusal) => Verdict::Refused(refusal),
-    }
+    directory.map(|_| ())
 }

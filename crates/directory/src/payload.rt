@@ -2,33 +2,30 @@
 ghost use Rattle.std.specs.Prelude.{◌≡◌};
 ghost use Rattle.directory.specs.Payload.{record_asked, payload_verdict, payload_bounds, bounds_number, bounds_pair, bounds_offset, bounds_length, PartOf, payload_part};
 
-use crate::{Directory, check};
+use crate::check;
 use records::block::{length_of, offset};
 use records::header::HEADER_OCTETS;
 use refusal::{Refusal, Verdict};
 
 // Where a payload lies in its block.
 #[derive(Clone, Copy)]
-pub enum Bounds {
-    // from this offset on, for so many octets
-    Within(usize, usize),
-    Refused(Refusal),
+pub struct Bounds {
+    // from this offset on
+    pub from: usize,
+    // for so many octets
+    pub octets: usize,
 }
 
 // Whether a directory has a record with number k.
-#[tactic(auto, unfolding(octets::specs::Choice::both))]
-fn asked(directory: Directory, k: usize) -> Verdict
+#[tactic(auto, unfolding(octets::specs::Choice::both, octets::specs::Choice::pick))]
+fn asked(directory: Result<u16, Refusal>, k: usize) -> Verdict
     ensures { result ≡ record_asked directory k }
 {
-    match directory {
-        Directory::Good(n) => {
-            if (1 <= k) & (k <= n as usize) {
-                Verdict::Accepted
-            } else {
-                Verdict::Refused(Refusal::OutOfRange)
-            }
-        }
-        Directory::Bad(refusal) => Verdict::Refused(refusal),
+    let n = directory?;
+    if (1 <= k) & (k <= n as usize) {
+        Ok(())
+    } else {
+        Err(Refusal::OutOfRange)
     }
 }
 
@@ -41,52 +38,49 @@ pub fn payload_verdict(block: &[u8], k: usize) -> Verdict
 }
 
 // Where the payload of record k lies in the block.
-#[tactic(auto, unfolding(crate::specs::Payload::payload_bounds, crate::specs::Payload::bounds_of))]
-pub fn locate(block: &[u8], k: usize) -> Bounds
+#[tactic(auto, using(crate::proofs::Records::asked_first, crate::proofs::Records::asked_last, crate::proofs::Records::asked_length), unfolding(crate::specs::Payload::payload_bounds, crate::specs::Payload::bounds_of))]
+pub fn locate(block: &[u8], k: usize) -> Result<Bounds, Refusal>
     ensures { result ≡ payload_bounds block.now k }
 {
-    match payload_verdict(block, k) {
-        Verdict::Accepted => {
-            let i = (k - 1) as u16;
-            let from = offset(block, i) as usize + HEADER_OCTETS;
-            let octets = length_of(block, i) as usize - HEADER_OCTETS;
-            Bounds::Within(from, octets)
-        }
-        Verdict::Refused(refusal) => Bounds::Refused(refusal),
-    }
+    payload_verdict(block, k)?;
+    let i = (k - 1) as u16;
+    let from = offset(block, i) as usize + HEADER_OCTETS;
+    let octets = length_of(block, i) as usize - HEADER_OCTETS;
+    Ok(Bounds { from, octets })
 }
 
 // 0, or the refusal code.
-pub fn number(bounds: Bounds) -> u8
+pub fn number(bounds: Result<Bounds, Refusal>) -> u8
     ensures { result ≡ bounds_number bounds }
 {
     match bounds {
-        Bounds::Within(_, _) => 0,
-        Bounds::Refused(refusal) => refusal::number(refusal),
+        Ok(_) => 0,
+        Err(refusal) => u8::from(refusal),
     }
 }
 
 // The pair that a refusal names, or 0.
-pub fn pair(bounds: Bounds) -> u16
+pub fn pair(bounds: Result<Bounds, Refusal>) -> u16
     ensures { result ≡ bounds_pair bounds }
 {
     match bounds {
-        Bounds::Within(_, _) => 0,
-        Bounds::Refused(refusal) => refusal::pair(refusal),
+        Ok(_) => 0,
+        Err(refusal) => refusal::pair(refusal),
     }
 }
 
 // The payload of record k as a part of the block, empty where it is refused.
+#[tactic(auto, using(crate::proofs::Records::bounded_inside))]
 pub fn part(block: &[u8], k: usize) -> &[u8]
     ensures result_value { result.now ≡ payload_part block.now k }
     ensures part_of { PartOf block.entry result (bounds_offset (payload_bounds block.now k))
         (bounds_length (payload_bounds block.now k)) }
 {
     match locate(block, k) {
-        Bounds::Within(from, octets) => {
-            let to = from + octets;
-            &block[from..to]
+        Ok(bounds) => {
+            let to = bounds.from + bounds.octets;
+            &block[bounds.from..to]
         }
-        Bounds::Refused(_) => &block[0..0],
+        Err(_) => &block[0..0],
     }
 }

@@ -1,3 +1,4 @@
+pub mod Counted
 pub mod Identities
 pub mod Keys
 pub mod Marks
@@ -7,3 +8,4 @@ pub mod Timers
 pub mod Travels
 pub mod Validity
 pub mod Walks
+pub mod Words

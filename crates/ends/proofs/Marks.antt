@@ -1,5 +1,5 @@
 -- What the marks of a list tell: of an empty one, and of one that a number more is put behind. Assumes nothing.
-use Rattle.std.proofs.Common.{◌≡◌, ℕ, ◌+◌, ◌-◌, ◌<◌, Bool, true, false, eqb, List, [], ◌∷◌, ◌++◌, length, get_or, take, set, replicate, sym, refl, ap, ◌∙◌, arith, length-append, length-set, length-take-le, get_or-set_other, get_or-set_same, ne_eqb, eqb-true}
+use Rattle.std.proofs.Common.{◌≡◌, ℕ, ◌+◌, ◌-◌, ◌<◌, ◌≤◌, Bool, true, false, eqb, List, [], ◌∷◌, ◌++◌, length, get_or, take, set, replicate, sym, refl, ap, ◌∙◌, arith, length-append, length-set, length-take-le, get_or-take, get_or-set_other, get_or-set_same, ne_eqb, eqb-true}
 use lib.ListN.{get_or-replicate, get_or-append}
 use lib.Seq.{get_or-append_seam}
 use borrow.Author.Tests.{eqb-false}
@@ -19,9 +19,16 @@ pub by_none : (l : List ℕ) (x mark : ℕ) → mark ≡ 0 → by_mark l x mark 
 unfolding by_mark pick
 by_none l x mark e = rw e
 
-pub by_own : (l : List ℕ) (x mark : ℕ) → (mark ≡ 0 → ⊥) → (mark ≡ crowded → ⊥) → by_mark l x mark ≡ eqb (get_or l (mark - 1) 0) x
+by_own : (l : List ℕ) (x mark : ℕ) → (mark ≡ 0 → ⊥) → (mark ≡ crowded → ⊥) → by_mark l x mark ≡ eqb (get_or l (mark - 1) 0) x
 unfolding by_mark pick
 by_own l x mark h k = rw (ne_eqb mark 0 h, ne_eqb mark crowded k)
+
+-- the same among the first n
+pub by_first : (l : List ℕ) (n x mark : ℕ) → n ≤ length l → Names (take n l) mark → (mark ≡ 0 → ⊥) → (mark ≡ crowded → ⊥)
+    → by_mark (take n l) x mark ≡ eqb (get_or l (mark - 1) 0) x
+by_first l n x mark h names some one =
+    let low : mark - 1 < n = omega (arith, names one, length-take-le n l h) in
+    by_own (take n l) x mark some one ∙ ap (λ (w : ℕ). eqb w x) (get_or-take n l (mark - 1) 0 low)
 
 by_search : (l : List ℕ) (x : ℕ) → by_mark l x crowded ≡ among x l
 unfolding by_mark pick

@@ -1,4 +1,5 @@
 -- Laws of the table: a unit is found by any of its LLIDs, and a unit replaced leaves all else. Assumes nothing.
+use Rattle.std.specs.Prelude.{Option, Some, None}
 use Rattle.std.proofs.Common.{◌≡◌, ℕ, zero, suc, ◌+◌, ◌-◌, ◌<◌, ◌≤◌, Bool, true, false, not, List, [], ◌∷◌, ◌++◌, map, length, get_or, take, sym, refl, ap, ◌∙◌, ap₂, le_of_suc-le-suc, not-suc-le-zero, add-zero, add-suc, suc-add, zero-add, add-one, arith, length-set, length-take, get_or-set_other, get_or-take, get_or-set_same, take-suc-set, set-set}
 use lib.Seq.{set-get_or, map-set_same}
 use Rattle.octets.specs.Choice.{pick}
@@ -6,7 +7,6 @@ use Rattle.octets.proofs.Choice.{pick_true, pick_false, not_both, either_left, e
 use Rattle.octets.proofs.Maps.{map_take}
 use Rattle.refusal.specs.Number.{verdict_number}
 use Rattle.refusal.specs.declared.Refusal.TheVariants.{UnknownLlid}
-use Rattle.refusal.specs.declared.Verdict.TheVariants.{Accepted}
 use Rattle.refusal.specs.Order.{refuse_if}
 use Rattle.ends.specs.Identities.{among, distinct, llids_of, has}
 use Rattle.ends.specs.Records.{with_channels}
@@ -15,10 +15,9 @@ use Rattle.ends.specs.declared.Channels.{Channels}
 use Rattle.ends.specs.declared.Identity.{Identity}
 use Rattle.ends.specs.declared.UnitRecord.{UnitRecord}
 use Rattle.ends.specs.declared.Olt.{Olt}
-use Rattle.ends.specs.declared.Found.{Found}
-use Rattle.ends.specs.declared.Found.TheVariants.{At, Nowhere}
 use Rattle.refusal.proofs.Order.{refuse_passed, refuse_stopped}
 use Rattle.ends.proofs.Identities.{among_append, distinct_right, distinct_apart}
+use Rattle.refusal.specs.Verdict.{no_refusal}
 
 ---- who is found
 
@@ -28,12 +27,12 @@ record Among (k : ℕ) (us : List UnitRecord) (llid i : ℕ) : Type 0 where
   high : i < k + length us
   has : has (get_or us (i - k) past_unit).identity llid ≡ true
 
-from_at : (k : ℕ) (us : List UnitRecord) (llid i : ℕ) → find_from k us llid ≡ At i → Among k us llid i
+from_at : (k : ℕ) (us : List UnitRecord) (llid i : ℕ) → find_from k us llid ≡ Some i → Among k us llid i
 unfolding find_from pick
 from_at k [] llid i e = let z : ◌≡◌ {A = ℕ} 0 1 = cc in absurd (omega arith)
 from_at k (u ∷ us) llid i e = by_head (has u.identity llid) refl (from_at (suc k) us llid i) e where
-  by_head : (t : Bool) → has u.identity llid ≡ t → (find_from (suc k) us llid ≡ At i → Among (suc k) us llid i)
-      → pick t (At k) (find_from (suc k) us llid) ≡ At i → Among k (u ∷ us) llid i
+  by_head : (t : Bool) → has u.identity llid ≡ t → (find_from (suc k) us llid ≡ Some i → Among (suc k) us llid i)
+      → pick t (Some k) (find_from (suc k) us llid) ≡ Some i → Among k (u ∷ us) llid i
   by_head true h more f =
       let z : k ≡ i = cc in
       let n : i - k ≡ 0 = omega arith in
@@ -49,7 +48,7 @@ pub record Registered (o : Olt) (llid i : ℕ) : Type 0 where
   pub place : i < length o.units
   pub has : has (unit_at o i).identity llid ≡ true
 
-pub find_at : (o : Olt) (llid i : ℕ) → find o llid ≡ At i → Registered o llid i
+pub find_at : (o : Olt) (llid i : ℕ) → find o llid ≡ Some i → Registered o llid i
 unfolding find
 find_at o llid i e =
     let m = from_at 0 (registered o) llid i e in
@@ -73,7 +72,7 @@ table_among (u ∷ us) llid (suc i) h e =
 
 from_own : (k : ℕ) (us : List UnitRecord) (llid i : ℕ) → distinct (table_llids us) ≡ true → i < length us
     → has (get_or us i past_unit).identity llid ≡ true
-    → find_from k us llid ≡ At (k + i)
+    → find_from k us llid ≡ Some (k + i)
 unfolding find_from table_llids has
 from_own k [] llid i d h e = absurd (not-suc-le-zero h)
 from_own k (u ∷ us) llid zero d h e = rw add-zero (pick_true _ _ e)
@@ -82,41 +81,41 @@ from_own k (u ∷ us) llid (suc i) d h e =
     let other : has u.identity llid ≡ false = not_both _ _ (distinct_apart (llids_of u.identity) (table_llids us) llid d) later in
     pick_false _ _ other
     ∙ from_own (suc k) us llid i (distinct_right (llids_of u.identity) (table_llids us) d) (le_of_suc-le-suc h) e
-    ∙ ap At (rw (suc-add, add-suc))
+    ∙ ap Some (rw (suc-add, add-suc))
 
 -- where no LLID stands twice, each unit is found by any of its LLIDs
-pub find_own : (o : Olt) (llid i : ℕ) → distinct (table_llids (registered o)) ≡ true → Registered o llid i → find o llid ≡ At i
+pub find_own : (o : Olt) (llid i : ℕ) → distinct (table_llids (registered o)) ≡ true → Registered o llid i → find o llid ≡ Some i
 unfolding find
 find_own o llid i d r =
     let e : has (get_or (registered o) i past_unit).identity llid ≡ true = rw (get_or-take o.count o.units i past_unit r.used) r.has in
     rw zero-add at (from_own 0 (registered o) llid i d (omega (arith, length-take o.count o.units)) e)
 
 -- an LLID that is found is one of the table's, and one that is found nowhere is not
-pub among_found : (k : ℕ) (us : List UnitRecord) (llid i : ℕ) → find_from k us llid ≡ At i → among llid (table_llids us) ≡ true
+pub among_found : (k : ℕ) (us : List UnitRecord) (llid i : ℕ) → find_from k us llid ≡ Some i → among llid (table_llids us) ≡ true
 among_found k us llid i e = let m = from_at k us llid i e in table_among us llid (i - k) (omega (arith, m.low, m.high)) m.has
 
-pub among_nowhere : (k : ℕ) (us : List UnitRecord) (llid : ℕ) → find_from k us llid ≡ Nowhere → among llid (table_llids us) ≡ false
+pub among_nowhere : (k : ℕ) (us : List UnitRecord) (llid : ℕ) → find_from k us llid ≡ None → among llid (table_llids us) ≡ false
 unfolding find_from pick table_llids has among
 among_nowhere k [] llid e = refl
 among_nowhere k (u ∷ us) llid e = by_head (has u.identity llid) refl (among_nowhere (suc k) us llid) e where
-  by_head : (t : Bool) → has u.identity llid ≡ t → (find_from (suc k) us llid ≡ Nowhere → among llid (table_llids us) ≡ false)
-      → pick t (At k) (find_from (suc k) us llid) ≡ Nowhere → among llid (llids_of u.identity ++ table_llids us) ≡ false
+  by_head : (t : Bool) → has u.identity llid ≡ t → (find_from (suc k) us llid ≡ None → among llid (table_llids us) ≡ false)
+      → pick t (Some k) (find_from (suc k) us llid) ≡ None → among llid (llids_of u.identity ++ table_llids us) ≡ false
   by_head true h more f = let z : ◌≡◌ {A = ℕ} 0 1 = cc in absurd (omega arith)
   by_head false h more f = among_append llid (llids_of u.identity) (table_llids us) ∙ either_none h (more f)
 
-pub registered_found : (o : Olt) (llid i : ℕ) → find o llid ≡ At i → is_registered o llid ≡ true
+pub registered_found : (o : Olt) (llid i : ℕ) → find o llid ≡ Some i → is_registered o llid ≡ true
 unfolding find
 registered_found o llid i e = among_found 0 (registered o) llid i e
 
-pub registered_nowhere : (o : Olt) (llid : ℕ) → find o llid ≡ Nowhere → is_registered o llid ≡ false
+pub registered_nowhere : (o : Olt) (llid : ℕ) → find o llid ≡ None → is_registered o llid ≡ false
 unfolding find
 registered_nowhere o llid e = among_nowhere 0 (registered o) llid e
 
 -- 2 is for an LLID that is not the table's
-pub found_number-holds : (us : List UnitRecord) (llid : ℕ) (x : Found) → x ≡ find_from 0 us llid
-    → found_number x ≡ verdict_number (refuse_if (not (among llid (table_llids us))) UnknownLlid Accepted)
-found_number-holds us llid (At i) e = sym (ap verdict_number (refuse_passed _ UnknownLlid Accepted (not_of_true (among_found 0 us llid i (sym e)))))
-found_number-holds us llid Nowhere e = sym (ap verdict_number (refuse_stopped _ UnknownLlid Accepted (not_of_false (among_nowhere 0 us llid (sym e)))))
+pub found_number-holds : (us : List UnitRecord) (llid : ℕ) (x : Option ℕ) → x ≡ find_from 0 us llid
+    → found_number x ≡ verdict_number (refuse_if (not (among llid (table_llids us))) UnknownLlid no_refusal)
+found_number-holds us llid (Some i) e = sym (ap verdict_number (refuse_passed _ UnknownLlid no_refusal (not_of_true (among_found 0 us llid i (sym e)))))
+found_number-holds us llid None e = sym (ap verdict_number (refuse_stopped _ UnknownLlid no_refusal (not_of_false (among_nowhere 0 us llid (sym e)))))
 
 ---- the table goes by the identities alone
 

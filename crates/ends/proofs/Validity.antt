@@ -1,4 +1,5 @@
 -- What validity says of each record, as facts, and that the facts give it. Assumes nothing.
+use Rattle.std.specs.Prelude.{Option, None}
 use Rattle.std.proofs.Common.{◌≡◌, ℕ, ◌+◌, ◌<◌, ◌≤◌, Bool, true, false, eqb, ltb, leb, refl, ⊎_elim, arith, ltb-true, lt-ltb, eqb-true, le-leb, leb-true}
 use borrow.Author.Tests.{not-true}
 use Rattle.octets.specs.Choice.{either, pick}
@@ -19,8 +20,6 @@ use Rattle.ends.specs.declared.UnitRecord.{UnitRecord}
 use Rattle.ends.specs.declared.Shared.{Shared}
 use Rattle.ends.specs.declared.Olt.{Olt}
 use Rattle.ends.specs.declared.Onu.{Onu}
-use Rattle.ends.specs.declared.Found.{Found}
-use Rattle.ends.specs.declared.Found.TheVariants.{Nowhere}
 use Rattle.octets.specs.Lists.{all}
 use Rattle.ends.specs.Flags.{is_up}
 use Rattle.ends.specs.declared.OnuKeys.{OnuKeys}
@@ -160,9 +159,9 @@ onu_valid o r = search tests depth 12
 
 ---- what is found in a valid table
 
-pub judged_no : (t : Bool) (f : Found) → t ≡ false → judged t f ≡ judged false Nowhere
+pub judged_no : (t : Bool) (f : Option ℕ) → t ≡ false → judged t f ≡ judged false None
 unfolding judged pick
 judged_no t f e = rw e
 
-pub judged_yes : (t : Bool) (f : Found) → t ≡ true → judged t f ≡ judged true f
+pub judged_yes : (t : Bool) (f : Option ℕ) → t ≡ true → judged t f ≡ judged true f
 judged_yes t f e = rw e

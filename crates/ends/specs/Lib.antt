@@ -4,6 +4,7 @@ pub mod Timers
 pub mod Keys
 pub mod Travels
 pub mod Occupancy
+pub mod Counted
 pub mod Identities
 pub mod Marks
 pub mod Records

@@ -1,16 +1,13 @@
 -- The table of an OLT's units (01, Clock: OLT calls name a unit by any of its LLIDs). Assumes nothing.
-use Rattle.std.specs.Prelude.{ℕ, suc, ◌+◌, Bool, List, [], ◌∷◌, ◌++◌, take, nat_lt, slice_index_or, slice_set}
+use Rattle.std.specs.Prelude.{ℕ, suc, ◌+◌, Bool, List, [], ◌∷◌, ◌++◌, take, slice_index_or, slice_set, Option, Some, None}
 use Rattle.octets.specs.Choice.{pick}
 use Rattle.refusal.specs.Number.{number_of}
 use Rattle.refusal.specs.declared.Refusal.TheVariants.{UnknownLlid}
-use Rattle.ends.specs.Limits.{max_units}
 use Rattle.ends.specs.Identities.{among, llids_of, has}
 use Rattle.ends.specs.Records.{with_channels}
 use Rattle.ends.specs.declared.Channels.{Channels}
 use Rattle.ends.specs.declared.UnitRecord.{UnitRecord}
 use Rattle.ends.specs.declared.Olt.{Olt}
-use Rattle.ends.specs.declared.Found.{Found}
-use Rattle.ends.specs.declared.Found.TheVariants.{At, Nowhere}
 
 -- the units in use are the first `count`
 abbrev pub registered : Olt → List UnitRecord
@@ -26,25 +23,22 @@ abbrev pub is_registered : Olt → ℕ → Bool
 is_registered o llid = among llid (table_llids (registered o))
 
 -- the first unit that has the LLID, its place counted from i
-unfoldable pub find_from : ℕ → List UnitRecord → ℕ → Found
-find_from i [] llid = Nowhere
-find_from i (u ∷ us) llid = pick (has u.identity llid) (At i) (find_from (suc i) us llid)
+unfoldable pub find_from : ℕ → List UnitRecord → ℕ → Option ℕ
+find_from i [] llid = None
+find_from i (u ∷ us) llid = pick (has u.identity llid) (Some i) (find_from (suc i) us llid)
 
-unfoldable pub find : Olt → ℕ → Found
+unfoldable pub find : Olt → ℕ → Option ℕ
 find o llid = find_from 0 (registered o) llid
 
--- a place in the table, or one past it where there is none
-abbrev pub found_below : ℕ → Found → Found
-found_below place f = pick (nat_lt place max_units) (At place) f
-
--- the first place where a unit has the LLID, or one past the table, once the unit at i is passed
-abbrev pub first_place : ℕ → ℕ → Bool → ℕ
-first_place place i here = pick (nat_lt place max_units) place (pick here i max_units)
+-- the first of two that may be found
+abbrev pub found_or : Option ℕ → Option ℕ → Option ℕ
+found_or (Some i) f = Some i
+found_or None f = f
 
 -- the code for what is found
-abbrev pub found_number : Found → ℕ
-found_number (At i) = 0
-found_number Nowhere = number_of UnknownLlid
+abbrev pub found_number : Option ℕ → ℕ
+found_number (Some i) = 0
+found_number None = number_of UnknownLlid
 
 -- what stands for a unit past the end of the list
 unfoldable pub past_unit : UnitRecord
@@ -66,9 +60,9 @@ past_unit =
 abbrev pub unit_at : Olt → ℕ → UnitRecord
 unit_at o i = slice_index_or o.units i past_unit
 
-unfoldable pub unit_found : Olt → Found → UnitRecord
-unit_found o (At i) = unit_at o i
-unit_found o Nowhere = past_unit
+unfoldable pub unit_found : Olt → Option ℕ → UnitRecord
+unit_found o (Some i) = unit_at o i
+unit_found o None = past_unit
 
 -- the unit that a call names by an LLID
 abbrev pub unit_named : Olt → ℕ → UnitRecord

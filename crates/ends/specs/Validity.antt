@@ -2,7 +2,7 @@
 -- sentence that it excludes, and there is no other (D2). The types hold the ranges that are not tested here: an LLID is a u16, all codes
 -- allowed (D17); A, C, O and a are u32, so key numbers or 0; a key is sixteen u8. A place that is not in use is no field of the end (D6).
 -- Assumes nothing.
-use Rattle.std.specs.Prelude.{ℕ, ◌+◌, Bool, List, ◌==◌, nat_le, nat_lt}
+use Rattle.std.specs.Prelude.{ℕ, ◌+◌, Bool, List, ◌==◌, nat_le, nat_lt, Option, None}
 use Rattle.octets.specs.Choice.{both, either, pick}
 use Rattle.octets.specs.Lists.{all}
 use Rattle.clock.specs.Ticks.{max_tick, clock_turn, local_turn, max_round_trip}
@@ -19,8 +19,6 @@ use Rattle.ends.specs.declared.UnitClock.{UnitClock}
 use Rattle.ends.specs.declared.UnitRecord.{UnitRecord}
 use Rattle.ends.specs.declared.Shared.{Shared}
 use Rattle.ends.specs.declared.Olt.{Olt}
-use Rattle.ends.specs.declared.Found.{Found}
-use Rattle.ends.specs.declared.Found.TheVariants.{Nowhere}
 use Rattle.ends.specs.declared.Judged.{Judged}
 use Rattle.ends.specs.declared.OnuKeys.{OnuKeys}
 use Rattle.ends.specs.declared.OnuClock.{OnuClock}
@@ -68,8 +66,8 @@ valid_olt o =
     (distinct (table_llids (registered o)))))  -- an LLID twice; a MAC may stand twice (D16)
 
 -- whether an OLT is valid and, if so, where the unit stands that has the LLID
-unfoldable pub judged : Bool → Found → Judged
-judged valid f = record { valid = valid; found = pick valid f Nowhere }
+unfoldable pub judged : Bool → Option ℕ → Judged
+judged valid f = record { valid = valid; found = pick valid f None }
 
 -- of the units alone
 unfoldable pub judged_table : ℕ → List UnitRecord → ℕ → Judged

@@ -1,17 +1,18 @@
-// Whether an OLT that is lent is valid (01, 'When the reader says no': Ahead of each list comes 1).
-ghost use Rattle.std.specs.Prelude.{◌≡◌, ◌+◌, ◌<◌, ◌≤◌, true, false, [], ◌∷◌, ◌++◌, length, take};
+// Whether an OLT that is lent is valid (01, 'When the reader says no': Ahead of each list comes 1). The tests are joined by `&`, which takes no
+// branch: by `&&` a full table is judged a twentieth slower.
+ghost use Rattle.std.specs.Prelude.{◌≡◌, ◌+◌, ◌<◌, ◌≤◌, true, false, [], ◌∷◌, ◌++◌, length, take, Some, None};
 ghost use Rattle.ends.specs.Identities.{among, distinct, has, llids_of};
 ghost use Rattle.ends.specs.Limits.{max_llids, max_table_llids, max_units};
 ghost use Rattle.ends.specs.Marks.{Marked, Names, by_mark, mark_place, next_mark};
 ghost use Rattle.ends.specs.Timers.{valid_interval, valid_timer};
-ghost use Rattle.ends.specs.Table.{first_place, found_below};
-ghost use Rattle.ends.specs.declared.Found.TheVariants.{Nowhere};
+ghost use Rattle.octets.specs.Choice.{pick};
+ghost use Rattle.ends.specs.Table.{found_or};
 ghost use Rattle.ends.specs.Validity.{judged, judged_of, judged_table, valid_keys, valid_numbers, valid_olt, valid_shared, valid_unit, valid_unit_clock};
 
 use crate::limits::{MAX_INTERVAL, MAX_LLIDS, MAX_UNITS};
 use crate::llids::{distinct_llids, has, valid_identity, valid_mac};
 use crate::sends::{valid_channels, valid_first};
-use crate::{Found, Identity, Judged, Olt, Shared, Timer, UnitClock, UnitKeys, UnitRecord};
+use crate::{Identity, Judged, Olt, Shared, Timer, UnitClock, UnitKeys, UnitRecord};
 use clock::{CLOCK_TURN, MAX_ROUND_TRIP, MAX_TICK};
 
 #[tactic(auto, unfolding(crate::specs::Timers::valid_interval, octets::specs::Choice::both))]
@@ -25,23 +26,21 @@ pub fn valid_interval(interval: u64) -> bool
 pub fn valid_timer(timer: Timer) -> bool
     ensures { result ≡ valid_timer timer }
 {
-    valid_interval(timer.interval) & ((timer.count < timer.interval) & (timer.flag <= 1))
+    valid_interval(timer.interval) & (timer.count < timer.interval) & (timer.flag <= 1)
 }
 
 #[tactic(auto, unfolding(crate::specs::Validity::valid_numbers, octets::specs::Choice::both))]
 fn valid_numbers(confirmed: u32, active: u32, offered: u32) -> bool
     ensures { result ≡ valid_numbers confirmed active offered }
 {
-    (confirmed <= active) & ((active <= offered) & (offered as u64 <= confirmed as u64 + 1))
+    (confirmed <= active) & (active <= offered) & (offered as u64 <= confirmed as u64 + 1)
 }
 
 #[tactic(auto, unfolding(crate::specs::Validity::valid_keys, octets::specs::Choice::both))]
 fn valid_keys(tick: u64, keys: UnitKeys) -> bool
     ensures { result ≡ valid_keys tick keys }
 {
-    let timer = valid_timer(keys.timer);
-    let first = valid_first(keys.first, tick);
-    timer & first
+    valid_timer(keys.timer) & valid_first(keys.first, tick)
 }
 
 #[tactic(auto, unfolding(crate::specs::Validity::valid_unit_clock, octets::specs::Choice::both, octets::specs::Choice::either))]
@@ -49,33 +48,35 @@ fn valid_unit_clock(tick: u64, clock: UnitClock) -> bool
     ensures { result ≡ valid_unit_clock tick clock }
 {
     (clock.trip <= MAX_ROUND_TRIP)
-        & ((clock.captured <= 1)
-            & (((clock.captured == 0) | (clock.tick <= tick))
-                & ((clock.sent <= 1) & (clock.acknowledged <= 1))))
+        & (clock.captured <= 1)
+        & ((clock.captured == 0) | (clock.tick <= tick))
+        & (clock.sent <= 1)
+        & (clock.acknowledged <= 1)
 }
 
 #[tactic(auto, unfolding(crate::specs::Validity::valid_unit, octets::specs::Choice::both))]
 pub fn valid_unit(tick: u64, unit: UnitRecord) -> bool
     ensures { result ≡ valid_unit tick unit }
 {
-    let identity = valid_identity(unit.identity);
-    let keys = valid_keys(tick, unit.keys);
-    let numbers = valid_numbers(
-        unit.confirmation.confirmed,
-        unit.keys.active,
-        unit.keys.offered,
-    );
-    let clock = valid_unit_clock(tick, unit.clock);
-    identity & (keys & (numbers & ((unit.confirmation.acknowledged <= 1) & clock)))
+    valid_identity(unit.identity)
+        & valid_keys(tick, unit.keys)
+        & valid_numbers(
+            unit.confirmation.confirmed,
+            unit.keys.active,
+            unit.keys.offered,
+        )
+        & (unit.confirmation.acknowledged <= 1)
+        & valid_unit_clock(tick, unit.clock)
 }
 
 #[tactic(auto, unfolding(crate::specs::Validity::valid_shared, octets::specs::Choice::both))]
 pub fn valid_shared(shared: Shared) -> bool
     ensures { result ≡ valid_shared shared }
 {
-    let mac = valid_mac(shared.mac);
-    let channels = valid_channels(shared.channels);
-    mac & ((shared.tick <= MAX_TICK) & ((shared.clock < CLOCK_TURN) & channels))
+    valid_mac(shared.mac)
+        & (shared.tick <= MAX_TICK)
+        & (shared.clock < CLOCK_TURN)
+        & valid_channels(shared.channels)
 }
 
 // LLIDs of a full table.
@@ -105,34 +106,33 @@ fn next_mark(mark: u8, k: usize) -> u8
     CROWDED
 }
 
+// A loop: the slice's own `contains`, which searches by groups, makes the judging of a full table a fifth slower.
+#[tactic(auto, using(crate::proofs::Walks::among_drop_hit, crate::proofs::Walks::among_drop_miss, crate::proofs::Walks::among_drop_end))]
 pub fn contains(list: &[u16], x: u16) -> bool
     ensures { result ≡ among x list.now }
 {
-    let mut i: usize = 0;
-    while i < list.len() {
-        if list[i] == x {
+    for y in list {
+        if *y == x {
             return true;
         }
-        i += 1;
     }
     false
 }
 
-#[tactic(auto, unfolding(crate::specs::Identities::distinct))]
+#[tactic(auto, using(crate::proofs::Identities::distinct_step, crate::proofs::Identities::distinct_stop), unfolding(crate::specs::Identities::distinct))]
 pub fn all_distinct(list: &[u16]) -> bool
     ensures { result ≡ distinct list.now }
 {
-    let mut i: usize = 0;
-    while i < list.len() {
-        if contains(&list[..i], list[i]) {
+    for (i, x) in list.iter().enumerate() {
+        if contains(&list[..i], *x) {
             return false;
         }
-        i += 1;
     }
     true
 }
 
 // Whether x is one of the first n. Only where several have its place are they searched.
+#[tactic(auto, using(crate::proofs::Marks::by_none, crate::proofs::Marks::by_first))]
 fn stands(list: &[u16], n: usize, x: u16, mark: u8) -> bool
     requires n_in_bounds { n ≤ length list.now }
     requires names { Names (take n list.now) mark }
@@ -150,6 +150,7 @@ fn stands(list: &[u16], n: usize, x: u16, mark: u8) -> bool
 }
 
 // Puts a unit's LLIDs behind the first n, which stand once each, and leaves their marks; false where one stands already.
+#[tactic(auto, using(crate::proofs::Marks::place_below))]
 fn added(identity: Identity, list: &mut [u16], marks: &mut [u8], n: usize) -> bool
     requires max_llids_in_bounds { (n + max_llids ≤ length list.old) × (length list.old ≡ max_table_llids) }
     requires count_le_max_llids { identity.count ≤ max_llids }
@@ -159,12 +160,9 @@ fn added(identity: Identity, list: &mut [u16], marks: &mut [u8], n: usize) -> bo
     ensures list_after { result ≡ true → take (n + identity.count) list.new ≡ take n list.old ++ llids_of identity }
     ensures marked_2 { result ≡ true → Marked (take (n + identity.count) list.new) marks.new }
 {
-    let llids = identity.llids;
-    let count = identity.count as usize;
-    let mut j: usize = 0;
-    while j < count {
+    for (j, x) in identity.llids[..identity.count as usize].iter().enumerate() {
+        let x = *x;
         let place = n + j;
-        let x = llids[j];
         let m = mark_place(x);
         let mark = marks[m];
         if stands(list, place, x, mark) {
@@ -172,51 +170,36 @@ fn added(identity: Identity, list: &mut [u16], marks: &mut [u8], n: usize) -> bo
         }
         list[place] = x;
         marks[m] = next_mark(mark, place);
-        j += 1;
     }
     true
 }
 
-// The first place where a unit has the LLID, or one past the table.
+// What is found once the unit at place i is passed too: the first that has the LLID.
 #[tactic(auto, unfolding(octets::specs::Choice::pick))]
-fn first_place(place: usize, i: usize, identity: Identity, llid: u16) -> usize
-    ensures { result ≡ first_place place i (has identity llid) }
+fn first_found(found: Option<usize>, i: usize, identity: Identity, llid: u16) -> Option<usize>
+    ensures { result ≡ found_or found (pick (has identity llid) (Some i) None) }
 {
-    if place < MAX_UNITS as usize {
-        return place;
+    match found {
+        Some(_) => found,
+        None if has(identity, llid) => Some(i),
+        None => None,
     }
-    if has(identity, llid) {
-        return i;
-    }
-    MAX_UNITS as usize
-}
-
-#[tactic(auto, unfolding(octets::specs::Choice::pick))]
-fn found_below(place: usize) -> Found
-    ensures { result ≡ found_below place Nowhere }
-{
-    if place < MAX_UNITS as usize {
-        return Found::At(place);
-    }
-    Found::Nowhere
 }
 
 #[tactic(auto, unfolding(crate::specs::Validity::judged, octets::specs::Choice::pick))]
 fn invalid() -> Judged
-    ensures { result ≡ judged false Nowhere }
+    ensures { result ≡ judged false None }
 {
-    let found = Found::Nowhere;
     Judged {
         valid: false,
-        found,
+        found: None,
     }
 }
 
 #[tactic(auto, unfolding(crate::specs::Validity::judged, octets::specs::Choice::pick))]
-fn valid_with(place: usize) -> Judged
-    ensures { result ≡ judged true (found_below place Nowhere) }
+fn valid_with(found: Option<usize>) -> Judged
+    ensures { result ≡ judged true found }
 {
-    let found = found_below(place);
     Judged { valid: true, found }
 }
 
@@ -229,62 +212,49 @@ fn judge_table(olt: Olt, count: usize, llid: u16) -> Judged
     let mut list = [0u16; TABLE_LLIDS];
     let mut marks = [0u8; MARK_PLACES];
     let mut n: usize = 0;
-    let mut place: usize = MAX_UNITS as usize;
-    let mut i: usize = 0;
-    while i < count {
-        let unit = olt.units[i];
-        if !valid_unit(olt.shared.tick, unit) {
+    let mut found = None;
+    for (i, unit) in olt.units[..count].iter().enumerate() {
+        if !valid_unit(olt.shared.tick, *unit) {
             return invalid();
         }
         if !added(unit.identity, &mut list, &mut marks, n) {
             return invalid();
         }
-        place = first_place(place, i, unit.identity, llid);
+        found = first_found(found, i, unit.identity, llid);
         n += unit.identity.count as usize;
-        i += 1;
     }
-    valid_with(place)
+    valid_with(found)
 }
 
 // The same of a table of one unit.
-#[tactic(auto, unfolding(crate::specs::Validity::judged_table, octets::specs::Lists::all, crate::specs::Table::table_llids, crate::specs::Table::find_from, octets::specs::Choice::pick))]
+#[tactic(auto, using(crate::proofs::Walks::one_unit), unfolding(crate::specs::Validity::judged, crate::specs::Validity::judged_table, octets::specs::Lists::all, crate::specs::Table::find_from, octets::specs::Choice::both, octets::specs::Choice::pick))]
 fn judge_one(tick: u64, unit: UnitRecord, llid: u16) -> Judged
     ensures { result ≡ judged_table tick (unit ∷ []) llid }
 {
-    if !valid_unit(tick, unit) {
+    if !valid_unit(tick, unit) || !distinct_llids(unit.identity) {
         return invalid();
     }
-    if !distinct_llids(unit.identity) {
-        return invalid();
-    }
-    valid_with(first_place(MAX_UNITS as usize, 0, unit.identity, llid))
+    valid_with(first_found(None, 0, unit.identity, llid))
 }
 
 // Whether the OLT is valid and, if so, which unit has the LLID. An empty table and one of a single unit are judged without a copy (D119).
-#[tactic(auto, unfolding(crate::specs::Validity::judged_of, crate::specs::Validity::valid_olt, crate::specs::Table::find, crate::specs::Table::find_from, crate::specs::Table::table_llids, octets::specs::Lists::all, crate::specs::Identities::distinct, octets::specs::Choice::both, octets::specs::Choice::pick, crate::specs::Validity::judged_table, crate::specs::Table::past_unit))]
+#[tactic(auto, unfolding(crate::specs::Validity::judged, crate::specs::Validity::judged_of, crate::specs::Validity::valid_olt, crate::specs::Table::find, crate::specs::Table::find_from, crate::specs::Table::table_llids, octets::specs::Lists::all, crate::specs::Identities::distinct, octets::specs::Choice::both, octets::specs::Choice::pick, crate::specs::Validity::judged_table, crate::specs::Table::past_unit))]
 pub fn judge(olt: Olt, llid: u16) -> Judged
     ensures { result ≡ judged_of olt llid }
 {
-    let count = olt.count;
-    if MAX_UNITS < count {
+    if MAX_UNITS < olt.count || !valid_shared(olt.shared) {
         return invalid();
     }
-    if !valid_shared(olt.shared) {
-        return invalid();
+    match olt.count {
+        0 => valid_with(None),
+        1 => judge_one(olt.shared.tick, olt.units[0], llid),
+        count => judge_table(olt, count as usize, llid),
     }
-    if count == 0 {
-        return valid_with(MAX_UNITS as usize);
-    }
-    if count == 1 {
-        return judge_one(olt.shared.tick, olt.units[0], llid);
-    }
-    judge_table(olt, count as usize, llid)
 }
 
 #[tactic(auto, unfolding(crate::specs::Validity::judged, crate::specs::Validity::judged_of))]
 pub fn valid_olt(olt: Olt) -> bool
     ensures { result ≡ valid_olt olt }
 {
-    let answer = judge(olt, 0);
-    answer.valid
+    judge(olt, 0).valid
 }

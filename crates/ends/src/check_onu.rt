@@ -20,23 +20,25 @@ pub fn valid_onu_keys(keys: OnuKeys) -> bool
 pub fn valid_onu_clock(clock: OnuClock) -> bool
     ensures { result ≡ valid_onu_clock clock }
 {
-    if clock.synced == 1 {
-        return (clock.synced <= 1) & ((clock.rx < CLOCK_TURN) & (clock.time < CLOCK_TURN));
-    }
-    (clock.synced <= 1) & ((clock.rx < CLOCK_TURN) & (clock.time < LOCAL_TURN))
+    let turn = if clock.synced == 1 {
+        CLOCK_TURN
+    } else {
+        LOCAL_TURN
+    };
+    (clock.synced <= 1) & (clock.rx < CLOCK_TURN) & (clock.time < turn)
 }
 
 #[tactic(auto, unfolding(crate::specs::Validity::valid_onu, octets::specs::Choice::both))]
 pub fn valid_onu(o: Onu) -> bool
     ensures { result ≡ valid_onu o }
 {
-    let identity = valid_identity(o.identity);
-    let distinct = distinct_llids(o.identity);
-    let mac = valid_mac(o.oltmac);
-    let clock = valid_onu_clock(o.clock);
-    let keys = valid_onu_keys(o.keys);
-    let changes = valid_changes(o.travel.changes);
-    let channels = valid_channels(o.channels);
-    let rest = (o.first.noted <= 1) & (changes & channels);
-    identity & (distinct & (mac & ((o.tick <= MAX_TICK) & (clock & (keys & rest)))))
+    valid_identity(o.identity)
+        & distinct_llids(o.identity)
+        & valid_mac(o.oltmac)
+        & (o.tick <= MAX_TICK)
+        & valid_onu_clock(o.clock)
+        & valid_onu_keys(o.keys)
+        & (o.first.noted <= 1)
+        & valid_changes(o.travel.changes)
+        & valid_channels(o.channels)
 }

@@ -20,12 +20,10 @@ pub fn key_in(slots: Slots, n: u32) -> [u8; 16]
 pub fn with_key(slots: Slots, n: u32, key: [u8; 16]) -> Slots
     ensures { result ≡ with_key slots n key }
 {
-    let even = slots.even;
-    let odd = slots.odd;
     if n % 2 == 0 {
-        return Slots { even: key, odd };
+        return Slots { even: key, ..slots };
     }
-    Slots { even, odd: key }
+    Slots { odd: key, ..slots }
 }
 
 // All but key n is wiped.
@@ -36,15 +34,9 @@ pub fn only_key(slots: Slots, n: u32) -> Slots
     with_key(slots, 1 - n % 2, [0; 16])
 }
 
+#[tactic(auto, using(crate::proofs::Words::same_pointwise))]
 pub fn same_key(a: [u8; 16], b: [u8; 16]) -> bool
     ensures { result ≡ same a b }
 {
-    let mut i: usize = 0;
-    while i < 16 {
-        if a[i] != b[i] {
-            return false;
-        }
-        i += 1;
-    }
-    true
+    a == b
 }

@@ -7,6 +7,7 @@
 pub mod changes;
 pub mod check_olt;
 pub mod check_onu;
+pub mod in_use;
 pub mod keyslots;
 pub mod limits;
 pub mod llids;
@@ -157,16 +158,9 @@ pub struct Onu {
     pub channels: Channels,
 }
 
-// Which place of the table has an LLID.
-#[derive(Clone, Copy)]
-pub enum Found {
-    At(usize),
-    Nowhere,
-}
-
 // Whether an OLT is valid and, if so, where the unit stands that has an LLID.
 #[derive(Clone, Copy)]
 pub struct Judged {
     pub valid: bool,
-    pub found: Found,
+    pub found: Option<usize>,
 }

@@ -7,11 +7,11 @@ use borrow.Author.Tests.{eqb-true, leb-true, not-false}
 use Rattle.octets.specs.Eqs.{max_eqs}
 use Rattle.octets.proofs.Choice.{both_left, both_right}
 use Rattle.refusal.specs.declared.Refusal.TheVariants.{OutOfRange, BadLength}
-use Rattle.refusal.specs.declared.Verdict.TheVariants.{Accepted}
 use Rattle.refusal.proofs.Order.{refuse_accepted}
 use Rattle.envelope.specs.Acceptance.{lengths_fit, nonce_fits, seal_verdict}
 use Rattle.envelope.specs.ControlMask.{max_blocks, blocks_of}
 use Rattle.envelope.specs.declared.Nonce.{Nonce}
+use Rattle.refusal.specs.Verdict.{no_refusal}
 
 -- the lengths of an accepted call
 pub record Lengths (n m : ℕ) : Type 0 where
@@ -36,8 +36,8 @@ few_blocks n m e =
     record { blocks = omega arith; index = λ k h. omega arith }
 
 -- what acceptance tells
-pub accepted : (n m : ℕ) (nonce : Nonce) → seal_verdict n m nonce ≡ Accepted → (lengths_fit n m ≡ true) × (nonce_fits nonce ≡ true)
+pub accepted : (n m : ℕ) (nonce : Nonce) → seal_verdict n m nonce ≡ no_refusal → (lengths_fit n m ≡ true) × (nonce_fits nonce ≡ true)
 unfolding seal_verdict
 accepted n m nonce e =
     let a = refuse_accepted (not (lengths_fit n m)) BadLength _ e in
-    (not-false _ a.0, not-false _ (refuse_accepted (not (nonce_fits nonce)) OutOfRange Accepted a.1).0)
+    (not-false _ a.0, not-false _ (refuse_accepted (not (nonce_fits nonce)) OutOfRange no_refusal a.1).0)

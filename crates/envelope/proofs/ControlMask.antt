@@ -1,17 +1,24 @@
 -- Laws of the control mask. Assumes nothing.
 use mathlib.Core.Path.{◌≡◌, refl, ap, ◌∙◌}
 use mathlib.Core.Bool.{Bool, true, false}
-use mathlib.Core.List.{List}
+use mathlib.Core.List.{List, []}
 use Prim.Native.Nat.{ℕ, zero, suc, ◌+◌, ◌-◌, ◌*◌, ◌<◌, ◌^◌}
-use native.Mathlib.Nat.{mod-eq_of_lt}
+use native.Mathlib.Nat.{mod-eq_of_lt, add-zero}
 use native.Mathlib.Omega.{arith}
 use lib.Bits.{bit_xor, bit_and, and_mask, and_zero_r, xor_zero_r}
 use lib.Dec.{eqb}
-use lib.ListN.{get_or}
+use lib.ListN.{get_or, drop}
+use lib.Seq.{get_or-take, get_or-drop}
+use Rattle.std.specs.Simd.{first_chunks}
 use Rattle.octets.specs.Bits.{bit_of}
 use Rattle.octets.specs.Choice.{pick}
 use Rattle.octets.proofs.Bits.{xor_twice}
-use Rattle.envelope.specs.ControlMask.{masked, masked_at}
+use Rattle.octets.proofs.Lists.{chunk_at}
+use Rattle.envelope.specs.ControlMask.{control_octet, masked, masked_at}
+
+-- the first octet of one of the first k EQs is its control octet
+pub control_of : (k : ℕ) (p : List ℕ) (e : ℕ) → e < k → get_or (get_or (first_chunks 9 k p) e []) 0 0 ≡ control_octet p e
+control_of k p e h = rw (chunk_at 9 k e p [] h) (get_or-take 9 (drop (9 * e) p) 0 0 (omega arith) ∙ get_or-drop (9 * e) p 0 0 ∙ rw add-zero)
 
 -- the mask as a factor of 0 or 255, with no branch
 pub masked_by_factor : (b k x : ℕ) → b < 2 → k < 2 ^ 8

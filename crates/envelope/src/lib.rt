@@ -10,8 +10,8 @@ ghost use Rattle.envelope.specs.Channels.{channel_fits, downstream, upstream, on
 ghost use Rattle.envelope.specs.ControlMask.{control_octet, data_octet, count_enciphered};
 ghost use Rattle.envelope.specs.CounterBlock.{counter_block};
 
-use octets::{EQ_OCTETS, MAX_EQS, SIX_OCTETS, octet_at};
-use refusal::{Refusal, Verdict, refuse_if};
+use octets::{EQ_OCTETS, MAX_EQS, SIX_OCTETS, octet_at, octets24, octets48};
+use refusal::{Refusal, Verdict};
 
 // The longest payload.
 const MAX_OCTETS: usize = EQ_OCTETS * MAX_EQS;
@@ -31,21 +31,25 @@ pub struct Nonce {
     pub clock: u64,
 }
 
-#[derive(Clone, Copy)]
-pub enum SealAnswer {
-    // the octets enciphered, and the runs of the cipher
-    Done(u64, u64),
-    Denied(Refusal),
+// What sealing or opening took: the octets enciphered, and the runs of the cipher.
+#[derive(Clone, Copy, Debug, PartialEq, Eq)]
+pub struct Work {
+    pub count: u64,
+    pub runs: u64,
 }
 
-// Counter block `index` of the envelope.
+pub const NO_WORK: Work = Work { count: 0, runs: 0 };
+
+pub type SealAnswer = Result<Work, Refusal>;
+
+// Counter block `index` of the envelope. Octet by octet: stored by `copy_from_slice`, its parts go through memory, and one EQ takes 5 % longer.
 #[tactic(auto, unfolding(crate::specs::CounterBlock::counter_block))]
 pub fn counter_block(nonce: Nonce, index: u64) -> [u8; 16]
     ensures { result ≡ counter_block nonce index }
 {
-    let m = octets::octets48(nonce.mac);
-    let c = octets::octets48(nonce.clock);
-    let k = octets::octets24(index);
+    let m = octets48(nonce.mac);
+    let c = octets48(nonce.clock);
+    let k = octets24(index);
     [
         nonce.channel,
         m[0],
@@ -83,7 +87,7 @@ pub fn data_octet(payload: &[u8], e: u32, j: u8) -> u8
 pub fn ones_in(control: u8) -> u64
     ensures { (result ≡ ones control) × (result ≤ 8) }
 {
-    u8::count_ones(control) as u64
+    u64::from(control.count_ones())
 }
 
 // The octets that sealing enciphers.
@@ -91,10 +95,10 @@ pub fn ones_in(control: u8) -> u64
 pub fn count(payload: &[u8]) -> u64
     ensures { result ≡ count_enciphered payload.now }
 {
-    let eqs = payload.len() / EQ_OCTETS;
-    let mut sum: u64 = 0;
-    for e in 0..eqs {
-        sum += 8 - ones_in(payload[EQ_OCTETS * e]);
+    let (eqs, _) = payload.as_chunks::<EQ_OCTETS>();
+    let mut sum = 0;
+    for eq in eqs {
+        sum += 8 - ones_in(eq[0]);
     }
     sum
 }
@@ -145,15 +149,17 @@ pub fn lengths_fit(n: usize, m: usize) -> bool
     (n % EQ_OCTETS == 0) & ((n <= MAX_OCTETS) & (m == n))
 }
 
-#[tactic(auto, unfolding(crate::specs::Acceptance::seal_verdict))]
+#[tactic(auto, unfolding(crate::specs::Acceptance::seal_verdict, refusal::specs::Order::refuse_if))]
 pub fn seal_verdict(n: usize, m: usize, nonce: Nonce) -> Verdict
     ensures { result ≡ seal_verdict n m nonce }
 {
-    refuse_if(
-        !lengths_fit(n, m),
-        Refusal::BadLength,
-        refuse_if(!nonce_fits(nonce), Refusal::OutOfRange, Verdict::Accepted),
-    )
+    if !lengths_fit(n, m) {
+        return Err(Refusal::BadLength);
+    }
+    if !nonce_fits(nonce) {
+        return Err(Refusal::OutOfRange);
+    }
+    Ok(())
 }
 
 // 0, or the refusal code.
@@ -161,8 +167,8 @@ pub fn seal_number(answer: SealAnswer) -> u8
     ensures { result ≡ seal_number answer }
 {
     match answer {
-        SealAnswer::Done(_, _) => 0,
-        SealAnswer::Denied(refusal) => refusal::number(refusal),
+        Ok(_) => 0,
+        Err(refusal) => u8::from(refusal),
     }
 }
 
@@ -170,18 +176,12 @@ pub fn seal_number(answer: SealAnswer) -> u8
 pub fn seal_count(answer: SealAnswer) -> u64
     ensures { result ≡ seal_count answer }
 {
-    match answer {
-        SealAnswer::Done(count, _) => count,
-        SealAnswer::Denied(_) => 0,
-    }
+    answer.map_or(0, |work| work.count)
 }
 
 // The runs of the cipher, 0 where the call was refused.
 pub fn seal_runs(answer: SealAnswer) -> u64
     ensures { result ≡ seal_runs answer }
 {
-    match answer {
-        SealAnswer::Done(_, runs) => runs,
-        SealAnswer::Denied(_) => 0,
-    }
+    answer.map_or(0, |work| work.runs)
 }

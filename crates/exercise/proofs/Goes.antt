@@ -1,4 +1,5 @@
 -- Each step of a play is a few events that meet the premises and leave both ends as the step does. Assumes nothing.
+use Rattle.std.specs.Prelude.{Ok, Err}
 use mathlib.Core.Path.{◌≡◌, refl, sym, ap, ◌∙◌}
 use mathlib.Core.Bool.{Bool, true, false, not}
 use mathlib.Core.List.{List, [], ◌∷◌, ◌++◌}
@@ -11,8 +12,6 @@ use lib.Seq.{get_or_at}
 use borrow.Author.Tests.{eqb-true, eqb-false}
 use Rattle.octets.specs.Choice.{either, pick}
 use Rattle.octets.proofs.Choice.{both_right, either_false, pick_holds, true_false}
-use Rattle.refusal.specs.declared.Verdict.{Verdict}
-use Rattle.refusal.specs.declared.Verdict.TheVariants.{Accepted, Refused}
 use Rattle.protocol.specs.declared.Acknowledgement.{Acknowledgement}
 use Rattle.protocol.specs.declared.KeyMessage.{KeyMessage}
 use Rattle.ends.specs.declared.Olt.{Olt}
@@ -35,6 +34,7 @@ use Rattle.exercise.specs.declared.Play.{Play}
 use Rattle.exercise.specs.Play.{unit_llid, key_of_step, channel_down, channel_up, with_olt, with_onu, with_clock_answer, with_key_answer, arrives, clock_answered, clock_sent, clock_stepped, key_answered, key_sent, answered, sent_down, sent_up, advanced}
 use Rattle.exercise.specs.Listed.{setting}
 use Rattle.exercise.proofs.Lanes.{no_delay, Given, Latest, Kept, kept_on, clock_given, key_given, clock_none, key_none, key_offered, noted_either, named_either, noted_on, named_on, unit_has}
+use Rattle.refusal.specs.Verdict.{Verdict}
 
 -- the state of a list in which the ends are those of a play, at the tick n, with the one line l
 abbrev pub at : Play → ℕ → ℕ → Lane → State
@@ -60,8 +60,8 @@ last_some xs x = omega (arith, length-append xs (x ∷ []))
 silent : (v : Verdict) (o next : Onu) (h : Acknowledgement) → eqb (onu_acknowledged (reply v o no_acknowledgement next h)).number 0 ≡ false
     → (onu_acknowledged (reply v o no_acknowledgement next h)).acknowledgement.kind ≡ 0
 unfolding onu_acknowledged reply
-silent Accepted o next h e = true_false e
-silent (Refused r) o next h e = refl
+silent (Ok tt) o next h e = true_false e
+silent (Err r) o next h e = refl
 
 silent_clock : (o : Onu) (m : Stamps) → eqb (clock_message_at o m).number 0 ≡ false → (clock_message_at o m).acknowledgement.kind ≡ 0
 unfolding clock_message_at clock_message_to onu_reply
@@ -358,8 +358,8 @@ no_octets (y ∷ ys) e = absurd (omega (arith, e))
 
 nothing_left : (v : Verdict) (xs : List ℕ) → length xs ≡ 0 → output_after v xs [] ≡ []
 unfolding output_after
-nothing_left Accepted xs e = no_octets xs e
-nothing_left (Refused r) xs e = refl
+nothing_left (Ok tt) xs e = no_octets xs e
+nothing_left (Err r) xs e = refl
 
 down_octets : (o : Olt) → (olt_send_of o unit_llid channel_down [] []).output ≡ []
 unfolding olt_send_of olt_sent passed

@@ -11,13 +11,15 @@ use lib.ListN.{get_or}
 use borrow.Author.Tests.{not-false}
 use Rattle.octets.specs.Choice.{both, either, pick}
 use Rattle.octets.specs.Lists.{all}
-use Rattle.octets.proofs.Choice.{pick_holds, both_right}
+use Rattle.octets.proofs.Choice.{both_right}
 use Rattle.exercise.specs.declared.Play.{Play}
+use Rattle.std.specs.Prelude.{Option, Some, None}
+use Rattle.exercise.specs.declared.Kind.{Kind}
+use Rattle.exercise.specs.declared.Kind.TheVariants.{ClockMessage, Offer, Retry, ClockAnswer, KeyAnswer, EnvelopeDown, EnvelopeUp, Advance}
 use Rattle.exercise.specs.declared.Step.{Step}
 use Rattle.exercise.specs.Script.{interval_of, steps_in, step_at, interval_fits, script_verdict}
-use Rattle.exercise.specs.Play.{olt_mac, unit_identity, started, stepped, played_from, played}
+use Rattle.exercise.specs.Play.{olt_mac, unit_identity, started, stepped_by, stepped, played_from, played}
 use Rattle.exercise.specs.Listed.{setting, EveryPlayListed}
-use Rattle.refusal.specs.declared.Verdict.TheVariants.{Accepted}
 use Rattle.protocol.specs.OltCalls.{fresh_olt_of, register_of, registering, olt_answer, register_verdict, valid_registration}
 use Rattle.ends.specs.Identities.{among, meets, distinct, llids_of, valid_mac, valid_identity}
 use Rattle.ends.specs.Occupancy.{valid_channels}
@@ -36,21 +38,25 @@ use Rattle.protocol.specs.OnuCalls.{fresh_onu_of, fresh_onu_verdict, onu_answer}
 use Rattle.refusal.proofs.Order.{refuse_accepted}
 use Rattle.exercise.proofs.Lanes.{Kept, site, noted_on}
 use Rattle.exercise.proofs.Goes.{at, Goes, then, later, stays, clock_stepped-holds, offer_stepped, retry_stepped, answer_stepped, down_stepped, up_stepped, advance_stepped}
+use Rattle.refusal.specs.Verdict.{no_refusal}
 
 -- one step, by its kind
-one : (x : Step) (lost : Bool) (p : Play) (n r k : ℕ) (l : Lane) → Kept l n k p.clock p.key → Goes p n r l (stepped x (suc k) lost p) (suc k)
+by_kind : (kind : Kind) (ticks : ℕ) (lost : Bool) (p : Play) (n r k : ℕ) (l : Lane) → Kept l n k p.clock p.key
+    → Goes p n r l (stepped_by kind ticks (suc k) lost p) (suc k)
+by_kind ClockMessage ticks lost p n r k l h = later (clock_stepped-holds p n r k l h lost)
+by_kind Offer ticks lost p n r k l h = offer_stepped p n r k l h lost
+by_kind Retry ticks lost p n r k l h = later (retry_stepped p n r k l h lost)
+by_kind ClockAnswer ticks lost p n r k l h = later (answer_stepped p n r k l h p.clock lost h.clocks)
+by_kind KeyAnswer ticks lost p n r k l h = later (answer_stepped p n r k l h p.key lost h.keys)
+by_kind EnvelopeDown ticks lost p n r k l h = later (down_stepped p n r k l h lost)
+by_kind EnvelopeUp ticks lost p n r k l h = later (up_stepped p n r k l h lost)
+by_kind Advance ticks lost p n r k l h = later (advance_stepped p n r k l h ticks)
+
+one : (x : Option Step) (lost : Bool) (p : Play) (n r k : ℕ) (l : Lane) → Kept l n k p.clock p.key
+    → Goes p n r l (stepped x (suc k) lost p) (suc k)
 unfolding stepped
-one x lost p n r k l h =
-    pick_holds P _ _ _ (λ _. later (clock_stepped-holds p n r k l h lost))
-    (λ _. pick_holds P _ _ _ (λ _. offer_stepped p n r k l h lost)
-    (λ _. pick_holds P _ _ _ (λ _. later (retry_stepped p n r k l h lost))
-    (λ _. pick_holds P _ _ _ (λ _. later (answer_stepped p n r k l h p.clock lost h.clocks))
-    (λ _. pick_holds P _ _ _ (λ _. later (answer_stepped p n r k l h p.key lost h.keys))
-    (λ _. pick_holds P _ _ _ (λ _. later (down_stepped p n r k l h lost))
-    (λ _. pick_holds P _ _ _ (λ _. later (up_stepped p n r k l h lost))
-    (λ _. pick_holds P _ _ _ (λ _. later (advance_stepped p n r k l h x.ticks)) (λ _. later (stays p n r k l h))))))))) where
-      P : Play → Type 0
-      P z = Goes p n r l z (suc k)
+one (Some x) lost p n r k l h = by_kind x.kind x.ticks lost p n r k l h
+one None lost p n r k l h = later (stays p n r k l h)
 
 -- a play goes on from wherever it has come to
 on : (p q z : Play) (n r j k : ℕ) (l : Lane) → Goes p n r l q j
@@ -114,7 +120,7 @@ fresh = record { olt = olt_made; onus = made } where
   made zero s h = onu_made
   made (suc u) s h = absurd (omega (arith, h))
 
-in_range-holds : (s : List ℕ) → script_verdict s ≡ Accepted → valid_interval (interval_of s) ≡ true
+in_range-holds : (s : List ℕ) → script_verdict s ≡ no_refusal → valid_interval (interval_of s) ≡ true
 unfolding script_verdict interval_fits
 in_range-holds s h = both_right _ _ (not-false _ (refuse_accepted _ _ _ h).0)
 

@@ -1,13 +1,13 @@
 -- Every play is a list of events that meets the premises of demand 3 (02, C-23; 01, The line): so what a script shows is what the
 -- theorem of crate line speaks of. Assumes nothing.
 use Rattle.std.specs.Prelude.{◌≡◌, List, [], ◌∷◌, ℕ}
-use Rattle.refusal.specs.declared.Verdict.TheVariants.{Accepted}
 use Rattle.unicast.specs.Setting.{Setting}
 use Rattle.unicast.specs.Events.{Event, register}
 use Rattle.unicast.specs.Premises.{Fresh, Meets}
 use Rattle.unicast.specs.Run.{start, run, onu_at}
 use Rattle.exercise.specs.Script.{interval_of, script_verdict}
 use Rattle.exercise.specs.Play.{olt_mac, unit_identity, played}
+use Rattle.refusal.specs.Verdict.{no_refusal}
 
 -- one fresh unit, whose delays are 0
 abbrev pub setting : Setting
@@ -24,4 +24,4 @@ pub record Listed (s : List ℕ) (lost : ℕ) : Type 0 where
 
 -- with any step lost, or none
 abbrev pub EveryPlayListed : List ℕ → Type 0
-EveryPlayListed s = script_verdict s ≡ Accepted → (lost : ℕ) → Listed s lost
+EveryPlayListed s = script_verdict s ≡ no_refusal → (lost : ℕ) → Listed s lost

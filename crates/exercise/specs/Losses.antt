@@ -1,14 +1,12 @@
 -- The first step of a script whose loss alone changes the final A, C or a (02, C-23). Assumes nothing.
-use Rattle.std.specs.Prelude.{◌≡◌, Bool, not, List, ℕ, zero, suc, ◌<◌, eqb}
+use Rattle.std.specs.Prelude.{◌≡◌, Bool, not, List, ℕ, zero, suc, ◌<◌, eqb, Option, Some, None, Result, Ok, Err}
 use Rattle.octets.specs.Choice.{both, pick}
-use Rattle.refusal.specs.declared.Verdict.{Verdict}
-use Rattle.refusal.specs.declared.Verdict.TheVariants.{Accepted, Refused}
+use Rattle.refusal.specs.declared.Refusal.{Refusal}
 use Rattle.refusal.specs.Number.{number_of}
 use Rattle.exercise.specs.declared.Figures.{Figures}
-use Rattle.exercise.specs.declared.Answer.{Answer}
-use Rattle.exercise.specs.declared.Answer.TheVariants.{First, None}
 use Rattle.exercise.specs.Script.{steps_in, script_verdict}
 use Rattle.exercise.specs.Play.{played, figures_of}
+use Rattle.refusal.specs.Verdict.{Verdict, no_refusal}
 
 unfoldable pub same_figures : Figures → Figures → Bool
 same_figures x y =
@@ -22,14 +20,18 @@ figures_without s k = figures_of (played s k)
 unfoldable pub matters : List ℕ → ℕ → Bool
 matters s k = not (same_figures (figures_without s 0) (figures_without s k))
 
--- the first that matters of the m steps from step i on
-unfoldable pub first_from : List ℕ → ℕ → ℕ → Answer
-first_from s i zero = None
-first_from s i (suc m) = pick (matters s (suc i)) (First (suc i)) (first_from s (suc i) m)
+-- a step, counted from 1, none where no single loss matters, or the refusal of the script
+abbrev pub Answer : Type 0
+Answer = Result (Option ℕ) Refusal
 
-abbrev pub answer_after : Verdict → Answer → Answer
-answer_after Accepted a = a
-answer_after (Refused r) a = Answer.Refused r
+-- the first that matters of the m steps from step i on
+unfoldable pub first_from : List ℕ → ℕ → ℕ → Option ℕ
+first_from s i zero = None
+first_from s i (suc m) = pick (matters s (suc i)) (Some (suc i)) (first_from s (suc i) m)
+
+abbrev pub answer_after : Verdict → Option ℕ → Answer
+answer_after (Ok tt) a = Ok a
+answer_after (Err r) a = Err r
 
 -- 1, 26, then the first step that matters
 unfoldable pub first_loss : List ℕ → Answer
@@ -38,20 +40,20 @@ first_loss s = answer_after (script_verdict s) (first_from s 0 (steps_in s))
 -- what an answer means, and conversely
 pub record Meant (s : List ℕ) : Type 0 where
   -- none exactly if each single loss leaves all three
-  pub none : first_loss s ≡ None → (k : ℕ) → k < steps_in s → figures_without s (suc k) ≡ figures_without s 0
-  pub harmless : script_verdict s ≡ Accepted → ((k : ℕ) → k < steps_in s → figures_without s (suc k) ≡ figures_without s 0)
-      → first_loss s ≡ None
+  pub none : first_loss s ≡ Ok None → (k : ℕ) → k < steps_in s → figures_without s (suc k) ≡ figures_without s 0
+  pub harmless : script_verdict s ≡ no_refusal → ((k : ℕ) → k < steps_in s → figures_without s (suc k) ≡ figures_without s 0)
+      → first_loss s ≡ Ok None
   -- step k + 1 matters, and no step before it does
-  pub first : (k : ℕ) → first_loss s ≡ First (suc k) → (k < steps_in s) × (matters s (suc k) ≡ Bool.true)
-  pub before : (k j : ℕ) → first_loss s ≡ First (suc k) → j < k → figures_without s (suc j) ≡ figures_without s 0
+  pub first : (k : ℕ) → first_loss s ≡ Ok (Some (suc k)) → (k < steps_in s) × (matters s (suc k) ≡ Bool.true)
+  pub before : (k j : ℕ) → first_loss s ≡ Ok (Some (suc k)) → j < k → figures_without s (suc j) ≡ figures_without s 0
 
 -- the code of an answer, and its step, 0 where there is none
 abbrev pub answer_number : Answer → ℕ
-answer_number (First k) = 0
-answer_number None = 0
-answer_number (Answer.Refused r) = number_of r
+answer_number (Ok (Some k)) = 0
+answer_number (Ok None) = 0
+answer_number (Err r) = number_of r
 
 abbrev pub answer_step : Answer → ℕ
-answer_step (First k) = k
-answer_step None = 0
-answer_step (Answer.Refused r) = 0
+answer_step (Ok (Some k)) = k
+answer_step (Ok None) = 0
+answer_step (Err r) = 0

@@ -1,6 +1,6 @@
 -- How a script is played (02, C-23): each step is made of the calls of both ends, whose definitions these are. Ends are fresh, one unit
 -- is registered, both delays are 0, and envelopes have no EQs and go on channel 0. Assumes nothing.
-use Rattle.std.specs.Prelude.{Bool, not, List, [], ◌∷◌, ℕ, zero, suc, eqb, replicate}
+use Rattle.std.specs.Prelude.{Bool, not, List, [], ◌∷◌, ℕ, zero, suc, eqb, replicate, Option, Some, None}
 use Rattle.octets.specs.Choice.{both, either, pick}
 use Rattle.protocol.specs.declared.Acknowledgement.{Acknowledgement}
 use Rattle.protocol.specs.declared.ClockSent.{ClockSent}
@@ -17,10 +17,12 @@ use Rattle.traffic.specs.declared.OltSent.{OltSent}
 use Rattle.traffic.specs.declared.OnuSent.{OnuSent}
 use Rattle.traffic.specs.Sends.{olt_send_of, onu_send_of}
 use Rattle.traffic.specs.Receipts.{olt_receive_of, onu_receive_of}
+use Rattle.exercise.specs.declared.Kind.{Kind}
+use Rattle.exercise.specs.declared.Kind.TheVariants.{ClockMessage, Offer, Retry, ClockAnswer, KeyAnswer, EnvelopeDown, EnvelopeUp, Advance}
 use Rattle.exercise.specs.declared.Step.{Step}
 use Rattle.exercise.specs.declared.Play.{Play}
 use Rattle.exercise.specs.declared.Figures.{Figures}
-use Rattle.exercise.specs.Script.{interval_of, steps_in, step_at, clock_message, offer, retry, clock_answer, key_answer, envelope_down, envelope_up, advance}
+use Rattle.exercise.specs.Script.{interval_of, steps_in, step_at}
 
 ---- the ends at the start (D101)
 
@@ -120,16 +122,20 @@ abbrev pub channel_up : ℕ
 channel_up = 0x80
 
 -- step k, counted from 1, by its kind
-unfoldable pub stepped : Step → ℕ → Bool → Play → Play
-stepped x k lost p =
-    pick (eqb x.kind clock_message) (clock_stepped p lost)
-    (pick (eqb x.kind offer) (key_sent p (offer_of p.olt unit_llid (key_of_step k)) lost)
-    (pick (eqb x.kind retry) (key_sent p (retry_of p.olt unit_llid) lost)
-    (pick (eqb x.kind clock_answer) (answered p p.clock lost)
-    (pick (eqb x.kind key_answer) (answered p p.key lost)
-    (pick (eqb x.kind envelope_down) (sent_down p (olt_send_of p.olt unit_llid channel_down [] []).answer lost)
-    (pick (eqb x.kind envelope_up) (sent_up p (onu_send_of p.onu unit_llid channel_up [] []).answer lost)
-    (pick (eqb x.kind advance) (advanced p x.ticks) p)))))))
+abbrev pub stepped_by : Kind → ℕ → ℕ → Bool → Play → Play
+stepped_by ClockMessage ticks k lost p = clock_stepped p lost
+stepped_by Offer ticks k lost p = key_sent p (offer_of p.olt unit_llid (key_of_step k)) lost
+stepped_by Retry ticks k lost p = key_sent p (retry_of p.olt unit_llid) lost
+stepped_by ClockAnswer ticks k lost p = answered p p.clock lost
+stepped_by KeyAnswer ticks k lost p = answered p p.key lost
+stepped_by EnvelopeDown ticks k lost p = sent_down p (olt_send_of p.olt unit_llid channel_down [] []).answer lost
+stepped_by EnvelopeUp ticks k lost p = sent_up p (onu_send_of p.onu unit_llid channel_up [] []).answer lost
+stepped_by Advance ticks k lost p = advanced p ticks
+
+-- one of a kind that there is not does nothing
+unfoldable pub stepped : Option Step → ℕ → Bool → Play → Play
+stepped (Some x) k lost p = stepped_by x.kind x.ticks k lost p
+stepped None k lost p = p
 
 -- the m steps from step i on, of which step `lost`, counted from 1, is lost; 0 is none
 unfoldable pub played_from : List ℕ → ℕ → ℕ → ℕ → Play → Play

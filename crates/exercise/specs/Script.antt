@@ -1,14 +1,15 @@
 -- A script of messages and clock advances, and the octets that give it (02, C-23): the timer interval, then nine octets for each
 -- step. Step i has i others before it, so 02's step k is step k - 1 here. Assumes nothing.
-use Rattle.std.specs.Prelude.{Bool, true, not, List, ℕ, zero, suc, ◌+◌, ◌*◌, ◌-◌, ◌/◌, ◌%◌, leb, eqb, length, get_or}
+use Rattle.std.specs.Prelude.{Bool, true, false, not, Option, Some, None, List, [], ◌∷◌, ℕ, zero, suc, ◌+◌, ◌*◌, ◌-◌, ◌/◌, ◌%◌, leb, eqb, length, get_or}
 use Rattle.octets.specs.BigEndian.{number_at}
 use Rattle.octets.specs.Choice.{both, either}
 use Rattle.refusal.specs.declared.Refusal.TheVariants.{OutOfRange, BadScript}
-use Rattle.refusal.specs.declared.Verdict.{Verdict}
-use Rattle.refusal.specs.declared.Verdict.TheVariants.{Accepted}
 use Rattle.refusal.specs.Order.{refuse_if}
 use Rattle.ends.specs.Timers.{valid_interval}
+use Rattle.exercise.specs.declared.Kind.{Kind}
+use Rattle.exercise.specs.declared.Kind.TheVariants.{ClockMessage, Offer, Retry, ClockAnswer, KeyAnswer, EnvelopeDown, EnvelopeUp, Advance}
 use Rattle.exercise.specs.declared.Step.{Step}
+use Rattle.refusal.specs.Verdict.{Verdict, no_refusal}
 
 abbrev pub interval_octets : ℕ
 interval_octets = 8
@@ -20,30 +21,21 @@ step_octets = 9
 abbrev pub most_steps : ℕ
 most_steps = 64
 
--- the kinds of steps
-abbrev pub clock_message : ℕ
-clock_message = 0
+-- the kinds of steps in the order of their octets, from 0
+abbrev pub kinds : List (Option Kind)
+kinds =
+    Some ClockMessage
+    ∷ Some Offer
+    ∷ Some Retry
+    ∷ Some ClockAnswer
+    ∷ Some KeyAnswer
+    ∷ Some EnvelopeDown
+    ∷ Some EnvelopeUp
+    ∷ Some Advance
+    ∷ []
 
-abbrev pub offer : ℕ
-offer = 1
-
-abbrev pub retry : ℕ
-retry = 2
-
-abbrev pub clock_answer : ℕ
-clock_answer = 3
-
-abbrev pub key_answer : ℕ
-key_answer = 4
-
-abbrev pub envelope_down : ℕ
-envelope_down = 5
-
-abbrev pub envelope_up : ℕ
-envelope_up = 6
-
-abbrev pub advance : ℕ
-advance = 7
+abbrev pub kind_of : ℕ → Option Kind
+kind_of octet = get_or kinds octet None
 
 unfoldable pub interval_of : List ℕ → ℕ
 interval_of s = number_at interval_octets s 0
@@ -52,16 +44,29 @@ interval_of s = number_at interval_octets s 0
 unfoldable pub steps_in : List ℕ → ℕ
 steps_in s = (length s - interval_octets) / step_octets
 
-unfoldable pub step_at : List ℕ → ℕ → Step
+-- none of a kind that there is not
+abbrev pub step_of : Option Kind → ℕ → Option Step
+step_of (Some kind) ticks = Some (record { kind = kind; ticks = ticks })
+step_of None ticks = None
+
+unfoldable pub step_at : List ℕ → ℕ → Option Step
 step_at s i =
-    record {
-      kind = get_or s (interval_octets + step_octets * i) 0;
-      ticks = number_at 8 s (interval_octets + step_octets * i + 1);
-    }
+    step_of (kind_of (get_or s (interval_octets + step_octets * i) 0)) (number_at 8 s (interval_octets + step_octets * i + 1))
+
+abbrev pub is_advance : Kind → Bool
+is_advance ClockMessage = false
+is_advance Offer = false
+is_advance Retry = false
+is_advance ClockAnswer = false
+is_advance KeyAnswer = false
+is_advance EnvelopeDown = false
+is_advance EnvelopeUp = false
+is_advance Advance = true
 
 -- a kind that there is, with ticks for an advance alone
-unfoldable pub step_fits : Step → Bool
-step_fits x = both (leb x.kind advance) (either (eqb x.kind advance) (eqb x.ticks 0))
+abbrev pub step_fits : Option Step → Bool
+step_fits (Some x) = either (is_advance x.kind) (eqb x.ticks 0)
+step_fits None = false
 
 -- the m steps from step i on
 unfoldable pub steps_fit : List ℕ → ℕ → ℕ → Bool
@@ -79,4 +84,4 @@ script_fits s =
 
 -- 1, then 26
 unfoldable pub script_verdict : List ℕ → Verdict
-script_verdict s = refuse_if (not (interval_fits s)) OutOfRange (refuse_if (not (script_fits s)) BadScript Accepted)
+script_verdict s = refuse_if (not (interval_fits s)) OutOfRange (refuse_if (not (script_fits s)) BadScript no_refusal)

@@ -6,20 +6,34 @@ mod script;
 mod steps;
 
 ghost use Rattle.std.specs.Prelude.{◌≡◌};
-ghost use Rattle.refusal.specs.declared.Verdict.TheVariants.{Accepted};
 ghost use Rattle.exercise.specs.Script.{steps_in, script_verdict};
 ghost use Rattle.exercise.specs.Play.{played, figures_of};
-ghost use Rattle.exercise.specs.Losses.{same_figures, first_from, first_loss, answer_number, answer_step, Meant};
+ghost use Rattle.exercise.specs.Losses.{first_from, first_loss, answer_number, answer_step, Meant};
 ghost use Rattle.exercise.specs.Listed.{EveryPlayListed};
+ghost use Rattle.refusal.specs.Verdict.{no_refusal};
 
 use ends::{Olt, Onu};
 use protocol::Acknowledgement;
-use refusal::{Refusal, Verdict};
+use refusal::Refusal;
 
-// A step of a script. Kinds: 0 clock message, 1 offer, 2 retry, 3 clock or 4 key acknowledgement, 5 envelope down, 6 up, 7 advance.
+// What a step of a script does, in the order of its octets, from 0.
+#[derive(Clone, Copy, Debug, PartialEq, Eq)]
+pub enum Kind {
+    ClockMessage,
+    Offer,
+    Retry,
+    // an acknowledgement of the latest clock message, or key message
+    ClockAnswer,
+    KeyAnswer,
+    EnvelopeDown,
+    EnvelopeUp,
+    Advance,
+}
+
+// A step of a script; an advance alone has ticks.
 #[derive(Clone, Copy)]
 pub struct Step {
-    pub kind: u8,
+    pub kind: Kind,
     pub ticks: u64,
 }
 
@@ -33,64 +47,44 @@ pub struct Play {
 }
 
 // A, C and a.
-#[derive(Clone, Copy)]
+#[derive(Clone, Copy, PartialEq, Eq)]
 pub struct Figures {
     pub active: u32,
     pub confirmed: u32,
     pub unit: u32,
 }
 
-#[derive(Clone, Copy)]
-pub enum Answer {
-    // this step, counted from 1, is the first whose loss matters
-    First(usize),
-    // no single loss matters
-    None,
-    Refused(Refusal),
-}
-
-#[tactic(auto, unfolding(crate::specs::Losses::same_figures, octets::specs::Choice::both))]
-fn same_figures(x: Figures, y: Figures) -> bool
-    ensures { result ≡ same_figures x y }
-{
-    (x.active == y.active) & ((x.confirmed == y.confirmed) & (x.unit == y.unit))
-}
+// The first step whose loss matters, counted from 1, none where no single loss does, or the refusal of the script.
+pub type Answer = Result<Option<usize>, Refusal>;
 
 // Plays the script without the step `lost`, counted from 1; 0 loses none.
 #[tactic(auto, unfolding(crate::specs::Play::played))]
 fn play_without(s: &[u8], lost: usize) -> Figures
-    requires { script_verdict s.now ≡ Accepted }
+    requires { script_verdict s.now ≡ no_refusal }
     ensures { result ≡ figures_of (played s.now lost) }
 {
     let steps = script::steps_in(s);
     let mut p = steps::start(script::interval(s));
-    let mut i = 0;
-    while i < steps {
-        let x = script::step_at(s, i);
-        let next = steps::step(x, i + 1, i + 1 == lost, p);
-        p = next;
-        i += 1;
+    for i in 0..steps {
+        p = steps::step(script::step_at(s, i), i + 1, i + 1 == lost, p);
     }
     steps::figures(p)
 }
 
 // The first of the steps whose loss matters.
 #[tactic(auto, unfolding(crate::specs::Losses::matters))]
-fn first(s: &[u8]) -> Answer
-    requires { script_verdict s.now ≡ Accepted }
+fn first(s: &[u8]) -> Option<usize>
+    requires { script_verdict s.now ≡ no_refusal }
     ensures { result ≡ first_from s.now 0 (steps_in s.now) }
 {
     let steps = script::steps_in(s);
     let whole = play_without(s, 0);
-    let mut i = 0;
-    while i < steps {
-        let without = play_without(s, i + 1);
-        if !same_figures(whole, without) {
-            return Answer::First(i + 1);
+    for k in 1..=steps {
+        if whole != play_without(s, k) {
+            return Some(k);
         }
-        i += 1;
     }
-    Answer::None
+    None
 }
 
 // The first step of a script whose loss alone changes the final A, C or a: the interval in eight octets, then nine octets a step.
@@ -99,10 +93,8 @@ pub fn first_loss(script: &[u8]) -> Answer
     ensures meant { Meant script.now }
     ensures every_play_listed { EveryPlayListed script.now }
 {
-    match script::verdict(script) {
-        Verdict::Refused(refusal) => Answer::Refused(refusal),
-        Verdict::Accepted => first(script),
-    }
+    script::verdict(script)?;
+    Ok(first(script))
 }
 
 // 0, or the refusal code.
@@ -110,9 +102,8 @@ pub fn number(answer: Answer) -> u8
     ensures { result ≡ answer_number answer }
 {
     match answer {
-        Answer::First(_) => 0,
-        Answer::None => 0,
-        Answer::Refused(refusal) => refusal::number(refusal),
+        Ok(_) => 0,
+        Err(refusal) => u8::from(refusal),
     }
 }
 
@@ -121,8 +112,7 @@ pub fn step_told(answer: Answer) -> usize
     ensures { result ≡ answer_step answer }
 {
     match answer {
-        Answer::First(k) => k,
-        Answer::None => 0,
-        Answer::Refused(_) => 0,
+        Ok(Some(k)) => k,
+        _ => 0,
     }
 }

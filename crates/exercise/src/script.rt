@@ -1,9 +1,9 @@
 // The octets of a script.
 ghost use Rattle.std.specs.Prelude.{◌≡◌, true, ◌+◌, ◌*◌, ◌≤◌, ◌<◌, length};
 ghost use Rattle.octets.specs.BigEndian.{number_at};
-ghost use Rattle.exercise.specs.Script.{interval_octets, step_octets, most_steps, interval_of, steps_in, step_at, step_fits, steps_fit, interval_fits, script_fits, script_verdict};
+ghost use Rattle.exercise.specs.Script.{interval_octets, step_octets, most_steps, interval_of, steps_in, kind_of, step_at, step_fits, steps_fit, interval_fits, script_fits, script_verdict};
 
-use crate::Step;
+use crate::{Kind, Step};
 use octets::number32;
 use refusal::{Refusal, Verdict};
 
@@ -12,8 +12,6 @@ const INTERVAL_OCTETS: usize = 8;
 const STEP_OCTETS: usize = 9;
 
 const MOST_STEPS: usize = 64;
-
-const ADVANCE: u8 = 7;
 
 fn number64(s: &[u8], at: usize) -> u64
     requires { at + 8 ≤ length s.now }
@@ -38,36 +36,47 @@ pub(crate) fn steps_in(s: &[u8]) -> usize
     (s.len() - INTERVAL_OCTETS) / STEP_OCTETS
 }
 
+fn kind_of(octet: u8) -> Option<Kind>
+    ensures { result ≡ kind_of octet }
+{
+    match octet {
+        0 => Some(Kind::ClockMessage),
+        1 => Some(Kind::Offer),
+        2 => Some(Kind::Retry),
+        3 => Some(Kind::ClockAnswer),
+        4 => Some(Kind::KeyAnswer),
+        5 => Some(Kind::EnvelopeDown),
+        6 => Some(Kind::EnvelopeUp),
+        7 => Some(Kind::Advance),
+        _ => None,
+    }
+}
+
 #[tactic(auto, unfolding(crate::specs::Script::step_at))]
-pub(crate) fn step_at(s: &[u8], i: usize) -> Step
+pub(crate) fn step_at(s: &[u8], i: usize) -> Option<Step>
     requires { (i < most_steps) × (interval_octets + step_octets * (i + 1) ≤ length s.now) }
     ensures { result ≡ step_at s.now i }
 {
     let at = INTERVAL_OCTETS + STEP_OCTETS * i;
-    let kind = s[at];
     let ticks = number64(s, at + 1);
-    Step { kind, ticks }
+    kind_of(s[at]).map(|kind| Step { kind, ticks })
 }
 
-#[tactic(auto, unfolding(crate::specs::Script::step_fits, octets::specs::Choice::both, octets::specs::Choice::either))]
-fn step_fits(x: Step) -> bool
+#[tactic(auto, unfolding(octets::specs::Choice::either))]
+fn step_fits(x: Option<Step>) -> bool
     ensures { result ≡ step_fits x }
 {
-    (x.kind <= ADVANCE) & ((x.kind == ADVANCE) | (x.ticks == 0))
+    match x {
+        Some(x) => matches!(x.kind, Kind::Advance) | (x.ticks == 0),
+        None => false,
+    }
 }
 
 fn steps_fit(s: &[u8], steps: usize) -> bool
     requires { (steps ≤ most_steps) × (interval_octets + step_octets * steps ≤ length s.now) }
     ensures { result ≡ steps_fit s.now 0 steps }
 {
-    let mut i = 0;
-    while i < steps {
-        if !step_fits(step_at(s, i)) {
-            return false;
-        }
-        i += 1;
-    }
-    true
+    (0..steps).all(|i| step_fits(step_at(s, i)))
 }
 
 #[tactic(auto, unfolding(crate::specs::Script::interval_fits, octets::specs::Choice::both))]
@@ -100,10 +109,10 @@ pub(crate) fn verdict(s: &[u8]) -> Verdict
     ensures { result ≡ script_verdict s.now }
 {
     if !interval_fits(s) {
-        return Verdict::Refused(Refusal::OutOfRange);
+        return Err(Refusal::OutOfRange);
     }
     if !script_fits(s) {
-        return Verdict::Refused(Refusal::BadScript);
+        return Err(Refusal::BadScript);
     }
-    Verdict::Accepted
+    Ok(())
 }

@@ -5,7 +5,7 @@ ghost use Rattle.exercise.specs.Play.{unit_identity, unit_llid, channel_down, ch
 ghost use Rattle.protocol.specs.Messages.{no_acknowledgement};
 ghost use Rattle.traffic.specs.Sends.{olt_send_of, onu_send_of};
 
-use crate::{Figures, Play, Step};
+use crate::{Figures, Kind, Play, Step};
 use ends::Identity;
 use protocol::{Acknowledgement, KeySent};
 
@@ -44,15 +44,11 @@ pub(crate) fn start(interval: u64) -> Play
     let head = olt::fresh(OLT_MAC, 0);
     let registered = olt::register(head.olt, unit_identity(), 0, interval);
     let unit = onu::fresh(unit_identity(), OLT_MAC, 0);
-    let olt = registered.olt;
-    let onu = unit.onu;
-    let clock = no_answer();
-    let key = no_answer();
     Play {
-        olt,
-        onu,
-        clock,
-        key,
+        olt: registered.olt,
+        onu: unit.onu,
+        clock: no_answer(),
+        key: no_answer(),
     }
 }
 
@@ -79,19 +75,15 @@ fn clock_step(p: Play, lost: bool) -> Play
 {
     let captured = olt::capture(p.olt, UNIT_LLID);
     let sent = olt::clock_send(captured.olt, UNIT_LLID);
-    let olt = sent.olt;
     let mut r = p;
-    r.olt = olt;
+    r.olt = sent.olt;
     if arrives(sent.number, lost) {
         let got = onu::clock_message(p.onu, sent.message);
-        let onu = got.onu;
-        let clock = got.acknowledgement;
-        r.onu = onu;
-        r.clock = clock;
-        return r;
+        r.onu = got.onu;
+        r.clock = got.acknowledgement;
+    } else {
+        r.clock = no_answer();
     }
-    let clock = no_answer();
-    r.clock = clock;
     r
 }
 
@@ -100,19 +92,15 @@ fn clock_step(p: Play, lost: bool) -> Play
 fn key_step(p: Play, sent: KeySent, lost: bool) -> Play
     ensures { result ≡ key_sent p sent lost }
 {
-    let olt = sent.olt;
     let mut r = p;
-    r.olt = olt;
+    r.olt = sent.olt;
     if arrives(sent.number, lost) {
         let got = onu::key_message(p.onu, sent.message);
-        let onu = got.onu;
-        let key = got.acknowledgement;
-        r.onu = onu;
-        r.key = key;
-        return r;
+        r.onu = got.onu;
+        r.key = got.acknowledgement;
+    } else {
+        r.key = no_answer();
     }
-    let key = no_answer();
-    r.key = key;
     r
 }
 
@@ -125,27 +113,23 @@ fn answer_step(p: Play, answer: Acknowledgement, lost: bool) -> Play
         return p;
     }
     let taken = olt::acknowledge(p.olt, UNIT_LLID, answer);
-    let olt = taken.olt;
     let mut r = p;
-    r.olt = olt;
+    r.olt = taken.olt;
     r
 }
 
+// An envelope down; the one up is like it, but for calls and answers of other types: one function of both would take a call to send
+// and one to receive as closures, each with its contract, and be no plainer.
 #[tactic(auto, unfolding(crate::specs::Play::sent_down, crate::specs::Play::with_onu, crate::specs::Play::with_olt, octets::specs::Choice::pick))]
 fn down_step(p: Play, lost: bool) -> Play
     ensures { result ≡ sent_down p (olt_send_of p.olt unit_llid channel_down [] []).answer lost }
 {
-    let mut sealed = [0u8; 1];
-    let mut opened = [0u8; 1];
-    let sent = traffic::olt_send(p.olt, UNIT_LLID, DOWN, &opened[0..0], &mut sealed[0..0]);
-    let olt = sent.olt;
+    let sent = traffic::olt_send(p.olt, UNIT_LLID, DOWN, &[], &mut []);
     let mut r = p;
-    r.olt = olt;
+    r.olt = sent.olt;
     if arrives(sent.number, lost) {
-        let got = traffic::onu_receive(p.onu, sent.header, &sealed[0..0], &mut opened[0..0]);
-        let onu = got.onu;
-        r.onu = onu;
-        return r;
+        let got = traffic::onu_receive(p.onu, sent.header, &[], &mut []);
+        r.onu = got.onu;
     }
     r
 }
@@ -154,17 +138,12 @@ fn down_step(p: Play, lost: bool) -> Play
 fn up_step(p: Play, lost: bool) -> Play
     ensures { result ≡ sent_up p (onu_send_of p.onu unit_llid channel_up [] []).answer lost }
 {
-    let mut sealed = [0u8; 1];
-    let mut opened = [0u8; 1];
-    let sent = traffic::onu_send(p.onu, UNIT_LLID, UP, &opened[0..0], &mut sealed[0..0]);
-    let onu = sent.onu;
+    let sent = traffic::onu_send(p.onu, UNIT_LLID, UP, &[], &mut []);
     let mut r = p;
-    r.onu = onu;
+    r.onu = sent.onu;
     if arrives(sent.number, lost) {
-        let got = traffic::olt_receive(p.olt, sent.header, &sealed[0..0], &mut opened[0..0]);
-        let olt = got.olt;
-        r.olt = olt;
-        return r;
+        let got = traffic::olt_receive(p.olt, sent.header, &[], &mut []);
+        r.olt = got.olt;
     }
     r
 }
@@ -173,33 +152,30 @@ fn up_step(p: Play, lost: bool) -> Play
 fn advance_step(p: Play, ticks: u64) -> Play
     ensures { result ≡ advanced p ticks }
 {
-    let down = olt::advance(p.olt, ticks);
-    let up = onu::advance(p.onu, ticks);
-    let olt = down.olt;
-    let onu = up.onu;
     let mut r = p;
-    r.olt = olt;
-    r.onu = onu;
+    r.olt = olt::advance(p.olt, ticks).olt;
+    r.onu = onu::advance(p.onu, ticks).onu;
     r
 }
 
 // Step k, counted from 1, by its kind.
-#[tactic(auto, unfolding(crate::specs::Play::stepped, octets::specs::Choice::pick))]
-pub(crate) fn step(x: Step, k: usize, lost: bool, p: Play) -> Play
+#[tactic(auto, unfolding(crate::specs::Play::stepped))]
+pub(crate) fn step(x: Option<Step>, k: usize, lost: bool, p: Play) -> Play
     requires { k ≤ most_steps }
     ensures { result ≡ stepped x k lost p }
 {
-    let kind = x.kind;
-    match kind {
-        0 => clock_step(p, lost),
-        1 => key_step(p, olt::offer(p.olt, UNIT_LLID, key_of_step(k)), lost),
-        2 => key_step(p, olt::retry(p.olt, UNIT_LLID), lost),
-        3 => answer_step(p, p.clock, lost),
-        4 => answer_step(p, p.key, lost),
-        5 => down_step(p, lost),
-        6 => up_step(p, lost),
-        7 => advance_step(p, x.ticks),
-        _ => p,
+    match x {
+        Some(Step { kind, ticks }) => match kind {
+            Kind::ClockMessage => clock_step(p, lost),
+            Kind::Offer => key_step(p, olt::offer(p.olt, UNIT_LLID, key_of_step(k)), lost),
+            Kind::Retry => key_step(p, olt::retry(p.olt, UNIT_LLID), lost),
+            Kind::ClockAnswer => answer_step(p, p.clock, lost),
+            Kind::KeyAnswer => answer_step(p, p.key, lost),
+            Kind::EnvelopeDown => down_step(p, lost),
+            Kind::EnvelopeUp => up_step(p, lost),
+            Kind::Advance => advance_step(p, ticks),
+        },
+        None => p,
     }
 }
 
@@ -207,8 +183,7 @@ pub(crate) fn step(x: Step, k: usize, lost: bool, p: Play) -> Play
 pub(crate) fn figures(p: Play) -> Figures
     ensures { result ≡ figures_of p }
 {
-    let olt = p.olt;
-    let unit = olt.units[0];
+    let unit = p.olt.units[0];
     Figures {
         active: unit.keys.active,
         confirmed: unit.confirmation.confirmed,

@@ -1,4 +1,5 @@
 -- Where a group stands that was found, and that it is found where it stands. Assumes nothing.
+use Rattle.std.specs.Prelude.{Some}
 use mathlib.Core.Path.{◌≡◌, sym, ◌∙◌, ap}
 use mathlib.Core.Bool.{true}
 use Prim.Native.Nat.{ℕ, ◌-◌, ◌<◌}
@@ -6,7 +7,6 @@ use native.Mathlib.Omega.{arith}
 use lib.ListN.{length, get_or, length-map, length-take, get_or-map}
 use lib.Seq.{get_or-take}
 use Rattle.ends.specs.Identities.{distinct}
-use Rattle.ends.specs.declared.Found.TheVariants.{At}
 use Rattle.group_protocol.specs.Head.{registered_groups, group_llids, find_group, past_group, group_at}
 use Rattle.group_protocol.specs.Members.{place_from}
 use Rattle.group_protocol.specs.declared.GroupRecord.{GroupRecord}
@@ -30,7 +30,7 @@ llids_length : (h : HeadEnd) → length (group_llids (registered_groups h)) ≡ 
 unfolding group_llids
 llids_length h = length-map (registered_groups h) (λ (g : GroupRecord). g.llid)
 
-pub group_at-holds : (h : HeadEnd) (llid i : ℕ) → find_group h llid ≡ At i → Stands h llid i
+pub group_at-holds : (h : HeadEnd) (llid i : ℕ) → find_group h llid ≡ Some i → Stands h llid i
 unfolding find_group
 group_at-holds h llid i e =
     let gs = registered_groups h in
@@ -45,7 +45,7 @@ group_at-holds h llid i e =
     }
 
 -- where no two groups have one LLID, each is found where it stands
-pub group_own : (h : HeadEnd) (llid i : ℕ) → distinct (group_llids (registered_groups h)) ≡ true → Stands h llid i → find_group h llid ≡ At i
+pub group_own : (h : HeadEnd) (llid i : ℕ) → distinct (group_llids (registered_groups h)) ≡ true → Stands h llid i → find_group h llid ≡ Some i
 unfolding find_group
 group_own h llid i d s =
     let gs = registered_groups h in
@@ -53,4 +53,4 @@ group_own h llid i d s =
     group_place 0 gs llid
     ∙ ap (place_from 0 (group_llids gs)) (sym (llid_at-holds h i s.used ∙ s.has))
     ∙ place_own 0 (group_llids gs) i 0 d below
-    ∙ ap At (omega arith)
+    ∙ ap Some (omega arith)

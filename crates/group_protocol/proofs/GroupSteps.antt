@@ -1,4 +1,5 @@
 -- A valid group stays valid: after each call on it, as time passes, and as units come. Assumes nothing.
+use Rattle.std.specs.Prelude.{Option, Some, None}
 use mathlib.Core.Path.{◌≡◌, refl}
 use mathlib.Core.Bool.{Bool, true}
 use mathlib.Core.List.{List, [], ◌∷◌}
@@ -12,8 +13,6 @@ use Rattle.octets.proofs.Choice.{both_left, both_right, both_true}
 use Rattle.octets.proofs.Tests.{all_weaker}
 use Rattle.ends.specs.Records.{with_first, with_slots, with_timer}
 use Rattle.ends.specs.Timers.{valid_interval}
-use Rattle.ends.specs.declared.Found.{Found}
-use Rattle.ends.specs.declared.Found.TheVariants.{At, Nowhere}
 use Rattle.ends.proofs.Keys.{first_later_valid, first_none_valid, first_noted_valid, first_send_valid}
 use Rattle.ends.proofs.Timers.{timer_advanced_valid, timer_fallen_valid, timer_fresh_valid}
 use Rattle.protocol.specs.UnitCalls.{keys_offered}
@@ -85,10 +84,10 @@ module _ (units : ℕ) (m : Members) (v : valid_members units m ≡ true) where
 
 ---- the group
 
-pub marked_llid : (g : GroupRecord) (member : Found) → (group_marked g member).llid ≡ g.llid
+pub marked_llid : (g : GroupRecord) (member : Option ℕ) → (group_marked g member).llid ≡ g.llid
 unfolding group_marked with_members
-marked_llid g Nowhere = refl
-marked_llid g (At j) = refl
+marked_llid g None = refl
+marked_llid g (Some j) = refl
 
 pub advanced_llid : (n : ℕ) (g : GroupRecord) → (group_advanced n g).llid ≡ g.llid
 unfolding group_advanced with_group_keys
@@ -104,10 +103,10 @@ module _ (tick units : ℕ) (g : GroupRecord) (v : valid_group tick units g ≡ 
   unfolding group_offered with_group_keys with_members keys_offered
   group_offered_valid key = let r = group_in_range tick units g v in group_valid tick units _ (search (unmarked_valid, arith))
 
-  pub group_marked_valid : (member : Found) → valid_group tick units (group_marked g member) ≡ true
+  pub group_marked_valid : (member : Option ℕ) → valid_group tick units (group_marked g member) ≡ true
   unfolding group_marked with_members
-  group_marked_valid Nowhere = v
-  group_marked_valid (At j) = let r = group_in_range tick units g v in group_valid tick units _ (search marked_valid)
+  group_marked_valid None = v
+  group_marked_valid (Some j) = let r = group_in_range tick units g v in group_valid tick units _ (search marked_valid)
 
   pub group_sent_valid : (choice : KeyChoice) → valid_group tick units (with_group_keys g (group_keys_after_send choice g.keys tick)) ≡ true
   unfolding with_group_keys group_keys_after_send wiped_at_switch keys_after_send with_first keys_switched with_slots

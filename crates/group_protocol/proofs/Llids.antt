@@ -1,4 +1,5 @@
 -- The LLIDs of groups as lists of numbers: where one stands, and one more. Assumes nothing.
+use Rattle.std.specs.Prelude.{Option, Some, None}
 use mathlib.Core.Path.{◌≡◌, refl, sym, ◌∙◌, ap}
 use mathlib.Core.Bool.{true, false}
 use mathlib.Core.List.{List, [], ◌∷◌, ◌++◌}
@@ -9,8 +10,6 @@ use Rattle.octets.specs.Choice.{pick}
 use Rattle.octets.proofs.Choice.{either_none, either_false}
 use Rattle.octets.proofs.Maps.{map_take}
 use Rattle.ends.specs.Identities.{among, meets}
-use Rattle.ends.specs.declared.Found.{Found}
-use Rattle.ends.specs.declared.Found.TheVariants.{At, Nowhere}
 use Rattle.group_protocol.specs.GroupCalls.{is_found}
 use Rattle.group_protocol.specs.Head.{group_from, group_llids}
 use Rattle.group_protocol.specs.Members.{place_from}
@@ -21,19 +20,19 @@ use Rattle.group_protocol.proofs.Places.{place_among, place_absent}
 pub group_place : (i : ℕ) (gs : List GroupRecord) (llid : ℕ) → group_from i gs llid ≡ place_from i (group_llids gs) llid
 unfolding group_from place_from group_llids
 group_place i [] llid = refl
-group_place i (g ∷ gs) llid = ap (pick (eqb g.llid llid) (At i)) (group_place (suc i) gs llid)
+group_place i (g ∷ gs) llid = ap (pick (eqb g.llid llid) (Some i)) (group_place (suc i) gs llid)
 
-pub group_found : (i : ℕ) (gs : List GroupRecord) (llid j : ℕ) → group_from i gs llid ≡ At j → among llid (group_llids gs) ≡ true
+pub group_found : (i : ℕ) (gs : List GroupRecord) (llid j : ℕ) → group_from i gs llid ≡ Some j → among llid (group_llids gs) ≡ true
 group_found i gs llid j e = place_among i llid (group_llids gs) j (sym (group_place i gs llid) ∙ e)
 
-pub group_nowhere : (i : ℕ) (gs : List GroupRecord) (llid : ℕ) → group_from i gs llid ≡ Nowhere → among llid (group_llids gs) ≡ false
+pub group_nowhere : (i : ℕ) (gs : List GroupRecord) (llid : ℕ) → group_from i gs llid ≡ None → among llid (group_llids gs) ≡ false
 group_nowhere i gs llid e = place_absent i llid (group_llids gs) (sym (group_place i gs llid) ∙ e)
 
 -- the group that is found tells whether there is one
-pub found_among : (gs : List GroupRecord) (llid : ℕ) (f : Found) → f ≡ group_from 0 gs llid → is_found f ≡ among llid (group_llids gs)
+pub found_among : (gs : List GroupRecord) (llid : ℕ) (f : Option ℕ) → f ≡ group_from 0 gs llid → is_found f ≡ among llid (group_llids gs)
 unfolding is_found
-found_among gs llid (At j) e = sym (group_found 0 gs llid j (sym e))
-found_among gs llid Nowhere e = sym (group_nowhere 0 gs llid (sym e))
+found_among gs llid (Some j) e = sym (group_found 0 gs llid j (sym e))
+found_among gs llid None e = sym (group_nowhere 0 gs llid (sym e))
 
 pub llids_append : (a b : List GroupRecord) → group_llids (a ++ b) ≡ group_llids a ++ group_llids b
 unfolding group_llids

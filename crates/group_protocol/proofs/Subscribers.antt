@@ -1,4 +1,5 @@
 -- Laws of a subscriber: the group that a call names, and what keeps a subscriber valid. Assumes nothing.
+use Rattle.std.specs.Prelude.{Some}
 use mathlib.Core.Path.{◌≡◌, refl, sym, ◌∙◌, ap}
 use mathlib.Core.Bool.{true, false}
 use mathlib.Core.List.{List, [], ◌∷◌, ◌++◌, map-append}
@@ -14,7 +15,6 @@ use Rattle.octets.proofs.Tests.{all_one, all_set, all_append}
 use Rattle.ends.specs.Identities.{among, distinct, meets, llids_of}
 use Rattle.ends.specs.Validity.{valid_onu_keys, valid_onu}
 use Rattle.ends.specs.declared.Onu.{Onu}
-use Rattle.ends.specs.declared.Found.TheVariants.{At}
 use Rattle.ends.proofs.Identities.{distinct_more}
 use Rattle.ends.proofs.Validity.{facts, tests}
 use Rattle.group_protocol.specs.Limits.{max_joined}
@@ -32,7 +32,7 @@ pub record JoinedPlace (s : Subscriber) (llid i : ℕ) : Type 0 where
   pub placed : i < length s.memberships.table
   pub has : (joined_at s i).llid ≡ llid
 
-pub found_place : (s : Subscriber) (llid i : ℕ) → find_joined s llid ≡ At i → JoinedPlace s llid i
+pub found_place : (s : Subscriber) (llid i : ℕ) → find_joined s llid ≡ Some i → JoinedPlace s llid i
 unfolding find_joined joined_llids past_joined
 found_place s llid i e =
     let m = place_at 0 (joined_llids (joined_groups s)) llid i e in
@@ -76,13 +76,13 @@ unfolding valid_subscriber
 valid_both s u m = both_true u m
 
 -- a group that a valid subscriber joined is valid
-pub found_valid : (s : Subscriber) (llid i : ℕ) → valid_memberships s ≡ true → find_joined s llid ≡ At i → valid_joined (joined_at s i) ≡ true
+pub found_valid : (s : Subscriber) (llid i : ℕ) → valid_memberships s ≡ true → find_joined s llid ≡ Some i → valid_joined (joined_at s i) ≡ true
 found_valid s llid i v e =
     let p = found_place s llid i e in
     all_one valid_joined s.memberships.count s.memberships.table past_joined (memberships_valid s v).each i p.used p.placed
 
 -- and stands at one of the places
-pub found_below-holds : (s : Subscriber) (llid i : ℕ) → valid_memberships s ≡ true → find_joined s llid ≡ At i → i < max_joined
+pub found_below-holds : (s : Subscriber) (llid i : ℕ) → valid_memberships s ≡ true → find_joined s llid ≡ Some i → i < max_joined
 found_below-holds s llid i v e = omega (arith, (found_place s llid i e).used, (memberships_valid s v).few)
 
 ---- one group replaced, or more by one

@@ -1,11 +1,9 @@
 -- The calls of the OLT on one group (02, C-14). A group has no C: an offer needs O = A, and a switch waits for the timer alone. Assumes
 -- nothing.
-use Rattle.std.specs.Prelude.{Bool, true, false, not, List, ℕ, ◌+◌, leb, ltb, eqb}
+use Rattle.std.specs.Prelude.{Bool, true, false, not, List, ℕ, ◌+◌, leb, ltb, eqb, Option, Some, None}
 use Rattle.octets.specs.Choice.{both, pick}
 use Rattle.octets.specs.Lists.{all, same}
 use Rattle.refusal.specs.declared.Refusal.TheVariants.{UnknownLlid, ClockNotSet, OfferPending, SameKey, NothingOutstanding, AtEnd}
-use Rattle.refusal.specs.declared.Verdict.{Verdict}
-use Rattle.refusal.specs.declared.Verdict.TheVariants.{Accepted}
 use Rattle.refusal.specs.Order.{refuse_if}
 use Rattle.ends.specs.Limits.{max_key_number}
 use Rattle.ends.specs.Flags.{is_up}
@@ -18,8 +16,6 @@ use Rattle.ends.specs.declared.Channels.{Channels}
 use Rattle.ends.specs.declared.UnitKeys.{UnitKeys}
 use Rattle.ends.specs.declared.Shared.{Shared}
 use Rattle.ends.specs.declared.Olt.{Olt}
-use Rattle.ends.specs.declared.Found.{Found}
-use Rattle.ends.specs.declared.Found.TheVariants.{At, Nowhere}
 use Rattle.protocol.specs.Messages.{clock_kind, key_kind}
 use Rattle.protocol.specs.Replies.{Silence, silent}
 use Rattle.protocol.specs.UnitCalls.{keys_offered, key_message_of, retry_verdict}
@@ -34,6 +30,7 @@ use Rattle.group_protocol.specs.Head.{with_group_keys, with_members}
 use Rattle.group_protocol.specs.declared.Members.{Members}
 use Rattle.group_protocol.specs.declared.GroupRecord.{GroupRecord}
 use Rattle.group_protocol.specs.declared.Answer.{Answer}
+use Rattle.refusal.specs.Verdict.{Verdict, no_refusal}
 
 -- a call on one group: its verdict and, where that accepts, the group and the channels after it and what it hands over
 pub record GroupOutcome (H : Type 0) : Type 0 where
@@ -61,7 +58,7 @@ group_offer_verdict set k key =
     refuse_if (not set) ClockNotSet
     (refuse_if (ltb k.active k.offered) OfferPending
     (refuse_if (both (leb 1 k.active) (same key (key_in k.slots k.active))) SameKey
-    (refuse_if (leb max_key_number k.active) AtEnd Accepted)))
+    (refuse_if (leb max_key_number k.active) AtEnd no_refusal)))
 
 -- a new offer clears all marks
 unfoldable pub group_offered : GroupRecord → List ℕ → GroupRecord
@@ -80,34 +77,34 @@ retry_group llid s g = group_outcome s (retry_verdict g.keys) g (key_message_of 
 ---- acknowledgement: 2 for the clock kind, as every clock call on a group's LLID, then 8
 
 -- which member the unit is that was found
-unfoldable pub member_found : Members → Found → Found
-member_found m Nowhere = Nowhere
-member_found m (At place) = member_at m place
+unfoldable pub member_found : Members → Option ℕ → Option ℕ
+member_found m None = None
+member_found m (Some place) = member_at m place
 
 -- the member that the answer names, by any LLID of its unit
-unfoldable pub member_named : Olt → Members → Answer → Found
-member_named o m a = pick (is_up a.named) (member_found m (find o a.unit)) Nowhere
+unfoldable pub member_named : Olt → Members → Answer → Option ℕ
+member_named o m a = pick (is_up a.named) (member_found m (find o a.unit)) None
 
 -- it is of the key kind, and its number is O, which is 1 or more
 unfoldable pub answers_offer : UnitKeys → Answer → Bool
 answers_offer k a = both (eqb a.kind key_kind) (both (leb 1 a.number) (eqb a.number k.offered))
 
-unfoldable pub is_found : Found → Bool
-is_found Nowhere = false
-is_found (At j) = true
+unfoldable pub is_found : Option ℕ → Bool
+is_found None = false
+is_found (Some j) = true
 
-unfoldable pub group_acknowledge_verdict : Answer → Found → UnitKeys → Verdict
+unfoldable pub group_acknowledge_verdict : Answer → Option ℕ → UnitKeys → Verdict
 group_acknowledge_verdict a member k =
     refuse_if (eqb a.kind clock_kind) UnknownLlid
-    (refuse_if (not (both (is_found member) (answers_offer k a))) NothingOutstanding Accepted)
+    (refuse_if (not (both (is_found member) (answers_offer k a))) NothingOutstanding no_refusal)
 
 -- the member has acknowledged
-unfoldable pub group_marked : GroupRecord → Found → GroupRecord
-group_marked g Nowhere = g
-group_marked g (At j) = with_members g (marked g.members j)
+unfoldable pub group_marked : GroupRecord → Option ℕ → GroupRecord
+group_marked g None = g
+group_marked g (Some j) = with_members g (marked g.members j)
 
 -- marks the member that it names
-unfoldable pub acknowledge_group : Answer → Found → Shared → GroupRecord → GroupOutcome Silence
+unfoldable pub acknowledge_group : Answer → Option ℕ → Shared → GroupRecord → GroupOutcome Silence
 acknowledge_group a member s g = group_outcome s (group_acknowledge_verdict a member g.keys) (group_marked g member) silent
 
 ---- send: 12, 13

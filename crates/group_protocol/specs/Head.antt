@@ -1,6 +1,6 @@
 -- The groups of an OLT, and when a head end is valid (02, C-14: a group takes a unit's place among the sixteen, has one LLID). Assumes
 -- nothing.
-use Rattle.std.specs.Prelude.{Bool, not, List, [], ◌∷◌, map, ℕ, suc, ◌+◌, leb, eqb, take, get_or, set, replicate}
+use Rattle.std.specs.Prelude.{Bool, not, List, [], ◌∷◌, map, ℕ, suc, ◌+◌, leb, eqb, take, get_or, set, replicate, Option, Some, None}
 use Rattle.octets.specs.Choice.{both, pick}
 use Rattle.octets.specs.Lists.{all}
 use Rattle.ends.specs.Limits.{max_units}
@@ -13,8 +13,6 @@ use Rattle.ends.specs.Validity.{valid_keys, valid_olt}
 use Rattle.ends.specs.declared.Channels.{Channels}
 use Rattle.ends.specs.declared.UnitKeys.{UnitKeys}
 use Rattle.ends.specs.declared.Olt.{Olt}
-use Rattle.ends.specs.declared.Found.{Found}
-use Rattle.ends.specs.declared.Found.TheVariants.{At, Nowhere}
 use Rattle.group_protocol.specs.Members.{fresh_members, valid_members}
 use Rattle.group_protocol.specs.declared.Members.{Members}
 use Rattle.group_protocol.specs.declared.GroupRecord.{GroupRecord}
@@ -56,11 +54,11 @@ abbrev pub is_group : HeadEnd → ℕ → Bool
 is_group h llid = among llid (group_llids (registered_groups h))
 
 -- the first group that has the LLID, its place counted from i
-unfoldable pub group_from : ℕ → List GroupRecord → ℕ → Found
-group_from i [] llid = Nowhere
-group_from i (g ∷ gs) llid = pick (eqb g.llid llid) (At i) (group_from (suc i) gs llid)
+unfoldable pub group_from : ℕ → List GroupRecord → ℕ → Option ℕ
+group_from i [] llid = None
+group_from i (g ∷ gs) llid = pick (eqb g.llid llid) (Some i) (group_from (suc i) gs llid)
 
-unfoldable pub find_group : HeadEnd → ℕ → Found
+unfoldable pub find_group : HeadEnd → ℕ → Option ℕ
 find_group h llid = group_from 0 (registered_groups h) llid
 
 -- what stands for a group past the end of the list

@@ -4,8 +4,6 @@ use Rattle.std.specs.Prelude.{Bool, not, ℕ, ◌+◌, ◌-◌, ◌%◌, leb, lt
 use Rattle.octets.specs.Choice.{both, either, pick}
 use Rattle.octets.specs.Lists.{same}
 use Rattle.refusal.specs.declared.Refusal.TheVariants.{OutOfRange, ClockNotSet, NothingOutstanding, NoKey, EpamDiffers, ClearEnvelope, BadLength}
-use Rattle.refusal.specs.declared.Verdict.{Verdict}
-use Rattle.refusal.specs.declared.Verdict.TheVariants.{Accepted}
 use Rattle.refusal.specs.Order.{refuse_if}
 use Rattle.clock.specs.Ticks.{epam_of}
 use Rattle.envelope.specs.Channels.{downstream}
@@ -24,6 +22,7 @@ use Rattle.protocol.specs.declared.KeyChoice.TheVariants.{Clear, Current, Next, 
 use Rattle.protocol.specs.declared.Passage.{Passage}
 use Rattle.group_protocol.specs.declared.Answer.{Answer}
 use Rattle.group_protocol.specs.declared.Joined.{Joined}
+use Rattle.refusal.specs.Verdict.{Verdict, no_refusal}
 
 -- a call on one joined group: its verdict and, where that accepts, the group after it and what it hands over
 pub record JoinedOutcome (H : Type 0) : Type 0 where
@@ -52,7 +51,7 @@ new_number j m = both (leb m.number max_key_number) (ltb (highest_held j) m.numb
 unfoldable pub joined_message_verdict : OnuClock → Joined → KeyMessage → Verdict
 joined_message_verdict c j m =
     refuse_if (not (is_up c.synced)) ClockNotSet
-    (refuse_if (not (either (new_number j m) (held_again j m))) NothingOutstanding Accepted)
+    (refuse_if (not (either (new_number j m) (held_again j m))) NothingOutstanding no_refusal)
 
 -- number n tells that n - 1 is in use: its key stays if it is held, all older ones are forgotten, and key n is held
 unfoldable pub joined_taken : Joined → KeyMessage → Joined

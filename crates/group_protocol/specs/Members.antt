@@ -1,10 +1,8 @@
 -- The members of a group (02, C-14: 1 to 8 registered units as members; one acknowledgement per member). Assumes nothing.
-use Rattle.std.specs.Prelude.{Bool, List, [], ◌∷◌, ℕ, suc, leb, ltb, eqb, get_or, set, replicate}
+use Rattle.std.specs.Prelude.{Bool, List, [], ◌∷◌, ℕ, suc, leb, ltb, eqb, get_or, set, replicate, Option, Some, None}
 use Rattle.octets.specs.Choice.{both, pick}
 use Rattle.octets.specs.Lists.{tabulate, all}
 use Rattle.ends.specs.Identities.{distinct}
-use Rattle.ends.specs.declared.Found.{Found}
-use Rattle.ends.specs.declared.Found.TheVariants.{At, Nowhere}
 use Rattle.group_protocol.specs.Limits.{max_members}
 use Rattle.group_protocol.specs.declared.Members.{Members}
 use Rattle.group_protocol.specs.declared.Roster.{Roster}
@@ -21,12 +19,12 @@ unfoldable pub roster_llids : Roster → List ℕ
 roster_llids r = tabulate 0 r.count (λ j. get_or r.llids j 0)
 
 -- which place of a list has the number, counted from i
-unfoldable pub place_from : ℕ → List ℕ → ℕ → Found
-place_from i [] x = Nowhere
-place_from i (y ∷ ys) x = pick (eqb y x) (At i) (place_from (suc i) ys x)
+unfoldable pub place_from : ℕ → List ℕ → ℕ → Option ℕ
+place_from i [] x = None
+place_from i (y ∷ ys) x = pick (eqb y x) (Some i) (place_from (suc i) ys x)
 
 -- which member the unit at that place is
-unfoldable pub member_at : Members → ℕ → Found
+unfoldable pub member_at : Members → ℕ → Option ℕ
 member_at m place = place_from 0 (places_of m) place
 
 abbrev pub no_marks : List ℕ

@@ -1,12 +1,11 @@
 -- The groups that a unit joined, and when a subscriber is valid (02, C-14: a unit joins by a call with the group's LLID). Assumes nothing.
-use Rattle.std.specs.Prelude.{Bool, not, List, [], map, ℕ, ◌+◌, leb, eqb, take, get_or, set, replicate}
+use Rattle.std.specs.Prelude.{Bool, not, List, [], map, ℕ, ◌+◌, leb, eqb, take, get_or, set, replicate, Option}
 use Rattle.octets.specs.Choice.{both, either}
 use Rattle.octets.specs.Lists.{all}
 use Rattle.ends.specs.Keys.{no_slots}
 use Rattle.ends.specs.Identities.{among, distinct, meets, llids_of}
 use Rattle.ends.specs.Validity.{valid_onu_keys, valid_onu}
 use Rattle.ends.specs.declared.Onu.{Onu}
-use Rattle.ends.specs.declared.Found.{Found}
 use Rattle.group_protocol.specs.Limits.{max_joined}
 use Rattle.group_protocol.specs.Members.{place_from}
 use Rattle.group_protocol.specs.declared.Joined.{Joined}
@@ -30,7 +29,7 @@ abbrev pub has_joined : Subscriber → ℕ → Bool
 has_joined s llid = among llid (joined_llids (joined_groups s))
 
 -- the first group that has the LLID
-unfoldable pub find_joined : Subscriber → ℕ → Found
+unfoldable pub find_joined : Subscriber → ℕ → Option ℕ
 find_joined s llid = place_from 0 (joined_llids (joined_groups s)) llid
 
 -- what stands for a group past the end of the list

@@ -1,26 +1,35 @@
 -- Laws of the groups that a unit joined: steps along their table, and what validity says of each. Assumes nothing.
+use Rattle.std.specs.Prelude.{Some, None}
 use mathlib.Core.Path.{◌≡◌, refl}
 use mathlib.Core.Bool.{Bool, true, false, not}
 use mathlib.Core.List.{List, [], ◌∷◌}
-use Prim.Native.Nat.{ℕ, ◌+◌, ◌<◌}
-use lib.ListN.{length, get_or, take, drop}
-use Rattle.octets.specs.Choice.{both, either}
+use Prim.Native.Nat.{ℕ, ◌+◌, ◌-◌, ◌<◌, ◌≤◌, min}
+use native.Mathlib.Numerals.{add-one}
+use native.Mathlib.Omega.{arith}
+use lib.Dec.{eqb}
+use lib.ListN.{length, get_or, take, drop, length-drop, length-take, drop_of_length-le}
+use Rattle.std.proofs.lemmas.List.{take_all}
+use Rattle.octets.specs.Choice.{both, either, pick}
 use Rattle.octets.specs.Lists.{all}
-use Rattle.octets.proofs.Steps.{first_step}
+use Rattle.octets.proofs.Steps.{drop_step, first_step}
 use Rattle.ends.specs.Identities.{among, distinct, meets}
-use Rattle.group_protocol.specs.Subscriber.{joined_llids, valid_joined, valid_groups_of, fits_before}
+use Rattle.group_protocol.specs.Members.{place_from}
+use Rattle.group_protocol.specs.Subscriber.{fits_before, joined_llids, past_joined, valid_groups_of, valid_joined}
 use Rattle.group_protocol.specs.declared.Joined.{Joined}
+use Rattle.group_protocol.proofs.Subscribers.{groups_none}
 
----- the LLIDs of the first n
+---- where one of the first n has an LLID
 
-pub joined_step : (n : ℕ) (l : List Joined) (i : ℕ) (d : Joined) → i < n → i < length l
-    → joined_llids (drop i (take n l)) ≡ (get_or l i d).llid ∷ joined_llids (drop (i + 1) (take n l))
-unfolding joined_llids
-joined_step n l i d h k = rw (first_step n l i d h k)
+pub joined_next : (n : ℕ) (l : List Joined) (i x : ℕ) → i < n → i < length l
+    → place_from i (joined_llids (drop i (take n l))) x
+    ≡ pick (eqb (get_or l i past_joined).llid x) (Some i) (place_from (i + 1) (joined_llids (drop (i + 1) (take n l))) x)
+unfolding place_from joined_llids
+joined_next n l i x h k = rw (first_step n l i past_joined h k, add-one)
 
-pub joined_none : (l : List Joined) → l ≡ [] → joined_llids l ≡ []
-unfolding joined_llids
-joined_none l e = rw e
+pub joined_last : (n : ℕ) (l : List Joined) (i x : ℕ) → min n (length l) ≤ i → place_from i (joined_llids (drop i (take n l))) x ≡ None
+unfolding place_from joined_llids
+joined_last n l i x h =
+    let none : drop i (take n l) ≡ [] = drop_of_length-le (take n l) (simp length-take (omega arith)) in rw none
 
 ---- validity along the first n
 
@@ -41,14 +50,14 @@ groups_cons own j js =
       by_tests true false false d true m = refl
       by_tests true false false d false m = refl
 
-pub groups_hit : (own : List ℕ) (n : ℕ) (l : List Joined) (i : ℕ) (d : Joined) → i < n → i < length l
-    → fits_before own (get_or l i d) (drop (i + 1) (take n l)) ≡ true
-    → valid_groups_of own (drop i (take n l)) ≡ valid_groups_of own (drop (i + 1) (take n l))
-unfolding both
-groups_hit own n l i d h k e = rw (first_step n l i d h k, groups_cons own (get_or l i d) (drop (i + 1) (take n l)), e)
+-- the first of those from i on, beside the slice of those behind it
+pub groups_next : (own : List ℕ) (l : List Joined) (i : ℕ) → i < length l
+    → valid_groups_of own (drop i l)
+    ≡ both (fits_before own (get_or l i past_joined) (take (length l - (i + 1)) (drop (i + 1) l))) (valid_groups_of own (drop (i + 1) l))
+groups_next own l i h =
+    let behind : take (length l - (i + 1)) (drop (i + 1) l) ≡ drop (i + 1) l =
+    take_all (length l - (i + 1)) (drop (i + 1) l) (simp length-drop (omega arith)) in
+    rw (behind, drop_step l i past_joined h) (groups_cons own (get_or l i past_joined) (drop (i + 1) l))
 
-pub groups_miss : (own : List ℕ) (n : ℕ) (l : List Joined) (i : ℕ) (d : Joined) → i < n → i < length l
-    → fits_before own (get_or l i d) (drop (i + 1) (take n l)) ≡ false
-    → valid_groups_of own (drop i (take n l)) ≡ false
-unfolding both
-groups_miss own n l i d h k e = rw (first_step n l i d h k, groups_cons own (get_or l i d) (drop (i + 1) (take n l)), e)
+pub groups_last : (own : List ℕ) (l : List Joined) (i : ℕ) → length l ≤ i → valid_groups_of own (drop i l) ≡ true
+groups_last own l i h = groups_none own (drop i l) (drop_of_length-le l h)

@@ -1,11 +1,10 @@
 -- A group is left as the unit that it stands for. Assumes nothing.
+use Rattle.std.specs.Prelude.{Ok, Err}
 use mathlib.Core.Path.{◌≡◌, refl, sym, ap, ◌∙◌}
 use mathlib.Core.Bool.{Bool, true}
 use mathlib.Core.List.{List}
 use Prim.Native.Nat.{ℕ}
 use Rattle.octets.specs.Choice.{pick}
-use Rattle.refusal.specs.declared.Verdict.{Verdict}
-use Rattle.refusal.specs.declared.Verdict.TheVariants.{Accepted, Refused}
 use Rattle.refusal.specs.Order.{and_then}
 use Rattle.ends.specs.Records.{with_keys, with_confirmation}
 use Rattle.ends.specs.declared.Shared.{Shared}
@@ -26,11 +25,12 @@ use Rattle.group_protocol.specs.Members.{unmarked}
 use Rattle.group_protocol.specs.declared.GroupRecord.{GroupRecord}
 use Rattle.group_protocol.proofs.AsUnit.{choice_as_unit, offer_as_unit}
 use Rattle.groups.specs.Reached.{reached_group}
+use Rattle.refusal.specs.Verdict.{Verdict, no_refusal}
 
-if_accepted-holds : {A : Type 0} (v : Verdict) (a b c : A) → (v ≡ Accepted → a ≡ b) → if_accepted v a c ≡ if_accepted v b c
+if_accepted-holds : {A : Type 0} (v : Verdict) (a b c : A) → (v ≡ no_refusal → a ≡ b) → if_accepted v a c ≡ if_accepted v b c
 unfolding if_accepted
-if_accepted-holds Accepted a b c h = h refl
-if_accepted-holds (Refused r) a b c h = refl
+if_accepted-holds (Ok tt) a b c h = h refl
+if_accepted-holds (Err r) a b c h = refl
 
 module _ {H : Type 0} (way : Verdict) (nothing : H) (s : Shared) (g : GroupRecord) (u : UnitRecord) (c : Outcome H) (d : GroupOutcome H) where
   -- from the unit's answer to the group's
@@ -42,10 +42,10 @@ module _ {H : Type 0} (way : Verdict) (nothing : H) (s : Shared) (g : GroupRecor
   group_reached p q t x e r f = rw (f, e, p, q, t)
 
   -- accepted: what the unit's call left
-  pub unit_reached : (x : Outcome H) → x ≡ reached way nothing s u c → x.verdict ≡ Accepted → x.unit ≡ c.unit
+  pub unit_reached : (x : Outcome H) → x ≡ reached way nothing s u c → x.verdict ≡ no_refusal → x.unit ≡ c.unit
   unfolding reached if_accepted
   unit_reached x e a =
-      let v : and_then way c.verdict ≡ Accepted = sym (ap (λ (y : Outcome H). y.verdict) e) ∙ a in
+      let v : and_then way c.verdict ≡ no_refusal = sym (ap (λ (y : Outcome H). y.verdict) e) ∙ a in
       ap (λ (y : Outcome H). y.unit) e ∙ rw v
 
 pub offer_reached : (way : Verdict) (s : Shared) (g : GroupRecord) (set : Bool) (llid : ℕ) (key : List ℕ) (x : Outcome KeyMessage) (r : GroupRecord)
@@ -66,8 +66,8 @@ offer_reached way s g set llid key x r e f =
 
 same_after : {A : Type 0} (v : Verdict) (a : A) → a ≡ if_accepted v a a
 unfolding if_accepted
-same_after Accepted a = refl
-same_after (Refused r) a = refl
+same_after (Ok tt) a = refl
+same_after (Err r) a = refl
 
 pub retry_reached : (way : Verdict) (s : Shared) (g : GroupRecord) (set : Bool) (llid : ℕ) (x : Outcome KeyMessage)
     → x ≡ reached way no_key_message s (as_unit g set) (retry_unit llid s (as_unit g set))
@@ -105,8 +105,8 @@ send_reached way s g llid channel eqs x e = rw (e, choice_as_unit g true) (by_ve
         channels = if_accepted v d.channels s.channels;
         handed = if_accepted v d.handed no_sending;
       })
-  by_verdict-holds Accepted = unfold if_accepted sending_of passage_of group_keys_after_send in refl
-  by_verdict-holds (Refused r) = unfold if_accepted with_group_keys wiped_at_switch in refl
+  by_verdict-holds (Ok tt) = unfold if_accepted sending_of passage_of group_keys_after_send in refl
+  by_verdict-holds (Err r) = unfold if_accepted with_group_keys wiped_at_switch in refl
 
 -- a call that hands over nothing and leaves the channels
 pub quiet_reached : (way : Verdict) (s : Shared) (g : GroupRecord) (v : Verdict) (next : GroupRecord)

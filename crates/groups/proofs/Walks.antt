@@ -1,69 +1,95 @@
--- One step of a walk along a list whose first element is told, and its end: what the loops of this crate go by. Assumes nothing.
-use mathlib.Core.Path.{◌≡◌}
-use mathlib.Core.Bool.{Bool, true, false}
-use mathlib.Core.List.{List, [], ◌∷◌}
-use Prim.Native.Nat.{ℕ, ◌+◌, ◌<◌}
+-- What the library says of a chain of iterators, in the words of the definitions: whether a test holds of each, whether two lists meet, and
+-- where a number stands. Assumes nothing.
+use mathlib.Core.Path.{◌≡◌, refl, ◌∙◌}
+use mathlib.Core.Bool.{Bool, true, false, ◌&&◌, ◌||◌}
+use mathlib.Core.List.{List, [], ◌∷◌, map}
+use Prim.Native.Nat.{ℕ, zero, suc}
 use native.Mathlib.Numerals.{add-one}
-use lib.ListN.{length, get_or, take, drop}
-use borrow.Author.Tests.{eq-eqb, ne_eqb}
-use Rattle.octets.specs.Choice.{both, either, pick}
-use Rattle.octets.specs.Lists.{all}
-use Rattle.octets.proofs.Steps.{first_step}
-use Rattle.ends.specs.Identities.{among, meets}
-use Rattle.ends.specs.declared.Found.TheVariants.{At, Nowhere}
+use native.Mathlib.Omega.{arith}
+use lib.Dec.{eqb}
+use denote.Param.Members.{Mut, Called}
+use Rattle.std.proofs.iter.Yields.{nat_range_steps}
+use Rattle.std.proofs.lemmas.Iterator.{YieldsList-from_range}
+use Rattle.std.proofs.lemmas.Iterator.Adapters.{position_from-zero}
+use Rattle.std.proofs.lemmas.Iterator.Search.{all_from_yields_List, position_from_yields_List}
+use Rattle.std.specs.Iterator.{ChecksAll, FindsPosition}
+use Rattle.std.specs.List.{list_all, list_any, position_from, range_with_len}
+use Rattle.std.specs.declared.option.Option.{Option}
+use Rattle.std.specs.declared.ops.Range.{Range}
+use Rattle.octets.specs.Choice.{both, either}
+use Rattle.octets.specs.Lists.{all, tabulate}
+use Rattle.ends.specs.Identities.{among, llids_of, meets}
+use Rattle.ends.specs.Table.{table_llids}
+use Rattle.ends.specs.declared.Identity.{Identity}
+use Rattle.ends.specs.declared.UnitRecord.{UnitRecord}
+use Rattle.ends.proofs.Identities.{meets_append, meets_nil}
+use Rattle.ends.proofs.Words.{placed_is}
 use Rattle.group_protocol.specs.Members.{place_from}
-use Rattle.group_protocol.specs.Head.{group_llids}
-use Rattle.group_protocol.specs.declared.GroupRecord.{GroupRecord}
+use Rattle.group_protocol.specs.Subscriber.{joined_llids}
+use Rattle.group_protocol.specs.declared.Joined.{Joined}
 
----- which place has a number
+both_is : (a : Bool) {b c : Bool} → b ≡ c → (a && b) ≡ both a c
+unfolding both
+both_is true e = e
+both_is false e = refl
 
-pub place_hit : (i x : ℕ) (l : List ℕ) (y : ℕ) (ys : List ℕ) → l ≡ y ∷ ys → y ≡ x → place_from i l x ≡ At i
-unfolding place_from pick
-place_hit i x l y ys e h = rw (e, eq-eqb y x h)
-
-pub place_miss : (i x : ℕ) (l : List ℕ) (y : ℕ) (ys : List ℕ) → l ≡ y ∷ ys → (y ≡ x → ⊥) → place_from i l x ≡ place_from (i + 1) ys x
-unfolding place_from pick
-place_miss i x l y ys e h = rw (e, ne_eqb y x h, add-one)
-
-pub place_none : (i x : ℕ) (l : List ℕ) → l ≡ [] → place_from i l x ≡ Nowhere
-unfolding place_from
-place_none i x l e = rw e
+either_is : (a : Bool) {b c : Bool} → b ≡ c → (a || b) ≡ either a c
+unfolding either
+either_is true e = refl
+either_is false e = e
 
 ---- whether a test holds of each
 
-pub all_more : {A : Type 0} (p : A → Bool) (l : List A) (y : A) (ys : List A) → l ≡ y ∷ ys → p y ≡ true → all p l ≡ all p ys
-unfolding all both
-all_more p l y ys e h = rw (e, h)
-
-pub all_stop : {A : Type 0} (p : A → Bool) (l : List A) (y : A) (ys : List A) → l ≡ y ∷ ys → p y ≡ false → all p l ≡ false
-unfolding all both
-all_stop p l y ys e h = rw (e, h)
-
-pub all_none : {A : Type 0} (p : A → Bool) (l : List A) → l ≡ [] → all p l ≡ true
+pub all_listed : {A : Type 0} (p : A → Bool) (l : List A) → list_all p l ≡ all p l
 unfolding all
-all_none p l e = rw e
+all_listed p [] = refl
+all_listed p (x ∷ xs) = both_is (p x) (all_listed p xs)
+
+pub all_counted : (p : ℕ → Bool) (f : ℕ → ℕ) (i n : ℕ) → list_all (λ k. p (f k)) (range_with_len i n) ≡ all p (tabulate i n f)
+unfolding all
+all_counted p f i zero = refl
+all_counted p f i (suc n) = rw add-one (both_is (p (f i)) (all_counted p f (suc i) n))
 
 ---- whether two lists meet
 
-pub meets_more : (l : List ℕ) (y : ℕ) (ys zs : List ℕ) → l ≡ y ∷ ys → among y zs ≡ false → meets l zs ≡ meets ys zs
-unfolding meets either
-meets_more l y ys zs e h = rw (e, h)
-
-pub meets_stop : (l : List ℕ) (y : ℕ) (ys zs : List ℕ) → l ≡ y ∷ ys → among y zs ≡ true → meets l zs ≡ true
-unfolding meets either
-meets_stop l y ys zs e h = rw (e, h)
-
-pub meets_none : (l zs : List ℕ) → l ≡ [] → meets l zs ≡ false
+pub meets_listed : (xs ys : List ℕ) → list_any (λ x. among x ys) xs ≡ meets xs ys
 unfolding meets
-meets_none l zs e = rw e
+meets_listed [] ys = refl
+meets_listed (x ∷ xs) ys = either_is (among x ys) (meets_listed xs ys)
 
----- along the first n groups
+-- the LLIDs of units, by their identities
+pub units_listed : (xs : List ℕ) (us : List UnitRecord)
+    → list_any (λ (i : Identity). meets xs (llids_of i)) (map (λ (u : UnitRecord). u.identity) us) ≡ meets xs (table_llids us)
+unfolding table_llids
+units_listed xs [] = rw meets_nil
+units_listed xs (u ∷ us) = rw meets_append (either_is (meets xs (llids_of u.identity)) (units_listed xs us))
 
-pub group_step : (n : ℕ) (l : List GroupRecord) (i : ℕ) (d : GroupRecord) → i < n → i < length l
-    → group_llids (drop i (take n l)) ≡ (get_or l i d).llid ∷ group_llids (drop (i + 1) (take n l))
-unfolding group_llids
-group_step n l i d h k = rw (first_step n l i d h k)
+pub joined_listed : (x : ℕ) (js : List Joined) → list_any (λ (j : Joined). eqb j.llid x) js ≡ among x (joined_llids js)
+unfolding among joined_llids
+joined_listed x [] = refl
+joined_listed x (j ∷ js) = either_is (eqb j.llid x) (joined_listed x js)
 
-pub group_end : (l : List GroupRecord) → l ≡ [] → group_llids l ≡ []
-unfolding group_llids
-group_end l e = rw e
+---- where a number stands
+
+pub place_counted : (f : ℕ → ℕ) (x i n : ℕ) → position_from (λ k. eqb (f k) x) i (range_with_len i n) ≡ place_from i (tabulate i n f) x
+unfolding place_from
+place_counted f x i zero = refl
+place_counted f x i (suc n) = rw add-one (placed_is (eqb (f i) x) i (place_counted f x (suc i) n))
+
+---- the chains from 0 to the count
+
+-- a closure that leaves itself as it was and tests the number
+abbrev pub Tests : {F : Type 0} → Mut F (ℕ × Unit {0}) Bool → F → (ℕ → Bool) → Type 0
+Tests {F} g h p = (x : ℕ) (b : Bool) (q : F) → Called g h (x, tt) b q → (q ≡ h) × (b ≡ p x)
+
+module _ {F : Type 0} {g : Mut F (ℕ × Unit {0}) Bool} {s u : Range ℕ} {h : F} (f : ℕ → ℕ) (n : ℕ) (from : s ≡ record { start = 0; end = n }) where
+  pub all_in_use : (p : ℕ → Bool) {r : Bool} → ChecksAll nat_range_steps g s h r u → Tests g h (λ k. p (f k)) → r ≡ all p (tabulate 0 n f)
+  all_in_use p ran each =
+      all_from_yields_List _ _ _ _ ran (YieldsList-from_range 0 n n from (omega arith)) each ∙ all_counted p f 0 n
+
+  pub place_in_use : (x : ℕ) {r : Option ℕ} → FindsPosition nat_range_steps g s h r u → Tests g h (λ k. eqb (f k) x)
+      → r ≡ place_from 0 (tabulate 0 n f) x
+  place_in_use x ran each =
+      position_from_yields_List _ _ _ _ ran (YieldsList-from_range 0 n n from (omega arith)) each
+      ∙ position_from-zero (λ k. eqb (f k) x) (range_with_len 0 n)
+      ∙ place_counted f x 0 n

@@ -1,23 +1,17 @@
 -- A call on one group as the code answers it (01, 'When the reader says no'; D113). Assumes nothing.
 use Rattle.refusal.specs.Order.{and_then}
-use Rattle.refusal.specs.declared.Refusal.{Refusal}
-use Rattle.refusal.specs.declared.Verdict.{Verdict}
-use Rattle.refusal.specs.declared.Verdict.TheVariants.{Refused}
 use Rattle.ends.specs.declared.Shared.{Shared}
 use Rattle.protocol.specs.Replies.{on_valid}
-use Rattle.protocol.specs.Headers.{no_passage}
-use Rattle.protocol.specs.declared.Passage.{Passage}
 use Rattle.protocol.specs.declared.Sending.{Sending}
 use Rattle.unit.specs.Reached.{if_accepted}
+use Rattle.unit.specs.declared.Decided.{Decided}
 use Rattle.group_protocol.specs.GroupCalls.{GroupOutcome}
 use Rattle.group_protocol.specs.Subscriber.{valid_joined}
 use Rattle.group_protocol.specs.JoinedCalls.{JoinedOutcome}
-use Rattle.group_protocol.specs.declared.Answer.{Answer}
 use Rattle.group_protocol.specs.declared.GroupRecord.{GroupRecord}
 use Rattle.group_protocol.specs.declared.Joined.{Joined}
 use Rattle.groups.specs.declared.GroupSent.{GroupSent}
-use Rattle.groups.specs.declared.JoinedAnswer.{JoinedAnswer}
-use Rattle.groups.specs.declared.JoinedReceived.{JoinedReceived}
+use Rattle.refusal.specs.Verdict.{Verdict}
 
 ---- of the OLT: `way` is the verdict on the way to the group; refused there or by the group, group and channels stay, and nothing is handed
 ---- over
@@ -45,11 +39,5 @@ reached_joined nothing j c =
       handed = if_accepted (on_valid (valid_joined j) c.verdict) c.handed nothing;
     }
 
-unfoldable pub joined_answer : JoinedOutcome Answer → JoinedAnswer
-joined_answer c = record { verdict = c.verdict; joined = c.joined; answer = c.handed }
-
-unfoldable pub joined_received : JoinedOutcome Passage → JoinedReceived
-joined_received c = record { verdict = c.verdict; joined = c.joined; passage = c.handed }
-
-unfoldable pub joined_not_received : Joined → Refusal → JoinedReceived
-joined_not_received j r = record { verdict = Refused r; joined = j; passage = no_passage }
+unfoldable pub joined_decided : {H : Type 0} → JoinedOutcome H → Decided Joined H
+joined_decided c = record { verdict = c.verdict; after = c.joined; handed = c.handed }

@@ -1,19 +1,18 @@
 // Whether the groups of a head end that is lent are valid (02, C-14; 01, 'When the reader says no': Ahead of each list comes 1).
 ghost use Rattle.std.specs.Prelude.{◌≡◌, ◌≤◌, take};
 ghost use Rattle.octets.specs.Lists.{all};
-ghost use Rattle.ends.specs.Identities.{llids_of, meets};
+ghost use Rattle.ends.specs.Identities.{meets};
 ghost use Rattle.ends.specs.Limits.{max_units};
 ghost use Rattle.ends.specs.Table.{table_llids};
 ghost use Rattle.group_protocol.specs.Head.{valid_group, valid_groups};
 
 use crate::membership::valid_members;
-use crate::search::llids_of;
+use crate::search::{has_one, llids_of};
+use ends::UnitRecord;
 use ends::check_olt::{all_distinct, valid_timer};
 use ends::limits::MAX_UNITS;
-use ends::llids::has;
 use ends::search::identities;
 use ends::sends::valid_first;
-use ends::{Identity, UnitRecord};
 use group_protocol::{GroupRecord, HeadEnd, MAX_GROUPS};
 
 // At that tick, of an OLT with that many units.
@@ -29,59 +28,27 @@ pub fn valid_group(tick: u64, units: u8, group: GroupRecord) -> bool
     members & ((timer & first) & ((active <= offered) & (offered <= active + 1)))
 }
 
-#[tactic(auto, unfolding(group_protocol::specs::Head::past_group))]
 fn all_valid(table: [GroupRecord; MAX_GROUPS as usize], count: u8, tick: u64, units: u8) -> bool
     requires { count ≤ max_units }
     ensures { result ≡ all (valid_group tick units) (take count table) }
 {
-    let mut i: u8 = 0;
-    while i < count {
-        let group = table[i as usize];
-        if !valid_group(tick, units, group) {
-            return false;
-        }
-        i += 1;
-    }
-    true
-}
-
-// Whether the unit has one of the LLIDs.
-#[tactic(auto, unfolding(ends::specs::Identities::has))]
-fn has_one(identity: Identity, list: &[u16]) -> bool
-    ensures { result ≡ meets list.now (llids_of identity) }
-{
-    let mut i: usize = 0;
-    while i < list.len() {
-        if has(identity, list[i]) {
-            return true;
-        }
-        i += 1;
-    }
-    false
+    table[..count as usize]
+        .iter()
+        .all(|group| valid_group(tick, units, *group))
 }
 
 // Whether a registered unit has one of the LLIDs.
-#[tactic(auto, unfolding(ends::specs::Table::past_unit))]
 fn meet_units(list: &[u16], units: [UnitRecord; MAX_UNITS as usize], n: u8) -> bool
+    requires { n ≤ max_units }
     ensures { result ≡ meets list.now (table_llids (take n units)) }
 {
-    let table = identities(units);
-    let mut i: usize = 0;
-    while i < MAX_UNITS as usize {
-        if n as usize <= i {
-            return false;
-        }
-        let identity = table[i];
-        if has_one(identity, list) {
-            return true;
-        }
-        i += 1;
-    }
-    false
+    identities(units)[..n as usize]
+        .iter()
+        .any(|identity| has_one(*identity, list))
 }
 
 // The groups alone. Without one there is next to nothing to do. Their LLIDs are gathered, so that the two tables are not both at hand at once (D119).
-#[tactic(auto, unfolding(group_protocol::specs::Head::valid_groups, octets::specs::Choice::both, octets::specs::Lists::all, group_protocol::specs::Head::group_llids, group_protocol::specs::Head::apart_llids, ends::specs::Identities::distinct, ends::specs::Identities::meets))]
+#[tactic(auto, using(group_protocol::proofs::Llids::llids_first), unfolding(group_protocol::specs::Head::valid_groups, octets::specs::Choice::both, octets::specs::Lists::all, group_protocol::specs::Head::group_llids, group_protocol::specs::Head::apart_llids, ends::specs::Identities::distinct, ends::specs::Identities::meets))]
 pub fn valid_groups(head: HeadEnd) -> bool
     ensures { result ≡ valid_groups head }
 {

@@ -3,7 +3,6 @@ ghost use Rattle.std.specs.Prelude.{◌≡◌, drop, take};
 ghost use Rattle.ends.specs.Identities.{llids_of};
 ghost use Rattle.group_protocol.specs.Subscriber.{fits_before, valid_groups_of, valid_joined, valid_memberships, valid_subscriber};
 
-use crate::joined_search::has_joined;
 use ends::Identity;
 use ends::check_onu::{valid_onu, valid_onu_keys};
 use ends::llids::has;
@@ -19,34 +18,22 @@ pub fn valid_joined(joined: Joined) -> bool
 
 // Whether the group is valid, and its LLID neither that of a later one nor one of the unit's own.
 #[tactic(auto, unfolding(group_protocol::specs::Subscriber::fits_before, ends::specs::Identities::has, octets::specs::Choice::both))]
-fn fits_before(
-    joined: Joined,
-    table: [Joined; MAX_JOINED as usize],
-    next: usize,
-    count: u8,
-    identity: Identity,
-) -> bool
-    ensures { result ≡ fits_before (llids_of identity) joined (drop next (take count table)) }
+fn fits_before(joined: Joined, others: &[Joined], identity: Identity) -> bool
+    ensures { result ≡ fits_before (llids_of identity) joined others.now }
 {
     let valid = valid_joined(joined);
-    let again = has_joined(table, next, count, joined.llid);
+    let again = others.iter().any(|other| other.llid == joined.llid);
     let own = has(identity, joined.llid);
     valid & (!again & !own)
 }
 
-// The first `count` groups of a unit.
-#[tactic(auto, unfolding(group_protocol::specs::Subscriber::past_joined))]
-fn valid_groups_of(table: [Joined; MAX_JOINED as usize], count: u8, identity: Identity) -> bool
-    ensures { result ≡ valid_groups_of (llids_of identity) (take count table) }
+// The groups of a unit.
+#[tactic(auto, using(crate::proofs::JoinedGroups::groups_next, crate::proofs::JoinedGroups::groups_last), unfolding(octets::specs::Choice::both, group_protocol::specs::Subscriber::past_joined))]
+fn valid_groups_of(groups: &[Joined], identity: Identity) -> bool
+    ensures { result ≡ valid_groups_of (llids_of identity) groups.now }
 {
-    let mut i: usize = 0;
-    while i < MAX_JOINED as usize {
-        if count as usize <= i {
-            return true;
-        }
-        let joined = table[i];
-        i += 1;
-        if !fits_before(joined, table, i, count, identity) {
+    for (i, joined) in groups.iter().enumerate() {
+        if !fits_before(*joined, &groups[i + 1..], identity) {
             return false;
         }
     }
@@ -59,7 +46,8 @@ pub fn valid_memberships(subscriber: Subscriber) -> bool
 {
     let count = subscriber.memberships.count;
     let table = subscriber.memberships.table;
-    let groups = valid_groups_of(table, count, subscriber.onu.identity);
+    let used = count.min(MAX_JOINED) as usize;
+    let groups = valid_groups_of(&table[..used], subscriber.onu.identity);
     (count <= MAX_JOINED) & groups
 }
 

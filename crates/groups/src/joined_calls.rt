@@ -9,18 +9,17 @@ ghost use Rattle.ends.specs.Limits.{max_key_number};
 ghost use Rattle.group_protocol.specs.Subscriber.{valid_joined};
 ghost use Rattle.group_protocol.specs.Worked.{MessageRows, ReceiptRows};
 ghost use Rattle.group_protocol.specs.JoinedCalls.{group_answer, held_again, highest_held, holds, joined_after_message, joined_after_receipt, joined_choice, joined_message_verdict, joined_moved, joined_receive_verdict, joined_taken, message_joined, new_number, no_answer, receive_joined};
-ghost use Rattle.groups.specs.Reached.{joined_answer, joined_not_received, joined_received, reached_joined};
+ghost use Rattle.groups.specs.Reached.{joined_decided, reached_joined};
 
 use crate::check_subscriber::valid_joined;
-use crate::{JoinedAnswer, JoinedReceived};
 use clock::epam_of;
 use ends::keyslots::{key_in, only_key, same_key, with_key};
 use ends::{Identity, Onu, OnuClock, OnuKeys, Slots};
 use envelope::downstream;
 use group_protocol::{Answer, Joined};
-use protocol::{Header, KEY_KIND, KeyChoice, KeyMessage};
-use refusal::{Refusal, Verdict, refuse_if};
-use unit::passing;
+use protocol::{Header, KEY_KIND, KeyChoice, KeyMessage, Passage};
+use refusal::{Refusal, Verdict};
+use unit::{Decided, passing};
 
 // The highest number that a key is held for, 0 where none is.
 #[tactic(auto, unfolding(group_protocol::specs::JoinedCalls::highest_held, octets::specs::Choice::pick))]
@@ -68,24 +67,21 @@ fn new_number(joined: Joined, message: KeyMessage) -> bool
 }
 
 // 1 for a group that is not valid, then 5 and 8.
-#[tactic(auto, unfolding(group_protocol::specs::JoinedCalls::joined_message_verdict, octets::specs::Choice::either))]
+#[tactic(auto, unfolding(group_protocol::specs::JoinedCalls::joined_message_verdict, refusal::specs::Order::refuse_if, octets::specs::Choice::either))]
 fn message_verdict(clock: OnuClock, joined: Joined, message: KeyMessage, new: bool) -> Verdict
     requires { new ≡ new_number joined message }
     ensures { result ≡ on_valid (valid_joined joined) (joined_message_verdict clock joined message) }
 {
-    let valid = valid_joined(joined);
-    let unsynced = !(clock.synced == 1);
-    let again = held_again(joined, message);
-    let misfit = !(new | again);
-    refuse_if(
-        !valid,
-        Refusal::OutOfRange,
-        refuse_if(
-            unsynced,
-            Refusal::ClockNotSet,
-            refuse_if(misfit, Refusal::NothingOutstanding, Verdict::Accepted),
-        ),
-    )
+    if !valid_joined(joined) {
+        return Err(Refusal::OutOfRange);
+    }
+    if clock.synced != 1 {
+        return Err(Refusal::ClockNotSet);
+    }
+    if !(new | held_again(joined, message)) {
+        return Err(Refusal::NothingOutstanding);
+    }
+    Ok(())
 }
 
 // The slots where key n - 1 stays if it is held, and all older ones are wiped.
@@ -103,7 +99,7 @@ fn slots_left(slots: Slots, held: bool) -> Slots
 }
 
 // Number n tells that n - 1 is in use.
-#[tactic(auto, unfolding(group_protocol::specs::JoinedCalls::new_number, group_protocol::specs::JoinedCalls::joined_taken, octets::specs::Choice::pick))]
+#[tactic(auto, using(octets::proofs::Choice::both_right), unfolding(group_protocol::specs::JoinedCalls::new_number, group_protocol::specs::JoinedCalls::joined_taken, octets::specs::Choice::pick))]
 fn taken(joined: Joined, message: KeyMessage) -> Joined
     requires { new_number joined message ≡ true }
     ensures { result ≡ joined_taken joined message }
@@ -163,35 +159,29 @@ pub fn no_answer() -> Answer
 }
 
 // A key message of the group.
-pub fn message(onu: Onu, joined: Joined, message: KeyMessage) -> JoinedAnswer
-    ensures value { result ≡ joined_answer (reached_joined no_answer joined (message_joined message onu joined)) }
+#[tactic(auto, using(group_protocol::proofs::Worked::message_rows), unfolding(unit::specs::Reached::if_accepted, crate::specs::Reached::joined_decided, group_protocol::specs::JoinedCalls::message_joined, crate::specs::Reached::reached_joined))]
+pub fn message(onu: Onu, joined: Joined, message: KeyMessage) -> Decided<Joined, Answer>
+    ensures value { result ≡ joined_decided (reached_joined no_answer joined (message_joined message onu joined)) }
     ensures worked { MessageRows }
 {
     let new = new_number(joined, message);
     let verdict = message_verdict(onu.clock, joined, message, new);
     match verdict {
-        Verdict::Accepted => {
+        Ok(()) => {
             let next = after_message(joined, message, new);
             let answer = group_answer(onu.identity, message.number);
-            JoinedAnswer {
-                verdict: Verdict::Accepted,
-                joined: next,
-                answer,
+            Decided {
+                verdict: Ok(()),
+                after: next,
+                handed: answer,
             }
         }
-        Verdict::Refused(refusal) => {
-            let answer = no_answer();
-            JoinedAnswer {
-                verdict: Verdict::Refused(refusal),
-                joined,
-                answer,
-            }
-        }
+        Err(refusal) => Decided::refused(refusal, joined, no_answer()),
     }
 }
 
 // The index of key a + 1 is the one that a does not have.
-#[tactic(auto, unfolding(group_protocol::specs::JoinedCalls::joined_choice, octets::specs::Choice::pick, octets::specs::Choice::both, group_protocol::specs::Subscriber::valid_joined))]
+#[tactic(auto, using(ends::proofs::Validity::onu_keys_in_range), unfolding(group_protocol::specs::JoinedCalls::joined_choice, octets::specs::Choice::pick, octets::specs::Choice::both, group_protocol::specs::Subscriber::valid_joined))]
 fn receive_choice(joined: Joined, header: Header) -> KeyChoice
     requires { valid_joined joined ≡ true }
     ensures { result ≡ joined_choice joined header }
@@ -214,7 +204,7 @@ fn receive_choice(joined: Joined, header: Header) -> KeyChoice
 }
 
 // What a receipt of a valid group's envelope refuses.
-#[tactic(auto, unfolding(group_protocol::specs::JoinedCalls::joined_receive_verdict, octets::specs::Choice::both))]
+#[tactic(auto, unfolding(group_protocol::specs::JoinedCalls::joined_receive_verdict, refusal::specs::Order::refuse_if, octets::specs::Choice::both))]
 fn receive_verdict(
     misfit: bool,
     clock: OnuClock,
@@ -225,25 +215,20 @@ fn receive_verdict(
     requires { choice ≡ joined_choice joined header }
     ensures { result ≡ joined_receive_verdict misfit clock joined header }
 {
-    let right = downstream(header.channel) & passing::valid_header(header);
-    let epam = epam_of(clock.rx);
     let synced = clock.synced == 1;
-    let late = synced & !(header.epam == epam);
-    let unset = (header.encenabled == 1) & !synced;
-    let rest = passing::choice_verdict(choice);
-    refuse_if(
-        misfit,
-        Refusal::BadLength,
-        refuse_if(
-            !right,
-            Refusal::OutOfRange,
-            refuse_if(
-                late,
-                Refusal::EpamDiffers,
-                refuse_if(unset, Refusal::ClockNotSet, rest),
-            ),
-        ),
-    )
+    if misfit {
+        return Err(Refusal::BadLength);
+    }
+    if !(downstream(header.channel) & passing::valid_header(header)) {
+        return Err(Refusal::OutOfRange);
+    }
+    if synced & (header.epam != epam_of(clock.rx)) {
+        return Err(Refusal::EpamDiffers);
+    }
+    if (header.encenabled == 1) & !synced {
+        return Err(Refusal::ClockNotSet);
+    }
+    passing::choice_verdict(choice)
 }
 
 // The key a + 1 comes into use, and the old one is wiped.
@@ -280,38 +265,27 @@ fn after_receipt(choice: KeyChoice, joined: Joined) -> Joined
     }
 }
 
-#[tactic(auto, unfolding(crate::specs::Reached::joined_not_received))]
-fn not_received(joined: Joined, refusal: Refusal) -> JoinedReceived
-    ensures { result ≡ joined_not_received joined refusal }
-{
-    let passage = passing::no_passage();
-    JoinedReceived {
-        verdict: Verdict::Refused(refusal),
-        joined,
-        passage,
-    }
-}
-
 // An envelope of the group, but for its octets: the key is chosen once, and all else follows from that choice.
-pub fn receive(misfit: bool, onu: Onu, joined: Joined, header: Header) -> JoinedReceived
-    ensures value { result ≡ joined_received (reached_joined no_passage joined (receive_joined misfit header onu joined)) }
+#[tactic(auto, using(refusal::proofs::Order::refuse_stopped, group_protocol::proofs::JoinedCalls::next_below, group_protocol::proofs::Worked::receipt_rows), unfolding(unit::specs::Reached::if_accepted, crate::specs::Reached::joined_decided, crate::specs::Reached::reached_joined, group_protocol::specs::JoinedCalls::receive_joined, refusal::specs::Order::refuse_if))]
+pub fn receive(misfit: bool, onu: Onu, joined: Joined, header: Header) -> Decided<Joined, Passage>
+    ensures value { result ≡ joined_decided (reached_joined no_passage joined (receive_joined misfit header onu joined)) }
     ensures worked { ReceiptRows }
 {
     if !valid_joined(joined) {
-        return not_received(joined, Refusal::OutOfRange);
+        return Decided::refused(Refusal::OutOfRange, joined, passing::no_passage());
     }
     let choice = receive_choice(joined, header);
     let verdict = receive_verdict(misfit, onu.clock, joined, header, choice);
     match verdict {
-        Verdict::Accepted => {
+        Ok(()) => {
             let next = after_receipt(choice, joined);
             let passage = passing::passage_of(choice, joined.keys.slots, onu.oltmac, onu.clock.rx);
-            JoinedReceived {
-                verdict: Verdict::Accepted,
-                joined: next,
-                passage,
+            Decided {
+                verdict: Ok(()),
+                after: next,
+                handed: passage,
             }
         }
-        Verdict::Refused(refusal) => not_received(joined, refusal),
+        Err(refusal) => Decided::refused(refusal, joined, passing::no_passage()),
     }
 }

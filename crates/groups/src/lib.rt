@@ -14,43 +14,15 @@ pub mod search;
 pub mod sending;
 
 use ends::Channels;
-use group_protocol::{Answer, GroupRecord, Joined};
-use protocol::{KeyMessage, Passage, Sending};
+use group_protocol::GroupRecord;
+use protocol::Sending;
 use refusal::Verdict;
 
-// What a call on one group decides: its verdict and, where that accepts, the group after it. Refused, the group is the one that was there.
-#[derive(Clone, Copy)]
-pub struct GroupAnswer {
-    pub verdict: Verdict,
-    pub group: GroupRecord,
-}
-
-#[derive(Clone, Copy)]
-pub struct GroupKeySent {
-    pub verdict: Verdict,
-    pub group: GroupRecord,
-    pub message: KeyMessage,
-}
-
+// What a send on one group decides. Refused, the group is the one that was there.
 #[derive(Clone, Copy)]
 pub struct GroupSent {
     pub verdict: Verdict,
     pub group: GroupRecord,
     pub channels: Channels,
     pub sending: Sending,
-}
-
-// What a unit's call on one group that it joined decides.
-#[derive(Clone, Copy)]
-pub struct JoinedAnswer {
-    pub verdict: Verdict,
-    pub joined: Joined,
-    pub answer: Answer,
-}
-
-#[derive(Clone, Copy)]
-pub struct JoinedReceived {
-    pub verdict: Verdict,
-    pub joined: Joined,
-    pub passage: Passage,
 }

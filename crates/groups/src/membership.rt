@@ -1,55 +1,36 @@
 // The members of a group (02, C-14). A place past the eighth counts as zero, so that every count has an answer.
-ghost use Rattle.std.specs.Prelude.{◌≡◌, map, ◌+◌, ◌-◌, ◌<◌, leb, ltb, get_or};
-ghost use Rattle.octets.specs.Choice.{pick};
-ghost use Rattle.octets.specs.Lists.{all, tabulate};
+ghost use Rattle.std.specs.Prelude.{◌≡◌, map, leb, ltb, get_or};
+ghost use Rattle.octets.specs.Lists.{all};
 ghost use Rattle.ends.specs.Flags.{is_up};
-ghost use Rattle.ends.specs.Identities.{among, distinct};
+ghost use Rattle.ends.specs.Identities.{distinct};
 ghost use Rattle.group_protocol.specs.GroupCalls.{members_set};
 ghost use Rattle.group_protocol.specs.Members.{fresh_members, marked, marks_of, member_at, places_of, unmarked, valid_members};
 
 use ends::limits::MAX_UNITS;
-use ends::{Found, Olt, UnitRecord};
+use ends::{Olt, UnitRecord, in_use};
 use group_protocol::{MAX_MEMBERS, Members};
+use std::array;
 
 // The octet at place j.
 fn at(octets: [u8; MAX_MEMBERS as usize], j: u8) -> u8
     ensures { result ≡ get_or octets j 0 }
 {
-    if j < MAX_MEMBERS {
-        return octets[j as usize];
-    }
-    0
+    in_use::at(&octets, usize::from(j), 0)
 }
 
 // Which member the unit at that place is.
 #[tactic(auto, unfolding(group_protocol::specs::Members::member_at, group_protocol::specs::Members::places_of))]
-pub fn member_at(members: Members, place: usize) -> Found
+pub fn member_at(members: Members, place: usize) -> Option<usize>
     ensures { result ≡ member_at members place }
 {
-    let places = members.places;
-    let count = members.count;
-    let mut j: u8 = 0;
-    while j < count {
-        if at(places, j) as usize == place {
-            return Found::At(j as usize);
-        }
-        j += 1;
-    }
-    Found::Nowhere
+    (0..members.count).position(|j| at(members.places, j) as usize == place)
 }
 
 // The flag of each unit's clock, by its place. They are gathered, so that the table is not copied to be indexed (D119).
 fn clock_flags(units: [UnitRecord; MAX_UNITS as usize]) -> [u8; MAX_UNITS as usize]
     ensures { result ≡ map (λ u. u.clock.acknowledged) units }
 {
-    let mut r = [0u8; MAX_UNITS as usize];
-    let mut i: usize = 0;
-    while i < MAX_UNITS as usize {
-        let unit = units[i];
-        r[i] = unit.clock.acknowledged;
-        i += 1;
-    }
-    r
+    array::from_fn(|i| units[i].clock.acknowledged)
 }
 
 // The flag at that place is up.
@@ -66,85 +47,33 @@ fn is_set(flags: [u8; MAX_UNITS as usize], place: u8) -> bool
 pub fn members_set(olt: Olt, members: Members) -> bool
     ensures { result ≡ members_set olt members }
 {
-    let units = olt.units;
-    let flags = clock_flags(units);
-    let places = members.places;
-    let count = members.count;
-    let mut j: u8 = 0;
-    while j < count {
-        if !is_set(flags, at(places, j)) {
-            return false;
-        }
-        j += 1;
-    }
-    true
+    let flags = clock_flags(olt.units);
+    (0..members.count).all(|j| is_set(flags, at(members.places, j)))
 }
 
 #[tactic(auto, unfolding(group_protocol::specs::Members::places_of))]
 fn places_below(members: Members, units: u8) -> bool
     ensures { result ≡ all (λ place. ltb place units) (places_of members) }
 {
-    let places = members.places;
-    let count = members.count;
-    let mut j: u8 = 0;
-    while j < count {
-        if units <= at(places, j) {
-            return false;
-        }
-        j += 1;
-    }
-    true
+    (0..members.count).all(|j| at(members.places, j) < units)
 }
 
 #[tactic(auto, unfolding(group_protocol::specs::Members::marks_of))]
 fn flags_in_range(members: Members) -> bool
     ensures { result ≡ all (λ mark. leb mark 1) (marks_of members) }
 {
-    let marks = members.marks;
-    let count = members.count;
-    let mut j: u8 = 0;
-    while j < count {
-        if 1 < at(marks, j) {
-            return false;
-        }
-        j += 1;
-    }
-    true
+    (0..members.count).all(|j| at(members.marks, j) <= 1)
 }
 
-// The place at j stands at a later one too.
-fn again(places: [u8; MAX_MEMBERS as usize], j: u8, count: u8) -> bool
-    requires { j < count }
-    ensures { result ≡ among (get_or places j 0) (tabulate (j + 1) (count - (j + 1)) (λ k. get_or places k 0)) }
-{
-    let place = at(places, j);
-    let mut k: u8 = j + 1;
-    while k < count {
-        if at(places, k) == place {
-            return true;
-        }
-        k += 1;
-    }
-    false
-}
-
-#[tactic(auto, unfolding(group_protocol::specs::Members::places_of))]
+#[tactic(auto, using(ends::proofs::Counted::distinct_numbers), unfolding(group_protocol::specs::Members::places_of))]
 fn distinct_places(members: Members) -> bool
     ensures { result ≡ distinct (places_of members) }
 {
-    let places = members.places;
-    let count = members.count;
-    let mut j: u8 = 0;
-    while j < count {
-        if again(places, j, count) {
-            return false;
-        }
-        j += 1;
-    }
-    true
+    in_use::distinct(&members.places, members.count, 0)
 }
 
 // Of an OLT with that many units.
+#[tactic(auto, unfolding(group_protocol::specs::Members::valid_members, octets::specs::Choice::both))]
 pub fn valid_members(units: u8, members: Members) -> bool
     ensures { result ≡ valid_members units members }
 {
@@ -154,32 +83,13 @@ pub fn valid_members(units: u8, members: Members) -> bool
     ((1 <= members.count) & (members.count <= MAX_MEMBERS)) & (below & (distinct & flags))
 }
 
-#[tactic(auto, unfolding(octets::specs::Choice::pick))]
-fn used(places: [u8; MAX_MEMBERS as usize], j: u8, count: u8) -> u8
-    ensures { result ≡ pick (ltb j count) (get_or places j 0) 0 }
-{
-    if j < count {
-        return at(places, j);
-    }
-    0
-}
-
 // The members as they are kept: zeros in the places past the count, and nobody has acknowledged.
 #[tactic(auto, unfolding(group_protocol::specs::Members::fresh_members))]
 pub fn fresh_members(places: [u8; MAX_MEMBERS as usize], count: u8) -> Members
     ensures { result ≡ fresh_members places count }
 {
     Members {
-        places: [
-            used(places, 0, count),
-            used(places, 1, count),
-            used(places, 2, count),
-            used(places, 3, count),
-            used(places, 4, count),
-            used(places, 5, count),
-            used(places, 6, count),
-            used(places, 7, count),
-        ],
+        places: array::from_fn(|j| in_use::used(&places, count, 0, j)),
         marks: [0; MAX_MEMBERS as usize],
         count,
     }

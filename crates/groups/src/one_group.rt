@@ -8,14 +8,14 @@ ghost use Rattle.group_protocol.specs.AsUnit.{as_unit};
 ghost use Rattle.group_protocol.specs.GroupCalls.{acknowledge_group, group_acknowledge_verdict, group_marked, group_outcome, offer_group, retry_group};
 ghost use Rattle.groups.specs.Reached.{reached_group};
 
+use crate::membership;
 use crate::search::is_found;
-use crate::{GroupAnswer, GroupKeySent, membership};
 use ends::limits::MAX_LLIDS;
-use ends::{Confirmation, Found, Identity, Shared, UnitClock, UnitRecord};
+use ends::{Confirmation, Identity, Shared, UnitClock, UnitRecord};
 use group_protocol::{Answer, GroupRecord};
-use protocol::{CLOCK_KIND, KEY_KIND};
-use refusal::{Refusal, Verdict, and_then, refuse_if};
-use unit::calls;
+use protocol::{CLOCK_KIND, KEY_KIND, KeyMessage};
+use refusal::{Refusal, Verdict, and_then};
+use unit::{Decided, calls};
 
 #[tactic(auto, unfolding(octets::specs::Choice::pick))]
 fn flag_of(up: bool) -> u8
@@ -58,7 +58,7 @@ pub(crate) fn as_unit(group: GroupRecord, set: bool) -> UnitRecord
 }
 
 // A new offer clears all marks.
-#[tactic(auto, unfolding(unit::specs::Reached::if_accepted, group_protocol::specs::GroupCalls::group_outcome, protocol::specs::Lift::outcome))]
+#[tactic(auto, using(crate::proofs::OneGroup::offer_reached), unfolding(unit::specs::Reached::if_accepted, group_protocol::specs::GroupCalls::group_outcome, protocol::specs::Lift::outcome))]
 pub fn offer(
     way: Verdict,
     shared: Shared,
@@ -66,79 +66,75 @@ pub fn offer(
     set: bool,
     llid: u16,
     key: [u8; 16],
-) -> GroupKeySent
-    ensures { group_outcome shared result.verdict result.group result.message
+) -> Decided<GroupRecord, KeyMessage>
+    ensures { group_outcome shared result.verdict result.after result.handed
         ≡ reached_group way no_key_message shared group (offer_group llid key set shared group) }
 {
     let unit = as_unit(group, set);
     let done = calls::offer(way, shared, unit, llid, key);
-    let verdict = done.verdict;
-    let message = done.message;
-    match verdict {
-        Verdict::Refused(refusal) => GroupKeySent {
-            verdict: Verdict::Refused(refusal),
-            group,
-            message,
-        },
-        Verdict::Accepted => {
-            let keys = done.unit.keys;
+    let message = done.handed;
+    match done.verdict {
+        Err(refusal) => Decided::refused(refusal, group, message),
+        Ok(()) => {
+            let keys = done.after.keys;
             let members = membership::unmarked(group.members);
             let next = GroupRecord {
                 keys,
                 members,
                 llid: group.llid,
             };
-            GroupKeySent {
-                verdict: Verdict::Accepted,
-                group: next,
-                message,
+            Decided {
+                verdict: Ok(()),
+                after: next,
+                handed: message,
             }
         }
     }
 }
 
 // The offer's number and key again.
-#[tactic(auto, unfolding(group_protocol::specs::GroupCalls::group_outcome, protocol::specs::Lift::outcome))]
-pub fn retry(way: Verdict, shared: Shared, group: GroupRecord, llid: u16) -> GroupKeySent
-    ensures { group_outcome shared result.verdict result.group result.message
+#[tactic(auto, using(crate::proofs::OneGroup::retry_reached), unfolding(group_protocol::specs::GroupCalls::group_outcome, protocol::specs::Lift::outcome))]
+pub fn retry(
+    way: Verdict,
+    shared: Shared,
+    group: GroupRecord,
+    llid: u16,
+) -> Decided<GroupRecord, KeyMessage>
+    ensures { group_outcome shared result.verdict result.after result.handed
         ≡ reached_group way no_key_message shared group (retry_group llid shared group) }
 {
     let unit = as_unit(group, true);
     let done = calls::retry(way, shared, unit, llid);
-    let verdict = done.verdict;
-    let message = done.message;
-    GroupKeySent {
-        verdict,
-        group,
-        message,
+    Decided {
+        verdict: done.verdict,
+        after: group,
+        handed: done.handed,
     }
 }
 
-#[tactic(auto, unfolding(group_protocol::specs::GroupCalls::group_acknowledge_verdict, group_protocol::specs::GroupCalls::answers_offer, octets::specs::Choice::both))]
-fn acknowledge_verdict(answer: Answer, member: Found, group: GroupRecord) -> Verdict
+#[tactic(auto, unfolding(group_protocol::specs::GroupCalls::group_acknowledge_verdict, refusal::specs::Order::refuse_if, group_protocol::specs::GroupCalls::answers_offer, octets::specs::Choice::both))]
+fn acknowledge_verdict(answer: Answer, member: Option<usize>, group: GroupRecord) -> Verdict
     ensures { result ≡ group_acknowledge_verdict answer member group.keys }
 {
     let some = is_found(member);
     let number = answer.number;
     let answers = (answer.kind == KEY_KIND) & ((1 <= number) & (number == group.keys.offered));
-    refuse_if(
-        answer.kind == CLOCK_KIND,
-        Refusal::UnknownLlid,
-        refuse_if(
-            !(some & answers),
-            Refusal::NothingOutstanding,
-            Verdict::Accepted,
-        ),
-    )
+    if answer.kind == CLOCK_KIND {
+        return Err(Refusal::UnknownLlid);
+    }
+    if !(some & answers) {
+        return Err(Refusal::NothingOutstanding);
+    }
+    Ok(())
 }
 
 #[tactic(auto, unfolding(group_protocol::specs::GroupCalls::group_marked, group_protocol::specs::Head::with_members))]
-fn marked(group: GroupRecord, member: Found) -> GroupRecord
+fn marked(group: GroupRecord, member: Option<usize>) -> GroupRecord
     ensures { result ≡ group_marked group member }
 {
     match member {
-        Found::Nowhere => group,
-        Found::At(j) => {
+        None => group,
+        Some(j) => {
             let members = membership::marked(group.members, j);
             let mut r = group;
             r.members = members;
@@ -153,21 +149,19 @@ pub fn acknowledge(
     way: Verdict,
     shared: Shared,
     group: GroupRecord,
-    member: Found,
+    member: Option<usize>,
     answer: Answer,
-) -> GroupAnswer
-    ensures { group_outcome shared result.verdict result.group silent
+) -> Decided<GroupRecord, ()>
+    ensures { group_outcome shared result.verdict result.after silent
         ≡ reached_group way silent shared group (acknowledge_group answer member shared group) }
 {
     let verdict = and_then(way, acknowledge_verdict(answer, member, group));
     match verdict {
-        Verdict::Refused(refusal) => GroupAnswer {
-            verdict: Verdict::Refused(refusal),
-            group,
-        },
-        Verdict::Accepted => GroupAnswer {
-            verdict: Verdict::Accepted,
-            group: marked(group, member),
+        Err(refusal) => Decided::refused(refusal, group, ()),
+        Ok(()) => Decided {
+            verdict: Ok(()),
+            after: marked(group, member),
+            handed: (),
         },
     }
 }

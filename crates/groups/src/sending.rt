@@ -2,7 +2,6 @@
 ghost use Rattle.std.specs.Prelude.{◌≡◌, ◌≤◌};
 ghost use Rattle.octets.specs.Choice.{pick};
 ghost use Rattle.octets.specs.Eqs.{max_eqs};
-ghost use Rattle.refusal.specs.declared.Verdict.TheVariants.{Accepted};
 ghost use Rattle.clock.specs.Ticks.{max_tick};
 ghost use Rattle.ends.specs.Keys.{only_key};
 ghost use Rattle.ends.specs.Records.{with_slots};
@@ -10,6 +9,7 @@ ghost use Rattle.ends.specs.declared.UnitKeys.{UnitKeys};
 ghost use Rattle.protocol.specs.Headers.{no_sending};
 ghost use Rattle.group_protocol.specs.GroupCalls.{send_group, wiped_at_switch};
 ghost use Rattle.groups.specs.Reached.{group_sent_outcome, reached_group};
+ghost use Rattle.refusal.specs.Verdict.{no_refusal};
 
 use crate::GroupSent;
 use crate::one_group::as_unit;
@@ -21,6 +21,7 @@ use refusal::Verdict;
 use unit::unit_traffic;
 
 // Whether the send switches.
+#[tactic(auto, unfolding(octets::specs::Choice::pick, group_protocol::specs::GroupCalls::wiped_at_switch))]
 fn is_next(choice: KeyChoice) -> bool
     ensures { (k : UnitKeys) → wiped_at_switch choice k ≡ pick result (with_slots k (only_key k.slots k.active)) k }
 {
@@ -33,7 +34,7 @@ fn is_next(choice: KeyChoice) -> bool
 }
 
 // At the switch the old key is wiped.
-#[tactic(auto, unfolding(ends::specs::Records::with_slots))]
+#[tactic(auto, using(octets::proofs::Choice::pick_true, octets::proofs::Choice::pick_false), unfolding(ends::specs::Records::with_slots))]
 fn wiped(choice: KeyChoice, keys: UnitKeys) -> UnitKeys
     ensures { result ≡ wiped_at_switch choice keys }
 {
@@ -47,7 +48,7 @@ fn wiped(choice: KeyChoice, keys: UnitKeys) -> UnitKeys
 }
 
 // 12, 13. A valid end's tick and a payload that fits are what the way to the group has judged.
-#[tactic(auto, unfolding(crate::specs::Reached::group_sent_outcome, unit::specs::Reached::sent_outcome, unit::specs::Reached::unit_sent, ends::specs::Records::with_keys, group_protocol::specs::AsUnit::as_unit, group_protocol::specs::Head::with_group_keys))]
+#[tactic(auto, using(crate::proofs::OneGroup::send_reached), unfolding(crate::specs::Reached::group_sent_outcome, unit::specs::Reached::sent_outcome, unit::specs::Reached::unit_sent, ends::specs::Records::with_keys, group_protocol::specs::AsUnit::as_unit, group_protocol::specs::Head::with_group_keys))]
 pub fn send(
     way: Verdict,
     shared: Shared,
@@ -56,7 +57,7 @@ pub fn send(
     channel: u8,
     eqs: u64,
 ) -> GroupSent
-    ensures { (way ≡ Accepted → (shared.tick ≤ max_tick) × (eqs ≤ max_eqs)) → group_sent_outcome result
+    ensures { (way ≡ no_refusal → (shared.tick ≤ max_tick) × (eqs ≤ max_eqs)) → group_sent_outcome result
         ≡ reached_group way no_sending shared group (send_group llid channel eqs shared group) }
 {
     let unit = as_unit(group, true);

@@ -1,4 +1,5 @@
 -- The walk of an advance along the groups. Assumes nothing.
+use Rattle.std.specs.Prelude.{Ok, Err}
 use mathlib.Core.Path.{◌≡◌, refl}
 use mathlib.Core.Bool.{Bool, true, false}
 use mathlib.Core.List.{List, map, ◌++◌}
@@ -15,8 +16,6 @@ use Rattle.octets.proofs.Tests.{all_one, all_weaker}
 use Rattle.octets.specs.Lists.{all}
 use Rattle.refusal.specs.Number.{verdict_number}
 use Rattle.refusal.specs.Order.{and_then, refuse_if}
-use Rattle.refusal.specs.declared.Verdict.{Verdict}
-use Rattle.refusal.specs.declared.Verdict.TheVariants.{Accepted, Refused}
 use Rattle.refusal.proofs.Numbers.{number_accepted}
 use Rattle.refusal.proofs.Order.{refuse_accepted, refused_accepts}
 use Rattle.clock.specs.Ticks.{max_tick}
@@ -37,6 +36,7 @@ use Rattle.group_protocol.specs.declared.GroupRecord.{GroupRecord}
 use Rattle.group_protocol.specs.declared.HeadEnd.{HeadEnd}
 use Rattle.headend.specs.HeadCalls.{groups_advanced, head_advanced, head_advance_of, head_answer, olt_moved_of}
 use Rattle.headend.proofs.NoGroups.{no_groups_invalid}
+use Rattle.refusal.specs.Verdict.{Verdict, no_refusal}
 
 -- the first i groups are moved
 abbrev pub groups_moved_to : ℕ → ℕ → List GroupRecord → List GroupRecord
@@ -64,7 +64,7 @@ head_order h n = on_valid (valid_head h) (advance_verdict h.olt.shared.tick n)
 
 -- 1 for the groups goes ahead of 17; in a valid OLT no group at all is groups that are valid
 sound_order : (z t v : Bool) (a : Verdict) → (z ≡ true → t ≡ false → v ≡ false)
-    → on_valid v (and_then (on_valid (either z t) Accepted) a) ≡ on_valid (both v t) a
+    → on_valid v (and_then (on_valid (either z t) no_refusal) a) ≡ on_valid (both v t) a
 unfolding either both refuse_if and_then
 sound_order false true true a k = refl
 sound_order false true false a k = refl
@@ -76,7 +76,7 @@ sound_order true false true a k = true_false (k refl refl)
 sound_order true false false a k = refl
 
 pub move_order-holds : (h : HeadEnd) (n : ℕ)
-    → move_order h.olt (on_valid (either (eqb h.groups.count 0) (valid_groups h)) Accepted) n ≡ head_order h n
+    → move_order h.olt (on_valid (either (eqb h.groups.count 0) (valid_groups h)) no_refusal) n ≡ head_order h n
 unfolding valid_head
 move_order-holds h n =
     sound_order (eqb h.groups.count 0) (valid_groups h) (valid_olt h.olt) (advance_verdict h.olt.shared.tick n)
@@ -88,7 +88,7 @@ pub record Advances (h : HeadEnd) (n : ℕ) : Type 0 where
   pub ticks : n ≤ max_tick
   pub timers : all (λ g. valid_timer g.keys.timer) (registered_groups h) ≡ true
 
-pub advances : (h : HeadEnd) (n : ℕ) → head_order h n ≡ Accepted → Advances h n
+pub advances : (h : HeadEnd) (n : ℕ) → head_order h n ≡ no_refusal → Advances h n
 unfolding valid_head valid_groups valid_group valid_keys
 advances h n e =
     let met = refuse_accepted _ _ _ e in
@@ -110,8 +110,8 @@ olt_moved h n v e = rw (← e) (by_verdict-holds v) where
   by_verdict-holds : (w : Verdict) → let r = head_answer (reply w h silent (head_advanced h n) silent) in
       ◌≡◌ {A = OltMoved} (record { olt = if_accepted w (olt_advanced h.olt n) h.olt; number = verdict_number w })
       (record { olt = r.head.olt; number = r.number })
-  by_verdict-holds Accepted = refl
-  by_verdict-holds (Refused x) = refl
+  by_verdict-holds (Ok tt) = refl
+  by_verdict-holds (Err x) = refl
 
 -- the groups that it leaves, accepted
 pub groups_go : (h : HeadEnd) (n : ℕ) → (head_advance_of h n).number ≡ 0
@@ -120,5 +120,5 @@ unfolding head_advance_of head_answer head_advanced reply
 groups_go h n = by_verdict-holds (head_order h n) refl where
   by_verdict-holds : (v : Verdict) → head_order h n ≡ v → let r = head_answer (reply v h silent (head_advanced h n) silent) in
       r.number ≡ 0 → (r.head.groups ≡ groups_advanced h.groups n) × Advances h n
-  by_verdict-holds Accepted e z = (refl, advances h n e)
-  by_verdict-holds (Refused x) e z = refused_accepts x (number_accepted (Refused x) z)
+  by_verdict-holds (Ok tt) e z = (refl, advances h n e)
+  by_verdict-holds (Err x) e z = refused_accepts x (number_accepted (Err x) z)

@@ -1,4 +1,5 @@
 -- Laws of send and receive at a head end: what the groups' validity and each verdict make of them. Assumes nothing.
+use Rattle.std.specs.Prelude.{Ok, Err}
 use mathlib.Core.Path.{◌≡◌, refl, sym, ap, ◌∙◌, subst}
 use mathlib.Core.Bool.{true, false}
 use mathlib.Core.List.{List}
@@ -12,8 +13,6 @@ use Rattle.octets.proofs.Choice.{both_left}
 use Rattle.refusal.specs.Number.{number_of, verdict_number}
 use Rattle.refusal.specs.Order.{and_then}
 use Rattle.refusal.specs.declared.Refusal.TheVariants.{OutOfRange}
-use Rattle.refusal.specs.declared.Verdict.{Verdict}
-use Rattle.refusal.specs.declared.Verdict.TheVariants.{Accepted, Refused}
 use Rattle.refusal.proofs.Order.{refuse_accepted, then_accepted}
 use Rattle.clock.specs.Ticks.{max_tick}
 use Rattle.envelope.specs.Acceptance.{seal_verdict}
@@ -27,7 +26,7 @@ use Rattle.unit.specs.Reached.{if_accepted}
 use Rattle.traffic.specs.Passages.{passage_nonce, passed, passed_work, output_after, carried_after, carried_fitting}
 use Rattle.traffic.specs.declared.OltReceived.{OltReceived}
 use Rattle.traffic.specs.declared.OltSent.{OltSent}
-use Rattle.traffic.specs.declared.carrying.Work.{Work}
+use Rattle.envelope.specs.declared.Work.{Work}
 use Rattle.traffic.proofs.Passages.{few_eqs, judged, down_fits, chosen_carried}
 use Rattle.group_protocol.specs.GroupCalls.{GroupOutcome, send_group}
 use Rattle.group_protocol.specs.Head.{group_at, valid_groups, valid_head, with_group, with_olt}
@@ -38,6 +37,7 @@ use Rattle.headend.specs.HeadTraffic.{group_send_of, head_not_received, head_not
 use Rattle.headend.specs.declared.HeadReceived.{HeadReceived}
 use Rattle.headend.specs.declared.HeadSent.{HeadSent}
 use Rattle.headend.proofs.HeadLift.{lift_group}
+use Rattle.refusal.specs.Verdict.{Verdict, no_refusal}
 
 ---- on the OLT: what it answers, or 1
 
@@ -75,10 +75,10 @@ module _ (h : HeadEnd) (out : List ℕ) where
 
 ---- on a group
 
-pub then_same : (v w : Verdict) → (v ≡ Accepted → w ≡ Accepted) → and_then v w ≡ v
+pub then_same : (v w : Verdict) → (v ≡ no_refusal → w ≡ no_refusal) → and_then v w ≡ v
 unfolding and_then
-then_same Accepted w h = h refl
-then_same (Refused r) w h = refl
+then_same (Ok tt) w h = h refl
+then_same (Err r) w h = refl
 
 -- a refused send counts nothing
 reached_carried : (way : Verdict) (s : Shared) (g : GroupRecord) (c : GroupOutcome Sending) (channel : ℕ) (p out : List ℕ)
@@ -98,21 +98,21 @@ module _ (h : HeadEnd) (i llid channel : ℕ) (p out : List ℕ) where
   send_decided = send_group llid channel (eqs_of p) h.olt.shared (group_at h i)
 
   -- what the way to a group has judged
-  way_shared : send_way ≡ Accepted → SharedInRange h.olt.shared
+  way_shared : send_way ≡ no_refusal → SharedInRange h.olt.shared
   unfolding valid_head
   way_shared e =
       let v = both_left _ _ (not-false _ (refuse_accepted _ _ _ e).0) in
       shared_in_range h.olt.shared (olt_in_range h.olt v).shared
 
-  pub send_within : send_way ≡ Accepted → (h.olt.shared.tick ≤ max_tick) × (eqs_of p ≤ max_eqs)
+  pub send_within : send_way ≡ no_refusal → (h.olt.shared.tick ≤ max_tick) × (eqs_of p ≤ max_eqs)
   send_within e = ((way_shared e).tick, few_eqs p out (refuse_accepted _ _ _ (refuse_accepted _ _ _ e).1).0)
 
   -- what a group is sent fits
-  send_fits : (x : GroupOutcome Sending) → x ≡ reached_group send_way no_sending h.olt.shared (group_at h i) send_decided → x.verdict ≡ Accepted
-      → seal_verdict (length p) (length out) (passage_nonce channel x.handed.passage) ≡ Accepted
+  send_fits : (x : GroupOutcome Sending) → x ≡ reached_group send_way no_sending h.olt.shared (group_at h i) send_decided → x.verdict ≡ no_refusal
+      → seal_verdict (length p) (length out) (passage_nonce channel x.handed.passage) ≡ no_refusal
   unfolding reached_group send_group sending_of passage_of if_accepted
   send_fits x e a =
-      let v : and_then send_way send_decided.verdict ≡ Accepted = sym (ap (λ (y : GroupOutcome Sending). y.verdict) e) ∙ a in
+      let v : and_then send_way send_decided.verdict ≡ no_refusal = sym (ap (λ (y : GroupOutcome Sending). y.verdict) e) ∙ a in
       let way = (then_accepted _ _ v).0 in
       let ahead = refuse_accepted _ _ _ (refuse_accepted _ _ _ way).1 in
       let s = way_shared way in

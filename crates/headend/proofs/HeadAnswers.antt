@@ -1,13 +1,10 @@
 -- What a verdict, the groups' validity and the group that is named make of an answer. Assumes nothing.
+use Rattle.std.specs.Prelude.{Err, Option, Some, None}
 use mathlib.Core.Path.{◌≡◌}
 use mathlib.Core.Bool.{true}
 use Prim.Native.Nat.{ℕ}
 use Rattle.octets.specs.Choice.{pick}
 use Rattle.refusal.specs.declared.Refusal.{Refusal}
-use Rattle.refusal.specs.declared.Verdict.{Verdict}
-use Rattle.refusal.specs.declared.Verdict.TheVariants.{Accepted, Refused}
-use Rattle.ends.specs.declared.Found.{Found}
-use Rattle.ends.specs.declared.Found.TheVariants.{At, Nowhere}
 use Rattle.protocol.specs.Replies.{reply, silent}
 use Rattle.protocol.specs.declared.ClockSent.{ClockSent}
 use Rattle.protocol.specs.declared.KeySent.{KeySent}
@@ -16,16 +13,17 @@ use Rattle.group_protocol.specs.Head.{valid_groups, with_olt}
 use Rattle.group_protocol.specs.declared.HeadEnd.{HeadEnd}
 use Rattle.headend.specs.HeadCalls.{head_answer, olt_answered, olt_clock_sent, olt_key_sent}
 use Rattle.group_protocol.specs.Naming.{by_llid}
+use Rattle.refusal.specs.Verdict.{Verdict, no_refusal}
 
 ---- by the verdict
 
-pub answer_refused : (h next : HeadEnd) (v : Verdict) (r : Refusal) → v ≡ Refused r
-    → head_answer (reply (Refused r) h silent h silent) ≡ head_answer (reply v h silent next silent)
+pub answer_refused : (h next : HeadEnd) (v : Verdict) (r : Refusal) → v ≡ Err r
+    → head_answer (reply (Err r) h silent h silent) ≡ head_answer (reply v h silent next silent)
 unfolding reply
 answer_refused h next v r e = rw e
 
-pub answer_accepted : (h next : HeadEnd) (v : Verdict) → v ≡ Accepted
-    → head_answer (reply Accepted next silent next silent) ≡ head_answer (reply v h silent next silent)
+pub answer_accepted : (h next : HeadEnd) (v : Verdict) → v ≡ no_refusal
+    → head_answer (reply no_refusal next silent next silent) ≡ head_answer (reply v h silent next silent)
 unfolding reply
 answer_accepted h next v e = rw e
 
@@ -48,10 +46,10 @@ module _ (h : HeadEnd) where
 
 ---- by the group that is named
 
-pub by_nowhere : {R : Type 0} (f : Found) (alone : R) (group : ℕ → R) → f ≡ Nowhere → alone ≡ by_llid f alone group
+pub by_nowhere : {R : Type 0} (f : Option ℕ) (alone : R) (group : ℕ → R) → f ≡ None → alone ≡ by_llid f alone group
 unfolding by_llid
 by_nowhere f alone group e = rw e
 
-pub by_at : {R : Type 0} (f : Found) (alone : R) (group : ℕ → R) (i : ℕ) → f ≡ At i → group i ≡ by_llid f alone group
+pub by_at : {R : Type 0} (f : Option ℕ) (alone : R) (group : ℕ → R) (i : ℕ) → f ≡ Some i → group i ≡ by_llid f alone group
 unfolding by_llid
 by_at f alone group i e = rw e

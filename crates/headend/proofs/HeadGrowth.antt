@@ -10,7 +10,6 @@ use Rattle.octets.proofs.Choice.{both_left, both_right, either_false, not_of_tru
 use Rattle.octets.proofs.Maps.{map_same, take_first}
 use Rattle.octets.proofs.Tests.{all_map}
 use Rattle.refusal.specs.declared.Refusal.TheVariants.{OutOfRange}
-use Rattle.refusal.specs.declared.Verdict.TheVariants.{Accepted}
 use Rattle.clock.specs.Ticks.{max_tick}
 use Rattle.refusal.proofs.Order.{refuse_accepted, refuse_passed}
 use Rattle.ends.specs.Identities.{distinct, meets}
@@ -40,6 +39,7 @@ use Rattle.group_protocol.proofs.HeadGroups.{more_groups_valid, unit_more_groups
 use Rattle.group_protocol.proofs.HeadValidity.{groups_in_range, groups_valid, head_in_range, head_valid}
 use Rattle.headend.specs.HeadCalls.{fresh_head_of, group_verdict, groups_advanced, head_advanced, head_advance_of, head_answer, head_register_of, register_group_of, roster_members, unit_verdict, valid_group_registration}
 use Rattle.headend.proofs.Registrations.{registered_olt, unit_accepted}
+use Rattle.refusal.specs.Verdict.{no_refusal}
 
 ---- fresh
 
@@ -53,7 +53,7 @@ valid_after_fresh mac clock =
 ---- one unit more
 
 unit_registered_valid : (h : HeadEnd) (i : Identity) (trip interval : ℕ) → length h.olt.units ≡ max_units → valid_head h ≡ true
-    → on_valid (valid_head h) (unit_verdict h i trip interval) ≡ Accepted
+    → on_valid (valid_head h) (unit_verdict h i trip interval) ≡ no_refusal
     → valid_head (with_olt h (with_one_more h.olt (fresh_unit i trip interval))) ≡ true
 unfolding unit_verdict valid_registration with_olt
 unit_registered_valid h i trip interval len v e =
@@ -79,7 +79,7 @@ valid_after_register h i trip interval len v = reply_keeps (λ (x : HeadEnd). va
 ---- one group more
 
 group_registered_valid : (h : HeadEnd) (llid interval : ℕ) → length h.groups.table ≡ max_units → valid_head h ≡ true → (m : Members) → on_valid
-    (valid_head h) (group_verdict h llid interval m) ≡ Accepted
+    (valid_head h) (group_verdict h llid interval m) ≡ no_refusal
     → valid_head (with_one_group_more h (fresh_group llid interval m)) ≡ true
 unfolding group_verdict valid_group_registration with_one_group_more fresh_group
 group_registered_valid h llid interval len v m e =
@@ -129,7 +129,7 @@ head_advanced_valid h n v k =
     head_valid (head_advanced h n) (record { olt = olt_advanced_valid h.olt n k r.olt; groups = advanced_groups_valid h n r.groups })
 
 -- accepted, it moves the groups with the OLT
-pub advance_moves : (h : HeadEnd) (n : ℕ) → valid_head h ≡ true → advance_verdict h.olt.shared.tick n ≡ Accepted
+pub advance_moves : (h : HeadEnd) (n : ℕ) → valid_head h ≡ true → advance_verdict h.olt.shared.tick n ≡ no_refusal
     → head_advance_of h n ≡ record { number = 0; head = head_advanced h n }
 unfolding head_advance_of head_answer
 advance_moves h n v e = ap head_answer (reply_accepted _ h silent (head_advanced h n) silent (refuse_passed _ OutOfRange _ (not_of_true v) ∙ e))

@@ -1,10 +1,9 @@
 -- What the place of a group makes of a call on it. Assumes nothing.
+use Rattle.std.specs.Prelude.{Ok, Err}
 use mathlib.Core.Path.{◌≡◌, refl}
 use mathlib.Core.Bool.{Bool, true, false}
 use Prim.Native.Nat.{ℕ}
 use lib.Seq.{set-get_or}
-use Rattle.refusal.specs.declared.Verdict.{Verdict}
-use Rattle.refusal.specs.declared.Verdict.TheVariants.{Accepted, Refused}
 use Rattle.refusal.specs.Order.{refuse_if, and_then}
 use Rattle.ends.specs.Records.{with_channels}
 use Rattle.ends.specs.Table.{with_olt_channels}
@@ -20,6 +19,7 @@ use Rattle.group_protocol.specs.declared.GroupRecord.{GroupRecord}
 use Rattle.group_protocol.specs.declared.HeadEnd.{HeadEnd}
 use Rattle.group_protocol.specs.Naming.{put_group, group_lift}
 use Rattle.groups.specs.Reached.{reached_group}
+use Rattle.refusal.specs.Verdict.{Verdict}
 
 -- 1 for the end comes ahead of all
 way_then : (t : Bool) (a v : Verdict) → and_then (on_valid t a) v ≡ on_valid t (and_then a v)
@@ -57,5 +57,5 @@ module _ {H : Type 0} (h : HeadEnd) (nothing : H) (ahead : Verdict) (call : Olt 
               handed = if_accepted v c.handed nothing;
             }
             ≡ reply v h nothing (with_group h i c.channels c.group) c.handed
-        by_verdict-holds Accepted = unfold if_accepted reply in refl
-        by_verdict-holds (Refused r) = unfold if_accepted reply in rw (with_group_itself h i)
+        by_verdict-holds (Ok tt) = unfold if_accepted reply in refl
+        by_verdict-holds (Err r) = unfold if_accepted reply in rw (with_group_itself h i)

@@ -1,4 +1,5 @@
 -- A valid head end stays valid after each call. Assumes nothing.
+use Rattle.std.specs.Prelude.{Option, Some, None}
 use mathlib.Core.Path.{◌≡◌, refl}
 use mathlib.Core.Bool.{true}
 use mathlib.Core.List.{List}
@@ -8,16 +9,12 @@ use lib.ListN.{length-take}
 use lib.Seq.{get_or-take}
 use Rattle.octets.proofs.Choice.{pick_holds}
 use Rattle.octets.proofs.Tests.{all_at}
-use Rattle.refusal.specs.declared.Verdict.{Verdict}
-use Rattle.refusal.specs.declared.Verdict.TheVariants.{Accepted}
 use Rattle.refusal.proofs.Order.{refuse_accepted, then_accepted}
 use Rattle.ends.specs.Occupancy.{valid_channels}
 use Rattle.ends.specs.Records.{with_clock, with_keys}
 use Rattle.ends.specs.Table.{registered, table_llids}
 use Rattle.ends.specs.Validity.{valid_olt}
 use Rattle.ends.specs.declared.Channels.{Channels}
-use Rattle.ends.specs.declared.Found.{Found}
-use Rattle.ends.specs.declared.Found.TheVariants.{At, Nowhere}
 use Rattle.ends.specs.declared.Olt.{Olt}
 use Rattle.ends.specs.declared.Shared.{Shared}
 use Rattle.ends.specs.declared.UnitRecord.{UnitRecord}
@@ -67,6 +64,7 @@ use Rattle.headend.specs.declared.HeadClockSent.{HeadClockSent}
 use Rattle.headend.specs.declared.HeadKeySent.{HeadKeySent}
 use Rattle.headend.specs.declared.HeadReceived.{HeadReceived}
 use Rattle.headend.specs.declared.HeadSent.{HeadSent}
+use Rattle.refusal.specs.Verdict.{Verdict, no_refusal}
 
 ---- the OLT replaced
 
@@ -121,7 +119,7 @@ pub record GroupKeeps {H : Type 0} (call : Olt → GroupRecord → GroupOutcome 
   pub channels : (o : Olt) (g : GroupRecord) → valid_olt o ≡ true → valid_channels (call o g).channels ≡ true
 
 pub group_lift_valid : {H : Type 0} (h : HeadEnd) (nothing : H) (ahead : Verdict) (call : Olt → GroupRecord → GroupOutcome H) (llid i : ℕ)
-    → (ahead ≡ Accepted → GroupKeeps call) → Stands h llid i → valid_head h ≡ true → valid_head (group_lift h nothing ahead call i).end ≡ true
+    → (ahead ≡ no_refusal → GroupKeeps call) → Stands h llid i → valid_head h ≡ true → valid_head (group_lift h nothing ahead call i).end ≡ true
 unfolding group_lift put_group
 group_lift_valid h nothing ahead call llid i keeps s v =
     reply_keeps (λ (x : HeadEnd). valid_head x ≡ true) _ h nothing _ _ v
@@ -164,7 +162,7 @@ module _ (h : HeadEnd) (v : valid_head h ≡ true) where
   pub valid_after_capture : (llid : ℕ) → valid_head (head_capture_of h llid).head ≡ true
   unfolding head_capture_of capture_of olt_answer
   valid_after_capture llid =
-      answered_after _ (lift_table h.olt silent Accepted llid capture_unit capture_keeps.identity)
+      answered_after _ (lift_table h.olt silent no_refusal llid capture_unit capture_keeps.identity)
       (capture_valid h.olt llid (head_in_range h v).olt)
 
   pub valid_after_measure : (llid trip : ℕ) → valid_head (head_measure_of h llid trip).head ≡ true
@@ -178,17 +176,17 @@ module _ (h : HeadEnd) (v : valid_head h ≡ true) where
   valid_after_clock_send llid =
       pick_holds (λ (x : HeadClockSent). valid_head x.head ≡ true) (valid_groups h) _ _
       (λ e.
-      with_olt_valid h _ (lift_table h.olt no_stamps Accepted llid clock_send_unit clock_send_keeps.identity)
+      with_olt_valid h _ (lift_table h.olt no_stamps no_refusal llid clock_send_unit clock_send_keeps.identity)
       (clock_send_valid h.olt llid (head_in_range h v).olt) v)
       (λ e. v)
 
 ---- calls on a unit or a group
 
-by_llid-holds : {R : Type 0} (P : R → Type 0) (f : Found) (alone : R) (group : ℕ → R) → P alone → ((i : ℕ) → f ≡ At i → P (group i))
+by_llid-holds : {R : Type 0} (P : R → Type 0) (f : Option ℕ) (alone : R) (group : ℕ → R) → P alone → ((i : ℕ) → f ≡ Some i → P (group i))
     → P (by_llid f alone group)
 unfolding by_llid
-by_llid-holds P Nowhere alone group p q = p
-by_llid-holds P (At i) alone group p q = q i refl
+by_llid-holds P None alone group p q = p
+by_llid-holds P (Some i) alone group p q = q i refl
 
 olt_channels : (o : Olt) → valid_olt o ≡ true → valid_channels o.shared.channels ≡ true
 olt_channels o v = (shared_in_range o.shared (olt_in_range o v).shared).channels
@@ -235,26 +233,26 @@ module _ (h : HeadEnd) (v : valid_head h ≡ true) where
   unfolding head_offer_of offer_of key_sent head_key_sent
   valid_after_offer llid key =
       by_llid-holds (λ (x : HeadKeySent). valid_head x.head ≡ true) (find_group h llid) _ _
-      (key_sent_after h v _ (lift_table h.olt no_key_message Accepted llid (offer_unit llid key) (offer_keeps llid key).identity)
+      (key_sent_after h v _ (lift_table h.olt no_key_message no_refusal llid (offer_unit llid key) (offer_keeps llid key).identity)
       (offer_valid h.olt llid key (head_in_range h v).olt))
-      (λ i f. group_lift_valid h no_key_message Accepted _ llid i (λ a. offer_group_keeps llid key) (group_at-holds h llid i f) v)
+      (λ i f. group_lift_valid h no_key_message no_refusal _ llid i (λ a. offer_group_keeps llid key) (group_at-holds h llid i f) v)
 
   pub valid_after_retry : (llid : ℕ) → valid_head (head_retry_of h llid).head ≡ true
   unfolding head_retry_of retry_of key_sent head_key_sent
   valid_after_retry llid =
       by_llid-holds (λ (x : HeadKeySent). valid_head x.head ≡ true) (find_group h llid) _ _
-      (key_sent_after h v _ (lift_table h.olt no_key_message Accepted llid (retry_unit llid) (retry_keeps llid).identity)
+      (key_sent_after h v _ (lift_table h.olt no_key_message no_refusal llid (retry_unit llid) (retry_keeps llid).identity)
       (retry_valid h.olt llid (head_in_range h v).olt))
-      (λ i f. group_lift_valid h no_key_message Accepted _ llid i (λ a. retry_group_keeps llid) (group_at-holds h llid i f) v)
+      (λ i f. group_lift_valid h no_key_message no_refusal _ llid i (λ a. retry_group_keeps llid) (group_at-holds h llid i f) v)
 
   pub valid_after_acknowledge : (llid : ℕ) (a : Answer) → valid_head (head_acknowledge_of h llid a).head ≡ true
   unfolding head_acknowledge_of acknowledge_of olt_answer head_answer
   valid_after_acknowledge llid a =
       by_llid-holds (λ (x : HeadAnswer). valid_head x.head ≡ true) (find_group h llid) _ _
       (answered_after h v _
-      (lift_table h.olt silent Accepted llid (acknowledge_unit (own_acknowledgement a)) (acknowledge_keeps (own_acknowledgement a)).identity)
+      (lift_table h.olt silent no_refusal llid (acknowledge_unit (own_acknowledgement a)) (acknowledge_keeps (own_acknowledgement a)).identity)
       (acknowledge_valid h.olt llid (own_acknowledgement a) (head_in_range h v).olt))
-      (λ i f. group_lift_valid h silent Accepted _ llid i (λ e. acknowledge_group_keeps a) (group_at-holds h llid i f) v)
+      (λ i f. group_lift_valid h silent no_refusal _ llid i (λ e. acknowledge_group_keeps a) (group_at-holds h llid i f) v)
 
   pub valid_after_send : (llid channel : ℕ) (p out : List ℕ) → valid_head (head_send_of h llid channel p out).answer.head ≡ true
   unfolding head_send_of olt_send_of olt_sent sending_olt head_sent

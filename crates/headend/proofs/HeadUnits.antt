@@ -1,4 +1,5 @@
 -- A call on a unit, made in the head end: 1 for the groups stands ahead, as 1 for the OLT does. Assumes nothing.
+use Rattle.std.specs.Prelude.{Err, Option}
 use mathlib.Core.Path.{◌≡◌, refl, ap, ◌∙◌}
 use mathlib.Core.Bool.{Bool, true, false}
 use Prim.Native.Nat.{ℕ}
@@ -8,12 +9,9 @@ use Rattle.octets.specs.Choice.{either, pick}
 use Rattle.refusal.specs.Number.{verdict_number}
 use Rattle.refusal.specs.Order.{and_then, refuse_if}
 use Rattle.refusal.specs.declared.Refusal.TheVariants.{OutOfRange}
-use Rattle.refusal.specs.declared.Verdict.{Verdict}
-use Rattle.refusal.specs.declared.Verdict.TheVariants.{Refused}
 use Rattle.clock.specs.declared.Stamps.{Stamps}
 use Rattle.ends.specs.Table.{find, unit_at, with_unit}
 use Rattle.ends.specs.Validity.{valid_olt}
-use Rattle.ends.specs.declared.Found.{Found}
 use Rattle.ends.specs.declared.Olt.{Olt}
 use Rattle.ends.specs.declared.Shared.{Shared}
 use Rattle.ends.specs.declared.UnitRecord.{UnitRecord}
@@ -34,9 +32,10 @@ use Rattle.group_protocol.specs.declared.HeadEnd.{HeadEnd}
 use Rattle.headend.specs.HeadCalls.{head_answer, head_key_sent, olt_answered, olt_clock_sent, olt_key_sent}
 use Rattle.headend.specs.declared.HeadClockSent.{HeadClockSent}
 use Rattle.headend.proofs.NoGroups.{no_groups_invalid}
+use Rattle.refusal.specs.Verdict.{Verdict}
 
 -- in a valid OLT no group at all is groups that are valid
-sound_located : (z t v : Bool) (ahead : Verdict) (f : Found) → (z ≡ true → t ≡ false → v ≡ false)
+sound_located : (z t v : Bool) (ahead : Verdict) (f : Option ℕ) → (z ≡ true → t ≡ false → v ≡ false)
     → located_after (on_valid v (on_valid (either z t) ahead)) f ≡ located_after (on_valid v (on_valid t ahead)) f
 unfolding either refuse_if
 sound_located false t v ahead f k = refl
@@ -55,14 +54,14 @@ abbrev pub in_head : {H : Type 0} → HeadEnd → Reply Olt H → Reply HeadEnd 
 in_head h r = record { verdict = r.verdict; end = with_olt h r.end; handed = r.handed }
 
 module _ {H : Type 0} (h : HeadEnd) (nothing : H) (llid : ℕ) (call : Shared → UnitRecord → Outcome H) where
-  refused_ahead : (v : Bool) → in_head h (after (on_valid v (Refused OutOfRange)) h.olt nothing (at_unit h.olt nothing call (find h.olt llid)))
-      ≡ reply (Refused OutOfRange) h nothing h nothing
+  refused_ahead : (v : Bool) → in_head h (after (on_valid v (Err OutOfRange)) h.olt nothing (at_unit h.olt nothing call (find h.olt llid)))
+      ≡ reply (Err OutOfRange) h nothing h nothing
   unfolding after refuse_if reply with_olt
   refused_ahead true = refl
   refused_ahead false = refl
 
   guarded : (ahead : Verdict) (t : Bool) → in_head h (lift h.olt nothing (on_valid t ahead) llid call)
-      ≡ pick t (in_head h (lift h.olt nothing ahead llid call)) (reply (Refused OutOfRange) h nothing h nothing)
+      ≡ pick t (in_head h (lift h.olt nothing ahead llid call)) (reply (Err OutOfRange) h nothing h nothing)
   unfolding lift pick refuse_if
   guarded ahead true = refl
   guarded ahead false = refused_ahead (valid_olt h.olt)
@@ -71,7 +70,7 @@ module _ {H : Type 0} (h : HeadEnd) (nothing : H) (llid : ℕ) (call : Shared �
   pub lift_guarded : (ahead : Verdict) (l : Located) (x : Outcome H) → l ≡ located_of h.olt (on_valid (valid_groups h) ahead) llid
       → x ≡ reached l.verdict nothing h.olt.shared (unit_at h.olt l.place) (call h.olt.shared (unit_at h.olt l.place))
       → record { verdict = x.verdict; end = with_olt h (with_unit h.olt l.place x.channels x.unit); handed = x.handed }
-      ≡ pick (valid_groups h) (in_head h (lift h.olt nothing ahead llid call)) (reply (Refused OutOfRange) h nothing h nothing)
+      ≡ pick (valid_groups h) (in_head h (lift h.olt nothing ahead llid call)) (reply (Err OutOfRange) h nothing h nothing)
   lift_guarded ahead l x e f =
       ap (in_head h) (lift_decided h.olt nothing (on_valid (valid_groups h) ahead) llid call l x e f) ∙ guarded ahead (valid_groups h)
 
@@ -91,36 +90,36 @@ unit_stays h llid l x e =
 abbrev pub head_clock_sent : Reply HeadEnd Stamps → HeadClockSent
 head_clock_sent r = record { number = verdict_number r.verdict; head = r.end; message = r.handed }
 
-answer_by : (h : HeadEnd) (r : Reply Olt Silence) (t : Bool) → head_answer (pick t (in_head h r) (reply (Refused OutOfRange) h silent h silent))
-    ≡ pick t (head_answer (in_head h r)) (head_answer (reply (Refused OutOfRange) h silent h silent))
+answer_by : (h : HeadEnd) (r : Reply Olt Silence) (t : Bool) → head_answer (pick t (in_head h r) (reply (Err OutOfRange) h silent h silent))
+    ≡ pick t (head_answer (in_head h r)) (head_answer (reply (Err OutOfRange) h silent h silent))
 unfolding pick
 answer_by h r true = refl
 answer_by h r false = refl
 
 pub answer_guarded : (h : HeadEnd) (r : Reply Olt Silence)
-    → head_answer (pick (valid_groups h) (in_head h r) (reply (Refused OutOfRange) h silent h silent)) ≡ olt_answered h (olt_answer r)
+    → head_answer (pick (valid_groups h) (in_head h r) (reply (Err OutOfRange) h silent h silent)) ≡ olt_answered h (olt_answer r)
 unfolding olt_answered olt_answer head_answer reply
 answer_guarded h r = answer_by h r (valid_groups h)
 
 key_by : (h : HeadEnd) (r : Reply Olt KeyMessage) (t : Bool)
-    → head_key_sent (pick t (in_head h r) (reply (Refused OutOfRange) h no_key_message h no_key_message))
-    ≡ pick t (head_key_sent (in_head h r)) (head_key_sent (reply (Refused OutOfRange) h no_key_message h no_key_message))
+    → head_key_sent (pick t (in_head h r) (reply (Err OutOfRange) h no_key_message h no_key_message))
+    ≡ pick t (head_key_sent (in_head h r)) (head_key_sent (reply (Err OutOfRange) h no_key_message h no_key_message))
 unfolding pick
 key_by h r true = refl
 key_by h r false = refl
 
 pub key_guarded : (h : HeadEnd) (r : Reply Olt KeyMessage)
-    → head_key_sent (pick (valid_groups h) (in_head h r) (reply (Refused OutOfRange) h no_key_message h no_key_message)) ≡ olt_key_sent h (key_sent r)
+    → head_key_sent (pick (valid_groups h) (in_head h r) (reply (Err OutOfRange) h no_key_message h no_key_message)) ≡ olt_key_sent h (key_sent r)
 unfolding olt_key_sent key_sent head_key_sent reply
 key_guarded h r = key_by h r (valid_groups h)
 
-clock_by : (h : HeadEnd) (r : Reply Olt Stamps) (t : Bool) → head_clock_sent (pick t (in_head h r) (reply (Refused OutOfRange) h no_stamps h no_stamps))
-    ≡ pick t (head_clock_sent (in_head h r)) (head_clock_sent (reply (Refused OutOfRange) h no_stamps h no_stamps))
+clock_by : (h : HeadEnd) (r : Reply Olt Stamps) (t : Bool) → head_clock_sent (pick t (in_head h r) (reply (Err OutOfRange) h no_stamps h no_stamps))
+    ≡ pick t (head_clock_sent (in_head h r)) (head_clock_sent (reply (Err OutOfRange) h no_stamps h no_stamps))
 unfolding pick
 clock_by h r true = refl
 clock_by h r false = refl
 
 pub clock_guarded : (h : HeadEnd) (r : Reply Olt Stamps)
-    → head_clock_sent (pick (valid_groups h) (in_head h r) (reply (Refused OutOfRange) h no_stamps h no_stamps)) ≡ olt_clock_sent h (clock_sent r)
+    → head_clock_sent (pick (valid_groups h) (in_head h r) (reply (Err OutOfRange) h no_stamps h no_stamps)) ≡ olt_clock_sent h (clock_sent r)
 unfolding olt_clock_sent clock_sent reply
 clock_guarded h r = clock_by h r (valid_groups h)

@@ -1,4 +1,5 @@
 -- Without groups each call of a head end answers as the OLT's own (02, C-14). Assumes nothing.
+use Rattle.std.specs.Prelude.{Ok, Err, None}
 use mathlib.Core.Path.{◌≡◌, refl, sym, ap, ◌∙◌}
 use mathlib.Core.Bool.{Bool, true, false, not}
 use mathlib.Core.List.{List, ◌++◌, map}
@@ -11,15 +12,12 @@ use Rattle.octets.specs.Lists.{all}
 use Rattle.octets.proofs.Choice.{both_false_left}
 use Rattle.refusal.specs.Number.{number_of}
 use Rattle.refusal.specs.declared.Refusal.TheVariants.{OutOfRange}
-use Rattle.refusal.specs.declared.Verdict.{Verdict}
-use Rattle.refusal.specs.declared.Verdict.TheVariants.{Accepted, Refused}
 use Rattle.envelope.specs.ControlMask.{eqs_of}
 use Rattle.sealing.specs.Seal.{count_carried, runs_carried}
 use Rattle.ends.specs.Identities.{distinct, llids_of, meets}
 use Rattle.ends.specs.Limits.{max_units}
 use Rattle.ends.specs.Table.{registered, table_llids}
 use Rattle.ends.specs.Validity.{valid_olt}
-use Rattle.ends.specs.declared.Found.TheVariants.{Nowhere}
 use Rattle.ends.specs.declared.Identity.{Identity}
 use Rattle.ends.specs.declared.Olt.{Olt}
 use Rattle.protocol.specs.Messages.{no_key_message, no_stamps}
@@ -47,9 +45,10 @@ use Rattle.headend.specs.HeadTraffic.{head_receive_of, head_send_of, olt_receive
 use Rattle.headend.specs.WithoutGroups.{WithoutGroups, answered_in, clock_sent_in, key_sent_in, received_in, sent_in}
 use Rattle.headend.proofs.GroupSends.{received_valid, sent_valid}
 use Rattle.headend.proofs.HeadAnswers.{answered_valid, clock_sent_valid, key_sent_valid, by_nowhere}
+use Rattle.refusal.specs.Verdict.{Verdict, no_refusal}
 
 module _ (h : HeadEnd) (none : h.groups.count ≡ 0) where
-  no_group-holds : (llid : ℕ) → find_group h llid ≡ Nowhere
+  no_group-holds : (llid : ℕ) → find_group h llid ≡ None
   unfolding find_group group_from
   no_group-holds llid = rw none
 
@@ -92,23 +91,23 @@ module _ (h : HeadEnd) (none : h.groups.count ≡ 0) where
   unfolding head_offer_of offer_of key_sent
   as_offer llid key =
       sym (by_nowhere (find_group h llid) _ _ (no_group-holds h none llid))
-      ∙ as_key_sent _ (λ e. ap key_sent (lift_invalid h.olt no_key_message Accepted llid (offer_unit llid key) e))
+      ∙ as_key_sent _ (λ e. ap key_sent (lift_invalid h.olt no_key_message no_refusal llid (offer_unit llid key) e))
 
   as_retry : (llid : ℕ) → head_retry_of h llid ≡ key_sent_in h (retry_of h.olt llid)
   unfolding head_retry_of retry_of key_sent
   as_retry llid =
       sym (by_nowhere (find_group h llid) _ _ (no_group-holds h none llid))
-      ∙ as_key_sent _ (λ e. ap key_sent (lift_invalid h.olt no_key_message Accepted llid (retry_unit llid) e))
+      ∙ as_key_sent _ (λ e. ap key_sent (lift_invalid h.olt no_key_message no_refusal llid (retry_unit llid) e))
 
   as_acknowledge : (llid : ℕ) (a : Answer) → head_acknowledge_of h llid a ≡ answered_in h (acknowledge_of h.olt llid (own_acknowledgement a))
   unfolding head_acknowledge_of acknowledge_of olt_answer
   as_acknowledge llid a =
       sym (by_nowhere (find_group h llid) _ _ (no_group-holds h none llid))
-      ∙ as_answered _ (λ e. ap olt_answer (lift_invalid h.olt silent Accepted llid (acknowledge_unit (own_acknowledgement a)) e))
+      ∙ as_answered _ (λ e. ap olt_answer (lift_invalid h.olt silent no_refusal llid (acknowledge_unit (own_acknowledgement a)) e))
 
   as_capture : (llid : ℕ) → head_capture_of h llid ≡ answered_in h (capture_of h.olt llid)
   unfolding head_capture_of capture_of olt_answer
-  as_capture llid = as_answered _ (λ e. ap olt_answer (lift_invalid h.olt silent Accepted llid capture_unit e))
+  as_capture llid = as_answered _ (λ e. ap olt_answer (lift_invalid h.olt silent no_refusal llid capture_unit e))
 
   as_measure : (llid trip : ℕ) → head_measure_of h llid trip ≡ answered_in h (measure_of h.olt llid trip)
   unfolding head_measure_of measure_of olt_answer
@@ -119,7 +118,7 @@ module _ (h : HeadEnd) (none : h.groups.count ≡ 0) where
   as_clock_send llid = by_valid (valid_groups h) refl where
     by_valid : (t : Bool) → valid_groups h ≡ t → let r = clock_send_of h.olt llid in olt_clock_sent h r ≡ clock_sent_in h r
     by_valid true e = sym (clock_sent_valid h _ e)
-    by_valid false e = rw (e, lift_invalid h.olt no_stamps Accepted llid clock_send_unit (no_groups_invalid h none e))
+    by_valid false e = rw (e, lift_invalid h.olt no_stamps no_refusal llid clock_send_unit (no_groups_invalid h none e))
 
 ---- register, advance, send, receive
 
@@ -148,8 +147,8 @@ module _ (h : HeadEnd) (none : h.groups.count ≡ 0) where
   reply_as_olt : (v : Verdict) (o : Olt) → head_answer (reply v h silent (with_olt h o) silent)
       ≡ answered_in h (olt_answer (reply v h.olt silent o silent))
   unfolding head_answer olt_answer reply with_olt
-  reply_as_olt Accepted o = refl
-  reply_as_olt (Refused r) o = refl
+  reply_as_olt (Ok tt) o = refl
+  reply_as_olt (Err r) o = refl
 
   as_register : (i : Identity) (trip interval : ℕ) → head_register_of h i trip interval ≡ answered_in h (register_of h.olt i trip interval)
   unfolding head_register_of register_of registering

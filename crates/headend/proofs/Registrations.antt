@@ -1,4 +1,5 @@
 -- What an accepted registration has met, the OLT's answer to one of a unit, and the members that one of a group names. Assumes nothing.
+use Rattle.std.specs.Prelude.{Ok, Err}
 use mathlib.Core.Path.{◌≡◌, refl, sym, ap, ◌∙◌}
 use mathlib.Core.Bool.{Bool, true, false}
 use mathlib.Core.List.{List}
@@ -15,8 +16,6 @@ use Rattle.octets.proofs.Lists.{tabulate_at, tabulate_ext, tabulate_length}
 use Rattle.octets.proofs.Maps.{map_at}
 use Rattle.refusal.specs.Number.{verdict_number}
 use Rattle.refusal.specs.declared.Refusal.TheVariants.{OutOfRange, RepeatedLlid, TableFull}
-use Rattle.refusal.specs.declared.Verdict.{Verdict}
-use Rattle.refusal.specs.declared.Verdict.TheVariants.{Accepted, Refused}
 use Rattle.refusal.proofs.Numbers.{number_accepted}
 use Rattle.refusal.proofs.Order.{refuse_accepted, refuse_passed, refused_accepts}
 use Rattle.ends.specs.Limits.{max_units}
@@ -34,12 +33,13 @@ use Rattle.group_protocol.specs.declared.HeadEnd.{HeadEnd}
 use Rattle.group_protocol.specs.declared.Members.{Members}
 use Rattle.group_protocol.specs.declared.Roster.{Roster}
 use Rattle.headend.specs.HeadCalls.{group_verdict, head_answer, head_register_of, place_found, roster_members, unit_verdict}
+use Rattle.refusal.specs.Verdict.{Verdict, no_refusal}
 
 ---- a unit
 
 -- what the head end accepts, its OLT accepts
-pub unit_accepted : (h : HeadEnd) (i : Identity) (trip interval : ℕ) → on_valid (valid_head h) (unit_verdict h i trip interval) ≡ Accepted
-    → register_order h.olt i trip interval ≡ Accepted
+pub unit_accepted : (h : HeadEnd) (i : Identity) (trip interval : ℕ) → on_valid (valid_head h) (unit_verdict h i trip interval) ≡ no_refusal
+    → register_order h.olt i trip interval ≡ no_refusal
 unfolding unit_verdict register_verdict valid_head
 unit_accepted h i trip interval e =
     let a = refuse_accepted _ _ _ e in
@@ -51,7 +51,7 @@ unit_accepted h i trip interval e =
     ∙ refuse_passed _ RepeatedLlid _ (either_false _ _ c.0).0
     ∙ refuse_passed _ TableFull _ (lt-leb max_units h.olt.count (omega (arith, leb-false max_units (places_taken h) d.0)))
 
-pub registered_olt : (o : Olt) (i : Identity) (trip interval : ℕ) → register_order o i trip interval ≡ Accepted
+pub registered_olt : (o : Olt) (i : Identity) (trip interval : ℕ) → register_order o i trip interval ≡ no_refusal
     → (register_of o i trip interval).olt ≡ with_one_more o (fresh_unit i trip interval)
 unfolding register_of registering olt_answer
 registered_olt o i trip interval e = ap (λ (r : Reply Olt Silence). r.end) (reply_accepted _ o silent _ silent e)
@@ -61,13 +61,13 @@ pub registered_by : (h : HeadEnd) (i : Identity) (trip interval : ℕ) (v : Verd
     → on_valid (valid_head h) (unit_verdict h i trip interval) ≡ v → (verdict_number v ≡ 0 → o ≡ with_one_more h.olt (fresh_unit i trip interval))
     → ((verdict_number v ≡ 0 → ⊥) → o ≡ h.olt) → head_register_of h i trip interval ≡ record { number = verdict_number v; head = with_olt h o }
 unfolding head_register_of head_answer reply with_olt
-registered_by h i trip interval Accepted o e more same = rw (e, more refl)
-registered_by h i trip interval (Refused r) o e more same = rw (e, same (λ z. refused_accepts r (number_accepted (Refused r) z)))
+registered_by h i trip interval (Ok tt) o e more same = rw (e, more refl)
+registered_by h i trip interval (Err r) o e more same = rw (e, same (λ z. refused_accepts r (number_accepted (Err r) z)))
 
 ---- a group
 
 -- a place is left for it
-pub group_room : (h : HeadEnd) (llid interval : ℕ) (m : Members) → on_valid (valid_head h) (group_verdict h llid interval m) ≡ Accepted
+pub group_room : (h : HeadEnd) (llid interval : ℕ) (m : Members) → on_valid (valid_head h) (group_verdict h llid interval m) ≡ no_refusal
     → h.groups.count < max_units
 unfolding group_verdict
 group_room h llid interval m e =

@@ -1,11 +1,10 @@
 -- The calls of a head end but send and receive (02, C-14). Assumes nothing.
-use Rattle.std.specs.Prelude.{Bool, not, List, ◌++◌, map, ℕ, leb, eqb, take, drop}
+use Rattle.std.specs.Prelude.{Bool, not, List, ◌++◌, map, ℕ, leb, eqb, take, drop, Option, Some, None, ⊤}
 use Rattle.octets.specs.Choice.{both, either, pick}
 use Rattle.refusal.specs.Number.{number_of, verdict_number}
 use Rattle.refusal.specs.Order.{refuse_if}
 use Rattle.refusal.specs.declared.Refusal.TheVariants.{OutOfRange, RepeatedLlid, TableFull, BadMember}
-use Rattle.refusal.specs.declared.Verdict.{Verdict}
-use Rattle.refusal.specs.declared.Verdict.TheVariants.{Accepted}
+use Rattle.clock.specs.declared.Stamps.{Stamps}
 use Rattle.ends.specs.Limits.{max_units}
 use Rattle.ends.specs.Timers.{valid_interval}
 use Rattle.ends.specs.Identities.{distinct, meets, llids_of}
@@ -13,8 +12,6 @@ use Rattle.ends.specs.Records.{fresh_unit}
 use Rattle.ends.specs.Table.{registered, table_llids, is_registered, find, with_one_more}
 use Rattle.ends.specs.declared.Identity.{Identity}
 use Rattle.ends.specs.declared.Olt.{Olt}
-use Rattle.ends.specs.declared.Found.{Found}
-use Rattle.ends.specs.declared.Found.TheVariants.{At, Nowhere}
 use Rattle.protocol.specs.Messages.{no_stamps, no_key_message, no_acknowledgement}
 use Rattle.protocol.specs.Replies.{Reply, reply, on_valid, Silence, silent, advance_verdict}
 use Rattle.protocol.specs.OltCalls.{fresh_olt_of, valid_registration, olt_advanced, capture_of, measure_of, clock_send_of, offer_of, retry_of, acknowledge_of}
@@ -34,13 +31,12 @@ use Rattle.group_protocol.specs.declared.Answer.{Answer}
 use Rattle.group_protocol.specs.Naming.{by_llid, group_lift}
 use Rattle.olt.specs.declared.OltMoved.{OltMoved}
 use Rattle.headend.specs.declared.HeadAnswer.{HeadAnswer}
-use Rattle.headend.specs.declared.HeadClockDone.{HeadClockDone}
 use Rattle.headend.specs.declared.HeadClockSent.{HeadClockSent}
 use Rattle.headend.specs.declared.HeadDone.{HeadDone}
-use Rattle.headend.specs.declared.HeadKeyDone.{HeadKeyDone}
 use Rattle.headend.specs.declared.HeadKeySent.{HeadKeySent}
 use Rattle.headend.specs.declared.HeadMoved.{HeadMoved}
 use Rattle.headend.specs.declared.Parts.{Parts}
+use Rattle.refusal.specs.Verdict.{Verdict, no_refusal}
 
 unfoldable pub head_answer : Reply HeadEnd Silence → HeadAnswer
 head_answer r = record { number = verdict_number r.verdict; head = r.end }
@@ -79,7 +75,7 @@ unit_verdict h i trip interval =
     (either (either (not (distinct (llids_of i))) (meets (llids_of i) (table_llids (registered h.olt))))
     (meets (group_llids (registered_groups h)) (llids_of i)))
     RepeatedLlid
-    (refuse_if (leb max_units (places_taken h)) TableFull Accepted))
+    (refuse_if (leb max_units (places_taken h)) TableFull no_refusal))
 
 unfoldable pub head_register_of : HeadEnd → Identity → ℕ → ℕ → HeadAnswer
 head_register_of h i trip interval =
@@ -90,9 +86,9 @@ head_register_of h i trip interval =
 ---- register a group: 1, 21, 3, 4
 
 -- the place of a unit that was found; where none was, one past the table
-unfoldable pub place_found : Found → ℕ
-place_found (At i) = i
-place_found Nowhere = max_units
+unfoldable pub place_found : Option ℕ → ℕ
+place_found (Some i) = i
+place_found None = max_units
 
 -- the members that are named, each by the place of its unit, under whichever of its LLIDs
 unfoldable pub roster_members : Olt → Roster → Members
@@ -108,7 +104,7 @@ group_verdict h llid interval m =
     refuse_if (not (valid_group_registration interval m)) OutOfRange
     (refuse_if (not (valid_members h.olt.count m)) BadMember
     (refuse_if (either (is_registered h.olt llid) (is_group h llid)) RepeatedLlid
-    (refuse_if (leb max_units (places_taken h)) TableFull Accepted)))
+    (refuse_if (leb max_units (places_taken h)) TableFull no_refusal)))
 
 unfoldable pub register_group_of : HeadEnd → ℕ → ℕ → Roster → HeadAnswer
 register_group_of h llid interval r =
@@ -151,7 +147,7 @@ head_clock_send_of h llid = olt_clock_sent h (clock_send_of h.olt llid)
 
 abbrev pub group_offer_of : HeadEnd → ℕ → List ℕ → ℕ → HeadKeySent
 group_offer_of h llid key i =
-    head_key_sent (group_lift h no_key_message Accepted (λ o g. offer_group llid key (members_set o g.members) o.shared g) i)
+    head_key_sent (group_lift h no_key_message no_refusal (λ o g. offer_group llid key (members_set o g.members) o.shared g) i)
 
 unfoldable pub head_offer_of : HeadEnd → ℕ → List ℕ → HeadKeySent
 head_offer_of h llid key = by_llid (find_group h llid) (olt_key_sent h (offer_of h.olt llid key)) (group_offer_of h llid key)
@@ -159,7 +155,7 @@ head_offer_of h llid key = by_llid (find_group h llid) (olt_key_sent h (offer_of
 ---- retry: 2, 8
 
 abbrev pub group_retry_of : HeadEnd → ℕ → ℕ → HeadKeySent
-group_retry_of h llid i = head_key_sent (group_lift h no_key_message Accepted (λ o g. retry_group llid o.shared g) i)
+group_retry_of h llid i = head_key_sent (group_lift h no_key_message no_refusal (λ o g. retry_group llid o.shared g) i)
 
 unfoldable pub head_retry_of : HeadEnd → ℕ → HeadKeySent
 head_retry_of h llid = by_llid (find_group h llid) (olt_key_sent h (retry_of h.olt llid)) (group_retry_of h llid)
@@ -172,7 +168,7 @@ own_acknowledgement a = pick (eqb a.named 0) (record { kind = a.kind; number = a
 
 abbrev pub group_acknowledge_of : HeadEnd → Answer → ℕ → HeadAnswer
 group_acknowledge_of h a i =
-    head_answer (group_lift h silent Accepted (λ o g. acknowledge_group a (member_named o g.members a) o.shared g) i)
+    head_answer (group_lift h silent no_refusal (λ o g. acknowledge_group a (member_named o g.members a) o.shared g) i)
 
 unfoldable pub head_acknowledge_of : HeadEnd → ℕ → Answer → HeadAnswer
 head_acknowledge_of h llid a =
@@ -183,11 +179,11 @@ head_acknowledge_of h llid a =
 abbrev pub parts_of : HeadEnd → Parts
 parts_of h = record { olt = h.olt; mac = h.olt.shared.mac; groups = h.groups; count = h.groups.count }
 
-abbrev pub head_done : HeadAnswer → HeadDone
-head_done r = record { parts = parts_of r.head; number = r.number }
+abbrev pub head_done : HeadAnswer → HeadDone ⊤
+head_done r = record { parts = parts_of r.head; handed = tt; number = r.number }
 
-abbrev pub head_clock_done : HeadClockSent → HeadClockDone
-head_clock_done r = record { parts = parts_of r.head; message = r.message; number = r.number }
+abbrev pub head_clock_done : HeadClockSent → HeadDone Stamps
+head_clock_done r = record { parts = parts_of r.head; handed = r.message; number = r.number }
 
-abbrev pub head_key_done : HeadKeySent → HeadKeyDone
-head_key_done r = record { parts = parts_of r.head; message = r.message; number = r.number }
+abbrev pub head_key_done : HeadKeySent → HeadDone KeyMessage
+head_key_done r = record { parts = parts_of r.head; handed = r.message; number = r.number }

@@ -1,18 +1,14 @@
 -- Send and receive of a head end: code, end, header, count, runs and output together (02, C-14). p is the payload, out the output as it
 -- was lent. Assumes nothing.
-use Rattle.std.specs.Prelude.{not, List, ℕ, length}
+use Rattle.std.specs.Prelude.{not, List, ℕ, length, Err, Option, Some, None}
 use Rattle.octets.specs.Choice.{both, pick}
 use Rattle.envelope.specs.ControlMask.{eqs_of}
 use Rattle.octets.specs.Output.{WithOutput, with_output}
 use Rattle.refusal.specs.Number.{verdict_number, number_of}
 use Rattle.refusal.specs.Order.{refuse_if}
 use Rattle.refusal.specs.declared.Refusal.TheVariants.{OutOfRange, BadLength, GroupLlid}
-use Rattle.refusal.specs.declared.Verdict.{Verdict}
-use Rattle.refusal.specs.declared.Verdict.TheVariants.{Accepted, Refused}
 use Rattle.envelope.specs.Acceptance.{lengths_fit}
 use Rattle.envelope.specs.Channels.{downstream, upstream}
-use Rattle.ends.specs.declared.Found.{Found}
-use Rattle.ends.specs.declared.Found.TheVariants.{At, Nowhere}
 use Rattle.protocol.specs.Headers.{valid_header, no_sending}
 use Rattle.protocol.specs.Replies.{Reply, on_valid}
 use Rattle.protocol.specs.declared.Header.{Header}
@@ -31,6 +27,7 @@ use Rattle.headend.specs.declared.HeadSendDone.{HeadSendDone}
 use Rattle.headend.specs.declared.HeadSent.{HeadSent}
 use Rattle.headend.specs.declared.HeadReceiptDone.{HeadReceiptDone}
 use Rattle.headend.specs.declared.HeadReceived.{HeadReceived}
+use Rattle.refusal.specs.Verdict.{Verdict, no_refusal}
 
 ---- send: 14, 1, 2, 5, 12, 13
 
@@ -67,7 +64,7 @@ head_sent r channel p out =
 
 -- what a send refuses ahead of 2
 abbrev pub send_ahead : List ℕ → List ℕ → ℕ → Verdict
-send_ahead p out channel = refuse_if (misfit p out) BadLength (refuse_if (not (downstream channel)) OutOfRange Accepted)
+send_ahead p out channel = refuse_if (misfit p out) BadLength (refuse_if (not (downstream channel)) OutOfRange no_refusal)
 
 abbrev pub group_send_of : HeadEnd → ℕ → ℕ → List ℕ → List ℕ → ℕ → WithOutput HeadSent
 group_send_of h llid channel p out i =
@@ -105,7 +102,7 @@ unfoldable pub group_receive_verdict : HeadEnd → Header → ℕ → ℕ → Ve
 group_receive_verdict h header n m =
     on_valid (valid_head h)
     (refuse_if (not (lengths_fit n m)) BadLength
-    (refuse_if (not (both (upstream header.channel) (valid_header header))) OutOfRange (Refused GroupLlid)))
+    (refuse_if (not (both (upstream header.channel) (valid_header header))) OutOfRange (Err GroupLlid)))
 
 unfoldable pub head_receive_of : HeadEnd → Header → List ℕ → List ℕ → WithOutput HeadReceived
 head_receive_of h header p out =
@@ -123,6 +120,6 @@ abbrev pub head_receipt_of : HeadEnd → Header → List ℕ → List ℕ → Wi
 head_receipt_of h header p out = receipt_done (head_receive_of h header p out)
 
 -- what a receipt is refused behind its own 14 and 1, by the group that has its LLID
-abbrev pub own_llid : Found → Verdict
-own_llid Nowhere = Accepted
-own_llid (At i) = Refused GroupLlid
+abbrev pub own_llid : Option ℕ → Verdict
+own_llid None = no_refusal
+own_llid (Some i) = Err GroupLlid

@@ -9,10 +9,10 @@ ghost use Rattle.headend.specs.HeadCalls.{fresh_head_of, group_retry_of, head_ac
 ghost use Rattle.headend.specs.WithoutGroups.{WithoutGroups};
 
 use crate::head_place::{group_named, locate_sound, sound_groups, way_to};
-use crate::{HeadAnswer, HeadClockDone, HeadDone, HeadKeyDone, Parts, answers, registering};
-use clock::MAX_ROUND_TRIP;
+use crate::{HeadAnswer, HeadDone, Parts, answers, registering};
+use clock::{MAX_ROUND_TRIP, Stamps};
 use ends::check_olt::valid_olt;
-use ends::{Found, Identity, Olt};
+use ends::{Identity, Olt};
 use group_protocol::{Answer, Groups, HeadEnd, MAX_GROUPS, Members, Roster};
 use groups::check_head::valid_groups;
 use groups::making::{fresh_group, no_groups};
@@ -42,7 +42,7 @@ pub fn fresh(mac: u64, clock: u64) -> HeadAnswer
 
 // Registers a unit. 3 and 4 know the groups.
 #[tactic(auto, unfolding(ends::specs::Table::with_one_more, group_protocol::specs::Head::with_olt, group_protocol::specs::Head::valid_head, octets::specs::Choice::both))]
-pub fn register(head: HeadEnd, identity: Identity, trip: u64, interval: u64) -> HeadDone
+pub fn register(head: HeadEnd, identity: Identity, trip: u64, interval: u64) -> HeadDone<()>
     ensures { result ≡ head_done (head_register_of head identity trip interval) }
 {
     let mut olt = head.olt;
@@ -66,6 +66,7 @@ pub fn register(head: HeadEnd, identity: Identity, trip: u64, interval: u64) -> 
             groups,
             count,
         },
+        handed: (),
         number,
     }
 }
@@ -81,8 +82,8 @@ pub fn register_group(head: HeadEnd, llid: u16, interval: u64, roster: Roster) -
     let members = registering::roster_members(head.olt, roster);
     let verdict = registering::group_verdict(head, valid & sound, found, llid, interval, members);
     match verdict {
-        Verdict::Refused(refusal) => answers::refused(head, refusal),
-        Verdict::Accepted => {
+        Err(refusal) => answers::refused(head, refusal),
+        Ok(()) => {
             let group = fresh_group(llid, interval, members);
             answers::accepted(registering::with_one_group_more(head, group))
         }
@@ -99,47 +100,36 @@ pub fn moved(head: HeadEnd, n: u64) -> OltMoved
     let kept = head.olt.shared;
     olt.shared = kept;
     let sound = sound_groups(head);
-    let ahead = refuse_if(!sound, Refusal::OutOfRange, Verdict::Accepted);
+    let ahead = refuse_if(!sound, Refusal::OutOfRange, Ok(()));
     olt::moved(olt, ahead, n)
 }
 
 // The timers of all groups, in an advance that is accepted. Other groups than those of a valid end stay within the table all the same.
-#[tactic(auto, unfolding(group_protocol::specs::Head::past_group, group_protocol::specs::Head::with_group_keys, ends::specs::Records::with_timer, crate::specs::HeadCalls::groups_advanced))]
 pub fn groups_moved(groups: Groups, n: u64) -> Groups
     ensures { (h : HeadEnd) → h.groups ≡ groups → (head_advance_of h n).number ≡ 0 → result ≡ (head_advance_of h n).head.groups }
 {
     let mut r = groups;
-    let mut i: usize = 0;
-    while i < MAX_GROUPS as usize {
-        if groups.count as usize <= i {
-            return r;
-        }
-        let mut group = r.table[i];
-        let mut keys = group.keys;
-        let timer = timer_advanced(keys.timer, n);
-        keys.timer = timer;
-        group.keys = keys;
-        r.table[i] = group;
-        i += 1;
+    for i in 0..groups.count.min(MAX_GROUPS) as usize {
+        r.table[i].keys.timer = timer_advanced(r.table[i].keys.timer, n);
     }
     r
 }
 
 // A group has no clock: its LLID is no unit's.
 #[tactic(auto, unfolding(crate::specs::HeadCalls::head_capture_of, protocol::specs::OltCalls::capture_of, crate::specs::HeadCalls::head_answer, protocol::specs::Lift::outcome, ends::specs::Table::with_unit, ends::specs::Records::with_channels, ends::specs::Table::past_unit, group_protocol::specs::Head::with_olt))]
-pub fn capture(head: HeadEnd, llid: u16) -> HeadDone
+pub fn capture(head: HeadEnd, llid: u16) -> HeadDone<()>
     ensures { result ≡ head_done (head_capture_of head llid) }
 {
     let mut olt = head.olt;
     let sound = valid_groups(head);
-    let at = locate_sound(head.olt, sound, Verdict::Accepted, llid);
+    let at = locate_sound(head.olt, sound, Ok(()), llid);
     let i = at.place;
     let way = at.verdict;
     let unit = olt.units[i];
     let done = calls::capture(way, olt.shared, unit);
     let verdict = done.verdict;
     let number = verdict_number(verdict);
-    let next = done.unit;
+    let next = done.after;
     olt.units[i] = next;
     let groups = head.groups;
     let mac = olt.shared.mac;
@@ -151,20 +141,17 @@ pub fn capture(head: HeadEnd, llid: u16) -> HeadDone
             groups,
             count,
         },
+        handed: (),
         number,
     }
 }
 
 // The round trip measured again (02, C-16). The unit's groups go on.
 #[tactic(auto, unfolding(crate::specs::HeadCalls::head_measure_of, protocol::specs::OltCalls::measure_of, crate::specs::HeadCalls::head_answer, protocol::specs::Lift::outcome, ends::specs::Table::with_unit, ends::specs::Records::with_channels, ends::specs::Table::past_unit, group_protocol::specs::Head::with_olt))]
-pub fn measure(head: HeadEnd, llid: u16, trip: u64) -> HeadDone
+pub fn measure(head: HeadEnd, llid: u16, trip: u64) -> HeadDone<()>
     ensures { result ≡ head_done (head_measure_of head llid trip) }
 {
-    let ahead = refuse_if(
-        !(trip <= MAX_ROUND_TRIP),
-        Refusal::OutOfRange,
-        Verdict::Accepted,
-    );
+    let ahead = refuse_if(!(trip <= MAX_ROUND_TRIP), Refusal::OutOfRange, Ok(()));
     let mut olt = head.olt;
     let sound = valid_groups(head);
     let at = locate_sound(head.olt, sound, ahead, llid);
@@ -174,7 +161,7 @@ pub fn measure(head: HeadEnd, llid: u16, trip: u64) -> HeadDone
     let done = calls::measure(way, olt.shared, unit, trip);
     let verdict = done.verdict;
     let number = verdict_number(verdict);
-    let next = done.unit;
+    let next = done.after;
     olt.units[i] = next;
     let groups = head.groups;
     let mac = olt.shared.mac;
@@ -186,157 +173,147 @@ pub fn measure(head: HeadEnd, llid: u16, trip: u64) -> HeadDone
             groups,
             count,
         },
+        handed: (),
         number,
     }
 }
 
 #[tactic(auto, unfolding(crate::specs::HeadCalls::head_clock_send_of, protocol::specs::OltCalls::clock_send_of, protocol::specs::Lift::outcome, ends::specs::Table::with_unit, ends::specs::Records::with_channels, ends::specs::Table::past_unit, group_protocol::specs::Head::with_olt))]
-pub fn clock_send(head: HeadEnd, llid: u16) -> HeadClockDone
+pub fn clock_send(head: HeadEnd, llid: u16) -> HeadDone<Stamps>
     ensures { result ≡ head_clock_done (head_clock_send_of head llid) }
 {
     let mut olt = head.olt;
     let sound = valid_groups(head);
-    let at = locate_sound(head.olt, sound, Verdict::Accepted, llid);
+    let at = locate_sound(head.olt, sound, Ok(()), llid);
     let i = at.place;
     let way = at.verdict;
     let unit = olt.units[i];
     let done = calls::clock_send(way, olt.shared, unit);
     let verdict = done.verdict;
     let number = verdict_number(verdict);
-    let next = done.unit;
-    let message = done.message;
+    let next = done.after;
+    let message = done.handed;
     olt.units[i] = next;
     let groups = head.groups;
     let mac = olt.shared.mac;
     let count = groups.count;
-    HeadClockDone {
+    HeadDone {
         parts: Parts {
             olt,
             mac,
             groups,
             count,
         },
-        message,
+        handed: message,
         number,
     }
 }
 
-// What a call that may name a unit or a group tells of it.
-#[derive(Clone, Copy)]
-struct Told {
-    verdict: Verdict,
-    message: KeyMessage,
-}
-
 // To a unit, or to a group, whose members' clocks must all be acknowledged.
 #[tactic(auto, unfolding(crate::specs::HeadCalls::head_key_sent, crate::specs::HeadCalls::head_offer_of, protocol::specs::OltCalls::offer_of, protocol::specs::Lift::outcome, ends::specs::Table::with_unit, ends::specs::Records::with_channels, ends::specs::Table::past_unit, group_protocol::specs::Head::with_olt, group_protocol::specs::GroupCalls::group_outcome, group_protocol::specs::Head::past_group, group_protocol::specs::Head::with_group, ends::specs::Table::with_olt_channels, group_protocol::specs::Head::valid_head, octets::specs::Choice::both))]
-pub fn offer(head: HeadEnd, llid: u16, key: [u8; 16]) -> HeadKeyDone
+pub fn offer(head: HeadEnd, llid: u16, key: [u8; 16]) -> HeadDone<KeyMessage>
     ensures { result ≡ head_key_done (head_offer_of head llid key) }
 {
     let found = group_named(head, llid);
     let mut olt = head.olt;
     let mut groups = head.groups;
     let sound = valid_groups(head);
-    let told = match found {
-        Found::Nowhere => {
-            let at = locate_sound(head.olt, sound, Verdict::Accepted, llid);
+    let (verdict, message) = match found {
+        None => {
+            let at = locate_sound(head.olt, sound, Ok(()), llid);
             let i = at.place;
             let way = at.verdict;
             let unit = olt.units[i];
             let done = calls::offer(way, olt.shared, unit, llid, key);
             let verdict = done.verdict;
-            let next = done.unit;
-            let message = done.message;
+            let next = done.after;
+            let message = done.handed;
             olt.units[i] = next;
-            Told { verdict, message }
+            (verdict, message)
         }
-        Found::At(i) => {
-            let way = way_to(head.olt, sound, Verdict::Accepted);
+        Some(i) => {
+            let way = way_to(head.olt, sound, Ok(()));
             let group = groups.table[i];
             let set = members_set(head.olt, group.members);
             let done = one_group::offer(way, olt.shared, group, set, llid, key);
             let verdict = done.verdict;
-            let next = done.group;
-            let message = done.message;
+            let next = done.after;
+            let message = done.handed;
             groups.table[i] = next;
-            Told { verdict, message }
+            (verdict, message)
         }
     };
-    let verdict = told.verdict;
     let number = verdict_number(verdict);
-    let message = told.message;
     let mac = olt.shared.mac;
     let count = groups.count;
-    HeadKeyDone {
+    HeadDone {
         parts: Parts {
             olt,
             mac,
             groups,
             count,
         },
-        message,
+        handed: message,
         number,
     }
 }
 
 // A retry changes nothing. `sound` says that the groups are valid.
 #[tactic(auto, unfolding(protocol::specs::OltCalls::retry_of, protocol::specs::Lift::outcome, ends::specs::Table::past_unit))]
-fn retry_unit(head: HeadEnd, sound: bool, llid: u16) -> Told
+fn retry_unit(head: HeadEnd, sound: bool, llid: u16) -> (Verdict, KeyMessage)
     requires { sound ≡ valid_groups head }
-    ensures { head_key_sent (record { verdict = result.verdict; end = head; handed = result.message }) ≡ olt_key_sent head (retry_of head.olt llid) }
+    ensures { head_key_sent (record { verdict = result.0; end = head; handed = result.1 }) ≡ olt_key_sent head (retry_of head.olt llid) }
 {
-    let at = locate_sound(head.olt, sound, Verdict::Accepted, llid);
+    let at = locate_sound(head.olt, sound, Ok(()), llid);
     let olt = head.olt;
     let i = at.place;
     let way = at.verdict;
     let unit = olt.units[i];
     let done = calls::retry(way, olt.shared, unit, llid);
     let verdict = done.verdict;
-    let message = done.message;
-    Told { verdict, message }
+    let message = done.handed;
+    (verdict, message)
 }
 
 #[tactic(auto, unfolding(group_protocol::specs::GroupCalls::group_outcome, group_protocol::specs::Head::past_group, group_protocol::specs::Head::valid_head, octets::specs::Choice::both))]
-fn retry_group(head: HeadEnd, sound: bool, i: usize, llid: u16) -> Told
+fn retry_group(head: HeadEnd, sound: bool, i: usize, llid: u16) -> (Verdict, KeyMessage)
     requires i_lt_max_units { i < max_units }
     requires sound_value { sound ≡ valid_groups head }
-    ensures { head_key_sent (record { verdict = result.verdict; end = head; handed = result.message }) ≡ group_retry_of head llid i }
+    ensures { head_key_sent (record { verdict = result.0; end = head; handed = result.1 }) ≡ group_retry_of head llid i }
 {
-    let way = way_to(head.olt, sound, Verdict::Accepted);
+    let way = way_to(head.olt, sound, Ok(()));
     let groups = head.groups;
     let group = groups.table[i];
     let done = one_group::retry(way, head.olt.shared, group, llid);
     let verdict = done.verdict;
-    let message = done.message;
-    Told { verdict, message }
+    let message = done.handed;
+    (verdict, message)
 }
 
 // The offer's number and key again.
 #[tactic(auto, unfolding(crate::specs::HeadCalls::head_key_sent, crate::specs::HeadCalls::head_retry_of))]
-pub fn retry(head: HeadEnd, llid: u16) -> HeadKeyDone
+pub fn retry(head: HeadEnd, llid: u16) -> HeadDone<KeyMessage>
     ensures { result ≡ head_key_done (head_retry_of head llid) }
 {
     let found = group_named(head, llid);
     let sound = valid_groups(head);
-    let told = match found {
-        Found::Nowhere => retry_unit(head, sound, llid),
-        Found::At(i) => retry_group(head, sound, i, llid),
+    let (verdict, message) = match found {
+        None => retry_unit(head, sound, llid),
+        Some(i) => retry_group(head, sound, i, llid),
     };
-    let verdict = told.verdict;
     let number = verdict_number(verdict);
-    let message = told.message;
     let olt = head.olt;
     let mac = olt.shared.mac;
     let groups = head.groups;
     let count = groups.count;
-    HeadKeyDone {
+    HeadDone {
         parts: Parts {
             olt,
             mac,
             groups,
             count,
         },
-        message,
+        handed: message,
         number,
     }
 }
@@ -357,23 +334,20 @@ fn own_acknowledgement(answer: Answer) -> Acknowledgement
 
 // The member that the answer names, by any LLID of its unit.
 #[tactic(auto, unfolding(group_protocol::specs::GroupCalls::member_named, octets::specs::Choice::pick, ends::specs::Table::find, group_protocol::specs::GroupCalls::member_found))]
-fn member_named(olt: Olt, members: Members, answer: Answer) -> Found
+fn member_named(olt: Olt, members: Members, answer: Answer) -> Option<usize>
     ensures { result ≡ member_named olt members answer }
 {
     if answer.named != 1 {
-        return Found::Nowhere;
+        return None;
     }
     let units = olt.units;
-    let found = ends::search::find(units, olt.count, answer.unit);
-    match found {
-        Found::Nowhere => Found::Nowhere,
-        Found::At(place) => member_at(members, place),
-    }
+    let place = ends::search::find(units, olt.count, answer.unit)?;
+    member_at(members, place)
 }
 
 // Of a unit, or of a group's member, which the answer names.
 #[tactic(auto, unfolding(crate::specs::HeadCalls::head_answer, crate::specs::HeadCalls::head_acknowledge_of, protocol::specs::OltCalls::acknowledge_of, protocol::specs::Lift::outcome, ends::specs::Table::with_unit, ends::specs::Records::with_channels, ends::specs::Table::past_unit, group_protocol::specs::Head::with_olt, group_protocol::specs::GroupCalls::group_outcome, group_protocol::specs::Head::past_group, group_protocol::specs::Head::with_group, ends::specs::Table::with_olt_channels, group_protocol::specs::Head::valid_head, octets::specs::Choice::both))]
-pub fn acknowledge(head: HeadEnd, llid: u16, answer: Answer) -> HeadDone
+pub fn acknowledge(head: HeadEnd, llid: u16, answer: Answer) -> HeadDone<()>
     ensures { result ≡ head_done (head_acknowledge_of head llid answer) }
 {
     let found = group_named(head, llid);
@@ -381,23 +355,23 @@ pub fn acknowledge(head: HeadEnd, llid: u16, answer: Answer) -> HeadDone
     let mut groups = head.groups;
     let sound = valid_groups(head);
     let verdict = match found {
-        Found::Nowhere => {
+        None => {
             let own = own_acknowledgement(answer);
-            let at = locate_sound(head.olt, sound, Verdict::Accepted, llid);
+            let at = locate_sound(head.olt, sound, Ok(()), llid);
             let i = at.place;
             let way = at.verdict;
             let unit = olt.units[i];
             let done = calls::acknowledge(way, olt.shared, unit, own);
-            let next = done.unit;
+            let next = done.after;
             olt.units[i] = next;
             done.verdict
         }
-        Found::At(i) => {
-            let way = way_to(head.olt, sound, Verdict::Accepted);
+        Some(i) => {
+            let way = way_to(head.olt, sound, Ok(()));
             let group = groups.table[i];
             let member = member_named(head.olt, group.members, answer);
             let done = one_group::acknowledge(way, olt.shared, group, member, answer);
-            let next = done.group;
+            let next = done.after;
             groups.table[i] = next;
             done.verdict
         }
@@ -412,6 +386,7 @@ pub fn acknowledge(head: HeadEnd, llid: u16, answer: Answer) -> HeadDone
             groups,
             count,
         },
+        handed: (),
         number,
     }
 }

@@ -6,40 +6,34 @@ ghost use Rattle.envelope.specs.Acceptance.{lengths_fit};
 ghost use Rattle.envelope.specs.Channels.{downstream, upstream};
 ghost use Rattle.refusal.specs.Order.{refuse_if};
 ghost use Rattle.refusal.specs.declared.Refusal.TheVariants.{BadLength, OutOfRange};
-ghost use Rattle.refusal.specs.declared.Verdict.TheVariants.{Accepted};
 ghost use Rattle.protocol.specs.Headers.{valid_header};
 ghost use Rattle.headend.specs.HeadTraffic.{head_receipt_of, head_send_done_of, own_llid};
+ghost use Rattle.refusal.specs.Verdict.{no_refusal};
 
 use crate::head_place::{group_named, locate_sound, way_to};
 use crate::{HeadReceiptDone, HeadSendDone, Parts};
-use ends::{Channels, Found};
 use envelope::{downstream, lengths_fit, upstream};
 use group_protocol::HeadEnd;
 use groups::check_head::valid_groups;
 use groups::sending;
 use octets::EQ_OCTETS;
-use protocol::{Header, Sending};
-use refusal::{Refusal, Verdict, refuse_if, verdict_number};
+use protocol::Header;
+use refusal::{Refusal, Verdict, verdict_number};
 use traffic::carrying::carry_fitting;
 use unit::passing::valid_header;
 
 // What a send refuses ahead of 2.
+#[tactic(auto, unfolding(refusal::specs::Order::refuse_if))]
 fn send_ahead(n: usize, m: usize, channel: u8) -> Verdict
-    ensures { result ≡ refuse_if (not (lengths_fit n m)) BadLength (refuse_if (not (downstream channel)) OutOfRange Accepted) }
+    ensures { result ≡ refuse_if (not (lengths_fit n m)) BadLength (refuse_if (not (downstream channel)) OutOfRange no_refusal) }
 {
-    refuse_if(
-        !lengths_fit(n, m),
-        Refusal::BadLength,
-        refuse_if(!downstream(channel), Refusal::OutOfRange, Verdict::Accepted),
-    )
-}
-
-// What a unit or a group decides on a send.
-#[derive(Clone, Copy)]
-struct Told {
-    verdict: Verdict,
-    channels: Channels,
-    sending: Sending,
+    if !lengths_fit(n, m) {
+        return Err(Refusal::BadLength);
+    }
+    if !downstream(channel) {
+        return Err(Refusal::OutOfRange);
+    }
+    Ok(())
 }
 
 // To a unit or to a group. A group's next accepted send with the flag up and O = A + 1 switches, acknowledged or not.
@@ -58,8 +52,8 @@ pub fn send(
     let mut olt = head.olt;
     let mut groups = head.groups;
     let sound = valid_groups(head);
-    let told = match found {
-        Found::Nowhere => {
+    let (verdict, channels, sending) = match found {
+        None => {
             let at = locate_sound(head.olt, sound, ahead, llid);
             let i = at.place;
             let way = at.verdict;
@@ -74,13 +68,9 @@ pub fn send(
             let channels = done.channels;
             let sending = done.sending;
             olt.units[i] = next;
-            Told {
-                verdict,
-                channels,
-                sending,
-            }
+            (verdict, channels, sending)
         }
-        Found::At(i) => {
+        Some(i) => {
             let way = way_to(head.olt, sound, ahead);
             let group = groups.table[i];
             let done = sending::send(way, olt.shared, group, llid, channel, eqs);
@@ -89,16 +79,9 @@ pub fn send(
             let channels = done.channels;
             let sending = done.sending;
             groups.table[i] = next;
-            Told {
-                verdict,
-                channels,
-                sending,
-            }
+            (verdict, channels, sending)
         }
     };
-    let verdict = told.verdict;
-    let channels = told.channels;
-    let sending = told.sending;
     let header = sending.header;
     let passage = sending.passage;
     let work = carry_fitting(verdict, passage, channel, payload, output);
@@ -122,26 +105,27 @@ pub fn send(
 }
 
 // What a receipt refuses ahead of 2, then the rest.
-#[tactic(auto, unfolding(octets::specs::Choice::both))]
+#[tactic(auto, unfolding(refusal::specs::Order::refuse_if, octets::specs::Choice::both))]
 fn receive_ahead(n: usize, m: usize, header: Header, rest: Verdict) -> Verdict
     ensures { result
         ≡ refuse_if (not (lengths_fit n m)) BadLength (refuse_if (not (both (upstream header.channel) (valid_header header))) OutOfRange rest) }
 {
-    let right = upstream(header.channel) & valid_header(header);
-    refuse_if(
-        !lengths_fit(n, m),
-        Refusal::BadLength,
-        refuse_if(!right, Refusal::OutOfRange, rest),
-    )
+    if !lengths_fit(n, m) {
+        return Err(Refusal::BadLength);
+    }
+    if !(upstream(header.channel) & valid_header(header)) {
+        return Err(Refusal::OutOfRange);
+    }
+    rest
 }
 
 // What stands in the way of a receipt behind its own 14 and 1: on a group's LLID the OLT receives nothing.
-fn own_llid(found: Found) -> Verdict
+fn own_llid(found: Option<usize>) -> Verdict
     ensures { result ≡ own_llid found }
 {
     match found {
-        Found::Nowhere => Verdict::Accepted,
-        Found::At(_) => Verdict::Refused(Refusal::GroupLlid),
+        None => Ok(()),
+        Some(_) => Err(Refusal::GroupLlid),
     }
 }
 
@@ -161,8 +145,8 @@ pub fn receive(head: HeadEnd, header: Header, octets: &[u8], output: &mut [u8]) 
     let unit = olt.units[i];
     let done = unit::unit_traffic::receive(way, olt.shared, unit, header);
     let verdict = done.verdict;
-    let next = done.unit;
-    let passage = done.passage;
+    let next = done.after;
+    let passage = done.handed;
     let work = carry_fitting(verdict, passage, header.channel, octets, output);
     let number = verdict_number(verdict);
     olt.units[i] = next;

@@ -39,30 +39,15 @@ pub struct Parts {
     pub count: u8,
 }
 
-// The answer of register, capture, measure and acknowledge.
+// What a call leaves, and what it hands over: the stamps of clock send, the message of offer and retry, `()` where that is nothing.
 #[derive(Clone, Copy)]
-pub struct HeadDone {
+pub struct HeadDone<T> {
     pub parts: Parts,
+    pub handed: T,
     pub number: u8,
 }
 
-// That of clock send.
-#[derive(Clone, Copy)]
-pub struct HeadClockDone {
-    pub parts: Parts,
-    pub message: Stamps,
-    pub number: u8,
-}
-
-// That of offer and retry.
-#[derive(Clone, Copy)]
-pub struct HeadKeyDone {
-    pub parts: Parts,
-    pub message: KeyMessage,
-    pub number: u8,
-}
-
-// That of send.
+// The answer of send.
 #[derive(Clone, Copy)]
 pub struct HeadSendDone {
     pub parts: Parts,

@@ -12,14 +12,14 @@ use ends::check_olt::valid_interval;
 use ends::limits::MAX_UNITS;
 use ends::llids::{distinct_llids, valid_identity};
 use ends::search::{find, meets_table};
-use ends::{Found, Identity, Olt};
+use ends::{Identity, Olt};
 use group_protocol::{GroupRecord, HeadEnd, Members, Roster};
 use groups::membership::{fresh_members, valid_members};
 use groups::search::{groups_meet, is_found, is_registered};
-use refusal::{Refusal, Verdict, refuse_if};
+use refusal::{Refusal, Verdict};
 
 // 1 for an end that is not `valid`, then a unit's own 1, 3 and 4.
-#[tactic(auto, unfolding(crate::specs::HeadCalls::unit_verdict, protocol::specs::OltCalls::valid_registration, octets::specs::Choice::both, octets::specs::Choice::either))]
+#[tactic(auto, unfolding(crate::specs::HeadCalls::unit_verdict, refusal::specs::Order::refuse_if, protocol::specs::OltCalls::valid_registration, octets::specs::Choice::both, octets::specs::Choice::either))]
 pub(crate) fn unit_verdict(
     head: HeadEnd,
     valid: bool,
@@ -29,32 +29,25 @@ pub(crate) fn unit_verdict(
 ) -> Verdict
     ensures { result ≡ on_valid valid (unit_verdict head identity trip interval) }
 {
+    if !valid {
+        return Err(Refusal::OutOfRange);
+    }
     let who = valid_identity(identity);
     let when = valid_interval(interval);
-    let ranged = who & ((trip <= MAX_ROUND_TRIP) & when);
-    let distinct = distinct_llids(identity);
+    if !(who & ((trip <= MAX_ROUND_TRIP) & when)) {
+        return Err(Refusal::OutOfRange);
+    }
     let units = head.olt.units;
     let met = meets_table(units, head.olt.count, identity);
     let table = head.groups.table;
     let grouped = groups_meet(table, head.groups.count, identity);
-    let places = head.olt.count as u64 + head.groups.count as u64;
-    refuse_if(
-        !valid,
-        Refusal::OutOfRange,
-        refuse_if(
-            !ranged,
-            Refusal::OutOfRange,
-            refuse_if(
-                (!distinct | met) | grouped,
-                Refusal::RepeatedLlid,
-                refuse_if(
-                    MAX_UNITS as u64 <= places,
-                    Refusal::TableFull,
-                    Verdict::Accepted,
-                ),
-            ),
-        ),
-    )
+    if (!distinct_llids(identity) | met) | grouped {
+        return Err(Refusal::RepeatedLlid);
+    }
+    if MAX_UNITS as u64 <= head.olt.count as u64 + head.groups.count as u64 {
+        return Err(Refusal::TableFull);
+    }
+    Ok(())
 }
 
 // The place of the unit that has the LLID, or one past the table.
@@ -65,8 +58,8 @@ fn place_of(olt: Olt, llid: u16) -> u8
     let units = olt.units;
     let found = find(units, olt.count, llid);
     match found {
-        Found::At(i) => i as u8,
-        Found::Nowhere => MAX_UNITS,
+        Some(i) => i as u8,
+        None => MAX_UNITS,
     }
 }
 
@@ -88,11 +81,11 @@ pub(crate) fn roster_members(olt: Olt, roster: Roster) -> Members
 }
 
 // 1 for an end that is not `valid`, then a group's own 1, 21, 3 and 4. `found` is the group that has the LLID already.
-#[tactic(auto, unfolding(crate::specs::HeadCalls::group_verdict, crate::specs::HeadCalls::valid_group_registration, group_protocol::specs::Head::find_group, octets::specs::Choice::both, octets::specs::Choice::either))]
+#[tactic(auto, using(group_protocol::proofs::Llids::found_among), unfolding(crate::specs::HeadCalls::group_verdict, refusal::specs::Order::refuse_if, crate::specs::HeadCalls::valid_group_registration, group_protocol::specs::Head::find_group, octets::specs::Choice::both, octets::specs::Choice::either))]
 pub(crate) fn group_verdict(
     head: HeadEnd,
     valid: bool,
-    found: Found,
+    found: Option<usize>,
     llid: u16,
     interval: u64,
     members: Members,
@@ -100,34 +93,23 @@ pub(crate) fn group_verdict(
     requires { found ≡ find_group head llid }
     ensures { result ≡ on_valid valid (group_verdict head llid interval members) }
 {
-    let when = valid_interval(interval);
-    let ranged = (1 <= members.count) & when;
-    let named = valid_members(head.olt.count, members);
+    if !valid {
+        return Err(Refusal::OutOfRange);
+    }
+    if !((1 <= members.count) & valid_interval(interval)) {
+        return Err(Refusal::OutOfRange);
+    }
+    if !valid_members(head.olt.count, members) {
+        return Err(Refusal::BadMember);
+    }
     let units = head.olt.units;
-    let unit = is_registered(units, head.olt.count, llid);
-    let group = is_found(found);
-    let places = head.olt.count as u64 + head.groups.count as u64;
-    refuse_if(
-        !valid,
-        Refusal::OutOfRange,
-        refuse_if(
-            !ranged,
-            Refusal::OutOfRange,
-            refuse_if(
-                !named,
-                Refusal::BadMember,
-                refuse_if(
-                    unit | group,
-                    Refusal::RepeatedLlid,
-                    refuse_if(
-                        MAX_UNITS as u64 <= places,
-                        Refusal::TableFull,
-                        Verdict::Accepted,
-                    ),
-                ),
-            ),
-        ),
-    )
+    if is_registered(units, head.olt.count, llid) | is_found(found) {
+        return Err(Refusal::RepeatedLlid);
+    }
+    if MAX_UNITS as u64 <= head.olt.count as u64 + head.groups.count as u64 {
+        return Err(Refusal::TableFull);
+    }
+    Ok(())
 }
 
 // One group more, in the first place that is not in use.

@@ -7,7 +7,7 @@ use lib.Dec.{eqb}
 use lib.ListN.{length}
 use Rattle.octets.specs.Output.{with_output}
 use Rattle.envelope.specs.declared.Nonce.{Nonce}
-use Rattle.envelope.specs.declared.SealAnswer.{SealAnswer}
+use Rattle.envelope.specs.Answer.{SealAnswer}
 use Rattle.sealing.specs.Seal.{sealing}
 use Rattle.jazmotip.specs.Payloads.{payload_answer, flag_denied, sealing_by, in_numbers}
 
@@ -25,3 +25,6 @@ module _ (w : List ℕ) (n : Nonce) (p out : List ℕ) where
   flag_sealed zero a o h e = ap in_numbers e
   flag_sealed (suc zero) a o h e = ap in_numbers e
   flag_sealed (suc (suc f)) a o h e = absurd (omega arith)
+
+-- as attributes name it
+pub ruleset denied = (flag_denied-holds)

@@ -2,10 +2,10 @@
 use Rattle.std.specs.Prelude.{ℕ}
 use Rattle.octets.specs.Output.{WithOutput, with_output}
 use Rattle.refusal.specs.Number.{verdict_number}
-use Rattle.refusal.specs.declared.Verdict.{Verdict}
 use Rattle.reading.specs.declared.NearAnswer.{NearAnswer}
 use Rattle.jazmotip.specs.declared.blocks.BlockAnswer.{BlockAnswer}
 use Rattle.jazmotip.specs.Blocks.{block_answer}
+use Rattle.refusal.specs.Verdict.{Verdict}
 
 -- a block opened in the usual way, which corrects no clock
 abbrev pub opened_for : WithOutput NearAnswer → WithOutput BlockAnswer

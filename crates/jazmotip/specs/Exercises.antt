@@ -1,6 +1,5 @@
 -- What a script comes to, in numbers (02, C-23). Assumes nothing.
-use Rattle.exercise.specs.declared.Answer.{Answer}
-use Rattle.exercise.specs.Losses.{answer_number, answer_step}
+use Rattle.exercise.specs.Losses.{Answer, answer_number, answer_step}
 use Rattle.jazmotip.specs.declared.exercises.FirstLoss.{FirstLoss}
 
 abbrev pub loss_told : Answer → FirstLoss

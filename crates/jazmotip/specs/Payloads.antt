@@ -1,20 +1,19 @@
 -- Sealing with EncEnabled as a number, and its answer in numbers (01, Counter block and mask; When the reader says no: 14, 1).
 -- Assumes nothing.
+use Rattle.std.specs.Prelude.{Err}
 use Rattle.std.specs.Prelude.{true, false, List, ℕ, zero, suc, length}
 use Rattle.octets.specs.Choice.{pick}
 use Rattle.octets.specs.Output.{WithOutput, with_output}
 use Rattle.refusal.specs.declared.Refusal.TheVariants.{OutOfRange, BadLength}
 use Rattle.envelope.specs.Acceptance.{lengths_fit}
-use Rattle.envelope.specs.Answer.{seal_number, seal_count, seal_runs}
+use Rattle.envelope.specs.Answer.{SealAnswer, seal_number, seal_count, seal_runs}
 use Rattle.envelope.specs.declared.Nonce.{Nonce}
-use Rattle.envelope.specs.declared.SealAnswer.{SealAnswer}
-use Rattle.envelope.specs.declared.SealAnswer.TheVariants.{Denied}
 use Rattle.sealing.specs.Seal.{sealing}
 use Rattle.jazmotip.specs.declared.payloads.PayloadAnswer.{PayloadAnswer}
 
 -- a flag above 1 is a value outside its range: 14, then 1
 unfoldable pub flag_denied : ℕ → ℕ → SealAnswer
-flag_denied n m = Denied (pick (lengths_fit n m) OutOfRange BadLength)
+flag_denied n m = Err (pick (lengths_fit n m) OutOfRange BadLength)
 
 -- EncEnabled 0 and 1 are the clear and the enciphered envelope of `sealing`
 unfoldable pub sealing_by : ℕ → List ℕ → Nonce → List ℕ → List ℕ → WithOutput SealAnswer

@@ -2,8 +2,8 @@
 use Rattle.std.specs.Prelude.{ℕ}
 use Rattle.octets.specs.Output.{WithOutput, with_output}
 use Rattle.refusal.specs.Number.{verdict_number, verdict_pair}
-use Rattle.refusal.specs.declared.Verdict.{Verdict}
 use Rattle.jazmotip.specs.declared.stored.StoreAnswer.{StoreAnswer}
+use Rattle.refusal.specs.Verdict.{Verdict}
 
 -- of a payload: 0, or 14
 abbrev pub payload_stored : WithOutput Verdict → WithOutput ℕ

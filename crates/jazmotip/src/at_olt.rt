@@ -76,9 +76,8 @@ fn advanced(olt: HeadEnd, n: u64) -> AfterAdvance
 {
     let done = at_head::moved(olt, n);
     let number = done.number;
-    let next = done.olt;
     AfterAdvance {
-        olt: next,
+        olt: done.olt,
         number,
         grouped: (number == 0) & (olt.groups.count != 0),
     }
@@ -99,8 +98,7 @@ pub extern "C" fn jazmotip_olt_advance(olt: &mut HeadEnd, n: u64) -> u8
     let answer = advanced(*olt, n);
     olt.olt = answer.olt;
     if answer.grouped {
-        let groups = groups_after(olt.groups, n);
-        olt.groups = groups;
+        olt.groups = groups_after(olt.groups, n);
     }
     answer.number
 }
@@ -136,11 +134,10 @@ pub extern "C" fn jazmotip_olt_clock_send(olt: HeadEnd, llid: u16) -> HeadClockS
 {
     let done = at_head::clock_send(olt, llid);
     let head = whole(done.parts);
-    let message = done.message;
     HeadClockSent {
         number: done.number,
         head,
-        message,
+        message: done.handed,
     }
 }
 
@@ -150,11 +147,10 @@ pub extern "C" fn jazmotip_olt_offer(olt: HeadEnd, llid: u16, key: &[u8; 16]) ->
 {
     let done = at_head::offer(olt, llid, *key);
     let head = whole(done.parts);
-    let message = done.message;
     HeadKeySent {
         number: done.number,
         head,
-        message,
+        message: done.handed,
     }
 }
 
@@ -164,11 +160,10 @@ pub extern "C" fn jazmotip_olt_retry(olt: HeadEnd, llid: u16) -> HeadKeySent
 {
     let done = at_head::retry(olt, llid);
     let head = whole(done.parts);
-    let message = done.message;
     HeadKeySent {
         number: done.number,
         head,
-        message,
+        message: done.handed,
     }
 }
 
@@ -200,11 +195,10 @@ pub extern "C" fn jazmotip_olt_send(
 {
     let done = head_traffic::send(olt, llid, channel, payload, output);
     let head = whole(done.parts);
-    let header = done.header;
     HeadSent {
         number: done.number,
         head,
-        header,
+        header: done.header,
         count: done.count,
         runs: done.runs,
     }

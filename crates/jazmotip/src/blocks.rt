@@ -1,5 +1,6 @@
 // The capture reader (01, Capture block). What its calls decide is numbers here, and a payload is an offset and a length in the
-// caller's block, since a part of it can't be returned to C.
+// caller's block, since a part of it can't be returned to C. Calls that are alike have a name each here, and in the files beside this one,
+// since C has no generic ones.
 ghost use Rattle.std.specs.Prelude.{◌≡◌, ◌+◌, ◌≤◌, length, take, drop};
 ghost use Rattle.octets.specs.Lists.{part};
 ghost use Rattle.octets.specs.Output.{with_output};
@@ -15,10 +16,11 @@ ghost use Rattle.jazmotip.specs.Blocks.{block_directory, block_verdict, block_pa
 use capture::listing::{LISTING_OCTETS, list};
 use capture::opening::{keys_expanded, octets_opened, open};
 use capture::verdict::{ask, verdicts};
+use directory::check;
 use directory::payload::{Bounds, locate};
-use directory::{Directory, check};
 use reading::OpenAnswer;
-use records::header::RecordVerdict;
+use records::header::{Access, RecordVerdict};
+use refusal::Refusal;
 
 // In each answer, `pair` is the first pair that does not fit, from 1, for 18 and 19, else 0.
 #[repr(C)]
@@ -64,17 +66,17 @@ pub struct BlockAnswer {
     pub runs: u64,
 }
 
-pub(crate) fn directory_in_numbers(directory: Directory) -> BlockDirectory
+pub(crate) fn directory_in_numbers(directory: Result<u16, Refusal>) -> BlockDirectory
     ensures { result ≡ block_directory directory }
 {
     match directory {
-        Directory::Good(n) => BlockDirectory {
+        Ok(n) => BlockDirectory {
             number: 0,
             pair: 0,
             records: n as usize,
         },
-        Directory::Bad(refusal) => BlockDirectory {
-            number: refusal::number(refusal),
+        Err(refusal) => BlockDirectory {
+            number: u8::from(refusal),
             pair: refusal::pair(refusal),
             records: 0,
         },
@@ -84,30 +86,16 @@ pub(crate) fn directory_in_numbers(directory: Directory) -> BlockDirectory
 pub(crate) fn verdict_in_numbers(verdict: RecordVerdict) -> BlockVerdict
     ensures { result ≡ block_verdict verdict }
 {
-    let number = records::header::number(verdict);
-    let pair = records::header::pair(verdict);
-    match verdict {
-        RecordVerdict::Clear => BlockVerdict {
-            number,
-            encenabled: 0,
-            enckey: 0,
-            pair,
-            clock: 0,
-        },
-        RecordVerdict::Sealed(index, clock) => BlockVerdict {
-            number,
-            encenabled: 1,
-            enckey: index,
-            pair,
-            clock,
-        },
-        RecordVerdict::Refused(_) => BlockVerdict {
-            number,
-            encenabled: 0,
-            enckey: 0,
-            pair,
-            clock: 0,
-        },
+    let (encenabled, enckey, clock) = match verdict {
+        Ok(Access::Sealed(index, clock)) => (1, index, clock),
+        _ => (0, 0, 0),
+    };
+    BlockVerdict {
+        number: records::header::number(verdict),
+        encenabled,
+        enckey,
+        pair: records::header::pair(verdict),
+        clock,
     }
 }
 
@@ -124,24 +112,17 @@ pub(crate) fn answer_in_numbers(answer: OpenAnswer) -> BlockAnswer
 }
 
 // A part of the caller's block crosses as its offset and length (D124).
-fn part_in_numbers(bounds: Bounds) -> BlockPart
+fn part_in_numbers(bounds: Result<Bounds, Refusal>) -> BlockPart
     ensures { result ≡ block_part bounds }
 {
     let number = directory::payload::number(bounds);
     let pair = directory::payload::pair(bounds);
-    match bounds {
-        Bounds::Within(from, octets) => BlockPart {
-            number,
-            pair,
-            offset: from,
-            length: octets,
-        },
-        Bounds::Refused(_) => BlockPart {
-            number,
-            pair,
-            offset: 0,
-            length: 0,
-        },
+    let Bounds { from, octets } = bounds.unwrap_or(Bounds { from: 0, octets: 0 });
+    BlockPart {
+        number,
+        pair,
+        offset: from,
+        length: octets,
     }
 }
 

@@ -34,9 +34,7 @@ pub extern "C" fn jazmotip_class_open(
     ensures reader { Reader false caller sets.now rights.now block.now output.old }
     ensures example { Example }
 {
-    let near = open_for(false, caller, sets, rights, block, output);
-    let opened = near.opened;
-    answer_in_numbers(opened)
+    answer_in_numbers(open_for(false, caller, sets, rights, block, output).opened)
 }
 
 #[unsafe(no_mangle)]
@@ -54,9 +52,8 @@ pub extern "C" fn jazmotip_class_open_near(
     ensures example { Example }
 {
     let near = open_for(true, caller, sets, rights, block, output);
-    let opened = near.opened;
     BlockNearAnswer {
-        answer: answer_in_numbers(opened),
+        answer: answer_in_numbers(near.opened),
         smallest: near.smallest,
         largest: near.largest,
     }
@@ -107,6 +104,5 @@ pub extern "C" fn jazmotip_class_load(
         ≡ key_loaded (loading caller sets.old rights.now llid index key.now) }
     ensures loads_one { LoadsOne caller sets.old rights.now llid index key.now }
 {
-    let verdict = load(caller, sets, rights, llid, index, key);
-    verdict_number(verdict)
+    verdict_number(load(caller, sets, rights, llid, index, key))
 }

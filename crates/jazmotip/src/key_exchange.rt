@@ -16,32 +16,26 @@ use xgpon::values::KeyExchange;
 #[repr(C)]
 #[derive(Clone, Copy)]
 pub struct InputRecord {
-    // 1 to 9, in the order of `Input`
+    // 1 to 9, in the order of `Input`: a number, since C sends any octet
     pub kind: u8,
     // the key index that a report names; no other input has one
     pub index: u8,
 }
 
-#[derive(Clone, Copy)]
-pub enum ReadInput {
-    Known(Input),
-    Unknown,
-}
-
-fn input_of(kind: u8, index: u8) -> ReadInput
+fn input_of(kind: u8, index: u8) -> Option<Input>
     ensures { result ≡ input_of kind index }
 {
     match kind {
-        1 => ReadInput::Known(Input::NewKey(index)),
-        2 => ReadInput::Known(Input::ExistingKey(index)),
-        3 => ReadInput::Known(Input::Tk1Expires),
-        4 => ReadInput::Known(Input::Tk2Expires),
-        5 => ReadInput::Known(Input::Tk3Expires),
-        6 => ReadInput::Known(Input::Begin),
-        7 => ReadInput::Known(Input::BeginToSend),
-        8 => ReadInput::Known(Input::Rekey),
-        9 => ReadInput::Known(Input::KeyCheck),
-        _ => ReadInput::Unknown,
+        1 => Some(Input::NewKey(index)),
+        2 => Some(Input::ExistingKey(index)),
+        3 => Some(Input::Tk1Expires),
+        4 => Some(Input::Tk2Expires),
+        5 => Some(Input::Tk3Expires),
+        6 => Some(Input::Begin),
+        7 => Some(Input::BeginToSend),
+        8 => Some(Input::Rekey),
+        9 => Some(Input::KeyCheck),
+        _ => None,
     }
 }
 
@@ -57,10 +51,9 @@ pub extern "C" fn jazmotip_xgpon_fresh() -> KeyExchange
 pub extern "C" fn jazmotip_xgpon_step(exchange: KeyExchange, input: InputRecord) -> Answer
     ensures { result ≡ step_by_kind exchange input.kind input.index }
 {
-    let read = input_of(input.kind, input.index);
-    match read {
-        ReadInput::Known(given) => step(exchange, given),
-        ReadInput::Unknown => refuse(exchange, Refusal::OutOfRange),
+    match input_of(input.kind, input.index) {
+        Some(given) => step(exchange, given),
+        None => refuse(exchange, Refusal::OutOfRange),
     }
 }
 

@@ -52,9 +52,8 @@ pub extern "C" fn jazmotip_capture_verdicts_near(
         ≡ nearly_judged (judging_by true settings.now block.now output.old) }
 {
     let near = verdicts_near(settings, block, output);
-    let directory = near.directory;
     BlockNearVerdicts {
-        directory: directory_in_numbers(directory),
+        directory: directory_in_numbers(near.directory),
         smallest: near.smallest,
         largest: near.largest,
     }
@@ -73,9 +72,8 @@ pub extern "C" fn jazmotip_capture_open_near(
     ensures not_empty { NotEmpty }
 {
     let near = open_near(settings, block, output);
-    let opened = near.opened;
     BlockNearAnswer {
-        answer: answer_in_numbers(opened),
+        answer: answer_in_numbers(near.opened),
         smallest: near.smallest,
         largest: near.largest,
     }

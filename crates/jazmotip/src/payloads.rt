@@ -38,9 +38,9 @@ fn deny_flag(n: usize, m: usize) -> SealAnswer
     ensures { result ≡ flag_denied n m }
 {
     if lengths_fit(n, m) {
-        return SealAnswer::Denied(Refusal::OutOfRange);
+        return Err(Refusal::OutOfRange);
     }
-    SealAnswer::Denied(Refusal::BadLength)
+    Err(Refusal::BadLength)
 }
 
 #[unsafe(no_mangle)]
@@ -51,6 +51,7 @@ pub extern "C" fn jazmotip_expand_key(key: &[u8; 16]) -> RoundKeys
 }
 
 #[unsafe(no_mangle)]
+#[tactic(auto, using(crate::proofs::Flags::denied))]
 pub extern "C" fn jazmotip_seal(
     encenabled: u8,
     key: &[u8; 16],
@@ -70,6 +71,7 @@ pub extern "C" fn jazmotip_seal(
 
 // The same under a key that was expanded before.
 #[unsafe(no_mangle)]
+#[tactic(auto, using(crate::proofs::Flags::denied))]
 pub extern "C" fn jazmotip_seal_expanded(
     encenabled: u8,
     keys: RoundKeys,
@@ -89,6 +91,7 @@ pub extern "C" fn jazmotip_seal_expanded(
 
 // The two in place: the payload is input and output.
 #[unsafe(no_mangle)]
+#[tactic(auto, using(crate::proofs::Flags::denied))]
 pub extern "C" fn jazmotip_seal_in_place(
     encenabled: u8,
     key: &[u8; 16],
@@ -106,6 +109,7 @@ pub extern "C" fn jazmotip_seal_in_place(
 }
 
 #[unsafe(no_mangle)]
+#[tactic(auto, using(crate::proofs::Flags::denied))]
 pub extern "C" fn jazmotip_seal_expanded_in_place(
     encenabled: u8,
     keys: RoundKeys,

@@ -33,8 +33,7 @@ pub extern "C" fn jazmotip_rearrange(payload: &[u8], output: &mut [u8]) -> u8
     ensures output_after { with_output result output.new ≡ payload_stored (rearranging payload.now output.old) }
     ensures planes_laws_if_whole { PlanesLawsIfWhole payload.now }
 {
-    let verdict = rearrange(payload, output);
-    verdict_number(verdict)
+    verdict_number(rearrange(payload, output))
 }
 
 #[unsafe(no_mangle)]
@@ -42,8 +41,7 @@ pub extern "C" fn jazmotip_restore(payload: &[u8], output: &mut [u8]) -> u8
     ensures output_after { with_output result output.new ≡ payload_stored (restoring payload.now output.old) }
     ensures planes_laws_if_whole { PlanesLawsIfWhole payload.now }
 {
-    let verdict = restore(payload, output);
-    verdict_number(verdict)
+    verdict_number(restore(payload, output))
 }
 
 #[unsafe(no_mangle)]
@@ -51,8 +49,7 @@ pub extern "C" fn jazmotip_capture_rearrange(block: &[u8], output: &mut [u8]) ->
     ensures output_after { with_output result output.new ≡ block_stored (rearranging_block block.now output.old) }
     ensures rearranged_if_accepted { RearrangedIfAccepted block.now (length output.old) }
 {
-    let verdict = rearrange_block(block, output);
-    store_answer(verdict)
+    store_answer(rearrange_block(block, output))
 }
 
 #[unsafe(no_mangle)]
@@ -60,6 +57,5 @@ pub extern "C" fn jazmotip_capture_restore(block: &[u8], output: &mut [u8]) -> S
     ensures output_after { with_output result output.new ≡ block_stored (restoring_block block.now output.old) }
     ensures restored_if_accepted { RestoredIfAccepted block.now (length output.old) }
 {
-    let verdict = restore_block(block, output);
-    store_answer(verdict)
+    store_answer(restore_block(block, output))
 }

@@ -1,4 +1,5 @@
 -- An advance of all ends keeps the invariant. Assumes nothing.
+use Rattle.std.specs.Prelude.{Ok, Err}
 use mathlib.Core.Path.{◌≡◌, refl, sym, ◌∙◌, ap, subst}
 use mathlib.Core.List.{map}
 use Prim.Native.Nat.{ℕ, ◌+◌, ◌<◌}
@@ -17,8 +18,6 @@ use Rattle.protocol.specs.Replies.{advance_verdict}
 use Rattle.protocol.proofs.Replies.{advance_accepted, advance_accepts}
 use Rattle.refusal.specs.Number.{number_of}
 use Rattle.refusal.specs.declared.Refusal.{Refusal}
-use Rattle.refusal.specs.declared.Verdict.{Verdict}
-use Rattle.refusal.specs.declared.Verdict.TheVariants.{Accepted, Refused}
 use Rattle.refusal.proofs.Order.{refused_accepts}
 use Rattle.protocol.proofs.OltCalls.{advance_olt_refused}
 use Rattle.protocol.proofs.OltAdvance.{advancing_accepted, advancing_accepts}
@@ -50,8 +49,9 @@ use Rattle.line.proofs.Frames.{follows_moved, joined_for_same}
 use Rattle.line.proofs.Lines.{memberships_right, group_stands}
 use Rattle.line.proofs.Places.{map_square, map_holds}
 use Rattle.line.proofs.Queues.{itself}
+use Rattle.refusal.specs.Verdict.{Verdict, no_refusal}
 
-olt_accepted : (o : Olt) (n : ℕ) → (advance_olt_of o n).number ≡ 0 → advance_verdict o.shared.tick n ≡ Accepted
+olt_accepted : (o : Olt) (n : ℕ) → (advance_olt_of o n).number ≡ 0 → advance_verdict o.shared.tick n ≡ no_refusal
 unfolding advance_olt_of olt_answer
 olt_accepted o n z = advance_accepts o.shared.tick n (advancing_accepted o n (number_accepted _ z)).1
 
@@ -97,11 +97,11 @@ module _ (w : Setting) (s : State) (n : ℕ) (i : Invariant w s) where
 
   ---- all stay where the OLT does
 
-  stayed_right : (r : Refusal) → advance_verdict s.head.olt.shared.tick n ≡ Refused r → Invariant w (advancing s n)
+  stayed_right : (r : Refusal) → advance_verdict s.head.olt.shared.tick n ≡ Err r → Invariant w (advancing s n)
   unfolding advancing alone run.step run.advancing
   stayed_right r e =
       let refused : (advance_olt_of s.head.olt n).number ≡ 0 → ⊥ = λ z. refused_accepts r (sym e ∙ olt_accepted s.head.olt n z) in
-      let late : number_of r ≡ 0 → ⊥ = λ z. refused_accepts r (number_accepted (Refused r) z) in
+      let late : number_of r ≡ 0 → ⊥ = λ z. refused_accepts r (number_accepted (Err r) z) in
       rw (advance_stays s.head i.valid n r i.units.valid e, pick_false (now s + n) (now s) (ne_eqb _ _ late))
       (beside_right w s _ i
       (record {
@@ -163,7 +163,7 @@ module _ (w : Setting) (s : State) (n : ℕ) (i : Invariant w s) where
         untaken = j.untaken;
       }
 
-  advanced_right : advance_verdict s.head.olt.shared.tick n ≡ Accepted → Invariant w (advancing s n)
+  advanced_right : advance_verdict s.head.olt.shared.tick n ≡ no_refusal → Invariant w (advancing s n)
   unfolding advancing alone run.step run.advancing head_advanced group_advanced with_group_keys with_timer pick advance_olt_of olt_answer
   advanced_right e =
       let olt = advancing_accepts s.head.olt n i.units.valid (advance_accepted s.head.olt.shared.tick n e) in
@@ -191,7 +191,7 @@ module _ (w : Setting) (s : State) (n : ℕ) (i : Invariant w s) where
         mixed = i.mixed;
       })
 
-moved_alone : (w : Setting) (s : State) (n : ℕ) (i : Invariant w s) → advance_verdict s.head.olt.shared.tick n ≡ Accepted
+moved_alone : (w : Setting) (s : State) (n : ℕ) (i : Invariant w s) → advance_verdict s.head.olt.shared.tick n ≡ no_refusal
     → alone (advancing s n) ≡ run.step (alone s) (events.advance n)
 unfolding advancing alone run.step run.advancing head_advanced pick advance_olt_of olt_answer
 moved_alone w s n i e =
@@ -201,12 +201,12 @@ moved_alone w s n i e =
       advancing_accepts s.head.olt n i.units.valid (advance_accepted s.head.olt.shared.tick n e),
     )
 
-stayed_alone : (w : Setting) (s : State) (n : ℕ) (i : Invariant w s) (r : Refusal) → advance_verdict s.head.olt.shared.tick n ≡ Refused r
+stayed_alone : (w : Setting) (s : State) (n : ℕ) (i : Invariant w s) (r : Refusal) → advance_verdict s.head.olt.shared.tick n ≡ Err r
     → alone (advancing s n) ≡ run.step (alone s) (events.advance n)
 unfolding advancing alone run.step run.advancing pick
 stayed_alone w s n i r e =
     let refused : (advance_olt_of s.head.olt n).number ≡ 0 → ⊥ = λ z. refused_accepts r (sym e ∙ olt_accepted s.head.olt n z) in
-    let late : number_of r ≡ 0 → ⊥ = λ z. refused_accepts r (number_accepted (Refused r) z) in
+    let late : number_of r ≡ 0 → ⊥ = λ z. refused_accepts r (number_accepted (Err r) z) in
     rw (
       advance_stays s.head i.valid n r i.units.valid e,
       ne_eqb _ _ late,
@@ -220,12 +220,12 @@ pub advance_alone : (w : Setting) (s : State) (n : ℕ) → Invariant w s → al
 unfolding step
 advance_alone w s n i = by_verdict-holds (advance_verdict s.head.olt.shared.tick n) refl where
   by_verdict-holds : (v : Verdict) → advance_verdict s.head.olt.shared.tick n ≡ v → alone (advancing s n) ≡ run.step (alone s) (events.advance n)
-  by_verdict-holds Accepted e = moved_alone w s n i e
-  by_verdict-holds (Refused r) e = stayed_alone w s n i r e
+  by_verdict-holds (Ok tt) e = moved_alone w s n i e
+  by_verdict-holds (Err r) e = stayed_alone w s n i r e
 
 pub advance_right : (w : Setting) (s : State) (n : ℕ) → Invariant w s → Invariant w (step s (advance n))
 unfolding step
 advance_right w s n i = by_verdict-holds (advance_verdict s.head.olt.shared.tick n) refl where
   by_verdict-holds : (v : Verdict) → advance_verdict s.head.olt.shared.tick n ≡ v → Invariant w (advancing s n)
-  by_verdict-holds Accepted e = advanced_right w s n i e
-  by_verdict-holds (Refused r) e = stayed_right w s n i r e
+  by_verdict-holds (Ok tt) e = advanced_right w s n i e
+  by_verdict-holds (Err r) e = stayed_right w s n i r e

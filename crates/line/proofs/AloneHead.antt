@@ -1,5 +1,6 @@
 -- A call of the OLT on a unit makes of the OLT and the units' lines what it makes of them without groups, where the groups are valid and no
 -- group has the LLID. Assumes nothing.
+use Rattle.std.specs.Prelude.{Err, None}
 use mathlib.Core.Path.{◌≡◌, ◌∙◌, ap}
 use mathlib.Core.Bool.{true}
 use mathlib.Core.List.{List}
@@ -10,10 +11,8 @@ use Rattle.octets.proofs.Choice.{both_true, not_of_true, pick_true}
 use Rattle.refusal.specs.Number.{number_of}
 use Rattle.refusal.specs.declared.Refusal.{Refusal}
 use Rattle.refusal.specs.declared.Refusal.TheVariants.{OutOfRange}
-use Rattle.refusal.specs.declared.Verdict.TheVariants.{Refused}
 use Rattle.refusal.proofs.Order.{refuse_passed}
 use Rattle.ends.specs.Validity.{valid_olt}
-use Rattle.ends.specs.declared.Found.TheVariants.{Nowhere}
 use Rattle.protocol.specs.Replies.{silent, advance_verdict}
 use Rattle.protocol.specs.OltCalls.{capture_of, clock_send_of, offer_of, retry_of, acknowledge_of}
 use Rattle.protocol.specs.declared.Acknowledgement.{Acknowledgement}
@@ -71,7 +70,7 @@ module _ (h : HeadEnd) (v : valid_groups h ≡ true) where
 
   ---- where no group has the LLID
 
-  module _ (llid : ℕ) (none : find_group h llid ≡ Nowhere) where
+  module _ (llid : ℕ) (none : find_group h llid ≡ None) where
     pub offer_olt : (key : List ℕ) → head_offer_of h llid key ≡ record {
       number = (offer_of h.olt llid key).number;
       head = with_olt h (offer_of h.olt llid key).olt;
@@ -101,13 +100,13 @@ module _ (h : HeadEnd) (v : valid_groups h ≡ true) where
     unfolding head_send_of by_llid
     send_olt channel p out = rw none (sent_olt (olt_send_of h.olt llid channel p out) out)
 
-  pub receive_olt : (header : Header) (p out : List ℕ) → find_group h header.llid ≡ Nowhere
+  pub receive_olt : (header : Header) (p out : List ℕ) → find_group h header.llid ≡ None
       → head_receive_of h header p out ≡ with_output (received_in (olt_receive_of h.olt header p out).answer) (olt_receive_of h.olt header p out).output
   unfolding head_receive_of by_llid
   receive_olt header p out none = rw none (received_olt (olt_receive_of h.olt header p out) out)
 
   -- an advance that the OLT refuses leaves the groups too
-  pub advance_stays : (n : ℕ) (r : Refusal) → valid_olt h.olt ≡ true → advance_verdict h.olt.shared.tick n ≡ Refused r
+  pub advance_stays : (n : ℕ) (r : Refusal) → valid_olt h.olt ≡ true → advance_verdict h.olt.shared.tick n ≡ Err r
       → head_advance_of h n ≡ record { number = number_of r; head = h }
   unfolding head_advance_of valid_head head_answer
   advance_stays n r o e =
@@ -124,7 +123,7 @@ module _ (s : State) (v : valid_groups s.head ≡ true) where
   unfolding step run.step head_clock_send_of clock_sending_to clock_sent_alone clock_sending at_head alone with_olt at_olt
   clock_send_alone llid = rw (clock_sent_olt s.head v (clock_send_of s.head.olt llid))
 
-  module _ (llid : ℕ) (none : find_group s.head llid ≡ Nowhere) where
+  module _ (llid : ℕ) (none : find_group s.head llid ≡ None) where
     pub offer_alone : (key : List ℕ) → alone (step s (offer llid key)) ≡ run.step (alone s) (events.offer llid key)
     unfolding step run.step offering_to key_sent_alone offering at_head alone with_olt at_olt
     offer_alone key = rw (offer_olt s.head v llid none key)
@@ -142,7 +141,7 @@ module _ (s : State) (v : valid_groups s.head ≡ true) where
     unfolding step run.step answering run.answering at_head alone with_olt at_olt
     answer_alone-holds u k = rw (acknowledge_olt s.head v llid none (answer_at (alone s) u k).acknowledgement)
 
-  pub arrive_up_alone : (u k : ℕ) (out : List ℕ) → find_group s.head (envelope_at (alone s) u k).header.llid ≡ Nowhere
+  pub arrive_up_alone : (u k : ℕ) (out : List ℕ) → find_group s.head (envelope_at (alone s) u k).header.llid ≡ None
       → alone (step s (arrive_up u k out)) ≡ run.step (alone s) (events.arrive_up u k out)
   unfolding step run.step arriving_up run.arriving_up receipt_up run.receipt_up at_head alone with_olt at_olt_for
   arrive_up_alone u k out none = rw (receive_olt s.head v (envelope_at (alone s) u k).header (envelope_at (alone s) u k).octets out none)

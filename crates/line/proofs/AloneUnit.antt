@@ -1,5 +1,6 @@
 -- A call of a unit makes of the units and their own lines what it makes of them without groups, where the groups that the unit joined are
 -- valid and it has not joined the LLID. Assumes nothing.
+use Rattle.std.specs.Prelude.{None}
 use mathlib.Core.Path.{◌≡◌}
 use mathlib.Core.Bool.{true}
 use mathlib.Core.List.{List}
@@ -7,7 +8,6 @@ use Prim.Native.Nat.{ℕ}
 use Rattle.octets.specs.Output.{with_output}
 use Rattle.octets.proofs.Choice.{pick_true}
 use Rattle.clock.specs.declared.Stamps.{Stamps}
-use Rattle.ends.specs.declared.Found.TheVariants.{Nowhere}
 use Rattle.protocol.specs.OnuCalls.{advance_onu_of, new_time_of, clock_message_at, key_message_at}
 use Rattle.protocol.specs.declared.Header.{Header}
 use Rattle.protocol.specs.declared.KeyMessage.{KeyMessage}
@@ -56,14 +56,14 @@ module _ (x : Subscriber) (v : valid_memberships x ≡ true) where
   unfolding subscriber_clock_message_of
   clock_message_onu m = acknowledged_onu (clock_message_at x.onu m)
 
-  pub key_message_onu : (m : KeyMessage) → find_joined x m.llid ≡ Nowhere → subscriber_key_message_of x m ≡ acknowledged_in (key_message_at x.onu m)
+  pub key_message_onu : (m : KeyMessage) → find_joined x m.llid ≡ None → subscriber_key_message_of x m ≡ acknowledged_in (key_message_at x.onu m)
   unfolding subscriber_key_message_of by_llid
   key_message_onu m none = rw none (acknowledged_onu (key_message_at x.onu m))
 
   abbrev pub sent_in : OnuSent → SubscriberSent
   sent_in r = record { number = r.number; subscriber = with_onu x r.onu; header = r.header; count = r.count; runs = r.runs }
 
-  pub send_onu : (llid channel : ℕ) (p out : List ℕ) → find_joined x llid ≡ Nowhere
+  pub send_onu : (llid channel : ℕ) (p out : List ℕ) → find_joined x llid ≡ None
       → subscriber_send_of x llid channel p out ≡ with_output (sent_in (onu_send_of x.onu llid channel p out).answer)
       (onu_send_of x.onu llid channel p out).output
   unfolding subscriber_send_of by_llid own_send_of unit_send_of own_sent
@@ -72,7 +72,7 @@ module _ (x : Subscriber) (v : valid_memberships x ≡ true) where
   abbrev pub received_in : OnuReceived → SubscriberReceived
   received_in r = record { number = r.number; subscriber = with_onu x r.onu; count = r.count; runs = r.runs }
 
-  pub receive_onu : (h : Header) (p out : List ℕ) → find_joined x h.llid ≡ Nowhere
+  pub receive_onu : (h : Header) (p out : List ℕ) → find_joined x h.llid ≡ None
       → subscriber_receive_of x h p out ≡ with_output (received_in (onu_receive_of x.onu h p out).answer) (onu_receive_of x.onu h p out).output
   unfolding subscriber_receive_of by_llid own_receive_of unit_receive_of own_received
   receive_onu h p out none = rw none (pick_true _ _ v)
@@ -85,7 +85,7 @@ unfolding at_unit_alone at_onu
 own_alone s u x f = at_unit_alone-holds s u x _ _ _
 
 module _ (s : State) (u : ℕ) (v : valid_memberships (subscriber_at s u) ≡ true) where
-  pub send_up_alone : (llid channel : ℕ) (p out : List ℕ) → find_joined (subscriber_at s u) llid ≡ Nowhere
+  pub send_up_alone : (llid channel : ℕ) (p out : List ℕ) → find_joined (subscriber_at s u) llid ≡ None
       → alone (step s (send_up u llid channel p out)) ≡ run.step (alone s) (events.send_up u llid channel p out)
   unfolding step run.step sending_up run.sending_up envelope_up run.envelope_up with_onu alone
   send_up_alone llid channel p out none =
@@ -107,7 +107,7 @@ module _ (s : State) (u : ℕ) (v : valid_memberships (subscriber_at s u) ≡ tr
       (message_alone k (subscriber_clock_message_of (subscriber_at s u) m) (clock_message_at (subscriber_at s u).onu m)
       (clock_message_onu (subscriber_at s u) v m))
 
-  pub key_alone : (k : ℕ) (out : List ℕ) (m : KeyMessage) (t : ℕ) → find_joined (subscriber_at s u) m.llid ≡ Nowhere
+  pub key_alone : (k : ℕ) (out : List ℕ) (m : KeyMessage) (t : ℕ) → find_joined (subscriber_at s u) m.llid ≡ None
       → alone (in_flight_arriving s u k out (key_message m t)) ≡ run.in_flight_arriving (alone s) u k out (key_message m t)
   unfolding in_flight_arriving run.in_flight_arriving
   key_alone k out m t none =
@@ -115,7 +115,7 @@ module _ (s : State) (u : ℕ) (v : valid_memberships (subscriber_at s u) ≡ tr
       (message_alone k (subscriber_key_message_of (subscriber_at s u) m) (key_message_at (subscriber_at s u).onu m)
       (key_message_onu (subscriber_at s u) v m none))
 
-  pub envelope_alone : (k : ℕ) (out : List ℕ) (e : Envelope) → find_joined (subscriber_at s u) e.header.llid ≡ Nowhere
+  pub envelope_alone : (k : ℕ) (out : List ℕ) (e : Envelope) → find_joined (subscriber_at s u) e.header.llid ≡ None
       → alone (in_flight_arriving s u k out (envelope e)) ≡ run.in_flight_arriving (alone s) u k out (envelope e)
   unfolding in_flight_arriving run.in_flight_arriving run.envelope_arriving receipt_down run.receipt_down with_onu
   envelope_alone k out e none =

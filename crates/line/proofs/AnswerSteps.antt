@@ -1,4 +1,5 @@
 -- An acknowledgement of a group's key keeps the invariant, and so does what the OLT refuses. Assumes nothing.
+use Rattle.std.specs.Prelude.{Option, Some, None}
 use mathlib.Core.Path.{◌≡◌, refl, ◌∙◌, ap}
 use mathlib.Core.Bool.{Bool, true, false}
 use mathlib.Core.List.{List}
@@ -9,9 +10,6 @@ use lib.ListN.{length, set, get_or-eq_default}
 use lib.Seq.{set-get_or}
 use borrow.Author.Tests.{ltb-true, ltb-false}
 use Rattle.octets.specs.Output.{WithOutput}
-use Rattle.refusal.specs.declared.Verdict.TheVariants.{Accepted}
-use Rattle.ends.specs.declared.Found.{Found}
-use Rattle.ends.specs.declared.Found.TheVariants.{At, Nowhere}
 use Rattle.protocol.specs.Headers.{no_passage}
 use Rattle.protocol.specs.OltCalls.{acknowledge_of}
 use Rattle.protocol.specs.OltTraffic.{receiving_olt}
@@ -45,6 +43,7 @@ use Rattle.line.proofs.GroupKeySteps.{group_valid, channels_right}
 use Rattle.line.proofs.GroupSteps.{same, Replaced, replaced_right}
 use Rattle.line.proofs.Lines.{group_finds}
 use Rattle.line.proofs.Queues.{itself}
+use Rattle.refusal.specs.Verdict.{no_refusal}
 
 -- a group past the end has nothing
 pub known_line : (s : State) (g : ℕ) → (group_lane_at s g ≡ no_group_lane → ⊥) → g < length s.history.groups
@@ -55,12 +54,12 @@ known_line s g n = by_length (ltb g (length s.history.groups)) refl where
 
 ---- a member's mark
 
-marked_keys : (r : GroupRecord) (member : Found) → (group_marked r member).keys ≡ r.keys
+marked_keys : (r : GroupRecord) (member : Option ℕ) → (group_marked r member).keys ≡ r.keys
 unfolding group_marked with_members
-marked_keys r Nowhere = refl
-marked_keys r (At j) = refl
+marked_keys r None = refl
+marked_keys r (Some j) = refl
 
-module _ (w : Setting) (s : State) (g : ℕ) (i : Invariant w s) (known : g < length s.history.groups) (member : Found) where
+module _ (w : Setting) (s : State) (g : ℕ) (i : Invariant w s) (known : g < length s.history.groups) (member : Option ℕ) where
   abbrev r : GroupRecord
   r = group_at s.head g
 
@@ -110,13 +109,13 @@ pub same_head : (w : Setting) (s : State) → Invariant w s → Invariant w (hea
 unfolding head_after
 same_head w s i = i
 
-group_answer_right : (w : Setting) (s : State) (g llid : ℕ) (a : Answer) → Invariant w s → find_group s.head llid ≡ At g
+group_answer_right : (w : Setting) (s : State) (g llid : ℕ) (a : Answer) → Invariant w s → find_group s.head llid ≡ Some g
     → g < length s.history.groups
     → Invariant w (head_after s (head_acknowledge_of s.head llid a).head)
 unfolding head_acknowledge_of by_llid head_answer acknowledge_group group_outcome
 group_answer_right w s g llid a i found known =
-    by_end (lift_ends s.head silent Accepted (λ o x. acknowledge_group a (member_named o x.members a) o.shared x) g) where
-      by_end : Ends s.head silent Accepted (λ o x. acknowledge_group a (member_named o x.members a) o.shared x) g
+    by_end (lift_ends s.head silent no_refusal (λ o x. acknowledge_group a (member_named o x.members a) o.shared x) g) where
+      by_end : Ends s.head silent no_refusal (λ o x. acknowledge_group a (member_named o x.members a) o.shared x) g
           → Invariant w (head_after s (head_acknowledge_of s.head llid a).head)
       by_end (refused x e) = rw (found, e) (same_head w s i)
       by_end (accepted l) =
@@ -132,7 +131,7 @@ group_acknowledged_right w s g k i due =
 
 ---- what is refused leaves the head end
 
-own_answer_refused : (h : HeadEnd) (llid : ℕ) (a : Answer) → valid_groups h ≡ true → find_group h llid ≡ Nowhere
+own_answer_refused : (h : HeadEnd) (llid : ℕ) (a : Answer) → valid_groups h ≡ true → find_group h llid ≡ None
     → ((head_acknowledge_of h llid a).number ≡ 0 → ⊥) → (head_acknowledge_of h llid a).head ≡ h
 unfolding head_acknowledge_of by_llid with_olt
 own_answer_refused h llid a v e n =
@@ -143,16 +142,16 @@ own_answer_refused h llid a v e n =
     ap (λ (x : HeadAnswer). x.head) is
     ∙ ap (with_olt h) (acknowledge_refused h.olt llid (own_acknowledgement a) (λ z. n (ap (λ (x : HeadAnswer). x.number) is ∙ z)))
 
-group_answer_refused : (h : HeadEnd) (llid : ℕ) (a : Answer) (g : ℕ) → find_group h llid ≡ At g
+group_answer_refused : (h : HeadEnd) (llid : ℕ) (a : Answer) (g : ℕ) → find_group h llid ≡ Some g
     → ((head_acknowledge_of h llid a).number ≡ 0 → ⊥) → (head_acknowledge_of h llid a).head ≡ h
 unfolding head_acknowledge_of by_llid head_answer
 group_answer_refused h llid a g e n =
-    by_end (lift_ends h silent Accepted (λ o x. acknowledge_group a (member_named o x.members a) o.shared x) g) where
-      by_end : Ends h silent Accepted (λ o x. acknowledge_group a (member_named o x.members a) o.shared x) g → (head_acknowledge_of h llid a).head ≡ h
+    by_end (lift_ends h silent no_refusal (λ o x. acknowledge_group a (member_named o x.members a) o.shared x) g) where
+      by_end : Ends h silent no_refusal (λ o x. acknowledge_group a (member_named o x.members a) o.shared x) g → (head_acknowledge_of h llid a).head ≡ h
       by_end (refused x f) = rw (e, f)
       by_end (accepted l) = absurd (n (rw (e, l.is)))
 
-own_receive_refused : (h : HeadEnd) (header : Header) (p out : List ℕ) → valid_groups h ≡ true → find_group h header.llid ≡ Nowhere
+own_receive_refused : (h : HeadEnd) (header : Header) (p out : List ℕ) → valid_groups h ≡ true → find_group h header.llid ≡ None
     → ((head_receive_of h header p out).answer.number ≡ 0 → ⊥) → (head_receive_of h header p out).answer.head ≡ h
 unfolding with_olt olt_receive_of olt_received
 own_receive_refused h header p out v e n =
@@ -162,7 +161,7 @@ own_receive_refused h header p out v e n =
     (number_refused h.olt no_passage (receiving_olt h.olt (misfit p out) header) (receiving_untouched h.olt (misfit p out) header)
     (λ z. n (ap (λ (x : WithOutput HeadReceived). x.answer.number) is ∙ z))).end
 
-group_receive_refused : (h : HeadEnd) (header : Header) (p out : List ℕ) (g : ℕ) → find_group h header.llid ≡ At g
+group_receive_refused : (h : HeadEnd) (header : Header) (p out : List ℕ) (g : ℕ) → find_group h header.llid ≡ Some g
     → (head_receive_of h header p out).answer.head ≡ h
 unfolding head_receive_of by_llid
 group_receive_refused h header p out g e = rw e
@@ -170,17 +169,17 @@ group_receive_refused h header p out g e = rw e
 pub answer_refused : (h : HeadEnd) (llid : ℕ) (a : Answer) → valid_groups h ≡ true → ((head_acknowledge_of h llid a).number ≡ 0 → ⊥)
     → (head_acknowledge_of h llid a).head ≡ h
 answer_refused h llid a v n = by_found (find_group h llid) refl where
-  by_found : (f : Found) → find_group h llid ≡ f → (head_acknowledge_of h llid a).head ≡ h
-  by_found Nowhere e = own_answer_refused h llid a v e n
-  by_found (At g) e = group_answer_refused h llid a g e n
+  by_found : (f : Option ℕ) → find_group h llid ≡ f → (head_acknowledge_of h llid a).head ≡ h
+  by_found None e = own_answer_refused h llid a v e n
+  by_found (Some g) e = group_answer_refused h llid a g e n
 
 pub receive_refused : (h : HeadEnd) (header : Header) (p out : List ℕ) → valid_groups h ≡ true
     → ((head_receive_of h header p out).answer.number ≡ 0 → ⊥)
     → (head_receive_of h header p out).answer.head ≡ h
 receive_refused h header p out v n = by_found (find_group h header.llid) refl where
-  by_found : (f : Found) → find_group h header.llid ≡ f → (head_receive_of h header p out).answer.head ≡ h
-  by_found Nowhere e = own_receive_refused h header p out v e n
-  by_found (At g) e = group_receive_refused h header p out g e
+  by_found : (f : Option ℕ) → find_group h header.llid ≡ f → (head_receive_of h header p out).answer.head ≡ h
+  by_found None e = own_receive_refused h header p out v e n
+  by_found (Some g) e = group_receive_refused h header p out g e
 
 pub stray_answer_right : (w : Setting) (s : State) (llid : ℕ) (a : Answer) → Invariant w s → Fits w s (stray_answer llid a)
     → Invariant w (step s (stray_answer llid a))

@@ -11,7 +11,6 @@ use borrow.Author.Tests.{eqb-true, eq-eqb, ne_eqb, le-leb, lt-ltb, ltb-true}
 use Rattle.octets.specs.Choice.{both, either, pick}
 use Rattle.octets.proofs.Choice.{both_left, both_right, both_true, both_false_right, either_left, either_right, either_cases, pick_true, pick_false, true_false}
 use Rattle.refusal.specs.declared.Refusal.TheVariants.{NoKey, ClearEnvelope}
-use Rattle.refusal.specs.declared.Verdict.TheVariants.{Accepted}
 use Rattle.ends.specs.Flags.{is_up}
 use Rattle.ends.proofs.Keys.{only_kept}
 use Rattle.protocol.specs.Headers.{choice_enciphered, choice_number, choice_verdict}
@@ -25,6 +24,7 @@ use Rattle.unicast.specs.History.{InFlight}
 use Rattle.line.specs.History.{GroupLane, Membership}
 use Rattle.line.proofs.Invariant.{Under, Follows}
 use Rattle.line.proofs.Queues.{under_lower}
+use Rattle.refusal.specs.Verdict.{no_refusal}
 
 ---- the choice
 
@@ -45,7 +45,7 @@ next_index j h n e = by_tests (eqb h.encenabled 0) (eqb j.keys.active 0) (both (
 
 -- the choice for an envelope numbered n is that number's
 pub record ChosenAt (choice : KeyChoice) (n : ℕ) : Type 0 where
-  pub accepts : choice_verdict choice ≡ Accepted
+  pub accepts : choice_verdict choice ≡ no_refusal
   pub chosen : choice_number choice ≡ n
   pub enciphered : choice_enciphered choice ≡ leb 1 n
 

@@ -1,4 +1,5 @@
 -- What a call of the OLT on a group leaves: refused, all as it was; accepted, that group's record and line, and the channels. Assumes nothing.
+use Rattle.std.specs.Prelude.{Ok, Err, Some}
 use mathlib.Core.Path.{◌≡◌, refl, ◌∙◌, ap}
 use mathlib.Core.Bool.{Bool, true}
 use mathlib.Core.List.{List, [], ◌∷◌, ◌++◌}
@@ -13,10 +14,7 @@ use Rattle.octets.proofs.Maps.{map_fixed}
 use Rattle.refusal.specs.Order.{and_then}
 use Rattle.refusal.specs.declared.Refusal.{Refusal}
 use Rattle.refusal.specs.declared.Refusal.TheVariants.{OutOfRange}
-use Rattle.refusal.specs.declared.Verdict.{Verdict}
-use Rattle.refusal.specs.declared.Verdict.TheVariants.{Accepted, Refused}
 use Rattle.refusal.proofs.Order.{refuse_accepted, refuse_passed, then_accepted}
-use Rattle.ends.specs.declared.Found.TheVariants.{At}
 use Rattle.ends.specs.declared.Olt.{Olt}
 use Rattle.protocol.specs.Replies.{on_valid}
 use Rattle.protocol.proofs.Replies.{reply_accepted, reply_refused}
@@ -35,35 +33,36 @@ use Rattle.line.proofs.Invariant.{Under, Follows, Invariant}
 use Rattle.line.proofs.Frames.{held_moved}
 use Rattle.line.proofs.Lines.{noted_at-holds, units_unnamed}
 use Rattle.line.proofs.Queues.{Grown, under_carried}
+use Rattle.refusal.specs.Verdict.{Verdict, no_refusal}
 
 ---- the lift
 
 module _ {H : Type 0} (h : HeadEnd) (nothing : H) (ahead : Verdict) (call : Olt → GroupRecord → GroupOutcome H) (g : ℕ) where
   -- what an accepted call has met, and leaves
   pub record Lifted : Type 0 where
-    pub passed : ahead ≡ Accepted
-    pub accepts : (call h.olt (group_at h g)).verdict ≡ Accepted
+    pub passed : ahead ≡ no_refusal
+    pub accepts : (call h.olt (group_at h g)).verdict ≡ no_refusal
     pub is : group_lift h nothing ahead call g ≡ record {
-      verdict = Accepted;
+      verdict = no_refusal;
       end = with_group h g (call h.olt (group_at h g)).channels (call h.olt (group_at h g)).group;
       handed = (call h.olt (group_at h g)).handed;
     }
 
   pub data Ends : Type 0 where
     accepted : Lifted → Ends
-    refused : (r : Refusal) → group_lift h nothing ahead call g ≡ record { verdict = Refused r; end = h; handed = nothing } → Ends
+    refused : (r : Refusal) → group_lift h nothing ahead call g ≡ record { verdict = Err r; end = h; handed = nothing } → Ends
 
   pub lift_ends : Ends
   unfolding group_lift put_group
   lift_ends = by_verdict-holds (on_valid (valid_head h) (and_then ahead (call h.olt (group_at h g)).verdict)) refl where
     by_verdict-holds : (v : Verdict) → on_valid (valid_head h) (and_then ahead (call h.olt (group_at h g)).verdict) ≡ v → Ends
-    by_verdict-holds Accepted e =
+    by_verdict-holds (Ok tt) e =
         let a = then_accepted _ _ (refuse_accepted _ _ _ e).1 in
         accepted (record { passed = a.0; accepts = a.1; is = reply_accepted _ h nothing _ _ e })
-    by_verdict-holds (Refused r) e = refused r (reply_refused _ h nothing _ _ r e)
+    by_verdict-holds (Err r) e = refused r (reply_refused _ h nothing _ _ r e)
 
   -- a valid head end accepts what the call accepts
-  pub lift_accepts : valid_head h ≡ true → ahead ≡ Accepted → (call h.olt (group_at h g)).verdict ≡ Accepted → Lifted
+  pub lift_accepts : valid_head h ≡ true → ahead ≡ no_refusal → (call h.olt (group_at h g)).verdict ≡ no_refusal → Lifted
   unfolding group_lift put_group and_then
   lift_accepts valid passed accepts =
       record {
@@ -80,7 +79,7 @@ noted_refused : (number llid : ℕ) (f : GroupLane → GroupLane) (gs : List Gro
 unfolding noted_for
 noted_refused number llid f gs n = map_fixed _ gs (λ g. pick_false _ _ (ne_eqb number 0 n))
 
-module _ (w : Setting) (s : State) (llid g : ℕ) (i : Invariant w s) (found : find_group s.head llid ≡ At g) where
+module _ (w : Setting) (s : State) (llid g : ℕ) (i : Invariant w s) (found : find_group s.head llid ≡ Some g) where
   -- no unit's line notes a call on a group
   units_stay : (o : Olt) (number : ℕ) (f : Lane → Lane) → (at_olt (alone s) o number llid f).history ≡ s.history.units
   unfolding at_olt with_lanes alone

@@ -1,5 +1,6 @@
 -- An envelope of a group that arrives at a unit keeps the invariant; where the unit is synced and has its key, or it is clear, it gives back
 -- what was sent; a sealed one is refused 5 by a unit that is not synced. Assumes nothing.
+use Rattle.std.specs.Prelude.{Err, Option, Some, None}
 use mathlib.Core.Path.{◌≡◌, refl, sym, ◌∙◌, ap, ap₂, subst}
 use mathlib.Core.Bool.{Bool, true, false, not}
 use mathlib.Core.List.{List, []}
@@ -15,8 +16,6 @@ use Rattle.octets.specs.Output.{WithOutput}
 use Rattle.octets.proofs.Choice.{both_true, both_false_left, either_cases, not_of_true, not_of_false, then_both_false, true_false}
 use Rattle.octets.proofs.Members.{each_more}
 use Rattle.refusal.specs.declared.Refusal.TheVariants.{BadLength, OutOfRange, EpamDiffers, ClockNotSet}
-use Rattle.refusal.specs.declared.Verdict.{Verdict}
-use Rattle.refusal.specs.declared.Verdict.TheVariants.{Accepted, Refused}
 use Rattle.refusal.proofs.Numbers.{number_accepted}
 use Rattle.refusal.proofs.Order.{refuse_passed, refuse_stopped}
 use Rattle.clock.specs.Ticks.{epam_of}
@@ -24,8 +23,6 @@ use Rattle.envelope.specs.Channels.{downstream}
 use Rattle.sealing.specs.Seal.{count_carried, runs_carried}
 use Rattle.ends.specs.Identities.{has}
 use Rattle.ends.specs.Keys.{key_in}
-use Rattle.ends.specs.declared.Found.{Found}
-use Rattle.ends.specs.declared.Found.TheVariants.{At, Nowhere}
 use Rattle.ends.specs.declared.Onu.{Onu}
 use Rattle.protocol.specs.Headers.{choice_enciphered, valid_header, envelope_header, key_for, passage_of, no_passage}
 use Rattle.protocol.specs.OnuTraffic.{receiving_onu}
@@ -76,6 +73,7 @@ use Rattle.line.proofs.MemberSteps.{moved_right}
 use Rattle.line.proofs.MessageSteps.{held_key-holds}
 use Rattle.line.proofs.Queues.{Grown}
 use Rattle.line.proofs.Taken.{taken_joined, with_own, with_other, joined_for_at}
+use Rattle.refusal.specs.Verdict.{Verdict, no_refusal}
 
 -- what a unit accepts has one of its LLIDs
 onu_received_has : (o : Onu) (h : Header) (p out : List ℕ) → (onu_receive_of o h p out).answer.number ≡ 0 → has o.identity h.llid ≡ true
@@ -158,14 +156,14 @@ module _ (w : Setting) (s : State) (u g k : ℕ) (out : List ℕ) (i : Invariant
 
   ---- at a unit that joined the group
 
-  module _ (j : ℕ) (found : find_joined x lane.llid ≡ At j) where
+  module _ (j : ℕ) (found : find_joined x lane.llid ≡ Some j) where
     abbrev y : Joined
     y = joined_at x j
 
     abbrev q : Passage
     q = passage_of (joined_choice y e.header) y.keys.slots x.onu.oltmac x.onu.clock.rx
 
-    here : find_joined x e.header.llid ≡ At j
+    here : find_joined x e.header.llid ≡ Some j
     here = ap (find_joined x) header_llid ∙ found
 
     receiving_is : receiving s u e out ≡ group_receive_of x j e.header e.octets out
@@ -175,7 +173,7 @@ module _ (w : Setting) (s : State) (u g k : ℕ) (out : List ℕ) (i : Invariant
     passage_is : group_passage x e out ≡ (joined_lift x no_passage (receive_joined (misfit e.octets out) e.header) j).handed
     unfolding group_passage by_llid
     passage_is =
-        ap (λ (f : Found). by_llid f (receiving_onu x.onu (misfit e.octets out) e.header).handed
+        ap (λ (f : Option ℕ). by_llid f (receiving_onu x.onu (misfit e.octets out) e.header).handed
         (λ n. (joined_lift x no_passage (receive_joined (misfit e.octets out) e.header) n).handed)) here
 
     old : Follows lane (group_at s.head g).keys.active (group_at s.head g).keys.offered (is_member lane (lane_at (alone s) u)) (joined_by s u)
@@ -187,7 +185,7 @@ module _ (w : Setting) (s : State) (u g k : ℕ) (out : List ℕ) (i : Invariant
 
     module _ (c : ChosenAt (joined_choice y e.header) e.number) (synced : 1 ≤ e.number → x.onu.clock.synced ≡ 1)
         (key : 1 ≤ e.number → key_in y.keys.slots e.number ≡ key_of lane.keys e.number) where
-      accepts : joined_receive_verdict (misfit e.octets out) x.onu.clock y e.header ≡ Accepted
+      accepts : joined_receive_verdict (misfit e.octets out) x.onu.clock y e.header ≡ no_refusal
       unfolding joined_receive_verdict envelope_header
       accepts =
           refuse_passed _ BadLength _ fits
@@ -200,7 +198,7 @@ module _ (w : Setting) (s : State) (u g k : ℕ) (out : List ℕ) (i : Invariant
           ∙ c.accepts
 
       lifted : joined_lift x no_passage (receive_joined (misfit e.octets out) e.header) j
-          ≡ record { verdict = Accepted; end = with_joined x j (joined_after_receipt (joined_choice y e.header) y); handed = q }
+          ≡ record { verdict = no_refusal; end = with_joined x j (joined_after_receipt (joined_choice y e.header) y); handed = q }
       unfolding joined_lift put_joined receive_joined valid_subscriber
       lifted =
           reply_accepted _ x no_passage _ _
@@ -248,7 +246,7 @@ module _ (w : Setting) (s : State) (u g k : ℕ) (out : List ℕ) (i : Invariant
 
     -- one that is sealed finds no clock at a unit that is not synced
     refuses : (x.onu.clock.synced ≡ 1 → ⊥) → 1 ≤ e.number
-        → joined_receive_verdict (misfit e.octets out) x.onu.clock y e.header ≡ Refused ClockNotSet
+        → joined_receive_verdict (misfit e.octets out) x.onu.clock y e.header ≡ Err ClockNotSet
     unfolding joined_receive_verdict
     refuses down some =
         refuse_passed _ BadLength _ fits
@@ -282,8 +280,8 @@ module _ (w : Setting) (s : State) (u g k : ℕ) (out : List ℕ) (i : Invariant
   pub arrived_right : GroupArrived w lane (group_receipt s u e out)
   unfolding group_receipt not_received
   arrived_right = by_found (find_joined x lane.llid) refl where
-    by_found : (f : Found) → find_joined x lane.llid ≡ f → GroupArrived w lane (group_receipt s u e out)
-    by_found Nowhere none =
+    by_found : (f : Option ℕ) → find_joined x lane.llid ≡ f → GroupArrived w lane (group_receipt s u e out)
+    by_found None none =
         let out_of : is_joined (joined_by s u) e.llid ≡ false = joins ∙ joined_nowhere x lane.llid none in
         record {
           sent = under.0.sent;
@@ -291,7 +289,7 @@ module _ (w : Setting) (s : State) (u g k : ℕ) (out : List ℕ) (i : Invariant
           sealed = λ t up z. true_false (sym (taken_joined (joined_by s u) e.llid e.number t) ∙ out_of);
           unsynced = λ t down z. true_false (sym t ∙ out_of);
         }
-    by_found (At j) found =
+    by_found (Some j) found =
         record {
           sent = under.0.sent;
           clear = λ t z. opens_clear j found z;
@@ -304,9 +302,9 @@ module _ (w : Setting) (s : State) (u g k : ℕ) (out : List ℕ) (i : Invariant
   pub unsynced_refused : is_joined (joined_by s u) e.llid ≡ true → is_synced (lane_at (alone s) u) ≡ false → 1 ≤ e.number
       → RefusedFor ClockNotSet s u e out
   unsynced_refused t down some = by_found (find_joined x lane.llid) refl where
-    by_found : (f : Found) → find_joined x lane.llid ≡ f → RefusedFor ClockNotSet s u e out
-    by_found Nowhere none = true_false (sym t ∙ joins ∙ joined_nowhere x lane.llid none)
-    by_found (At j) found = not_opened j found (synced_down down) some
+    by_found : (f : Option ℕ) → find_joined x lane.llid ≡ f → RefusedFor ClockNotSet s u e out
+    by_found None none = true_false (sym t ∙ joins ∙ joined_nowhere x lane.llid none)
+    by_found (Some j) found = not_opened j found (synced_down down) some
 
   receipt_most : (group_receipt s u e out).envelope.number ≤ e.number
   unfolding group_receipt
@@ -365,7 +363,7 @@ module _ (w : Setting) (s : State) (u g k : ℕ) (out : List ℕ) (i : Invariant
             (omega arith) (omega arith) (λ z. z) f);
       }
 
-  module _ (j : ℕ) (found : find_joined x lane.llid ≡ At j) where
+  module _ (j : ℕ) (found : find_joined x lane.llid ≡ Some j) where
     abbrev moved : Joined
     moved = joined_after_receipt (joined_choice (joined_at x j) e.header) (joined_at x j)
 
@@ -401,11 +399,11 @@ module _ (w : Setting) (s : State) (u g k : ℕ) (out : List ℕ) (i : Invariant
     unfolding receive_joined
     joined_leaves = by_end (lift_ends x no_passage (receive_joined (misfit e.octets out) e.header) j) where
       by_end : Ends x no_passage (receive_joined (misfit e.octets out) e.header) j → Leaves (receiving s u e out).answer.subscriber
-      by_end (refused r z) = rw (leaves_by (Refused r) x no_passage z) same_leaves
-      by_end (accepted l) = rw (leaves_by Accepted _ _ l.is) moved_leaves
+      by_end (refused r z) = rw (leaves_by (Err r) x no_passage z) same_leaves
+      by_end (accepted l) = rw (leaves_by no_refusal _ _ l.is) moved_leaves
 
   -- at a unit that has not joined the group its LLID is unknown
-  own_leaves : find_joined x lane.llid ≡ Nowhere → (receiving s u e out).answer.subscriber ≡ x
+  own_leaves : find_joined x lane.llid ≡ None → (receiving s u e out).answer.subscriber ≡ x
   unfolding with_onu
   own_leaves none =
       let received = receive_onu x (memberships_right w s i u) e.header e.octets out (ap (find_joined x) header_llid ∙ none) in
@@ -417,9 +415,9 @@ module _ (w : Setting) (s : State) (u g k : ℕ) (out : List ℕ) (i : Invariant
 
   leaves : Leaves (receiving s u e out).answer.subscriber
   leaves = by_found (find_joined x lane.llid) refl where
-    by_found : (f : Found) → find_joined x lane.llid ≡ f → Leaves (receiving s u e out).answer.subscriber
-    by_found Nowhere none = rw (own_leaves none) same_leaves
-    by_found (At j) found = joined_leaves j found
+    by_found : (f : Option ℕ) → find_joined x lane.llid ≡ f → Leaves (receiving s u e out).answer.subscriber
+    by_found None none = rw (own_leaves none) same_leaves
+    by_found (Some j) found = joined_leaves j found
 
   pub envelope_right : Invariant w (group_in_flight_arriving s u g k out (envelope e))
   unfolding group_in_flight_arriving

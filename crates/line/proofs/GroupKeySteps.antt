@@ -1,4 +1,5 @@
 -- Offers to a group and their retries keep the invariant. Assumes nothing.
+use Rattle.std.specs.Prelude.{Err, Some}
 use mathlib.Core.Path.{◌≡◌, refl, sym, ◌∙◌, ap, subst}
 use mathlib.Core.Bool.{true}
 use mathlib.Core.List.{List, [], ◌∷◌}
@@ -9,12 +10,10 @@ use borrow.Author.Tests.{ltb-false, eqb-false}
 use Rattle.octets.proofs.Tests.{all_one}
 use Rattle.refusal.specs.Number.{number_of}
 use Rattle.refusal.specs.declared.Refusal.{Refusal}
-use Rattle.refusal.specs.declared.Verdict.TheVariants.{Accepted, Refused}
 use Rattle.refusal.proofs.Numbers.{number_accepted}
 use Rattle.refusal.proofs.Order.{refuse_accepted, refused_accepts}
 use Rattle.ends.specs.Keys.{key_in, with_key}
 use Rattle.ends.specs.Occupancy.{valid_channels}
-use Rattle.ends.specs.declared.Found.TheVariants.{At}
 use Rattle.ends.proofs.Validity.{olt_in_range, shared_in_range}
 use Rattle.protocol.specs.Messages.{no_key_message}
 use Rattle.protocol.specs.UnitCalls.{keys_offered, key_message_of, retry_verdict}
@@ -42,6 +41,7 @@ use Rattle.line.proofs.GroupCalls.{Ends, accepted, refused, lift_ends, call_refu
 use Rattle.line.proofs.GroupSteps.{same, more, Replaced, member_same, replaced_right}
 use Rattle.line.proofs.Lines.{group_stands, found_line}
 use Rattle.line.proofs.Queues.{Grown, under_key}
+use Rattle.refusal.specs.Verdict.{no_refusal}
 
 -- a group of a valid head end is valid
 pub group_valid : (w : Setting) (s : State) (g : ℕ) → Invariant w s → g < length s.history.groups
@@ -221,14 +221,14 @@ module _ (w : Setting) (s : State) (g : ℕ) (i : Invariant w s) (known : g < le
 ---- the calls
 
 pub refused_number : (r : Refusal) → number_of r ≡ 0 → ⊥
-refused_number r e = refused_accepts r (number_accepted (Refused r) e)
+refused_number r e = refused_accepts r (number_accepted (Err r) e)
 
-pub group_offer_right : (w : Setting) (s : State) (llid g : ℕ) (key : List ℕ) → Invariant w s → find_group s.head llid ≡ At g
+pub group_offer_right : (w : Setting) (s : State) (llid g : ℕ) (key : List ℕ) → Invariant w s → find_group s.head llid ≡ Some g
     → Fits w s (offer llid key) → Invariant w (step s (offer llid key))
 unfolding step offering_to offering key_sent_alone head_offer_of by_llid head_key_sent offer_group group_outcome group_offer_verdict
 group_offer_right w s llid g key i found fits =
-    by_end (lift_ends s.head no_key_message Accepted (λ o x. offer_group llid key (members_set o x.members) o.shared x) g) where
-      by_end : Ends s.head no_key_message Accepted (λ o x. offer_group llid key (members_set o x.members) o.shared x) g
+    by_end (lift_ends s.head no_key_message no_refusal (λ o x. offer_group llid key (members_set o x.members) o.shared x) g) where
+      by_end : Ends s.head no_key_message no_refusal (λ o x. offer_group llid key (members_set o x.members) o.shared x) g
           → Invariant w (step s (offer llid key))
       by_end (refused r e) =
           rw (found, e) (subst (Invariant w) (sym (call_refused w s llid g i found _ (number_of r) _ _ (refused_number r))) i)
@@ -244,10 +244,10 @@ group_offer_right w s llid g key i found fits =
           (offer_replaced w s g i line.0 key _ level (fits (rw (found, l.is)))
           (ap (λ (x : ℕ). key_message_of x (keys_offered (group_at s.head g).keys key)) (sym line.1)))))
 
-pub group_retry_right : (w : Setting) (s : State) (llid g : ℕ) → Invariant w s → find_group s.head llid ≡ At g → Invariant w (step s (retry llid))
+pub group_retry_right : (w : Setting) (s : State) (llid g : ℕ) → Invariant w s → find_group s.head llid ≡ Some g → Invariant w (step s (retry llid))
 unfolding step retrying_to retrying key_sent_alone head_retry_of by_llid head_key_sent retry_group group_outcome retry_verdict
-group_retry_right w s llid g i found = by_end (lift_ends s.head no_key_message Accepted (λ o x. retry_group llid o.shared x) g) where
-  by_end : Ends s.head no_key_message Accepted (λ o x. retry_group llid o.shared x) g → Invariant w (step s (retry llid))
+group_retry_right w s llid g i found = by_end (lift_ends s.head no_key_message no_refusal (λ o x. retry_group llid o.shared x) g) where
+  by_end : Ends s.head no_key_message no_refusal (λ o x. retry_group llid o.shared x) g → Invariant w (step s (retry llid))
   by_end (refused r e) =
       rw (found, e) (subst (Invariant w) (sym (call_refused w s llid g i found _ (number_of r) _ _ (refused_number r))) i)
   by_end (accepted l) =

@@ -1,4 +1,5 @@
 -- The message of a group's key that arrives at a unit keeps the invariant, taken or refused. Assumes nothing.
+use Rattle.std.specs.Prelude.{Option, Some, None}
 use mathlib.Core.Path.{◌≡◌, refl, sym, ◌∙◌, ap, subst}
 use mathlib.Core.Bool.{Bool, true}
 use mathlib.Core.List.{List, [], ◌∷◌, map}
@@ -13,8 +14,6 @@ use Rattle.octets.proofs.Members.{each_more}
 use Rattle.refusal.proofs.Numbers.{number_accepted}
 use Rattle.refusal.proofs.Order.{refuse_accepted}
 use Rattle.ends.specs.Identities.{has}
-use Rattle.ends.specs.declared.Found.{Found}
-use Rattle.ends.specs.declared.Found.TheVariants.{At, Nowhere}
 use Rattle.protocol.specs.OnuCalls.{onu_acknowledged, key_message_at}
 use Rattle.protocol.specs.declared.KeyMessage.{KeyMessage}
 use Rattle.protocol.proofs.KeyMessages.{key_message_met}
@@ -67,7 +66,7 @@ dropped_follows l active offered is ms j xs rest x e q f =
       stranger = λ z. true_false (sym e ∙ z);
     }
 
-module _ (x : Subscriber) (m : KeyMessage) (j : ℕ) (found : find_joined x m.llid ≡ At j) where
+module _ (x : Subscriber) (m : KeyMessage) (j : ℕ) (found : find_joined x m.llid ≡ Some j) where
   joined_onu : (subscriber_key_message_of x m).subscriber.onu ≡ x.onu
   unfolding subscriber_key_message_of by_llid subscriber_acknowledged with_joined
   joined_onu = by_end (lift_ends x no_answer (message_joined m) j) where
@@ -132,7 +131,7 @@ module _ (w : Setting) (s : State) (u g k : ℕ) (out : List ℕ) (i : Invariant
   ---- the message is taken
 
   -- what holds of the unit's groups, one of them replaced
-  pub joins_with : (j : ℕ) (y : Joined) (ms : List Membership) → find_joined x lane.llid ≡ At j → y.llid ≡ lane.llid → valid_joined y ≡ true
+  pub joins_with : (j : ℕ) (y : Joined) (ms : List Membership) → find_joined x lane.llid ≡ Some j → y.llid ≡ lane.llid → valid_joined y ≡ true
       → map (λ (m : Membership). m.llid) ms ≡ map (λ (m : Membership). m.llid) (joined_by s u)
       → ((llid n : ℕ) → (llid ≡ lane.llid → ⊥) → has_taken ms llid n ≡ has_taken (joined_by s u) llid n)
       → Joins s.history.groups (lane_at (alone s) u) (with_joined x j y) ms
@@ -150,7 +149,7 @@ module _ (w : Setting) (s : State) (u g k : ℕ) (out : List ℕ) (i : Invariant
         untaken = λ llid n m. other llid m (apart llid n) ∙ old.untaken llid n m;
       }
 
-  module _ (j : ℕ) (m : KeyMessage) (t : ℕ) (answer : Answer) (found : find_joined x lane.llid ≡ At j)
+  module _ (j : ℕ) (m : KeyMessage) (t : ℕ) (answer : Answer) (found : find_joined x lane.llid ≡ Some j)
       (is : group_in_flight_at s u g k ≡ key_message m t)
       (fits : either (new_number (joined_at x j) m) (held_again (joined_at x j) m) ≡ true)
       (same : answer.number ≡ m.number) where
@@ -222,7 +221,7 @@ module _ (w : Setting) (s : State) (u g k : ℕ) (out : List ℕ) (i : Invariant
   ---- the event
 
   -- the unit has not joined the group: its LLID is unknown
-  own_refused : (m : KeyMessage) → m.llid ≡ lane.llid → find_joined x lane.llid ≡ Nowhere
+  own_refused : (m : KeyMessage) → m.llid ≡ lane.llid → find_joined x lane.llid ≡ None
       → ((subscriber_key_message_of x m).number ≡ 0 → ⊥) × ((subscriber_key_message_of x m).subscriber ≡ x)
   unfolding key_message_at onu_acknowledged with_onu
   own_refused m e none =
@@ -240,11 +239,11 @@ module _ (w : Setting) (s : State) (u g k : ℕ) (out : List ℕ) (i : Invariant
   message_left m r n same = rw (same, ne_eqb r.number 0 n) left_right
 
   joined_right : (m : KeyMessage) (t : ℕ) → group_in_flight_at s u g k ≡ key_message m t → (j : ℕ) → m.llid ≡ lane.llid
-      → find_joined x lane.llid ≡ At j
+      → find_joined x lane.llid ≡ Some j
       → Invariant w (group_message_arriving s u g k m (subscriber_key_message_of x m))
   unfolding group_message_arriving subscriber_key_message_of by_llid subscriber_acknowledged message_joined joined_message_verdict group_answer pick
   joined_right m t is j llid found = by_end (lift_ends x no_answer (message_joined m) j) where
-    here : find_joined x m.llid ≡ At j
+    here : find_joined x m.llid ≡ Some j
     here = ap (find_joined x) llid ∙ found
 
     by_end : Ends x no_answer (message_joined m) j → Invariant w (group_message_arriving s u g k m (subscriber_key_message_of x m))
@@ -267,9 +266,9 @@ module _ (w : Setting) (s : State) (u g k : ℕ) (out : List ℕ) (i : Invariant
     llid : m.llid ≡ lane.llid
     llid = (rw is at (taken w s u g k out i d)).0.llid
 
-    by_found : (f : Found) → find_joined x lane.llid ≡ f → (subscriber_key_message_of x m).subscriber.onu ≡ x.onu
-    by_found Nowhere none = ap (λ (y : Subscriber). y.onu) (own_refused m llid none).1
-    by_found (At j) found = joined_onu x m j (ap (find_joined x) llid ∙ found)
+    by_found : (f : Option ℕ) → find_joined x lane.llid ≡ f → (subscriber_key_message_of x m).subscriber.onu ≡ x.onu
+    by_found None none = ap (λ (y : Subscriber). y.onu) (own_refused m llid none).1
+    by_found (Some j) found = joined_onu x m j (ap (find_joined x) llid ∙ found)
 
   pub message_right : (m : KeyMessage) (t : ℕ) → group_in_flight_at s u g k ≡ key_message m t
       → Invariant w (group_message_arriving s u g k m (subscriber_key_message_of x m))
@@ -277,6 +276,6 @@ module _ (w : Setting) (s : State) (u g k : ℕ) (out : List ℕ) (i : Invariant
     llid : m.llid ≡ lane.llid
     llid = (rw is at (taken w s u g k out i d)).0.llid
 
-    by_found : (f : Found) → find_joined x lane.llid ≡ f → Invariant w (group_message_arriving s u g k m (subscriber_key_message_of x m))
-    by_found Nowhere none = let r = own_refused m llid none in message_left m (subscriber_key_message_of x m) r.0 r.1
-    by_found (At j) found = joined_right m t is j llid found
+    by_found : (f : Option ℕ) → find_joined x lane.llid ≡ f → Invariant w (group_message_arriving s u g k m (subscriber_key_message_of x m))
+    by_found None none = let r = own_refused m llid none in message_left m (subscriber_key_message_of x m) r.0 r.1
+    by_found (Some j) found = joined_right m t is j llid found

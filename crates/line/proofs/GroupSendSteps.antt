@@ -1,4 +1,5 @@
 -- A send to a group keeps the invariant. Assumes nothing.
+use Rattle.std.specs.Prelude.{Option, Some}
 use mathlib.Core.Path.{◌≡◌, refl, sym, ◌∙◌, ap, subst}
 use mathlib.Core.Bool.{true, false}
 use mathlib.Core.List.Memᴰ
@@ -12,7 +13,6 @@ use Rattle.octets.specs.Choice.{pick}
 use Rattle.octets.proofs.Choice.{both_left, both_right, either_cases}
 use Rattle.octets.proofs.Members.{each_more}
 use Rattle.refusal.specs.Number.{number_of}
-use Rattle.refusal.specs.declared.Verdict.TheVariants.{Accepted}
 use Rattle.refusal.proofs.Order.{refuse_accepted}
 use Rattle.envelope.specs.Channels.{downstream}
 use Rattle.envelope.specs.ControlMask.{eqs_of}
@@ -20,8 +20,6 @@ use Rattle.ends.specs.Keys.{valid_first}
 use Rattle.ends.specs.Occupancy.{free_from, taken, occupied}
 use Rattle.ends.specs.Validity.{valid_keys}
 use Rattle.ends.specs.declared.Channels.{Channels}
-use Rattle.ends.specs.declared.Found.{Found}
-use Rattle.ends.specs.declared.Found.TheVariants.{At}
 use Rattle.ends.specs.declared.Shared.{Shared}
 use Rattle.ends.specs.declared.UnitKeys.{UnitKeys}
 use Rattle.ends.proofs.Occupancy.{free_own, free_later, taken_false, occupied_valid}
@@ -61,6 +59,7 @@ use Rattle.line.proofs.GroupKeySteps.{group_valid, refused_number}
 use Rattle.line.proofs.GroupSteps.{same, Replaced, member_same, replaced_right}
 use Rattle.line.proofs.Lines.{found_line}
 use Rattle.line.proofs.Queues.{Grown, knows, under_envelope}
+use Rattle.refusal.specs.Verdict.{no_refusal}
 
 -- the first send of a valid group is not later than the tick
 group_first : (tick units : ℕ) (g : GroupRecord) → valid_group tick units g ≡ true → Begun g.keys.first tick
@@ -76,7 +75,7 @@ at_tick w s i = i.units.shared
 
 module _ (w : Setting) (s : State) (g : ℕ) (i : Invariant w s) (known : g < length s.history.groups) (llid channel : ℕ) (p out : List ℕ)
     (named : llid ≡ (group_lane_at s g).llid) (down : downstream channel ≡ true) (fit : misfit p out ≡ false)
-    (accepts : (send_group llid channel (eqs_of p) s.head.olt.shared (group_at s.head g)).verdict ≡ Accepted) where
+    (accepts : (send_group llid channel (eqs_of p) s.head.olt.shared (group_at s.head g)).verdict ≡ no_refusal) where
   abbrev sh : Shared
   sh = s.head.olt.shared
 
@@ -246,24 +245,24 @@ module _ (w : Setting) (s : State) (g : ℕ) (i : Invariant w s) (known : g < le
       }
 
 -- what an accepted send seals under, and its envelope
-group_passage_is : (h : HeadEnd) (llid g channel : ℕ) (p out : List ℕ) (end : HeadEnd) (q : Sending) → find_group h llid ≡ At g
+group_passage_is : (h : HeadEnd) (llid g channel : ℕ) (p out : List ℕ) (end : HeadEnd) (q : Sending) → find_group h llid ≡ Some g
     → group_lift h no_sending (send_ahead p out channel) (λ o x. send_group llid channel (eqs_of p) o.shared x) g
-    ≡ record { verdict = Accepted; end = end; handed = q }
+    ≡ record { verdict = no_refusal; end = end; handed = q }
     → head_passage h llid channel p out ≡ q.passage
 unfolding head_passage by_llid
 group_passage_is h llid g channel p out end q found is =
-    ap (λ (f : Found). by_llid f (sending_olt h.olt (misfit p out) llid channel (eqs_of p)).handed.passage
+    ap (λ (f : Option ℕ). by_llid f (sending_olt h.olt (misfit p out) llid channel (eqs_of p)).handed.passage
     (λ i. (group_lift h no_sending (send_ahead p out channel) (λ o x. send_group llid channel (eqs_of p) o.shared x) i).handed.passage)) found
     ∙ ap (λ (r : Reply HeadEnd Sending). r.handed.passage) is
 
-group_envelope_is : (h : HeadEnd) (tick llid g channel : ℕ) (p out : List ℕ) (number : ℕ) (end : HeadEnd) (q : Sending) → find_group h llid ≡ At g
+group_envelope_is : (h : HeadEnd) (tick llid g channel : ℕ) (p out : List ℕ) (number : ℕ) (end : HeadEnd) (q : Sending) → find_group h llid ≡ Some g
     → group_lift h no_sending (send_ahead p out channel) (λ o x. send_group llid channel (eqs_of p) o.shared x) g
-    ≡ record { verdict = Accepted; end = end; handed = q }
+    ≡ record { verdict = no_refusal; end = end; handed = q }
     → envelope_down tick no_path h llid channel p out number ≡ envelope_of downward tick no_path.up llid channel p q number
 unfolding envelope_down head_send_of by_llid head_sent output_after
 group_envelope_is h tick llid g channel p out number end q found is = rw (group_passage_is h llid g channel p out end q found is, found, is)
 
-pub group_send_right : (w : Setting) (s : State) (llid g channel : ℕ) (p out : List ℕ) → Invariant w s → find_group s.head llid ≡ At g
+pub group_send_right : (w : Setting) (s : State) (llid g channel : ℕ) (p out : List ℕ) → Invariant w s → find_group s.head llid ≡ Some g
     → Invariant w (step s (send_down llid channel p out))
 unfolding step sending_down head_send_of by_llid head_sent
 group_send_right w s llid g channel p out i found =

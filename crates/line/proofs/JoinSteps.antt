@@ -1,4 +1,5 @@
 -- A unit that joins a group keeps the invariant: it has of the group what it had before, nothing. Assumes nothing.
+use Rattle.std.specs.Prelude.{Option, Some, None}
 use mathlib.Core.Path.{◌≡◌, refl, sym, ◌∙◌, ap, subst}
 use mathlib.Core.Bool.{Bool, true, false}
 use mathlib.Core.List.{List, [], ◌∷◌, ◌++◌, map, map-append}
@@ -15,8 +16,6 @@ use Rattle.refusal.proofs.Numbers.{number_accepted}
 use Rattle.refusal.proofs.Order.{refuse_accepted}
 use Rattle.ends.specs.Identities.{among, has}
 use Rattle.ends.specs.Validity.{valid_onu}
-use Rattle.ends.specs.declared.Found.{Found}
-use Rattle.ends.specs.declared.Found.TheVariants.{At, Nowhere}
 use Rattle.protocol.specs.Replies.{silent}
 use Rattle.protocol.proofs.OnuCalls.{zeros_invalid}
 use Rattle.protocol.proofs.Replies.{reply_verdict, reply_accepted, reply_untouched, number_refused}
@@ -126,30 +125,30 @@ module _ (x : Subscriber) (llid : ℕ) (room : x.memberships.count < length x.me
   more_last = get_or-set_same x.memberships.table x.memberships.count (fresh_joined llid) past_joined room
 
   -- what the unit has of every LLID stays
-  more_same : find_joined x llid ≡ Nowhere → (y : ℕ) → joined_for more y ≡ joined_for x y
+  more_same : find_joined x llid ≡ None → (y : ℕ) → joined_for more y ≡ joined_for x y
   unfolding joined_for find_joined by_llid
   more_same none y = by_found (place_from 0 (joined_llids (joined_groups x)) y) refl where
-    had : (f : Found) → place_from 0 (joined_llids (joined_groups x)) y ≡ f → by_llid f (fresh_joined y) (joined_at x) ≡ joined_for x y
-    had f e = ap (λ (z : Found). by_llid z (fresh_joined y) (joined_at x)) (sym e)
+    had : (f : Option ℕ) → place_from 0 (joined_llids (joined_groups x)) y ≡ f → by_llid f (fresh_joined y) (joined_at x) ≡ joined_for x y
+    had f e = ap (λ (z : Option ℕ). by_llid z (fresh_joined y) (joined_at x)) (sym e)
 
-    has_now : (f : Found) → place_from 0 (joined_llids (joined_groups x) ++ (llid ∷ [])) y ≡ f
+    has_now : (f : Option ℕ) → place_from 0 (joined_llids (joined_groups x) ++ (llid ∷ [])) y ≡ f
         → joined_for more y ≡ by_llid f (fresh_joined y) (joined_at more)
-    has_now f e = ap (λ (z : Found). by_llid z (fresh_joined y) (joined_at more)) (ap (λ (l : List ℕ). place_from 0 l y) more_llids ∙ e)
+    has_now f e = ap (λ (z : Option ℕ). by_llid z (fresh_joined y) (joined_at more)) (ap (λ (l : List ℕ). place_from 0 l y) more_llids ∙ e)
 
-    by_llid-holds : place_from 0 (joined_llids (joined_groups x)) y ≡ Nowhere → (t : Bool) → eqb llid y ≡ t → joined_for more y ≡ joined_for x y
+    by_llid-holds : place_from 0 (joined_llids (joined_groups x)) y ≡ None → (t : Bool) → eqb llid y ≡ t → joined_for more y ≡ joined_for x y
     by_llid-holds e true f =
         let z : llid ≡ y = eqb-true llid y f in
-        has_now (At (0 + length (joined_llids (joined_groups x)))) (place_last 0 (joined_llids (joined_groups x)) llid y e ∙ pick_true _ _ f)
-        ∙ ap (joined_at more) (omega (arith, counted)) ∙ more_last ∙ ap fresh_joined z ∙ had Nowhere e
+        has_now (Some (0 + length (joined_llids (joined_groups x)))) (place_last 0 (joined_llids (joined_groups x)) llid y e ∙ pick_true _ _ f)
+        ∙ ap (joined_at more) (omega (arith, counted)) ∙ more_last ∙ ap fresh_joined z ∙ had None e
     by_llid-holds e false f =
-        has_now Nowhere (place_last 0 (joined_llids (joined_groups x)) llid y e ∙ pick_false _ _ f) ∙ had Nowhere e
+        has_now None (place_last 0 (joined_llids (joined_groups x)) llid y e ∙ pick_false _ _ f) ∙ had None e
 
-    by_found : (f : Found) → place_from 0 (joined_llids (joined_groups x)) y ≡ f → joined_for more y ≡ joined_for x y
-    by_found Nowhere e = by_llid-holds e (eqb llid y) refl
-    by_found (At k) e =
+    by_found : (f : Option ℕ) → place_from 0 (joined_llids (joined_groups x)) y ≡ f → joined_for more y ≡ joined_for x y
+    by_found None e = by_llid-holds e (eqb llid y) refl
+    by_found (Some k) e =
         let s = place_at 0 (joined_llids (joined_groups x)) y k e in
-        has_now (At k) (place_before 0 (joined_llids (joined_groups x)) (llid ∷ []) y k e)
-        ∙ more_at k (λ z. omega (arith, z, s.below, counted)) ∙ had (At k) e
+        has_now (Some k) (place_before 0 (joined_llids (joined_groups x)) (llid ∷ []) y k e)
+        ∙ more_at k (λ z. omega (arith, z, s.below, counted)) ∙ had (Some k) e
 
 -- a group just joined: nothing was taken
 joining_taken : (llid y n : ℕ) (ms : List Membership) → has_taken (joining llid ms) y n ≡ has_taken ms y n

@@ -3,8 +3,6 @@ use mathlib.Core.Path.{◌≡◌, refl}
 use mathlib.Core.List.{List}
 use Prim.Native.Nat.{ℕ, ◌≤◌}
 use native.Mathlib.Omega.{arith}
-use Rattle.refusal.specs.declared.Verdict.{Verdict}
-use Rattle.refusal.specs.declared.Verdict.TheVariants.{Accepted}
 use Rattle.envelope.specs.ControlMask.{eqs_of}
 use Rattle.ends.specs.Occupancy.{free_from}
 use Rattle.ends.specs.Records.{with_clock}
@@ -30,6 +28,7 @@ use Rattle.traffic.specs.Receipts.{olt_received, olt_receive_of}
 use Rattle.traffic.specs.Sends.{olt_sent, olt_send_of}
 use Rattle.headend.proofs.HeadSteps.{send_identity}
 use Rattle.unicast.proofs.SendDownSteps.{send_channels}
+use Rattle.refusal.specs.Verdict.{Verdict, no_refusal}
 
 pub record OltKept (o p : Olt) : Type 0 where
   pub units : SameUnits p o
@@ -38,7 +37,7 @@ pub record OltKept (o p : Olt) : Type 0 where
 
 lift_kept : {H : Type 0} (o : Olt) (nothing : H) (ahead : Verdict) (llid : ℕ) (call : Shared → UnitRecord → Outcome H)
     → ((s : Shared) (u : UnitRecord) → (call s u).unit.identity ≡ u.identity)
-    → ((u : UnitRecord) → (call o.shared u).verdict ≡ Accepted → (k : ℕ) → free_from o.shared.channels k
+    → ((u : UnitRecord) → (call o.shared u).verdict ≡ no_refusal → (k : ℕ) → free_from o.shared.channels k
     ≤ free_from (call o.shared u).channels k)
     → OltKept o (lift o nothing ahead llid call).end
 lift_kept o nothing ahead llid call identity rises =
@@ -53,7 +52,7 @@ lift_kept o nothing ahead llid call identity rises =
 
 pub capture_kept : (o : Olt) (llid : ℕ) → OltKept o (capture_of o llid).olt
 unfolding capture_of olt_answer capture_unit outcome
-capture_kept o llid = lift_kept o silent Accepted llid capture_unit capture_keeps.identity (λ u a k. omega arith)
+capture_kept o llid = lift_kept o silent no_refusal llid capture_unit capture_keeps.identity (λ u a k. omega arith)
 
 pub measure_kept : (o : Olt) (llid trip : ℕ) → OltKept o (measure_of o llid trip).olt
 unfolding measure_of olt_answer measure_unit outcome with_clock
@@ -61,20 +60,20 @@ measure_kept o llid trip = lift_kept o silent _ llid (measure_unit trip) (λ s u
 
 pub clock_send_kept : (o : Olt) (llid : ℕ) → OltKept o (clock_send_of o llid).olt
 unfolding clock_send_of clock_sent clock_send_unit outcome
-clock_send_kept o llid = lift_kept o no_stamps Accepted llid clock_send_unit clock_send_keeps.identity (λ u a k. omega arith)
+clock_send_kept o llid = lift_kept o no_stamps no_refusal llid clock_send_unit clock_send_keeps.identity (λ u a k. omega arith)
 
 pub offer_kept : (o : Olt) (llid : ℕ) (key : List ℕ) → OltKept o (offer_of o llid key).olt
 unfolding offer_of key_sent offer_unit outcome
-offer_kept o llid key = lift_kept o no_key_message Accepted llid (offer_unit llid key) (offer_keeps llid key).identity (λ u a k. omega arith)
+offer_kept o llid key = lift_kept o no_key_message no_refusal llid (offer_unit llid key) (offer_keeps llid key).identity (λ u a k. omega arith)
 
 pub retry_kept : (o : Olt) (llid : ℕ) → OltKept o (retry_of o llid).olt
 unfolding retry_of key_sent retry_unit outcome
-retry_kept o llid = lift_kept o no_key_message Accepted llid (retry_unit llid) (retry_keeps llid).identity (λ u a k. omega arith)
+retry_kept o llid = lift_kept o no_key_message no_refusal llid (retry_unit llid) (retry_keeps llid).identity (λ u a k. omega arith)
 
 pub acknowledge_kept : (o : Olt) (llid : ℕ) (a : Acknowledgement) → OltKept o (acknowledge_of o llid a).olt
 unfolding acknowledge_of olt_answer
 acknowledge_kept o llid a =
-    lift_kept o silent Accepted llid (acknowledge_unit a) (acknowledge_keeps a).identity
+    lift_kept o silent no_refusal llid (acknowledge_unit a) (acknowledge_keeps a).identity
     (λ u e k. rw (acknowledged_channels a o.shared u) (omega arith))
 
 pub send_kept : (o : Olt) (llid channel : ℕ) (p out : List ℕ) → OltKept o (olt_send_of o llid channel p out).answer.olt

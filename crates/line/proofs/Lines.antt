@@ -1,4 +1,5 @@
 -- Who has which LLID: a group's line is that of its place at the OLT, and no LLID is a group's and a unit's. Assumes nothing.
+use Rattle.std.specs.Prelude.{Some, None}
 use mathlib.Core.Path.{◌≡◌, refl, sym, ◌∙◌, ap}
 use mathlib.Core.Bool.{Bool, true, false}
 use mathlib.Core.List.{List, [], map}
@@ -13,7 +14,6 @@ use Rattle.octets.proofs.Choice.{both_left, both_right, pick_true, pick_false, p
 use Rattle.ends.specs.Identities.{no_identity, has}
 use Rattle.ends.specs.Records.{new_onu}
 use Rattle.ends.specs.Table.{is_registered}
-use Rattle.ends.specs.declared.Found.TheVariants.{At, Nowhere}
 use Rattle.ends.specs.declared.Onu.{Onu}
 use Rattle.ends.proofs.Identities.{meets_apart}
 use Rattle.ends.proofs.Table.{registered_found}
@@ -41,14 +41,14 @@ use Rattle.line.proofs.Invariant.{Invariant}
 ---- what validity says
 
 -- a unit's LLID is no group's
-pub registered_no_group : (h : HeadEnd) (llid : ℕ) → valid_groups h ≡ true → is_registered h.olt llid ≡ true → find_group h llid ≡ Nowhere
+pub registered_no_group : (h : HeadEnd) (llid : ℕ) → valid_groups h ≡ true → is_registered h.olt llid ≡ true → find_group h llid ≡ None
 registered_no_group h llid v r = group_none h llid (by_test (is_group h llid) refl) where
   by_test : (t : Bool) → is_group h llid ≡ t → is_group h llid ≡ false
   by_test false e = e
   by_test true e = true_false (sym r ∙ meets_apart _ _ llid (groups_in_range h v).apart e)
 
 -- an LLID of its own is none that the unit joined
-own_not_joined : (x : Subscriber) (llid : ℕ) → valid_memberships x ≡ true → has x.onu.identity llid ≡ true → find_joined x llid ≡ Nowhere
+own_not_joined : (x : Subscriber) (llid : ℕ) → valid_memberships x ≡ true → has x.onu.identity llid ≡ true → find_joined x llid ≡ None
 unfolding has
 own_not_joined x llid v h = joined_none x llid (by_test (has_joined x llid) refl) where
   by_test : (t : Bool) → has_joined x llid ≡ t → has_joined x llid ≡ false
@@ -71,10 +71,10 @@ module _ (w : Setting) (s : State) (i : Invariant w s) where
         has = (i.group g h).llid;
       }
 
-  pub group_finds : (g : ℕ) → g < length s.history.groups → find_group s.head (group_lane_at s g).llid ≡ At g
+  pub group_finds : (g : ℕ) → g < length s.history.groups → find_group s.head (group_lane_at s g).llid ≡ Some g
   group_finds g h = group_own s.head (group_lane_at s g).llid g (groups_in_range s.head i.valid).distinct (group_stands g h)
 
-  pub found_line : (llid g : ℕ) → find_group s.head llid ≡ At g → (g < length s.history.groups) × ((group_lane_at s g).llid ≡ llid)
+  pub found_line : (llid g : ℕ) → find_group s.head llid ≡ Some g → (g < length s.history.groups) × ((group_lane_at s g).llid ≡ llid)
   found_line llid g e =
       let r = group_at-holds s.head llid g e in
       let known : g < length s.history.groups = omega (arith, r.used, i.count) in
@@ -83,11 +83,11 @@ module _ (w : Setting) (s : State) (i : Invariant w s) where
   pub line_once : (g h : ℕ) → g < length s.history.groups → h < length s.history.groups → (group_lane_at s g).llid ≡ (group_lane_at s h).llid
       → g ≡ h
   line_once g h p q e =
-      let z : At g ≡ At h = sym (group_finds g p) ∙ ap (find_group s.head) e ∙ group_finds h q in
+      let z : Some g ≡ Some h = sym (group_finds g p) ∙ ap (find_group s.head) e ∙ group_finds h q in
       cc
 
   -- what is noted for an LLID that no group has
-  pub noted_none : (number llid : ℕ) (f : GroupLane → GroupLane) → find_group s.head llid ≡ Nowhere
+  pub noted_none : (number llid : ℕ) (f : GroupLane → GroupLane) → find_group s.head llid ≡ None
       → noted_for number llid f s.history.groups ≡ s.history.groups
   unfolding noted_for
   noted_none number llid f n =
@@ -98,7 +98,7 @@ module _ (w : Setting) (s : State) (i : Invariant w s) where
       ∙ pick_same (accepted number) (group_lane_at s g))
 
   -- for that of group g
-  pub noted_at-holds : (number llid g : ℕ) (f : GroupLane → GroupLane) → number ≡ 0 → find_group s.head llid ≡ At g
+  pub noted_at-holds : (number llid g : ℕ) (f : GroupLane → GroupLane) → number ≡ 0 → find_group s.head llid ≡ Some g
       → noted_for number llid f s.history.groups ≡ set s.history.groups g (f (group_lane_at s g))
   unfolding noted_for
   noted_at-holds number llid g f z e =
@@ -121,11 +121,11 @@ module _ (w : Setting) (s : State) (i : Invariant w s) where
       (held_found w (alone s) (lane_at (alone s) u).entry.place u llid i.units (record { known = a.known; registered = r; place = refl }) h)
 
   pub unit_no_group : (u llid : ℕ) → (lane_at (alone s) u).entry.registered ≡ true → has (lane_at (alone s) u).site.identity llid ≡ true
-      → find_group s.head llid ≡ Nowhere
+      → find_group s.head llid ≡ None
   unit_no_group u llid r h = registered_no_group s.head llid i.valid (unit_llid-holds u llid r h)
 
   -- a group's LLID is no registered unit's, so that the units' lines note nothing for it
-  pub not_named : (llid g u : ℕ) → find_group s.head llid ≡ At g
+  pub not_named : (llid g u : ℕ) → find_group s.head llid ≡ Some g
       → both (lane_at (alone s) u).entry.registered (has (lane_at (alone s) u).site.identity llid) ≡ false
   not_named llid g u e = by_test (both (lane_at (alone s) u).entry.registered (has (lane_at (alone s) u).site.identity llid)) refl where
     by_test : (t : Bool) → both (lane_at (alone s) u).entry.registered (has (lane_at (alone s) u).site.identity llid) ≡ t
@@ -133,7 +133,7 @@ module _ (w : Setting) (s : State) (i : Invariant w s) where
     by_test false p = p
     by_test true p = at_nowhere g (sym e ∙ unit_no_group u llid (both_left _ _ p) (both_right _ _ p))
 
-  pub units_unnamed : (llid g number : ℕ) (f : Lane → Lane) → find_group s.head llid ≡ At g
+  pub units_unnamed : (llid g number : ℕ) (f : Lane → Lane) → find_group s.head llid ≡ Some g
       → map (noted number (named llid f)) (alone s).history.lanes ≡ (alone s).history.lanes
   unfolding noted named
   units_unnamed llid g number f e =
@@ -177,7 +177,7 @@ module _ (w : Setting) (s : State) (i : Invariant w s) where
 
   -- none of a unit's own LLIDs is one that it joined
   pub own_nowhere : (u llid : ℕ) → Alive w (alone s) u → has (lane_at (alone s) u).site.identity llid ≡ true
-      → find_joined (subscriber_at s u) llid ≡ Nowhere
+      → find_joined (subscriber_at s u) llid ≡ None
   own_nowhere u llid a h =
       own_not_joined (subscriber_at s u) llid (memberships_right u)
       (ap (λ (o : Onu). has o.identity llid) (sym (onu_alone s u)) ∙ a.common.llids llid ∙ h)

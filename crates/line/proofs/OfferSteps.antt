@@ -1,4 +1,5 @@
 -- An offer to a unit keeps the invariant: its key is no group's. Assumes nothing.
+use Rattle.std.specs.Prelude.{None}
 use mathlib.Core.Path.{◌≡◌, refl, sym, ◌∙◌, ap}
 use mathlib.Core.Bool.{Bool, true, false}
 use mathlib.Core.List.{List, [], ◌∷◌, ◌++◌}
@@ -11,7 +12,6 @@ use lib.Seq.{get_or_at}
 use borrow.Author.Tests.{eqb-true, ltb-true, ltb-false}
 use Rattle.octets.specs.Choice.{both, pick}
 use Rattle.ends.specs.Identities.{has}
-use Rattle.ends.specs.declared.Found.TheVariants.{Nowhere}
 use Rattle.ends.specs.declared.Olt.{Olt}
 use Rattle.protocol.specs.OltCalls.{offer_of}
 use Rattle.group_protocol.specs.Head.{find_group, with_olt}
@@ -78,7 +78,7 @@ mixed_offered w s key number new i fits more u g m n p q e = by_more (more u) wh
       key_of_more ⊥ (lane_at (alone s) u).keys.offers key (get_or (group_lane_at s g).keys.offers n []) m (rw one.1 at p) (rw one.1 at e)
       (λ l f. i.mixed u g m n l q f) (λ l f. (fits one.0).groups g n q (sym f))
 
-pub unit_offer_right : (w : Setting) (s : State) (llid : ℕ) (key : List ℕ) → Invariant w s → find_group s.head llid ≡ Nowhere
+pub unit_offer_right : (w : Setting) (s : State) (llid : ℕ) (key : List ℕ) → Invariant w s → find_group s.head llid ≡ None
     → Fits w s (offer llid key)
     → Invariant w (step s (offer llid key))
 unfolding step offering_to key_sent_alone offering at_head alone with_olt lane_leaving lane_offered lane_with

@@ -1,9 +1,9 @@
 -- The calls of the OLT on a unit keep the invariant. Assumes nothing.
+use Rattle.std.specs.Prelude.{None}
 use mathlib.Core.Path.{◌≡◌, refl, ◌∙◌, ap}
 use mathlib.Core.List.{List}
 use Prim.Native.Nat.{ℕ}
 use lib.ListN.{length, length-map}
-use Rattle.ends.specs.declared.Found.TheVariants.{Nowhere}
 use Rattle.ends.specs.declared.Olt.{Olt}
 use Rattle.protocol.specs.OltCalls.{capture_of, clock_send_of, retry_of, acknowledge_of}
 use Rattle.traffic.specs.Sends.{olt_send_of}
@@ -100,7 +100,7 @@ clock_send_right w s llid i =
 
 ---- where no group has the LLID
 
-module _ (w : Setting) (s : State) (llid : ℕ) (i : Invariant w s) (none : find_group s.head llid ≡ Nowhere) where
+module _ (w : Setting) (s : State) (llid : ℕ) (i : Invariant w s) (none : find_group s.head llid ≡ None) where
   pub unit_retry_right : Invariant w (step s (retry llid))
   unfolding step retrying_to key_sent_alone retrying run.step alone with_olt lane_leaving lane_with
   unit_retry_right =

@@ -1,4 +1,5 @@
 -- The calls of a unit on its own line keep the invariant. Assumes nothing.
+use Rattle.std.specs.Prelude.{Option, Some, None}
 use mathlib.Core.Path.{◌≡◌, refl, ◌∙◌, ap}
 use mathlib.Core.Bool.{Bool, true}
 use mathlib.Core.List.{List}
@@ -13,8 +14,6 @@ use Rattle.refusal.specs.Number.{verdict_number}
 use Rattle.refusal.proofs.Order.{refuse_accepted, refused_accepts}
 use Rattle.refusal.proofs.Numbers.{number_accepted}
 use Rattle.ends.specs.Identities.{has}
-use Rattle.ends.specs.declared.Found.{Found}
-use Rattle.ends.specs.declared.Found.TheVariants.{At, Nowhere}
 use Rattle.protocol.specs.Headers.{envelope_header}
 use Rattle.protocol.specs.declared.Header.{Header}
 use Rattle.traffic.specs.Passages.{misfit}
@@ -101,7 +100,7 @@ group_send_refused x channel m e =
     let b = refuse_accepted _ _ _ a.1 in
     refused_accepts _ (refuse_accepted _ _ _ b.1).1
 
-joined_send_up : (s : State) (u llid channel : ℕ) (p out : List ℕ) (k : ℕ) → find_joined (subscriber_at s u) llid ≡ At k
+joined_send_up : (s : State) (u llid channel : ℕ) (p out : List ℕ) (k : ℕ) → find_joined (subscriber_at s u) llid ≡ Some k
     → step s (send_up u llid channel p out) ≡ s
 unfolding step sending_up subscriber_send_of by_llid noted
 joined_send_up s u llid channel p out k found =
@@ -110,7 +109,7 @@ joined_send_up s u llid channel p out k found =
     (pick_false _ _ (ne_eqb _ 0 (λ e. group_send_refused (subscriber_at s u) channel (misfit p out) e))))
 
 unit_send_up_right : (w : Setting) (s : State) (u llid channel : ℕ) (p out : List ℕ) → Invariant w s
-    → Fits w s (send_up u llid channel p out) → find_joined (subscriber_at s u) llid ≡ Nowhere → Invariant w (step s (send_up u llid channel p out))
+    → Fits w s (send_up u llid channel p out) → find_joined (subscriber_at s u) llid ≡ None → Invariant w (step s (send_up u llid channel p out))
 unfolding step sending_up with_onu lane_sent_up lane_with
 unit_send_up_right w s u llid channel p out i fits none =
     let x = subscriber_at s u in
@@ -129,9 +128,9 @@ send_up_right w s u llid channel p out i fits = by_found (find_joined (subscribe
   x : Subscriber
   x = subscriber_at s u
 
-  by_found : (f : Found) → find_joined x llid ≡ f → Invariant w (step s (send_up u llid channel p out))
-  by_found Nowhere none = unit_send_up_right w s u llid channel p out i fits none
-  by_found (At k) found = rw (joined_send_up s u llid channel p out k found) i
+  by_found : (f : Option ℕ) → find_joined x llid ≡ f → Invariant w (step s (send_up u llid channel p out))
+  by_found None none = unit_send_up_right w s u llid channel p out i fits none
+  by_found (Some k) found = rw (joined_send_up s u llid channel p out k found) i
 
 ---- what arrives of its own
 

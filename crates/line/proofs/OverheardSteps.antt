@@ -1,5 +1,6 @@
 -- What a unit overhears, of another unit or of a group of which it is no member, leaves it as it was, and is refused where it has not joined
 -- the LLID; so does what it refuses. Assumes nothing.
+use Rattle.std.specs.Prelude.{Err, Option, Some, None}
 use mathlib.Core.Path.{◌≡◌, refl, sym, ◌∙◌, ap, subst}
 use mathlib.Core.Bool.{Bool, true, false}
 use mathlib.Core.List.{List}
@@ -12,13 +13,10 @@ use Rattle.octets.proofs.Choice.{not_of_true}
 use Rattle.octets.proofs.Members.{mem_at}
 use Rattle.refusal.specs.Order.{refuse_if}
 use Rattle.refusal.specs.declared.Refusal.TheVariants.{OutOfRange, UnknownLlid, BadLength}
-use Rattle.refusal.specs.declared.Verdict.TheVariants.{Refused}
 use Rattle.refusal.proofs.Order.{refuse_passed}
 use Rattle.envelope.specs.Channels.{downstream}
 use Rattle.ends.specs.Identities.{has}
 use Rattle.ends.specs.Validity.{valid_onu}
-use Rattle.ends.specs.declared.Found.{Found}
-use Rattle.ends.specs.declared.Found.TheVariants.{At, Nowhere}
 use Rattle.protocol.specs.Headers.{valid_header, envelope_header, no_passage}
 use Rattle.protocol.specs.OnuTraffic.{onu_receive_verdict}
 use Rattle.protocol.specs.declared.Header.{Header}
@@ -73,7 +71,7 @@ empty_stays y h e = by_choice (joined_choice y h) refl where
   by_choice (Barred r) q = refl
   by_choice (Next n) q = absurd (omega (arith, e.held, (next_held y h n q).0))
 
-joined_left : (x : Subscriber) (h : Header) (p out : List ℕ) (j : ℕ) → find_joined x h.llid ≡ At j → Empty (joined_at x j)
+joined_left : (x : Subscriber) (h : Header) (p out : List ℕ) (j : ℕ) → find_joined x h.llid ≡ Some j → Empty (joined_at x j)
     → (subscriber_receive_of x h p out).answer.subscriber ≡ x
 unfolding subscriber_receive_of by_llid group_receive_of subscriber_received receive_joined
 joined_left x h p out j found e = by_end (lift_ends x no_passage (receive_joined (misfit p out) h) j) where
@@ -93,7 +91,7 @@ module _ (w : Setting) (s : State) (u : ℕ) (e : Envelope) (out : List ℕ) (i 
   abbrev x : Subscriber
   x = subscriber_at s u
 
-  refused_there : find_joined x e.llid ≡ Nowhere → RefusedThere s u e out
+  refused_there : find_joined x e.llid ≡ None → RefusedThere s u e out
   unfolding not_received onu_not_received with_onu
   refused_there none = receive_onu x (memberships_right w s i u) e.header e.octets out (ap (find_joined x) llid ∙ none) ∙ rw own
 
@@ -103,12 +101,12 @@ module _ (w : Setting) (s : State) (u : ℕ) (e : Envelope) (out : List ℕ) (i 
     a : Alive w (alone s) u
     a = registered_alive w (alone s) u i.units r
 
-    nowhere : is_joined (joined_by s u) e.llid ≡ false → find_joined x e.llid ≡ Nowhere
+    nowhere : is_joined (joined_by s u) e.llid ≡ false → find_joined x e.llid ≡ None
     nowhere n = joined_none x e.llid (sym (joined_listed _ _ x (joined_by s u) e.llid (i.joins u (unit_known w s u a))) ∙ n)
 
-    by_found : (f : Found) → find_joined x e.llid ≡ f → LeftThere s u e out
-    by_found Nowhere none = ap (λ (y : WithOutput SubscriberReceived). y.answer.subscriber) (refused_there none)
-    by_found (At j) found =
+    by_found : (f : Option ℕ) → find_joined x e.llid ≡ f → LeftThere s u e out
+    by_found None none = ap (λ (y : WithOutput SubscriberReceived). y.answer.subscriber) (refused_there none)
+    by_found (Some j) found =
         joined_left x e.header e.octets out j (ap (find_joined x) llid ∙ found)
         (rw (joined_for_at x e.llid j found) at ((i.joins u (unit_known w s u a)).stranger e.llid stranger))
 
@@ -128,7 +126,7 @@ unit_overheard w s i u v k out h =
 
 ---- of a group
 
-refused_for : (t : Bool) (y : Direction) → y ≡ downward → refuse_if t BadLength (Refused UnknownLlid) ≡ Refused (overheard_for t y)
+refused_for : (t : Bool) (y : Direction) → y ≡ downward → refuse_if t BadLength (Err UnknownLlid) ≡ Err (overheard_for t y)
 unfolding refuse_if
 refused_for true y e = refl
 refused_for false y e = rw e
@@ -145,7 +143,7 @@ group_overheard w s i u g k out h =
     let llid : e.header.llid ≡ e.llid = ap (λ (y : Header). y.llid) send.right.header in
     let strange : has x.onu.identity e.header.llid ≡ false =
     ap (has x.onu.identity) (llid ∙ send.llid) ∙ no_own w s u g i known h.registered in
-    let verdict : onu_receive_verdict x.onu (misfit e.octets out) e.header ≡ Refused (overheard_for (misfit e.octets out) e.direction) =
+    let verdict : onu_receive_verdict x.onu (misfit e.octets out) e.header ≡ Err (overheard_for (misfit e.octets out) e.direction) =
     overheard_down-holds x.onu (misfit e.octets out) e.header (ap (λ (y : Header). downstream y.channel) send.right.header ∙ send.down)
     (ap valid_header send.right.header ∙ header_valid e.number e.channel e.llid _) strange
     ∙ refused_for (misfit e.octets out) e.direction send.direction in

@@ -10,7 +10,6 @@ use lib.Seq.{set-get_or}
 use borrow.Author.Tests.{eqb-true, eqb-false, ne_eqb, leb-false, lt-leb, not-false}
 use Rattle.octets.specs.Choice.{pick}
 use Rattle.octets.proofs.Choice.{both_left, either_false, not_of_true}
-use Rattle.refusal.specs.declared.Verdict.TheVariants.{Accepted}
 use Rattle.refusal.specs.declared.Refusal.TheVariants.{OutOfRange, RepeatedLlid, TableFull}
 use Rattle.refusal.proofs.Numbers.{number_accepted}
 use Rattle.refusal.proofs.Order.{refuse_accepted, refuse_passed}
@@ -43,6 +42,7 @@ use Rattle.line.specs.Premises.{Fits}
 use Rattle.line.proofs.Invariant.{Invariant}
 use Rattle.line.proofs.Beside.{unit_itself, beside_right}
 use Rattle.line.proofs.Places.{set_field, set_holds}
+use Rattle.refusal.specs.Verdict.{no_refusal}
 
 -- what an accepted registration has met, and answers with
 pub record Accepts (h : HeadEnd) (i : Identity) (trip interval : ℕ) : Type 0 where
@@ -70,7 +70,7 @@ accepts h i trip interval e =
           (refuse_passed _ OutOfRange _ (not_of_true (both_left _ _ (not-false _ a.0)))
           ∙ refuse_passed _ OutOfRange _ b.0
           ∙ refuse_passed _ RepeatedLlid _ llids.0
-          ∙ refuse_passed _ TableFull Accepted (lt-leb max_units h.olt.count place)));
+          ∙ refuse_passed _ TableFull no_refusal (lt-leb max_units h.olt.count place)));
       head = ap head_answer (reply_accepted _ h silent _ silent v);
       few = (identity_valid i (both_left _ _ (not-false _ b.0))).1;
       apart = llids.1;

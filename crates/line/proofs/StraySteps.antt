@@ -1,12 +1,11 @@
 -- Any other receipt of a unit is refused, and leaves it as it was. Assumes nothing.
+use Rattle.std.specs.Prelude.{Option, Some, None}
 use mathlib.Core.Path.{◌≡◌, refl, ◌∙◌, ap}
 use mathlib.Core.Bool.{true}
 use mathlib.Core.List.{List}
 use Prim.Native.Nat.{ℕ}
 use Rattle.octets.specs.Output.{WithOutput}
 use Rattle.clock.specs.declared.Stamps.{Stamps}
-use Rattle.ends.specs.declared.Found.{Found}
-use Rattle.ends.specs.declared.Found.TheVariants.{At, Nowhere}
 use Rattle.protocol.specs.Headers.{no_passage}
 use Rattle.protocol.specs.declared.Header.{Header}
 use Rattle.protocol.specs.declared.KeyMessage.{KeyMessage}
@@ -39,7 +38,7 @@ module _ (x : Subscriber) (v : valid_memberships x ≡ true) where
       ap (λ (r : SubscriberAcknowledged). r.subscriber) is
       ∙ ap (with_onu x) (clock_message_refused x.onu m (λ z. n (ap (λ (r : SubscriberAcknowledged). r.number) is ∙ z))).0
 
-  own_key_refused : (m : KeyMessage) → find_joined x m.llid ≡ Nowhere → ((subscriber_key_message_of x m).number ≡ 0 → ⊥)
+  own_key_refused : (m : KeyMessage) → find_joined x m.llid ≡ None → ((subscriber_key_message_of x m).number ≡ 0 → ⊥)
       → (subscriber_key_message_of x m).subscriber ≡ x
   unfolding with_onu
   own_key_refused m none n =
@@ -47,7 +46,7 @@ module _ (x : Subscriber) (v : valid_memberships x ≡ true) where
       ap (λ (r : SubscriberAcknowledged). r.subscriber) is
       ∙ ap (with_onu x) (key_message_refused x.onu m (λ z. n (ap (λ (r : SubscriberAcknowledged). r.number) is ∙ z))).0
 
-  group_key_refused : (m : KeyMessage) (j : ℕ) → find_joined x m.llid ≡ At j → ((subscriber_key_message_of x m).number ≡ 0 → ⊥)
+  group_key_refused : (m : KeyMessage) (j : ℕ) → find_joined x m.llid ≡ Some j → ((subscriber_key_message_of x m).number ≡ 0 → ⊥)
       → (subscriber_key_message_of x m).subscriber ≡ x
   unfolding subscriber_key_message_of by_llid subscriber_acknowledged
   group_key_refused m j found n = by_end (lift_ends x no_answer (message_joined m) j) where
@@ -57,11 +56,11 @@ module _ (x : Subscriber) (v : valid_memberships x ≡ true) where
 
   pub key_refused : (m : KeyMessage) → ((subscriber_key_message_of x m).number ≡ 0 → ⊥) → (subscriber_key_message_of x m).subscriber ≡ x
   key_refused m n = by_found (find_joined x m.llid) refl where
-    by_found : (f : Found) → find_joined x m.llid ≡ f → (subscriber_key_message_of x m).subscriber ≡ x
-    by_found Nowhere e = own_key_refused m e n
-    by_found (At j) e = group_key_refused m j e n
+    by_found : (f : Option ℕ) → find_joined x m.llid ≡ f → (subscriber_key_message_of x m).subscriber ≡ x
+    by_found None e = own_key_refused m e n
+    by_found (Some j) e = group_key_refused m j e n
 
-  own_receive_refused : (h : Header) (p out : List ℕ) → find_joined x h.llid ≡ Nowhere → ((subscriber_receive_of x h p out).answer.number ≡ 0 → ⊥)
+  own_receive_refused : (h : Header) (p out : List ℕ) → find_joined x h.llid ≡ None → ((subscriber_receive_of x h p out).answer.number ≡ 0 → ⊥)
       → (subscriber_receive_of x h p out).answer.subscriber ≡ x
   unfolding with_onu
   own_receive_refused h p out none n =
@@ -69,7 +68,7 @@ module _ (x : Subscriber) (v : valid_memberships x ≡ true) where
       ap (λ (r : WithOutput SubscriberReceived). r.answer.subscriber) is
       ∙ ap (with_onu x) (receive_refused x.onu h p out (λ z. n (ap (λ (r : WithOutput SubscriberReceived). r.answer.number) is ∙ z)))
 
-  group_receive_refused : (h : Header) (p out : List ℕ) (j : ℕ) → find_joined x h.llid ≡ At j
+  group_receive_refused : (h : Header) (p out : List ℕ) (j : ℕ) → find_joined x h.llid ≡ Some j
       → ((subscriber_receive_of x h p out).answer.number ≡ 0 → ⊥)
       → (subscriber_receive_of x h p out).answer.subscriber ≡ x
   unfolding subscriber_receive_of by_llid group_receive_of subscriber_received
@@ -81,9 +80,9 @@ module _ (x : Subscriber) (v : valid_memberships x ≡ true) where
   pub envelope_refused : (h : Header) (p out : List ℕ) → ((subscriber_receive_of x h p out).answer.number ≡ 0 → ⊥)
       → (subscriber_receive_of x h p out).answer.subscriber ≡ x
   envelope_refused h p out n = by_found (find_joined x h.llid) refl where
-    by_found : (f : Found) → find_joined x h.llid ≡ f → (subscriber_receive_of x h p out).answer.subscriber ≡ x
-    by_found Nowhere e = own_receive_refused h p out e n
-    by_found (At j) e = group_receive_refused h p out j e n
+    by_found : (f : Option ℕ) → find_joined x h.llid ≡ f → (subscriber_receive_of x h p out).answer.subscriber ≡ x
+    by_found None e = own_receive_refused h p out e n
+    by_found (Some j) e = group_receive_refused h p out j e n
 
 ---- the events
 

@@ -1,4 +1,5 @@
 -- Which keys' messages a unit has taken, and what it has of one group replaced. Assumes nothing.
+use Rattle.std.specs.Prelude.{Option, Some, None}
 use mathlib.Core.Path.{◌≡◌, refl, sym, ◌∙◌, ap}
 use mathlib.Core.Bool.{Bool, true, false}
 use mathlib.Core.List.{List, [], ◌∷◌, ◌++◌, map}
@@ -12,8 +13,6 @@ use Rattle.octets.specs.Choice.{both, either, pick}
 use Rattle.octets.proofs.Choice.{both_left, both_right, both_true, both_false_left, either_left, either_right, either_cases, pick_true, pick_false, true_false}
 use Rattle.octets.proofs.Maps.{map_take, map_same}
 use Rattle.ends.specs.Identities.{among}
-use Rattle.ends.specs.declared.Found.{Found}
-use Rattle.ends.specs.declared.Found.TheVariants.{At, Nowhere}
 use Rattle.ends.proofs.Identities.{among_append, among_head}
 use Rattle.group_protocol.specs.Members.{place_from}
 use Rattle.group_protocol.specs.Subscriber.{fresh_joined, joined_llids, joined_groups, find_joined, joined_at, past_joined, with_joined}
@@ -117,7 +116,7 @@ taking_new llid n (m ∷ ms) e =
 
 ---- one group that it joined replaced
 
-module _ (x : Subscriber) (llid i : ℕ) (j : Joined) (found : find_joined x llid ≡ At i) (named : j.llid ≡ llid) where
+module _ (x : Subscriber) (llid i : ℕ) (j : Joined) (found : find_joined x llid ≡ Some i) (named : j.llid ≡ llid) where
   pub with_llids : joined_llids (joined_groups (with_joined x i j)) ≡ joined_llids (joined_groups x)
   unfolding with_joined joined_llids
   with_llids =
@@ -134,24 +133,24 @@ module _ (x : Subscriber) (llid i : ℕ) (j : Joined) (found : find_joined x lli
   pub with_own : joined_for (with_joined x i j) llid ≡ j
   unfolding joined_for by_llid with_joined
   with_own =
-      ap (λ (f : Found). by_llid f (fresh_joined llid) (joined_at (with_joined x i j))) (with_finds llid ∙ found)
+      ap (λ (f : Option ℕ). by_llid f (fresh_joined llid) (joined_at (with_joined x i j))) (with_finds llid ∙ found)
       ∙ get_or-set_same x.memberships.table i j past_joined (found_place x llid i found).placed
 
   pub with_other : (y : ℕ) → (y ≡ llid → ⊥) → joined_for (with_joined x i j) y ≡ joined_for x y
   unfolding joined_for by_llid with_joined
   with_other y d = by_found (find_joined x y) refl where
-    by_found : (f : Found) → find_joined x y ≡ f → joined_for (with_joined x i j) y ≡ joined_for x y
-    by_found Nowhere e =
-        ap (λ (z : Found). by_llid z (fresh_joined y) (joined_at (with_joined x i j))) (with_finds y ∙ e)
-        ∙ sym (ap (λ (z : Found). by_llid z (fresh_joined y) (joined_at x)) e)
-    by_found (At k) e =
+    by_found : (f : Option ℕ) → find_joined x y ≡ f → joined_for (with_joined x i j) y ≡ joined_for x y
+    by_found None e =
+        ap (λ (z : Option ℕ). by_llid z (fresh_joined y) (joined_at (with_joined x i j))) (with_finds y ∙ e)
+        ∙ sym (ap (λ (z : Option ℕ). by_llid z (fresh_joined y) (joined_at x)) e)
+    by_found (Some k) e =
         let differs : k ≡ i → ⊥ = λ z. d (sym (found_place x y k e).has ∙ ap (λ (n : ℕ). (joined_at x n).llid) z
         ∙ (found_place x llid i found).has) in
-        ap (λ (z : Found). by_llid z (fresh_joined y) (joined_at (with_joined x i j))) (with_finds y ∙ e)
+        ap (λ (z : Option ℕ). by_llid z (fresh_joined y) (joined_at (with_joined x i j))) (with_finds y ∙ e)
         ∙ get_or-set_other x.memberships.table i k j past_joined differs
-        ∙ sym (ap (λ (z : Found). by_llid z (fresh_joined y) (joined_at x)) e)
+        ∙ sym (ap (λ (z : Option ℕ). by_llid z (fresh_joined y) (joined_at x)) e)
 
 -- what it has of a group that it joined
-pub joined_for_at : (x : Subscriber) (llid i : ℕ) → find_joined x llid ≡ At i → joined_for x llid ≡ joined_at x i
+pub joined_for_at : (x : Subscriber) (llid i : ℕ) → find_joined x llid ≡ Some i → joined_for x llid ≡ joined_at x i
 unfolding joined_for by_llid
-joined_for_at x llid i e = ap (λ (f : Found). by_llid f (fresh_joined llid) (joined_at x)) e
+joined_for_at x llid i e = ap (λ (f : Option ℕ). by_llid f (fresh_joined llid) (joined_at x)) e

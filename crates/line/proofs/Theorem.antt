@@ -1,9 +1,8 @@
 -- Whatever the list, groups included, the invariant holds after it, and with it the claim. Assumes nothing.
+use Rattle.std.specs.Prelude.{Option, Some, None}
 use mathlib.Core.Path.{◌≡◌, refl}
 use mathlib.Core.List.{List, [], ◌∷◌}
 use Prim.Native.Nat.{ℕ}
-use Rattle.ends.specs.declared.Found.{Found}
-use Rattle.ends.specs.declared.Found.TheVariants.{At, Nowhere}
 use Rattle.group_protocol.specs.Head.{find_group}
 use Rattle.unicast.specs.Setting.{Setting}
 use Rattle.unicast.specs.Premises.{Fresh}
@@ -34,21 +33,21 @@ use Rattle.line.proofs.StraySteps.{stray_clock_right, stray_key_right, stray_dow
 
 offer_right : (w : Setting) (s : State) (llid : ℕ) (key : List ℕ) → Invariant w s → Fits w s (offer llid key) → Invariant w (step s (offer llid key))
 offer_right w s llid key i f = by_found (find_group s.head llid) refl where
-  by_found : (x : Found) → find_group s.head llid ≡ x → Invariant w (step s (offer llid key))
-  by_found Nowhere e = unit_offer_right w s llid key i e f
-  by_found (At g) e = group_offer_right w s llid g key i e f
+  by_found : (x : Option ℕ) → find_group s.head llid ≡ x → Invariant w (step s (offer llid key))
+  by_found None e = unit_offer_right w s llid key i e f
+  by_found (Some g) e = group_offer_right w s llid g key i e f
 
 retry_right : (w : Setting) (s : State) (llid : ℕ) → Invariant w s → Invariant w (step s (retry llid))
 retry_right w s llid i = by_found (find_group s.head llid) refl where
-  by_found : (x : Found) → find_group s.head llid ≡ x → Invariant w (step s (retry llid))
-  by_found Nowhere e = unit_retry_right w s llid i e
-  by_found (At g) e = group_retry_right w s llid g i e
+  by_found : (x : Option ℕ) → find_group s.head llid ≡ x → Invariant w (step s (retry llid))
+  by_found None e = unit_retry_right w s llid i e
+  by_found (Some g) e = group_retry_right w s llid g i e
 
 send_down_right : (w : Setting) (s : State) (llid channel : ℕ) (p out : List ℕ) → Invariant w s → Invariant w (step s (send_down llid channel p out))
 send_down_right w s llid channel p out i = by_found (find_group s.head llid) refl where
-  by_found : (x : Found) → find_group s.head llid ≡ x → Invariant w (step s (send_down llid channel p out))
-  by_found Nowhere e = unit_send_right w s llid i e channel p out
-  by_found (At g) e = group_send_right w s llid g channel p out i e
+  by_found : (x : Option ℕ) → find_group s.head llid ≡ x → Invariant w (step s (send_down llid channel p out))
+  by_found None e = unit_send_right w s llid i e channel p out
+  by_found (Some g) e = group_send_right w s llid g channel p out i e
 
 ---- every event
 

@@ -1,4 +1,5 @@
 -- Lists without groups and joins run as without groups. Assumes nothing.
+use Rattle.std.specs.Prelude.{Option, Some, None}
 use mathlib.Core.Path.{◌≡◌, refl, sym, ◌∙◌, ap}
 use mathlib.Core.Bool.{Bool, true, false}
 use mathlib.Core.List.{List, [], ◌∷◌, map}
@@ -30,8 +31,6 @@ use Rattle.traffic.specs.Passages.{misfit}
 use Rattle.traffic.specs.Receipts.{olt_received, olt_receive_of, onu_not_received, onu_receive_of}
 use Rattle.traffic.specs.declared.OnuReceived.{OnuReceived}
 use Rattle.traffic.specs.Sends.{onu_send_of}
-use Rattle.ends.specs.declared.Found.{Found}
-use Rattle.ends.specs.declared.Found.TheVariants.{At, Nowhere}
 use Rattle.group_protocol.specs.Head.{find_group, with_olt}
 use Rattle.group_protocol.specs.Members.{place_from}
 use Rattle.group_protocol.specs.Subscriber.{find_joined, joined_llids, no_memberships, valid_memberships}
@@ -82,21 +81,21 @@ pub record Plain (s : State) : Type 0 where
   pub groups : s.history.groups ≡ []
   pub joined : (u : ℕ) → joined_by s u ≡ []
 
-no_group-holds : (w : Setting) (s : State) (llid : ℕ) → Invariant w s → Plain s → find_group s.head llid ≡ Nowhere
+no_group-holds : (w : Setting) (s : State) (llid : ℕ) → Invariant w s → Plain s → find_group s.head llid ≡ None
 no_group-holds w s llid i p = by_found (find_group s.head llid) refl where
-  by_found : (f : Found) → find_group s.head llid ≡ f → find_group s.head llid ≡ Nowhere
-  by_found Nowhere e = e
-  by_found (At g) e =
+  by_found : (f : Option ℕ) → find_group s.head llid ≡ f → find_group s.head llid ≡ None
+  by_found None e = e
+  by_found (Some g) e =
       absurd (omega (arith, (found_line w s i llid g e).0, ap length p.groups))
 
-none_found : (llid : ℕ) → find_joined no_subscriber llid ≡ Nowhere
+none_found : (llid : ℕ) → find_joined no_subscriber llid ≡ None
 unfolding find_joined no_subscriber no_memberships joined_llids place_from
 none_found llid = refl
 
-no_joined : (w : Setting) (s : State) (u llid : ℕ) → Invariant w s → Plain s → find_joined (subscriber_at s u) llid ≡ Nowhere
+no_joined : (w : Setting) (s : State) (u llid : ℕ) → Invariant w s → Plain s → find_joined (subscriber_at s u) llid ≡ None
 unfolding is_joined among
 no_joined w s u llid i p = by_length (ltb u (length (lanes s))) refl where
-  by_length : (t : Bool) → ltb u (length (lanes s)) ≡ t → find_joined (subscriber_at s u) llid ≡ Nowhere
+  by_length : (t : Bool) → ltb u (length (lanes s)) ≡ t → find_joined (subscriber_at s u) llid ≡ None
   by_length true e =
       joined_none (subscriber_at s u) llid
       (sym (joined_listed _ _ (subscriber_at s u) (joined_by s u) llid (i.joins u (ltb-true u (length (lanes s)) e)))
@@ -126,7 +125,7 @@ module _ (w : Setting) (s : State) (i : Invariant w s) (p : Plain s) where
   unfolding no_group_lane
   no_offers g n h = omega (arith, h, ap (λ (gs : List GroupLane). length (get_or gs g no_group_lane).keys.offers) p.groups)
 
-  none : (llid : ℕ) → find_group s.head llid ≡ Nowhere
+  none : (llid : ℕ) → find_group s.head llid ≡ None
   none llid = no_group-holds w s llid i p
 
   valid : (u : ℕ) → valid_memberships (subscriber_at s u) ≡ true

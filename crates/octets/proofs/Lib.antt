@@ -1,5 +1,6 @@
 pub mod BigEndian
 pub mod Bits
+pub mod Chains
 pub mod Choice
 pub mod Lists
 pub mod Maps

@@ -3,13 +3,13 @@ use mathlib.Core.Path.{◌≡◌, refl, ap, ap₂, sym, ◌∙◌}
 use mathlib.Core.Bool.{true, false}
 use mathlib.Core.List.{List, [], ◌∷◌, ◌++◌, append_assoc, append-nil}
 use Prim.Native.Nat.{ℕ, zero, suc, ◌+◌, ◌-◌, ◌*◌, ◌<◌, ◌≤◌}
-use native.Mathlib.Nat.{add-zero, zero-add, add-suc, suc-add, le_of_lt, le_of_suc-le-suc, not-suc-le-zero, add_assoc, sub-zero, suc-sub-suc}
+use native.Mathlib.Nat.{add-zero, zero-add, add-suc, suc-add, le_of_suc-le-suc, not-suc-le-zero, add_assoc, sub-zero, suc-sub-suc, mul-zero}
 use native.Mathlib.Numerals.{add-one}
 use native.Mathlib.Omega.{arith}
-use lib.ListN.{length, get_or, drop, take, set, replicate, length-append, length-take, length-drop, length-replicate, replicate-append-replicate, drop_of_length-le}
-use lib.Seq.{drop-cons, take-suc, length-take-le, set_at, ext_get_or, take_all, take_at, drop_at, drop-length, drop-drop, take-add, get_or-take, get_or-drop, paste, take-length, take-nil, drop-nil}
-use borrow.Rule.Slice.PartMut.{put_mid}
+use lib.ListN.{length, get_or, drop, take, length-append, length-take, length-drop}
+use lib.Seq.{ext_get_or, take_all, take_at, drop_at, drop-length, drop-drop, take-add, get_or-take, get_or-drop, paste, take-length, take-nil}
 use borrow.Author.Tests.{eqb-true, eq-eqb}
+use Rattle.std.specs.Simd.{first_chunks}
 use Rattle.octets.specs.Lists.{tabulate, sum, same, replaced, written, part, copied, copied_at}
 use Rattle.octets.proofs.Choice.{both_left, both_right, both_true}
 
@@ -41,22 +41,7 @@ pub tabulate_suc : {A : Type 0} (i n : ℕ) (f : ℕ → A) (ys : List A) → ta
 tabulate_suc i zero f ys = rw add-zero
 tabulate_suc {A} i (suc n) f ys = rw (add-suc, ← suc-add) (ap (λ (l : List A). f i ∷ l) (tabulate_suc (suc i) n f ys))
 
--- one turn of a loop that copies a list into another
-pub copy_more : {A : Type 0} (k z : List A) (d : A) (i : ℕ) → i < length k → i < length z
-    → set (take i k ++ drop i z) i (get_or k i d) ≡ take (i + 1) k ++ drop (i + 1) z
-copy_more k z d i hk hz =
-    rw (add-one, drop-cons z i d hz, take-suc k i d hk, append_assoc)
-    (set_at (take i k) (get_or z i d) (drop (suc i) z) (get_or k i d) i (length-take-le i k (le_of_lt hk)))
-
--- a copy of a list that is no longer than the other: all of it
-pub copied_short : {A : Type 0} (s t : List A) → length s ≤ length t → take (length s) s ++ drop (length s) t ≡ copied s t
-copied_short s t h = rw (take-length, take_all (length t) s h)
-
--- of one that is no shorter: the other is filled
-pub copied_long : {A : Type 0} (s t : List A) → length t ≤ length s → take (length t) s ++ drop (length t) t ≡ copied s t
-copied_long s t h = rw (drop-length, drop_of_length-le t h)
-
--- of one of the same length: the list itself
+-- a copy of a list of the same length: the list itself
 pub copied_whole : {A : Type 0} (s t : List A) → length t ≡ length s → copied s t ≡ s
 copied_whole s t e = rw (e, take-length, ← e, drop-length, append-nil)
 
@@ -78,29 +63,6 @@ sum_ext i (suc n) f g h =
 pub sum_below : (i n b : ℕ) (f : ℕ → ℕ) → ((k : ℕ) → f k ≤ b) → sum i n f ≤ n * b
 sum_below i zero b f h = omega arith
 sum_below i (suc n) b f h = omega (arith, h i, sum_below (suc i) n b f h)
-
--- the part of s from k on, as a slice `&s[k..]` has it
-pub tail_part : {A : Type 0} (k : ℕ) (s : List A) → take (length s - k) (drop k s) ≡ drop k s
-tail_part k s = take_all (length s - k) (drop k s) (omega (arith, length-drop k s))
-
--- one more element of a list that is cleared from the front
-pub zero_more : (s : List ℕ) (i : ℕ) → i < length s → set (replicate i 0 ++ drop i s) i 0 ≡ replicate (i + 1) 0 ++ drop (i + 1) s
-zero_more s i h =
-    let zeros : List ℕ = replicate i 0 in
-    let more : zeros ++ (0 ∷ []) ≡ replicate (i + 1) 0 = replicate-append-replicate i 1 0 in
-    rw (← more, add-one, drop-cons s i 0 h)
-    (set_at zeros (get_or s i 0) (drop (suc i) s) 0 i (length-replicate i 0) ∙ sym (append_assoc zeros (0 ∷ []) (drop (suc i) s)))
-
--- the part of t behind `at` copied into, and put back
-pub copied_behind : (s t : List ℕ) (at : ℕ) (done : List ℕ) → done ≡ copied s (take (length t - at) (drop at t))
-    → put_mid at (length t - at) t done ≡ copied_at s at t
-copied_behind s t at done e =
-    let none : drop (length t - at) (drop at t) ≡ [] = drop_of_length-le (drop at t) {i = length t - at} (omega (arith, length-drop at t)) in
-    rw (e, tail_part at t, none, append-nil)
-
--- there is nothing behind the end
-pub copied_past : (s t : List ℕ) (at : ℕ) → length t ≤ at → t ≡ copied_at s at t
-copied_past s t at h = rw (take_all at t h, drop_of_length-le t {i = at} h, drop-nil, append-nil)
 
 -- where there is room for all of s, it stands in its places
 pub copied_inside : (s t : List ℕ) (at : ℕ) → at + length s ≤ length t → copied_at s at t ≡ replaced t at s
@@ -126,6 +88,23 @@ part_at s a n i d h = rw (get_or-take n (drop a s) i d h, get_or-drop a s i d)
 
 pub part_length : {A : Type 0} (s : List A) (a n : ℕ) → a + n ≤ length s → length (take n (drop a s)) ≡ n
 part_length s a n h = simp (length-take, length-drop) (omega arith)
+
+-- a part that is all there, by its elements
+pub part_tabulated : {A : Type 0} (s : List A) (a n : ℕ) (d : A) → a + n ≤ length s → part s a n ≡ tabulate 0 n (λ i. get_or s (a + i) d)
+part_tabulated s a n d h =
+    ext_get_or d (part s a n) (tabulate 0 n (λ i. get_or s (a + i) d))
+    (part_length s a n h ∙ sym (tabulate_length 0 n (λ i. get_or s (a + i) d)))
+    (λ i k.
+    let l : i < n = rw (part_length s a n h) at k in
+    part_at s a n i d l ∙ sym (tabulate_at 0 n (λ i. get_or s (a + i) d) i d l ∙ rw zero-add))
+
+-- piece i of the first k of a list, each of n elements
+pub chunk_at : {A : Type 0} (n k i : ℕ) (s d : List _) → i < k → get_or (first_chunks {X = A} n k s) i d ≡ part s (n * i) n
+chunk_at n zero i s d h = absurd (not-suc-le-zero h)
+chunk_at n (suc k) zero s d h = rw mul-zero
+chunk_at n (suc k) (suc i) s d h =
+    let next : n + n * i ≡ n * suc i = omega arith in
+    chunk_at n k i (drop n s) d (le_of_suc-le-suc h) ∙ rw drop-drop (rw next)
 
 pub written_length : {A : Type 0} (t : List A) (a e : ℕ) (s : List A) → a ≤ e → e ≤ length s → e ≤ length t
     → length (written t a e s) ≡ length s

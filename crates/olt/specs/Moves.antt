@@ -2,13 +2,13 @@
 use Rattle.std.specs.Prelude.{ℕ}
 use Rattle.refusal.specs.Number.{verdict_number}
 use Rattle.refusal.specs.Order.{and_then}
-use Rattle.refusal.specs.declared.Verdict.{Verdict}
 use Rattle.ends.specs.Validity.{valid_olt}
 use Rattle.ends.specs.declared.Olt.{Olt}
 use Rattle.protocol.specs.OltCalls.{olt_advanced}
 use Rattle.protocol.specs.Replies.{advance_verdict, on_valid}
 use Rattle.unit.specs.Reached.{if_accepted}
 use Rattle.olt.specs.declared.OltMoved.{OltMoved}
+use Rattle.refusal.specs.Verdict.{Verdict}
 
 abbrev pub move_order : Olt → Verdict → ℕ → Verdict
 move_order o ahead n = on_valid (valid_olt o) (and_then ahead (advance_verdict o.shared.tick n))

@@ -10,6 +10,8 @@ mod timing;
 ghost use Rattle.std.specs.Prelude.{◌≡◌};
 ghost use Rattle.octets.specs.Choice.{pick};
 ghost use Rattle.refusal.specs.Number.{verdict_number};
+ghost use Rattle.refusal.specs.Order.{and_then};
+ghost use Rattle.protocol.specs.Replies.{advance_verdict, on_valid};
 ghost use Rattle.protocol.specs.ClockCaptures.{Captures};
 ghost use Rattle.olt.specs.Moves.{moved_of};
 ghost use Rattle.protocol.specs.OltCalls.{acknowledge_of, acknowledge_order, advance_olt_of, capture_of, capture_order, clock_send_of, clock_send_order, fresh_olt_of, measure_of, measure_order, offer_of, offer_order, register_of, retry_of, retry_order};
@@ -17,12 +19,11 @@ ghost use Rattle.protocol.specs.OltCalls.{acknowledge_of, acknowledge_order, adv
 use clock::{CLOCK_TURN, MAX_ROUND_TRIP};
 use ends::check_olt::valid_olt;
 use ends::llids::valid_mac;
-use ends::{Identity, Olt, Timer};
+use ends::{Identity, Olt};
 use protocol::ticks::advance_verdict;
 use protocol::{Acknowledgement, ClockSent, KeySent, OltAnswer};
-use refusal::{Refusal, Verdict, and_then, refuse_if, verdict_number};
+use refusal::{Refusal, Verdict, refuse_if, verdict_number};
 use unit::calls;
-use unit::timing::timer_advanced;
 
 // Where the unit stands that a call names, and the verdict on the way there: refused, place 0.
 #[derive(Clone, Copy)]
@@ -61,23 +62,34 @@ pub fn fresh(mac: u64, clock: u64) -> OltAnswer
     answers::refused(olt, Refusal::OutOfRange)
 }
 
-#[tactic(auto, unfolding(protocol::specs::OltCalls::register_of, protocol::specs::OltCalls::registering, protocol::specs::OltCalls::olt_answer, protocol::specs::Replies::reply))]
+#[tactic(auto, using(crate::proofs::Verdicts::register_room), unfolding(protocol::specs::OltCalls::register_of, protocol::specs::OltCalls::registering, protocol::specs::OltCalls::olt_answer, protocol::specs::Replies::reply))]
 pub fn register(olt: Olt, identity: Identity, trip: u64, interval: u64) -> OltAnswer
     ensures { result ≡ register_of olt identity trip interval }
 {
     let verdict = making::register_verdict(olt, identity, trip, interval);
     match verdict {
-        Verdict::Refused(refusal) => answers::refused(olt, refusal),
-        Verdict::Accepted => {
+        Err(refusal) => answers::refused(olt, refusal),
+        Ok(()) => {
             let unit = making::fresh_unit(identity, trip, interval);
             answers::accepted(making::with_one_more(olt, unit))
         }
     }
 }
 
+// 1 for an end that is not `valid`, then what goes ahead, then 17.
+#[tactic(auto, unfolding(refusal::specs::Order::refuse_if, refusal::specs::Order::and_then))]
+fn move_verdict(valid: bool, ahead: Verdict, tick: u64, n: u64) -> Verdict
+    ensures { result ≡ on_valid valid (and_then ahead (advance_verdict tick n)) }
+{
+    if !valid {
+        return Err(Refusal::OutOfRange);
+    }
+    ahead?;
+    advance_verdict(tick, n)
+}
+
 // Ticks, clock and the timers of all units, behind a verdict that goes ahead. What it costs does not depend on the ticks. What all units
 // share is stored as it was before the end is judged: so the compiler judges the copy that it then changes, and makes no other (D119).
-#[tactic(auto, unfolding(ends::specs::Table::past_unit, crate::proofs::Advancing::counted, crate::proofs::Advancing::flagged, ends::specs::Records::with_keys, ends::specs::Records::with_timer))]
 pub fn moved(olt: Olt, ahead: Verdict, n: u64) -> OltMoved
     ensures { result ≡ moved_of olt ahead n }
 {
@@ -85,34 +97,20 @@ pub fn moved(olt: Olt, ahead: Verdict, n: u64) -> OltMoved
     let kept = olt.shared;
     r.shared = kept;
     let valid = valid_olt(r);
-    let verdict = refuse_if(
-        !valid,
-        Refusal::OutOfRange,
-        and_then(ahead, advance_verdict(r.shared.tick, n)),
-    );
+    let verdict = move_verdict(valid, ahead, r.shared.tick, n);
     let number = verdict_number(verdict);
     let end = timing::units_moved(verdict, r.count);
     let shared = timing::shared_after(verdict, r.shared, n);
     r.shared = shared;
-    let mut i: usize = 0;
-    while i < end {
-        let timer = Timer {
-            interval: r.units[i].keys.timer.interval,
-            count: r.units[i].keys.timer.count,
-            flag: r.units[i].keys.timer.flag,
-        };
-        let next = timer_advanced(timer, n);
-        r.units[i].keys.timer.count = next.count;
-        r.units[i].keys.timer.flag = next.flag;
-        i += 1;
-    }
+    timing::timers_moved(&mut r.units, end, n);
     OltMoved { olt: r, number }
 }
 
+#[tactic(auto, using(crate::proofs::Advancing::moved_alone))]
 pub fn advance(olt: Olt, n: u64) -> OltAnswer
     ensures { result ≡ advance_olt_of olt n }
 {
-    let done = moved(olt, Verdict::Accepted, n);
+    let done = moved(olt, Ok(()), n);
     let next = done.olt;
     OltAnswer {
         number: done.number,
@@ -127,14 +125,14 @@ pub fn capture(olt: Olt, llid: u16) -> OltAnswer
     ensures stamps { Captures olt llid result }
 {
     let mut r = olt;
-    let at = place::locate(r, Verdict::Accepted, llid);
+    let at = place::locate(r, Ok(()), llid);
     let i = at.place;
     let way = at.verdict;
     let unit = r.units[i];
     let done = calls::capture(way, r.shared, unit);
     let verdict = done.verdict;
     let number = verdict_number(verdict);
-    let next = done.unit;
+    let next = done.after;
     r.units[i] = next;
     OltAnswer { number, olt: r }
 }
@@ -145,11 +143,7 @@ pub fn measure(olt: Olt, llid: u16, trip: u64) -> OltAnswer
     ensures order { result.number ≡ verdict_number (measure_order olt llid trip) }
 {
     let mut r = olt;
-    let ahead = refuse_if(
-        !(trip <= MAX_ROUND_TRIP),
-        Refusal::OutOfRange,
-        Verdict::Accepted,
-    );
+    let ahead = refuse_if(!(trip <= MAX_ROUND_TRIP), Refusal::OutOfRange, Ok(()));
     let at = place::locate(r, ahead, llid);
     let i = at.place;
     let way = at.verdict;
@@ -157,7 +151,7 @@ pub fn measure(olt: Olt, llid: u16, trip: u64) -> OltAnswer
     let done = calls::measure(way, r.shared, unit, trip);
     let verdict = done.verdict;
     let number = verdict_number(verdict);
-    let next = done.unit;
+    let next = done.after;
     r.units[i] = next;
     OltAnswer { number, olt: r }
 }
@@ -167,15 +161,15 @@ pub fn clock_send(olt: Olt, llid: u16) -> ClockSent
     ensures order { result.number ≡ verdict_number (clock_send_order olt llid) }
 {
     let mut r = olt;
-    let at = place::locate(r, Verdict::Accepted, llid);
+    let at = place::locate(r, Ok(()), llid);
     let i = at.place;
     let way = at.verdict;
     let unit = r.units[i];
     let done = calls::clock_send(way, r.shared, unit);
     let verdict = done.verdict;
     let number = verdict_number(verdict);
-    let next = done.unit;
-    let message = done.message;
+    let next = done.after;
+    let message = done.handed;
     r.units[i] = next;
     ClockSent {
         number,
@@ -189,15 +183,15 @@ pub fn offer(olt: Olt, llid: u16, key: [u8; 16]) -> KeySent
     ensures order { result.number ≡ verdict_number (offer_order olt llid key) }
 {
     let mut r = olt;
-    let at = place::locate(r, Verdict::Accepted, llid);
+    let at = place::locate(r, Ok(()), llid);
     let i = at.place;
     let way = at.verdict;
     let unit = r.units[i];
     let done = calls::offer(way, r.shared, unit, llid, key);
     let verdict = done.verdict;
     let number = verdict_number(verdict);
-    let next = done.unit;
-    let message = done.message;
+    let next = done.after;
+    let message = done.handed;
     r.units[i] = next;
     KeySent {
         number,
@@ -212,15 +206,15 @@ pub fn retry(olt: Olt, llid: u16) -> KeySent
     ensures order { result.number ≡ verdict_number (retry_order olt llid) }
 {
     let mut r = olt;
-    let at = place::locate(r, Verdict::Accepted, llid);
+    let at = place::locate(r, Ok(()), llid);
     let i = at.place;
     let way = at.verdict;
     let unit = r.units[i];
     let done = calls::retry(way, r.shared, unit, llid);
     let verdict = done.verdict;
     let number = verdict_number(verdict);
-    let next = done.unit;
-    let message = done.message;
+    let next = done.after;
+    let message = done.handed;
     r.units[i] = next;
     KeySent {
         number,
@@ -234,14 +228,14 @@ pub fn acknowledge(olt: Olt, llid: u16, acknowledgement: Acknowledgement) -> Olt
     ensures order { result.number ≡ verdict_number (acknowledge_order olt llid acknowledgement) }
 {
     let mut r = olt;
-    let at = place::locate(r, Verdict::Accepted, llid);
+    let at = place::locate(r, Ok(()), llid);
     let i = at.place;
     let way = at.verdict;
     let unit = r.units[i];
     let done = calls::acknowledge(way, r.shared, unit, acknowledgement);
     let verdict = done.verdict;
     let number = verdict_number(verdict);
-    let next = done.unit;
+    let next = done.after;
     r.units[i] = next;
     OltAnswer { number, olt: r }
 }

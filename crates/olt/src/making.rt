@@ -14,7 +14,7 @@ use ends::{
     Channels, Confirmation, FirstSend, Identity, Olt, Shared, Slots, Timer, UnitClock, UnitKeys,
     UnitRecord,
 };
-use refusal::{Refusal, Verdict, refuse_if};
+use refusal::{Refusal, Verdict};
 
 // Numbers 0, flags down.
 #[tactic(auto, unfolding(ends::specs::Records::fresh_unit, ends::specs::Timers::fresh_timer))]
@@ -103,32 +103,25 @@ fn valid_registration(identity: Identity, trip: u64, interval: u64) -> bool
 }
 
 // 1 for the end that is lent, then register's own 1, 3 and 4.
-#[tactic(auto, unfolding(protocol::specs::OltCalls::register_verdict, octets::specs::Choice::either))]
+#[tactic(auto, unfolding(protocol::specs::OltCalls::register_verdict, refusal::specs::Order::refuse_if, octets::specs::Choice::either))]
 pub(crate) fn register_verdict(olt: Olt, identity: Identity, trip: u64, interval: u64) -> Verdict
     ensures { result ≡ register_order olt identity trip interval }
 {
-    let valid = valid_olt(olt);
-    let ranged = valid_registration(identity, trip, interval);
-    let distinct = distinct_llids(identity);
+    if !valid_olt(olt) {
+        return Err(Refusal::OutOfRange);
+    }
+    if !valid_registration(identity, trip, interval) {
+        return Err(Refusal::OutOfRange);
+    }
     let units = olt.units;
     let met = meets_table(units, olt.count, identity);
-    refuse_if(
-        !valid,
-        Refusal::OutOfRange,
-        refuse_if(
-            !ranged,
-            Refusal::OutOfRange,
-            refuse_if(
-                !distinct | met,
-                Refusal::RepeatedLlid,
-                refuse_if(
-                    MAX_UNITS <= olt.count,
-                    Refusal::TableFull,
-                    Verdict::Accepted,
-                ),
-            ),
-        ),
-    )
+    if !distinct_llids(identity) | met {
+        return Err(Refusal::RepeatedLlid);
+    }
+    if MAX_UNITS <= olt.count {
+        return Err(Refusal::TableFull);
+    }
+    Ok(())
 }
 
 // One unit more, in the first place that is not in use.

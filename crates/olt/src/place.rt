@@ -4,26 +4,26 @@ ghost use Rattle.ends.specs.Limits.{max_units};
 ghost use Rattle.olt.specs.Lookup.{locate_order, located_after, located_of};
 
 use crate::Located;
+use ends::Olt;
 use ends::check_olt::judge;
-use ends::{Found, Olt};
 use refusal::{Refusal, Verdict, refuse_if};
 
 #[tactic(auto, unfolding(crate::specs::Lookup::located_after))]
-fn located_after(way: Verdict, found: Found) -> Located
+fn located_after(way: Verdict, found: Option<usize>) -> Located
     ensures { result ≡ located_after way found }
 {
     match way {
-        Verdict::Refused(refusal) => Located {
-            verdict: Verdict::Refused(refusal),
+        Err(refusal) => Located {
+            verdict: Err(refusal),
             place: 0,
         },
-        Verdict::Accepted => match found {
-            Found::At(i) => Located {
-                verdict: Verdict::Accepted,
+        Ok(()) => match found {
+            Some(i) => Located {
+                verdict: Ok(()),
                 place: i,
             },
-            Found::Nowhere => Located {
-                verdict: Verdict::Refused(Refusal::UnknownLlid),
+            None => Located {
+                verdict: Err(Refusal::UnknownLlid),
                 place: 0,
             },
         },
@@ -31,6 +31,7 @@ fn located_after(way: Verdict, found: Found) -> Located
 }
 
 // The end is judged and the unit found in one pass; the record comes by value (D119).
+#[tactic(auto, using(crate::proofs::Lookup::located_below, crate::proofs::Lookup::located_judged, crate::proofs::Lookup::located_ordered), unfolding(ends::specs::Validity::judged, ends::specs::Validity::judged_of, crate::specs::Lookup::located_of))]
 pub fn locate(olt: Olt, ahead: Verdict, llid: u16) -> Located
     ensures value { result ≡ located_of olt ahead llid }
     ensures order { result.verdict ≡ locate_order olt ahead llid }

@@ -4,13 +4,13 @@
 mod retiming;
 
 ghost use Rattle.std.specs.Prelude.{◌≡◌};
-ghost use Rattle.refusal.specs.declared.Verdict.TheVariants.{Accepted};
 ghost use Rattle.clock.specs.Ticks.{local_of};
 ghost use Rattle.clock.specs.Stamping.{raised_to};
 ghost use Rattle.protocol.specs.Replies.{on_valid, advance_verdict};
 ghost use Rattle.ends.specs.Records.{new_onu};
 ghost use Rattle.ends.specs.Validity.{valid_onu};
 ghost use Rattle.protocol.specs.OnuCalls.{fresh_onu_verdict, fresh_onu_of, onu_clock_advanced, onu_advanced, advance_onu_of, new_time_of, clock_message_verdict, clock_from, clock_message_at, new_key, held_key, active_key, key_message_verdict, keys_taken, key_message_at};
+ghost use Rattle.refusal.specs.Verdict.{no_refusal};
 
 use clock::{CLOCK_TURN, LOCAL_TURN, Stamps};
 use ends::check_onu::valid_onu;
@@ -18,7 +18,7 @@ use ends::limits::{MAX_KEY_NUMBER, MAX_LLIDS};
 use ends::{Channels, FirstSend, Identity, Onu, OnuClock, OnuKeys, Slots, Travel};
 use protocol::ticks::advance_verdict;
 use protocol::{Acknowledgement, CLOCK_KIND, KEY_KIND, KeyMessage, OnuAcknowledged, OnuAnswer};
-use refusal::{Refusal, Verdict, refuse_if};
+use refusal::{Refusal, Verdict};
 
 #[tactic(auto, unfolding(ends::specs::Records::new_onu))]
 fn new_onu(identity: Identity, oltmac: u64, time: u64) -> Onu
@@ -52,18 +52,20 @@ fn new_onu(identity: Identity, oltmac: u64, time: u64) -> Onu
     }
 }
 
-#[tactic(auto, unfolding(protocol::specs::OnuCalls::fresh_onu_verdict, octets::specs::Choice::both))]
+#[tactic(auto, unfolding(protocol::specs::OnuCalls::fresh_onu_verdict, refusal::specs::Order::refuse_if, octets::specs::Choice::both))]
 fn fresh_verdict(identity: Identity, oltmac: u64, time: u64) -> Verdict
     ensures { result ≡ fresh_onu_verdict identity oltmac time }
 {
     let named = ends::llids::valid_identity(identity);
     let ok = named & (ends::llids::valid_mac(oltmac) & (time < LOCAL_TURN));
     let distinct = ends::llids::distinct_llids(identity);
-    refuse_if(
-        !ok,
-        Refusal::OutOfRange,
-        refuse_if(!distinct, Refusal::RepeatedLlid, Verdict::Accepted),
-    )
+    if !ok {
+        return Err(Refusal::OutOfRange);
+    }
+    if !distinct {
+        return Err(Refusal::RepeatedLlid);
+    }
+    Ok(())
 }
 
 // A fresh ONU is given its MAC and LLIDs, the OLT's MAC and LocalTime. Refused: an end of zeros.
@@ -71,13 +73,12 @@ fn fresh_verdict(identity: Identity, oltmac: u64, time: u64) -> Verdict
 pub fn fresh(identity: Identity, oltmac: u64, time: u64) -> OnuAnswer
     ensures { result ≡ fresh_onu_of identity oltmac time }
 {
-    let verdict = fresh_verdict(identity, oltmac, time);
-    match verdict {
-        Verdict::Accepted => {
+    match fresh_verdict(identity, oltmac, time) {
+        Ok(()) => {
             let onu = new_onu(identity, oltmac, time);
             OnuAnswer { number: 0, onu }
         }
-        Verdict::Refused(refusal) => {
+        Err(refusal) => {
             let none = Identity {
                 mac: 0,
                 llids: [0; MAX_LLIDS as usize],
@@ -85,19 +86,11 @@ pub fn fresh(identity: Identity, oltmac: u64, time: u64) -> OnuAnswer
             };
             let onu = new_onu(none, 0, 0);
             OnuAnswer {
-                number: refusal::number(refusal),
+                number: u8::from(refusal),
                 onu,
             }
         }
     }
-}
-
-// 1 for a lent end that is not valid, then what the call refuses (D121).
-pub(crate) fn on_valid(o: Onu, rest: Verdict) -> Verdict
-    ensures { result ≡ on_valid (valid_onu o) rest }
-{
-    let valid = valid_onu(o);
-    refuse_if(!valid, Refusal::OutOfRange, rest)
 }
 
 #[tactic(auto, unfolding(protocol::specs::OnuCalls::onu_clock_advanced, octets::specs::Choice::pick))]
@@ -118,9 +111,9 @@ fn clock_advanced(c: OnuClock, n: u64) -> OnuClock
     }
 }
 
-#[tactic(auto, unfolding(protocol::specs::OnuCalls::onu_advanced))]
+#[tactic(auto, using(protocol::proofs::Replies::advance_accepted), unfolding(protocol::specs::OnuCalls::onu_advanced))]
 fn advanced(o: Onu, n: u64) -> Onu
-    requires { advance_verdict o.tick n ≡ Accepted }
+    requires { advance_verdict o.tick n ≡ no_refusal }
     ensures { result ≡ onu_advanced o n }
 {
     let clock = clock_advanced(o.clock, n);
@@ -130,48 +123,62 @@ fn advanced(o: Onu, n: u64) -> Onu
     next
 }
 
-#[tactic(auto, unfolding(protocol::specs::OnuCalls::advance_onu_of, protocol::specs::OnuCalls::advancing_onu, protocol::specs::OnuCalls::onu_answer, protocol::specs::OnuCalls::onu_reply, protocol::specs::Replies::reply))]
+// 1 for a lent end that is not valid (D121), then 17.
+#[tactic(auto, unfolding(refusal::specs::Order::refuse_if))]
+fn advancing_verdict(o: Onu, n: u64) -> Verdict
+    ensures { result ≡ on_valid (valid_onu o) (advance_verdict o.tick n) }
+{
+    if !valid_onu(o) {
+        return Err(Refusal::OutOfRange);
+    }
+    advance_verdict(o.tick, n)
+}
+
+#[tactic(auto, using(refusal::proofs::Order::refuse_accepted), unfolding(protocol::specs::OnuCalls::advance_onu_of, protocol::specs::OnuCalls::advancing_onu, protocol::specs::OnuCalls::onu_answer, protocol::specs::OnuCalls::onu_reply, protocol::specs::Replies::reply))]
 pub fn advance(o: Onu, n: u64) -> OnuAnswer
     ensures { result ≡ advance_onu_of o n }
 {
-    let rest = advance_verdict(o.tick, n);
-    let verdict = on_valid(o, rest);
-    match verdict {
-        Verdict::Accepted => {
+    match advancing_verdict(o, n) {
+        Ok(()) => {
             let onu = advanced(o, n);
             OnuAnswer { number: 0, onu }
         }
-        Verdict::Refused(refusal) => OnuAnswer {
-            number: refusal::number(refusal),
+        Err(refusal) => OnuAnswer {
+            number: u8::from(refusal),
             onu: o,
         },
     }
 }
 
 // The path has changed: the unit's LocalTime over the new one (02, C-16).
+#[tactic(auto, unfolding(protocol::specs::OnuCalls::new_time_of, protocol::specs::OnuCalls::onu_answer, protocol::specs::OnuCalls::onu_reply, protocol::specs::Replies::reply))]
 pub fn new_time(o: Onu, time: u64) -> OnuAnswer
     ensures { result ≡ new_time_of o time }
 {
-    let verdict = retiming::new_time_verdict(o, time);
-    match verdict {
-        Verdict::Accepted => {
+    match retiming::new_time_verdict(o, time) {
+        Ok(()) => {
             let onu = retiming::retimed(o, time);
             OnuAnswer { number: 0, onu }
         }
-        Verdict::Refused(refusal) => OnuAnswer {
-            number: refusal::number(refusal),
+        Err(refusal) => OnuAnswer {
+            number: u8::from(refusal),
             onu: o,
         },
     }
 }
 
 // 1 for a lent end that is not valid, then for stamps past the clock's turn.
-#[tactic(auto, unfolding(protocol::specs::OnuCalls::clock_message_verdict, octets::specs::Choice::both))]
+#[tactic(auto, unfolding(protocol::specs::OnuCalls::clock_message_verdict, refusal::specs::Order::refuse_if, octets::specs::Choice::both))]
 fn clock_message_verdict(o: Onu, s: Stamps) -> Verdict
     ensures { result ≡ on_valid (valid_onu o) (clock_message_verdict s) }
 {
-    let ok = (s.rx < CLOCK_TURN) & (s.tx < CLOCK_TURN);
-    on_valid(o, refuse_if(!ok, Refusal::OutOfRange, Verdict::Accepted))
+    if !valid_onu(o) {
+        return Err(Refusal::OutOfRange);
+    }
+    if !((s.rx < CLOCK_TURN) & (s.tx < CLOCK_TURN)) {
+        return Err(Refusal::OutOfRange);
+    }
+    Ok(())
 }
 
 // LocalTime is the low half of the one field that both share.
@@ -187,12 +194,12 @@ fn clock_from(time: u64, s: Stamps) -> OnuClock
     }
 }
 
+#[tactic(auto, unfolding(protocol::specs::OnuCalls::clock_message_at, protocol::specs::OnuCalls::clock_message_to, protocol::specs::OnuCalls::onu_acknowledged, protocol::specs::OnuCalls::onu_reply, protocol::specs::OnuCalls::onu_synced, ends::specs::Records::with_onu_clock, protocol::specs::Replies::reply))]
 pub fn clock_message(o: Onu, message: Stamps) -> OnuAcknowledged
     ensures { result ≡ clock_message_at o message }
 {
-    let verdict = clock_message_verdict(o, message);
-    match verdict {
-        Verdict::Accepted => {
+    match clock_message_verdict(o, message) {
+        Ok(()) => {
             let clock = clock_from(o.clock.time, message);
             let mut onu = o;
             onu.clock = clock;
@@ -205,8 +212,8 @@ pub fn clock_message(o: Onu, message: Stamps) -> OnuAcknowledged
                 },
             }
         }
-        Verdict::Refused(refusal) => OnuAcknowledged {
-            number: refusal::number(refusal),
+        Err(refusal) => OnuAcknowledged {
+            number: u8::from(refusal),
             onu: o,
             acknowledgement: Acknowledgement { kind: 0, number: 0 },
         },
@@ -223,7 +230,7 @@ fn new_key(keys: OnuKeys, message: KeyMessage) -> bool
 }
 
 // The message of the key a + 1 that is held, again. Its index is the one that a does not have.
-#[tactic(auto, unfolding(protocol::specs::OnuCalls::held_key, octets::specs::Choice::both))]
+#[tactic(auto, using(ends::proofs::Keys::key_index), unfolding(protocol::specs::OnuCalls::held_key, octets::specs::Choice::both))]
 fn held_key(keys: OnuKeys, message: KeyMessage) -> bool
     ensures { result ≡ held_key keys message }
 {
@@ -246,32 +253,30 @@ fn active_key(keys: OnuKeys, message: KeyMessage) -> bool
 }
 
 // 1 for a lent end that is not valid, then 2, 5 and 8.
-#[tactic(auto, unfolding(protocol::specs::OnuCalls::key_message_verdict, octets::specs::Choice::either))]
+#[tactic(auto, unfolding(protocol::specs::OnuCalls::key_message_verdict, refusal::specs::Order::refuse_if, octets::specs::Choice::either))]
 fn key_message_verdict(o: Onu, message: KeyMessage, new: bool) -> Verdict
     requires { new ≡ new_key o.keys message }
     ensures { result ≡ on_valid (valid_onu o) (key_message_verdict o message) }
 {
-    let known = ends::llids::has(o.identity, message.llid);
-    let unsynced = !(o.clock.synced == 1);
+    if !valid_onu(o) {
+        return Err(Refusal::OutOfRange);
+    }
+    if !ends::llids::has(o.identity, message.llid) {
+        return Err(Refusal::UnknownLlid);
+    }
+    if o.clock.synced != 1 {
+        return Err(Refusal::ClockNotSet);
+    }
     let held = held_key(o.keys, message);
     let active = active_key(o.keys, message);
-    let misfit = !(new | (held | active));
-    on_valid(
-        o,
-        refuse_if(
-            !known,
-            Refusal::UnknownLlid,
-            refuse_if(
-                unsynced,
-                Refusal::ClockNotSet,
-                refuse_if(misfit, Refusal::NothingOutstanding, Verdict::Accepted),
-            ),
-        ),
-    )
+    if !(new | (held | active)) {
+        return Err(Refusal::NothingOutstanding);
+    }
+    Ok(())
 }
 
 // A new key is kept; anything else that is accepted changes nothing.
-#[tactic(auto, unfolding(protocol::specs::OnuCalls::keys_taken, octets::specs::Choice::pick))]
+#[tactic(auto, using(crate::proofs::OnuCalls::new_key_number), unfolding(protocol::specs::OnuCalls::keys_taken, octets::specs::Choice::pick))]
 fn keys_taken(keys: OnuKeys, message: KeyMessage, new: bool) -> OnuKeys
     requires { new ≡ new_key keys message }
     ensures { result ≡ keys_taken keys message }
@@ -288,13 +293,13 @@ fn keys_taken(keys: OnuKeys, message: KeyMessage, new: bool) -> OnuKeys
     keys
 }
 
+#[tactic(auto, unfolding(protocol::specs::OnuCalls::key_message_at, protocol::specs::OnuCalls::key_message_to, protocol::specs::OnuCalls::onu_acknowledged, protocol::specs::OnuCalls::onu_reply, ends::specs::Records::with_onu_keys, protocol::specs::Replies::reply))]
 pub fn key_message(o: Onu, message: KeyMessage) -> OnuAcknowledged
     ensures { result ≡ key_message_at o message }
 {
     let new = new_key(o.keys, message);
-    let verdict = key_message_verdict(o, message, new);
-    match verdict {
-        Verdict::Accepted => {
+    match key_message_verdict(o, message, new) {
+        Ok(()) => {
             let keys = keys_taken(o.keys, message, new);
             let mut onu = o;
             onu.keys = keys;
@@ -307,8 +312,8 @@ pub fn key_message(o: Onu, message: KeyMessage) -> OnuAcknowledged
                 },
             }
         }
-        Verdict::Refused(refusal) => OnuAcknowledged {
-            number: refusal::number(refusal),
+        Err(refusal) => OnuAcknowledged {
+            number: u8::from(refusal),
             onu: o,
             acknowledgement: Acknowledgement { kind: 0, number: 0 },
         },

@@ -4,12 +4,12 @@ ghost use Rattle.protocol.specs.Replies.{on_valid};
 ghost use Rattle.ends.specs.Validity.{valid_onu};
 ghost use Rattle.protocol.specs.OnuCalls.{time_ahead, near_time, changes_after, new_time_verdict, onu_retimed};
 
-use crate::on_valid;
 use clock::LOCAL_TURN;
 use ends::changes::valid_changes;
+use ends::check_onu::valid_onu;
 use ends::limits::MAX_TIME_CHANGE;
 use ends::{Onu, OnuClock, Travel};
-use refusal::{Refusal, Verdict, refuse_if};
+use refusal::{Refusal, Verdict};
 use std::num::{wrapping_add_u64, wrapping_sub_u64};
 
 // How far one LocalTime is ahead of another.
@@ -40,20 +40,20 @@ fn changes_after(changes: u64, new: u64, old: u64) -> u64
 }
 
 // 1 for a lent end that is not valid, then for a LocalTime that is none or too far, then 17.
-#[tactic(auto, unfolding(protocol::specs::OnuCalls::new_time_verdict, octets::specs::Choice::both))]
+#[tactic(auto, unfolding(protocol::specs::OnuCalls::new_time_verdict, refusal::specs::Order::refuse_if, octets::specs::Choice::both))]
 pub(crate) fn new_time_verdict(o: Onu, time: u64) -> Verdict
     ensures { result ≡ on_valid (valid_onu o) (new_time_verdict o time) }
 {
-    let ok = (time < LOCAL_TURN) & near_time(time, o.clock.time);
-    let held = valid_changes(changes_after(o.travel.changes, time, o.clock.time));
-    on_valid(
-        o,
-        refuse_if(
-            !ok,
-            Refusal::OutOfRange,
-            refuse_if(!held, Refusal::AtEnd, Verdict::Accepted),
-        ),
-    )
+    if !valid_onu(o) {
+        return Err(Refusal::OutOfRange);
+    }
+    if !((time < LOCAL_TURN) & near_time(time, o.clock.time)) {
+        return Err(Refusal::OutOfRange);
+    }
+    if !valid_changes(changes_after(o.travel.changes, time, o.clock.time)) {
+        return Err(Refusal::AtEnd);
+    }
+    Ok(())
 }
 
 // Unsynced, with that LocalTime; enciphered sends wait for travel to pass those made before.

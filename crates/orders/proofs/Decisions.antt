@@ -1,20 +1,17 @@
 -- Each call as one thing: a verdict ahead of 2 that does not depend on the record, what the party that it names decides of its own part and
 -- of what it sees beside it, and what that makes of the answer. Assumes nothing.
+use Rattle.std.specs.Prelude.{ℕ, Err, Option, None}
 use mathlib.Core.Bool.{Bool, false, not}
 use lib.Dec.{leb}
 use Rattle.octets.specs.Choice.{both}
 use Rattle.refusal.specs.Number.{verdict_number}
 use Rattle.refusal.specs.Order.{and_then, refuse_if}
 use Rattle.refusal.specs.declared.Refusal.TheVariants.{BadLength, GroupLlid, OutOfRange, UnknownLlid}
-use Rattle.refusal.specs.declared.Verdict.{Verdict}
-use Rattle.refusal.specs.declared.Verdict.TheVariants.{Accepted, Refused}
 use Rattle.clock.specs.Ticks.{max_round_trip}
 use Rattle.envelope.specs.Channels.{upstream}
 use Rattle.envelope.specs.ControlMask.{eqs_of}
 use Rattle.ends.specs.Table.{unit_at, with_olt_channels, with_unit}
 use Rattle.ends.specs.declared.Channels.{Channels}
-use Rattle.ends.specs.declared.Found.{Found}
-use Rattle.ends.specs.declared.Found.TheVariants.{Nowhere}
 use Rattle.ends.specs.declared.Olt.{Olt}
 use Rattle.ends.specs.declared.Shared.{Shared}
 use Rattle.ends.specs.declared.UnitRecord.{UnitRecord}
@@ -39,6 +36,7 @@ use Rattle.headend.specs.HeadCalls.{own_acknowledgement}
 use Rattle.headend.specs.HeadTraffic.{send_ahead}
 use Rattle.orders.specs.Calls.{Call, Made, Told, capture, measure, clock_send, offer, retry, acknowledge, send, receive, answered, clock_sent, key_sent, sent, received}
 use Rattle.orders.specs.Parties.{Party, group, nobody, unit}
+use Rattle.refusal.specs.Verdict.{Verdict, no_refusal}
 
 ---- what a call is made of
 
@@ -49,23 +47,23 @@ pub record Shape : Type 1 where
   pub nothing : Handed
   pub ahead : Verdict
   pub on_unit : Shared → UnitRecord → Outcome Handed
-  pub on_group : (set : Bool) (member : Found) → Shared → GroupRecord → GroupOutcome Handed
-  pub names : Olt → Members → Found
+  pub on_group : (set : Bool) (member : Option ℕ) → Shared → GroupRecord → GroupOutcome Handed
+  pub names : Olt → Members → Option ℕ
   pub tell : Verdict → Handed → Told
 
 -- a clock call on a group's LLID is 2
-abbrev no_clock : {H : Type 0} → H → Bool → Found → Shared → GroupRecord → GroupOutcome H
-no_clock nothing set member s g = group_outcome s (Refused UnknownLlid) g nothing
+abbrev no_clock : {H : Type 0} → H → Bool → Option ℕ → Shared → GroupRecord → GroupOutcome H
+no_clock nothing set member s g = group_outcome s (Err UnknownLlid) g nothing
 
-abbrev names_nobody : Olt → Members → Found
-names_nobody o m = Nowhere
+abbrev names_nobody : Olt → Members → Option ℕ
+names_nobody o m = None
 
 abbrev pub shape : Call → Shape
 shape (capture llid) =
     record {
       Handed = Silence;
       nothing = silent;
-      ahead = Accepted;
+      ahead = no_refusal;
       on_unit = capture_unit;
       on_group = no_clock silent;
       names = names_nobody;
@@ -75,7 +73,7 @@ shape (measure llid trip) =
     record {
       Handed = Silence;
       nothing = silent;
-      ahead = refuse_if (not (leb trip max_round_trip)) OutOfRange Accepted;
+      ahead = refuse_if (not (leb trip max_round_trip)) OutOfRange no_refusal;
       on_unit = measure_unit trip;
       on_group = no_clock silent;
       names = names_nobody;
@@ -85,7 +83,7 @@ shape (clock_send llid) =
     record {
       Handed = Stamps;
       nothing = no_stamps;
-      ahead = Accepted;
+      ahead = no_refusal;
       on_unit = clock_send_unit;
       on_group = no_clock no_stamps;
       names = names_nobody;
@@ -95,7 +93,7 @@ shape (offer llid key) =
     record {
       Handed = KeyMessage;
       nothing = no_key_message;
-      ahead = Accepted;
+      ahead = no_refusal;
       on_unit = offer_unit llid key;
       on_group = λ set member s g. offer_group llid key set s g;
       names = names_nobody;
@@ -105,7 +103,7 @@ shape (retry llid) =
     record {
       Handed = KeyMessage;
       nothing = no_key_message;
-      ahead = Accepted;
+      ahead = no_refusal;
       on_unit = retry_unit llid;
       on_group = λ set member s g. retry_group llid s g;
       names = names_nobody;
@@ -115,7 +113,7 @@ shape (acknowledge llid answer) =
     record {
       Handed = Silence;
       nothing = silent;
-      ahead = Accepted;
+      ahead = no_refusal;
       on_unit = acknowledge_unit (own_acknowledgement answer);
       on_group = λ set member s g. acknowledge_group answer member s g;
       names = λ o m. member_named o m answer;
@@ -139,9 +137,9 @@ shape (receive header payload output) =
       nothing = no_passage;
       ahead =
           refuse_if (misfit payload output) BadLength
-          (refuse_if (not (both (upstream header.channel) (valid_header header))) OutOfRange Accepted);
+          (refuse_if (not (both (upstream header.channel) (valid_header header))) OutOfRange no_refusal);
       on_unit = receive_unit header;
-      on_group = λ set member s g. group_outcome s (Refused GroupLlid) g no_passage;
+      on_group = λ set member s g. group_outcome s (Err GroupLlid) g no_passage;
       names = names_nobody;
       tell = λ v q.
           received (verdict_number v) (passed_count q payload) (passed_runs q payload)
@@ -163,7 +161,7 @@ own_of h nobody = tt
 pub record Seen : Type 0 where
   pub shared : Shared
   pub set : Bool
-  pub member : Found
+  pub member : Option ℕ
 
 -- what only a group sees: whether all its members' clocks are acknowledged, and which member is named
 abbrev pub set_seen : HeadEnd → Party → Bool
@@ -171,10 +169,10 @@ set_seen h (unit i) = false
 set_seen h (group i) = members_set h.olt (group_at h i).members
 set_seen h nobody = false
 
-abbrev pub member_seen : HeadEnd → Party → Call → Found
-member_seen h (unit i) c = Nowhere
+abbrev pub member_seen : HeadEnd → Party → Call → Option ℕ
+member_seen h (unit i) c = None
 member_seen h (group i) c = (shape c).names h.olt (group_at h i).members
-member_seen h nobody c = Nowhere
+member_seen h nobody c = None
 
 abbrev pub seen : HeadEnd → Party → Call → Seen
 seen h p c = record { shared = h.olt.shared; set = set_seen h p; member = member_seen h p c }
@@ -210,7 +208,7 @@ asked c (unit i) s u =
 asked c (group i) s g =
     let x = (shape c).on_group s.set s.member s.shared g in
     record { verdict = x.verdict; own = x.group; channels = x.channels; handed = x.handed }
-asked c nobody s n = record { verdict = Refused UnknownLlid; own = n; channels = s.shared.channels; handed = (shape c).nothing }
+asked c nobody s n = record { verdict = Err UnknownLlid; own = n; channels = s.shared.channels; handed = (shape c).nothing }
 
 abbrev pub decided : (c : Call) (p : Party) → Seen → Own p → Decided (Own p) (shape c).Handed
 decided c p s own =

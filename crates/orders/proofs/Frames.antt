@@ -1,4 +1,5 @@
 -- What a call touches: of the channels a send reads and takes its own, every other call none; and nobody's LLIDs. Assumes nothing.
+use Rattle.std.specs.Prelude.{Ok, Err}
 use mathlib.Core.Path.{◌≡◌, refl, sym, ap}
 use mathlib.Core.Bool.{Bool, true, false, not}
 use Prim.Native.Nat.{ℕ, zero, suc, ◌+◌, ◌%◌, ◌≤◌}
@@ -9,8 +10,6 @@ use Rattle.octets.specs.Choice.{pick}
 use Rattle.octets.proofs.Choice.{true_false}
 use Rattle.refusal.specs.Order.{and_then}
 use Rattle.refusal.specs.declared.Refusal.TheVariants.{NothingOutstanding}
-use Rattle.refusal.specs.declared.Verdict.{Verdict}
-use Rattle.refusal.specs.declared.Verdict.TheVariants.{Accepted, Refused}
 use Rattle.refusal.proofs.Order.{refuse_accepted, refused_accepts, then_accepted}
 use Rattle.envelope.specs.Channels.{downstream, max_channel, on_zero, upstream_bit}
 use Rattle.ends.specs.Occupancy.{free_from, occupied, taken}
@@ -34,6 +33,7 @@ use Rattle.headend.specs.HeadCalls.{own_acknowledgement}
 use Rattle.orders.specs.Calls.{Call, capture, measure, clock_send, offer, retry, acknowledge, send, receive}
 use Rattle.orders.specs.Parties.{Party, Taking, channel_for, group, nobody, nothing, one_channel, taking_of, unit}
 use Rattle.orders.proofs.Decisions.{Decided, Own, Seen, asked, by_verdict, decided, shape}
+use Rattle.refusal.specs.Verdict.{Verdict, no_refusal}
 
 abbrev pub seen_with : Seen → Channels → Seen
 seen_with s e = record { shared = with_channels s.shared e; set = s.set; member = s.member }
@@ -58,7 +58,7 @@ pub record Framed (c : Call) (p : Party) (s : Seen) (o : Own p) (e : Channels) :
   pub verdict : (asked c p (seen_with s e) o).verdict ≡ (asked c p s o).verdict
   pub own : (asked c p (seen_with s e) o).own ≡ (asked c p s o).own
   pub handed : (asked c p (seen_with s e) o).handed ≡ (asked c p s o).handed
-  pub channels : (asked c p s o).verdict ≡ Accepted → (asked c p (seen_with s e) o).channels ≡ taken_by (taking_of c) s.shared.tick e
+  pub channels : (asked c p s o).verdict ≡ no_refusal → (asked c p (seen_with s e) o).channels ≡ taken_by (taking_of c) s.shared.tick e
 
 acknowledge_framed : (a : Acknowledgement) (s : Shared) (u : UnitRecord) (e : Channels)
     → let x = acknowledge_unit a s u in
@@ -66,15 +66,15 @@ acknowledge_framed : (a : Acknowledgement) (s : Shared) (u : UnitRecord) (e : Ch
 unfolding acknowledge_unit clock_acknowledged_unit key_acknowledged_unit outcome with_channels pick
 acknowledge_framed a s u e = by_kind (eqb a.kind clock_kind) (eqb a.kind key_kind) where
   by_kind : (t k : Bool)
-      → let x = pick t (clock_acknowledged_unit s u) (pick k (key_acknowledged_unit a.number s u) (outcome s (Refused NothingOutstanding) u silent)) in
+      → let x = pick t (clock_acknowledged_unit s u) (pick k (key_acknowledged_unit a.number s u) (outcome s (Err NothingOutstanding) u silent)) in
       let w = with_channels s e in
-      pick t (clock_acknowledged_unit w u) (pick k (key_acknowledged_unit a.number w u) (outcome w (Refused NothingOutstanding) u silent))
+      pick t (clock_acknowledged_unit w u) (pick k (key_acknowledged_unit a.number w u) (outcome w (Err NothingOutstanding) u silent))
       ≡ record { verdict = x.verdict; unit = x.unit; channels = e; handed = x.handed }
   by_kind true k = refl
   by_kind false true = refl
   by_kind false false = refl
 
-asked_framed : (c : Call) (p : Party) (s : Seen) (own : Own p) (e : Channels) → (shape c).ahead ≡ Accepted
+asked_framed : (c : Call) (p : Party) (s : Seen) (own : Own p) (e : Channels) → (shape c).ahead ≡ no_refusal
     → alike (taking_of c) s.shared.channels e → Framed c p s own e
 unfolding
     asked taken_by alike with_channels taken
@@ -112,16 +112,16 @@ asked_framed c nobody s own e a k = record { verdict = refl; own = refl; handed 
 ---- so does what the call makes of it
 
 abbrev pub accepts : Verdict → Bool
-accepts Accepted = true
-accepts (Refused r) = false
+accepts (Ok tt) = true
+accepts (Err r) = false
 
 settled : {A H : Type 0} (w : Verdict) (none : H) (own : A) (x y : Decided A H) (e t : Channels) → y.own ≡ x.own → y.handed ≡ x.handed
-    → (w ≡ Accepted → y.channels ≡ t)
+    → (w ≡ no_refusal → y.channels ≡ t)
     → by_verdict w none e own y
     ≡ record { verdict = w; own = if_accepted w x.own own; channels = pick (accepts w) t e; handed = if_accepted w x.handed none }
 unfolding by_verdict if_accepted pick
-settled Accepted none own x y e t p q r = rw (p, q, r refl)
-settled (Refused z) none own x y e t p q r = refl
+settled (Ok tt) none own x y e t p q r = rw (p, q, r refl)
+settled (Err z) none own x y e t p q r = refl
 
 module _ (c : Call) (p : Party) (s : Seen) (own : Own p) where
   pub decided_framed : (e : Channels) → alike (taking_of c) s.shared.channels e → let d = decided c p s own in
@@ -148,10 +148,10 @@ module _ (c : Call) (p : Party) (s : Seen) (own : Own p) where
           channels = pick (accepts (and_then a x.verdict)) (taken_by (taking_of c) s.shared.tick e) e;
           handed = if_accepted (and_then a x.verdict) x.handed (shape c).nothing;
         }
-    by_ahead Accepted a =
+    by_ahead (Ok tt) a =
         let f = asked_framed c p s own e a k in
         rw f.verdict (settled x.verdict (shape c).nothing own x y e _ f.own f.handed f.channels)
-    by_ahead (Refused r) a = refl
+    by_ahead (Err r) a = refl
 
 ---- the identities stay
 
@@ -192,8 +192,8 @@ pub decided_kept : (c : Call) (p : Party) (s : Seen) (own : Own p) → Kept p (d
 unfolding by_verdict if_accepted
 decided_kept c p s own = by_verdict-holds (and_then (shape c).ahead (asked c p s own).verdict) where
   by_verdict-holds : (w : Verdict) → Kept p (if_accepted w (asked c p s own).own own) own
-  by_verdict-holds Accepted = asked_kept c p s own
-  by_verdict-holds (Refused r) = kept_itself p own
+  by_verdict-holds (Ok tt) = asked_kept c p s own
+  by_verdict-holds (Err r) = kept_itself p own
 
 ---- a call takes a channel of the OLT's own direction
 
@@ -201,7 +201,7 @@ abbrev pub fits : Taking → Bool
 fits nothing = true
 fits (channel_for channel eqs) = downstream channel
 
-ahead_fits : (c : Call) → (shape c).ahead ≡ Accepted → fits (taking_of c) ≡ true
+ahead_fits : (c : Call) → (shape c).ahead ≡ no_refusal → fits (taking_of c) ≡ true
 ahead_fits (capture llid) a = refl
 ahead_fits (measure llid trip) a = refl
 ahead_fits (clock_send llid) a = refl
@@ -211,9 +211,9 @@ ahead_fits (acknowledge llid answer) a = refl
 ahead_fits (send llid channel payload output) a = not-false _ (refuse_accepted _ _ _ (refuse_accepted _ _ _ a).1).0
 ahead_fits (receive header payload output) a = refl
 
-accepts_true : (v : Verdict) → accepts v ≡ true → v ≡ Accepted
-accepts_true Accepted e = refl
-accepts_true (Refused r) e = true_false (sym e)
+accepts_true : (v : Verdict) → accepts v ≡ true → v ≡ no_refusal
+accepts_true (Ok tt) e = refl
+accepts_true (Err r) e = true_false (sym e)
 
 pub decided_fits : (c : Call) (p : Party) (s : Seen) (own : Own p) → accepts (decided c p s own).verdict ≡ true → fits (taking_of c) ≡ true
 unfolding by_verdict

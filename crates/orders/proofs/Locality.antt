@@ -1,5 +1,6 @@
 -- A unit's answers depend on its own record and what all share, a group's also on its members' LLIDs and clock acknowledgements (02, C-22).
 -- Assumes nothing.
+use Rattle.std.specs.Prelude.{Ok, Err, Option, Some, None}
 use mathlib.Core.Path.{◌≡◌, refl, sym, ap, ap₂, ◌∙◌, subst}
 use mathlib.Core.Bool.{true, false}
 use mathlib.Core.List.{List, map}
@@ -8,14 +9,10 @@ use native.Mathlib.Omega.{arith}
 use lib.ListN.{length, length-set, length-take, set, take}
 use lib.Seq.{get_or-set_same}
 use Rattle.refusal.specs.Order.{and_then}
-use Rattle.refusal.specs.declared.Verdict.{Verdict}
-use Rattle.refusal.specs.declared.Verdict.TheVariants.{Accepted, Refused}
 use Rattle.ends.specs.Records.{with_channels}
 use Rattle.ends.specs.Identities.{has}
 use Rattle.ends.specs.Table.{registered, unit_at, with_olt_channels, with_unit}
 use Rattle.ends.specs.declared.Channels.{Channels}
-use Rattle.ends.specs.declared.Found.{Found}
-use Rattle.ends.specs.declared.Found.TheVariants.{At, Nowhere}
 use Rattle.ends.specs.declared.Shared.{Shared}
 use Rattle.ends.specs.declared.UnitRecord.{UnitRecord}
 use Rattle.ends.proofs.Table.{with_unit-holds}
@@ -38,6 +35,7 @@ use Rattle.orders.proofs.Made.{made_decided}
 use Rattle.orders.proofs.Named.{group_named, unit_named-holds}
 use Rattle.orders.proofs.NamedMembers.{member_named_same, members_set_same}
 use Rattle.orders.proofs.Others.{names_same}
+use Rattle.refusal.specs.Verdict.{Verdict}
 
 -- a place in use stays in use
 still_used : {A : Type 0} (n : ℕ) (l : List A) (i : ℕ) (a : A) → i < length (take n l) → i < length (take n (set l i a))
@@ -48,7 +46,7 @@ still_used n l i a used = omega (arith, length-take n l, length-take n (set l i 
 module _ (c : Call) where
   -- its decision, wherever it stands
   abbrev unit_decides : Shared → UnitRecord → Decided UnitRecord (shape c).Handed
-  unit_decides s u = decided c (unit 0) (record { shared = s; set = false; member = Nowhere }) u
+  unit_decides s u = decided c (unit 0) (record { shared = s; set = false; member = None }) u
 
   unit_made : (h : HeadEnd) (i : ℕ) → valid_head h ≡ true → party_of h c ≡ unit i → let d = unit_decides h.olt.shared (unit_at h.olt i) in
       made h c
@@ -111,14 +109,14 @@ partly d = record { verdict = d.verdict; own = group_part d.own; channels = d.ch
 partly_verdict : {H : Type 0} (v : Verdict) (none : H) (e : Channels) (g : GroupRecord) (x : Decided GroupRecord H)
     → partly (by_verdict v none e g x) ≡ by_verdict v none e (group_part g) (partly x)
 unfolding by_verdict if_accepted
-partly_verdict Accepted none e g x = refl
-partly_verdict (Refused r) none e g x = refl
+partly_verdict (Ok tt) none e g x = refl
+partly_verdict (Err r) none e g x = refl
 
-marked_part : (a : GroupPart) (ps qs : List ℕ) (member : Found) → group_part (group_marked (rebuilt a ps) member)
+marked_part : (a : GroupPart) (ps qs : List ℕ) (member : Option ℕ) → group_part (group_marked (rebuilt a ps) member)
     ≡ group_part (group_marked (rebuilt a qs) member)
 unfolding group_marked with_members marked
-marked_part a ps qs Nowhere = refl
-marked_part a ps qs (At j) = refl
+marked_part a ps qs None = refl
+marked_part a ps qs (Some j) = refl
 
 asked_part : (c : Call) (s : Seen) (a : GroupPart) (ps qs : List ℕ)
     → partly (asked c (group 0) s (rebuilt a ps)) ≡ partly (asked c (group 0) s (rebuilt a qs))
@@ -132,10 +130,10 @@ asked_part (acknowledge llid answer) s a ps qs = rw (marked_part a ps qs s.membe
 asked_part (send llid channel payload output) s a ps qs = refl
 asked_part (receive header payload output) s a ps qs = refl
 
-marked_places : (g : GroupRecord) (member : Found) → places_of (group_marked g member).members ≡ places_of g.members
+marked_places : (g : GroupRecord) (member : Option ℕ) → places_of (group_marked g member).members ≡ places_of g.members
 unfolding group_marked with_members marked places_of
-marked_places g Nowhere = refl
-marked_places g (At j) = refl
+marked_places g None = refl
+marked_places g (Some j) = refl
 
 asked_places : (c : Call) (s : Seen) (g : GroupRecord) → places_of (asked c (group 0) s g).own.members ≡ places_of g.members
 unfolding asked group_outcome offer_group group_offered unmarked retry_group acknowledge_group send_group with_group_keys with_members places_of
@@ -165,8 +163,8 @@ module _ (c : Call) where
   unfolding by_verdict if_accepted
   decides_places s g = by_verdict-holds (and_then (shape c).ahead (asked c (group 0) s g).verdict) where
     by_verdict-holds : (v : Verdict) → places_of (if_accepted v (asked c (group 0) s g).own g).members ≡ places_of g.members
-    by_verdict-holds Accepted = asked_places c s g
-    by_verdict-holds (Refused r) = refl
+    by_verdict-holds (Ok tt) = asked_places c s g
+    by_verdict-holds (Err r) = refl
 
 module _ (c : Call) where
   abbrev seen_by : HeadEnd → ℕ → Seen

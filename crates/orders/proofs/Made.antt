@@ -1,4 +1,5 @@
 -- On a valid head end each call is what the party that it names decides, put in its place. Assumes nothing.
+use Rattle.std.specs.Prelude.{Ok, Err, Option, Some, None}
 use mathlib.Core.Path.{◌≡◌, refl, sym, ap, ◌∙◌}
 use mathlib.Core.Bool.{Bool, true, false, not}
 use mathlib.Core.List.{List}
@@ -9,14 +10,10 @@ use Rattle.refusal.specs.Number.{verdict_number}
 use Rattle.refusal.specs.Order.{and_then, refuse_if}
 use Rattle.refusal.specs.declared.Refusal.{Refusal}
 use Rattle.refusal.specs.declared.Refusal.TheVariants.{BadLength, GroupLlid, OutOfRange, UnknownLlid}
-use Rattle.refusal.specs.declared.Verdict.{Verdict}
-use Rattle.refusal.specs.declared.Verdict.TheVariants.{Accepted, Refused}
 use Rattle.envelope.specs.Channels.{upstream}
 use Rattle.ends.specs.Records.{with_channels}
 use Rattle.ends.specs.Table.{find, unit_at, with_olt_channels, with_unit}
 use Rattle.ends.specs.Validity.{valid_olt}
-use Rattle.ends.specs.declared.Found.{Found}
-use Rattle.ends.specs.declared.Found.TheVariants.{At, Nowhere}
 use Rattle.ends.specs.declared.Olt.{Olt}
 use Rattle.ends.specs.declared.Shared.{Shared}
 use Rattle.ends.specs.declared.UnitRecord.{UnitRecord}
@@ -44,11 +41,12 @@ use Rattle.orders.specs.Calls.{Call, Made, made, capture, measure, clock_send, o
 use Rattle.orders.specs.Parties.{Party, group, llid_of, nobody, party_of, unit_party}
 use Rattle.orders.proofs.Decisions.{asked, by_verdict, decided, made_by, own_of, put, seen, shape}
 use Rattle.orders.proofs.Named.{group_no_unit}
+use Rattle.refusal.specs.Verdict.{Verdict, no_refusal}
 
 ---- the lift at a place, and where nobody has the LLID
 
 module _ {H : Type 0} (o : Olt) (nothing : H) (ahead : Verdict) (llid : ℕ) (call : Shared → UnitRecord → Outcome H) (valid : valid_olt o ≡ true) where
-  lift_at : (i : ℕ) → find o llid ≡ At i → let x = call o.shared (unit_at o i) in let w = and_then ahead x.verdict in
+  lift_at : (i : ℕ) → find o llid ≡ Some i → let x = call o.shared (unit_at o i) in let w = and_then ahead x.verdict in
       lift o nothing ahead llid call
       ≡ record {
         verdict = w;
@@ -69,21 +67,21 @@ module _ {H : Type 0} (o : Olt) (nothing : H) (ahead : Verdict) (llid : ℕ) (ca
         }
 
     by_verdict-holds : (w : Verdict) → reply w o nothing (with_unit o i x.channels x.unit) x.handed ≡ left w
-    by_verdict-holds Accepted = refl
-    by_verdict-holds (Refused r) = rw (with_itself o i)
+    by_verdict-holds (Ok tt) = refl
+    by_verdict-holds (Err r) = rw (with_itself o i)
 
     by_ahead : (a : Verdict) → after (on_valid true a) o nothing (put_back o nothing i x) ≡ left (and_then a x.verdict)
-    by_ahead Accepted = by_verdict-holds x.verdict
-    by_ahead (Refused r) = rw (with_itself o i)
+    by_ahead (Ok tt) = by_verdict-holds x.verdict
+    by_ahead (Err r) = rw (with_itself o i)
 
-  lift_nowhere : find o llid ≡ Nowhere → lift o nothing ahead llid call
-      ≡ record { verdict = and_then ahead (Refused UnknownLlid); end = o; handed = nothing }
+  lift_nowhere : find o llid ≡ None → lift o nothing ahead llid call
+      ≡ record { verdict = and_then ahead (Err UnknownLlid); end = o; handed = nothing }
   unfolding lift after at_unit refuse_if and_then reply
   lift_nowhere f = rw (valid, f) (by_ahead ahead) where
-    by_ahead : (a : Verdict) → after (on_valid true a) o nothing (reply (Refused UnknownLlid) o nothing o nothing)
-        ≡ record { verdict = and_then a (Refused UnknownLlid); end = o; handed = nothing }
-    by_ahead Accepted = refl
-    by_ahead (Refused r) = refl
+    by_ahead : (a : Verdict) → after (on_valid true a) o nothing (reply (Err UnknownLlid) o nothing o nothing)
+        ≡ record { verdict = and_then a (Err UnknownLlid); end = o; handed = nothing }
+    by_ahead (Ok tt) = refl
+    by_ahead (Err r) = refl
 
 ---- what the OLT replies, standing in the head end
 
@@ -115,7 +113,7 @@ module _ (h : HeadEnd) (valid : valid_head h ≡ true) where
   clock_send_made llid = rw groups_valid
 
   -- where no group has the LLID
-  olt_made : (c : Call) → find_group h (llid_of c) ≡ Nowhere → made h c ≡ replied h c (lifted h c)
+  olt_made : (c : Call) → find_group h (llid_of c) ≡ None → made h c ≡ replied h c (lifted h c)
   unfolding
       made by_llid pick
       head_offer_of offer_of head_retry_of retry_of key_sent olt_key_sent
@@ -134,10 +132,10 @@ module _ (h : HeadEnd) (valid : valid_head h ≡ true) where
 ---- what a group replies
 
 refused_reply : {H : Type 0} (a : Verdict) (r : Refusal) (h : HeadEnd) (nothing : H) (next : HeadEnd) (handed : H)
-    → reply (and_then a (Refused r)) h nothing next handed ≡ record { verdict = and_then a (Refused r); end = h; handed = nothing }
+    → reply (and_then a (Err r)) h nothing next handed ≡ record { verdict = and_then a (Err r); end = h; handed = nothing }
 unfolding reply and_then
-refused_reply Accepted r h nothing next handed = refl
-refused_reply (Refused x) r h nothing next handed = refl
+refused_reply (Ok tt) r h nothing next handed = refl
+refused_reply (Err x) r h nothing next handed = refl
 
 module _ (h : HeadEnd) (i : ℕ) where
   abbrev group_asked : (c : Call) → GroupOutcome (shape c).Handed
@@ -155,9 +153,9 @@ module _ (h : HeadEnd) (i : ℕ) where
 -- on a group's LLID the OLT receives nothing
 receive_refused : (h next : HeadEnd) (header : Header) (payload output : List ℕ) (a b : Bool)
     → let c = receive header payload output in
-    let r = reply (and_then (refuse_if a BadLength (refuse_if b OutOfRange Accepted)) (Refused GroupLlid)) h no_passage next no_passage in
+    let r = reply (and_then (refuse_if a BadLength (refuse_if b OutOfRange no_refusal)) (Err GroupLlid)) h no_passage next no_passage in
     let m : Made =
-    record { told = received (verdict_number (refuse_if a BadLength (refuse_if b OutOfRange (Refused GroupLlid)))) 0 0 output; head = h } in
+    record { told = received (verdict_number (refuse_if a BadLength (refuse_if b OutOfRange (Err GroupLlid)))) 0 0 output; head = h } in
     m ≡ record { told = (shape c).tell r.verdict r.handed; head = r.end }
 unfolding reply and_then refuse_if output_after passed_count passed_runs choice_enciphered count_carried runs_carried pick
 receive_refused h next header payload output true b = refl
@@ -165,15 +163,15 @@ receive_refused h next header payload output false true = refl
 receive_refused h next header payload output false false = refl
 
 module _ (h : HeadEnd) (i : ℕ) (valid : valid_head h ≡ true) where
-  clock_made : (c : Call) → find h.olt (llid_of c) ≡ Nowhere → made h c ≡ replied h c (lifted h c)
-      → group_reply h i c ≡ record { verdict = and_then (shape c).ahead (Refused UnknownLlid); end = h; handed = (shape c).nothing }
+  clock_made : (c : Call) → find h.olt (llid_of c) ≡ None → made h c ≡ replied h c (lifted h c)
+      → group_reply h i c ≡ record { verdict = and_then (shape c).ahead (Err UnknownLlid); end = h; handed = (shape c).nothing }
       → made h c ≡ group_replied h i c (group_reply h i c)
   unfolding with_olt
   clock_made c n m r =
       m ∙ ap (replied h c) (lift_nowhere h.olt (shape c).nothing (shape c).ahead (llid_of c) (shape c).on_unit (olt_valid h valid) n)
       ∙ ap (group_replied h i c) (sym r)
 
-  group_made : (c : Call) → find_group h (llid_of c) ≡ At i → made h c ≡ group_replied h i c (group_reply h i c)
+  group_made : (c : Call) → find_group h (llid_of c) ≡ Some i → made h c ≡ group_replied h i c (group_reply h i c)
   unfolding
       made by_llid group_lift put_group group_outcome refuse_if misfit
       head_offer_of head_retry_of head_key_sent head_acknowledge_of head_answer head_send_of head_sent head_receive_of group_receive_verdict
@@ -203,27 +201,27 @@ reply_put : {H : Type 0} (h : HeadEnd) (nothing : H) (i : ℕ) (x : GroupOutcome
       handed = if_accepted w x.handed nothing;
     }
 unfolding reply if_accepted
-reply_put h nothing i x Accepted = refl
-reply_put h nothing i x (Refused r) = rw (with_group_itself h i)
+reply_put h nothing i x (Ok tt) = refl
+reply_put h nothing i x (Err r) = rw (with_group_itself h i)
 
 module _ (h : HeadEnd) (c : Call) (valid : valid_head h ≡ true) where
   abbrev decided_by : Party → Made
   decided_by p = made_by h c p (decided c p (seen h p c) (own_of h p))
 
   nobody_put : (a : Verdict) → let x = asked c nobody (seen h nobody c) tt in
-      let d = by_verdict (and_then a (Refused UnknownLlid)) (shape c).nothing h.olt.shared.channels tt x in
-      replied h c (record { verdict = and_then a (Refused UnknownLlid); end = h.olt; handed = (shape c).nothing }) ≡ made_by h c nobody d
+      let d = by_verdict (and_then a (Err UnknownLlid)) (shape c).nothing h.olt.shared.channels tt x in
+      replied h c (record { verdict = and_then a (Err UnknownLlid); end = h.olt; handed = (shape c).nothing }) ≡ made_by h c nobody d
   unfolding asked by_verdict put and_then if_accepted with_olt with_olt_channels with_channels
-  nobody_put Accepted = refl
-  nobody_put (Refused r) = refl
+  nobody_put (Ok tt) = refl
+  nobody_put (Err r) = refl
 
-  by_found : (f g : Found) → find_group h (llid_of c) ≡ f → find h.olt (llid_of c) ≡ g → made h c ≡ decided_by (by_llid f (unit_party g) group)
+  by_found : (f g : Option ℕ) → find_group h (llid_of c) ≡ f → find h.olt (llid_of c) ≡ g → made h c ≡ decided_by (by_llid f (unit_party g) group)
   unfolding asked by_verdict put by_llid unit_party
-  by_found (At i) g e n = group_made h i valid c e ∙ ap (group_replied h i c) (reply_put h (shape c).nothing i (group_asked h i c) _)
-  by_found Nowhere (At i) e n =
+  by_found (Some i) g e n = group_made h i valid c e ∙ ap (group_replied h i c) (reply_put h (shape c).nothing i (group_asked h i c) _)
+  by_found None (Some i) e n =
       olt_made h valid c e
       ∙ ap (replied h c) (lift_at h.olt (shape c).nothing (shape c).ahead (llid_of c) (shape c).on_unit (olt_valid h valid) i n)
-  by_found Nowhere Nowhere e n =
+  by_found None None e n =
       olt_made h valid c e
       ∙ ap (replied h c) (lift_nowhere h.olt (shape c).nothing (shape c).ahead (llid_of c) (shape c).on_unit (olt_valid h valid) n)
       ∙ nobody_put (shape c).ahead

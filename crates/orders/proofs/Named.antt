@@ -1,4 +1,5 @@
 -- In a valid head end a call names whom the LLID belongs to: no group has a unit's, and nobody another's. Assumes nothing.
+use Rattle.std.specs.Prelude.{Option, Some, None}
 use mathlib.Core.Path.{◌≡◌, refl, sym, ◌∙◌}
 use mathlib.Core.Bool.{true}
 use Prim.Native.Nat.{ℕ, ◌<◌}
@@ -7,8 +8,6 @@ use lib.ListN.{length, length-take}
 use Rattle.octets.proofs.Choice.{true_false}
 use Rattle.ends.specs.Identities.{has}
 use Rattle.ends.specs.Table.{find, registered, unit_at}
-use Rattle.ends.specs.declared.Found.{Found}
-use Rattle.ends.specs.declared.Found.TheVariants.{At, Nowhere}
 use Rattle.ends.proofs.Identities.{meets_apart}
 use Rattle.ends.proofs.Table.{find_own, registered_found}
 use Rattle.ends.proofs.Validity.{olt_in_range}
@@ -25,12 +24,12 @@ use Rattle.orders.specs.Parties.{group, llid_of, party_of, unit, unit_party}
 ---- a unit
 
 -- a group's LLID is no unit's
-pub group_no_unit : (h : HeadEnd) (llid i : ℕ) → valid_head h ≡ true → find_group h llid ≡ At i → find h.olt llid ≡ Nowhere
+pub group_no_unit : (h : HeadEnd) (llid i : ℕ) → valid_head h ≡ true → find_group h llid ≡ Some i → find h.olt llid ≡ None
 unfolding find_group
 group_no_unit h llid i valid f = by_found (find h.olt llid) refl where
-  by_found : (g : Found) → find h.olt llid ≡ g → g ≡ Nowhere
-  by_found Nowhere e = refl
-  by_found (At j) e =
+  by_found : (g : Option ℕ) → find h.olt llid ≡ g → g ≡ None
+  by_found None e = refl
+  by_found (Some j) e =
       true_false
       (sym (registered_found h.olt llid j e)
       ∙ meets_apart (group_llids (registered_groups h)) _ llid (groups_in_range h (head_in_range h valid).groups).apart
@@ -41,7 +40,7 @@ pub unit_named-holds : (h : HeadEnd) (c : Call) (i : ℕ) → valid_head h ≡ t
 unfolding party_of by_llid unit_party
 unit_named-holds h c i valid used e =
     let o = h.olt in
-    let found : find o (llid_of c) ≡ At i =
+    let found : find o (llid_of c) ≡ Some i =
     find_own o (llid_of c) i (olt_in_range o (head_in_range h valid).olt).distinct
     (record {
       used = omega (arith, length-take o.count o.units);
@@ -49,9 +48,9 @@ unit_named-holds h c i valid used e =
       has = e;
     }) in
     rw (no_group-holds found (find_group h (llid_of c)) refl, found) where
-      no_group-holds : find h.olt (llid_of c) ≡ At i → (f : Found) → find_group h (llid_of c) ≡ f → find_group h (llid_of c) ≡ Nowhere
-      no_group-holds found Nowhere g = g
-      no_group-holds found (At j) g = at_nowhere i (sym found ∙ group_no_unit h (llid_of c) j valid g)
+      no_group-holds : find h.olt (llid_of c) ≡ Some i → (f : Option ℕ) → find_group h (llid_of c) ≡ f → find_group h (llid_of c) ≡ None
+      no_group-holds found None g = g
+      no_group-holds found (Some j) g = at_nowhere i (sym found ∙ group_no_unit h (llid_of c) j valid g)
 
 ---- a group
 
@@ -59,7 +58,7 @@ pub group_named : (h : HeadEnd) (c : Call) (i : ℕ) → valid_head h ≡ true �
     → (group_at h i).llid ≡ llid_of c → party_of h c ≡ group i
 unfolding party_of by_llid
 group_named h c i valid used e =
-    let found : find_group h (llid_of c) ≡ At i =
+    let found : find_group h (llid_of c) ≡ Some i =
     group_own h (llid_of c) i (groups_in_range h (head_in_range h valid).groups).distinct
     (record {
       used = omega (arith, length-take h.groups.count h.groups.table);

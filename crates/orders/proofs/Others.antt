@@ -1,4 +1,5 @@
 -- One party replaced leaves the others: who is named, their own parts, what they see, and two replaced in either order. Assumes nothing.
+use Rattle.std.specs.Prelude.{Option}
 use mathlib.Core.Path.{◌≡◌, refl, sym, ap, ap₂, ◌∙◌}
 use mathlib.Core.Bool.{Bool, false}
 use mathlib.Core.List.{List, [], ◌∷◌}
@@ -14,7 +15,6 @@ use Rattle.ends.specs.Identities.{among}
 use Rattle.ends.specs.Records.{with_channels}
 use Rattle.ends.specs.Table.{unit_at, with_olt_channels, with_unit}
 use Rattle.ends.specs.declared.Channels.{Channels}
-use Rattle.ends.specs.declared.Found.{Found}
 use Rattle.ends.specs.declared.Olt.{Olt}
 use Rattle.ends.specs.declared.Shared.{Shared}
 use Rattle.ends.specs.declared.UnitRecord.{UnitRecord}
@@ -104,7 +104,7 @@ put_names h p c own y m k =
     names_same y (put h p c own).olt h.olt m m (λ a. rw (find_same (put h p c own).olt h.olt a.unit (put_units h p c own k)))
 
 -- what a group sees, by its members' clocks and the member that is named
-abbrev group_sees : Shared → Bool → Found → Seen
+abbrev group_sees : Shared → Bool → Option ℕ → Seen
 group_sees s set member = record { shared = s; set = set; member = member }
 
 pub put_seen : (h : HeadEnd) (p q : Party) (c : Channels) (own : Own p) (y : Call) → Kept p own (own_of h p) → same_party p q ≡ false

@@ -1,11 +1,9 @@
 -- Whom a call means, and which calls may not change places (02, C-22). Assumes nothing.
-use Rattle.std.specs.Prelude.{Bool, false, ℕ, eqb}
+use Rattle.std.specs.Prelude.{Bool, false, ℕ, eqb, Option, Some, None}
 use Rattle.octets.specs.Choice.{either}
 use Rattle.envelope.specs.ControlMask.{eqs_of}
 use Rattle.ends.specs.Identities.{among}
 use Rattle.ends.specs.Table.{find}
-use Rattle.ends.specs.declared.Found.{Found}
-use Rattle.ends.specs.declared.Found.TheVariants.{At, Nowhere}
 use Rattle.group_protocol.specs.Head.{find_group, group_at}
 use Rattle.group_protocol.specs.Members.{places_of}
 use Rattle.group_protocol.specs.declared.HeadEnd.{HeadEnd}
@@ -29,9 +27,9 @@ pub data Party : Type 0 where
   group : (place : ℕ) → Party
   nobody : Party
 
-unfoldable pub unit_party : Found → Party
-unit_party (At i) = unit i
-unit_party Nowhere = nobody
+unfoldable pub unit_party : Option ℕ → Party
+unit_party (Some i) = unit i
+unit_party None = nobody
 
 -- by the LLID alone (D49)
 unfoldable pub party_of : HeadEnd → Call → Party

@@ -6,12 +6,12 @@ ghost use Rattle.orders.specs.Calls.{after};
 ghost use Rattle.orders.specs.Demand.{Demand};
 ghost use Rattle.orders.specs.Example.{example, number_at, to_first, to_second_same_channel};
 
-use refusal::{Refusal, number};
+use refusal::Refusal;
 
 // The code with which the second of two sends on one channel is refused in the example. The laws stand in its contract.
 pub fn second_on_channel() -> u8
     ensures value { result ≡ number_at (after example to_first) to_second_same_channel }
     ensures demand { Demand }
 {
-    number(Refusal::ChannelTaken)
+    u8::from(Refusal::ChannelTaken)
 }

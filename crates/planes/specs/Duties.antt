@@ -1,17 +1,11 @@
 -- What functions of this crate ask of each other and tell: nothing here is part of a promise to a caller. Assumes nothing.
-use Rattle.std.specs.Prelude.{◌≡◌, List, ℕ, ◌+◌, ◌*◌, ◌≤◌, ◌<◌, length, get_or}
+use Rattle.std.specs.Prelude.{◌≡◌, List, ℕ, ◌*◌, ◌≤◌, ◌<◌, length, get_or}
 use Rattle.octets.specs.Eqs.{eq_octets}
 
 -- payload and output have n EQs
 pub record Sized (p out : List ℕ) (n : ℕ) : Type 0 where
   pub read : length p ≡ eq_octets * n
   pub room : length out ≡ eq_octets * n
-
--- the planes of octets c, c + 1 and c + 2 of n EQs begin at `at`
-pub record Group (n c at : ℕ) : Type 0 where
-  pub octets : c + 3 ≤ eq_octets
-  pub start : at ≡ n * c
-  pub room : at + 3 * n ≤ eq_octets * n
 
 -- out has become out': what was as in r still is, and so are octets c up to c' of the EQs from e up to e', at their places
 pub record Moved (r out out' : List ℕ) (place : ℕ → ℕ → ℕ) (c c' e e' : ℕ) : Type 0 where

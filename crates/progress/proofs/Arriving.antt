@@ -12,7 +12,6 @@ use Rattle.octets.specs.Choice.{both, either, pick}
 use Rattle.octets.proofs.Choice.{both_true, both_false_left, both_false_right, either_none, either_left, either_right, not_of_true}
 use Rattle.octets.proofs.Lists.{same_refl}
 use Rattle.refusal.specs.declared.Refusal.TheVariants.{UnknownLlid, ClockNotSet, ChannelTaken, KeyTooOld}
-use Rattle.refusal.specs.declared.Verdict.TheVariants.{Accepted}
 use Rattle.refusal.specs.Number.{verdict_number}
 use Rattle.refusal.specs.Order.{refuse_if}
 use Rattle.refusal.proofs.Order.{refuse_passed}
@@ -54,10 +53,11 @@ use Rattle.unicast.proofs.Queues.{towards_taken}
 use Rattle.unicast.proofs.ClockSteps.{clock_message_taken}
 use Rattle.unicast.proofs.KeySteps.{next_key-holds}
 use Rattle.progress.proofs.Going.{Here, Step, alive, unit, lifted_number, told}
+use Rattle.refusal.specs.Verdict.{no_refusal}
 
 -- a send under the key of its choice, whose end has its clock set, its channel free and the key not too old
 goes_out : (set busy : Bool) (choice : KeyChoice) (first : FirstSend) (now : ℕ) → set ≡ true → busy ≡ false → choice_aged choice first now ≡ false
-    → clock_channel_key set busy choice first now ≡ Accepted
+    → clock_channel_key set busy choice first now ≡ no_refusal
 goes_out set busy choice first now is free young =
     refuse_passed _ ClockNotSet _ (both_false_left (choice_enciphered choice) (not_of_true is))
     ∙ refuse_passed busy ChannelTaken _ free
@@ -220,7 +220,7 @@ module _ (w : Setting) (u llid : ℕ) (s : State) (h : Here w u llid s) where
 
   ---- an empty envelope leaves, on channel 0
 
-  send_ahead-holds : send_ahead (misfit [] []) 0x00 ≡ Accepted
+  send_ahead-holds : send_ahead (misfit [] []) 0x00 ≡ no_refusal
   unfolding misfit lengths_fit downstream refuse_if both
   send_ahead-holds = refl
 
@@ -244,7 +244,7 @@ module _ (w : Setting) (u llid : ℕ) (s : State) (h : Here w u llid s) where
 
   send_up_accepts : (onu_at s u).clock.synced ≡ 1 → free_from (onu_at s u).channels 0x80 ≤ now → (onu_at s u).travel.bar ≤ travel_of (onu_at s u)
       → choice_aged (onu_send_choice (onu_at s u).keys) (onu_at s u).first (travel_of (onu_at s u)) ≡ false
-      → onu_send_verdict (onu_at s u) (misfit [] []) llid 0x80 ≡ Accepted
+      → onu_send_verdict (onu_at s u) (misfit [] []) llid 0x80 ≡ no_refusal
   unfolding onu_send_verdict misfit lengths_fit upstream busy_up waits taken both refuse_if
   send_up_accepts synced free passed young =
       let o = onu_at s u in
@@ -260,7 +260,7 @@ module _ (w : Setting) (u llid : ℕ) (s : State) (h : Here w u llid s) where
   unfolding step sending_up onu_send_of onu_sent sending_onu noted pick at_onu with_lanes
   send_up_goes synced free passed young =
       let o = onu_at s u in
-      let made : (sending_onu o (misfit [] []) llid 0x80 (eqs_of [])).verdict ≡ Accepted =
+      let made : (sending_onu o (misfit [] []) llid 0x80 (eqs_of [])).verdict ≡ no_refusal =
       ap (λ (r : Reply Onu Sending). r.verdict)
       (onu_accepts o no_sending (onu_send_verdict o (misfit [] []) llid 0x80) (onu_after_send o 0x80 (eqs_of [])) _ common.valid
       (send_up_accepts synced free passed young)) in

@@ -1,4 +1,5 @@
 -- Events that leave the OLT's channels, and a clock acknowledgement that it has. Assumes nothing.
+use Rattle.std.specs.Prelude.{Err}
 use mathlib.Core.Path.{◌≡◌, refl, ◌∙◌}
 use mathlib.Core.Bool.{Bool, true, false}
 use mathlib.Core.List.{List, [], ◌∷◌}
@@ -8,9 +9,7 @@ use lib.Dec.{eqb, leb}
 use lib.ListN.{length}
 use borrow.Author.Tests.{leb-true, leb-false, eqb-true, eqb-false}
 use Rattle.octets.specs.Choice.{pick}
-use Rattle.refusal.specs.declared.Verdict.{Verdict}
 use Rattle.refusal.specs.declared.Refusal.TheVariants.{NothingOutstanding}
-use Rattle.refusal.specs.declared.Verdict.TheVariants.{Accepted, Refused}
 use Rattle.refusal.proofs.Numbers.{number_accepted}
 use Rattle.clock.specs.Ticks.{max_tick}
 use Rattle.ends.specs.Records.{with_keys, with_confirmation, with_clock}
@@ -46,6 +45,7 @@ use Rattle.unicast.specs.Premises.{Meets}
 use Rattle.unicast.proofs.Invariant.{Invariant}
 use Rattle.unicast.proofs.AdvanceSteps.{advanced_unit}
 use Rattle.unicast.proofs.Theorem.{step_right}
+use Rattle.refusal.specs.Verdict.{Verdict, no_refusal}
 
 -- from one OLT to the next
 pub record Steady (o p : Olt) (i : ℕ) : Type 0 where
@@ -92,7 +92,7 @@ unfolding acknowledge_unit clock_acknowledged_unit key_acknowledged_unit outcome
 acknowledge_keeps a sh u h = by_kind (eqb a.kind clock_kind) (eqb a.kind key_kind) where
   by_kind : (t k : Bool)
       → (pick t (clock_acknowledged_unit sh u)
-      (pick k (key_acknowledged_unit a.number sh u) (outcome sh (Refused NothingOutstanding) u silent))).unit.clock.acknowledged
+      (pick k (key_acknowledged_unit a.number sh u) (outcome sh (Err NothingOutstanding) u silent))).unit.clock.acknowledged
       ≡ 1
   by_kind true k = refl
   by_kind false true = h
@@ -186,13 +186,13 @@ pub calm_stays : (w : Setting) (s : State) (e : Event) (i : ℕ) → Invariant w
 unfolding calls units records
 calm_stays w s (advance n) i v h c = advance_stays w s n i v h
 calm_stays w s (capture llid) i v h c =
-    record { steady = lift_steady s.olt silent Accepted llid capture_unit i (λ u. refl) (λ u a. a); registrations = refl }
+    record { steady = lift_steady s.olt silent no_refusal llid capture_unit i (λ u. refl) (λ u a. a); registrations = refl }
 calm_stays w s (clock_send llid) i v h c =
-    record { steady = lift_steady s.olt no_stamps Accepted llid clock_send_unit i (λ u. refl) (λ u a. a); registrations = refl }
+    record { steady = lift_steady s.olt no_stamps no_refusal llid clock_send_unit i (λ u. refl) (λ u a. a); registrations = refl }
 calm_stays w s (offer llid key) i v h c =
-    record { steady = lift_steady s.olt no_key_message Accepted llid (offer_unit llid key) i (λ u. refl) (λ u a. a); registrations = refl }
+    record { steady = lift_steady s.olt no_key_message no_refusal llid (offer_unit llid key) i (λ u. refl) (λ u a. a); registrations = refl }
 calm_stays w s (retry llid) i v h c =
-    record { steady = lift_steady s.olt no_key_message Accepted llid (retry_unit llid) i (λ u. refl) (λ u a. a); registrations = refl }
+    record { steady = lift_steady s.olt no_key_message no_refusal llid (retry_unit llid) i (λ u. refl) (λ u a. a); registrations = refl }
 calm_stays w s (arrive_down u k out) i v h c = in_flight_stays s u k out (in_flight_at s u k) i
 calm_stays w s (arrive_up u k out) i v h c =
     let e = envelope_at s u k in
@@ -206,7 +206,7 @@ calm_stays w s (arrive_answer u k llid) i v h c =
     let a = (answer_at s u k).acknowledgement in
     record {
       steady =
-          lift_steady s.olt silent Accepted llid (acknowledge_unit a) i (acknowledged_channels a s.olt.shared)
+          lift_steady s.olt silent no_refusal llid (acknowledge_unit a) i (acknowledged_channels a s.olt.shared)
           (acknowledge_keeps a s.olt.shared);
       registrations = refl;
     }

@@ -1,4 +1,5 @@
 -- A frozen line: what of it counts, and what the calls on it return. Assumes nothing.
+use Rattle.std.specs.Prelude.{Err, Option, Some}
 use mathlib.Core.Path.{◌≡◌, refl, sym, ◌∙◌, ap}
 use mathlib.Core.Bool.{Bool, true, false, not}
 use mathlib.Core.List.{List, Memᴰ}
@@ -12,8 +13,6 @@ use Rattle.octets.proofs.Choice.{true_false, both_true, both_false_left, both_fa
 use Rattle.refusal.specs.Number.{verdict_number}
 use Rattle.refusal.specs.Order.{refuse_if}
 use Rattle.refusal.specs.declared.Refusal.TheVariants.{OutOfRange, UnknownLlid, ClockNotSet, OfferPending, NothingOutstanding, ChannelTaken, KeyTooOld, BadLength}
-use Rattle.refusal.specs.declared.Verdict.{Verdict}
-use Rattle.refusal.specs.declared.Verdict.TheVariants.{Refused}
 use Rattle.refusal.proofs.Order.{refuse_accepted, refuse_passed, refuse_stopped, refused_accepts}
 use Rattle.refusal.proofs.Numbers.{number_accepted}
 use Rattle.clock.specs.Ticks.{key_life}
@@ -27,8 +26,6 @@ use Rattle.ends.specs.Table.{find, is_registered, unit_at, unit_found, unit_name
 use Rattle.ends.specs.Travels.{travel_of}
 use Rattle.ends.specs.Validity.{valid_olt}
 use Rattle.ends.specs.declared.FirstSend.{FirstSend}
-use Rattle.ends.specs.declared.Found.{Found}
-use Rattle.ends.specs.declared.Found.TheVariants.{At}
 use Rattle.ends.specs.declared.Olt.{Olt}
 use Rattle.ends.specs.declared.OnuKeys.{OnuKeys}
 use Rattle.ends.specs.declared.UnitRecord.{UnitRecord}
@@ -57,6 +54,7 @@ use Rattle.unicast.proofs.Places.{held_found}
 use Rattle.unicast.proofs.Alive.{Alive, registered_alive}
 use Rattle.progress.specs.Progress.{confirmed_by}
 use Rattle.progress.specs.Frozen.{Untold, Silent, Stopped, FrozenLine, record_at, Frozen, Refuses}
+use Rattle.refusal.specs.Verdict.{Verdict}
 
 ---- lines of which only a part changes
 
@@ -151,12 +149,12 @@ chosen_up k some = pick_false _ _ (ne_eqb k.active 0 (λ q. omega (arith, q, som
 
 -- under a key that is too old: 5, 12, 13
 old_refused : (set busy : Bool) (choice : KeyChoice) (n : ℕ) (first : FirstSend) (now : ℕ) → choice ≡ Current n → aged first now ≡ true
-    → clock_channel_key set busy choice first now ≡ refuse_if (not set) ClockNotSet (refuse_if busy ChannelTaken (Refused KeyTooOld))
+    → clock_channel_key set busy choice first now ≡ refuse_if (not set) ClockNotSet (refuse_if busy ChannelTaken (Err KeyTooOld))
 unfolding choice_enciphered choice_aged refuse_if both
 old_refused set busy choice n first now chosen old = rw (chosen, old) (by_set set) where
   by_set : (t : Bool)
-      → refuse_if (both (not t) true) ClockNotSet (refuse_if busy ChannelTaken (Refused KeyTooOld))
-      ≡ refuse_if (not t) ClockNotSet (refuse_if busy ChannelTaken (Refused KeyTooOld))
+      → refuse_if (both (not t) true) ClockNotSet (refuse_if busy ChannelTaken (Err KeyTooOld))
+      ≡ refuse_if (not t) ClockNotSet (refuse_if busy ChannelTaken (Err KeyTooOld))
   by_set true = refl
   by_set false = refl
 
@@ -173,7 +171,7 @@ module _ (b : Bool) (w : Setting) (s : State) (u llid : ℕ) (v : Invariant w s)
   alive : Alive w s u
   alive = registered_alive w s u v z.registered
 
-  found : find o llid ≡ At line.entry.place
+  found : find o llid ≡ Some line.entry.place
   found =
       held_found w s line.entry.place u llid v (record { known = alive.known; registered = z.registered; place = refl }) z.named
 
@@ -195,14 +193,14 @@ module _ (b : Bool) (w : Setting) (s : State) (u llid : ℕ) (v : Invariant w s)
   past_llid d =
       refuse_passed _ OutOfRange _ (not_of_true v.valid)
       ∙ refuse_passed _ UnknownLlid _ (not_of_true (registered_found o llid _ found))
-      ∙ ap (λ (f : Found). d (unit_found o f)) found
+      ∙ ap (λ (f : Option ℕ). d (unit_found o f)) found
 
   sends_refused : (channel : ℕ) (p out : List ℕ) → (olt_send_of o llid channel p out).answer.number
       ≡ verdict_number
       (refuse_if (misfit p out) BadLength
       (refuse_if (not (downstream channel)) OutOfRange
       (refuse_if (not (is_up x.clock.acknowledged)) ClockNotSet
-      (refuse_if (taken o.shared.channels channel o.shared.tick) ChannelTaken (Refused KeyTooOld)))))
+      (refuse_if (taken o.shared.channels channel o.shared.tick) ChannelTaken (Err KeyTooOld)))))
   unfolding olt_send_of olt_sent send_order unit_found unit_send_verdict
   sends_refused channel p out =
       ap verdict_number
@@ -210,13 +208,13 @@ module _ (b : Bool) (w : Setting) (s : State) (u llid : ℕ) (v : Invariant w s)
       ∙ refuse_passed _ OutOfRange _ (not_of_true v.valid)
       ∙ ap (λ (r : Verdict). refuse_if (misfit p out) BadLength (refuse_if (not (downstream channel)) OutOfRange r))
       (refuse_passed _ UnknownLlid _ (not_of_true (registered_found o llid _ found))
-      ∙ ap (λ (f : Found). unit_send_verdict o.shared (unit_found o f) channel) found
+      ∙ ap (λ (f : Option ℕ). unit_send_verdict o.shared (unit_found o f) channel) found
       ∙ old_refused (is_up x.clock.acknowledged) (taken o.shared.channels channel o.shared.tick) (unit_send_choice x) x.keys.active
       x.keys.first o.shared.tick choice_is
       (is_aged x.keys.first o.shared.tick z.begun (omega (arith, z.old, v.shared.tick)))))
 
   offers_refused : (key : List ℕ) → (offer_of o llid key).number
-      ≡ verdict_number (refuse_if (not (is_up x.clock.acknowledged)) ClockNotSet (Refused OfferPending))
+      ≡ verdict_number (refuse_if (not (is_up x.clock.acknowledged)) ClockNotSet (Err OfferPending))
   unfolding offer_order offer_verdict
   offers_refused key =
       (offer_ordered o llid key _ refl).1
@@ -241,7 +239,7 @@ module _ (b : Bool) (w : Setting) (s : State) (u llid : ℕ) (v : Invariant w s)
       (refuse_if (not (upstream channel)) OutOfRange
       (refuse_if (not (has (onu_at s u).identity other)) UnknownLlid
       (refuse_if (not (is_up (onu_at s u).clock.synced)) ClockNotSet
-      (refuse_if (busy_up (onu_at s u) channel) ChannelTaken (Refused KeyTooOld))))))
+      (refuse_if (busy_up (onu_at s u) channel) ChannelTaken (Err KeyTooOld))))))
   unfolding onu_send_of onu_sent sending_onu onu_reply onu_send_verdict
   answers_refused y other channel p out =
       let n = onu_at s u in

@@ -1,4 +1,5 @@
 -- A frozen line stays frozen by the calls on the OLT, and by advances. Assumes nothing.
+use Rattle.std.specs.Prelude.{Err}
 use mathlib.Core.Path.{◌≡◌, refl, sym, ◌∙◌, ap}
 use mathlib.Core.Bool.{Bool, true, false}
 use mathlib.Core.List.Memᴰ
@@ -13,8 +14,6 @@ use Rattle.octets.specs.Choice.{both, pick}
 use Rattle.octets.proofs.Choice.{true_false, both_false_right, pick_false, pick_holds}
 use Rattle.octets.proofs.Maps.{map_at}
 use Rattle.refusal.specs.declared.Refusal.TheVariants.{NothingOutstanding}
-use Rattle.refusal.specs.declared.Verdict.{Verdict}
-use Rattle.refusal.specs.declared.Verdict.TheVariants.{Accepted, Refused}
 use Rattle.clock.specs.declared.Stamps.{Stamps}
 use Rattle.envelope.specs.ControlMask.{eqs_of}
 use Rattle.ends.specs.Identities.{has, no_identity}
@@ -61,6 +60,7 @@ use Rattle.unicast.proofs.AdvanceSteps.{advanced_unit}
 use Rattle.unicast.proofs.LiftSteps.{noted_at-holds}
 use Rattle.progress.specs.Frozen.{record_at, Frozen}
 use Rattle.progress.proofs.Frozen.{Kept, kept_rest, kept_same, frozen_kept, frozen_at, not_sent}
+use Rattle.refusal.specs.Verdict.{Verdict, no_refusal}
 
 ---- lanes that are told of something
 
@@ -132,7 +132,7 @@ unfolding acknowledge_unit clock_acknowledged_unit key_acknowledged_unit outcome
 acknowledged_first a sh x = by_kind (eqb a.kind clock_kind) (eqb a.kind key_kind) where
   by_kind : (t k : Bool)
       → (pick t (clock_acknowledged_unit sh x)
-      (pick k (key_acknowledged_unit a.number sh x) (outcome sh (Refused NothingOutstanding) x silent))).unit.keys.first
+      (pick k (key_acknowledged_unit a.number sh x) (outcome sh (Err NothingOutstanding) x silent))).unit.keys.first
       ≡ x.keys.first
   by_kind true k = refl
   by_kind false true = refl
@@ -166,7 +166,7 @@ registering_first o identity trip interval i h =
 pub capture_frozen : (b : Bool) (s : State) (u mine llid : ℕ) → Frozen b s u mine → Frozen b (step s (capture llid)) u mine
 unfolding step capture_of olt_answer capture_unit outcome with_clock lane_captured
 capture_frozen b s u mine llid z =
-    call_frozen s u silent Accepted llid _ capture_unit (lane_captured s.history.now) b mine (λ x. refl)
+    call_frozen s u silent no_refusal llid _ capture_unit (lane_captured s.history.now) b mine (λ x. refl)
     (λ l. kept_rest l (lane_captured s.history.now l) refl refl refl refl refl refl (λ e i. i) (λ e i. i)) z
 
 clock_no_envelope : (m : Stamps) (c t : ℕ) (e : Envelope) → clock_message m c t ≡ envelope e → ⊥
@@ -178,26 +178,26 @@ key_no_envelope m t e q = let z : ◌≡◌ {A = ℕ} 0 1 = cc in absurd (omega 
 pub clock_send_frozen : (b : Bool) (s : State) (u mine llid : ℕ) → Frozen b s u mine → Frozen b (step s (clock_send llid)) u mine
 unfolding step clock_sending clock_send_of clock_sent clock_send_unit outcome with_clock
 clock_send_frozen b s u mine llid z =
-    call_frozen s u no_stamps Accepted llid _ clock_send_unit _ b mine (λ x. refl)
+    call_frozen s u no_stamps no_refusal llid _ clock_send_unit _ b mine (λ x. refl)
     (λ l. leaving_kept (clock_message (clock_send_of s.olt llid).message l.captured s.history.now) l (clock_no_envelope _ _ _)) z
 
 pub offer_frozen : (b : Bool) (s : State) (u mine llid : ℕ) (key : List ℕ) → Frozen b s u mine → Frozen b (step s (offer llid key)) u mine
 unfolding step offering offer_of key_sent offer_unit unit_offered keys_offered outcome with_keys with_confirmation
 offer_frozen b s u mine llid key z =
-    call_frozen s u no_key_message Accepted llid _ (offer_unit llid key) _ b mine (λ x. refl)
+    call_frozen s u no_key_message no_refusal llid _ (offer_unit llid key) _ b mine (λ x. refl)
     (λ l. offered_kept key (key_message (offer_of s.olt llid key).message s.history.now) l (key_no_envelope _ _)) z
 
 pub retry_frozen : (b : Bool) (s : State) (u mine llid : ℕ) → Frozen b s u mine → Frozen b (step s (retry llid)) u mine
 unfolding step retrying retry_of key_sent retry_unit outcome
 retry_frozen b s u mine llid z =
-    call_frozen s u no_key_message Accepted llid _ (retry_unit llid) _ b mine (λ x. refl)
+    call_frozen s u no_key_message no_refusal llid _ (retry_unit llid) _ b mine (λ x. refl)
     (λ l. leaving_kept (key_message (retry_of s.olt llid).message s.history.now) l (key_no_envelope _ _)) z
 
 pub answer_frozen : (b : Bool) (s : State) (u mine v k llid : ℕ) → Frozen b s u mine → Frozen b (step s (arrive_answer v k llid)) u mine
 unfolding step answering acknowledge_of olt_answer lane_acknowledged lane_with
 answer_frozen b s u mine v k llid z =
     let a = (answer_at s v k).acknowledgement in
-    call_frozen s u silent Accepted llid _ (acknowledge_unit a) (lane_acknowledged a) b mine (acknowledged_first a s.olt.shared)
+    call_frozen s u silent no_refusal llid _ (acknowledge_unit a) (lane_acknowledged a) b mine (acknowledged_first a s.olt.shared)
     (λ l. kept_rest l (lane_acknowledged a l) refl refl refl refl refl refl (λ e i. i) (λ e i. i)) z
 
 ---- a send of the OLT: to the unit it is refused

@@ -1,4 +1,5 @@
 -- What an event makes of a registered unit's lane, once it is accepted. Assumes nothing.
+use Rattle.std.specs.Prelude.{Some}
 use mathlib.Core.Path.{◌≡◌, refl, sym, ◌∙◌, ap}
 use mathlib.Core.Bool.{true}
 use mathlib.Core.List.{List}
@@ -9,15 +10,12 @@ use Rattle.octets.specs.Choice.{pick}
 use Rattle.octets.proofs.Choice.{both_true, either_none, not_of_true}
 use Rattle.refusal.specs.Number.{verdict_number}
 use Rattle.refusal.specs.declared.Refusal.TheVariants.{ClockNotSet, OfferPending, SameKey, NothingOutstanding, CaptureTooOld, AtEnd}
-use Rattle.refusal.specs.declared.Verdict.{Verdict}
-use Rattle.refusal.specs.declared.Verdict.TheVariants.{Accepted}
 use Rattle.refusal.proofs.Order.{refuse_passed}
 use Rattle.clock.specs.Ticks.{max_tick, ticks_per_second}
 use Rattle.clock.specs.declared.Stamps.{Stamps}
 use Rattle.ends.specs.Identities.{has}
 use Rattle.ends.specs.Records.{with_clock}
 use Rattle.ends.specs.Table.{find, unit_at}
-use Rattle.ends.specs.declared.Found.TheVariants.{At}
 use Rattle.ends.specs.declared.Olt.{Olt}
 use Rattle.ends.specs.declared.Shared.{Shared}
 use Rattle.ends.specs.declared.UnitRecord.{UnitRecord}
@@ -41,6 +39,7 @@ use Rattle.unicast.proofs.Places.{held_found, at_once}
 use Rattle.unicast.proofs.Alive.{Alive, registered_alive}
 use Rattle.unicast.proofs.LiftSteps.{named_own, named_at}
 use Rattle.unicast.proofs.Theorem.{step_right}
+use Rattle.refusal.specs.Verdict.{Verdict, no_refusal}
 
 -- a registered unit, named by one of its LLIDs, wherever the list has led
 pub record Here (w : Setting) (u llid : ℕ) (s : State) : Type 0 where
@@ -74,7 +73,7 @@ module _ (w : Setting) (u llid : ℕ) (s : State) (h : Here w u llid s) where
   abbrev pub unit : UnitRecord
   unit = unit_at s.olt place
 
-  pub found : find s.olt llid ≡ At place
+  pub found : find s.olt llid ≡ Some place
   found =
       held_found w s place u llid h.invariant (record { known = alive.known; registered = h.registered; place = refl }) h.named
 
@@ -92,8 +91,8 @@ module _ (w : Setting) (u llid : ℕ) (s : State) (h : Here w u llid s) where
 
   ---- a call that is lifted from the unit to the OLT
 
-  module _ {H : Type 0} (nothing : H) (ahead : Verdict) (call : Shared → UnitRecord → Outcome H) (passed : ahead ≡ Accepted)
-      (accepts : (call s.olt.shared unit).verdict ≡ Accepted) where
+  module _ {H : Type 0} (nothing : H) (ahead : Verdict) (call : Shared → UnitRecord → Outcome H) (passed : ahead ≡ no_refusal)
+      (accepts : (call s.olt.shared unit).verdict ≡ no_refusal) where
     pub lifted : Lifted s.olt nothing ahead llid call
     lifted = lift_accepts s.olt nothing ahead llid call place h.invariant.valid passed found accepts
 
@@ -125,13 +124,13 @@ module _ (w : Setting) (u llid : ℕ) (s : State) (h : Here w u llid s) where
       record {
         fits = tt;
         lane =
-            told (lift s.olt silent Accepted llid capture_unit).end _ (lane_captured s.history.now) (lifted_number silent Accepted capture_unit refl refl);
+            told (lift s.olt silent no_refusal llid capture_unit).end _ (lane_captured s.history.now) (lifted_number silent no_refusal capture_unit refl refl);
         tick = refl;
       }
 
   pub capture_clock : (unit_at (step s (capture llid)).olt place).clock ≡ clock_captured unit.clock s.olt.shared.tick
   unfolding step capture_of olt_answer capture_unit outcome at_olt with_clock
-  capture_clock = ap (λ (x : UnitRecord). x.clock) (lifted_unit silent Accepted capture_unit refl refl)
+  capture_clock = ap (λ (x : UnitRecord). x.clock) (lifted_unit silent no_refusal capture_unit refl refl)
 
   ---- a clock message leaves
 
@@ -140,22 +139,22 @@ module _ (w : Setting) (u llid : ℕ) (s : State) (h : Here w u llid s) where
       (lane_leaving (clock_message (clock_send_unit s.olt.shared unit).handed (lane_at s u).captured s.history.now) (lane_at s u)) s.history.now
   unfolding step clock_sending clock_send_of clock_sent clock_send_unit outcome at_olt with_lanes clock_send_verdict
   clock_send_goes captured soon =
-      let accepts : clock_send_verdict unit.clock s.olt.shared.tick ≡ Accepted =
+      let accepts : clock_send_verdict unit.clock s.olt.shared.tick ≡ no_refusal =
       refuse_passed _ NothingOutstanding _ (not_of_true (eq-eqb unit.clock.captured 1 captured))
       ∙ refuse_passed _ CaptureTooOld _ (le-ltb _ _ soon) in
-      let call = lifted_number no_stamps Accepted clock_send_unit refl accepts in
-      let handed = lifted_handed no_stamps Accepted clock_send_unit refl accepts in
+      let call = lifted_number no_stamps no_refusal clock_send_unit refl accepts in
+      let handed = lifted_handed no_stamps no_refusal clock_send_unit refl accepts in
       record {
         fits = tt;
         lane =
-            told (lift s.olt no_stamps Accepted llid clock_send_unit).end _ _ call
+            told (lift s.olt no_stamps no_refusal llid clock_send_unit).end _ _ call
             ∙ ap (λ (m : Stamps). lane_leaving (clock_message m (lane_at s u).captured s.history.now) (lane_at s u)) handed;
         tick = refl;
       }
 
   ---- a key message leaves
 
-  offer_accepts : (key : List ℕ) → Offers unit key → offer_verdict unit key ≡ Accepted
+  offer_accepts : (key : List ℕ) → Offers unit key → offer_verdict unit key ≡ no_refusal
   unfolding offer_verdict
   offer_accepts key o =
       refuse_passed _ ClockNotSet _ (not_of_true (eq-eqb unit.clock.acknowledged 1 o.set))
@@ -169,12 +168,12 @@ module _ (w : Setting) (u llid : ℕ) (s : State) (h : Here w u llid s) where
   unfolding step offering offer_of key_sent offer_unit outcome at_olt with_lanes
   offer_goes key o new =
       let accepts = offer_accepts key o in
-      let call = lifted_number no_key_message Accepted (offer_unit llid key) refl accepts in
-      let handed = lifted_handed no_key_message Accepted (offer_unit llid key) refl accepts in
+      let call = lifted_number no_key_message no_refusal (offer_unit llid key) refl accepts in
+      let handed = lifted_handed no_key_message no_refusal (offer_unit llid key) refl accepts in
       record {
         fits = λ a. new;
         lane =
-            told (lift s.olt no_key_message Accepted llid (offer_unit llid key)).end _ _ call
+            told (lift s.olt no_key_message no_refusal llid (offer_unit llid key)).end _ _ call
             ∙ ap (λ (m : KeyMessage). lane_leaving (key_message m s.history.now) (lane_offered key (lane_at s u))) handed;
         tick = refl;
       }
@@ -185,28 +184,28 @@ module _ (w : Setting) (u llid : ℕ) (s : State) (h : Here w u llid s) where
   unfolding step retrying retry_of key_sent at_olt with_lanes
   retry_goes more =
       let accepts = retry_accepts llid s.olt.shared unit more in
-      let call = lifted_number no_key_message Accepted (retry_unit llid) refl accepts in
-      let handed = lifted_handed no_key_message Accepted (retry_unit llid) refl accepts in
+      let call = lifted_number no_key_message no_refusal (retry_unit llid) refl accepts in
+      let handed = lifted_handed no_key_message no_refusal (retry_unit llid) refl accepts in
       record {
         fits = tt;
         lane =
-            told (lift s.olt no_key_message Accepted llid (retry_unit llid)).end _ _ call
+            told (lift s.olt no_key_message no_refusal llid (retry_unit llid)).end _ _ call
             ∙ ap (λ (m : KeyMessage). lane_leaving (key_message m s.history.now) (lane_at s u)) handed;
         tick = refl;
       }
 
   ---- an acknowledgement arrives
 
-  clock_accepts : unit.clock.sent ≡ 1 → (clock_acknowledged_unit s.olt.shared unit).verdict ≡ Accepted
+  clock_accepts : unit.clock.sent ≡ 1 → (clock_acknowledged_unit s.olt.shared unit).verdict ≡ no_refusal
   unfolding clock_acknowledged_unit outcome
   clock_accepts sent = refuse_passed _ NothingOutstanding _ (not_of_true (eq-eqb unit.clock.sent 1 sent))
 
-  key_accepts : (number : ℕ) → 1 ≤ number → number ≡ unit.keys.offered → (key_acknowledged_unit number s.olt.shared unit).verdict ≡ Accepted
+  key_accepts : (number : ℕ) → 1 ≤ number → number ≡ unit.keys.offered → (key_acknowledged_unit number s.olt.shared unit).verdict ≡ no_refusal
   unfolding key_acknowledged_unit outcome
   key_accepts number some last =
       refuse_passed _ NothingOutstanding _ (not_of_true (both_true (le-leb 1 number some) (eq-eqb number unit.keys.offered last)))
 
-  answer_goes : (k : ℕ) → DueAnswer s u k llid → (acknowledge_unit (answer_at s u k).acknowledgement s.olt.shared unit).verdict ≡ Accepted
+  answer_goes : (k : ℕ) → DueAnswer s u k llid → (acknowledge_unit (answer_at s u k).acknowledgement s.olt.shared unit).verdict ≡ no_refusal
       → Step w u s (arrive_answer u k llid) (lane_acknowledged (answer_at s u k).acknowledgement (lane_at s u)) s.history.now
       × (unit_at (step s (arrive_answer u k llid)).olt place ≡ (acknowledge_unit (answer_at s u k).acknowledgement s.olt.shared unit).unit)
   unfolding step answering acknowledge_of olt_answer at_olt with_lanes
@@ -215,11 +214,11 @@ module _ (w : Setting) (u llid : ℕ) (s : State) (h : Here w u llid s) where
         record {
           fits = due;
           lane =
-              told (lift s.olt silent Accepted llid (acknowledge_unit a)).end _ (lane_acknowledged a)
-              (lifted_number silent Accepted (acknowledge_unit a) refl accepts);
+              told (lift s.olt silent no_refusal llid (acknowledge_unit a)).end _ (lane_acknowledged a)
+              (lifted_number silent no_refusal (acknowledge_unit a) refl accepts);
           tick = refl;
         },
-        lifted_unit silent Accepted (acknowledge_unit a) refl accepts,
+        lifted_unit silent no_refusal (acknowledge_unit a) refl accepts,
       )
 
   pub clock_answer_goes : (k : ℕ) → DueAnswer s u k llid → (answer_at s u k).acknowledgement.kind ≡ clock_kind → unit.clock.sent ≡ 1

@@ -1,4 +1,5 @@
 -- What an accepted call of the OLT on a group makes of the group's line: offer, retry, and the send that switches. Assumes nothing.
+use Rattle.std.specs.Prelude.{Some}
 use mathlib.Core.Path.{◌≡◌, refl, sym, ◌∙◌, ap, subst}
 use mathlib.Core.Bool.{Bool, true, false}
 use mathlib.Core.List.{List, [], ◌∷◌, ◌++◌}
@@ -13,7 +14,6 @@ use Rattle.octets.specs.Lists.{same}
 use Rattle.octets.proofs.Choice.{both_true, both_false_left, not_of_true, then_both_false, pick_true}
 use Rattle.octets.proofs.Lists.{same_true}
 use Rattle.refusal.specs.declared.Refusal.TheVariants.{ClockNotSet, OfferPending, SameKey, NothingOutstanding, AtEnd, ChannelTaken, KeyTooOld}
-use Rattle.refusal.specs.declared.Verdict.TheVariants.{Accepted}
 use Rattle.refusal.specs.Order.{refuse_if}
 use Rattle.refusal.proofs.Order.{refuse_passed}
 use Rattle.envelope.specs.Acceptance.{lengths_fit}
@@ -22,7 +22,6 @@ use Rattle.envelope.specs.ControlMask.{eqs_of}
 use Rattle.ends.specs.Keys.{key_in}
 use Rattle.ends.specs.Limits.{max_key_number}
 use Rattle.ends.specs.Occupancy.{free_from, taken}
-use Rattle.ends.specs.declared.Found.TheVariants.{At}
 use Rattle.protocol.specs.Headers.{choice_aged, clock_channel_key, no_sending}
 use Rattle.protocol.specs.Messages.{no_key_message}
 use Rattle.protocol.specs.declared.KeyMessage.{KeyMessage}
@@ -47,6 +46,7 @@ use Rattle.line.proofs.GroupChoices.{switches_listed}
 use Rattle.line.proofs.GroupSteps.{member_same}
 use Rattle.line.proofs.Invariant.{Invariant}
 use Rattle.line.proofs.Lines.{group_finds}
+use Rattle.refusal.specs.Verdict.{no_refusal}
 
 -- the group's line is l, and nothing else of the history has changed but that
 pub record Left (g : ℕ) (l : GroupLane) (s t : State) : Type 0 where
@@ -129,7 +129,7 @@ module _ (w : Setting) (s : State) (g : ℕ) (i : Invariant w s) (known : g < le
   abbrev r : GroupRecord
   r = group_at s.head g
 
-  found : find_group s.head l.llid ≡ At g
+  found : find_group s.head l.llid ≡ Some g
   found = group_finds w s i g known
 
   valid : valid_head s.head ≡ true
@@ -157,12 +157,12 @@ module _ (w : Setting) (s : State) (g : ℕ) (i : Invariant w s) (known : g < le
   unfolding step offering_to offering key_sent_alone head_offer_of by_llid head_key_sent offer_group group_outcome group_offer_verdict
   offer_left key set new none below =
       let j = i.group g known in
-      let accepts : group_offer_verdict (members_set s.head.olt r.members) r.keys key ≡ Accepted =
+      let accepts : group_offer_verdict (members_set s.head.olt r.members) r.keys key ≡ no_refusal =
       refuse_passed _ ClockNotSet _ (not_of_true set)
       ∙ refuse_passed _ OfferPending _ (le-ltb r.keys.active r.keys.offered (omega (arith, j.counted, j.listed, none)))
       ∙ refuse_passed _ SameKey _ (other_key-holds key new)
       ∙ refuse_passed _ AtEnd _ (lt-leb max_key_number r.keys.active (omega (arith, j.counted, below))) in
-      let is = (lift_accepts s.head no_key_message Accepted (λ o x. offer_group l.llid key (members_set o x.members) o.shared x) g valid refl
+      let is = (lift_accepts s.head no_key_message no_refusal (λ o x. offer_group l.llid key (members_set o x.members) o.shared x) g valid refl
       accepts).is in
       rw (found, is)
       (subst (Left g _ s) (sym (call_accepted w s l.llid g i found _ _ 0 _ _ refl)) (left_at s g _ _ known))
@@ -195,9 +195,9 @@ module _ (w : Setting) (s : State) (g : ℕ) (i : Invariant w s) (known : g < le
   unfolding step retrying_to retrying key_sent_alone head_retry_of by_llid head_key_sent retry_group group_outcome retry_verdict
   retry_left more =
       let j = i.group g known in
-      let accepts : retry_verdict r.keys ≡ Accepted =
+      let accepts : retry_verdict r.keys ≡ no_refusal =
       refuse_passed _ NothingOutstanding _ (ne_eqb r.keys.offered r.keys.active (λ e. omega (arith, e, j.counted, j.listed, more))) in
-      let is = (lift_accepts s.head no_key_message Accepted (λ o x. retry_group l.llid o.shared x) g valid refl accepts).is in
+      let is = (lift_accepts s.head no_key_message no_refusal (λ o x. retry_group l.llid o.shared x) g valid refl accepts).is in
       rw (found, is)
       (subst (Left g _ s) (sym (call_accepted w s l.llid g i found _ _ 0 _ _ refl)) (left_at s g _ _ known))
 
@@ -219,7 +219,7 @@ module _ (w : Setting) (s : State) (g : ℕ) (i : Invariant w s) (known : g < le
   abbrev pub next : Envelope
   next = envelope_down (now s) no_path s.head l.llid 0x00 [] [] (group_number l (now s))
 
-  ahead : send_ahead [] [] 0x00 ≡ Accepted
+  ahead : send_ahead [] [] 0x00 ≡ no_refusal
   unfolding misfit lengths_fit downstream refuse_if both
   ahead = refl
 
@@ -233,7 +233,7 @@ module _ (w : Setting) (s : State) (g : ℕ) (i : Invariant w s) (known : g < le
   send_left due free =
       let tick = i.units.shared.tick in
       let accepts : clock_channel_key true (taken s.head.olt.shared.channels 0x00 s.head.olt.shared.tick) (group_send_choice r.keys)
-      r.keys.first s.head.olt.shared.tick ≡ Accepted =
+      r.keys.first s.head.olt.shared.tick ≡ no_refusal =
       refuse_passed _ ClockNotSet _ (both_false_left _ refl)
       ∙ refuse_passed _ ChannelTaken _ (le-ltb s.head.olt.shared.tick (free_from s.head.olt.shared.channels 0x00) (omega (arith, free, tick)))
       ∙ refuse_passed _ KeyTooOld _ (young due) in

@@ -1,4 +1,5 @@
 -- A joined member that is synced takes the message of the group's last key, whatever it missed. Assumes nothing.
+use Rattle.std.specs.Prelude.{Option, Some, None}
 use mathlib.Core.Path.{◌≡◌, refl, sym, ◌∙◌, ap}
 use mathlib.Core.Bool.{Bool, true, false}
 use mathlib.Core.List.{List}
@@ -10,13 +11,10 @@ use Rattle.octets.specs.Choice.{both, either, pick}
 use Rattle.octets.proofs.Choice.{both_true, either_left, either_right, not_of_true, true_false}
 use Rattle.octets.proofs.Lists.{same_refl}
 use Rattle.refusal.specs.declared.Refusal.TheVariants.{OutOfRange, ClockNotSet, NothingOutstanding}
-use Rattle.refusal.specs.declared.Verdict.TheVariants.{Accepted}
 use Rattle.refusal.proofs.Order.{refuse_passed}
 use Rattle.ends.specs.Flags.{is_up}
 use Rattle.ends.specs.Keys.{key_in}
 use Rattle.ends.specs.Limits.{max_key_number}
-use Rattle.ends.specs.declared.Found.{Found}
-use Rattle.ends.specs.declared.Found.TheVariants.{At, Nowhere}
 use Rattle.protocol.specs.declared.KeyMessage.{KeyMessage}
 use Rattle.protocol.proofs.Replies.{reply_accepted}
 use Rattle.group_protocol.specs.Head.{group_at}
@@ -37,6 +35,7 @@ use Rattle.line.proofs.Finding.{joined_nowhere}
 use Rattle.line.proofs.Invariant.{Follows, Invariant}
 use Rattle.line.proofs.Lines.{memberships_right}
 use Rattle.line.proofs.Taken.{joined_for_at}
+use Rattle.refusal.specs.Verdict.{no_refusal}
 
 -- the last key is new to it, or is held
 module _ (l : GroupLane) (active offered : ℕ) (member : Bool) (ms : List Membership) (j : Joined) (xs : List InFlight) (m : KeyMessage)
@@ -83,7 +82,7 @@ module _ (w : Setting) (s : State) (u g k : ℕ) (out : List ℕ) (i : Invariant
   abbrev lane : GroupLane
   lane = group_lane_at s g
 
-  accepts : (j : ℕ) → find_joined x lane.llid ≡ At j → joined_message_verdict x.onu.clock (joined_at x j) m ≡ Accepted
+  accepts : (j : ℕ) → find_joined x lane.llid ≡ Some j → joined_message_verdict x.onu.clock (joined_at x j) m ≡ no_refusal
   unfolding joined_message_verdict
   accepts j found =
       let f = rw (joined_for_at x lane.llid j found) at (follows w s u g k out i d) in
@@ -91,10 +90,10 @@ module _ (w : Setting) (s : State) (u g k : ℕ) (out : List ℕ) (i : Invariant
       refuse_passed _ ClockNotSet _ (not_of_true (eq-eqb x.onu.clock.synced 1 (synced_up w s u g k out i d synced)))
       ∙ refuse_passed _ NothingOutstanding _ (not_of_true (last_fits lane _ _ _ (joined_by s u) (joined_at x j) _ m f ahead last under.0.key most))
 
-  accepted_at : (j : ℕ) → find_joined x lane.llid ≡ At j → (subscriber_key_message_of x m).number ≡ 0
+  accepted_at : (j : ℕ) → find_joined x lane.llid ≡ Some j → (subscriber_key_message_of x m).number ≡ 0
   unfolding subscriber_key_message_of by_llid subscriber_acknowledged joined_lift put_joined message_joined valid_subscriber
   accepted_at j found =
-      let here : find_joined x m.llid ≡ At j = ap (find_joined x) (message_llid w s u g k out i d m t is) ∙ found in
+      let here : find_joined x m.llid ≡ Some j = ap (find_joined x) (message_llid w s u g k out i d m t is) ∙ found in
       let a = refuse_passed _ OutOfRange _ (not_of_true (both_true (valid_onu-holds w s u g k out i d) (memberships_right w s i u))) ∙ accepts j found in
       rw (
         here,
@@ -103,8 +102,8 @@ module _ (w : Setting) (s : State) (u g k : ℕ) (out : List ℕ) (i : Invariant
 
   pub message_accepted : (subscriber_key_message_of x m).number ≡ 0
   message_accepted = by_found (find_joined x lane.llid) refl where
-    by_found : (f : Found) → find_joined x lane.llid ≡ f → (subscriber_key_message_of x m).number ≡ 0
-    by_found (At j) found = accepted_at j found
-    by_found Nowhere none =
+    by_found : (f : Option ℕ) → find_joined x lane.llid ≡ f → (subscriber_key_message_of x m).number ≡ 0
+    by_found (Some j) found = accepted_at j found
+    by_found None none =
         true_false
         (sym joined ∙ joined_listed _ _ x (joined_by s u) lane.llid (i.joins u (unit_known w s u g k out i d)) ∙ joined_nowhere x lane.llid none)

@@ -1,5 +1,6 @@
 -- A unit's own events, on a line with groups: they fit where they fit without, and make of the units what they make of them without.
 -- Assumes nothing.
+use Rattle.std.specs.Prelude.{None}
 use mathlib.Core.Path.{◌≡◌, refl, sym, ◌∙◌, ap, subst}
 use mathlib.Core.Bool.{true}
 use mathlib.Core.List.{List, [], ◌∷◌, map}
@@ -7,7 +8,6 @@ use Prim.Native.Nat.{ℕ, ◌<◌}
 use lib.ListN.{length, get_or}
 use Rattle.octets.specs.Output.{WithOutput}
 use Rattle.ends.specs.Identities.{has}
-use Rattle.ends.specs.declared.Found.TheVariants.{Nowhere}
 use Rattle.ends.specs.declared.Onu.{Onu}
 use Rattle.protocol.specs.Headers.{envelope_header}
 use Rattle.protocol.specs.declared.Header.{Header}
@@ -44,11 +44,11 @@ NewToGroups gs key = (g n : ℕ) → n < length (get_or gs g no_group_lane).keys
 
 module _ (w : Setting) (s : State) (i : Invariant w s) (u llid : ℕ) (key : List ℕ) (registered : (lane_at (alone s) u).entry.registered ≡ true)
     (named : has (lane_at (alone s) u).site.identity llid ≡ true) where
-  none : find_group s.head llid ≡ Nowhere
+  none : find_group s.head llid ≡ None
   none = unit_no_group w s i u llid registered named
 
   -- none of its own LLIDs is one that it joined
-  not_joined : (x : ℕ) → has (lane_at (alone s) u).site.identity x ≡ true → find_joined (subscriber_at s u) x ≡ Nowhere
+  not_joined : (x : ℕ) → has (lane_at (alone s) u).site.identity x ≡ true → find_joined (subscriber_at s u) x ≡ None
   not_joined x h = own_nowhere w s i u x (registered_alive w (alone s) u i.units registered) h
 
   send_fits : (channel : ℕ) (p out : List ℕ) → premises.Fits w (alone s) (units.send_up u llid channel p out)

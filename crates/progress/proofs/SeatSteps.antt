@@ -1,4 +1,5 @@
 -- Every event keeps units and members seated. Assumes nothing.
+use Rattle.std.specs.Prelude.{Option, Some, None}
 use mathlib.Core.Path.{◌≡◌, refl, sym, ◌∙◌, ap}
 use mathlib.Core.Bool.{Bool, true, false}
 use mathlib.Core.List.{List, [], ◌∷◌, ◌++◌, map}
@@ -17,8 +18,6 @@ use Rattle.octets.proofs.Tests.{all_at}
 use Rattle.ends.specs.Identities.{among, has, meets}
 use Rattle.ends.specs.Limits.{max_units}
 use Rattle.ends.specs.Table.{find}
-use Rattle.ends.specs.declared.Found.{Found}
-use Rattle.ends.specs.declared.Found.TheVariants.{At, Nowhere}
 use Rattle.ends.specs.declared.Identity.{Identity}
 use Rattle.ends.specs.declared.Olt.{Olt}
 use Rattle.ends.proofs.Identities.{meets_apart}
@@ -235,11 +234,11 @@ module _ (w : Setting) (s : State) (i : Invariant w s) where
         by_test true e = e
         by_test false e = true_false (sym q ∙ meets_apart xs ys x e p)
 
-      by_found : (y : Found) → find o x ≡ y → MemberSeat (new_group_lane s llid interval r) (alone s) (get_or seats j 0)
-      by_found Nowhere e =
+      by_found : (y : Option ℕ) → find o x ≡ y → MemberSeat (new_group_lane s llid interval r) (alone s) (get_or seats j 0)
+      by_found None e =
           let past : get_or seats j 0 ≡ max_units = seat_found j h ∙ ap place_found e in
           absurd (omega (arith, past, seat_used j h, (olt_in_range o i.units.valid).count))
-      by_found (At p) e =
+      by_found (Some p) e =
           let here : get_or seats j 0 ≡ p = seat_found j h ∙ ap place_found e in
           let q = d.units p (omega (arith, here, seat_used j h, i.units.count)) in
           let alive = registered_alive w (alone s) q.unit i.units q.registered in

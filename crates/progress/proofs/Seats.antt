@@ -1,5 +1,6 @@
 -- Each place of the OLT's table is that of a unit, and each place in a group's record that of a unit which its registration named.
 -- Assumes nothing.
+use Rattle.std.specs.Prelude.{Option, Some, None}
 use mathlib.Core.Path.{◌≡◌, refl, sym, ◌∙◌, ap}
 use mathlib.Core.Bool.{true}
 use mathlib.Core.List.{List}
@@ -11,12 +12,8 @@ use Rattle.octets.proofs.Choice.{pick_holds}
 use Rattle.octets.proofs.Maps.{get_d_first}
 use Rattle.octets.specs.Output.{WithOutput, with_output}
 use Rattle.refusal.specs.Number.{verdict_number}
-use Rattle.refusal.specs.declared.Verdict.{Verdict}
-use Rattle.refusal.specs.declared.Verdict.TheVariants.{Accepted}
 use Rattle.envelope.specs.ControlMask.{eqs_of}
 use Rattle.ends.specs.Identities.{llids_of, meets}
-use Rattle.ends.specs.declared.Found.{Found}
-use Rattle.ends.specs.declared.Found.TheVariants.{At, Nowhere}
 use Rattle.ends.specs.declared.Olt.{Olt}
 use Rattle.protocol.specs.Headers.{no_sending}
 use Rattle.protocol.specs.Messages.{no_key_message}
@@ -56,6 +53,7 @@ use Rattle.line.specs.Run.{State, alone, group_lane_at}
 use Rattle.line.proofs.GroupCalls.{Ends, accepted, refused, lift_ends}
 use Rattle.line.proofs.Places.{set_field}
 use Rattle.progress.proofs.Owned.{whose}
+use Rattle.refusal.specs.Verdict.{Verdict, no_refusal}
 
 pub record Seat (s : State) (p : ℕ) : Type 0 where
   pub unit : ℕ
@@ -111,10 +109,10 @@ seated_sits s t b d =
 
 ---- the records of the groups
 
-marked_seats : (r : GroupRecord) (f : Found) → seats_of (group_marked r f) ≡ seats_of r
+marked_seats : (r : GroupRecord) (f : Option ℕ) → seats_of (group_marked r f) ≡ seats_of r
 unfolding group_marked with_members marked
-marked_seats r Nowhere = refl
-marked_seats r (At j) = refl
+marked_seats r None = refl
+marked_seats r (Some j) = refl
 
 module _ (h : HeadEnd) where
   same_groups : (k : HeadEnd) → k.groups ≡ h.groups → (g : ℕ) → seats_of (group_at k g) ≡ seats_of (group_at h g)
@@ -177,48 +175,48 @@ module _ (h : HeadEnd) where
   pub offer_seats : (llid : ℕ) (key : List ℕ) (g : ℕ) → seats_of (group_at (head_offer_of h llid key).head g) ≡ seats_of (group_at h g)
   unfolding head_offer_of by_llid head_key_sent offer_group group_outcome calls.group_offered with_members with_group_keys unmarked
   offer_seats llid key g = by_found (find_group h llid) where
-    by_found : (f : Found) → seats_of (group_at (by_llid f (olt_key_sent h (offer_of h.olt llid key)) (group_offer_of h llid key)).head g)
+    by_found : (f : Option ℕ) → seats_of (group_at (by_llid f (olt_key_sent h (offer_of h.olt llid key)) (group_offer_of h llid key)).head g)
         ≡ seats_of (group_at h g)
-    by_found Nowhere = same_groups (olt_key_sent h (offer_of h.olt llid key)).head (key_sent_groups (offer_of h.olt llid key)) g
-    by_found (At i) =
-        lift_seats no_key_message Accepted (λ o x. offer_group llid key (members_set o x.members) o.shared x) i refl g
+    by_found None = same_groups (olt_key_sent h (offer_of h.olt llid key)).head (key_sent_groups (offer_of h.olt llid key)) g
+    by_found (Some i) =
+        lift_seats no_key_message no_refusal (λ o x. offer_group llid key (members_set o x.members) o.shared x) i refl g
 
   pub retry_seats : (llid g : ℕ) → seats_of (group_at (head_retry_of h llid).head g) ≡ seats_of (group_at h g)
   unfolding head_retry_of by_llid head_key_sent retry_group group_outcome
   retry_seats llid g = by_found (find_group h llid) where
-    by_found : (f : Found) → seats_of (group_at (by_llid f (olt_key_sent h (retry_of h.olt llid)) (group_retry_of h llid)).head g) ≡ seats_of (group_at h g)
-    by_found Nowhere = same_groups (olt_key_sent h (retry_of h.olt llid)).head (key_sent_groups (retry_of h.olt llid)) g
-    by_found (At i) = lift_seats no_key_message Accepted (λ o x. retry_group llid o.shared x) i refl g
+    by_found : (f : Option ℕ) → seats_of (group_at (by_llid f (olt_key_sent h (retry_of h.olt llid)) (group_retry_of h llid)).head g) ≡ seats_of (group_at h g)
+    by_found None = same_groups (olt_key_sent h (retry_of h.olt llid)).head (key_sent_groups (retry_of h.olt llid)) g
+    by_found (Some i) = lift_seats no_key_message no_refusal (λ o x. retry_group llid o.shared x) i refl g
 
   pub send_seats : (llid channel : ℕ) (p out : List ℕ) (g : ℕ)
       → seats_of (group_at (head_send_of h llid channel p out).answer.head g) ≡ seats_of (group_at h g)
   unfolding head_send_of by_llid head_sent send_group with_group_keys
   send_seats llid channel p out g = by_found (find_group h llid) where
-    by_found : (f : Found)
+    by_found : (f : Option ℕ)
         → seats_of (group_at (by_llid f (olt_sent_in h (olt_send_of h.olt llid channel p out) out) (group_send_of h llid channel p out)).answer.head g)
         ≡ seats_of (group_at h g)
-    by_found Nowhere = let r = olt_send_of h.olt llid channel p out in same_groups (olt_sent_in h r out).answer.head (sent_groups r out) g
-    by_found (At i) = lift_seats no_sending (send_ahead p out channel) (λ o x. send_group llid channel (eqs_of p) o.shared x) i refl g
+    by_found None = let r = olt_send_of h.olt llid channel p out in same_groups (olt_sent_in h r out).answer.head (sent_groups r out) g
+    by_found (Some i) = lift_seats no_sending (send_ahead p out channel) (λ o x. send_group llid channel (eqs_of p) o.shared x) i refl g
 
   pub acknowledge_seats : (llid : ℕ) (a : Answer) (g : ℕ) → seats_of (group_at (head_acknowledge_of h llid a).head g) ≡ seats_of (group_at h g)
   unfolding head_acknowledge_of by_llid head_answer acknowledge_group group_outcome
   acknowledge_seats llid a g = by_found (find_group h llid) where
-    by_found : (f : Found)
+    by_found : (f : Option ℕ)
         → seats_of (group_at (by_llid f (olt_answered h (acknowledge_of h.olt llid (own_acknowledgement a))) (group_acknowledge_of h a)).head g)
         ≡ seats_of (group_at h g)
-    by_found Nowhere =
+    by_found None =
         let r = acknowledge_of h.olt llid (own_acknowledgement a) in
         same_groups (olt_answered h r).head (answered_groups r) g
-    by_found (At i) =
-        lift_seats silent Accepted (λ o x. acknowledge_group a (member_named o x.members a) o.shared x) i
+    by_found (Some i) =
+        lift_seats silent no_refusal (λ o x. acknowledge_group a (member_named o x.members a) o.shared x) i
         (marked_seats (group_at h i) (member_named h.olt (group_at h i).members a)) g
 
   pub receive_seats : (x : Header) (p out : List ℕ) (g : ℕ) → seats_of (group_at (head_receive_of h x p out).answer.head g) ≡ seats_of (group_at h g)
   unfolding head_receive_of by_llid
   receive_seats x p out g = by_found (find_group h x.llid) where
-    by_found : (f : Found)
+    by_found : (f : Option ℕ)
         → seats_of (group_at (by_llid f (olt_received_in h (olt_receive_of h.olt x p out) out)
         (λ i. with_output (head_not_received h (verdict_number (group_receive_verdict h x (length p) (length out)))) out)).answer.head g)
         ≡ seats_of (group_at h g)
-    by_found Nowhere = same_groups (olt_received_in h (olt_receive_of h.olt x p out) out).answer.head (received_groups (olt_receive_of h.olt x p out) out) g
-    by_found (At i) = refl
+    by_found None = same_groups (olt_received_in h (olt_receive_of h.olt x p out) out).answer.head (received_groups (olt_receive_of h.olt x p out) out) g
+    by_found (Some i) = refl

@@ -1,11 +1,10 @@
 -- A line that is frozen for good: the last switch to a unit, to key A, is a key's life ago and unconfirmed, and nothing that is under way or may
 -- still be sent confirms it. Whatever follows, the OLT sends nothing more to that unit and offers it nothing. Assumes nothing.
-use Rattle.std.specs.Prelude.{◌≡◌, Bool, true, false, not, ℕ, ◌+◌, ◌<◌, ◌≤◌}
+use Rattle.std.specs.Prelude.{◌≡◌, Bool, true, false, not, ℕ, ◌+◌, ◌<◌, ◌≤◌, Err}
 use mathlib.Core.List.{List, Memᴰ}
 use Rattle.refusal.specs.Number.{verdict_number}
 use Rattle.refusal.specs.Order.{refuse_if}
 use Rattle.refusal.specs.declared.Refusal.TheVariants.{OutOfRange, UnknownLlid, ClockNotSet, OfferPending, ChannelTaken, KeyTooOld, BadLength}
-use Rattle.refusal.specs.declared.Verdict.TheVariants.{Refused}
 use Rattle.clock.specs.Ticks.{key_life}
 use Rattle.envelope.specs.Channels.{downstream, upstream}
 use Rattle.ends.specs.Flags.{is_up}
@@ -70,9 +69,9 @@ pub record Refuses (answered : Bool) (s : State) (u llid : ℕ) : Type 0 where
       (refuse_if (misfit p out) BadLength
       (refuse_if (not (downstream channel)) OutOfRange
       (refuse_if (not (is_up (record_at s u).clock.acknowledged)) ClockNotSet
-      (refuse_if (taken s.olt.shared.channels channel s.olt.shared.tick) ChannelTaken (Refused KeyTooOld)))))
+      (refuse_if (taken s.olt.shared.channels channel s.olt.shared.tick) ChannelTaken (Err KeyTooOld)))))
   pub offers : (key : List ℕ) → (offer_of s.olt llid key).number
-      ≡ verdict_number (refuse_if (not (is_up (record_at s u).clock.acknowledged)) ClockNotSet (Refused OfferPending))
+      ≡ verdict_number (refuse_if (not (is_up (record_at s u).clock.acknowledged)) ClockNotSet (Err OfferPending))
   pub retries : (retry_of s.olt llid).number ≡ 8
   pub answers : answered ≡ true → (other channel : ℕ) (p out : List ℕ) → (onu_send_of (onu_at s u) other channel p out).answer.number
       ≡ verdict_number
@@ -80,7 +79,7 @@ pub record Refuses (answered : Bool) (s : State) (u llid : ℕ) : Type 0 where
       (refuse_if (not (upstream channel)) OutOfRange
       (refuse_if (not (has (onu_at s u).identity other)) UnknownLlid
       (refuse_if (not (is_up (onu_at s u).clock.synced)) ClockNotSet
-      (refuse_if (busy_up (onu_at s u) channel) ChannelTaken (Refused KeyTooOld))))))
+      (refuse_if (busy_up (onu_at s u) channel) ChannelTaken (Err KeyTooOld))))))
   pub still : (key : List ℕ) → Moving s u llid key → ⊥
 
 -- from a list that leads to a frozen line, whatever follows

@@ -1,12 +1,12 @@
 -- A clock send after a capture gives the stamps of the capture's clock: advances move clock and tick together and leave the capture,
 -- so that the clock taken back to the capture's tick is the clock of that tick. Assumes nothing.
+use Rattle.std.specs.Prelude.{Option, Some}
 use mathlib.Core.Path.{◌≡◌, refl, sym, ◌∙◌, ap, subst}
 use mathlib.Core.List.{List, [], ◌∷◌}
 use Prim.Native.Nat.{ℕ, ◌-◌, ◌≤◌, ◌<◌}
 use native.Mathlib.Omega.{arith}
 use Rattle.octets.proofs.Maps.{map_same, take_first}
 use Rattle.refusal.specs.Number.{verdict_number}
-use Rattle.refusal.specs.declared.Verdict.TheVariants.{Accepted}
 use Rattle.clock.specs.Ticks.{clock_turn, advanced}
 use Rattle.clock.specs.Stamping.{captured_at}
 use Rattle.protocol.specs.Replies.{silent}
@@ -18,8 +18,6 @@ use Rattle.protocol.specs.UnitCalls.{unit_advanced, clock_captured, capture_unit
 use Rattle.protocol.specs.OltCalls.{olt_answer, clock_sent, shared_advanced, olt_advanced, advancing_olt, advance_olt_of, capture_order, capture_of, clock_send_of}
 use Rattle.protocol.specs.ClockCaptures.{after_advances, Captures}
 use Rattle.ends.specs.declared.UnitClock.{UnitClock}
-use Rattle.ends.specs.declared.Found.{Found}
-use Rattle.ends.specs.declared.Found.TheVariants.{At}
 use Rattle.ends.specs.declared.Olt.{Olt}
 use Rattle.protocol.specs.declared.OltAnswer.{OltAnswer}
 use Rattle.refusal.proofs.Numbers.{number_accepted}
@@ -30,6 +28,7 @@ use Rattle.protocol.proofs.Lift.{lift_accepted, lift_beside, lift_find, lift_its
 use Rattle.protocol.proofs.UnitCalls.{capture_keeps}
 use Rattle.protocol.proofs.OltCalls.{capture_ordered}
 use Rattle.protocol.proofs.OltAdvance.{unit_identity-holds, advanced_unit}
+use Rattle.refusal.specs.Verdict.{no_refusal}
 
 -- p follows o: the units stand where they stood, the unit at place i keeps the clock part c, and clock and tick moved together
 record Follows (o : Olt) (i : ℕ) (c : UnitClock) (p : Olt) : Type 0 where
@@ -44,7 +43,7 @@ find_advanced p n llid =
     from_same 0 (registered (olt_advanced p n)) (registered p) llid
     (rw (take_first (unit_advanced n) p.count p.units) (map_same (unit_advanced n) identity_of (unit_identity-holds n) (registered p)))
 
-advanced_follows : (o : Olt) (i llid : ℕ) (c : UnitClock) (p : Olt) (n : ℕ) → find o llid ≡ At i → Follows o i c p
+advanced_follows : (o : Olt) (i llid : ℕ) (c : UnitClock) (p : Olt) (n : ℕ) → find o llid ≡ Some i → Follows o i c p
     → Follows o i c (olt_advanced p n)
 unfolding olt_advanced shared_advanced unit_advanced with_keys
 advanced_follows o i llid c p n f h =
@@ -55,7 +54,7 @@ advanced_follows o i llid c p n f h =
       clock = omega (arith, h.later, h.clock);
     }
 
-advances_follow : (o : Olt) (i llid : ℕ) (c : UnitClock) (p : Olt) (ns : List ℕ) → find o llid ≡ At i → Follows o i c p
+advances_follow : (o : Olt) (i llid : ℕ) (c : UnitClock) (p : Olt) (ns : List ℕ) → find o llid ≡ Some i → Follows o i c p
     → Follows o i c (after_advances p ns)
 unfolding after_advances advance_olt_of advancing_olt olt_answer
 advances_follow o i llid c p [] f h = h
@@ -64,12 +63,12 @@ advances_follow o i llid c p (n ∷ ns) f h =
     (reply_keeps (Follows o i c) _ p silent (olt_advanced p n) silent h (λ a. advanced_follows o i llid c p n f h))
 
 -- the stamps of a send that is accepted at p
-send_stamps : (o : Olt) (i llid : ℕ) (c : UnitClock) (p : Olt) → o.shared.clock < clock_turn → c.tick ≡ o.shared.tick → find o llid ≡ At i
+send_stamps : (o : Olt) (i llid : ℕ) (c : UnitClock) (p : Olt) → o.shared.clock < clock_turn → c.tick ≡ o.shared.tick → find o llid ≡ Some i
     → Follows o i c p → (clock_send_of p llid).number ≡ 0 → (clock_send_of p llid).message ≡ captured_at o.shared.clock c.trip
 unfolding clock_send_of clock_sent clock_send_unit clock_message_of outcome
 send_stamps o i llid c p low t f h e =
-    let l = lift_accepted p no_stamps Accepted llid clock_send_unit (number_accepted _ e) in
-    let met : At l.at ≡ At i = sym l.found ∙ h.same llid ∙ f in
+    let l = lift_accepted p no_stamps no_refusal llid clock_send_unit (number_accepted _ e) in
+    let met : Some l.at ≡ Some i = sym l.found ∙ h.same llid ∙ f in
     let here : l.at ≡ i = cc in
     let stamps : clock_message_of p.shared c ≡ captured_at o.shared.clock c.trip =
     ap (λ (k : ℕ). captured_at k c.trip) (omega (arith, h.later, h.clock)) in
@@ -80,21 +79,21 @@ unfolding capture_of olt_answer capture_unit outcome with_clock clock_captured u
 captured o llid =
     record {
       stamps = λ z ns other f a.
-          let l = lift_accepted o silent Accepted llid capture_unit (number_accepted _ z) in
+          let l = lift_accepted o silent no_refusal llid capture_unit (number_accepted _ z) in
           let i = l.at in
           let c = clock_captured (unit_at o i).clock o.shared.tick in
           let low = (shared_in_range o.shared (olt_in_range o l.valid).shared).clock in
-          let beside = lift_beside o silent Accepted llid capture_unit in
+          let beside = lift_beside o silent no_refusal llid capture_unit in
           let first : Follows o i c (capture_of o llid).olt =
           record {
-            same = lift_find o silent Accepted llid capture_unit capture_keeps.identity;
-            unit = ap (λ u. u.clock) (lift_itself o silent Accepted llid capture_unit l);
+            same = lift_find o silent no_refusal llid capture_unit capture_keeps.identity;
+            unit = ap (λ u. u.clock) (lift_itself o silent no_refusal llid capture_unit l);
             later = omega (arith, beside.tick);
             clock = omega (arith, beside.tick, beside.clock, low);
           } in
           let after = advances_follow o i llid c (capture_of o llid).olt ns l.found first in
           send_stamps o i other c _ low refl (f ∙ l.found) after a
-          ∙ ap (λ (x : Found). captured_at o.shared.clock (unit_found o x).clock.trip) (sym l.found);
+          ∙ ap (λ (x : Option ℕ). captured_at o.shared.clock (unit_found o x).clock.trip) (sym l.found);
     }
 
 -- all that is promised of an answer r as the definition has it

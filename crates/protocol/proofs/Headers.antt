@@ -7,7 +7,6 @@ use lib.Dec.{leb, ltb, eqb}
 use borrow.Author.Tests.{eqb-true, le-leb, lt-ltb, eq-eqb, ne_eqb}
 use Rattle.octets.specs.Choice.{both, pick}
 use Rattle.octets.proofs.Choice.{both_true, both_false_then, not_both, pick_true, pick_false}
-use Rattle.refusal.specs.declared.Verdict.TheVariants.{Accepted}
 use Rattle.clock.specs.Ticks.{epam_turn, epam_of}
 use Rattle.ends.specs.Keys.{no_key, key_in}
 use Rattle.protocol.specs.Headers.{valid_header, choice_enciphered, choice_aged, clock_channel_key, envelope_header, key_for}
@@ -15,6 +14,7 @@ use Rattle.ends.specs.declared.Slots.{Slots}
 use Rattle.ends.specs.declared.FirstSend.{FirstSend}
 use Rattle.protocol.specs.declared.KeyChoice.{KeyChoice}
 use Rattle.protocol.proofs.Replies.{met}
+use Rattle.refusal.specs.Verdict.{no_refusal}
 
 ---- what a send at either end has met
 
@@ -23,7 +23,7 @@ pub record Goes (set busy : Bool) (choice : KeyChoice) (first : FirstSend) (now 
   pub free : busy ≡ false
   pub young : choice_aged choice first now ≡ false
 
-pub goes : (set busy : Bool) (choice : KeyChoice) (first : FirstSend) (now : ℕ) → clock_channel_key set busy choice first now ≡ Accepted
+pub goes : (set busy : Bool) (choice : KeyChoice) (first : FirstSend) (now : ℕ) → clock_channel_key set busy choice first now ≡ no_refusal
     → Goes set busy choice first now
 goes set busy choice first now e = search (met, not_both, both_false_then) depth 8
 

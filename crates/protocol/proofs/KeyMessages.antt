@@ -8,7 +8,6 @@ use Rattle.octets.specs.Choice.{either}
 use Rattle.octets.specs.Lists.{same}
 use Rattle.octets.proofs.Choice.{both_true, pick_true, pick_false, both_false_left, either_left, either_right, pick_holds}
 use Rattle.octets.proofs.Lists.{same_refl}
-use Rattle.refusal.specs.declared.Verdict.TheVariants.{Accepted}
 use Rattle.refusal.specs.Order.{refuse_if}
 use Rattle.ends.specs.Limits.{max_key_number}
 use Rattle.ends.specs.Keys.{key_in, with_key}
@@ -25,6 +24,7 @@ use Rattle.ends.proofs.Keys.{key_stored}
 use Rattle.ends.proofs.Validity.{onu_in_range, onu_valid}
 use Rattle.protocol.proofs.Replies.{met}
 use Rattle.protocol.proofs.OnuCalls.{onu_accepted, onu_accepts, onu_keeps}
+use Rattle.refusal.specs.Verdict.{no_refusal}
 
 ---- what is met
 
@@ -33,17 +33,17 @@ pub record TakesKey (o : Onu) (m : KeyMessage) : Type 0 where
   pub synced : o.clock.synced ≡ 1
   pub fits : either (new_key o.keys m) (either (held_key o.keys m) (active_key o.keys m)) ≡ true
 
-pub key_message_accepted : (o : Onu) (m : KeyMessage) → key_message_verdict o m ≡ Accepted → TakesKey o m
+pub key_message_accepted : (o : Onu) (m : KeyMessage) → key_message_verdict o m ≡ no_refusal → TakesKey o m
 unfolding key_message_verdict
 key_message_accepted o m e = search met depth 8
 
-pub key_message_met : (o : Onu) (m : KeyMessage) → (key_message_to o m).verdict ≡ Accepted → (valid_onu o ≡ true) × TakesKey o m
+pub key_message_met : (o : Onu) (m : KeyMessage) → (key_message_to o m).verdict ≡ no_refusal → (valid_onu o ≡ true) × TakesKey o m
 unfolding key_message_to
 key_message_met o m e =
     let a = onu_accepted o no_acknowledgement _ _ (of_key m.number) e in
     (a.0, key_message_accepted o m a.1)
 
-pub key_message_accepts : (o : Onu) (m : KeyMessage) → TakesKey o m → key_message_verdict o m ≡ Accepted
+pub key_message_accepts : (o : Onu) (m : KeyMessage) → TakesKey o m → key_message_verdict o m ≡ no_refusal
 unfolding key_message_verdict refuse_if
 key_message_accepts o m t = rw (t.has, t.synced, t.fits)
 
@@ -119,13 +119,13 @@ fits_again k m e = by_new (new_key k m) refl where
 
 -- the whole reply to a key message that is accepted
 pub key_message_taken : (o : Onu) (m : KeyMessage) → valid_onu o ≡ true → TakesKey o m
-    → key_message_to o m ≡ record { verdict = Accepted; end = with_onu_keys o (keys_taken o.keys m); handed = of_key m.number }
+    → key_message_to o m ≡ record { verdict = no_refusal; end = with_onu_keys o (keys_taken o.keys m); handed = of_key m.number }
 unfolding key_message_to
 key_message_taken o m v t = onu_accepts o no_acknowledgement _ _ _ v (key_message_accepts o m t)
 
 taken_again : (o : Onu) (m n : KeyMessage) → SameMessage o m n → valid_onu o ≡ true → TakesKey o m
     → key_message_to (with_onu_keys o (keys_taken o.keys m)) n
-    ≡ record { verdict = Accepted; end = with_onu_keys o (keys_taken o.keys m); handed = of_key m.number }
+    ≡ record { verdict = no_refusal; end = with_onu_keys o (keys_taken o.keys m); handed = of_key m.number }
 unfolding with_onu_keys new_key held_key active_key
 taken_again o m n s v t =
     let k = keys_taken o.keys m in
@@ -134,7 +134,7 @@ taken_again o m n s v t =
     let takes : TakesKey (with_onu_keys o k) n = record { has = s.has; synced = t.synced; fits = rw (s.number, s.key) r.fits } in
     let valid = keys_replaced_valid o k (keys_taken_valid o.keys m (onu_in_range o v).keys) v in
     key_message_taken (with_onu_keys o k) n valid takes
-    ∙ ap₂ (λ (j : OnuKeys) (x : ℕ). record { verdict = Accepted; end = with_onu_keys o j; handed = of_key x }) (taken_other k n old) s.number
+    ∙ ap₂ (λ (j : OnuKeys) (x : ℕ). record { verdict = no_refusal; end = with_onu_keys o j; handed = of_key x }) (taken_other k n old) s.number
 
 -- a key message repeated is answered as the first, and leaves what the first left
 pub key_message_again : (o : Onu) (m n : KeyMessage) → SameMessage o m n → (key_message_at o m).number ≡ 0

@@ -1,5 +1,6 @@
 -- Laws of the lift, each once for all calls on a unit: what an accepted call leaves, what a refused one leaves, and that a call
 -- which keeps a unit valid keeps the OLT valid. Assumes nothing.
+use Rattle.std.specs.Prelude.{Ok, Err, Option, Some, None}
 use mathlib.Core.Path.{◌≡◌, refl, sym, ◌∙◌, ap, ap₂, subst}
 use mathlib.Core.Bool.{Bool, true, false, not}
 use Prim.Native.Nat.{ℕ, ◌<◌}
@@ -10,8 +11,6 @@ use Rattle.octets.proofs.Choice.{not_of_true, not_of_false}
 use Rattle.octets.proofs.Tests.{all_one, all_set}
 use Rattle.refusal.specs.declared.Refusal.{Refusal}
 use Rattle.refusal.specs.declared.Refusal.TheVariants.{OutOfRange, UnknownLlid}
-use Rattle.refusal.specs.declared.Verdict.{Verdict}
-use Rattle.refusal.specs.declared.Verdict.TheVariants.{Accepted, Refused}
 use Rattle.refusal.specs.Order.{refuse_if, and_then}
 use Rattle.protocol.specs.Replies.{on_valid, Reply, reply}
 use Rattle.ends.specs.Identities.{distinct}
@@ -24,32 +23,31 @@ use Rattle.ends.specs.declared.Channels.{Channels}
 use Rattle.ends.specs.declared.UnitRecord.{UnitRecord}
 use Rattle.ends.specs.declared.Shared.{Shared}
 use Rattle.ends.specs.declared.Olt.{Olt}
-use Rattle.ends.specs.declared.Found.{Found}
-use Rattle.ends.specs.declared.Found.TheVariants.{At, Nowhere}
 use Rattle.refusal.proofs.Order.{refused_accepts, refuse_passed, refuse_stopped}
 use Rattle.protocol.proofs.Replies.{reply_verdict, reply_accepted, reply_refused, Untouched}
 use Rattle.ends.proofs.Table.{Registered, find_at, registered_found, registered_nowhere, SameUnits, find_same, table_same, with_unit-holds, with_other, with_twice, with_same_units, with_beside, Beside}
 use Rattle.ends.proofs.Validity.{shared_in_range, shared_valid, olt_in_range, olt_valid}
+use Rattle.refusal.specs.Verdict.{Verdict, no_refusal}
 
 module _ {H : Type 0} (o : Olt) (nothing : H) (ahead : Verdict) (llid : ℕ) (call : Shared → UnitRecord → Outcome H) where
   ---- where a call ends
 
-  pub lift_invalid : valid_olt o ≡ false → lift o nothing ahead llid call ≡ record { verdict = Refused OutOfRange; end = o; handed = nothing }
+  pub lift_invalid : valid_olt o ≡ false → lift o nothing ahead llid call ≡ record { verdict = Err OutOfRange; end = o; handed = nothing }
   unfolding lift after reply
   lift_invalid e = rw (refuse_stopped (not (valid_olt o)) OutOfRange ahead (not_of_false e))
 
-  pub lift_ahead : (r : Refusal) → valid_olt o ≡ true → ahead ≡ Refused r
-      → lift o nothing ahead llid call ≡ record { verdict = Refused r; end = o; handed = nothing }
+  pub lift_ahead : (r : Refusal) → valid_olt o ≡ true → ahead ≡ Err r
+      → lift o nothing ahead llid call ≡ record { verdict = Err r; end = o; handed = nothing }
   unfolding lift after reply
   lift_ahead r e f = rw (refuse_passed (not (valid_olt o)) OutOfRange ahead (not_of_true e), f)
 
-  pub lift_unknown : valid_olt o ≡ true → ahead ≡ Accepted → find o llid ≡ Nowhere
-      → lift o nothing ahead llid call ≡ record { verdict = Refused UnknownLlid; end = o; handed = nothing }
+  pub lift_unknown : valid_olt o ≡ true → ahead ≡ no_refusal → find o llid ≡ None
+      → lift o nothing ahead llid call ≡ record { verdict = Err UnknownLlid; end = o; handed = nothing }
   unfolding lift after at_unit reply
   lift_unknown e f n = rw (refuse_passed (not (valid_olt o)) OutOfRange ahead (not_of_true e), f, n)
 
   -- a unit is found: the call on it decides
-  pub lift_unit : (i : ℕ) → valid_olt o ≡ true → ahead ≡ Accepted → find o llid ≡ At i
+  pub lift_unit : (i : ℕ) → valid_olt o ≡ true → ahead ≡ no_refusal → find o llid ≡ Some i
       → lift o nothing ahead llid call ≡ put_back o nothing i (call o.shared (unit_at o i))
   unfolding lift after at_unit
   lift_unit i e f n = rw (refuse_passed (not (valid_olt o)) OutOfRange ahead (not_of_true e), f, n)
@@ -59,26 +57,26 @@ module _ {H : Type 0} (o : Olt) (nothing : H) (ahead : Verdict) (llid : ℕ) (ca
       ≡ on_valid (valid_olt o) (and_then ahead (refuse_if (not (is_registered o llid)) UnknownLlid (call o.shared (unit_named o llid)).verdict))
   unfolding lift after at_unit put_back unit_found and_then refuse_if reply
   lift_verdict = by_case (valid_olt o) ahead (find o llid) refl where
-    by_case : (t : Bool) (v : Verdict) (x : Found) → find o llid ≡ x → (after (on_valid t v) o nothing (at_unit o nothing call x)).verdict
+    by_case : (t : Bool) (v : Verdict) (x : Option ℕ) → find o llid ≡ x → (after (on_valid t v) o nothing (at_unit o nothing call x)).verdict
         ≡ on_valid t (and_then v (refuse_if (not (is_registered o llid)) UnknownLlid (call o.shared (unit_found o x)).verdict))
     by_case false v x n = refl
-    by_case true (Refused r) x n = refl
-    by_case true Accepted Nowhere n = rw (registered_nowhere o llid n)
-    by_case true Accepted (At i) n = rw (registered_found o llid i n) (reply_verdict (call o.shared (unit_at o i)).verdict o nothing _ _)
+    by_case true (Err r) x n = refl
+    by_case true (Ok tt) None n = rw (registered_nowhere o llid n)
+    by_case true (Ok tt) (Some i) n = rw (registered_found o llid i n) (reply_verdict (call o.shared (unit_at o i)).verdict o nothing _ _)
 
   -- what an accepted call has met, and leaves
   pub record Lifted : Type 0 where
     pub at : ℕ
     pub valid : valid_olt o ≡ true
-    pub passed : ahead ≡ Accepted
-    pub found : find o llid ≡ At at
-    pub accepts : (call o.shared (unit_at o at)).verdict ≡ Accepted
-    pub verdict : (lift o nothing ahead llid call).verdict ≡ Accepted
+    pub passed : ahead ≡ no_refusal
+    pub found : find o llid ≡ Some at
+    pub accepts : (call o.shared (unit_at o at)).verdict ≡ no_refusal
+    pub verdict : (lift o nothing ahead llid call).verdict ≡ no_refusal
     pub end : (lift o nothing ahead llid call).end ≡ with_unit o at (call o.shared (unit_at o at)).channels (call o.shared (unit_at o at)).unit
     pub handed : (lift o nothing ahead llid call).handed ≡ (call o.shared (unit_at o at)).handed
 
   -- a call that the unit found accepts is accepted
-  pub lift_accepts : (i : ℕ) → valid_olt o ≡ true → ahead ≡ Accepted → find o llid ≡ At i → (call o.shared (unit_at o i)).verdict ≡ Accepted
+  pub lift_accepts : (i : ℕ) → valid_olt o ≡ true → ahead ≡ no_refusal → find o llid ≡ Some i → (call o.shared (unit_at o i)).verdict ≡ no_refusal
       → Lifted
   unfolding put_back
   lift_accepts i e f n a =
@@ -88,30 +86,30 @@ module _ {H : Type 0} (o : Olt) (nothing : H) (ahead : Verdict) (llid : ℕ) (ca
   -- every call is one of these
   pub data Ends : Type 0 where
     accepted : Lifted → Ends
-    refused : (r : Refusal) → lift o nothing ahead llid call ≡ record { verdict = Refused r; end = o; handed = nothing } → Ends
+    refused : (r : Refusal) → lift o nothing ahead llid call ≡ record { verdict = Err r; end = o; handed = nothing } → Ends
 
   pub lift_ends : Ends
   unfolding put_back
   lift_ends = by_case (valid_olt o) ahead (find o llid) refl refl refl where
-    by_verdict-holds : (i : ℕ) → valid_olt o ≡ true → ahead ≡ Accepted → find o llid ≡ At i → (v : Verdict)
+    by_verdict-holds : (i : ℕ) → valid_olt o ≡ true → ahead ≡ no_refusal → find o llid ≡ Some i → (v : Verdict)
         → (call o.shared (unit_at o i)).verdict ≡ v → Ends
-    by_verdict-holds i e f n Accepted a = accepted (lift_accepts i e f n a)
-    by_verdict-holds i e f n (Refused r) a = refused r (lift_unit i e f n ∙ reply_refused (call o.shared (unit_at o i)).verdict o nothing _ _ r a)
+    by_verdict-holds i e f n (Ok tt) a = accepted (lift_accepts i e f n a)
+    by_verdict-holds i e f n (Err r) a = refused r (lift_unit i e f n ∙ reply_refused (call o.shared (unit_at o i)).verdict o nothing _ _ r a)
 
-    by_case : (t : Bool) (v : Verdict) (x : Found) → valid_olt o ≡ t → ahead ≡ v → find o llid ≡ x → Ends
+    by_case : (t : Bool) (v : Verdict) (x : Option ℕ) → valid_olt o ≡ t → ahead ≡ v → find o llid ≡ x → Ends
     by_case false v x e f n = refused OutOfRange (lift_invalid e)
-    by_case true (Refused r) x e f n = refused r (lift_ahead r e f)
-    by_case true Accepted Nowhere e f n = refused UnknownLlid (lift_unknown e f n)
-    by_case true Accepted (At i) e f n = by_verdict-holds i e f n (call o.shared (unit_at o i)).verdict refl
+    by_case true (Err r) x e f n = refused r (lift_ahead r e f)
+    by_case true (Ok tt) None e f n = refused UnknownLlid (lift_unknown e f n)
+    by_case true (Ok tt) (Some i) e f n = by_verdict-holds i e f n (call o.shared (unit_at o i)).verdict refl
 
-  pub lift_accepted : (lift o nothing ahead llid call).verdict ≡ Accepted → Lifted
+  pub lift_accepted : (lift o nothing ahead llid call).verdict ≡ no_refusal → Lifted
   lift_accepted e = by_end lift_ends where
     by_end : Ends → Lifted
     by_end (accepted l) = l
     by_end (refused r f) = refused_accepts r (sym (ap (λ (x : Reply Olt H). x.verdict) f) ∙ e)
 
   -- refused: the very OLT that was lent, and nothing
-  pub lift_untouched : (r : Refusal) → (lift o nothing ahead llid call).verdict ≡ Refused r → Untouched o nothing (lift o nothing ahead llid call)
+  pub lift_untouched : (r : Refusal) → (lift o nothing ahead llid call).verdict ≡ Err r → Untouched o nothing (lift o nothing ahead llid call)
   lift_untouched r e = by_end lift_ends where
     by_end : Ends → Untouched o nothing (lift o nothing ahead llid call)
     by_end (accepted l) = refused_accepts r (sym e ∙ l.verdict)
@@ -131,7 +129,7 @@ module _ {H : Type 0} (o : Olt) (nothing : H) (ahead : Verdict) (llid : ℕ) (ca
 -- an accepted call leaves a valid unit, of the same identity, and valid channels
 pub record Keeps {H : Type 0} (call : Shared → UnitRecord → Outcome H) : Type 0 where
   pub identity : (s : Shared) (u : UnitRecord) → (call s u).unit.identity ≡ u.identity
-  pub unit : (s : Shared) (u : UnitRecord) → valid_unit s.tick u ≡ true → (call s u).verdict ≡ Accepted
+  pub unit : (s : Shared) (u : UnitRecord) → valid_unit s.tick u ≡ true → (call s u).verdict ≡ no_refusal
       → valid_unit s.tick (call s u).unit ≡ true
   pub channels : (s : Shared) (u : UnitRecord) → valid_shared s ≡ true → valid_channels (call s u).channels ≡ true
 
@@ -152,7 +150,7 @@ unit_at_valid o llid i v r =
     all_one (valid_unit o.shared.tick) o.count o.units past_unit (olt_in_range o v).units i r.used r.place
 
 module _ {H : Type 0} (o : Olt) (nothing : H) (ahead : Verdict) (llid : ℕ) (call : Shared → UnitRecord → Outcome H) where
-  pub lift_valid : (ahead ≡ Accepted → Keeps call) → valid_olt o ≡ true → valid_olt (lift o nothing ahead llid call).end ≡ true
+  pub lift_valid : (ahead ≡ no_refusal → Keeps call) → valid_olt o ≡ true → valid_olt (lift o nothing ahead llid call).end ≡ true
   lift_valid k v =
       lift_keeps o nothing ahead llid call (λ (p : Olt). valid_olt p ≡ true) v
       (λ l.
@@ -180,10 +178,10 @@ module _ {H : Type 0} (o : Olt) (nothing : H) (ahead : Verdict) (llid : ℕ) (ca
   lift_find k any = find_same (lift o nothing ahead llid call).end o any (lift_same_units k)
 
   -- a unit in another place stays as it is
-  pub lift_others : (j : ℕ) → (find o llid ≡ At j → ⊥) → unit_at (lift o nothing ahead llid call).end j ≡ unit_at o j
+  pub lift_others : (j : ℕ) → (find o llid ≡ Some j → ⊥) → unit_at (lift o nothing ahead llid call).end j ≡ unit_at o j
   lift_others j h =
       lift_keeps o nothing ahead llid call (λ (p : Olt). unit_at p j ≡ unit_at o j) refl
-      (λ l. with_other o l.at j _ _ (λ e. h (l.found ∙ ap At (sym e))))
+      (λ l. with_other o l.at j _ _ (λ e. h (l.found ∙ ap Some (sym e))))
 
   -- what a call leaves of the unit called it leaves of every unit
   pub lift_part : {A : Type 0} (part : UnitRecord → A) (i : ℕ)
@@ -210,7 +208,7 @@ module _ {H : Type 0} (o : Olt) (nothing : H) (ahead : Verdict) (llid : ℕ) (ca
   -- answered as the first, and leaves what the first left
   pub lift_again : Keeps call → ((s : Shared) (u : UnitRecord) → (call s u).channels ≡ s.channels)
       → ((s : Shared) (u : UnitRecord) → call s (call s u).unit ≡ call s u) → (other : ℕ) → find o other ≡ find o llid
-      → (lift o nothing ahead llid call).verdict ≡ Accepted
+      → (lift o nothing ahead llid call).verdict ≡ no_refusal
       → lift (lift o nothing ahead llid call).end nothing ahead other call ≡ lift o nothing ahead llid call
   unfolding put_back with_unit with_channels
   lift_again keeps c again other f e =
@@ -220,14 +218,14 @@ module _ {H : Type 0} (o : Olt) (nothing : H) (ahead : Verdict) (llid : ℕ) (ca
       let x = call o.shared (unit_at o i) in
       let q = with_unit o i x.channels x.unit in
       let valid : valid_olt p ≡ true = lift_valid (λ a. keeps) l.valid in
-      let found : find p other ≡ At i = lift_find keeps.identity other ∙ f ∙ l.found in
+      let found : find p other ≡ Some i = lift_find keeps.identity other ∙ f ∙ l.found in
       let shared : p.shared ≡ o.shared = ap (λ (r : Olt). r.shared) l.end ∙ ap (with_channels o.shared) (c o.shared (unit_at o i)) in
       let same : call p.shared (unit_at p i) ≡ x =
       ap₂ call shared (lift_itself l) ∙ again o.shared (unit_at o i) in
-      let second : put_back q nothing i x ≡ record { verdict = Accepted; end = q; handed = x.handed } =
+      let second : put_back q nothing i x ≡ record { verdict = no_refusal; end = q; handed = x.handed } =
       reply_accepted x.verdict q nothing _ _ l.accepts
-      ∙ ap (λ (r : Olt). record { verdict = Accepted; end = r; handed = x.handed }) (with_twice o i x.channels x.channels x.unit x.unit) in
-      let first : lift o nothing ahead llid call ≡ record { verdict = Accepted; end = q; handed = x.handed } =
+      ∙ ap (λ (r : Olt). record { verdict = no_refusal; end = r; handed = x.handed }) (with_twice o i x.channels x.channels x.unit x.unit) in
+      let first : lift o nothing ahead llid call ≡ record { verdict = no_refusal; end = q; handed = x.handed } =
       lift_unit o nothing ahead llid call i l.valid l.passed l.found ∙ reply_accepted x.verdict o nothing _ _ l.accepts in
       lift_unit p nothing ahead other call i valid l.passed found
       ∙ ap₂ (λ (r : Olt) (y : Outcome H). put_back r nothing i y) l.end same

@@ -6,7 +6,6 @@ use native.Mathlib.Omega.{arith}
 use lib.Dec.{leb, ltb}
 use borrow.Author.Tests.{leb-true, leb-false, le-leb, lt-leb}
 use Rattle.octets.proofs.Choice.{pick_true, pick_false}
-use Rattle.refusal.specs.declared.Verdict.TheVariants.{Accepted}
 use Rattle.clock.specs.Ticks.{local_turn, local_of, max_round_trip}
 use Rattle.ends.specs.Limits.{max_time_change}
 use Rattle.ends.specs.Records.{with_onu_clock, with_travel}
@@ -19,6 +18,7 @@ use Rattle.protocol.specs.Replies.{silent}
 use Rattle.protocol.specs.OnuCalls.{onu_answer, time_ahead, near_time, changes_after, onu_changes, new_time_verdict, onu_retimed, new_time_of}
 use Rattle.protocol.proofs.Replies.{met, number_refused}
 use Rattle.protocol.proofs.OnuCalls.{onu_untouched, onu_keeps, new_clock_valid}
+use Rattle.refusal.specs.Verdict.{no_refusal}
 
 ---- what an accepted call has met
 
@@ -27,13 +27,13 @@ pub record NewTime (o : Onu) (time : ℕ) : Type 0 where
   pub near : near_time time o.clock.time ≡ true
   pub changes : valid_changes (onu_changes o time) ≡ true
 
-pub new_time_accepted : (o : Onu) (time : ℕ) → new_time_verdict o time ≡ Accepted → NewTime o time
+pub new_time_accepted : (o : Onu) (time : ℕ) → new_time_verdict o time ≡ no_refusal → NewTime o time
 unfolding new_time_verdict
 new_time_accepted o time e = search met
 
 ---- validity
 
-pub retimed_valid : (o : Onu) (time : ℕ) → new_time_verdict o time ≡ Accepted → valid_onu o ≡ true → valid_onu (onu_retimed o time) ≡ true
+pub retimed_valid : (o : Onu) (time : ℕ) → new_time_verdict o time ≡ no_refusal → valid_onu o ≡ true → valid_onu (onu_retimed o time) ≡ true
 unfolding onu_retimed with_onu_clock with_travel travel_changed
 retimed_valid o time e v =
     let r = onu_in_range o v in
@@ -104,7 +104,7 @@ changes_follow clock before after changes new old b a e f v w = by_order (leb be
 
 pub travel_retimed : (o : Onu) (clock before after time : ℕ) → before ≤ max_round_trip → after ≤ max_round_trip
     → time % local_turn ≡ local_of (clock + after)
-    → o.clock.time % local_turn ≡ local_of (clock + before) → valid_onu o ≡ true → new_time_verdict o time ≡ Accepted
+    → o.clock.time % local_turn ≡ local_of (clock + before) → valid_onu o ≡ true → new_time_verdict o time ≡ no_refusal
     → travel_of (onu_retimed o time) + before ≡ travel_of o + after
 unfolding travel_of onu_retimed with_onu_clock with_travel travel_changed
 travel_retimed o clock before after time b a e f v n =

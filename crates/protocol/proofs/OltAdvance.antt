@@ -10,7 +10,6 @@ use Rattle.octets.proofs.Choice.{not_of_true}
 use Rattle.octets.proofs.Tests.{all_map}
 use Rattle.octets.proofs.Maps.{map_twice, map_same, take_first, drop_first, get_d_first}
 use Rattle.refusal.specs.declared.Refusal.TheVariants.{OutOfRange}
-use Rattle.refusal.specs.declared.Verdict.TheVariants.{Accepted}
 use Rattle.clock.specs.Ticks.{max_tick}
 use Rattle.clock.proofs.Ticks.{advanced_below, advanced_sum}
 use Rattle.protocol.specs.Replies.{silent}
@@ -28,6 +27,7 @@ use Rattle.protocol.proofs.Replies.{reply_verdict, reply_accepted, reply_keeps, 
 use Rattle.ends.proofs.Table.{identity_of, llids_same, Registered}
 use Rattle.ends.proofs.Validity.{shared_in_range, shared_valid, olt_in_range, olt_valid}
 use Rattle.protocol.proofs.UnitCalls.{unit_sum, unit_advanced_valid}
+use Rattle.refusal.specs.Verdict.{no_refusal}
 
 pub shared_sum : (m n : ℕ) (s : Shared) → shared_advanced (shared_advanced s m) n ≡ shared_advanced s (m + n)
 unfolding shared_advanced
@@ -74,20 +74,20 @@ advance_olt_valid o n v =
     (λ a. olt_advanced_valid o n (advance_accepted o.shared.tick n (refuse_accepted _ _ _ a).1) v)
 
 -- what is accepted of an advance
-pub advancing_accepted : (o : Olt) (n : ℕ) → (advancing_olt o n).verdict ≡ Accepted → (valid_olt o ≡ true) × (o.shared.tick + n ≤ max_tick)
+pub advancing_accepted : (o : Olt) (n : ℕ) → (advancing_olt o n).verdict ≡ no_refusal → (valid_olt o ≡ true) × (o.shared.tick + n ≤ max_tick)
 unfolding advancing_olt
 advancing_accepted o n e =
     let a = refuse_accepted _ _ _ (sym (reply_verdict _ o silent (olt_advanced o n) silent) ∙ e) in
     (not-false _ a.0, advance_accepted o.shared.tick n a.1)
 
 pub advancing_accepts : (o : Olt) (n : ℕ) → valid_olt o ≡ true → o.shared.tick + n ≤ max_tick
-    → advancing_olt o n ≡ record { verdict = Accepted; end = olt_advanced o n; handed = silent }
+    → advancing_olt o n ≡ record { verdict = no_refusal; end = olt_advanced o n; handed = silent }
 unfolding advancing_olt
 advancing_accepts o n v h =
     reply_accepted _ o silent (olt_advanced o n) silent (refuse_passed _ OutOfRange _ (not_of_true v) ∙ advance_accepts o.shared.tick n h)
 
 -- whenever the sum is accepted, an advance by m and then one by n give the whole reply of an advance by m + n
-pub advancing_sum : (o : Olt) (m n : ℕ) → (advancing_olt o (m + n)).verdict ≡ Accepted
+pub advancing_sum : (o : Olt) (m n : ℕ) → (advancing_olt o (m + n)).verdict ≡ no_refusal
     → advancing_olt (advancing_olt o m).end n ≡ advancing_olt o (m + n)
 unfolding olt_advanced shared_advanced
 advancing_sum o m n e =

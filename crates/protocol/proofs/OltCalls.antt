@@ -13,8 +13,6 @@ use Rattle.octets.proofs.Choice.{both_left, both_right}
 use Rattle.refusal.specs.Number.{verdict_number}
 use Rattle.refusal.specs.declared.Refusal.{Refusal}
 use Rattle.refusal.specs.declared.Refusal.TheVariants.{OutOfRange}
-use Rattle.refusal.specs.declared.Verdict.{Verdict}
-use Rattle.refusal.specs.declared.Verdict.TheVariants.{Accepted}
 use Rattle.clock.specs.Ticks.{clock_turn, max_round_trip}
 use Rattle.ends.specs.Limits.{max_units}
 use Rattle.refusal.specs.Order.{refuse_if, and_then}
@@ -41,6 +39,7 @@ use Rattle.ends.proofs.Table.{with_itself}
 use Rattle.ends.proofs.Validity.{shared_valid, olt_valid}
 use Rattle.protocol.proofs.Lift.{lift_verdict, lift_keeps, lift_valid, lift_again, lift_untouched}
 use Rattle.protocol.proofs.UnitCalls.{capture_keeps, measure_keeps, clock_send_keeps, offer_keeps, acknowledge_verdict-holds, acknowledge_keeps, acknowledged_channels, acknowledged_again}
+use Rattle.refusal.specs.Verdict.{Verdict, no_refusal}
 
 ---- fresh
 
@@ -65,7 +64,7 @@ fresh_valid mac clock =
     new_olt_valid mac clock (both_left _ _ b) (ltb-true _ _ (both_right _ _ b)))
 
 -- one cause goes on with the list that follows it
-one_then : (cause : Bool) (r : Refusal) (v : Verdict) → and_then (refuse_if cause r Accepted) v ≡ refuse_if cause r v
+one_then : (cause : Bool) (r : Refusal) (v : Verdict) → and_then (refuse_if cause r no_refusal) v ≡ refuse_if cause r v
 unfolding and_then refuse_if
 one_then true r v = refl
 one_then false r v = refl
@@ -74,7 +73,7 @@ one_then false r v = refl
 
 pub capture_valid : (o : Olt) (llid : ℕ) → valid_olt o ≡ true → valid_olt (capture_of o llid).olt ≡ true
 unfolding capture_of olt_answer
-capture_valid o llid v = lift_valid o silent Accepted llid capture_unit (λ a. capture_keeps) v
+capture_valid o llid v = lift_valid o silent no_refusal llid capture_unit (λ a. capture_keeps) v
 
 pub measure_valid : (o : Olt) (llid trip : ℕ) → valid_olt o ≡ true → valid_olt (measure_of o llid trip).olt ≡ true
 unfolding measure_of olt_answer
@@ -83,21 +82,21 @@ measure_valid o llid trip v =
 
 pub clock_send_valid : (o : Olt) (llid : ℕ) → valid_olt o ≡ true → valid_olt (clock_send_of o llid).olt ≡ true
 unfolding clock_send_of clock_sent
-clock_send_valid o llid v = lift_valid o no_stamps Accepted llid clock_send_unit (λ a. clock_send_keeps) v
+clock_send_valid o llid v = lift_valid o no_stamps no_refusal llid clock_send_unit (λ a. clock_send_keeps) v
 
 pub offer_valid : (o : Olt) (llid : ℕ) (key : List ℕ) → valid_olt o ≡ true → valid_olt (offer_of o llid key).olt ≡ true
 unfolding offer_of key_sent
-offer_valid o llid key v = lift_valid o no_key_message Accepted llid (offer_unit llid key) (λ a. offer_keeps llid key) v
+offer_valid o llid key v = lift_valid o no_key_message no_refusal llid (offer_unit llid key) (λ a. offer_keeps llid key) v
 
 pub acknowledge_valid : (o : Olt) (llid : ℕ) (a : Acknowledgement) → valid_olt o ≡ true → valid_olt (acknowledge_of o llid a).olt ≡ true
 unfolding acknowledge_of olt_answer
-acknowledge_valid o llid a v = lift_valid o silent Accepted llid (acknowledge_unit a) (λ p. acknowledge_keeps a) v
+acknowledge_valid o llid a v = lift_valid o silent no_refusal llid (acknowledge_unit a) (λ p. acknowledge_keeps a) v
 
 -- a retry, accepted or not, leaves the OLT as it was
 pub retry_same : (o : Olt) (llid : ℕ) → (retry_of o llid).olt ≡ o
 unfolding retry_of key_sent retry_unit outcome
 retry_same o llid =
-    lift_keeps o no_key_message Accepted llid (retry_unit llid) (λ (p : Olt). p ≡ o) refl (λ l. with_itself o l.at)
+    lift_keeps o no_key_message no_refusal llid (retry_unit llid) (λ (p : Olt). p ≡ o) refl (λ l. with_itself o l.at)
 
 pub retry_valid : (o : Olt) (llid : ℕ) → valid_olt o ≡ true → valid_olt (retry_of o llid).olt ≡ true
 retry_valid o llid v = ap valid_olt (retry_same o llid) ∙ v
@@ -108,7 +107,7 @@ pub acknowledge_again : (o : Olt) (llid other : ℕ) (a : Acknowledgement) → f
 unfolding acknowledge_of olt_answer
 acknowledge_again o llid other a f e =
     ap olt_answer
-    (lift_again o silent Accepted llid (acknowledge_unit a) (acknowledge_keeps a) (acknowledged_channels a) (acknowledged_again a) other f
+    (lift_again o silent no_refusal llid (acknowledge_unit a) (acknowledge_keeps a) (acknowledged_channels a) (acknowledged_again a) other f
     (number_accepted _ e))
 
 ---- the places
@@ -136,7 +135,7 @@ advance_olt_refused o n h = (number_refused o silent _ (λ x e. reply_untouched 
 
 pub capture_refused : (o : Olt) (llid : ℕ) → ((capture_of o llid).number ≡ 0 → ⊥) → (capture_of o llid).olt ≡ o
 unfolding capture_of olt_answer
-capture_refused o llid n = (number_refused o silent _ (lift_untouched o silent Accepted llid capture_unit) n).end
+capture_refused o llid n = (number_refused o silent _ (lift_untouched o silent no_refusal llid capture_unit) n).end
 
 pub measure_refused : (o : Olt) (llid trip : ℕ) → ((measure_of o llid trip).number ≡ 0 → ⊥) → (measure_of o llid trip).olt ≡ o
 unfolding measure_of olt_answer
@@ -145,29 +144,29 @@ measure_refused o llid trip n = (number_refused o silent _ (lift_untouched o sil
 pub clock_send_refused : (o : Olt) (llid : ℕ) → ((clock_send_of o llid).number ≡ 0 → ⊥)
     → ((clock_send_of o llid).olt ≡ o) × ((clock_send_of o llid).message ≡ no_stamps)
 unfolding clock_send_of clock_sent
-clock_send_refused o llid n = search (number_refused o no_stamps _ (lift_untouched o no_stamps Accepted llid clock_send_unit) n)
+clock_send_refused o llid n = search (number_refused o no_stamps _ (lift_untouched o no_stamps no_refusal llid clock_send_unit) n)
 
 pub offer_refused : (o : Olt) (llid : ℕ) (key : List ℕ) → ((offer_of o llid key).number ≡ 0 → ⊥)
     → ((offer_of o llid key).olt ≡ o) × ((offer_of o llid key).message ≡ no_key_message)
 unfolding offer_of key_sent
-offer_refused o llid key n = search (number_refused o no_key_message _ (lift_untouched o no_key_message Accepted llid (offer_unit llid key)) n)
+offer_refused o llid key n = search (number_refused o no_key_message _ (lift_untouched o no_key_message no_refusal llid (offer_unit llid key)) n)
 
 pub retry_refused : (o : Olt) (llid : ℕ) → ((retry_of o llid).number ≡ 0 → ⊥)
     → ((retry_of o llid).olt ≡ o) × ((retry_of o llid).message ≡ no_key_message)
 unfolding retry_of key_sent
-retry_refused o llid n = search (number_refused o no_key_message _ (lift_untouched o no_key_message Accepted llid (retry_unit llid)) n)
+retry_refused o llid n = search (number_refused o no_key_message _ (lift_untouched o no_key_message no_refusal llid (retry_unit llid)) n)
 
 pub acknowledge_refused : (o : Olt) (llid : ℕ) (a : Acknowledgement) → ((acknowledge_of o llid a).number ≡ 0 → ⊥)
     → (acknowledge_of o llid a).olt ≡ o
 unfolding acknowledge_of olt_answer
-acknowledge_refused o llid a n = (number_refused o silent _ (lift_untouched o silent Accepted llid (acknowledge_unit a)) n).end
+acknowledge_refused o llid a n = (number_refused o silent _ (lift_untouched o silent no_refusal llid (acknowledge_unit a)) n).end
 
 ---- the code is that of the first refusal in the call's order, for an answer r as the definition has it
 
 pub capture_ordered : (o : Olt) (llid : ℕ) (r : OltAnswer) → r ≡ capture_of o llid
     → (r ≡ capture_of o llid) × (r.number ≡ verdict_number (capture_order o llid))
 unfolding capture_of olt_answer capture_order capture_unit outcome and_then
-capture_ordered o llid r e = (e, rw e (ap verdict_number (lift_verdict o silent Accepted llid capture_unit)))
+capture_ordered o llid r e = (e, rw e (ap verdict_number (lift_verdict o silent no_refusal llid capture_unit)))
 
 pub measure_ordered : (o : Olt) (llid trip : ℕ) (r : OltAnswer) → r ≡ measure_of o llid trip
     → (r ≡ measure_of o llid trip) × (r.number ≡ verdict_number (measure_order o llid trip))
@@ -179,20 +178,20 @@ measure_ordered o llid trip r e =
 pub clock_send_ordered : (o : Olt) (llid : ℕ) (r : ClockSent) → r ≡ clock_send_of o llid
     → (r ≡ clock_send_of o llid) × (r.number ≡ verdict_number (clock_send_order o llid))
 unfolding clock_send_of clock_sent clock_send_order clock_send_unit outcome and_then
-clock_send_ordered o llid r e = (e, rw e (ap verdict_number (lift_verdict o no_stamps Accepted llid clock_send_unit)))
+clock_send_ordered o llid r e = (e, rw e (ap verdict_number (lift_verdict o no_stamps no_refusal llid clock_send_unit)))
 
 pub offer_ordered : (o : Olt) (llid : ℕ) (key : List ℕ) (r : KeySent) → r ≡ offer_of o llid key
     → (r ≡ offer_of o llid key) × (r.number ≡ verdict_number (offer_order o llid key))
 unfolding offer_of key_sent offer_order offer_unit outcome and_then
-offer_ordered o llid key r e = (e, rw e (ap verdict_number (lift_verdict o no_key_message Accepted llid (offer_unit llid key))))
+offer_ordered o llid key r e = (e, rw e (ap verdict_number (lift_verdict o no_key_message no_refusal llid (offer_unit llid key))))
 
 pub retry_ordered : (o : Olt) (llid : ℕ) (r : KeySent) → r ≡ retry_of o llid
     → (r ≡ retry_of o llid) × (r.number ≡ verdict_number (retry_order o llid))
 unfolding retry_of key_sent retry_order retry_unit outcome and_then
-retry_ordered o llid r e = (e, rw e (ap verdict_number (lift_verdict o no_key_message Accepted llid (retry_unit llid))))
+retry_ordered o llid r e = (e, rw e (ap verdict_number (lift_verdict o no_key_message no_refusal llid (retry_unit llid))))
 
 pub acknowledge_ordered : (o : Olt) (llid : ℕ) (a : Acknowledgement) (r : OltAnswer) → r ≡ acknowledge_of o llid a
     → (r ≡ acknowledge_of o llid a) × (r.number ≡ verdict_number (acknowledge_order o llid a))
 unfolding acknowledge_of olt_answer acknowledge_order and_then
 acknowledge_ordered o llid a r e =
-    (e, rw (e, ← acknowledge_verdict-holds a o.shared (unit_named o llid)) (ap verdict_number (lift_verdict o silent Accepted llid (acknowledge_unit a))))
+    (e, rw (e, ← acknowledge_verdict-holds a o.shared (unit_named o llid)) (ap verdict_number (lift_verdict o silent no_refusal llid (acknowledge_unit a))))

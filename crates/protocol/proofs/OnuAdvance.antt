@@ -7,7 +7,6 @@ use native.Mathlib.Omega.{arith}
 use borrow.Author.Tests.{lt-ltb}
 use Rattle.octets.specs.Choice.{pick}
 use Rattle.octets.proofs.Choice.{both_left, both_right, both_true, pick_true, pick_false, pick_holds}
-use Rattle.refusal.specs.declared.Verdict.TheVariants.{Accepted}
 use Rattle.clock.specs.Ticks.{max_tick, local_turn, advanced, local_advanced}
 use Rattle.clock.proofs.Ticks.{advanced_below, advanced_sum, local_advanced_sum}
 use Rattle.ends.specs.Flags.{is_up}
@@ -21,6 +20,7 @@ use Rattle.refusal.proofs.Numbers.{number_accepted}
 use Rattle.protocol.proofs.Replies.{advance_accepted, advance_accepts}
 use Rattle.ends.proofs.Validity.{onu_in_range, onu_valid}
 use Rattle.protocol.proofs.OnuCalls.{onu_accepted, onu_accepts, onu_keeps}
+use Rattle.refusal.specs.Verdict.{no_refusal}
 
 pub onu_clock_sum : (m n : ℕ) (c : OnuClock) → onu_clock_advanced (onu_clock_advanced c m) n ≡ onu_clock_advanced c (m + n)
 unfolding onu_clock_advanced pick
@@ -68,16 +68,16 @@ advance_onu_valid o n v =
     onu_keeps (λ (p : Onu). valid_onu p ≡ true) o silent _ _ silent v (λ w a. onu_advanced_valid o n (advance_accepted o.tick n a) w)
 
 advancing_onu_accepts : (o : Onu) (n : ℕ) → valid_onu o ≡ true → o.tick + n ≤ max_tick
-    → advancing_onu o n ≡ record { verdict = Accepted; end = onu_advanced o n; handed = silent }
+    → advancing_onu o n ≡ record { verdict = no_refusal; end = onu_advanced o n; handed = silent }
 unfolding advancing_onu
 advancing_onu_accepts o n v h = onu_accepts o silent _ (onu_advanced o n) silent v (advance_accepts o.tick n h)
 
 -- whenever the sum is accepted, an advance by m and then one by n give the whole reply of an advance by m + n
-advancing_onu_sum : (o : Onu) (m n : ℕ) → (advancing_onu o (m + n)).verdict ≡ Accepted
+advancing_onu_sum : (o : Onu) (m n : ℕ) → (advancing_onu o (m + n)).verdict ≡ no_refusal
     → advancing_onu (advancing_onu o m).end n ≡ advancing_onu o (m + n)
 unfolding onu_advanced
 advancing_onu_sum o m n e =
-    let a : (valid_onu o ≡ true) × (advance_verdict o.tick (m + n) ≡ Accepted) = unfold advancing_onu in onu_accepted o silent _ _ silent e in
+    let a : (valid_onu o ≡ true) × (advance_verdict o.tick (m + n) ≡ no_refusal) = unfold advancing_onu in onu_accepted o silent _ _ silent e in
     let h = advance_accepted o.tick (m + n) a.1 in
     let k : o.tick + m ≤ max_tick = omega arith in
     let second = advancing_onu_accepts (onu_advanced o m) n (onu_advanced_valid o m k a.0) (omega arith) in

@@ -1,4 +1,5 @@
 -- Laws of the ONU's calls: a valid ONU stays valid, and a refused call leaves it. Assumes nothing.
+use Rattle.std.specs.Prelude.{Err}
 use mathlib.Core.Path.{◌≡◌, refl, sym, ◌∙◌, ap}
 use mathlib.Core.Bool.{true, false}
 use Prim.Native.Nat.{ℕ}
@@ -9,8 +10,6 @@ use Rattle.octets.specs.Choice.{both, either, pick}
 use Rattle.octets.proofs.Choice.{both_true, not_of_true, both_false_left}
 use Rattle.refusal.specs.declared.Refusal.{Refusal}
 use Rattle.refusal.specs.declared.Refusal.TheVariants.{OutOfRange}
-use Rattle.refusal.specs.declared.Verdict.{Verdict}
-use Rattle.refusal.specs.declared.Verdict.TheVariants.{Accepted, Refused}
 use Rattle.clock.specs.Ticks.{local_turn}
 use Rattle.clock.specs.Stamping.{raise_of, moved_by, raised_to}
 use Rattle.clock.specs.declared.Stamps.{Stamps}
@@ -32,30 +31,31 @@ use Rattle.ends.proofs.Travels.{no_changes_valid}
 use Rattle.ends.proofs.Occupancy.{free_valid}
 use Rattle.ends.proofs.Identities.{none_invalid, identity_valid, kept_llids, kept_valid}
 use Rattle.ends.proofs.Validity.{onu_in_range, onu_valid}
+use Rattle.refusal.specs.Verdict.{Verdict, no_refusal}
 
 ---- every call
 
-pub onu_accepted : {H : Type 0} (o : Onu) (nothing : H) (v : Verdict) (next : Onu) (handed : H) → (onu_reply o nothing v next handed).verdict ≡ Accepted
-    → (valid_onu o ≡ true) × (v ≡ Accepted)
+pub onu_accepted : {H : Type 0} (o : Onu) (nothing : H) (v : Verdict) (next : Onu) (handed : H) → (onu_reply o nothing v next handed).verdict ≡ no_refusal
+    → (valid_onu o ≡ true) × (v ≡ no_refusal)
 unfolding onu_reply
 onu_accepted o nothing v next handed e =
     let a = refuse_accepted _ _ _ (sym (reply_verdict _ o nothing next handed) ∙ e) in
     (not-false _ a.0, a.1)
 
-pub onu_accepts : {H : Type 0} (o : Onu) (nothing : H) (v : Verdict) (next : Onu) (handed : H) → valid_onu o ≡ true → v ≡ Accepted
-    → onu_reply o nothing v next handed ≡ record { verdict = Accepted; end = next; handed = handed }
+pub onu_accepts : {H : Type 0} (o : Onu) (nothing : H) (v : Verdict) (next : Onu) (handed : H) → valid_onu o ≡ true → v ≡ no_refusal
+    → onu_reply o nothing v next handed ≡ record { verdict = no_refusal; end = next; handed = handed }
 unfolding onu_reply
 onu_accepts o nothing v next handed e f = reply_accepted _ o nothing next handed (refuse_passed _ OutOfRange v (not_of_true e) ∙ f)
 
 -- refused: the very ONU that was lent, and nothing
 pub onu_untouched : {H : Type 0} (o : Onu) (nothing : H) (v : Verdict) (next : Onu) (handed : H) (r : Refusal)
-    → (onu_reply o nothing v next handed).verdict ≡ Refused r → Untouched o nothing (onu_reply o nothing v next handed)
+    → (onu_reply o nothing v next handed).verdict ≡ Err r → Untouched o nothing (onu_reply o nothing v next handed)
 unfolding onu_reply
 onu_untouched o nothing v next handed r e = reply_untouched _ o nothing next handed r e
 
 -- what holds of the lent ONU and, where it is valid and the call accepts, of the next one holds of the one that is left
 pub onu_keeps : {H : Type 0} (P : Onu → Type 0) (o : Onu) (nothing : H) (v : Verdict) (next : Onu) (handed : H) → P o
-    → (valid_onu o ≡ true → v ≡ Accepted → P next) → P (onu_reply o nothing v next handed).end
+    → (valid_onu o ≡ true → v ≡ no_refusal → P next) → P (onu_reply o nothing v next handed).end
 unfolding onu_reply
 onu_keeps P o nothing v next handed p q =
     reply_keeps P _ o nothing next handed p (λ a. let b = refuse_accepted _ _ _ a in q (not-false _ b.0) b.1)
@@ -70,7 +70,7 @@ new_keys_valid : valid_onu_keys (record { active = 0; held = 0; slots = no_slots
 unfolding valid_onu_keys both either
 new_keys_valid = refl
 
-pub new_onu_valid : (i : Identity) (oltmac time : ℕ) → fresh_onu_verdict i oltmac time ≡ Accepted → valid_onu (new_onu i oltmac time) ≡ true
+pub new_onu_valid : (i : Identity) (oltmac time : ℕ) → fresh_onu_verdict i oltmac time ≡ no_refusal → valid_onu (new_onu i oltmac time) ≡ true
 unfolding fresh_onu_verdict new_onu
 new_onu_valid i oltmac time e =
     let valid : valid_identity i ≡ true = search met depth 8 in

@@ -8,7 +8,6 @@ use borrow.Author.Tests.{leb-true, eqb-true, eqb-false, le-leb, eq-eqb, ne_eqb}
 use Rattle.octets.specs.Choice.{both, pick}
 use Rattle.octets.proofs.Choice.{both_left, both_right, both_true, not_of_true, both_false_right, both_false_then, then_both_false, either_false}
 use Rattle.refusal.specs.declared.Refusal.TheVariants.{OutOfRange, UnknownLlid, ClockNotSet, NoKey, EpamDiffers, ClearEnvelope, BadLength}
-use Rattle.refusal.specs.declared.Verdict.TheVariants.{Accepted}
 use Rattle.clock.specs.Ticks.{epam_of}
 use Rattle.ends.specs.Flags.{is_up}
 use Rattle.envelope.specs.Channels.{downstream, upstream}
@@ -24,6 +23,7 @@ use Rattle.protocol.specs.declared.KeyChoice.TheVariants.{Clear, Current, Next, 
 use Rattle.refusal.proofs.Order.{refuse_passed}
 use Rattle.protocol.proofs.Replies.{met}
 use Rattle.protocol.proofs.Headers.{Goes, goes}
+use Rattle.refusal.specs.Verdict.{no_refusal}
 
 ---- which key a send goes under
 
@@ -33,7 +33,7 @@ pub record OnuSends (o : Onu) (misfit : Bool) (llid channel : ℕ) : Type 0 wher
   pub has : has o.identity llid ≡ true
   pub goes : Goes (is_up o.clock.synced) (busy_up o channel) (onu_send_choice o.keys) o.first (travel_of o)
 
-pub onu_send_accepted : (o : Onu) (misfit : Bool) (llid channel : ℕ) → onu_send_verdict o misfit llid channel ≡ Accepted
+pub onu_send_accepted : (o : Onu) (misfit : Bool) (llid channel : ℕ) → onu_send_verdict o misfit llid channel ≡ no_refusal
     → OnuSends o misfit llid channel
 unfolding onu_send_verdict
 onu_send_accepted o misfit llid channel e = search (met, goes) depth 8
@@ -96,13 +96,13 @@ pub record OnuReceives (o : Onu) (misfit : Bool) (h : Header) : Type 0 where
   pub has : has o.identity h.llid ≡ true
   pub epam : o.clock.synced ≡ 1 → h.epam ≡ epam_of o.clock.rx
   pub synced : h.encenabled ≡ 1 → o.clock.synced ≡ 1
-  pub choice : choice_verdict (onu_receive_choice o.keys h) ≡ Accepted
+  pub choice : choice_verdict (onu_receive_choice o.keys h) ≡ no_refusal
 
-pub onu_receive_accepted : (o : Onu) (misfit : Bool) (h : Header) → onu_receive_verdict o misfit h ≡ Accepted → OnuReceives o misfit h
+pub onu_receive_accepted : (o : Onu) (misfit : Bool) (h : Header) → onu_receive_verdict o misfit h ≡ no_refusal → OnuReceives o misfit h
 unfolding onu_receive_verdict
 onu_receive_accepted o misfit h e = search (met, both_false_then, eq-eqb) depth 10
 
-pub onu_receive_accepts : (o : Onu) (misfit : Bool) (h : Header) → OnuReceives o misfit h → onu_receive_verdict o misfit h ≡ Accepted
+pub onu_receive_accepts : (o : Onu) (misfit : Bool) (h : Header) → OnuReceives o misfit h → onu_receive_verdict o misfit h ≡ no_refusal
 unfolding onu_receive_verdict
 onu_receive_accepts o misfit h r =
     refuse_passed _ BadLength _ r.fits

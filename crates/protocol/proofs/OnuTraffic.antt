@@ -1,4 +1,5 @@
 -- Send and receive of the ONU keep it valid, and leave it where they are refused. Assumes nothing.
+use Rattle.std.specs.Prelude.{Err}
 use mathlib.Core.Path.{◌≡◌}
 use mathlib.Core.Bool.{Bool, true, false}
 use Prim.Native.Nat.{ℕ, ◌≤◌}
@@ -9,7 +10,6 @@ use Rattle.octets.specs.Eqs.{max_eqs}
 use Rattle.octets.proofs.Choice.{both_true}
 use Rattle.refusal.specs.declared.Refusal.{Refusal}
 use Rattle.refusal.specs.declared.Refusal.TheVariants.{OutOfRange, UnknownLlid, BadLength}
-use Rattle.refusal.specs.declared.Verdict.TheVariants.{Refused}
 use Rattle.refusal.specs.Order.{refuse_if}
 use Rattle.envelope.specs.Channels.{downstream, upstream}
 use Rattle.ends.specs.Identities.{has}
@@ -70,12 +70,12 @@ receiving_onu_valid o misfit h v =
 
 ---- refused: the very ONU that was lent, and nothing
 
-pub sending_onu_untouched : (o : Onu) (misfit : Bool) (llid channel eqs : ℕ) (r : Refusal) → (sending_onu o misfit llid channel eqs).verdict ≡ Refused r
+pub sending_onu_untouched : (o : Onu) (misfit : Bool) (llid channel eqs : ℕ) (r : Refusal) → (sending_onu o misfit llid channel eqs).verdict ≡ Err r
     → Untouched o no_sending (sending_onu o misfit llid channel eqs)
 unfolding sending_onu
 sending_onu_untouched o misfit llid channel eqs r e = onu_untouched o no_sending _ _ _ r e
 
-pub receiving_onu_untouched : (o : Onu) (misfit : Bool) (h : Header) (r : Refusal) → (receiving_onu o misfit h).verdict ≡ Refused r
+pub receiving_onu_untouched : (o : Onu) (misfit : Bool) (h : Header) (r : Refusal) → (receiving_onu o misfit h).verdict ≡ Err r
     → Untouched o no_passage (receiving_onu o misfit h)
 unfolding receiving_onu
 receiving_onu_untouched o misfit h r e = onu_untouched o no_passage _ _ _ r e
@@ -85,11 +85,11 @@ receiving_onu_untouched o misfit h r e = onu_untouched o no_passage _ _ _ r e
 -- an envelope for another unit is refused 2 and an upstream one 1, after 14
 pub overheard_down-holds : (o : Onu) (misfit : Bool) (h : Header) → downstream h.channel ≡ true → valid_header h ≡ true
     → has o.identity h.llid ≡ false
-    → onu_receive_verdict o misfit h ≡ refuse_if misfit BadLength (Refused UnknownLlid)
+    → onu_receive_verdict o misfit h ≡ refuse_if misfit BadLength (Err UnknownLlid)
 unfolding onu_receive_verdict refuse_if both
 overheard_down-holds o misfit h d v n = rw (d, v, n)
 
 pub overheard_up-holds : (o : Onu) (misfit : Bool) (h : Header) → upstream h.channel ≡ true
-    → onu_receive_verdict o misfit h ≡ refuse_if misfit BadLength (Refused OutOfRange)
+    → onu_receive_verdict o misfit h ≡ refuse_if misfit BadLength (Err OutOfRange)
 unfolding onu_receive_verdict refuse_if both downstream
 overheard_up-holds o misfit h u = rw (lt-leb h.channel 1 (omega (arith, (upstream_between h.channel u).0)))

@@ -12,7 +12,6 @@ use Rattle.octets.specs.Choice.{either}
 use Rattle.octets.specs.Lists.{all}
 use Rattle.octets.proofs.Choice.{both_true, not_both}
 use Rattle.octets.proofs.Tests.{all_append}
-use Rattle.refusal.specs.declared.Verdict.TheVariants.{Accepted}
 use Rattle.clock.specs.Ticks.{max_round_trip}
 use Rattle.ends.specs.Limits.{max_units, max_llids}
 use Rattle.protocol.specs.Replies.{silent}
@@ -32,6 +31,7 @@ use Rattle.ends.proofs.Keys.{first_none_valid}
 use Rattle.ends.proofs.Identities.{meets_apart, distinct_append, identity_valid, kept_llids, kept_valid}
 use Rattle.ends.proofs.Table.{more_registered}
 use Rattle.ends.proofs.Validity.{unit_valid, clock_valid, olt_in_range, olt_valid}
+use Rattle.refusal.specs.Verdict.{no_refusal}
 
 ---- validity
 
@@ -43,7 +43,7 @@ pub record Registers (o : Olt) (i : Identity) (delay ticks : ℕ) : Type 0 where
   pub new : meets (llids_of i) (table_llids (registered o)) ≡ false
   pub room : o.count < max_units
 
-pub register_accepted : (o : Olt) (i : Identity) (trip interval : ℕ) → register_verdict o i trip interval ≡ Accepted → Registers o i trip interval
+pub register_accepted : (o : Olt) (i : Identity) (trip interval : ℕ) → register_verdict o i trip interval ≡ no_refusal → Registers o i trip interval
 unfolding register_verdict valid_registration
 register_accepted o i trip interval e = search met depth 8
 

@@ -1,4 +1,5 @@
 -- The clock and key calls on one unit keep it valid and of its identity. Assumes nothing.
+use Rattle.std.specs.Prelude.{Err}
 use mathlib.Core.Path.{◌≡◌, refl, ◌∙◌}
 use mathlib.Core.Bool.{Bool, true, false, not}
 use mathlib.Core.List.{List}
@@ -11,8 +12,6 @@ use Rattle.octets.specs.Choice.{both, either, pick}
 use Rattle.octets.specs.Lists.{same}
 use Rattle.octets.proofs.Choice.{both_left, both_right, pick_false, either_left, either_right, either_cases}
 use Rattle.refusal.specs.declared.Refusal.TheVariants.{NothingOutstanding}
-use Rattle.refusal.specs.declared.Verdict.{Verdict}
-use Rattle.refusal.specs.declared.Verdict.TheVariants.{Accepted, Refused}
 use Rattle.clock.specs.Ticks.{ticks_per_second, max_round_trip}
 use Rattle.ends.specs.Limits.{max_key_number}
 use Rattle.refusal.specs.Order.{refuse_if}
@@ -34,6 +33,7 @@ use Rattle.ends.proofs.Keys.{first_later_valid}
 use Rattle.ends.proofs.Validity.{ClockInRange, UnitInRange, clock_in_range, clock_valid, unit_in_range, unit_valid, shared_in_range}
 use Rattle.protocol.proofs.Replies.{met}
 use Rattle.protocol.proofs.Lift.{Keeps}
+use Rattle.refusal.specs.Verdict.{Verdict, no_refusal}
 
 ---- advance
 
@@ -62,7 +62,7 @@ unit_advanced_valid tick n u e =
 -- a call that leaves the identity and keeps each part of a unit in its range
 unit_call : {H : Type 0} (verdict : Shared → UnitRecord → Verdict) (next : Shared → UnitRecord → UnitRecord) (handed : Shared → UnitRecord → H)
     → ((s : Shared) (u : UnitRecord) → (next s u).identity ≡ u.identity)
-    → ((s : Shared) (u : UnitRecord) → verdict s u ≡ Accepted → UnitInRange s.tick u → UnitInRange s.tick (next s u))
+    → ((s : Shared) (u : UnitRecord) → verdict s u ≡ no_refusal → UnitInRange s.tick u → UnitInRange s.tick (next s u))
     → Keeps (λ s u. outcome s (verdict s u) (next s u) (handed s u))
 unfolding outcome
 unit_call verdict next handed same keeps =
@@ -101,7 +101,7 @@ pub record ClockSends (tick : ℕ) (c : UnitClock) : Type 0 where
   pub captured : c.captured ≡ 1
   pub soon : tick ≤ c.tick + ticks_per_second
 
-pub clock_send_accepted : (c : UnitClock) (tick : ℕ) → clock_send_verdict c tick ≡ Accepted → ClockSends tick c
+pub clock_send_accepted : (c : UnitClock) (tick : ℕ) → clock_send_verdict c tick ≡ no_refusal → ClockSends tick c
 unfolding clock_send_verdict
 clock_send_accepted c tick e = search met
 
@@ -112,20 +112,20 @@ pub record Offers (u : UnitRecord) (key : List ℕ) : Type 0 where
   pub new : both (leb 1 u.keys.active) (same key (key_in u.keys.slots u.keys.active)) ≡ false
   pub below : u.keys.active < max_key_number
 
-pub offer_accepted : (u : UnitRecord) (key : List ℕ) → offer_verdict u key ≡ Accepted → Offers u key
+pub offer_accepted : (u : UnitRecord) (key : List ℕ) → offer_verdict u key ≡ no_refusal → Offers u key
 unfolding offer_verdict
 offer_accepted u key e = search met depth 8
 
-pub retry_accepted : (u : UnitRecord) → retry_verdict u.keys ≡ Accepted → u.keys.offered ≡ u.keys.active → ⊥
+pub retry_accepted : (u : UnitRecord) → retry_verdict u.keys ≡ no_refusal → u.keys.offered ≡ u.keys.active → ⊥
 unfolding retry_verdict
 retry_accepted u e = eqb-false _ _ (refuse_accepted _ _ _ e).0
 
 -- while an offer is outstanding a retry is accepted, whatever was acknowledged
-pub retry_accepts : (llid : ℕ) (s : Shared) (u : UnitRecord) → (u.keys.offered ≡ u.keys.active → ⊥) → (retry_unit llid s u).verdict ≡ Accepted
+pub retry_accepts : (llid : ℕ) (s : Shared) (u : UnitRecord) → (u.keys.offered ≡ u.keys.active → ⊥) → (retry_unit llid s u).verdict ≡ no_refusal
 unfolding retry_unit retry_verdict outcome
 retry_accepts llid s u more = refuse_passed _ NothingOutstanding _ (ne_eqb _ _ more)
 
-pub key_acknowledged_accepted : (number : ℕ) (s : Shared) (u : UnitRecord) → (key_acknowledged_unit number s u).verdict ≡ Accepted
+pub key_acknowledged_accepted : (number : ℕ) (s : Shared) (u : UnitRecord) → (key_acknowledged_unit number s u).verdict ≡ no_refusal
     → (1 ≤ number) × (number ≡ u.keys.offered)
 unfolding key_acknowledged_unit outcome
 key_acknowledged_accepted number s u e =
@@ -137,9 +137,9 @@ pub acknowledge_verdict-holds : (a : Acknowledgement) (s : Shared) (u : UnitReco
 unfolding acknowledge_unit clock_acknowledged_unit key_acknowledged_unit acknowledge_verdict outstanding outcome pick refuse_if
 acknowledge_verdict-holds a s u = by_kind (eqb a.kind clock_kind) (eqb a.kind key_kind) where
   by_kind : (t k : Bool)
-      → (pick t (clock_acknowledged_unit s u) (pick k (key_acknowledged_unit a.number s u) (outcome s (Refused NothingOutstanding) u silent))).verdict
+      → (pick t (clock_acknowledged_unit s u) (pick k (key_acknowledged_unit a.number s u) (outcome s (Err NothingOutstanding) u silent))).verdict
       ≡ refuse_if (not (pick t (is_up u.clock.sent) (pick k (both (leb 1 a.number) (eqb a.number u.keys.offered)) false)))
-      NothingOutstanding Accepted
+      NothingOutstanding no_refusal
   by_kind true k = refl
   by_kind false true = refl
   by_kind false false = refl
@@ -174,17 +174,17 @@ unfolding acknowledge_unit pick
 clock_kind-holds a s u e = rw e
 
 pub no_kind : (a : Acknowledgement) (s : Shared) (u : UnitRecord) → eqb a.kind clock_kind ≡ false → eqb a.kind key_kind ≡ false
-    → acknowledge_unit a s u ≡ outcome s (Refused NothingOutstanding) u silent
+    → acknowledge_unit a s u ≡ outcome s (Err NothingOutstanding) u silent
 unfolding acknowledge_unit
 no_kind a s u e f = pick_false _ _ e ∙ pick_false _ _ f
 
 -- what holds of an acknowledgement of either kind, and of one of neither, holds of each
 by_kinds : (a : Acknowledgement) (P : (Shared → UnitRecord → Outcome Silence) → Type 0) → P clock_acknowledged_unit
-    → P (key_acknowledged_unit a.number) → P (λ s u. outcome s (Refused NothingOutstanding) u silent) → P (acknowledge_unit a)
+    → P (key_acknowledged_unit a.number) → P (λ s u. outcome s (Err NothingOutstanding) u silent) → P (acknowledge_unit a)
 unfolding acknowledge_unit pick
 by_kinds a P p q r = by_kind (eqb a.kind clock_kind) (eqb a.kind key_kind) where
   by_kind : (t k : Bool)
-      → P (λ s u. pick t (clock_acknowledged_unit s u) (pick k (key_acknowledged_unit a.number s u) (outcome s (Refused NothingOutstanding) u silent)))
+      → P (λ s u. pick t (clock_acknowledged_unit s u) (pick k (key_acknowledged_unit a.number s u) (outcome s (Err NothingOutstanding) u silent)))
   by_kind true k = p
   by_kind false true = q
   by_kind false false = r

@@ -7,7 +7,6 @@ use borrow.Author.Tests.{le-leb, eq-eqb, ne_eqb}
 use Rattle.octets.specs.Choice.{both, pick}
 use Rattle.octets.proofs.Choice.{not_of_true, both_false_right}
 use Rattle.refusal.specs.declared.Refusal.TheVariants.{EpamDiffers}
-use Rattle.refusal.specs.declared.Verdict.TheVariants.{Accepted}
 use Rattle.clock.specs.Ticks.{epam_of}
 use Rattle.protocol.specs.Headers.{choice_verdict}
 use Rattle.protocol.specs.UnitTraffic.{unit_receive_choice, unit_receive_verdict}
@@ -16,6 +15,7 @@ use Rattle.ends.specs.declared.Shared.{Shared}
 use Rattle.protocol.specs.declared.Header.{Header}
 use Rattle.protocol.specs.declared.KeyChoice.TheVariants.{Clear, Current, Next}
 use Rattle.refusal.proofs.Order.{refuse_passed}
+use Rattle.refusal.specs.Verdict.{no_refusal}
 
 -- an envelope's header by its number: 0 is clear, C is the key in use, and A = C + 1 comes into use
 pub receive_clear : (u : UnitRecord) (h : Header) → h.encenabled ≡ 0 → u.confirmation.confirmed ≡ 0 → unit_receive_choice u h ≡ Clear
@@ -37,8 +37,8 @@ receive_next u h n e k a c =
 
 pub record Receives (s : Shared) (u : UnitRecord) (h : Header) : Type 0 where
   pub epam : h.epam ≡ epam_of s.clock
-  pub choice : choice_verdict (unit_receive_choice u h) ≡ Accepted
+  pub choice : choice_verdict (unit_receive_choice u h) ≡ no_refusal
 
-pub receive_accepts : (s : Shared) (u : UnitRecord) (h : Header) → Receives s u h → unit_receive_verdict s u h ≡ Accepted
+pub receive_accepts : (s : Shared) (u : UnitRecord) (h : Header) → Receives s u h → unit_receive_verdict s u h ≡ no_refusal
 unfolding unit_receive_verdict
 receive_accepts s u h r = refuse_passed _ EpamDiffers _ (not_of_true (eq-eqb _ _ r.epam)) ∙ r.choice

@@ -1,9 +1,7 @@
 -- Headers, and what an envelope goes under (01, Keys; The line). Assumes nothing.
-use Rattle.std.specs.Prelude.{Bool, true, false, not, List, ℕ, ◌%◌, leb, ltb, eqb}
+use Rattle.std.specs.Prelude.{Bool, true, false, not, List, ℕ, ◌%◌, leb, ltb, eqb, Err}
 use Rattle.octets.specs.Choice.{both, pick}
 use Rattle.refusal.specs.declared.Refusal.TheVariants.{ClockNotSet, ChannelTaken, KeyTooOld}
-use Rattle.refusal.specs.declared.Verdict.{Verdict}
-use Rattle.refusal.specs.declared.Verdict.TheVariants.{Accepted, Refused}
 use Rattle.clock.specs.Ticks.{epam_turn, epam_of}
 use Rattle.refusal.specs.Order.{refuse_if}
 use Rattle.ends.specs.Keys.{no_key, key_in, aged}
@@ -14,6 +12,7 @@ use Rattle.protocol.specs.declared.KeyChoice.{KeyChoice}
 use Rattle.protocol.specs.declared.KeyChoice.TheVariants.{Clear, Current, Next, Barred}
 use Rattle.protocol.specs.declared.Passage.{Passage}
 use Rattle.protocol.specs.declared.Sending.{Sending}
+use Rattle.refusal.specs.Verdict.{Verdict, no_refusal}
 
 -- the values of a header but its channel index and LLID: EncKey 1 only with EncEnabled 1 (D26)
 unfoldable pub valid_header : Header → Bool
@@ -27,10 +26,10 @@ choice_number (Next n) = n
 choice_number (Barred r) = 0
 
 unfoldable pub choice_verdict : KeyChoice → Verdict
-choice_verdict Clear = Accepted
-choice_verdict (Current n) = Accepted
-choice_verdict (Next n) = Accepted
-choice_verdict (Barred r) = Refused r
+choice_verdict Clear = no_refusal
+choice_verdict (Current n) = no_refusal
+choice_verdict (Next n) = no_refusal
+choice_verdict (Barred r) = Err r
 
 -- only the key in use can be too old: one that comes into use has had no send (D24)
 unfoldable pub choice_aged : KeyChoice → FirstSend → ℕ → Bool
@@ -50,7 +49,7 @@ choice_enciphered (Barred r) = false
 abbrev pub clock_channel_key : Bool → Bool → KeyChoice → FirstSend → ℕ → Verdict
 clock_channel_key set busy choice first now =
     refuse_if (both (not set) (choice_enciphered choice)) ClockNotSet
-    (refuse_if busy ChannelTaken (refuse_if (choice_aged choice first now) KeyTooOld Accepted))
+    (refuse_if busy ChannelTaken (refuse_if (choice_aged choice first now) KeyTooOld no_refusal))
 
 -- the header of an envelope numbered n, at the sender's clock (01, Keys: EPAM, of LocalTime if unsynced), an ESH or an ECH (D33)
 unfoldable pub envelope_header : ℕ → ℕ → ℕ → ℕ → Header

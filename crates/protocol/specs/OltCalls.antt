@@ -4,8 +4,6 @@ use Rattle.std.specs.Prelude.{Bool, not, List, ◌++◌, map, ℕ, ◌+◌, leb,
 use Rattle.octets.specs.Choice.{both, either}
 use Rattle.refusal.specs.Number.{verdict_number}
 use Rattle.refusal.specs.declared.Refusal.TheVariants.{OutOfRange, UnknownLlid, RepeatedLlid, TableFull}
-use Rattle.refusal.specs.declared.Verdict.{Verdict}
-use Rattle.refusal.specs.declared.Verdict.TheVariants.{Accepted}
 use Rattle.clock.specs.Ticks.{clock_turn, max_round_trip, advanced}
 use Rattle.clock.specs.declared.Stamps.{Stamps}
 use Rattle.ends.specs.Limits.{max_units}
@@ -27,6 +25,7 @@ use Rattle.protocol.specs.declared.Acknowledgement.{Acknowledgement}
 use Rattle.protocol.specs.declared.OltAnswer.{OltAnswer}
 use Rattle.protocol.specs.declared.ClockSent.{ClockSent}
 use Rattle.protocol.specs.declared.KeySent.{KeySent}
+use Rattle.refusal.specs.Verdict.{Verdict, no_refusal}
 
 unfoldable pub olt_answer : Reply Olt Silence → OltAnswer
 olt_answer r = record { number = verdict_number r.verdict; olt = r.end }
@@ -41,7 +40,7 @@ key_sent r = record { number = verdict_number r.verdict; olt = r.end; message = 
 unfoldable pub fresh_olt_of : ℕ → ℕ → OltAnswer
 fresh_olt_of mac clock =
     olt_answer
-    (reply (refuse_if (not (both (valid_mac mac) (ltb clock clock_turn))) OutOfRange Accepted) (new_olt 0 0) silent (new_olt mac clock) silent)
+    (reply (refuse_if (not (both (valid_mac mac) (ltb clock clock_turn))) OutOfRange no_refusal) (new_olt 0 0) silent (new_olt mac clock) silent)
 
 ---- register: 1, 3, 4
 
@@ -53,7 +52,7 @@ unfoldable pub register_verdict : Olt → Identity → ℕ → ℕ → Verdict
 register_verdict o i trip interval =
     refuse_if (not (valid_registration i trip interval)) OutOfRange
     (refuse_if (either (not (distinct (llids_of i))) (meets (llids_of i) (table_llids (registered o)))) RepeatedLlid
-    (refuse_if (leb max_units o.count) TableFull Accepted))
+    (refuse_if (leb max_units o.count) TableFull no_refusal))
 
 abbrev pub register_order : Olt → Identity → ℕ → ℕ → Verdict
 register_order o i trip interval = on_valid (valid_olt o) (register_verdict o i trip interval)  -- 1, 3, 4
@@ -91,10 +90,10 @@ advance_olt_of o n = olt_answer (advancing_olt o n)
 unfoldable pub capture_order : Olt → ℕ → Verdict
 capture_order o llid =
     on_valid (valid_olt o)
-    (refuse_if (not (is_registered o llid)) UnknownLlid Accepted)  -- 2
+    (refuse_if (not (is_registered o llid)) UnknownLlid no_refusal)  -- 2
 
 unfoldable pub capture_of : Olt → ℕ → OltAnswer
-capture_of o llid = olt_answer (lift o silent Accepted llid capture_unit)
+capture_of o llid = olt_answer (lift o silent no_refusal llid capture_unit)
 
 ---- the round trip measured again: 1, 2 (02, C-16)
 
@@ -102,11 +101,11 @@ unfoldable pub measure_order : Olt → ℕ → ℕ → Verdict
 measure_order o llid trip =
     on_valid (valid_olt o)
     (refuse_if (not (leb trip max_round_trip)) OutOfRange  -- 1
-    (refuse_if (not (is_registered o llid)) UnknownLlid Accepted))  -- 2
+    (refuse_if (not (is_registered o llid)) UnknownLlid no_refusal))  -- 2
 
 unfoldable pub measure_of : Olt → ℕ → ℕ → OltAnswer
 measure_of o llid trip =
-    olt_answer (lift o silent (refuse_if (not (leb trip max_round_trip)) OutOfRange Accepted) llid (measure_unit trip))
+    olt_answer (lift o silent (refuse_if (not (leb trip max_round_trip)) OutOfRange no_refusal) llid (measure_unit trip))
 
 ---- clock send: 2, 8, 16
 
@@ -117,7 +116,7 @@ clock_send_order o llid =
     (clock_send_verdict (unit_named o llid).clock o.shared.tick))  -- 8, 16
 
 unfoldable pub clock_send_of : Olt → ℕ → ClockSent
-clock_send_of o llid = clock_sent (lift o no_stamps Accepted llid clock_send_unit)
+clock_send_of o llid = clock_sent (lift o no_stamps no_refusal llid clock_send_unit)
 
 ---- offer: 2, 5, 6, 7, 17
 
@@ -128,7 +127,7 @@ offer_order o llid key =
     (offer_verdict (unit_named o llid) key))  -- 5, 6, 7, 17
 
 unfoldable pub offer_of : Olt → ℕ → List ℕ → KeySent
-offer_of o llid key = key_sent (lift o no_key_message Accepted llid (offer_unit llid key))
+offer_of o llid key = key_sent (lift o no_key_message no_refusal llid (offer_unit llid key))
 
 ---- retry: 2, 8
 
@@ -139,7 +138,7 @@ retry_order o llid =
     (retry_verdict (unit_named o llid).keys))  -- 8
 
 unfoldable pub retry_of : Olt → ℕ → KeySent
-retry_of o llid = key_sent (lift o no_key_message Accepted llid (retry_unit llid))
+retry_of o llid = key_sent (lift o no_key_message no_refusal llid (retry_unit llid))
 
 ---- acknowledgement: 2, 8
 
@@ -150,4 +149,4 @@ acknowledge_order o llid a =
     (acknowledge_verdict a (unit_named o llid)))  -- 8
 
 unfoldable pub acknowledge_of : Olt → ℕ → Acknowledgement → OltAnswer
-acknowledge_of o llid a = olt_answer (lift o silent Accepted llid (acknowledge_unit a))
+acknowledge_of o llid a = olt_answer (lift o silent no_refusal llid (acknowledge_unit a))

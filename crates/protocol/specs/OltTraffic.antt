@@ -3,8 +3,6 @@
 use Rattle.std.specs.Prelude.{Bool, not, ℕ}
 use Rattle.octets.specs.Choice.{both}
 use Rattle.refusal.specs.declared.Refusal.TheVariants.{OutOfRange, UnknownLlid, BadLength}
-use Rattle.refusal.specs.declared.Verdict.{Verdict}
-use Rattle.refusal.specs.declared.Verdict.TheVariants.{Accepted}
 use Rattle.refusal.specs.Order.{refuse_if}
 use Rattle.protocol.specs.Replies.{on_valid, Reply}
 use Rattle.envelope.specs.Channels.{downstream, upstream}
@@ -17,6 +15,7 @@ use Rattle.ends.specs.declared.Olt.{Olt}
 use Rattle.protocol.specs.declared.Header.{Header}
 use Rattle.protocol.specs.declared.Passage.{Passage}
 use Rattle.protocol.specs.declared.Sending.{Sending}
+use Rattle.refusal.specs.Verdict.{Verdict, no_refusal}
 
 ---- send: 14, 1, 2, 5, 12, 13
 
@@ -30,7 +29,7 @@ send_order o misfit llid channel =
 
 unfoldable pub sending_olt : Olt → Bool → ℕ → ℕ → ℕ → Reply Olt Sending
 sending_olt o misfit llid channel eqs =
-    lift o no_sending (refuse_if misfit BadLength (refuse_if (not (downstream channel)) OutOfRange Accepted)) llid (send_unit llid channel eqs)
+    lift o no_sending (refuse_if misfit BadLength (refuse_if (not (downstream channel)) OutOfRange no_refusal)) llid (send_unit llid channel eqs)
 
 ---- receive: 14, 1, 2, 10, 11, 9
 
@@ -44,5 +43,5 @@ receive_order o misfit h =
 
 unfoldable pub receiving_olt : Olt → Bool → Header → Reply Olt Passage
 receiving_olt o misfit h =
-    lift o no_passage (refuse_if misfit BadLength (refuse_if (not (both (upstream h.channel) (valid_header h))) OutOfRange Accepted)) h.llid
+    lift o no_passage (refuse_if misfit BadLength (refuse_if (not (both (upstream h.channel) (valid_header h))) OutOfRange no_refusal)) h.llid
     (receive_unit h)

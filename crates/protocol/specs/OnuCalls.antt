@@ -5,8 +5,6 @@ use Rattle.octets.specs.Choice.{both, either, pick}
 use Rattle.octets.specs.Lists.{same}
 use Rattle.refusal.specs.Number.{verdict_number}
 use Rattle.refusal.specs.declared.Refusal.TheVariants.{OutOfRange, UnknownLlid, RepeatedLlid, ClockNotSet, NothingOutstanding, AtEnd}
-use Rattle.refusal.specs.declared.Verdict.{Verdict}
-use Rattle.refusal.specs.declared.Verdict.TheVariants.{Accepted}
 use Rattle.clock.specs.Ticks.{clock_turn, local_turn, advanced, local_advanced, local_of}
 use Rattle.clock.specs.Stamping.{raised_to}
 use Rattle.clock.specs.declared.Stamps.{Stamps}
@@ -28,6 +26,7 @@ use Rattle.protocol.specs.declared.KeyMessage.{KeyMessage}
 use Rattle.protocol.specs.declared.Acknowledgement.{Acknowledgement}
 use Rattle.protocol.specs.declared.OnuAnswer.{OnuAnswer}
 use Rattle.protocol.specs.declared.OnuAcknowledged.{OnuAcknowledged}
+use Rattle.refusal.specs.Verdict.{Verdict, no_refusal}
 
 unfoldable pub onu_answer : Reply Onu Silence → OnuAnswer
 onu_answer r = record { number = verdict_number r.verdict; onu = r.end }
@@ -44,7 +43,7 @@ onu_reply o nothing v next handed = reply (on_valid (valid_onu o) v) o nothing n
 unfoldable pub fresh_onu_verdict : Identity → ℕ → ℕ → Verdict
 fresh_onu_verdict i oltmac time =
     refuse_if (not (both (valid_identity i) (both (valid_mac oltmac) (ltb time local_turn)))) OutOfRange
-    (refuse_if (not (distinct (llids_of i))) RepeatedLlid Accepted)
+    (refuse_if (not (distinct (llids_of i))) RepeatedLlid no_refusal)
 
 unfoldable pub fresh_onu_of : Identity → ℕ → ℕ → OnuAnswer
 fresh_onu_of i oltmac time = onu_answer (reply (fresh_onu_verdict i oltmac time) (new_onu no_identity 0 0) silent (new_onu i oltmac time) silent)
@@ -96,7 +95,7 @@ onu_changes o time = changes_after o.travel.changes time o.clock.time
 unfoldable pub new_time_verdict : Onu → ℕ → Verdict
 new_time_verdict o time =
     refuse_if (not (both (ltb time local_turn) (near_time time o.clock.time))) OutOfRange
-    (refuse_if (not (valid_changes (onu_changes o time))) AtEnd Accepted)
+    (refuse_if (not (valid_changes (onu_changes o time))) AtEnd no_refusal)
 
 -- unsynced, Tx and Rx as before the first clock message
 unfoldable pub onu_retimed : Onu → ℕ → Onu
@@ -109,7 +108,7 @@ new_time_of o time = onu_answer (onu_reply o silent (new_time_verdict o time) (o
 
 -- both stamps are of 48 bits: nothing more is asked of them (D13)
 unfoldable pub clock_message_verdict : Stamps → Verdict
-clock_message_verdict s = refuse_if (not (both (ltb s.rx clock_turn) (ltb s.tx clock_turn))) OutOfRange Accepted
+clock_message_verdict s = refuse_if (not (both (ltb s.rx clock_turn) (ltb s.tx clock_turn))) OutOfRange no_refusal
 
 -- the clocks that the raised stamps give
 unfoldable pub clock_from : Stamps → OnuClock
@@ -143,7 +142,7 @@ unfoldable pub key_message_verdict : Onu → KeyMessage → Verdict
 key_message_verdict o m =
     refuse_if (not (has o.identity m.llid)) UnknownLlid
     (refuse_if (not (is_up o.clock.synced)) ClockNotSet
-    (refuse_if (not (either (new_key o.keys m) (either (held_key o.keys m) (active_key o.keys m)))) NothingOutstanding Accepted))
+    (refuse_if (not (either (new_key o.keys m) (either (held_key o.keys m) (active_key o.keys m)))) NothingOutstanding no_refusal))
 
 -- a new key is kept; anything else that is accepted changes nothing
 unfoldable pub keys_taken : OnuKeys → KeyMessage → OnuKeys

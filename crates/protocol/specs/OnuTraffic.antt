@@ -3,7 +3,6 @@
 use Rattle.std.specs.Prelude.{Bool, not, ℕ, ◌+◌, ◌%◌, leb, eqb}
 use Rattle.octets.specs.Choice.{both, either, pick}
 use Rattle.refusal.specs.declared.Refusal.TheVariants.{OutOfRange, UnknownLlid, ClockNotSet, NoKey, EpamDiffers, ClearEnvelope, BadLength}
-use Rattle.refusal.specs.declared.Verdict.{Verdict}
 use Rattle.clock.specs.Ticks.{epam_of}
 use Rattle.refusal.specs.Order.{refuse_if}
 use Rattle.ends.specs.Flags.{is_up}
@@ -23,6 +22,7 @@ use Rattle.protocol.specs.declared.KeyChoice.{KeyChoice}
 use Rattle.protocol.specs.declared.KeyChoice.TheVariants.{Clear, Current, Next, Barred}
 use Rattle.protocol.specs.declared.Passage.{Passage}
 use Rattle.protocol.specs.declared.Sending.{Sending}
+use Rattle.refusal.specs.Verdict.{Verdict}
 
 ---- send: 14, 1, 2, 5, 12, 13
 

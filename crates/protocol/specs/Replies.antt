@@ -1,10 +1,9 @@
 -- What a call decides and leaves (01, 'When the reader says no'). Assumes nothing.
-use Rattle.std.specs.Prelude.{Bool, not, ℕ, ◌+◌, ltb}
+use Rattle.std.specs.Prelude.{Bool, not, ℕ, ◌+◌, ltb, Ok, Err}
 use Rattle.refusal.specs.declared.Refusal.TheVariants.{OutOfRange, AtEnd}
-use Rattle.refusal.specs.declared.Verdict.{Verdict}
-use Rattle.refusal.specs.declared.Verdict.TheVariants.{Accepted, Refused}
 use Rattle.refusal.specs.Order.{refuse_if}
 use Rattle.clock.specs.Ticks.{max_tick}
+use Rattle.refusal.specs.Verdict.{Verdict, no_refusal}
 
 -- ahead of each list, and of 14, comes 1, for an end that is not valid (D1)
 abbrev pub on_valid : Bool → Verdict → Verdict
@@ -22,9 +21,9 @@ pub record Reply (E H : Type 0) : Type 0 where
 
 -- accepted: the next end, and what is handed over; refused: the end as it was, and nothing
 unfoldable pub reply : {E H : Type 0} → Verdict → E → H → E → H → Reply E H
-reply Accepted lent nothing next handed = record { verdict = Accepted; end = next; handed = handed }
-reply (Refused r) lent nothing next handed = record { verdict = Refused r; end = lent; handed = nothing }
+reply (Ok tt) lent nothing next handed = record { verdict = no_refusal; end = next; handed = handed }
+reply (Err r) lent nothing next handed = record { verdict = Err r; end = lent; handed = nothing }
 
 -- an advance of either end (01, Clock): by 0 too, and up to 2^62 itself (D9)
 unfoldable pub advance_verdict : ℕ → ℕ → Verdict
-advance_verdict tick n = refuse_if (ltb max_tick (tick + n)) AtEnd Accepted
+advance_verdict tick n = refuse_if (ltb max_tick (tick + n)) AtEnd no_refusal

@@ -1,10 +1,8 @@
 -- The clock and key calls of the OLT on one unit (01, Clock; Keys). Assumes nothing.
-use Rattle.std.specs.Prelude.{Bool, false, not, List, ℕ, ◌+◌, ◌-◌, leb, ltb, eqb}
+use Rattle.std.specs.Prelude.{Bool, false, not, List, ℕ, ◌+◌, ◌-◌, leb, ltb, eqb, Err}
 use Rattle.octets.specs.Choice.{both, either, pick}
 use Rattle.octets.specs.Lists.{same}
 use Rattle.refusal.specs.declared.Refusal.TheVariants.{ClockNotSet, OfferPending, SameKey, NothingOutstanding, CaptureTooOld, AtEnd}
-use Rattle.refusal.specs.declared.Verdict.{Verdict}
-use Rattle.refusal.specs.declared.Verdict.TheVariants.{Accepted, Refused}
 use Rattle.clock.specs.Ticks.{ticks_per_second, rewound}
 use Rattle.clock.specs.Stamping.{captured_at}
 use Rattle.clock.specs.declared.Stamps.{Stamps}
@@ -23,6 +21,7 @@ use Rattle.ends.specs.declared.UnitRecord.{UnitRecord}
 use Rattle.ends.specs.declared.Shared.{Shared}
 use Rattle.protocol.specs.declared.KeyMessage.{KeyMessage}
 use Rattle.protocol.specs.declared.Acknowledgement.{Acknowledgement}
+use Rattle.refusal.specs.Verdict.{Verdict, no_refusal}
 
 -- an advance moves a unit's timer
 unfoldable pub unit_advanced : ℕ → UnitRecord → UnitRecord
@@ -35,12 +34,12 @@ clock_captured c tick = record { trip = c.trip; captured = 1; tick = tick; sent 
 
 -- never refused; the tick is kept, and stamps are worked out where they are sent (D12)
 unfoldable pub capture_unit : Shared → UnitRecord → Outcome Silence
-capture_unit s u = outcome s Accepted (with_clock u (clock_captured u.clock s.tick)) silent
+capture_unit s u = outcome s no_refusal (with_clock u (clock_captured u.clock s.tick)) silent
 
 ---- the round trip measured again (02, C-16): capture, sent and acknowledged are forgotten (D43)
 
 unfoldable pub measure_unit : ℕ → Shared → UnitRecord → Outcome Silence
-measure_unit trip s u = outcome s Accepted (with_clock u (new_unit_clock trip)) silent
+measure_unit trip s u = outcome s no_refusal (with_clock u (new_unit_clock trip)) silent
 
 ---- clock send: 8, 16
 
@@ -48,7 +47,7 @@ measure_unit trip s u = outcome s Accepted (with_clock u (new_unit_clock trip)) 
 unfoldable pub clock_send_verdict : UnitClock → ℕ → Verdict
 clock_send_verdict c tick =
     refuse_if (not (is_up c.captured)) NothingOutstanding
-    (refuse_if (ltb (c.tick + ticks_per_second) tick) CaptureTooOld Accepted)
+    (refuse_if (ltb (c.tick + ticks_per_second) tick) CaptureTooOld no_refusal)
 
 unfoldable pub clock_after_send : UnitClock → UnitClock
 clock_after_send c = record { trip = c.trip; captured = c.captured; tick = c.tick; sent = 1; acknowledged = c.acknowledged }
@@ -70,7 +69,7 @@ offer_verdict u key =
     refuse_if (not (is_up u.clock.acknowledged)) ClockNotSet
     (refuse_if (either (ltb u.keys.active u.keys.offered) (ltb u.confirmation.confirmed u.keys.active)) OfferPending
     (refuse_if (both (leb 1 u.keys.active) (same key (key_in u.keys.slots u.keys.active))) SameKey
-    (refuse_if (leb max_key_number u.keys.active) AtEnd Accepted)))
+    (refuse_if (leb max_key_number u.keys.active) AtEnd no_refusal)))
 
 unfoldable pub keys_offered : UnitKeys → List ℕ → UnitKeys
 keys_offered k key =
@@ -92,7 +91,7 @@ offer_unit llid key s u = outcome s (offer_verdict u key) (unit_offered u key) (
 ---- retry: 8
 
 unfoldable pub retry_verdict : UnitKeys → Verdict
-retry_verdict k = refuse_if (eqb k.offered k.active) NothingOutstanding Accepted
+retry_verdict k = refuse_if (eqb k.offered k.active) NothingOutstanding no_refusal
 
 -- the unit stays as it is, the mark of an acknowledgement too
 unfoldable pub retry_unit : ℕ → Shared → UnitRecord → Outcome KeyMessage
@@ -107,12 +106,12 @@ outstanding a u =
     (pick (eqb a.kind key_kind) (both (leb 1 a.number) (eqb a.number u.keys.offered)) false)
 
 unfoldable pub acknowledge_verdict : Acknowledgement → UnitRecord → Verdict
-acknowledge_verdict a u = refuse_if (not (outstanding a u)) NothingOutstanding Accepted
+acknowledge_verdict a u = refuse_if (not (outstanding a u)) NothingOutstanding no_refusal
 
 -- a clock acknowledgement needs a clock message sent (D14)
 unfoldable pub clock_acknowledged_unit : Shared → UnitRecord → Outcome Silence
 clock_acknowledged_unit s u =
-    outcome s (refuse_if (not (is_up u.clock.sent)) NothingOutstanding Accepted)
+    outcome s (refuse_if (not (is_up u.clock.sent)) NothingOutstanding no_refusal)
     (with_clock u
     (record {
       trip = u.clock.trip;
@@ -126,7 +125,7 @@ clock_acknowledged_unit s u =
 -- a key acknowledgement names number O, which is 1 or more, and is accepted again and again (D22)
 unfoldable pub key_acknowledged_unit : ℕ → Shared → UnitRecord → Outcome Silence
 key_acknowledged_unit number s u =
-    outcome s (refuse_if (not (both (leb 1 number) (eqb number u.keys.offered))) NothingOutstanding Accepted)
+    outcome s (refuse_if (not (both (leb 1 number) (eqb number u.keys.offered))) NothingOutstanding no_refusal)
     (with_confirmation u (record { confirmed = u.confirmation.confirmed; acknowledged = 1 }))
     silent
 
@@ -134,4 +133,4 @@ key_acknowledged_unit number s u =
 unfoldable pub acknowledge_unit : Acknowledgement → Shared → UnitRecord → Outcome Silence
 acknowledge_unit a s u =
     pick (eqb a.kind clock_kind) (clock_acknowledged_unit s u)
-    (pick (eqb a.kind key_kind) (key_acknowledged_unit a.number s u) (outcome s (Refused NothingOutstanding) u silent))
+    (pick (eqb a.kind key_kind) (key_acknowledged_unit a.number s u) (outcome s (Err NothingOutstanding) u silent))

@@ -2,7 +2,6 @@
 use Rattle.std.specs.Prelude.{Bool, not, ℕ, ◌+◌, ◌%◌, leb, eqb}
 use Rattle.octets.specs.Choice.{both, pick}
 use Rattle.refusal.specs.declared.Refusal.TheVariants.{NoKey, EpamDiffers, ClearEnvelope}
-use Rattle.refusal.specs.declared.Verdict.{Verdict}
 use Rattle.clock.specs.Ticks.{epam_of}
 use Rattle.refusal.specs.Order.{refuse_if}
 use Rattle.ends.specs.Flags.{is_up}
@@ -20,6 +19,7 @@ use Rattle.protocol.specs.declared.KeyChoice.{KeyChoice}
 use Rattle.protocol.specs.declared.KeyChoice.TheVariants.{Clear, Current, Next, Barred}
 use Rattle.protocol.specs.declared.Passage.{Passage}
 use Rattle.protocol.specs.declared.Sending.{Sending}
+use Rattle.refusal.specs.Verdict.{Verdict}
 
 ---- send: 5, 12, 13
 

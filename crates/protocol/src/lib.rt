@@ -17,7 +17,8 @@ pub struct KeyMessage {
     pub key: [u8; 16],
 }
 
-// The kinds of acknowledgements: of a clock message, and of a key message.
+// The kinds of acknowledgements: of a clock message, and of a key message. Numbers and no enum: C gives and reads an `Acknowledgement`, with
+// any octet for its kind.
 pub const CLOCK_KIND: u8 = 1;
 
 pub const KEY_KIND: u8 = 2;

@@ -11,10 +11,10 @@ pub fn advance_verdict(tick: u64, n: u64) -> Verdict
     ensures { result ≡ advance_verdict tick n }
 {
     if MAX_TICK < tick {
-        return Verdict::Refused(Refusal::AtEnd);
+        return Err(Refusal::AtEnd);
     }
     if MAX_TICK - tick < n {
-        return Verdict::Refused(Refusal::AtEnd);
+        return Err(Refusal::AtEnd);
     }
-    Verdict::Accepted
+    Ok(())
 }

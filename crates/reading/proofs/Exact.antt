@@ -1,5 +1,6 @@
 -- Reading with a clock that follows the sender's is reading the block with the sender's clocks in it: each header has the same verdict, and
 -- what is written of a record does not depend on its clock field, which stays as recorded. Assumes nothing.
+use Rattle.std.specs.Prelude.{Ok, Err}
 use mathlib.Core.Path.{◌≡◌, refl, sym, ap, ap₂, ◌∙◌}
 use mathlib.Core.Bool.{true, false}
 use mathlib.Core.List.{List, ◌++◌}
@@ -14,26 +15,21 @@ use Rattle.octets.specs.Choice.{both, either, pick}
 use Rattle.octets.specs.Output.{WithOutput}
 use Rattle.octets.proofs.BigEndian.{octets_length, number_same}
 use Rattle.octets.proofs.Lists.{sum_ext, drop_part}
-use Rattle.refusal.specs.declared.Verdict.TheVariants.{Accepted}
 use Rattle.clock.specs.Ticks.{clock_turn}
 use Rattle.envelope.specs.ControlMask.{count_enciphered, runs}
 use Rattle.cipher.specs.KeyExpansion.{key_expansion}
 use Rattle.sealing.specs.Payload.{sealed}
 use Rattle.records.specs.declared.header.Header.{Header}
-use Rattle.records.specs.declared.header.RecordVerdict.{RecordVerdict}
-use Rattle.records.specs.declared.header.RecordVerdict.TheVariants.{Clear, Sealed}
 use Rattle.records.specs.Settings.{key_of, presence_of, presence_fits, settings_verdict}
 use Rattle.records.specs.Record.{record_header, payload_of, sized}
 use Rattle.records.specs.Place.{end_fits}
-use Rattle.records.specs.Verdict.{cleared_flags, verdict_for, verdict_of}
+use Rattle.records.specs.Verdict.{cleared_flags, verdict_for, verdict_of, RecordVerdict}
 use Rattle.records.specs.Block.{records_in, offset_of, length_of, end_of, due_of, record_of}
 use Rattle.records.specs.Following.{header_of, near_verdict, with_clock, slipped_settings, slipped_block}
 use Rattle.records.proofs.Following.{kept}
 use Rattle.rows.specs.Text.{key_glyph, row_head, row_middle, row_tail, row_of}
-use Rattle.directory.specs.declared.Directory.TheVariants.{Good}
-use Rattle.reading.specs.declared.OpenAnswer.{OpenAnswer}
 use Rattle.directory.specs.Directory.{chained, pair_of, size_fits, with_pair, pairs_from, directory_of}
-use Rattle.reading.specs.Opening.{record_nonce, written_as, added_as, opened_record, record_adds, opened_block, block_adds, expansions, open_verdict}
+use Rattle.reading.specs.Opening.{OpenAnswer, record_nonce, written_as, added_as, opened_record, record_adds, opened_block, block_adds, expansions, open_verdict}
 use Rattle.directory.specs.Rebuilt.{joined, rebuilt}
 use Rattle.reading.specs.Reading.{record_by, adds_by, total_by, opening_as, opening_by, row_by, body_as, listing_by}
 use Rattle.reading.specs.Near.{clock_field, with_field, as_sent, as_recorded, ClockFollows, ReadsAsExact, NotEmpty}
@@ -43,6 +39,8 @@ use Rattle.directory.proofs.Rebuilding.{same_octets, same_count, record_is, good
 use Rattle.reading.proofs.Opening.{written_length, callable, opening_done}
 use Rattle.reading.proofs.Reopening.{opened_is, accepts_again}
 use Rattle.reading.proofs.Readings.{listing_usual}
+use Rattle.records.specs.declared.header.Access.TheVariants.{Clear, Sealed}
+use Rattle.refusal.specs.Verdict.{no_refusal}
 
 ---- a record with other octets in its clock field
 module _ (r x : List ℕ) (h : 16 ≤ length r) (l : length x ≡ 6) where
@@ -154,9 +152,9 @@ clock_number n =
 module _ (s r x : List ℕ) (h : 16 ≤ length r) (l : length x ≡ 6) where
   written_back : (v : RecordVerdict) → with_field (written_as s (with_field r x) v) (clock_field r) ≡ written_as s r v
   unfolding written_as payload_of
-  written_back Clear = put_back-holds (with_field r x) r (field_front r x h l) (field_rest r x h l)
-  written_back (RecordVerdict.Refused c) = put_back-holds (with_field r x) r (field_front r x h l) (field_rest r x h l)
-  written_back (Sealed i t) =
+  written_back (Ok Clear) = put_back-holds (with_field r x) r (field_front r x h l) (field_rest r x h l)
+  written_back (Err c) = put_back-holds (with_field r x) r (field_front r x h l) (field_rest r x h l)
+  written_back (Ok (Sealed i t)) =
       let f = with_field r x in
       let flags = cleared_flags (record_header r).flags in
       let ys = sealed (key_expansion (key_of s i)) (record_nonce s (record_header r) t) (drop 16 r) in
@@ -170,9 +168,9 @@ module _ (s r x : List ℕ) (h : 16 ≤ length r) (l : length x ≡ 6) where
 
   added_same : (g : List ℕ → ℕ) (v : RecordVerdict) → added_as g (with_field r x) v ≡ added_as g r v
   unfolding added_as payload_of
-  added_same g Clear = refl
-  added_same g (RecordVerdict.Refused c) = refl
-  added_same g (Sealed i t) = ap g (field_payload r x h l)
+  added_same g (Ok Clear) = refl
+  added_same g (Err c) = refl
+  added_same g (Ok (Sealed i t)) = ap g (field_payload r x h l)
 
 row_clock : (k : ℕ) (h : Header) (t : ℕ) (v : RecordVerdict) → row_of k (with_clock h t) v ≡ row_of k h v
 unfolding row_of row_head row_middle row_tail key_glyph
@@ -201,7 +199,7 @@ module _ (sent : ℕ → ℕ) (s b : List ℕ) (r : Records b (records_in b)) (f
   sent_count : records_in (as_sent sent b) ≡ records_in b
   sent_count = same_count sent_record b (records_in b) r sizes
 
-  sent_good : directory_of (as_sent sent b) ≡ Good (records_in b)
+  sent_good : directory_of (as_sent sent b) ≡ Ok (records_in b)
   sent_good = good_again sent_record b (records_in b) r sizes (λ i h. field_sized (record_of b i) (field i) (there i h) (six i))
 
   sent_header : (i : ℕ) → i < records_in b → record_header (sent_record i) ≡ with_clock (header_of b i) (sent i % clock_turn)
@@ -259,13 +257,14 @@ module _ (sent : ℕ → ℕ) (s b : List ℕ) (r : Records b (records_in b)) (f
       (sym (row_clock (i + 1) (header_of b i) (sent i % clock_turn) _))))
 
 -- of an accepted call
-opening_near : (s b out : List ℕ) → open_verdict s b (length out) ≡ Accepted
-    → ((opening_by true s b out).answer.opened ≡ OpenAnswer.Done (total_by true count_enciphered s b) (total_by true runs s b) (expansions s))
+opening_near : (s b out : List ℕ) → open_verdict s b (length out) ≡ no_refusal
+    → ((opening_by true s b out).answer.opened
+    ≡ Ok (record { count = total_by true count_enciphered s b; runs = total_by true runs s b; expansions = expansions s }))
     × ((opening_by true s b out).output ≡ rebuilt (record_by true s b) b)
 unfolding opening_by opening_as
 opening_near s b out e = (rw e, rw e)
 
-listing_near : (s b t c : List ℕ) → open_verdict s b (length b) ≡ Accepted → open_verdict t c (length c) ≡ Accepted
+listing_near : (s b t c : List ℕ) → open_verdict s b (length b) ≡ no_refusal → open_verdict t c (length c) ≡ no_refusal
     → joined (row_by true s b) 0 (records_in b) ≡ joined (row_by false t c) 0 (records_in c) → listing_by true s b ≡ listing_by false t c
 unfolding listing_by body_as
 listing_near s b t c e f rows = rw (e, f, rows)
@@ -275,14 +274,15 @@ reads_as_exact s b out sent v follows =
     let c = callable s b (length out) v in
     let r = good b (records_in b) c.good in
     let sent-octets = same_octets (sent_record sent s b r follows) b (records_in b) r (sizes sent s b r follows) in
-    let accepts : (m : ℕ) → m ≡ length b → open_verdict s (as_sent sent b) m ≡ Accepted =
+    let accepts : (m : ℕ) → m ≡ length b → open_verdict s (as_sent sent b) m ≡ no_refusal =
     λ m e. accepts_again s (as_sent sent b) m (records_in b) c.accepted (e ∙ sym sent-octets) (sent_good sent s b r follows) in
     let usual = opening_done s (as_sent sent b) out (accepts (length out) c.size) in
     let near = opening_near s b out v in
     record {
       verdicts = verdicts sent s b r follows;
       answer = near.0
-          ∙ ap₂ (λ (x y : ℕ). OpenAnswer.Done x y (expansions s)) (same_total sent s b r follows count_enciphered) (same_total sent s b r follows runs)
+          ∙ ap₂ (λ (x y : ℕ). Ok (record { count = x; runs = y; expansions = expansions s }))
+          (same_total sent s b r follows count_enciphered) (same_total sent s b r follows runs)
           ∙ ap (λ (o : WithOutput OpenAnswer). o.answer) usual;
       output = near.1 ∙ same_block sent s b r follows ∙ ap (λ (o : WithOutput OpenAnswer). as_recorded b o.output) usual;
       listing = listing_near s b s (as_sent sent b) (accepts_again s b (length b) (records_in b) c.accepted refl c.good)
@@ -291,11 +291,11 @@ reads_as_exact s b out sent v follows =
     }
 
 -- the block that slipped is accepted
-slipped_settings-holds : settings_verdict slipped_settings ≡ Accepted
+slipped_settings-holds : settings_verdict slipped_settings ≡ no_refusal
 unfolding settings_verdict presence_fits presence_of bit_of low_cleared pick
 slipped_settings-holds = refl
 
-slipped_directory : directory_of slipped_block ≡ Good 2
+slipped_directory : directory_of slipped_block ≡ Ok 2
 unfolding directory_of pairs_from with_pair pair_of chained size_fits sized records_in offset_of length_of end_of due_of record_of
     record_header end_fits both either pick
 slipped_directory = refl

@@ -5,8 +5,8 @@ use lib.ListN.{length}
 use Rattle.rows.specs.Text.{row_of}
 use Rattle.rows.proofs.Lines.{decimal_below, row_few}
 use Rattle.records.specs.declared.header.Header.{Header}
-use Rattle.records.specs.declared.header.RecordVerdict.{RecordVerdict}
 use Rattle.reading.specs.Listing.{line_octets}
+use Rattle.records.specs.Verdict.{RecordVerdict}
 
 -- a row whose numbers have at most four digits
 pub row_short : (k : ℕ) (h : Header) (v : RecordVerdict) → k < 10000 → h.eqs < 10000 → length (row_of k h v) ≤ line_octets

@@ -6,12 +6,11 @@ use native.Mathlib.Omega.{arith}
 use lib.ListN.{length, take, drop}
 use Rattle.octets.specs.Lists.{sum}
 use Rattle.octets.proofs.Lists.{sum_more, sum_below}
-use Rattle.records.specs.declared.header.Header.{Header}
 use Rattle.records.specs.declared.near.Drift.{Drift}
 use Rattle.records.specs.Record.{record_octets}
-use Rattle.records.specs.Block.{most_octets, most_records, directory_octets, records_in, due_of, record_of, header_from}
+use Rattle.records.specs.Block.{most_octets, most_records, records_in, due_of, record_of, header_from}
 use Rattle.directory.specs.Rebuilt.{rebuilt}
-use Rattle.directory.proofs.Records.{Records, Reached}
+use Rattle.directory.proofs.Records.{Records}
 use Rattle.directory.proofs.Rebuilding.{up_to, none_rebuilt, still_block, one_rebuilt, all_rebuilt}
 
 -- what a record adds has room in a sum of 64 bits
@@ -42,38 +41,37 @@ pub record Opened (p : Plan) (b : List ℕ) (n : ℕ) (out : List ℕ) (x y from
   pub output : out ≡ up_to p.written b i ++ drop (due_of b i) b
 
 module _ {p : Plan} {b : List ℕ} {n : ℕ} (s : Suits p b n) where
-  pub none_opened : {out : List ℕ} {from : ℕ} {d : Drift} → out ≡ b → from ≡ directory_octets n → d ≡ p.drift 0
+  pub none_opened : {out : List ℕ} {from : ℕ} {d : Drift} → out ≡ b → from ≡ due_of b 0 → d ≡ p.drift 0
       → Opened p b n out 0 0 from d 0
-  unfolding due_of
   none_opened e f g =
       record {
         few = omega arith;
         size = ap length e;
         count = refl;
         runs = refl;
-        place = f ∙ rw s.records.count;
+        place = f;
         drift = g;
         output = e ∙ none_rebuilt p.written b n s.records s.sizes;
       }
 
   module _ {out : List ℕ} {x y from : ℕ} {d : Drift} {i : ℕ} (o : Opened p b n out x y from d i) where
-    -- from record i on the output is the block
-    pub still_copied : i < n → drop from out ≡ drop from b
-    still_copied h = rw o.place (still_block p.written b n s.records s.sizes out i h o.output)
+    -- from record i on, which starts at `at`, the output is the block
+    pub still_copied : {at : ℕ} → at ≡ due_of b i → i < n → drop at out ≡ drop at b
+    still_copied d h = rw d (still_block p.written b n s.records s.sizes out i h o.output)
 
-    pub one_opened : {next w : List ℕ} {u v len : ℕ} {h : Header} {e : Drift} → Reached b n i from h → i < n → length next ≡ length out
-        → u ≡ p.count i → v ≡ p.runs i → len ≡ record_octets h.eqs → e ≡ p.drift (i + 1)
-        → next ≡ take from out ++ (w ++ drop (from + record_octets (header_from b from).eqs) b) → w ≡ p.written i
-        → Opened p b n next (x + u) (y + v) (from + len) e (i + 1)
-    one_opened {next} z h l eu ev el ed en ew =
+    pub one_opened : {next w : List ℕ} {u v at to : ℕ} {e : Drift} → at ≡ due_of b i → i < n → length next ≡ length out
+        → u ≡ p.count i → v ≡ p.runs i → to ≡ due_of b (i + 1) → e ≡ p.drift (i + 1)
+        → next ≡ take at out ++ (w ++ drop (at + record_octets (header_from b at).eqs) b) → w ≡ p.written i
+        → Opened p b n next (x + u) (y + v) to e (i + 1)
+    one_opened {next} d h l eu ev et ed en ew =
         record {
           few = omega arith;
           size = l ∙ o.size;
           count = rw (o.count, eu) (sym (sum_more p.count i));
           runs = rw (o.runs, ev) (sym (sum_more p.runs i));
-          place = rw el z.next;
+          place = et;
           drift = ed;
-          output = one_rebuilt p.written b n s.records s.sizes out i h o.output next (en ∙ rw (ew, o.place));
+          output = one_rebuilt p.written b n s.records s.sizes out i h o.output next (en ∙ rw (ew, d));
         }
 
     -- once all are written

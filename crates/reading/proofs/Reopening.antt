@@ -1,4 +1,5 @@
 -- Laws of an opened block: its records are clear, and opened again it stays as it is. Assumes nothing.
+use Rattle.std.specs.Prelude.{Ok, Err}
 use mathlib.Core.Path.{◌≡◌, refl, sym, ap, ◌∙◌}
 use mathlib.Core.Bool.{true, false}
 use mathlib.Core.List.{List, ◌++◌}
@@ -17,23 +18,18 @@ use Rattle.octets.proofs.Choice.{both_left, both_right, both_true, not_of_true}
 use Rattle.octets.proofs.Lists.{sum_ext}
 use Rattle.octets.specs.Output.{with_output}
 use Rattle.refusal.specs.declared.Refusal.TheVariants.{BadLength}
-use Rattle.refusal.specs.declared.Verdict.TheVariants.{Accepted}
 use Rattle.refusal.specs.Order.{and_then}
 use Rattle.refusal.proofs.Order.{refuse_passed}
 use Rattle.cipher.specs.KeyExpansion.{key_expansion}
 use Rattle.sealing.specs.Payload.{sealed}
 use Rattle.records.specs.declared.header.Header.{Header}
-use Rattle.records.specs.declared.header.RecordVerdict.{RecordVerdict}
-use Rattle.records.specs.declared.header.RecordVerdict.TheVariants.{Clear, Sealed}
-use Rattle.directory.specs.declared.Directory.TheVariants.{Good}
-use Rattle.reading.specs.declared.OpenAnswer.TheVariants.{Done}
 use Rattle.octets.proofs.Bits.{bit_below}
 use Rattle.envelope.specs.ControlMask.{count_enciphered, runs}
 use Rattle.records.specs.Settings.{key_of, presence_of, llid_of, settings_verdict}
 use Rattle.records.specs.Record.{record_header, payload_of, sized}
 use Rattle.records.specs.Block.{records_in, offset_of, length_of, record_of}
 use Rattle.directory.specs.Directory.{directory_of}
-use Rattle.records.specs.Verdict.{enc_enabled, cleared_flags, flags_fit, header_fits, record_verdict, verdict_for, verdict_of}
+use Rattle.records.specs.Verdict.{enc_enabled, cleared_flags, flags_fit, header_fits, record_verdict, verdict_for, verdict_of, RecordVerdict}
 use Rattle.reading.specs.Opening.{record_nonce, cleared, written_as, opened_record, record_adds, opened_from, opened_block, block_adds, expansions, open_verdict, opening}
 use Rattle.reading.specs.Claims.{Opened}
 use Rattle.directory.specs.Rebuilt.{joined, rebuilt}
@@ -41,6 +37,8 @@ use Rattle.directory.proofs.Records.{Records, good, header_there}
 use Rattle.directory.proofs.Rebuilding.{same_octets, same_directory, same_count, own_record, record_is, good_again, rebuilt_again, rebuilt_ext}
 use Rattle.records.proofs.Verdicts.{Openable, openable, by_key, is_clear}
 use Rattle.reading.proofs.Opening.{opened_length, clear_record, refused_record, callable, opening_done}
+use Rattle.records.specs.declared.header.Access.TheVariants.{Clear, Sealed}
+use Rattle.refusal.specs.Verdict.{no_refusal}
 
 ---- an opened record is clear
 with_flags : Header → ℕ → Header
@@ -90,25 +88,25 @@ unfolding header_fits flags_fit
 no_flags h f = eqb-true _ _ (both_left _ _ (both_right _ _ (both_right _ _ f)))
 
 now_clear : (presence llid t : ℕ) (h : Header) (i u : ℕ) → Openable presence llid t h i u
-    → record_verdict presence llid t (with_flags h (cleared_flags h.flags)) ≡ Clear
+    → record_verdict presence llid t (with_flags h (cleared_flags h.flags)) ≡ (Ok Clear)
 unfolding with_flags
 now_clear presence llid t h i u o =
     rw (no_flags h o.fits)
     (sym (is_clear presence t 0 not_enabled ∙ by_key presence llid t (with_flags h 0) (cleared_fits h o.fits) o.own o.epam))
 
-is_written : (s r : List ℕ) (i t : ℕ) → verdict_of s r ≡ Sealed i t
+is_written : (s r : List ℕ) (i t : ℕ) → verdict_of s r ≡ Ok (Sealed i t)
     → opened_record s r ≡ take 16 (cleared r) ++ sealed (key_expansion (key_of s i)) (record_nonce s (record_header r) t) (payload_of r)
 unfolding opened_record written_as
 is_written s r i t e = rw e
 
 -- an opened record is written as it is, and adds nothing
-opened_once : (s r : List ℕ) (i t : ℕ) → 16 ≤ length r → verdict_of s r ≡ Sealed i t
+opened_once : (s r : List ℕ) (i t : ℕ) → 16 ≤ length r → verdict_of s r ≡ Ok (Sealed i t)
     → (opened_record s (opened_record s r) ≡ opened_record s r) × ((g : List ℕ → ℕ) → record_adds g s (opened_record s r) ≡ 0)
 unfolding verdict_for with_flags
 opened_once s r i t h e =
     let ys = sealed (key_expansion (key_of s i)) (record_nonce s (record_header r) t) (payload_of r) in
     let w : opened_record s r ≡ take 16 (cleared r) ++ ys = is_written s r i t e in
-    let clear : verdict_of s (take 16 (cleared r) ++ ys) ≡ Clear =
+    let clear : verdict_of s (take 16 (cleared r) ++ ys) ≡ (Ok Clear) =
     ap (λ (q : Header). record_verdict (presence_of s) (llid_of s) q.clock q) (flags_only r ys (cleared_flags (record_header r).flags) h)
     ∙ now_clear (presence_of s) (llid_of s) _ (record_header r) i t (openable (presence_of s) (llid_of s) _ (record_header r) i t e) in
     let k = clear_record s (take 16 (cleared r) ++ ys) clear in
@@ -116,9 +114,9 @@ opened_once s r i t h e =
 
 by_verdict-holds : (s r : List ℕ) (v : RecordVerdict) → 16 ≤ length r → verdict_of s r ≡ v
     → (opened_record s (opened_record s r) ≡ opened_record s r) × ((g : List ℕ → ℕ) → record_adds g s (opened_record s r) ≡ 0)
-by_verdict-holds s r Clear h e = let k = clear_record s r e in (ap (opened_record s) k.0, λ g. rw k.0 (k.1 g))
-by_verdict-holds s r (RecordVerdict.Refused c) h e = let k = refused_record s r c e in (ap (opened_record s) k.0, λ g. rw k.0 (k.1 g))
-by_verdict-holds s r (Sealed i t) h e = opened_once s r i t h e
+by_verdict-holds s r (Ok Clear) h e = let k = clear_record s r e in (ap (opened_record s) k.0, λ g. rw k.0 (k.1 g))
+by_verdict-holds s r (Err c) h e = let k = refused_record s r c e in (ap (opened_record s) k.0, λ g. rw k.0 (k.1 g))
+by_verdict-holds s r (Ok (Sealed i t)) h e = opened_once s r i t h e
 
 record_again : (s r : List ℕ) → 16 ≤ length r
     → (opened_record s (opened_record s r) ≡ opened_record s r) × ((g : List ℕ → ℕ) → record_adds g s (opened_record s r) ≡ 0)
@@ -128,9 +126,9 @@ record_again s r h = by_verdict-holds s r (verdict_of s r) h refl
 same_eqs : (s r : List ℕ) (v : RecordVerdict) → 16 ≤ length r → verdict_of s r ≡ v
     → (record_header (opened_record s r)).eqs ≡ (record_header r).eqs
 unfolding with_flags
-same_eqs s r Clear h e = ap (λ (t : List ℕ). (record_header t).eqs) (clear_record s r e).0
-same_eqs s r (RecordVerdict.Refused c) h e = ap (λ (t : List ℕ). (record_header t).eqs) (refused_record s r c e).0
-same_eqs s r (Sealed i t) h e =
+same_eqs s r (Ok Clear) h e = ap (λ (t : List ℕ). (record_header t).eqs) (clear_record s r e).0
+same_eqs s r (Err c) h e = ap (λ (t : List ℕ). (record_header t).eqs) (refused_record s r c e).0
+same_eqs s r (Ok (Sealed i t)) h e =
     ap (λ (w : List ℕ). (record_header w).eqs) (is_written s r i t e) ∙ ap (λ (q : Header). q.eqs) (flags_only r _ _ h)
 
 same_sized : (s r : List ℕ) → 16 ≤ length r → sized (opened_record s r) ≡ sized r
@@ -167,7 +165,7 @@ module _ (s b : List ℕ) (n : ℕ) (r : Records b n) where
   opened_octets : length (opened_block s b) ≡ length b
   opened_octets = ap length (opened_is s b) ∙ same_octets (opened_in s b) b n r sizes
 
-  opened_good : directory_of (opened_block s b) ≡ Good n
+  opened_good : directory_of (opened_block s b) ≡ Ok n
   opened_good =
       ap directory_of (opened_is s b)
       ∙ good_again (opened_in s b) b n r sizes (λ i h. same_sized s (record_of b i) (header_there b n r i h))
@@ -190,13 +188,13 @@ module _ (s b : List ℕ) (n : ℕ) (r : Records b n) where
       (λ j l h. rw (there j (omega arith)) ((record_again s (record_of b j) (header_there b n r j (omega arith))).1 g))
       ∙ no_sum 0 n)
 
-pub accepts_again : (s b : List ℕ) (m n : ℕ) → settings_verdict s ≡ Accepted → m ≡ length b → directory_of b ≡ Good n
-    → open_verdict s b m ≡ Accepted
+pub accepts_again : (s b : List ℕ) (m n : ℕ) → settings_verdict s ≡ no_refusal → m ≡ length b → directory_of b ≡ Ok n
+    → open_verdict s b m ≡ no_refusal
 unfolding open_verdict and_then
 accepts_again s b m n t e d = refuse_passed _ BadLength _ (not_of_true (eq-eqb _ _ e)) ∙ rw (t, d)
 
 -- the claims of an accepted call
-pub opened : (s b : List ℕ) (size : ℕ) → open_verdict s b size ≡ Accepted → Opened s b
+pub opened : (s b : List ℕ) (size : ℕ) → open_verdict s b size ≡ no_refusal → Opened s b
 unfolding expansions
 opened s b size v =
     let c = callable s b size v in
@@ -209,8 +207,8 @@ opened s b size v =
       again = λ out l. again out l c.accepted r;
       few = omega (arith, bit_below (presence_of s) 0, bit_below (presence_of s) 1);
     } where
-      again : (out : List ℕ) → length out ≡ length b → settings_verdict s ≡ Accepted → Records b (records_in b)
-          → opening s (opened_block s b) out ≡ with_output (Done 0 0 (expansions s)) (opened_block s b)
+      again : (out : List ℕ) → length out ≡ length b → settings_verdict s ≡ no_refusal → Records b (records_in b)
+          → opening s (opened_block s b) out ≡ with_output (Ok (record { count = 0; runs = 0; expansions = expansions s })) (opened_block s b)
       again out l t r =
           let n = records_in b in
           sym (opening_done s (opened_block s b) out

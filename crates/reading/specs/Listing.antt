@@ -1,12 +1,11 @@
 -- The listing of a capture block, as ASCII codes (01, Capture block: the reader program). Assumes nothing.
-use Rattle.std.specs.Prelude.{List, [], ◌∷◌, ◌++◌, ℕ, zero, suc, ◌+◌, ◌*◌, length}
-use Rattle.refusal.specs.declared.Verdict.{Verdict}
-use Rattle.refusal.specs.declared.Verdict.TheVariants.{Accepted, Refused}
+use Rattle.std.specs.Prelude.{List, [], ◌∷◌, ◌++◌, ℕ, zero, suc, ◌+◌, ◌*◌, length, Ok, Err}
 use Rattle.records.specs.Record.{record_header}
 use Rattle.records.specs.Verdict.{verdict_of}
 use Rattle.rows.specs.Text.{row_of, refused_row}
 use Rattle.records.specs.Block.{most_records, records_in, record_of}
 use Rattle.reading.specs.Opening.{open_verdict}
+use Rattle.refusal.specs.Verdict.{Verdict}
 
 -- the row of record i
 abbrev pub row_at : List ℕ → List ℕ → ℕ → List ℕ
@@ -32,8 +31,8 @@ heading_text =
 
 -- a refused call prints its code, an accepted one a row for each record (D82)
 unfoldable pub body_after : List ℕ → List ℕ → Verdict → List ℕ
-body_after s b Accepted = rows_from s b 0 (records_in b)
-body_after s b (Refused r) = refused_row r
+body_after s b (Ok tt) = rows_from s b 0 (records_in b)
+body_after s b (Err r) = refused_row r
 
 abbrev pub body_of : List ℕ → List ℕ → List ℕ
 body_of s b = body_after s b (open_verdict s b (length b))

@@ -3,7 +3,6 @@
 use Rattle.std.specs.Prelude.{◌≡◌, true, List, ◌++◌, ℕ, ◌+◌, ◌<◌, length, take, drop}
 use Rattle.octets.specs.BigEndian.{octets_of}
 use Rattle.octets.specs.Lists.{part}
-use Rattle.refusal.specs.declared.Verdict.TheVariants.{Accepted}
 use Rattle.records.specs.Settings.{llid_of}
 use Rattle.records.specs.Verdict.{verdict_of}
 use Rattle.records.specs.Block.{records_in, record_of}
@@ -13,6 +12,7 @@ use Rattle.reading.specs.Opening.{open_verdict, opening}
 use Rattle.reading.specs.Listing.{listing_of}
 use Rattle.directory.specs.Rebuilt.{rebuilt}
 use Rattle.reading.specs.Reading.{opening_by, listing_by}
+use Rattle.refusal.specs.Verdict.{no_refusal}
 
 -- the place of a record's clock field, and its octets
 abbrev pub clock_at : ℕ
@@ -56,9 +56,9 @@ ClockFollows sent s b = (i : ℕ) → i < records_in b → own (llid_of s) (head
 
 -- the promise, of a call that is accepted (D87)
 abbrev pub ReadsAsExact : List ℕ → List ℕ → List ℕ → Type 0
-ReadsAsExact s b out = (sent : ℕ → ℕ) → open_verdict s b (length out) ≡ Accepted → ClockFollows sent s b → AsIfExact sent s b out
+ReadsAsExact s b out = (sent : ℕ → ℕ) → open_verdict s b (length out) ≡ no_refusal → ClockFollows sent s b → AsIfExact sent s b out
 
 -- and that there is a block to which it applies: records/Following has it
 pub record NotEmpty : Type 0 where
-  pub accepted : open_verdict slipped_settings slipped_block (length slipped_block) ≡ Accepted
+  pub accepted : open_verdict slipped_settings slipped_block (length slipped_block) ≡ no_refusal
   pub follows : ClockFollows slipped_sent slipped_settings slipped_block

@@ -1,11 +1,10 @@
 -- Opening a capture block b under the settings s (01, Capture block). Assumes nothing.
-use Rattle.std.specs.Prelude.{not, List, [], ◌++◌, ℕ, zero, suc, ◌+◌, eqb, length, take, set}
+use Rattle.std.specs.Prelude.{not, List, [], ◌++◌, ℕ, zero, suc, ◌+◌, eqb, length, take, set, Result, Ok, Err}
 use Rattle.octets.specs.Bits.{bit_of}
 use Rattle.octets.specs.Lists.{sum}
 use Rattle.octets.specs.Output.{WithOutput}
+use Rattle.refusal.specs.declared.Refusal.{Refusal}
 use Rattle.refusal.specs.declared.Refusal.TheVariants.{BadLength}
-use Rattle.refusal.specs.declared.Verdict.{Verdict}
-use Rattle.refusal.specs.declared.Verdict.TheVariants.{Accepted}
 use Rattle.refusal.specs.Number.{number_of, pair_number}
 use Rattle.refusal.specs.Order.{refuse_if, and_then}
 use Rattle.envelope.specs.ControlMask.{count_enciphered, runs}
@@ -13,15 +12,14 @@ use Rattle.envelope.specs.declared.Nonce.{Nonce}
 use Rattle.cipher.specs.KeyExpansion.{key_expansion}
 use Rattle.sealing.specs.Payload.{sealed}
 use Rattle.records.specs.declared.header.Header.{Header}
-use Rattle.records.specs.declared.header.RecordVerdict.{RecordVerdict}
-use Rattle.records.specs.declared.header.RecordVerdict.TheVariants.{Clear, Sealed}
-use Rattle.reading.specs.declared.OpenAnswer.{OpenAnswer}
-use Rattle.reading.specs.declared.OpenAnswer.TheVariants.{Done, Denied}
+use Rattle.reading.specs.declared.Opened.{Opened}
 use Rattle.records.specs.Settings.{key_of, mac_of, presence_of, settings_verdict}
 use Rattle.records.specs.Record.{header_octets, flags_at, record_header, payload_of}
 use Rattle.records.specs.Block.{directory_octets, records_in, record_of}
 use Rattle.directory.specs.Directory.{verdict_on, directory_of}
-use Rattle.records.specs.Verdict.{cleared_flags, verdict_of}
+use Rattle.records.specs.Verdict.{cleared_flags, verdict_of, RecordVerdict}
+use Rattle.records.specs.declared.header.Access.TheVariants.{Clear, Sealed}
+use Rattle.refusal.specs.Verdict.{Verdict}
 
 -- what the counter blocks of a record with the header h are made of, at the clock t: one MAC for both directions (D76)
 abbrev pub record_nonce : List ℕ → Header → ℕ → Nonce
@@ -33,15 +31,15 @@ cleared r = set r flags_at (cleared_flags (record_header r).flags)
 
 -- a record as the verdict has it written: refused and clear ones are copied unchanged
 unfoldable pub written_as : List ℕ → List ℕ → RecordVerdict → List ℕ
-written_as s r (Sealed i t) = take header_octets (cleared r) ++ sealed (key_expansion (key_of s i)) (record_nonce s (record_header r) t) (payload_of r)
-written_as s r Clear = r
-written_as s r (RecordVerdict.Refused c) = r
+written_as s r (Ok (Sealed i t)) = take header_octets (cleared r) ++ sealed (key_expansion (key_of s i)) (record_nonce s (record_header r) t) (payload_of r)
+written_as s r (Ok Clear) = r
+written_as s r (Err c) = r
 
 -- what a record adds to a sum over payloads, as the verdict has it: clear and refused ones add nothing (D80)
 unfoldable pub added_as : (List ℕ → ℕ) → List ℕ → RecordVerdict → ℕ
-added_as f r (Sealed i t) = f (payload_of r)
-added_as f r Clear = 0
-added_as f r (RecordVerdict.Refused c) = 0
+added_as f r (Ok (Sealed i t)) = f (payload_of r)
+added_as f r (Ok Clear) = 0
+added_as f r (Err c) = 0
 
 unfoldable pub opened_record : List ℕ → List ℕ → List ℕ
 opened_record s r = written_as s r (verdict_of s r)
@@ -78,9 +76,14 @@ unfoldable pub open_verdict : List ℕ → List ℕ → ℕ → Verdict
 open_verdict s b output_octets =
     refuse_if (not (eqb output_octets (length b))) BadLength (and_then (settings_verdict s) (verdict_on (directory_of b)))
 
+-- what opening took, or its refusal
+abbrev pub OpenAnswer : Type 0
+OpenAnswer = Result Opened Refusal
+
 unfoldable pub opening_after : Verdict → List ℕ → List ℕ → List ℕ → WithOutput OpenAnswer
-opening_after Accepted s b out = record { answer = Done (block_count s b) (block_runs s b) (expansions s); output = opened_block s b }
-opening_after (Verdict.Refused r) s b out = record { answer = Denied r; output = out }
+opening_after (Ok tt) s b out =
+    record { answer = Ok (record { count = block_count s b; runs = block_runs s b; expansions = expansions s }); output = opened_block s b }
+opening_after (Err r) s b out = record { answer = Err r; output = out }
 
 -- out is the output as it was lent
 unfoldable pub opening : List ℕ → List ℕ → List ℕ → WithOutput OpenAnswer
@@ -88,21 +91,21 @@ opening s b out = opening_after (open_verdict s b (length out)) s b out
 
 -- the code of an answer, the pair that a refusal names, else 0, its count, runs and expansions
 abbrev pub open_number : OpenAnswer → ℕ
-open_number (Done count runs expanded) = 0
-open_number (Denied r) = number_of r
+open_number (Ok o) = 0
+open_number (Err r) = number_of r
 
 abbrev pub open_pair : OpenAnswer → ℕ
-open_pair (Done count runs expanded) = 0
-open_pair (Denied r) = pair_number r
+open_pair (Ok o) = 0
+open_pair (Err r) = pair_number r
 
 abbrev pub open_count : OpenAnswer → ℕ
-open_count (Done count runs expanded) = count
-open_count (Denied r) = 0
+open_count (Ok o) = o.count
+open_count (Err r) = 0
 
 abbrev pub open_runs : OpenAnswer → ℕ
-open_runs (Done count runs expanded) = runs
-open_runs (Denied r) = 0
+open_runs (Ok o) = o.runs
+open_runs (Err r) = 0
 
 abbrev pub open_expansions : OpenAnswer → ℕ
-open_expansions (Done count runs expanded) = expanded
-open_expansions (Denied r) = 0
+open_expansions (Ok o) = o.expansions
+open_expansions (Err r) = 0

@@ -1,23 +1,17 @@
 -- A capture block b read under the settings s: in the near way, with a receive clock that is known only nearly, or in the usual one
 -- (02, C-18). The usual way is that of Opening, Verdict and Listing. Assumes nothing.
-use Rattle.std.specs.Prelude.{Bool, List, ◌++◌, ℕ, ◌+◌, ◌-◌, eqb, length, drop}
+use Rattle.std.specs.Prelude.{Bool, List, ◌++◌, ℕ, ◌+◌, ◌-◌, eqb, length, drop, Result, Ok, Err}
 use Rattle.octets.specs.Choice.{pick}
 use Rattle.octets.specs.Lists.{sum, tabulate}
 use Rattle.octets.specs.Output.{WithOutput, with_output}
-use Rattle.refusal.specs.declared.Verdict.{Verdict}
-use Rattle.refusal.specs.declared.Verdict.TheVariants.{Accepted}
 use Rattle.envelope.specs.ControlMask.{count_enciphered, runs}
-use Rattle.records.specs.declared.header.RecordVerdict.{RecordVerdict}
 use Rattle.records.specs.declared.near.Drift.{Drift}
 use Rattle.records.specs.Settings.{settings_verdict}
-use Rattle.records.specs.Verdict.{verdict_of, record_number}
+use Rattle.records.specs.Verdict.{verdict_of, record_number, RecordVerdict}
 use Rattle.records.specs.Block.{most_records, records_in, record_of}
 use Rattle.records.specs.Near.{no_drift, signed_octet}
 use Rattle.records.specs.Following.{header_of, drift_at, near_verdict}
 use Rattle.rows.specs.Text.{row_of, refused_row}
-use Rattle.directory.specs.declared.Directory.{Directory}
-use Rattle.directory.specs.declared.Directory.TheVariants.{Good, Bad}
-use Rattle.reading.specs.declared.OpenAnswer.TheVariants.{Done, Denied}
 use Rattle.reading.specs.declared.NearAnswer.{NearAnswer}
 use Rattle.reading.specs.declared.NearVerdicts.{NearVerdicts}
 use Rattle.directory.specs.Payload.{payload_verdict}
@@ -25,6 +19,8 @@ use Rattle.reading.specs.Opening.{written_as, added_as, expansions, open_verdict
 use Rattle.reading.specs.Verdict.{after_call, call_directory}
 use Rattle.reading.specs.Listing.{heading_text}
 use Rattle.directory.specs.Rebuilt.{joined, rebuilt}
+use Rattle.refusal.specs.Verdict.{Verdict}
+use Rattle.refusal.specs.declared.Refusal.{Refusal}
 
 -- the corrections before record i, none in the usual way, and the verdict on it
 abbrev pub drift_by : Bool → List ℕ → List ℕ → ℕ → Drift
@@ -55,15 +51,15 @@ total_by near g s b = sum 0 (records_in b) (adds_by near g s b)
 
 -- a refused call has no corrections, and leaves the output as it was lent
 unfoldable pub opening_as : Bool → Verdict → List ℕ → List ℕ → List ℕ → WithOutput NearAnswer
-opening_as near Accepted s b out =
+opening_as near (Ok tt) s b out =
     with_output
     (record {
-      opened = Done (total_by near count_enciphered s b) (total_by near runs s b) (expansions s);
+      opened = Ok (record { count = total_by near count_enciphered s b; runs = total_by near runs s b; expansions = expansions s });
       smallest = smallest_by near s b;
       largest = largest_by near s b;
     })
     (rebuilt (record_by near s b) b)
-opening_as near (Verdict.Refused r) s b out = with_output (record { opened = Denied r; smallest = 0; largest = 0 }) out
+opening_as near (Err r) s b out = with_output (record { opened = Err r; smallest = 0; largest = 0 }) out
 
 -- 14, 1, 15, 18 and 19 are the same both ways; out is the output as it was lent
 unfoldable pub opening_by : Bool → List ℕ → List ℕ → List ℕ → WithOutput NearAnswer
@@ -78,10 +74,10 @@ asked_by near s b k = after_call (settings_verdict s) (after_call (payload_verdi
 unfoldable pub numbers_by : Bool → List ℕ → List ℕ → ℕ → List ℕ → List ℕ
 numbers_by near s b n out = tabulate 0 n (λ i. record_number (asked_by near s b (i + 1))) ++ drop n out
 
-abbrev pub judging_as : Bool → Directory → List ℕ → List ℕ → List ℕ → WithOutput NearVerdicts
-judging_as near (Good n) s b out =
-    with_output (record { directory = Good n; smallest = smallest_by near s b; largest = largest_by near s b }) (numbers_by near s b n out)
-judging_as near (Bad r) s b out = with_output (record { directory = Bad r; smallest = 0; largest = 0 }) out
+abbrev pub judging_as : Bool → Result ℕ Refusal → List ℕ → List ℕ → List ℕ → WithOutput NearVerdicts
+judging_as near (Ok n) s b out =
+    with_output (record { directory = Ok n; smallest = smallest_by near s b; largest = largest_by near s b }) (numbers_by near s b n out)
+judging_as near (Err r) s b out = with_output (record { directory = Err r; smallest = 0; largest = 0 }) out
 
 unfoldable pub judging_by : Bool → List ℕ → List ℕ → List ℕ → WithOutput NearVerdicts
 judging_by near s b out = judging_as near (call_directory (eqb (length out) most_records) s b) s b out
@@ -92,8 +88,8 @@ abbrev pub row_by : Bool → List ℕ → List ℕ → ℕ → List ℕ
 row_by near s b i = row_of (i + 1) (header_of b i) (verdict_by near s b i)
 
 unfoldable pub body_as : Bool → List ℕ → List ℕ → Verdict → List ℕ
-body_as near s b Accepted = joined (row_by near s b) 0 (records_in b)
-body_as near s b (Verdict.Refused r) = refused_row r
+body_as near s b (Ok tt) = joined (row_by near s b) 0 (records_in b)
+body_as near s b (Err r) = refused_row r
 
 abbrev pub body_by : Bool → List ℕ → List ℕ → List ℕ
 body_by near s b = body_as near s b (open_verdict s b (length b))

@@ -2,16 +2,17 @@
 // in `capture`.
 #![tactic(auto)]
 
-use directory::Directory;
 use refusal::Refusal;
 
-// What opening a block answers.
-#[derive(Clone, Copy)]
-pub enum OpenAnswer {
-    // the octets deciphered, the runs of the cipher, and the keys expanded
-    Done(u64, u64, u8),
-    Denied(Refusal),
+// What opening a block took: the octets deciphered, the runs of the cipher, and the keys expanded.
+#[derive(Clone, Copy, Debug, PartialEq, Eq)]
+pub struct Opened {
+    pub count: u64,
+    pub runs: u64,
+    pub expansions: u8,
 }
+
+pub type OpenAnswer = Result<Opened, Refusal>;
 
 // What a call in the near way answers, and its smallest and largest correction, each as the octet of a signed number.
 #[derive(Clone, Copy)]
@@ -24,7 +25,7 @@ pub struct NearAnswer {
 // What the call on all records finds in the near way, and its smallest and largest correction, each as the octet of a signed number.
 #[derive(Clone, Copy)]
 pub struct NearVerdicts {
-    pub directory: Directory,
+    pub directory: Result<u16, Refusal>,
     pub smallest: u8,
     pub largest: u8,
 }

@@ -1,4 +1,5 @@
 -- Laws of two blocks that are accepted: what `Compared` says of them. Assumes nothing.
+use Rattle.std.specs.Prelude.{Result, Ok, Err}
 use mathlib.Core.Path.{◌≡◌, refl, sym, ap, ◌∙◌}
 use mathlib.Core.Bool.{true, false, not}
 use mathlib.Core.List.{List, [], append-nil}
@@ -11,53 +12,49 @@ use Rattle.octets.specs.Choice.{pick}
 use Rattle.octets.specs.Lists.{tabulate, sum}
 use Rattle.octets.proofs.Choice.{both_false_left, not_of_true, pick_true, pick_false}
 use Rattle.octets.proofs.Lists.{tabulate_ext}
-use Rattle.refusal.specs.declared.Verdict.{Verdict}
-use Rattle.refusal.specs.declared.Verdict.TheVariants.{Accepted, Refused}
 use Rattle.refusal.proofs.Order.{refused_accepts, refuse_accepted, refuse_passed, then_accepted}
 use Rattle.records.specs.Block.{most_records, records_in, record_of}
-use Rattle.directory.specs.declared.Directory.{Directory}
-use Rattle.directory.specs.declared.Directory.TheVariants.{Good, Bad}
 use Rattle.directory.specs.Directory.{verdict_on, directory_of}
 use Rattle.directory.specs.Rebuilt.{joined}
 use Rattle.directory.proofs.Records.{good}
-use Rattle.recordings.specs.declared.verdict.Ruling.{Ruling}
-use Rattle.recordings.specs.declared.verdict.Ruling.TheVariants.{Taken}
 use Rattle.sameness.specs.Pairing.{partner_of, alone, distinct}
 use Rattle.sameness.specs.Sameness.{same}
-use Rattle.recordings.specs.Comparing.{output_octets, same_mark, different_mark, mark_at, mark_of, alone_entry, entries_of, alone_at, alone_of, total_of, block_verdict, repeat_verdict, ruled, ruling_on}
+use Rattle.recordings.specs.Comparing.{output_octets, same_mark, different_mark, mark_at, mark_of, alone_entry, entries_of, alone_at, alone_of, total_of, block_verdict, repeat_verdict, ruled, ruling_on, Ruling, no_denial}
 use Rattle.recordings.specs.Laws.{Pairs, Compared}
 use Rattle.recordings.specs.Duties.{Comparable}
 use Rattle.sameness.proofs.Pairing.{paired_self, paired_back, paired_through, only_one, partner_is, not_alone}
 use Rattle.recordings.proofs.Before.{finer, total_before-holds}
 use Rattle.sameness.proofs.Sameness.{same_self, same_either_way}
+use Rattle.refusal.specs.Verdict.{Verdict, no_refusal}
+use Rattle.refusal.specs.declared.Refusal.{Refusal}
 
 ---- what acceptance tells, and conversely
 
 pub record Accepting (size : ℕ) (a b : List ℕ) : Type 0 where
   pub room : not (eqb size output_octets) ≡ false
-  pub first : block_verdict a ≡ Accepted
-  pub second : block_verdict b ≡ Accepted
+  pub first : block_verdict a ≡ no_refusal
+  pub second : block_verdict b ≡ no_refusal
   pub first_once : distinct a ≡ true
   pub second_once : distinct b ≡ true
 
-ruled_taken : (block : ℕ) (v : Verdict) (rest : Ruling) → ruled block v rest ≡ Taken → (v ≡ Accepted) × (rest ≡ Taken)
+ruled_taken : (block : ℕ) (v : Verdict) (rest : Ruling) → ruled block v rest ≡ no_denial → (v ≡ no_refusal) × (rest ≡ no_denial)
 unfolding ruled
-ruled_taken block Accepted rest e = (refl, e)
-ruled_taken block (Refused r) rest e = let z : ◌≡◌ {A = ℕ} 0 1 = cc in absurd (omega arith)
+ruled_taken block (Ok tt) rest e = (refl, e)
+ruled_taken block (Err r) rest e = let z : ◌≡◌ {A = ℕ} 0 1 = cc in absurd (omega arith)
 
-ruled_on : (block : ℕ) (v : Verdict) (rest : Ruling) → v ≡ Accepted → ruled block v rest ≡ rest
+ruled_on : (block : ℕ) (v : Verdict) (rest : Ruling) → v ≡ no_refusal → ruled block v rest ≡ rest
 unfolding ruled
 ruled_on block v rest e = rw e
 
-no_repeat : (b : List ℕ) → repeat_verdict b ≡ Accepted → distinct b ≡ true
+no_repeat : (b : List ℕ) → repeat_verdict b ≡ no_refusal → distinct b ≡ true
 unfolding repeat_verdict
 no_repeat b e = not-false _ (refuse_accepted _ _ _ e).0
 
-once : (b : List ℕ) → distinct b ≡ true → repeat_verdict b ≡ Accepted
+once : (b : List ℕ) → distinct b ≡ true → repeat_verdict b ≡ no_refusal
 unfolding repeat_verdict
 once b e = refuse_passed _ _ _ (not_of_true e)
 
-pub accepting : (size : ℕ) (a b : List ℕ) → ruling_on size a b ≡ Taken → Accepting size a b
+pub accepting : (size : ℕ) (a b : List ℕ) → ruling_on size a b ≡ no_denial → Accepting size a b
 unfolding ruling_on
 accepting size a b e =
     let s = ruled_taken _ _ _ e in
@@ -73,7 +70,7 @@ accepting size a b e =
       second_once = no_repeat b k.0;
     }
 
-accepted_by : (size : ℕ) (a b : List ℕ) → Accepting size a b → ruling_on size a b ≡ Taken
+accepted_by : (size : ℕ) (a b : List ℕ) → Accepting size a b → ruling_on size a b ≡ no_denial
 unfolding ruling_on
 accepted_by size a b t =
     ruled_on _ _ _ (refuse_passed _ _ _ t.room) ∙ ruled_on _ _ _ t.first ∙ ruled_on _ _ _ t.second
@@ -140,7 +137,7 @@ module _ (a : List ℕ) (d : distinct a ≡ true) where
   unfolding alone_of
   no_total llid = rw (none_counted llid a a 0 (records_in a) none_alone-holds)
 
-pub compared_laws : (size : ℕ) (a b : List ℕ) → ruling_on size a b ≡ Taken → Compared size a b
+pub compared_laws : (size : ℕ) (a b : List ℕ) → ruling_on size a b ≡ no_denial → Compared size a b
 compared_laws size a b e =
     let t = accepting size a b e in
     record {
@@ -160,15 +157,15 @@ compared_laws size a b e =
 
 ---- what a block that is accepted has
 
-few_by : (b : List ℕ) (d : Directory) → directory_of b ≡ d → verdict_on d ≡ Accepted → records_in b ≤ most_records
-few_by b (Good n) e v = (good b n e).sizes.few
-few_by b (Bad r) e v = refused_accepts r v
+few_by : (b : List ℕ) (d : Result ℕ Refusal) → directory_of b ≡ d → verdict_on d ≡ no_refusal → records_in b ≤ most_records
+few_by b (Ok n) e v = (good b n e).sizes.few
+few_by b (Err r) e v = refused_accepts r v
 
-few : (b : List ℕ) → block_verdict b ≡ Accepted → records_in b ≤ most_records
+few : (b : List ℕ) → block_verdict b ≡ no_refusal → records_in b ≤ most_records
 unfolding block_verdict
 few b e = few_by b (directory_of b) refl (then_accepted _ _ e).0
 
-pub comparable : (size : ℕ) (a b : List ℕ) → ruling_on size a b ≡ Taken → Comparable a b × (size ≡ output_octets)
+pub comparable : (size : ℕ) (a b : List ℕ) → ruling_on size a b ≡ no_denial → Comparable a b × (size ≡ output_octets)
 comparable size a b e =
     let t = accepting size a b e in
     (record { few = few a t.first; few_other = few b t.second; once = t.first_once; once_other = t.second_once }, eqb-true _ _ (not-false _ t.room))

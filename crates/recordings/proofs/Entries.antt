@@ -5,24 +5,15 @@ use mathlib.Core.List.{List, [], ◌∷◌, ◌++◌, append-nil}
 use Prim.Native.Nat.{ℕ, ◌+◌, ◌<◌}
 use native.Mathlib.Numerals.{add-one}
 use native.Mathlib.Omega.{arith}
-use lib.Dec.{eqb}
 use lib.ListN.{length, take, drop, set, length-append, take-append-drop}
 use lib.Seq.{drop_at, drop-drop, drop-set-lt, take_at, take-suc-set}
-use Rattle.octets.specs.Choice.{both, pick}
 use Rattle.octets.specs.Lists.{tabulate}
 use Rattle.octets.proofs.Choice.{pick_true, pick_false}
 use Rattle.octets.proofs.Lists.{tabulate_length}
-use Rattle.records.specs.declared.header.Header.{Header}
-use Rattle.records.specs.Record.{record_header}
-use Rattle.records.specs.Block.{records_in, record_of}
+use Rattle.records.specs.Block.{records_in}
 use Rattle.directory.proofs.Filling.{joined_next}
-use Rattle.sameness.specs.Pairing.{partner_of, alone}
-use Rattle.recordings.specs.Comparing.{alone_mark, mark_of, alone_entry, alone_marks, entries_of, alone_at}
-
--- whether a record is alone, by its partner
-pub alone_tested : (a b : List ℕ) (i v n : ℕ) → v ≡ partner_of (record_of a i) b → n ≡ records_in b → alone a b i ≡ eqb v n
-unfolding alone
-alone_tested a b i v n e q = rw (e, q)
+use Rattle.sameness.specs.Pairing.{alone}
+use Rattle.recordings.specs.Comparing.{alone_mark, mark_of, alone_entry, alone_marks, entries_of}
 
 -- one record more: one that is alone, and one that is not
 pub alone_here : (b a : List ℕ) (j : ℕ) → alone b a j ≡ true → alone_marks b a (j + 1) ≡ alone_marks b a j ++ (alone_mark ∷ [])
@@ -30,12 +21,6 @@ alone_here b a j e = rw (pick_true _ _ e) at (joined_next (alone_entry b a) j)
 
 pub alone_left : (b a : List ℕ) (j : ℕ) → alone b a j ≡ false → alone_marks b a (j + 1) ≡ alone_marks b a j
 alone_left b a j e = rw (pick_false _ _ e, append-nil) at (joined_next (alone_entry b a) j)
-
--- whether a record counts, by its partner and header
-pub counted : (llid : ℕ) (a b : List ℕ) (i v n : ℕ) (h : Header) → v ≡ partner_of (record_of a i) b → n ≡ records_in b
-    → h ≡ record_header (record_of a i)
-    → alone_at llid a b i ≡ pick (both (eqb v n) (eqb h.llid llid)) 1 0
-counted llid a b i v n h e q g = rw (alone_tested a b i v n e q, g)
 
 -- one octet more behind the first e of a text
 pub put_one : (o p : List ℕ) (e x : ℕ) → e < length o → take e o ≡ p → take (e + 1) (set o e x) ≡ p ++ (x ∷ [])

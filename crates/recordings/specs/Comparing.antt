@@ -1,12 +1,10 @@
 -- Two blocks a and b held against each other (02, C-15). Assumes nothing.
-use Rattle.std.specs.Prelude.{Bool, not, List, [], ◌∷◌, ◌++◌, ℕ, ◌+◌, eqb, length, drop}
+use Rattle.std.specs.Prelude.{Bool, not, List, [], ◌∷◌, ◌++◌, ℕ, ◌+◌, eqb, length, drop, Result, Ok, Err, ⊤}
 use Rattle.octets.specs.Choice.{both, pick}
 use Rattle.octets.specs.Lists.{tabulate, sum}
 use Rattle.octets.specs.Output.{WithOutput}
 use Rattle.refusal.specs.declared.Refusal.{Refusal}
 use Rattle.refusal.specs.declared.Refusal.TheVariants.{OutOfRange, BadLength, RepeatedRecord}
-use Rattle.refusal.specs.declared.Verdict.{Verdict}
-use Rattle.refusal.specs.declared.Verdict.TheVariants.{Accepted, Refused}
 use Rattle.refusal.specs.Number.{number_of, pair_number}
 use Rattle.refusal.specs.Order.{refuse_if, and_then}
 use Rattle.records.specs.Record.{record_header}
@@ -14,12 +12,14 @@ use Rattle.records.specs.Verdict.{header_fits}
 use Rattle.records.specs.Block.{records_in, record_of}
 use Rattle.directory.specs.Directory.{verdict_on, directory_of}
 use Rattle.directory.specs.Rebuilt.{joined}
-use Rattle.recordings.specs.declared.verdict.Ruling.{Ruling}
-use Rattle.recordings.specs.declared.verdict.Ruling.TheVariants.{Taken, Denied}
+use Rattle.recordings.specs.declared.verdict.Denial.{Denial}
 use Rattle.recordings.specs.declared.compare.Comparison.{Comparison}
+use Rattle.recordings.specs.declared.compare.Mark.{Mark}
+use Rattle.recordings.specs.declared.compare.Mark.TheVariants.{Alone, Same, Different}
 use Rattle.octets.specs.Each.{each}
 use Rattle.sameness.specs.Pairing.{partner_of, alone, distinct}
 use Rattle.sameness.specs.Sameness.{same}
+use Rattle.refusal.specs.Verdict.{Verdict, no_refusal}
 
 -- the octets of the output, an entry each
 abbrev pub output_octets : ℕ
@@ -34,6 +34,11 @@ same_mark = 1
 
 abbrev pub different_mark : ℕ
 different_mark = 2
+
+abbrev pub mark_octet : Mark → ℕ
+mark_octet Alone = alone_mark
+mark_octet Same = same_mark
+mark_octet Different = different_mark
 
 -- record r has its partner, if any, in b at this place
 unfoldable pub mark_at : List ℕ → List ℕ → ℕ → ℕ
@@ -72,22 +77,29 @@ headers_fit b = each 0 (records_in b) (λ i. header_fits (record_header (record_
 
 -- 15, 18 or 19, then 1 for any record
 unfoldable pub block_verdict : List ℕ → Verdict
-block_verdict b = and_then (verdict_on (directory_of b)) (refuse_if (not (headers_fit b)) OutOfRange Accepted)
+block_verdict b = and_then (verdict_on (directory_of b)) (refuse_if (not (headers_fit b)) OutOfRange no_refusal)
 
 -- 22
 unfoldable pub repeat_verdict : List ℕ → Verdict
-repeat_verdict b = refuse_if (not (distinct b)) RepeatedRecord Accepted
+repeat_verdict b = refuse_if (not (distinct b)) RepeatedRecord no_refusal
 
--- a refusal with the block that earns it, 1 or 2, or 0 where no block does; else the rest of the order
+-- a refusal with the block that earns it, 1 or 2, or 0 where no block does, or none
+abbrev pub Ruling : Type 0
+Ruling = Result ⊤ Denial
+
+abbrev pub no_denial : Ruling
+no_denial = Ok tt
+
+-- a verdict's refusal, which this block earns; else the rest of the order
 unfoldable pub ruled : ℕ → Verdict → Ruling → Ruling
-ruled block Accepted rest = rest
-ruled block (Refused r) rest = Denied r block
+ruled block (Ok tt) rest = rest
+ruled block (Err r) rest = Err (record { refusal = r; block = block })
 
 -- 14, the first block's own refusals, the second's, then 22, for the first block and for the second
 unfoldable pub ruling_on : ℕ → List ℕ → List ℕ → Ruling
 ruling_on size a b =
-    ruled 0 (refuse_if (not (eqb size output_octets)) BadLength Accepted)
-    (ruled 1 (block_verdict a) (ruled 2 (block_verdict b) (ruled 1 (repeat_verdict a) (ruled 2 (repeat_verdict b) Taken))))
+    ruled 0 (refuse_if (not (eqb size output_octets)) BadLength no_refusal)
+    (ruled 1 (block_verdict a) (ruled 2 (block_verdict b) (ruled 1 (repeat_verdict a) (ruled 2 (repeat_verdict b) no_denial))))
 
 -- the code, the pair that a refusal names and its block, else 0; entries written and the total, 0 where the call is refused
 abbrev pub denied : Refusal → ℕ → Comparison
@@ -97,9 +109,9 @@ abbrev pub compared : ℕ → ℕ → Comparison
 compared entries total = record { number = 0; pair = 0; block = 0; entries = entries; total = total }
 
 unfoldable pub compared_after : Ruling → ℕ → List ℕ → List ℕ → List ℕ → WithOutput Comparison
-compared_after Taken llid a b out =
+compared_after (Ok tt) llid a b out =
     record { answer = compared (length (entries_of a b)) (total_of llid a b); output = entries_of a b ++ drop (length (entries_of a b)) out }
-compared_after (Denied r block) llid a b out = record { answer = denied r block; output = out }
+compared_after (Err d) llid a b out = record { answer = denied d.refusal d.block; output = out }
 
 -- out is the output as it was lent
 unfoldable pub comparing : ℕ → List ℕ → List ℕ → List ℕ → WithOutput Comparison

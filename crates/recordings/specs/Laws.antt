@@ -2,9 +2,8 @@
 use Rattle.std.specs.Prelude.{◌≡◌, true, List, ℕ, ◌<◌}
 use Rattle.octets.specs.Lists.{tabulate}
 use Rattle.records.specs.Block.{records_in, record_of}
-use Rattle.recordings.specs.declared.verdict.Ruling.TheVariants.{Taken}
 use Rattle.sameness.specs.Pairing.{paired, partner_of}
-use Rattle.recordings.specs.Comparing.{same_mark, mark_of, entries_of, total_of, ruling_on}
+use Rattle.recordings.specs.Comparing.{same_mark, mark_of, entries_of, total_of, ruling_on, no_denial}
 use Rattle.recordings.specs.Before.{mark_before, total_before}
 
 -- records i and j of the two blocks pair
@@ -20,7 +19,7 @@ pub record Compared (size : ℕ) (a b : List ℕ) : Type 0 where
   -- it is the one that its entry speaks of, on both sides
   pub partner : (i j : ℕ) → Pairs a b i j → (partner_of (record_of a i) b ≡ j) × (partner_of (record_of b j) a ≡ i)
   -- in the other order the blocks are accepted, the same records pair with the same sameness, and the total is the same
-  pub accepted : ruling_on size b a ≡ Taken
+  pub accepted : ruling_on size b a ≡ no_denial
   pub pairing : (i j : ℕ) → Pairs a b i j → Pairs b a j i
   pub sameness : (i j : ℕ) → Pairs a b i j → mark_of a b i ≡ mark_of b a j
   pub total : (llid : ℕ) → total_of llid a b ≡ total_of llid b a
@@ -28,10 +27,10 @@ pub record Compared (size : ℕ) (a b : List ℕ) : Type 0 where
   pub finer : (i : ℕ) → mark_of a b i ≡ same_mark → mark_before a b i ≡ same_mark
   pub as_before : (llid : ℕ) → total_of llid a b ≡ total_before llid a b
   -- a block against itself is accepted, all 1, and nothing is alone
-  pub itself : ruling_on size a a ≡ Taken
+  pub itself : ruling_on size a a ≡ no_denial
   pub all_same : entries_of a a ≡ tabulate 0 (records_in a) (λ i. same_mark)
   pub none_alone : (llid : ℕ) → total_of llid a a ≡ 0
 
 -- of a call that is accepted
 abbrev pub ComparedIfAccepted : ℕ → List ℕ → List ℕ → Type 0
-ComparedIfAccepted size a b = ruling_on size a b ≡ Taken → Compared size a b
+ComparedIfAccepted size a b = ruling_on size a b ≡ no_denial → Compared size a b

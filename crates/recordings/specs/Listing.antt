@@ -1,5 +1,5 @@
 -- The listing of two blocks, as ASCII codes (02, C-15), laid out as the reader's (01, Capture block). Assumes nothing.
-use Rattle.std.specs.Prelude.{List, [], ◌∷◌, ◌++◌, ℕ, ◌+◌, ◌*◌, leb, eqb, length, drop}
+use Rattle.std.specs.Prelude.{List, [], ◌∷◌, ◌++◌, ℕ, ◌+◌, ◌*◌, leb, eqb, length, drop, Ok, Err}
 use Rattle.octets.specs.BigEndian.{number_at}
 use Rattle.octets.specs.Choice.{pick}
 use Rattle.octets.specs.Lists.{part}
@@ -9,10 +9,8 @@ use Rattle.records.specs.Block.{records_in, record_of}
 use Rattle.directory.specs.Rebuilt.{joined}
 use Rattle.rows.specs.Text.{row_octets}
 use Rattle.rows.specs.Entries.{entry_row, denied_row, total_row}
-use Rattle.recordings.specs.declared.verdict.Ruling.{Ruling}
-use Rattle.recordings.specs.declared.verdict.Ruling.TheVariants.{Taken, Denied}
 use Rattle.sameness.specs.Pairing.{partner_of, alone}
-use Rattle.recordings.specs.Comparing.{output_octets, alone_mark, mark_at, total_of, ruling_on}
+use Rattle.recordings.specs.Comparing.{output_octets, alone_mark, mark_at, total_of, ruling_on, Ruling}
 
 -- "first second llid ch clock result" and a line feed
 abbrev pub heading_text : List ℕ
@@ -45,8 +43,8 @@ rows_of llid a b = (joined (first_row a b) 0 (records_in a) ++ joined (alone_row
 
 -- a refused call prints its code, pair and block
 unfoldable pub body_after : Ruling → ℕ → List ℕ → List ℕ → List ℕ
-body_after Taken llid a b = rows_of llid a b
-body_after (Denied r block) llid a b = denied_row r block
+body_after (Ok tt) llid a b = rows_of llid a b
+body_after (Err d) llid a b = denied_row d.refusal d.block
 
 -- the input: LLID (2 octets), the length of the first block (4), both blocks
 abbrev pub head_octets : ℕ

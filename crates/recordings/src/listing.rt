@@ -1,18 +1,15 @@
 // The listing of two blocks: a heading, a row for each entry, and the total.
-ghost use Rattle.std.specs.Prelude.{◌≡◌, [], ◌++◌, ◌+◌, ◌*◌, ◌≤◌, ◌<◌, length, take, drop, eqb};
-ghost use Rattle.records.specs.Block.{most_records, records_in, record_of};
+ghost use Rattle.std.specs.Prelude.{◌≡◌, ◌++◌, ◌+◌, ◌*◌, ◌≤◌, ◌<◌, length, take, drop};
+ghost use Rattle.records.specs.Block.{records_in};
 ghost use Rattle.rows.specs.Text.{row_octets, Holds};
-ghost use Rattle.octets.specs.Choice.{pick};
-ghost use Rattle.records.specs.Record.{record_header};
 ghost use Rattle.directory.specs.Rebuilt.{joined};
-ghost use Rattle.rows.specs.Entries.{entry_row};
-ghost use Rattle.recordings.specs.Comparing.{alone_mark, output_octets, ruling_on};
-ghost use Rattle.recordings.specs.Listing.{partner_number, row_with, first_row, alone_row, body_octets, rows_of, body_after, body_of, listing_of};
-ghost use Rattle.recordings.specs.Duties.{Comparable, Listed};
+ghost use Rattle.recordings.specs.Comparing.{output_octets, ruling_on};
+ghost use Rattle.recordings.specs.Listing.{first_row, alone_row, body_octets, rows_of, body_after, body_of, listing_of};
+ghost use Rattle.recordings.specs.Duties.{Comparable};
 
-use crate::compare::{ALONE, count_alone, mark_at};
-use crate::partners::{PLACES, match_up};
-use crate::verdict::{OUTPUT_OCTETS, Ruling, rule};
+use crate::compare::Mark;
+use crate::partners::{Held, match_up};
+use crate::verdict::{Denial, OUTPUT_OCTETS, rule};
 use octets::{copy_at, number16, number32, part_of};
 use records::block::{count, header_at};
 use refusal::Refusal;
@@ -25,81 +22,65 @@ const HEAD_OCTETS: usize = 6;
 // Room for the heading, 512 rows and the total.
 pub const LISTING_OCTETS: usize = 32353;
 
-// The number, from 1, of a partner at place p of b, 0 where there is none.
-#[tactic(auto, unfolding(crate::specs::Listing::partner_number, octets::specs::Choice::pick))]
-fn partner_number(b: &[u8], p: u16) -> u16
-    requires { p ≤ most_records }
-    ensures { result ≡ partner_number b.now p }
-{
-    if p == count(b) {
-        return 0;
+impl<'a> Held<'a> {
+    // The row of record i.
+    #[tactic(auto, unfolding(crate::specs::Listing::partner_number, sameness::specs::Pairing::alone, octets::specs::Choice::pick))]
+    fn line(&self, i: u16) -> Line
+        requires { i < records_in self.now.block.now }
+        ensures { Holds result (first_row self.now.block.now self.now.other.now i) }
+    {
+        let number = self.partner(i).map_or(0, |p| p + 1);
+        entry_row(
+            i + 1,
+            number,
+            header_at(self.block, i),
+            u8::from(self.mark(i)),
+        )
     }
-    p + 1
-}
 
-// The row of record i of a, whose partner is record p of b.
-fn entry_line(a: &[u8], i: u16, b: &[u8], p: u16) -> Line
-    requires { (i < most_records) × (p ≤ most_records) }
-    ensures { Holds result (row_with a.now b.now i p) }
-{
-    let second = partner_number(b, p);
-    entry_row(i + 1, second, header_at(a, i), mark_at(a, i, b, p))
-}
-
-// Writes the rows of a's records, whose partners in b are `table`, behind the first `at` octets of the text, and gives their end.
-fn put_firsts(a: &[u8], b: &[u8], table: &[u16; PLACES], text: &mut [u8], at: usize) -> usize
-    requires comparable { Comparable a.now b.now }
-    requires listed { Listed table.now a.now b.now (records_in a.now) }
-    requires a_in_bounds { at + row_octets * records_in a.now ≤ length text.old }
-    ensures lower_bound { (at ≤ result) × (result ≤ at + row_octets * records_in a.now) }
-    ensures text_after { take result text.new ≡ take at text.old
-        ++ joined (first_row a.now b.now) 0 (records_in a.now) }
-    ensures text_unchanged { drop result text.new ≡ drop result text.old }
-{
-    let n = count(a);
-    let mut end = at;
-    let mut i: u16 = 0;
-    while i < n {
-        let p = table[i as usize];
-        end = put_line(text, end, entry_line(a, i, b, p));
-        i += 1;
+    // Writes the rows of the block's records behind the first `at` octets of the text, and gives their end.
+    fn put_lines(&self, text: &mut [u8], at: usize) -> usize
+        requires { at + row_octets * records_in self.now.block.now ≤ length text.old }
+        ensures lower_bound { (at ≤ result) × (result ≤ at + row_octets * records_in self.now.block.now) }
+        ensures text_after { take result text.new ≡ take at text.old
+            ++ joined (first_row self.now.block.now self.now.other.now) 0 (records_in self.now.block.now) }
+        ensures text_unchanged { drop result text.new ≡ drop result text.old }
+    {
+        let mut end = at;
+        for i in 0..count(self.block) {
+            end = put_line(text, end, self.line(i));
+        }
+        end
     }
-    end
-}
 
-// The row of record j of b, if it is alone: its partner is record p of a.
-fn put_alone(b: &[u8], j: u16, a: &[u8], p: u16, text: &mut [u8], at: usize) -> usize
-    requires { (j < most_records) × (at + row_octets ≤ length text.old) }
-    ensures lower_bound { (at ≤ result) × (result ≤ at + row_octets) }
-    ensures text_after { take result text.new ≡ take at text.old
-        ++ pick (eqb p (records_in a.now)) (entry_row 0 (j + 1) (record_header (record_of b.now j)) alone_mark) [] }
-    ensures text_unchanged { drop result text.new ≡ drop result text.old }
-{
-    if p == count(a) {
-        return put_line(text, at, entry_row(0, j + 1, header_at(b, j), ALONE));
+    // The row of record j, if it is alone.
+    fn put_alone(&self, j: u16, text: &mut [u8], at: usize) -> usize
+        requires { (j < records_in self.now.block.now) × (at + row_octets ≤ length text.old) }
+        ensures lower_bound { (at ≤ result) × (result ≤ at + row_octets) }
+        ensures text_after { take result text.new ≡ take at text.old ++ alone_row self.now.block.now self.now.other.now j }
+        ensures text_unchanged { drop result text.new ≡ drop result text.old }
+    {
+        if !self.is_alone(j) {
+            return at;
+        }
+        let row = entry_row(0, j + 1, header_at(self.block, j), u8::from(Mark::Alone));
+        put_line(text, at, row)
     }
-    at
-}
 
-// Writes the rows of b's records that are alone. Their partners in a are `table`.
-fn put_alones(b: &[u8], a: &[u8], table: &[u16; PLACES], text: &mut [u8], at: usize) -> usize
-    requires b_bound { records_in b.now ≤ most_records }
-    requires listed { Listed table.now b.now a.now (records_in b.now) }
-    requires b_in_bounds { at + row_octets * records_in b.now ≤ length text.old }
-    ensures lower_bound { (at ≤ result) × (result ≤ at + row_octets * records_in b.now) }
-    ensures text_after { take result text.new ≡ take at text.old
-        ++ joined (alone_row b.now a.now) 0 (records_in b.now) }
-    ensures text_unchanged { drop result text.new ≡ drop result text.old }
-{
-    let m = count(b);
-    let mut end = at;
-    let mut j: u16 = 0;
-    while j < m {
-        let p = table[j as usize];
-        end = put_alone(b, j, a, p, text, end);
-        j += 1;
+    // Writes the rows of the block's records that are alone.
+    fn put_alone_lines(&self, text: &mut [u8], at: usize) -> usize
+        requires { at + row_octets * records_in self.now.block.now ≤ length text.old }
+        ensures lower_bound { (at ≤ result) × (result ≤ at + row_octets * records_in self.now.block.now) }
+        ensures text_after { take result text.new ≡ take at text.old
+            ++ joined (alone_row self.now.block.now self.now.other.now) 0 (records_in self.now.block.now) }
+        ensures text_unchanged { drop result text.new ≡ drop result text.old }
+    {
+        let mut end = at;
+        for j in 0..count(self.block) {
+            end = self.put_alone(j, text, end);
+        }
+        end
     }
-    end
 }
 
 // A row for each entry, and the total.
@@ -110,12 +91,10 @@ fn put_rows(llid: u16, a: &[u8], b: &[u8], text: &mut [u8], at: usize) -> usize
     ensures text_after { take result text.new ≡ take at text.old ++ rows_of llid a.now b.now }
     ensures text_unchanged { drop result text.new ≡ drop result text.old }
 {
-    let partners = match_up(a, b);
-    let first = partners.first;
-    let second = partners.second;
-    let middle = put_firsts(a, b, &first, text, at);
-    let end = put_alones(b, a, &second, text, middle);
-    let total = count_alone(llid, a, b, &first) + count_alone(llid, b, a, &second);
+    let (first, second) = match_up(a, b);
+    let middle = first.put_lines(text, at);
+    let end = second.put_alone_lines(text, middle);
+    let total = first.count_alone(llid) + second.count_alone(llid);
     put_line(text, end, total_row(total))
 }
 
@@ -128,8 +107,8 @@ fn put_body(llid: u16, a: &[u8], b: &[u8], text: &mut [u8], at: usize) -> usize
     ensures text_unchanged { drop result text.new ≡ drop result text.old }
 {
     match rule(OUTPUT_OCTETS, a, b) {
-        Ruling::Denied(refusal, block) => put_line(text, at, denied_row(refusal, block)),
-        Ruling::Taken => put_rows(llid, a, b, text, at),
+        Err(Denial { refusal, block }) => put_line(text, at, denied_row(refusal, block)),
+        Ok(()) => put_rows(llid, a, b, text, at),
     }
 }
 

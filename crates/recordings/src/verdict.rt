@@ -1,51 +1,62 @@
 // The verdict on two blocks, each by itself, and on the call.
 ghost use Rattle.std.specs.Prelude.{◌≡◌};
-ghost use Rattle.recordings.specs.Comparing.{headers_fit, block_verdict, ruling_on};
+ghost use Rattle.recordings.specs.Comparing.{headers_fit, block_verdict, ruled, repeat_verdict, no_denial, ruling_on};
 
-use directory::{Directory, check};
+use directory::check;
 use records::block::{count, header_at};
 use records::header::is_well_formed;
-use refusal::{Refusal, Verdict, refuse_if};
+use refusal::{Refusal, Verdict};
 use sameness::partners::is_distinct;
 
 // The octets of the output, an entry each.
 pub const OUTPUT_OCTETS: usize = 512;
 
-#[derive(Clone, Copy)]
-pub enum Ruling {
-    Taken,
-    // the refusal, and the block that earns it, 1 or 2, or 0 where it is of the call itself
-    Denied(Refusal, u8),
+// Why two blocks are not compared.
+#[derive(Clone, Copy, Debug, PartialEq, Eq)]
+pub struct Denial {
+    pub refusal: Refusal,
+    // the block that earns it, 1 or 2, or 0 where it is of the call itself
+    pub block: u8,
+}
+
+pub type Ruling = Result<(), Denial>;
+
+// A refusal that this block earns.
+#[tactic(auto, unfolding(crate::specs::Comparing::ruled))]
+fn ruled(block: u8, verdict: Verdict) -> Ruling
+    ensures { result ≡ ruled block verdict no_denial }
+{
+    verdict.map_err(|refusal| Denial { refusal, block })
 }
 
 #[tactic(auto, unfolding(crate::specs::Comparing::headers_fit))]
 fn are_headers_fit(block: &[u8]) -> bool
     ensures { result ≡ headers_fit block.now }
 {
-    let n = count(block);
-    let mut i = 0;
-    while i < n {
-        if !is_well_formed(header_at(block, i)) {
-            return false;
-        }
-        i += 1;
-    }
-    true
+    (0..count(block)).all(|i| is_well_formed(header_at(block, i)))
 }
 
 // 15, 18 or 19, then 1 for any record.
-#[tactic(auto, unfolding(crate::specs::Comparing::block_verdict, refusal::specs::Order::and_then))]
+#[tactic(auto, unfolding(crate::specs::Comparing::block_verdict, refusal::specs::Order::and_then, refusal::specs::Order::refuse_if))]
 fn block_verdict(block: &[u8]) -> Verdict
     ensures { result ≡ block_verdict block.now }
 {
-    match check(block) {
-        Directory::Bad(refusal) => Verdict::Refused(refusal),
-        Directory::Good(_) => refuse_if(
-            !are_headers_fit(block),
-            Refusal::OutOfRange,
-            Verdict::Accepted,
-        ),
+    check(block)?;
+    if !are_headers_fit(block) {
+        return Err(Refusal::OutOfRange);
     }
+    Ok(())
+}
+
+// 22.
+#[tactic(auto, unfolding(crate::specs::Comparing::repeat_verdict, refusal::specs::Order::refuse_if))]
+fn repeat_verdict(block: &[u8]) -> Verdict
+    ensures { result ≡ repeat_verdict block.now }
+{
+    if !is_distinct(block) {
+        return Err(Refusal::RepeatedRecord);
+    }
+    Ok(())
 }
 
 // 14, the first block's own refusals, the second's, then 22.
@@ -54,19 +65,10 @@ pub(crate) fn rule(size: usize, a: &[u8], b: &[u8]) -> Ruling
     ensures { result ≡ ruling_on size a.now b.now }
 {
     if size != OUTPUT_OCTETS {
-        return Ruling::Denied(Refusal::BadLength, 0);
+        return ruled(0, Err(Refusal::BadLength));
     }
-    if let Verdict::Refused(refusal) = block_verdict(a) {
-        return Ruling::Denied(refusal, 1);
-    }
-    if let Verdict::Refused(refusal) = block_verdict(b) {
-        return Ruling::Denied(refusal, 2);
-    }
-    if !is_distinct(a) {
-        return Ruling::Denied(Refusal::RepeatedRecord, 1);
-    }
-    if !is_distinct(b) {
-        return Ruling::Denied(Refusal::RepeatedRecord, 2);
-    }
-    Ruling::Taken
+    ruled(1, block_verdict(a))?;
+    ruled(2, block_verdict(b))?;
+    ruled(1, repeat_verdict(a))?;
+    ruled(2, repeat_verdict(b))
 }

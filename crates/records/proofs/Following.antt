@@ -1,5 +1,6 @@
 -- A reader whose clock follows the sender's reads at the sender's clock. The sums are by how much the sender's clock is ahead: then the
 -- clock expected is within a step of the sender's, which is the only one so near with its low six bits. Assumes nothing.
+use Rattle.std.specs.Prelude.{Option, Some, None}
 use mathlib.Core.Path.{◌≡◌, refl, sym, ap, ◌∙◌}
 use mathlib.Core.Bool.{Bool, true, false}
 use mathlib.Core.List.{List}
@@ -15,8 +16,6 @@ use Rattle.octets.proofs.Choice.{both_left, both_right, both_true, both_false_le
 use Rattle.clock.specs.Ticks.{clock_turn, epam_of}
 use Rattle.envelope.specs.Channels.{downstream, upstream, channel_fits}
 use Rattle.records.specs.declared.header.Header.{Header}
-use Rattle.records.specs.declared.near.Correction.{Correction}
-use Rattle.records.specs.declared.near.Correction.TheVariants.{Step, TooFar}
 use Rattle.records.specs.declared.near.Drift.{Drift}
 use Rattle.records.specs.Settings.{presence_of, llid_of}
 use Rattle.records.specs.Record.{record_header}
@@ -37,15 +36,15 @@ far_other : (llid : ℕ) (h : Header) (presence t : ℕ) → own llid h ≡ fals
 unfolding record_verdict in_order far_verdict own
 far_other llid h presence t e = pick_other (header_fits h) (eqb h.llid llid) _ _ _ _ e
 
-other_at : (presence llid t : ℕ) (drift : Drift) (h : Header) (c : Correction) → own llid h ≡ false
+other_at : (presence llid t : ℕ) (drift : Drift) (h : Header) (c : Option ℕ) → own llid h ≡ false
     → ((heard_at presence llid drift h c).verdict ≡ record_verdict presence llid t h) × ((heard_at presence llid drift h c).drift ≡ drift)
 unfolding heard_at
-other_at presence llid t drift h TooFar e = (sym (far_other llid h presence t e), refl)
-other_at presence llid t drift h (Step d) e =
+other_at presence llid t drift h None e = (sym (far_other llid h presence t e), refl)
+other_at presence llid t drift h (Some d) e =
     (far_other llid h presence _ e ∙ sym (far_other llid h presence t e), pick_false _ _ e)
 
 -- one that is past them is judged at the clock of its step, which is added
-own_at : (presence llid t d : ℕ) (drift : Drift) (h : Header) → own llid h ≡ true → nearest (expected drift h) h.epam ≡ Step d
+own_at : (presence llid t d : ℕ) (drift : Drift) (h : Header) → own llid h ≡ true → nearest (expected drift h) h.epam ≡ Some d
     → stepped (expected drift h) d ≡ t
     → ((heard presence llid drift h).verdict ≡ record_verdict presence llid t h) × ((heard presence llid drift h).drift ≡ corrected drift h.channel d)
 unfolding heard heard_at

@@ -1,4 +1,5 @@
 -- Laws of the nearest clock: low six bits go round with the clock, since 2^48 is a multiple of 64. Assumes nothing.
+use Rattle.std.specs.Prelude.{Some, None}
 use mathlib.Core.Path.{◌≡◌, sym, ap, ◌∙◌}
 use Prim.Native.Nat.{ℕ, ◌+◌, ◌≤◌, ◌<◌}
 use native.Mathlib.Omega.{arith}
@@ -11,11 +12,9 @@ use Rattle.octets.proofs.Choice.{both_left, both_right, both_true, either_cases,
 use Rattle.clock.specs.Ticks.{epam_turn, epam_of}
 use Rattle.envelope.specs.Channels.{downstream, upstream, channel_fits}
 use Rattle.records.specs.declared.header.Header.{Header}
-use Rattle.records.specs.declared.header.RecordVerdict.{RecordVerdict}
 use Rattle.records.specs.declared.near.Drift.{Drift}
 use Rattle.records.specs.declared.near.Heard.{Heard}
-use Rattle.records.specs.Verdict.{record_verdict}
-use Rattle.records.specs.declared.near.Correction.TheVariants.{Step, TooFar}
+use Rattle.records.specs.Verdict.{record_verdict, RecordVerdict}
 use Rattle.records.specs.Near.{most_slip, last_step, stepped, step_to, nearest, IsNearest, sum_at, expected, corrected, own, heard_at, heard}
 
 -- a channel index c is 00 or 01, 80 or 81 hex, and p its place
@@ -49,16 +48,16 @@ step_hits t e h = omega arith
 step_only : (t e d : ℕ) → d ≤ last_step → epam_of (stepped t d) ≡ e → (e < epam_turn) × (step_to t e ≡ d)
 step_only t e d h q = (omega arith, omega arith)
 
-found : (t e d : ℕ) → e < epam_turn → step_to t e ≡ d → d ≤ last_step → nearest t e ≡ Step d
+found : (t e d : ℕ) → e < epam_turn → step_to t e ≡ d → d ≤ last_step → nearest t e ≡ Some d
 unfolding nearest
-found t e d h q l = pick_true _ _ (both_true (lt-ltb e epam_turn h) (le-leb (step_to t e) last_step (rw q l))) ∙ ap Step q
+found t e d h q l = pick_true _ _ (both_true (lt-ltb e epam_turn h) (le-leb (step_to t e) last_step (rw q l))) ∙ ap Some q
 
 pub is_nearest : (t e : ℕ) → IsNearest t e
 unfolding nearest
 is_nearest t e =
     record {
       among = λ d q.
-          let p = pick_first (both (ltb e epam_turn) (leb (step_to t e) last_step)) (Step (step_to t e)) TooFar (Step d) (λ z. cc) q in
+          let p = pick_first (both (ltb e epam_turn) (leb (step_to t e) last_step)) (Some (step_to t e)) None (Some d) (λ z. cc) q in
           let s : step_to t e ≡ d = cc in (
             omega (arith, leb-true (step_to t e) last_step (both_right _ _ p.0), s),
             ap (λ (x : ℕ). epam_of (stepped t x)) (sym s) ∙ step_hits t e (ltb-true e epam_turn (both_left _ _ p.0)),
@@ -68,8 +67,8 @@ is_nearest t e =
     }
 
 -- a header that is heard at the clock of a step
-pub heard_step : (presence llid t d u : ℕ) (v : RecordVerdict) (drift next : Drift) (h : Header) → t ≡ expected drift h → nearest t h.epam ≡ Step d
+pub heard_step : (presence llid t d u : ℕ) (v : RecordVerdict) (drift next : Drift) (h : Header) → t ≡ expected drift h → nearest t h.epam ≡ Some d
     → u ≡ stepped t d → v ≡ record_verdict presence llid u h → next ≡ pick (own llid h) (corrected drift h.channel d) drift
-    → ◌≡◌ {A = Heard} (record { verdict = v; drift = next }) (heard presence llid drift h)
+    → ◌≡◌ {A = Heard RecordVerdict} (record { verdict = v; drift = next }) (heard presence llid drift h)
 unfolding heard heard_at
 heard_step presence llid t d u v drift next h et en eu ev ed = rw (← et, en, ed, ev, eu, ← et)

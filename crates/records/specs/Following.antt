@@ -6,11 +6,10 @@ use Rattle.octets.specs.Choice.{both, pick}
 use Rattle.clock.specs.Ticks.{clock_turn, epam_of}
 use Rattle.envelope.specs.Channels.{channel_fits}
 use Rattle.records.specs.declared.header.Header.{Header}
-use Rattle.records.specs.declared.header.RecordVerdict.{RecordVerdict}
 use Rattle.records.specs.declared.near.Drift.{Drift}
 use Rattle.records.specs.Settings.{presence_of, llid_of}
 use Rattle.records.specs.Record.{record_header}
-use Rattle.records.specs.Verdict.{verdict_for}
+use Rattle.records.specs.Verdict.{verdict_for, RecordVerdict}
 use Rattle.records.specs.Block.{record_of}
 use Rattle.records.specs.Near.{last_step, stepped, sum_at, no_drift, own, heard}
 

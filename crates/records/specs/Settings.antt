@@ -1,12 +1,11 @@
 -- The settings of the reader, whose octets are s (01, Capture block: Settings). Assumes nothing.
-use Rattle.std.specs.Prelude.{Bool, List, ℕ, ◌+◌, ◌*◌, eqb, length, get_or, replicate}
+use Rattle.std.specs.Prelude.{Bool, List, ℕ, ◌+◌, ◌*◌, eqb, length, get_or, replicate, Err}
 use Rattle.octets.specs.BigEndian.{number_at}
 use Rattle.octets.specs.Bits.{bit_of, low_cleared}
 use Rattle.octets.specs.Choice.{pick}
 use Rattle.octets.specs.Lists.{part, copied}
 use Rattle.refusal.specs.declared.Refusal.TheVariants.{OutOfRange, BadLength}
-use Rattle.refusal.specs.declared.Verdict.{Verdict}
-use Rattle.refusal.specs.declared.Verdict.TheVariants.{Accepted, Refused}
+use Rattle.refusal.specs.Verdict.{Verdict, no_refusal}
 
 abbrev pub settings_octets : ℕ
 settings_octets = 41
@@ -52,4 +51,4 @@ presence_fits presence = eqb (low_cleared settings_keys presence) 0
 -- 14, then 1
 unfoldable pub settings_verdict : List ℕ → Verdict
 settings_verdict s =
-    pick (eqb (length s) settings_octets) (pick (presence_fits (presence_of s)) Accepted (Refused OutOfRange)) (Refused BadLength)
+    pick (eqb (length s) settings_octets) (pick (presence_fits (presence_of s)) no_refusal (Err OutOfRange)) (Err BadLength)

@@ -1,16 +1,21 @@
 -- The verdict on a record, from its header h and the settings (01, Capture block). Assumes nothing.
-use Rattle.std.specs.Prelude.{Bool, List, ℕ, ltb, eqb}
+use Rattle.std.specs.Prelude.{Bool, List, ℕ, ltb, eqb, Result, Ok, Err}
 use Rattle.octets.specs.Bits.{bit_of, low_cleared}
 use Rattle.octets.specs.Choice.{both, either, pick}
+use Rattle.refusal.specs.declared.Refusal.{Refusal}
 use Rattle.refusal.specs.declared.Refusal.TheVariants.{OutOfRange, UnknownLlid, NoKey, EpamDiffers}
 use Rattle.refusal.specs.Number.{number_of, pair_number}
 use Rattle.clock.specs.Ticks.{epam_of}
 use Rattle.envelope.specs.Channels.{channel_fits}
 use Rattle.records.specs.declared.header.Header.{Header}
-use Rattle.records.specs.declared.header.RecordVerdict.{RecordVerdict}
-use Rattle.records.specs.declared.header.RecordVerdict.TheVariants.{Clear, Sealed, Refused}
 use Rattle.records.specs.Settings.{presence_of, key_present, llid_of}
 use Rattle.records.specs.Record.{record_header}
+use Rattle.records.specs.declared.header.Access.{Access}
+use Rattle.records.specs.declared.header.Access.TheVariants.{Clear, Sealed}
+
+-- what a record is found to be: how it is opened, or the refusal that it earns
+abbrev pub RecordVerdict : Type 0
+RecordVerdict = Result Access Refusal
 
 -- the flags are the two lowest bits of their octet
 abbrev pub flag_bits : ℕ
@@ -43,12 +48,12 @@ header_fits h = both (ltb h.kind kinds) (both (channel_fits h.channel) (flags_fi
 -- what is left to judge once EPAM agrees: 9 for an enciphered record without its key (D77), t being the clock to open at
 unfoldable pub key_verdict : ℕ → ℕ → ℕ → RecordVerdict
 key_verdict presence t flags =
-    pick (enc_enabled flags) (pick (key_present presence (enc_key flags)) (Sealed (enc_key flags) t) (Refused NoKey)) Clear
+    pick (enc_enabled flags) (pick (key_present presence (enc_key flags)) (Ok (Sealed (enc_key flags) t)) (Err NoKey)) (Ok Clear)
 
 -- 1, 2, 10, then what the rest says
 unfoldable pub in_order : Bool → Bool → Bool → RecordVerdict → RecordVerdict
 in_order fits own agrees rest =
-    pick fits (pick own (pick agrees rest (Refused EpamDiffers)) (Refused UnknownLlid)) (Refused OutOfRange)
+    pick fits (pick own (pick agrees rest (Err EpamDiffers)) (Err UnknownLlid)) (Err OutOfRange)
 
 -- for settings of this presence octet and LLID, t being the clock that the record is judged and opened at
 unfoldable pub record_verdict : ℕ → ℕ → ℕ → Header → RecordVerdict
@@ -65,12 +70,12 @@ verdict_of s r = verdict_for s (record_header r)
 
 -- acceptance is 0
 abbrev pub record_number : RecordVerdict → ℕ
-record_number Clear = 0
-record_number (Sealed i t) = 0
-record_number (Refused r) = number_of r
+record_number (Ok Clear) = 0
+record_number (Ok (Sealed i t)) = 0
+record_number (Err r) = number_of r
 
 -- the pair that a refusal names, else 0 (02, C-11)
 abbrev pub record_pair : RecordVerdict → ℕ
-record_pair Clear = 0
-record_pair (Sealed i t) = 0
-record_pair (Refused r) = pair_number r
+record_pair (Ok Clear) = 0
+record_pair (Ok (Sealed i t)) = 0
+record_pair (Err r) = pair_number r

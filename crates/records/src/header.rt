@@ -35,15 +35,17 @@ pub struct Header {
     pub eqs: u32,
 }
 
-// What a record is found to be.
-#[derive(Clone, Copy)]
-pub enum RecordVerdict {
+// What becomes of a record that is not refused.
+#[derive(Clone, Copy, Debug, PartialEq, Eq)]
+pub enum Access {
     // passes unchanged
     Clear,
     // to be opened under the key of this index, at this clock
     Sealed(u8, u64),
-    Refused(Refusal),
 }
+
+// What a record is found to be.
+pub type RecordVerdict = Result<Access, Refusal>;
 
 // The header of a record's octets; one that is not there is 0.
 pub fn read(r: &[u8]) -> Header
@@ -118,13 +120,13 @@ fn key_verdict(presence: u8, clock: u64, flags: u8) -> RecordVerdict
     ensures { result ≡ key_verdict presence clock flags }
 {
     if !enc_enabled(flags) {
-        return RecordVerdict::Clear;
+        return Ok(Access::Clear);
     }
     let index = enc_key(flags);
     if octets::bit(presence, index) != 1 {
-        return RecordVerdict::Refused(Refusal::NoKey);
+        return Err(Refusal::NoKey);
     }
-    RecordVerdict::Sealed(index, clock)
+    Ok(Access::Sealed(index, clock))
 }
 
 // The verdict on a record by its header, for settings of this presence octet and LLID, at the clock to use.
@@ -133,14 +135,14 @@ pub fn record_verdict(presence: u8, llid: u16, clock: u64, h: Header) -> RecordV
     ensures { result ≡ record_verdict presence llid clock h }
 {
     if !is_well_formed(h) {
-        return RecordVerdict::Refused(Refusal::OutOfRange);
+        return Err(Refusal::OutOfRange);
     }
     if h.llid != llid {
-        return RecordVerdict::Refused(Refusal::UnknownLlid);
+        return Err(Refusal::UnknownLlid);
     }
     let epam = clock::epam_of(clock);
     if h.epam != epam {
-        return RecordVerdict::Refused(Refusal::EpamDiffers);
+        return Err(Refusal::EpamDiffers);
     }
     key_verdict(presence, clock, h.flags)
 }
@@ -158,9 +160,8 @@ pub fn number(verdict: RecordVerdict) -> u8
     ensures { result ≡ record_number verdict }
 {
     match verdict {
-        RecordVerdict::Clear => 0,
-        RecordVerdict::Sealed(_, _) => 0,
-        RecordVerdict::Refused(refusal) => refusal::number(refusal),
+        Ok(_) => 0,
+        Err(refusal) => u8::from(refusal),
     }
 }
 
@@ -169,8 +170,7 @@ pub fn pair(verdict: RecordVerdict) -> u16
     ensures { result ≡ record_pair verdict }
 {
     match verdict {
-        RecordVerdict::Clear => 0,
-        RecordVerdict::Sealed(_, _) => 0,
-        RecordVerdict::Refused(refusal) => refusal::pair(refusal),
+        Ok(_) => 0,
+        Err(refusal) => refusal::pair(refusal),
     }
 }

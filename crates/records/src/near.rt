@@ -18,14 +18,6 @@ const MOST_SLIP: u8 = 31;
 // The last step, the correction of 31.
 const LAST_STEP: u8 = 62;
 
-#[derive(Clone, Copy)]
-pub enum Correction {
-    // the clock taken is so many steps above the one that is 31 below
-    Step(u8),
-    // 32 either way, or EPAM above 63
-    TooFar,
-}
-
 // The corrections so far: their sums, modulo 2^48, for the channel indices 00, 01, 80 and 81 hex, and the steps of the smallest and
 // the largest, both 31 while no header was accepted.
 #[derive(Clone, Copy)]
@@ -36,10 +28,10 @@ pub struct Drift {
     pub largest: u8,
 }
 
-// The verdict on a record, and the corrections behind it.
+// A verdict on a record, and the corrections behind it.
 #[derive(Clone, Copy)]
-pub struct Heard {
-    pub verdict: RecordVerdict,
+pub struct Heard<V> {
+    pub verdict: V,
     pub drift: Drift,
 }
 
@@ -63,16 +55,18 @@ pub fn stepped(clock: u64, step: u8) -> u64
     (clock % CLOCK_TURN + step as u64 + (CLOCK_TURN - MOST_SLIP as u64)) % CLOCK_TURN
 }
 
-pub fn nearest(clock: u64, epam: u8) -> Correction
+// How many steps the nearest clock is above the one that is 31 below; none for 32 either way, or EPAM above 63.
+#[tactic(auto, using(crate::proofs::Steps::is_nearest), unfolding(crate::specs::Near::nearest, octets::specs::Choice::both, octets::specs::Choice::pick))]
+pub fn nearest(clock: u64, epam: u8) -> Option<u8>
     ensures value { result ≡ nearest clock epam }
     ensures nearest { IsNearest clock epam }
 {
     let step = ((epam as u64 + MOST_SLIP as u64 + (EPAM_TURN - clock % EPAM_TURN))
         % EPAM_TURN) as u8;
     if ((epam as u64) < EPAM_TURN) & (step <= LAST_STEP) {
-        Correction::Step(step)
+        Some(step)
     } else {
-        Correction::TooFar
+        None
     }
 }
 
@@ -91,14 +85,14 @@ pub fn expected(drift: Drift, h: Header) -> u64
     (h.clock % CLOCK_TURN + drift.sums[at] % CLOCK_TURN) % CLOCK_TURN
 }
 
-#[tactic(auto, unfolding(octets::specs::Choice::both))]
+#[tactic(auto, unfolding(octets::specs::Choice::both, octets::specs::Choice::pick))]
 fn smaller(accepted: bool, a: u8, b: u8) -> u8
     ensures { result ≡ pick (both accepted (leb a b)) a b }
 {
     if accepted & (a <= b) { a } else { b }
 }
 
-#[tactic(auto, unfolding(octets::specs::Choice::both))]
+#[tactic(auto, unfolding(octets::specs::Choice::both, octets::specs::Choice::pick))]
 fn larger(accepted: bool, a: u8, b: u8) -> u8
     ensures { result ≡ pick (both accepted (leb b a)) a b }
 {
@@ -135,6 +129,7 @@ fn own(llid: u16, h: Header) -> bool
     is_well_formed(h) & (h.llid == llid)
 }
 
+#[tactic(auto, unfolding(octets::specs::Choice::pick))]
 fn moved(llid: u16, drift: Drift, h: Header, step: u8) -> Drift
     ensures { result ≡ pick (own llid h) (corrected drift h.channel step) drift }
 {
@@ -151,26 +146,26 @@ fn too_far(llid: u16, h: Header) -> RecordVerdict
     ensures { result ≡ far_verdict llid h }
 {
     if !is_well_formed(h) {
-        return RecordVerdict::Refused(Refusal::OutOfRange);
+        return Err(Refusal::OutOfRange);
     }
     if h.llid != llid {
-        return RecordVerdict::Refused(Refusal::UnknownLlid);
+        return Err(Refusal::UnknownLlid);
     }
-    RecordVerdict::Refused(Refusal::EpamDiffers)
+    Err(Refusal::EpamDiffers)
 }
 
 // The verdict on a record by its header, for settings of this presence octet and LLID, at the clock nearest to the one expected.
 #[tactic(auto, unfolding(crate::specs::Near::heard, crate::specs::Near::heard_at))]
-pub fn hear(presence: u8, llid: u16, drift: Drift, h: Header) -> Heard
+pub fn hear(presence: u8, llid: u16, drift: Drift, h: Header) -> Heard<RecordVerdict>
     ensures { result ≡ heard presence llid drift h }
 {
     let clock = expected(drift, h);
     match nearest(clock, h.epam) {
-        Correction::TooFar => Heard {
+        None => Heard {
             verdict: too_far(llid, h),
             drift,
         },
-        Correction::Step(step) => Heard {
+        Some(step) => Heard {
             verdict: record_verdict(presence, llid, stepped(clock, step), h),
             drift: moved(llid, drift, h, step),
         },
@@ -179,7 +174,7 @@ pub fn hear(presence: u8, llid: u16, drift: Drift, h: Header) -> Heard
 
 // The verdict on a record by its header under the settings, and the corrections behind it, in the near way or the usual one.
 #[tactic(auto, unfolding(crate::specs::Near::judged))]
-pub fn judge(near: bool, settings: &[u8], drift: Drift, h: Header) -> Heard
+pub fn judge(near: bool, settings: &[u8], drift: Drift, h: Header) -> Heard<RecordVerdict>
     ensures { result ≡ judged near settings.now drift h }
 {
     if near {

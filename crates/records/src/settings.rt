@@ -69,10 +69,10 @@ pub fn settings_verdict(s: &[u8]) -> Verdict
     ensures { result ≡ settings_verdict s.now }
 {
     if s.len() != SETTINGS_OCTETS {
-        return Verdict::Refused(Refusal::BadLength);
+        return Err(Refusal::BadLength);
     }
     if !presence_fits(presence(s)) {
-        return Verdict::Refused(Refusal::OutOfRange);
+        return Err(Refusal::OutOfRange);
     }
-    Verdict::Accepted
+    Ok(())
 }

@@ -1,9 +1,8 @@
 -- The code of each refusal (01, 'When the reader says no'; 02, C-11, C-14, C-15, C-19, C-21, C-23), and the pair that it names. Assumes nothing.
-use Rattle.std.specs.Prelude.{ℕ}
+use Rattle.std.specs.Prelude.{ℕ, Ok, Err}
 use Rattle.refusal.specs.declared.Refusal.{Refusal}
 use Rattle.refusal.specs.declared.Refusal.TheVariants.{OutOfRange, UnknownLlid, RepeatedLlid, TableFull, ClockNotSet, OfferPending, SameKey, NothingOutstanding, NoKey, EpamDiffers, ClearEnvelope, ChannelTaken, KeyTooOld, BadLength, BadDirectory, CaptureTooOld, AtEnd, BrokenChain, UnsuitedLength, GroupLlid, BadMember, RepeatedRecord, UnknownUser, NoRight, OtherKeyIndex, BadScript}
-use Rattle.refusal.specs.declared.Verdict.{Verdict}
-use Rattle.refusal.specs.declared.Verdict.TheVariants.{Accepted, Refused}
+use Rattle.refusal.specs.Verdict.{Verdict}
 
 abbrev pub number_of : Refusal → ℕ
 number_of OutOfRange = 1
@@ -64,9 +63,9 @@ pair_number BadScript = 0
 
 -- acceptance returns 0
 abbrev pub verdict_number : Verdict → ℕ
-verdict_number Accepted = 0
-verdict_number (Refused r) = number_of r
+verdict_number (Ok tt) = 0
+verdict_number (Err r) = number_of r
 
 abbrev pub verdict_pair : Verdict → ℕ
-verdict_pair Accepted = 0
-verdict_pair (Refused r) = pair_number r
+verdict_pair (Ok tt) = 0
+verdict_pair (Err r) = pair_number r

@@ -5,7 +5,7 @@ ghost use Rattle.std.specs.Prelude.{◌≡◌};
 ghost use Rattle.refusal.specs.Number.{number_of, pair_number, verdict_number, verdict_pair};
 ghost use Rattle.refusal.specs.Order.{and_then, refuse_if};
 
-#[derive(Clone, Copy)]
+#[derive(Clone, Copy, Debug, PartialEq, Eq)]
 pub enum Refusal {
     // 1: a value outside its range
     OutOfRange,
@@ -62,36 +62,38 @@ pub enum Refusal {
 }
 
 // The code that a refusal answers with.
-pub fn number(refusal: Refusal) -> u8
-    ensures { result ≡ number_of refusal }
-{
-    match refusal {
-        Refusal::OutOfRange => 1,
-        Refusal::UnknownLlid => 2,
-        Refusal::RepeatedLlid => 3,
-        Refusal::TableFull => 4,
-        Refusal::ClockNotSet => 5,
-        Refusal::OfferPending => 6,
-        Refusal::SameKey => 7,
-        Refusal::NothingOutstanding => 8,
-        Refusal::NoKey => 9,
-        Refusal::EpamDiffers => 10,
-        Refusal::ClearEnvelope => 11,
-        Refusal::ChannelTaken => 12,
-        Refusal::KeyTooOld => 13,
-        Refusal::BadLength => 14,
-        Refusal::BadDirectory => 15,
-        Refusal::CaptureTooOld => 16,
-        Refusal::AtEnd => 17,
-        Refusal::BrokenChain(_) => 18,
-        Refusal::UnsuitedLength(_) => 19,
-        Refusal::GroupLlid => 20,
-        Refusal::BadMember => 21,
-        Refusal::RepeatedRecord => 22,
-        Refusal::UnknownUser => 23,
-        Refusal::NoRight => 24,
-        Refusal::OtherKeyIndex => 25,
-        Refusal::BadScript => 26,
+impl From<Refusal> for u8 {
+    ghost from_gives = { λ refusal code. code ≡ number_of refusal };
+
+    fn from(refusal: Refusal) -> u8 {
+        match refusal {
+            Refusal::OutOfRange => 1,
+            Refusal::UnknownLlid => 2,
+            Refusal::RepeatedLlid => 3,
+            Refusal::TableFull => 4,
+            Refusal::ClockNotSet => 5,
+            Refusal::OfferPending => 6,
+            Refusal::SameKey => 7,
+            Refusal::NothingOutstanding => 8,
+            Refusal::NoKey => 9,
+            Refusal::EpamDiffers => 10,
+            Refusal::ClearEnvelope => 11,
+            Refusal::ChannelTaken => 12,
+            Refusal::KeyTooOld => 13,
+            Refusal::BadLength => 14,
+            Refusal::BadDirectory => 15,
+            Refusal::CaptureTooOld => 16,
+            Refusal::AtEnd => 17,
+            Refusal::BrokenChain(_) => 18,
+            Refusal::UnsuitedLength(_) => 19,
+            Refusal::GroupLlid => 20,
+            Refusal::BadMember => 21,
+            Refusal::RepeatedRecord => 22,
+            Refusal::UnknownUser => 23,
+            Refusal::NoRight => 24,
+            Refusal::OtherKeyIndex => 25,
+            Refusal::BadScript => 26,
+        }
     }
 }
 
@@ -100,49 +102,22 @@ pub fn pair(refusal: Refusal) -> u16
     ensures { result ≡ pair_number refusal }
 {
     match refusal {
-        Refusal::OutOfRange => 0,
-        Refusal::UnknownLlid => 0,
-        Refusal::RepeatedLlid => 0,
-        Refusal::TableFull => 0,
-        Refusal::ClockNotSet => 0,
-        Refusal::OfferPending => 0,
-        Refusal::SameKey => 0,
-        Refusal::NothingOutstanding => 0,
-        Refusal::NoKey => 0,
-        Refusal::EpamDiffers => 0,
-        Refusal::ClearEnvelope => 0,
-        Refusal::ChannelTaken => 0,
-        Refusal::KeyTooOld => 0,
-        Refusal::BadLength => 0,
-        Refusal::BadDirectory => 0,
-        Refusal::CaptureTooOld => 0,
-        Refusal::AtEnd => 0,
         Refusal::BrokenChain(k) => k,
         Refusal::UnsuitedLength(k) => k,
-        Refusal::GroupLlid => 0,
-        Refusal::BadMember => 0,
-        Refusal::RepeatedRecord => 0,
-        Refusal::UnknownUser => 0,
-        Refusal::NoRight => 0,
-        Refusal::OtherKeyIndex => 0,
-        Refusal::BadScript => 0,
+        _ => 0,
     }
 }
 
 // What a call that gives nothing else decides.
-#[derive(Clone, Copy)]
-pub enum Verdict {
-    Accepted,
-    Refused(Refusal),
-}
+pub type Verdict = Result<(), Refusal>;
 
 // 0 for acceptance, else the refusal code.
 pub fn verdict_number(verdict: Verdict) -> u8
     ensures { result ≡ verdict_number verdict }
 {
     match verdict {
-        Verdict::Accepted => 0,
-        Verdict::Refused(refusal) => number(refusal),
+        Ok(()) => 0,
+        Err(refusal) => u8::from(refusal),
     }
 }
 
@@ -151,17 +126,18 @@ pub fn verdict_pair(verdict: Verdict) -> u16
     ensures { result ≡ verdict_pair verdict }
 {
     match verdict {
-        Verdict::Accepted => 0,
-        Verdict::Refused(refusal) => pair(refusal),
+        Ok(()) => 0,
+        Err(refusal) => pair(refusal),
     }
 }
 
 // That refusal where its cause holds, else the rest of the order.
+#[tactic(auto, unfolding(crate::specs::Order::refuse_if))]
 pub fn refuse_if(cause: bool, refusal: Refusal, rest: Verdict) -> Verdict
     ensures { result ≡ refuse_if cause refusal rest }
 {
     if cause {
-        return Verdict::Refused(refusal);
+        return Err(refusal);
     }
     rest
 }
@@ -171,8 +147,6 @@ pub fn refuse_if(cause: bool, refusal: Refusal, rest: Verdict) -> Verdict
 pub fn and_then(first: Verdict, second: Verdict) -> Verdict
     ensures { result ≡ and_then first second }
 {
-    match first {
-        Verdict::Accepted => second,
-        Verdict::Refused(refusal) => Verdict::Refused(refusal),
-    }
+    first?;
+    second
 }

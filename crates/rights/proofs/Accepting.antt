@@ -9,7 +9,6 @@ use lib.ListN.{length, get_or, get_or-eq_default, length-take}
 use borrow.Author.Tests.{eqb-true, leb-true, leb-false, ltb-true, not-false}
 use Rattle.octets.specs.Bits.{bit_of}
 use Rattle.octets.proofs.Choice.{true_false, both_left, both_right}
-use Rattle.refusal.specs.declared.Verdict.TheVariants.{Accepted}
 use Rattle.refusal.proofs.Order.{refuse_accepted, then_accepted}
 use Rattle.records.specs.Settings.{llid_of}
 use Rattle.rights.specs.declared.settings.Caller.{Caller}
@@ -20,6 +19,7 @@ use Rattle.rights.specs.Loading.{load_verdict, loading_after, loading}
 use Rattle.rights.specs.Claims.{LoadsOne}
 use Rattle.rights.proofs.Sets.{set_found}
 use Rattle.rights.proofs.Loads.{key_loaded-holds}
+use Rattle.refusal.specs.Verdict.{no_refusal}
 
 -- what acceptance tells
 pub record Valid (c : Caller) (s q : List ℕ) : Type 0 where
@@ -43,7 +43,7 @@ asked : (c : Caller) → user_fits c ≡ true → (1 ≤ c.user) × (c.user ≤ 
 unfolding user_fits
 asked c e = (leb-true _ _ (both_left _ _ e), leb-true _ _ (both_right _ _ e))
 
-pub valid : (suits fits : Bool) (c : Caller) (s q : List ℕ) → class_verdict suits fits c s q ≡ Accepted
+pub valid : (suits fits : Bool) (c : Caller) (s q : List ℕ) → class_verdict suits fits c s q ≡ no_refusal
     → (suits ≡ true) × (fits ≡ true) × Valid c s q
 unfolding class_verdict
 valid suits fits c s q e =
@@ -95,7 +95,7 @@ pub record Loads (c : Caller) (s q : List ℕ) (llid i : ℕ) : Type 0 where
   pub place : 41 * set_for c s llid + 41 ≤ length s
   pub set : llid_of (set_of s (set_for c s llid)) ≡ llid
 
-pub loads : (c : Caller) (s q : List ℕ) (llid i : ℕ) → load_verdict c s q llid i ≡ Accepted → Loads c s q llid i
+pub loads : (c : Caller) (s q : List ℕ) (llid i : ℕ) → load_verdict c s q llid i ≡ no_refusal → Loads c s q llid i
 unfolding load_verdict
 loads c s q llid i e =
     let a = then_accepted _ _ e in

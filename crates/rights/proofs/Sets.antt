@@ -3,17 +3,17 @@ use mathlib.Core.Path.{◌≡◌, refl, sym, ap, ◌∙◌}
 use mathlib.Core.Bool.{Bool, true, false}
 use mathlib.Core.Logic.{⊎_elim}
 use mathlib.Core.List.{List}
-use Prim.Native.Nat.{ℕ, zero, suc, ◌+◌, ◌-◌, ◌*◌, ◌≤◌, ◌<◌}
+use Prim.Native.Nat.{ℕ, zero, suc, ◌+◌, ◌*◌, ◌≤◌, ◌<◌}
 use native.Mathlib.Nat.{mul-le-mul_left, le_of_lt, eq-or-lt_of_le}
 use native.Mathlib.Numerals.{add-one}
 use native.Mathlib.Omega.{arith}
+use Rattle.std.specs.List.{find, range_with_len}
+use Rattle.std.specs.Option.{unwrap_or}
+use Rattle.std.specs.Prelude.{Some, cond}
 use lib.Dec.{eqb}
-use lib.ListN.{length, get_or, drop, drop_of_length-le}
 use borrow.Author.Tests.{eqb-true, eqb-false, eq-eqb}
-use Rattle.octets.specs.Choice.{both}
-use Rattle.octets.specs.Lists.{all}
-use Rattle.octets.proofs.Steps.{drop_step}
-use Rattle.octets.proofs.Choice.{pick_true, pick_false, pick_holds}
+use Rattle.octets.specs.Choice.{pick}
+use Rattle.octets.proofs.Choice.{pick_holds}
 use Rattle.octets.proofs.Each.{each_at, each_true}
 use Rattle.records.specs.Settings.{llid_of}
 use Rattle.rights.specs.declared.settings.Caller.{Caller}
@@ -25,36 +25,21 @@ use Rattle.rights.specs.Claims.{OneSetEach, Repeats}
 abbrev pub First : Caller → List ℕ → ℕ → Bool
 First c s j = eqb (set_for c s (llid_of (set_of s j))) j
 
----- a loop over the sets
-pub set_stop : (s : List ℕ) (l j n : ℕ) → j < n → eqb (llid_of (set_of s j)) l ≡ true → set_from s l j (n - j) ≡ j
-unfolding set_from
-set_stop s l j n h e = let m : n - j ≡ suc (n - suc j) = omega arith in rw m (pick_true _ _ e)
+-- set j is of that LLID
+abbrev pub Of : List ℕ → ℕ → ℕ → Bool
+Of s l j = eqb (llid_of (set_of s j)) l
 
-pub set_step : (s : List ℕ) (l j n : ℕ) → j < n → eqb (llid_of (set_of s j)) l ≡ false
-    → set_from s l j (n - j) ≡ set_from s l (j + 1) (n - (j + 1))
-unfolding set_from
-set_step s l j n h e = let m : n - j ≡ suc (n - suc j) = omega arith in rw (m, add-one) (pick_false _ _ e)
-
-pub set_end : (s : List ℕ) (l j n : ℕ) → n ≤ j → set_from s l j (n - j) ≡ j
-unfolding set_from
-set_end s l j n h = let m : n - j ≡ 0 = omega arith in rw m
+-- the first set of an LLID is the first number whose set is of that LLID
+pub set_first : (s : List ℕ) (l j m n : ℕ) → n ≡ j + m → unwrap_or (find (Of s l) (range_with_len j m)) n ≡ set_from s l j m
+unfolding set_from pick
+set_first s l j zero n e = omega arith
+set_first s l j (suc m) n e =
+    elim (Of s l j) as (λ b. unwrap_or (cond b (Some j) (find (Of s l) (range_with_len (j + 1) m))) n ≡ pick b j (set_from s l (suc j) m))
+    [ true ↦ refl | false ↦ rw add-one (set_first s l (suc j) m n (omega arith)) ]
 
 -- two octets' product is small
 pub product_below : (a b : ℕ) → a < 256 → b < 256 → a * b < 65536
 product_below a b p q = let m : a * b ≤ a * 256 = mul-le-mul_left a (le_of_lt q) in omega arith
-
----- a loop over a list's elements
-pub all_next : (p : ℕ → Bool) (l : List ℕ) (k : ℕ) → k < length l → p (get_or l k 0) ≡ true → all p (drop k l) ≡ all p (drop (k + 1) l)
-unfolding all both
-all_next p l k h e = rw (drop_step l k 0 h, e)
-
-pub all_none : (p : ℕ → Bool) (l : List ℕ) (k : ℕ) → k < length l → p (get_or l k 0) ≡ false → all p (drop k l) ≡ false
-unfolding all both
-all_none p l k h e = rw (drop_step l k 0 h, e)
-
-pub all_done : (p : ℕ → Bool) (l : List ℕ) (k : ℕ) → length l ≤ k → all p (drop k l) ≡ true
-unfolding all
-all_done p l k h = rw (drop_of_length-le l {i = k} h)
 
 ---- the set that is found is that of the LLID
 pub set_found : (s : List ℕ) (l j m : ℕ) → set_from s l j m < j + m → llid_of (set_of s (set_from s l j m)) ≡ l

@@ -1,11 +1,11 @@
 -- What loading a key leaves of the sets, set by set, and what an LLID twice is (02, C-19). Assumes nothing.
 use Rattle.std.specs.Prelude.{◌≡◌, true, List, ℕ, ◌<◌, length}
-use Rattle.refusal.specs.declared.Verdict.TheVariants.{Accepted}
 use Rattle.records.specs.Settings.{settings_keys, key_octets, presence_of, key_present, key_of, mac_of, llid_of}
 use Rattle.rights.specs.declared.settings.Caller.{Caller}
 use Rattle.rights.specs.Settings.{set_of, set_for}
 use Rattle.rights.specs.Verdict.{llids_differ}
 use Rattle.rights.specs.Loading.{load_verdict, loading}
+use Rattle.refusal.specs.Verdict.{no_refusal}
 
 -- no two sets have one LLID
 abbrev pub OneSetEach : Caller → List ℕ → Type 0
@@ -32,6 +32,6 @@ pub record Loaded (s t : List ℕ) (j i : ℕ) (key : List ℕ) : Type 0 where
 
 -- an accepted call loads into the set of that LLID
 pub record LoadsOne (c : Caller) (s q : List ℕ) (llid i : ℕ) (key : List ℕ) : Type 0 where
-  pub set : load_verdict c s q llid i ≡ Accepted → llid_of (set_of s (set_for c s llid)) ≡ llid
-  pub loaded : load_verdict c s q llid i ≡ Accepted → length key ≡ key_octets
+  pub set : load_verdict c s q llid i ≡ no_refusal → llid_of (set_of s (set_for c s llid)) ≡ llid
+  pub loaded : load_verdict c s q llid i ≡ no_refusal → length key ≡ key_octets
       → Loaded s (loading c s q llid i key).output (set_for c s llid) i key

@@ -4,13 +4,12 @@ use Rattle.octets.specs.Choice.{both}
 use Rattle.octets.specs.Each.{each}
 use Rattle.octets.specs.Lists.{all}
 use Rattle.refusal.specs.declared.Refusal.TheVariants.{OutOfRange, RepeatedLlid, BadLength, UnknownUser}
-use Rattle.refusal.specs.declared.Verdict.{Verdict}
-use Rattle.refusal.specs.declared.Verdict.TheVariants.{Accepted}
 use Rattle.refusal.specs.Order.{refuse_if}
 use Rattle.records.specs.Settings.{settings_octets, presence_of, llid_of, presence_fits}
 use Rattle.rights.specs.declared.settings.Caller.{Caller}
 use Rattle.rights.specs.Settings.{most_sets, most_users, set_of, set_for}
 use Rattle.rights.specs.Rights.{rights_fit}
+use Rattle.refusal.specs.Verdict.{Verdict, no_refusal}
 
 -- the user's number is neither 0 nor above their count
 unfoldable pub user_fits : Caller → Bool
@@ -39,4 +38,4 @@ unfoldable pub class_verdict : Bool → Bool → Caller → List ℕ → List �
 class_verdict suits fits c sets rights =
     refuse_if (not (user_fits c)) UnknownUser
     (refuse_if (not (both suits (counts_fit c (length sets) (length rights)))) BadLength
-    (refuse_if (not (both fits (values_fit c sets rights))) OutOfRange (refuse_if (not (llids_differ c sets)) RepeatedLlid Accepted)))
+    (refuse_if (not (both fits (values_fit c sets rights))) OutOfRange (refuse_if (not (llids_differ c sets)) RepeatedLlid no_refusal)))

@@ -4,8 +4,8 @@ ghost use Rattle.rights.specs.Settings.{set_of, set_for, rights_on};
 ghost use Rattle.rights.specs.Judging.{seen_as, told_to, judged_for};
 
 use crate::settings::{Caller, may_open, may_see, rights_at, set_at, set_for};
-use records::header::{Header, RecordVerdict};
-use records::near::{Drift, judge};
+use records::header::{Access, Header, RecordVerdict};
+use records::near::{Drift, Heard, judge};
 use refusal::Refusal;
 
 // What a user is told of a record.
@@ -19,31 +19,18 @@ pub enum ClassVerdict {
     Told(RecordVerdict),
 }
 
-// The verdict on a record for a user, and the corrections behind it.
-#[derive(Clone, Copy)]
-pub struct ClassHeard {
-    pub verdict: ClassVerdict,
-    pub drift: Drift,
-}
-
 // A record that may be seen but not opened: 1 and 10 are told, and 9 is not asked.
-#[tactic(auto, unfolding(crate::specs::Judging::seen_as))]
+#[tactic(auto, unfolding(crate::specs::Judging::seen_as, octets::specs::Choice::pick))]
 fn seen_as(verdict: RecordVerdict) -> ClassVerdict
     ensures { result ≡ seen_as verdict }
 {
     match verdict {
-        RecordVerdict::Clear => ClassVerdict::Seen,
-        RecordVerdict::Sealed(_, _) => ClassVerdict::Seen,
-        RecordVerdict::Refused(refusal) => {
-            if refusal::number(refusal) == refusal::number(Refusal::NoKey) {
-                return ClassVerdict::Seen;
-            }
-            ClassVerdict::Told(RecordVerdict::Refused(refusal))
-        }
+        Ok(Access::Clear) | Ok(Access::Sealed(_, _)) | Err(Refusal::NoKey) => ClassVerdict::Seen,
+        Err(_) => ClassVerdict::Told(verdict),
     }
 }
 
-#[tactic(auto, unfolding(crate::specs::Judging::told_to))]
+#[tactic(auto, unfolding(crate::specs::Judging::told_to, octets::specs::Choice::pick))]
 fn told_to(right: u8, verdict: RecordVerdict) -> ClassVerdict
     ensures { result ≡ told_to right verdict }
 {
@@ -54,21 +41,18 @@ fn told_to(right: u8, verdict: RecordVerdict) -> ClassVerdict
 }
 
 // The verdict on a record by its header, for a user with this right on its LLID, whose set this is; in the near way or the usual one.
-#[tactic(auto, unfolding(crate::specs::Judging::judged_for))]
-pub fn judge_for(near: bool, right: u8, set: &[u8], drift: Drift, h: Header) -> ClassHeard
+#[tactic(auto, unfolding(crate::specs::Judging::judged_for, octets::specs::Choice::pick))]
+pub fn judge_for(near: bool, right: u8, set: &[u8], drift: Drift, h: Header) -> Heard<ClassVerdict>
     ensures { result ≡ judged_for near right set.now drift h }
 {
     if !may_see(right) {
         let verdict = ClassVerdict::Hidden;
-        return ClassHeard { verdict, drift };
+        return Heard { verdict, drift };
     }
     let heard = judge(near, set, drift, h);
-    let found = heard.verdict;
-    let verdict = told_to(right, found);
-    let next = heard.drift;
-    ClassHeard {
-        verdict,
-        drift: next,
+    Heard {
+        verdict: told_to(right, heard.verdict),
+        drift: heard.drift,
     }
 }
 
@@ -80,7 +64,7 @@ pub fn judge_in(
     rights: &[u8],
     drift: Drift,
     h: Header,
-) -> ClassHeard
+) -> Heard<ClassVerdict>
     ensures { result
         ≡ judged_for near (rights_on caller sets.now rights.now h.llid)
         (set_of sets.now (set_for caller sets.now h.llid)) drift h }

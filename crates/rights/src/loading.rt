@@ -10,22 +10,22 @@ use crate::settings::{Caller, may_load, rights_at, set_at, set_for};
 use crate::verdict::class_verdict;
 use octets::copy_at;
 use records::settings::{KEY_OCTETS, KEYS, SETTINGS_KEYS, SETTINGS_OCTETS, presence};
-use refusal::{Refusal, Verdict, and_then, refuse_if};
+use refusal::{Refusal, Verdict};
 
-#[tactic(auto, unfolding(crate::specs::Loading::load_verdict))]
+#[tactic(auto, unfolding(crate::specs::Loading::load_verdict, refusal::specs::Order::refuse_if, refusal::specs::Order::and_then))]
 fn load_verdict(caller: Caller, sets: &[u8], rights: &[u8], llid: u16, index: u8) -> Verdict
     ensures { result ≡ load_verdict caller sets.now rights.now llid index }
 {
-    let first = class_verdict(true, index < SETTINGS_KEYS, caller, sets, rights);
+    class_verdict(true, index < SETTINGS_KEYS, caller, sets, rights)?;
     let right = rights_at(caller, rights, set_for(caller, sets, llid));
-    and_then(
-        first,
-        refuse_if(!may_load(right), Refusal::NoRight, Verdict::Accepted),
-    )
+    if !may_load(right) {
+        return Err(Refusal::NoRight);
+    }
+    Ok(())
 }
 
 // The presence octet with the bit of a key.
-#[tactic(auto, unfolding(crate::specs::Loading::with_key))]
+#[tactic(auto, using(crate::proofs::Loads::present_bit), unfolding(crate::specs::Loading::with_key, octets::specs::Choice::pick))]
 fn with_key(present: u8, index: u8) -> u8
     requires { index < settings_keys }
     ensures { result ≡ with_key present index }
@@ -60,11 +60,9 @@ pub fn load(
     ensures sets_after { with_output result sets.new ≡ loading caller sets.old rights.now llid index key.now }
     ensures loads_one { LoadsOne caller sets.old rights.now llid index key.now }
 {
-    if let Verdict::Refused(refusal) = load_verdict(caller, sets, rights, llid, index) {
-        return Verdict::Refused(refusal);
-    }
+    load_verdict(caller, sets, rights, llid, index)?;
     let j = set_for(caller, sets, llid);
     let present = presence(set_at(sets, j));
     put_key(sets, j, index, present, key);
-    Verdict::Accepted
+    Ok(())
 }

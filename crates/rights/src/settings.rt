@@ -1,12 +1,13 @@
 // The settings of a class: sets of document 01's 41 octets, one for each LLID, and an octet of rights for each user and set.
-ghost use Rattle.std.specs.Prelude.{◌≡◌, ◌-◌, get_or};
+ghost use Rattle.std.specs.Prelude.{◌≡◌, get_or};
 ghost use Rattle.rights.specs.Settings.{set_of, set_for, own_rights};
 ghost use Rattle.rights.specs.Rights.{may_open, may_see, may_load};
 
 use octets::{octet_at, part_of};
 use records::settings::{SETTINGS_OCTETS, llid};
 
-// How many sets and users there are, and the number of the user who asks, from 1 (D100).
+// How many sets and users there are, and the number of the user who asks, from 1 (D100). The sets and the rights go beside it, as C lends
+// them: `load` writes the sets, so no value holds all three.
 #[repr(C)]
 #[derive(Clone, Copy)]
 pub struct Caller {
@@ -22,25 +23,13 @@ pub fn set_at(sets: &[u8], j: u8) -> &[u8]
     part_of(sets, SETTINGS_OCTETS * j as usize, SETTINGS_OCTETS)
 }
 
-// The set of an LLID, or the count of sets where it has none.
+// The set of an LLID, or the count of sets where it has none: `set_for` has that place, behind them, and a user has no rights there.
 pub fn set_for(caller: Caller, sets: &[u8], wanted: u16) -> u8
     ensures { result ≡ set_for caller sets.now wanted }
 {
-    let n = caller.sets;
-    let mut j = 0;
-    while j < n {
-        if llid(set_at(sets, j)) == wanted {
-            return j;
-        }
-        j += 1;
-    }
-    n
-}
-
-fn users_before(user: u8) -> u8
-    ensures { result ≡ user - 1 }
-{
-    if user == 0 { 0 } else { user - 1 }
+    (0..caller.sets)
+        .find(|j| llid(set_at(sets, *j)) == wanted)
+        .unwrap_or(caller.sets)
 }
 
 // The octets of rights of the user who asks, one for each set.
@@ -49,7 +38,7 @@ pub fn own_rights(caller: Caller, rights: &[u8]) -> &[u8]
     ensures { result.now ≡ own_rights caller rights.now }
 {
     let n = caller.sets as usize;
-    part_of(rights, n * users_before(caller.user) as usize, n)
+    part_of(rights, n * caller.user.saturating_sub(1) as usize, n)
 }
 
 // The rights of that user on set j.

@@ -33,69 +33,42 @@ fn counts_fit(caller: Caller, sets: usize, rights: usize) -> bool
             & ((sets == SETTINGS_OCTETS * n) & (rights == n * caller.users as usize)))
 }
 
-#[tactic(auto, unfolding(crate::specs::Verdict::presences_fit))]
 fn presences_fit(caller: Caller, sets: &[u8]) -> bool
     ensures { result ≡ presences_fit caller sets.now }
 {
-    let n = caller.sets;
-    let mut j = 0;
-    while j < n {
-        if !presence_fits(presence(set_at(sets, j))) {
-            return false;
-        }
-        j += 1;
-    }
-    true
+    (0..caller.sets).all(|j| presence_fits(presence(set_at(sets, j))))
 }
 
-#[tactic(auto, unfolding(crate::specs::Rights::rights_fit))]
 fn rights_fit(rights: &[u8]) -> bool
     ensures { result ≡ all rights_fit rights.now }
 {
-    let n = rights.len();
-    let mut k = 0;
-    while k < n {
-        if RIGHTS_BELOW <= rights[k] {
-            return false;
-        }
-        k += 1;
-    }
-    true
+    rights.iter().all(|q| *q < RIGHTS_BELOW)
 }
 
 // Whether each set is the first of its LLID.
-#[tactic(auto, unfolding(crate::specs::Verdict::llids_differ))]
 fn llids_differ(caller: Caller, sets: &[u8]) -> bool
     ensures { result ≡ llids_differ caller sets.now }
 {
-    let n = caller.sets;
-    let mut j = 0;
-    while j < n {
-        if set_for(caller, sets, llid(set_at(sets, j))) != j {
-            return false;
-        }
-        j += 1;
-    }
-    true
+    (0..caller.sets).all(|j| set_for(caller, sets, llid(set_at(sets, j))) == j)
 }
 
 // Whether what else the call was lent suits in length, and what else it asks for in value, is told by two tests.
-#[tactic(auto, unfolding(crate::specs::Verdict::class_verdict, refusal::specs::Order::refuse_if, octets::specs::Choice::both))]
+#[tactic(auto, using(crate::proofs::Sets::repeats), unfolding(crate::specs::Verdict::class_verdict, refusal::specs::Order::refuse_if, octets::specs::Choice::both))]
 pub fn class_verdict(suits: bool, fits: bool, caller: Caller, sets: &[u8], rights: &[u8]) -> Verdict
     ensures value { result ≡ class_verdict suits fits caller sets.now rights.now }
     ensures repeats { Repeats caller sets.now }
 {
     if !user_fits(caller) {
-        return Verdict::Refused(Refusal::UnknownUser);
+        return Err(Refusal::UnknownUser);
     }
     if !(suits & counts_fit(caller, sets.len(), rights.len())) {
-        return Verdict::Refused(Refusal::BadLength);
+        return Err(Refusal::BadLength);
     }
     if !(fits & (presences_fit(caller, sets) & rights_fit(rights))) {
-        return Verdict::Refused(Refusal::OutOfRange);
+        return Err(Refusal::OutOfRange);
     }
     if !llids_differ(caller, sets) {
-        return Verdict::Refused(Refusal::RepeatedLlid);
+        return Err(Refusal::RepeatedLlid);
     }
-    Verdict::Accepted
+    Ok(())
 }

@@ -6,12 +6,16 @@ use lib.Dec.{eqb}
 use lib.ListN.{length, length-append}
 use Rattle.octets.proofs.Choice.{pick_holds}
 use Rattle.records.specs.declared.header.Header.{Header}
+use Rattle.rows.specs.Text.{decimal_of}
 use Rattle.rows.specs.Entries.{number_text, alone_text, same_text, different_text, mark_text, entry_head, entry_tail, block_text}
 use Rattle.rows.proofs.Lines.{decimal_below, decimal_few}
 
+pub u16_few : (k : ℕ) → k < 65536 → length (decimal_of k) ≤ 5
+u16_few k h = decimal_below 4 k (omega arith)
+
 pub number_text_few : (k : ℕ) → k < 65536 → length (number_text k) ≤ 5
 unfolding number_text
-number_text_few k h = pick_holds (λ t. length t ≤ 5) (eqb k 0) (45 ∷ []) _ (λ e. omega arith) (λ e. decimal_below 4 k (omega arith))
+number_text_few k h = pick_holds (λ t. length t ≤ 5) (eqb k 0) (45 ∷ []) _ (λ e. omega arith) (λ e. u16_few k h)
 
 pub mark_few : (mark : ℕ) → length (mark_text mark) ≤ 9
 unfolding mark_text

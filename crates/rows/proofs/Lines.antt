@@ -1,7 +1,8 @@
 -- Laws of lines that grow by pieces of text. Assumes nothing.
-use mathlib.Core.Path.{◌≡◌, refl, ap, sym, ◌∙◌}
+use Rattle.std.specs.Prelude.{Ok, Err}
+use mathlib.Core.Path.{◌≡◌, refl, ap, ◌∙◌}
 use mathlib.Core.Bool.{Bool, true, false}
-use mathlib.Core.List.{List, [], ◌∷◌, ◌++◌, append_assoc, append-nil}
+use mathlib.Core.List.{List, [], ◌∷◌, ◌++◌, append_assoc}
 use Prim.Native.Nat.{ℕ, zero, suc, ◌+◌, ◌/◌, ◌%◌, ◌^◌, ◌≤◌, ◌<◌}
 use native.Mathlib.Nat.{pow-suc}
 use native.Mathlib.Numerals.{add-one}
@@ -12,30 +13,21 @@ use borrow.Author.Tests.{lt-ltb, le-ltb, ltb-false}
 use Rattle.octets.proofs.Choice.{pick_true, pick_false, pick_holds, pick_same}
 use Rattle.refusal.specs.Number.{number_of, pair_number}
 use Rattle.refusal.specs.declared.Refusal.{Refusal}
-use Rattle.refusal.specs.declared.Refusal.TheVariants.{OutOfRange, UnknownLlid, RepeatedLlid, TableFull, ClockNotSet, OfferPending, SameKey, NothingOutstanding, NoKey, EpamDiffers, ClearEnvelope, ChannelTaken, KeyTooOld, BadLength, BadDirectory, CaptureTooOld, AtEnd, BrokenChain, UnsuitedLength, GroupLlid, BadMember, RepeatedRecord, UnknownUser, NoRight, OtherKeyIndex, BadScript}
 use Rattle.records.specs.declared.header.Header.{Header}
-use Rattle.records.specs.declared.header.RecordVerdict.{RecordVerdict}
-use Rattle.records.specs.declared.header.RecordVerdict.TheVariants.{Clear, Sealed}
 use Rattle.rows.specs.declared.Line.{Line}
 use Rattle.rows.specs.Text.{glyph_of, digits, most_digits, digits_within, digit_count, decimal_of, refused_text, pair_text, result_text, row_head, row_middle, row_tail, row_of, seen_row, hidden_row, refused_row, text_of, row_octets, Holds}
 use Rattle.rows.specs.Duties.{Grown}
+use Rattle.records.specs.Verdict.{RecordVerdict}
+use Rattle.records.specs.declared.header.Access.TheVariants.{Clear, Sealed}
 
 -- one piece after the other
 pub both_grown : {l m n : Line} {p q : List ℕ} → Grown l m p → Grown m n q → Grown l n (p ++ q)
 both_grown {l} {m} {n} {p} {q} a b =
     record { text = b.text ∙ rw a.text (append_assoc (text_of l) p q); used = omega (arith, a.used, b.used, length-append p q) }
 
--- nothing at all
-pub none_grown : (l : Line) → Grown l l []
-none_grown l = record { text = sym (append-nil (text_of l)); used = omega arith }
-
--- the same piece, written otherwise
-pub grown_as : {l m : Line} {p q : List ℕ} → Grown l m p → p ≡ q → Grown l m q
-grown_as a e = rw e at a
-
 -- on an empty line, a piece that fits is all
-pub held : {l m : Line} {p : List ℕ} → Grown l m p → l.used ≡ 0 → length p ≤ row_octets → Holds m p
-held g e fits = record { octets = g.text ∙ rw e; used = omega (arith, g.used); inside = omega (arith, g.used) }
+pub held : {l m : Line} {p : List ℕ} → Holds l [] → Grown l m p → m.used ≤ row_octets → Holds m p
+held e g fits = record { octets = g.text ∙ rw e.octets; used = omega (arith, g.used, e.used); inside = fits }
 
 -- one digit more of those that are left
 pub one_digit : (t : List ℕ) (b k n x : ℕ) → x ≡ glyph_of (n / b ^ k % b) → (t ++ (x ∷ [])) ++ digits b k n ≡ t ++ digits b (k + 1) n
@@ -81,32 +73,7 @@ unfolding decimal_of digit_count
 decimal_few n = rw digits_length (within_few most_digits n)
 
 number_few : (r : Refusal) → number_of r < 100
-number_few OutOfRange = omega arith
-number_few UnknownLlid = omega arith
-number_few RepeatedLlid = omega arith
-number_few TableFull = omega arith
-number_few ClockNotSet = omega arith
-number_few OfferPending = omega arith
-number_few SameKey = omega arith
-number_few NothingOutstanding = omega arith
-number_few NoKey = omega arith
-number_few EpamDiffers = omega arith
-number_few ClearEnvelope = omega arith
-number_few ChannelTaken = omega arith
-number_few KeyTooOld = omega arith
-number_few BadLength = omega arith
-number_few BadDirectory = omega arith
-number_few CaptureTooOld = omega arith
-number_few AtEnd = omega arith
-number_few (BrokenChain k) = omega arith
-number_few (UnsuitedLength k) = omega arith
-number_few GroupLlid = omega arith
-number_few BadMember = omega arith
-number_few RepeatedRecord = omega arith
-number_few UnknownUser = omega arith
-number_few NoRight = omega arith
-number_few OtherKeyIndex = omega arith
-number_few BadScript = omega arith
+number_few r = grind arith
 
 pub number_digits : (r : Refusal) → length (decimal_of (number_of r)) ≤ 2
 number_digits r = decimal_below 1 (number_of r) (number_few r)
@@ -125,9 +92,9 @@ refused_row_few r = simp length-append (omega (arith, refused_few r, pair_few r)
 
 pub result_few : (v : RecordVerdict) → length (result_text v) ≤ 10
 unfolding result_text
-result_few Clear = omega arith
-result_few (Sealed i t) = omega arith
-result_few (RecordVerdict.Refused r) = refused_few r
+result_few (Ok Clear) = omega arith
+result_few (Ok (Sealed i t)) = omega arith
+result_few (Err r) = refused_few r
 
 pub head_few : (k : ℕ) (h : Header) → length (row_head k h) ≤ length (decimal_of k) + 9
 unfolding row_head

@@ -1,12 +1,12 @@
 -- Laws of a text that is written piece by piece: what is put behind its first octets, where there is room. Assumes nothing.
-use mathlib.Core.Path.{◌≡◌, refl, sym, ap, ◌∙◌}
+use mathlib.Core.Path.{◌≡◌, sym, ap, ◌∙◌}
 use mathlib.Core.List.{List, ◌++◌, append_assoc}
-use Prim.Native.Nat.{ℕ, ◌+◌, ◌≤◌}
+use Prim.Native.Nat.{ℕ, ◌+◌, ◌≤◌, min}
 use native.Mathlib.Omega.{arith}
 use lib.Dec.{leb}
 use lib.ListN.{length, take, drop, length-append, length-take}
 use lib.Seq.{take_at, drop_at, drop-drop, length-take-le}
-use borrow.Author.Tests.{leb-true, le-leb}
+use borrow.Author.Tests.{leb-true, leb-false, le-leb}
 use Rattle.octets.specs.Choice.{pick}
 use Rattle.octets.specs.Lists.{part, copied_at}
 use Rattle.octets.specs.Output.{WithOutput, with_output}
@@ -19,9 +19,8 @@ use Rattle.rows.specs.Text.{text_of, with_line}
 end_inside : (end size : ℕ) → end ≤ size → pick (leb end size) end size ≡ end
 end_inside end size h = pick_true _ _ (le-leb end size h)
 
-end_past : (end size : ℕ) → size ≤ end → pick (leb end size) end size ≡ size
-end_past end size h =
-    pick_holds (λ x. x ≡ size) (leb end size) end size (λ e. omega (arith, leb-true end size e)) (λ e. refl)
+ends : (x end size : ℕ) → x ≡ min size end → pick (leb end size) end size ≡ x
+ends x end size h = pick_holds (λ y. y ≡ x) (leb end size) end size (λ e. omega (arith, leb-true end size e)) (λ e. omega (arith, leb-false end size e))
 
 -- a piece that is copied behind the first `at` octets
 pub record Put (text next piece : List ℕ) (at : ℕ) : Type 0 where
@@ -41,13 +40,9 @@ put text next piece at h e =
 
 -- a line's own octets, copied, and where they end: with the text, or before it
 module _ (text next piece : List ℕ) (at : ℕ) (l : Line) (p : piece ≡ part l.octets 0 l.used) (e : next ≡ copied_at piece at text) where
-  pub line_past : length text ≤ at + length piece → with_output (length text) next ≡ with_line text at l
+  pub line_ends : (end : ℕ) → end ≡ min (length text) (at + length piece) → with_output end next ≡ with_line text at l
   unfolding with_line
-  line_past h = rw (e, p, end_past (at + length (text_of l)) (length text) (rw p at h))
-
-  pub line_inside : at + length piece ≤ length text → with_output (at + length piece) next ≡ with_line text at l
-  unfolding with_line
-  line_inside h = rw (e, p, end_inside (at + length (text_of l)) (length text) (rw p at h))
+  line_ends end h = rw (e, p, ends end (at + length (text_of l)) (length text) (rw p at h))
 
 -- a line of at most m octets, put where there is room for as many
 pub line_put : (text next : List ℕ) (at end m : ℕ) (l : Line) → with_output end next ≡ with_line text at l → l.used ≤ m → at + m ≤ length text

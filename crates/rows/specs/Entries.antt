@@ -1,5 +1,5 @@
 -- The text of the rows of two recordings, as ASCII codes (02, C-15). Assumes nothing.
-use Rattle.std.specs.Prelude.{List, [], ◌∷◌, ◌++◌, ℕ, eqb}
+use Rattle.std.specs.Prelude.{List, [], ◌∷◌, ◌++◌, ℕ, codes, eqb}
 use Rattle.octets.specs.Choice.{pick}
 use Rattle.refusal.specs.declared.Refusal.{Refusal}
 use Rattle.records.specs.declared.header.Header.{Header}
@@ -11,13 +11,13 @@ number_text k = pick (eqb k 0) (45 ∷ []) (decimal_of k)
 
 -- "alone", "same" and "different"
 abbrev pub alone_text : List ℕ
-alone_text = 97 ∷ 108 ∷ 111 ∷ 110 ∷ 101 ∷ []
+alone_text = codes "alone"
 
 abbrev pub same_text : List ℕ
-same_text = 115 ∷ 97 ∷ 109 ∷ 101 ∷ []
+same_text = codes "same"
 
 abbrev pub different_text : List ℕ
-different_text = 100 ∷ 105 ∷ 102 ∷ 102 ∷ 101 ∷ 114 ∷ 101 ∷ 110 ∷ 116 ∷ []
+different_text = codes "different"
 
 -- for an entry of 0, 1 and 2
 unfoldable pub mark_text : ℕ → List ℕ
@@ -45,4 +45,4 @@ denied_row r block = ((refused_text r ++ pair_text r) ++ block_text block) ++ (1
 
 -- "total " and the number
 unfoldable pub total_row : ℕ → List ℕ
-total_row total = (116 ∷ 111 ∷ 116 ∷ 97 ∷ 108 ∷ 32 ∷ decimal_of total) ++ (10 ∷ [])
+total_row total = (codes "total " ++ decimal_of total) ++ (10 ∷ [])

@@ -1,15 +1,14 @@
 -- The text of a listing's rows, as ASCII codes (01, Capture block: the reader program). Assumes nothing.
-use Rattle.std.specs.Prelude.{◌≡◌, List, [], ◌∷◌, ◌++◌, ℕ, zero, suc, ◌+◌, ◌/◌, ◌%◌, ◌^◌, ◌≤◌, leb, ltb, eqb, length, take}
+use Rattle.std.specs.Prelude.{◌≡◌, List, [], ◌∷◌, ◌++◌, ℕ, codes, zero, suc, ◌+◌, ◌/◌, ◌%◌, ◌^◌, ◌≤◌, leb, ltb, eqb, length, take, Ok, Err}
 use Rattle.octets.specs.Choice.{pick}
 use Rattle.octets.specs.Lists.{copied_at}
 use Rattle.octets.specs.Output.{WithOutput, with_output}
 use Rattle.refusal.specs.declared.Refusal.{Refusal}
 use Rattle.refusal.specs.Number.{number_of, pair_number}
 use Rattle.records.specs.declared.header.Header.{Header}
-use Rattle.records.specs.declared.header.RecordVerdict.{RecordVerdict}
-use Rattle.records.specs.declared.header.RecordVerdict.TheVariants.{Clear, Sealed, Refused}
-use Rattle.records.specs.Verdict.{enc_enabled, enc_key}
+use Rattle.records.specs.Verdict.{enc_enabled, enc_key, RecordVerdict}
 use Rattle.rows.specs.declared.Line.{Line}
+use Rattle.records.specs.declared.header.Access.TheVariants.{Clear, Sealed}
 
 -- a digit below 16: 0 to 9, then a to f
 unfoldable pub glyph_of : ℕ → ℕ
@@ -42,13 +41,13 @@ key_glyph h = pick (enc_enabled h.flags) (48 + enc_key h.flags) 45
 
 -- "refused " and the code
 unfoldable pub refused_text : Refusal → List ℕ
-refused_text r = 114 ∷ 101 ∷ 102 ∷ 117 ∷ 115 ∷ 101 ∷ 100 ∷ 32 ∷ decimal_of (number_of r)
+refused_text r = codes "refused " ++ decimal_of (number_of r)
 
 -- "open", clear ones too, or refused
 unfoldable pub result_text : RecordVerdict → List ℕ
-result_text Clear = 111 ∷ 112 ∷ 101 ∷ 110 ∷ []
-result_text (Sealed i t) = 111 ∷ 112 ∷ 101 ∷ 110 ∷ []
-result_text (Refused r) = refused_text r
+result_text (Ok Clear) = codes "open"
+result_text (Ok (Sealed i t)) = codes "open"
+result_text (Err r) = refused_text r
 
 -- number from 1, LLID (4 hex digits), channel index (2)
 unfoldable pub row_head : ℕ → Header → List ℕ
@@ -67,7 +66,7 @@ row_of k h v = row_head k h ++ row_tail h v
 
 -- a record that may be seen but not opened: its result is "seen" (02, C-19)
 unfoldable pub seen_row : ℕ → Header → List ℕ
-seen_row k h = row_head k h ++ (row_middle h ++ (115 ∷ 101 ∷ 101 ∷ 110 ∷ 10 ∷ []))
+seen_row k h = row_head k h ++ (row_middle h ++ (codes "seen" ++ (10 ∷ [])))
 
 -- a record whose header may not be seen: its number and a dash only (02, C-19)
 unfoldable pub hidden_row : ℕ → List ℕ

@@ -9,7 +9,7 @@ ghost use Rattle.rows.specs.Duties.{Grown};
 pub mod entries;
 
 use octets::{copy_at, part_of};
-use records::header::{Header, RecordVerdict, enc_enabled, enc_key};
+use records::header::{Access, Header, RecordVerdict, enc_enabled, enc_key};
 use refusal::Refusal;
 
 // The most octets of a row: two decimal numbers, and 23 beside them.
@@ -25,37 +25,62 @@ pub struct Line {
     pub used: usize,
 }
 
-fn push(line: Line, octet: u8) -> Line
-    requires { line.used < row_octets }
-    ensures { Grown line result (octet ∷ []) }
-{
-    let mut next = line;
-    let at = next.used;
-    next.octets[at] = octet;
-    next.used = at + 1;
-    next
+impl Line {
+    fn new() -> Line
+        ensures { Holds result [] }
+    {
+        Line {
+            octets: [0u8; ROW_OCTETS],
+            used: 0,
+        }
+    }
+
+    fn push(&mut self, octet: u8)
+        requires { self.old.used < row_octets }
+        ensures { Grown self.old self.new (octet ∷ []) }
+    {
+        self.octets[self.used] = octet;
+        self.used += 1;
+    }
+
+    fn push_all(&mut self, text: &[u8])
+        requires { self.old.used + length text.now ≤ row_octets }
+        ensures { Grown self.old self.new text.now }
+    {
+        let end = self.used + text.len();
+        self.octets[self.used..end].copy_from_slice(text);
+        self.used = end;
+    }
+
+    // The last `count` digits of n.
+    fn put_digits(&mut self, base: u64, count: usize, n: u64)
+        requires { (1 ≤ base) × (base ≤ 16) × (self.old.used + count ≤ row_octets) }
+        ensures { Grown self.old self.new (digits base count n) }
+    {
+        for left in (0..count).rev() {
+            self.push(digit(base, n, left));
+        }
+    }
+
+    #[tactic(auto, using(crate::proofs::Lines::digits_length), unfolding(crate::specs::Text::decimal_of))]
+    fn put_decimal(&mut self, n: u64)
+        requires { self.old.used + length (decimal_of n) ≤ row_octets }
+        ensures { Grown self.old self.new (decimal_of n) }
+    {
+        self.put_digits(10, digit_count(n), n);
+    }
 }
 
-fn push2(line: Line, a: u8, b: u8) -> Line
-    requires { line.used + 2 ≤ row_octets }
-    ensures { Grown line result (a ∷ b ∷ []) }
-{
-    push(push(line, a), b)
-}
-
-fn push4(line: Line, a: u8, b: u8, c: u8, d: u8) -> Line
-    requires { line.used + 4 ≤ row_octets }
-    ensures { Grown line result (a ∷ b ∷ c ∷ d ∷ []) }
-{
-    push2(push2(line, a, b), c, d)
-}
-
-#[tactic(auto, unfolding(crate::specs::Text::glyph_of))]
+#[tactic(auto, unfolding(crate::specs::Text::glyph_of, octets::specs::Choice::pick))]
 fn glyph(d: u64) -> u8
     requires { d < 16 }
     ensures { result ≡ glyph_of d }
 {
-    if d < 10 { 48 + d as u8 } else { 87 + d as u8 }
+    if d < 10 {
+        b'0' + d as u8
+    } else {
+        b'a' + (d as u8 - 10)
+    }
 }
 
 // The digit of n that has i others behind it.
@@ -70,183 +95,144 @@ fn digit(base: u64, n: u64, i: usize) -> u8
     glyph(rest % base)
 }
 
-// The last `count` digits of n.
-fn put_digits(line: Line, base: u64, count: usize, n: u64) -> Line
-    requires { (1 ≤ base) × (base ≤ 16) × (line.used + count ≤ row_octets) }
-    ensures { Grown line result (digits base count n) }
-{
-    let mut next = line;
-    let mut left = count;
-    while 0 < left {
-        left -= 1;
-        let longer = push(next, digit(base, n, left));
-        next = longer;
-    }
-    next
-}
-
 #[tactic(auto, unfolding(crate::specs::Text::digit_count))]
 fn digit_count(n: u64) -> usize
     ensures { result ≡ digit_count n }
 {
     let mut rest = n;
-    let mut count = 1;
-    while count < MOST_DIGITS {
+    for count in 1..MOST_DIGITS {
         if rest < 10 {
             return count;
         }
         rest /= 10;
-        count += 1;
     }
-    count
-}
-
-#[tactic(auto, unfolding(crate::specs::Text::decimal_of))]
-fn decimal(line: Line, n: u64) -> Line
-    requires { line.used + length (decimal_of n) ≤ row_octets }
-    ensures { Grown line result (decimal_of n) }
-{
-    put_digits(line, 10, digit_count(n), n)
+    MOST_DIGITS
 }
 
 // EncKey, or - for a clear record.
-#[tactic(auto, unfolding(crate::specs::Text::key_glyph))]
+#[tactic(auto, using(octets::proofs::Bits::bit_below), unfolding(crate::specs::Text::key_glyph, octets::specs::Choice::pick))]
 fn key_glyph(h: Header) -> u8
     ensures { result ≡ key_glyph h }
 {
     if enc_enabled(h.flags) {
-        return 48 + enc_key(h.flags);
+        b'0' + enc_key(h.flags)
+    } else {
+        b'-'
     }
-    b'-'
 }
 
-#[tactic(auto, unfolding(crate::specs::Text::refused_text))]
-fn refused(line: Line, refusal: Refusal) -> Line
-    requires { line.used + 10 ≤ row_octets }
-    ensures { Grown line result (refused_text refusal) }
+#[tactic(auto, using(crate::proofs::Lines::number_digits), unfolding(crate::specs::Text::refused_text))]
+fn put_refused(line: &mut Line, refusal: Refusal)
+    requires { line.old.used + 10 ≤ row_octets }
+    ensures { Grown line.old line.new (refused_text refusal) }
 {
-    let half = push4(line, b'r', b'e', b'f', b'u');
-    let word = push4(half, b's', b'e', b'd', b' ');
-    decimal(word, refusal::number(refusal) as u64)
+    line.push_all(b"refused ");
+    line.put_decimal(u8::from(refusal) as u64);
 }
 
 // A blank and the pair that a refusal names, nothing where it names none.
-#[tactic(auto, unfolding(crate::specs::Text::pair_text))]
-fn pair(line: Line, refusal: Refusal) -> Line
-    requires { line.used + 21 ≤ row_octets }
-    ensures { Grown line result (pair_text refusal) }
+#[tactic(auto, using(crate::proofs::Lines::decimal_few), unfolding(crate::specs::Text::pair_text, octets::specs::Choice::pick))]
+fn put_pair(line: &mut Line, refusal: Refusal)
+    requires { line.old.used + 21 ≤ row_octets }
+    ensures { Grown line.old line.new (pair_text refusal) }
 {
     let k = refusal::pair(refusal);
-    if k == 0 {
-        return line;
+    if k != 0 {
+        line.push(b' ');
+        line.put_decimal(k as u64);
     }
-    decimal(push(line, b' '), k as u64)
 }
 
 #[tactic(auto, unfolding(crate::specs::Text::result_text))]
-fn result(line: Line, verdict: RecordVerdict) -> Line
-    requires { line.used + 10 ≤ row_octets }
-    ensures { Grown line result (result_text verdict) }
+fn put_result(line: &mut Line, verdict: RecordVerdict)
+    requires { line.old.used + 10 ≤ row_octets }
+    ensures { Grown line.old line.new (result_text verdict) }
 {
     match verdict {
-        RecordVerdict::Clear => push4(line, b'o', b'p', b'e', b'n'),
-        RecordVerdict::Sealed(_, _) => push4(line, b'o', b'p', b'e', b'n'),
-        RecordVerdict::Refused(refusal) => refused(line, refusal),
+        Ok(Access::Clear) | Ok(Access::Sealed(_, _)) => line.push_all(b"open"),
+        Err(refusal) => put_refused(line, refusal),
     }
 }
 
 // Number from 1, LLID and channel index.
-#[tactic(auto, unfolding(crate::specs::Text::row_head))]
-fn row_head(line: Line, k: u64, h: Header) -> Line
-    requires { line.used ≡ 0 }
-    ensures { Grown line result (row_head k h) }
+#[tactic(auto, using(crate::proofs::Lines::decimal_few), unfolding(crate::specs::Text::row_head))]
+fn put_head(line: &mut Line, k: u64, h: Header)
+    requires { line.old.used ≡ 0 }
+    ensures { Grown line.old line.new (row_head k h) }
 {
-    let a = push(decimal(line, k), b' ');
-    let b = push(put_digits(a, 16, 4, h.llid as u64), b' ');
-    push(put_digits(b, 16, 2, h.channel as u64), b' ')
+    line.put_decimal(k);
+    line.push(b' ');
+    line.put_digits(16, 4, h.llid as u64);
+    line.push(b' ');
+    line.put_digits(16, 2, h.channel as u64);
+    line.push(b' ');
 }
 
 // Key and EQs.
-#[tactic(auto, unfolding(crate::specs::Text::row_middle))]
-fn row_middle(line: Line, h: Header) -> Line
-    requires { line.used + 23 ≤ row_octets }
-    ensures { Grown line result (row_middle h) }
+#[tactic(auto, using(crate::proofs::Lines::decimal_few), unfolding(crate::specs::Text::row_middle))]
+fn put_middle(line: &mut Line, h: Header)
+    requires { line.old.used + 23 ≤ row_octets }
+    ensures { Grown line.old line.new (row_middle h) }
 {
-    let a = push2(line, key_glyph(h), b' ');
-    push(decimal(a, h.eqs as u64), b' ')
-}
-
-// Key, EQs and result.
-#[tactic(auto, unfolding(crate::specs::Text::row_tail))]
-fn row_tail(line: Line, h: Header, verdict: RecordVerdict) -> Line
-    requires { line.used + 34 ≤ row_octets }
-    ensures { Grown line result (row_tail h verdict) }
-{
-    push(result(row_middle(line, h), verdict), b'\n')
+    line.push(key_glyph(h));
+    line.push(b' ');
+    line.put_decimal(h.eqs as u64);
+    line.push(b' ');
 }
 
 // The row of the record with number k.
-#[tactic(auto, unfolding(crate::specs::Text::row_of))]
+#[tactic(auto, using(crate::proofs::Lines::decimal_few, crate::proofs::Lines::head_few, crate::proofs::Lines::middle_few, crate::proofs::Lines::result_few))]
 pub fn row(k: u64, h: Header, verdict: RecordVerdict) -> Line
     ensures { Holds result (row_of k h verdict) }
 {
-    let line = Line {
-        octets: [0u8; ROW_OCTETS],
-        used: 0,
-    };
-    row_tail(row_head(line, k, h), h, verdict)
+    let mut line = Line::new();
+    put_head(&mut line, k, h);
+    put_middle(&mut line, h);
+    put_result(&mut line, verdict);
+    line.push(b'\n');
+    line
 }
 
 // The row of the record with number k that may be seen but not opened (02, C-19).
-#[tactic(auto, unfolding(crate::specs::Text::seen_row))]
+#[tactic(auto, using(crate::proofs::Lines::decimal_few, crate::proofs::Lines::head_few, crate::proofs::Lines::middle_few))]
 pub fn seen_row(k: u64, h: Header) -> Line
     ensures { Holds result (seen_row k h) }
 {
-    let line = Line {
-        octets: [0u8; ROW_OCTETS],
-        used: 0,
-    };
-    let middle = row_middle(row_head(line, k, h), h);
-    push(push4(middle, b's', b'e', b'e', b'n'), b'\n')
+    let mut line = Line::new();
+    put_head(&mut line, k, h);
+    put_middle(&mut line, h);
+    line.push_all(b"seen\n");
+    line
 }
 
 // The row of the record with number k whose header may not be seen.
-#[tactic(auto, unfolding(crate::specs::Text::hidden_row))]
+#[tactic(auto, using(crate::proofs::Lines::decimal_few))]
 pub fn hidden_row(k: u64) -> Line
     ensures { Holds result (hidden_row k) }
 {
-    let line = Line {
-        octets: [0u8; ROW_OCTETS],
-        used: 0,
-    };
-    push(push2(decimal(line, k), b' ', b'-'), b'\n')
+    let mut line = Line::new();
+    line.put_decimal(k);
+    line.push_all(b" -\n");
+    line
 }
 
 // The row of a call that is refused.
-#[tactic(auto, unfolding(crate::specs::Text::refused_row))]
+#[tactic(auto, using(crate::proofs::Lines::refused_few, crate::proofs::Lines::pair_few))]
 pub fn refused_row(refusal: Refusal) -> Line
     ensures { Holds result (refused_row refusal) }
 {
-    let line = Line {
-        octets: [0u8; ROW_OCTETS],
-        used: 0,
-    };
-    push(pair(refused(line, refusal), refusal), b'\n')
+    let mut line = Line::new();
+    put_refused(&mut line, refusal);
+    put_pair(&mut line, refusal);
+    line.push(b'\n');
+    line
 }
 
 // Writes a line behind the first `at` octets of a text, as much of it as there is room for, and gives where that ends.
 pub fn put_line(text: &mut [u8], at: usize, line: Line) -> usize
     ensures { with_output result text.new ≡ with_line text.old at line }
 {
-    let size = text.len();
-    let octets = line.octets;
-    let piece = part_of(&octets, 0, line.used);
+    let piece = part_of(&line.octets, 0, line.used);
     copy_at(piece, text, at);
-    if size <= at {
-        return size;
-    }
-    if size - at <= piece.len() {
-        return size;
-    }
-    at + piece.len()
+    text.len().min(at.saturating_add(piece.len()))
 }

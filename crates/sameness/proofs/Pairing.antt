@@ -1,15 +1,15 @@
 -- Laws of pairing: it is an equality of keys, so that in a block without two records alike a record has at most one partner. Assumes nothing.
 use mathlib.Core.Path.{◌≡◌, refl, sym, ◌∙◌}
-use mathlib.Core.Bool.{Bool, true, false}
+use mathlib.Core.Bool.{true, false}
 use mathlib.Core.List.{List}
 use mathlib.Core.Logic.{⊎_elim}
 use Prim.Native.Nat.{ℕ, zero, suc, ◌+◌, ◌-◌, ◌≤◌, ◌<◌}
 use native.Mathlib.Nat.{add-zero, add-suc, suc-add, eq-or-lt_of_le}
 use native.Mathlib.Numerals.{add-one}
 use native.Mathlib.Omega.{arith}
-use lib.Dec.{ltb, eqb}
-use borrow.Author.Tests.{ltb-true, ltb-false, eqb-true, eq-eqb, ne_eqb}
-use Rattle.octets.proofs.Choice.{true_false, both_left, both_right, both_true, pick_true, pick_false, pick_holds}
+use lib.Dec.{eqb}
+use borrow.Author.Tests.{eqb-true, eq-eqb, ne_eqb}
+use Rattle.octets.proofs.Choice.{both_left, both_right, both_true, pick_false, pick_holds}
 use Rattle.records.specs.declared.header.Header.{Header}
 use Rattle.records.specs.Block.{records_in, record_of}
 use Rattle.sameness.specs.Pairing.{keys_agree, paired, first_from, partner_of, alone, unlike_rest, distinct}
@@ -80,19 +80,6 @@ module _ (r b : List ℕ) where
       rw (pick_false _ _ (f j (omega arith) (omega arith)))
       (first_none (suc j) m (λ k l h. f k (omega arith) (omega arith)) ∙ rw (suc-add, add-suc))
 
-  ---- a loop over the n records
-  pub first_step : (j n : ℕ) → j < n → paired r (record_of b j) ≡ false → first_from r b j (n - j) ≡ first_from r b (j + 1) (n - (j + 1))
-  unfolding first_from
-  first_step j n h e = let m : n - j ≡ suc (n - suc j) = omega arith in rw (m, add-one) (pick_false _ _ e)
-
-  pub first_stop : (j n : ℕ) → j < n → paired r (record_of b j) ≡ true → first_from r b j (n - j) ≡ j
-  unfolding first_from
-  first_stop j n h e = let m : n - j ≡ suc (n - suc j) = omega arith in rw m (pick_true _ _ e)
-
-  pub first_end : (j n : ℕ) → n ≤ j → first_from r b j (n - j) ≡ j
-  unfolding first_from
-  first_end j n h = let m : n - j ≡ 0 = omega arith in rw m
-
 ---- a block without two records alike
 
 apart : (b : List ℕ) (i k : ℕ) → distinct b ≡ true → i < k → k < records_in b → paired (record_of b i) (record_of b k) ≡ false
@@ -108,30 +95,22 @@ pub unlike_tested : (b : List ℕ) (i n p : ℕ) → n ≡ records_in b → p �
 unfolding unlike_rest
 unlike_tested b i n p q e = rw (e, q, add-one)
 
-one_by : (s t : Bool) (b : List ℕ) (i k : ℕ) → ltb i k ≡ s → ltb k i ≡ t → distinct b ≡ true → i < records_in b → k < records_in b
-    → paired (record_of b i) (record_of b k) ≡ true → i ≡ k
-one_by true t b i k f g d h l e = true_false (sym e ∙ apart b i k d (ltb-true _ _ f) l)
-one_by false true b i k f g d h l e = true_false (sym (paired_back _ _ e) ∙ apart b k i d (ltb-true _ _ g) h)
-one_by false false b i k f g d h l e = omega (arith, ltb-false i k f, ltb-false k i g)
-
 -- records of one block that pair are one
 pub only_one : (b : List ℕ) (i k : ℕ) → distinct b ≡ true → i < records_in b → k < records_in b → paired (record_of b i) (record_of b k) ≡ true
     → i ≡ k
-only_one b i k d h l e = one_by (ltb i k) (ltb k i) b i k refl refl d h l e
-
-partner_by : (t : Bool) (r b : List ℕ) (j : ℕ) → ltb j (partner_of r b) ≡ t → distinct b ≡ true → j < records_in b
-    → paired r (record_of b j) ≡ true
-    → partner_of r b ≡ j
-partner_by true r b j f d h e = true_false (sym e ∙ first_least r b 0 (records_in b) j (omega arith) (ltb-true j (partner_of r b) f))
-partner_by false r b j f d h e =
-    let p = partner_of r b in
-    let low : p < records_in b = omega (arith, ltb-false j p f) in
-    let hit = first_pairs r b 0 (records_in b) (omega arith) in
-    only_one b p j d low h (paired_through _ _ _ (paired_back _ _ hit) e)
+only_one b i k d h l e =
+    let back = paired_back _ _ e in
+    grind (arith, apart b i k d, apart b k i d)
 
 -- the record of such a block that pairs is the partner
 pub partner_is : (r b : List ℕ) (j : ℕ) → distinct b ≡ true → j < records_in b → paired r (record_of b j) ≡ true → partner_of r b ≡ j
-partner_is r b j d h e = partner_by (ltb j (partner_of r b)) r b j refl d h e
+partner_is r b j d h e =
+    let p = partner_of r b in
+    let first = first_high r b 0 (records_in b) in
+    let hit = first_pairs r b 0 (records_in b) in
+    let least = first_least r b 0 (records_in b) j in
+    let one : p < records_in b → paired r (record_of b p) ≡ true → p ≡ j = λ l f. only_one b p j d l h (paired_through _ _ _ (paired_back _ _ f) e) in
+    grind arith
 
 -- a record with a partner is not alone
 pub not_alone : (a b : List ℕ) (i j : ℕ) → partner_of (record_of a i) b ≡ j → j < records_in b → alone a b i ≡ false

@@ -10,37 +10,23 @@ use records::header::Header;
 fn keys_agree(g: Header, h: Header) -> bool
     ensures { result ≡ keys_agree g h }
 {
-    (g.channel == h.channel) & ((g.llid == h.llid) & (g.clock == h.clock))
+    (g.channel, g.llid, g.clock) == (h.channel, h.llid, h.clock)
 }
 
 // The first record of b, from record `from` of n on, that pairs with record i of a, or n where none does.
-#[tactic(auto, unfolding(crate::specs::Pairing::paired))]
 pub fn first_from(a: &[u8], i: u16, b: &[u8], from: u16, n: u16) -> u16
     ensures { result ≡ first_from (record_of a.now i) b.now from (n - from) }
 {
     let key = header_at(a, i);
-    let mut j = from;
-    while j < n {
-        if keys_agree(key, header_at(b, j)) {
-            return j;
-        }
-        j += 1;
-    }
-    j
+    (from..n)
+        .find(|&j| keys_agree(key, header_at(b, j)))
+        .unwrap_or(n.max(from))
 }
 
 // Whether no two records of a block agree in all three.
-#[tactic(auto, unfolding(crate::specs::Pairing::distinct))]
 pub fn is_distinct(block: &[u8]) -> bool
     ensures { result ≡ distinct block.now }
 {
     let n = count(block);
-    let mut i = 0;
-    while i < n {
-        if first_from(block, i, block, i + 1, n) != n {
-            return false;
-        }
-        i += 1;
-    }
-    true
+    (0..n).all(|i| first_from(block, i, block, i + 1, n) == n)
 }

@@ -12,18 +12,10 @@ use records::header::enc_key;
 const DATA_OCTETS: u8 = 8;
 
 // Whether EQ e has the same data octets in both payloads.
-#[tactic(auto, unfolding(crate::specs::Sameness::same_eq))]
 fn is_same_eq(p: &[u8], q: &[u8], e: u32) -> bool
     ensures { result ≡ same_eq p.now q.now e }
 {
-    let mut j: u8 = 0;
-    while j < DATA_OCTETS {
-        if data_octet(p, e, j) != data_octet(q, e, j) {
-            return false;
-        }
-        j += 1;
-    }
-    true
+    (0..DATA_OCTETS).all(|j| data_octet(p, e, j) == data_octet(q, e, j))
 }
 
 // Whether record i of a and record j of b have as many EQs, with the same data octets.
@@ -37,41 +29,24 @@ fn is_same_data(a: &[u8], i: u16, b: &[u8], j: u16) -> bool
     }
     let p = payload_at(a, i);
     let q = payload_at(b, j);
-    let mut e: u32 = 0;
-    while e < eqs {
-        if !is_same_eq(p, q, e) {
-            return false;
-        }
-        e += 1;
-    }
-    true
+    (0..eqs).all(|e| is_same_eq(p, q, e))
 }
 
 // Whether the first EQs of both payloads have the same control octets.
 fn are_controls_same(p: &[u8], q: &[u8], eqs: u32) -> bool
     ensures { result ≡ each 0 eqs (same_control p.now q.now) }
 {
-    let mut e: u32 = 0;
-    while e < eqs {
-        if control_octet(p, e) != control_octet(q, e) {
-            return false;
-        }
-        e += 1;
-    }
-    true
+    (0..eqs).all(|e| control_octet(p, e) == control_octet(q, e))
 }
 
 // Whether record i of a and record j of b hold the same.
+#[tactic(auto, unfolding(crate::specs::Sameness::same, octets::specs::Choice::both))]
 pub fn is_same(a: &[u8], i: u16, b: &[u8], j: u16) -> bool
     ensures { result ≡ same (record_of a.now i) (record_of b.now j) }
 {
-    if !is_same_data(a, i, b, j) {
-        return false;
-    }
     let g = header_at(a, i);
     let h = header_at(b, j);
-    if enc_key(g.flags) != enc_key(h.flags) {
-        return false;
-    }
-    are_controls_same(payload_at(a, i), payload_at(b, j), g.eqs)
+    is_same_data(a, i, b, j)
+        && enc_key(g.flags) == enc_key(h.flags)
+        && are_controls_same(payload_at(a, i), payload_at(b, j), g.eqs)
 }

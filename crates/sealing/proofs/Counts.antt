@@ -17,7 +17,7 @@ use Rattle.cipher.specs.FirstRound.{Kept}
 use Rattle.cipher.specs.declared.row_words.Rows.{Rows}
 use Rattle.sealing.specs.Payload.{sealed}
 use Rattle.sealing.specs.Steps.{NextRun, PairSealed, block_count, block_sealed, count_below, sealed_below}
-use Rattle.sealing.specs.declared.counter_mode.Work.{Work}
+use Rattle.envelope.specs.declared.Work.{Work}
 use Rattle.sealing.proofs.Payload.{sealed_length}
 use Rattle.sealing.proofs.Runs.{all_bits, idle_eq, idle_more, one_more, run_more, same_past, stretch}
 

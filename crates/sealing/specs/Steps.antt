@@ -14,7 +14,7 @@ use Rattle.cipher.specs.declared.row_words.Block.{Block}
 use Rattle.cipher.specs.declared.row_words.Rows.{Rows}
 use Rattle.sealing.specs.Payload.{sealed}
 use Rattle.sealing.specs.declared.counter_mode.Paired.{Paired}
-use Rattle.sealing.specs.declared.counter_mode.Work.{Work}
+use Rattle.envelope.specs.declared.Work.{Work}
 
 -- p with the one or two EQs of block i sealed, and the others as they are
 abbrev pub block_sealed : List ℕ → Nonce → List ℕ → ℕ → List ℕ

@@ -2,7 +2,6 @@
 ghost use Rattle.std.specs.Prelude.{◌≡◌, true, ◌+◌, ◌*◌, ◌%◌, ◌≤◌, ◌<◌, length};
 ghost use Rattle.octets.specs.Lists.{replaced};
 ghost use Rattle.octets.specs.Output.{with_output};
-ghost use Rattle.refusal.specs.declared.Verdict.TheVariants.{Accepted};
 ghost use Rattle.gf256.specs.Table.{sbox_table};
 ghost use Rattle.envelope.specs.Acceptance.{seal_verdict};
 ghost use Rattle.envelope.specs.ControlMask.{max_blocks, blocks_of, count_enciphered, needs_run, runs};
@@ -12,6 +11,7 @@ ghost use Rattle.sealing.specs.Payload.{sealed, SealedLaws};
 ghost use Rattle.cipher.specs.RowWords.{PairKeys};
 ghost use Rattle.sealing.specs.Seal.{sealing};
 ghost use Rattle.sealing.specs.Steps.{Masked, NextRun, PairSealed, PairsSealed, block_count, block_sealed, masked_eq};
+ghost use Rattle.refusal.specs.Verdict.{no_refusal};
 
 use super::mask::{eight_at, mask_eight};
 use cipher::aes128::RoundKeys;
@@ -20,15 +20,9 @@ use cipher::key_expansion::expand_key;
 use cipher::row_words::{
     Block, Rows, before_last, encrypt_lone, finished, octets_of, pair_keys, second,
 };
-use envelope::{Nonce, SealAnswer, counter_block, lengths_fit, nonce_fits, ones_in, seal_verdict};
-use refusal::Verdict;
-
-// What was done: the octets enciphered, and the runs of the cipher (02, C-17).
-#[derive(Clone, Copy)]
-struct Work {
-    count: u64,
-    runs: u64,
-}
+use envelope::{
+    NO_WORK, Nonce, SealAnswer, Work, counter_block, lengths_fit, nonce_fits, ones_in, seal_verdict,
+};
 
 // What pairs of runs leave: the octets enciphered, the runs made, and the next block that needs one, or the number of blocks.
 #[derive(Clone, Copy)]
@@ -44,10 +38,7 @@ fn mask_eq(payload: &mut [u8], half: u64, at: usize)
     ensures { payload.new ≡ replaced payload.old at (masked_eq half payload.old at) }
 {
     let word = mask_eight(payload[at], half, eight_at(payload, at + 1));
-    let octets = octets_of(word);
-    for j in 0..8usize {
-        payload[at + (j + 1)] = octets[j];
-    }
+    payload[at + 1..at + 9].copy_from_slice(&octets_of(word));
 }
 
 // The one or two EQs that cipher block `i` serves, under that block. Tells the octets that it enciphers. Ones are added up before they are taken from
@@ -126,6 +117,7 @@ fn needs_run(payload: &[u8], i: usize) -> bool
 }
 
 // The first block from `i` on that needs a run, or `blocks`, as many as there are, where none does.
+// A loop by hand: with a `for` over the range, a long payload takes 1 % longer.
 fn next_run(payload: &[u8], blocks: usize, i: usize) -> usize
     requires { (length payload.now % 9 ≡ 0) × (blocks ≡ blocks_of (length payload.now)) }
     ensures { NextRun payload.now blocks i result }
@@ -162,6 +154,7 @@ fn seal_pairs<'a>(
     let mut runs: u64 = 0;
     let mut first = i;
     let mut second = j;
+    // No iterator: what it looks through, the payload, is written between its steps.
     while second < blocks {
         let work = seal_pair(subs, w, keys, kept, payload, first, second);
         count += work.count;
@@ -188,7 +181,7 @@ fn seal_blocks<'a>(subs: &'a [u8; 256], w: &'a [u8; 176], nonce: Nonce, payload:
     let blocks = (payload.len() + 17) / 18;
     let first = next_run(payload, blocks, 0);
     if blocks <= first {
-        return Work { count: 0, runs: 0 };
+        return NO_WORK;
     }
     let second = next_run(payload, blocks, first + 1);
     if blocks <= second {
@@ -211,15 +204,15 @@ fn seal_blocks<'a>(subs: &'a [u8; 256], w: &'a [u8; 176], nonce: Nonce, payload:
 
 // An accepted payload, sealed or opened in its place where the envelope is enciphered.
 fn carry<'a>(enciphered: bool, w: &'a [u8; 176], nonce: Nonce, payload: &mut [u8]) -> SealAnswer
-    requires { seal_verdict (length payload.old) (length payload.old) nonce ≡ Accepted }
+    requires { seal_verdict (length payload.old) (length payload.old) nonce ≡ no_refusal }
     ensures { with_output result payload.new ≡ sealing enciphered w.now nonce payload.old payload.old }
 {
     if enciphered {
         let subs = gf256::sbox_table();
         let work = seal_blocks(&subs, w, nonce, payload);
-        return SealAnswer::Done(work.count, work.runs);
+        return Ok(work);
     }
-    SealAnswer::Done(0, 0)
+    Ok(NO_WORK)
 }
 
 // Seals or opens a payload in its place under an expanded key; a clear envelope's stays as it is.
@@ -233,8 +226,8 @@ pub fn seal_expanded_in_place(
 {
     let n = payload.len();
     match seal_verdict(n, n, nonce) {
-        Verdict::Refused(refusal) => SealAnswer::Denied(refusal),
-        Verdict::Accepted => carry(enciphered, &keys.octets, nonce, payload),
+        Err(refusal) => Err(refusal),
+        Ok(()) => carry(enciphered, &keys.octets, nonce, payload),
     }
 }
 
@@ -249,8 +242,8 @@ pub fn seal_expanded(
     ensures { with_output result output.new ≡ sealing enciphered keys.octets nonce input.now output.old }
 {
     match seal_verdict(input.len(), output.len(), nonce) {
-        Verdict::Refused(refusal) => SealAnswer::Denied(refusal),
-        Verdict::Accepted => {
+        Err(refusal) => Err(refusal),
+        Ok(()) => {
             octets::copy(input, output);
             carry(enciphered, &keys.octets, nonce, output)
         }
@@ -259,7 +252,7 @@ pub fn seal_expanded(
 
 // The key expanded, where a call on n octets for an output of m enciphers.
 fn expand_for(enciphered: bool, key: [u8; 16], nonce: Nonce, n: usize, m: usize) -> RoundKeys
-    ensures { enciphered ≡ true → seal_verdict n m nonce ≡ Accepted → result.octets ≡ key_expansion key }
+    ensures { enciphered ≡ true → seal_verdict n m nonce ≡ no_refusal → result.octets ≡ key_expansion key }
 {
     if enciphered & (lengths_fit(n, m) & nonce_fits(nonce)) {
         return expand_key(key);

@@ -11,16 +11,8 @@ pub(crate) fn eight_at(p: &[u8], at: usize) -> u64
     requires { at + 8 ≤ length p.now }
     ensures { Eight (λ j. get_or p.now (at + j) 0) result }
 {
-    eight([
-        p[at + 0],
-        p[at + 1],
-        p[at + 2],
-        p[at + 3],
-        p[at + 4],
-        p[at + 5],
-        p[at + 6],
-        p[at + 7],
-    ])
+    let (octets, _) = p[at..at + 8].as_chunks::<8>();
+    eight(octets[0])
 }
 
 // 255 for each data octet, 0 for each control character: bit j of the control octet comes to octet j by shift and mask (D68).

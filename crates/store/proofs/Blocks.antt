@@ -1,4 +1,5 @@
 -- Laws of a block whose payloads are changed and keep their lengths: it is the block rebuilt of the changed records. Assumes nothing.
+use Rattle.std.specs.Prelude.{Ok}
 use mathlib.Core.Path.{◌≡◌, refl, sym, ap, ◌∙◌}
 use mathlib.Core.List.{List, ◌++◌}
 use Prim.Native.Nat.{ℕ, zero, suc, ◌+◌, ◌<◌}
@@ -9,7 +10,6 @@ use Rattle.octets.specs.Lists.{replaced}
 use Rattle.records.specs.declared.header.Header.{Header}
 use Rattle.records.specs.Block.{directory_octets, records_in, offset_of, due_of, record_of, header_from, record_from}
 use Rattle.records.specs.Record.{header_octets, record_octets, payload_of}
-use Rattle.directory.specs.declared.Directory.TheVariants.{Good}
 use Rattle.directory.specs.Directory.{directory_of}
 use Rattle.directory.specs.Rebuilt.{joined, rebuilt}
 use Rattle.directory.proofs.Pairs.{pair_fits}
@@ -47,7 +47,7 @@ module _ (f : List ℕ → List ℕ) (keeps : (p : List ℕ) → length (f p) �
   own_record i h = ap (λ (t : List ℕ). record_of t i) (block_is f b) ∙ record_is (changed f b) b n r sizes i h
 
   -- the verdict on the directory is the same
-  pub good_again : directory_of (block_with f b) ≡ Good n
+  pub good_again : directory_of (block_with f b) ≡ Ok n
   good_again =
       ap directory_of (block_is f b)
       ∙ Rebuilding.good_again (changed f b) b n r sizes

@@ -1,4 +1,5 @@
 -- Laws of the calls on a block: what acceptance tells, and that one call undoes the other. Assumes nothing.
+use Rattle.std.specs.Prelude.{Ok}
 use mathlib.Core.Path.{◌≡◌, refl, sym, ap, ◌∙◌}
 use mathlib.Core.Bool.{true}
 use mathlib.Core.List.{List}
@@ -9,13 +10,11 @@ use borrow.Author.Tests.{eqb-true, leb-true, not-false}
 use Rattle.octets.specs.Eqs.{eq_octets}
 use Rattle.octets.proofs.Choice.{both_left, both_right}
 use Rattle.refusal.specs.declared.Refusal.TheVariants.{BadLength}
-use Rattle.refusal.specs.declared.Verdict.TheVariants.{Accepted}
 use Rattle.refusal.proofs.Order.{refuse_accepted}
 use Rattle.records.specs.Block.{records_in, record_of}
 use Rattle.records.specs.Record.{header_octets, record_header, record_octets, payload_of, sized}
 use Rattle.records.specs.Verdict.{verdict_of}
 use Rattle.directory.specs.Directory.{directory_of}
-use Rattle.directory.specs.declared.Directory.TheVariants.{Good}
 use Rattle.reading.specs.Opening.{opened_record, record_adds, opening}
 use Rattle.directory.proofs.Records.{good, counted, header_there}
 use Rattle.store.specs.Calls.{store_verdict}
@@ -23,13 +22,14 @@ use Rattle.store.specs.Claims.{OpensAlike, Undone}
 use Rattle.store.proofs.Payloads.{with_header, with_payload-holds, with_undone}
 use Rattle.store.proofs.Blocks.{same_size, same_directory, own_record, good_again, undone_block}
 use Rattle.store.proofs.Moves.{payload_in}
+use Rattle.refusal.specs.Verdict.{no_refusal}
 
 -- what acceptance of the call tells
 pub record Storable (b : List ℕ) (m : ℕ) : Type 0 where
   pub size : m ≡ length b
-  pub good : directory_of b ≡ Good (records_in b)
+  pub good : directory_of b ≡ Ok (records_in b)
 
-pub storable : (b : List ℕ) (m : ℕ) → store_verdict b m ≡ Accepted → Storable b m
+pub storable : (b : List ℕ) (m : ℕ) → store_verdict b m ≡ no_refusal → Storable b m
 unfolding store_verdict
 storable b m e =
     let p = refuse_accepted _ BadLength _ e in
@@ -56,7 +56,7 @@ module _ (f g : List ℕ → List ℕ) (keeps : (p : List ℕ) → length (f p) 
       let same = with_undone f r w.header g (undo (payload_of r) w.eqs) in
       record { number = ap (verdict_of s) same; octets = ap (opened_record s) same; added = λ of. ap (record_adds of s) same }
 
-  pub undone : (b : List ℕ) → directory_of b ≡ Good (records_in b) → Undone f g b
+  pub undone : (b : List ℕ) → directory_of b ≡ Ok (records_in b) → Undone f g b
   undone b e =
       let n = records_in b in
       let r = good b n e in

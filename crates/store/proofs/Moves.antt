@@ -1,6 +1,6 @@
 -- Laws of a payload that is moved into its place in the output. Assumes nothing.
 use mathlib.Core.Path.{◌≡◌, ap}
-use mathlib.Core.Bool.{Bool, true, false}
+use mathlib.Core.Bool.{Bool}
 use mathlib.Core.List.{List}
 use Prim.Native.Nat.{ℕ, ◌+◌, ◌-◌, ◌%◌, ◌≤◌, ◌<◌}
 use native.Mathlib.Omega.{arith}
@@ -8,19 +8,14 @@ use lib.ListN.{length, take, drop, length-take, length-drop}
 use borrow.Rule.Slice.PartMut.{put_mid}
 use Rattle.octets.specs.Eqs.{eq_octets}
 use Rattle.octets.specs.Lists.{replaced}
-use Rattle.refusal.specs.declared.Verdict.TheVariants.{Accepted}
 use Rattle.planes.specs.Calls.{length_verdict}
 use Rattle.planes.proofs.Calls.{accepts}
-use Rattle.planes.proofs.Planes.{rearranged_length, restored_length}
+use Rattle.planes.specs.Planes.{moved}
+use Rattle.planes.proofs.Planes.{moved_length}
 use Rattle.records.specs.Block.{most_octets, offset_of, record_of}
 use Rattle.records.specs.Record.{header_octets, payload_of}
 use Rattle.directory.proofs.Records.{Records, placed}
-use Rattle.store.specs.Duties.{moved}
-
-pub moved_length : (back : Bool) (p : List ℕ) → length (moved back p) ≡ length p
-unfolding moved
-moved_length false p = rearranged_length p
-moved_length true p = restored_length p
+use Rattle.refusal.specs.Verdict.{no_refusal}
 
 -- the payload of record i, and its place
 pub record PayloadIn (b : List ℕ) (i : ℕ) : Type 0 where
@@ -42,7 +37,7 @@ module _ (b out p : List ℕ) (n i o : ℕ) (r : Records b n) (h : i < n) (room 
   in_output = rw payload (omega (arith, payload_in b n i r h))
 
   -- the call on the part accepts
-  pub part_accepts : length_verdict (length p) (length (take (o + header_octets + length p - (o + header_octets)) (drop (o + header_octets) out))) ≡ Accepted
+  pub part_accepts : length_verdict (length p) (length (take (o + header_octets + length p - (o + header_octets)) (drop (o + header_octets) out))) ≡ no_refusal
   part_accepts =
       let q = payload_in b n i r h in
       let l : length p ≡ length (payload_of (record_of b i)) = ap length payload in

@@ -1,6 +1,5 @@
 -- What holds of every block that is rearranged and restored (02, C-12). Assumes nothing.
 use Rattle.std.specs.Prelude.{◌≡◌, true, List, ℕ, ◌<◌, length, take}
-use Rattle.refusal.specs.declared.Verdict.TheVariants.{Accepted}
 use Rattle.planes.specs.Planes.{rearranged, restored}
 use Rattle.records.specs.Block.{directory_octets, records_in, record_of}
 use Rattle.records.specs.Record.{record_header, payload_of, sized}
@@ -9,6 +8,7 @@ use Rattle.directory.specs.Directory.{directory_of}
 use Rattle.reading.specs.Opening.{opened_record, record_adds, opening}
 use Rattle.store.specs.Blocks.{with_payload, block_with}
 use Rattle.store.specs.Calls.{store_verdict}
+use Rattle.refusal.specs.Verdict.{no_refusal}
 
 -- the record r, whose payload was changed by f and then by g, opens as r does: its verdict, with the code, its octets, and what it adds to count and runs
 pub record OpensAlike (f g : List ℕ → List ℕ) (s r : List ℕ) : Type 0 where
@@ -34,7 +34,7 @@ pub record Undone (f g : List ℕ → List ℕ) (b : List ℕ) : Type 0 where
 
 -- of an accepted call, that rearranges or restores
 abbrev pub RearrangedIfAccepted : List ℕ → ℕ → Type 0
-RearrangedIfAccepted b output_octets = store_verdict b output_octets ≡ Accepted → Undone rearranged restored b
+RearrangedIfAccepted b output_octets = store_verdict b output_octets ≡ no_refusal → Undone rearranged restored b
 
 abbrev pub RestoredIfAccepted : List ℕ → ℕ → Type 0
-RestoredIfAccepted b output_octets = store_verdict b output_octets ≡ Accepted → Undone restored rearranged b
+RestoredIfAccepted b output_octets = store_verdict b output_octets ≡ no_refusal → Undone restored rearranged b

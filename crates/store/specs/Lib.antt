@@ -1,4 +1,3 @@
 pub mod Blocks
 pub mod Calls
 pub mod Claims
-pub mod Duties

@@ -1,7 +1,7 @@
 // Octets from a reader.
 #![tactic(auto)]
 
-ghost use Rattle.std.specs.Prelude.{◌≡◌, ◌≤◌, ◌<◌, length, take, IfOk};
+ghost use Rattle.std.specs.Prelude.{◌≡◌, ◌≤◌, ◌<◌, length, take, IfOk, OnOk};
 ghost use Rattle.std.specs.Io.KnownBytes.{Consumes, IsAtEnd};
 
 use std::io;
@@ -14,10 +14,7 @@ pub fn read_full<R: Read>(reader: &mut R, buffer: &mut [u8]) -> io::Result<usize
     ensures end { IfOk result (λ n. n < length buffer.new → IsAtEnd (R.remaining reader.new)) }
 {
     let mut done = 0;
-    for _ in 0..buffer.len() {
-        if done == buffer.len() {
-            break;
-        }
+    while done < buffer.len() {
         let n = reader.read(&mut buffer[done..])?;
         if n == 0 {
             break;
@@ -25,4 +22,38 @@ pub fn read_full<R: Read>(reader: &mut R, buffer: &mut [u8]) -> io::Result<usize
         done += n;
     }
     Ok(done)
+}
+
+// Reads as many octets as are asked for, or as there is room for, or as there are: what was read.
+pub fn read_most<'a, R: Read>(
+    reader: &mut R,
+    buffer: &'a mut [u8],
+    most: usize,
+) -> io::Result<&'a [u8]>
+    ensures room { IfOk result (λ read. (length read.now ≤ length buffer.old) × (length read.now ≤ most)) }
+    ensures octets { IfOk result (λ read. Consumes (R.remaining reader.old) (R.remaining reader.new) read.now) }
+    ensures end { IfOk result (λ read. length read.now < length buffer.old → length read.now < most → IsAtEnd (R.remaining reader.new)) }
+{
+    let room = most.min(buffer.len());
+    let n = read_full(reader, &mut buffer[..room])?;
+    Ok(&buffer[..n])
+}
+
+// Fills the buffer again and again, and hands it on each time with the reader, until the reader ends.
+pub fn for_each_full<R: Read, F: FnMut(&mut R, &[u8]) -> io::Result<()>>(
+    reader: &mut R,
+    buffer: &mut [u8],
+    mut f: F,
+) -> io::Result<()>
+    requires { F.IsAlwaysCallable f }
+    ensures { OnOk result (IsAtEnd (R.remaining reader.new)) }
+{
+    // A proved loop has to end: this one counts to a number that no run reaches.
+    for _ in 0..u64::MAX {
+        if read_full(reader, buffer)? < buffer.len() {
+            return Ok(());
+        }
+        f(reader, buffer)?;
+    }
+    Err(io::Error::from(io::ErrorKind::Other))
 }

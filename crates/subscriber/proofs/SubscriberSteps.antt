@@ -1,5 +1,6 @@
 -- Laws of a subscriber's steps: a valid one stays valid, calls on groups and on the unit leave each other's part, and without groups the unit
 -- answers as before. Assumes nothing.
+use Rattle.std.specs.Prelude.{Option, Some, None}
 use mathlib.Core.Path.{◌≡◌, refl, ◌∙◌}
 use mathlib.Core.Bool.{true}
 use mathlib.Core.List.{List}
@@ -15,8 +16,6 @@ use Rattle.ends.specs.Records.{with_onu_clock, with_onu_keys, with_onu_first, wi
 use Rattle.ends.specs.Validity.{valid_onu}
 use Rattle.ends.specs.declared.Identity.{Identity}
 use Rattle.ends.specs.declared.Onu.{Onu}
-use Rattle.ends.specs.declared.Found.{Found}
-use Rattle.ends.specs.declared.Found.TheVariants.{At, Nowhere}
 use Rattle.protocol.specs.Headers.{no_passage}
 use Rattle.protocol.specs.Replies.{silent}
 use Rattle.protocol.specs.OnuCalls.{fresh_onu_of, onu_answer, onu_acknowledged, onu_advanced, advancing_onu, advance_onu_of, onu_retimed, new_time_of, onu_synced, clock_message_to, clock_message_at, key_message_to, key_message_at}
@@ -58,12 +57,12 @@ use Rattle.subscriber.proofs.SubscriberLift.{join_room, join_new}
 
 ---- by the group that a call names
 
-found_holds : {R : Type 0} (P : R → Type 0) (f : Found) (own : R) (group : ℕ → R) → (f ≡ Nowhere → P own)
-    → ((i : ℕ) → f ≡ At i → P (group i))
+found_holds : {R : Type 0} (P : R → Type 0) (f : Option ℕ) (own : R) (group : ℕ → R) → (f ≡ None → P own)
+    → ((i : ℕ) → f ≡ Some i → P (group i))
     → P (by_llid f own group)
 unfolding by_llid
-found_holds P Nowhere own group p q = p refl
-found_holds P (At i) own group p q = q i refl
+found_holds P None own group p q = p refl
+found_holds P (Some i) own group p q = q i refl
 
 module _ {H : Type 0} (s : Subscriber) (nothing : H) (call : Onu → Joined → JoinedOutcome H) (i : ℕ) where
   lift_keeps : (P : Subscriber → Type 0) → P s → P (with_joined s i (call s.onu (joined_at s i)).joined) → P (joined_lift s nothing call i).end
@@ -74,7 +73,7 @@ module _ {H : Type 0} (s : Subscriber) (nothing : H) (call : Onu → Joined → 
   lift_unit : (joined_lift s nothing call i).end.onu ≡ s.onu
   lift_unit = lift_keeps (λ (x : Subscriber). x.onu ≡ s.onu) refl (with_joined_unit s i _)
 
-  lift_valid : (llid : ℕ) → find_joined s llid ≡ At i → valid_subscriber s ≡ true
+  lift_valid : (llid : ℕ) → find_joined s llid ≡ Some i → valid_subscriber s ≡ true
       → (valid_joined (joined_at s i) ≡ true → valid_joined (call s.onu (joined_at s i)).joined ≡ true)
       → (call s.onu (joined_at s i)).joined.llid ≡ (joined_at s i).llid → valid_subscriber (joined_lift s nothing call i).end ≡ true
   unfolding with_joined
@@ -95,7 +94,7 @@ module _ (s : Subscriber) where
   unfolding valid_memberships
   none_valid e = both_true (le-leb s.memberships.count max_joined (omega arith)) (groups_none (llids_of s.onu.identity) _ (rw e))
 
-  none_found : (llid : ℕ) → s.memberships.count ≡ 0 → find_joined s llid ≡ Nowhere
+  none_found : (llid : ℕ) → s.memberships.count ≡ 0 → find_joined s llid ≡ None
   unfolding find_joined joined_llids place_from
   none_found llid e = rw e
 

@@ -1,4 +1,5 @@
 -- Laws of a subscriber's receive: what a group's envelope accepts, sealing accepts too. Assumes nothing.
+use Rattle.std.specs.Prelude.{Ok, Err, Some}
 use mathlib.Core.Path.{◌≡◌, refl, sym, ◌∙◌, ap}
 use mathlib.Core.Bool.{true}
 use mathlib.Core.List.{List}
@@ -10,20 +11,17 @@ use Rattle.octets.specs.Output.{WithOutput, with_output}
 use Rattle.octets.proofs.Choice.{both_left}
 use Rattle.refusal.specs.Number.{verdict_number}
 use Rattle.refusal.specs.Order.{and_then}
-use Rattle.refusal.specs.declared.Verdict.{Verdict}
-use Rattle.refusal.specs.declared.Verdict.TheVariants.{Accepted, Refused}
 use Rattle.refusal.proofs.Order.{refuse_accepted}
 use Rattle.envelope.specs.Acceptance.{seal_verdict}
 use Rattle.sealing.specs.Seal.{count_carried, runs_carried}
 use Rattle.unit.specs.Reached.{if_accepted}
-use Rattle.ends.specs.declared.Found.TheVariants.{At}
 use Rattle.ends.proofs.Validity.{onu_in_range, onu_clock_in_range}
 use Rattle.protocol.specs.Headers.{choice_enciphered, no_passage, passage_of}
 use Rattle.protocol.specs.Replies.{Reply}
 use Rattle.protocol.specs.declared.Header.{Header}
 use Rattle.protocol.specs.declared.Passage.{Passage}
 use Rattle.traffic.specs.Passages.{misfit, passage_nonce, passed, passed_count, passed_runs, passed_work, output_after, carried_after, carried_fitting}
-use Rattle.traffic.specs.declared.carrying.Work.{Work}
+use Rattle.envelope.specs.declared.Work.{Work}
 use Rattle.traffic.proofs.Passages.{judged, down_fits}
 use Rattle.group_protocol.specs.Subscriber.{find_joined, joined_at, with_joined, valid_subscriber}
 use Rattle.group_protocol.specs.JoinedCalls.{JoinedOutcome, joined_receive_verdict, receive_joined}
@@ -33,14 +31,15 @@ use Rattle.groups.specs.Reached.{reached_joined}
 use Rattle.subscriber.specs.SubscriberTraffic.{subscriber_received, group_receive_of}
 use Rattle.subscriber.specs.declared.SubscriberReceived.{SubscriberReceived}
 use Rattle.subscriber.proofs.SubscriberLift.{lift_reached}
+use Rattle.refusal.specs.Verdict.{Verdict, no_refusal}
 
 -- what an outcome that fits makes of a payload: refused, nothing is counted and the output stays
 reached_carried : (v : Verdict) (q : Passage) (channel : ℕ) (p out : List ℕ)
-    → (v ≡ Accepted → seal_verdict (length p) (length out) (passage_nonce channel q) ≡ Accepted) → let x = if_accepted v q no_passage in
+    → (v ≡ no_refusal → seal_verdict (length p) (length out) (passage_nonce channel q) ≡ no_refusal) → let x = if_accepted v q no_passage in
     carried_fitting v channel x p out ≡ with_output (passed_work x p) (output_after v (passed channel x p) out)
 unfolding if_accepted and_then carried_after output_after passed_count passed_runs choice_enciphered count_carried runs_carried pick
-reached_carried Accepted q channel p out f = rw (f refl)
-reached_carried (Refused r) q channel p out f = refl
+reached_carried (Ok tt) q channel p out f = rw (f refl)
+reached_carried (Err r) q channel p out f = refl
 
 module _ (s : Subscriber) (h : Header) (p out : List ℕ) (i : ℕ) (valid : valid_subscriber s ≡ true) where
   abbrev received : JoinedOutcome Passage
@@ -50,7 +49,7 @@ module _ (s : Subscriber) (h : Header) (p out : List ℕ) (i : ℕ) (valid : val
   receive_reached = reached_joined no_passage (joined_at s i) received
 
   -- what a unit receives of a group fits
-  received_fits : receive_reached.verdict ≡ Accepted → seal_verdict (length p) (length out) (passage_nonce h.channel received.handed) ≡ Accepted
+  received_fits : receive_reached.verdict ≡ no_refusal → seal_verdict (length p) (length out) (passage_nonce h.channel received.handed) ≡ no_refusal
   unfolding reached_joined receive_joined joined_receive_verdict passage_of
   received_fits e =
       let a = refuse_accepted _ _ _ (refuse_accepted _ _ _ e).1 in
@@ -58,7 +57,7 @@ module _ (s : Subscriber) (h : Header) (p out : List ℕ) (i : ℕ) (valid : val
       let o = onu_in_range s.onu (valid_unit-holds s valid) in
       judged p out _ a.0 (down_fits _ (both_left _ _ (not-false _ b.0)) o.oltmac (onu_clock_in_range s.onu.clock o.clock).rx)
 
-  pub group_receive_done : find_joined s h.llid ≡ At i → (n : Work) (octets : List ℕ) → let d = receive_reached in
+  pub group_receive_done : find_joined s h.llid ≡ Some i → (n : Work) (octets : List ℕ) → let d = receive_reached in
       with_output n octets ≡ carried_fitting d.verdict h.channel d.handed p out
       → with_output {R = SubscriberReceived}
       (record { number = verdict_number d.verdict; subscriber = with_joined s i d.joined; count = n.count; runs = n.runs }) octets

@@ -4,8 +4,6 @@ use Rattle.octets.specs.Choice.{either, pick}
 use Rattle.refusal.specs.Number.{number_of, verdict_number}
 use Rattle.refusal.specs.Order.{refuse_if}
 use Rattle.refusal.specs.declared.Refusal.TheVariants.{OutOfRange, RepeatedLlid, TableFull}
-use Rattle.refusal.specs.declared.Verdict.{Verdict}
-use Rattle.refusal.specs.declared.Verdict.TheVariants.{Accepted}
 use Rattle.clock.specs.declared.Stamps.{Stamps}
 use Rattle.ends.specs.Identities.{has}
 use Rattle.ends.specs.declared.Identity.{Identity}
@@ -26,6 +24,7 @@ use Rattle.group_protocol.specs.Naming.{by_llid}
 use Rattle.subscriber.specs.declared.SubscriberAnswer.{SubscriberAnswer}
 use Rattle.subscriber.specs.declared.SubscriberMoved.{SubscriberMoved}
 use Rattle.subscriber.specs.declared.SubscriberAcknowledged.{SubscriberAcknowledged}
+use Rattle.refusal.specs.Verdict.{Verdict, no_refusal}
 
 unfoldable pub subscriber_answer : Reply Subscriber Silence → SubscriberAnswer
 subscriber_answer r = record { number = verdict_number r.verdict; subscriber = r.end }
@@ -73,7 +72,7 @@ fresh_subscriber_of i oltmac time = record { number = (fresh_onu_of i oltmac tim
 unfoldable pub join_verdict : Subscriber → ℕ → Verdict
 join_verdict s llid =
     refuse_if (either (has s.onu.identity llid) (has_joined s llid)) RepeatedLlid
-    (refuse_if (leb max_joined s.memberships.count) TableFull Accepted)
+    (refuse_if (leb max_joined s.memberships.count) TableFull no_refusal)
 
 unfoldable pub join_of : Subscriber → ℕ → SubscriberAnswer
 join_of s llid =

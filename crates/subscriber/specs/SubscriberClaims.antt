@@ -1,8 +1,6 @@
 -- What 02, C-14, promises of a subscriber's calls beside their answers. Assumes nothing.
-use Rattle.std.specs.Prelude.{◌≡◌, List, ℕ}
+use Rattle.std.specs.Prelude.{◌≡◌, List, ℕ, Option, Some, None}
 use Rattle.octets.specs.Output.{WithOutput}
-use Rattle.ends.specs.declared.Found.{Found}
-use Rattle.ends.specs.declared.Found.TheVariants.{At, Nowhere}
 use Rattle.protocol.specs.declared.Header.{Header}
 use Rattle.group_protocol.specs.declared.Subscriber.{Subscriber}
 use Rattle.subscriber.specs.SubscriberTraffic.{unit_send_of, unit_receive_of}
@@ -11,9 +9,9 @@ use Rattle.subscriber.specs.declared.SubscriberReceived.{SubscriberReceived}
 
 -- found is the group that a call names by its LLID. A call on a group leaves the unit's own numbers, keys and clocks (group envelopes don't
 -- count for the numbers of the unit's own); a call on the unit leaves the groups
-pub record Apart (s next : Subscriber) (found : Found) : Type 0 where
-  pub unit : (i : ℕ) → found ≡ At i → next.onu ≡ s.onu
-  pub groups : found ≡ Nowhere → next.memberships ≡ s.memberships
+pub record Apart (s next : Subscriber) (found : Option ℕ) : Type 0 where
+  pub unit : (i : ℕ) → found ≡ Some i → next.onu ≡ s.onu
+  pub groups : found ≡ None → next.memberships ≡ s.memberships
 
 -- without groups the unit sends and receives as before
 pub record SendsAlone (s : Subscriber) (llid channel : ℕ) (p out : List ℕ) (r : WithOutput SubscriberSent) : Type 0 where

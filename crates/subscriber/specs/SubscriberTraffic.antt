@@ -1,13 +1,11 @@
 -- Send and receive of a subscriber: code, end, header, count, runs and output together (02, C-14). p is the payload, out the output as
 -- it was lent. Assumes nothing.
-use Rattle.std.specs.Prelude.{Bool, not, List, ℕ}
+use Rattle.std.specs.Prelude.{Bool, not, List, ℕ, Err}
 use Rattle.octets.specs.Choice.{pick}
 use Rattle.octets.specs.Output.{WithOutput, with_output}
 use Rattle.refusal.specs.Number.{verdict_number, number_of}
 use Rattle.refusal.specs.Order.{refuse_if}
 use Rattle.refusal.specs.declared.Refusal.TheVariants.{OutOfRange, BadLength, GroupLlid}
-use Rattle.refusal.specs.declared.Verdict.{Verdict}
-use Rattle.refusal.specs.declared.Verdict.TheVariants.{Refused}
 use Rattle.envelope.specs.Channels.{upstream}
 use Rattle.protocol.specs.Headers.{no_sending, no_passage}
 use Rattle.protocol.specs.Replies.{Reply, on_valid}
@@ -25,6 +23,7 @@ use Rattle.group_protocol.specs.Naming.{by_llid}
 use Rattle.subscriber.specs.SubscriberCalls.{joined_lift}
 use Rattle.subscriber.specs.declared.SubscriberSent.{SubscriberSent}
 use Rattle.subscriber.specs.declared.SubscriberReceived.{SubscriberReceived}
+use Rattle.refusal.specs.Verdict.{Verdict}
 
 ---- send: 14, 1, 2, 20, 5, 12, 13
 
@@ -57,7 +56,7 @@ own_send_of s llid channel p out =
 unfoldable pub group_send_verdict : Subscriber → ℕ → Bool → Verdict
 group_send_verdict s channel misfit =
     on_valid (valid_subscriber s)
-    (refuse_if misfit BadLength (refuse_if (not (upstream channel)) OutOfRange (Refused GroupLlid)))
+    (refuse_if misfit BadLength (refuse_if (not (upstream channel)) OutOfRange (Err GroupLlid)))
 
 unfoldable pub subscriber_send_of : Subscriber → ℕ → ℕ → List ℕ → List ℕ → WithOutput SubscriberSent
 subscriber_send_of s llid channel p out =

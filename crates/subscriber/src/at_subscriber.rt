@@ -1,6 +1,5 @@
 // The calls of a subscriber but send and receive (02, C-14).
-ghost use Rattle.std.specs.Prelude.{◌≡◌, ◌<◌};
-ghost use Rattle.ends.specs.declared.Found.TheVariants.{At};
+ghost use Rattle.std.specs.Prelude.{◌≡◌, ◌<◌, Some};
 ghost use Rattle.protocol.specs.Replies.{on_valid};
 ghost use Rattle.protocol.specs.OnuCalls.{advance_onu_of, clock_message_at, key_message_at, new_time_of};
 ghost use Rattle.group_protocol.specs.JoinedCalls.{message_joined, no_answer};
@@ -12,13 +11,13 @@ ghost use Rattle.subscriber.specs.SubscriberCalls.{fresh_subscriber_of, joined_l
 use crate::{SubscriberAcknowledged, SubscriberAnswer, SubscriberMoved};
 use clock::Stamps;
 use ends::llids::has;
-use ends::{Found, Identity, Onu, OnuKeys, Slots};
+use ends::{Identity, Onu, OnuKeys, Slots};
 use group_protocol::{Answer, Joined, MAX_JOINED, Memberships, Subscriber};
 use groups::check_subscriber::{valid_memberships, valid_subscriber};
 use groups::joined_calls;
 use groups::joined_search::{find_joined, has_joined};
 use protocol::{KeyMessage, OnuAcknowledged};
-use refusal::{Refusal, Verdict, refuse_if, verdict_number};
+use refusal::{Refusal, Verdict, verdict_number};
 
 #[tactic(auto, unfolding(group_protocol::specs::Subscriber::fresh_joined))]
 fn fresh_joined(llid: u16) -> Joined
@@ -77,24 +76,23 @@ pub(crate) fn sound_memberships(subscriber: Subscriber) -> bool
 }
 
 // 1 for a lent end that is not valid, then 3 and 4.
-#[tactic(auto, unfolding(crate::specs::SubscriberCalls::join_verdict, octets::specs::Choice::either))]
+#[tactic(auto, unfolding(crate::specs::SubscriberCalls::join_verdict, refusal::specs::Order::refuse_if, octets::specs::Choice::either))]
 fn join_verdict(subscriber: Subscriber, llid: u16) -> Verdict
     ensures { result ≡ on_valid (valid_subscriber subscriber) (join_verdict subscriber llid) }
 {
-    let valid = valid_subscriber(subscriber);
+    if !valid_subscriber(subscriber) {
+        return Err(Refusal::OutOfRange);
+    }
     let own = has(subscriber.onu.identity, llid);
     let table = subscriber.memberships.table;
     let count = subscriber.memberships.count;
-    let joined = has_joined(table, 0, count, llid);
-    refuse_if(
-        !valid,
-        Refusal::OutOfRange,
-        refuse_if(
-            own | joined,
-            Refusal::RepeatedLlid,
-            refuse_if(MAX_JOINED <= count, Refusal::TableFull, Verdict::Accepted),
-        ),
-    )
+    if own | has_joined(table, 0, count, llid) {
+        return Err(Refusal::RepeatedLlid);
+    }
+    if MAX_JOINED <= count {
+        return Err(Refusal::TableFull);
+    }
+    Ok(())
 }
 
 // One group more, in the first place that is not in use.
@@ -121,7 +119,7 @@ pub fn join(subscriber: Subscriber, llid: u16) -> SubscriberAnswer
 {
     let verdict = join_verdict(subscriber, llid);
     match verdict {
-        Verdict::Accepted => {
+        Ok(()) => {
             let joined = fresh_joined(llid);
             let next = with_one_more(subscriber, joined);
             SubscriberAnswer {
@@ -129,8 +127,8 @@ pub fn join(subscriber: Subscriber, llid: u16) -> SubscriberAnswer
                 subscriber: next,
             }
         }
-        Verdict::Refused(refusal) => SubscriberAnswer {
-            number: refusal::number(refusal),
+        Err(refusal) => SubscriberAnswer {
+            number: u8::from(refusal),
             subscriber,
         },
     }
@@ -143,7 +141,7 @@ pub fn advance(subscriber: Subscriber, n: u64) -> SubscriberAnswer
 {
     if !sound_memberships(subscriber) {
         return SubscriberAnswer {
-            number: refusal::number(Refusal::OutOfRange),
+            number: u8::from(Refusal::OutOfRange),
             subscriber,
         };
     }
@@ -176,7 +174,7 @@ pub fn new_time(subscriber: Subscriber, time: u64) -> SubscriberAnswer
 {
     if !valid_memberships(subscriber) {
         return SubscriberAnswer {
-            number: refusal::number(Refusal::OutOfRange),
+            number: u8::from(Refusal::OutOfRange),
             subscriber,
         };
     }
@@ -196,7 +194,7 @@ fn not_acknowledged(subscriber: Subscriber) -> SubscriberAcknowledged
 {
     let answer = joined_calls::no_answer();
     SubscriberAcknowledged {
-        number: refusal::number(Refusal::OutOfRange),
+        number: u8::from(Refusal::OutOfRange),
         subscriber,
         answer,
     }
@@ -262,9 +260,9 @@ pub(crate) fn with_joined(subscriber: Subscriber, i: usize, joined: Joined) -> S
 }
 
 // A key message of a group that the unit joined. Refused by the group, the group is the one that was there.
-#[tactic(auto, unfolding(crate::specs::SubscriberCalls::subscriber_acknowledged, crate::specs::SubscriberCalls::not_acknowledged, groups::specs::Reached::joined_answer, group_protocol::specs::Subscriber::past_joined))]
+#[tactic(auto, unfolding(crate::specs::SubscriberCalls::subscriber_acknowledged, crate::specs::SubscriberCalls::not_acknowledged, groups::specs::Reached::joined_decided, group_protocol::specs::Subscriber::past_joined))]
 fn group_message(subscriber: Subscriber, i: usize, message: KeyMessage) -> SubscriberAcknowledged
-    requires { find_joined subscriber message.llid ≡ At i }
+    requires { find_joined subscriber message.llid ≡ Some i }
     ensures { result ≡ subscriber_acknowledged (joined_lift subscriber no_answer (message_joined message) i) }
 {
     if !valid_subscriber(subscriber) {
@@ -273,11 +271,10 @@ fn group_message(subscriber: Subscriber, i: usize, message: KeyMessage) -> Subsc
     let table = subscriber.memberships.table;
     let joined = table[i];
     let decided = joined_calls::message(subscriber.onu, joined, message);
-    let verdict = decided.verdict;
-    let answer = decided.answer;
-    let next = with_joined(subscriber, i, decided.joined);
+    let answer = decided.handed;
+    let next = with_joined(subscriber, i, decided.after);
     SubscriberAcknowledged {
-        number: verdict_number(verdict),
+        number: verdict_number(decided.verdict),
         subscriber: next,
         answer,
     }
@@ -292,7 +289,7 @@ pub fn key_message(subscriber: Subscriber, message: KeyMessage) -> SubscriberAck
     let table = subscriber.memberships.table;
     let found = find_joined(table, 0, subscriber.memberships.count, message.llid);
     match found {
-        Found::Nowhere => own_message(subscriber, message),
-        Found::At(i) => group_message(subscriber, i, message),
+        None => own_message(subscriber, message),
+        Some(i) => group_message(subscriber, i, message),
     }
 }

@@ -1,21 +1,19 @@
 // Send and receive of a subscriber, with their octets (02, C-14).
-ghost use Rattle.std.specs.Prelude.{◌≡◌};
+ghost use Rattle.std.specs.Prelude.{◌≡◌, Some};
 ghost use Rattle.octets.specs.Output.{with_output};
-ghost use Rattle.ends.specs.declared.Found.TheVariants.{At};
 ghost use Rattle.group_protocol.specs.Subscriber.{find_joined};
 ghost use Rattle.subscriber.specs.SubscriberClaims.{Apart, ReceivesAlone, SendsAlone};
 ghost use Rattle.subscriber.specs.SubscriberTraffic.{group_receive_of, group_send_verdict, own_receive_of, own_send_of, subscriber_not_received, subscriber_not_sent, subscriber_receive_of, subscriber_send_of};
 
 use crate::at_subscriber::{sound_memberships, with_joined};
 use crate::{SubscriberReceived, SubscriberSent};
-use ends::Found;
 use envelope::{lengths_fit, upstream};
 use group_protocol::Subscriber;
 use groups::check_subscriber::valid_subscriber;
 use groups::joined_calls;
 use groups::joined_search::find_joined;
 use protocol::Header;
-use refusal::{Refusal, Verdict, refuse_if, verdict_number};
+use refusal::{Refusal, Verdict, verdict_number};
 use traffic::carrying::carry_fitting;
 use traffic::{onu_receive, onu_send};
 
@@ -50,7 +48,7 @@ fn own_send(
     ensures { with_output result output.new ≡ own_send_of subscriber llid channel payload.now output.old }
 {
     if !sound_memberships(subscriber) {
-        return not_sent(subscriber, refusal::number(Refusal::OutOfRange));
+        return not_sent(subscriber, u8::from(Refusal::OutOfRange));
     }
     let sent = onu_send(subscriber.onu, llid, channel, payload, output);
     let onu = sent.onu;
@@ -66,25 +64,20 @@ fn own_send(
 }
 
 // On a group's LLID a unit sends nothing: 20, after what is refused ahead of it.
-#[tactic(auto, unfolding(crate::specs::SubscriberTraffic::group_send_verdict))]
+#[tactic(auto, unfolding(crate::specs::SubscriberTraffic::group_send_verdict, refusal::specs::Order::refuse_if))]
 fn group_send_verdict(subscriber: Subscriber, channel: u8, misfit: bool) -> Verdict
     ensures { result ≡ group_send_verdict subscriber channel misfit }
 {
-    let valid = valid_subscriber(subscriber);
-    let right = upstream(channel);
-    refuse_if(
-        !valid,
-        Refusal::OutOfRange,
-        refuse_if(
-            misfit,
-            Refusal::BadLength,
-            refuse_if(
-                !right,
-                Refusal::OutOfRange,
-                Verdict::Refused(Refusal::GroupLlid),
-            ),
-        ),
-    )
+    if !valid_subscriber(subscriber) {
+        return Err(Refusal::OutOfRange);
+    }
+    if misfit {
+        return Err(Refusal::BadLength);
+    }
+    if !upstream(channel) {
+        return Err(Refusal::OutOfRange);
+    }
+    Err(Refusal::GroupLlid)
 }
 
 pub fn send(
@@ -101,8 +94,8 @@ pub fn send(
     let table = subscriber.memberships.table;
     let found = find_joined(table, 0, subscriber.memberships.count, llid);
     match found {
-        Found::Nowhere => own_send(subscriber, llid, channel, payload, output),
-        Found::At(_) => {
+        None => own_send(subscriber, llid, channel, payload, output),
+        Some(_) => {
             let misfit = !lengths_fit(payload.len(), output.len());
             let verdict = group_send_verdict(subscriber, channel, misfit);
             not_sent(subscriber, verdict_number(verdict))
@@ -114,7 +107,7 @@ fn not_received(subscriber: Subscriber) -> SubscriberReceived
     ensures { result ≡ subscriber_not_received subscriber }
 {
     SubscriberReceived {
-        number: refusal::number(Refusal::OutOfRange),
+        number: u8::from(Refusal::OutOfRange),
         subscriber,
         count: 0,
         runs: 0,
@@ -146,7 +139,7 @@ fn own_receive(
 }
 
 // An envelope of a group that the unit joined. Refused by the group, the group is the one that was there.
-#[tactic(auto, unfolding(crate::specs::SubscriberTraffic::group_receive_of, crate::specs::SubscriberTraffic::subscriber_received, traffic::specs::Passages::output_after, traffic::specs::Passages::passed_count, traffic::specs::Passages::passed_runs, protocol::specs::Headers::choice_enciphered, sealing::specs::Seal::count_carried, sealing::specs::Seal::runs_carried, octets::specs::Choice::pick, groups::specs::Reached::joined_received, traffic::specs::Passages::misfit, group_protocol::specs::Subscriber::past_joined))]
+#[tactic(auto, unfolding(crate::specs::SubscriberTraffic::group_receive_of, crate::specs::SubscriberTraffic::subscriber_received, traffic::specs::Passages::output_after, traffic::specs::Passages::passed_count, traffic::specs::Passages::passed_runs, protocol::specs::Headers::choice_enciphered, sealing::specs::Seal::count_carried, sealing::specs::Seal::runs_carried, octets::specs::Choice::pick, groups::specs::Reached::joined_decided, traffic::specs::Passages::misfit, group_protocol::specs::Subscriber::past_joined))]
 fn group_receive(
     subscriber: Subscriber,
     i: usize,
@@ -154,7 +147,7 @@ fn group_receive(
     octets: &[u8],
     output: &mut [u8],
 ) -> SubscriberReceived
-    requires { find_joined subscriber header.llid ≡ At i }
+    requires { find_joined subscriber header.llid ≡ Some i }
     ensures { with_output result output.new ≡ group_receive_of subscriber i header octets.now output.old }
 {
     if !valid_subscriber(subscriber) {
@@ -165,8 +158,8 @@ fn group_receive(
     let joined = table[i];
     let decided = joined_calls::receive(misfit, subscriber.onu, joined, header);
     let verdict = decided.verdict;
-    let passage = decided.passage;
-    let next = with_joined(subscriber, i, decided.joined);
+    let passage = decided.handed;
+    let next = with_joined(subscriber, i, decided.after);
     let work = carry_fitting(verdict, passage, header.channel, octets, output);
     SubscriberReceived {
         number: verdict_number(verdict),
@@ -190,7 +183,7 @@ pub fn receive(
     let table = subscriber.memberships.table;
     let found = find_joined(table, 0, subscriber.memberships.count, header.llid);
     match found {
-        Found::Nowhere => own_receive(subscriber, header, octets, output),
-        Found::At(i) => group_receive(subscriber, i, header, octets, output),
+        None => own_receive(subscriber, header, octets, output),
+        Some(i) => group_receive(subscriber, i, header, octets, output),
     }
 }

@@ -1,4 +1,5 @@
 // The calls of the capture reader, each with its line.
+use crate::show::Hex;
 use crate::{show, values};
 use capture::listing::LISTING_OCTETS;
 use jazmotip::blocks::{
@@ -8,14 +9,14 @@ use jazmotip::blocks::{
 use std::io;
 
 fn directory(rt: &impl Print, block: &[u8]) -> io::Result<()> {
-    show::directory(rt, b"capture_directory", jazmotip_capture_directory(block))?;
-    show::end(rt)
+    show::directory(rt, "capture_directory", jazmotip_capture_directory(block))?;
+    println!(rt)
 }
 
 fn show_verdict(rt: &impl Print, settings: &[u8], block: &[u8], k: usize) -> io::Result<()> {
     show::verdict(
         rt,
-        b"capture_verdict",
+        "capture_verdict",
         jazmotip_capture_verdict(settings, block, k),
     )
 }
@@ -23,8 +24,8 @@ fn show_verdict(rt: &impl Print, settings: &[u8], block: &[u8], k: usize) -> io:
 // The first four octets of what the output holds then.
 fn verdicts(rt: &impl Print, settings: &[u8], block: &[u8], output: &mut [u8]) -> io::Result<()> {
     let answer = jazmotip_capture_verdicts(settings, block, output);
-    show::directory(rt, b"capture_verdicts", answer)?;
-    show::octets(rt, octets::part_of(output, 0, 4))
+    show::directory(rt, "capture_verdicts", answer)?;
+    println!(rt; " {}", Hex(octets::part_of(output, 0, 4)))
 }
 
 fn all_verdicts(rt: &impl Print, settings: &[u8], block: &[u8]) -> io::Result<()> {
@@ -39,23 +40,21 @@ fn too_few_verdicts(rt: &impl Print, settings: &[u8], block: &[u8]) -> io::Resul
 
 fn payload(rt: &impl Print, block: &[u8], k: usize) -> io::Result<()> {
     let answer = jazmotip_capture_payload(block, k);
-    show::at_pair(rt, b"capture_payload", answer.number, answer.pair)?;
-    show::decimal(rt, answer.offset as u64)?;
-    show::decimal(rt, answer.length as u64)?;
-    show::end(rt)
+    show::at_pair(rt, "capture_payload", answer.number, answer.pair)?;
+    println!(rt; " {} {}", answer.offset, answer.length)
 }
 
 fn open(rt: &impl Print, settings: &[u8], block: &[u8]) -> io::Result<()> {
     let mut output = [0xaau8; 59];
     let answer = jazmotip_capture_open(settings, block, &mut output);
-    show::at_pair(rt, b"capture_open", answer.number, answer.pair)?;
+    show::at_pair(rt, "capture_open", answer.number, answer.pair)?;
     show::passed(rt, answer.count, &output)
 }
 
 fn list(rt: &impl Print, settings: &[u8], block: &[u8]) -> io::Result<()> {
     let mut text = [0u8; LISTING_OCTETS];
     let n = jazmotip_capture_list(settings, block, &mut text);
-    show::listing(rt, b"capture_list", &text[..n])
+    show::listing(rt, "capture_list", &text[..n])
 }
 
 fn directory_of(rt: &impl Print, first: u8, length: u8, second: u8, eqs: u8) -> io::Result<()> {
@@ -74,14 +73,14 @@ fn directories(rt: &impl Print) -> io::Result<()> {
 
 // Record 1 is clear, record 2 is to be opened, and there is no record 3.
 fn records(rt: &impl Print, settings: &[u8], block: &[u8]) -> io::Result<()> {
-    show_verdict(rt, settings, block, 1)?;
-    show_verdict(rt, settings, block, 2)?;
-    show_verdict(rt, settings, block, 3)?;
+    for k in 1..4 {
+        show_verdict(rt, settings, block, k)?;
+    }
     all_verdicts(rt, settings, block)?;
     too_few_verdicts(rt, settings, block)?;
-    payload(rt, block, 1)?;
-    payload(rt, block, 2)?;
-    payload(rt, block, 3)?;
+    for k in 1..4 {
+        payload(rt, block, k)?;
+    }
     open(rt, settings, block)
 }
 

@@ -1,4 +1,5 @@
 // The calls of the reader of a class (02, C-19), each with its line.
+use crate::show::Hex;
 use crate::{show, values};
 use class::listing::LISTING_OCTETS;
 use jazmotip::blocks::BlockAnswer;
@@ -18,17 +19,16 @@ fn asks(user: u8) -> Caller {
     }
 }
 
-fn opened(rt: &impl Print, call: &[u8], answer: BlockAnswer) -> io::Result<()> {
+fn opened(rt: &impl Print, call: &str, answer: BlockAnswer) -> io::Result<()> {
     show::at_pair(rt, call, answer.number, answer.pair)?;
-    show::octet(rt, answer.expansions)?;
-    show::decimal(rt, answer.runs)
+    print!(rt; " {} {}", answer.expansions, answer.runs)
 }
 
 fn open(rt: &impl Print, user: u8, rights: &[u8], block: &[u8]) -> io::Result<()> {
     let mut output = [0xaau8; 59];
     let sets = values::settings();
     let answer = jazmotip_class_open(asks(user), &sets, rights, block, &mut output);
-    opened(rt, b"class_open", answer)?;
+    opened(rt, "class_open", answer)?;
     show::passed(rt, answer.count, &output)
 }
 
@@ -36,7 +36,7 @@ fn open_near(rt: &impl Print, user: u8, rights: &[u8], block: &[u8]) -> io::Resu
     let mut output = [0xaau8; 59];
     let sets = values::settings();
     let near = jazmotip_class_open_near(asks(user), &sets, rights, block, &mut output);
-    opened(rt, b"class_open_near", near.answer)?;
+    opened(rt, "class_open_near", near.answer)?;
     show::between(rt, near.smallest, near.largest)?;
     show::passed(rt, near.answer.count, &output)
 }
@@ -45,14 +45,14 @@ fn list(rt: &impl Print, user: u8, rights: &[u8], block: &[u8]) -> io::Result<()
     let mut text = [0u8; LISTING_OCTETS];
     let sets = values::settings();
     let n = jazmotip_class_list(asks(user), &sets, rights, block, &mut text);
-    show::listing(rt, b"class_list", &text[..n])
+    show::listing(rt, "class_list", &text[..n])
 }
 
 fn list_near(rt: &impl Print, user: u8, rights: &[u8], block: &[u8]) -> io::Result<()> {
     let mut text = [0u8; LISTING_OCTETS];
     let sets = values::settings();
     let n = jazmotip_class_list_near(asks(user), &sets, rights, block, &mut text);
-    show::listing(rt, b"class_list_near", &text[..n])
+    show::listing(rt, "class_list_near", &text[..n])
 }
 
 fn calls(rt: &impl Print, user: u8, rights: &[u8], block: &[u8]) -> io::Result<()> {
@@ -67,8 +67,7 @@ fn load(rt: &impl Print, user: u8, llid: u16, index: u8) -> io::Result<()> {
     let rights = [3, 4];
     let key = values::key();
     let number = jazmotip_class_load(asks(user), &mut sets, &rights, llid, index, &key);
-    show::begin(rt, b"class_load", number)?;
-    show::octets(rt, &sets)
+    println!(rt; "jazmotip_class_load {number} {}", Hex(&sets))
 }
 
 fn good(rt: &impl Print, user: u8, first: u8, second: u8) -> io::Result<()> {

@@ -1,4 +1,5 @@
 // The calls of the capture reader in the near way (02, C-18), each with its line.
+use crate::show::Hex;
 use crate::{show, values};
 use capture::listing::LISTING_OCTETS;
 use jazmotip::near_blocks::{
@@ -10,7 +11,7 @@ use std::io;
 fn show_verdict(rt: &impl Print, settings: &[u8], block: &[u8], k: usize) -> io::Result<()> {
     show::verdict(
         rt,
-        b"capture_verdict_near",
+        "capture_verdict_near",
         jazmotip_capture_verdict_near(settings, block, k),
     )
 }
@@ -19,9 +20,9 @@ fn show_verdict(rt: &impl Print, settings: &[u8], block: &[u8], k: usize) -> io:
 fn verdicts(rt: &impl Print, settings: &[u8], block: &[u8]) -> io::Result<()> {
     let mut output = [0xaau8; 256];
     let near = jazmotip_capture_verdicts_near(settings, block, &mut output);
-    show::directory(rt, b"capture_verdicts_near", near.directory)?;
+    show::directory(rt, "capture_verdicts_near", near.directory)?;
     show::between(rt, near.smallest, near.largest)?;
-    show::octets(rt, octets::part_of(&output, 0, 4))
+    println!(rt; " {}", Hex(octets::part_of(&output, 0, 4)))
 }
 
 fn open(rt: &impl Print, settings: &[u8], block: &[u8]) -> io::Result<()> {
@@ -29,7 +30,7 @@ fn open(rt: &impl Print, settings: &[u8], block: &[u8]) -> io::Result<()> {
     let near = jazmotip_capture_open_near(settings, block, &mut output);
     show::at_pair(
         rt,
-        b"capture_open_near",
+        "capture_open_near",
         near.answer.number,
         near.answer.pair,
     )?;
@@ -40,7 +41,7 @@ fn open(rt: &impl Print, settings: &[u8], block: &[u8]) -> io::Result<()> {
 fn list(rt: &impl Print, settings: &[u8], block: &[u8]) -> io::Result<()> {
     let mut text = [0u8; LISTING_OCTETS];
     let n = jazmotip_capture_list_near(settings, block, &mut text);
-    show::listing(rt, b"capture_list_near", &text[..n])
+    show::listing(rt, "capture_list_near", &text[..n])
 }
 
 fn calls(rt: &impl Print, settings: &[u8], block: &[u8]) -> io::Result<()> {

@@ -8,7 +8,7 @@ use jazmotip::at_onu::{
 };
 use protocol::{Header, KeyMessage};
 use std::io;
-use subscriber::{SubscriberAcknowledged, SubscriberMoved, SubscriberSent};
+use subscriber::{SubscriberAcknowledged, SubscriberSent};
 
 // Its Rx and Tx.
 fn stamps(rt: &impl Print, onu: Subscriber) -> io::Result<()> {
@@ -17,40 +17,31 @@ fn stamps(rt: &impl Print, onu: Subscriber) -> io::Result<()> {
 
 pub(crate) fn fresh(rt: &impl Print, mac: u64, time: u64) -> io::Result<Subscriber> {
     let answer = jazmotip_onu_fresh(values::unit(), mac, time);
-    show::row(rt, b"onu_fresh", answer.number)?;
+    show::row(rt, "onu_fresh", answer.number)?;
     Ok(answer.subscriber)
 }
 
 pub(crate) fn join(rt: &impl Print, onu: Subscriber, llid: u16) -> io::Result<Subscriber> {
     let answer = jazmotip_onu_join(onu, llid);
-    show::row(rt, b"onu_join", answer.number)?;
+    show::row(rt, "onu_join", answer.number)?;
     Ok(answer.subscriber)
 }
 
 // Lends its own copy, which the call changes in place.
-fn advanced(onu: Subscriber, n: u64) -> SubscriberMoved {
+pub(crate) fn advance(rt: &impl Print, onu: Subscriber, n: u64) -> io::Result<Subscriber> {
     let mut next = onu;
     let number = jazmotip_onu_advance(&mut next, n);
-    SubscriberMoved {
-        subscriber: next,
-        number,
-    }
-}
-
-pub(crate) fn advance(rt: &impl Print, onu: Subscriber, n: u64) -> io::Result<Subscriber> {
-    let answer = advanced(onu, n);
-    show::begin(rt, b"onu_advance", answer.number)?;
-    show::decimal(rt, answer.subscriber.onu.tick)?;
-    stamps(rt, answer.subscriber)?;
-    show::end(rt)?;
-    Ok(answer.subscriber)
+    print!(rt; "jazmotip_onu_advance {number} {}", next.onu.tick)?;
+    stamps(rt, next)?;
+    println!(rt)?;
+    Ok(next)
 }
 
 pub(crate) fn new_time(rt: &impl Print, onu: Subscriber, time: u64) -> io::Result<Subscriber> {
     let answer = jazmotip_onu_new_time(onu, time);
-    show::begin(rt, b"onu_new_time", answer.number)?;
+    show::begin(rt, "onu_new_time", answer.number)?;
     stamps(rt, answer.subscriber)?;
-    show::end(rt)?;
+    println!(rt)?;
     Ok(answer.subscriber)
 }
 
@@ -60,7 +51,7 @@ pub(crate) fn clock_message(
     message: Stamps,
 ) -> io::Result<SubscriberAcknowledged> {
     let answer = jazmotip_onu_clock_message(onu, message);
-    show::begin(rt, b"onu_clock_message", answer.number)?;
+    show::begin(rt, "onu_clock_message", answer.number)?;
     stamps(rt, answer.subscriber)?;
     show::acknowledgement(rt, answer.answer)?;
     Ok(answer)
@@ -72,7 +63,7 @@ pub(crate) fn key_message(
     message: KeyMessage,
 ) -> io::Result<SubscriberAcknowledged> {
     let answer = jazmotip_onu_key_message(onu, message);
-    show::begin(rt, b"onu_key_message", answer.number)?;
+    show::begin(rt, "onu_key_message", answer.number)?;
     show::acknowledgement(rt, answer.answer)?;
     Ok(answer)
 }
@@ -84,7 +75,7 @@ pub(crate) fn group_message(
     message: KeyMessage,
 ) -> io::Result<SubscriberAcknowledged> {
     let answer = jazmotip_onu_key_message(onu, message);
-    show::begin(rt, b"onu_key_message", answer.number)?;
+    show::begin(rt, "onu_key_message", answer.number)?;
     show::group_acknowledgement(rt, answer.answer)?;
     Ok(answer)
 }
@@ -98,7 +89,7 @@ pub(crate) fn send(
 ) -> io::Result<SubscriberSent> {
     let payload = values::payload();
     let answer = jazmotip_onu_send(onu, llid, channel, &payload, output);
-    show::begin(rt, b"onu_send", answer.number)?;
+    show::begin(rt, "onu_send", answer.number)?;
     show::header(rt, answer.header)?;
     show::passed(rt, answer.count, output)?;
     Ok(answer)
@@ -112,7 +103,7 @@ pub(crate) fn receive(
 ) -> io::Result<Subscriber> {
     let mut output = values::lent();
     let answer = jazmotip_onu_receive(onu, header, octets, &mut output);
-    show::begin(rt, b"onu_receive", answer.number)?;
+    show::begin(rt, "onu_receive", answer.number)?;
     show::passed(rt, answer.count, &output)?;
     Ok(answer.subscriber)
 }

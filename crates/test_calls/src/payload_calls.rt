@@ -1,4 +1,5 @@
 // The calls of sealing, each with its line.
+use crate::show::Hex;
 use crate::{show, values};
 use cipher::aes128::RoundKeys;
 use jazmotip::payloads::{
@@ -10,9 +11,7 @@ use std::io;
 fn expand(rt: &impl Print) -> io::Result<RoundKeys> {
     let key = values::key();
     let keys = jazmotip_expand_key(&key);
-    let octets = keys.octets;
-    show::name(rt, b"expand_key")?;
-    show::octets(rt, &octets)?;
+    println!(rt; "jazmotip_expand_key {}", Hex(&keys.octets))?;
     Ok(keys)
 }
 
@@ -21,7 +20,7 @@ fn seal(rt: &impl Print, encenabled: u8) -> io::Result<()> {
     let payload = values::payload();
     let mut output = values::lent();
     let answer = jazmotip_seal(encenabled, &key, values::nonce(), &payload, &mut output);
-    show::begin(rt, b"seal", answer.number)?;
+    show::begin(rt, "seal", answer.number)?;
     show::passed(rt, answer.count, &output)
 }
 
@@ -29,7 +28,7 @@ fn seal_expanded(rt: &impl Print, encenabled: u8, keys: RoundKeys) -> io::Result
     let payload = values::payload();
     let mut output = values::lent();
     let answer = jazmotip_seal_expanded(encenabled, keys, values::nonce(), &payload, &mut output);
-    show::begin(rt, b"seal_expanded", answer.number)?;
+    show::begin(rt, "seal_expanded", answer.number)?;
     show::passed(rt, answer.count, &output)
 }
 
@@ -37,37 +36,35 @@ fn seal_in_place(rt: &impl Print, encenabled: u8) -> io::Result<()> {
     let key = values::key();
     let mut payload = values::payload();
     let answer = jazmotip_seal_in_place(encenabled, &key, values::nonce(), &mut payload);
-    show::begin(rt, b"seal_in_place", answer.number)?;
+    show::begin(rt, "seal_in_place", answer.number)?;
     show::passed(rt, answer.count, &payload)
 }
 
 fn seal_expanded_in_place(rt: &impl Print, encenabled: u8, keys: RoundKeys) -> io::Result<()> {
     let mut payload = values::payload();
     let answer = jazmotip_seal_expanded_in_place(encenabled, keys, values::nonce(), &mut payload);
-    show::begin(rt, b"seal_expanded_in_place", answer.number)?;
+    show::begin(rt, "seal_expanded_in_place", answer.number)?;
     show::passed(rt, answer.count, &payload)
 }
 
 fn count(rt: &impl Print) -> io::Result<()> {
     let payload = values::payload();
-    show::name(rt, b"count")?;
-    show::decimal(rt, jazmotip_count(&payload))?;
-    show::end(rt)
+    println!(rt; "jazmotip_count {}", jazmotip_count(&payload))
 }
 
 pub(crate) fn play(rt: &impl Print) -> io::Result<()> {
     let keys = expand(rt)?;
-    seal(rt, 0)?;
-    seal(rt, 1)?;
-    seal(rt, 2)?;
-    seal_expanded(rt, 0, keys)?;
-    seal_expanded(rt, 1, keys)?;
-    seal_expanded(rt, 2, keys)?;
-    seal_in_place(rt, 0)?;
-    seal_in_place(rt, 1)?;
-    seal_in_place(rt, 2)?;
-    seal_expanded_in_place(rt, 0, keys)?;
-    seal_expanded_in_place(rt, 1, keys)?;
-    seal_expanded_in_place(rt, 2, keys)?;
+    for encenabled in 0..3 {
+        seal(rt, encenabled)?;
+    }
+    for encenabled in 0..3 {
+        seal_expanded(rt, encenabled, keys)?;
+    }
+    for encenabled in 0..3 {
+        seal_in_place(rt, encenabled)?;
+    }
+    for encenabled in 0..3 {
+        seal_expanded_in_place(rt, encenabled, keys)?;
+    }
     count(rt)
 }

@@ -4,66 +4,76 @@ use jazmotip::key_exchange::{
     InputRecord, jazmotip_xgpon_fresh, jazmotip_xgpon_received_under,
     jazmotip_xgpon_recommended_starts, jazmotip_xgpon_sent_under, jazmotip_xgpon_step,
 };
-use std::io;
+use std::fmt::{Display, Formatter};
+use std::{fmt, io};
 use xgpon::keys::ValidKeys;
 use xgpon::timers::Timers;
 use xgpon::values::KeyExchange;
 
-fn exchange(rt: &impl Print, x: KeyExchange) -> io::Result<()> {
-    show::octet(rt, x.state)?;
-    show::octet(rt, x.oldkey)?;
-    show::octet(rt, x.newkey)
+// An exchange as a line has it.
+#[derive(Clone, Copy)]
+struct Exchange(KeyExchange);
+
+impl Display for Exchange {
+    fn fmt<W: fmt::Write>(&self, f: &mut Formatter<W>) -> fmt::Result {
+        let KeyExchange {
+            state,
+            oldkey,
+            newkey,
+        } = self.0;
+        write!(f, "{state} {oldkey} {newkey}")
+    }
 }
 
-fn timers(rt: &impl Print, t: Timers) -> io::Result<()> {
-    show::octet(rt, t.tk1)?;
-    show::octet(rt, t.tk2)?;
-    show::octet(rt, t.tk3)
+// The flags of timers.
+#[derive(Clone, Copy)]
+struct Flags(Timers);
+
+impl Display for Flags {
+    fn fmt<W: fmt::Write>(&self, f: &mut Formatter<W>) -> fmt::Result {
+        let Timers { tk1, tk2, tk3 } = self.0;
+        write!(f, "{tk1} {tk2} {tk3}")
+    }
 }
 
 fn fresh(rt: &impl Print) -> io::Result<KeyExchange> {
     let x = jazmotip_xgpon_fresh();
-    show::name(rt, b"xgpon_fresh")?;
-    exchange(rt, x)?;
-    show::end(rt)?;
+    println!(rt; "jazmotip_xgpon_fresh {}", Exchange(x))?;
     Ok(x)
 }
 
 fn step(rt: &impl Print, x: KeyExchange, kind: u8, index: u8) -> io::Result<KeyExchange> {
     let answer = jazmotip_xgpon_step(x, InputRecord { kind, index });
-    show::begin(rt, b"xgpon_step", answer.number)?;
-    exchange(rt, answer.exchange)?;
-    show::octet(rt, answer.message.kind)?;
-    show::octet(rt, answer.message.index)?;
-    timers(rt, answer.starts)?;
-    timers(rt, answer.stops)?;
-    show::end(rt)?;
+    let message = answer.message;
+    show::begin(rt, "xgpon_step", answer.number)?;
+    print!(rt;
+        " {} {} {}",
+        Exchange(answer.exchange),
+        message.kind,
+        message.index
+    )?;
+    println!(rt; " {} {}", Flags(answer.starts), Flags(answer.stops))?;
     Ok(answer.exchange)
 }
 
-fn valid(rt: &impl Print, call: &[u8], keys: ValidKeys) -> io::Result<()> {
-    show::begin(rt, call, keys.number)?;
-    show::octet(rt, keys.oldkey)?;
-    show::octet(rt, keys.newkey)?;
-    show::end(rt)
+fn valid(rt: &impl Print, call: &str, keys: ValidKeys) -> io::Result<()> {
+    println!(rt;
+        "jazmotip_{call} {} {} {}",
+        keys.number, keys.oldkey, keys.newkey
+    )
 }
 
 fn keys(rt: &impl Print, x: KeyExchange) -> io::Result<()> {
-    valid(rt, b"xgpon_sent_under", jazmotip_xgpon_sent_under(x))?;
-    valid(
-        rt,
-        b"xgpon_received_under",
-        jazmotip_xgpon_received_under(x),
-    )
+    valid(rt, "xgpon_sent_under", jazmotip_xgpon_sent_under(x))?;
+    valid(rt, "xgpon_received_under", jazmotip_xgpon_received_under(x))
 }
 
 fn starts(rt: &impl Print) -> io::Result<()> {
     let s = jazmotip_xgpon_recommended_starts();
-    show::name(rt, b"xgpon_recommended_starts")?;
-    show::decimal(rt, s.tk1 as u64)?;
-    show::decimal(rt, s.tk2 as u64)?;
-    show::decimal(rt, s.tk3 as u64)?;
-    show::end(rt)
+    println!(rt;
+        "jazmotip_xgpon_recommended_starts {} {} {}",
+        s.tk1, s.tk2, s.tk3
+    )
 }
 
 // Asked for, reported under another index, reported, sent under and confirmed.

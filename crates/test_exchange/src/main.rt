@@ -12,65 +12,71 @@ mod script;
 mod show;
 mod values;
 
-ghost use Rattle.std.specs.Prelude.{◌≡◌, ◌≤◌, length};
-
-use play::Play;
+use play::{Play, Side};
+use script::Numbers;
 use std::io;
 
-// Before the colon, a word with the numbers after it; after it, what is shown. Numbers go with the word before them.
-fn command(rt: &impl Print, p: Play, s: &[u8], at: usize, to: usize, end: usize) -> io::Result<Play>
-    requires { at ≤ end }
-{
-    if script::is_digit(script::octet(s, at)) {
-        return Ok(p);
+// The script is above 65,536 octets.
+const MOST_SCRIPT: usize = 131072;
+
+// A word that is played, with the numbers after it.
+fn command(rt: &impl Print, p: &mut Play, word: &[u8], n: Numbers) -> io::Result<()> {
+    if play::turn(p, word, n) {
+        return Ok(());
     }
-    if script::until(s, at, end, b':') == end {
-        show::show(rt, p, s, at, to)?;
-        return Ok(p);
+    if matches!(word, b":") {
+        return show::number(rt, p.number);
     }
-    let k = script::word(s, at, to, b"olt onu onu2 unit lengths group control all :");
-    let n = script::numbers_after(s, at, end);
-    if k < 8 {
-        return Ok(play::turned(p, k, n));
+    let number = match p.aim.side {
+        Side::Olt => at_olt::command(p, word, n),
+        Side::One | Side::Two => at_onu::command(p, word, n),
+    };
+    if number.is_none() {
+        print!(rt; "?")?;
     }
-    if k == 8 {
-        show::number(rt, p.number)?;
-        return Ok(p);
-    }
-    if p.aim.side == 0 {
-        return at_olt::command(rt, p, s, at, to, n);
-    }
-    at_onu::command(rt, p, s, at, to, n)
+    p.number = number.unwrap_or(0);
+    Ok(())
 }
 
-fn play_all(rt: &impl Print, s: &[u8]) -> io::Result<()> {
-    let mut p = play::start();
-    let mut at = 0;
-    while at < s.len() {
-        let end = script::until(s, at, s.len(), b'\n');
-        let to = script::until(s, at, end, b' ');
-        let next = to + 1;
-        if script::starts_line(s, at) {
-            at = script::head(rt, s, at, end)? + 1;
-        } else {
-            let done = command(rt, p, s, at, to, end)?;
-            p = done;
-            script::mark(rt, to == end, b'\n')?;
-            at = next;
+// Before the colon, words with the numbers after them; after it, what is shown. Numbers go with the word before them.
+fn play_row(rt: &impl Print, p: &mut Play, row: &[u8]) -> io::Result<()> {
+    let mut rest = row;
+    while let Some((word, next)) = script::split_word(rest) {
+        if !script::is_number(word) {
+            if rest.contains(&b':') {
+                command(rt, p, word, Numbers::ahead(next))?;
+            } else {
+                show::show(rt, p, word)?;
+            }
         }
+        rest = next;
+    }
+    if row.last().is_some_and(|x| *x != b' ') {
+        println!(rt)?;
     }
     Ok(())
 }
 
-// For the script, which is above 65,536 octets.
-fn room() -> [u8; 131072]
-    ensures { 131072 ≡ length result }
-{
-    [0; 131072]
+// Writes the label of a row and plays the row, or a title as it stands; a remark goes unseen.
+fn play_line(rt: &impl Print, p: &mut Play, line: &[u8]) -> io::Result<()> {
+    let text = line.strip_suffix(b"\n").unwrap_or(line);
+    if let Some(bar) = text.iter().position(|x| *x == b'|') {
+        rt.write_all(&text[..bar.saturating_sub(1)])?;
+        return play_row(rt, p, line.get(bar + 2..).unwrap_or(b""));
+    }
+    if !matches!(text, [] | [b'#', ..]) {
+        rt.write_all(text)?;
+        println!(rt)?;
+    }
+    Ok(())
 }
 
 fn main(rt: HostRuntime) -> io::Result<()> {
-    let mut text = room();
-    let n = streams::read_full(&mut rt.reader(), &mut text)?;
-    play_all(&rt, &text[..n])
+    let mut space = [0u8; MOST_SCRIPT];
+    let script = streams::read_most(&mut rt.reader(), &mut space, MOST_SCRIPT)?;
+    let mut p = play::start();
+    for line in script.split_inclusive(|x| *x == b'\n') {
+        play_line(&rt, &mut p, line)?;
+    }
+    Ok(())
 }

@@ -2,11 +2,11 @@
 ghost use Rattle.std.specs.Prelude.{◌≡◌, length};
 
 use crate::script::Numbers;
-use crate::{at_olt, at_onu, values};
+use crate::values;
 use clock::Stamps;
 use group_protocol::{Answer, HeadEnd, Subscriber};
-use jazmotip::at_olt::jazmotip_olt_fresh;
-use jazmotip::at_onu::jazmotip_onu_fresh;
+use jazmotip::at_olt::{jazmotip_olt_advance, jazmotip_olt_fresh};
+use jazmotip::at_onu::{jazmotip_onu_advance, jazmotip_onu_fresh};
 use protocol::{Header, KeyMessage};
 
 #[derive(Clone, Copy)]
@@ -15,11 +15,19 @@ pub struct Envelope {
     pub octets: [u8; 36],
 }
 
-// What the words speak of: the OLT (side 0) or a unit (1, 2), the place of a unit's record in the OLT's table and that of a group in its
-// end's. Of four EQs the first `length` octets are sent, and `room` octets are lent for the output.
+// The end that the words speak of: the OLT, or the first or the second unit.
+#[derive(Clone, Copy, PartialEq, Eq)]
+pub enum Side {
+    Olt,
+    One,
+    Two,
+}
+
+// What the words speak of: an end, the place of a unit's record in the OLT's table and that of a group in its end's. Of four EQs the first
+// `length` octets are sent, and `room` octets are lent for the output.
 #[derive(Clone, Copy)]
 pub struct Aim {
-    pub side: u8,
+    pub side: Side,
     pub place: usize,
     pub group: usize,
     pub eqs: [u8; 36],
@@ -47,20 +55,19 @@ pub struct Play {
 }
 
 // Three EQs, and an output that fits.
-fn usual(side: u8) -> Aim {
-    let eqs = values::payload(0x00, 0x81, 0x01);
+fn usual(side: Side) -> Aim {
     Aim {
         side,
         place: 0,
         group: 0,
-        eqs,
+        eqs: values::payload(0x00, 0x81, 0x01),
         length: 27,
         room: 27,
     }
 }
 
 pub(crate) fn start() -> Play {
-    let aim = usual(0);
+    let aim = usual(Side::Olt);
     let down = jazmotip_olt_fresh(values::OLT_MAC, 0);
     let up = jazmotip_onu_fresh(values::unit(), values::OLT_MAC, 0);
     let head = down.head;
@@ -103,59 +110,39 @@ pub(crate) fn start() -> Play {
     }
 }
 
-pub(crate) fn unit(p: Play) -> Subscriber {
-    if p.aim.side == 2 {
-        return p.two;
+// The unit that is spoken of.
+pub(crate) fn unit(p: &Play) -> Subscriber {
+    match p.aim.side {
+        Side::Two => p.two,
+        Side::Olt | Side::One => p.one,
     }
-    p.one
-}
-
-// The first three speak of the usual payload again.
-fn aimed(aim: Aim, k: usize, n: Numbers) -> Aim {
-    let mut r = aim;
-    match k {
-        0 | 1 | 2 => r = usual((k % 3) as u8),
-        3 => r.place = (n.a % 16) as usize,
-        4 => {
-            r.length = (n.a % 37) as usize;
-            r.room = (n.b % 37) as usize;
-        }
-        5 => r.group = (n.a % 16) as usize,
-        _ => {
-            let eqs = values::payload(n.a, n.b, n.c);
-            r.eqs = eqs;
-        }
-    }
-    r
 }
 
 // An advance of all ends.
-fn advance(p: Play, n: u64) -> Play {
-    let down = at_olt::advanced(p.head, n);
-    let first = at_onu::advanced(p.one, n);
-    let second = at_onu::advanced(p.two, n);
-    let head = down.head;
-    let one = first.subscriber;
-    let two = second.subscriber;
-    let mut r = p;
-    r.number = down.number;
-    r.first = first.number;
-    r.second = second.number;
-    r.head = head;
-    r.one = one;
-    r.two = two;
-    r
+fn advance(p: &mut Play, n: u64) {
+    p.number = jazmotip_olt_advance(&mut p.head, n);
+    p.first = jazmotip_onu_advance(&mut p.one, n);
+    p.second = jazmotip_onu_advance(&mut p.two, n);
 }
 
-// The words olt onu onu2 unit lengths group control all, by their place.
-pub(crate) fn turned(p: Play, k: usize, n: Numbers) -> Play {
-    if k == 7 {
-        return advance(p, n.a);
+// The words that say what the next ones speak of, and the advance of all ends; whether this is one of them. The first three speak of the usual
+// payload again.
+pub(crate) fn turn(p: &mut Play, word: &[u8], n: Numbers) -> bool {
+    match word {
+        b"olt" => p.aim = usual(Side::Olt),
+        b"onu" => p.aim = usual(Side::One),
+        b"onu2" => p.aim = usual(Side::Two),
+        b"unit" => p.aim.place = (n.a % 16) as usize,
+        b"lengths" => {
+            p.aim.length = (n.a % 37) as usize;
+            p.aim.room = (n.b % 37) as usize;
+        }
+        b"group" => p.aim.group = (n.a % 16) as usize,
+        b"control" => p.aim.eqs = values::payload(n.a, n.b, n.c),
+        b"all" => advance(p, n.a),
+        _ => return false,
     }
-    let aim = aimed(p.aim, k, n);
-    let mut r = p;
-    r.aim = aim;
-    r
+    true
 }
 
 // The output that is lent.
@@ -165,60 +152,21 @@ pub(crate) fn lent() -> [u8; 36]
     [0xaa; 36]
 }
 
-// What passes: an envelope that is under way, or else the payload that is spoken of with a header of numbers.
-pub(crate) fn carried(p: Play, k: usize, n: Numbers) -> Envelope {
-    let place = (n.a % 4) as usize;
-    if k == 2 {
-        return p.envelopes[place];
-    }
+// An envelope that is under way.
+pub(crate) fn taken(p: &Play, n: Numbers) -> Envelope {
+    p.envelopes[(n.a % 4) as usize]
+}
+
+// The payload that is spoken of, with a header of numbers.
+pub(crate) fn spoken(p: &Play, n: Numbers) -> Envelope {
     let octets = p.aim.eqs;
     let header = values::header(n);
     Envelope { header, octets }
 }
 
 // What is sent is under way in the place that the third number says.
-fn under_way(envelopes: [Envelope; 4], k: usize, place: usize, sent: Envelope) -> [Envelope; 4] {
-    let mut r = envelopes;
-    let at = place % 4;
-    if k == 0 {
-        r[at] = sent;
-    }
-    r
-}
-
-pub(crate) fn after(
-    p: Play,
-    k: usize,
-    n: Numbers,
-    number: u8,
-    count: u64,
-    passed: Envelope,
-) -> Play {
-    let before = p.envelopes;
-    let envelopes = under_way(before, k, (n.c % 4) as usize, passed);
-    let mut r = p;
-    r.envelopes = envelopes;
-    r.number = number;
-    r.count = count;
-    r.passed = passed;
-    r
-}
-
-pub(crate) fn after_olt(p: Play, head: HeadEnd, stamps: Stamps, message: KeyMessage) -> Play {
-    let mut r = p;
-    r.head = head;
-    r.stamps = stamps;
-    r.message = message;
-    r
-}
-
-pub(crate) fn after_unit(p: Play, unit: Subscriber, acknowledgement: Answer) -> Play {
-    let mut r = p;
-    r.acknowledgement = acknowledgement;
-    if p.aim.side == 2 {
-        r.two = unit;
-    } else {
-        r.one = unit;
-    }
-    r
+pub(crate) fn send(p: &mut Play, n: Numbers, sent: Envelope, count: u64) {
+    p.envelopes[(n.c % 4) as usize] = sent;
+    p.passed = sent;
+    p.count = count;
 }

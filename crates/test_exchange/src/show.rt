@@ -1,372 +1,231 @@
 // What a row shows: the number of the last call, what it handed over, and how it left the end.
-use crate::play::{Envelope, Play};
-use crate::{named, play, script, values};
-use clock::Stamps;
-use ends::{Channels, Onu, Shared, Slots, UnitRecord};
-use group_protocol::{Answer, GroupRecord, Joined, Members};
-use protocol::{Header, KeyMessage};
-use std::io;
+use crate::play::{Play, Side};
+use crate::{named, play, values};
+use ends::{Channels, Onu, OnuKeys, Slots, UnitKeys, UnitRecord};
+use group_protocol::{GroupRecord, Joined, Members};
+use protocol::Header;
+use std::fmt::{Display, Formatter};
+use std::{fmt, io, iter};
 
-fn wide(x: u8) -> u64 {
-    x as u64
-}
+// Octets, two digits each.
+#[derive(Clone, Copy)]
+struct Hex<'a>(&'a [u8]);
 
-// The hexadecimal digits that stand for an octet of a text: $, & and @ are 2, 4 and 12 of them, % is decimal.
-fn digits(x: u8) -> usize {
-    match x {
-        b'$' => 2,
-        b'&' => 4,
-        b'@' => 12,
-        _ => 0,
+impl Display for Hex<'_> {
+    fn fmt<W: fmt::Write>(&self, f: &mut Formatter<W>) -> fmt::Result {
+        for x in self.0 {
+            write!(f, "{x:02x}")?;
+        }
+        Ok(())
     }
-}
-
-// Writes an octet of a text, or the value in its place. How many values were written.
-fn mark(rt: &impl Print, x: u8, value: u64) -> io::Result<usize> {
-    let n = digits(x);
-    if n > 0 {
-        print!(rt; "{value:0n$x}")?;
-        return Ok(1);
-    }
-    if x == b'%' {
-        print!(rt; "{value}")?;
-        return Ok(1);
-    }
-    script::put(rt, x)?;
-    Ok(0)
-}
-
-fn fill(rt: &impl Print, text: &[u8], values: [u64; 9]) -> io::Result<()> {
-    let mut k: usize = 0;
-    for i in 0..text.len() {
-        let used = mark(rt, text[i], values[k % 9])?;
-        k = std::num::wrapping_add_usize(k, used);
-    }
-    Ok(())
-}
-
-fn few(rt: &impl Print, text: &[u8], a: u64, b: u64, c: u64, d: u64) -> io::Result<()> {
-    fill(rt, text, [a, b, c, d, 0, 0, 0, 0, 0])
-}
-
-// The first n octets.
-fn octets(rt: &impl Print, s: &[u8], n: usize) -> io::Result<()> {
-    for i in 0..n {
-        print!(rt; "{:02x}", wide(script::octet(s, i)))?;
-    }
-    Ok(())
-}
-
-fn two_keys(rt: &impl Print, text: &[u8], one: [u8; 16], two: [u8; 16]) -> io::Result<()> {
-    few(rt, text, 0, 0, 0, 0)?;
-    octets(rt, &one, 16)?;
-    script::put(rt, b' ')?;
-    octets(rt, &two, 16)
 }
 
 fn slots(rt: &impl Print, s: Slots) -> io::Result<()> {
-    two_keys(
-        rt,
-        b", ",
-        ends::keyslots::key_in(s, 0),
-        ends::keyslots::key_in(s, 1),
-    )
+    print!(rt; ", {} {}", Hex(&s.even), Hex(&s.odd))
 }
 
-fn held(rt: &impl Print, u: UnitRecord, o: Onu) -> io::Result<()> {
-    few(
-        rt,
-        b", A %, C %, a %",
-        u.keys.active as u64,
-        u.confirmation.confirmed as u64,
-        o.keys.active as u64,
-        0,
+// The key that a unit has in use at both ends.
+fn keys(rt: &impl Print, u: &UnitRecord, o: &Onu) -> io::Result<()> {
+    let UnitKeys { active, slots, .. } = u.keys;
+    let own = o.keys;
+    print!(rt;
+        ", A {active}, C {}, a {}",
+        u.confirmation.confirmed, own.active
     )?;
-    two_keys(
-        rt,
-        b", key ",
-        ends::keyslots::key_in(u.keys.slots, u.keys.active),
-        ends::keyslots::key_in(o.keys.slots, o.keys.active),
-    )
+    let key = ends::keyslots::key_in(slots, active);
+    let own_key = ends::keyslots::key_in(own.slots, own.active);
+    print!(rt; ", key {} {}", Hex(&key), Hex(&own_key))
 }
 
-fn record(rt: &impl Print, u: UnitRecord, free: Channels) -> io::Result<()> {
-    fill(
-        rt,
-        b", A % C % O %, acknowledged %, flag %, first % %, free % %",
-        [
-            u.keys.active as u64,
-            u.confirmation.confirmed as u64,
-            u.keys.offered as u64,
-            u.confirmation.acknowledged as u64,
-            u.keys.timer.flag as u64,
-            wide(u.keys.first.noted),
-            u.keys.first.at,
-            free.zero,
-            free.one,
-        ],
-    )
+fn record(rt: &impl Print, u: &UnitRecord, free: Channels) -> io::Result<()> {
+    let k = u.keys;
+    let c = u.confirmation;
+    print!(rt;
+        ", A {} C {} O {}, acknowledged {}",
+        k.active, c.confirmed, k.offered, c.acknowledged
+    )?;
+    print!(rt;
+        ", flag {}, first {} {}",
+        k.timer.flag, k.first.noted, k.first.at
+    )?;
+    print!(rt; ", free {} {}", free.zero, free.one)
 }
 
-fn unit(rt: &impl Print, o: Onu) -> io::Result<()> {
-    fill(
-        rt,
-        b", a % held %, first % %, free % %",
-        [
-            o.keys.active as u64,
-            o.keys.held as u64,
-            o.first.noted as u64,
-            values::first_travel(o.first),
-            o.channels.zero,
-            o.channels.one,
-            0,
-            0,
-            0,
-        ],
-    )
+fn unit(rt: &impl Print, o: &Onu) -> io::Result<()> {
+    print!(rt; ", a {} held {}", o.keys.active, o.keys.held)?;
+    print!(rt;
+        ", first {} {}",
+        o.first.noted,
+        values::first_travel(o.first)
+    )?;
+    print!(rt; ", free {} {}", o.channels.zero, o.channels.one)
 }
 
 fn header(rt: &impl Print, h: Header) -> io::Result<()> {
-    fill(
-        rt,
-        b", header $ & % % $",
-        [
-            h.channel as u64,
-            h.llid as u64,
-            h.encenabled as u64,
-            h.enckey as u64,
-            h.epam as u64,
-            0,
-            0,
-            0,
-            0,
-        ],
-    )
+    let Header {
+        channel,
+        llid,
+        encenabled,
+        enckey,
+        epam,
+    } = h;
+    print!(rt; ", header {channel:02x} {llid:04x} {encenabled} {enckey} {epam:02x}")
 }
 
 fn stamps(rt: &impl Print, rx: u64, tx: u64) -> io::Result<()> {
-    few(rt, b", Rx @, Tx @", rx, tx, 0, 0)
+    print!(rt; ", Rx {rx:012x}, Tx {tx:012x}")
 }
 
-fn message(rt: &impl Print, m: KeyMessage) -> io::Result<()> {
-    let key = m.key;
-    few(
-        rt,
-        b", LLID %, number %, octet %",
-        m.llid as u64,
-        m.number as u64,
-        wide(key[0]),
-        0,
-    )
-}
-
-fn answer(rt: &impl Print, a: Answer) -> io::Result<()> {
-    few(
-        rt,
-        b", kind %, number %",
-        a.kind as u64,
-        a.number as u64,
-        0,
-        0,
-    )
-}
-
-// The unit that an acknowledgement names.
-fn named_unit(rt: &impl Print, a: Answer) -> io::Result<()> {
-    few(
-        rt,
-        b", named %, unit %",
-        a.named as u64,
-        a.unit as u64,
-        0,
-        0,
-    )
-}
-
-// The first n octets as numbers.
-fn list(rt: &impl Print, text: &[u8], s: &[u8], n: usize) -> io::Result<()> {
-    few(rt, text, 0, 0, 0, 0)?;
-    for i in 0..n {
-        few(rt, b" %", wide(script::octet(s, i)), 0, 0, 0)?;
+// The first n octets as numbers; past the last a line end's.
+fn list(rt: &impl Print, s: &[u8], n: u8) -> io::Result<()> {
+    for x in s.iter().chain(iter::repeat(&b'\n')).take(n as usize) {
+        print!(rt; " {x}")?;
     }
     Ok(())
 }
 
-fn members(rt: &impl Print, m: Members) -> io::Result<()> {
-    let places = m.places;
-    let marks = m.marks;
-    let n = m.count as usize;
-    list(rt, b", members", &places, n)?;
-    list(rt, b", marks", &marks, n)
+fn members(rt: &impl Print, m: &Members) -> io::Result<()> {
+    print!(rt; ", members")?;
+    list(rt, &m.places, m.count)?;
+    print!(rt; ", marks")?;
+    list(rt, &m.marks, m.count)
 }
 
 // A group at the OLT.
-fn group(rt: &impl Print, g: GroupRecord, free: Channels) -> io::Result<()> {
-    fill(
-        rt,
-        b", LLID % A % O %, flag %, first % %, free % %",
-        [
-            g.llid as u64,
-            g.keys.active as u64,
-            g.keys.offered as u64,
-            g.keys.timer.flag as u64,
-            wide(g.keys.first.noted),
-            g.keys.first.at,
-            free.zero,
-            free.one,
-            0,
-        ],
+fn group(rt: &impl Print, g: &GroupRecord, free: Channels) -> io::Result<()> {
+    let k = g.keys;
+    print!(rt; ", LLID {} A {} O {}", g.llid, k.active, k.offered)?;
+    print!(rt;
+        ", flag {}, first {} {}",
+        k.timer.flag, k.first.noted, k.first.at
     )?;
-    members(rt, g.members)
+    print!(rt; ", free {} {}", free.zero, free.one)?;
+    members(rt, &g.members)
 }
 
 // A group that a unit joined.
-fn joined(rt: &impl Print, j: Joined) -> io::Result<()> {
-    few(
-        rt,
-        b", LLID % a % kept % held %",
-        j.llid as u64,
-        j.keys.active as u64,
-        j.kept as u64,
-        j.keys.held as u64,
-    )
+fn joined(rt: &impl Print, j: &Joined) -> io::Result<()> {
+    let OnuKeys { active, held, .. } = j.keys;
+    print!(rt; ", LLID {} a {active} kept {} held {held}", j.llid, j.kept)
 }
 
-// The words group and group_slots at the OLT.
-fn group_at_olt(rt: &impl Print, p: Play, k: usize) -> io::Result<()> {
-    let groups = p.head.groups;
-    let g = groups.table[p.aim.group % 16];
-    if k == 11 {
-        slots(rt, g.keys.slots)
-    } else {
-        group(rt, g, p.head.olt.shared.channels)
+fn spoken_group(rt: &impl Print, p: &Play) -> io::Result<()> {
+    match p.aim.side {
+        Side::Olt => group(
+            rt,
+            &p.head.groups.table[p.aim.group % 16],
+            p.head.olt.shared.channels,
+        ),
+        Side::One => joined(rt, &p.one.memberships.table[p.aim.group % 4]),
+        Side::Two => joined(rt, &p.two.memberships.table[p.aim.group % 4]),
     }
 }
 
-// The same at a unit.
-fn group_at_unit(rt: &impl Print, p: Play, k: usize) -> io::Result<()> {
-    let unit = play::unit(p);
-    let memberships = unit.memberships;
-    let j = memberships.table[p.aim.group % 4];
-    if k == 11 {
-        slots(rt, j.keys.slots)
-    } else {
-        joined(rt, j)
-    }
+fn group_slots(rt: &impl Print, p: &Play) -> io::Result<()> {
+    let s = match p.aim.side {
+        Side::Olt => p.head.groups.table[p.aim.group % 16].keys.slots,
+        Side::One => p.one.memberships.table[p.aim.group % 4].keys.slots,
+        Side::Two => p.two.memberships.table[p.aim.group % 4].keys.slots,
+    };
+    slots(rt, s)
 }
 
-fn spoken_group(rt: &impl Print, p: Play, k: usize) -> io::Result<()> {
-    if p.aim.side == 0 {
-        group_at_olt(rt, p, k)
-    } else {
-        group_at_unit(rt, p, k)
-    }
-}
-
-fn output(rt: &impl Print, passed: Envelope, count: u64, room: usize) -> io::Result<()> {
-    let s = passed.octets;
-    few(rt, b", count %, output ", count, 0, 0, 0)?;
-    octets(rt, &s, room)
-}
-
-// The words state, stamps and slots at the OLT.
-fn at_olt(
-    rt: &impl Print,
-    free: Channels,
-    u: UnitRecord,
-    sent: Stamps,
-    k: usize,
-) -> io::Result<()> {
-    match k {
-        3 => stamps(rt, sent.rx, sent.tx),
-        4 => slots(rt, u.keys.slots),
-        _ => record(rt, u, free),
-    }
-}
-
-// The same at a unit.
-fn at_onu(rt: &impl Print, o: Onu, k: usize) -> io::Result<()> {
-    match k {
-        3 => stamps(rt, o.clock.rx, o.clock.time),
-        4 => slots(rt, o.keys.slots),
-        _ => unit(rt, o),
-    }
+fn output(rt: &impl Print, p: &Play) -> io::Result<()> {
+    let passed = &p.passed.octets[..p.aim.room % 37];
+    print!(rt; ", count {}, output {}", p.count, Hex(passed))
 }
 
 pub(crate) fn number(rt: &impl Print, number: u8) -> io::Result<()> {
-    few(rt, b": %", number as u64, 0, 0, 0)
+    print!(rt; ": {number}")
 }
 
 // After an advance of all ends.
-fn all_ends(rt: &impl Print, first: u8, second: u8, shared: Shared) -> io::Result<()> {
-    few(
-        rt,
-        b" % %, tick %, clock @",
-        first as u64,
-        second as u64,
-        shared.tick,
-        shared.clock,
+fn all_ends(rt: &impl Print, p: &Play) -> io::Result<()> {
+    let shared = p.head.olt.shared;
+    print!(rt;
+        " {} {}, tick {}, clock {:012x}",
+        p.first, p.second, shared.tick, shared.clock
     )
-}
-
-// The words sent, received, state, stamps and slots.
-fn at_end(rt: &impl Print, p: Play, u: UnitRecord, k: usize) -> io::Result<()> {
-    if k == 0 {
-        header(rt, p.passed.header)?;
-    }
-    if k < 2 {
-        output(rt, p.passed, p.count, p.aim.room)?;
-    }
-    if p.aim.side == 0 {
-        at_olt(rt, p.head.olt.shared.channels, u, p.stamps, k)
-    } else {
-        let unit = play::unit(p);
-        at_onu(rt, unit.onu, k)
-    }
-}
-
-// The key that a unit has in use at both ends.
-fn keys(rt: &impl Print, p: Play, u: UnitRecord) -> io::Result<()> {
-    if p.aim.place == 1 {
-        held(rt, u, p.two.onu)
-    } else {
-        held(rt, u, p.one.onu)
-    }
 }
 
 // The OLT's clock beside those of unit 1.
-fn clocks(rt: &impl Print, clock: u64, o: Onu) -> io::Result<()> {
-    few(
-        rt,
-        b", OLT clock %, Tx %, Rx %",
-        clock,
-        o.clock.time,
-        o.clock.rx,
-        0,
+fn clocks(rt: &impl Print, p: &Play) -> io::Result<()> {
+    let clock = p.one.onu.clock;
+    print!(rt;
+        ", OLT clock {}, Tx {}, Rx {}",
+        p.head.olt.shared.clock, clock.time, clock.rx
     )
 }
 
+fn state(rt: &impl Print, p: &Play, u: &UnitRecord) -> io::Result<()> {
+    match p.aim.side {
+        Side::Olt => record(rt, u, p.head.olt.shared.channels),
+        Side::One => unit(rt, &p.one.onu),
+        Side::Two => unit(rt, &p.two.onu),
+    }
+}
+
+// The stamps of the OLT's clock message, or the clocks of a unit.
+fn stamps_at_end(rt: &impl Print, p: &Play) -> io::Result<()> {
+    if p.aim.side == Side::Olt {
+        return stamps(rt, p.stamps.rx, p.stamps.tx);
+    }
+    let clock = play::unit(p).onu.clock;
+    stamps(rt, clock.rx, clock.time)
+}
+
+fn slots_at_end(rt: &impl Print, p: &Play, u: &UnitRecord) -> io::Result<()> {
+    if p.aim.side == Side::Olt {
+        return slots(rt, u.keys.slots);
+    }
+    slots(rt, play::unit(p).onu.keys.slots)
+}
+
 // What a word after the colon stands for; where it is none of these, a value by its name.
-pub(crate) fn show(rt: &impl Print, p: Play, s: &[u8], at: usize, to: usize) -> io::Result<()> {
-    let k = script::word(
-        s,
-        at,
-        to,
-        b"sent received state stamps slots message answer ends keys clocks group group_slots passed named",
-    );
-    let units = p.head.olt.units;
-    let place = p.aim.place % 16;
-    let u = units[place];
-    match k {
-        5 => message(rt, p.message),
-        6 => answer(rt, p.acknowledgement),
-        7 => all_ends(rt, p.first, p.second, p.head.olt.shared),
-        8 => keys(rt, p, u),
-        9 => clocks(rt, p.head.olt.shared.clock, p.one.onu),
-        10 | 11 => spoken_group(rt, p, k),
-        12 => output(rt, p.passed, p.count, p.aim.room),
-        13 => named_unit(rt, p.acknowledgement),
-        14 => named::show(rt, p, u, s, at, to),
-        _ => at_end(rt, p, u, k),
+pub(crate) fn show(rt: &impl Print, p: &Play, word: &[u8]) -> io::Result<()> {
+    let u = &p.head.olt.units[p.aim.place % 16];
+    match word {
+        b"sent" => {
+            header(rt, p.passed.header)?;
+            output(rt, p)?;
+            state(rt, p, u)
+        }
+        b"received" => {
+            output(rt, p)?;
+            state(rt, p, u)
+        }
+        b"state" => state(rt, p, u),
+        b"stamps" => stamps_at_end(rt, p),
+        b"slots" => slots_at_end(rt, p, u),
+        b"message" => {
+            let [octet, ..] = p.message.key;
+            print!(rt;
+                ", LLID {}, number {}, octet {octet}",
+                p.message.llid, p.message.number
+            )
+        }
+        b"answer" => {
+            let a = p.acknowledgement;
+            print!(rt; ", kind {}, number {}", a.kind, a.number)
+        }
+        b"ends" => all_ends(rt, p),
+        b"keys" => keys(
+            rt,
+            u,
+            if p.aim.place == 1 {
+                &p.two.onu
+            } else {
+                &p.one.onu
+            },
+        ),
+        b"clocks" => clocks(rt, p),
+        b"group" => spoken_group(rt, p),
+        b"group_slots" => group_slots(rt, p),
+        b"passed" => output(rt, p),
+        b"named" => {
+            let a = p.acknowledgement;
+            print!(rt; ", named {}, unit {}", a.named, a.unit)
+        }
+        _ => named::show(rt, p, u, word),
     }
 }

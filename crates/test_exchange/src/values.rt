@@ -28,7 +28,7 @@ pub(crate) fn identity(n: Numbers) -> Identity {
 
 // A unit counts travel from 2^61 below zero.
 pub(crate) fn travelled(travel: u64) -> u64 {
-    std::num::wrapping_add_u64(travel, MAX_CHANGES)
+    travel.wrapping_add(MAX_CHANGES)
 }
 
 // The same from zero, of a first send that is noted.
@@ -36,7 +36,7 @@ pub(crate) fn first_travel(first: FirstSend) -> u64 {
     if first.noted == 0 {
         return first.at;
     }
-    std::num::wrapping_sub_u64(first.at, MAX_CHANGES)
+    first.at.wrapping_sub(MAX_CHANGES)
 }
 
 // A key by its first octet; 0 is the key of zeros.
@@ -69,7 +69,7 @@ pub(crate) fn acknowledgement(n: Numbers) -> Answer {
 }
 
 fn higher(llid: u64, n: u64) -> u16 {
-    script::u16_of(std::num::wrapping_add_u64(llid, n))
+    script::u16_of(llid.wrapping_add(n))
 }
 
 // How many members, and the LLIDs that name the first three; each one after is four higher than the one before.

@@ -4,17 +4,8 @@
 
 use std::io;
 
-fn write_digit(rt: &impl Print, n: usize) -> io::Result<()> {
-    let digit = [48 + (n % 10) as u8];
-    rt.write_all(&digit)
-}
-
-// A number below 100.
 fn write_number(rt: &impl Print, n: usize) -> io::Result<()> {
-    if 10 <= n {
-        write_digit(rt, n / 10)?;
-    }
-    write_digit(rt, n)
+    print!(rt; "{n}")
 }
 
 fn play(rt: &impl Print, script: &[u8]) -> io::Result<()> {
@@ -25,25 +16,20 @@ fn play(rt: &impl Print, script: &[u8]) -> io::Result<()> {
     println!(rt)
 }
 
-fn play_all(rt: &impl Print, s: &[u8]) -> io::Result<()> {
-    let mut at = 0;
-    while at < s.len() {
-        let left = s.len() - at;
-        let n = octets::number16(s, at) as usize;
-        let whole = n + 2;
-        if left < whole {
-            return Ok(());
-        }
-        let from = at + 2;
-        let to = at + whole;
-        play(rt, &s[from..to])?;
-        at = to;
+fn play_all(rt: &impl Print, scripts: &[u8]) -> io::Result<()> {
+    let mut rest = scripts;
+    while let Some((length, after)) = rest.split_first_chunk() {
+        let Some((script, next)) = after.split_at_checked(octets::be16(*length) as usize) else {
+            break;
+        };
+        play(rt, script)?;
+        rest = next;
     }
     Ok(())
 }
 
 fn main(rt: HostRuntime) -> io::Result<()> {
-    let mut input = [0u8; 65536];
-    let n = streams::read_full(&mut rt.reader(), &mut input)?;
-    play_all(&rt, &input[..n])
+    let mut space = [0u8; 65536];
+    let scripts = streams::read_most(&mut rt.reader(), &mut space, 65536)?;
+    play_all(&rt, scripts)
 }

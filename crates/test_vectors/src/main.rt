@@ -2,146 +2,86 @@
 // What the documents say is in the file stdout.
 #![tactic(auto)]
 
-ghost use Rattle.std.specs.Prelude.{◌<◌};
-
 use cipher::{aes128, key_expansion};
 use std::io;
 
-// The value of a hexadecimal digit.
-fn digit(c: u8) -> u8
-    ensures { result < 16 }
-{
-    if c < b'0' {
-        return 0;
-    }
-    if c <= b'9' {
-        return c - b'0';
-    }
-    if c < b'a' {
-        return 0;
-    }
-    if c <= b'f' {
-        return c - b'a' + 10;
-    }
-    0
-}
+// The key of FIPS 197, A.1 and B, and of SP 800-38A, F.1.1 and F.5.1.
+const KEY: u128 = 0x2b7e151628aed2a6abf7158809cf4f3c;
 
-// The 16 octets that 32 hexadecimal digits write.
-fn octets(text: &[u8; 32]) -> [u8; 16] {
-    let mut b = [0u8; 16];
-    for i in 0..16usize {
-        b[i] = digit(text[2 * i]) * 16 + digit(text[2 * i + 1]);
-    }
-    b
-}
+// A published value: its place, the key and the block.
+const BLOCKS: [(&str, u128, u128); 11] = [
+    ("FIPS 197, B", KEY, 0x3243f6a8885a308d313198a2e0370734),
+    (
+        "FIPS 197, C.1",
+        0x000102030405060708090a0b0c0d0e0f,
+        0x00112233445566778899aabbccddeeff,
+    ),
+    (
+        "SP 800-38A, F.1.1, block 1",
+        KEY,
+        0x6bc1bee22e409f96e93d7e117393172a,
+    ),
+    (
+        "SP 800-38A, F.1.1, block 2",
+        KEY,
+        0xae2d8a571e03ac9c9eb76fac45af8e51,
+    ),
+    (
+        "SP 800-38A, F.1.1, block 3",
+        KEY,
+        0x30c81c46a35ce411e5fbc1191a0a52ef,
+    ),
+    (
+        "SP 800-38A, F.1.1, block 4",
+        KEY,
+        0xf69f2445df4f9b17ad2b417be66c3710,
+    ),
+    (
+        "SP 800-38A, F.5.1, output block 1",
+        KEY,
+        0xf0f1f2f3f4f5f6f7f8f9fafbfcfdfeff,
+    ),
+    (
+        "SP 800-38A, F.5.1, output block 2",
+        KEY,
+        0xf0f1f2f3f4f5f6f7f8f9fafbfcfdff00,
+    ),
+    (
+        "SP 800-38A, F.5.1, output block 3",
+        KEY,
+        0xf0f1f2f3f4f5f6f7f8f9fafbfcfdff01,
+    ),
+    (
+        "SP 800-38A, F.5.1, output block 4",
+        KEY,
+        0xf0f1f2f3f4f5f6f7f8f9fafbfcfdff02,
+    ),
+    (
+        "003, IV.9",
+        0x6f9c99b8361768937e453b165f609710,
+        0x112233445566778899aabbccddeeff00,
+    ),
+];
 
-fn wide(x: u8) -> u64 {
-    x as u64
-}
-
-// Ends a line with the octets.
-fn print(rt: &impl Print, b: [u8; 16]) -> io::Result<()> {
-    print!(rt; ": ")?;
-    for i in 0..16usize {
-        print!(rt; "{:02x}", wide(b[i]))?;
-    }
-    println!(rt)
-}
-
-fn round_key(keys: aes128::RoundKeys, n: usize) -> [u8; 16]
-    requires { n < 11 }
-{
-    let w = keys.octets;
-    let mut k = [0u8; 16];
-    for i in 0..16usize {
-        k[i] = w[16 * n + i];
-    }
-    k
+fn round_keys(key: u128) -> aes128::RoundKeys {
+    key_expansion::expand_key(key.to_be_bytes())
 }
 
 fn print_round_keys(rt: &impl Print, keys: aes128::RoundKeys) -> io::Result<()> {
-    for n in 0..11usize {
-        print!(rt; "FIPS 197, A.1, round key {n}")?;
-        print(rt, round_key(keys, n))?;
+    for (n, key) in keys.octets.as_chunks::<16>().0.iter().enumerate() {
+        println!(rt;
+            "FIPS 197, A.1, round key {n}: {:032x}",
+            u128::from_be_bytes(*key)
+        )?;
     }
     Ok(())
 }
 
-fn print_block(rt: &impl Print, label: &[u8], key: &[u8; 32], block: &[u8; 32]) -> io::Result<()> {
-    rt.write_all(label)?;
-    print(
-        rt,
-        aes128::encrypt_block(key_expansion::expand_key(octets(key)), octets(block)),
-    )
-}
-
 fn main(rt: HostRuntime) -> io::Result<()> {
-    let key = b"2b7e151628aed2a6abf7158809cf4f3c";
-    print_round_keys(&rt, key_expansion::expand_key(octets(key)))?;
-    print_block(
-        &rt,
-        b"FIPS 197, B",
-        key,
-        b"3243f6a8885a308d313198a2e0370734",
-    )?;
-    print_block(
-        &rt,
-        b"FIPS 197, C.1",
-        b"000102030405060708090a0b0c0d0e0f",
-        b"00112233445566778899aabbccddeeff",
-    )?;
-    print_block(
-        &rt,
-        b"SP 800-38A, F.1.1, block 1",
-        key,
-        b"6bc1bee22e409f96e93d7e117393172a",
-    )?;
-    print_block(
-        &rt,
-        b"SP 800-38A, F.1.1, block 2",
-        key,
-        b"ae2d8a571e03ac9c9eb76fac45af8e51",
-    )?;
-    print_block(
-        &rt,
-        b"SP 800-38A, F.1.1, block 3",
-        key,
-        b"30c81c46a35ce411e5fbc1191a0a52ef",
-    )?;
-    print_block(
-        &rt,
-        b"SP 800-38A, F.1.1, block 4",
-        key,
-        b"f69f2445df4f9b17ad2b417be66c3710",
-    )?;
-    print_block(
-        &rt,
-        b"SP 800-38A, F.5.1, output block 1",
-        key,
-        b"f0f1f2f3f4f5f6f7f8f9fafbfcfdfeff",
-    )?;
-    print_block(
-        &rt,
-        b"SP 800-38A, F.5.1, output block 2",
-        key,
-        b"f0f1f2f3f4f5f6f7f8f9fafbfcfdff00",
-    )?;
-    print_block(
-        &rt,
-        b"SP 800-38A, F.5.1, output block 3",
-        key,
-        b"f0f1f2f3f4f5f6f7f8f9fafbfcfdff01",
-    )?;
-    print_block(
-        &rt,
-        b"SP 800-38A, F.5.1, output block 4",
-        key,
-        b"f0f1f2f3f4f5f6f7f8f9fafbfcfdff02",
-    )?;
-    print_block(
-        &rt,
-        b"003, IV.9",
-        b"6f9c99b8361768937e453b165f609710",
-        b"112233445566778899aabbccddeeff00",
-    )
+    print_round_keys(&rt, round_keys(KEY))?;
+    for (place, key, block) in BLOCKS {
+        let output = aes128::encrypt_block(round_keys(key), block.to_be_bytes());
+        println!(rt; "{place}: {:032x}", u128::from_be_bytes(output))?;
+    }
+    Ok(())
 }

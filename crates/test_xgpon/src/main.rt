@@ -5,6 +5,7 @@
 
 mod show;
 
+use show::Shown;
 use std::io;
 use xgpon::keys::{received_under, sent_under};
 use xgpon::moves::{Input, fresh, step};
@@ -12,79 +13,61 @@ use xgpon::timers::recommended_starts;
 use xgpon::values::KeyExchange;
 
 fn row(rt: &impl Print, x: KeyExchange, input: Input) -> io::Result<()> {
-    show::exchange(rt, x)?;
-    show::input(rt, input)?;
-    show::answer(rt, step(x, input))
-}
-
-fn reports(rt: &impl Print, x: KeyExchange, index: u8) -> io::Result<()> {
-    row(rt, x, Input::NewKey(index))?;
-    row(rt, x, Input::ExistingKey(index))
-}
-
-fn requests(rt: &impl Print, x: KeyExchange) -> io::Result<()> {
-    row(rt, x, Input::Begin)?;
-    row(rt, x, Input::BeginToSend)?;
-    row(rt, x, Input::Rekey)?;
-    row(rt, x, Input::KeyCheck)
-}
-
-fn inputs(rt: &impl Print, x: KeyExchange) -> io::Result<()> {
-    reports(rt, x, 0)?;
-    reports(rt, x, 1)?;
-    reports(rt, x, 2)?;
-    reports(rt, x, 3)?;
-    row(rt, x, Input::Tk1Expires)?;
-    row(rt, x, Input::Tk2Expires)?;
-    row(rt, x, Input::Tk3Expires)?;
-    requests(rt, x)
+    println!(rt; "{}, {}: {}", Shown(x), Shown(input), Shown(step(x, input)))
 }
 
 fn play(rt: &impl Print, x: KeyExchange) -> io::Result<()> {
-    show::exchange(rt, x)?;
-    show::keys(rt, b"may be sent under", sent_under(x))?;
-    show::exchange(rt, x)?;
-    show::keys(rt, b"may be received under", received_under(x))?;
-    inputs(rt, x)
+    println!(rt; "{} may be sent under: {}", Shown(x), Shown(sent_under(x)))?;
+    println!(rt;
+        "{} may be received under: {}",
+        Shown(x),
+        Shown(received_under(x))
+    )?;
+    for index in 0..4 {
+        row(rt, x, Input::NewKey(index))?;
+        row(rt, x, Input::ExistingKey(index))?;
+    }
+    for input in [
+        Input::Tk1Expires,
+        Input::Tk2Expires,
+        Input::Tk3Expires,
+        Input::Begin,
+        Input::BeginToSend,
+        Input::Rekey,
+        Input::KeyCheck,
+    ] {
+        row(rt, x, input)?;
+    }
+    Ok(())
 }
 
-fn lent(rt: &impl Print, state: u8, oldkey: u8, newkey: u8) -> io::Result<()> {
-    play(
-        rt,
-        KeyExchange {
-            state,
-            oldkey,
-            newkey,
-        },
-    )
-}
-
-// The first exchange, the rekey after it, and the one after that.
-fn in_state(rt: &impl Print, state: u8) -> io::Result<()> {
-    lent(rt, state, 0, 1)?;
-    lent(rt, state, 1, 2)?;
-    lent(rt, state, 2, 1)
-}
-
-fn outside(rt: &impl Print) -> io::Result<()> {
-    lent(rt, 0, 0, 1)?;
-    lent(rt, 0, 1, 0)?;
-    lent(rt, 1, 0, 0)?;
-    lent(rt, 1, 0, 2)?;
-    lent(rt, 2, 1, 1)?;
-    lent(rt, 3, 2, 2)?;
-    lent(rt, 4, 3, 1)?;
-    lent(rt, 4, 2, 3)?;
-    lent(rt, 5, 0, 1)?;
-    lent(rt, 255, 0, 0)
+fn play_all(rt: &impl Print, state: u8, keys: &[(u8, u8)]) -> io::Result<()> {
+    for (oldkey, newkey) in keys {
+        play(
+            rt,
+            KeyExchange {
+                state,
+                oldkey: *oldkey,
+                newkey: *newkey,
+            },
+        )?;
+    }
+    Ok(())
 }
 
 fn main(rt: HostRuntime) -> io::Result<()> {
-    show::starts(&rt, recommended_starts())?;
+    print!(&rt; "{}", Shown(recommended_starts()))?;
     play(&rt, fresh())?;
-    in_state(&rt, 1)?;
-    in_state(&rt, 2)?;
-    in_state(&rt, 3)?;
-    in_state(&rt, 4)?;
-    outside(&rt)
+    // The first exchange, the rekey after it, and the one after that.
+    for state in 1..5 {
+        play_all(&rt, state, &[(0, 1), (1, 2), (2, 1)])?;
+    }
+    // Outside their values.
+    play_all(&rt, 0, &[(0, 1), (1, 0)])?;
+    play_all(&rt, 1, &[(0, 0), (0, 2)])?;
+    play_all(&rt, 2, &[(1, 1)])?;
+    play_all(&rt, 3, &[(2, 2)])?;
+    play_all(&rt, 4, &[(3, 1), (2, 3)])?;
+    play_all(&rt, 5, &[(0, 1)])?;
+    play_all(&rt, 255, &[(0, 0)])
 }

@@ -1,111 +1,107 @@
 // The parts of a line.
-use std::io;
+use std::fmt;
+use std::fmt::{Display, Formatter};
 use xgpon::answers::{Answer, CONFIRM, GENERATE, KeyControl};
 use xgpon::keys::ValidKeys;
 use xgpon::moves::Input;
 use xgpon::timers::{TimerStarts, Timers};
 use xgpon::values::KeyExchange;
 
-fn text(rt: &impl Print, octets: &[u8]) -> io::Result<()> {
-    rt.write_all(octets)
-}
+// A value of the library as a line has it.
+#[derive(Clone, Copy)]
+pub(crate) struct Shown<T>(pub T);
 
-fn wide(x: u8) -> u64 {
-    x as u64
-}
+// The timers with a sign ahead of each.
+#[derive(Clone, Copy)]
+struct Signed(char, Timers);
 
-fn number(rt: &impl Print, x: u8) -> io::Result<()> {
-    print!(rt; "{}", wide(x))
-}
-
-// A number with a space ahead.
-fn next(rt: &impl Print, x: u8) -> io::Result<()> {
-    text(rt, b" ")?;
-    number(rt, x)
-}
-
-pub(crate) fn exchange(rt: &impl Print, x: KeyExchange) -> io::Result<()> {
-    text(rt, b"KL")?;
-    number(rt, x.state)?;
-    next(rt, x.oldkey)?;
-    next(rt, x.newkey)
-}
-
-fn report(rt: &impl Print, name: &[u8], index: u8) -> io::Result<()> {
-    text(rt, name)?;
-    next(rt, index)
-}
-
-pub(crate) fn input(rt: &impl Print, input: Input) -> io::Result<()> {
-    text(rt, b", ")?;
-    match input {
-        Input::NewKey(index) => report(rt, b"Key_Report(NewKey)", index),
-        Input::ExistingKey(index) => report(rt, b"Key_Report(ExistingKey)", index),
-        Input::Tk1Expires => text(rt, b"TK1 expires"),
-        Input::Tk2Expires => text(rt, b"TK2 expires"),
-        Input::Tk3Expires => text(rt, b"TK3 expires"),
-        Input::Begin => text(rt, b"begin key exchange"),
-        Input::BeginToSend => text(rt, b"begin to send with the new key"),
-        Input::Rekey => text(rt, b"rekey"),
-        Input::KeyCheck => text(rt, b"key check"),
+impl Display for Shown<KeyExchange> {
+    fn fmt<W: fmt::Write>(&self, f: &mut Formatter<W>) -> fmt::Result {
+        let KeyExchange {
+            state,
+            oldkey,
+            newkey,
+        } = self.0;
+        write!(f, "KL{state} {oldkey} {newkey}")
     }
 }
 
-fn message(rt: &impl Print, m: KeyControl) -> io::Result<()> {
-    if m.kind == GENERATE {
-        text(rt, b" Generate")?;
-        next(rt, m.index)?;
+impl Display for Shown<Input> {
+    fn fmt<W: fmt::Write>(&self, f: &mut Formatter<W>) -> fmt::Result {
+        match self.0 {
+            Input::NewKey(index) => write!(f, "Key_Report(NewKey) {index}"),
+            Input::ExistingKey(index) => write!(f, "Key_Report(ExistingKey) {index}"),
+            Input::Tk1Expires => f.write_str("TK1 expires"),
+            Input::Tk2Expires => f.write_str("TK2 expires"),
+            Input::Tk3Expires => f.write_str("TK3 expires"),
+            Input::Begin => f.write_str("begin key exchange"),
+            Input::BeginToSend => f.write_str("begin to send with the new key"),
+            Input::Rekey => f.write_str("rekey"),
+            Input::KeyCheck => f.write_str("key check"),
+        }
     }
-    if m.kind == CONFIRM {
-        text(rt, b" Confirm")?;
-        next(rt, m.index)?;
+}
+
+impl Display for Shown<KeyControl> {
+    fn fmt<W: fmt::Write>(&self, f: &mut Formatter<W>) -> fmt::Result {
+        let KeyControl { kind, index } = self.0;
+        match kind {
+            GENERATE => write!(f, " Generate {index}"),
+            CONFIRM => write!(f, " Confirm {index}"),
+            _ => Ok(()),
+        }
     }
-    Ok(())
 }
 
-fn timer(rt: &impl Print, sign: &[u8], flag: u8, name: u8) -> io::Result<()> {
-    if flag == 1 {
-        text(rt, sign)?;
-        number(rt, name)?;
+impl Display for Signed {
+    fn fmt<W: fmt::Write>(&self, f: &mut Formatter<W>) -> fmt::Result {
+        let Signed(sign, Timers { tk1, tk2, tk3 }) = *self;
+        for (flag, name) in [(tk1, 1), (tk2, 2), (tk3, 3)] {
+            if flag == 1 {
+                write!(f, " {sign}TK{name}")?;
+            }
+        }
+        Ok(())
     }
-    Ok(())
 }
 
-fn timers(rt: &impl Print, sign: &[u8], t: Timers) -> io::Result<()> {
-    timer(rt, sign, t.tk1, 1)?;
-    timer(rt, sign, t.tk2, 2)?;
-    timer(rt, sign, t.tk3, 3)
+impl Display for Shown<Answer> {
+    fn fmt<W: fmt::Write>(&self, f: &mut Formatter<W>) -> fmt::Result {
+        let Answer {
+            number,
+            exchange,
+            message,
+            starts,
+            stops,
+        } = self.0;
+        write!(
+            f,
+            "{number} {}{}{}{}",
+            Shown(exchange),
+            Shown(message),
+            Signed('+', starts),
+            Signed('-', stops),
+        )
+    }
 }
 
-pub(crate) fn answer(rt: &impl Print, a: Answer) -> io::Result<()> {
-    text(rt, b": ")?;
-    number(rt, a.number)?;
-    text(rt, b" ")?;
-    exchange(rt, a.exchange)?;
-    message(rt, a.message)?;
-    timers(rt, b" +TK", a.starts)?;
-    timers(rt, b" -TK", a.stops)?;
-    text(rt, b"\n")
+impl Display for Shown<ValidKeys> {
+    fn fmt<W: fmt::Write>(&self, f: &mut Formatter<W>) -> fmt::Result {
+        let ValidKeys {
+            number,
+            oldkey,
+            newkey,
+        } = self.0;
+        write!(f, "{number} {oldkey} {newkey}")
+    }
 }
 
-pub(crate) fn keys(rt: &impl Print, direction: &[u8], k: ValidKeys) -> io::Result<()> {
-    text(rt, b" ")?;
-    text(rt, direction)?;
-    text(rt, b": ")?;
-    number(rt, k.number)?;
-    next(rt, k.oldkey)?;
-    next(rt, k.newkey)?;
-    text(rt, b"\n")
-}
-
-fn milliseconds(rt: &impl Print, name: &[u8], ms: u32) -> io::Result<()> {
-    text(rt, name)?;
-    print!(rt; "{}", ms as u64)?;
-    text(rt, b" ms\n")
-}
-
-pub(crate) fn starts(rt: &impl Print, s: TimerStarts) -> io::Result<()> {
-    milliseconds(rt, b"TK1 ", s.tk1)?;
-    milliseconds(rt, b"TK2 ", s.tk2)?;
-    milliseconds(rt, b"TK3 ", s.tk3)
+// A line for each timer.
+impl Display for Shown<TimerStarts> {
+    fn fmt<W: fmt::Write>(&self, f: &mut Formatter<W>) -> fmt::Result {
+        let TimerStarts { tk1, tk2, tk3 } = self.0;
+        writeln!(f, "TK1 {tk1} ms")?;
+        writeln!(f, "TK2 {tk2} ms")?;
+        writeln!(f, "TK3 {tk3} ms")
+    }
 }

@@ -1,4 +1,5 @@
 -- Laws of what an end's decision makes of a payload: what a decision accepts, sealing accepts too. Assumes nothing.
+use Rattle.std.specs.Prelude.{Ok, Err}
 use mathlib.Core.Path.{◌≡◌, refl, ap, ◌∙◌}
 use mathlib.Core.Bool.{Bool, true, false}
 use mathlib.Core.List.{List, [], ◌∷◌}
@@ -10,17 +11,14 @@ use Rattle.octets.specs.Choice.{pick}
 use Rattle.octets.specs.Eqs.{max_eqs}
 use Rattle.octets.proofs.Choice.{both_left, both_true, either_left, either_right, not_of_true}
 use Rattle.octets.specs.Output.{with_output}
-use Rattle.refusal.specs.declared.Verdict.{Verdict}
 use Rattle.refusal.specs.declared.Refusal.TheVariants.{OutOfRange, BadLength}
-use Rattle.refusal.specs.declared.Verdict.TheVariants.{Accepted, Refused}
 use Rattle.refusal.specs.Order.{and_then}
 use Rattle.refusal.proofs.Order.{refuse_passed}
 use Rattle.clock.specs.Ticks.{clock_turn}
 use Rattle.envelope.specs.ControlMask.{count_enciphered, eqs_of, runs}
 use Rattle.envelope.specs.Acceptance.{nonce_fits, seal_verdict}
-use Rattle.envelope.specs.Answer.{seal_count, seal_runs}
+use Rattle.envelope.specs.Answer.{SealAnswer, seal_count, seal_runs}
 use Rattle.envelope.specs.declared.Nonce.{Nonce}
-use Rattle.envelope.specs.declared.SealAnswer.{SealAnswer}
 use Rattle.envelope.proofs.Acceptance.{accepted, lengths_fit-holds}
 use Rattle.sealing.specs.Payload.{sealed}
 use Rattle.sealing.specs.Seal.{carried, count_carried, runs_carried, sealing_after, sealing}
@@ -34,8 +32,9 @@ use Rattle.ends.specs.declared.UnitRecord.{UnitRecord}
 use Rattle.protocol.specs.declared.Passage.{Passage}
 use Rattle.envelope.specs.Channels.{channel_fits, downstream, upstream}
 use Rattle.unit.specs.Reached.{if_accepted, reached}
-use Rattle.traffic.specs.declared.carrying.Work.{Work}
+use Rattle.envelope.specs.declared.Work.{Work}
 use Rattle.traffic.specs.Passages.{misfit, passed, passed_count, passed_runs, passed_work, output_after, carried_after}
+use Rattle.refusal.specs.Verdict.{Verdict, no_refusal}
 
 -- a payload whose length is not refused has at most the most EQs
 pub few_eqs : (p out : List ℕ) → misfit p out ≡ false → eqs_of p ≤ max_eqs
@@ -46,7 +45,7 @@ pub identity_mac : (i : Identity) → valid_identity i ≡ true → valid_mac i.
 unfolding valid_identity
 identity_mac i e = both_left _ _ e
 
-pub judged : (p out : List ℕ) (n : Nonce) → misfit p out ≡ false → nonce_fits n ≡ true → seal_verdict (length p) (length out) n ≡ Accepted
+pub judged : (p out : List ℕ) (n : Nonce) → misfit p out ≡ false → nonce_fits n ≡ true → seal_verdict (length p) (length out) n ≡ no_refusal
 unfolding misfit seal_verdict
 judged p out n f e = refuse_passed _ BadLength _ f ∙ refuse_passed _ OutOfRange _ (not_of_true e)
 
@@ -62,7 +61,7 @@ up_fits n u m c = both_true (either_right _ u) (both_true m (lt-ltb n.clock cloc
 
 -- accepted, sealing answers with the count and the runs, and writes the payload sealed or opened
 pub sealing_carried : (enciphered : Bool) (w : List ℕ) (n : Nonce) (p out : List ℕ) (a : SealAnswer) (o : List ℕ)
-    → with_output a o ≡ sealing enciphered w n p out → seal_verdict (length p) (length out) n ≡ Accepted
+    → with_output a o ≡ sealing enciphered w n p out → seal_verdict (length p) (length out) n ≡ no_refusal
     → with_output {R = Work} (record { count = seal_count a; runs = seal_runs a }) o
     ≡ with_output (record { count = count_carried enciphered p; runs = runs_carried enciphered p }) (carried enciphered w n p)
 unfolding sealing sealing_after
@@ -76,8 +75,8 @@ pub chosen_carried : {H : Type 0} (passage : H → Passage) (v : Verdict) (nothi
     → let q = passage (if_accepted v handed nothing) in
     carried_after v channel q p out ≡ with_output (passed_work q p) (output_after v (passed channel q p) out)
 unfolding if_accepted carried_after output_after passed_count passed_runs choice_enciphered count_carried runs_carried pick
-chosen_carried passage Accepted nothing handed channel p out e = refl
-chosen_carried passage (Refused r) nothing handed channel p out e = rw e
+chosen_carried passage (Ok tt) nothing handed channel p out e = refl
+chosen_carried passage (Err r) nothing handed channel p out e = rw e
 
 pub reached_carried : {H : Type 0} (passage : H → Passage) (nothing : H) → passage nothing ≡ no_passage
     → (way : Verdict) (s : Shared) (u : UnitRecord) (c x : Outcome H) → x ≡ reached way nothing s u c → (channel : ℕ) (p out : List ℕ)
@@ -93,11 +92,11 @@ pub reply_carried : {E H : Type 0} (passage : H → Passage) (v : Verdict) (lent
     carried_after r.verdict channel (passage r.handed) p out
     ≡ with_output (passed_work (passage r.handed) p) (output_after r.verdict (passed channel (passage r.handed) p) out)
 unfolding reply carried_after output_after passed_count passed_runs choice_enciphered count_carried runs_carried pick
-reply_carried passage Accepted lent next nothing handed channel p out e = refl
-reply_carried passage (Refused r) lent next nothing handed channel p out e = rw e
+reply_carried passage (Ok tt) lent next nothing handed channel p out e = refl
+reply_carried passage (Err r) lent next nothing handed channel p out e = rw e
 
 -- an empty payload passes enciphered as it passes clear
-pub empty_carried : (b : Bool) (w : List ℕ) (n : Nonce) (p out : List ℕ) → length p ≡ 0 → seal_verdict (length p) (length out) n ≡ Accepted
+pub empty_carried : (b : Bool) (w : List ℕ) (n : Nonce) (p out : List ℕ) → length p ≡ 0 → seal_verdict (length p) (length out) n ≡ no_refusal
     → with_output {R = Work} (record { count = 0; runs = 0 }) out
     ≡ with_output (record { count = count_carried b p; runs = runs_carried b p }) (carried b w n p)
 unfolding count_carried runs_carried carried count_enciphered runs sealed pick

@@ -1,4 +1,5 @@
 -- Laws of receive: what each verdict makes of it. Assumes nothing.
+use Rattle.std.specs.Prelude.{Err}
 use mathlib.Core.Path.{◌≡◌, refl, sym, ap, ◌∙◌}
 use mathlib.Core.Bool.{true}
 use mathlib.Core.List.{List}
@@ -11,8 +12,6 @@ use Rattle.octets.proofs.Choice.{both_left}
 use Rattle.octets.specs.Output.{WithOutput, with_output}
 use Rattle.refusal.specs.Number.{verdict_number}
 use Rattle.refusal.specs.declared.Refusal.{Refusal}
-use Rattle.refusal.specs.declared.Verdict.{Verdict}
-use Rattle.refusal.specs.declared.Verdict.TheVariants.{Accepted, Refused}
 use Rattle.envelope.specs.Acceptance.{seal_verdict}
 use Rattle.sealing.specs.Seal.{count_carried, runs_carried}
 use Rattle.ends.specs.Limits.{max_key_number}
@@ -42,12 +41,13 @@ use Rattle.unit.proofs.Reached.{reached_accepted}
 use Rattle.olt.specs.Lookup.{located_of}
 use Rattle.olt.specs.declared.Located.{Located}
 use Rattle.olt.proofs.Lookup.{lift_decided, reaches}
-use Rattle.traffic.specs.declared.carrying.Work.{Work}
+use Rattle.envelope.specs.declared.Work.{Work}
 use Rattle.traffic.specs.Passages.{misfit, passage_nonce, passed_count, passed_runs, output_after, carried_after}
 use Rattle.traffic.specs.Receipts.{olt_received, olt_receive_of, onu_received, onu_not_received, onu_receive_of}
 use Rattle.traffic.specs.declared.OltReceived.{OltReceived}
 use Rattle.traffic.specs.declared.OnuReceived.{OnuReceived}
 use Rattle.traffic.proofs.Passages.{identity_mac, judged, down_fits, up_fits, reached_carried, reply_carried}
+use Rattle.refusal.specs.Verdict.{Verdict, no_refusal}
 
 ---- the OLT
 
@@ -65,8 +65,8 @@ module _ (o : Olt) (h : Header) (p out : List ℕ) where
 
   module _ (l : Located) (e : l ≡ located_of o (receive_ahead (misfit p out) h) h.llid) where
     -- what the OLT receives fits
-    pub receive_fits : (x : Outcome Passage) → x ≡ receive_decided l → x.verdict ≡ Accepted
-        → seal_verdict (length p) (length out) (passage_nonce h.channel x.handed) ≡ Accepted
+    pub receive_fits : (x : Outcome Passage) → x ≡ receive_decided l → x.verdict ≡ no_refusal
+        → seal_verdict (length p) (length out) (passage_nonce h.channel x.handed) ≡ no_refusal
     unfolding reached receive_unit outcome passage_of
     receive_fits x f a =
         let v = rw f at a in
@@ -112,7 +112,7 @@ module _ (o : Onu) (h : Header) (p out : List ℕ) where
   abbrev pub onu_receive_judged : Verdict
   onu_receive_judged = on_valid (valid_onu o) (onu_receive_verdict o (misfit p out) h)
 
-  pub onu_receive_refused : (r : Refusal) → onu_receive_judged ≡ Refused r → with_output (onu_not_received o r) out ≡ onu_receive_of o h p out
+  pub onu_receive_refused : (r : Refusal) → onu_receive_judged ≡ Err r → with_output (onu_not_received o r) out ≡ onu_receive_of o h p out
   unfolding onu_receive_of receiving_onu onu_reply reply onu_not_received onu_received passed_count passed_runs output_after choice_enciphered
   onu_receive_refused r e = unfold count_carried runs_carried pick in rw e
 
@@ -121,8 +121,8 @@ module _ (o : Onu) (h : Header) (p out : List ℕ) where
   onu_receive_decided = receiving_onu o (misfit p out) h
 
   -- what a unit receives fits
-  pub onu_receive_fits : onu_receive_decided.verdict ≡ Accepted
-      → seal_verdict (length p) (length out) (passage_nonce h.channel onu_receive_decided.handed) ≡ Accepted
+  pub onu_receive_fits : onu_receive_decided.verdict ≡ no_refusal
+      → seal_verdict (length p) (length out) (passage_nonce h.channel onu_receive_decided.handed) ≡ no_refusal
   unfolding receiving_onu onu_reply passage_of
   onu_receive_fits e =
       let v = sym (reply_verdict _ o no_passage _ _) ∙ e in

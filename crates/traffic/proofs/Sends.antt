@@ -8,7 +8,6 @@ use borrow.Author.Tests.{not-false}
 use Rattle.octets.specs.Eqs.{max_eqs}
 use Rattle.octets.specs.Output.{WithOutput, with_output}
 use Rattle.refusal.specs.Number.{verdict_number}
-use Rattle.refusal.specs.declared.Verdict.TheVariants.{Accepted}
 use Rattle.clock.specs.Ticks.{max_tick}
 use Rattle.envelope.specs.ControlMask.{eqs_of}
 use Rattle.envelope.specs.Acceptance.{seal_verdict}
@@ -34,12 +33,13 @@ use Rattle.unit.proofs.Reached.{reached_accepted}
 use Rattle.olt.specs.Lookup.{located_of}
 use Rattle.olt.specs.declared.Located.{Located}
 use Rattle.olt.proofs.Lookup.{lift_decided, reaches}
-use Rattle.traffic.specs.declared.carrying.Work.{Work}
+use Rattle.envelope.specs.declared.Work.{Work}
 use Rattle.traffic.specs.Passages.{misfit, passage_nonce, carried_after}
 use Rattle.traffic.specs.Sends.{olt_sent, olt_send_of, onu_sent, onu_send_of}
 use Rattle.traffic.specs.declared.OltSent.{OltSent}
 use Rattle.traffic.specs.declared.OnuSent.{OnuSent}
 use Rattle.traffic.proofs.Passages.{few_eqs, identity_mac, judged, down_fits, up_fits, reached_carried, reply_carried}
+use Rattle.refusal.specs.Verdict.{no_refusal}
 
 ---- the OLT
 
@@ -56,14 +56,14 @@ module _ (o : Olt) (llid channel : ℕ) (p out : List ℕ) where
       (e, ap (λ (x : WithOutput OltSent). x.answer.number) e ∙ ap verdict_number (send_order-holds o (misfit p out) llid channel (eqs_of p)))
 
   module _ (l : Located) (e : l ≡ located_of o (send_ahead (misfit p out) channel) llid) where
-    pub send_within : l.verdict ≡ Accepted → (o.shared.tick ≤ max_tick) × (eqs_of p ≤ max_eqs)
+    pub send_within : l.verdict ≡ no_refusal → (o.shared.tick ≤ max_tick) × (eqs_of p ≤ max_eqs)
     send_within a =
         let r = reaches o (send_ahead (misfit p out) channel) llid l e a in
         ((shared_in_range o.shared (olt_in_range o r.valid).shared).tick, few_eqs p out (refuse_accepted _ _ _ r.passed).0)
 
     -- what the OLT sends fits
-    pub send_fits : (x : Outcome Sending) → x ≡ send_decided l → x.verdict ≡ Accepted
-        → seal_verdict (length p) (length out) (passage_nonce channel x.handed.passage) ≡ Accepted
+    pub send_fits : (x : Outcome Sending) → x ≡ send_decided l → x.verdict ≡ no_refusal
+        → seal_verdict (length p) (length out) (passage_nonce channel x.handed.passage) ≡ no_refusal
     unfolding reached send_unit sending_of passage_of
     send_fits x f a =
         let v = rw f at a in
@@ -103,8 +103,8 @@ module _ (o : Onu) (llid channel : ℕ) (p out : List ℕ) where
   onu_send_decided = sending_onu o (misfit p out) llid channel (eqs_of p)
 
   -- what a unit sends fits
-  pub onu_send_fits : onu_send_decided.verdict ≡ Accepted
-      → seal_verdict (length p) (length out) (passage_nonce channel onu_send_decided.handed.passage) ≡ Accepted
+  pub onu_send_fits : onu_send_decided.verdict ≡ no_refusal
+      → seal_verdict (length p) (length out) (passage_nonce channel onu_send_decided.handed.passage) ≡ no_refusal
   unfolding sending_onu onu_reply sending_of passage_of
   onu_send_fits e =
       let v = sym (reply_verdict _ o no_sending _ _) ∙ e in

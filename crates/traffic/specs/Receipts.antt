@@ -4,9 +4,7 @@ use Rattle.std.specs.Prelude.{List, ℕ}
 use Rattle.octets.specs.Output.{WithOutput}
 use Rattle.refusal.specs.Number.{number_of, verdict_number}
 use Rattle.refusal.specs.declared.Refusal.{Refusal}
-use Rattle.refusal.specs.declared.Verdict.TheVariants.{Refused}
 use Rattle.protocol.specs.Replies.{Reply}
-use Rattle.protocol.specs.Headers.{no_passage}
 use Rattle.protocol.specs.OltTraffic.{receiving_olt}
 use Rattle.protocol.specs.OnuTraffic.{receiving_onu}
 use Rattle.protocol.specs.declared.Header.{Header}
@@ -16,7 +14,6 @@ use Rattle.protocol.specs.declared.Passage.{Passage}
 use Rattle.traffic.specs.Passages.{misfit, passed, passed_count, passed_runs, output_after}
 use Rattle.traffic.specs.declared.OltReceived.{OltReceived}
 use Rattle.traffic.specs.declared.OnuReceived.{OnuReceived}
-use Rattle.traffic.specs.declared.at_onu.OnuReceiving.{OnuReceiving}
 
 unfoldable pub olt_received : Reply Olt Passage → ℕ → List ℕ → List ℕ → WithOutput OltReceived
 olt_received r channel p out =
@@ -38,13 +35,6 @@ onu_received r channel p out =
 -- refused: the end as it was lent, nothing counted
 unfoldable pub onu_not_received : Onu → Refusal → OnuReceived
 onu_not_received o r = record { number = number_of r; onu = o; count = 0; runs = 0 }
-
--- what an ONU's receipt decides, but for its octets
-unfoldable pub onu_receiving : Reply Onu Passage → OnuReceiving
-onu_receiving r = record { verdict = r.verdict; onu = r.end; passage = r.handed }
-
-unfoldable pub onu_not_receiving : Onu → Refusal → OnuReceiving
-onu_not_receiving o r = record { verdict = Refused r; onu = o; passage = no_passage }
 
 unfoldable pub onu_receive_of : Onu → Header → List ℕ → List ℕ → WithOutput OnuReceived
 onu_receive_of o h p out = onu_received (receiving_onu o (misfit p out) h) h.channel p out

@@ -3,11 +3,8 @@
 use Rattle.std.specs.Prelude.{List, ℕ}
 use Rattle.octets.specs.Output.{WithOutput}
 use Rattle.refusal.specs.Number.{verdict_number}
-use Rattle.refusal.specs.declared.Refusal.{Refusal}
-use Rattle.refusal.specs.declared.Verdict.TheVariants.{Refused}
 use Rattle.envelope.specs.ControlMask.{eqs_of}
 use Rattle.protocol.specs.Replies.{Reply}
-use Rattle.protocol.specs.Headers.{no_sending}
 use Rattle.protocol.specs.OltTraffic.{sending_olt}
 use Rattle.protocol.specs.OnuTraffic.{sending_onu}
 use Rattle.ends.specs.declared.Olt.{Olt}
@@ -16,7 +13,6 @@ use Rattle.protocol.specs.declared.Sending.{Sending}
 use Rattle.traffic.specs.Passages.{misfit, passed, passed_count, passed_runs, output_after}
 use Rattle.traffic.specs.declared.OltSent.{OltSent}
 use Rattle.traffic.specs.declared.OnuSent.{OnuSent}
-use Rattle.traffic.specs.declared.at_onu.OnuSending.{OnuSending}
 
 unfoldable pub olt_sent : Reply Olt Sending → ℕ → List ℕ → List ℕ → WithOutput OltSent
 olt_sent r channel p out =
@@ -48,13 +44,6 @@ onu_sent r channel p out =
           };
       output = output_after r.verdict (passed channel r.handed.passage p) out;
     }
-
--- what an ONU's send decides, but for its octets
-unfoldable pub onu_sending : Reply Onu Sending → OnuSending
-onu_sending r = record { verdict = r.verdict; onu = r.end; sending = r.handed }
-
-unfoldable pub onu_not_sending : Onu → Refusal → OnuSending
-onu_not_sending o r = record { verdict = Refused r; onu = o; sending = no_sending }
 
 unfoldable pub onu_send_of : Onu → ℕ → ℕ → List ℕ → List ℕ → WithOutput OnuSent
 onu_send_of o llid channel p out = onu_sent (sending_onu o (misfit p out) llid channel (eqs_of p)) channel p out

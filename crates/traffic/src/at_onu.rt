@@ -6,8 +6,7 @@ ghost use Rattle.ends.specs.Travels.{travel_of};
 ghost use Rattle.protocol.specs.OnuTraffic.{onu_moved, onu_receive_choice, onu_receive_verdict, onu_after_receipt, receiving_onu, onu_send_choice, busy_up, onu_send_verdict, onu_after_send, sending_onu};
 ghost use Rattle.ends.specs.Validity.{valid_onu, valid_onu_keys};
 ghost use Rattle.protocol.specs.declared.KeyChoice.TheVariants.{Next};
-ghost use Rattle.traffic.specs.Receipts.{onu_receiving, onu_not_receiving};
-ghost use Rattle.traffic.specs.Sends.{onu_sending, onu_not_sending};
+ghost use Rattle.traffic.specs.Passages.{onu_decided};
 
 use crate::travelling::{spent, travel};
 use clock::epam_of;
@@ -17,24 +16,8 @@ use ends::llids::has;
 use ends::{FirstSend, Onu, OnuKeys};
 use envelope::{downstream, upstream};
 use protocol::{Header, KeyChoice, Passage, Sending};
-use refusal::{Refusal, Verdict, refuse_if};
-use unit::passing;
-
-// What a send decides: its verdict, the end that it leaves, and what its payload goes under (D114).
-#[derive(Clone, Copy)]
-pub(crate) struct OnuSending {
-    pub verdict: Verdict,
-    pub onu: Onu,
-    pub sending: Sending,
-}
-
-// What a receipt decides: its verdict, the end that it leaves, and what its payload comes under.
-#[derive(Clone, Copy)]
-pub(crate) struct OnuReceiving {
-    pub verdict: Verdict,
-    pub onu: Onu,
-    pub passage: Passage,
-}
+use refusal::{Refusal, Verdict};
+use unit::{Decided, passing};
 
 #[tactic(auto, unfolding(protocol::specs::OnuTraffic::onu_send_choice, octets::specs::Choice::pick))]
 fn send_choice(keys: OnuKeys) -> KeyChoice
@@ -59,7 +42,7 @@ fn busy(onu: Onu, channel: u8, choice: KeyChoice, now: u64) -> bool
 }
 
 // What a send at a valid end refuses.
-#[tactic(auto, unfolding(protocol::specs::OnuTraffic::onu_send_verdict))]
+#[tactic(auto, unfolding(protocol::specs::OnuTraffic::onu_send_verdict, refusal::specs::Order::refuse_if))]
 fn send_verdict(
     onu: Onu,
     misfit: bool,
@@ -72,20 +55,18 @@ fn send_verdict(
     requires value { now ≡ travel_of onu }
     ensures { result ≡ onu_send_verdict onu misfit llid channel }
 {
-    let right = upstream(channel);
-    let known = has(onu.identity, llid);
+    if misfit {
+        return Err(Refusal::BadLength);
+    }
+    if !upstream(channel) {
+        return Err(Refusal::OutOfRange);
+    }
+    if !has(onu.identity, llid) {
+        return Err(Refusal::UnknownLlid);
+    }
     let set = onu.clock.synced == 1;
     let held = busy(onu, channel, choice, now);
-    let rest = passing::clock_channel_key(set, held, choice, onu.first, now);
-    refuse_if(
-        misfit,
-        Refusal::BadLength,
-        refuse_if(
-            !right,
-            Refusal::OutOfRange,
-            refuse_if(!known, Refusal::UnknownLlid, rest),
-        ),
-    )
+    passing::clock_channel_key(set, held, choice, onu.first, now)
 }
 
 // The end that a send leaves, where it is accepted.
@@ -112,48 +93,42 @@ fn after_send(choice: KeyChoice, onu: Onu, channel: u8, eqs: u64, now: u64) -> O
     }
 }
 
-#[tactic(auto, unfolding(crate::specs::Sends::onu_not_sending))]
-fn not_sent(onu: Onu, refusal: Refusal) -> OnuSending
-    ensures { result ≡ onu_not_sending onu refusal }
-{
-    let sending = passing::no_sending();
-    OnuSending {
-        verdict: Verdict::Refused(refusal),
-        onu,
-        sending,
-    }
-}
-
 // A send, but for its octets: 1 for a lent end that is not valid; then the key is chosen and travel counted once, and all else follows from these.
-#[tactic(auto, unfolding(crate::specs::Sends::onu_sending, protocol::specs::OnuTraffic::sending_onu, protocol::specs::OnuCalls::onu_reply, protocol::specs::Replies::reply, crate::specs::Sends::onu_not_sending))]
-pub(crate) fn send(onu: Onu, misfit: bool, llid: u16, channel: u8, eqs: u64) -> OnuSending
+#[tactic(auto, using(protocol::proofs::OnuChoices::onu_send_accepted), unfolding(crate::specs::Passages::onu_decided, protocol::specs::OnuTraffic::sending_onu, protocol::specs::OnuCalls::onu_reply, protocol::specs::Replies::reply, refusal::specs::Order::refuse_if))]
+pub(crate) fn send(
+    onu: Onu,
+    misfit: bool,
+    llid: u16,
+    channel: u8,
+    eqs: u64,
+) -> Decided<Onu, Sending>
     requires { misfit ≡ false → eqs ≤ max_eqs }
-    ensures { result ≡ onu_sending (sending_onu onu misfit llid channel eqs) }
+    ensures { result ≡ onu_decided (sending_onu onu misfit llid channel eqs) }
 {
     if !valid_onu(onu) {
-        return not_sent(onu, Refusal::OutOfRange);
+        return Decided::refused(Refusal::OutOfRange, onu, passing::no_sending());
     }
     let choice = send_choice(onu.keys);
     let now = travel(onu);
     let verdict = send_verdict(onu, misfit, llid, channel, choice, now);
     match verdict {
-        Verdict::Accepted => {
+        Ok(()) => {
             let next = after_send(choice, onu, channel, eqs, now);
             let mac = onu.identity.mac;
             let time = onu.clock.time;
             let sending = passing::sending_of(choice, onu.keys.slots, mac, time, channel, llid);
-            OnuSending {
-                verdict: Verdict::Accepted,
-                onu: next,
-                sending,
+            Decided {
+                verdict: Ok(()),
+                after: next,
+                handed: sending,
             }
         }
-        Verdict::Refused(refusal) => not_sent(onu, refusal),
+        Err(refusal) => Decided::refused(refusal, onu, passing::no_sending()),
     }
 }
 
 // The index of key a + 1 is the one that a does not have.
-#[tactic(auto, unfolding(protocol::specs::OnuTraffic::onu_receive_choice, octets::specs::Choice::pick, octets::specs::Choice::both))]
+#[tactic(auto, using(ends::proofs::Validity::onu_keys_in_range), unfolding(protocol::specs::OnuTraffic::onu_receive_choice, octets::specs::Choice::pick, octets::specs::Choice::both))]
 fn receive_choice(keys: OnuKeys, header: Header) -> KeyChoice
     requires { valid_onu_keys keys ≡ true }
     ensures { result ≡ onu_receive_choice keys header }
@@ -176,35 +151,29 @@ fn receive_choice(keys: OnuKeys, header: Header) -> KeyChoice
 }
 
 // What a receipt at a valid end refuses.
-#[tactic(auto, unfolding(protocol::specs::OnuTraffic::onu_receive_verdict, octets::specs::Choice::both))]
+#[tactic(auto, unfolding(protocol::specs::OnuTraffic::onu_receive_verdict, refusal::specs::Order::refuse_if, octets::specs::Choice::both))]
 fn receive_verdict(onu: Onu, misfit: bool, header: Header, choice: KeyChoice) -> Verdict
     requires { choice ≡ onu_receive_choice onu.keys header }
     ensures { result ≡ onu_receive_verdict onu misfit header }
 {
-    let right = downstream(header.channel) & passing::valid_header(header);
-    let known = has(onu.identity, header.llid);
     let epam = epam_of(onu.clock.rx);
     let synced = onu.clock.synced == 1;
-    let late = synced & !(header.epam == epam);
-    let unset = (header.encenabled == 1) & !synced;
-    let rest = passing::choice_verdict(choice);
-    refuse_if(
-        misfit,
-        Refusal::BadLength,
-        refuse_if(
-            !right,
-            Refusal::OutOfRange,
-            refuse_if(
-                !known,
-                Refusal::UnknownLlid,
-                refuse_if(
-                    late,
-                    Refusal::EpamDiffers,
-                    refuse_if(unset, Refusal::ClockNotSet, rest),
-                ),
-            ),
-        ),
-    )
+    if misfit {
+        return Err(Refusal::BadLength);
+    }
+    if !(downstream(header.channel) & passing::valid_header(header)) {
+        return Err(Refusal::OutOfRange);
+    }
+    if !has(onu.identity, header.llid) {
+        return Err(Refusal::UnknownLlid);
+    }
+    if synced & (header.epam != epam) {
+        return Err(Refusal::EpamDiffers);
+    }
+    if (header.encenabled == 1) & !synced {
+        return Err(Refusal::ClockNotSet);
+    }
+    passing::choice_verdict(choice)
 }
 
 // The key a + 1 comes into use: the old one is wiped, and the new one has had no send.
@@ -241,39 +210,27 @@ fn after_receive(choice: KeyChoice, onu: Onu) -> Onu
     }
 }
 
-#[tactic(auto, unfolding(crate::specs::Receipts::onu_not_receiving))]
-fn not_received(onu: Onu, refusal: Refusal) -> OnuReceiving
-    ensures { result ≡ onu_not_receiving onu refusal }
-{
-    let passage = passing::no_passage();
-    OnuReceiving {
-        verdict: Verdict::Refused(refusal),
-        onu,
-        passage,
-    }
-}
-
 // A receipt, but for its octets: 1 for a lent end that is not valid; then the key is chosen once, and all else follows from that choice.
-#[tactic(auto, unfolding(crate::specs::Receipts::onu_receiving, protocol::specs::OnuTraffic::receiving_onu, protocol::specs::OnuCalls::onu_reply, protocol::specs::Replies::reply, crate::specs::Receipts::onu_not_receiving))]
-pub(crate) fn receive(onu: Onu, misfit: bool, header: Header) -> OnuReceiving
-    ensures { result ≡ onu_receiving (receiving_onu onu misfit header) }
+#[tactic(auto, using(crate::proofs::Receipts::next_below), unfolding(crate::specs::Passages::onu_decided, protocol::specs::OnuTraffic::receiving_onu, protocol::specs::OnuCalls::onu_reply, protocol::specs::Replies::reply, refusal::specs::Order::refuse_if))]
+pub(crate) fn receive(onu: Onu, misfit: bool, header: Header) -> Decided<Onu, Passage>
+    ensures { result ≡ onu_decided (receiving_onu onu misfit header) }
 {
     if !valid_onu(onu) {
-        return not_received(onu, Refusal::OutOfRange);
+        return Decided::refused(Refusal::OutOfRange, onu, passing::no_passage());
     }
     let choice = receive_choice(onu.keys, header);
     let verdict = receive_verdict(onu, misfit, header, choice);
     match verdict {
-        Verdict::Accepted => {
+        Ok(()) => {
             let next = after_receive(choice, onu);
             let mac = onu.oltmac;
             let passage = passing::passage_of(choice, onu.keys.slots, mac, onu.clock.rx);
-            OnuReceiving {
-                verdict: Verdict::Accepted,
-                onu: next,
-                passage,
+            Decided {
+                verdict: Ok(()),
+                after: next,
+                handed: passage,
             }
         }
-        Verdict::Refused(refusal) => not_received(onu, refusal),
+        Err(refusal) => Decided::refused(refusal, onu, passing::no_passage()),
     }
 }

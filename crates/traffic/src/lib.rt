@@ -110,8 +110,8 @@ pub fn olt_receive(olt: Olt, header: Header, octets: &[u8], output: &mut [u8]) -
     let unit = r.units[i];
     let done = unit_traffic::receive(way, r.shared, unit, header);
     let verdict = done.verdict;
-    let next = done.unit;
-    let passage = done.passage;
+    let next = done.after;
+    let passage = done.handed;
     let work = carrying::carry_accepted(verdict, passage, header.channel, octets, output);
     let number = verdict_number(verdict);
     r.units[i] = next;
@@ -123,7 +123,7 @@ pub fn olt_receive(olt: Olt, header: Header, octets: &[u8], output: &mut [u8]) -
     }
 }
 
-#[tactic(auto, unfolding(crate::specs::Sends::onu_sending, crate::specs::Passages::misfit))]
+#[tactic(auto, using(crate::proofs::Passages::few_eqs, crate::proofs::Sends::onu_send_fits), unfolding(crate::specs::Passages::onu_decided, crate::specs::Passages::misfit))]
 pub fn onu_send(onu: Onu, llid: u16, channel: u8, payload: &[u8], output: &mut [u8]) -> OnuSent
     ensures { with_output result output.new ≡ onu_send_of onu llid channel payload.now output.old }
 {
@@ -136,9 +136,9 @@ pub fn onu_send(onu: Onu, llid: u16, channel: u8, payload: &[u8], output: &mut [
         (payload.len() / EQ_OCTETS) as u64,
     );
     let verdict = decided.verdict;
-    let next = decided.onu;
-    let header = decided.sending.header;
-    let passage = decided.sending.passage;
+    let next = decided.after;
+    let header = decided.handed.header;
+    let passage = decided.handed.passage;
     let work = carrying::carry_accepted(verdict, passage, channel, payload, output);
     OnuSent {
         number: verdict_number(verdict),
@@ -149,15 +149,15 @@ pub fn onu_send(onu: Onu, llid: u16, channel: u8, payload: &[u8], output: &mut [
     }
 }
 
-#[tactic(auto, unfolding(crate::specs::Receipts::onu_receiving, crate::specs::Passages::misfit))]
+#[tactic(auto, using(crate::proofs::Receipts::onu_receive_fits), unfolding(crate::specs::Passages::onu_decided, crate::specs::Passages::misfit))]
 pub fn onu_receive(onu: Onu, header: Header, octets: &[u8], output: &mut [u8]) -> OnuReceived
     ensures { with_output result output.new ≡ onu_receive_of onu header octets.now output.old }
 {
     let misfit = carrying::misfit(octets.len(), output.len());
     let decided = at_onu::receive(onu, misfit, header);
     let verdict = decided.verdict;
-    let next = decided.onu;
-    let passage = decided.passage;
+    let next = decided.after;
+    let passage = decided.handed;
     let work = carrying::carry_accepted(verdict, passage, header.channel, octets, output);
     OnuReceived {
         number: verdict_number(verdict),

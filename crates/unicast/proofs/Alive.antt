@@ -1,4 +1,5 @@
 -- A unit to which something has happened is one of the setting, and registered. Assumes nothing.
+use Rattle.std.specs.Prelude.{Some}
 use mathlib.Core.Path.{◌≡◌, refl, sym, ◌∙◌, ap, subst}
 use mathlib.Core.Bool.{Bool, true, false}
 use mathlib.Core.List.Memᴰ
@@ -9,7 +10,6 @@ use lib.ListN.{length}
 use Rattle.octets.proofs.Choice.{pick_holds}
 use Rattle.ends.specs.Identities.{has}
 use Rattle.ends.specs.Table.{find, unit_at}
-use Rattle.ends.specs.declared.Found.TheVariants.{At}
 use Rattle.unicast.specs.Setting.{Setting}
 use Rattle.unicast.specs.History.{Envelope, Arrival, Lane}
 use Rattle.unicast.specs.Run.{State, no_site, fresh_lane, lane_at, onu_at}
@@ -75,5 +75,5 @@ pub llid_apart : (w : Setting) (s : State) (u x llid : ℕ) → Invariant w s �
     → has (lane_at s x).site.identity llid ≡ true → u ≡ x
 llid_apart w s u x llid v a b e f =
     v.apart u x a.known b.known a.registered b.registered (at_once _ _ (sym (found u a e) ∙ found x b f)) where
-      found : (y : ℕ) → Alive w s y → has (lane_at s y).site.identity llid ≡ true → find s.olt llid ≡ At (lane_at s y).entry.place
+      found : (y : ℕ) → Alive w s y → has (lane_at s y).site.identity llid ≡ true → find s.olt llid ≡ Some (lane_at s y).entry.place
       found y c h = held_found w s (lane_at s y).entry.place y llid v (alive_held w s y c) h

@@ -9,7 +9,6 @@ use lib.ListN.{length}
 use borrow.Author.Tests.{eqb-true, eq-eqb, ne_eqb}
 use Rattle.octets.proofs.Choice.{both_true, pick_true, pick_false, both_false_left}
 use Rattle.refusal.specs.declared.Refusal.TheVariants.{NothingOutstanding}
-use Rattle.refusal.specs.declared.Verdict.TheVariants.{Accepted}
 use Rattle.protocol.specs.Lift.{Outcome, outcome}
 use Rattle.protocol.specs.Messages.{clock_kind, key_kind}
 use Rattle.ends.specs.Records.{with_confirmation, with_clock}
@@ -25,6 +24,7 @@ use Rattle.unicast.specs.Setting.{Setting}
 use Rattle.unicast.specs.History.{Answered, Lane, due, lane_with, lane_acknowledged}
 use Rattle.unicast.proofs.Invariant.{reach_of, Joined, AtTick}
 use Rattle.unicast.proofs.Past.{moved_keeps}
+use Rattle.refusal.specs.Verdict.{no_refusal}
 
 ---- the mark of the last offer
 
@@ -62,7 +62,7 @@ module _ (w : Setting) (sh : Shared) (now : ℕ) (l : Lane) (u : UnitRecord) (o 
   marked_keeps j held = let moved = moved_keeps w sh now l (marked_lane l true) u o j (search) refl in search
 
   pub key_answer_keeps : (a : Acknowledgement) (x : Answered) → AtTick w now sh → Joined w sh now l u o → a.kind ≡ key_kind
-      → Memᴰ x l.transit.answered → x.acknowledgement ≡ a → (acknowledge_unit a sh u).verdict ≡ Accepted
+      → Memᴰ x l.transit.answered → x.acknowledgement ≡ a → (acknowledge_unit a sh u).verdict ≡ no_refusal
       → Joined w sh now (lane_acknowledged a l) (acknowledge_unit a sh u).unit o
   unfolding key_acknowledged_unit outcome
   key_answer_keeps a x at j kind m e accepted =
@@ -76,14 +76,14 @@ module _ (w : Setting) (sh : Shared) (now : ℕ) (l : Lane) (u : UnitRecord) (o 
   clock_marked_keeps j synced = search
 
   pub clock_answer_keeps : (a : Acknowledgement) (x : Answered) → AtTick w now sh → Joined w sh now l u o → a.kind ≡ clock_kind
-      → Memᴰ x l.transit.answered → x.acknowledgement ≡ a → (acknowledge_unit a sh u).verdict ≡ Accepted
+      → Memᴰ x l.transit.answered → x.acknowledgement ≡ a → (acknowledge_unit a sh u).verdict ≡ no_refusal
       → Joined w sh now (lane_acknowledged a l) (acknowledge_unit a sh u).unit o
   clock_answer_keeps a x at j kind m e accepted =
       rw (clock_kind-holds a sh u kind, lane_unmarked a l kind) (clock_marked_keeps j ((handed_over a x j m e).0 kind))
 
   -- an acknowledgement that the OLT accepts is of either kind
   pub answer_keeps : (a : Acknowledgement) (x : Answered) → AtTick w now sh → Joined w sh now l u o → Memᴰ x l.transit.answered
-      → x.acknowledgement ≡ a → (acknowledge_unit a sh u).verdict ≡ Accepted
+      → x.acknowledgement ≡ a → (acknowledge_unit a sh u).verdict ≡ no_refusal
       → Joined w sh now (lane_acknowledged a l) (acknowledge_unit a sh u).unit o
   unfolding outcome
   answer_keeps a x at j m e accepted = by_kind (eqb a.kind clock_kind) (eqb a.kind key_kind) refl refl where

@@ -12,8 +12,6 @@ use lib.Dec.{leb}
 use borrow.Author.Tests.{leb-true, eqb-true, not-false}
 use Rattle.octets.specs.Choice.{pick}
 use Rattle.refusal.specs.declared.Refusal.TheVariants.{OutOfRange}
-use Rattle.refusal.specs.declared.Verdict.{Verdict}
-use Rattle.refusal.specs.declared.Verdict.TheVariants.{Accepted}
 use Rattle.refusal.specs.Order.{refuse_if}
 use Rattle.refusal.proofs.Numbers.{number_accepted}
 use Rattle.refusal.proofs.Order.{refuse_accepted, refused_accepts}
@@ -52,6 +50,7 @@ use Rattle.unicast.proofs.Alive.{Alive, alive_held, registered_alive}
 use Rattle.unicast.proofs.SendDownSteps.{channels_at_tick}
 use Rattle.unicast.proofs.LiftSteps.{lane_own, lane_other}
 use Rattle.unicast.proofs.OnuSteps.{OltRight, replaced_right, unit_after_right}
+use Rattle.refusal.specs.Verdict.{Verdict, no_refusal}
 
 ---- the acknowledgements that are left
 
@@ -104,7 +103,7 @@ module _ (w : Setting) (sh : Shared) (now : ℕ) (l : Lane) (u : UnitRecord) (o 
       search arith
 
   -- travel moves as the delay up does
-  moved_common : p.up + p.down ≤ max_round_trip → new_time_verdict o time ≡ Accepted → Joined w sh now l u o → Common w now l o
+  moved_common : p.up + p.down ≤ max_round_trip → new_time_verdict o time ≡ no_refusal → Joined w sh now l u o → Common w now l o
       → Common w now (lane_moved p now l) (onu_retimed o time)
   unfolding lane_moved onu_retimed with_onu_clock with_travel travel_changed
   moved_common near a j c =
@@ -125,19 +124,19 @@ pub record Told (w : Setting) (s : State) (u llid time : ℕ) (p : Delays) : Typ
   pub olt : (measure_of s.olt llid (p.up + p.down)).olt
       ≡ with_unit s.olt (lane_at s u).entry.place s.olt.shared.channels
       (with_clock (unit_at s.olt (lane_at s u).entry.place) (new_unit_clock (p.up + p.down)))
-  pub verdict : new_time_verdict (onu_at s u) time ≡ Accepted
+  pub verdict : new_time_verdict (onu_at s u) time ≡ no_refusal
   pub onu : (new_time_of (onu_at s u) time).onu ≡ onu_retimed (onu_at s u) time
 
 told : (w : Setting) (s : State) (u llid time : ℕ) (p : Delays) → Invariant w s → Alive w s u → Changes w s u llid time p → Told w s u llid time p
 unfolding measure_of olt_answer measure_unit outcome new_time_of onu_answer
 told w s u llid time p v r d = by_end (lift_ends s.olt silent ahead llid (measure_unit (p.up + p.down))) where
   ahead : Verdict
-  ahead = refuse_if (not (leb (p.up + p.down) max_round_trip)) OutOfRange Accepted
+  ahead = refuse_if (not (leb (p.up + p.down) max_round_trip)) OutOfRange no_refusal
 
   place : ℕ
   place = (lane_at s u).entry.place
 
-  retimes : new_time_verdict (onu_at s u) time ≡ Accepted
+  retimes : new_time_verdict (onu_at s u) time ≡ no_refusal
   retimes = (onu_accepted (onu_at s u) silent (new_time_verdict (onu_at s u) time) (onu_retimed (onu_at s u) time) silent (number_accepted _ d.retimed)).1
 
   by_end : Ends s.olt silent ahead llid (measure_unit (p.up + p.down)) → Told w s u llid time p

@@ -8,7 +8,6 @@ use lib.ListN.{length, get_or}
 use borrow.Author.Tests.{lt-ltb}
 use Rattle.octets.proofs.Choice.{both_true, not_of_true}
 use Rattle.refusal.specs.declared.Refusal.TheVariants.{OutOfRange}
-use Rattle.refusal.specs.declared.Verdict.TheVariants.{Accepted}
 use Rattle.clock.specs.Ticks.{ticks_per_second, clock_turn, local_of}
 use Rattle.clock.specs.Stamping.{captured_at, raised_to}
 use Rattle.clock.specs.Aligned.{Aligned}
@@ -39,6 +38,7 @@ use Rattle.unicast.proofs.Invariant.{Clocks, ClockRight, Asked, Joined, Common, 
 use Rattle.unicast.proofs.Queues.{towards_clock, towards_taken}
 use Rattle.unicast.proofs.Past.{moved_keeps}
 use Rattle.unicast.proofs.Frames.{answers_clock, leaving_keeps, taken_keeps}
+use Rattle.refusal.specs.Verdict.{no_refusal}
 
 ---- capture
 
@@ -50,7 +50,7 @@ capture_keeps w sh now l u o t j = let moved = moved_keeps w sh now l (lane_capt
 ---- clock send
 
 pub clock_send_keeps : (w : Setting) (sh : Shared) (now : ℕ) (l : Lane) (u : UnitRecord) (o : Onu) → AtTick w now sh → Joined w sh now l u o
-    → (clock_send_unit sh u).verdict ≡ Accepted
+    → (clock_send_unit sh u).verdict ≡ no_refusal
     → Joined w sh now (lane_leaving (clock_message (clock_send_unit sh u).handed l.captured now) l) (clock_send_unit sh u).unit o
 unfolding clock_send_unit outcome clock_after_send clock_message_of with_clock
 clock_send_keeps w sh now l u o t j a =
@@ -108,7 +108,7 @@ clock_message_taken first s o m at left v r =
     let tx : m.tx < clock_turn = rw r.stamps (advanced_below clock trip) in
     ap onu_acknowledged
     (onu_accepts o no_acknowledgement (clock_message_verdict m) (onu_synced o m) of_clock v
-    (refuse_passed _ OutOfRange Accepted (not_of_true (both_true (lt-ltb m.rx clock_turn rx) (lt-ltb m.tx clock_turn tx)))))
+    (refuse_passed _ OutOfRange no_refusal (not_of_true (both_true (lt-ltb m.rx clock_turn rx) (lt-ltb m.tx clock_turn tx)))))
 
 module _ (w : Setting) (sh : Shared) (now : ℕ) (l : Lane) (u : UnitRecord) (o : Onu) (j : Joined w sh now l u o) (k : ℕ) (x : InFlight) (m : Stamps)
     (c t : ℕ) (h : k < length l.transit.towards) (e : get_or l.transit.towards k x ≡ clock_message m c t) (due : t + l.path.down ≡ now) where

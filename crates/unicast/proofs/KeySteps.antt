@@ -10,7 +10,6 @@ use lib.Seq.{get_or_at}
 use borrow.Author.Tests.{eqb-true}
 use Rattle.octets.specs.Choice.{either}
 use Rattle.octets.proofs.Choice.{both_left, both_right, true_false, either_cases}
-use Rattle.refusal.specs.declared.Verdict.TheVariants.{Accepted}
 use Rattle.ends.specs.Identities.{has}
 use Rattle.ends.specs.Keys.{key_in, with_key}
 use Rattle.protocol.specs.Lift.{outcome}
@@ -37,6 +36,7 @@ use Rattle.unicast.proofs.Invariant.{reach_of, Stored, Answers, Joined, Common, 
 use Rattle.unicast.proofs.Queues.{towards_weakened, towards_key, towards_taken}
 use Rattle.unicast.proofs.Past.{moved_keeps}
 use Rattle.unicast.proofs.Frames.{leaving_keeps, taken_keeps, answered_keeps}
+use Rattle.refusal.specs.Verdict.{no_refusal}
 
 ---- keys by number
 
@@ -60,7 +60,7 @@ module _ (w : Setting) (sh : Shared) (now : ℕ) (l : Lane) (u : UnitRecord) (o 
   ---- offer
 
   pub offer_keeps : (llid : ℕ) (key : List ℕ) → AtTick w now sh → Joined w sh now l u o → has l.site.identity llid ≡ true
-      → (offer_unit llid key sh u).verdict ≡ Accepted
+      → (offer_unit llid key sh u).verdict ≡ no_refusal
       → Joined w sh now (lane_leaving (key_message (offer_unit llid key sh u).handed now) (lane_offered key l)) (offer_unit llid key sh u).unit o
   unfolding offer_unit outcome unit_offered with_keys with_confirmation keys_offered key_message_of lane_offered lane_with due
   offer_keeps llid key at j named accepted =
@@ -91,7 +91,7 @@ module _ (w : Setting) (sh : Shared) (now : ℕ) (l : Lane) (u : UnitRecord) (o 
   ---- retry
 
   pub retry_keeps : (llid : ℕ) → AtTick w now sh → Joined w sh now l u o → has l.site.identity llid ≡ true
-      → (retry_unit llid sh u).verdict ≡ Accepted
+      → (retry_unit llid sh u).verdict ≡ no_refusal
       → Joined w sh now (lane_leaving (key_message (retry_unit llid sh u).handed now) l) (retry_unit llid sh u).unit o
   unfolding retry_unit outcome key_message_of
   retry_keeps llid at j named accepted =

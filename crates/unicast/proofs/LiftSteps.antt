@@ -1,5 +1,6 @@
 -- What a call on the OLT makes of the lanes keeps the invariant: one that replaces the record of one unit, and one that is lifted from
 -- a unit to the OLT. Assumes nothing.
+use Rattle.std.specs.Prelude.{Err, Some}
 use mathlib.Core.Path.{◌≡◌, refl, sym, ◌∙◌, ap, subst}
 use mathlib.Core.Bool.{Bool, true, false}
 use mathlib.Core.List.{List, map}
@@ -13,8 +14,6 @@ use Rattle.octets.specs.Choice.{both, pick}
 use Rattle.octets.proofs.Choice.{pick_holds, both_true, pick_true, pick_false, pick_same, true_false}
 use Rattle.octets.proofs.Maps.{map_fixed, map_always}
 use Rattle.refusal.specs.Number.{verdict_number}
-use Rattle.refusal.specs.declared.Verdict.{Verdict}
-use Rattle.refusal.specs.declared.Verdict.TheVariants.{Accepted, Refused}
 use Rattle.ends.specs.Identities.{has}
 use Rattle.ends.specs.Occupancy.{free_from}
 use Rattle.ends.specs.Records.{with_channels}
@@ -22,7 +21,6 @@ use Rattle.ends.specs.Table.{find, unit_at, with_unit}
 use Rattle.ends.specs.Validity.{valid_olt}
 use Rattle.protocol.specs.Lift.{Outcome, lift}
 use Rattle.ends.specs.declared.Channels.{Channels}
-use Rattle.ends.specs.declared.Found.TheVariants.{At}
 use Rattle.ends.specs.declared.Olt.{Olt}
 use Rattle.ends.specs.declared.Onu.{Onu}
 use Rattle.ends.specs.declared.Shared.{Shared}
@@ -41,6 +39,7 @@ use Rattle.unicast.proofs.Invariant.{Joined, Common, LaneRight, Invariant}
 use Rattle.unicast.proofs.Frames.{common_moved, lane_joined, lane_kept}
 use Rattle.unicast.proofs.SendDownSteps.{channels_keep, channels_at_tick}
 use Rattle.unicast.proofs.Places.{lane_of, KeysApart, keys_stay, Held, held_once, joined_at-holds, found_has, named_held, set_keeps}
+use Rattle.refusal.specs.Verdict.{Verdict, no_refusal}
 
 ---- the record of one unit replaced
 
@@ -182,14 +181,14 @@ pub keys_named : (llid : ℕ) (f : Lane → Lane) (ls : List Lane) → ((l : Lan
     → KeysApart (map (named llid f) ls)
 keys_named llid f ls e k = keys_stay ls (map (named llid f) ls) (named_stays (λ (l : Lane). l.keys.offers) llid f ls e) k
 
-refused_number : (v : Verdict) → (v ≡ Accepted → ⊥) → eqb (verdict_number v) 0 ≡ false
+refused_number : (v : Verdict) → (v ≡ no_refusal → ⊥) → eqb (verdict_number v) 0 ≡ false
 refused_number v n = ne_eqb (verdict_number v) 0 (λ e. n (number_accepted v e))
 
 -- what a call on a unit makes of the lane of that unit, which is told what it hands over
 pub record Tells {H : Type 0} (w : Setting) (s : State) (nothing : H) (ahead : Verdict) (llid : ℕ) (call : Shared → UnitRecord → Outcome H)
     (f : H → Lane → Lane) : Type 0 where
   pub valid : valid_olt (lift s.olt nothing ahead llid call).end ≡ true
-  pub rises : (u : UnitRecord) → (call s.olt.shared u).verdict ≡ Accepted → (k : ℕ)
+  pub rises : (u : UnitRecord) → (call s.olt.shared u).verdict ≡ no_refusal → (k : ℕ)
       → free_from s.olt.shared.channels k ≤ free_from (call s.olt.shared u).channels k
   pub frees : (l : Lifted s.olt nothing ahead llid call) (k : ℕ)
       → free_from (call s.olt.shared (unit_at s.olt l.at)).channels k ≤ s.history.now + longest
@@ -206,7 +205,7 @@ module _ {H : Type 0} (w : Setting) (s : State) (nothing : H) (ahead : Verdict) 
     → let c = call s.olt.shared (unit_at s.olt l.at) in
     Joined w (with_channels s.olt.shared c.channels) s.history.now (f c.handed (lane_at s u)) c.unit (onu_at s u)) where
   -- a lane that is not that of the place found is not named
-  not_named : (g : Lane → Lane) (p u : ℕ) → find s.olt llid ≡ At p → (Held s p u → ⊥) → named llid g (lane_at s u) ≡ lane_at s u
+  not_named : (g : Lane → Lane) (p u : ℕ) → find s.olt llid ≡ Some p → (Held s p u → ⊥) → named llid g (lane_at s u) ≡ lane_at s u
   unfolding named
   not_named g p u e n =
       pick_holds (λ (m : Lane). m ≡ lane_at s u) (both (lane_at s u).entry.registered (has (lane_at s u).site.identity llid)) (g (lane_at s u)) (lane_at s u)
@@ -244,7 +243,7 @@ module _ {H : Type 0} (w : Setting) (s : State) (nothing : H) (ahead : Verdict) 
     by_end (refused r e) =
         rw (
           e,
-          map_fixed (noted (verdict_number (Refused r)) (named llid (f nothing))) s.history.lanes
-              (λ l. pick_false (named llid (f nothing) l) l (refused_number (Refused r) (λ z. refused_accepts r z))),
+          map_fixed (noted (verdict_number (Err r)) (named llid (f nothing))) s.history.lanes
+              (λ l. pick_false (named llid (f nothing) l) l (refused_number (Err r) (λ z. refused_accepts r z))),
         )
         i

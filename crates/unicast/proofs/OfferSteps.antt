@@ -1,4 +1,5 @@
 -- An offer keeps the invariant, and with it that no key was offered twice. Assumes nothing.
+use Rattle.std.specs.Prelude.{Some}
 use mathlib.Core.Path.{◌≡◌, refl, sym, ◌∙◌, ap}
 use mathlib.Core.Logic.{◌⊎◌, inl, inr, ⊎_elim}
 use mathlib.Core.List.{List, [], ◌∷◌, ◌++◌, map}
@@ -9,7 +10,6 @@ use lib.Seq.{get_or_at}
 use Rattle.octets.specs.Choice.{both}
 use Rattle.octets.proofs.Choice.{pick_holds}
 use Rattle.refusal.specs.Number.{verdict_number}
-use Rattle.refusal.specs.declared.Verdict.TheVariants.{Accepted}
 use Rattle.ends.specs.Identities.{has}
 use Rattle.ends.specs.Records.{with_channels}
 use Rattle.ends.specs.Table.{find, unit_at}
@@ -18,7 +18,6 @@ use Rattle.protocol.specs.Messages.{no_key_message}
 use Rattle.protocol.specs.UnitCalls.{offer_unit}
 use Rattle.protocol.specs.OltCalls.{key_sent, offer_of}
 use Rattle.protocol.specs.declared.KeyMessage.{KeyMessage}
-use Rattle.ends.specs.declared.Found.TheVariants.{At}
 use Rattle.protocol.proofs.OltCalls.{offer_valid}
 use Rattle.unicast.specs.Setting.{Setting}
 use Rattle.unicast.specs.History.{key_message, Lane, lane_with, lane_leaving, lane_offered}
@@ -30,6 +29,7 @@ use Rattle.unicast.proofs.Invariant.{Invariant}
 use Rattle.unicast.proofs.KeySteps.{offer_keeps}
 use Rattle.unicast.proofs.Places.{lane_of, KeysApart, Held, held_once, named_held}
 use Rattle.unicast.proofs.LiftSteps.{named_at, call_right}
+use Rattle.refusal.specs.Verdict.{no_refusal}
 
 -- the last of a list with one more, or one before it
 last_or_before : (os : List (List ℕ)) (key : List ℕ) (m : ℕ) → m < length (os ++ (key ∷ []))
@@ -70,7 +70,7 @@ module _ (w : Setting) (s : State) (p : ℕ) (key : List ℕ) (lanes : List Lane
         (sym x.0, sym x.1)
     by_lanes (more j a) (more k b) = keys_both u v m n (held_once w s p u v i j k) (rw a at g) (rw b at h) (rw (a, b) at e)
 
-named_offered : (w : Setting) (s : State) (p llid : ℕ) (key : List ℕ) (f : Lane → Lane) → Invariant w s → find s.olt llid ≡ At p
+named_offered : (w : Setting) (s : State) (p llid : ℕ) (key : List ℕ) (f : Lane → Lane) → Invariant w s → find s.olt llid ≡ Some p
     → ((l : Lane) → (f l).keys.offers ≡ l.keys.offers ++ (key ∷ [])) → (u : ℕ) → Offered s p key (map (named llid f) s.history.lanes) u
 unfolding named
 named_offered w s p llid key f i e more_by u =
@@ -85,7 +85,7 @@ pub offer_right : (w : Setting) (s : State) (llid : ℕ) (key : List ℕ) → In
 unfolding step offering offer_of key_sent offer_unit outcome with_channels lane_leaving lane_offered lane_with
 offer_right w s llid key i fits =
     let f : KeyMessage → Lane → Lane = λ x l. lane_leaving (key_message x s.history.now) (lane_offered key l) in
-    call_right w s no_key_message Accepted llid (offer_unit llid key) f i
+    call_right w s no_key_message no_refusal llid (offer_unit llid key) f i
     (record {
       valid = offer_valid s.olt llid key i.valid;
       rises = λ u a k. omega arith;

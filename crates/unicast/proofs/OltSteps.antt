@@ -7,7 +7,6 @@ use native.Mathlib.Nat.{le_refl}
 use native.Mathlib.Omega.{arith}
 use borrow.Author.Tests.{not-false}
 use Rattle.octets.proofs.Members.{mem_at}
-use Rattle.refusal.specs.declared.Verdict.TheVariants.{Accepted}
 use Rattle.envelope.specs.ControlMask.{eqs_of}
 use Rattle.ends.specs.Records.{with_channels}
 use Rattle.protocol.specs.Replies.{silent}
@@ -47,13 +46,14 @@ use Rattle.unicast.proofs.Places.{held_once, held_found, at_once}
 use Rattle.unicast.proofs.Alive.{alive_held, answered_alive}
 use Rattle.unicast.specs.Bounds.{longest}
 use Rattle.unicast.proofs.LiftSteps.{keys_named, call_right}
+use Rattle.refusal.specs.Verdict.{no_refusal}
 
 ---- captures
 
 pub capture_right : (w : Setting) (s : State) (llid : ℕ) → Invariant w s → Fits w s (capture llid) → Invariant w (step s (capture llid))
 unfolding step capture_of olt_answer capture_unit outcome with_channels lane_captured
 capture_right w s llid i fits =
-    call_right w s silent Accepted llid capture_unit (λ x. lane_captured s.history.now) i
+    call_right w s silent no_refusal llid capture_unit (λ x. lane_captured s.history.now) i
     (search (capture_valid, keys_named, i.keys, i.shared.free, arith))
     (λ l u h e. capture_keeps w s.olt.shared s.history.now (lane_at s u) (unit_at s.olt l.at) (onu_at s u) i.shared)
 
@@ -62,7 +62,7 @@ capture_right w s llid i fits =
 pub clock_send_right : (w : Setting) (s : State) (llid : ℕ) → Invariant w s → Fits w s (clock_send llid) → Invariant w (step s (clock_send llid))
 unfolding step clock_sending clock_send_of clock_sent clock_send_unit outcome with_channels lane_leaving lane_with
 clock_send_right w s llid i fits =
-    call_right w s no_stamps Accepted llid clock_send_unit (λ x l. lane_leaving (clock_message x l.captured s.history.now) l) i
+    call_right w s no_stamps no_refusal llid clock_send_unit (λ x l. lane_leaving (clock_message x l.captured s.history.now) l) i
     (search (clock_send_valid, keys_named, i.keys, i.shared.free, arith))
     (λ l u h e j.
     clock_send_keeps w s.olt.shared s.history.now (lane_at s u) (unit_at s.olt l.at) (onu_at s u) i.shared j l.accepts)
@@ -70,7 +70,7 @@ clock_send_right w s llid i fits =
 pub retry_right : (w : Setting) (s : State) (llid : ℕ) → Invariant w s → Fits w s (retry llid) → Invariant w (step s (retry llid))
 unfolding step retrying retry_of key_sent retry_unit outcome with_channels lane_leaving lane_with
 retry_right w s llid i fits =
-    call_right w s no_key_message Accepted llid (retry_unit llid) (λ x. lane_leaving (key_message x s.history.now)) i
+    call_right w s no_key_message no_refusal llid (retry_unit llid) (λ x. lane_leaving (key_message x s.history.now)) i
     (search (retry_valid, keys_named, i.keys, i.shared.free, arith))
     (λ l u h e j.
     retry_keeps w s.olt.shared s.history.now (lane_at s u) (unit_at s.olt l.at) (onu_at s u) llid i.shared j e l.accepts)
@@ -84,7 +84,7 @@ answer_right w s u k llid i d =
     let a = (answer_at s u k).acknowledgement in
     let alive = answered_alive w s u i k d.some in
     let found = held_found w s (lane_at s u).entry.place u llid i (alive_held w s u alive) d.named in
-    call_right w s silent Accepted llid (acknowledge_unit a) (λ x. lane_acknowledged a) i
+    call_right w s silent no_refusal llid (acknowledge_unit a) (λ x. lane_acknowledged a) i
     (search (acknowledge_valid, acknowledged_channels, keys_named, i.keys, i.shared.free, le_refl))
     (λ l v h e j.
     let place = at_once _ _ (sym found ∙ l.found) in

@@ -1,4 +1,5 @@
 -- A unit that overhears the envelope of another, sent to it or by it, refuses it and stays as it was. Assumes nothing.
+use Rattle.std.specs.Prelude.{Err}
 use mathlib.Core.Path.{◌≡◌, refl, sym, ◌∙◌, ap}
 use mathlib.Core.Bool.{Bool, true, false}
 use mathlib.Core.List.{List, Memᴰ}
@@ -7,7 +8,6 @@ use Rattle.octets.proofs.Choice.{not_of_true}
 use Rattle.octets.proofs.Members.{mem_at}
 use Rattle.octets.specs.Output.{with_output}
 use Rattle.refusal.specs.declared.Refusal.TheVariants.{OutOfRange, BadLength}
-use Rattle.refusal.specs.declared.Verdict.TheVariants.{Refused}
 use Rattle.protocol.specs.Headers.{valid_header, envelope_header}
 use Rattle.ends.specs.Identities.{has}
 use Rattle.envelope.specs.Channels.{downstream, upstream}
@@ -35,14 +35,14 @@ use Rattle.unicast.proofs.Alive.{registered_alive, sent_alive, llid_apart}
 -- what another lane sent, either way, where the unit does not have its LLID
 overheard_verdict : (w : Setting) (sh : Shared) (now : ℕ) (l : Lane) (u : UnitRecord) (other o : Onu) (e : Envelope) (out : List ℕ)
     → Joined w sh now l u other → Memᴰ e l.past.sent → has o.identity e.llid ≡ false
-    → onu_receive_verdict o (misfit e.octets out) e.header ≡ Refused (overheard_for (misfit e.octets out) e.direction)
+    → onu_receive_verdict o (misfit e.octets out) e.header ≡ Err (overheard_for (misfit e.octets out) e.direction)
 unfolding envelope_header refuse_if
 overheard_verdict w sh now l u other o e out j m strange = by_direction e.direction refl ∙ by_buffer (misfit e.octets out) e.direction where
   right : SentRight w l e
   right = j.passing.sent e m
 
   by_direction : (x : Direction) → e.direction ≡ x
-      → onu_receive_verdict o (misfit e.octets out) e.header ≡ refuse_if (misfit e.octets out) BadLength (Refused (overheard_for false e.direction))
+      → onu_receive_verdict o (misfit e.octets out) e.header ≡ refuse_if (misfit e.octets out) BadLength (Err (overheard_for false e.direction))
   by_direction downward q =
       rw q
       (overheard_down-holds o _ e.header (ap (λ (h : Header). downstream h.channel) right.header ∙ (j.spending.downs e m q).0)
@@ -51,7 +51,7 @@ overheard_verdict w sh now l u other o e out j m strange = by_direction e.direct
   by_direction upward q =
       rw q (overheard_up-holds o _ e.header (ap (λ (h : Header). upstream h.channel) right.header ∙ (j.spending.ups e m q).0))
 
-  by_buffer : (t : Bool) (x : Direction) → refuse_if t BadLength (Refused (overheard_for false x)) ≡ Refused (overheard_for t x)
+  by_buffer : (t : Bool) (x : Direction) → refuse_if t BadLength (Err (overheard_for false x)) ≡ Err (overheard_for t x)
   by_buffer true x = refl
   by_buffer false x = refl
 

@@ -1,4 +1,5 @@
 -- Who has which place: the lane of the unit in a place, found by any of its LLIDs, and what is replaced of one lane alone. Assumes nothing.
+use Rattle.std.specs.Prelude.{Some}
 use mathlib.Core.Path.{◌≡◌, refl, sym, ◌∙◌, ap, subst}
 use mathlib.Core.Bool.{Bool, true}
 use mathlib.Core.List.{List, [], ◌∷◌}
@@ -10,7 +11,6 @@ use Rattle.octets.specs.Choice.{both}
 use Rattle.octets.proofs.Choice.{both_left, both_right, true_false}
 use Rattle.ends.specs.Identities.{has}
 use Rattle.ends.specs.Table.{find, unit_at}
-use Rattle.ends.specs.declared.Found.TheVariants.{At}
 use Rattle.ends.proofs.Table.{find_at, find_own}
 use Rattle.ends.proofs.Validity.{olt_in_range}
 use Rattle.unicast.specs.Setting.{Setting}
@@ -63,7 +63,7 @@ joined_at-holds w s p u i h =
 
 -- it is found by any of its LLIDs
 pub held_found : (w : Setting) (s : State) (p u llid : ℕ) → Invariant w s → Held s p u → has (lane_at s u).site.identity llid ≡ true
-    → find s.olt llid ≡ At p
+    → find s.olt llid ≡ Some p
 held_found w s p u llid i h e =
     let j = joined_at-holds w s p u i h in
     let r = olt_in_range s.olt i.valid in
@@ -71,15 +71,15 @@ held_found w s p u llid i h e =
     (record { used = j.0; place = omega (arith, j.0, r.count, i.places); has = j.1.llids llid ∙ e })
 
 -- and has the LLID that finds it
-pub found_has : (w : Setting) (s : State) (p u llid : ℕ) → Invariant w s → Held s p u → find s.olt llid ≡ At p
+pub found_has : (w : Setting) (s : State) (p u llid : ℕ) → Invariant w s → Held s p u → find s.olt llid ≡ Some p
     → has (lane_at s u).site.identity llid ≡ true
 found_has w s p u llid i h e = sym ((joined_at-holds w s p u i h).1.llids llid) ∙ (find_at s.olt llid p e).has
 
-pub at_once : (p q : ℕ) → At p ≡ At q → p ≡ q
+pub at_once : (p q : ℕ) → Some p ≡ Some q → p ≡ q
 at_once p q e = cc
 
 -- a lane that is named is that of the place found
-pub named_held : (w : Setting) (s : State) (p u llid : ℕ) → Invariant w s → find s.olt llid ≡ At p
+pub named_held : (w : Setting) (s : State) (p u llid : ℕ) → Invariant w s → find s.olt llid ≡ Some p
     → both (lane_at s u).entry.registered (has (lane_at s u).site.identity llid) ≡ true → Held s p u
 named_held w s p u llid i e h =
     let r = both_left _ _ h in

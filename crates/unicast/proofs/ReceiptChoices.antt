@@ -6,7 +6,6 @@ use Prim.Native.Nat.{ℕ, ◌+◌, ◌%◌, ◌≤◌}
 use native.Mathlib.Omega.{arith}
 use lib.Dec.{leb}
 use borrow.Author.Tests.{le-leb}
-use Rattle.refusal.specs.declared.Verdict.TheVariants.{Accepted}
 use Rattle.protocol.specs.Headers.{choice_enciphered, choice_number, choice_verdict, envelope_header}
 use Rattle.ends.specs.Keys.{key_in, only_key, not_noted}
 use Rattle.protocol.specs.OnuTraffic.{onu_receive_choice, onu_moved, onu_after_receipt}
@@ -26,12 +25,13 @@ use Rattle.protocol.proofs.OnuChoices.{onu_receive_clear, onu_receive_current, o
 use Rattle.protocol.proofs.UnitChoices.{receive_clear, receive_current, receive_next}
 use Rattle.unicast.proofs.Cases.{same_or_not}
 use Rattle.unicast.proofs.Invariant.{reach_of}
+use Rattle.refusal.specs.Verdict.{no_refusal}
 
 ---- the choice
 
 -- a choice that is accepted and is that of number n
 pub record Takes (choice : KeyChoice) (n : ℕ) : Type 0 where
-  pub accepts : choice_verdict choice ≡ Accepted
+  pub accepts : choice_verdict choice ≡ no_refusal
   pub chosen : choice_number choice ≡ n
   pub enciphered : choice_enciphered choice ≡ leb 1 n
 

@@ -6,7 +6,6 @@ use Prim.Native.Nat.{ℕ, suc, ◌+◌, ◌<◌, ◌≤◌}
 use native.Mathlib.Omega.{arith}
 use lib.ListN.{length, get_or, drop}
 use Rattle.octets.proofs.Members.{mem_at}
-use Rattle.refusal.specs.declared.Verdict.TheVariants.{Accepted}
 use Rattle.clock.specs.Ticks.{epam_of}
 use Rattle.clock.specs.Aligned.{Aligned}
 use Rattle.clock.specs.declared.Stamps.{Stamps}
@@ -44,6 +43,7 @@ use Rattle.unicast.proofs.SendChoices.{timing_stayed}
 use Rattle.unicast.proofs.Past.{passing_arrived}
 use Rattle.unicast.proofs.Spending.{unnoted}
 use Rattle.unicast.proofs.ReceiptChoices.{TakenDown, taken_down}
+use Rattle.refusal.specs.Verdict.{no_refusal}
 
 ---- its lane
 
@@ -204,7 +204,7 @@ module _ (w : Setting) (sh : Shared) (now : ℕ) (l : Lane) (u : UnitRecord) (o 
 
   accepted_down : receiving_onu o (misfit e.octets out) e.header
       ≡ record {
-        verdict = Accepted;
+        verdict = no_refusal;
         end = onu_after_receipt (onu_receive_choice o.keys e.header) o;
         handed = passage_of (onu_receive_choice o.keys e.header) o.keys.slots o.oltmac o.clock.rx;
       }

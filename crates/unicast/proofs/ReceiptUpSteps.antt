@@ -6,7 +6,6 @@ use Prim.Native.Nat.{ℕ, suc, ◌+◌, ◌%◌, ◌<◌, ◌≤◌}
 use native.Mathlib.Omega.{arith}
 use lib.ListN.{length, get_or, drop}
 use Rattle.octets.proofs.Members.{mem_at}
-use Rattle.refusal.specs.declared.Verdict.TheVariants.{Accepted}
 use Rattle.clock.specs.Ticks.{clock_turn}
 use Rattle.protocol.specs.Headers.{valid_header, envelope_header, key_for, passage_of}
 use Rattle.ends.specs.Identities.{has}
@@ -37,6 +36,7 @@ use Rattle.unicast.proofs.Queues.{Knows, dropped_among, towards_moved, from_move
 use Rattle.unicast.proofs.Envelopes.{ways_apart, arrival_of, opens_right, octets_fit}
 use Rattle.unicast.proofs.Past.{passing_arrived}
 use Rattle.unicast.proofs.ReceiptChoices.{confirmed_at, TakenUp, taken_up}
+use Rattle.refusal.specs.Verdict.{no_refusal}
 
 ---- its lane
 
@@ -148,7 +148,7 @@ module _ (w : Setting) (sh : Shared) (now : ℕ) (l : Lane) (u : UnitRecord) (o 
 
 -- the receipt that the OLT makes of it
 pub receipt_up_is : (s : State) (e : Envelope) (out : List ℕ) (q : Passage)
-    → (receiving_olt s.olt (misfit e.octets out) e.header).verdict ≡ Accepted
+    → (receiving_olt s.olt (misfit e.octets out) e.header).verdict ≡ no_refusal
     → (receiving_olt s.olt (misfit e.octets out) e.header).handed ≡ q → receipt_up s e out ≡ arrival_of e q
 unfolding receipt_up olt_receive_of olt_received output_after
 receipt_up_is s e out q a h = rw (a, h)

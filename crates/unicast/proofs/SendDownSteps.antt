@@ -8,7 +8,6 @@ use lib.ListN.{length}
 use borrow.Author.Tests.{eqb-true, le-leb}
 use Rattle.octets.specs.Choice.{pick}
 use Rattle.octets.proofs.Members.{each_more}
-use Rattle.refusal.specs.declared.Verdict.TheVariants.{Accepted}
 use Rattle.clock.specs.Ticks.{max_round_trip}
 use Rattle.envelope.specs.ControlMask.{eqs_of}
 use Rattle.envelope.specs.Acceptance.{lengths_fit}
@@ -48,9 +47,10 @@ use Rattle.unicast.proofs.Spending.{Renewed, spent_kept, spent_new, apart_new, s
 use Rattle.unicast.specs.Bounds.{longest}
 use Rattle.unicast.proofs.Pace.{order_leaving, asked_leaving, occupied_free}
 use Rattle.unicast.proofs.SendChoices.{Chosen, timing_sent, chosen_down, unit_first}
+use Rattle.refusal.specs.Verdict.{no_refusal}
 
 -- what an accepted send has met
-unit_goes : (sh : Shared) (u : UnitRecord) (channel : ℕ) → unit_send_verdict sh u channel ≡ Accepted
+unit_goes : (sh : Shared) (u : UnitRecord) (channel : ℕ) → unit_send_verdict sh u channel ≡ no_refusal
     → Goes (is_up u.clock.acknowledged) (taken sh.channels channel sh.tick) (unit_send_choice u) u.keys.first sh.tick
 unfolding unit_send_verdict
 unit_goes sh u channel a =
@@ -160,7 +160,7 @@ module _ (w : Setting) (sh : Shared) (now : ℕ) (l : Lane) (u : UnitRecord) (o 
 
   -- the lane that the send is on
   pub send_down_keeps : AtTick w now sh → Joined w sh now l u o → valid_unit sh.tick u ≡ true → has l.site.identity llid ≡ true
-      → downstream channel ≡ true → misfit p out ≡ false → (send_unit llid channel eqs sh u).verdict ≡ Accepted
+      → downstream channel ≡ true → misfit p out ≡ false → (send_unit llid channel eqs sh u).verdict ≡ no_refusal
       → (switches u ≡ false → (send_unit llid channel eqs sh u).unit.keys.timer ≡ u.keys.timer)
       → Joined w (with_channels sh (send_unit llid channel eqs sh u).channels) now
       (lane_sent_down now (envelope_of downward now l.path.up llid channel p (send_unit llid channel eqs sh u).handed (number_down l now)) l)
@@ -183,7 +183,7 @@ module _ (w : Setting) (sh : Shared) (now : ℕ) (l : Lane) (u : UnitRecord) (o 
 ---- the envelope of an accepted send
 
 pub envelope_down_is : (o : Olt) (now : ℕ) (path : Delays) (llid channel : ℕ) (p out : List ℕ) (number : ℕ) (s : Sending)
-    → (sending_olt o (misfit p out) llid channel (eqs_of p)).verdict ≡ Accepted → (sending_olt o (misfit p out) llid channel (eqs_of p)).handed ≡ s
+    → (sending_olt o (misfit p out) llid channel (eqs_of p)).verdict ≡ no_refusal → (sending_olt o (misfit p out) llid channel (eqs_of p)).handed ≡ s
     → envelope_down now path o llid channel p out number ≡ envelope_of downward now path.up llid channel p s number
 unfolding envelope_down olt_send_of olt_sent output_after
 envelope_down_is o now path llid channel p out number s a h = rw (a, h)
@@ -202,7 +202,7 @@ channels_keep w sh now l u o c rises j =
     search
 
 -- the channels after an accepted send
-pub send_channels : (llid channel eqs : ℕ) (sh : Shared) (u : UnitRecord) → (send_unit llid channel eqs sh u).verdict ≡ Accepted
+pub send_channels : (llid channel eqs : ℕ) (sh : Shared) (u : UnitRecord) → (send_unit llid channel eqs sh u).verdict ≡ no_refusal
     → (i : ℕ) → free_from sh.channels i ≤ free_from (send_unit llid channel eqs sh u).channels i
 unfolding send_unit
 send_channels llid channel eqs sh u a i = free_later sh.channels channel i sh.tick eqs (unit_goes sh u channel a).free

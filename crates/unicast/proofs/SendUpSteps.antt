@@ -9,7 +9,6 @@ use lib.Dec.{leb}
 use lib.ListN.{length}
 use borrow.Author.Tests.{eqb-true, le-leb}
 use Rattle.octets.proofs.Members.{each_more}
-use Rattle.refusal.specs.declared.Verdict.TheVariants.{Accepted}
 use Rattle.clock.specs.Ticks.{max_round_trip}
 use Rattle.envelope.specs.ControlMask.{eqs_of}
 use Rattle.envelope.specs.Acceptance.{lengths_fit}
@@ -54,6 +53,7 @@ use Rattle.unicast.proofs.Frames.{common_moved}
 use Rattle.unicast.proofs.Envelopes.{ways_apart, envelope_of, passed_right, count_right, runs_right, fits_alone}
 use Rattle.unicast.proofs.Spending.{Renewed, spent_kept, spent_new, apart_new, spaced_more}
 use Rattle.unicast.proofs.SendChoices.{ChosenUp, chosen_up, waited}
+use Rattle.refusal.specs.Verdict.{no_refusal}
 
 ---- its lane
 
@@ -188,7 +188,7 @@ module _ (w : Setting) (sh : Shared) (now : ℕ) (l : Lane) (u : UnitRecord) (o 
       let eqs = eqs_of p in
       let verdict = onu_send_verdict o (misfit p out) llid channel in
       let next = onu_after_send o channel eqs in
-      let accepts : verdict ≡ Accepted = (onu_accepted o no_sending verdict next handed_up (number_accepted _ a)).1 in
+      let accepts : verdict ≡ no_refusal = (onu_accepted o no_sending verdict next handed_up (number_accepted _ a)).1 in
       let met = onu_send_accepted o (misfit p out) llid channel accepts in
       let free = onu_free o channel met.goes.free in
       let h = chosen_up o eqs c.first in

@@ -8,7 +8,6 @@ use native.Mathlib.Omega.{arith}
 use lib.ListN.{length, get_or, length-map}
 use borrow.Author.Tests.{ltb-true, not-false}
 use Rattle.octets.proofs.Choice.{both_left, both_right, pick_same, true_false}
-use Rattle.refusal.specs.declared.Verdict.TheVariants.{Accepted}
 use Rattle.clock.specs.Ticks.{clock_turn, local_turn}
 use Rattle.protocol.specs.Replies.{Silence, silent, Reply}
 use Rattle.ends.specs.Identities.{kept, no_identity, valid_identity}
@@ -33,6 +32,7 @@ use Rattle.unicast.specs.Run.{lane_at, no_site, fresh_lane, fresh_onu, start}
 use Rattle.unicast.specs.Premises.{Fresh}
 use Rattle.unicast.proofs.Invariant.{Idle, Common, LaneRight, AtTick, Invariant}
 use Rattle.unicast.proofs.Spending.{unnoted}
+use Rattle.refusal.specs.Verdict.{no_refusal}
 
 ---- the OLT
 
@@ -69,7 +69,7 @@ fresh_at_tick w e =
 
 pub record OnuMade (i : Identity) (oltmac time : ℕ) : Type 0 where
   pub made : (fresh_onu_of i oltmac time).onu ≡ new_onu i oltmac time
-  pub accepted : fresh_onu_verdict i oltmac time ≡ Accepted
+  pub accepted : fresh_onu_verdict i oltmac time ≡ no_refusal
   pub identity : valid_identity i ≡ true
   pub below : time < local_turn
 

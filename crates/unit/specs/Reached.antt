@@ -1,20 +1,20 @@
 -- A call on one unit as the code answers it. `way` is the verdict on the way to the unit: 1 for the end, what the call refuses ahead of
 -- 2, and 2. Refused there or by the unit, the unit and the channels stay, and nothing is handed over (01, 'When the reader says no'; D113).
 -- Assumes nothing.
+use Rattle.std.specs.Prelude.{Ok, Err}
 use Rattle.refusal.specs.Order.{and_then}
-use Rattle.refusal.specs.declared.Verdict.{Verdict}
-use Rattle.refusal.specs.declared.Verdict.TheVariants.{Accepted, Refused}
 use Rattle.protocol.specs.Lift.{Outcome}
 use Rattle.protocol.specs.declared.Sending.{Sending}
 use Rattle.ends.specs.Records.{with_keys}
 use Rattle.ends.specs.declared.Shared.{Shared}
 use Rattle.ends.specs.declared.UnitRecord.{UnitRecord}
 use Rattle.unit.specs.declared.UnitSent.{UnitSent}
+use Rattle.refusal.specs.Verdict.{Verdict}
 
 -- the next one where the verdict accepts, else the one that was there
 unfoldable pub if_accepted : {A : Type 0} → Verdict → A → A → A
-if_accepted Accepted next before = next
-if_accepted (Refused r) next before = before
+if_accepted (Ok tt) next before = next
+if_accepted (Err r) next before = before
 
 unfoldable pub reached : {H : Type 0} → Verdict → H → Shared → UnitRecord → Outcome H → Outcome H
 reached way nothing s u c =

@@ -7,8 +7,8 @@ ghost use Rattle.protocol.specs.Replies.{silent};
 ghost use Rattle.protocol.specs.UnitCalls.{acknowledge_unit, capture_unit, clock_message_of, clock_send_unit, clock_send_verdict, key_message_of, keys_offered, measure_unit, offer_unit, offer_verdict, outstanding, retry_unit, unit_offered};
 ghost use Rattle.unit.specs.Reached.{reached};
 
+use crate::Decided;
 use crate::ticks::since;
-use crate::{UnitAnswer, UnitClockSent, UnitKeySent};
 use clock::{Stamps, TICKS_PER_SECOND};
 use ends::keyslots::{key_in, same_key, with_key};
 use ends::limits::MAX_KEY_NUMBER;
@@ -18,21 +18,19 @@ use refusal::{Refusal, Verdict, and_then, refuse_if};
 
 // The unit's stamps are those of this tick.
 #[tactic(auto, unfolding(protocol::specs::UnitCalls::capture_unit, protocol::specs::Lift::outcome, refusal::specs::Order::and_then, crate::specs::Reached::reached, crate::specs::Reached::if_accepted, protocol::specs::UnitCalls::clock_captured, ends::specs::Records::with_clock))]
-pub fn capture(way: Verdict, shared: Shared, unit: UnitRecord) -> UnitAnswer
-    ensures { outcome shared result.verdict result.unit silent ≡ reached way silent shared unit (capture_unit shared unit) }
+pub fn capture(way: Verdict, shared: Shared, unit: UnitRecord) -> Decided<UnitRecord, ()>
+    ensures { outcome shared result.verdict result.after silent ≡ reached way silent shared unit (capture_unit shared unit) }
 {
     match way {
-        Verdict::Refused(refusal) => UnitAnswer {
-            verdict: Verdict::Refused(refusal),
-            unit,
-        },
-        Verdict::Accepted => {
+        Err(refusal) => Decided::refused(refusal, unit, ()),
+        Ok(()) => {
             let mut next = unit;
             next.clock.captured = 1;
             next.clock.tick = shared.tick;
-            UnitAnswer {
-                verdict: Verdict::Accepted,
-                unit: next,
+            Decided {
+                verdict: Ok(()),
+                after: next,
+                handed: (),
             }
         }
     }
@@ -40,15 +38,12 @@ pub fn capture(way: Verdict, shared: Shared, unit: UnitRecord) -> UnitAnswer
 
 // The round trip measured again: what was captured, sent and acknowledged over the path before is forgotten (02, C-16).
 #[tactic(auto, unfolding(protocol::specs::UnitCalls::measure_unit, protocol::specs::Lift::outcome, refusal::specs::Order::and_then, crate::specs::Reached::reached, crate::specs::Reached::if_accepted, ends::specs::Records::with_clock))]
-pub fn measure(way: Verdict, shared: Shared, unit: UnitRecord, trip: u64) -> UnitAnswer
-    ensures { outcome shared result.verdict result.unit silent ≡ reached way silent shared unit (measure_unit trip shared unit) }
+pub fn measure(way: Verdict, shared: Shared, unit: UnitRecord, trip: u64) -> Decided<UnitRecord, ()>
+    ensures { outcome shared result.verdict result.after silent ≡ reached way silent shared unit (measure_unit trip shared unit) }
 {
     match way {
-        Verdict::Refused(refusal) => UnitAnswer {
-            verdict: Verdict::Refused(refusal),
-            unit,
-        },
-        Verdict::Accepted => {
+        Err(refusal) => Decided::refused(refusal, unit, ()),
+        Ok(()) => {
             let clock = UnitClock {
                 trip,
                 captured: 0,
@@ -58,27 +53,26 @@ pub fn measure(way: Verdict, shared: Shared, unit: UnitRecord, trip: u64) -> Uni
             };
             let mut next = unit;
             next.clock = clock;
-            UnitAnswer {
-                verdict: Verdict::Accepted,
-                unit: next,
+            Decided {
+                verdict: Ok(()),
+                after: next,
+                handed: (),
             }
         }
     }
 }
 
+#[tactic(auto, using(crate::proofs::Elapsed::more_since), unfolding(protocol::specs::UnitCalls::clock_send_verdict, refusal::specs::Order::refuse_if))]
 fn clock_send_verdict(clock: UnitClock, tick: u64) -> Verdict
     ensures { result ≡ clock_send_verdict clock tick }
 {
-    let age = since(clock.tick, tick);
-    refuse_if(
-        !(clock.captured == 1),
-        Refusal::NothingOutstanding,
-        refuse_if(
-            TICKS_PER_SECOND < age,
-            Refusal::CaptureTooOld,
-            Verdict::Accepted,
-        ),
-    )
+    if clock.captured != 1 {
+        return Err(Refusal::NothingOutstanding);
+    }
+    if TICKS_PER_SECOND < since(clock.tick, tick) {
+        return Err(Refusal::CaptureTooOld);
+    }
+    Ok(())
 }
 
 // The stamps of the capture's tick.
@@ -91,30 +85,26 @@ fn clock_message(shared: Shared, clock: UnitClock) -> Stamps
 }
 
 #[tactic(auto, unfolding(protocol::specs::UnitCalls::clock_send_unit, protocol::specs::Lift::outcome, crate::specs::Reached::reached, crate::specs::Reached::if_accepted, protocol::specs::UnitCalls::clock_after_send, ends::specs::Records::with_clock))]
-pub fn clock_send(way: Verdict, shared: Shared, unit: UnitRecord) -> UnitClockSent
-    ensures { outcome shared result.verdict result.unit result.message ≡ reached way no_stamps shared unit (clock_send_unit shared unit) }
+pub fn clock_send(way: Verdict, shared: Shared, unit: UnitRecord) -> Decided<UnitRecord, Stamps>
+    ensures { outcome shared result.verdict result.after result.handed ≡ reached way no_stamps shared unit (clock_send_unit shared unit) }
 {
     let verdict = and_then(way, clock_send_verdict(unit.clock, shared.tick));
     match verdict {
-        Verdict::Refused(refusal) => UnitClockSent {
-            verdict: Verdict::Refused(refusal),
-            unit,
-            message: Stamps { rx: 0, tx: 0 },
-        },
-        Verdict::Accepted => {
+        Err(refusal) => Decided::refused(refusal, unit, Stamps { rx: 0, tx: 0 }),
+        Ok(()) => {
             let message = clock_message(shared, unit.clock);
             let mut next = unit;
             next.clock.sent = 1;
-            UnitClockSent {
-                verdict: Verdict::Accepted,
-                unit: next,
-                message,
+            Decided {
+                verdict: Ok(()),
+                after: next,
+                handed: message,
             }
         }
     }
 }
 
-#[tactic(auto, unfolding(protocol::specs::UnitCalls::offer_verdict, octets::specs::Choice::both, octets::specs::Choice::either))]
+#[tactic(auto, unfolding(protocol::specs::UnitCalls::offer_verdict, refusal::specs::Order::refuse_if, octets::specs::Choice::both, octets::specs::Choice::either))]
 fn offer_verdict(unit: UnitRecord, key: [u8; 16]) -> Verdict
     ensures { result ≡ offer_verdict unit key }
 {
@@ -122,20 +112,19 @@ fn offer_verdict(unit: UnitRecord, key: [u8; 16]) -> Verdict
     let active = keys.active;
     let held = key_in(keys.slots, active);
     let same = same_key(key, held);
-    let pending = (active < keys.offered) | (unit.confirmation.confirmed < active);
-    refuse_if(
-        !(unit.clock.acknowledged == 1),
-        Refusal::ClockNotSet,
-        refuse_if(
-            pending,
-            Refusal::OfferPending,
-            refuse_if(
-                (1 <= active) & same,
-                Refusal::SameKey,
-                refuse_if(MAX_KEY_NUMBER <= active, Refusal::AtEnd, Verdict::Accepted),
-            ),
-        ),
-    )
+    if unit.clock.acknowledged != 1 {
+        return Err(Refusal::ClockNotSet);
+    }
+    if (active < keys.offered) | (unit.confirmation.confirmed < active) {
+        return Err(Refusal::OfferPending);
+    }
+    if (1 <= active) & same {
+        return Err(Refusal::SameKey);
+    }
+    if MAX_KEY_NUMBER <= active {
+        return Err(Refusal::AtEnd);
+    }
+    Ok(())
 }
 
 #[tactic(auto, unfolding(protocol::specs::UnitCalls::keys_offered))]
@@ -194,23 +183,19 @@ pub fn offer(
     unit: UnitRecord,
     llid: u16,
     key: [u8; 16],
-) -> UnitKeySent
-    ensures { outcome shared result.verdict result.unit result.message ≡ reached way no_key_message shared unit (offer_unit llid key shared unit) }
+) -> Decided<UnitRecord, KeyMessage>
+    ensures { outcome shared result.verdict result.after result.handed ≡ reached way no_key_message shared unit (offer_unit llid key shared unit) }
 {
     let verdict = and_then(way, offer_verdict(unit, key));
     match verdict {
-        Verdict::Refused(refusal) => UnitKeySent {
-            verdict: Verdict::Refused(refusal),
-            unit,
-            message: no_key_message(),
-        },
-        Verdict::Accepted => {
+        Err(refusal) => Decided::refused(refusal, unit, no_key_message()),
+        Ok(()) => {
             let next = offered(unit, key);
             let message = key_message(llid, next.keys);
-            UnitKeySent {
-                verdict: Verdict::Accepted,
-                unit: next,
-                message,
+            Decided {
+                verdict: Ok(()),
+                after: next,
+                handed: message,
             }
         }
     }
@@ -218,26 +203,24 @@ pub fn offer(
 
 // The offer's number and key again.
 #[tactic(auto, unfolding(protocol::specs::UnitCalls::retry_unit, protocol::specs::UnitCalls::retry_verdict, protocol::specs::Lift::outcome, crate::specs::Reached::reached, crate::specs::Reached::if_accepted))]
-pub fn retry(way: Verdict, shared: Shared, unit: UnitRecord, llid: u16) -> UnitKeySent
-    ensures { outcome shared result.verdict result.unit result.message ≡ reached way no_key_message shared unit (retry_unit llid shared unit) }
+pub fn retry(
+    way: Verdict,
+    shared: Shared,
+    unit: UnitRecord,
+    llid: u16,
+) -> Decided<UnitRecord, KeyMessage>
+    ensures { outcome shared result.verdict result.after result.handed ≡ reached way no_key_message shared unit (retry_unit llid shared unit) }
 {
     let none = unit.keys.offered == unit.keys.active;
-    let verdict = and_then(
-        way,
-        refuse_if(none, Refusal::NothingOutstanding, Verdict::Accepted),
-    );
+    let verdict = and_then(way, refuse_if(none, Refusal::NothingOutstanding, Ok(())));
     match verdict {
-        Verdict::Refused(refusal) => UnitKeySent {
-            verdict: Verdict::Refused(refusal),
-            unit,
-            message: no_key_message(),
-        },
-        Verdict::Accepted => {
+        Err(refusal) => Decided::refused(refusal, unit, no_key_message()),
+        Ok(()) => {
             let message = key_message(llid, unit.keys);
-            UnitKeySent {
-                verdict: Verdict::Accepted,
-                unit,
-                message,
+            Decided {
+                verdict: Ok(()),
+                after: unit,
+                handed: message,
             }
         }
     }
@@ -283,24 +266,22 @@ pub fn acknowledge(
     shared: Shared,
     unit: UnitRecord,
     acknowledgement: Acknowledgement,
-) -> UnitAnswer
-    ensures { outcome shared result.verdict result.unit silent ≡ reached way silent shared unit (acknowledge_unit acknowledgement shared unit) }
+) -> Decided<UnitRecord, ()>
+    ensures { outcome shared result.verdict result.after silent ≡ reached way silent shared unit (acknowledge_unit acknowledgement shared unit) }
 {
     let outstanding = is_outstanding(acknowledgement, unit);
     let verdict = and_then(
         way,
-        refuse_if(!outstanding, Refusal::NothingOutstanding, Verdict::Accepted),
+        refuse_if(!outstanding, Refusal::NothingOutstanding, Ok(())),
     );
     match verdict {
-        Verdict::Refused(refusal) => UnitAnswer {
-            verdict: Verdict::Refused(refusal),
-            unit,
-        },
-        Verdict::Accepted => {
+        Err(refusal) => Decided::refused(refusal, unit, ()),
+        Ok(()) => {
             let next = acknowledged(acknowledgement, shared, unit);
-            UnitAnswer {
-                verdict: Verdict::Accepted,
-                unit: next,
+            Decided {
+                verdict: Ok(()),
+                after: next,
+                handed: (),
             }
         }
     }

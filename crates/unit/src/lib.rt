@@ -9,30 +9,31 @@ mod ticks;
 pub mod timing;
 pub mod unit_traffic;
 
-use clock::Stamps;
-use ends::{Channels, UnitRecord};
-use protocol::{KeyMessage, Passage, Sending};
-use refusal::Verdict;
+ghost use Rattle.std.specs.Prelude.{◌≡◌, Err};
 
-// A call that hands over nothing.
+use ends::Channels;
+use protocol::Sending;
+use refusal::{Refusal, Verdict};
+
+// What a call on a record decides: its verdict, the record after it, and what is handed over, `()` where that is nothing.
 #[derive(Clone, Copy)]
-pub struct UnitAnswer {
+pub struct Decided<S, T> {
     pub verdict: Verdict,
-    pub unit: UnitRecord,
+    pub after: S,
+    pub handed: T,
 }
 
-#[derive(Clone, Copy)]
-pub struct UnitClockSent {
-    pub verdict: Verdict,
-    pub unit: UnitRecord,
-    pub message: Stamps,
-}
-
-#[derive(Clone, Copy)]
-pub struct UnitKeySent {
-    pub verdict: Verdict,
-    pub unit: UnitRecord,
-    pub message: KeyMessage,
+impl<S, T> Decided<S, T> {
+    // Refused, the record is the one that was there.
+    pub fn refused(refusal: Refusal, before: S, nothing: T) -> Decided<S, T>
+        ensures { result ≡ record { verdict = Err refusal; after = before; handed = nothing } }
+    {
+        Decided {
+            verdict: Err(refusal),
+            after: before,
+            handed: nothing,
+        }
+    }
 }
 
 // What a send changes of the unit's keys (the timer's flag, the key in use, its first send), and not the whole unit.
@@ -45,11 +46,4 @@ pub struct UnitSent {
     pub at: u64,
     pub channels: Channels,
     pub sending: Sending,
-}
-
-#[derive(Clone, Copy)]
-pub struct UnitReceived {
-    pub verdict: Verdict,
-    pub unit: UnitRecord,
-    pub passage: Passage,
 }

@@ -12,7 +12,7 @@ use ends::keyslots::key_in;
 use ends::{Channels, FirstSend, Slots};
 use envelope::on_zero;
 use protocol::{Header, KeyChoice, Passage, Sending};
-use refusal::{Refusal, Verdict, refuse_if};
+use refusal::{Refusal, Verdict};
 use std::num::wrapping_add_u64;
 
 // A header keeps its channel for its own tick, beside one for each EQ.
@@ -36,6 +36,7 @@ pub fn taken(channels: Channels, channel: u8, tick: u64) -> bool
 }
 
 // Of a valid end and a payload that fits, the sum is far from its end.
+#[tactic(auto, unfolding(ends::specs::Occupancy::occupied, octets::specs::Choice::pick))]
 pub fn occupied(channels: Channels, channel: u8, tick: u64, eqs: u64) -> Channels
     ensures { tick ≤ max_tick → eqs ≤ max_eqs → result ≡ occupied channels channel tick eqs }
 {
@@ -86,7 +87,7 @@ pub fn is_enciphered(choice: KeyChoice) -> bool
 }
 
 // A send at either end: 5 for an enciphered one where the clock is not set, then 12 for the channel, then 13 for the key.
-#[tactic(auto, unfolding(octets::specs::Choice::both))]
+#[tactic(auto, unfolding(protocol::specs::Headers::clock_channel_key, refusal::specs::Order::refuse_if, octets::specs::Choice::both))]
 pub fn clock_channel_key(
     set: bool,
     busy: bool,
@@ -96,17 +97,16 @@ pub fn clock_channel_key(
 ) -> Verdict
     ensures { result ≡ clock_channel_key set busy choice first now }
 {
-    let unset = !set & is_enciphered(choice);
-    let old = choice_aged(choice, first, now);
-    refuse_if(
-        unset,
-        Refusal::ClockNotSet,
-        refuse_if(
-            busy,
-            Refusal::ChannelTaken,
-            refuse_if(old, Refusal::KeyTooOld, Verdict::Accepted),
-        ),
-    )
+    if !set & is_enciphered(choice) {
+        return Err(Refusal::ClockNotSet);
+    }
+    if busy {
+        return Err(Refusal::ChannelTaken);
+    }
+    if choice_aged(choice, first, now) {
+        return Err(Refusal::KeyTooOld);
+    }
+    Ok(())
 }
 
 #[tactic(auto, unfolding(ends::specs::Keys::first_send, octets::specs::Choice::pick))]
@@ -124,10 +124,10 @@ pub fn choice_verdict(choice: KeyChoice) -> Verdict
     ensures { result ≡ choice_verdict choice }
 {
     match choice {
-        KeyChoice::Clear => Verdict::Accepted,
-        KeyChoice::Current(_) => Verdict::Accepted,
-        KeyChoice::Next(_) => Verdict::Accepted,
-        KeyChoice::Barred(refusal) => Verdict::Refused(refusal),
+        KeyChoice::Clear => Ok(()),
+        KeyChoice::Current(_) => Ok(()),
+        KeyChoice::Next(_) => Ok(()),
+        KeyChoice::Barred(refusal) => Err(refusal),
     }
 }
 

@@ -16,6 +16,7 @@ fn reduced(sum: u64, interval: u64) -> u64
 }
 
 // Of a valid timer the sum is far from its end.
+#[tactic(auto, using(crate::proofs::Timed::timed), unfolding(ends::specs::Timers::timer_advanced, octets::specs::Choice::pick))]
 pub fn timer_advanced(timer: Timer, n: u64) -> Timer
     ensures { valid_timer timer ≡ true → n ≤ max_tick → result ≡ timer_advanced timer n }
 {

@@ -1,19 +1,21 @@
 // Send and receive of the OLT on the record of one unit: the verdict, the record after, and what the payload passes under (01, Keys).
-ghost use Rattle.std.specs.Prelude.{◌≡◌, ◌≤◌};
+ghost use Rattle.std.specs.Prelude.{◌≡◌, ◌≤◌, eqb, not};
 ghost use Rattle.octets.specs.Eqs.{max_eqs};
-ghost use Rattle.refusal.specs.declared.Verdict.TheVariants.{Accepted};
-ghost use Rattle.clock.specs.Ticks.{max_tick};
-ghost use Rattle.protocol.specs.Headers.{no_passage, no_sending};
+ghost use Rattle.clock.specs.Ticks.{epam_of, max_tick};
+ghost use Rattle.protocol.specs.Headers.{choice_verdict, no_passage, no_sending};
 ghost use Rattle.protocol.specs.Lift.{outcome};
 ghost use Rattle.protocol.specs.UnitTraffic.{keys_after_send, keys_switched, receive_unit, send_unit, switches, unit_after_receipt, unit_confirmed, unit_receive_choice, unit_send_choice};
 ghost use Rattle.unit.specs.Reached.{reached, sent_outcome};
+ghost use Rattle.refusal.specs.declared.Refusal.TheVariants.{EpamDiffers};
+ghost use Rattle.refusal.specs.Order.{refuse_if};
+ghost use Rattle.refusal.specs.Verdict.{no_refusal};
 
-use crate::{UnitReceived, UnitSent, passing};
+use crate::{Decided, UnitSent, passing};
 use clock::epam_of;
 use ends::keyslots::only_key;
 use ends::{Shared, UnitKeys, UnitRecord};
-use protocol::{Header, KeyChoice};
-use refusal::{Refusal, Verdict, and_then, refuse_if};
+use protocol::{Header, KeyChoice, Passage};
+use refusal::{Refusal, Verdict, and_then};
 
 // Whether the next accepted send switches.
 #[tactic(auto, unfolding(protocol::specs::UnitTraffic::switches, octets::specs::Choice::both))]
@@ -68,7 +70,7 @@ fn keys_sent(choice: KeyChoice, keys: UnitKeys, tick: u64) -> UnitKeys
 }
 
 // 5, 12, 13. A valid end's tick and a payload that fits are what the way to the unit has judged.
-#[tactic(auto, unfolding(crate::specs::Reached::sent_outcome, crate::specs::Reached::unit_sent, protocol::specs::UnitTraffic::send_unit, ends::specs::Records::with_keys, crate::specs::Reached::reached, crate::specs::Reached::if_accepted, protocol::specs::UnitTraffic::unit_send_verdict, protocol::specs::UnitTraffic::keys_after_send, protocol::specs::UnitTraffic::keys_switched, ends::specs::Timers::timer_fallen, ends::specs::Records::with_first))]
+#[tactic(auto, using(refusal::proofs::Order::then_accepted), unfolding(crate::specs::Reached::sent_outcome, crate::specs::Reached::unit_sent, protocol::specs::UnitTraffic::send_unit, ends::specs::Records::with_keys, crate::specs::Reached::reached, crate::specs::Reached::if_accepted, protocol::specs::UnitTraffic::unit_send_verdict, protocol::specs::UnitTraffic::keys_after_send, protocol::specs::UnitTraffic::keys_switched, ends::specs::Timers::timer_fallen, ends::specs::Records::with_first))]
 pub fn send(
     way: Verdict,
     shared: Shared,
@@ -77,7 +79,7 @@ pub fn send(
     channel: u8,
     eqs: u64,
 ) -> UnitSent
-    ensures { (way ≡ Accepted → (shared.tick ≤ max_tick) × (eqs ≤ max_eqs)) → sent_outcome unit result
+    ensures { (way ≡ no_refusal → (shared.tick ≤ max_tick) × (eqs ≤ max_eqs)) → sent_outcome unit result
         ≡ reached way no_sending shared unit (send_unit llid channel eqs shared unit) }
 {
     let channels = shared.channels;
@@ -91,8 +93,8 @@ pub fn send(
         passing::clock_channel_key(set, busy, choice, keys.first, tick),
     );
     match verdict {
-        Verdict::Refused(refusal) => UnitSent {
-            verdict: Verdict::Refused(refusal),
+        Err(refusal) => UnitSent {
+            verdict: Err(refusal),
             flag: keys.timer.flag,
             active: keys.active,
             noted: keys.first.noted,
@@ -100,10 +102,10 @@ pub fn send(
             channels,
             sending: passing::no_sending(),
         },
-        Verdict::Accepted => {
+        Ok(()) => {
             let after = keys_sent(choice, keys, tick);
             UnitSent {
-                verdict: Verdict::Accepted,
+                verdict: Ok(()),
                 flag: after.timer.flag,
                 active: after.active,
                 noted: after.first.noted,
@@ -170,30 +172,33 @@ fn unit_received(choice: KeyChoice, unit: UnitRecord) -> UnitRecord
 }
 
 // 10, 11, 9.
+#[tactic(auto, unfolding(refusal::specs::Order::refuse_if))]
+fn receive_verdict(header: Header, clock: u64, choice: KeyChoice) -> Verdict
+    ensures { result ≡ refuse_if (not (eqb header.epam (epam_of clock))) EpamDiffers (choice_verdict choice) }
+{
+    if header.epam != epam_of(clock) {
+        return Err(Refusal::EpamDiffers);
+    }
+    passing::choice_verdict(choice)
+}
+
 #[tactic(auto, unfolding(protocol::specs::UnitTraffic::receive_unit, protocol::specs::Lift::outcome, crate::specs::Reached::reached, crate::specs::Reached::if_accepted, protocol::specs::UnitTraffic::unit_receive_verdict))]
-pub fn receive(way: Verdict, shared: Shared, unit: UnitRecord, header: Header) -> UnitReceived
-    ensures { outcome shared result.verdict result.unit result.passage ≡ reached way no_passage shared unit (receive_unit header shared unit) }
+pub fn receive(
+    way: Verdict,
+    shared: Shared,
+    unit: UnitRecord,
+    header: Header,
+) -> Decided<UnitRecord, Passage>
+    ensures { outcome shared result.verdict result.after result.handed ≡ reached way no_passage shared unit (receive_unit header shared unit) }
 {
     let choice = receive_choice(unit, header);
-    let epam = epam_of(shared.clock);
-    let verdict = and_then(
-        way,
-        refuse_if(
-            !(header.epam == epam),
-            Refusal::EpamDiffers,
-            passing::choice_verdict(choice),
-        ),
-    );
+    let verdict = and_then(way, receive_verdict(header, shared.clock, choice));
     match verdict {
-        Verdict::Refused(refusal) => UnitReceived {
-            verdict: Verdict::Refused(refusal),
-            unit,
-            passage: passing::no_passage(),
-        },
-        Verdict::Accepted => UnitReceived {
-            verdict: Verdict::Accepted,
-            unit: unit_received(choice, unit),
-            passage: passing::passage_of(choice, unit.keys.slots, unit.identity.mac, shared.clock),
+        Err(refusal) => Decided::refused(refusal, unit, passing::no_passage()),
+        Ok(()) => Decided {
+            verdict: Ok(()),
+            after: unit_received(choice, unit),
+            handed: passing::passage_of(choice, unit.keys.slots, unit.identity.mac, shared.clock),
         },
     }
 }

@@ -4,6 +4,7 @@ use mathlib.Core.List.{List, [], ◌∷◌, ◌++◌}
 use mathlib.Core.Logic.{⊎_elim}
 use mathlib.Core.Path.{◌≡◌, refl, sym, ap}
 use Prim.Native.Nat.{ℕ}
+use Rattle.std.specs.Prelude.{Option, Some, None}
 use native.Mathlib.Omega.{arith}
 use lib.Dec.{eqb}
 use lib.ListN.{take}
@@ -19,7 +20,7 @@ use Rattle.xgpon.specs.declared.moves.Input.{Input}
 use Rattle.xgpon.specs.declared.moves.Input.TheVariants.{NewKey, ExistingKey, Tk1Expires, Tk2Expires, Tk3Expires, Begin, BeginToSend, Rekey, KeyCheck}
 use Rattle.xgpon.specs.declared.values.KeyExchange.{KeyExchange}
 use Rattle.xgpon.specs.declared.values.State.{State}
-use Rattle.xgpon.specs.declared.values.State.TheVariants.{KL0, KL1, KL2, KL3, KL4, Outside}
+use Rattle.xgpon.specs.declared.values.State.TheVariants.{KL0, KL1, KL2, KL3, KL4}
 use Rattle.xgpon.proofs.Pairs.{Pair, Valued, activated, confirming, first, knowing, none, pair_apart, pair_fits, requesting, second, third, valued}
 use Rattle.xgpon.proofs.Sound.{Held, Sound, active, confirm, held_none, inactive, played_sound, request, start_sound, step_kept, waiting}
 
@@ -41,19 +42,19 @@ received_reported i (confirm k pair h g) a = among_held h held_none (rw (pair_fi
 received_reported i (waiting k pair h g) a = among_held h g (rw (pair_fits pair) at a)
 received_reported i (active k pair g) a = among_held held_none g (rw (pair_fits pair) at a)
 
-sound_inside : {p : Past} → Sound p → state_of p.exchange ≡ Outside → ⊥
-sound_inside (inactive k) e = let z : ◌≡◌ {A = ℕ} 0 1 = cc in omega arith
-sound_inside (request k pair h) e = let f = rw (pair_fits pair) at e in let z : ◌≡◌ {A = ℕ} 0 1 = cc in omega arith
-sound_inside (confirm k pair h g) e = let f = rw (pair_fits pair) at e in let z : ◌≡◌ {A = ℕ} 0 1 = cc in omega arith
-sound_inside (waiting k pair h g) e = let f = rw (pair_fits pair) at e in let z : ◌≡◌ {A = ℕ} 0 1 = cc in omega arith
-sound_inside (active k pair g) e = let f = rw (pair_fits pair) at e in let z : ◌≡◌ {A = ℕ} 0 1 = cc in omega arith
+sound_inside : {p : Past} → Sound p → state_of p.exchange ≡ None → ⊥
+sound_inside (inactive k) e = cc
+sound_inside (request k pair h) e = let f = rw (pair_fits pair) at e in cc
+sound_inside (confirm k pair h g) e = let f = rw (pair_fits pair) at e in cc
+sound_inside (waiting k pair h g) e = let f = rw (pair_fits pair) at e in cc
+sound_inside (active k pair g) e = let f = rw (pair_fits pair) at e in cc
 
 -- whichever index a report names, its answer sends nothing
 mute : (b : Bool) (a c : Answer) → a.message.kind ≡ 0 → c.message.kind ≡ 0 → (answer_if b a c).message.kind ≡ 0
 mute true a c f g = f
 mute false a c f g = g
 
-asks_kl1 : (x : KeyExchange) (input : Input) → (in_kl1 x input).message.kind ≡ generate_kind → Asking x (in_kl1 x input) KL1
+asks_kl1 : (x : KeyExchange) (input : Input) → (in_kl1 x input).message.kind ≡ generate_kind → Asking x (in_kl1 x input) (Some KL1)
 asks_kl1 x (NewKey i) e = let m : (in_kl1 x (NewKey i)).message.kind ≡ 0 = mute (eqb i x.newkey) _ _ refl refl in absurd (omega arith)
 asks_kl1 x (ExistingKey i) e = let m : (in_kl1 x (ExistingKey i)).message.kind ≡ 0 = mute (eqb i x.newkey) _ _ refl refl in absurd (omega arith)
 asks_kl1 x Tk1Expires e = again refl
@@ -86,13 +87,13 @@ asks_kl3 x BeginToSend e = omega arith
 asks_kl3 x Rekey e = omega arith
 asks_kl3 x KeyCheck e = omega arith
 
-asks : (x : KeyExchange) (input : Input) (s : State) → (move_in s x input).message.kind ≡ generate_kind → Asking x (move_in s x input) s
-asks x input KL0 e = begun
-asks x input KL1 e = asks_kl1 x input e
-asks x input KL2 e = absurd (asks_kl2 x input e)
-asks x input KL3 e = absurd (asks_kl3 x input e)
-asks x input KL4 e = anew
-asks x input Outside e = absurd (omega arith)
+asks : (x : KeyExchange) (input : Input) (s : Option State) → (move_in s x input).message.kind ≡ generate_kind → Asking x (move_in s x input) s
+asks x input (Some KL0) e = begun
+asks x input (Some KL1) e = asks_kl1 x input e
+asks x input (Some KL2) e = absurd (asks_kl2 x input e)
+asks x input (Some KL3) e = absurd (asks_kl3 x input e)
+asks x input (Some KL4) e = anew
+asks x input None e = absurd (omega arith)
 
 -- the old key, if there is one, is not the new one
 old_apart : {o n : ℕ} → Pair o n → Among (valid_keys no_key n) o → ⊥
@@ -105,8 +106,8 @@ old_invalid (knowing pair) a = old_apart pair a
 old_invalid (confirming pair) a = old_apart pair a
 old_invalid (activated pair) a = old_apart pair a
 
-not_outside : (x : KeyExchange) → state_of x ≡ KL4 → state_of x ≡ Outside → ⊥
-not_outside x e f = let z : ◌≡◌ {A = ℕ} 0 1 = cc in omega arith
+not_outside : (x : KeyExchange) → state_of x ≡ Some KL4 → state_of x ≡ None → ⊥
+not_outside x e f = cc
 
 -- the first exchange, and a rekey that brings the key of an index
 first_turn : List Input

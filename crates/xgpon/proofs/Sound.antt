@@ -11,11 +11,13 @@ use Rattle.xgpon.specs.Laws.{Within}
 use Rattle.xgpon.specs.Moves.{in_kl0, in_kl1, in_kl2, in_kl3, in_kl4, step_of}
 use Rattle.xgpon.specs.Run.{Past, answered, asks_for, played, reported_after, reports, running_at, start}
 use Rattle.xgpon.specs.Timers.{no_timer, only_tk1, tk1_and_tk2, tk1_and_tk3}
-use Rattle.xgpon.specs.Values.{kl0, kl1, kl2, kl3, kl4, no_key}
+use Rattle.xgpon.specs.Values.{no_key, state_number}
 use Rattle.xgpon.specs.declared.answers.Answer.{Answer}
 use Rattle.xgpon.specs.declared.moves.Input.{Input}
 use Rattle.xgpon.specs.declared.moves.Input.TheVariants.{NewKey, ExistingKey, Tk1Expires, Tk2Expires, Tk3Expires, Begin, BeginToSend, Rekey, KeyCheck}
 use Rattle.xgpon.specs.declared.timers.Timers.{Timers}
+use Rattle.xgpon.specs.declared.values.State.{State}
+use Rattle.xgpon.specs.declared.values.State.TheVariants.{KL0, KL1, KL2, KL3, KL4}
 use Rattle.xgpon.proofs.Pairs.{Pair, exchange, first, pair_differ, pair_fits, pair_next}
 
 -- if there is a key at that index, it was reported
@@ -26,15 +28,15 @@ pub record Held (reported : ℕ → Bool) (i : ℕ) : Type 0 where
 pub held_none : {k : ℕ → Bool} → Held k no_key
 held_none = record { known = λ l. absurd (omega arith) }
 
-abbrev past : ℕ → ℕ → ℕ → Timers → (ℕ → Bool) → Past
-past state oldkey newkey t k = record { exchange = exchange state oldkey newkey; running = t; reported = k }
+abbrev past : State → ℕ → ℕ → Timers → (ℕ → Bool) → Past
+past state oldkey newkey t k = record { exchange = exchange (state_number state) oldkey newkey; running = t; reported = k }
 
 pub data Sound : Past → Type 0 where
-  inactive : (k : ℕ → Bool) → Sound (past kl0 no_key no_key no_timer k)
-  request : {o n : ℕ} (k : ℕ → Bool) → Pair o n → Held k o → Sound (past kl1 o n tk1_and_tk2 k)
-  confirm : {o n : ℕ} (k : ℕ → Bool) → Pair o n → Held k o → Held k n → Sound (past kl2 o n only_tk1 k)
-  waiting : {o n : ℕ} (k : ℕ → Bool) → Pair o n → Held k o → Held k n → Sound (past kl3 o n tk1_and_tk3 k)
-  active : {o n : ℕ} (k : ℕ → Bool) → Pair o n → Held k n → Sound (past kl4 o n no_timer k)
+  inactive : (k : ℕ → Bool) → Sound (past KL0 no_key no_key no_timer k)
+  request : {o n : ℕ} (k : ℕ → Bool) → Pair o n → Held k o → Sound (past KL1 o n tk1_and_tk2 k)
+  confirm : {o n : ℕ} (k : ℕ → Bool) → Pair o n → Held k o → Held k n → Sound (past KL2 o n only_tk1 k)
+  waiting : {o n : ℕ} (k : ℕ → Bool) → Pair o n → Held k o → Held k n → Sound (past KL3 o n tk1_and_tk3 k)
+  active : {o n : ℕ} (k : ℕ → Bool) → Pair o n → Held k n → Sound (past KL4 o n no_timer k)
 
 -- what an answer leaves is sound, and what it stops was running
 pub record Kept (p : Past) (input : Input) (a : Answer) : Type 0 where
@@ -60,7 +62,7 @@ by_index : (P : Answer → Type 0) (b : Bool) (a c : Answer) → (b ≡ true →
 by_index P true a c f g = f refl
 by_index P false a c f g = g refl
 
-from_kl0 : (k : ℕ → Bool) (input : Input) → Kept (past kl0 no_key no_key no_timer k) input (in_kl0 (exchange kl0 no_key no_key) input)
+from_kl0 : (k : ℕ → Bool) (input : Input) → Kept (past KL0 no_key no_key no_timer k) input (in_kl0 (exchange (state_number KL0) no_key no_key) input)
 from_kl0 k (NewKey i) = kept refl (inactive _)
 from_kl0 k (ExistingKey i) = kept refl (inactive _)
 from_kl0 k Tk1Expires = kept refl (inactive _)
@@ -72,7 +74,7 @@ from_kl0 k Rekey = kept refl (inactive _)
 from_kl0 k KeyCheck = kept refl (inactive _)
 
 module _ {o n : ℕ} (k : ℕ → Bool) (pair : Pair o n) where
-  from_kl1 : Held k o → (input : Input) → Kept (past kl1 o n tk1_and_tk2 k) input (in_kl1 (exchange kl1 o n) input)
+  from_kl1 : Held k o → (input : Input) → Kept (past KL1 o n tk1_and_tk2 k) input (in_kl1 (exchange (state_number KL1) o n) input)
   from_kl1 h (NewKey i) =
       by_index (Kept _ (NewKey i)) (eqb i n) _ _
       (λ e. record {
@@ -92,7 +94,7 @@ module _ {o n : ℕ} (k : ℕ → Bool) (pair : Pair o n) where
   from_kl1 h Rekey = kept refl (request _ pair (held _ _ refl h))
   from_kl1 h KeyCheck = kept refl (request _ pair (held _ _ refl h))
 
-  from_kl2 : Held k o → Held k n → (input : Input) → Kept (past kl2 o n only_tk1 k) input (in_kl2 (exchange kl2 o n) input)
+  from_kl2 : Held k o → Held k n → (input : Input) → Kept (past KL2 o n only_tk1 k) input (in_kl2 (exchange (state_number KL2) o n) input)
   from_kl2 h g (NewKey i) = kept refl (confirm _ pair (held _ _ refl h) (held _ _ refl g))
   from_kl2 h g (ExistingKey i) = kept refl (confirm _ pair (held _ _ refl h) (held _ _ refl g))
   from_kl2 h g Tk1Expires = kept refl (inactive _)
@@ -103,7 +105,7 @@ module _ {o n : ℕ} (k : ℕ → Bool) (pair : Pair o n) where
   from_kl2 h g Rekey = kept refl (confirm _ pair (held _ _ refl h) (held _ _ refl g))
   from_kl2 h g KeyCheck = kept refl (confirm _ pair (held _ _ refl h) (held _ _ refl g))
 
-  from_kl3 : Held k o → Held k n → (input : Input) → Kept (past kl3 o n tk1_and_tk3 k) input (in_kl3 (exchange kl3 o n) input)
+  from_kl3 : Held k o → Held k n → (input : Input) → Kept (past KL3 o n tk1_and_tk3 k) input (in_kl3 (exchange (state_number KL3) o n) input)
   from_kl3 h g (NewKey i) =
       by_index (Kept _ (NewKey i)) (eqb i n) _ _
       (λ e. kept refl (waiting _ pair (held _ _ refl h) (held _ _ refl g)))
@@ -123,7 +125,7 @@ module _ {o n : ℕ} (k : ℕ → Bool) (pair : Pair o n) where
   from_kl3 h g Rekey = kept refl (waiting _ pair (held _ _ refl h) (held _ _ refl g))
   from_kl3 h g KeyCheck = kept refl (waiting _ pair (held _ _ refl h) (held _ _ refl g))
 
-  from_kl4 : Held k n → (input : Input) → Kept (past kl4 o n no_timer k) input (in_kl4 (exchange kl4 o n) input)
+  from_kl4 : Held k n → (input : Input) → Kept (past KL4 o n no_timer k) input (in_kl4 (exchange (state_number KL4) o n) input)
   from_kl4 g (NewKey i) =
       by_index (Kept _ (NewKey i)) (eqb i n) _ _
       (λ e. kept refl (active _ pair (held _ _ refl g)))

@@ -1,13 +1,13 @@
 -- Which keys may be sent under and received under in each state, in terms of the old and the new index (003, 15.5.3.2; 02, C-21).
 -- Assumes nothing.
-use Rattle.std.specs.Prelude.{ℕ}
+use Rattle.std.specs.Prelude.{ℕ, Option, Some, None}
 use Rattle.refusal.specs.Number.{number_of}
 use Rattle.refusal.specs.declared.Refusal.TheVariants.{OutOfRange}
 use Rattle.xgpon.specs.Values.{no_key, state_of}
 use Rattle.xgpon.specs.declared.keys.ValidKeys.{ValidKeys}
 use Rattle.xgpon.specs.declared.values.KeyExchange.{KeyExchange}
 use Rattle.xgpon.specs.declared.values.State.{State}
-use Rattle.xgpon.specs.declared.values.State.TheVariants.{KL0, KL1, KL2, KL3, KL4, Outside}
+use Rattle.xgpon.specs.declared.values.State.TheVariants.{KL0, KL1, KL2, KL3, KL4}
 
 abbrev pub valid_keys : ℕ → ℕ → ValidKeys
 valid_keys oldkey newkey = record { number = 0; oldkey = oldkey; newkey = newkey }
@@ -28,7 +28,6 @@ to_send_in KL2 x = valid_keys x.oldkey x.newkey
 to_send_in KL3 x = valid_keys no_key x.newkey
 -- e) "The new key is the only active key for receive and transmit"
 to_send_in KL4 x = valid_keys no_key x.newkey
-to_send_in Outside x = outside_keys
 
 -- valid to receive
 abbrev pub to_receive_in : State → KeyExchange → ValidKeys
@@ -42,10 +41,13 @@ to_receive_in KL2 x = valid_keys x.oldkey no_key
 to_receive_in KL3 x = valid_keys x.oldkey x.newkey
 -- e) "The new key is the only active key for receive and transmit"
 to_receive_in KL4 x = valid_keys no_key x.newkey
-to_receive_in Outside x = outside_keys
+
+abbrev pub keys_in : (State → KeyExchange → ValidKeys) → Option State → KeyExchange → ValidKeys
+keys_in valid (Some state) x = valid state x
+keys_in valid None x = outside_keys
 
 abbrev pub sent_under : KeyExchange → ValidKeys
-sent_under x = to_send_in (state_of x) x
+sent_under x = keys_in to_send_in (state_of x) x
 
 abbrev pub received_under : KeyExchange → ValidKeys
-received_under x = to_receive_in (state_of x) x
+received_under x = keys_in to_receive_in (state_of x) x

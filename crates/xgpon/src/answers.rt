@@ -4,7 +4,7 @@ ghost use Rattle.xgpon.specs.Answers.{accepted, awaited, confirm, generate, refu
 
 use crate::timers::{NO_TIMER, Timers};
 use crate::values::KeyExchange;
-use refusal::{Refusal, number};
+use refusal::Refusal;
 
 pub(crate) const SILENT: KeyControl = KeyControl { kind: 0, index: 0 };
 
@@ -12,7 +12,7 @@ pub const GENERATE: u8 = 1;
 
 pub const CONFIRM: u8 = 2;
 
-// A Key_Control message: its kind, 0 for none, and the key index that it names.
+// A Key_Control message: its kind, 0 for none, and the key index that it names. The kind is a number, as C reads it.
 #[repr(C)]
 #[derive(Clone, Copy)]
 pub struct KeyControl {
@@ -23,7 +23,7 @@ pub struct KeyControl {
 #[repr(C)]
 #[derive(Clone, Copy)]
 pub struct Answer {
-    // 0, or the refusal code
+    // 0, or the refusal code, as C reads it
     pub number: u8,
     pub exchange: KeyExchange,
     pub message: KeyControl,
@@ -76,7 +76,7 @@ pub fn refuse(exchange: KeyExchange, refusal: Refusal) -> Answer
     ensures { result ≡ refused exchange refusal }
 {
     Answer {
-        number: number(refusal),
+        number: u8::from(refusal),
         exchange,
         message: SILENT,
         starts: NO_TIMER,

@@ -2,14 +2,14 @@
 ghost use Rattle.std.specs.Prelude.{◌≡◌};
 ghost use Rattle.xgpon.specs.Keys.{outside_keys, received_under, sent_under, valid_keys};
 
-use crate::values::{KeyExchange, NO_KEY, State, state_of};
-use refusal::{Refusal, number};
+use crate::values::{KeyExchange, NO_KEY, State};
+use refusal::Refusal;
 
-// The keys that are valid in a direction: the index of each, 0 where it is not.
+// The keys that are valid in a direction: the index of each, 0 where it is not, as C reads them.
 #[repr(C)]
 #[derive(Clone, Copy)]
 pub struct ValidKeys {
-    // 0, or the refusal code
+    // 0, or the refusal code, as C reads it
     pub number: u8,
     pub oldkey: u8,
     pub newkey: u8,
@@ -29,7 +29,7 @@ fn outside() -> ValidKeys
     ensures { result ≡ outside_keys }
 {
     ValidKeys {
-        number: number(Refusal::OutOfRange),
+        number: u8::from(Refusal::OutOfRange),
         oldkey: NO_KEY,
         newkey: NO_KEY,
     }
@@ -38,27 +38,29 @@ fn outside() -> ValidKeys
 pub fn sent_under(x: KeyExchange) -> ValidKeys
     ensures { result ≡ sent_under x }
 {
-    let state = state_of(x);
+    let Some(state) = x.checked_state() else {
+        return outside();
+    };
     match state {
         State::KL0 => valid_keys(NO_KEY, NO_KEY),
         State::KL1 => valid_keys(x.oldkey, NO_KEY),
         State::KL2 => valid_keys(x.oldkey, x.newkey),
         State::KL3 => valid_keys(NO_KEY, x.newkey),
         State::KL4 => valid_keys(NO_KEY, x.newkey),
-        State::Outside => outside(),
     }
 }
 
 pub fn received_under(x: KeyExchange) -> ValidKeys
     ensures { result ≡ received_under x }
 {
-    let state = state_of(x);
+    let Some(state) = x.checked_state() else {
+        return outside();
+    };
     match state {
         State::KL0 => valid_keys(NO_KEY, NO_KEY),
         State::KL1 => valid_keys(x.oldkey, NO_KEY),
         State::KL2 => valid_keys(x.oldkey, NO_KEY),
         State::KL3 => valid_keys(x.oldkey, x.newkey),
         State::KL4 => valid_keys(NO_KEY, x.newkey),
-        State::Outside => outside(),
     }
 }

@@ -8,9 +8,7 @@ ghost use Rattle.xgpon.specs.Values.{fresh_exchange, in_state};
 
 use crate::answers::{Answer, SILENT, accept, await_index, confirm, generate, refuse, stay};
 use crate::timers::{NO_TIMER, ONLY_TK2, ONLY_TK3, TK1_AND_TK2, TK1_AND_TK3, Timers};
-use crate::values::{
-    FRESH, KL2, KL3, KL4, KeyExchange, NO_KEY, State, in_state, requesting, state_of,
-};
+use crate::values::{FRESH, KeyExchange, NO_KEY, State};
 use refusal::Refusal;
 
 // What the OLT is handed: a report with the key index that it names, the expiry of a timer, or a decision of its own.
@@ -28,10 +26,10 @@ pub enum Input {
 }
 
 // The awaited report has come.
-fn move_on(state: u8, x: KeyExchange, stops: Timers) -> Answer
+fn move_on(state: State, x: KeyExchange, stops: Timers) -> Answer
     ensures { result ≡ accepted (in_state state x) silent no_timer stops }
 {
-    accept(in_state(state, x), SILENT, NO_TIMER, stops)
+    accept(x.in_state(state), SILENT, NO_TIMER, stops)
 }
 
 // Generate is sent for the new key.
@@ -52,7 +50,7 @@ fn in_kl0(x: KeyExchange, input: Input) -> Answer
     ensures { result ≡ in_kl0 x input }
 {
     match input {
-        Input::Begin => request(requesting(NO_KEY), TK1_AND_TK2),
+        Input::Begin => request(KeyExchange::requesting(NO_KEY), TK1_AND_TK2),
         _ => stay(x),
     }
 }
@@ -61,7 +59,7 @@ fn in_kl1(x: KeyExchange, input: Input) -> Answer
     ensures { result ≡ in_kl1 x input }
 {
     match input {
-        Input::NewKey(index) => await_index(x, index, move_on(KL2, x, ONLY_TK2)),
+        Input::NewKey(index) => await_index(x, index, move_on(State::KL2, x, ONLY_TK2)),
         Input::ExistingKey(index) => await_index(x, index, stay(x)),
         Input::Tk1Expires => request(x, TK1_AND_TK2),
         Input::Tk2Expires => request(x, ONLY_TK2),
@@ -74,7 +72,7 @@ fn in_kl2(x: KeyExchange, input: Input) -> Answer
 {
     match input {
         Input::Tk1Expires => accept(FRESH, SILENT, NO_TIMER, NO_TIMER),
-        Input::BeginToSend => confirm_new(in_state(KL3, x)),
+        Input::BeginToSend => confirm_new(x.in_state(State::KL3)),
         _ => stay(x),
     }
 }
@@ -84,7 +82,7 @@ fn in_kl3(x: KeyExchange, input: Input) -> Answer
 {
     match input {
         Input::NewKey(index) => await_index(x, index, stay(x)),
-        Input::ExistingKey(index) => await_index(x, index, move_on(KL4, x, TK1_AND_TK3)),
+        Input::ExistingKey(index) => await_index(x, index, move_on(State::KL4, x, TK1_AND_TK3)),
         Input::Tk1Expires => accept(FRESH, SILENT, NO_TIMER, ONLY_TK3),
         Input::Tk2Expires => confirm_new(x),
         Input::Tk3Expires => confirm_new(x),
@@ -98,13 +96,14 @@ fn in_kl4(x: KeyExchange, input: Input) -> Answer
     match input {
         Input::NewKey(index) => await_index(x, index, stay(x)),
         Input::ExistingKey(index) => await_index(x, index, stay(x)),
-        Input::Rekey => request(requesting(x.newkey), TK1_AND_TK2),
+        Input::Rekey => request(KeyExchange::requesting(x.newkey), TK1_AND_TK2),
         Input::KeyCheck => accept(x, confirm(x.newkey), NO_TIMER, NO_TIMER),
         _ => stay(x),
     }
 }
 
 // A key exchange that has not begun. What holds of every step, and of every run from here, stands in the contract.
+#[tactic(auto, using(crate::proofs::Laws::laws))]
 pub fn fresh() -> KeyExchange
     ensures value { result ≡ fresh_exchange }
     ensures laws { Laws }
@@ -115,13 +114,14 @@ pub fn fresh() -> KeyExchange
 pub fn step(x: KeyExchange, input: Input) -> Answer
     ensures { result ≡ step_of x input }
 {
-    let state = state_of(x);
+    let Some(state) = x.checked_state() else {
+        return refuse(x, Refusal::OutOfRange);
+    };
     match state {
         State::KL0 => in_kl0(x, input),
         State::KL1 => in_kl1(x, input),
         State::KL2 => in_kl2(x, input),
         State::KL3 => in_kl3(x, input),
         State::KL4 => in_kl4(x, input),
-        State::Outside => refuse(x, Refusal::OutOfRange),
     }
 }

@@ -8,7 +8,7 @@ pub const TK2_START_MS: u32 = 10;
 
 pub const TK3_START_MS: u32 = 10;
 
-// A flag for each timer, 0 or 1.
+// A flag for each timer, 0 or 1: an octet, as C reads it.
 #[repr(C)]
 #[derive(Clone, Copy)]
 pub struct Timers {

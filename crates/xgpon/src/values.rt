@@ -2,22 +2,13 @@
 ghost use Rattle.std.specs.Prelude.{◌≡◌};
 ghost use Rattle.xgpon.specs.Values.{index_after, in_state, keys_fit, requesting, state_named, state_of};
 
-pub const KL0: u8 = 0;
-
-pub const KL1: u8 = 1;
-
-pub const KL2: u8 = 2;
-
-pub const KL3: u8 = 3;
-
-pub const KL4: u8 = 4;
-
 pub(crate) const NO_KEY: u8 = 0;
 
 pub(crate) const FIRST_INDEX: u8 = 1;
 
 pub(crate) const SECOND_INDEX: u8 = 2;
 
+// What C lends and is answered: numbers, so that any may be lent.
 #[repr(C)]
 #[derive(Clone, Copy)]
 pub struct KeyExchange {
@@ -30,81 +21,88 @@ pub struct KeyExchange {
 }
 
 pub(crate) const FRESH: KeyExchange = KeyExchange {
-    state: KL0,
+    state: State::KL0 as u8,
     oldkey: NO_KEY,
     newkey: NO_KEY,
 };
 
-// The states, and what any other numbers stand for.
-#[derive(Clone, Copy)]
+// The states, in the order of their numbers.
+#[derive(Clone, Copy, PartialEq, Eq, Debug)]
 pub enum State {
     KL0,
     KL1,
     KL2,
     KL3,
     KL4,
-    Outside,
 }
 
 // The index of the key that is asked for while the key at `active` is in use.
-pub(crate) fn index_after(active: u8) -> u8
+fn index_after(active: u8) -> u8
     ensures { result ≡ index_after active }
 {
     if active == FIRST_INDEX {
-        return SECOND_INDEX;
-    }
-    FIRST_INDEX
-}
-
-fn state_named(state: u8) -> State
-    ensures { result ≡ state_named state }
-{
-    match state {
-        0 => State::KL0,
-        1 => State::KL1,
-        2 => State::KL2,
-        3 => State::KL3,
-        4 => State::KL4,
-        _ => State::Outside,
+        SECOND_INDEX
+    } else {
+        FIRST_INDEX
     }
 }
 
-fn keys_fit(state: State, oldkey: u8, newkey: u8) -> bool
-    ensures { result ≡ keys_fit state oldkey newkey }
-{
-    match state {
-        State::KL0 => (oldkey == NO_KEY) & (newkey == NO_KEY),
-        State::Outside => false,
-        _ => (oldkey <= SECOND_INDEX) & (newkey == index_after(oldkey)),
+impl State {
+    fn named(number: u8) -> Option<State>
+        ensures { result ≡ state_named number }
+    {
+        match number {
+            0 => Some(State::KL0),
+            1 => Some(State::KL1),
+            2 => Some(State::KL2),
+            3 => Some(State::KL3),
+            4 => Some(State::KL4),
+            _ => None,
+        }
+    }
+
+    // Whether an exchange may have these keys in this state.
+    fn is_with(self, oldkey: u8, newkey: u8) -> bool
+        ensures { result ≡ keys_fit self oldkey newkey }
+    {
+        match self {
+            State::KL0 => (oldkey == NO_KEY) & (newkey == NO_KEY),
+            _ => (oldkey <= SECOND_INDEX) & (newkey == index_after(oldkey)),
+        }
     }
 }
 
-pub(crate) fn state_of(exchange: KeyExchange) -> State
-    ensures { result ≡ state_of exchange }
-{
-    let state = state_named(exchange.state);
-    if keys_fit(state, exchange.oldkey, exchange.newkey) {
-        return state;
+impl KeyExchange {
+    // A new key is requested.
+    pub(crate) fn requesting(active: u8) -> KeyExchange
+        ensures { result ≡ requesting active }
+    {
+        KeyExchange {
+            state: State::KL1 as u8,
+            oldkey: active,
+            newkey: index_after(active),
+        }
     }
-    State::Outside
-}
 
-pub(crate) fn in_state(state: u8, exchange: KeyExchange) -> KeyExchange
-    ensures { result ≡ in_state state exchange }
-{
-    KeyExchange {
-        state,
-        oldkey: exchange.oldkey,
-        newkey: exchange.newkey,
+    // The state of an exchange whose numbers are of their values.
+    pub(crate) fn checked_state(self) -> Option<State>
+        ensures { result ≡ state_of self }
+    {
+        let state = State::named(self.state)?;
+        if state.is_with(self.oldkey, self.newkey) {
+            Some(state)
+        } else {
+            None
+        }
     }
-}
 
-pub(crate) fn requesting(active: u8) -> KeyExchange
-    ensures { result ≡ requesting active }
-{
-    KeyExchange {
-        state: KL1,
-        oldkey: active,
-        newkey: index_after(active),
+    // That state, with the keys as they are.
+    pub(crate) fn in_state(self, state: State) -> KeyExchange
+        ensures { result ≡ in_state state self }
+    {
+        KeyExchange {
+            state: state as u8,
+            ..self
+        }
     }
 }

@@ -1,26 +1,20 @@
 -- `envelope::count` meets its contract: the sum over the EQs counted. Assumes nothing.
-use Prim.Native.Nat.{◌-◌}
-use Rattle.octets.proofs.Lists.{sum_suc, sum_below}
+use Prim.Native.Nat.{◌-◌, ◌/◌, ◌<◌}
+use lib.ListN.{length}
+use Rattle.octets.proofs.Lists.{sum_more, sum_below}
 use Rattle.envelope.specs.ControlMask.{control_octet}
-use borrow.Author.Rules.{rules}
+use Rattle.envelope.proofs.ControlMask.{control_of}
 use lib.Count.{ones}
-use mathlib.Core.Path.{refl}
-use native.Mathlib.Nat.{zero-add}
-use native.Mathlib.Numerals.{add-one}
 use native.Mathlib.Omega.{arith}
 use Rattle.envelope.proofs.count.Goals as goal
 
 pub overflow_add-sum : goal.overflow_add-sum
 overflow_add-sum c =
-    omega (
-      arith,
-      c.well_formed,
-      sum_below 0 c.loop-e.e 8 (λ i. 8 - ones (control_octet c.args.payload.now i)) (λ k. omega arith),
-    )
+    omega (arith, sum_below 0 c.loop-eq.eq-index 8 (λ i. 8 - ones (control_octet c.args.payload.now i)) (λ k. omega arith))
 
-pub loop-e-preserved : goal.loop-e-preserved
-loop-e-preserved c = (
-  search rules,
-  refl,
-  rw (c.loop-e.invariant.2, c.ones_in.ensures.0, add-one, sum_suc, zero-add),
-)
+pub loop-eq-preserved : goal.loop-eq-preserved
+loop-eq-preserved c =
+    let p = c.args.payload.now in
+    let e = c.loop-eq.eq-index in
+    let within : e < length p / 9 = omega (arith, c.as_chunks.ensures.front_len) in
+    rw (sum_more, c.loop-eq.invariant, c.ones_in.ensures.0, c.as_chunks.ensures.front, control_of (length p / 9) p e within)

@@ -1,32 +1,29 @@
 -- `exercise::first` meets its contract. The loop's invariant: no step that is passed matters. Assumes nothing.
-use mathlib.Core.Path.{◌≡◌, sym, ap, ◌∙◌}
-use mathlib.Core.Bool.{not}
-use Prim.Native.Nat.{◌+◌, ◌-◌, ◌≤◌}
-use native.Mathlib.Omega.{arith}
-use borrow.Author.Rules.{rules}
-use Rattle.exercise.specs.Losses.{matters, first_from}
-use Rattle.exercise.proofs.Scripts.{from_start, sizes, first_on, first_here, first_end}
+use Rattle.std.proofs.Common.{◌≡◌, ◌+◌, ◌-◌, sym, ◌∙◌, arith}
+use Rattle.exercise.proofs.Scripts.{sizes, matters_told, first_on, first_here, first_end}
 use Rattle.exercise.proofs.first.Goals as goal
 
 pub steps_in-steps-requires : goal.steps_in-steps-requires
 steps_in-steps-requires c = (sizes _ c.requires).interval
 
--- the step of this turn matters
-pub returns-then-not-same_figures : goal.returns-then-not-same_figures
-unfolding matters
-returns-then-not-same_figures c =
-    let told : matters c.args.s.now (c.loop-i.i + 1) ≡ not c.same_figures.result =
-    rw (c.same_figures.ensures, c.play_without-whole.ensures, c.play_without-without.ensures) in
-    rw (← c.steps_in-steps.ensures)
-    (sym (c.loop-i.invariant.1 ∙ first_here _ _ _ c.loop-i-test.true (told ∙ ap not c.if-not-same_figures.true)))
+pub returns-then-ne : goal.returns-then-ne
+returns-then-ne c =
+    let told = matters_told _ _ _ _ _ _ c.play_without-whole.ensures c.play_without.ensures c.ne.ensures c.if-ne.true in
+    rw (← c.steps_in-steps.ensures) (sym (c.loop-k.invariant ∙ first_here _ _ _ (omega arith) c.loop-k-test.true told))
 
-pub loop-i-preserved : goal.loop-i-preserved
-unfolding matters
-loop-i-preserved c =
-    let told : matters c.args.s.now (c.loop-i.i + 1) ≡ not c.same_figures.result =
-    rw (c.same_figures.ensures, c.play_without-whole.ensures, c.play_without-without.ensures) in
-    (omega arith, c.loop-i.invariant.1 ∙ first_on _ _ _ c.loop-i-test.true (told ∙ ap not c.if-not-same_figures.false))
+pub loop-k-preserved : goal.loop-k-preserved
+loop-k-preserved c =
+    let told = matters_told _ _ _ _ _ _ c.play_without-whole.ensures c.play_without.ensures c.ne.ensures c.if-ne.false in
+    let f : c.steps_in-steps.result + 1 - (c.loop-k.k + 1) ≡ c.steps_in-steps.result - c.loop-k.k = omega arith in
+    let g : c.loop-k.k + 1 - 1 ≡ c.loop-k.k = omega arith in
+    rw (f, g) (c.loop-k.invariant ∙ first_on _ _ _ (omega arith) c.loop-k-test.true told)
 
 pub returns : goal.returns
 returns c =
-    rw (← c.steps_in-steps.ensures) (sym (c.loop-i.invariant.1 ∙ first_end _ _ _ (omega arith)))
+    rw (← c.steps_in-steps.ensures) (sym (c.loop-k.invariant ∙ first_end _ _ _ (omega arith)))
+
+pub returns-else-ne : goal.returns-else-ne
+returns-else-ne c =
+    let told = matters_told _ _ _ _ _ _ c.play_without-whole.ensures c.play_without.ensures c.ne.ensures c.if-ne.false in
+    rw (← c.steps_in-steps.ensures)
+    (sym (c.loop-k.invariant ∙ first_on _ _ _ (omega arith) c.loop-k-test.true told ∙ first_end _ _ _ (omega arith)))

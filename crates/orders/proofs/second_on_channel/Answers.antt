@@ -5,4 +5,4 @@ use Rattle.orders.proofs.Example.{demand}
 use Rattle.orders.proofs.second_on_channel.Goals as goal
 
 pub returns : goal.returns
-returns c = record { value = c.number.ensures ∙ sym demand.example.one_channel.after_first; demand = demand }
+returns c = record { value = c.from.ensures ∙ sym demand.example.one_channel.after_first; demand = demand }

@@ -1,18 +1,6 @@
--- `planes::rearrange` meets its contract: a refusal, or all octets moved; the laws hold of every payload. Assumes nothing.
-use Rattle.planes.proofs.Calls.{accepted_size, writing_accepted, writing_refused}
+-- `planes::rearrange` meets its contract: the laws hold of every payload. Assumes nothing.
 use Rattle.planes.proofs.Planes.{planes_laws}
-use mathlib.Core.Path.{sym, ◌∙◌}
 use Rattle.planes.proofs.rearrange.Goals as goal
 
-pub rearrange_blocks-requires : goal.rearrange_blocks-requires
-rearrange_blocks-requires c =
-    accepted_size _ _ (sym c.length_verdict.ensures ∙ c.in-Accepted.is)
-
-pub returns-in-Refused : goal.returns-in-Refused
-returns-in-Refused c =
-    record { output_after = writing_refused _ _ _ _ (sym c.length_verdict.ensures ∙ c.in-Refused.is); planes_laws_if_whole = planes_laws _ }
-
-pub returns-in-Accepted : goal.returns-in-Accepted
-returns-in-Accepted c =
-    let judged = sym c.length_verdict.ensures ∙ c.in-Accepted.is in
-    record { output_after = writing_accepted _ _ _ _ judged c.rearrange_blocks.ensures; planes_laws_if_whole = planes_laws _ }
+pub returns-clause-planes_laws_if_whole : goal.returns-clause-planes_laws_if_whole
+returns-clause-planes_laws_if_whole c = planes_laws _

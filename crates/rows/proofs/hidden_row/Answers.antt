@@ -1,13 +1,10 @@
 -- `rows::hidden_row` meets its contract: the number and a dash, on an empty line. Assumes nothing.
-use native.Mathlib.Omega.{arith}
-use Rattle.rows.proofs.Lines.{decimal_few}
+use Rattle.std.proofs.Common.{arith}
+use Rattle.rows.specs.Text.{hidden_row}
+use Rattle.rows.proofs.Lines.{both_grown, held, decimal_few}
 use Rattle.rows.proofs.hidden_row.Goals as goal
 
-pub decimal-requires : goal.decimal-requires
-decimal-requires c = omega (arith, decimal_few c.args.k)
-
-pub push2-requires : goal.push2-requires
-push2-requires c = omega (arith, decimal_few c.args.k)
-
-pub push-requires : goal.push-requires
-push-requires c = omega (arith, decimal_few c.args.k)
+pub returns : goal.returns
+unfolding hidden_row
+returns c =
+    held c.new-line.ensures (both_grown c.put_decimal.ensures c.push_all.ensures) (omega (arith, decimal_few c.args.k))

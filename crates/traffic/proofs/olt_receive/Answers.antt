@@ -17,7 +17,7 @@ carry_accepted-work-requires c =
     let at = c.locate-at.result in
     let here : at ≡ located_of a.olt (receive_ahead (misfit a.octets.now a.output.now) a.header) a.header.llid =
     rw c.receive_ahead-ahead.ensures at c.locate-at.ensures.value in
-    let decided : let d = c.receive-done.result in outcome a.olt.shared d.verdict d.unit d.passage
+    let decided : let d = c.receive-done.result in outcome a.olt.shared d.verdict d.after d.handed
     ≡ receive_decided a.olt a.header a.octets.now a.output.now at =
     c.receive-done.ensures in
     receive_fits _ _ _ _ _ here _ decided
@@ -29,7 +29,7 @@ returns-clause-output_after c =
     let at = c.locate-at.result in
     let here : at ≡ located_of a.olt (receive_ahead (misfit a.octets.now a.output.now) a.header) a.header.llid =
     rw c.receive_ahead-ahead.ensures at c.locate-at.ensures.value in
-    let decided : let d = c.receive-done.result in outcome a.olt.shared d.verdict d.unit d.passage
+    let decided : let d = c.receive-done.result in outcome a.olt.shared d.verdict d.after d.handed
     ≡ receive_decided a.olt a.header a.octets.now a.output.now at =
     c.receive-done.ensures in
     rw c.verdict_number-number.ensures

@@ -1,22 +1,13 @@
 -- `traffic::onu_receive` meets its contract: what `receive` decides is the reply, and what is then carried is what the reply leaves. Assumes nothing.
 use mathlib.Core.Path.{◌≡◌}
-use Rattle.traffic.specs.Passages.{misfit}
-use Rattle.traffic.specs.Receipts.{onu_receiving}
-use Rattle.traffic.proofs.Receipts.{onu_receive_decided, onu_receive_fits, onu_receive_done}
+use Rattle.traffic.specs.Passages.{misfit, onu_decided}
+use Rattle.traffic.proofs.Receipts.{onu_receive_decided, onu_receive_done}
 use Rattle.traffic.proofs.onu_receive.Goals as goal
 
-pub carry_accepted-work-requires : goal.carry_accepted-work-requires
-unfolding onu_receiving misfit
-carry_accepted-work-requires c =
-    let a = c.args in
-    let d : c.receive-decided.result ≡ onu_receiving (onu_receive_decided a.onu a.header a.octets.now a.output.now)
-    = rw c.misfit-misfit.ensures at c.receive-decided.ensures in
-    rw d (onu_receive_fits _ _ _ _)
-
 pub returns : goal.returns
-unfolding onu_receiving misfit
+unfolding onu_decided misfit
 returns c =
     let a = c.args in
-    let d : c.receive-decided.result ≡ onu_receiving (onu_receive_decided a.onu a.header a.octets.now a.output.now)
+    let d : c.receive-decided.result ≡ onu_decided (onu_receive_decided a.onu a.header a.octets.now a.output.now)
     = rw c.misfit-misfit.ensures at c.receive-decided.ensures in
     rw (c.verdict_number.ensures, d) (onu_receive_done _ _ _ _ _ _ (rw d at c.carry_accepted-work.ensures))

@@ -1,4 +1,5 @@
 -- `capture::opening::open_as` meets its contract: what the verdict says is done, and the output is kept or opened in place accordingly. Assumes nothing.
+use Rattle.std.specs.Prelude.{Ok}
 use mathlib.Core.Path.{refl, ap, ◌∙◌}
 use Prim.Native.Nat.{◌+◌}
 use native.Mathlib.Omega.{arith}
@@ -16,7 +17,7 @@ open_part-requires c =
     let size = c.record_octets.ensures in
     let eqs = ap (λ (q : Header). q.eqs) c.requires.settled.header in
     -- the record can be opened under this index and at this clock
-    let opens = c.requires.settled.opens c.in-Sealed.index c.in-Sealed.clock c.in-Sealed.is in
+    let opens = c.requires.settled.opens c.in-Sealed.index c.in-Sealed.clock (c.in-Ok.is ∙ ap Ok c.in-Sealed.is) in
     record {
       span = record {
         header = omega (arith, size);
@@ -25,23 +26,23 @@ open_part-requires c =
         size = ready.size;
         most = ready.most;
       };
-      nonce_value = nonce_fits-holds c.args.h _ _ opens.fits c.mac.ensures.1 opens.clock;
+      nonce_value = nonce_fits-holds c.args.turn.header _ _ opens.fits c.mac.ensures.1 opens.clock;
     }
 
 pub returns-in-Clear : goal.returns-in-Clear
 unfolding added_as written_as
 returns-in-Clear c =
-    rw c.in-Clear.is (record {
+    rw (c.in-Ok.is, c.in-Clear.is) (record {
       took_as = record { count = refl; runs = refl };
-      output_after = kept_record c.args.block.now c.args.output.now c.args.from c.requires.ready.same;
+      output_after = kept_record c.args.block.now c.args.output.now c.args.turn.from c.requires.ready.same;
     })
 
-pub returns-in-Refused : goal.returns-in-Refused
+pub returns-in-Err : goal.returns-in-Err
 unfolding added_as written_as
-returns-in-Refused c =
-    rw c.in-Refused.is (record {
+returns-in-Err c =
+    rw c.in-Err.is (record {
       took_as = record { count = refl; runs = refl };
-      output_after = kept_record c.args.block.now c.args.output.now c.args.from c.requires.ready.same;
+      output_after = kept_record c.args.block.now c.args.output.now c.args.turn.from c.requires.ready.same;
     })
 
 pub returns-in-Sealed : goal.returns-in-Sealed
@@ -53,14 +54,14 @@ returns-in-Sealed c =
     let j = c.in-Sealed.index in
     let size = c.record_octets.ensures in
     -- the record can be opened under this index and at this clock
-    let opens = c.requires.settled.opens c.in-Sealed.index c.in-Sealed.clock c.in-Sealed.is in
+    let opens = c.requires.settled.opens c.in-Sealed.index c.in-Sealed.clock (c.in-Ok.is ∙ ap Ok c.in-Sealed.is) in
     let key = ap (λ (w : RoundKeys). w.octets) c.key_for.ensures ∙ key_expanded _ _ j ready.expanded opens.present opens.index in
     let o =
-    opened_by a.settings.now a.block.now a.output.now a.from ready.same j c.in-Sealed.clock c.mac.result
-    c.cleared.result a.h c.key_for.result.octets (a.from + c.record_octets.result) header (rw size)
+    opened_by a.settings.now a.block.now a.output.now a.turn.from ready.same j c.in-Sealed.clock c.mac.result
+    c.cleared.result a.turn.header c.key_for.result.octets (a.turn.from + c.record_octets.result) header (rw size)
     (omega (arith, ap (λ (q : Header). q.eqs) header, ready.inside)) c.cleared.ensures
     c.mac.ensures.0 key in
-    rw c.in-Sealed.is (record {
+    rw (c.in-Ok.is, c.in-Sealed.is) (record {
       took_as = record { count = q.took.count ∙ o.0 count_enciphered; runs = q.took.runs ∙ o.0 runs };
       output_after = q.output_after ∙ o.1;
     })

@@ -3,43 +3,17 @@
 use mathlib.Core.Path.{◌≡◌, refl, sym, ◌∙◌}
 use Prim.Native.Nat.{◌+◌, ◌-◌}
 use native.Mathlib.Omega.{arith}
-use Rattle.directory.specs.declared.payload.Bounds.TheVariants.{Within}
-use Rattle.directory.specs.Payload.{payload_bounds}
-use Rattle.directory.proofs.Records.{Bounded, bounded, refused_part}
+use Rattle.directory.proofs.Records.{bounded, refused_part}
 use Rattle.directory.proofs.payload.part.Goals as goal
 
-pub overflow_add-to : goal.overflow_add-to
-overflow_add-to c =
-    -- what was located are the bounds of the definition
-    let located : (let a = c.args in payload_bounds a.block.now a.k ≡ Within c.in-Within.from c.in-Within.octets) =
-    sym c.locate.ensures ∙ c.in-Within.is in
-    let is-bounded : (let a = c.args in Bounded a.block.now a.k c.in-Within.from c.in-Within.octets) =
-    bounded _ _ _ _ located in
-    omega (arith, is-bounded.inside)
-
-pub slice_bounds-result-end : goal.slice_bounds-result-end
-slice_bounds-result-end c =
-    -- what was located are the bounds of the definition
-    let located : (let a = c.args in payload_bounds a.block.now a.k ≡ Within c.in-Within.from c.in-Within.octets) =
-    sym c.locate.ensures ∙ c.in-Within.is in
-    let is-bounded : (let a = c.args in Bounded a.block.now a.k c.in-Within.from c.in-Within.octets) =
-    bounded _ _ _ _ located in
-    omega (arith, is-bounded.inside)
-
-pub returns-in-Within : goal.returns-in-Within
-returns-in-Within c =
-    -- what was located are the bounds of the definition
-    let located : (let a = c.args in payload_bounds a.block.now a.k ≡ Within c.in-Within.from c.in-Within.octets) =
-    sym c.locate.ensures ∙ c.in-Within.is in
-    let is-bounded : (let a = c.args in Bounded a.block.now a.k c.in-Within.from c.in-Within.octets) =
-    bounded _ _ _ _ located in
-    let from = c.in-Within.from in
-    let n = c.in-Within.octets in
-    let e : from + n - from ≡ n = omega arith in
-    let w = is-bounded in
+pub returns-in-Ok : goal.returns-in-Ok
+returns-in-Ok c =
+    let located = sym c.locate.ensures ∙ c.in-Ok.is in
+    let w = bounded _ _ _ _ located in
+    let e : c.in-Ok.bounds.from + c.in-Ok.bounds.octets - c.in-Ok.bounds.from ≡ c.in-Ok.bounds.octets = omega arith in
     record { result_value = rw e w.octets; part_of = rw located (record { memory = refl; offset = refl; inside = w.inside; octets = rw e }) }
 
-pub returns-in-Refused : goal.returns-in-Refused
-returns-in-Refused c =
-    let q = sym c.locate.ensures ∙ c.in-Refused.is in
+pub returns-in-Err : goal.returns-in-Err
+returns-in-Err c =
+    let q = sym c.locate.ensures ∙ c.in-Err.is in
     record { result_value = sym (refused_part _ _ _ q); part_of = rw q (record { memory = refl; offset = refl; inside = omega arith; octets = refl }) }

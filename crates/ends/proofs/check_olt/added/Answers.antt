@@ -1,62 +1,45 @@
 -- `ends::check_olt::added` meets its contract: the first j of the LLIDs stand behind those before, no LLID twice, and the marks tell of them all.
 -- Assumes nothing.
-use Rattle.std.proofs.Common.{◌≡◌, ℕ, ◌+◌, ◌-◌, ◌<◌, false, length, get_or, take, sym, ◌∙◌, append_assoc, append-nil, arith, length-set}
-use Rattle.octets.specs.Lists.{tabulate}
-use Rattle.octets.proofs.Choice.{true_false}
-use Rattle.octets.proofs.Steps.{tabulate_step, tabulate_end}
-use Rattle.ends.specs.Identities.{among, llids_of}
-use Rattle.ends.proofs.Identities.{distinct_again, distinct_more}
-use Rattle.ends.proofs.Marks.{place_below, marked_step}
-use Rattle.ends.proofs.Walks.{take_more}
+use Rattle.std.proofs.Common.{◌≡◌, ◌+◌, ◌<◌, ◌≤◌, ◌++◌, length, take, get_or, sym, ◌∙◌, arith, rules, length-set, length-take-le, take_all}
+use Rattle.ends.specs.Identities.{llids_of}
+use Rattle.ends.proofs.Identities.{distinct_more}
+use Rattle.ends.proofs.Marks.{marked_step}
+use Rattle.ends.proofs.Walks.{llids_taken, take_more, taken_again, taken_more}
 use Rattle.ends.proofs.check_olt.added.Goals as goal
 
--- a mark's place is one of the marks
-pub bounds-marks-m : goal.bounds-marks-m
-bounds-marks-m c =
-    let l = c.loop-j in
-    omega (arith, c.mark_place-m.ensures, place_below (get_or c.args.identity.llids l.j 0), l.invariant.5.places)
-
-pub bounds-marks-m-in-loop-j : goal.bounds-marks-m-in-loop-j
-bounds-marks-m-in-loop-j c =
-    let l = c.loop-j in
-    omega (arith, c.mark_place-m.ensures, place_below (get_or c.args.identity.llids l.j 0), l.invariant.5.places)
-
-pub returns-then-stands : goal.returns-then-stands
-unfolding llids_of
-returns-then-stands c =
-    let a = c.args in
-    let here = c.loop-j in
-    let f : ℕ → ℕ = λ k. get_or a.identity.llids k 0 in
-    let e = rw (tabulate_step here.j a.identity.count f (omega arith)) at here.invariant.3 in
-    let again = distinct_again (take (a.n + here.j) here.list) (f here.j) (tabulate (here.j + 1) (a.identity.count - (here.j + 1)) f)
-    (sym c.stands.ensures ∙ c.if-stands.true) in
-    record { value = sym (rw e at again); list_after = (λ z. true_false (sym z)); marked_2 = (λ z. true_false (sym z)) }
+pub returns-then-stands-clause-value : goal.returns-then-stands-clause-value
+returns-then-stands-clause-value c =
+    let i = c.args.identity in
+    let few : i.count ≤ length i.llids = search rules in
+    let len = length-take-le i.count i.llids few in
+    rw (llids_taken i few)
+    (sym (taken_again _ _ (take i.count i.llids) c.loop-j.j c.loop-j.invariant.2 (omega arith) (sym c.stands.ensures ∙ c.if-stands.true)))
 
 pub loop-j-preserved : goal.loop-j-preserved
 loop-j-preserved c =
-    let a = c.args in
+    let i = c.args.identity in
     let here = c.loop-j in
     let v = here.invariant in
-    let f : ℕ → ℕ = λ k. get_or a.identity.llids k 0 in
-    let at_place = c.mark_place-m.ensures in
-    let low : a.n + here.j < length here.list = omega (arith, v.1) in
-    let new : among (f here.j) (take (a.n + here.j) here.list) ≡ false = sym c.stands.ensures ∙ c.if-stands.false in (
-      omega arith,
+    let n = c.args.n in
+    let x = get_or (take i.count i.llids) here.j 0 in
+    let few : i.count ≤ length i.llids = search rules in
+    let len = length-take-le i.count i.llids few in
+    let low : n + here.j < length here.list = omega (arith, v.0) in (
+      simp length-set v.0,
       simp length-set v.1,
-      simp length-set v.2,
-      rw (take_more here.list a.n here.j (f here.j) low, append_assoc)
-          (rw (tabulate_step here.j a.identity.count f (omega arith)) at v.3),
-      rw (take_more here.list a.n here.j (f here.j) low) (distinct_more _ (f here.j) v.4 new),
-      marked_step here.list here.marks a.n here.j (f here.j) _ _ low (omega arith) at_place
-          c.next_mark.ensures v.5,
+      taken_more (take n c.args.list.now) here.list (take i.count i.llids) n here.j v.2 low (omega arith),
+      rw (take_more here.list n here.j x low) (distinct_more _ x v.3 (sym c.stands.ensures ∙ c.if-stands.false)),
+      marked_step here.list here.marks n here.j x _ _ low (omega arith) c.mark_place-m.ensures c.next_mark.ensures v.4,
     )
 
 pub returns : goal.returns
-unfolding llids_of
 returns c =
-    let a = c.args in
+    let i = c.args.identity in
     let here = c.loop-j in
     let v = here.invariant in
-    let e : here.j ≡ a.identity.count = omega arith in
-    let all = rw (tabulate_end here.j a.identity.count (λ k. get_or a.identity.llids k 0) (omega arith), append-nil, e) at v.3 in
-    record { value = sym (rw (e, all) at v.4); list_after = (λ z. all); marked_2 = (λ z. rw e at v.5) }
+    let few : i.count ≤ length i.llids = search rules in
+    let len = length-take-le i.count i.llids few in
+    let end : here.j ≡ i.count = omega arith in
+    let all : take (c.args.n + i.count) here.list ≡ take c.args.n c.args.list.now ++ llids_of i =
+    rw (llids_taken i few) (rw (end, take_all i.count (take i.count i.llids) (omega arith)) at v.2) in
+    record { value = sym (rw (end, all) at v.3); list_after = λ z. all; marked_2 = λ z. rw end at v.4 }

@@ -1,54 +1,18 @@
--- `ends::search::meets_table` meets its contract: none of the first i units has an LLID of the identity, so that the others decide.
--- Assumes nothing.
-use Rattle.std.proofs.Common.{◌≡◌, ◌<◌, List, length, sym, ap, ◌∙◌, arith, rules}
-use Rattle.octets.proofs.Steps.{first_end, first_past}
-use Rattle.ends.specs.Limits.{max_units}
-use Rattle.ends.specs.Identities.{meets, llids_of}
-use Rattle.ends.specs.Table.{past_unit}
+-- `ends::search::meets_table` meets its contract: the identities of the first units are tried in turn. Assumes nothing.
+use Rattle.std.proofs.Common.{take, rules, tests}
+use Rattle.std.proofs.lemmas.Iterator.{YieldsList-from_slice, YieldsList-from_take}
+use Rattle.std.proofs.lemmas.Iterator.Search.{any_from_yields_List}
+use Rattle.octets.proofs.Maps.{map_take}
+use Rattle.ends.specs.Identities.{llids_of, meets}
 use Rattle.ends.specs.declared.Identity.{Identity}
-use Rattle.ends.proofs.Walks.{identity_at, length_mapped, table_hit, table_miss, table_none}
+use Rattle.ends.proofs.Table.{identity_of}
+use Rattle.ends.proofs.Words.{table_any}
 use Rattle.ends.proofs.search.meets_table.Goals as goal
-
-pub returns-then-count-i : goal.returns-then-count-i
-returns-then-count-i c =
-    let a = c.args in
-    let here = c.loop-i in
-    sym (here.invariant.1 a.units c.identities-table.ensures
-    ∙ table_none _ _ (first_end a.count a.units here.i c.if-count-i.true))
-
-pub returns-then-shares : goal.returns-then-shares
-unfolding past_unit
-returns-then-shares c =
-    let a = c.args in
-    let here = c.loop-i in
-    let len : length a.units ≡ max_units = search rules in
-    let k : here.i < length a.units = omega arith in
-    sym (here.invariant.1 a.units c.identities-table.ensures
-    ∙ table_hit _ a.count a.units here.i past_unit c.if-count-i.false k
-    (sym (ap (λ (j : Identity). meets (llids_of a.identity) (llids_of j))
-    (identity_at _ a.units here.i past_unit _ c.identities-table.ensures k))
-    ∙ sym c.shares.ensures ∙ c.if-shares.true))
-
-pub loop-i-preserved : goal.loop-i-preserved
-unfolding past_unit
-loop-i-preserved c =
-    let a = c.args in
-    let here = c.loop-i in
-    let len : length c.identities-table.result ≡ max_units = search rules in (
-      omega arith,
-      λ us t.
-          let all_of : length us ≡ max_units = length_mapped _ us max_units (sym (ap (λ (l : List Identity). length l) t) ∙ len) in
-          let k : here.i < length us = omega arith in
-          here.invariant.1 us t
-          ∙ table_miss _ a.count us here.i past_unit c.if-count-i.false k
-          (sym (ap (λ (j : Identity). meets (llids_of a.identity) (llids_of j)) (identity_at _ us here.i past_unit _ t k))
-          ∙ sym c.shares.ensures ∙ c.if-shares.false),
-    )
 
 pub returns : goal.returns
 returns c =
     let a = c.args in
-    let here = c.loop-i in
-    let len : length a.units ≡ max_units = search rules in
-    sym (here.invariant.1 a.units c.identities-table.ensures
-    ∙ table_none _ _ (first_past a.count a.units here.i (omega arith)))
+    let met =
+    any_from_yields_List (λ (i : Identity). meets (llids_of a.identity) (llids_of i)) _ _ c.any.result c.any.ensures.ran
+    (YieldsList-from_take a.count (YieldsList-from_slice c.identities-table.result (cc)) (cc)) (λ x b q k. search (rules, tests)) in
+    rw (table_any (llids_of a.identity) (take a.count a.units), map_take identity_of a.count a.units) (rw c.identities-table.ensures at met)

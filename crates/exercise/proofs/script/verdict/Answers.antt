@@ -1,11 +1,9 @@
 -- `exercise::script::verdict` meets its contract: 1, then 26. Assumes nothing.
 use mathlib.Core.Path.{◌≡◌, sym, ◌∙◌}
 use mathlib.Core.Bool.{true}
-use borrow.Author.Tests.{not-true, not-false, leb-true}
-use borrow.Author.Rules.{rules}
+use borrow.Author.Tests.{leb-true}
 use Rattle.octets.proofs.Choice.{both_left}
-use Rattle.refusal.specs.Order.{refuse_if}
-use Rattle.exercise.specs.Script.{interval_octets, interval_fits, script_verdict}
+use Rattle.exercise.specs.Script.{interval_octets, interval_fits}
 use Rattle.exercise.proofs.script.verdict.Goals as goal
 
 -- the interval is in range

@@ -1,11 +1,9 @@
 -- `headend::at_head::acknowledge` meets its contract: the unit or the group that the LLID names decides, and is put back. Assumes nothing.
+use Rattle.std.specs.Prelude.{ℕ, Option}
 use mathlib.Core.Path.{◌≡◌, sym, ap, ap₂, ◌∙◌}
 use Rattle.octets.specs.Choice.{both}
-use Rattle.refusal.specs.declared.Verdict.{Verdict}
-use Rattle.refusal.specs.declared.Verdict.TheVariants.{Accepted}
 use Rattle.ends.specs.Records.{with_channels}
 use Rattle.ends.specs.Table.{past_unit, unit_at, with_olt_channels, with_unit}
-use Rattle.ends.specs.declared.Found.{Found}
 use Rattle.protocol.specs.Lift.{outcome}
 use Rattle.protocol.specs.OltCalls.{acknowledge_of}
 use Rattle.protocol.specs.Replies.{silent}
@@ -20,7 +18,8 @@ use Rattle.headend.proofs.HeadAnswers.{by_nowhere, by_at}
 use Rattle.headend.proofs.HeadLift.{lift_group}
 use Rattle.headend.proofs.HeadUnits.{answer_guarded, lift_guarded}
 use Rattle.headend.proofs.at_head.acknowledge.Goals as goal
-use Rattle.headend.proofs.at_head.acknowledge.Goals.{in-Nowhere, in-At}
+use Rattle.headend.proofs.at_head.acknowledge.Goals.{in-None, in-Some}
+use Rattle.refusal.specs.Verdict.{Verdict, no_refusal}
 
 pub returns : goal.returns
 unfolding head_answer head_acknowledge_of acknowledge_of outcome with_unit with_channels past_unit with_olt group_outcome past_group
@@ -34,26 +33,26 @@ returns c =
     let decided : head_answer (record { verdict = m.verdict; end = record { olt = m.olt; groups = m.groups }; handed = silent })
     ≡ head_acknowledge_of a.head a.llid a.answer =
     elim c.match-found.branch [
-      | in-Nowhere w ↦
+      | in-None w ↦
           (let at = w.locate_sound-at in
           let done = w.acknowledge-done in
           let u = unit_at a.head.olt at.result.place in
           let own = ap (λ (k : Acknowledgement). reached at.result.verdict silent s u (acknowledge_unit k s u)) w.own_acknowledgement-own.ensures in
           rw (w.olt-is, w.groups-is, w.verdict-is)
-          (ap head_answer (lift_guarded a.head silent a.llid (acknowledge_unit (own_acknowledgement a.answer)) Accepted at.result
-          (outcome s done.result.verdict done.result.unit silent) (rw c.valid_groups-sound.ensures at at.ensures.value) (done.ensures ∙ own))
-          ∙ answer_guarded a.head _ ∙ by_nowhere _ _ _ (llid ∙ w.in-Nowhere.is)))
-      | in-At w ↦
-          (let i = w.in-At.i in
+          (ap head_answer (lift_guarded a.head silent a.llid (acknowledge_unit (own_acknowledgement a.answer)) no_refusal at.result
+          (outcome s done.result.verdict done.result.after silent) (rw c.valid_groups-sound.ensures at at.ensures.value) (done.ensures ∙ own))
+          ∙ answer_guarded a.head _ ∙ by_nowhere _ _ _ (llid ∙ w.in-None.is)))
+      | in-Some w ↦
+          (let i = w.in-Some.i in
           let g = group_at a.head i in
-          let done = w.acknowledge-done-in-At in
+          let done = w.acknowledge-done-in-Some in
           let judged = rw c.valid_groups-sound.ensures at w.way_to-way.ensures in
           rw (w.olt-is, w.groups-is, w.verdict-is)
           (ap head_answer
-          (lift_group a.head silent Accepted (λ o g. acknowledge_group a.answer (member_named o g.members a.answer) o.shared g) i
-          (group_outcome s done.result.verdict done.result.group silent)
+          (lift_group a.head silent no_refusal (λ o g. acknowledge_group a.answer (member_named o g.members a.answer) o.shared g) i
+          (group_outcome s done.result.verdict done.result.after silent)
           (done.ensures
-          ∙ ap₂ (λ (v : Verdict) (f : Found). reached_group v silent s g (acknowledge_group a.answer f s g)) judged w.member_named-member.ensures))
-          ∙ by_at _ _ _ _ (llid ∙ w.in-At.is)))
+          ∙ ap₂ (λ (v : Verdict) (f : Option ℕ). reached_group v silent s g (acknowledge_group a.answer f s g)) judged w.member_named-member.ensures))
+          ∙ by_at _ _ _ _ (llid ∙ w.in-Some.is)))
     ] in
     rw c.verdict_number-number.ensures (ap head_done decided)

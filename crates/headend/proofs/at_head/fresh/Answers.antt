@@ -1,5 +1,4 @@
 -- `headend::at_head::fresh` meets its contract: the OLT is made, and no group. Assumes nothing.
-use borrow.Author.Rules.{rules}
 use Rattle.headend.specs.HeadCalls.{fresh_head_of}
 use Rattle.headend.proofs.NoGroups.{without_groups}
 use Rattle.headend.proofs.at_head.fresh.Goals as goal

@@ -1,8 +1,8 @@
 -- `headend::at_head::groups_moved` meets its contract: where the timers are valid, the first i groups are moved where they stand. Assumes nothing.
 use mathlib.Core.Bool.{true}
 use mathlib.Core.List.{List}
-use mathlib.Core.Path.{◌≡◌, refl, sym, ap₂, ◌∙◌}
-use Prim.Native.Nat.{ℕ, ◌-◌, ◌≤◌, ◌<◌}
+use mathlib.Core.Path.{◌≡◌, sym, ap₂, ◌∙◌}
+use Prim.Native.Nat.{ℕ, ◌≤◌, ◌<◌}
 use native.Mathlib.Omega.{arith}
 use lib.ListN.{length, length-set, take}
 use borrow.Author.Rules.{rules}
@@ -11,7 +11,6 @@ use Rattle.clock.specs.Ticks.{max_tick}
 use Rattle.ends.specs.Limits.{max_units}
 use Rattle.ends.specs.Records.{with_timer}
 use Rattle.ends.specs.Timers.{valid_timer}
-use Rattle.ends.proofs.Walks.{length_mapped}
 use Rattle.group_protocol.specs.Head.{past_group, with_group_keys}
 use Rattle.group_protocol.specs.declared.GroupRecord.{GroupRecord}
 use Rattle.group_protocol.specs.declared.Groups.{Groups}
@@ -35,28 +34,20 @@ all_moved groups r n i e k t h g z =
     Groups·of : ℕ → List GroupRecord → Groups
     Groups·of c l = record { count = c; table = l }
 
-pub returns-then-groups-i : goal.returns-then-groups-i
-returns-then-groups-i c =
-    let here = c.loop-i in
-    let a = c.args in
-    all_moved a.groups here.r a.n here.i (λ _. omega (arith, here.invariant.0)) here.invariant.2 here.invariant.4
-
 pub loop-i-preserved : goal.loop-i-preserved
 unfolding past_group with_group_keys with_timer
 loop-i-preserved c =
     let here = c.loop-i in
     let a = c.args in
-    let len : length a.groups.table ≡ max_units = search (rules, length_mapped) in
-    let below : here.i < a.groups.count = c.if-groups-i.false in
-    let k : here.i < length a.groups.table = omega arith in (
-      omega arith,
-      omega arith,
-      here.invariant.2,
-      simp length-set here.invariant.3,
+    let len : length a.groups.table ≡ max_units = search rules in
+    let below : here.i < a.groups.count = omega (arith, c.min-i-end.ensures) in
+    let k : here.i < length a.groups.table = omega (arith, c.min-i-end.ensures) in (
+      here.invariant.0,
+      simp length-set here.invariant.1,
       λ timers ticks.
-          let e = here.invariant.4 timers ticks in
-          group_moves_on a.groups.table here.r.table a.n here.i c.timer_advanced-timer.result e k
-          (c.timer_advanced-timer.ensures
+          let e = here.invariant.2 timers ticks in
+          group_moves_on a.groups.table here.r.table a.n here.i c.timer_advanced.result e k
+          (c.timer_advanced.ensures
           (group_timer_valid a.groups.table here.r.table a.n here.i a.groups.count e below k timers) ticks),
     )
 
@@ -64,4 +55,4 @@ pub returns : goal.returns
 returns c =
     let here = c.loop-i in
     let a = c.args in
-    all_moved a.groups here.r a.n here.i (λ few. omega (arith, here.invariant.0, here.invariant.1)) here.invariant.2 here.invariant.4
+    all_moved a.groups here.r a.n here.i (λ few. omega (arith, c.min-i-end.ensures)) here.invariant.0 here.invariant.2

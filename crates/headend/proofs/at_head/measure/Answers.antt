@@ -1,5 +1,4 @@
 -- `headend::at_head::measure` meets its contract: the unit is found in the OLT, decides, and is put back. Assumes nothing.
-use borrow.Author.Rules.{rules}
 use mathlib.Core.Path.{ap, ◌∙◌}
 use Rattle.ends.specs.Records.{with_channels}
 use Rattle.ends.specs.Table.{past_unit, with_unit}
@@ -17,7 +16,7 @@ unfolding head_measure_of measure_of head_answer outcome with_unit with_channels
 returns c =
     let done = c.measure-done in
     let a = c.args in
-    let x = outcome a.head.olt.shared done.result.verdict done.result.unit silent in
+    let x = outcome a.head.olt.shared done.result.verdict done.result.after silent in
     rw c.verdict_number-number.ensures
     (ap head_done
     (ap head_answer (lift_guarded a.head silent a.llid (measure_unit a.trip) _ c.locate_sound-at.result x

@@ -1,8 +1,6 @@
 -- `headend::at_head::register_group` meets its contract: what it names are members, and it takes the first place that is free. Assumes nothing.
-use borrow.Author.Rules.{rules}
 use mathlib.Core.Path.{◌≡◌, sym, ap, ◌∙◌}
 use Rattle.octets.specs.Choice.{both}
-use Rattle.refusal.specs.declared.Verdict.TheVariants.{Accepted}
 use Rattle.protocol.specs.Replies.{reply, silent, on_valid}
 use Rattle.group_protocol.specs.Head.{fresh_group, valid_head, with_one_group_more}
 use Rattle.group_protocol.specs.declared.HeadEnd.{HeadEnd}
@@ -11,6 +9,7 @@ use Rattle.headend.specs.HeadCalls.{group_verdict, head_answer, register_group_o
 use Rattle.headend.proofs.HeadAnswers.{answer_refused, answer_accepted}
 use Rattle.headend.proofs.Registrations.{group_room}
 use Rattle.headend.proofs.at_head.register_group.Goals as goal
+use Rattle.refusal.specs.Verdict.{no_refusal}
 
 pub with_one_group_more-requires : goal.with_one_group_more-requires
 unfolding valid_head both
@@ -21,11 +20,11 @@ with_one_group_more-requires c =
     ≡ on_valid (valid_head a.head) (group_verdict a.head a.llid a.interval (roster_members a.head.olt a.roster)) =
     (rw (c.valid_olt-valid.ensures, c.valid_groups-sound.ensures) at c.group_verdict-verdict.ensures)
     ∙ ap (λ (m : Members). on_valid (valid_head a.head) (group_verdict a.head a.llid a.interval m)) c.roster_members-members.ensures in
-    group_room a.head a.llid a.interval _ (sym judged ∙ c.in-Accepted.is)
+    group_room a.head a.llid a.interval _ (sym judged ∙ c.in-Ok.is)
 
-pub returns-in-Refused : goal.returns-in-Refused
+pub returns-in-Err : goal.returns-in-Err
 unfolding register_group_of valid_head both
-returns-in-Refused c =
+returns-in-Err c =
     let a = c.args in
     -- the verdict is the definition's
     let judged : c.group_verdict-verdict.result
@@ -33,11 +32,11 @@ returns-in-Refused c =
     (rw (c.valid_olt-valid.ensures, c.valid_groups-sound.ensures) at c.group_verdict-verdict.ensures)
     ∙ ap (λ (m : Members). on_valid (valid_head a.head) (group_verdict a.head a.llid a.interval m)) c.roster_members-members.ensures in
     c.refused.ensures
-    ∙ answer_refused a.head _ _ _ (sym judged ∙ c.in-Refused.is)
+    ∙ answer_refused a.head _ _ _ (sym judged ∙ c.in-Err.is)
 
-pub returns-in-Accepted : goal.returns-in-Accepted
+pub returns-in-Ok : goal.returns-in-Ok
 unfolding register_group_of valid_head both
-returns-in-Accepted c =
+returns-in-Ok c =
     let a = c.args in
     -- the verdict is the definition's
     let judged : c.group_verdict-verdict.result
@@ -48,5 +47,5 @@ returns-in-Accepted c =
     ≡ with_one_group_more a.head (fresh_group a.llid a.interval (roster_members a.head.olt a.roster)) =
     rw (c.with_one_group_more.ensures, c.fresh_group-group.ensures, c.roster_members-members.ensures) in
     c.accepted.ensures
-    ∙ ap (λ (x : HeadEnd). head_answer (reply Accepted x silent x silent)) next
-    ∙ answer_accepted a.head _ _ (sym judged ∙ c.in-Accepted.is)
+    ∙ ap (λ (x : HeadEnd). head_answer (reply no_refusal x silent x silent)) next
+    ∙ answer_accepted a.head _ _ (sym judged ∙ c.in-Ok.is)

@@ -1,71 +1,26 @@
--- `headend::head_place::group_named` meets its contract: none of the first i groups has the LLID, so that the others decide. Assumes nothing.
-use mathlib.Core.Path.{◌≡◌, sym, ◌∙◌}
-use Prim.Native.Nat.{ℕ, ◌<◌}
-use native.Mathlib.Omega.{arith}
-use lib.ListN.{length}
-use borrow.Author.Rules.{rules}
-use Rattle.octets.proofs.Steps.{first_end, first_past}
-use Rattle.ends.specs.Limits.{max_units}
-use Rattle.ends.specs.declared.Found.{Found}
-use Rattle.ends.specs.declared.Found.TheVariants.{At}
-use Rattle.ends.proofs.Walks.{length_mapped}
-use Rattle.group_protocol.specs.declared.HeadEnd.{HeadEnd}
-use Rattle.group_protocol.specs.Head.{find_group, past_group}
-use Rattle.group_protocol.proofs.Found.{group_at-holds}
-use Rattle.group_protocol.proofs.Llids.{group_place}
-use Rattle.groups.proofs.Walks.{group_step, group_end, place_hit, place_miss, place_none}
+-- `headend::head_place::group_named` meets its contract: the chain finds the first group in use that has the LLID. Assumes nothing.
+use Rattle.std.proofs.Common.{rules, suc, ◌≡◌, ℕ, List, [], ◌∷◌, refl, ◌∙◌, take, add-one, eqb}
+use Rattle.std.proofs.lemmas.Iterator.{YieldsList-from_slice, YieldsList-from_take}
+use Rattle.std.proofs.lemmas.Iterator.Adapters.{position_from-zero}
+use Rattle.std.proofs.lemmas.Iterator.Search.{position_from_yields_List}
+use Rattle.std.specs.List.{position_from}
+use borrow.Author.Tests.{tests}
+use Rattle.ends.proofs.Words.{placed_is}
+use Rattle.group_protocol.specs.Head.{find_group, group_from}
+use Rattle.group_protocol.specs.declared.GroupRecord.{GroupRecord}
 use Rattle.headend.proofs.head_place.group_named.Goals as goal
 
--- what is found stands in the table
-in_table : (h : HeadEnd) (llid : ℕ) → length h.groups.table ≡ max_units → (r : Found) → r ≡ find_group h llid
-    → record { value : r ≡ find_group h llid; place : (i : ℕ) → r ≡ At i → i < max_units }
-in_table h llid len r e = record { value = e; place = λ i at. omega (arith, len, (group_at-holds h llid i (sym e ∙ at)).place) }
+by_place : (i : ℕ) (gs : List GroupRecord) (llid : ℕ) → position_from (λ (g : GroupRecord). eqb g.llid llid) i gs ≡ group_from i gs llid
+unfolding group_from
+by_place i [] llid = refl
+by_place i (g ∷ gs) llid = rw add-one (placed_is (eqb g.llid llid) i (by_place (suc i) gs llid))
 
-pub loop-i-init : goal.loop-i-init
-loop-i-init c =
-    (omega arith, group_place 0 _ _)
-
-pub returns-then-count-i : goal.returns-then-count-i
+pub returns-clause-value : goal.returns-clause-value
 unfolding find_group
-returns-then-count-i c =
-    let a = c.args in
-    let here = c.loop-i in
-    let g = a.head.groups in
-    let len : length c.args.head.groups.table ≡ max_units = search (rules, length_mapped) in
-    in_table a.head a.llid len _
-    (sym (here.invariant.1 ∙ place_none here.i a.llid _ (group_end _ (first_end g.count g.table here.i c.if-count-i.true))))
-
-pub returns-then-group-llid : goal.returns-then-group-llid
-unfolding find_group past_group
-returns-then-group-llid c =
-    let a = c.args in
-    let here = c.loop-i in
-    let g = a.head.groups in
-    let len : length c.args.head.groups.table ≡ max_units = search (rules, length_mapped) in
-    in_table a.head a.llid len _
-    (sym (here.invariant.1
-    ∙ place_hit here.i a.llid _ _ _ (group_step g.count g.table here.i past_group c.if-count-i.false (omega arith))
-    c.if-group-llid.true))
-
-pub loop-i-preserved : goal.loop-i-preserved
-unfolding past_group
-loop-i-preserved c =
-    let a = c.args in
-    let here = c.loop-i in
-    let g = a.head.groups in
-    let len : length c.args.head.groups.table ≡ max_units = search (rules, length_mapped) in (
-      omega arith,
-      here.invariant.1
-          ∙ place_miss here.i a.llid _ _ _ (group_step g.count g.table here.i past_group c.if-count-i.false (omega arith))
-          c.if-group-llid.false,
-    )
-
-pub returns : goal.returns
-unfolding find_group
-returns c =
-    let a = c.args in
-    let g = a.head.groups in
-    let len : length c.args.head.groups.table ≡ max_units = search (rules, length_mapped) in
-    let here = c.loop-i in
-    in_table a.head a.llid len _
-    (sym (here.invariant.1 ∙ place_none here.i a.llid _ (group_end _ (first_past g.count g.table here.i (omega arith)))))
+returns-clause-value c =
+    let h = c.args.head.groups in
+    let gs = take h.count h.table in
+    position_from_yields_List _ _ _ _ c.position.ensures.ran (YieldsList-from_take h.count (YieldsList-from_slice h.table (cc)) (cc))
+    (λ x b q k. search (rules, tests))
+    ∙ position_from-zero (λ (g : GroupRecord). eqb g.llid c.args.llid) gs
+    ∙ by_place 0 gs c.args.llid

@@ -1,6 +1,5 @@
 -- `headend::head_traffic::receive` meets its contract: the unit is found, decides and is put back, the payload is opened; on a group's LLID
 -- the way to the unit is refused. Assumes nothing.
-use borrow.Author.Rules.{rules}
 use mathlib.Core.Path.{◌≡◌, sym, ap}
 use Rattle.ends.specs.Records.{with_channels}
 use Rattle.ends.specs.Table.{past_unit, with_unit}
@@ -18,7 +17,7 @@ returns c =
     let a = c.args in
     let d = c.receive-done.result in
     -- what the unit decides
-    let answer : Outcome Passage = outcome a.head.olt.shared d.verdict d.unit d.passage in
+    let answer : Outcome Passage = outcome a.head.olt.shared d.verdict d.after d.handed in
     let decided : answer ≡ unit_receives a.head a.header a.octets.now a.output.now c.locate_sound-at.result = c.receive-done.ensures in
     rw c.verdict_number-number.ensures
     (ap receipt_done

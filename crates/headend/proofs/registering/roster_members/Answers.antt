@@ -1,5 +1,4 @@
 -- `headend::registering::roster_members` meets its contract: the eight places are looked up, and those below the count are kept. Assumes nothing.
-use borrow.Author.Rules.{rules}
 use mathlib.Core.Path.{◌∙◌}
 use Rattle.headend.proofs.Registrations.{roster_looked_up}
 use Rattle.headend.proofs.registering.roster_members.Goals as goal

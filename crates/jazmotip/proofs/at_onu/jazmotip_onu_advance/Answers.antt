@@ -1,5 +1,5 @@
 -- `jazmotip::at_onu::jazmotip_onu_advance` meets its contract. Assumes nothing.
-use mathlib.Core.Path.{◌≡◌, refl, ap}
+use mathlib.Core.Path.{ap}
 use Rattle.subscriber.specs.declared.SubscriberMoved.{SubscriberMoved}
 use Rattle.jazmotip.proofs.at_onu.jazmotip_onu_advance.Goals as goal
 

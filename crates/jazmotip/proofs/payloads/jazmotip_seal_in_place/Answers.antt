@@ -1,9 +1,6 @@
 -- A flag above 1 is denied, 0 and 1 are sealing's own.
-use Rattle.jazmotip.proofs.Flags.{flag_denied-holds, flag_sealed}
+use Rattle.jazmotip.proofs.Flags.{flag_sealed}
 use Rattle.jazmotip.proofs.payloads.jazmotip_seal_in_place.Goals as goal
-
-pub returns-then-encenabled-gt1 : goal.returns-then-encenabled-gt1
-returns-then-encenabled-gt1 c = rw (c.numbered.ensures, c.deny_flag.ensures) (flag_denied-holds _ _ _ _ _ c.if-encenabled-gt1.true)
 
 pub returns : goal.returns
 returns c = rw c.numbered-2.ensures (flag_sealed _ _ _ _ _ _ _ c.if-encenabled-gt1.false c.seal_in_place-answer.ensures)

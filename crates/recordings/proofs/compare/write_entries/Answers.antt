@@ -10,8 +10,13 @@ unfolding compared_after
 returns c =
     let a = c.args.a.now in
     let b = c.args.b.now in
-    let n = c.count-n.ensures in
-    let alones = c.put_alones-end.ensures in
-    let e : c.put_alones-end.result ≡ length (entries_of a b) = rw n at alones.value ∙ sym (entries_length a b) in
-    let o = all_written a b _ _ _ _ c.put_marks.ensures (rw n at alones.value) (rw n at alones.output_after) alones.output_unchanged.0 in
-    rw (o, e, c.count_alone.ensures.0, c.count_alone-2.ensures.0)
+    let first = c.match_up.ensures.first in
+    let second = c.match_up.ensures.second in
+    let marks = rw (first.0, first.1) at c.put_marks.ensures in
+    let end = rw (c.count.ensures, second.0, second.1) at c.put_alones-end.ensures.value in
+    let after = rw (c.count.ensures, second.0, second.1) at c.put_alones-end.ensures.output_after in
+    let e : c.put_alones-end.result ≡ length (entries_of a b) = end ∙ sym (entries_length a b) in
+    let o = all_written a b _ _ _ _ marks end after c.put_alones-end.ensures.output_unchanged.0 in
+    let ones = rw (first.0, first.1) at c.count_alone.ensures.0 in
+    let others = rw (second.0, second.1) at c.count_alone-2.ensures.0 in
+    rw (o, e, ones, others)

@@ -14,13 +14,12 @@ use Rattle.recordings.proofs.partners.match_up.Goals.{then-p-m, else-p-m}
 pub loop-i-init : goal.loop-i-init
 loop-i-init c =
     let few = c.requires.few_other in
-    let n = c.count-n in (
-      omega arith,
-      λ k h. absurd (omega arith),
-      λ j h. inr (get_or-replicate most_records j n.result 0 (omega arith) ∙ n.ensures, λ k l. absurd (omega arith)),
-      length-replicate most_records c.count-m.result,
-      length-replicate most_records n.result,
-    )
+    let n = c.count-n in record {
+      listed = λ k h. absurd (omega arith);
+      met = λ j h. inr (get_or-replicate most_records j n.result 0 (omega arith) ∙ n.ensures, λ k l. absurd (omega arith));
+      first_size = length-replicate most_records c.count-m.result;
+      second_size = length-replicate most_records n.result;
+    }
 
 pub loop-i-preserved : goal.loop-i-preserved
 loop-i-preserved c =
@@ -36,26 +35,24 @@ loop-i-preserved c =
     let e = found in
     let few = c.requires.few in
     let few-other = c.requires.few_other in
-    let once = c.requires.once_other in (
-      omega arith,
-      listed_more c.loop-i.first _ _ i _ (omega (arith, c.count-n.ensures, v.3)) e v.1,
-      elim c.if-p-m.branch [
+    let once = c.requires.once_other in record {
+      listed = listed_more c.loop-i.first _ _ i _ (omega (arith, c.count-n.ensures, v.first_size)) e v.listed;
+      met = elim c.if-p-m.branch [
         | then-p-m w ↦ rw w.second-is
-            (met_more _ _ i s _ once e (omega (arith, w.if-p-m.true, m)) (omega (arith, v.4)) v.2)
+            (met_more _ _ i s _ once e (omega (arith, w.if-p-m.true, m)) (omega (arith, v.second_size)) v.met)
         | else-p-m w ↦ rw w.second-is
-            (met_past _ _ i s once (omega (arith, w.if-p-m.false, m, e)) v.2)
-      ],
-      simp length-set v.3,
-      elim c.if-p-m.branch [ then-p-m w ↦ rw w.second-is (simp length-set v.4) | else-p-m w ↦ rw w.second-is v.4 ],
-    )
+            (met_past _ _ i s once (omega (arith, w.if-p-m.false, m, e)) v.met)
+      ];
+      first_size = simp length-set v.first_size;
+      second_size = elim c.if-p-m.branch [ then-p-m w ↦ rw w.second-is (simp length-set v.second_size) | else-p-m w ↦ rw w.second-is v.second_size ];
+    }
 
-pub returns : goal.returns
-returns c =
-    let v = c.loop-i.invariant in
-    let n = c.count-n.ensures in
+pub invariant_of-result-2 : goal.invariant_of-result-2
+invariant_of-result-2 c =
     let a = c.args.a.now in
-    let i : c.loop-i.i ≡ records_in a = omega (arith, c.loop-i-test.false, v.0, n) in
+    let i : c.loop-i.i ≡ records_in a = omega (arith, c.count-n.ensures) in
     record {
-      first = λ k h. v.1 k (omega arith);
-      second = λ j h. met_all _ a _ c.requires.once (rw i at (v.2 j h));
+      few = c.requires.few_other;
+      few_other = c.requires.few;
+      listed = λ j h. met_all _ a _ c.requires.once (rw i at (c.loop-i.invariant.met j h));
     }

@@ -2,15 +2,10 @@
 use mathlib.Core.Path.{sym, ◌∙◌}
 use native.Mathlib.Omega.{arith}
 use borrow.Author.Rules.{rules}
-use Rattle.octets.proofs.Choice.{pick_true, pick_false}
-use Rattle.rights.proofs.Loads.{present_bit, absent_bit, raised, raised_below}
+use Rattle.octets.proofs.Choice.{pick_false}
+use Rattle.rights.proofs.Loads.{absent_bit, raised, raised_below}
 use Rattle.rights.specs.Loading.{with_key}
 use Rattle.rights.proofs.loading.with_key.Goals as goal
-
-pub returns-then-bit-eq1 : goal.returns-then-bit-eq1
-unfolding with_key
-returns-then-bit-eq1 c =
-    sym (pick_true _ _ (present_bit _ _ c.bit.ensures c.if-bit-eq1.true))
 
 pub overflow_add-result : goal.overflow_add-result
 overflow_add-result c =

@@ -1,30 +1,16 @@
--- `rights::settings::set_for` meets its contract. The loop's invariant: the first set of the LLID is the first from set j on. Assumes nothing.
-use mathlib.Core.Path.{◌≡◌, sym, ◌∙◌}
-use native.Mathlib.Omega.{arith}
-use borrow.Author.Tests.{eq-eqb, ne_eqb}
-use Rattle.records.specs.Settings.{llid_of}
-use Rattle.rights.specs.Settings.{set_of}
-use Rattle.rights.proofs.Sets.{set_step, set_stop, set_end}
+-- `rights::settings::set_for` meets its contract: what is found is the first set of the LLID. Assumes nothing.
+use Rattle.std.proofs.Common.{◌∙◌, refl, sym, arith, rules}
+use Rattle.std.proofs.lemmas.Iterator.{YieldsList-from_range}
+use Rattle.std.proofs.lemmas.Iterator.Search.{find_from_yields_List}
+use Rattle.std.proofs.lemmas.Iterator.Adapters.{option_map_id}
+use borrow.Author.Tests.{tests}
+use Rattle.rights.proofs.Sets.{Of, set_first}
 use Rattle.rights.proofs.settings.set_for.Goals as goal
-
-pub returns-then-llid-wanted : goal.returns-then-llid-wanted
-returns-then-llid-wanted c =
-    -- the LLID read is that of set j
-    let read : c.llid.result ≡ llid_of (set_of c.args.sets.now c.loop-j.j) =
-    c.llid.ensures ∙ rw c.set_at.ensures in
-    sym (c.loop-j.invariant.1 ∙ set_stop _ _ _ _ c.loop-j-test.true (eq-eqb _ _ (sym read ∙ c.if-llid-wanted.true)))
-
-pub loop-j-preserved : goal.loop-j-preserved
-loop-j-preserved c =
-    -- the LLID read is that of set j
-    let read : c.llid.result ≡ llid_of (set_of c.args.sets.now c.loop-j.j) =
-    c.llid.ensures ∙ rw c.set_at.ensures in (
-      omega arith,
-      c.loop-j.invariant.1
-          ∙ set_step _ _ _ _ c.loop-j-test.true (ne_eqb _ _ (λ e. c.if-llid-wanted.false (read ∙ e))),
-    )
 
 pub returns : goal.returns
 returns c =
-    let end : c.loop-j.j ≡ c.args.caller.sets = omega arith in
-    sym (c.loop-j.invariant.1 ∙ set_end _ _ _ _ (omega arith) ∙ end)
+    let n = c.args.caller.sets in
+    let found =
+    find_from_yields_List (Of c.args.sets.now c.args.wanted) _ _ c.find.result c.find.ensures.ran (YieldsList-from_range 0 n n refl (omega arith))
+    (λ x b q k. search (rules, tests)) in
+    c.unwrap_or.ensures ∙ rw (sym (option_map_id c.find.result) ∙ found) (set_first c.args.sets.now c.args.wanted 0 n n (omega arith))

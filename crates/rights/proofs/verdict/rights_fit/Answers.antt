@@ -1,23 +1,14 @@
--- `rights::verdict::rights_fit` meets its contract. The loop's invariant: what is left to test is the octets from k on. Assumes nothing.
-use mathlib.Core.Path.{sym, ◌∙◌}
-use native.Mathlib.Omega.{arith}
-use borrow.Author.Tests.{lt-ltb, le-ltb}
+-- `rights::verdict::rights_fit` meets its contract: the test of each octet is that of the definition. Assumes nothing.
+use Rattle.std.proofs.Common.{◌∙◌, rules}
+use Rattle.std.proofs.lemmas.Iterator.{YieldsList-from_slice}
+use Rattle.std.proofs.lemmas.Iterator.Search.{all_from_yields_List}
+use borrow.Author.Tests.{tests}
+use Rattle.octets.proofs.Chains.{all_of_list}
 use Rattle.rights.specs.Rights.{rights_fit}
-use Rattle.rights.proofs.Sets.{all_next, all_none, all_done}
 use Rattle.rights.proofs.verdict.rights_fit.Goals as goal
 
-pub returns-then-rights-k-ge-RIGHTS_BELOW : goal.returns-then-rights-k-ge-RIGHTS_BELOW
-unfolding rights_fit
-returns-then-rights-k-ge-RIGHTS_BELOW c =
-    let rights = c.args.rights.now in
-    sym (c.loop-k.invariant.1 ∙ all_none rights_fit rights _ (omega arith) (le-ltb _ _ c.if-rights-k-ge-RIGHTS_BELOW.true))
-
-pub loop-k-preserved : goal.loop-k-preserved
-unfolding rights_fit
-loop-k-preserved c =
-    let rights = c.args.rights.now in
-    (omega arith, c.loop-k.invariant.1 ∙ all_next rights_fit rights _ (omega arith) (lt-ltb _ _ c.if-rights-k-ge-RIGHTS_BELOW.false))
-
 pub returns : goal.returns
+unfolding rights_fit
 returns c =
-    sym (c.loop-k.invariant.1 ∙ all_done rights_fit c.args.rights.now c.loop-k.k (omega arith))
+    all_from_yields_List rights_fit _ _ c.all.result c.all.ensures.ran (YieldsList-from_slice c.args.rights.now cc)
+    (λ x b q k. search (rules, tests)) ∙ all_of_list rights_fit c.args.rights.now

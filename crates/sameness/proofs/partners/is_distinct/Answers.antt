@@ -1,20 +1,20 @@
--- `sameness::partners::is_distinct` meets its contract. The loop's invariant: what is left to test is the records from i on. Assumes nothing.
-use mathlib.Core.Path.{sym, ◌∙◌}
-use borrow.Author.Tests.{eq-eqb, ne_eqb}
-use Rattle.sameness.specs.Pairing.{unlike_rest}
-use Rattle.octets.proofs.Each.{each_step, each_stop, each_end}
+-- `sameness::partners::is_distinct` meets its contract. Assumes nothing.
+use Rattle.std.proofs.Common.{◌∙◌, ap, arith, rules}
+use Rattle.std.proofs.lemmas.Iterator.{YieldsList-from_range}
+use Rattle.std.proofs.lemmas.Iterator.Search.{all_from_yields_List}
+use borrow.Author.Tests.{tests}
+use Rattle.octets.specs.Each.{each}
+use Rattle.sameness.specs.Pairing.{unlike_rest, distinct}
+use Rattle.sameness.proofs.Chains.{each_is}
 use Rattle.sameness.proofs.Pairing.{unlike_tested}
 use Rattle.sameness.proofs.partners.is_distinct.Goals as goal
 
-pub returns-then-first_from-n : goal.returns-then-first_from-n
-returns-then-first_from-n c =
-    let e = unlike_tested _ _ _ _ c.count-n.ensures c.first_from.ensures in
-    sym (c.loop-i.invariant ∙ each_stop _ _ (unlike_rest _) c.loop-i-test.true (e ∙ ne_eqb _ _ c.if-first_from-n.true))
-
-pub loop-i-preserved : goal.loop-i-preserved
-loop-i-preserved c =
-    let e = unlike_tested _ _ _ _ c.count-n.ensures c.first_from.ensures in
-    c.loop-i.invariant ∙ each_step _ _ (unlike_rest _) c.loop-i-test.true (e ∙ eq-eqb _ _ c.if-first_from-n.false)
-
 pub returns : goal.returns
-returns c = sym (c.loop-i.invariant ∙ each_end _ _ _ c.loop-i-test.false)
+unfolding distinct
+returns c =
+    let b = c.args.block.now in
+    let n = c.count-n.result in
+    all_from_yields_List (unlike_rest b) _ _ _ c.all.ensures.ran (YieldsList-from_range 0 n n (cc) (omega arith))
+    (λ x b q k. search (rules, tests, unlike_tested))
+    ∙ each_is _ _ _
+    ∙ ap (λ n. each 0 n (unlike_rest b)) c.count-n.ensures

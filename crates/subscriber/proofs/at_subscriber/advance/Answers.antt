@@ -1,7 +1,5 @@
 -- `advance` meets its contract: the unit's answer, where the groups are valid. Assumes nothing.
 use mathlib.Core.Path.{sym, ◌∙◌}
-use borrow.Author.Rules.{rules}
-use borrow.Author.Tests.{not-true, not-false}
 use Rattle.octets.specs.Choice.{pick}
 use Rattle.group_protocol.specs.Subscriber.{with_onu}
 use Rattle.subscriber.specs.SubscriberCalls.{onu_answered, own_answered, subscriber_advance_of}
@@ -11,7 +9,7 @@ use Rattle.subscriber.proofs.at_subscriber.advance.Goals as goal
 pub returns-then-not-sound_memberships-clause-value : goal.returns-then-not-sound_memberships-clause-value
 unfolding subscriber_advance_of onu_answered pick
 returns-then-not-sound_memberships-clause-value c =
-    rw (sym c.sound_memberships.ensures ∙ c.if-not-sound_memberships.true, c.number.ensures)
+    rw (sym c.sound_memberships.ensures ∙ c.if-not-sound_memberships.true, c.from.ensures)
 
 pub returns-then-not-sound_memberships-clause-groups : goal.returns-then-not-sound_memberships-clause-groups
 returns-then-not-sound_memberships-clause-groups c =

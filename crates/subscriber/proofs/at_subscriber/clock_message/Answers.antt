@@ -1,7 +1,5 @@
 -- `clock_message` meets its contract: the unit's answer, where the groups are valid. Assumes nothing.
 use mathlib.Core.Path.{sym, ◌∙◌}
-use borrow.Author.Rules.{rules}
-use borrow.Author.Tests.{not-true, not-false}
 use Rattle.octets.specs.Choice.{pick}
 use Rattle.subscriber.specs.SubscriberCalls.{onu_acknowledged_in, subscriber_clock_message_of}
 use Rattle.subscriber.proofs.SubscriberSteps.{clock_message_told}

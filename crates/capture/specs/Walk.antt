@@ -23,6 +23,7 @@ abbrev pub row_walked : {V : Type 0} → (ℕ → Header → V → List ℕ) →
 row_walked row judged b i = row (i + 1) (header_of b i) (verdict_walked judged b i)
 
 -- the rows of the records, or the code of the refusal that the call earns
-unfoldable pub body_walked : {V : Type 0} → Result ℕ Refusal → (ℕ → Header → V → List ℕ) → (Drift → Header → Heard V) → List ℕ → List ℕ
+unfoldable pub body_walked : {V : Type 0} → Result ℕ Refusal → (ℕ → Header → V → List ℕ) → (Drift → Header → Heard V)
+    → List ℕ → List ℕ
 body_walked (Ok n) row judged b = joined (row_walked row judged b) 0 n
 body_walked (Err r) row judged b = refused_row r

@@ -32,7 +32,8 @@ use Rattle.class.specs.Secrecy.{example, first_sets, second_sets, first_rights, 
 use Rattle.records.specs.declared.header.Access.TheVariants.{Clear}
 use Rattle.refusal.specs.Verdict.{no_refusal}
 
-settings : (class_verdict true true example first_sets first_rights ≡ no_refusal) × (class_verdict true true example second_sets second_rights ≡ no_refusal)
+settings : (class_verdict true true example first_sets first_rights ≡ no_refusal)
+    × (class_verdict true true example second_sets second_rights ≡ no_refusal)
 unfolding class_verdict user_fits counts_fit presences_fit llids_differ rights_fit each all both refuse_if pick set_from presence_fits
     presence_of llid_of bit_of low_cleared
 settings = (refl, refl)

@@ -60,7 +60,8 @@ seen_not (Err r) i t e = by_number (eqb (number_of r) 9) e where
   by_number true f = let z : ◌≡◌ {A = ℕ} 0 1 = cc in omega arith
   by_number false f = let z : ◌≡◌ {A = ℕ} 0 1 = cc in omega arith
 
-opened_by_right : (t : Bool) (v : RecordVerdict) (i u : ℕ) → pick t (Told v) (seen_as v) ≡ Told (Ok (Sealed i u)) → (t ≡ true) × (v ≡ Ok (Sealed i u))
+opened_by_right : (t : Bool) (v : RecordVerdict) (i u : ℕ) → pick t (Told v) (seen_as v) ≡ Told (Ok (Sealed i u))
+    → (t ≡ true) × (v ≡ Ok (Sealed i u))
 unfolding pick
 opened_by_right true v i u e = (refl, cc)
 opened_by_right false v i u e = absurd (seen_not v i u e)

@@ -37,7 +37,8 @@ unfolding pair_of chained both pick
 pair_chained b i h e = rw (eq-eqb (offset_of b i) (due_of b i) h, e)
 
 -- where the octets from `from` to `to` are those of its record
-between : (b : List ℕ) (i from to : ℕ) → from ≡ offset_of b i → to ≡ offset_of b i + length_of b i → take (to - from) (drop from b) ≡ record_of b i
+between : (b : List ℕ) (i from to : ℕ) → from ≡ offset_of b i → to ≡ offset_of b i + length_of b i
+    → take (to - from) (drop from b) ≡ record_of b i
 unfolding record_of
 between b i from to e f = rw (e, f, add-sub_cancel_left)
 

@@ -27,7 +27,8 @@ pub place_at : (i : ℕ) (l : List ℕ) (x k : ℕ) → place_from i l x ≡ Som
 unfolding place_from pick
 place_at i [] x k e = at_nowhere k (sym e)
 place_at i (y ∷ l) x k e = by_head (eqb y x) refl (place_at (suc i) l x k) e where
-  by_head : (t : Bool) → eqb y x ≡ t → (place_from (suc i) l x ≡ Some k → Placed (suc i) l x k) → pick t (Some i) (place_from (suc i) l x) ≡ Some k
+  by_head : (t : Bool) → eqb y x ≡ t → (place_from (suc i) l x ≡ Some k → Placed (suc i) l x k)
+      → pick t (Some i) (place_from (suc i) l x) ≡ Some k
       → Placed i (y ∷ l) x k
   by_head true p rest f =
       let z : i ≡ k = cc in

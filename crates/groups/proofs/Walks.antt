@@ -40,11 +40,6 @@ either_is false e = e
 
 ---- whether a test holds of each
 
-pub all_listed : {A : Type 0} (p : A → Bool) (l : List A) → list_all p l ≡ all p l
-unfolding all
-all_listed p [] = refl
-all_listed p (x ∷ xs) = both_is (p x) (all_listed p xs)
-
 pub all_counted : (p : ℕ → Bool) (f : ℕ → ℕ) (i n : ℕ) → list_all (λ k. p (f k)) (range_with_len i n) ≡ all p (tabulate i n f)
 unfolding all
 all_counted p f i zero = refl
@@ -82,7 +77,8 @@ place_counted f x i (suc n) = rw add-one (placed_is (eqb (f i) x) i (place_count
 abbrev pub Tests : {F : Type 0} → Mut F (ℕ × Unit {0}) Bool → F → (ℕ → Bool) → Type 0
 Tests {F} g h p = (x : ℕ) (b : Bool) (q : F) → Called g h (x, tt) b q → (q ≡ h) × (b ≡ p x)
 
-module _ {F : Type 0} {g : Mut F (ℕ × Unit {0}) Bool} {s u : Range ℕ} {h : F} (f : ℕ → ℕ) (n : ℕ) (from : s ≡ record { start = 0; end = n }) where
+module _ {F : Type 0} {g : Mut F (ℕ × Unit {0}) Bool} {s u : Range ℕ} {h : F} (f : ℕ → ℕ) (n : ℕ)
+    (from : s ≡ record { start = 0; end = n }) where
   pub all_in_use : (p : ℕ → Bool) {r : Bool} → ChecksAll nat_range_steps g s h r u → Tests g h (λ k. p (f k)) → r ≡ all p (tabulate 0 n f)
   all_in_use p ran each =
       all_from_yields_List _ _ _ _ ran (YieldsList-from_range 0 n n from (omega arith)) each ∙ all_counted p f 0 n

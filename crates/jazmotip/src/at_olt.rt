@@ -72,7 +72,8 @@ pub struct AfterAdvance {
 // The advance by value, with what the one in place needs of its contract (D116).
 fn advanced(olt: HeadEnd, n: u64) -> AfterAdvance
     ensures { ((result.number ≡ (head_advance_of olt n).number) × (result.olt ≡ (head_advance_of olt n).head.olt))
-        × ((result.grouped ≡ true → (head_advance_of olt n).number ≡ 0) × (result.grouped ≡ false → olt.groups ≡ (head_advance_of olt n).head.groups)) }
+        × ((result.grouped ≡ true → (head_advance_of olt n).number ≡ 0)
+        × (result.grouped ≡ false → olt.groups ≡ (head_advance_of olt n).head.groups)) }
 {
     let done = at_head::moved(olt, n);
     let number = done.number;

@@ -30,7 +30,8 @@ pub place_before : (k : ℕ) (l ys : List ℕ) (x i : ℕ) → place_from k l x 
 unfolding place_from pick
 place_before k [] ys x i e = at_nowhere i (sym e)
 place_before k (y ∷ l) ys x i e = by_head (eqb y x) (place_before (suc k) l ys x i) e where
-  by_head : (t : Bool) → (place_from (suc k) l x ≡ Some i → place_from (suc k) (l ++ ys) x ≡ Some i) → pick t (Some k) (place_from (suc k) l x) ≡ Some i
+  by_head : (t : Bool) → (place_from (suc k) l x ≡ Some i → place_from (suc k) (l ++ ys) x ≡ Some i)
+      → pick t (Some k) (place_from (suc k) l x) ≡ Some i
       → pick t (Some k) (place_from (suc k) (l ++ ys) x) ≡ Some i
   by_head true more f = f
   by_head false more f = more f

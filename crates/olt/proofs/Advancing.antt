@@ -43,7 +43,8 @@ advance_met o ahead n e =
     (not-false _ a.0, ltb-false _ _ (refuse_accepted _ _ _ (then_accepted _ _ a.1).1).0)
 
 -- the timer of a unit that is not moved yet is as it was
-pub timer_valid : (l r : List UnitRecord) (n i : ℕ) → r ≡ moved_to n i l → all (λ (u : UnitRecord). valid_timer u.keys.timer) l ≡ true → i < length l
+pub timer_valid : (l r : List UnitRecord) (n i : ℕ) → r ≡ moved_to n i l → all (λ (u : UnitRecord). valid_timer u.keys.timer) l ≡ true
+    → i < length l
     → valid_timer (get_or r i past_unit).keys.timer ≡ true
 timer_valid l r n i e v h = rw (e, first_at) (all_at (λ (u : UnitRecord). valid_timer u.keys.timer) l i past_unit v h)
 

@@ -184,7 +184,8 @@ module _ (h : HeadEnd) where
   pub retry_seats : (llid g : ℕ) → seats_of (group_at (head_retry_of h llid).head g) ≡ seats_of (group_at h g)
   unfolding head_retry_of by_llid head_key_sent retry_group group_outcome
   retry_seats llid g = by_found (find_group h llid) where
-    by_found : (f : Option ℕ) → seats_of (group_at (by_llid f (olt_key_sent h (retry_of h.olt llid)) (group_retry_of h llid)).head g) ≡ seats_of (group_at h g)
+    by_found : (f : Option ℕ) → seats_of (group_at (by_llid f (olt_key_sent h (retry_of h.olt llid)) (group_retry_of h llid)).head g)
+        ≡ seats_of (group_at h g)
     by_found None = same_groups (olt_key_sent h (retry_of h.olt llid)).head (key_sent_groups (retry_of h.olt llid)) g
     by_found (Some i) = lift_seats no_key_message no_refusal (λ o x. retry_group llid o.shared x) i refl g
 

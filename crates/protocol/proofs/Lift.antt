@@ -76,7 +76,8 @@ module _ {H : Type 0} (o : Olt) (nothing : H) (ahead : Verdict) (llid : ℕ) (ca
     pub handed : (lift o nothing ahead llid call).handed ≡ (call o.shared (unit_at o at)).handed
 
   -- a call that the unit found accepts is accepted
-  pub lift_accepts : (i : ℕ) → valid_olt o ≡ true → ahead ≡ no_refusal → find o llid ≡ Some i → (call o.shared (unit_at o i)).verdict ≡ no_refusal
+  pub lift_accepts : (i : ℕ) → valid_olt o ≡ true → ahead ≡ no_refusal → find o llid ≡ Some i
+      → (call o.shared (unit_at o i)).verdict ≡ no_refusal
       → Lifted
   unfolding put_back
   lift_accepts i e f n a =

@@ -28,7 +28,8 @@ unfolding first_from
 found_is r b j zero d e = omega arith
 found_is r b j (suc m) d e = here_or _ j d _ _ (rw add-one (found_is r b (suc j) m d (omega arith)))
 
-pub first_is : (r b : List ℕ) (j m d : ℕ) (o : Option ℕ) → option_map (λ k. k) o ≡ find (λ k. paired r (record_of b k)) (range_with_len j m) → d ≡ j + m
+pub first_is : (r b : List ℕ) (j m d : ℕ) (o : Option ℕ)
+    → option_map (λ k. k) o ≡ find (λ k. paired r (record_of b k)) (range_with_len j m) → d ≡ j + m
     → unwrap_or o d ≡ first_from r b j m
 first_is r b j m d None e f = ap (λ o. unwrap_or o d) e ∙ found_is r b j m d f
 first_is r b j m d (Some x) e f = ap (λ o. unwrap_or o d) e ∙ found_is r b j m d f

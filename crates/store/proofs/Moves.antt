@@ -37,7 +37,8 @@ module _ (b out p : List ℕ) (n i o : ℕ) (r : Records b n) (h : i < n) (room 
   in_output = rw payload (omega (arith, payload_in b n i r h))
 
   -- the call on the part accepts
-  pub part_accepts : length_verdict (length p) (length (take (o + header_octets + length p - (o + header_octets)) (drop (o + header_octets) out))) ≡ no_refusal
+  pub part_accepts : length_verdict (length p) (length (take (o + header_octets + length p - (o + header_octets)) (drop (o + header_octets) out)))
+      ≡ no_refusal
   part_accepts =
       let q = payload_in b n i r h in
       let l : length p ≡ length (payload_of (record_of b i)) = ap length payload in

@@ -1,7 +1,7 @@
 // Octets from a reader.
 #![tactic(auto)]
 
-ghost use Rattle.std.specs.Prelude.{◌≡◌, ◌≤◌, ◌<◌, length, take, IfOk, OnOk};
+ghost use Rattle.std.specs.Prelude.{◌≡◌, ◌≤◌, ◌<◌, length, take, IfOk, IfSome, IfNone};
 ghost use Rattle.std.specs.Io.KnownBytes.{Consumes, IsAtEnd};
 
 use std::io;
@@ -39,21 +39,15 @@ pub fn read_most<'a, R: Read>(
     Ok(&buffer[..n])
 }
 
-// Fills the buffer again and again, and hands it on each time with the reader, until the reader ends.
-pub fn for_each_full<R: Read, F: FnMut(&mut R, &[u8]) -> io::Result<()>>(
-    reader: &mut R,
-    buffer: &mut [u8],
-    mut f: F,
-) -> io::Result<()>
-    requires { F.IsAlwaysCallable f }
-    ensures { OnOk result (IsAtEnd (R.remaining reader.new)) }
+// Fills the buffer, and gives what it holds then, or nothing where the reader ends before.
+pub fn read_next<'a, R: Read>(reader: &mut R, buffer: &'a mut [u8]) -> io::Result<Option<&'a [u8]>>
+    ensures room { IfOk result (λ read. IfSome read (λ part. length part.now ≡ length buffer.old)) }
+    ensures octets { IfOk result (λ read. IfSome read (λ part. Consumes (R.remaining reader.old) (R.remaining reader.new) part.now)) }
+    ensures end { IfOk result (λ read. IfNone read (IsAtEnd (R.remaining reader.new))) }
 {
-    // A proved loop has to end: this one counts to a number that no run reaches.
-    for _ in 0..u64::MAX {
-        if read_full(reader, buffer)? < buffer.len() {
-            return Ok(());
-        }
-        f(reader, buffer)?;
+    let n = read_full(reader, buffer)?;
+    if n < buffer.len() {
+        return Ok(None);
     }
-    Err(io::Error::from(io::ErrorKind::Other))
+    Ok(Some(&buffer[..n]))
 }

@@ -34,7 +34,8 @@ loop-k-preserved c =
     let v = c.loop-k.invariant in
     let x = c.expand_at-count.ensures in (
       x.size ∙ v.0,
-      ap₂ (λ (m n : ℕ). m + n) v.1 x.told ∙ sym (sum_more (Counts c.args.self.now.caller c.args.self.now.sets.now c.args.self.now.rights.now) c.loop-k.k),
+      ap₂ (λ (m n : ℕ). m + n) v.1 x.told
+          ∙ sym (sum_more (Counts c.args.self.now.caller c.args.self.now.sets.now c.args.self.now.rights.now) c.loop-k.k),
       one_expanded _ _ _ _ _ _ _ v.2 x,
     )
 

@@ -5,9 +5,18 @@ use Rattle.records.specs.declared.near.Drift.{Drift}
 use Rattle.records.specs.declared.near.Heard.{Heard}
 use Rattle.records.specs.Near.{no_drift}
 use Rattle.records.specs.Following.{header_of}
+use Rattle.records.specs.Block.{header_from}
 use Rattle.rows.specs.Text.{refused_row}
 use Rattle.directory.specs.Rebuilt.{joined}
 use Rattle.refusal.specs.declared.Refusal.{Refusal}
+use Rattle.capture.specs.declared.walk.Turn.{Turn}
+use Rattle.capture.specs.declared.walk.Walk.{Walk}
+
+-- the record at which a walk stands: its header, and the verdict of who judges it
+abbrev pub turned : {V : Type 0} → (Drift → Header → Heard V) → List ℕ → Walk → Turn V
+turned judged b w =
+    let h = header_from b w.from in
+    record { from = w.from; header = h; verdict = (judged w.drift h).verdict }
 
 -- the corrections before record i, none at first
 unfoldable pub drift_walked : {V : Type 0} → (Drift → Header → Heard V) → List ℕ → ℕ → Drift

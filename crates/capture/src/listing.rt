@@ -1,15 +1,17 @@
 // The listing of a capture block: a heading, and a row for each record.
 ghost use Rattle.std.specs.Prelude.{◌≡◌, true, ◌++◌, ℕ, ◌+◌, ◌≤◌, length, take, drop, Ok};
 ghost use Rattle.reading.specs.Listing.{heading_text, body_octets, listing_of};
+ghost use Rattle.reading.specs.Verdict.{after_settings};
 ghost use Rattle.directory.specs.Rebuilt.{joined};
 ghost use Rattle.reading.specs.Reading.{listing_by};
 ghost use Rattle.capture.specs.Walk.{row_walked, body_walked};
 ghost use Rattle.directory.specs.Directory.{directory_of};
 
-use crate::verdict::call_directory;
 use crate::walk::{Judge, Reader, Walk};
+use directory::check;
 use octets::copy_at;
-use refusal::Refusal;
+use records::settings::settings_verdict;
+use refusal::{Refusal, Verdict};
 use rows::{put_line, refused_row};
 
 // Room for the heading and 256 lines of 40 octets.
@@ -46,28 +48,30 @@ fn put_rows<J: Judge>(judge: &J, block: &[u8], text: &mut [u8], at: usize, n: u1
     end
 }
 
-// A block, and what the call found in its directory.
-#[derive(Clone, Copy)]
-pub struct Checked<'a> {
-    pub block: &'a [u8],
-    pub directory: Result<u16, Refusal>,
-    ghost found: { (n : ℕ) → directory ≡ Ok n → directory_of block.now ≡ Ok n },
+// What a call finds in the directory of a block, behind the verdict that goes ahead of it.
+fn directory_behind(ahead: Verdict, block: &[u8]) -> Result<u16, Refusal>
+    ensures value { result ≡ after_settings ahead (directory_of block.now) }
+    ensures good { (n : ℕ) → result ≡ Ok n → directory_of block.now ≡ Ok n }
+{
+    ahead?;
+    check(block)
 }
 
-// The rows of a block whose directory the call found good, or the code of the call's refusal.
+// The rows of a block, or the code of what the call is refused for: the verdict that goes ahead, then the block's directory.
 pub fn put_body<J: Judge>(
-    checked: &Checked<'_>,
+    ahead: Verdict,
     judge: &J,
+    block: &[u8],
     text: &mut [u8; LISTING_OCTETS],
 ) -> usize
     ensures lower_bound { (HEADING_OCTETS ≤ result) × (result ≤ HEADING_OCTETS + body_octets) }
-    ensures text_after { take result text.new
-        ≡ take HEADING_OCTETS text.old ++ body_walked checked.now.directory J.listed (J.judged judge.now) checked.now.block.now }
+    ensures text_after { take result text.new ≡ take HEADING_OCTETS text.old
+        ++ body_walked (after_settings ahead (directory_of block.now)) J.listed (J.judged judge.now) block.now }
     ensures text_unchanged { drop result text.new ≡ drop result text.old }
 {
-    match checked.directory {
+    match directory_behind(ahead, block) {
         Err(refusal) => put_line(text, HEADING_OCTETS, refused_row(refusal)),
-        Ok(n) => put_rows(judge, checked.block, text, HEADING_OCTETS, n),
+        Ok(n) => put_rows(judge, block, text, HEADING_OCTETS, n),
     }
 }
 
@@ -76,12 +80,13 @@ fn list_by(near: bool, settings: &[u8], block: &[u8], text: &mut [u8; LISTING_OC
     ensures text_after { take result text.new ≡ listing_by near settings.now block.now }
     ensures text_unchanged { drop result text.new ≡ drop result text.old }
 {
-    let checked = Checked {
-        block,
-        directory: call_directory(true, settings, block),
-    };
     put_heading(text);
-    put_body(&checked, &Reader { near, settings }, text)
+    put_body(
+        settings_verdict(settings),
+        &Reader { near, settings },
+        block,
+        text,
+    )
 }
 
 // Lists a block: the heading, then the rows, or the code of the call's refusal. Gives the length of the text; the octets

@@ -9,6 +9,7 @@ ghost use Rattle.records.specs.Record.{record_octets};
 ghost use Rattle.records.specs.Block.{most_octets, directory_octets, header_from};
 ghost use Rattle.rows.specs.Text.{row_of, text_of};
 ghost use Rattle.reading.specs.Listing.{line_octets};
+ghost use Rattle.capture.specs.Walk.{turned};
 
 use records::block::{directory_octets, header_from};
 use records::header::{Header, RecordVerdict, record_octets};
@@ -85,6 +86,7 @@ impl Walk {
 
     // The next record, behind which the walk goes on. In a block the sum does not saturate.
     pub fn turn<J: Judge>(&mut self, judge: &J, block: &[u8]) -> Turn<J::Verdict>
+        ensures value { result ≡ turned (J.judged judge.now) block.now self.old }
         ensures from { result.from ≡ self.old.from }
         ensures header { result.header ≡ header_from block.now self.old.from }
         ensures clock { result.header.clock < six_octets }

@@ -5,11 +5,12 @@ ghost use Rattle.class.specs.Listing.{body_for, listing_for};
 ghost use Rattle.class.specs.Input.{input_body, input_listing};
 
 use crate::asker::Asker;
-use capture::listing::{Checked, HEADING_OCTETS, put_body, put_heading};
+use capture::listing::{HEADING_OCTETS, put_body, put_heading};
 use octets::{octet_at, part_of};
 use records::settings::SETTINGS_OCTETS;
 use refusal::Refusal;
 use rights::settings::Caller;
+use rights::verdict::class_verdict;
 use rows::{put_line, refused_row};
 
 // Room for the heading and 256 lines of 40 octets.
@@ -25,11 +26,8 @@ fn put_body_for(asker: &Asker<'_>, block: &[u8], text: &mut [u8; LISTING_OCTETS]
         ++ body_for asker.now.near asker.now.caller asker.now.sets.now asker.now.rights.now block.now }
     ensures text_unchanged { drop result text.new ≡ drop result text.old }
 {
-    let checked = Checked {
-        block,
-        directory: asker.call(true, block),
-    };
-    put_body(&checked, asker, text)
+    let ahead = class_verdict(true, true, asker.caller, asker.sets, asker.rights);
+    put_body(ahead, asker, block, text)
 }
 
 // Lists a block for the user who asks: the heading, then the rows, or the code of the call's refusal. Gives the length of the text;

@@ -66,7 +66,7 @@ fn play_without(s: &[u8], lost: usize) -> Figures
     let steps = script::steps_in(s);
     let mut p = steps::start(script::interval(s));
     for i in 0..steps {
-        p = steps::step(script::step_at(s, i), i + 1, i + 1 == lost, p);
+        steps::step(script::step_at(s, i), i + 1, i + 1 == lost, &mut p);
     }
     steps::figures(p)
 }

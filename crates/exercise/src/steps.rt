@@ -70,99 +70,83 @@ fn arrives(number: u8, lost: bool) -> bool
 }
 
 #[tactic(auto, unfolding(crate::specs::Play::clock_stepped, crate::specs::Play::clock_sent, crate::specs::Play::clock_answered, crate::specs::Play::with_clock_answer, crate::specs::Play::with_onu, crate::specs::Play::with_olt, octets::specs::Choice::pick))]
-fn clock_step(p: Play, lost: bool) -> Play
-    ensures { result ≡ clock_stepped p lost }
+fn clock_step(p: &mut Play, lost: bool)
+    ensures { p.new ≡ clock_stepped p.old lost }
 {
     let captured = olt::capture(p.olt, UNIT_LLID);
     let sent = olt::clock_send(captured.olt, UNIT_LLID);
-    let mut r = p;
-    r.olt = sent.olt;
+    p.olt = sent.olt;
     if arrives(sent.number, lost) {
         let got = onu::clock_message(p.onu, sent.message);
-        r.onu = got.onu;
-        r.clock = got.acknowledgement;
+        p.onu = got.onu;
+        p.clock = got.acknowledgement;
     } else {
-        r.clock = no_answer();
+        p.clock = no_answer();
     }
-    r
 }
 
 // The message of an offer or of a retry.
 #[tactic(auto, unfolding(crate::specs::Play::key_sent, crate::specs::Play::key_answered, crate::specs::Play::with_key_answer, crate::specs::Play::with_onu, crate::specs::Play::with_olt, octets::specs::Choice::pick))]
-fn key_step(p: Play, sent: KeySent, lost: bool) -> Play
-    ensures { result ≡ key_sent p sent lost }
+fn key_step(p: &mut Play, sent: KeySent, lost: bool)
+    ensures { p.new ≡ key_sent p.old sent lost }
 {
-    let mut r = p;
-    r.olt = sent.olt;
+    p.olt = sent.olt;
     if arrives(sent.number, lost) {
         let got = onu::key_message(p.onu, sent.message);
-        r.onu = got.onu;
-        r.key = got.acknowledgement;
+        p.onu = got.onu;
+        p.key = got.acknowledgement;
     } else {
-        r.key = no_answer();
+        p.key = no_answer();
     }
-    r
 }
 
 // An answer to the latest message of its kind.
 #[tactic(auto, unfolding(crate::specs::Play::answered, octets::specs::Choice::pick, octets::specs::Choice::either, crate::specs::Play::with_olt))]
-fn answer_step(p: Play, answer: Acknowledgement, lost: bool) -> Play
-    ensures { result ≡ answered p answer lost }
+fn answer_step(p: &mut Play, answer: Acknowledgement, lost: bool)
+    ensures { p.new ≡ answered p.old answer lost }
 {
-    if lost | (answer.kind == 0) {
-        return p;
+    if !(lost | (answer.kind == 0)) {
+        p.olt = olt::acknowledge(p.olt, UNIT_LLID, answer).olt;
     }
-    let taken = olt::acknowledge(p.olt, UNIT_LLID, answer);
-    let mut r = p;
-    r.olt = taken.olt;
-    r
 }
 
 // An envelope down; the one up is like it, but for calls and answers of other types: one function of both would take a call to send
 // and one to receive as closures, each with its contract, and be no plainer.
 #[tactic(auto, unfolding(crate::specs::Play::sent_down, crate::specs::Play::with_onu, crate::specs::Play::with_olt, octets::specs::Choice::pick))]
-fn down_step(p: Play, lost: bool) -> Play
-    ensures { result ≡ sent_down p (olt_send_of p.olt unit_llid channel_down [] []).answer lost }
+fn down_step(p: &mut Play, lost: bool)
+    ensures { p.new ≡ sent_down p.old (olt_send_of p.old.olt unit_llid channel_down [] []).answer lost }
 {
     let sent = traffic::olt_send(p.olt, UNIT_LLID, DOWN, &[], &mut []);
-    let mut r = p;
-    r.olt = sent.olt;
+    p.olt = sent.olt;
     if arrives(sent.number, lost) {
-        let got = traffic::onu_receive(p.onu, sent.header, &[], &mut []);
-        r.onu = got.onu;
+        p.onu = traffic::onu_receive(p.onu, sent.header, &[], &mut []).onu;
     }
-    r
 }
 
 #[tactic(auto, unfolding(crate::specs::Play::sent_up, crate::specs::Play::with_onu, crate::specs::Play::with_olt, octets::specs::Choice::pick))]
-fn up_step(p: Play, lost: bool) -> Play
-    ensures { result ≡ sent_up p (onu_send_of p.onu unit_llid channel_up [] []).answer lost }
+fn up_step(p: &mut Play, lost: bool)
+    ensures { p.new ≡ sent_up p.old (onu_send_of p.old.onu unit_llid channel_up [] []).answer lost }
 {
     let sent = traffic::onu_send(p.onu, UNIT_LLID, UP, &[], &mut []);
-    let mut r = p;
-    r.onu = sent.onu;
+    p.onu = sent.onu;
     if arrives(sent.number, lost) {
-        let got = traffic::olt_receive(p.olt, sent.header, &[], &mut []);
-        r.olt = got.olt;
+        p.olt = traffic::olt_receive(p.olt, sent.header, &[], &mut []).olt;
     }
-    r
 }
 
 #[tactic(auto, unfolding(crate::specs::Play::advanced, crate::specs::Play::with_onu, crate::specs::Play::with_olt))]
-fn advance_step(p: Play, ticks: u64) -> Play
-    ensures { result ≡ advanced p ticks }
+fn advance_step(p: &mut Play, ticks: u64)
+    ensures { p.new ≡ advanced p.old ticks }
 {
-    let mut r = p;
-    r.olt = olt::advance(p.olt, ticks).olt;
-    r.onu = onu::advance(p.onu, ticks).onu;
-    r
+    p.olt = olt::advance(p.olt, ticks).olt;
+    p.onu = onu::advance(p.onu, ticks).onu;
 }
 
 // Step k, counted from 1, by its kind.
 #[tactic(auto, unfolding(crate::specs::Play::stepped))]
-pub(crate) fn step(x: Option<Step>, k: usize, lost: bool, p: Play) -> Play
+pub(crate) fn step(x: Option<Step>, k: usize, lost: bool, p: &mut Play)
     requires { k ≤ most_steps }
-    ensures { result ≡ stepped x k lost p }
+    ensures { p.new ≡ stepped x k lost p.old }
 {
     match x {
         Some(Step { kind, ticks }) => match kind {
@@ -175,7 +159,7 @@ pub(crate) fn step(x: Option<Step>, k: usize, lost: bool, p: Play) -> Play
             Kind::EnvelopeUp => up_step(p, lost),
             Kind::Advance => advance_step(p, ticks),
         },
-        None => p,
+        None => {}
     }
 }
 

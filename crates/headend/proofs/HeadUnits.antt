@@ -1,7 +1,7 @@
 -- A call on a unit, made in the head end: 1 for the groups stands ahead, as 1 for the OLT does. Assumes nothing.
 use Rattle.std.specs.Prelude.{Err, Option}
 use mathlib.Core.Path.{◌≡◌, refl, ap, ◌∙◌}
-use mathlib.Core.Bool.{Bool, true, false}
+use mathlib.Core.Bool.{Bool, true, false, not, ◌&&◌}
 use Prim.Native.Nat.{ℕ}
 use lib.Dec.{eqb}
 use borrow.Author.Tests.{eqb-true}
@@ -48,6 +48,12 @@ unfolding located_of
 located_sound h ahead llid =
     sound_located (eqb h.groups.count 0) (valid_groups h) (valid_olt h.olt) ahead (find h.olt llid)
     (λ z e. no_groups_invalid h (eqb-true _ _ z) e)
+
+-- 1 for what the call itself is lent may stand with 1 for the groups
+pub guarded_both : (t k : Bool) (ahead : Verdict) → on_valid (t && k) ahead ≡ on_valid t (refuse_if (not k) OutOfRange ahead)
+unfolding refuse_if
+guarded_both false k ahead = refl
+guarded_both true k ahead = refl
 
 -- what the OLT replies, in the head end
 abbrev pub in_head : {H : Type 0} → HeadEnd → Reply Olt H → Reply HeadEnd H

@@ -146,15 +146,16 @@ pub fn capture(head: HeadEnd, llid: u16) -> HeadDone<()>
     }
 }
 
-// The round trip measured again (02, C-16). The unit's groups go on.
+// The round trip measured again (02, C-16). The unit's groups go on. A trip that is too long is refused 1 with the groups, ahead of 2: with a
+// verdict of its own the OLT is copied once more.
 #[tactic(auto, unfolding(crate::specs::HeadCalls::head_measure_of, protocol::specs::OltCalls::measure_of, crate::specs::HeadCalls::head_answer, protocol::specs::Lift::outcome, ends::specs::Table::with_unit, ends::specs::Records::with_channels, ends::specs::Table::past_unit, group_protocol::specs::Head::with_olt))]
 pub fn measure(head: HeadEnd, llid: u16, trip: u64) -> HeadDone<()>
     ensures { result ≡ head_done (head_measure_of head llid trip) }
 {
-    let ahead = refuse_if(!(trip <= MAX_ROUND_TRIP), Refusal::OutOfRange, Ok(()));
     let mut olt = head.olt;
     let sound = valid_groups(head);
-    let at = locate_sound(head.olt, sound, ahead, llid);
+    let near = trip <= MAX_ROUND_TRIP;
+    let at = locate_sound(head.olt, sound & near, Ok(()), llid);
     let i = at.place;
     let way = at.verdict;
     let unit = olt.units[i];

@@ -93,6 +93,17 @@ pub fn fresh(identity: Identity, oltmac: u64, time: u64) -> OnuAnswer
     }
 }
 
+// 1 for a lent end that is not valid, then what the call refuses (D121).
+#[tactic(auto, unfolding(refusal::specs::Order::refuse_if))]
+pub(crate) fn on_valid(o: Onu, rest: Verdict) -> Verdict
+    ensures { result ≡ on_valid (valid_onu o) rest }
+{
+    if !valid_onu(o) {
+        return Err(Refusal::OutOfRange);
+    }
+    rest
+}
+
 #[tactic(auto, unfolding(protocol::specs::OnuCalls::onu_clock_advanced, octets::specs::Choice::pick))]
 fn clock_advanced(c: OnuClock, n: u64) -> OnuClock
     ensures { result ≡ onu_clock_advanced c n }
@@ -123,22 +134,11 @@ fn advanced(o: Onu, n: u64) -> Onu
     next
 }
 
-// 1 for a lent end that is not valid (D121), then 17.
-#[tactic(auto, unfolding(refusal::specs::Order::refuse_if))]
-fn advancing_verdict(o: Onu, n: u64) -> Verdict
-    ensures { result ≡ on_valid (valid_onu o) (advance_verdict o.tick n) }
-{
-    if !valid_onu(o) {
-        return Err(Refusal::OutOfRange);
-    }
-    advance_verdict(o.tick, n)
-}
-
 #[tactic(auto, using(refusal::proofs::Order::refuse_accepted), unfolding(protocol::specs::OnuCalls::advance_onu_of, protocol::specs::OnuCalls::advancing_onu, protocol::specs::OnuCalls::onu_answer, protocol::specs::OnuCalls::onu_reply, protocol::specs::Replies::reply))]
 pub fn advance(o: Onu, n: u64) -> OnuAnswer
     ensures { result ≡ advance_onu_of o n }
 {
-    match advancing_verdict(o, n) {
+    match on_valid(o, advance_verdict(o.tick, n)) {
         Ok(()) => {
             let onu = advanced(o, n);
             OnuAnswer { number: 0, onu }
@@ -155,7 +155,7 @@ pub fn advance(o: Onu, n: u64) -> OnuAnswer
 pub fn new_time(o: Onu, time: u64) -> OnuAnswer
     ensures { result ≡ new_time_of o time }
 {
-    match retiming::new_time_verdict(o, time) {
+    match on_valid(o, retiming::new_time_verdict(o, time)) {
         Ok(()) => {
             let onu = retiming::retimed(o, time);
             OnuAnswer { number: 0, onu }
@@ -167,14 +167,11 @@ pub fn new_time(o: Onu, time: u64) -> OnuAnswer
     }
 }
 
-// 1 for a lent end that is not valid, then for stamps past the clock's turn.
+// 1 for stamps past the clock's turn.
 #[tactic(auto, unfolding(protocol::specs::OnuCalls::clock_message_verdict, refusal::specs::Order::refuse_if, octets::specs::Choice::both))]
-fn clock_message_verdict(o: Onu, s: Stamps) -> Verdict
-    ensures { result ≡ on_valid (valid_onu o) (clock_message_verdict s) }
+fn clock_message_verdict(s: Stamps) -> Verdict
+    ensures { result ≡ clock_message_verdict s }
 {
-    if !valid_onu(o) {
-        return Err(Refusal::OutOfRange);
-    }
     if !((s.rx < CLOCK_TURN) & (s.tx < CLOCK_TURN)) {
         return Err(Refusal::OutOfRange);
     }
@@ -198,7 +195,7 @@ fn clock_from(time: u64, s: Stamps) -> OnuClock
 pub fn clock_message(o: Onu, message: Stamps) -> OnuAcknowledged
     ensures { result ≡ clock_message_at o message }
 {
-    match clock_message_verdict(o, message) {
+    match on_valid(o, clock_message_verdict(message)) {
         Ok(()) => {
             let clock = clock_from(o.clock.time, message);
             let mut onu = o;
@@ -252,15 +249,12 @@ fn active_key(keys: OnuKeys, message: KeyMessage) -> bool
     (1 <= keys.active) & ((message.number == keys.active) & same)
 }
 
-// 1 for a lent end that is not valid, then 2, 5 and 8.
+// 2, 5 and 8.
 #[tactic(auto, unfolding(protocol::specs::OnuCalls::key_message_verdict, refusal::specs::Order::refuse_if, octets::specs::Choice::either))]
 fn key_message_verdict(o: Onu, message: KeyMessage, new: bool) -> Verdict
     requires { new ≡ new_key o.keys message }
-    ensures { result ≡ on_valid (valid_onu o) (key_message_verdict o message) }
+    ensures { result ≡ key_message_verdict o message }
 {
-    if !valid_onu(o) {
-        return Err(Refusal::OutOfRange);
-    }
     if !ends::llids::has(o.identity, message.llid) {
         return Err(Refusal::UnknownLlid);
     }
@@ -298,7 +292,7 @@ pub fn key_message(o: Onu, message: KeyMessage) -> OnuAcknowledged
     ensures { result ≡ key_message_at o message }
 {
     let new = new_key(o.keys, message);
-    match key_message_verdict(o, message, new) {
+    match on_valid(o, key_message_verdict(o, message, new)) {
         Ok(()) => {
             let keys = keys_taken(o.keys, message, new);
             let mut onu = o;

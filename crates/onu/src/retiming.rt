@@ -1,12 +1,9 @@
 // A new LocalTime of the ONU, and the sum of its changes (02, C-16).
 ghost use Rattle.std.specs.Prelude.{◌≡◌};
-ghost use Rattle.protocol.specs.Replies.{on_valid};
-ghost use Rattle.ends.specs.Validity.{valid_onu};
 ghost use Rattle.protocol.specs.OnuCalls.{time_ahead, near_time, changes_after, new_time_verdict, onu_retimed};
 
 use clock::LOCAL_TURN;
 use ends::changes::valid_changes;
-use ends::check_onu::valid_onu;
 use ends::limits::MAX_TIME_CHANGE;
 use ends::{Onu, OnuClock, Travel};
 use refusal::{Refusal, Verdict};
@@ -39,14 +36,11 @@ fn changes_after(changes: u64, new: u64, old: u64) -> u64
     wrapping_sub_u64(changes, time_ahead(old, new))
 }
 
-// 1 for a lent end that is not valid, then for a LocalTime that is none or too far, then 17.
+// 1 for a LocalTime that is none or too far, then 17.
 #[tactic(auto, unfolding(protocol::specs::OnuCalls::new_time_verdict, refusal::specs::Order::refuse_if, octets::specs::Choice::both))]
 pub(crate) fn new_time_verdict(o: Onu, time: u64) -> Verdict
-    ensures { result ≡ on_valid (valid_onu o) (new_time_verdict o time) }
+    ensures { result ≡ new_time_verdict o time }
 {
-    if !valid_onu(o) {
-        return Err(Refusal::OutOfRange);
-    }
     if !((time < LOCAL_TURN) & near_time(time, o.clock.time)) {
         return Err(Refusal::OutOfRange);
     }

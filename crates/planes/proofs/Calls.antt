@@ -8,6 +8,8 @@ use borrow.Author.Tests.{not-false, eq-eqb, le-leb}
 use Rattle.octets.specs.Eqs.{eq_octets, max_eqs}
 use Rattle.octets.specs.Output.{WithOutput, with_output}
 use Rattle.octets.proofs.Choice.{both_true, not_of_true}
+use Rattle.refusal.specs.declared.Refusal.{Refusal}
+use Rattle.std.specs.Prelude.{Err}
 use Rattle.refusal.specs.declared.Refusal.TheVariants.{BadLength}
 use Rattle.refusal.proofs.Order.{refuse_accepted, refuse_passed}
 use Rattle.envelope.specs.Acceptance.{lengths_fit}
@@ -24,6 +26,14 @@ pub accepted_size : (p out : List ℕ) → length_verdict (length p) (length out
 accepted_size p out e =
     let l = accepted _ _ e in
     record { read = omega arith; room = omega arith }
+
+pub writing_accepted : (v : Verdict) (made out out' : List ℕ) → v ≡ no_refusal → out' ≡ made → with_output no_refusal out' ≡ writing v made out
+unfolding writing
+writing_accepted v made out out' e same = rw (e, same)
+
+pub writing_refused : (v : Verdict) (r : Refusal) (made out : List ℕ) → v ≡ Err r → with_output (Err r) out ≡ writing v made out
+unfolding writing
+writing_refused v r made out e = rw e
 
 -- what an accepted call has written
 pub wrote : (v answer : Verdict) (made out out' : List ℕ) → with_output answer out' ≡ writing v made out → v ≡ no_refusal → out' ≡ made

@@ -5,8 +5,8 @@ ghost use Rattle.octets.specs.BigEndian.{six_octets};
 ghost use Rattle.records.specs.Record.{record_header, payload_of};
 ghost use Rattle.records.specs.Block.{directory_octets, records_in, offset_of, length_of, record_of, header_from};
 
-use crate::header::{HEADER_OCTETS, Header, read};
-use octets::{number16, number32, part_of};
+use crate::header::{HEADER_OCTETS, Header, NUMBER_OCTETS, number_in, read};
+use octets::{number16, part_of};
 
 // The most octets of a block.
 pub const MOST_OCTETS: usize = 65536;
@@ -37,14 +37,14 @@ pub fn count(block: &[u8]) -> u16
 pub fn offset(block: &[u8], i: u16) -> u32
     ensures { result ≡ offset_of block.now i }
 {
-    number32(block, directory_octets(i))
+    number_in(block, directory_octets(i))
 }
 
 #[tactic(auto, unfolding(crate::specs::Block::length_of))]
 pub fn length_of(block: &[u8], i: u16) -> u32
     ensures { result ≡ length_of block.now i }
 {
-    number32(block, directory_octets(i) + 4)
+    number_in(block, directory_octets(i) + NUMBER_OCTETS)
 }
 
 // Record i, which has i others before it.

@@ -1,12 +1,12 @@
 // The header of a record, read from its octets, and the verdict on a record.
 ghost use Rattle.std.specs.Prelude.{◌≡◌, ◌<◌};
-ghost use Rattle.octets.specs.BigEndian.{six_octets};
+ghost use Rattle.octets.specs.BigEndian.{number_at, six_octets};
 ghost use Rattle.records.specs.Record.{record_header, record_octets, sized};
 ghost use Rattle.records.specs.Verdict.{enc_enabled, enc_key, cleared_flags, flags_fit, header_fits, key_verdict, record_verdict, verdict_for, record_number, record_pair};
 
 use crate::settings::{llid, presence};
 use envelope::channel_fits;
-use octets::{EQ_OCTETS, number16, number32, number48, octet_at};
+use octets::{EQ_OCTETS, be32, number16, number32, number48, octet_at, part_of};
 use refusal::Refusal;
 
 // The octets of a record ahead of its payload.
@@ -16,6 +16,9 @@ pub const HEADER_OCTETS: usize = 16;
 pub const FLAGS: usize = 4;
 
 const EQS: usize = 12;
+
+// The octets of the EQs, and of a pair's offset and length.
+pub(crate) const NUMBER_OCTETS: usize = 4;
 
 // ESH and ECH.
 const KINDS: u8 = 2;
@@ -47,6 +50,16 @@ pub enum Access {
 // What a record is found to be.
 pub type RecordVerdict = Result<Access, Refusal>;
 
+// The number in the four octets from a place on, read as one where they are all there.
+pub(crate) fn number_in(s: &[u8], at: usize) -> u32
+    ensures { result ≡ number_at 4 s.now at }
+{
+    match part_of(s, at, NUMBER_OCTETS).first_chunk() {
+        Some(octets) => be32(*octets),
+        None => number32(s, at),
+    }
+}
+
 // The header of a record's octets; one that is not there is 0.
 pub fn read(r: &[u8]) -> Header
     ensures value { result ≡ record_header r.now }
@@ -59,7 +72,7 @@ pub fn read(r: &[u8]) -> Header
         flags: octet_at(r, FLAGS),
         epam: octet_at(r, 5),
         clock: number48(r, 6),
-        eqs: number32(r, EQS),
+        eqs: number_in(r, EQS),
     }
 }
 
@@ -75,7 +88,7 @@ pub fn record_octets(eqs: u32) -> usize
 pub fn is_sized(r: &[u8]) -> bool
     ensures { result ≡ sized r.now }
 {
-    (HEADER_OCTETS <= r.len()) & (r.len() == record_octets(number32(r, EQS)))
+    (HEADER_OCTETS <= r.len()) & (r.len() == record_octets(number_in(r, EQS)))
 }
 
 // The flags of a record once it is opened: EncEnabled and EncKey cleared.

@@ -1,22 +1,11 @@
--- A test of each of some numbers is what `all` answers of them, and the first record that pairs is what `find` does. Assumes nothing.
-use Rattle.std.proofs.Common.{◌≡◌, Bool, true, false, ℕ, zero, suc, ◌&&◌, refl, add-one}
+-- The first record that pairs is what `find` answers. Assumes nothing.
+use Rattle.std.proofs.Common.{◌≡◌, Bool, true, false, ℕ, zero, suc, refl, add-one}
 use Rattle.std.proofs.Common.{List, ◌+◌, Option, Some, None, cond, ap, ◌∙◌, arith}
-use Rattle.std.specs.List.{list_all, find, range_with_len}
+use Rattle.std.specs.List.{find, range_with_len}
 use Rattle.std.specs.Option.{option_map, unwrap_or}
-use Rattle.octets.specs.Choice.{both, pick}
-use Rattle.octets.specs.Each.{each}
+use Rattle.octets.specs.Choice.{pick}
 use Rattle.records.specs.Block.{record_of}
 use Rattle.sameness.specs.Pairing.{paired, first_from}
-
-both_is : (a b : Bool) → (a && b) ≡ both a b
-unfolding both
-both_is true b = refl
-both_is false b = refl
-
-pub each_is : (i n : ℕ) (p : ℕ → Bool) → list_all p (range_with_len i n) ≡ each i n p
-unfolding each
-each_is i zero p = refl
-each_is i (suc n) p = rw (both_is, add-one, each_is (suc i) n p)
 
 here_or : (t : Bool) (j d rest : ℕ) (o : Option ℕ) → unwrap_or o d ≡ rest → unwrap_or (cond t (Some j) o) d ≡ pick t j rest
 unfolding pick

@@ -1,12 +1,15 @@
 -- Laws of sameness: a record is the same as itself, and two records are the same in either order. Assumes nothing.
 use mathlib.Core.Path.{◌≡◌, refl, sym}
-use mathlib.Core.Bool.{true}
+use mathlib.Core.Bool.{true, false}
 use mathlib.Core.List.{List}
 use Prim.Native.Nat.{ℕ}
 use native.Mathlib.Omega.{arith}
 use lib.Dec.{eqb}
-use borrow.Author.Tests.{eqb-true, eq-eqb}
-use Rattle.octets.proofs.Choice.{both_left, both_right, both_true}
+use borrow.Author.Tests.{eqb-true, eq-eqb, ne_eqb}
+use Rattle.octets.specs.Choice.{both}
+use Rattle.octets.proofs.Choice.{both_left, both_right, both_true, both_false_left, both_false_right}
+use Rattle.records.specs.declared.header.Header.{Header}
+use Rattle.octets.specs.Each.{each}
 use Rattle.envelope.specs.ControlMask.{control_octet, data_octet}
 use Rattle.records.specs.Record.{record_header, payload_of}
 use Rattle.records.specs.Verdict.{enc_key}
@@ -44,6 +47,22 @@ data_back r s t =
     both_true (eq-eqb _ _ (sym n))
     (each_true 0 (record_header s).eqs (same_eq (payload_of s) (payload_of r))
     (λ e l h. same_eq_back (payload_of r) (payload_of s) e (at e (both_right _ _ t) l (omega arith))))
+
+---- by what a call finds
+
+module _ (g h : Header) (r s : List ℕ) (x : g ≡ record_header r) (y : h ≡ record_header s) where
+  pub same_by_controls : (p q : List ℕ) → p ≡ payload_of r → q ≡ payload_of s → same_data r s ≡ true → enc_key g.flags ≡ enc_key h.flags
+      → same r s ≡ each 0 g.eqs (same_control p q)
+  unfolding same both
+  same_by_controls p q u v d k = rw (d, ← x, ← y, ← u, ← v, eq-eqb (enc_key g.flags) (enc_key h.flags) k)
+
+  pub same_by_key : (enc_key g.flags ≡ enc_key h.flags → ⊥) → same r s ≡ false
+  unfolding same
+  same_by_key f = rw (← x, ← y) (both_false_right _ (both_false_left _ (ne_eqb (enc_key g.flags) (enc_key h.flags) f)))
+
+pub same_by_data : (r s : List ℕ) → same_data r s ≡ false → same r s ≡ false
+unfolding same
+same_by_data r s e = both_false_left _ e
 
 ---- in either order
 

@@ -22,7 +22,11 @@ pub fn capture(way: Verdict, shared: Shared, unit: UnitRecord) -> Decided<UnitRe
     ensures { outcome shared result.verdict result.after silent ≡ reached way silent shared unit (capture_unit shared unit) }
 {
     match way {
-        Err(refusal) => Decided::refused(refusal, unit, ()),
+        Err(refusal) => Decided {
+            verdict: Err(refusal),
+            after: unit,
+            handed: (),
+        },
         Ok(()) => {
             let mut next = unit;
             next.clock.captured = 1;
@@ -42,7 +46,11 @@ pub fn measure(way: Verdict, shared: Shared, unit: UnitRecord, trip: u64) -> Dec
     ensures { outcome shared result.verdict result.after silent ≡ reached way silent shared unit (measure_unit trip shared unit) }
 {
     match way {
-        Err(refusal) => Decided::refused(refusal, unit, ()),
+        Err(refusal) => Decided {
+            verdict: Err(refusal),
+            after: unit,
+            handed: (),
+        },
         Ok(()) => {
             let clock = UnitClock {
                 trip,

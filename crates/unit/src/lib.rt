@@ -24,7 +24,8 @@ pub struct Decided<S, T> {
 }
 
 impl<S, T> Decided<S, T> {
-    // Refused, the record is the one that was there.
+    // Refused, the record is the one that was there. Capture, measure and receive write the same out: made here, the record is copied once more,
+    // and the OLT behind it (D120).
     pub fn refused(refusal: Refusal, before: S, nothing: T) -> Decided<S, T>
         ensures { result ≡ record { verdict = Err refusal; after = before; handed = nothing } }
     {

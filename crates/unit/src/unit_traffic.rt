@@ -194,7 +194,11 @@ pub fn receive(
     let choice = receive_choice(unit, header);
     let verdict = and_then(way, receive_verdict(header, shared.clock, choice));
     match verdict {
-        Err(refusal) => Decided::refused(refusal, unit, passing::no_passage()),
+        Err(refusal) => Decided {
+            verdict: Err(refusal),
+            after: unit,
+            handed: passing::no_passage(),
+        },
         Ok(()) => Decided {
             verdict: Ok(()),
             after: unit_received(choice, unit),

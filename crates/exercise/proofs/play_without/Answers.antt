@@ -16,12 +16,12 @@ step_at-requires c =
     let z = sizes _ c.requires in
     (omega (arith, z.few, c.steps_in-steps.ensures), omega (arith, z.whole, c.steps_in-steps.ensures))
 
-pub step-p-requires : goal.step-p-requires
-step-p-requires c = omega (arith, (sizes _ c.requires).few, c.steps_in-steps.ensures)
+pub step-requires : goal.step-requires
+step-requires c = omega (arith, (sizes _ c.requires).few, c.steps_in-steps.ensures)
 
 pub loop-i-preserved : goal.loop-i-preserved
 loop-i-preserved c =
-    c.loop-i.invariant ∙ played_on _ _ _ _ _ _ _ c.loop-i-test.true c.step_at.ensures c.step-p.ensures
+    c.loop-i.invariant ∙ played_on _ _ _ _ _ _ _ c.loop-i-test.true c.step_at.ensures c.step.ensures
 
 pub returns : goal.returns
 unfolding played

@@ -1,17 +1,16 @@
 -- `class::listing::put_body_for` meets its contract: what the call finds, and the rows of the block. Assumes nothing.
-use mathlib.Core.Path.{sym, ◌∙◌}
-use Rattle.class.proofs.Calls.{found}
+use Rattle.class.specs.Reading.{call_for}
 use Rattle.class.proofs.Turns.{body_is}
 use Rattle.class.proofs.listing.put_body_for.Goals as goal
 
-pub invariant_of-checked : goal.invariant_of-checked
-invariant_of-checked c = record { found = λ n e. (found _ _ _ _ _ _ (sym c.call.ensures ∙ e)).good }
-
 pub returns : goal.returns
+unfolding call_for
 returns c =
     let q = c.put_body.ensures in
+    let a = c.args.asker.now in
     record {
       lower_bound = q.lower_bound;
-      text_after = rw (c.call.ensures, body_is _ _ _ _ _) at q.text_after;
+      text_after =
+          rw (c.class_verdict-ahead.ensures.value, body_is a.near a.caller a.sets.now a.rights.now c.args.block.now) at q.text_after;
       text_unchanged = q.text_unchanged;
     }

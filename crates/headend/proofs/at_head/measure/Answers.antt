@@ -6,9 +6,10 @@ use Rattle.protocol.specs.Lift.{outcome}
 use Rattle.protocol.specs.OltCalls.{measure_of}
 use Rattle.protocol.specs.Replies.{silent}
 use Rattle.protocol.specs.UnitCalls.{measure_unit}
-use Rattle.group_protocol.specs.Head.{with_olt}
+use Rattle.group_protocol.specs.Head.{valid_groups, with_olt}
 use Rattle.headend.specs.HeadCalls.{head_answer, head_done, head_measure_of}
-use Rattle.headend.proofs.HeadUnits.{answer_guarded, lift_guarded}
+use Rattle.headend.proofs.HeadUnits.{answer_guarded, guarded_both, lift_guarded}
+use Rattle.refusal.specs.Verdict.{no_refusal}
 use Rattle.headend.proofs.at_head.measure.Goals as goal
 
 pub returns : goal.returns
@@ -20,5 +21,5 @@ returns c =
     rw c.verdict_number-number.ensures
     (ap head_done
     (ap head_answer (lift_guarded a.head silent a.llid (measure_unit a.trip) _ c.locate_sound-at.result x
-    (rw (c.valid_groups-sound.ensures, c.refuse_if-ahead.ensures) at c.locate_sound-at.ensures.value) done.ensures)
+    (rw (c.valid_groups-sound.ensures, guarded_both (valid_groups a.head) _ no_refusal) at c.locate_sound-at.ensures.value) done.ensures)
     ∙ answer_guarded a.head _))

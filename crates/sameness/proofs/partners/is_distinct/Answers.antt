@@ -5,7 +5,7 @@ use Rattle.std.proofs.lemmas.Iterator.Search.{all_from_yields_List}
 use borrow.Author.Tests.{tests}
 use Rattle.octets.specs.Each.{each}
 use Rattle.sameness.specs.Pairing.{unlike_rest, distinct}
-use Rattle.sameness.proofs.Chains.{each_is}
+use Rattle.octets.proofs.Chains.{each_of_range}
 use Rattle.sameness.proofs.Pairing.{unlike_tested}
 use Rattle.sameness.proofs.partners.is_distinct.Goals as goal
 
@@ -16,5 +16,5 @@ returns c =
     let n = c.count-n.result in
     all_from_yields_List (unlike_rest b) _ _ _ c.all.ensures.ran (YieldsList-from_range 0 n n (cc) (omega arith))
     (λ x b q k. search (rules, tests, unlike_tested))
-    ∙ each_is _ _ _
+    ∙ each_of_range _ _ _
     ∙ ap (λ n. each 0 n (unlike_rest b)) c.count-n.ensures

@@ -8,7 +8,7 @@ use Rattle.octets.specs.Each.{each}
 use Rattle.records.specs.declared.header.Header.{Header}
 use Rattle.records.specs.Record.{record_header, payload_of}
 use Rattle.sameness.specs.Sameness.{same_eq, same_data}
-use Rattle.sameness.proofs.Chains.{each_is}
+use Rattle.octets.proofs.Chains.{each_of_range}
 use Rattle.sameness.proofs.payloads.is_same_data.Goals as goal
 
 -- EQ counts that agree
@@ -23,5 +23,5 @@ returns c =
     let eqs = c.header_at-eqs.result.eqs in
     all_from_yields_List (same_eq c.payload_at-p.result.now c.payload_at-q.result.now) _ _ _ c.all.ensures.ran
     (YieldsList-from_range 0 eqs eqs (cc) (omega arith)) (λ x b q k. search (rules, tests))
-    ∙ each_is _ _ _
+    ∙ each_of_range _ _ _
     ∙ sym (all_eqs _ _ _ _ _ _ c.header_at-eqs.ensures.value c.header_at.ensures.value c.payload_at-p.ensures c.payload_at-q.ensures c.if-eqs-header_at.false)
